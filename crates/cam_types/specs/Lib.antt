@@ -1,0 +1,6 @@
+pub mod Bounds
+pub mod Lists
+pub mod Made
+pub mod Priority
+pub mod SenseBytes
+pub mod Topology

@@ -1,0 +1,24 @@
+//! The words that every crate of camxpt shares: priorities, limits, configurations and results.
+#![tactic(auto)]
+
+pub use command::Command;
+pub use config::{Config, ConfigDraft, ConfigError};
+pub use config_fault::{
+    ConfigFault, MOST_ADAPTERS, MOST_DEVICES, MOST_LANES, MOST_LUN, MOST_OPENINGS,
+};
+pub use device::Device;
+pub use flags::Flags;
+pub use limits::{BadLimit, Limits, MOST_CCBS, MOST_EVENTS, MOST_ROUNDS, MOST_STAYS};
+pub use outcome::Outcome;
+pub use priority::{BadPriority, MOST_PRIORITY, Priority};
+pub use sense_bytes::{MOST_SENSE, SenseBytes};
+
+mod command;
+mod config;
+mod config_fault;
+mod device;
+mod flags;
+mod limits;
+mod outcome;
+mod priority;
+mod sense_bytes;

@@ -1,0 +1,71 @@
+ghost use Rattle.std.specs.Prelude.{◌≡◌, ℕ, ◌<◌, ◌≤◌, MatchResult};
+ghost use Rattle.cam_types.specs.Priority.{run_level, weight};
+ghost use Rattle.cam_types.specs.declared.priority.TheConstants.{MOST_PRIORITY};
+
+use std::marker::Model;
+use thiserror::Error;
+
+/// The least urgent priority.
+pub const MOST_PRIORITY: u32 = 1279;
+
+/// How urgent a CCB is, from 0 to 1279: the smaller number is the more urgent, as in FreeBSD's `cam.h`.
+#[derive(Clone, Copy, Debug, PartialEq, Eq, Hash, PartialOrd, Ord)]
+pub struct Priority {
+    number: u32,
+}
+
+impl Model for Priority {
+    ghost Value = { ℕ };
+
+    ghost view = { λ p. p.number };
+
+    ghost invariant = { λ p. p.number ≤ MOST_PRIORITY };
+
+    ghost inverse = { λ n. record { number = n } };
+}
+
+/// A number above 1279, which is no priority.
+#[derive(Clone, Copy, Debug, PartialEq, Eq, Hash, Error)]
+#[error("no priority is {0}: the least urgent is 1279")]
+pub struct BadPriority(pub u32);
+
+impl Priority {
+    /// The priority of this number, which is at most 1279.
+    pub fn new(number: u32) -> Result<Priority, BadPriority>
+        ensures { MatchResult result (λ p. (p ≡ number) × (number ≤ MOST_PRIORITY)) (λ e. (e.0 ≡ number) × (MOST_PRIORITY < number)) }
+    {
+        if number <= MOST_PRIORITY {
+            Ok(Priority { number })
+        } else {
+            Err(BadPriority(number))
+        }
+    }
+
+    /// Its number.
+    pub fn number(self) -> u32
+        ensures same { result ≡ self }
+        ensures most { result ≤ MOST_PRIORITY }
+    {
+        self.number
+    }
+
+    /// Its run level, from 0 to 4: HOST, BUS, XPT, DEV and NORMAL, 256 priorities each.
+    pub fn run_level(self) -> u32
+        ensures { result ≡ run_level self }
+    {
+        self.number >> 8
+    }
+
+    /// What a round of waiting costs at its run level: 16, 8, 4, 2 or 1. The weights are a rule of this project.
+    pub fn weight(self) -> u32
+        ensures { result ≡ weight self }
+    {
+        match self.run_level() {
+            0 => 16,
+            1 => 8,
+            2 => 4,
+            3 => 2,
+            _ => 1,
+        }
+    }
+}

@@ -1,0 +1,50 @@
+ghost use Rattle.std.specs.Prelude.{◌≡◌, ℕ, ◌≤◌, List, length, take};
+ghost use Rattle.cam_types.specs.declared.sense_bytes.TheConstants.{MOST_SENSE};
+
+use std::marker::Model;
+
+/// How many bytes of sense data are kept.
+pub const MOST_SENSE: usize = 18;
+
+/// The first 18 bytes of some sense data, or all of it where it is shorter.
+#[derive(Clone, Copy, Debug, PartialEq, Eq, Hash)]
+pub struct SenseBytes {
+    bytes: [u8; 18],
+    len: usize,
+}
+
+impl Model for SenseBytes {
+    ghost use Rattle.std.specs.Prelude.{List, ℕ};
+
+    ghost Value = { List ℕ };
+
+    ghost use Rattle.cam_types.specs.SenseBytes.{kept, IsPadded, padded, padded-kept};
+
+    ghost view = { kept };
+
+    ghost invariant = { IsPadded };
+
+    ghost inverse = { padded };
+
+    ghost inverse_ok = { padded-kept };
+}
+
+impl SenseBytes {
+    /// Keeps the first 18 bytes.
+    pub fn first(bytes: &[u8]) -> SenseBytes
+        ensures { result ≡ take MOST_SENSE bytes.now }
+    {
+        let mut kept = [0; 18];
+        let len = bytes.len().min(MOST_SENSE);
+        kept[..len].copy_from_slice(&bytes[..len]);
+        SenseBytes { bytes: kept, len }
+    }
+
+    /// The bytes that are kept.
+    pub fn bytes(&self) -> &[u8]
+        ensures same { result.now ≡ self.now }
+        ensures most { length result.now ≤ MOST_SENSE }
+    {
+        &self.bytes[..self.len]
+    }
+}

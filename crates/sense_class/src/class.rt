@@ -1,0 +1,123 @@
+ghost use Rattle.std.specs.Prelude.{◌≡◌, ◌≢◌};
+ghost use Rattle.sense_class.specs.Classes.{status_of, sense_kind, scsi_kind, kind_of, class_of, classify, asks_requeue, asks_finish, is_counted};
+
+use crate::sense::{Sense, read_sense};
+use cam_types::Outcome;
+
+/// What a result asks for, after the manner of FreeBSD's `cam_periph_error`.
+#[derive(Clone, Copy, Debug, PartialEq, Eq, Hash)]
+pub enum Class {
+    /// The CCB has completed.
+    Complete,
+    /// The CCB is to be sent again, which doesn't count as a retry.
+    FreeRequeue,
+    /// The CCB is to be sent again, which counts as a retry.
+    CountedRequeue,
+    /// The CCB has failed.
+    Fail(Why),
+}
+
+/// Why a CCB has failed.
+#[derive(Clone, Copy, Debug, PartialEq, Eq, Hash)]
+pub enum Why {
+    /// The command succeeded by a recovery of the device's own.
+    Recovered,
+    /// The CCB has no retry left.
+    Spent,
+    /// No retry would help.
+    Other,
+}
+
+/// What the table of results says of one, before the CCB's retries are looked at.
+#[derive(Clone, Copy, Debug, PartialEq, Eq, Hash)]
+pub enum Kind {
+    Good,
+    Free,
+    Counted,
+    Recovered,
+    Other,
+}
+
+/// The class of a result of a CCB with so many retries, after so many counted requeues.
+pub fn classify(outcome: &Outcome, counted: u32, retries: u32) -> Class
+    requires { status_of outcome.now ≢ 0 }
+    ensures { result ≡ classify outcome.now counted retries }
+{
+    match kind_of(outcome) {
+        Kind::Good => Class::Complete,
+        Kind::Free => Class::FreeRequeue,
+        Kind::Counted if counted == retries => Class::Fail(Why::Spent),
+        Kind::Counted => Class::CountedRequeue,
+        Kind::Recovered => Class::Fail(Why::Recovered),
+        Kind::Other => Class::Fail(Why::Other),
+    }
+}
+
+/// The result's row in the table: its CAM status, for a SCSI status error the SCSI status, and for a check condition
+/// the sense.
+#[tactic(auto, unfolding(crate::specs::Classes::kind_of))]
+pub fn kind_of(outcome: &Outcome) -> Kind
+    ensures { result ≡ kind_of outcome.now }
+{
+    match outcome.status & 0x3f {
+        0x01 => Kind::Good,
+        0x1b => Kind::Free,
+        0x05 | 0x0a | 0x0b | 0x0e | 0x0f | 0x13 | 0x17 => Kind::Counted,
+        0x0c => scsi_kind(outcome),
+        _ => Kind::Other,
+    }
+}
+
+#[tactic(auto, unfolding(crate::specs::Classes::scsi_kind))]
+fn scsi_kind(outcome: &Outcome) -> Kind
+    ensures { result ≡ scsi_kind outcome.now }
+{
+    match outcome.scsi {
+        0x28 => Kind::Free,
+        0x08 => Kind::Counted,
+        0x02 => sense_kind(read_sense(outcome.sense.bytes())),
+        _ => Kind::Other,
+    }
+}
+
+#[tactic(auto, unfolding(crate::specs::Classes::sense_kind))]
+fn sense_kind(sense: Option<Sense>) -> Kind
+    ensures { result ≡ sense_kind sense }
+{
+    let Some(sense) = sense else {
+        return Kind::Counted;
+    };
+    if sense.deferred {
+        return Kind::Counted;
+    }
+    match sense.key {
+        2 | 3 | 4 | 6 | 11 => Kind::Counted,
+        0 | 1 => Kind::Recovered,
+        _ => Kind::Other,
+    }
+}
+
+impl Class {
+    /// Whether the CCB is to be sent again.
+    pub fn asks_requeue(self) -> bool
+        ensures { result ≡ asks_requeue self }
+    {
+        matches!(self, Class::FreeRequeue | Class::CountedRequeue)
+    }
+
+    /// Whether the CCB has failed.
+    pub fn asks_finish(self) -> bool
+        ensures { result ≡ asks_finish self }
+    {
+        matches!(self, Class::Fail(_))
+    }
+}
+
+impl Kind {
+    /// Whether a requeue of such a result counts as a retry.
+    pub fn is_counted(self) -> bool
+        ensures { result ≡ is_counted self }
+    {
+        self == Kind::Counted
+    }
+}

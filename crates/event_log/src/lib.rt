@@ -1,0 +1,12 @@
+//! Events, and what they say of each place between them: rounds, counts, stays, queues, heads and the live schedule.
+#![tactic(auto)]
+
+pub use event::Event;
+pub use log::Log;
+pub use passage::{Passage, Sending, Stay};
+pub use submission::Submission;
+
+mod event;
+mod log;
+mod passage;
+mod submission;

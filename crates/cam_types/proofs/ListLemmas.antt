@@ -1,4 +1,4 @@
-use Rattle.std.proofs.Common.{◌≡◌, List, [], ◌∷◌, ◌++◌, refl, ap, ◌∙◌, append_assoc, append-nil}
+use Rattle.std.proofs.Common.{◌≡◌, ℕ, ◌+◌, ◌<◌, ◌≤◌, List, [], ◌∷◌, ◌++◌, length, refl, ap, ◌∙◌, arith, append_assoc, append-nil, length-append}
 use Rattle.std.specs.Prelude.{Option, Some, None}
 use Rattle.std.specs.Option.{option_or}
 use Rattle.cam_types.specs.Lists.{moments, moments_after, first_answer}
@@ -23,3 +23,24 @@ first_answer-append f (x ∷ xs) ys = elim (f x) as (λ o. option_or o (first_an
 -- where no element has an answer so far and one more has none, there is none
 pub first_answer-push : {X F : Type 0} → (f : List X × X → Option F) (xs : List X) (x : X) → first_answer f (moments xs) ≡ None → f (xs, x) ≡ None → first_answer f (moments (xs ++ x ∷ [])) ≡ None
 first_answer-push f xs x none here = rw (moments-push, first_answer-append) (rw (none, here) refl)
+
+pub or_left : {F : Type 0} → (o p : Option F) → option_or o p ≡ None → o ≡ None
+or_left None p e = refl
+or_left (Some x) p e = e
+
+pub or_right : {F : Type 0} → (o p : Option F) → option_or o p ≡ None → p ≡ None
+or_right None p e = e
+or_right (Some x) p e = absurd (cc)
+
+-- where an answer comes at the latest behind n elements and there is none, there are at most n
+few_after : {X F : Type 0} → (f : List X × X → Option F) (n : ℕ) → ((before : List X) (x : X) → f (before, x) ≡ None → length before < n) →
+    (before xs : List X) → length before ≤ n → first_answer f (moments_after before xs) ≡ None → length before + length xs ≤ n
+few_after f n h before [] le none = omega arith
+few_after f n h before (x ∷ xs) le none =
+    let here : f (before, x) ≡ None = or_left (f (before, x)) _ none in
+    let lt : length before < n = h before x here in
+    omega (arith, length-append before (x ∷ []), few_after f n h (before ++ x ∷ []) xs (omega (arith, length-append before (x ∷ []))) (or_right (f (before, x)) _ none))
+
+pub few_where_none : {X F : Type 0} → (f : List X × X → Option F) (n : ℕ) → ((before : List X) (x : X) → f (before, x) ≡ None → length before < n) →
+    (xs : List X) → first_answer f (moments xs) ≡ None → length xs ≤ n
+few_where_none f n h xs none = omega (arith, few_after f n h [] xs (omega arith) none)

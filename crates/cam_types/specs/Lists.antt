@@ -1,4 +1,4 @@
-use Rattle.std.specs.Prelude.{ℕ, Bool, true, false, ◌==◌, nat_lt, not, ◌&&◌, ◌||◌, List, [], ◌∷◌, ◌++◌, Option, None, find}
+use Rattle.std.specs.Prelude.{ℕ, Bool, true, false, ◌==◌, nat_lt, not, ◌&&◌, ◌||◌, List, [], ◌∷◌, ◌++◌, Option, Some, None, find, if◌then◌else◌}
 use Rattle.std.specs.List.{list_all}
 use Rattle.std.specs.Option.{option_or}
 
@@ -25,3 +25,8 @@ is_less as' [] = false
 -- the one that no other is less than, by these keys
 abbrev pub least_by : {X : Type 0} → (X → List ℕ) → List X → Option X
 least_by key xs = find (λ x. list_all (λ y. not (is_less (key y) (key x))) xs) xs
+
+-- the lesser of the least so far and one more, which stands behind it
+abbrev pub better : {X : Type 0} → (X → List ℕ) → Option X → X → Option X
+better key None x = Some x
+better key (Some b) x = if is_less (key x) (key b) then Some x else Some b

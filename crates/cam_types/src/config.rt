@@ -1,6 +1,7 @@
-ghost use Rattle.std.specs.Prelude.{◌≡◌, ℕ, [], ◌∷◌, ◌++◌, ◌==◌, length, count_by, IfOk, OnOk, OnErr, MatchOption, IsOkUnless};
+ghost use Rattle.std.specs.Prelude.{◌≡◌, ℕ, [], ◌∷◌, ◌++◌, ◌==◌, ◌≤◌, length, count_by, IfOk, OnOk, OnErr, MatchOption, IsOkUnless};
 ghost use Rattle.cam_types.specs.Topology.{Topology, are_openings, is_same_address, adapter_fault, address_fault, device_fault, lane_fault, config_fault, IsConfig};
 ghost use Rattle.cam_types.specs.Made.{MadeFrom};
+ghost use Rattle.cam_types.specs.declared.config_fault.TheConstants.{MOST_DEVICES};
 ghost use Rattle.cam_types.specs.Lists.{moments, first_answer};
 ghost use Rattle.std.specs.List.{list_any};
 ghost use Rattle.cam_types.specs.declared.config.ConfigError.TheVariants.{Fault, OutOfMemory};
@@ -180,6 +181,7 @@ impl Config {
     /// The devices.
     pub fn devices(&self) -> &[Device]
         ensures same { result.now ≡ self.now.devices }
+        ensures few { length result.now ≤ MOST_DEVICES }
         ensures kept { IsConfig self.now }
     {
         &self.devices

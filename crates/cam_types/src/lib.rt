@@ -10,7 +10,7 @@ pub use device::Device;
 pub use flags::Flags;
 pub use limits::{BadLimit, Limits, MOST_CCBS, MOST_EVENTS, MOST_ROUNDS, MOST_STAYS};
 pub use outcome::Outcome;
-pub use priority::{BadPriority, MOST_PRIORITY, Priority};
+pub use priority::{BadPriority, MOST_PRIORITY, Priority, weight_of};
 pub use sense_bytes::{MOST_SENSE, SenseBytes};
 
 mod command;

@@ -60,12 +60,21 @@ impl Priority {
     pub fn weight(self) -> u32
         ensures { result ≡ weight self }
     {
-        match self.run_level() {
-            0 => 16,
-            1 => 8,
-            2 => 4,
-            3 => 2,
-            _ => 1,
-        }
+        weight_of(self.number)
+    }
+}
+
+/// What a round of waiting costs at the priority of this number, where a number above 1279 weighs as much as the least
+/// urgent priority.
+pub fn weight_of(priority: u32) -> u32
+    ensures same { result ≡ weight priority }
+    ensures most { result ≤ 16 }
+{
+    match priority >> 8 {
+        0 => 16,
+        1 => 8,
+        2 => 4,
+        3 => 2,
+        _ => 1,
     }
 }

@@ -1,3 +1,4 @@
 pub mod Laws
 pub mod ListFacts
+pub mod LiveLemmas
 pub mod LogLemmas

@@ -1,10 +1,12 @@
 -- facts on lists that std lacks
-use Rattle.std.proofs.Common.{◌≡◌, ℕ, ◌+◌, ◌<◌, ◌≤◌, Bool, true, false, cond, List, [], ◌∷◌, ◌++◌, length, refl, ap, ◌∙◌, arith, Option, Some, None, zero-add, length-append}
-use Rattle.std.specs.Prelude.{◌&&◌, filter, count_by, option_to_list, All}
-use Rattle.std.specs.List.{filter_map, cons_option}
-use Rattle.std.proofs.lemmas.List.Elements.{filter_map-append, All-nil, All-cons, All-head, All-tail}
+use Rattle.std.proofs.Common.{◌≡◌, ℕ, ◌+◌, ◌<◌, ◌≤◌, Bool, true, false, cond, List, [], ◌∷◌, ◌++◌, length, take, refl, sym, ap, ◌∙◌, arith, Option, Some, None, append-nil, zero-add, add-zero, length-append, get_or, zero, suc}
+use Rattle.std.specs.Prelude.{◌&&◌, filter, find, slice_get, count_by, option_to_list, All}
+use Rattle.std.specs.List.{filter_map, cons_option, range_with_len}
+use Rattle.std.proofs.lemmas.List.{take_more}
+use Rattle.std.proofs.lemmas.List.Elements.{filter_map-append, filter-append, All-nil, All-cons, All-head, All-tail}
 use Rattle.std.proofs.lemmas.List.Sums.{sum_by-append}
-use Rattle.cam_types.specs.Lists.{moments_after}
+use Rattle.cam_types.specs.Lists.{moments_after, least_by, better}
+use Rattle.cam_types.proofs.LeastLemmas.{least_by-push}
 
 -- a filter takes one more
 filter_map-one : {Y : Type 0} → (o : Option Y) → cons_option o [] ≡ option_to_list o
@@ -21,8 +23,9 @@ count_by-push p xs x = sum_by-append (λ y. cond (p y) 1 0) xs (x ∷ []) ∙ ap
 pub length-filter_map : {X Y : Type 0} → (f : X → Option Y) (xs : List X) → length (filter_map f xs) ≤ length xs
 length-filter_map f [] = omega arith
 length-filter_map f (x ∷ xs) = elim (f x) as (λ o. length (cons_option o (filter_map f xs)) ≤ length (x ∷ xs)) [
-    None ↦ omega (arith, length-filter_map f xs)
-  | Some y ↦ omega (arith, length-filter_map f xs) ]
+  | None ↦ omega (arith, length-filter_map f xs)
+  | Some y ↦ omega (arith, length-filter_map f xs)
+]
 
 -- filters by tests that agree on the elements
 pub filter-same : {X : Type 0} → (p q : X → Bool) (xs : List X) → All (λ x. p x ≡ q x) xs → filter p xs ≡ filter q xs
@@ -60,3 +63,37 @@ length-moments_after before (x ∷ xs) = omega (arith, length-moments_after (bef
 pub filter-all : {X : Type 0} → (p : X → Bool) → ((x : X) → p x ≡ true) → (xs : List X) → filter p xs ≡ xs
 filter-all p h [] = refl
 filter-all p h (x ∷ xs) = rw (h x, filter-all p h xs) refl
+
+-- a range one longer
+pub range_with_len-push : (a n : ℕ) → range_with_len a (n + 1) ≡ range_with_len a n ++ (a + n) ∷ []
+range_with_len-push a zero = rw (add-zero a) refl
+range_with_len-push a (suc n) =
+    let one : suc n + 1 ≡ suc (n + 1) = omega arith in
+    let e : (a + 1) + n ≡ a + suc n = omega arith in
+    rw one (ap (λ ns. a ∷ ns) (range_with_len-push (a + 1) n ∙ ap (λ k. range_with_len (a + 1) n ++ k ∷ []) e))
+
+least_cases : {X : Type 0} → (key : X → List ℕ) (xs : List X) (x : X) (t : Bool) → least_by key (xs ++ cond t (x ∷ []) []) ≡ cond t (better key (least_by key xs) x) (least_by key xs)
+least_cases key xs x true = least_by-push key xs x
+least_cases key xs x false = rw (append-nil xs) refl
+
+-- the least of those that pass takes one more
+pub least_by-filter_push : {X : Type 0} → (key : X → List ℕ) (p : X → Bool) (xs : List X) (x : X) → least_by key (filter p (xs ++ x ∷ [])) ≡ cond (p x) (better key (least_by key (filter p xs)) x) (least_by key (filter p xs))
+least_by-filter_push key p xs x = rw (filter-append p xs (x ∷ [])) (least_cases key (filter p xs) x (p x))
+
+-- the best so far and one element more, of a list or of a range
+pub next_best : {X : Type 0} → (key : X → List ℕ) (p : X → Bool) (xs : List X) (i : ℕ) (d : X) (best best' : Option X) (t : Bool) → i < length xs →
+    best ≡ least_by key (filter p (take i xs)) → t ≡ p (get_or xs i d) → best' ≡ cond t (better key best (get_or xs i d)) best →
+    best' ≡ least_by key (filter p (take (i + 1) xs))
+next_best key p xs i d best best' t lt is counts more =
+    more ∙ rw (counts, is) (sym (rw (take_more xs i d lt) (least_by-filter_push key p (take i xs) (get_or xs i d))))
+
+pub next_in_range : (key : ℕ → List ℕ) (p : ℕ → Bool) (n : ℕ) (best best' : Option ℕ) (t : Bool) →
+    best ≡ least_by key (filter p (range_with_len 0 n)) → t ≡ p n → best' ≡ cond t (better key best n) best →
+    best' ≡ least_by key (filter p (range_with_len 0 (n + 1)))
+next_in_range key p n best best' t is counts more =
+    more ∙ rw (counts, is) (sym (rw (range_with_len-push 0 n, zero-add n) (least_by-filter_push key p (range_with_len 0 n) n)))
+
+-- the first that passes is the first of those that pass
+pub find-filter : {X : Type 0} → (p : X → Bool) (xs : List X) → find p xs ≡ slice_get (filter p xs) 0
+find-filter p [] = refl
+find-filter p (x ∷ xs) = elim (p x) as (λ t. cond t (Some x) (find p xs) ≡ slice_get (cond t (x ∷ filter p xs) (filter p xs)) 0) [ true ↦ refl | false ↦ find-filter p xs ]

@@ -57,11 +57,15 @@ turn_key events d = option_map_or (λ (p : Passage). p.priority) (first events d
 abbrev pub devices : Topology → List ℕ
 devices c = range_with_len 0 (length c.devices)
 
+-- it is a device on the adapter, and ready
+abbrev pub may_send : Topology → List Event → ℕ → ℕ → Bool
+may_send c events a d = is_on c a d && is_ready c events d
+
 -- the device whose turn it is, of those on the adapter that are ready
 unfoldable pub head : Topology → List Event → ℕ → Option ℕ
 head c events a =
     if (adapter_freezes events a == 0) && adapter_has_opening c events a
-    then least_by (turn_key events) (filter (λ d. is_on c a d && is_ready c events d) (devices c))
+    then least_by (turn_key events) (filter (may_send c events a) (devices c))
     else None
 
 -- the first stay of the device whose turn it is

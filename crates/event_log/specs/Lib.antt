@@ -4,3 +4,4 @@ pub mod Stays
 pub mod Head
 pub mod Live
 pub mod Log
+pub mod Turn

@@ -53,13 +53,23 @@ has_arrived events p = nat_le p.arrival (round events)
 unfoldable pub has_queued : List Event → ℕ → Bool
 has_queued events ccb = list_any (λ (p : Passage). (p.ccb == ccb) && has_arrived events p) (waiting events)
 
+-- it is a stay at the device, and has arrived by this round
+abbrev pub is_at : ℕ → ℕ → Passage → Bool
+is_at d round p = (p.device == d) && nat_le p.arrival round
+
 -- the stays that are queued at the device
 unfoldable pub queue : List Event → ℕ → List Passage
-queue events d = filter (λ (p : Passage). (p.device == d) && has_arrived events p) (waiting events)
+queue events d = filter (is_at d (round events)) (waiting events)
 
 -- a device's queue is in order of priority, arrival, kind (a requeue first) and birth
+abbrev pub birth_key : Passage → List ℕ
+birth_key p = (if p.requeued then 0 else 1) ∷ p.place ∷ []
+
+abbrev pub earlier_key : Passage → List ℕ
+earlier_key p = p.arrival ∷ birth_key p
+
 abbrev pub queue_key : Passage → List ℕ
-queue_key p = p.priority ∷ p.arrival ∷ (if p.requeued then 0 else 1) ∷ p.place ∷ []
+queue_key p = p.priority ∷ earlier_key p
 
 -- the first of the device's queue
 unfoldable pub first : List Event → ℕ → Option Passage

@@ -13,30 +13,54 @@ pub enum Event {
         flags: Flags,
     },
     /// A lane sends the CCB to its device.
-    Send { lane: u32, ccb: u32 },
+    Send {
+        lane: u32,
+        ccb: u32,
+    },
     /// The command that was sent has completed.
-    Done { ccb: u32, outcome: Outcome },
+    Done {
+        ccb: u32,
+        outcome: Outcome,
+    },
     /// The CCB goes back into its queue, in the next round.
-    Requeue { ccb: u32 },
+    Requeue {
+        ccb: u32,
+    },
     /// The CCB has failed and is given back.
-    Finish { ccb: u32 },
+    Finish {
+        ccb: u32,
+    },
     /// A caller freezes the device's queue so many times.
-    FreezeDev { device: u32, count: u32 },
+    FreezeDev {
+        device: u32,
+        count: u32,
+    },
     /// A caller takes so many freezes of the device's queue away.
-    ReleaseDev { device: u32, count: u32 },
+    ReleaseDev {
+        device: u32,
+        count: u32,
+    },
     /// A caller freezes the adapter so many times.
-    FreezeSim { sim: u32, count: u32 },
+    FreezeSim {
+        sim: u32,
+        count: u32,
+    },
     /// A caller takes one freeze of the adapter away.
-    ReleaseSim { sim: u32 },
+    ReleaseSim {
+        sim: u32,
+    },
     /// From the next round on the device takes so many commands a round.
-    Adjust { device: u32, openings: u32 },
+    Adjust {
+        device: u32,
+        openings: u32,
+    },
     /// The next round opens.
     Tick,
 }
 
 impl Event {
     ghost use Rattle.std.specs.Prelude.{◌≡◌};
-    ghost use Rattle.event_log.specs.Event.{is_tick, is_send_of, is_requeue_of, submission_of};
+    ghost use Rattle.event_log.specs.Event.{is_tick, submission_of, is_send_of, is_done_of, is_send_or_done_of, is_requeue_of, is_finish_of, concerns, outcome_of, is_erring, freezes, releases, sim_freezes, is_sim_release_of, is_adjust_of, adjusts_to};
 
     /// What a submit submits.
     pub fn submission(&self) -> Option<Submission>
@@ -79,5 +103,107 @@ impl Event {
         ensures { result ≡ is_send_of number self.now }
     {
         matches!(*self, Event::Send { ccb, .. } if ccb == number)
+    }
+
+    /// Whether it completes the CCB of this number.
+    pub fn is_done_of(&self, number: u32) -> bool
+        ensures { result ≡ is_done_of number self.now }
+    {
+        matches!(*self, Event::Done { ccb, .. } if ccb == number)
+    }
+
+    /// Whether it sends or completes the CCB of this number.
+    pub fn is_send_or_done_of(&self, number: u32) -> bool
+        ensures { result ≡ is_send_or_done_of number self.now }
+    {
+        self.is_send_of(number) || self.is_done_of(number)
+    }
+
+    /// Whether it finishes the CCB of this number.
+    pub fn is_finish_of(&self, number: u32) -> bool
+        ensures { result ≡ is_finish_of number self.now }
+    {
+        matches!(*self, Event::Finish { ccb } if ccb == number)
+    }
+
+    /// Whether it sends, completes, requeues or finishes the CCB of this number.
+    pub fn concerns(&self, number: u32) -> bool
+        ensures { result ≡ concerns number self.now }
+    {
+        self.is_send_or_done_of(number) || self.is_requeue_of(number) || self.is_finish_of(number)
+    }
+
+    /// What a completion says.
+    pub fn outcome(&self) -> Option<Outcome>
+        ensures { result ≡ outcome_of self.now }
+    {
+        match *self {
+            Event::Done { outcome, .. } => Some(outcome),
+            _ => None,
+        }
+    }
+
+    /// Whether it is a completion whose status isn't 01.
+    pub fn is_erring(&self) -> bool
+        ensures { result ≡ is_erring self.now }
+    {
+        match *self {
+            Event::Done { outcome, .. } => outcome.status & 0x3f != 0x01,
+            _ => false,
+        }
+    }
+
+    /// How many freezes of this device it adds for a caller.
+    pub fn freezes(&self, number: u32) -> u32
+        ensures { result ≡ freezes number self.now }
+    {
+        match *self {
+            Event::FreezeDev { device, count } if device == number => count,
+            _ => 0,
+        }
+    }
+
+    /// How many freezes of this device it takes away.
+    pub fn releases(&self, number: u32) -> u32
+        ensures { result ≡ releases number self.now }
+    {
+        match *self {
+            Event::ReleaseDev { device, count } if device == number => count,
+            _ => 0,
+        }
+    }
+
+    /// How many freezes of this adapter it adds.
+    pub fn sim_freezes(&self, number: u32) -> u32
+        ensures { result ≡ sim_freezes number self.now }
+    {
+        match *self {
+            Event::FreezeSim { sim, count } if sim == number => count,
+            _ => 0,
+        }
+    }
+
+    /// Whether it takes a freeze of this adapter away.
+    pub fn is_sim_release_of(&self, number: u32) -> bool
+        ensures { result ≡ is_sim_release_of number self.now }
+    {
+        matches!(*self, Event::ReleaseSim { sim } if sim == number)
+    }
+
+    /// Whether it adjusts the openings of this device.
+    pub fn is_adjust_of(&self, number: u32) -> bool
+        ensures { result ≡ is_adjust_of number self.now }
+    {
+        matches!(*self, Event::Adjust { device, .. } if device == number)
+    }
+
+    /// The openings that it adjusts to, and 0 for an event of another kind.
+    pub fn adjusts_to(&self) -> u32
+        ensures { result ≡ adjusts_to self.now }
+    {
+        match *self {
+            Event::Adjust { openings, .. } => openings,
+            _ => 0,
+        }
     }
 }

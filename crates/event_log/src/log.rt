@@ -1,6 +1,12 @@
 ghost use Rattle.std.specs.Prelude.{◌≡◌, ◌+◌, ◌<◌, ◌≤◌, [], ◌∷◌, ◌++◌, length, filter, count_by, cond, not, OnOk, OnErr, option_to_list, vec_len, vec_capacity};
 ghost use Rattle.event_log.specs.Event.{is_send_of};
 
+mod flight;
+mod freezes;
+mod heads;
+mod live;
+mod queues;
+
 use crate::event::Event;
 use crate::passage::{Passage, Sending};
 use crate::submission::Submission;
@@ -83,7 +89,9 @@ impl Log {
     {
         match *event {
             Event::Submit {
-                device, priority, ..
+                device,
+                priority,
+                ..
             } => Some(Passage {
                 ccb: self.commands(),
                 attempt: 0,
@@ -157,7 +165,8 @@ impl Log {
     /// How many CCBs were submitted.
     #[tactic(auto, using(crate::proofs::Laws::few_commands))]
     pub fn commands(&self) -> u32
-        ensures { result ≡ commands self.now }
+        ensures same { result ≡ commands self.now }
+        ensures short { result ≤ MOST_EVENTS }
     {
         self.submissions.len() as u32
     }
@@ -174,7 +183,10 @@ impl Log {
         ensures same { result ≡ count_by (is_requeue_of ccb) self.now }
         ensures short { result ≤ MOST_EVENTS }
     {
-        self.events.iter().filter(|event| event.is_requeue_of(ccb)).count() as u32
+        self.events
+            .iter()
+            .filter(|event| event.is_requeue_of(ccb))
+            .count() as u32
     }
 
     /// The events, in order.

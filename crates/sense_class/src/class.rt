@@ -1,5 +1,5 @@
-ghost use Rattle.std.specs.Prelude.{◌≡◌, ◌≢◌};
-ghost use Rattle.sense_class.specs.Classes.{status_of, sense_kind, scsi_kind, kind_of, class_of, classify, asks_requeue, asks_finish, is_counted};
+ghost use Rattle.std.specs.Prelude.{◌≡◌};
+ghost use Rattle.sense_class.specs.Classes.{sense_kind, scsi_kind, kind_of, class_of, classify, asks_requeue, asks_finish, is_counted};
 
 use crate::sense::{Sense, read_sense};
 use cam_types::Outcome;
@@ -38,9 +38,9 @@ pub enum Kind {
     Other,
 }
 
-/// The class of a result of a CCB with so many retries, after so many counted requeues.
+/// The class of a result of a CCB with so many retries, after so many counted requeues. Status 00, in progress, is no
+/// result; here it falls under what fails for another reason.
 pub fn classify(outcome: &Outcome, counted: u32, retries: u32) -> Class
-    requires { status_of outcome.now ≢ 0 }
     ensures { result ≡ classify outcome.now counted retries }
 {
     match kind_of(outcome) {

@@ -1,3 +1,5 @@
-pub mod ListLemmas
-pub mod TopologyLemmas
 pub mod LeastLemmas
+pub mod ListLemmas
+pub mod NumberLemmas
+pub mod TopologyLemmas
+pub mod WholeLemmas

@@ -1,6 +1,9 @@
 pub mod Bounds
 pub mod Lists
 pub mod Made
+pub mod Number
 pub mod Priority
 pub mod SenseBytes
 pub mod Topology
+pub mod Watched
+pub mod Whole

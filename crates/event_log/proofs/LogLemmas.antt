@@ -2,22 +2,26 @@
 use Rattle.std.proofs.Common.{◌≡◌, ◌+◌, ◌<◌, cond, [], ◌∷◌, ◌++◌, length, arith, length-append}
 use Rattle.std.specs.Prelude.{not, filter, option_to_list}
 use Rattle.event_log.specs.Event.{is_tick, is_send_of, submission_of}
-use Rattle.event_log.specs.Counts.{round, submissions, sendings, sending_of}
+use Rattle.event_log.specs.Counts.{round, commands, submissions, sendings, sending_of}
 use Rattle.event_log.specs.Stays.{passages, passage_of, waiting}
+use Rattle.std.specs.Option.{option_map}
+use Rattle.event_log.specs.State.{state_of, states, told}
 use Rattle.event_log.specs.Log.{IsLog}
+use Rattle.event_log.proofs.StateLaws.{states-push}
 use Rattle.event_log.proofs.Laws.{submissions-push, passages-push, sendings-push, round-push, waiting-push}
 use Rattle.event_log.specs.declared.event.Event.{Event}
 use Rattle.event_log.specs.declared.log.Log.TheInside.{Inside}
 use Rattle.event_log.specs.declared.passage.Passage.{Passage}
 
 -- without events there is nothing
-pub IsLog-none : (l : Inside) → l.events.items ≡ [] → l.submissions.items ≡ [] → l.passages.items ≡ [] → l.sendings.items ≡ [] → l.waiting.items ≡ [] → l.round ≡ 1 → IsLog l
-unfolding submissions passages sendings waiting round
-IsLog-none l e s p g w r = record {
+pub IsLog-none : (l : Inside) → l.events.items ≡ [] → l.submissions.items ≡ [] → l.passages.items ≡ [] → l.sendings.items ≡ [] → l.waiting.items ≡ [] → l.states.items ≡ [] → l.round ≡ 1 → IsLog l
+unfolding submissions passages sendings waiting states round
+IsLog-none l e s p g w t r = record {
   submissions = rw e s;
   passages = rw e p;
   sendings = rw e g;
   waiting = rw e w;
+  states = rw e t;
   round = rw e r;
   short = rw e (omega arith);
 }
@@ -29,12 +33,14 @@ pub IsLog-push : (l l' : Inside) (event : Event) → IsLog l → length l.events
     l'.passages.items ≡ l.passages.items ++ option_to_list (passage_of (l.events.items, event)) →
     l'.sendings.items ≡ l.sendings.items ++ option_to_list (sending_of (l.events.items, event)) →
     l'.waiting.items ≡ filter (λ (p : Passage). not (is_send_of p.ccb event)) l.waiting.items ++ option_to_list (passage_of (l.events.items, event)) →
+    l'.states.items ≡ told event l.states.items ++ option_to_list (option_map (λ _. state_of l.events.items (commands l.events.items)) (submission_of event)) →
     l'.round ≡ l.round + cond (is_tick event) 1 0 → IsLog l'
-IsLog-push l l' event is lt e s p g w r = record {
+IsLog-push l l' event is lt e s p g w t r = record {
   submissions = rw (e, submissions-push, ← is.submissions) s;
   passages = rw (e, passages-push, ← is.passages) p;
   sendings = rw (e, sendings-push, ← is.sendings) g;
   waiting = rw (e, waiting-push, ← is.waiting) w;
+  states = rw (e, states-push, ← is.states) t;
   round = rw (e, round-push, ← is.round) r;
   short = rw e (omega (arith, length-append l.events.items (event ∷ [])));
 }

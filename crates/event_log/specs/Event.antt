@@ -44,6 +44,14 @@ is_finish_of c _ = false
 abbrev pub concerns : ℕ → Event → Bool
 concerns c e = is_send_or_done_of c e || is_requeue_of c e || is_finish_of c e
 
+-- the CCB that it concerns
+abbrev pub ccb_of : Event → Option ℕ
+ccb_of (Send lane ccb) = Some ccb
+ccb_of (Done ccb outcome) = Some ccb
+ccb_of (Requeue ccb) = Some ccb
+ccb_of (Finish ccb) = Some ccb
+ccb_of _ = None
+
 abbrev pub outcome_of : Event → Option Outcome
 outcome_of (Done ccb outcome) = Some outcome
 outcome_of _ = None

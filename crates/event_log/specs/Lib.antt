@@ -5,3 +5,4 @@ pub mod Head
 pub mod Live
 pub mod Log
 pub mod Turn
+pub mod State

@@ -60,7 +60,7 @@ pub enum Event {
 
 impl Event {
     ghost use Rattle.std.specs.Prelude.{◌≡◌};
-    ghost use Rattle.event_log.specs.Event.{is_tick, submission_of, is_send_of, is_done_of, is_send_or_done_of, is_requeue_of, is_finish_of, concerns, outcome_of, is_erring, freezes, releases, sim_freezes, is_sim_release_of, is_adjust_of, adjusts_to};
+    ghost use Rattle.event_log.specs.Event.{is_tick, submission_of, is_send_of, is_done_of, is_send_or_done_of, is_requeue_of, is_finish_of, concerns, ccb_of, outcome_of, is_erring, freezes, releases, sim_freezes, is_sim_release_of, is_adjust_of, adjusts_to};
 
     /// What a submit submits.
     pub fn submission(&self) -> Option<Submission>
@@ -131,6 +131,19 @@ impl Event {
         ensures { result ≡ concerns number self.now }
     {
         self.is_send_or_done_of(number) || self.is_requeue_of(number) || self.is_finish_of(number)
+    }
+
+    /// The CCB that it sends, completes, requeues or finishes.
+    pub fn ccb(&self) -> Option<u32>
+        ensures { result ≡ ccb_of self.now }
+    {
+        match *self {
+            Event::Send { ccb, .. }
+            | Event::Done { ccb, .. }
+            | Event::Requeue { ccb }
+            | Event::Finish { ccb } => Some(ccb),
+            _ => None,
+        }
     }
 
     /// What a completion says.

@@ -9,4 +9,5 @@ pub use submission::Submission;
 mod event;
 mod log;
 mod passage;
+mod state;
 mod submission;

@@ -9,6 +9,7 @@ mod queues;
 
 use crate::event::Event;
 use crate::passage::{Passage, Sending};
+use crate::state::{State, tell};
 use crate::submission::Submission;
 use cam_types::MOST_EVENTS;
 use std::alloc::{AllocError, Global};
@@ -22,6 +23,7 @@ pub struct Log {
     passages: Vec<Passage>,
     sendings: Vec<Sending>,
     waiting: Vec<Passage>,
+    states: Vec<State>,
     round: u32,
 }
 
@@ -39,7 +41,9 @@ impl Model for Log {
 }
 
 impl Log {
-    ghost use Rattle.event_log.specs.Event.{is_tick, is_requeue_of};
+    ghost use Rattle.event_log.specs.Event.{is_tick, is_requeue_of, submission_of};
+    ghost use Rattle.std.specs.Option.{option_map};
+    ghost use Rattle.event_log.specs.State.{state_of};
     ghost use Rattle.event_log.specs.Counts.{round, commands, submission, sending_of};
     ghost use Rattle.event_log.specs.Stays.{passage_of};
 
@@ -53,6 +57,7 @@ impl Log {
             passages: Vec::new(alloc),
             sendings: Vec::new(alloc),
             waiting: Vec::new(alloc),
+            states: Vec::new(alloc),
             round: 1,
         }
     }
@@ -68,15 +73,19 @@ impl Log {
         self.passages.reserve(1)?;
         self.sendings.reserve(1)?;
         self.waiting.reserve(1)?;
+        self.states.reserve(1)?;
         let submission = event.submission();
         let passage = self.passage_of(&event);
         let sending = self.sending_of(&event);
+        let born = self.born(&event);
         let round = self.round_behind(&event);
         append(&mut self.submissions, submission);
         append(&mut self.passages, passage);
         append(&mut self.sendings, sending);
         drop_sent(&mut self.waiting, &event);
         append(&mut self.waiting, passage);
+        tell(&mut self.states, &event);
+        append(&mut self.states, born);
         self.round = round;
         self.events.push_reserved(event);
         Ok(())
@@ -131,6 +140,14 @@ impl Log {
             round: self.round(),
             place: self.len(),
         })
+    }
+
+    // The state of the CCB that the event submits.
+    fn born(&self, event: &Event) -> Option<State>
+        ensures { result ≡ option_map (λ _. state_of self.now (commands self.now)) (submission_of event.now) }
+    {
+        event.submission()?;
+        Some(self.state_of(self.commands()))
     }
 
     // The round behind the event.

@@ -1,7 +1,8 @@
-ghost use Rattle.std.specs.Prelude.{◌≡◌};
+ghost use Rattle.std.specs.Prelude.{◌≡◌, slice_get};
 
 use super::Log;
 use crate::event::Event;
+use crate::state::State;
 use cam_types::Outcome;
 use sense_class::{classify, kind_of};
 
@@ -10,15 +11,21 @@ impl Log {
     ghost use Rattle.cam_types.specs.declared.limits.TheConstants.{MOST_EVENTS};
     ghost use Rattle.event_log.specs.Counts.{is_in_flight, has_in_flight, is_recovering, last_result, counted_requeues, retries_of, wants_requeue, wants_finish};
 
+    // Where the CCB stands.
+    pub(super) fn state_of(&self, ccb: u32) -> State
+        ensures { result ≡ state_of self.now ccb }
+    {
+        match kept(&self.states, ccb) {
+            Some(state) => state,
+            None => state_of(&self.events, ccb),
+        }
+    }
+
     /// Whether the CCB is in flight: the last of its sends and completions is a send.
-    #[tactic(auto, unfolding(crate::specs::Counts::is_in_flight))]
     pub fn is_in_flight(&self, ccb: u32) -> bool
         ensures { result ≡ is_in_flight self.now ccb }
     {
-        match last_send_or_done(&self.events, ccb) {
-            Some(event) => event.is_send_of(ccb),
-            None => false,
-        }
+        self.state_of(ccb).in_flight
     }
 
     /// Whether some CCB is in flight.
@@ -30,14 +37,10 @@ impl Log {
     }
 
     /// Whether the CCB is recovering: of what concerns it the last is a completion that errs.
-    #[tactic(auto, unfolding(crate::specs::Counts::is_recovering))]
     pub fn is_recovering(&self, ccb: u32) -> bool
         ensures { result ≡ is_recovering self.now ccb }
     {
-        match last_concern(&self.events, ccb) {
-            Some(event) => event.is_erring(),
-            None => false,
-        }
+        self.state_of(ccb).recovering
     }
 
     /// The last result of the CCB.
@@ -104,7 +107,33 @@ impl Log {
 }
 
 ghost use Rattle.event_log.specs.Event.{is_send_or_done_of, is_done_of, concerns};
+ghost use Rattle.event_log.specs.State.{state_of};
 ghost use Rattle.event_log.specs.Counts.{last, last_result, is_counted_requeue};
+
+fn kept(states: &[State], ccb: u32) -> Option<State>
+    ensures { result ≡ slice_get states.now ccb }
+{
+    states.get(ccb as usize).copied()
+}
+
+// Where the CCB stands, by what concerned it last.
+#[tactic(auto, unfolding(crate::specs::Counts::is_in_flight, crate::specs::Counts::is_recovering))]
+fn state_of(events: &[Event], ccb: u32) -> State
+    ensures { result ≡ state_of events.now ccb }
+{
+    let in_flight = match last_send_or_done(events, ccb) {
+        Some(event) => event.is_send_of(ccb),
+        None => false,
+    };
+    let recovering = match last_concern(events, ccb) {
+        Some(event) => event.is_erring(),
+        None => false,
+    };
+    State {
+        in_flight,
+        recovering,
+    }
+}
 
 // The last send or completion of the CCB.
 fn last_send_or_done(events: &[Event], ccb: u32) -> Option<Event>

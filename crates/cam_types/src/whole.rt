@@ -69,13 +69,13 @@ pub fn write_whole<W: Write>(writer: &mut Watched<W>, text: &[u8]) -> Result<(),
 {
     let mut written = 0;
     while written < text.len() {
-        let Ok(count) = writer.write(&text[written..]) else {
+        let Ok(taken) = writer.write(&text[written..]) else {
             return Err(WriteFailed);
         };
-        if count == 0 {
+        if taken == 0 {
             return Err(WriteFailed);
         }
-        written += count;
+        written += taken;
     }
     if writer.flush().is_err() {
         return Err(WriteFailed);

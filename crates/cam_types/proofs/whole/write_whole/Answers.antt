@@ -8,6 +8,6 @@ loop-written-preserved g c =
     let wrote = c.in-Ok.ensures in
     (
       omega arith,
-      took_some _ _ c.in-Ok.count _ wrote.noted kept.1 c.if-count-eq0.false,
-      write_step _ _ _ c.args.text.now c.loop-written.written c.in-Ok.count c.loop-written-test.true kept.2 wrote.bytes,
+      took_some _ _ c.in-Ok.taken _ wrote.noted kept.1 c.if-taken-eq0.false,
+      write_step _ _ _ c.args.text.now c.loop-written.written c.in-Ok.taken c.loop-written-test.true kept.2 wrote.bytes,
     )

@@ -1,0 +1,29 @@
+use cam_event::Stay;
+use std::alloc::AllocError;
+use thiserror::Error;
+use trace_file::TraceFault;
+
+/// Why a run ended without its output. Where nothing else is said, nothing was written.
+#[derive(Clone, Copy, Debug, PartialEq, Eq, Error)]
+pub enum AuditFault {
+    /// The input is no trace, or wasn't read.
+    #[error("{0}")]
+    Trace(TraceFault),
+    /// The history isn't complete: this is the first of its stays, by birth, that has no send.
+    #[error("unsent ccb {} try {}", .0.ccb, .0.attempt)]
+    Unsent(Stay),
+    /// A write failed. A part of the text may have been written, from its start.
+    #[error("write failed")]
+    WriteFailed,
+    /// There is no memory left.
+    #[error("out of memory")]
+    OutOfMemory,
+}
+
+impl From<AllocError> for AuditFault {
+    ghost from_gives = { λ _ e. e ≡ OutOfMemory };
+
+    fn from(_error: AllocError) -> AuditFault {
+        AuditFault::OutOfMemory
+    }
+}

@@ -1,0 +1,50 @@
+use audit_report::AuditFault;
+use std::fmt;
+use std::process::ExitCode;
+use trace_file::TraceFault;
+
+/// Why the program didn't do what its words asked. Its text is the line on standard error, behind the program's name.
+#[derive(Clone, Copy, Debug)]
+pub enum Failure {
+    /// A file that can't be opened.
+    CannotOpen,
+    /// A text that isn't what it has to be, a read or write that failed, or no memory.
+    Audit(AuditFault),
+}
+
+impl Failure {
+    /// The exit status: 3 for an input that is refused, 4 for a file that can't be opened and a read or write that
+    /// failed, 5 where there is no memory left.
+    pub fn exit_code(&self) -> ExitCode {
+        ExitCode::from(match self {
+            Failure::CannotOpen => 4,
+            Failure::Audit(AuditFault::Trace(fault)) => trace_status(fault),
+            Failure::Audit(AuditFault::Unsent(_)) => 3,
+            Failure::Audit(AuditFault::WriteFailed) => 4,
+            Failure::Audit(AuditFault::OutOfMemory) => 5,
+        })
+    }
+}
+
+fn trace_status(fault: &TraceFault) -> u8 {
+    match fault {
+        TraceFault::ReadFailed => 4,
+        TraceFault::OutOfMemory => 5,
+        _ => 3,
+    }
+}
+
+impl fmt::Display for Failure {
+    fn fmt<W: fmt::Write>(&self, f: &mut fmt::Formatter<W>) -> fmt::Result {
+        match self {
+            Failure::CannotOpen => f.write_str("cannot open"),
+            Failure::Audit(fault) => fault.fmt(f),
+        }
+    }
+}
+
+impl From<AuditFault> for Failure {
+    fn from(fault: AuditFault) -> Failure {
+        Failure::Audit(fault)
+    }
+}

@@ -1,0 +1,46 @@
+use crate::check::check;
+use crate::command_line::command_line;
+use crate::failure::Failure;
+use audit_report::AuditFault;
+use clap::ArgMatches;
+use clap::error::ErrorKind;
+use std::env;
+use std::process::ExitCode;
+use std::rt::Runtime;
+
+/// Does what the words of the command line ask, and says on standard error why it didn't.
+pub fn run<R: Runtime + AllocGlobal>(rt: &R) -> ExitCode {
+    let Ok(words) = env::args(rt) else {
+        return fail(rt, Failure::Audit(AuditFault::OutOfMemory));
+    };
+    let Ok(words) = words.collect(rt.alloc()) else {
+        return fail(rt, Failure::Audit(AuditFault::OutOfMemory));
+    };
+    let words: Vec<String> = words;
+    let Ok(command) = command_line(rt.alloc()) else {
+        return fail(rt, Failure::Audit(AuditFault::OutOfMemory));
+    };
+    match command.try_get_matches_from(words.as_slice()) {
+        Ok(matches) => match obey(rt, &matches) {
+            Ok(()) => ExitCode::SUCCESS,
+            Err(failure) => fail(rt, failure),
+        },
+        Err(error) if error.kind() == ErrorKind::OutOfMemory => fail(rt, Failure::Audit(AuditFault::OutOfMemory)),
+        Err(error) => match error.print(rt) {
+            Ok(()) => ExitCode::from(if error.use_stderr() { 2 } else { 0 }),
+            Err(_) => fail(rt, Failure::Audit(AuditFault::WriteFailed)),
+        },
+    }
+}
+
+fn obey<R: Runtime + AllocGlobal>(rt: &R, matches: &ArgMatches<'_>) -> Result<(), Failure> {
+    match matches.subcommand() {
+        Some(("check", words)) => check(rt, words.get_str("TRACE")),
+        _ => check(rt, None),
+    }
+}
+
+fn fail<R: Runtime>(rt: &R, failure: Failure) -> ExitCode {
+    let _ = rt.eprintln(format_args!("camxpt: {failure}"));
+    failure.exit_code()
+}

@@ -1,0 +1,4 @@
+pub mod Legal
+pub mod Refusals
+pub mod Laws
+pub mod Past

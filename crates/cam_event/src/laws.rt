@@ -1,0 +1,21 @@
+ghost use Rattle.cam_event.specs.Laws.{LegalIsUnrefused, SendsStandFree, RequeuesCountByClass, NarrowerIsLegal};
+
+/// By any rules, what each kind of event asks of those before it is what no cause of a refusal denies.
+pub fn legal_is_unrefused()
+    ensures { LegalIsUnrefused }
+{}
+
+/// In each legal list a send stands where no freeze of its device or adapter stands and both have an opening left.
+pub fn sends_stand_free()
+    ensures { SendsStandFree }
+{}
+
+/// In each legal list the requeues that count as retries are those behind a result whose class says so.
+pub fn requeues_count_by_class()
+    ensures { RequeuesCountByClass }
+{}
+
+/// What is legal by a transport's own limits is legal in a history.
+pub fn narrower_is_legal()
+    ensures { NarrowerIsLegal }
+{}

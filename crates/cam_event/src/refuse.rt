@@ -1,0 +1,219 @@
+ghost use Rattle.std.specs.Prelude.{◌≡◌};
+ghost use Rattle.cam_event.specs.Legal.{history_rules};
+ghost use Rattle.cam_event.specs.Refusals.{refusal, first_cause, submit_causes, turn_causes, send_causes, done_causes, requeue_causes, finish_causes, freeze_dev_causes, release_dev_causes, freeze_sim_causes, release_sim_causes, adjust_causes, tick_causes};
+
+use crate::most::{MOST_FREEZES, MOST_RETRIES};
+use crate::question::{
+    are_openings, are_stays_full, device_of, have_openings, is_count, is_on, is_other_next,
+    lane_adapter, names_adapter, names_ccb, names_device, names_lane,
+};
+use crate::refusal::Refusal;
+use cam_types::{Config, MOST_EVENTS, MOST_PRIORITY, MOST_ROUNDS, Outcome};
+use event_log::{Event, Log};
+
+/// Why a history refuses the event behind those of the log: the first cause that holds.
+#[tactic(auto, unfolding(crate::specs::Refusals::refusal))]
+pub fn refusal(config: &Config, log: &Log, event: &Event) -> Option<Refusal>
+    ensures { result ≡ refusal history_rules config.now log.now event.now }
+{
+    if log.len() >= MOST_EVENTS {
+        return Some(Refusal::HistoryFull(log.len()));
+    }
+    match *event {
+        Event::Submit {
+            device,
+            priority,
+            retries,
+            ..
+        } => refuse_submit(config, log, device, priority, retries),
+        Event::Send { lane, ccb } => refuse_send(config, log, lane, ccb),
+        Event::Done { ccb, outcome } => refuse_done(log, ccb, outcome),
+        Event::Requeue { ccb } => refuse_requeue(log, ccb),
+        Event::Finish { ccb } => refuse_finish(log, ccb),
+        Event::FreezeDev { device, count } => refuse_freeze_dev(config, log, device, count),
+        Event::ReleaseDev { device, count } => refuse_release_dev(config, log, device, count),
+        Event::FreezeSim { sim, count } => refuse_freeze_sim(config, log, sim, count),
+        Event::ReleaseSim { sim } => refuse_release_sim(config, log, sim),
+        Event::Adjust { device, openings } => refuse_adjust(config, device, openings),
+        Event::Tick => refuse_tick(log),
+    }
+}
+
+fn refuse_submit(
+    config: &Config,
+    log: &Log,
+    device: u32,
+    priority: u32,
+    retries: u32,
+) -> Option<Refusal>
+    ensures { result ≡ first_cause (submit_causes history_rules config.now log.now device priority retries) }
+{
+    if !names_device(config, device) {
+        Some(Refusal::NoDevice)
+    } else if priority > MOST_PRIORITY {
+        Some(Refusal::BadPriority)
+    } else if retries > MOST_RETRIES {
+        Some(Refusal::BadRetries)
+    } else if are_stays_full(log) {
+        Some(Refusal::StaysFull)
+    } else {
+        None
+    }
+}
+
+fn refuse_send(config: &Config, log: &Log, lane: u32, ccb: u32) -> Option<Refusal>
+    ensures { result ≡ first_cause (send_causes config.now log.now lane ccb) }
+{
+    if !names_lane(config, lane) {
+        Some(Refusal::NoLane)
+    } else if !names_ccb(log, ccb) {
+        Some(Refusal::NoCcb)
+    } else if !log.has_queued(ccb) {
+        Some(Refusal::NotQueued)
+    } else {
+        let device = device_of(log, ccb);
+        let adapter = lane_adapter(config, lane);
+        refuse_turn(config, log, device, adapter, ccb)
+    }
+}
+
+// Why the CCB of this device isn't sent by a lane of this adapter: it may not be its turn.
+fn refuse_turn(config: &Config, log: &Log, device: u32, adapter: u32, ccb: u32) -> Option<Refusal>
+    ensures { result ≡ first_cause (turn_causes config.now log.now device adapter ccb) }
+{
+    if !is_on(config, adapter, device) {
+        Some(Refusal::WrongLane)
+    } else if log.freeze_count(device) != 0 {
+        Some(Refusal::DeviceFrozen)
+    } else if log.adapter_freezes(adapter) != 0 {
+        Some(Refusal::AdapterFrozen)
+    } else if !have_openings(config, log, device, adapter) {
+        Some(Refusal::NoOpening)
+    } else if is_other_next(config, log, adapter, ccb) {
+        Some(Refusal::NotHead)
+    } else {
+        None
+    }
+}
+
+fn refuse_done(log: &Log, ccb: u32, outcome: Outcome) -> Option<Refusal>
+    ensures { result ≡ first_cause (done_causes log.now ccb outcome) }
+{
+    if !names_ccb(log, ccb) {
+        Some(Refusal::NoCcb)
+    } else if outcome.status & 0x3f == 0 {
+        Some(Refusal::BadStatus)
+    } else if !log.is_in_flight(ccb) {
+        Some(Refusal::NotInFlight)
+    } else {
+        None
+    }
+}
+
+fn refuse_requeue(log: &Log, ccb: u32) -> Option<Refusal>
+    ensures { result ≡ first_cause (requeue_causes history_rules log.now ccb) }
+{
+    if !names_ccb(log, ccb) {
+        Some(Refusal::NoCcb)
+    } else if are_stays_full(log) {
+        Some(Refusal::StaysFull)
+    } else if !log.is_recovering(ccb) {
+        Some(Refusal::NotRecovering)
+    } else if !log.wants_requeue(ccb) {
+        Some(Refusal::WrongDecision)
+    } else {
+        None
+    }
+}
+
+fn refuse_finish(log: &Log, ccb: u32) -> Option<Refusal>
+    ensures { result ≡ first_cause (finish_causes log.now ccb) }
+{
+    if !names_ccb(log, ccb) {
+        Some(Refusal::NoCcb)
+    } else if !log.is_recovering(ccb) {
+        Some(Refusal::NotRecovering)
+    } else if !log.wants_finish(ccb) {
+        Some(Refusal::WrongDecision)
+    } else {
+        None
+    }
+}
+
+fn refuse_freeze_dev(config: &Config, log: &Log, device: u32, count: u32) -> Option<Refusal>
+    ensures { result ≡ first_cause (freeze_dev_causes config.now log.now device count) }
+{
+    if !names_device(config, device) {
+        Some(Refusal::NoDevice)
+    } else if !is_count(count) {
+        Some(Refusal::BadCount)
+    } else if log.caller_count(device) + u64::from(count) > u64::from(MOST_FREEZES) {
+        Some(Refusal::FreezeOverflow)
+    } else {
+        None
+    }
+}
+
+fn refuse_release_dev(config: &Config, log: &Log, device: u32, count: u32) -> Option<Refusal>
+    ensures { result ≡ first_cause (release_dev_causes config.now log.now device count) }
+{
+    if !names_device(config, device) {
+        Some(Refusal::NoDevice)
+    } else if !is_count(count) {
+        Some(Refusal::BadCount)
+    } else if log.caller_count(device) < u64::from(count) {
+        Some(Refusal::ReleaseTooMany)
+    } else {
+        None
+    }
+}
+
+fn refuse_freeze_sim(config: &Config, log: &Log, sim: u32, count: u32) -> Option<Refusal>
+    ensures { result ≡ first_cause (freeze_sim_causes config.now log.now sim count) }
+{
+    if !names_adapter(config, sim) {
+        Some(Refusal::NoAdapter)
+    } else if !is_count(count) {
+        Some(Refusal::BadCount)
+    } else if log.adapter_freezes(sim) + u64::from(count) > u64::from(MOST_FREEZES) {
+        Some(Refusal::FreezeOverflow)
+    } else {
+        None
+    }
+}
+
+fn refuse_release_sim(config: &Config, log: &Log, sim: u32) -> Option<Refusal>
+    ensures { result ≡ first_cause (release_sim_causes config.now log.now sim) }
+{
+    if !names_adapter(config, sim) {
+        Some(Refusal::NoAdapter)
+    } else if log.adapter_freezes(sim) == 0 {
+        Some(Refusal::ReleaseTooMany)
+    } else {
+        None
+    }
+}
+
+fn refuse_adjust(config: &Config, device: u32, openings: u32) -> Option<Refusal>
+    ensures { result ≡ first_cause (adjust_causes config.now device openings) }
+{
+    if !names_device(config, device) {
+        Some(Refusal::NoDevice)
+    } else if !are_openings(openings) {
+        Some(Refusal::BadOpenings)
+    } else {
+        None
+    }
+}
+
+fn refuse_tick(log: &Log) -> Option<Refusal>
+    ensures { result ≡ first_cause (tick_causes history_rules log.now) }
+{
+    if log.has_in_flight() {
+        Some(Refusal::InFlight)
+    } else if log.round() >= MOST_ROUNDS {
+        Some(Refusal::RoundsFull)
+    } else {
+        None
+    }
+}

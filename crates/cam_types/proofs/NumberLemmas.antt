@@ -81,3 +81,13 @@ number_of-decimal most n fits le =
 
 pub read_law : (most n : ℕ) (text : List ℕ) (r : Option ℕ) → most < 2 ^ 64 → r ≡ number_of most text → n ≤ most → text ≡ decimal n → r ≡ Some n
 read_law most n text r fits e le is = e ∙ ap (number_of most) is ∙ number_of-decimal most n fits le
+
+within_if : (most n value : ℕ) (b : Bool) → (b ≡ true → value ≤ most) → (if b then Some value else None) ≡ Some n → n ≤ most
+within_if most n value true small e = let same : value ≡ n = cc in omega (arith, small refl)
+within_if most n value false small e = absurd cc
+
+-- what is read is at most what may be
+pub number_of-within : (most n : ℕ) (text : List ℕ) → number_of most text ≡ Some n → n ≤ most
+unfolding number_of
+number_of-within most n text e =
+    within_if most n (digits_value 10 text) (is_decimal text && nat_le (digits_value 10 text) most) (λ t. leb-true _ _ (and_parts _ _ t).1) e

@@ -82,3 +82,6 @@ pub fn write_whole<W: Write>(writer: &mut Watched<W>, text: &[u8]) -> Result<(),
     }
     Ok(())
 }
+
+#[cfg(test)]
+mod tests;

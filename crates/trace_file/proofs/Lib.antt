@@ -1,0 +1,12 @@
+pub mod AgainLaws
+pub mod FaultLaws
+pub mod FieldLaws
+pub mod FieldLemmas
+pub mod HexLaws
+pub mod HistoryLemmas
+pub mod RecordLemmas
+pub mod RowLaws
+pub mod RowsAgain
+pub mod StageLaws
+pub mod StageLemmas
+pub mod WholeLaws

@@ -1,0 +1,82 @@
+-- What is spelled as a record is read again.
+use Rattle.std.proofs.Common.{◌≡◌, ◌<◌, ◌≤◌, ℕ, List, [], ◌∷◌, refl, ap, ◌∙◌, arith}
+use Rattle.std.specs.Prelude.{Result, Ok, Err, decimal}
+use Rattle.csv.specs.Records.{field_at}
+use Rattle.event_log.specs.declared.event.Event.TheVariants as event
+use Rattle.trace_file.specs.Histories.{Device, Event}
+use Rattle.trace_file.specs.declared.device_row.DeviceRow.{DeviceRow}
+use Rattle.trace_file.specs.declared.word.Word.{Word}
+use Rattle.trace_file.specs.declared.word.Word.TheVariants as word
+use Rattle.trace_file.specs.Steps.{◌>>=◌}
+use Rattle.trace_file.specs.Fields.{Row, number_at, flags_text, unused_from}
+use Rattle.trace_file.specs.Records.{hex, padded, device_row, event_row}
+use Rattle.trace_file.specs.Rows.{most_number, one_number, two_numbers, device_at, submit_at, done_at, tick_at, event_at}
+use Rattle.trace_file.specs.Trace.{FitsEvent}
+use Rattle.trace_file.specs.Words.{spelled}
+use Rattle.trace_file.proofs.FieldLaws.{number_again, flags_again}
+use Rattle.trace_file.proofs.HexLaws.{byte_at_again, sense_at_again}
+
+pub one_again : (w : List ℕ) (n : ℕ) → n ≤ most_number → one_number (padded (w ∷ decimal n ∷ [])) ≡ Ok n
+unfolding one_number unused_from field_at
+one_again w n h = rw (number_again (padded (w ∷ decimal n ∷ [])) 1 most_number n (omega arith) h refl) refl
+
+two_again : (w : List ℕ) (m n : ℕ) → m ≤ most_number → n ≤ most_number → two_numbers (padded (w ∷ decimal m ∷ decimal n ∷ [])) ≡ Ok (m, n)
+unfolding two_numbers unused_from field_at
+two_again w m n h k =
+    let row = padded (w ∷ decimal m ∷ decimal n ∷ []) in
+    rw (number_again row 1 most_number m (omega arith) h refl, number_again row 2 most_number n (omega arith) k refl) refl
+
+pub device_again : (d : DeviceRow) → d.bus ≤ most_number → d.target ≤ 65535 → d.lun ≤ 16383 → d.openings ≤ most_number
+    → device_at (padded (spelled word.Dev ∷ decimal d.bus ∷ decimal d.target ∷ decimal d.lun ∷ decimal d.openings ∷ [])) ≡ Ok d
+unfolding device_at unused_from field_at
+device_again d a b c o =
+    let row = padded (spelled word.Dev ∷ decimal d.bus ∷ decimal d.target ∷ decimal d.lun ∷ decimal d.openings ∷ []) in
+    rw (
+      number_again row 1 most_number d.bus (omega arith) a refl,
+      number_again row 2 65535 d.target (omega arith) b refl,
+      number_again row 3 16383 d.lun (omega arith) c refl,
+      number_again row 4 most_number d.openings (omega arith) o refl,
+    ) refl
+
+-- the word that an event's record begins with
+abbrev pub word_for : Event → Word
+word_for (event.Submit driver device priority retries flags) = word.Submit
+word_for (event.Send lane ccb) = word.Send
+word_for (event.Done ccb outcome) = word.Done
+word_for (event.Requeue ccb) = word.Requeue
+word_for (event.Finish ccb) = word.Finish
+word_for (event.FreezeDev device count) = word.Freeze
+word_for (event.ReleaseDev device count) = word.Release
+word_for (event.FreezeSim sim count) = word.FreezeSim
+word_for (event.ReleaseSim sim) = word.ReleaseSim
+word_for (event.Adjust device openings) = word.Adjust
+word_for event.Tick = word.Tick
+
+pub event_again : (e : Event) → FitsEvent e → event_at (word_for e) (event_row e) ≡ Ok e
+unfolding event_at submit_at done_at tick_at unused_from field_at
+event_again (event.Submit driver device priority retries flags) h =
+    let row = event_row (event.Submit driver device priority retries flags) in
+    rw (
+      number_again row 1 255 driver (omega arith) h.0 refl,
+      number_again row 2 most_number device (omega arith) h.1 refl,
+      number_again row 3 most_number priority (omega arith) h.2 refl,
+      number_again row 4 most_number retries (omega arith) h.3 refl,
+      flags_again row 5 flags refl,
+    ) refl
+event_again (event.Send lane ccb) h = rw (two_again (spelled word.Send) lane ccb h.0 h.1) refl
+event_again (event.Done ccb outcome) h =
+    let row = event_row (event.Done ccb outcome) in
+    rw (
+      number_again row 1 most_number ccb (omega arith) h.0 refl,
+      byte_at_again row 2 outcome.status h.1 refl,
+      byte_at_again row 3 outcome.scsi h.2 refl,
+      sense_at_again row 4 outcome.sense h.3 h.4 refl,
+    ) refl
+event_again (event.Requeue ccb) h = rw (one_again (spelled word.Requeue) ccb h) refl
+event_again (event.Finish ccb) h = rw (one_again (spelled word.Finish) ccb h) refl
+event_again (event.FreezeDev device count) h = rw (two_again (spelled word.Freeze) device count h.0 h.1) refl
+event_again (event.ReleaseDev device count) h = rw (two_again (spelled word.Release) device count h.0 h.1) refl
+event_again (event.FreezeSim sim count) h = rw (two_again (spelled word.FreezeSim) sim count h.0 h.1) refl
+event_again (event.ReleaseSim sim) h = rw (one_again (spelled word.ReleaseSim) sim h) refl
+event_again (event.Adjust device openings) h = rw (two_again (spelled word.Adjust) device openings h.0 h.1) refl
+event_again event.Tick h = refl

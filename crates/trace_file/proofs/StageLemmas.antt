@@ -1,0 +1,175 @@
+-- What a record does to the configuration in the making, and to the history.
+use Rattle.std.proofs.Common.{◌≡◌, ◌≢◌, ◌<◌, ◌≤◌, ℕ, List, [], ◌∷◌, ◌++◌, length, Bool, true, false, cond, min, refl, sym, ap, ◌∙◌, arith, rules, subst, length-append, inl, inr}
+use Rattle.std.specs.Prelude.{Option, Some, None, Result, Ok, Err, MatchOption, IsOkUnless, IsOk, nat_le, not, ◌&&◌}
+use Rattle.std.proofs.lemmas.Bool.{cases_lt, cases_Bool, leb-false, le-leb, ne_eqb, and_from, false_from_ne_true}
+use Rattle.cam_types.specs.Topology.{IsDraft, address_fault, are_openings}
+use Rattle.cam_types.specs.declared.config_fault.ConfigFault.TheVariants.{TooMany, BadOpenings, NoAdapter}
+use Rattle.cam_types.specs.Lists.{moments, first_answer}
+use Rattle.cam_types.specs.declared.config.ConfigError.{ConfigError}
+use Rattle.cam_types.specs.declared.config.ConfigError.TheVariants as error
+use Rattle.cam_types.proofs.ListLemmas.{first_answer-push}
+use Rattle.cam_types.proofs.TopologyLemmas.{config_fault-draft}
+use Rattle.trace_file.specs.Histories.{Topology, Device, Event, Past, ConfigFault, adapter_fault, device_fault, lane_fault, config_fault, is_legal, is_legal_event}
+use Rattle.trace_file.specs.declared.device_row.DeviceRow.{DeviceRow}
+use Rattle.trace_file.specs.declared.trace_fault.TraceFault.{TraceFault}
+use Rattle.trace_file.specs.declared.trace_fault.TraceFault.TheVariants.{BadConfig}
+use Rattle.trace_file.specs.declared.trace_stage.TraceStage.{TraceStage}
+use Rattle.trace_file.specs.declared.trace_stage.TraceStage.TheVariants as stage
+use Rattle.trace_file.specs.declared.word.Word.{Word}
+use Rattle.trace_file.specs.declared.word.Word.TheVariants as word
+use Rattle.trace_file.specs.Fields.{Row}
+use Rattle.trace_file.specs.Steps.{◌>>=◌}
+use Rattle.trace_file.specs.Reading.{unless_fault, in_record, add_event, add_row, row_step, step}
+use Rattle.trace_file.specs.Rows.{device_of, clamped, event_at}
+use Rattle.trace_file.specs.Sound.{IsBegun, IsKept, IsSound}
+use Rattle.trace_file.proofs.HistoryLemmas.{is_legal-nil, is_legal-push}
+
+-- an item that was added breaks no rule
+pub none_where_ok : {U : Type 0} (o : Option ConfigFault) (r : Result U ConfigError) (u : U) → MatchOption o (IsOkUnless r error.OutOfMemory) (λ f. r ≡ Err (error.Fault f)) → r ≡ Ok u → o ≡ None
+none_where_ok None r u h e = refl
+none_where_ok (Some f) r u h e = absurd (cc)
+
+-- a chain of rules that answers none has none broken
+pub cond_none : {X : Type 0} (b : Bool) (x : X) (rest : Option X) → cond b (Some x) rest ≡ None → (b ≡ false) × (rest ≡ None)
+cond_none true x rest e = absurd cc
+cond_none false x rest e = (refl, e)
+
+pub few_adapters : (adapters : List ℕ) (openings : ℕ) → adapter_fault (adapters, openings) ≡ None → length adapters < 4
+unfolding adapter_fault
+few_adapters adapters openings none = leb-false _ _ (cond_none _ _ _ none).0
+
+-- ---- adapters
+
+pub sound_adapter : (t t' : Topology) (openings : ℕ) → IsDraft t → t.devices ≡ [] → t.lanes ≡ [] → adapter_fault (t.adapters, openings) ≡ None
+    → t' ≡ record t { adapters = t.adapters ++ openings ∷ [] } → IsSound (stage.Adapters t')
+unfolding IsSound
+sound_adapter t t' openings d devices lanes none e =
+    let few = few_adapters t.adapters openings none in
+    let size = length-append t.adapters (openings ∷ []) in
+    rw e (
+      record {
+        draft = record {
+          adapters = first_answer-push adapter_fault t.adapters openings d.adapters none;
+          devices = rw devices refl;
+          lanes = rw lanes refl;
+        };
+        some = omega arith;
+        few = omega arith;
+      },
+      devices,
+      lanes,
+    )
+
+-- ---- devices
+
+clamped_small : (d : DeviceRow) → d.bus ≤ 255 → clamped d ≡ device_of d
+clamped_small d h =
+    let same : min d.bus 255 ≡ d.bus = omega arith in
+    ap (λ (b : ℕ). let x : Device = record { bus = b; target = d.target; lun = d.lun; openings = d.openings } in x) same
+
+-- a bus above 255 names no adapter, whichever it is
+pub clamped_fault : (n : ℕ) (before : List Device) (d : DeviceRow) → n ≤ 4 → device_fault n (before, clamped d) ≡ device_fault n (before, device_of d)
+unfolding device_fault address_fault
+clamped_fault n before d few =
+    elim (cases_lt 255 d.bus) [
+      | inl large ↦ rw (le-leb n (min d.bus 255) (omega arith), le-leb n d.bus (omega arith)) refl
+      | inr small ↦ ap (λ (x : Device). device_fault n (before, x)) (clamped_small d small)
+    ]
+
+named : (a b : Bool) (x y z : ConfigFault) → cond a (Some x) (cond b (Some y) (Some z)) ≡ None → ⊥
+named true b x y z e = cc
+named false true x y z e = cc
+named false false x y z e = cc
+
+pub bus_below : (n : ℕ) (before : List Device) (d : Device) → device_fault n (before, d) ≡ None → d.bus < n
+unfolding device_fault address_fault
+bus_below n before d none =
+    leb-false n d.bus (false_from_ne_true (nat_le n d.bus)
+    (λ t. named (nat_le 16 (length before)) (not (are_openings d.openings)) TooMany BadOpenings NoAdapter (rw t at none)))
+
+-- a device that breaks no rule is the one that the record spells
+pub clamped_same : (n : ℕ) (before : List Device) (d : DeviceRow) → n ≤ 4 → device_fault n (before, clamped d) ≡ None → clamped d ≡ device_of d
+clamped_same n before d few none =
+    let below = bus_below n before (clamped d) none in
+    clamped_small d (omega arith)
+
+pub sound_device : (t t' : Topology) (d : Device) → IsBegun t → t.lanes ≡ [] → device_fault (length t.adapters) (t.devices, d) ≡ None
+    → t' ≡ record t { devices = t.devices ++ d ∷ [] } → IsSound (stage.Devices t')
+unfolding IsSound
+sound_device t t' d begun lanes none e =
+    rw e (
+      record {
+        draft = record {
+          adapters = begun.draft.adapters;
+          devices = first_answer-push (device_fault (length t.adapters)) t.devices d begun.draft.devices none;
+          lanes = begun.draft.lanes;
+        };
+        some = begun.some;
+        few = begun.few;
+      },
+      lanes,
+    )
+
+pub device_added : (number : ℕ) (t t' : Topology) (d : DeviceRow) (x : Device) → IsBegun t → x ≡ clamped d → device_fault (length t.adapters) (t.devices, x) ≡ None
+    → t' ≡ record t { devices = t.devices ++ x ∷ [] }
+    → Ok (stage.Devices t') ≡ unless_fault number (device_fault (length t.adapters) (t.devices, device_of d)) (stage.Devices (record t { devices = t.devices ++ device_of d ∷ [] }))
+device_added number t t' d x begun is none e =
+    let n = length t.adapters in
+    let fine : device_fault n (t.devices, clamped d) ≡ None = ap (λ (y : Device). device_fault n (t.devices, y)) (sym is) ∙ none in
+    let same = clamped_same n t.devices d begun.few fine in
+    let spelled : device_fault n (t.devices, device_of d) ≡ None = sym (clamped_fault n t.devices d begun.few) ∙ fine in
+    rw spelled (ap (λ (u : Topology). Ok (stage.Devices u)) (e ∙ ap (λ (y : Device). record t { devices = t.devices ++ y ∷ [] }) (is ∙ same)))
+
+pub fault_named : {U : Type 0} (number : ℕ) (o o' : Option ConfigFault) (f : ConfigFault) (r : Result U ConfigError) (s : TraceStage) → o ≡ o'
+    → MatchOption o (IsOkUnless r error.OutOfMemory) (λ g. r ≡ Err (error.Fault g)) → r ≡ Err (error.Fault f) → Err (BadConfig number f) ≡ unless_fault number o' s
+fault_named number None o' f r s e h is = absurd (let wrong = rw is at h in cc)
+fault_named number (Some g) o' f r s e h is =
+    let same : f ≡ g = cc in
+    rw (← e) (ap (λ (x : ConfigFault). Err (BadConfig number x)) same)
+
+-- ---- lanes
+
+pub sound_lane : (t t' : Topology) (adapter : ℕ) → IsBegun t → lane_fault (length t.adapters) (t.lanes, adapter) ≡ None
+    → t' ≡ record t { lanes = t.lanes ++ adapter ∷ [] } → IsSound (stage.Lanes t')
+unfolding IsSound
+sound_lane t t' adapter begun none e =
+    rw e record {
+      draft = record {
+        adapters = begun.draft.adapters;
+        devices = begun.draft.devices;
+        lanes = first_answer-push (lane_fault (length t.adapters)) t.lanes adapter begun.draft.lanes none;
+      };
+      some = begun.some;
+      few = begun.few;
+    }
+
+-- ---- events
+
+pub config_whole : (t : Topology) → IsBegun t → config_fault t ≡ None
+config_whole t begun = config_fault-draft t begun.draft (ne_eqb _ _ (λ e. omega arith))
+
+pub kept_empty : (t : Topology) → IsBegun t → IsKept (record { config = t; events = [] })
+kept_empty t begun = record { config = config_whole t begun; legal = is_legal-nil t }
+
+pub sound_event : (p p' : Past) (e : Event) → IsKept p → is_legal_event p.config (p.events, e) ≡ true → p' ≡ record p { events = p.events ++ e ∷ [] } → IsSound (stage.Events p')
+unfolding IsSound
+sound_event p p' e kept legal is =
+    rw is record { config = kept.config; legal = is_legal-push p.config p.events e ∙ and_from _ _ kept.legal legal }
+
+-- ---- a record
+
+pub add_row_event : (n : ℕ) (s : TraceStage) (w : Word) (row : Row) → w ≢ word.Sim → w ≢ word.Dev → w ≢ word.Lane → add_row n s w row ≡ (in_record n (event_at w row) >>= add_event n s)
+unfolding add_row
+add_row_event n s word.Sim row a b c = absurd (a refl)
+add_row_event n s word.Dev row a b c = absurd (b refl)
+add_row_event n s word.Lane row a b c = absurd (c refl)
+add_row_event n s _ row a b c = refl
+
+pub step_behind : (n : ℕ) (s : TraceStage) (row : Row) → s ≢ stage.Header → step n s row ≡ row_step n s row
+unfolding step
+step_behind n stage.Header row h = absurd (h refl)
+step_behind n stage.First row h = refl
+step_behind n (stage.Adapters t) row h = refl
+step_behind n (stage.Devices t) row h = refl
+step_behind n (stage.Lanes t) row h = refl
+step_behind n (stage.Events p) row h = refl

@@ -1,0 +1,10 @@
+pub mod Fields
+pub mod Histories
+pub mod Reading
+pub mod Records
+pub mod Rows
+pub mod Sound
+pub mod Steps
+pub mod Text
+pub mod Trace
+pub mod Words

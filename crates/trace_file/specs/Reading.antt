@@ -1,0 +1,147 @@
+-- How a list of records is read as a history: record by record, each by the stage that it finds.
+use Rattle.std.specs.Prelude.{ℕ, ◌+◌, ◌==◌, Bool, true, false, not, ◌&&◌, ◌||◌, if◌then◌else◌, List, [], ◌∷◌, ◌++◌, length, Option, Some, None, option_and_then, ok_or, Result, Ok, Err, codes, bytes_eq}
+use Rattle.trace_file.specs.Histories.{Topology, Past, Event, ConfigFault, NoAdapters, adapter_fault, device_fault, lane_fault, Refusal, refusal}
+use Rattle.trace_file.specs.declared.device_row.DeviceRow.{DeviceRow}
+use Rattle.trace_file.specs.declared.trace_fault.TraceFault.{TraceFault}
+use Rattle.trace_file.specs.declared.trace_fault.TraceFault.TheVariants.{BadHeader, BadRecord, BadField, BadConfig, Illegal}
+use Rattle.trace_file.specs.declared.trace_stage.TraceStage.{TraceStage}
+use Rattle.trace_file.specs.declared.trace_stage.TraceStage.TheVariants as stage
+use Rattle.trace_file.specs.declared.word.Word.{Word}
+use Rattle.trace_file.specs.declared.word.Word.TheVariants as word
+use Rattle.trace_file.specs.Steps.{◌>>=◌, taken}
+use Rattle.trace_file.specs.Fields.{Row, field_of}
+use Rattle.trace_file.specs.Words.{word_of}
+use Rattle.trace_file.specs.Rows.{one_number, device_at, device_of, event_at}
+
+-- the fields of the header that name the columns
+unfoldable pub has_letters : Row → Bool
+has_letters row =
+    bytes_eq (field_of row 1) (codes "a") && bytes_eq (field_of row 2) (codes "b") && bytes_eq (field_of row 3) (codes "c")
+    && bytes_eq (field_of row 4) (codes "d") && bytes_eq (field_of row 5) (codes "e") && bytes_eq (field_of row 6) (codes "f")
+    && bytes_eq (field_of row 7) (codes "g")
+
+-- the header of this name
+unfoldable pub is_header : List ℕ → Row → Bool
+is_header name row = (length row == 8) && bytes_eq (field_of row 0) name && has_letters row
+
+-- the configuration's words
+abbrev pub is_sim : Word → Bool
+is_sim word.Sim = true
+is_sim _ = false
+
+abbrev pub is_dev : Word → Bool
+is_dev word.Dev = true
+is_dev _ = false
+
+abbrev pub is_lane : Word → Bool
+is_lane word.Lane = true
+is_lane _ = false
+
+-- Rows of adapters, devices, lanes and events stand in this order. The first may have any word.
+unfoldable pub stands : TraceStage → Word → Bool
+stands stage.Header w = false
+stands stage.First w = true
+stands (stage.Adapters t) w = true
+stands (stage.Devices t) w = not (is_sim w)
+stands (stage.Lanes t) w = not (is_sim w) && not (is_dev w)
+stands (stage.Events p) w = not (is_sim w) && not (is_dev w) && not (is_lane w)
+
+-- the word of a record of eight fields, where it stands in its place
+unfoldable pub placed : TraceStage → Row → Option Word
+placed s row =
+    if length row == 8 then option_and_then (λ w. if stands s w then Some w else None) (word_of (field_of row 0)) else None
+
+-- what is configured and what happened so far
+abbrev pub past_of : TraceStage → Past
+past_of stage.Header = record { config = record { adapters = []; devices = []; lanes = [] }; events = [] }
+past_of stage.First = record { config = record { adapters = []; devices = []; lanes = [] }; events = [] }
+past_of (stage.Adapters t) = record { config = t; events = [] }
+past_of (stage.Devices t) = record { config = t; events = [] }
+past_of (stage.Lanes t) = record { config = t; events = [] }
+past_of (stage.Events p) = p
+
+abbrev pub config_of : TraceStage → Topology
+config_of s = (past_of s).config
+
+-- no adapter has come
+abbrev pub lacks_adapters : TraceStage → Bool
+lacks_adapters stage.Header = true
+lacks_adapters stage.First = true
+lacks_adapters (stage.Adapters t) = false
+lacks_adapters (stage.Devices t) = false
+lacks_adapters (stage.Lanes t) = false
+lacks_adapters (stage.Events p) = false
+
+-- the next stage, unless the record breaks a rule of the configuration
+abbrev pub unless_fault : ℕ → Option ConfigFault → TraceStage → Result TraceStage TraceFault
+unless_fault n None s = Ok s
+unless_fault n (Some fault) s = Err (BadConfig n fault)
+
+-- the next stage, unless the record's event is refused
+abbrev pub unless_refused : ℕ → Option Refusal → TraceStage → Result TraceStage TraceFault
+unless_refused n None s = Ok s
+unless_refused n (Some r) s = Err (Illegal n r)
+
+-- a field without its form is a fault of the record
+abbrev pub in_record : {X : Type 0} → ℕ → Result X ℕ → Result X TraceFault
+in_record n (Ok x) = Ok x
+in_record n (Err field) = Err (BadField n field)
+
+-- one item more of the configuration, or one event more
+unfoldable pub add_adapter : ℕ → TraceStage → ℕ → Result TraceStage TraceFault
+add_adapter n s openings =
+    let t = config_of s in
+    unless_fault n (adapter_fault (t.adapters, openings)) (stage.Adapters (record t { adapters = t.adapters ++ openings ∷ [] }))
+
+unfoldable pub add_device : ℕ → TraceStage → DeviceRow → Result TraceStage TraceFault
+add_device n s d =
+    let t = config_of s in
+    if lacks_adapters s then Err (BadConfig n NoAdapters)
+    else unless_fault n (device_fault (length t.adapters) (t.devices, device_of d)) (stage.Devices (record t { devices = t.devices ++ device_of d ∷ [] }))
+
+unfoldable pub add_lane : ℕ → TraceStage → ℕ → Result TraceStage TraceFault
+add_lane n s adapter =
+    let t = config_of s in
+    if lacks_adapters s then Err (BadConfig n NoAdapters)
+    else unless_fault n (lane_fault (length t.adapters) (t.lanes, adapter)) (stage.Lanes (record t { lanes = t.lanes ++ adapter ∷ [] }))
+
+unfoldable pub add_event : ℕ → TraceStage → Event → Result TraceStage TraceFault
+add_event n s e =
+    let p = past_of s in
+    if lacks_adapters s then Err (BadConfig n NoAdapters)
+    else unless_refused n (refusal p.config p.events e) (stage.Events (record p { events = p.events ++ e ∷ [] }))
+
+-- a record of this word
+unfoldable pub add_row : ℕ → TraceStage → Word → Row → Result TraceStage TraceFault
+add_row n s word.Sim row = in_record n (one_number row) >>= add_adapter n s
+add_row n s word.Dev row = in_record n (device_at row) >>= add_device n s
+add_row n s word.Lane row = in_record n (one_number row) >>= add_lane n s
+add_row n s w row = in_record n (event_at w row) >>= add_event n s
+
+-- a record behind the header
+unfoldable pub row_step : ℕ → TraceStage → Row → Result TraceStage TraceFault
+row_step n s row = do
+  w ← ok_or (placed s row) (BadRecord n)
+  add_row n s w row
+
+-- the record of this number
+unfoldable pub step : ℕ → TraceStage → Row → Result TraceStage TraceFault
+step n stage.Header row = if is_header (codes "camtrace1") row then Ok stage.First else Err BadHeader
+step n stage.First row = row_step n stage.First row
+step n (stage.Adapters t) row = row_step n (stage.Adapters t) row
+step n (stage.Devices t) row = row_step n (stage.Devices t) row
+step n (stage.Lanes t) row = row_step n (stage.Lanes t) row
+step n (stage.Events p) row = row_step n (stage.Events p) row
+
+-- the end of the records
+unfoldable pub ended : TraceStage → Result Past TraceFault
+ended stage.Header = Err BadHeader
+ended stage.First = Err (BadConfig 2 NoAdapters)
+ended (stage.Adapters t) = Ok (record { config = t; events = [] })
+ended (stage.Devices t) = Ok (record { config = t; events = [] })
+ended (stage.Lanes t) = Ok (record { config = t; events = [] })
+ended (stage.Events p) = Ok p
+
+-- the history of these records, or the first fault
+unfoldable pub reading : List Row → Result Past TraceFault
+reading rows = taken step 1 stage.Header rows >>= ended

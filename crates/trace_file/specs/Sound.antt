@@ -1,0 +1,26 @@
+-- What each stage of reading keeps.
+use Rattle.std.specs.Prelude.{◌≡◌, ◌<◌, ◌≤◌, ⊤, true, List, [], length, None}
+use Rattle.cam_types.specs.Topology.{IsDraft}
+use Rattle.trace_file.specs.Histories.{Topology, Past, config_fault, is_legal}
+use Rattle.trace_file.specs.declared.trace_stage.TraceStage.{TraceStage}
+use Rattle.trace_file.specs.declared.trace_stage.TraceStage.TheVariants as stage
+
+-- a configuration in the making that has an adapter
+pub record IsBegun (t : Topology) : Type 0 where
+  pub draft : IsDraft t
+  pub some : 0 < length t.adapters
+  pub few : length t.adapters ≤ 4
+
+-- a configuration within its rules, and legal events
+pub record IsKept (p : Past) : Type 0 where
+  pub config : config_fault p.config ≡ None
+  pub legal : is_legal p.config p.events ≡ true
+
+-- what holds at a stage
+unfoldable pub IsSound : TraceStage → Type 0
+IsSound stage.Header = ⊤
+IsSound stage.First = ⊤
+IsSound (stage.Adapters t) = IsBegun t × (t.devices ≡ []) × (t.lanes ≡ [])
+IsSound (stage.Devices t) = IsBegun t × (t.lanes ≡ [])
+IsSound (stage.Lanes t) = IsBegun t
+IsSound (stage.Events p) = IsKept p

@@ -1,0 +1,84 @@
+-- Traces of histories, and what a reader of traces answers.
+use Rattle.std.specs.Prelude.{◌≡◌, ℕ, ◌+◌, ◌<◌, ◌≤◌, ◌++◌, ◌∷◌, [], true, ⊤, List, length, Option, Some, None, Result, Ok, Err, Bool}
+use Rattle.std.specs.List.{AllByRecursion}
+use Rattle.event_log.specs.declared.event.Event.TheVariants as event
+use Rattle.cam_types.specs.declared.whole.TheConstants.{MOST_BYTES}
+use Rattle.cam_types.specs.Whole.{IsWhole, IsTooLong}
+use Rattle.trace_file.specs.Histories.{Device, Event, Outcome, Past, config_fault, is_legal}
+use Rattle.trace_file.specs.declared.trace_fault.TraceFault.{TraceFault}
+use Rattle.trace_file.specs.declared.trace_fault.TraceFault.TheVariants as fault
+use Rattle.trace_file.specs.declared.trace_stage.TraceStage.{TraceStage}
+use Rattle.trace_file.specs.declared.trace_stage.TraceStage.TheVariants as stage
+use Rattle.trace_file.specs.Fields.{Row}
+use Rattle.trace_file.specs.Reading.{ended, reading, step}
+use Rattle.trace_file.specs.Records.{records_of}
+use Rattle.trace_file.specs.Rows.{most_number}
+use Rattle.trace_file.specs.Steps.{taken}
+use Rattle.trace_file.specs.Text.{records_in}
+
+-- the text's records are those of the history
+pub record IsTrace (text : List ℕ) (past : Past) : Type 0 where
+  pub bounded : length text ≤ MOST_BYTES
+  pub spelled : records_in text ≡ records_of past
+
+-- the numbers of an event fit its fields
+abbrev pub FitsEvent : Event → Type 0
+FitsEvent (event.Submit driver device priority retries flags) =
+    (driver ≤ 255) × (device ≤ most_number) × (priority ≤ most_number) × (retries ≤ most_number)
+FitsEvent (event.Send lane ccb) = (lane ≤ most_number) × (ccb ≤ most_number)
+FitsEvent (event.Done ccb outcome) =
+    (ccb ≤ most_number) × (outcome.status < 256) × (outcome.scsi < 256) × AllByRecursion (λ b. b < 256) outcome.sense × (length outcome.sense ≤ 18)
+FitsEvent (event.Requeue ccb) = ccb ≤ most_number
+FitsEvent (event.Finish ccb) = ccb ≤ most_number
+FitsEvent (event.FreezeDev device count) = (device ≤ most_number) × (count ≤ most_number)
+FitsEvent (event.ReleaseDev device count) = (device ≤ most_number) × (count ≤ most_number)
+FitsEvent (event.FreezeSim sim count) = (sim ≤ most_number) × (count ≤ most_number)
+FitsEvent (event.ReleaseSim sim) = sim ≤ most_number
+FitsEvent (event.Adjust device openings) = (device ≤ most_number) × (openings ≤ most_number)
+FitsEvent event.Tick = ⊤
+
+-- a configuration within its rules, legal events, and numbers that fit their fields
+pub record IsHistory (past : Past) : Type 0 where
+  pub config : config_fault past.config ≡ None
+  pub legal : is_legal past.config past.events ≡ true
+  pub targets : AllByRecursion (λ (d : Device). d.target ≤ 65535) past.config.devices
+  pub events : AllByRecursion FitsEvent past.events
+
+-- what was read to its end was a trace of the history
+pub record WasTrace (before after : Option (List ℕ)) (past : Past) : Type 0 where
+  pub text : List ℕ
+  pub whole : IsWhole before after text
+  pub trace : IsTrace text past
+  pub history : IsHistory past
+
+-- a stage fails at the next record, or at the end where there is none
+abbrev pub FailsAt : ℕ → TraceStage → List Row → TraceFault → Type 0
+FailsAt n s [] e = ended s ≡ Err e
+FailsAt n s (row ∷ rest) e = step n s row ≡ Err e
+
+-- the first record that fails, behind those that don't, has this fault
+pub record IsFirstFault (rows : List Row) (e : TraceFault) : Type 0 where
+  pub exact : reading rows ≡ Err e
+  pub before : List Row
+  pub rest : List Row
+  pub reached : TraceStage
+  pub parts : rows ≡ before ++ rest
+  pub good : taken step 1 stage.Header before ≡ Ok reached
+  pub fails : FailsAt (1 + length before) reached rest e
+
+-- what was read to its end was no trace, for this fault
+pub record WasFaulty (before after : Option (List ℕ)) (e : TraceFault) : Type 0 where
+  pub text : List ℕ
+  pub whole : IsWhole before after text
+  pub first : IsFirstFault (records_in text) e
+
+-- why no history was read, where a reader's note says at last whether a call failed
+abbrev pub Explains : Option (List ℕ) → Option (List ℕ) → Bool → TraceFault → Type 0
+Explains before after failed fault.TooLong = IsTooLong before after
+Explains before after failed fault.ReadFailed = failed ≡ true
+Explains before after failed fault.OutOfMemory = ⊤
+Explains before after failed fault.BadHeader = WasFaulty before after fault.BadHeader
+Explains before after failed (fault.BadRecord n) = WasFaulty before after (fault.BadRecord n)
+Explains before after failed (fault.BadField n k) = WasFaulty before after (fault.BadField n k)
+Explains before after failed (fault.BadConfig n c) = WasFaulty before after (fault.BadConfig n c)
+Explains before after failed (fault.Illegal n r) = WasFaulty before after (fault.Illegal n r)

@@ -1,0 +1,29 @@
+use Rattle.std.specs.Prelude.{ℕ, List, [], ◌∷◌, Option, codes, bytes_eq, find}
+use Rattle.trace_file.specs.declared.word.Word.{Word}
+use Rattle.trace_file.specs.declared.word.Word.TheVariants as word
+
+-- how a word is spelled
+abbrev pub spelled : Word → List ℕ
+spelled word.Sim = codes "sim"
+spelled word.Dev = codes "dev"
+spelled word.Lane = codes "lane"
+spelled word.Submit = codes "submit"
+spelled word.Send = codes "send"
+spelled word.Done = codes "done"
+spelled word.Requeue = codes "requeue"
+spelled word.Finish = codes "finish"
+spelled word.Freeze = codes "freeze"
+spelled word.Release = codes "release"
+spelled word.FreezeSim = codes "sfreeze"
+spelled word.ReleaseSim = codes "srelease"
+spelled word.Adjust = codes "adjust"
+spelled word.Tick = codes "tick"
+
+abbrev pub all_words : List Word
+all_words =
+    word.Sim ∷ word.Dev ∷ word.Lane ∷ word.Submit ∷ word.Send ∷ word.Done ∷ word.Requeue ∷ word.Finish ∷ word.Freeze ∷ word.Release
+    ∷ word.FreezeSim ∷ word.ReleaseSim ∷ word.Adjust ∷ word.Tick ∷ []
+
+-- the word that a field spells
+unfoldable pub word_of : List ℕ → Option Word
+word_of field = find (λ w. bytes_eq field (spelled w)) all_words

@@ -1,0 +1,53 @@
+ghost use Rattle.std.specs.Prelude.{◌≡◌, ◌≢◌, ◌≤◌, false, length, Ok, Err, IfOk, IfErr, IfSome};
+ghost use Rattle.cam_types.specs.declared.whole.TheConstants.{MOST_BYTES};
+ghost use Rattle.cam_types.specs.Watched.{device_of, has_failed};
+ghost use Rattle.trace_file.specs.Histories.{Past};
+ghost use Rattle.trace_file.specs.Reading.{reading};
+ghost use Rattle.trace_file.specs.Records.{records_of};
+ghost use Rattle.trace_file.specs.Text.{records_in};
+ghost use Rattle.trace_file.specs.Trace.{IsTrace, IsHistory, WasTrace, Explains};
+
+use crate::records::take_records;
+use crate::trace_fault::TraceFault;
+use crate::trace_stage::TraceStage;
+use cam_event::History;
+use cam_types::{Watched, WholeFault, read_whole};
+use std::alloc::Global;
+use std::io::Read;
+
+/// Reads a trace to the end of the input. A fault of the text names the first record that fails, and the first test
+/// that it fails: of its length, word and place; of its fields; of the configuration's rules; of its event.
+/// `ReadFailed` and `TooLong` come before any of these.
+pub fn read_trace<R: Read>(alloc: Global, reader: &mut Watched<R>) -> Result<History, TraceFault>
+    requires { has_failed reader.old ≡ false }
+    // What is read is a trace, and a trace is read.
+    ensures found { IfOk result (λ h. WasTrace (R.remaining (device_of reader.old)) (R.remaining (device_of reader.new)) h) }
+    ensures only { (past : Past) → IsHistory past → IfSome (R.remaining (device_of reader.old)) (λ all. IsTrace all past →
+        result ≢ Err TraceFault.OutOfMemory → result ≢ Err TraceFault.ReadFailed → result ≡ Ok past) }
+
+    ensures faults { IfErr result (Explains (R.remaining (device_of reader.old)) (R.remaining (device_of reader.new)) (has_failed reader.new)) }
+    ensures calm { result ≢ Err TraceFault.ReadFailed → has_failed reader.new ≡ false }
+{
+    match read_whole(alloc, reader) {
+        Ok(text) => read_text(alloc, &text),
+        Err(WholeFault::TooLong) => Err(TraceFault::TooLong),
+        Err(WholeFault::ReadFailed) => Err(TraceFault::ReadFailed),
+        Err(WholeFault::OutOfMemory) => Err(TraceFault::OutOfMemory),
+    }
+}
+
+fn read_text(alloc: Global, text: &[u8]) -> Result<History, TraceFault>
+    requires { length text.now ≤ MOST_BYTES }
+    ensures { result ≢ Err TraceFault.OutOfMemory → result ≡ reading (records_in text.now) }
+{
+    take_records(alloc, text, TraceStage::Header)?.finish(alloc)
+}
+
+/// No list of records is that of two histories.
+pub fn one_history()
+    ensures { (one other : Past) → IsHistory one → IsHistory other → records_of one ≡ records_of other → one ≡ other }
+{
+}
+
+#[cfg(test)]
+mod tests;

@@ -1,0 +1,147 @@
+ghost use Rattle.std.specs.Prelude.{◌≡◌, length};
+ghost use Rattle.csv.specs.Records.{fields_of};
+ghost use Rattle.trace_file.specs.Rows.{one_number, two_numbers, device_at, submit_at, done_at, tick_at, event_at};
+
+use crate::device_row::DeviceRow;
+use crate::fields::{byte_at, flags_at, number_at, sense_at, unused_from};
+use crate::word::Word;
+use cam_event::Event;
+use cam_types::Outcome;
+use csv::ByteRecord;
+
+/// The one number of a record, or the number of the first field that hasn't its form.
+#[tactic(auto, unfolding(crate::specs::Rows::one_number))]
+pub(crate) fn one_number(row: &ByteRecord) -> Result<u32, u32>
+    requires { length (fields_of row.now) ≡ 8 }
+    ensures { result ≡ one_number (fields_of row.now) }
+{
+    let number = number_at(row, 1, u32::MAX)?;
+    unused_from(row, 2)?;
+    Ok(number)
+}
+
+/// The two numbers of a record, or the number of the first field that hasn't its form.
+#[tactic(auto, unfolding(crate::specs::Rows::two_numbers))]
+pub(crate) fn two_numbers(row: &ByteRecord) -> Result<(u32, u32), u32>
+    requires { length (fields_of row.now) ≡ 8 }
+    ensures { result ≡ two_numbers (fields_of row.now) }
+{
+    let first = number_at(row, 1, u32::MAX)?;
+    let second = number_at(row, 2, u32::MAX)?;
+    unused_from(row, 3)?;
+    Ok((first, second))
+}
+
+/// The device of a record, or the number of the first field that hasn't its form.
+#[tactic(auto, unfolding(crate::specs::Rows::device_at))]
+pub(crate) fn device_at(row: &ByteRecord) -> Result<DeviceRow, u32>
+    requires { length (fields_of row.now) ≡ 8 }
+    ensures { result ≡ device_at (fields_of row.now) }
+{
+    let bus = number_at(row, 1, u32::MAX)?;
+    let target = number_at(row, 2, 65535)? as u16;
+    let lun = number_at(row, 3, 16383)? as u16;
+    let openings = number_at(row, 4, u32::MAX)?;
+    unused_from(row, 5)?;
+    Ok(DeviceRow {
+        bus,
+        target,
+        lun,
+        openings,
+    })
+}
+
+/// The event of a record with this word, or the number of the first field that hasn't its form.
+#[tactic(auto, unfolding(crate::specs::Rows::event_at))]
+pub(crate) fn event_at(word: Word, row: &ByteRecord) -> Result<Event, u32>
+    requires { length (fields_of row.now) ≡ 8 }
+    ensures { result ≡ event_at word (fields_of row.now) }
+{
+    match word {
+        Word::Submit => submit_at(row),
+        Word::Send => {
+            let (lane, ccb) = two_numbers(row)?;
+            Ok(Event::Send { lane, ccb })
+        }
+        Word::Done => done_at(row),
+        Word::Requeue => {
+            let ccb = one_number(row)?;
+            Ok(Event::Requeue { ccb })
+        }
+        Word::Finish => {
+            let ccb = one_number(row)?;
+            Ok(Event::Finish { ccb })
+        }
+        Word::Freeze => {
+            let (device, count) = two_numbers(row)?;
+            Ok(Event::FreezeDev { device, count })
+        }
+        Word::Release => {
+            let (device, count) = two_numbers(row)?;
+            Ok(Event::ReleaseDev { device, count })
+        }
+        Word::FreezeSim => {
+            let (sim, count) = two_numbers(row)?;
+            Ok(Event::FreezeSim { sim, count })
+        }
+        Word::ReleaseSim => {
+            let sim = one_number(row)?;
+            Ok(Event::ReleaseSim { sim })
+        }
+        Word::Adjust => {
+            let (device, openings) = two_numbers(row)?;
+            Ok(Event::Adjust { device, openings })
+        }
+        Word::Tick => tick_at(row),
+        Word::Sim | Word::Dev | Word::Lane => Err(1),
+    }
+}
+
+#[tactic(auto, unfolding(crate::specs::Rows::submit_at))]
+fn submit_at(row: &ByteRecord) -> Result<Event, u32>
+    requires { length (fields_of row.now) ≡ 8 }
+    ensures { result ≡ submit_at (fields_of row.now) }
+{
+    let driver = number_at(row, 1, 255)? as u8;
+    let device = number_at(row, 2, u32::MAX)?;
+    let priority = number_at(row, 3, u32::MAX)?;
+    let retries = number_at(row, 4, u32::MAX)?;
+    let flags = flags_at(row, 5)?;
+    unused_from(row, 6)?;
+    Ok(Event::Submit {
+        driver,
+        device,
+        priority,
+        retries,
+        flags,
+    })
+}
+
+#[tactic(auto, unfolding(crate::specs::Rows::done_at))]
+fn done_at(row: &ByteRecord) -> Result<Event, u32>
+    requires { length (fields_of row.now) ≡ 8 }
+    ensures { result ≡ done_at (fields_of row.now) }
+{
+    let ccb = number_at(row, 1, u32::MAX)?;
+    let status = byte_at(row, 2)?;
+    let scsi = byte_at(row, 3)?;
+    let sense = sense_at(row, 4)?;
+    unused_from(row, 5)?;
+    Ok(Event::Done {
+        ccb,
+        outcome: Outcome {
+            status,
+            scsi,
+            sense,
+        },
+    })
+}
+
+#[tactic(auto, unfolding(crate::specs::Rows::tick_at))]
+fn tick_at(row: &ByteRecord) -> Result<Event, u32>
+    requires { length (fields_of row.now) ≡ 8 }
+    ensures { result ≡ tick_at (fields_of row.now) }
+{
+    unused_from(row, 1)?;
+    Ok(Event::Tick)
+}

@@ -1,0 +1,285 @@
+ghost use Rattle.std.specs.Prelude.{◌≡◌, ◌≢◌, length, [], ◌∷◌, ◌++◌, Ok, Err, IfOk, IfSome, IsTrue, None};
+ghost use Rattle.csv.specs.Records.{fields_of};
+
+use crate::device_row::DeviceRow;
+use crate::fields::field;
+use crate::header::is_header;
+use crate::rows::{device_at, event_at, one_number};
+use crate::stage::Stage;
+use crate::trace_fault::TraceFault;
+use crate::word::Word;
+use cam_event::{Event, History, PushFault};
+use cam_types::{ConfigDraft, ConfigError, ConfigFault};
+use csv::ByteRecord;
+use std::alloc::Global;
+
+/// What a trace has said so far.
+#[derive(Debug, Drop)]
+pub(crate) enum TraceStage {
+    /// Nothing: the header is due.
+    Header,
+    /// The header: an adapter is due.
+    First,
+    /// Adapters.
+    Adapters(ConfigDraft),
+    /// Adapters and devices.
+    Devices(ConfigDraft),
+    /// Adapters, devices and lanes.
+    Lanes(ConfigDraft),
+    /// A whole configuration, and events.
+    Events(History),
+}
+
+impl TraceStage {
+    ghost use Rattle.trace_file.specs.Reading.{stands, placed, add_adapter, add_device, add_lane, add_event, add_row, row_step, step, ended};
+    ghost use Rattle.trace_file.specs.Sound.{IsSound};
+
+    /// Whether a record of this word may come next.
+    #[tactic(auto, unfolding(crate::specs::Reading::stands))]
+    fn stands(&self, word: Word) -> bool
+        ensures { result ≡ stands self.now word }
+    {
+        match self {
+            TraceStage::Header => false,
+            TraceStage::First | TraceStage::Adapters(_) => true,
+            TraceStage::Devices(_) => !matches!(word, Word::Sim),
+            TraceStage::Lanes(_) => !matches!(word, Word::Sim | Word::Dev),
+            TraceStage::Events(_) => !matches!(word, Word::Sim | Word::Dev | Word::Lane),
+        }
+    }
+
+    /// The word of a record of eight fields that stands in its place.
+    #[tactic(auto, unfolding(crate::specs::Reading::placed))]
+    fn placed(&self, row: &ByteRecord) -> Option<Word>
+        ensures value { result ≡ placed self.now (fields_of row.now) }
+        ensures eight { IfSome result (λ w. length (fields_of row.now) ≡ 8) }
+        ensures place { IfSome result (λ w. IsTrue (stands self.now w)) }
+    {
+        if row.len() != 8 {
+            return None;
+        }
+        let word = Word::of(field(row, 0))?;
+        if self.stands(word) { Some(word) } else { None }
+    }
+
+    /// One adapter more, or the rule that it breaks.
+    #[tactic(auto, unfolding(crate::specs::Reading::add_adapter, crate::specs::Reading::stands, crate::specs::Sound::IsSound))]
+    fn add_adapter(self, alloc: Global, number: u32, openings: u32) -> Result<TraceStage, TraceFault>
+        requires sound { IsSound self }
+        requires place { IsTrue (stands self Word.Sim) }
+        ensures value { result ≢ Err TraceFault.OutOfMemory → result ≡ add_adapter number self openings }
+        ensures sound { IfOk result (λ s. IsSound s) }
+    {
+        match self {
+            TraceStage::First => with_adapter(ConfigDraft::new(alloc), number, openings),
+            TraceStage::Adapters(draft) => with_adapter(draft, number, openings),
+            _ => unreachable!(),
+        }
+    }
+
+    /// One device more, or the rule that it breaks.
+    #[tactic(auto, unfolding(crate::specs::Reading::add_device, crate::specs::Reading::stands, crate::specs::Sound::IsSound))]
+    fn add_device(self, number: u32, device: DeviceRow) -> Result<TraceStage, TraceFault>
+        requires sound { IsSound self }
+        requires place { IsTrue (stands self Word.Dev) }
+        ensures value { result ≢ Err TraceFault.OutOfMemory → result ≡ add_device number self device }
+        ensures sound { IfOk result (λ s. IsSound s) }
+    {
+        match self {
+            TraceStage::First => Err(TraceFault::BadConfig(number, ConfigFault::NoAdapters)),
+            TraceStage::Adapters(draft) => with_device(draft, number, device),
+            TraceStage::Devices(draft) => with_device(draft, number, device),
+            _ => unreachable!(),
+        }
+    }
+
+    /// One lane more, or the rule that it breaks.
+    #[tactic(auto, unfolding(crate::specs::Reading::add_lane, crate::specs::Reading::stands, crate::specs::Sound::IsSound))]
+    fn add_lane(self, number: u32, adapter: u32) -> Result<TraceStage, TraceFault>
+        requires sound { IsSound self }
+        requires place { IsTrue (stands self Word.Lane) }
+        ensures value { result ≢ Err TraceFault.OutOfMemory → result ≡ add_lane number self adapter }
+        ensures sound { IfOk result (λ s. IsSound s) }
+    {
+        match self {
+            TraceStage::First => Err(TraceFault::BadConfig(number, ConfigFault::NoAdapters)),
+            TraceStage::Adapters(draft) => with_lane(draft, number, adapter),
+            TraceStage::Devices(draft) => with_lane(draft, number, adapter),
+            TraceStage::Lanes(draft) => with_lane(draft, number, adapter),
+            _ => unreachable!(),
+        }
+    }
+
+    /// One event more, or why it is refused.
+    #[tactic(auto, unfolding(crate::specs::Reading::add_event, crate::specs::Sound::IsSound))]
+    fn add_event(self, alloc: Global, number: u32, event: Event) -> Result<TraceStage, TraceFault>
+        requires sound { IsSound self }
+        ensures value { result ≢ Err TraceFault.OutOfMemory → result ≡ add_event number self event }
+        ensures sound { IfOk result (λ s. IsSound s) }
+    {
+        match self {
+            TraceStage::Header | TraceStage::First => Err(TraceFault::BadConfig(number, ConfigFault::NoAdapters)),
+            TraceStage::Adapters(draft) => with_event(without_events(alloc, draft), number, event),
+            TraceStage::Devices(draft) => with_event(without_events(alloc, draft), number, event),
+            TraceStage::Lanes(draft) => with_event(without_events(alloc, draft), number, event),
+            TraceStage::Events(history) => with_event(history, number, event),
+        }
+    }
+
+    /// A record behind the header, or its fault.
+    #[tactic(
+        auto,
+        using(crate::proofs::StageLemmas::add_row_event),
+        unfolding(crate::specs::Reading::row_step, crate::specs::Reading::add_row)
+    )]
+    fn take_row(self, alloc: Global, number: u32, row: &ByteRecord) -> Result<TraceStage, TraceFault>
+        requires { IsSound self }
+        ensures value { result ≢ Err TraceFault.OutOfMemory → result ≡ row_step number self (fields_of row.now) }
+        ensures sound { IfOk result (λ s. IsSound s) }
+    {
+        let Some(word) = self.placed(row) else {
+            return Err(TraceFault::BadRecord(number));
+        };
+        match word {
+            Word::Sim => {
+                let openings = in_record(number, one_number(row))?;
+                self.add_adapter(alloc, number, openings)
+            }
+            Word::Dev => {
+                let device = in_record(number, device_at(row))?;
+                self.add_device(number, device)
+            }
+            Word::Lane => {
+                let adapter = in_record(number, one_number(row))?;
+                self.add_lane(number, adapter)
+            }
+            _ => {
+                let event = in_record(number, event_at(word, row))?;
+                self.add_event(alloc, number, event)
+            }
+        }
+    }
+
+    /// The history, where the records end here.
+    #[tactic(auto, unfolding(crate::specs::Reading::ended, crate::specs::Sound::IsSound))]
+    pub(crate) fn finish(self, alloc: Global) -> Result<History, TraceFault>
+        requires { IsSound self }
+        ensures value { result ≡ ended self }
+        ensures kept { IfOk result (λ h. IsKept h) }
+    {
+        match self {
+            TraceStage::Header => Err(TraceFault::BadHeader),
+            TraceStage::First => Err(TraceFault::BadConfig(2, ConfigFault::NoAdapters)),
+            TraceStage::Adapters(draft) => Ok(without_events(alloc, draft)),
+            TraceStage::Devices(draft) => Ok(without_events(alloc, draft)),
+            TraceStage::Lanes(draft) => Ok(without_events(alloc, draft)),
+            TraceStage::Events(history) => Ok(history),
+        }
+    }
+}
+
+impl Stage for TraceStage {
+    ghost use Rattle.trace_file.specs.Reading.{step};
+    ghost use Rattle.trace_file.specs.Sound.{IsSound};
+
+    ghost step = { step };
+
+    ghost is_sound = { IsSound };
+
+    #[tactic(
+        auto,
+        using(crate::proofs::StageLemmas::step_behind),
+        unfolding(crate::specs::Reading::step, crate::specs::Sound::IsSound)
+    )]
+    fn take(self, alloc: Global, number: u32, row: &ByteRecord) -> Result<TraceStage, TraceFault> {
+        match self {
+            TraceStage::Header => {
+                if is_header(b"camtrace1", row) {
+                    Ok(TraceStage::First)
+                } else {
+                    Err(TraceFault::BadHeader)
+                }
+            }
+            stage => stage.take_row(alloc, number, row),
+        }
+    }
+}
+
+/// A field without its form is a fault of the record.
+fn in_record<T>(number: u32, read: Result<T, u32>) -> Result<T, TraceFault>
+    ensures { result ≡ in_record number read }
+{
+    match read {
+        Ok(value) => Ok(value),
+        Err(field) => Err(TraceFault::BadField(number, field)),
+    }
+}
+
+ghost use Rattle.cam_types.specs.Topology.{IsDraft};
+ghost use Rattle.trace_file.specs.Histories.{adapter_fault, device_fault, lane_fault, refusal};
+ghost use Rattle.trace_file.specs.Reading.{in_record, unless_fault, unless_refused};
+ghost use Rattle.trace_file.specs.Rows.{device_of};
+ghost use Rattle.trace_file.specs.Sound.{IsBegun, IsKept, IsSound};
+
+fn with_adapter(draft: ConfigDraft, number: u32, openings: u32) -> Result<TraceStage, TraceFault>
+    requires draft { IsDraft draft }
+    requires no_device { draft.devices ≡ [] }
+    requires no_lane { draft.lanes ≡ [] }
+    ensures value { result ≢ Err TraceFault.OutOfMemory → result ≡ unless_fault number (adapter_fault (draft.adapters, openings)) (TraceStage.Adapters (record draft { adapters = draft.adapters ++ openings ∷ [] })) }
+    ensures sound { IfOk result (λ s. IsSound s) }
+{
+    let mut draft = draft;
+    match draft.add_adapter(openings) {
+        Ok(()) => Ok(TraceStage::Adapters(draft)),
+        Err(ConfigError::Fault(fault)) => Err(TraceFault::BadConfig(number, fault)),
+        Err(ConfigError::OutOfMemory) => Err(TraceFault::OutOfMemory),
+    }
+}
+
+fn with_device(draft: ConfigDraft, number: u32, device: DeviceRow) -> Result<TraceStage, TraceFault>
+    requires begun { IsBegun draft }
+    requires no_lane { draft.lanes ≡ [] }
+    ensures value { result ≢ Err TraceFault.OutOfMemory → result ≡ unless_fault number (device_fault (length draft.adapters) (draft.devices, device_of device)) (TraceStage.Devices (record draft { devices = draft.devices ++ device_of device ∷ [] })) }
+    ensures sound { IfOk result (λ s. IsSound s) }
+{
+    let mut draft = draft;
+    match draft.add_device(device.device()) {
+        Ok(()) => Ok(TraceStage::Devices(draft)),
+        Err(ConfigError::Fault(fault)) => Err(TraceFault::BadConfig(number, fault)),
+        Err(ConfigError::OutOfMemory) => Err(TraceFault::OutOfMemory),
+    }
+}
+
+fn with_lane(draft: ConfigDraft, number: u32, adapter: u32) -> Result<TraceStage, TraceFault>
+    requires begun { IsBegun draft }
+    ensures value { result ≢ Err TraceFault.OutOfMemory → result ≡ unless_fault number (lane_fault (length draft.adapters) (draft.lanes, adapter)) (TraceStage.Lanes (record draft { lanes = draft.lanes ++ adapter ∷ [] })) }
+    ensures sound { IfOk result (λ s. IsSound s) }
+{
+    let mut draft = draft;
+    match draft.add_lane(adapter) {
+        Ok(()) => Ok(TraceStage::Lanes(draft)),
+        Err(ConfigError::Fault(fault)) => Err(TraceFault::BadConfig(number, fault)),
+        Err(ConfigError::OutOfMemory) => Err(TraceFault::OutOfMemory),
+    }
+}
+
+fn with_event(history: History, number: u32, event: Event) -> Result<TraceStage, TraceFault>
+    requires kept { IsKept history }
+    ensures value { result ≢ Err TraceFault.OutOfMemory → result ≡ unless_refused number (refusal history.config history.events event) (TraceStage.Events (record history { events = history.events ++ event ∷ [] })) }
+    ensures sound { IfOk result (λ s. IsSound s) }
+{
+    let mut history = history;
+    match history.push(event) {
+        Ok(()) => Ok(TraceStage::Events(history)),
+        Err(PushFault::Refused(refusal)) => Err(TraceFault::Illegal(number, refusal)),
+        Err(PushFault::OutOfMemory) => Err(TraceFault::OutOfMemory),
+    }
+}
+
+fn without_events(alloc: Global, draft: ConfigDraft) -> History
+    requires begun { IsBegun draft }
+    ensures value { result ≡ record { config = draft; events = [] } }
+    ensures kept { IsKept result }
+{
+    History::new(alloc, draft.finish().unwrap())
+}

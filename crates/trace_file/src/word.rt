@@ -1,0 +1,64 @@
+use crate::fields::is_text;
+
+/// What the first field of a trace's record names.
+#[derive(Clone, Copy, Debug, PartialEq, Eq)]
+pub(crate) enum Word {
+    Sim,
+    Dev,
+    Lane,
+    Submit,
+    Send,
+    Done,
+    Requeue,
+    Finish,
+    Freeze,
+    Release,
+    FreezeSim,
+    ReleaseSim,
+    Adjust,
+    Tick,
+}
+
+impl Word {
+    ghost use Rattle.std.specs.Prelude.{◌≡◌};
+    ghost use Rattle.trace_file.specs.Words.{word_of};
+
+    /// The word that a field spells.
+    #[tactic(auto, unfolding(crate::specs::Words::word_of))]
+    pub(crate) fn of(field: &[u8]) -> Option<Word>
+        ensures { result ≡ word_of field.now }
+    {
+        let word = if is_text(field, b"sim") {
+            Word::Sim
+        } else if is_text(field, b"dev") {
+            Word::Dev
+        } else if is_text(field, b"lane") {
+            Word::Lane
+        } else if is_text(field, b"submit") {
+            Word::Submit
+        } else if is_text(field, b"send") {
+            Word::Send
+        } else if is_text(field, b"done") {
+            Word::Done
+        } else if is_text(field, b"requeue") {
+            Word::Requeue
+        } else if is_text(field, b"finish") {
+            Word::Finish
+        } else if is_text(field, b"freeze") {
+            Word::Freeze
+        } else if is_text(field, b"release") {
+            Word::Release
+        } else if is_text(field, b"sfreeze") {
+            Word::FreezeSim
+        } else if is_text(field, b"srelease") {
+            Word::ReleaseSim
+        } else if is_text(field, b"adjust") {
+            Word::Adjust
+        } else if is_text(field, b"tick") {
+            Word::Tick
+        } else {
+            return None;
+        };
+        Some(word)
+    }
+}

@@ -25,7 +25,7 @@ check_text events cost =
 -- a trace was read to its end, and its history is complete at this cost
 pub record WasComplete (before after : Option (List ℕ)) (past : Past) (cost : ℕ) : Type 0 where
   pub trace : WasTrace before after past
-  pub cost : live_cost past.events ≡ Some cost
+  pub costs : live_cost past.events ≡ Some cost
 
 -- the lines of the history that was read were written, all of them
 pub record Wrote (before after out out' : Option (List ℕ)) : Type 0 where
@@ -35,12 +35,12 @@ pub record Wrote (before after out out' : Option (List ℕ)) : Type 0 where
   pub written : Appends out out' (check_text past.events cost)
 
 -- only the front of them was written, and the writer's note says that a call failed
-pub record WroteFront (before after out out' : Option (List ℕ)) (failed : Bool) : Type 0 where
+pub record WroteFront (before after out out' : Option (List ℕ)) (noted : Bool) : Type 0 where
   pub past : Past
   pub cost : ℕ
   pub read : WasComplete before after past cost
   pub front : AppendsFront out out' (check_text past.events cost)
-  pub failed : failed ≡ true
+  pub failed : noted ≡ true
 
 -- a trace was read, and this is the first of its stays that has no send
 pub record WasUnsent (before after : Option (List ℕ)) (s : Stay) : Type 0 where

@@ -1,3 +1,6 @@
+ghost use Rattle.std.specs.Prelude.{◌≡◌};
+ghost use Rattle.audit_report.specs.declared.audit_fault.AuditFault.TheVariants.{OutOfMemory};
+
 use cam_event::Stay;
 use std::alloc::AllocError;
 use thiserror::Error;

@@ -12,5 +12,6 @@ pub fn push_line(text: &mut Vec<u8>, word: &[u8], number: u64) -> Result<(), All
     text.extend_from_slice(word)?;
     text.extend_from_slice(b" ")?;
     text.extend_from_slice(digits.format(number).as_bytes())?;
-    text.extend_from_slice(b"\n")
+    text.extend_from_slice(b"\n")?;
+    Ok(())
 }

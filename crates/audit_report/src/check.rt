@@ -14,7 +14,11 @@ use trace_file::read_trace;
 
 /// Reads a trace and writes five lines on it: the version of this form, how many commands, stays and rounds it has, and
 /// what its live schedule cost. Before anything is written the trace is read to its end, tested and found complete.
-pub fn run_check<R: Read, W: Write>(alloc: Global, trace: &mut Watched<R>, out: &mut Watched<W>) -> Result<(), AuditFault>
+pub fn run_check<R: Read, W: Write>(
+    alloc: Global,
+    trace: &mut Watched<R>,
+    out: &mut Watched<W>,
+) -> Result<(), AuditFault>
     requires trace_calm { has_failed trace.old ≡ false }
     requires out_calm { has_failed out.old ≡ false }
     ensures { Ended (R.remaining (device_of trace.old)) (R.remaining (device_of trace.new)) (has_failed trace.new) (W.contents (device_of out.old)) (W.contents (device_of out.new)) (has_failed out.new) result }

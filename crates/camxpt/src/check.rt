@@ -2,12 +2,15 @@ use crate::failure::Failure;
 use audit_report::run_check;
 use cam_types::Watched;
 use std::fs::File;
+use std::io;
 use std::io::Read;
 use std::rt::Files;
-use std::io;
 
 /// Checks the trace in the file of this name, or on standard input without one.
-pub fn check<R: Files + Input + Print + AllocGlobal>(rt: &R, trace: Option<&str>) -> Result<(), Failure> {
+pub fn check<R: Files + Input + Print + AllocGlobal>(
+    rt: &R,
+    trace: Option<&str>,
+) -> Result<(), Failure> {
     match trace {
         Some(name) => match File::open(rt, name) {
             Ok(file) => check_reader(rt, file),

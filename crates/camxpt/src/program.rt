@@ -25,7 +25,10 @@ pub fn run<R: Runtime + AllocGlobal>(rt: &R) -> ExitCode {
             Ok(()) => ExitCode::SUCCESS,
             Err(failure) => fail(rt, failure),
         },
-        Err(error) if error.kind() == ErrorKind::OutOfMemory => fail(rt, Failure::Audit(AuditFault::OutOfMemory)),
+        Err(error) if error.kind() == ErrorKind::OutOfMemory => fail(
+            rt,
+            Failure::Audit(AuditFault::OutOfMemory),
+        ),
         Err(error) => match error.print(rt) {
             Ok(()) => ExitCode::from(if error.use_stderr() { 2 } else { 0 }),
             Err(_) => fail(rt, Failure::Audit(AuditFault::WriteFailed)),

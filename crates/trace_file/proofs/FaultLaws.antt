@@ -194,9 +194,9 @@ pub was_trace : (before after : Option (List ℕ)) (text : List ℕ) (past : Pas
 unfolding reading
 was_trace before after text past whole e =
     on_ok (taken step 1 stage.Header (records_in text)) ended past e (λ t et r.
-        let start : Reads stage.Header [] = record { spelled = refl; sound = sound_header; targets = tt; events = tt } in
-        let k = ended_reads t past (records_in text) (taken_reads 1 stage.Header t [] (records_in text) start et) r in
-        record { text = text; whole = whole; trace = record { bounded = whole.bounded; spelled = k.0 }; history = k.1 })
+    let start : Reads stage.Header [] = record { spelled = refl; sound = sound_header; targets = tt; events = tt } in
+    let k = ended_reads t past (records_in text) (taken_reads 1 stage.Header t [] (records_in text) start et) r in
+    record { text = text; whole = whole; trace = record { bounded = whole.bounded; spelled = k.0 }; history = k.1 })
 
 -- a fault that was found is explained
 pub was_faulty : (before after : Option (List ℕ)) (failed : Bool) (text : List ℕ) (e : TraceFault) → IsWhole before after text → reading (records_in text) ≡ Err e → Explains before after failed e

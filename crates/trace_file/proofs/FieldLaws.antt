@@ -61,8 +61,7 @@ some_at r n P e h = rw e at h
 pub number_takes : (row : Row) (at most n : ℕ) → most ≤ most_number → number_at row at most ≡ Ok n → (field_of row at ≡ decimal n) × (n ≤ most)
 unfolding number_at
 number_takes row at most n le e =
-    let some = formed_some (number_of most (field_of row at)) (at + 1) n e in
-    (
+    let some = formed_some (number_of most (field_of row at)) (at + 1) n e in (
       some_at _ n (λ m. field_of row at ≡ decimal m) some (number_of-spelled most (field_of row at) _ (omega arith) refl),
       number_of-within most n (field_of row at) some,
     )

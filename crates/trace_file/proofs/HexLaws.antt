@@ -44,11 +44,11 @@ digit_again : (v : ℕ) → v < 16 → hex_value (digit_char v) ≡ Some v
 unfolding hex_value
 digit_again v h = elim (cases_lt v 10) [
   | inl low ↦
-    rw (low_char v low, le-leb 48 (48 + v) (omega arith), le-leb (48 + v) 57 (omega arith))
-    (ap (λ (n : ℕ). Some n) (let e : 48 + v - 48 ≡ v = omega arith in e))
+      rw (low_char v low, le-leb 48 (48 + v) (omega arith), le-leb (48 + v) 57 (omega arith))
+      (ap (λ (n : ℕ). Some n) (let e : 48 + v - 48 ≡ v = omega arith in e))
   | inr high ↦
-    rw (high_char v high, lt-leb (87 + v) 57 (omega arith), le-leb 48 (87 + v) (omega arith), le-leb 97 (87 + v) (omega arith), le-leb (87 + v) 102 (omega arith))
-    (ap (λ (n : ℕ). Some n) (let e : 87 + v - 87 ≡ v = omega arith in e))
+      rw (high_char v high, lt-leb (87 + v) 57 (omega arith), le-leb 48 (87 + v) (omega arith), le-leb 97 (87 + v) (omega arith), le-leb (87 + v) 102 (omega arith))
+      (ap (λ (n : ℕ). Some n) (let e : 87 + v - 87 ≡ v = omega arith in e))
 ]
 
 -- ---- a byte
@@ -70,7 +70,7 @@ byte_takes : (high low b : ℕ) → hex_byte high low ≡ Some b → SpellsByte 
 unfolding hex_byte
 byte_takes high low b e =
     on_some (hex_value high) (λ h. option_map (λ l. 16 * h + l) (hex_value low)) b e (λ h eh r.
-        on_some (hex_value low) (λ l. Some (16 * h + l)) b r (λ l el s. spells_byte high low h l b (digit_takes high h eh) (digit_takes low l el) (some_is _ _ s)))
+    on_some (hex_value low) (λ l. Some (16 * h + l)) b r (λ l el s. spells_byte high low h l b (digit_takes high h eh) (digit_takes low l el) (some_is _ _ s)))
 
 byte_again : (b : ℕ) → b < 256 → hex_byte (digit_char (b / 16)) (digit_char (b % 16)) ≡ Some b
 unfolding hex_byte
@@ -100,7 +100,7 @@ bytes_take [] bs e = rw (← list_is _ _ e) (refl, tt, refl)
 bytes_take (c ∷ []) bs e = absurd cc
 bytes_take (c ∷ d ∷ rest) bs e =
     on_some (hex_byte c d) (λ b. option_map (λ l. b ∷ l) (bytes_of rest)) bs e (λ b eb r.
-        on_some (bytes_of rest) (λ l. Some (b ∷ l)) bs r (λ l el k. join c d b rest l bs (byte_takes c d b eb) (bytes_take rest l el) (list_is _ _ k)))
+    on_some (bytes_of rest) (λ l. Some (b ∷ l)) bs r (λ l el k. join c d b rest l bs (byte_takes c d b eb) (bytes_take rest l el) (list_is _ _ k)))
 
 bytes_of_two : (c d : ℕ) (rest : List ℕ) → bytes_of (c ∷ d ∷ rest) ≡ option_and_then (λ b. option_map (λ bs. b ∷ bs) (bytes_of rest)) (hex_byte c d)
 unfolding bytes_of

@@ -54,10 +54,10 @@ one_takes : (row : Row) (n : ℕ) → length row ≡ 8 → one_number row ≡ Ok
 unfolding one_number
 one_takes row n eight e =
     on_ok (number_at row 1 most_number) (λ m. unused_from row 2 >>= λ _. Ok m) n e (λ m em r.
-        on_ok (unused_from row 2) (λ _. Ok m) n r (λ u eu s.
-            let p = number_takes row 1 most_number m (omega arith) em in
-            let same = ok_is m n s in
-            (peel row 1 (decimal n) _ eight (omega arith) (p.0 ∙ ap decimal same) (unused_rest row 2 6 u eight refl eu), omega (arith, p.1))))
+    on_ok (unused_from row 2) (λ _. Ok m) n r (λ u eu s.
+    let p = number_takes row 1 most_number m (omega arith) em in
+    let same = ok_is m n s in
+    (peel row 1 (decimal n) _ eight (omega arith) (p.0 ∙ ap decimal same) (unused_rest row 2 6 u eight refl eu), omega (arith, p.1))))
 
 abbrev Two : Row → ℕ × ℕ → Type 0
 Two row p = (drop 1 row ≡ decimal p.0 ∷ decimal p.1 ∷ replicate 5 []) × (p.0 ≤ most_number) × (p.1 ≤ most_number)
@@ -66,13 +66,13 @@ two_take : (row : Row) (p : ℕ × ℕ) → length row ≡ 8 → two_numbers row
 unfolding two_numbers
 two_take row p eight e =
     on_ok (number_at row 1 most_number) (λ m. number_at row 2 most_number >>= λ n. unused_from row 3 >>= λ _. Ok (m, n)) p e (λ m em r.
-        on_ok (number_at row 2 most_number) (λ n. unused_from row 3 >>= λ _. Ok (m, n)) p r (λ n en s.
-            on_ok (unused_from row 3) (λ _. Ok (m, n)) p s (λ u eu t.
-                let a = number_takes row 1 most_number m (omega arith) em in
-                let b = number_takes row 2 most_number n (omega arith) en in
-                let rest = peel row 2 (decimal n) _ eight (omega arith) b.0 (unused_rest row 3 5 u eight refl eu) in
-                let made : Two row (m, n) = (peel row 1 (decimal m) _ eight (omega arith) a.0 rest, a.1, b.1) in
-                subst (λ (q : ℕ × ℕ). Two row q) (ok_is (m, n) p t) made)))
+    on_ok (number_at row 2 most_number) (λ n. unused_from row 3 >>= λ _. Ok (m, n)) p r (λ n en s.
+    on_ok (unused_from row 3) (λ _. Ok (m, n)) p s (λ u eu t.
+    let a = number_takes row 1 most_number m (omega arith) em in
+    let b = number_takes row 2 most_number n (omega arith) en in
+    let rest = peel row 2 (decimal n) _ eight (omega arith) b.0 (unused_rest row 3 5 u eight refl eu) in
+    let made : Two row (m, n) = (peel row 1 (decimal m) _ eight (omega arith) a.0 rest, a.1, b.1) in
+    subst (λ (q : ℕ × ℕ). Two row q) (ok_is (m, n) p t) made)))
 
 abbrev pub Spelled : Row → DeviceRow → Type 0
 Spelled row d = (drop 1 row ≡ decimal d.bus ∷ decimal d.target ∷ decimal d.lun ∷ decimal d.openings ∷ replicate 3 []) × (d.target ≤ 65535)
@@ -81,19 +81,19 @@ pub device_takes : (row : Row) (d : DeviceRow) → length row ≡ 8 → device_a
 unfolding device_at
 device_takes row d eight e =
     on_ok (number_at row 1 most_number) (λ bus. number_at row 2 65535 >>= λ target. number_at row 3 16383 >>= λ lun. number_at row 4 most_number >>= λ openings. unused_from row 5 >>= λ _. Ok (record { bus = bus; target = target; lun = lun; openings = openings })) d e (λ bus e1 r1.
-        on_ok (number_at row 2 65535) (λ target. number_at row 3 16383 >>= λ lun. number_at row 4 most_number >>= λ openings. unused_from row 5 >>= λ _. Ok (record { bus = bus; target = target; lun = lun; openings = openings })) d r1 (λ target e2 r2.
-            on_ok (number_at row 3 16383) (λ lun. number_at row 4 most_number >>= λ openings. unused_from row 5 >>= λ _. Ok (record { bus = bus; target = target; lun = lun; openings = openings })) d r2 (λ lun e3 r3.
-                on_ok (number_at row 4 most_number) (λ openings. unused_from row 5 >>= λ _. Ok (record { bus = bus; target = target; lun = lun; openings = openings })) d r3 (λ openings e4 r4.
-                    on_ok (unused_from row 5) (λ _. Ok (record { bus = bus; target = target; lun = lun; openings = openings })) d r4 (λ u eu s.
-                        let a = number_takes row 1 most_number bus (omega arith) e1 in
-                        let b = number_takes row 2 65535 target (omega arith) e2 in
-                        let c = number_takes row 3 16383 lun (omega arith) e3 in
-                        let o = number_takes row 4 most_number openings (omega arith) e4 in
-                        let t4 = peel row 4 (decimal openings) _ eight (omega arith) o.0 (unused_rest row 5 3 u eight refl eu) in
-                        let t3 = peel row 3 (decimal lun) _ eight (omega arith) c.0 t4 in
-                        let t2 = peel row 2 (decimal target) _ eight (omega arith) b.0 t3 in
-                        let made : Spelled row (record { bus = bus; target = target; lun = lun; openings = openings }) = (peel row 1 (decimal bus) _ eight (omega arith) a.0 t2, b.1) in
-                        subst (λ (x : DeviceRow). Spelled row x) (ok_is _ d s) made)))))
+    on_ok (number_at row 2 65535) (λ target. number_at row 3 16383 >>= λ lun. number_at row 4 most_number >>= λ openings. unused_from row 5 >>= λ _. Ok (record { bus = bus; target = target; lun = lun; openings = openings })) d r1 (λ target e2 r2.
+    on_ok (number_at row 3 16383) (λ lun. number_at row 4 most_number >>= λ openings. unused_from row 5 >>= λ _. Ok (record { bus = bus; target = target; lun = lun; openings = openings })) d r2 (λ lun e3 r3.
+    on_ok (number_at row 4 most_number) (λ openings. unused_from row 5 >>= λ _. Ok (record { bus = bus; target = target; lun = lun; openings = openings })) d r3 (λ openings e4 r4.
+    on_ok (unused_from row 5) (λ _. Ok (record { bus = bus; target = target; lun = lun; openings = openings })) d r4 (λ u eu s.
+    let a = number_takes row 1 most_number bus (omega arith) e1 in
+    let b = number_takes row 2 65535 target (omega arith) e2 in
+    let c = number_takes row 3 16383 lun (omega arith) e3 in
+    let o = number_takes row 4 most_number openings (omega arith) e4 in
+    let t4 = peel row 4 (decimal openings) _ eight (omega arith) o.0 (unused_rest row 5 3 u eight refl eu) in
+    let t3 = peel row 3 (decimal lun) _ eight (omega arith) c.0 t4 in
+    let t2 = peel row 2 (decimal target) _ eight (omega arith) b.0 t3 in
+    let made : Spelled row (record { bus = bus; target = target; lun = lun; openings = openings }) = (peel row 1 (decimal bus) _ eight (omega arith) a.0 t2, b.1) in
+    subst (λ (x : DeviceRow). Spelled row x) (ok_is _ d s) made)))))
 
 -- the record behind its word spells the event
 abbrev Tells : Row → Word → Event → Type 0
@@ -103,65 +103,65 @@ submit_takes : (row : Row) (x : Event) → length row ≡ 8 → submit_at row �
 unfolding submit_at
 submit_takes row x eight e =
     on_ok (number_at row 1 255) (λ driver. number_at row 2 most_number >>= λ device. number_at row 3 most_number >>= λ priority. number_at row 4 most_number >>= λ retries. flags_at row 5 >>= λ flags. unused_from row 6 >>= λ _. Ok (event.Submit driver device priority retries flags)) x e (λ driver e1 r1.
-        on_ok (number_at row 2 most_number) (λ device. number_at row 3 most_number >>= λ priority. number_at row 4 most_number >>= λ retries. flags_at row 5 >>= λ flags. unused_from row 6 >>= λ _. Ok (event.Submit driver device priority retries flags)) x r1 (λ device e2 r2.
-            on_ok (number_at row 3 most_number) (λ priority. number_at row 4 most_number >>= λ retries. flags_at row 5 >>= λ flags. unused_from row 6 >>= λ _. Ok (event.Submit driver device priority retries flags)) x r2 (λ priority e3 r3.
-                on_ok (number_at row 4 most_number) (λ retries. flags_at row 5 >>= λ flags. unused_from row 6 >>= λ _. Ok (event.Submit driver device priority retries flags)) x r3 (λ retries e4 r4.
-                    on_ok (flags_at row 5) (λ flags. unused_from row 6 >>= λ _. Ok (event.Submit driver device priority retries flags)) x r4 (λ flags e5 r5.
-                        on_ok (unused_from row 6) (λ _. Ok (event.Submit driver device priority retries flags)) x r5 (λ u eu s.
-                            let a = number_takes row 1 255 driver (omega arith) e1 in
-                            let b = number_takes row 2 most_number device (omega arith) e2 in
-                            let c = number_takes row 3 most_number priority (omega arith) e3 in
-                            let d = number_takes row 4 most_number retries (omega arith) e4 in
-                            let t5 = peel row 5 (flags_text flags) _ eight (omega arith) (flags_takes row 5 flags e5) (unused_rest row 6 2 u eight refl eu) in
-                            let t4 = peel row 4 (decimal retries) _ eight (omega arith) d.0 t5 in
-                            let t3 = peel row 3 (decimal priority) _ eight (omega arith) c.0 t4 in
-                            let t2 = peel row 2 (decimal device) _ eight (omega arith) b.0 t3 in
-                            let t1 = peel row 1 (decimal driver) _ eight (omega arith) a.0 t2 in
-                            let made : Tells row word.Submit (event.Submit driver device priority retries flags) = (ap (λ (l : Row). spelled word.Submit ∷ l) t1, (a.1, b.1, c.1, d.1)) in
-                            subst (λ (y : Event). Tells row word.Submit y) (ok_is _ x s) made))))))
+    on_ok (number_at row 2 most_number) (λ device. number_at row 3 most_number >>= λ priority. number_at row 4 most_number >>= λ retries. flags_at row 5 >>= λ flags. unused_from row 6 >>= λ _. Ok (event.Submit driver device priority retries flags)) x r1 (λ device e2 r2.
+    on_ok (number_at row 3 most_number) (λ priority. number_at row 4 most_number >>= λ retries. flags_at row 5 >>= λ flags. unused_from row 6 >>= λ _. Ok (event.Submit driver device priority retries flags)) x r2 (λ priority e3 r3.
+    on_ok (number_at row 4 most_number) (λ retries. flags_at row 5 >>= λ flags. unused_from row 6 >>= λ _. Ok (event.Submit driver device priority retries flags)) x r3 (λ retries e4 r4.
+    on_ok (flags_at row 5) (λ flags. unused_from row 6 >>= λ _. Ok (event.Submit driver device priority retries flags)) x r4 (λ flags e5 r5.
+    on_ok (unused_from row 6) (λ _. Ok (event.Submit driver device priority retries flags)) x r5 (λ u eu s.
+    let a = number_takes row 1 255 driver (omega arith) e1 in
+    let b = number_takes row 2 most_number device (omega arith) e2 in
+    let c = number_takes row 3 most_number priority (omega arith) e3 in
+    let d = number_takes row 4 most_number retries (omega arith) e4 in
+    let t5 = peel row 5 (flags_text flags) _ eight (omega arith) (flags_takes row 5 flags e5) (unused_rest row 6 2 u eight refl eu) in
+    let t4 = peel row 4 (decimal retries) _ eight (omega arith) d.0 t5 in
+    let t3 = peel row 3 (decimal priority) _ eight (omega arith) c.0 t4 in
+    let t2 = peel row 2 (decimal device) _ eight (omega arith) b.0 t3 in
+    let t1 = peel row 1 (decimal driver) _ eight (omega arith) a.0 t2 in
+    let made : Tells row word.Submit (event.Submit driver device priority retries flags) = (ap (λ (l : Row). spelled word.Submit ∷ l) t1, (a.1, b.1, c.1, d.1)) in
+    subst (λ (y : Event). Tells row word.Submit y) (ok_is _ x s) made))))))
 
 done_takes : (row : Row) (x : Event) → length row ≡ 8 → done_at row ≡ Ok x → Tells row word.Done x
 unfolding done_at
 done_takes row x eight e =
     on_ok (number_at row 1 most_number) (λ ccb. byte_at row 2 >>= λ status. byte_at row 3 >>= λ scsi. sense_at row 4 >>= λ sense. unused_from row 5 >>= λ _. Ok (event.Done ccb (record { status = status; scsi = scsi; sense = sense }))) x e (λ ccb e1 r1.
-        on_ok (byte_at row 2) (λ status. byte_at row 3 >>= λ scsi. sense_at row 4 >>= λ sense. unused_from row 5 >>= λ _. Ok (event.Done ccb (record { status = status; scsi = scsi; sense = sense }))) x r1 (λ status e2 r2.
-            on_ok (byte_at row 3) (λ scsi. sense_at row 4 >>= λ sense. unused_from row 5 >>= λ _. Ok (event.Done ccb (record { status = status; scsi = scsi; sense = sense }))) x r2 (λ scsi e3 r3.
-                on_ok (sense_at row 4) (λ sense. unused_from row 5 >>= λ _. Ok (event.Done ccb (record { status = status; scsi = scsi; sense = sense }))) x r3 (λ sense e4 r4.
-                    on_ok (unused_from row 5) (λ _. Ok (event.Done ccb (record { status = status; scsi = scsi; sense = sense }))) x r4 (λ u eu s.
-                        let a = number_takes row 1 most_number ccb (omega arith) e1 in
-                        let b = byte_at_takes row 2 status e2 in
-                        let c = byte_at_takes row 3 scsi e3 in
-                        let d = sense_at_takes row 4 sense e4 in
-                        let t4 = peel row 4 (hex sense) _ eight (omega arith) d.0 (unused_rest row 5 3 u eight refl eu) in
-                        let t3 = peel row 3 (hex (scsi ∷ [])) _ eight (omega arith) c.0 t4 in
-                        let t2 = peel row 2 (hex (status ∷ [])) _ eight (omega arith) b.0 t3 in
-                        let t1 = peel row 1 (decimal ccb) _ eight (omega arith) a.0 t2 in
-                        let made : Tells row word.Done (event.Done ccb (record { status = status; scsi = scsi; sense = sense })) = (ap (λ (l : Row). spelled word.Done ∷ l) t1, (a.1, b.1, c.1, d.1, d.2)) in
-                        subst (λ (y : Event). Tells row word.Done y) (ok_is _ x s) made)))))
+    on_ok (byte_at row 2) (λ status. byte_at row 3 >>= λ scsi. sense_at row 4 >>= λ sense. unused_from row 5 >>= λ _. Ok (event.Done ccb (record { status = status; scsi = scsi; sense = sense }))) x r1 (λ status e2 r2.
+    on_ok (byte_at row 3) (λ scsi. sense_at row 4 >>= λ sense. unused_from row 5 >>= λ _. Ok (event.Done ccb (record { status = status; scsi = scsi; sense = sense }))) x r2 (λ scsi e3 r3.
+    on_ok (sense_at row 4) (λ sense. unused_from row 5 >>= λ _. Ok (event.Done ccb (record { status = status; scsi = scsi; sense = sense }))) x r3 (λ sense e4 r4.
+    on_ok (unused_from row 5) (λ _. Ok (event.Done ccb (record { status = status; scsi = scsi; sense = sense }))) x r4 (λ u eu s.
+    let a = number_takes row 1 most_number ccb (omega arith) e1 in
+    let b = byte_at_takes row 2 status e2 in
+    let c = byte_at_takes row 3 scsi e3 in
+    let d = sense_at_takes row 4 sense e4 in
+    let t4 = peel row 4 (hex sense) _ eight (omega arith) d.0 (unused_rest row 5 3 u eight refl eu) in
+    let t3 = peel row 3 (hex (scsi ∷ [])) _ eight (omega arith) c.0 t4 in
+    let t2 = peel row 2 (hex (status ∷ [])) _ eight (omega arith) b.0 t3 in
+    let t1 = peel row 1 (decimal ccb) _ eight (omega arith) a.0 t2 in
+    let made : Tells row word.Done (event.Done ccb (record { status = status; scsi = scsi; sense = sense })) = (ap (λ (l : Row). spelled word.Done ∷ l) t1, (a.1, b.1, c.1, d.1, d.2)) in
+    subst (λ (y : Event). Tells row word.Done y) (ok_is _ x s) made)))))
 
 tick_takes : (row : Row) (x : Event) → length row ≡ 8 → tick_at row ≡ Ok x → Tells row word.Tick x
 unfolding tick_at
 tick_takes row x eight e =
     on_ok (unused_from row 1) (λ _. Ok event.Tick) x e (λ u eu s.
-        let made : Tells row word.Tick event.Tick = (ap (λ (l : Row). spelled word.Tick ∷ l) (unused_rest row 1 7 u eight refl eu), tt) in
-        subst (λ (y : Event). Tells row word.Tick y) (ok_is _ x s) made)
+    let made : Tells row word.Tick event.Tick = (ap (λ (l : Row). spelled word.Tick ∷ l) (unused_rest row 1 7 u eight refl eu), tt) in
+    subst (λ (y : Event). Tells row word.Tick y) (ok_is _ x s) made)
 
 -- an event of one number, and one of two
 tell_one : (row : Row) (w : Word) (f : ℕ → Event) (x : Event) → length row ≡ 8 → ((n : ℕ) → event_row (f n) ≡ spelled w ∷ decimal n ∷ replicate 6 []) → ((n : ℕ) → n ≤ most_number → FitsEvent (f n))
     → (one_number row >>= λ n. Ok (f n)) ≡ Ok x → Tells row w x
 tell_one row w f x eight spells fits e =
     on_ok (one_number row) (λ n. Ok (f n)) x e (λ n en s.
-        let p = one_takes row n eight en in
-        let made : Tells row w (f n) = (ap (λ (l : Row). spelled w ∷ l) p.0 ∙ sym (spells n), fits n p.1) in
-        subst (λ (y : Event). Tells row w y) (ok_is _ x s) made)
+    let p = one_takes row n eight en in
+    let made : Tells row w (f n) = (ap (λ (l : Row). spelled w ∷ l) p.0 ∙ sym (spells n), fits n p.1) in
+    subst (λ (y : Event). Tells row w y) (ok_is _ x s) made)
 
 tell_two : (row : Row) (w : Word) (f : ℕ → ℕ → Event) (x : Event) → length row ≡ 8 → ((m n : ℕ) → event_row (f m n) ≡ spelled w ∷ decimal m ∷ decimal n ∷ replicate 5 []) → ((m n : ℕ) → m ≤ most_number → n ≤ most_number → FitsEvent (f m n))
     → (two_numbers row >>= λ p. Ok (f p.0 p.1)) ≡ Ok x → Tells row w x
 tell_two row w f x eight spells fits e =
     on_ok (two_numbers row) (λ p. Ok (f p.0 p.1)) x e (λ q eq s.
-        let p = two_take row q eight eq in
-        let made : Tells row w (f q.0 q.1) = (ap (λ (l : Row). spelled w ∷ l) p.0 ∙ sym (spells q.0 q.1), fits q.0 q.1 p.1 p.2) in
-        subst (λ (y : Event). Tells row w y) (ok_is _ x s) made)
+    let p = two_take row q eight eq in
+    let made : Tells row w (f q.0 q.1) = (ap (λ (l : Row). spelled w ∷ l) p.0 ∙ sym (spells q.0 q.1), fits q.0 q.1 p.1 p.2) in
+    subst (λ (y : Event). Tells row w y) (ok_is _ x s) made)
 
 event_tells : (row : Row) (w : Word) (x : Event) → length row ≡ 8 → event_at w row ≡ Ok x → Tells row w x
 unfolding event_at

@@ -257,23 +257,23 @@ ok_or_ok (Some y) d x e = cc
 reads_other : (n : ℕ) (s t : TraceStage) (w : Word) (row : Row) (rows : List Row) → Reads s rows → IsPlaced s row w → (in_record n (event_at w row) >>= add_event n s) ≡ Ok t → Reads t (rows ++ row ∷ [])
 reads_other n s t w row rows h p e =
     on_ok (in_record n (event_at w row)) (add_event n s) t e (λ x ex r.
-        let k = event_takes row w x p.eight p.word (in_record_ok n (event_at w row) x ex) in
-        subst (λ (l : Row). Reads t (rows ++ l ∷ [])) (sym k.0) (reads_event n s t x rows h k.1 r))
+    let k = event_takes row w x p.eight p.word (in_record_ok n (event_at w row) x ex) in
+    subst (λ (l : Row). Reads t (rows ++ l ∷ [])) (sym k.0) (reads_event n s t x rows h k.1 r))
 
 reads_row : (n : ℕ) (s t : TraceStage) (w : Word) (row : Row) (rows : List Row) → Reads s rows → IsPlaced s row w → add_row n s w row ≡ Ok t → Reads t (rows ++ row ∷ [])
 unfolding add_row
 reads_row n s t word.Sim row rows h p e =
     on_ok (in_record n (one_number row)) (add_adapter n s) t e (λ o eo r.
-        let k = adapter_takes row o p.eight p.word (in_record_ok n (one_number row) o eo) in
-        subst (λ (l : Row). Reads t (rows ++ l ∷ [])) (sym k) (reads_adapter n s t o rows h p.place r))
+    let k = adapter_takes row o p.eight p.word (in_record_ok n (one_number row) o eo) in
+    subst (λ (l : Row). Reads t (rows ++ l ∷ [])) (sym k) (reads_adapter n s t o rows h p.place r))
 reads_row n s t word.Dev row rows h p e =
     on_ok (in_record n (device_at row)) (add_device n s) t e (λ d ed r.
-        let k = device_row_takes row d p.eight p.word (in_record_ok n (device_at row) d ed) in
-        subst (λ (l : Row). Reads t (rows ++ l ∷ [])) (sym k.0) (reads_device n s t d rows h p.place k.1 r))
+    let k = device_row_takes row d p.eight p.word (in_record_ok n (device_at row) d ed) in
+    subst (λ (l : Row). Reads t (rows ++ l ∷ [])) (sym k.0) (reads_device n s t d rows h p.place k.1 r))
 reads_row n s t word.Lane row rows h p e =
     on_ok (in_record n (one_number row)) (add_lane n s) t e (λ a ea r.
-        let k = lane_takes row a p.eight p.word (in_record_ok n (one_number row) a ea) in
-        subst (λ (l : Row). Reads t (rows ++ l ∷ [])) (sym k) (reads_lane n s t a rows h p.place r))
+    let k = lane_takes row a p.eight p.word (in_record_ok n (one_number row) a ea) in
+    subst (λ (l : Row). Reads t (rows ++ l ∷ [])) (sym k) (reads_lane n s t a rows h p.place r))
 reads_row n s t word.Submit row rows h p e = reads_other n s t word.Submit row rows h p e
 reads_row n s t word.Send row rows h p e = reads_other n s t word.Send row rows h p e
 reads_row n s t word.Done row rows h p e = reads_other n s t word.Done row rows h p e
@@ -290,7 +290,7 @@ reads_behind : (n : ℕ) (s t : TraceStage) (row : Row) (rows : List Row) → Re
 unfolding row_step
 reads_behind n s t row rows h e =
     on_ok (ok_or (placed s row) (BadRecord n)) (λ w. add_row n s w row) t e (λ w ew r.
-        reads_row n s t w row rows h (placed_some s row w (ok_or_ok (placed s row) (BadRecord n) w ew)) r)
+    reads_row n s t w row rows h (placed_some s row w (ok_or_ok (placed s row) (BadRecord n) w ew)) r)
 
 header_ok : (b : Bool) (t : TraceStage) → cond b (Ok stage.First) (Err BadHeader) ≡ Ok t → (b ≡ true) × (stage.First ≡ t)
 header_ok true t e = (refl, ok_is _ t e)
@@ -313,7 +313,7 @@ pub taken_reads : (n : ℕ) (s t : TraceStage) (rows more : List Row) → Reads 
 taken_reads n s t rows [] h e = subst (λ (x : TraceStage). Reads x (rows ++ [])) (ok_is s t e) (subst (λ (l : List Row). Reads s l) (sym (append-nil rows)) h)
 taken_reads n s t rows (row ∷ more) h e =
     on_ok (step n s row) (λ u. taken step (n + 1) u more) t e (λ u eu r.
-        subst (λ (l : List Row). Reads t l) (append_assoc rows (row ∷ []) more) (taken_reads (n + 1) u t (rows ++ row ∷ []) more (step_reads n s u row rows h eu) r))
+    subst (λ (l : List Row). Reads t l) (append_assoc rows (row ∷ []) more) (taken_reads (n + 1) u t (rows ++ row ∷ []) more (step_reads n s u row rows h eu) r))
 
 history_of : (p : Past) → IsKept p → AllByRecursion (λ (d : Device). d.target ≤ 65535) p.config.devices → AllByRecursion FitsEvent p.events → IsHistory p
 history_of p kept targets events = record { config = kept.config; legal = kept.legal; targets = targets; events = events }

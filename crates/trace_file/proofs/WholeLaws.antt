@@ -188,9 +188,9 @@ taken_all as' ds ls es k targets legal fits n =
     let good_events = along_both (λ b x. is_legal_event c (b, x) ≡ true) (λ b x. FitsEvent x) (GoodEvent c) [] es (λ b x p q. (p, q)) (legal_along c es legal) (along_all FitsEvent [] es fits) in
     let final = at_events as' ds ls es in
     then_taken n stage.First (at_adapters as') final (map adapter_row as') _ (run adapter_row at_adapters (λ b x. adapter_fault (b, x) ≡ None) one_adapter [] as' n k.adapters) (λ n1.
-        rw (begun as' k.some) (then_taken n1 (at_devices as' []) (at_devices as' ds) final (map device_row ds) _ (run device_row (at_devices as') (GoodDevice as') (one_device as' few) [] ds n1 good_devices) (λ n2.
-            then_taken n2 (at_lanes as' ds []) (at_lanes as' ds ls) final (map lane_row ls) _ (run lane_row (at_lanes as' ds) (λ b x. lane_fault (length as') (b, x) ≡ None) (one_lane as' ds few) [] ls n2 k.lanes) (λ n3.
-                run event_row (at_events as' ds ls) (GoodEvent c) (one_event as' ds ls) [] es n3 good_events))))
+    rw (begun as' k.some) (then_taken n1 (at_devices as' []) (at_devices as' ds) final (map device_row ds) _ (run device_row (at_devices as') (GoodDevice as') (one_device as' few) [] ds n1 good_devices) (λ n2.
+    then_taken n2 (at_lanes as' ds []) (at_lanes as' ds ls) final (map lane_row ls) _ (run lane_row (at_lanes as' ds) (λ b x. lane_fault (length as') (b, x) ≡ None) (one_lane as' ds few) [] ls n2 k.lanes) (λ n3.
+    run event_row (at_events as' ds ls) (GoodEvent c) (one_event as' ds ls) [] es n3 good_events))))
 
 header_again : step 1 stage.Header header ≡ Ok stage.First
 unfolding step is_header has_letters header field_at

@@ -66,11 +66,7 @@ pub(crate) fn flags_at(row: &ByteRecord, at: u32) -> Result<Flags, u32>
 }
 
 /// Whether the fields from this place on have no byte, or else the number of the first that has one.
-#[tactic(
-    auto,
-    using(crate::proofs::FieldLemmas::unused_step, crate::proofs::FieldLemmas::unused_found),
-    unfolding(crate::specs::Fields::unused_from)
-)]
+#[tactic(auto, using(crate::proofs::FieldLemmas::unused_step, crate::proofs::FieldLemmas::unused_found), unfolding(crate::specs::Fields::unused_from))]
 pub(crate) fn unused_from(row: &ByteRecord, at: u32) -> Result<(), u32>
     requires inside { at ≤ 8 }
     requires eight { length (fields_of row.now) ≡ 8 }

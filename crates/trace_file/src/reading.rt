@@ -46,8 +46,7 @@ fn read_text(alloc: Global, text: &[u8]) -> Result<History, TraceFault>
 /// No list of records is that of two histories.
 pub fn one_history()
     ensures { (one other : Past) → IsHistory one → IsHistory other → records_of one ≡ records_of other → one ≡ other }
-{
-}
+{}
 
 #[cfg(test)]
 mod tests;

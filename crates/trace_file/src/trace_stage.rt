@@ -64,7 +64,12 @@ impl TraceStage {
 
     /// One adapter more, or the rule that it breaks.
     #[tactic(auto, unfolding(crate::specs::Reading::add_adapter, crate::specs::Reading::stands, crate::specs::Sound::IsSound))]
-    fn add_adapter(self, alloc: Global, number: u32, openings: u32) -> Result<TraceStage, TraceFault>
+    fn add_adapter(
+        self,
+        alloc: Global,
+        number: u32,
+        openings: u32,
+    ) -> Result<TraceStage, TraceFault>
         requires sound { IsSound self }
         requires place { IsTrue (stands self Word.Sim) }
         ensures value { result ≢ Err TraceFault.OutOfMemory → result ≡ add_adapter number self openings }
@@ -118,7 +123,10 @@ impl TraceStage {
         ensures sound { IfOk result (λ s. IsSound s) }
     {
         match self {
-            TraceStage::Header | TraceStage::First => Err(TraceFault::BadConfig(number, ConfigFault::NoAdapters)),
+            TraceStage::Header | TraceStage::First => Err(TraceFault::BadConfig(
+                number,
+                ConfigFault::NoAdapters,
+            )),
             TraceStage::Adapters(draft) => with_event(without_events(alloc, draft), number, event),
             TraceStage::Devices(draft) => with_event(without_events(alloc, draft), number, event),
             TraceStage::Lanes(draft) => with_event(without_events(alloc, draft), number, event),
@@ -127,12 +135,13 @@ impl TraceStage {
     }
 
     /// A record behind the header, or its fault.
-    #[tactic(
-        auto,
-        using(crate::proofs::StageLemmas::add_row_event),
-        unfolding(crate::specs::Reading::row_step, crate::specs::Reading::add_row)
-    )]
-    fn take_row(self, alloc: Global, number: u32, row: &ByteRecord) -> Result<TraceStage, TraceFault>
+    #[tactic(auto, using(crate::proofs::StageLemmas::add_row_event), unfolding(crate::specs::Reading::row_step, crate::specs::Reading::add_row))]
+    fn take_row(
+        self,
+        alloc: Global,
+        number: u32,
+        row: &ByteRecord,
+    ) -> Result<TraceStage, TraceFault>
         requires { IsSound self }
         ensures value { result ≢ Err TraceFault.OutOfMemory → result ≡ row_step number self (fields_of row.now) }
         ensures sound { IfOk result (λ s. IsSound s) }
@@ -186,11 +195,7 @@ impl Stage for TraceStage {
 
     ghost is_sound = { IsSound };
 
-    #[tactic(
-        auto,
-        using(crate::proofs::StageLemmas::step_behind),
-        unfolding(crate::specs::Reading::step, crate::specs::Sound::IsSound)
-    )]
+    #[tactic(auto, using(crate::proofs::StageLemmas::step_behind), unfolding(crate::specs::Reading::step, crate::specs::Sound::IsSound))]
     fn take(self, alloc: Global, number: u32, row: &ByteRecord) -> Result<TraceStage, TraceFault> {
         match self {
             TraceStage::Header => {

@@ -19,5 +19,8 @@ fn numbers_have_one_spelling(rt: HostRuntime) {
     ] {
         assert_eq!(rt; read_number(text.as_bytes(), most), want, "{text:?}");
     }
-    assert_eq!(rt; read_number(b"18446744073709551615", u64::MAX), Some(u64::MAX));
+    assert_eq!(rt;
+        read_number(b"18446744073709551615", u64::MAX),
+        Some(u64::MAX)
+    );
 }

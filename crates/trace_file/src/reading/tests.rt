@@ -9,7 +9,8 @@ const HEADER: &str = "camtrace1,a,b,c,d,e,f,g\n";
 // A header, an adapter, a device and a lane.
 const FRAME: &str = "camtrace1,a,b,c,d,e,f,g\nsim,1,,,,,,\ndev,0,1,0,1,,,\nlane,0,,,,,,\n";
 
-const ONE_COMMAND: &str = "camtrace1,a,b,c,d,e,f,g\nsim,1,,,,,,\ndev,0,1,0,1,,,\nlane,0,,,,,,\nsubmit,0,0,1152,4,none,,\nsend,0,0,,,,,\ndone,0,01,00,,,,\n";
+const ONE_COMMAND: &str =
+    "camtrace1,a,b,c,d,e,f,g\nsim,1,,,,,,\ndev,0,1,0,1,,,\nlane,0,,,,,,\nsubmit,0,0,1152,4,none,,\nsend,0,0,,,,,\ndone,0,01,00,,,,\n";
 
 const NO_FLAGS: Flags = Flags {
     qfreeze: false,
@@ -65,7 +66,11 @@ fn reads_one_command_however_it_is_quoted(rt: HostRuntime) -> Result<(), Fail> {
     ] {
         let history = read(rt.alloc(), text)?;
         assert_eq!(rt; history.config().adapters(), [1].as_slice(), "{text}");
-        assert_eq!(rt; history.config().devices(), [device(1, 1)].as_slice(), "{text}");
+        assert_eq!(rt;
+            history.config().devices(),
+            [device(1, 1)].as_slice(),
+            "{text}"
+        );
         assert_eq!(rt; history.config().lanes(), [0].as_slice(), "{text}");
         assert_eq!(rt; history.events(), want.as_slice(), "{text}");
     }
@@ -79,20 +84,35 @@ fn reads_two_devices_one_of_them_frozen(rt: HostRuntime) -> Result<(), Fail> {
         "camtrace1,a,b,c,d,e,f,g\nsim,1,,,,,,\ndev,0,1,0,1,,,\ndev,0,2,0,1,,,\nlane,0,,,,,,\nsubmit,0,0,896,4,none,,\nsubmit,0,1,1152,4,none,,\nsend,0,0,,,,,\ndone,0,01,00,,,,\ntick,,,,,,,\nfreeze,1,1,,,,,\ntick,,,,,,,\ntick,,,,,,,\ntick,,,,,,,\nrelease,1,1,,,,,\nsend,0,1,,,,,\ndone,1,01,00,,,,\n",
     )?;
     let good = outcome(1, 0, b"");
-    assert_eq!(rt; history.config().devices(), [device(1, 1), device(2, 1)].as_slice());
+    assert_eq!(rt;
+        history.config().devices(),
+        [device(1, 1), device(2, 1)].as_slice()
+    );
     let want = [
         submit(0, 896),
         submit(1, 1152),
         Event::Send { lane: 0, ccb: 0 },
-        Event::Done { ccb: 0, outcome: good },
+        Event::Done {
+            ccb: 0,
+            outcome: good,
+        },
         Event::Tick,
-        Event::FreezeDev { device: 1, count: 1 },
+        Event::FreezeDev {
+            device: 1,
+            count: 1,
+        },
         Event::Tick,
         Event::Tick,
         Event::Tick,
-        Event::ReleaseDev { device: 1, count: 1 },
+        Event::ReleaseDev {
+            device: 1,
+            count: 1,
+        },
         Event::Send { lane: 0, ccb: 1 },
-        Event::Done { ccb: 1, outcome: good },
+        Event::Done {
+            ccb: 1,
+            outcome: good,
+        },
     ];
     assert_eq!(rt; history.events(), want.as_slice());
     Ok(())
@@ -134,14 +154,20 @@ fn reads_every_kind_of_row(rt: HostRuntime) -> Result<(), Fail> {
             outcome: outcome(5, 0, b""),
         },
         Event::Requeue { ccb: 0 },
-        Event::ReleaseDev { device: 0, count: 1 },
+        Event::ReleaseDev {
+            device: 0,
+            count: 1,
+        },
         Event::FreezeSim { sim: 0, count: 1 },
         Event::ReleaseSim { sim: 0 },
         Event::Adjust {
             device: 0,
             openings: 1,
         },
-        Event::FreezeDev { device: 0, count: 3 },
+        Event::FreezeDev {
+            device: 0,
+            count: 3,
+        },
         Event::Tick,
     ];
     assert_eq!(rt; history.events(), want.as_slice());
@@ -157,12 +183,28 @@ fn names_the_first_record_that_fails(rt: HostRuntime) -> Result<(), Fail> {
         ("", "camtrace1,a,b,c,d,e,f\n", BadHeader),
         ("", "camtrace2,a,b,c,d,e,f,g\n", BadHeader),
         (HEADER, "", BadConfig(2, ConfigFault::NoAdapters)),
-        (HEADER, "tick,,,,,,,\n", BadConfig(2, ConfigFault::NoAdapters)),
+        (
+            HEADER,
+            "tick,,,,,,,\n",
+            BadConfig(2, ConfigFault::NoAdapters),
+        ),
         (HEADER, "dev,0,1,0,x,,,\n", BadField(2, 5)),
         (HEADER, "disk,0,1,0,1,,,\n", BadRecord(2)),
-        (HEADER, "sim,0,,,,,,\n", BadConfig(2, ConfigFault::BadOpenings)),
-        (HEADER, "sim,1,,,,,,\nlane,0,,,,,,\ndev,0,1,0,1,,,\n", BadRecord(4)),
-        (HEADER, "sim,1,,,,,,\ndev,300,1,0,1,,,\n", BadConfig(3, ConfigFault::NoAdapter)),
+        (
+            HEADER,
+            "sim,0,,,,,,\n",
+            BadConfig(2, ConfigFault::BadOpenings),
+        ),
+        (
+            HEADER,
+            "sim,1,,,,,,\nlane,0,,,,,,\ndev,0,1,0,1,,,\n",
+            BadRecord(4),
+        ),
+        (
+            HEADER,
+            "sim,1,,,,,,\ndev,300,1,0,1,,,\n",
+            BadConfig(3, ConfigFault::NoAdapter),
+        ),
         (HEADER, "sim,1,,,,,,\ndev,0,65536,0,1,,,\n", BadField(3, 3)),
         (HEADER, "sim,1,,,,,,\ndev,0,1,16384,1,,,\n", BadField(3, 4)),
         (FRAME, "sim,1,,,,,,\n", BadRecord(5)),
@@ -176,7 +218,11 @@ fn names_the_first_record_that_fails(rt: HostRuntime) -> Result<(), Fail> {
         (FRAME, "done,0,0C,00,,,,\n", BadField(5, 3)),
         (FRAME, "done,0,01,0,,,,\n", BadField(5, 4)),
         (FRAME, "done,0,01,00,7,,,\n", BadField(5, 5)),
-        (FRAME, "done,0,01,00,00000000000000000000000000000000000000,,,\n", BadField(5, 5)),
+        (
+            FRAME,
+            "done,0,01,00,00000000000000000000000000000000000000,,,\n",
+            BadField(5, 5),
+        ),
         (FRAME, "submit,0,0,1152,4,none,,\nsend,", BadRecord(6)),
     ] {
         let text = format!(in rt.alloc(); "{front}{rest}")?;

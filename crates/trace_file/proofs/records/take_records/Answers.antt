@@ -35,8 +35,7 @@ loop-row-preserved g c =
     let old = c.loop-row.row-iterator.rdr in
     let new = c.next.new.self.rdr in
     let m = record_more (λ (t : Bor (List ℕ)). Some t.now) old new (fields_of c.in-Ok.row) inv.5 inv.3 inv.6 s.0 in
-    let took = took_ok _ _ _ _ c.take.ensures.value c.in_ok-stage.was in
-    (
+    let took = took_ok _ _ _ _ c.take.ensures.value c.in_ok-stage.was in (
       s.0.3 ∙ inv.0,
       inl s.1,
       s.2,
@@ -56,8 +55,8 @@ returns-in_err-stage-clause-value g c =
     let m = record_more (λ (t : Bor (List ℕ)). Some t.now) old new (fields_of c.in-Ok.row) inv.5 inv.3 inv.6 s.0 in
     let p = err_from_is_err_and c.from_residual.result c.from_residual.ensures.1 in
     rw (p.1, p.2) (λ other.
-        sym (left_fault g.S.Stage.step c.args.first (records_in c.args.text.now) c.loop-row.number c.loop-row.stage old.state inv.5 (length c.args.text.now) (fields_of c.in-Ok.row, new.state, m.0) _ inv.7 m.2
-        (took_err _ _ _ _ c.take.ensures.value c.in_err-stage.was (λ k. other (ap (λ (x : TraceFault). Err x) k)))))
+    sym (left_fault g.S.Stage.step c.args.first (records_in c.args.text.now) c.loop-row.number c.loop-row.stage old.state inv.5 (length c.args.text.now) (fields_of c.in-Ok.row, new.state, m.0) _ inv.7 m.2
+    (took_err _ _ _ _ c.take.ensures.value c.in_err-stage.was (λ k. other (ap (λ (x : TraceFault). Err x) k)))))
 
 pub returns-clause-value : goal.returns-clause-value
 returns-clause-value g c = λ _.

@@ -8,7 +8,8 @@ use std::io::{Read, Write};
 use std::test::Fail;
 use trace_file::TraceFault;
 
-const TRACE: &[u8] = b"camtrace1,a,b,c,d,e,f,g\nsim,1,,,,,,\ndev,0,1,0,1,,,\nlane,0,,,,,,\nsubmit,0,0,1152,4,none,,\nsend,0,0,,,,,\ndone,0,01,00,,,,\n";
+const TRACE: &[u8] =
+    b"camtrace1,a,b,c,d,e,f,g\nsim,1,,,,,,\ndev,0,1,0,1,,,\nlane,0,,,,,,\nsubmit,0,0,1152,4,none,,\nsend,0,0,,,,,\ndone,0,01,00,,,,\n";
 
 const LINES: &[u8] = b"camcheck 1\ncommands 1\nstays 1\nrounds 1\nlive 0\n";
 
@@ -86,7 +87,11 @@ fn each_read_may_fail(rt: HostRuntime) {
     let needed = TRACE.len().div_ceil(10) + 1;
     for reads in 0..needed {
         let (answer, text) = checked(rt.alloc(), TRACE, 10, reads);
-        assert_eq!(rt; answer, Err(AuditFault::Trace(TraceFault::ReadFailed)), "after {reads}");
+        assert_eq!(rt;
+            answer,
+            Err(AuditFault::Trace(TraceFault::ReadFailed)),
+            "after {reads}"
+        );
         assert!(rt; text.is_empty());
     }
     let (answer, _text) = checked(rt.alloc(), TRACE, 10, needed);
@@ -115,8 +120,16 @@ fn each_write_may_fail(rt: HostRuntime) -> Result<(), Fail> {
                 room,
                 fails,
             };
-            let answer = run_check(rt.alloc(), &mut Watched::new(TRACE), &mut Watched::new(&mut out));
-            assert_eq!(rt; answer, Err(AuditFault::WriteFailed), "with room for {room}");
+            let answer = run_check(
+                rt.alloc(),
+                &mut Watched::new(TRACE),
+                &mut Watched::new(&mut out),
+            );
+            assert_eq!(rt;
+                answer,
+                Err(AuditFault::WriteFailed),
+                "with room for {room}"
+            );
             assert_eq!(rt; out.taken.as_slice(), &LINES[..room]);
         }
     }

@@ -11,6 +11,9 @@ use trace_file::TraceFault;
 const TRACE: &[u8] =
     b"camtrace1,a,b,c,d,e,f,g\nsim,1,,,,,,\ndev,0,1,0,1,,,\nlane,0,,,,,,\nsubmit,0,0,1152,4,none,,\nsend,0,0,,,,,\ndone,0,01,00,,,,\n";
 
+const FROZEN: &[u8] =
+    b"camtrace1,a,b,c,d,e,f,g\nsim,1,,,,,,\ndev,0,1,0,1,,,\ndev,0,2,0,1,,,\nlane,0,,,,,,\nsubmit,0,0,896,4,none,,\nsubmit,0,1,1152,4,none,,\nsend,0,0,,,,,\ndone,0,01,00,,,,\ntick,,,,,,,\nfreeze,1,1,,,,,\ntick,,,,,,,\ntick,,,,,,,\ntick,,,,,,,\nrelease,1,1,,,,,\nsend,0,1,,,,,\ndone,1,01,00,,,,\n";
+
 const LINES: &[u8] = b"camcheck 1\ncommands 1\nstays 1\nrounds 1\nlive 0\n";
 
 /// Gives a few bytes a read, until the read that fails.
@@ -100,13 +103,15 @@ fn each_read_may_fail(rt: HostRuntime) {
 
 #[test]
 fn each_front_of_a_trace_is_answered_in_whole(rt: HostRuntime) {
-    for end in 0..TRACE.len() {
-        let (answer, text) = checked(rt.alloc(), &TRACE[..end], 4096, usize::MAX);
-        if answer.is_err() {
-            assert!(rt; text.is_empty(), "of {end} bytes");
-        } else {
-            assert!(rt; text.starts_with(b"camcheck 1\n"), "of {end} bytes");
-            assert!(rt; text.ends_with(b"live 0\n"), "of {end} bytes");
+    for trace in [TRACE, FROZEN] {
+        for end in 0..trace.len() {
+            let (answer, text) = checked(rt.alloc(), &trace[..end], 4096, usize::MAX);
+            if answer.is_err() {
+                assert!(rt; text.is_empty(), "of {end} bytes");
+            } else {
+                assert!(rt; text.starts_with(b"camcheck 1\n"), "of {end} bytes");
+                assert!(rt; text.ends_with(b"\n"), "of {end} bytes");
+            }
         }
     }
 }

@@ -1,5 +1,5 @@
 -- what is legal is what isn't refused
-use Rattle.std.proofs.Common.{◌≡◌, ℕ, Bool, true, false, List, [], ◌∷◌, length, refl, sym, ap, ◌∙◌, arith, Some, None}
+use Rattle.std.proofs.Common.{Option, ◌≡◌, ℕ, Bool, true, false, List, [], ◌∷◌, length, refl, sym, ap, ◌∙◌, arith, Some, None}
 use Rattle.std.specs.Prelude.{not, ◌&&◌, nat_lt, nat_le, is_none}
 use Rattle.std.specs.List.{list_all}
 use Rattle.std.specs.Option.{option_map_or}
@@ -72,3 +72,11 @@ legal-unrefused rules c before event =
 -- what no cause refuses is legal
 pub legal-none : (rules : Rules) (c : Topology) (before : List Event) (event : Event) → refusal rules c before event ≡ None → is_legal_event rules c (before, event) ≡ true
 legal-none rules c before event h = legal-unrefused rules c before event ∙ ap is_none h
+
+-- what is legal no cause refuses
+pub none-legal : (rules : Rules) (c : Topology) (before : List Event) (event : Event) → is_legal_event rules c (before, event) ≡ true → refusal rules c before event ≡ None
+none-legal rules c before event h = none-is_none (refusal rules c before event) (sym (legal-unrefused rules c before event) ∙ h)
+  where
+    none-is_none : (o : Option Refusal) → is_none o ≡ true → o ≡ None
+    none-is_none None g = refl
+    none-is_none (Some r) g = absurd cc

@@ -5,3 +5,5 @@ pub mod NextLemmas
 pub mod LegalLemmas
 pub mod SendLemmas
 pub mod LawLemmas
+pub mod LimitLemmas
+pub mod RangeLemmas

@@ -17,6 +17,7 @@ use Rattle.event_log.specs.Head.{is_on, has_opening, adapter_has_opening, is_rea
 use Rattle.event_log.specs.declared.event.Event.{Event}
 use Rattle.event_log.specs.declared.submission.Submission.{Submission}
 use Rattle.event_log.specs.declared.passage.Passage.{Passage}
+use Rattle.cam_event.specs.Laws.{is_stay_of}
 use Rattle.cam_event.specs.Refusals.{device_of}
 use Rattle.cam_event.proofs.TestLemmas.{IsIn, in_found, in_filter, passes-all, list_any-with, list_all-filter, list_all-filtered}
 use Rattle.cam_event.proofs.LeastLemmas.{is_some-least_by-filter}
@@ -29,9 +30,9 @@ of_its_ccb-waiting events = list_all-filtered (is_unsent events) (is_of_its_ccb 
 
 -- the device of a stay's CCB is the stay's
 pub device-of_its_ccb : (events : List Event) (p : Passage) → is_of_its_ccb events p ≡ true → device_of events p.ccb ≡ p.device
-device-of_its_ccb events p h = elim (submission events p.ccb) as (λ o. is_some_and (λ (s : Submission). s.device == p.device) o ≡ true → option_map_or (λ (s : Submission). s.device) o 0 ≡ p.device) [
+device-of_its_ccb events p h = elim (submission events p.ccb) as (λ o. is_some_and (is_stay_of p) o ≡ true → option_map_or (λ (s : Submission). s.device) o 0 ≡ p.device) [
   | None ↦ λ g. absurd cc
-  | Some s ↦ λ g. eqb-true s.device p.device g
+  | Some s ↦ λ g. eqb-true s.device p.device (and_parts (s.device == p.device) (s.priority == p.priority) g).0
 ] h
 
 -- the first of a device's queue is one of its stays, and queued

@@ -1,6 +1,5 @@
 -- a stay is of a CCB that was submitted, and at that CCB's device
 use Rattle.std.proofs.Common.{length-append, ◌≡◌, ℕ, Bool, true, List, [], ◌∷◌, ◌++◌, length, refl, sym, ap, ◌∙◌, arith, append_assoc, Option, Some, None, slice_get}
-use Rattle.std.specs.Prelude.{◌==◌}
 use Rattle.std.specs.List.{list_all, filter_map}
 use Rattle.std.specs.Option.{option_map_or}
 use Rattle.std.proofs.lemmas.List.Elements.{filter_map-append}
@@ -17,10 +16,11 @@ use Rattle.event_log.specs.declared.event.Event.{Event}
 use Rattle.event_log.specs.declared.event.Event.TheVariants.{Submit, Send, Done, Requeue, Finish, FreezeDev, ReleaseDev, FreezeSim, ReleaseSim, Adjust, Tick}
 use Rattle.event_log.specs.declared.submission.Submission.{Submission}
 use Rattle.event_log.specs.declared.passage.Passage.{Passage}
+use Rattle.cam_event.specs.Laws.{is_stay_of}
 
--- the stay's CCB was submitted to the stay's device
+-- the stay's CCB was submitted with the stay's device and priority
 abbrev pub is_of_its_ccb : List Event → Passage → Bool
-is_of_its_ccb events p = is_some_and (λ (s : Submission). s.device == p.device) (submission events p.ccb)
+is_of_its_ccb events p = is_some_and (is_stay_of p) (submission events p.ccb)
 
 pub submissions-append : (xs ys : List Event) → submissions (xs ++ ys) ≡ submissions xs ++ submissions ys
 unfolding submissions
@@ -47,8 +47,9 @@ unfolding submissions
 submission-seam before after event s e =
     rw filter_map-append (rw e (slice_get-seam (submissions before) (submissions after) s))
 
-of_its_ccb-from : (events : List Event) (p : Passage) (ccb : ℕ) (s : Submission) → submission events ccb ≡ Some s → p.ccb ≡ ccb → p.device ≡ s.device → is_of_its_ccb events p ≡ true
-of_its_ccb-from events p ccb s e same_ccb same_device = rw (same_ccb, e) (eq-eqb s.device p.device (sym same_device))
+of_its_ccb-from : (events : List Event) (p : Passage) (ccb : ℕ) (s : Submission) → submission events ccb ≡ Some s → p.ccb ≡ ccb → p.device ≡ s.device → p.priority ≡ s.priority → is_of_its_ccb events p ≡ true
+of_its_ccb-from events p ccb s e same_ccb same_device same_priority =
+    rw (same_ccb, e) (and_from _ _ (eq-eqb s.device p.device (sym same_device)) (eq-eqb s.priority p.priority (sym same_priority)))
 
 abbrev ccb_of : Option Passage → ℕ
 ccb_of o = option_map_or (λ (p : Passage). p.ccb) o 0
@@ -56,17 +57,20 @@ ccb_of o = option_map_or (λ (p : Passage). p.ccb) o 0
 abbrev device_at : Option Passage → ℕ
 device_at o = option_map_or (λ (p : Passage). p.device) o 0
 
+abbrev priority_of : Option Passage → ℕ
+priority_of o = option_map_or (λ (p : Passage). p.priority) o 0
+
 -- the stay that an event begins
 of_its_ccb-passage_of : (before after : List Event) (event : Event) (p : Passage) → passage_of (before, event) ≡ Some p → is_of_its_ccb (before ++ event ∷ after) p ≡ true
 of_its_ccb-passage_of before after (Submit driver device priority retries flags) p h =
     let s : Submission = record { driver = driver; device = device; priority = priority; retries = retries; flags = flags } in
     let e = submission-seam before after (Submit driver device priority retries flags) s refl in
-    of_its_ccb-from _ p (commands before) s e (sym (ap ccb_of h)) (sym (ap device_at h))
+    of_its_ccb-from _ p (commands before) s e (sym (ap ccb_of h)) (sym (ap device_at h)) (sym (ap priority_of h))
 of_its_ccb-passage_of before after (Requeue ccb) p h =
     elim (submission before ccb) as (λ o. submission before ccb ≡ o → is_of_its_ccb (before ++ Requeue ccb ∷ after) p ≡ true) [
       | None ↦ λ e. let g = rw e at h in absurd cc
       | Some s ↦ λ e. let g = rw e at h in
-          of_its_ccb-from _ p ccb s (submission-append before (Requeue ccb ∷ after) ccb s e) (sym (ap ccb_of g)) (sym (ap device_at g))
+          of_its_ccb-from _ p ccb s (submission-append before (Requeue ccb ∷ after) ccb s e) (sym (ap ccb_of g)) (sym (ap device_at g)) (sym (ap priority_of g))
     ] refl
 of_its_ccb-passage_of before after (Send lane ccb) p h = absurd cc
 of_its_ccb-passage_of before after (Done ccb outcome) p h = absurd cc

@@ -1,5 +1,5 @@
 -- what holds of all legal events
-use Rattle.std.specs.Prelude.{◌≡◌, ℕ, ◌==◌, Bool, true, false, ◌&&◌, List, Option, filter, is_none, IsTrue}
+use Rattle.std.specs.Prelude.{◌≡◌, ℕ, ◌==◌, Bool, true, false, ◌&&◌, nat_le, List, Option, filter, is_none, IsTrue}
 use Rattle.std.specs.List.{list_all}
 use Rattle.std.specs.Option.{option_map}
 use Rattle.cam_types.specs.Lists.{moments}
@@ -8,11 +8,16 @@ use Rattle.sense_class.specs.Classes.{classify}
 use Rattle.sense_class.specs.declared.class.Class as class
 use Rattle.sense_class.specs.declared.class.Class.TheVariants.{CountedRequeue}
 use Rattle.event_log.specs.Event.{is_some_and, is_requeue_of}
-use Rattle.event_log.specs.Counts.{last_result, is_counted_requeue, counted_requeues, retries_of, freeze_count, adapter_freezes}
+use Rattle.event_log.specs.Stays.{passages}
+use Rattle.event_log.specs.Counts.{submission, last_result, is_counted_requeue, counted_requeues, retries_of, freeze_count, adapter_freezes}
 use Rattle.event_log.specs.Head.{is_on}
+use Rattle.cam_types.specs.declared.priority.TheConstants.{MOST_PRIORITY}
+use Rattle.event_log.specs.declared.submission.Submission.{Submission}
+use Rattle.event_log.specs.declared.passage.Passage.{Passage}
+use Rattle.cam_event.specs.declared.most.TheConstants.{MOST_RETRIES}
 use Rattle.event_log.specs.declared.event.Event.{Event}
 use Rattle.event_log.specs.declared.event.Event.TheVariants.{Send}
-use Rattle.cam_event.specs.Legal.{Rules, history_rules, IsWithinHistory, names_lane, names_ccb, is_legal_event, is_legal}
+use Rattle.cam_event.specs.Legal.{Rules, history_rules, IsWithinHistory, names_device, names_lane, names_ccb, is_legal_event, is_legal}
 use Rattle.cam_event.specs.Refusals.{device_of, lane_adapter, have_openings, refusal}
 
 -- What each kind of event asks and the causes that refuse it say the same.
@@ -64,3 +69,22 @@ abbrev pub NarrowerIsLegal : Type 0
 NarrowerIsLegal =
     (rules : Rules) (c : Topology) (events : List Event)
     → IsWithinHistory rules → IsTrue (is_legal rules c events) → IsTrue (is_legal history_rules c events)
+
+-- it names a device, and its priority and retries are within their ranges
+abbrev pub is_in_range : Topology → Submission → Bool
+is_in_range c s = names_device c s.device && nat_le s.priority MOST_PRIORITY && nat_le s.retries MOST_RETRIES
+
+-- the stay is of a CCB that was submitted with its device and priority
+abbrev pub is_stay_of : Passage → Submission → Bool
+is_stay_of p s = (s.device == p.device) && (s.priority == p.priority)
+
+-- the stay's CCB was submitted, in range, with the stay's device and priority
+abbrev pub is_stay_in_range : Topology → List Event → Passage → Bool
+is_stay_in_range c events p =
+    is_some_and (λ (s : Submission). is_in_range c s && is_stay_of p s) (submission events p.ccb)
+
+-- Each stay of a legal list is of a CCB that was submitted in range, with its device and priority.
+abbrev pub StaysAreInRange : Type 0
+StaysAreInRange =
+    (rules : Rules) (c : Topology) (events : List Event)
+    → IsTrue (is_legal rules c events) → IsTrue (list_all (is_stay_in_range c events) (passages events))

@@ -27,7 +27,7 @@ impl Model for History {
 }
 
 impl History {
-    ghost use Rattle.cam_types.specs.declared.limits.TheConstants.{MOST_EVENTS};
+    ghost use Rattle.cam_types.specs.declared.limits.TheConstants.{MOST_ROUNDS, MOST_STAYS, MOST_EVENTS};
     ghost use Rattle.event_log.specs.Counts.{round, commands};
     ghost use Rattle.event_log.specs.Stays.{passages, unsent};
     ghost use Rattle.event_log.specs.Live.{live_cost};
@@ -85,9 +85,12 @@ impl History {
         self.log.events()
     }
 
-    /// The last round so far, the first of which is 1.
+    /// The last round so far, from 1 to 128.
+    #[tactic(auto, using(crate::proofs::LimitLemmas::round_first, crate::proofs::LimitLemmas::round_most))]
     pub fn round(&self) -> u32
-        ensures { result ≡ round self.now.events }
+        ensures same { result ≡ round self.now.events }
+        ensures first { 1 ≤ result }
+        ensures most { result ≤ MOST_ROUNDS }
     {
         self.log.round()
     }
@@ -99,9 +102,11 @@ impl History {
         self.log.commands()
     }
 
-    /// How many stays began.
+    /// How many stays began, at most 1,024.
+    #[tactic(auto, using(crate::proofs::LimitLemmas::stays_most))]
     pub fn stay_count(&self) -> u32
-        ensures { result ≡ length (passages self.now.events) }
+        ensures same { result ≡ length (passages self.now.events) }
+        ensures most { result ≤ MOST_STAYS }
     {
         self.log.stay_count()
     }

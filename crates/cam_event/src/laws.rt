@@ -1,4 +1,4 @@
-ghost use Rattle.cam_event.specs.Laws.{LegalIsUnrefused, SendsStandFree, RequeuesCountByClass, NarrowerIsLegal};
+ghost use Rattle.cam_event.specs.Laws.{LegalIsUnrefused, SendsStandFree, RequeuesCountByClass, NarrowerIsLegal, StaysAreInRange};
 
 /// By any rules, what each kind of event asks of those before it is what no cause of a refusal denies.
 pub fn legal_is_unrefused()
@@ -18,4 +18,10 @@ pub fn requeues_count_by_class()
 /// What is legal by a transport's own limits is legal in a history.
 pub fn narrower_is_legal()
     ensures { NarrowerIsLegal }
+{}
+
+/// In each legal list a stay is of a CCB that was submitted to a device of the configuration with a priority and
+/// retries that there are.
+pub fn stays_are_in_range()
+    ensures { StaysAreInRange }
 {}

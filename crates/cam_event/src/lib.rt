@@ -3,7 +3,10 @@
 
 pub use event_log::{Event, Stay};
 pub use history::History;
-pub use laws::{legal_is_unrefused, narrower_is_legal, requeues_count_by_class, sends_stand_free};
+pub use laws::{
+    legal_is_unrefused, narrower_is_legal, requeues_count_by_class, sends_stand_free,
+    stays_are_in_range,
+};
 pub use most::{MOST_FREEZES, MOST_RETRIES};
 pub use refusal::{PushFault, Refusal};
 

@@ -1,3 +1,5 @@
+//! What refusals ask of a configuration and a log.
+
 ghost use Rattle.std.specs.Prelude.{◌≡◌};
 ghost use Rattle.cam_types.specs.Topology.{are_openings};
 ghost use Rattle.event_log.specs.Head.{is_on};
@@ -8,26 +10,28 @@ use crate::most::MOST_FREEZES;
 use cam_types::{Config, MOST_OPENINGS, MOST_STAYS};
 use event_log::Log;
 
-// Questions to a configuration and a log of which refusals are made.
-
+/// Whether there is a device of that number.
 pub fn names_device(config: &Config, device: u32) -> bool
     ensures { result ≡ names_device config.now device }
 {
     (device as usize) < config.devices().len()
 }
 
+/// Whether there is an adapter of that number.
 pub fn names_adapter(config: &Config, adapter: u32) -> bool
     ensures { result ≡ names_adapter config.now adapter }
 {
     (adapter as usize) < config.adapters().len()
 }
 
+/// Whether there is a lane of that number.
 pub fn names_lane(config: &Config, lane: u32) -> bool
     ensures { result ≡ names_lane config.now lane }
 {
     (lane as usize) < config.lanes().len()
 }
 
+/// Whether a CCB of that number was submitted.
 pub fn names_ccb(log: &Log, ccb: u32) -> bool
     ensures { result ≡ names_ccb log.now ccb }
 {
@@ -41,6 +45,7 @@ pub fn is_count(count: u32) -> bool
     0 < count && count <= MOST_FREEZES
 }
 
+/// Whether a device may have so many openings.
 pub fn are_openings(openings: u32) -> bool
     ensures { result ≡ are_openings openings }
 {

@@ -1,3 +1,5 @@
+//! Why a history refuses an event: for each kind the first of its causes that holds.
+
 ghost use Rattle.std.specs.Prelude.{◌≡◌};
 ghost use Rattle.cam_event.specs.Legal.{history_rules};
 ghost use Rattle.cam_event.specs.Refusals.{refusal, first_cause, submit_causes, turn_causes, send_causes, done_causes, requeue_causes, finish_causes, freeze_dev_causes, release_dev_causes, freeze_sim_causes, release_sim_causes, adjust_causes, tick_causes};
@@ -25,21 +27,21 @@ pub fn refusal(config: &Config, log: &Log, event: &Event) -> Option<Refusal>
             priority,
             retries,
             ..
-        } => refuse_submit(config, log, device, priority, retries),
-        Event::Send { lane, ccb } => refuse_send(config, log, lane, ccb),
-        Event::Done { ccb, outcome } => refuse_done(log, ccb, outcome),
-        Event::Requeue { ccb } => refuse_requeue(log, ccb),
-        Event::Finish { ccb } => refuse_finish(log, ccb),
-        Event::FreezeDev { device, count } => refuse_freeze_dev(config, log, device, count),
-        Event::ReleaseDev { device, count } => refuse_release_dev(config, log, device, count),
-        Event::FreezeSim { sim, count } => refuse_freeze_sim(config, log, sim, count),
-        Event::ReleaseSim { sim } => refuse_release_sim(config, log, sim),
-        Event::Adjust { device, openings } => refuse_adjust(config, device, openings),
-        Event::Tick => refuse_tick(log),
+        } => submit_refusal(config, log, device, priority, retries),
+        Event::Send { lane, ccb } => send_refusal(config, log, lane, ccb),
+        Event::Done { ccb, outcome } => done_refusal(log, ccb, outcome),
+        Event::Requeue { ccb } => requeue_refusal(log, ccb),
+        Event::Finish { ccb } => finish_refusal(log, ccb),
+        Event::FreezeDev { device, count } => freeze_dev_refusal(config, log, device, count),
+        Event::ReleaseDev { device, count } => release_dev_refusal(config, log, device, count),
+        Event::FreezeSim { sim, count } => freeze_sim_refusal(config, log, sim, count),
+        Event::ReleaseSim { sim } => release_sim_refusal(config, log, sim),
+        Event::Adjust { device, openings } => adjust_refusal(config, device, openings),
+        Event::Tick => tick_refusal(log),
     }
 }
 
-fn refuse_submit(
+fn submit_refusal(
     config: &Config,
     log: &Log,
     device: u32,
@@ -61,7 +63,7 @@ fn refuse_submit(
     }
 }
 
-fn refuse_send(config: &Config, log: &Log, lane: u32, ccb: u32) -> Option<Refusal>
+fn send_refusal(config: &Config, log: &Log, lane: u32, ccb: u32) -> Option<Refusal>
     ensures { result ≡ first_cause (send_causes config.now log.now lane ccb) }
 {
     if !names_lane(config, lane) {
@@ -73,12 +75,12 @@ fn refuse_send(config: &Config, log: &Log, lane: u32, ccb: u32) -> Option<Refusa
     } else {
         let device = device_of(log, ccb);
         let adapter = lane_adapter(config, lane);
-        refuse_turn(config, log, device, adapter, ccb)
+        turn_refusal(config, log, device, adapter, ccb)
     }
 }
 
 // Why the CCB of this device isn't sent by a lane of this adapter: it may not be its turn.
-fn refuse_turn(config: &Config, log: &Log, device: u32, adapter: u32, ccb: u32) -> Option<Refusal>
+fn turn_refusal(config: &Config, log: &Log, device: u32, adapter: u32, ccb: u32) -> Option<Refusal>
     ensures { result ≡ first_cause (turn_causes config.now log.now device adapter ccb) }
 {
     if !is_on(config, adapter, device) {
@@ -96,7 +98,7 @@ fn refuse_turn(config: &Config, log: &Log, device: u32, adapter: u32, ccb: u32) 
     }
 }
 
-fn refuse_done(log: &Log, ccb: u32, outcome: Outcome) -> Option<Refusal>
+fn done_refusal(log: &Log, ccb: u32, outcome: Outcome) -> Option<Refusal>
     ensures { result ≡ first_cause (done_causes log.now ccb outcome) }
 {
     if !names_ccb(log, ccb) {
@@ -110,7 +112,7 @@ fn refuse_done(log: &Log, ccb: u32, outcome: Outcome) -> Option<Refusal>
     }
 }
 
-fn refuse_requeue(log: &Log, ccb: u32) -> Option<Refusal>
+fn requeue_refusal(log: &Log, ccb: u32) -> Option<Refusal>
     ensures { result ≡ first_cause (requeue_causes history_rules log.now ccb) }
 {
     if !names_ccb(log, ccb) {
@@ -126,7 +128,7 @@ fn refuse_requeue(log: &Log, ccb: u32) -> Option<Refusal>
     }
 }
 
-fn refuse_finish(log: &Log, ccb: u32) -> Option<Refusal>
+fn finish_refusal(log: &Log, ccb: u32) -> Option<Refusal>
     ensures { result ≡ first_cause (finish_causes log.now ccb) }
 {
     if !names_ccb(log, ccb) {
@@ -140,7 +142,7 @@ fn refuse_finish(log: &Log, ccb: u32) -> Option<Refusal>
     }
 }
 
-fn refuse_freeze_dev(config: &Config, log: &Log, device: u32, count: u32) -> Option<Refusal>
+fn freeze_dev_refusal(config: &Config, log: &Log, device: u32, count: u32) -> Option<Refusal>
     ensures { result ≡ first_cause (freeze_dev_causes config.now log.now device count) }
 {
     if !names_device(config, device) {
@@ -154,7 +156,7 @@ fn refuse_freeze_dev(config: &Config, log: &Log, device: u32, count: u32) -> Opt
     }
 }
 
-fn refuse_release_dev(config: &Config, log: &Log, device: u32, count: u32) -> Option<Refusal>
+fn release_dev_refusal(config: &Config, log: &Log, device: u32, count: u32) -> Option<Refusal>
     ensures { result ≡ first_cause (release_dev_causes config.now log.now device count) }
 {
     if !names_device(config, device) {
@@ -168,7 +170,7 @@ fn refuse_release_dev(config: &Config, log: &Log, device: u32, count: u32) -> Op
     }
 }
 
-fn refuse_freeze_sim(config: &Config, log: &Log, sim: u32, count: u32) -> Option<Refusal>
+fn freeze_sim_refusal(config: &Config, log: &Log, sim: u32, count: u32) -> Option<Refusal>
     ensures { result ≡ first_cause (freeze_sim_causes config.now log.now sim count) }
 {
     if !names_adapter(config, sim) {
@@ -182,7 +184,7 @@ fn refuse_freeze_sim(config: &Config, log: &Log, sim: u32, count: u32) -> Option
     }
 }
 
-fn refuse_release_sim(config: &Config, log: &Log, sim: u32) -> Option<Refusal>
+fn release_sim_refusal(config: &Config, log: &Log, sim: u32) -> Option<Refusal>
     ensures { result ≡ first_cause (release_sim_causes config.now log.now sim) }
 {
     if !names_adapter(config, sim) {
@@ -194,7 +196,7 @@ fn refuse_release_sim(config: &Config, log: &Log, sim: u32) -> Option<Refusal>
     }
 }
 
-fn refuse_adjust(config: &Config, device: u32, openings: u32) -> Option<Refusal>
+fn adjust_refusal(config: &Config, device: u32, openings: u32) -> Option<Refusal>
     ensures { result ≡ first_cause (adjust_causes config.now device openings) }
 {
     if !names_device(config, device) {
@@ -206,7 +208,7 @@ fn refuse_adjust(config: &Config, device: u32, openings: u32) -> Option<Refusal>
     }
 }
 
-fn refuse_tick(log: &Log) -> Option<Refusal>
+fn tick_refusal(log: &Log) -> Option<Refusal>
     ensures { result ≡ first_cause (tick_causes history_rules log.now) }
 {
     if log.has_in_flight() {

@@ -121,3 +121,49 @@ impl Kind {
         self == Kind::Counted
     }
 }
+
+#[cfg(test)]
+mod tests {
+    use super::*;
+    use cam_types::SenseBytes;
+
+    #[test]
+    fn classes_of_results(rt: HostRuntime) {
+        let cases: [(u8, u8, &[u8], Class); 6] = [
+            (0x01, 0x00, &[], Class::Complete),
+            (0x5b, 0x00, &[], Class::FreeRequeue),
+            (0x0c, 0x28, &[], Class::FreeRequeue),
+            (0x0b, 0x00, &[], Class::CountedRequeue),
+            (0x0c, 0x02, &[0x70, 0x00, 0x01], Class::Fail(Why::Recovered)),
+            (0x04, 0x00, &[], Class::Fail(Why::Other)),
+        ];
+        for (status, scsi, sense, class) in cases {
+            let outcome = Outcome {
+                status,
+                scsi,
+                sense: SenseBytes::first(sense),
+            };
+            let given = classify(&outcome, 0, 1);
+            assert_eq!(rt; given, class, "of status {status}");
+            assert_eq!(rt; given.asks_finish(), matches!(class, Class::Fail(_)));
+            assert_eq!(rt;
+                given.asks_requeue(),
+                matches!(class, Class::FreeRequeue | Class::CountedRequeue)
+            );
+            assert_eq!(rt;
+                kind_of(&outcome).is_counted(),
+                class == Class::CountedRequeue
+            );
+        }
+    }
+
+    #[test]
+    fn a_spent_ccb_fails(rt: HostRuntime) {
+        let timeout = Outcome {
+            status: 0x0b,
+            scsi: 0,
+            sense: SenseBytes::first(&[]),
+        };
+        assert_eq!(rt; classify(&timeout, 1, 1), Class::Fail(Why::Spent));
+    }
+}

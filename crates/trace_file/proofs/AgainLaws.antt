@@ -1,16 +1,13 @@
 -- The records of a history are read as that history.
-use Rattle.std.proofs.Common.{◌≡◌, ◌≢◌, ◌<◌, ◌≤◌, ◌+◌, ℕ, zero, suc, List, [], ◌∷◌, ◌++◌, length, map, Bool, true, false, cond, refl, sym, ap, ◌∙◌, subst, arith, rules, append_assoc, append-nil, length-append}
-use Rattle.std.specs.Prelude.{Option, Some, None, Result, Ok, Err, is_none, codes, not, nat_lt, nat_le, ◌==◌, ◌&&◌, ⊤, count_by}
-use Rattle.std.specs.List.{AllByRecursion, list_all, list_any}
+use Rattle.std.proofs.Common.{◌≡◌, ◌≢◌, ◌≤◌, ◌+◌, ℕ, List, [], ◌∷◌, ◌++◌, length, map, Bool, true, false, refl, sym, ap, ◌∙◌, append_assoc, append-nil}
+use Rattle.std.specs.Prelude.{Option, Some, None, Result, Ok, Err, ⊤}
+use Rattle.std.specs.List.{AllByRecursion, list_all}
 use Rattle.std.specs.Option.{option_or}
-use Rattle.std.proofs.lemmas.Bool.{and_parts, leb-true, leb-false, ltb-false, not-false, not-true}
+use Rattle.std.proofs.lemmas.Bool.{and_parts}
 use Rattle.csv.specs.Records.{field_at}
 use Rattle.cam_types.specs.Lists.{first_answer, moments_after}
-use Rattle.cam_types.specs.Topology.{address_fault, are_openings, is_same_address, item_fault}
-use Rattle.cam_types.specs.declared.config_fault.ConfigFault.TheVariants.{NoAdapters, TooMany, BadOpenings, NoAdapter, BadAddress, DoubleDevice}
-use Rattle.trace_file.proofs.HistoryLemmas.{legal_is_unrefused}
 use Rattle.event_log.specs.declared.event.Event.TheVariants as event
-use Rattle.trace_file.specs.Histories.{Topology, Device, Event, Past, ConfigFault, Refusal, adapter_fault, device_fault, lane_fault, refusal, config_fault, is_legal, is_legal_event}
+use Rattle.trace_file.specs.Histories.{Device, Event}
 use Rattle.trace_file.specs.declared.device_row.DeviceRow.{DeviceRow}
 use Rattle.trace_file.specs.declared.trace_fault.TraceFault.{TraceFault}
 use Rattle.trace_file.specs.declared.trace_stage.TraceStage.{TraceStage}
@@ -18,15 +15,15 @@ use Rattle.trace_file.specs.declared.trace_stage.TraceStage.TheVariants as stage
 use Rattle.trace_file.specs.declared.word.Word.{Word}
 use Rattle.trace_file.specs.declared.word.Word.TheVariants as word
 use Rattle.trace_file.specs.Fields.{Row, field_of}
-use Rattle.trace_file.specs.Reading.{add_adapter, add_device, add_event, add_lane, add_row, config_of, ended, has_letters, in_record, is_dev, is_header, is_lane, is_sim, lacks_adapters, past_of, placed, reading, row_step, stands, step}
-use Rattle.trace_file.specs.Records.{adapter_row, device_row, event_row, header, lane_row, padded, records_of}
-use Rattle.trace_file.specs.Rows.{device_at, event_at, most_number, one_number}
+use Rattle.trace_file.specs.Reading.{add_adapter, add_device, add_event, add_lane, add_row, in_record, is_dev, is_lane, is_sim, placed, row_step, stands, step}
+use Rattle.trace_file.specs.Records.{adapter_row, device_row, event_row, lane_row}
+use Rattle.trace_file.specs.Rows.{event_at, most_number}
 use Rattle.trace_file.specs.Steps.{◌>>=◌, taken}
-use Rattle.trace_file.specs.Trace.{FitsEvent, IsHistory}
-use Rattle.trace_file.specs.Words.{spelled, word_of}
+use Rattle.trace_file.specs.Trace.{FitsEvent}
+use Rattle.trace_file.specs.Words.{spelled}
 use Rattle.trace_file.proofs.FieldLaws.{word_again}
 use Rattle.trace_file.proofs.RowsAgain.{device_again, event_again, one_again, word_for}
-use Rattle.trace_file.proofs.StageLemmas.{bus_below, cond_none, few_adapters, step_behind}
+use Rattle.trace_file.proofs.StageLemmas.{step_behind}
 
 -- ---- a fact of each element beside those before it
 

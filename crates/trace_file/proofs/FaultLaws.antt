@@ -1,10 +1,9 @@
 -- The first record that fails, and its fault.
 use Rattle.std.proofs.Common.{◌≡◌, ◌≢◌, ◌+◌, ℕ, List, [], ◌∷◌, ◌++◌, length, Bool, true, false, cond, refl, sym, ap, ◌∙◌, subst, arith, add-zero}
 use Rattle.std.specs.Prelude.{Option, Some, None, Result, Ok, Err, ok_or, ⊤, codes, IfSome, IfOk, IfErr}
-use Rattle.std.specs.Io.KnownBytes.{Consumes}
 use Rattle.std.proofs.lemmas.List.{append-nil}
 use Rattle.cam_types.specs.Whole.{IsWhole}
-use Rattle.trace_file.specs.Histories.{ConfigFault, NoAdapters, Past, Refusal, adapter_fault, device_fault, lane_fault, refusal, Event}
+use Rattle.trace_file.specs.Histories.{ConfigFault, NoAdapters, Past, Refusal, Event}
 use Rattle.trace_file.specs.declared.device_row.DeviceRow.{DeviceRow}
 use Rattle.trace_file.specs.declared.trace_fault.TraceFault.{TraceFault}
 use Rattle.trace_file.specs.declared.trace_fault.TraceFault.TheVariants as fault
@@ -13,8 +12,8 @@ use Rattle.trace_file.specs.declared.trace_stage.TraceStage.TheVariants as stage
 use Rattle.trace_file.specs.declared.word.Word.{Word}
 use Rattle.trace_file.specs.declared.word.Word.TheVariants as word
 use Rattle.trace_file.specs.Fields.{Row}
-use Rattle.trace_file.specs.Reading.{add_adapter, add_device, add_event, add_lane, add_row, config_of, ended, in_record, is_header, lacks_adapters, past_of, placed, reading, row_step, step, unless_fault, unless_refused}
-use Rattle.trace_file.specs.Rows.{device_at, device_of, event_at, one_number}
+use Rattle.trace_file.specs.Reading.{add_adapter, add_device, add_event, add_lane, add_row, ended, in_record, is_header, lacks_adapters, placed, reading, row_step, step, unless_fault, unless_refused}
+use Rattle.trace_file.specs.Rows.{device_at, event_at, one_number}
 use Rattle.trace_file.specs.Sound.{IsSound}
 use Rattle.trace_file.specs.Steps.{◌>>=◌, taken}
 use Rattle.trace_file.specs.Text.{records_in}

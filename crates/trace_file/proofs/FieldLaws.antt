@@ -1,8 +1,6 @@
 -- A field that is read is spelled so, and what is spelled so is read.
-use Rattle.std.proofs.Common.{◌≡◌, ◌≢◌, ◌<◌, ◌≤◌, ◌^◌, ◌+◌, ◌-◌, ◌*◌, ◌/◌, ◌%◌, ℕ, zero, suc, List, [], ◌∷◌, ◌++◌, length, drop, replicate, All, Bool, true, false, cond, leb, ltb, refl, sym, ap, ◌∙◌, arith, rules}
-use Rattle.std.specs.Prelude.{Option, Some, None, option_map, option_and_then, Result, Ok, Err, ok_or, find, bytes_eq, decimal, nat_le, nat_lt, ◌==◌, ◌&&◌, IfSome, ⊤}
-use Rattle.std.specs.Char.{digit_char}
-use Rattle.std.proofs.lemmas.Bool.{cases_lt, cases_Bool, and_parts, leb-true, leb-false, le-leb, lt-leb, lt-ltb, le-ltb, eqb-true}
+use Rattle.std.proofs.Common.{◌≡◌, ◌≤◌, ◌+◌, ℕ, List, [], ◌∷◌, Bool, true, false, cond, refl, sym, ap, ◌∙◌, arith, rules}
+use Rattle.std.specs.Prelude.{Option, Some, None, Ok, ok_or, find, bytes_eq, decimal, IfSome}
 use Rattle.std.proofs.lemmas.Slice.Eq.{bytes_eq-Decides}
 use Rattle.cam_types.specs.Number.{number_of}
 use Rattle.cam_types.proofs.NumberLemmas.{number_of-spelled, number_of-decimal, number_of-within}
@@ -10,9 +8,8 @@ use Rattle.trace_file.specs.Histories.{Flags}
 use Rattle.trace_file.specs.declared.word.Word.{Word}
 use Rattle.trace_file.specs.declared.word.Word.TheVariants as word
 use Rattle.trace_file.specs.Words.{spelled, word_of, all_words}
-use Rattle.trace_file.specs.Records.{hex}
 use Rattle.trace_file.specs.Rows.{most_number}
-use Rattle.trace_file.specs.Fields.{Row, field_of, number_at, byte_at, sense_at, flags_at, byte_of, bytes_of, sense_of, flags_of, flags_text, flags_by, hex_byte, hex_value, unused, unused_from}
+use Rattle.trace_file.specs.Fields.{Row, field_of, number_at, flags_at, flags_of, flags_text, flags_by}
 
 -- what is found passes
 found_passes : {X : Type 0} (p : X → Bool) (xs : List X) (x : X) → find p xs ≡ Some x → p x ≡ true

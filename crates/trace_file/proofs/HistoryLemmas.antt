@@ -26,6 +26,11 @@ is_legal-push c events e =
     ∙ list_all-append (is_legal_event c) (moments events) ((events, e) ∷ [])
     ∙ ap (λ b. list_all (is_legal_event c) (moments events) && b) (and_true (is_legal_event c (events, e)))
 
+-- each event of a legal history is legal at its place
+pub is_legal-moments : (c : Topology) (events : List Event) → is_legal c events ≡ list_all (is_legal_event c) (moments events)
+unfolding legal_by
+is_legal-moments c events = refl
+
 -- an event is legal where nothing refuses it
 pub legal_is_unrefused : (c : Topology) (before : List Event) (e : Event) → is_legal_event c (before, e) ≡ is_none (refusal c before e)
 legal_is_unrefused c before e = legal-unrefused history_rules c before e

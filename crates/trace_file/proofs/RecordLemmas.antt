@@ -1,17 +1,17 @@
 -- The records of a text, one after the other.
 use Rattle.std.proofs.Common.{◌≡◌, ◌≢◌, ◌<◌, ◌≤◌, ◌+◌, ℕ, zero, suc, List, [], ◌∷◌, ◌++◌, length, Bool, true, false, cond, refl, sym, ap, ◌∙◌, add-one, arith}
-use Rattle.std.specs.Prelude.{Option, Some, None, Result, Ok, Err, ◌==◌, ◌&&◌, ◌||◌}
+use Rattle.std.specs.Prelude.{Option, Some, None, Result, Ok, Err, ◌==◌, ◌||◌}
 use Rattle.std.proofs.lemmas.Bool.{false≢true}
-use Rattle.csv.specs.Machine.{Read, after_end, ends_at_end, field_after, fields_after, in_field, is_end, next_record, start_field, start_record, step}
+use Rattle.csv.specs.Machine.{Read, ends_at_end, field_after, fields_after, in_field, is_end, next_record, start_field, start_record, step}
 use Rattle.csv.specs.Reading.{Reached, ReadRecord, is_bom, default_config, records, records_from, records_next, source_of, strip_bom}
 use Rattle.csv.specs.declared.reader.Reader.{Reader}
 use Rattle.csv.specs.declared.parser.State.{State}
 use Rattle.csv.specs.declared.parser.State.TheVariants as st
 use Rattle.csv.specs.declared.parser.Action.{Action}
 use Rattle.csv.specs.declared.parser.Action.TheVariants as act
-use Rattle.csv.proofs.ReadFacts.{rows-end, rows-more}
+use Rattle.csv.proofs.ReadFacts.{rows-more}
 use Rattle.trace_file.specs.Fields.{Row}
-use Rattle.trace_file.specs.Steps.{◌>>=◌, taken}
+use Rattle.trace_file.specs.Steps.{taken}
 
 -- ---- a record takes a byte at least, and the next one begins where none is open
 

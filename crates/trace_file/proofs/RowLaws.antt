@@ -1,24 +1,22 @@
 -- A record that is read is spelled so, and what is spelled so is read.
-use Rattle.std.proofs.Common.{◌≡◌, ◌≢◌, ◌<◌, ◌≤◌, ◌+◌, ◌-◌, ℕ, zero, suc, subst, List, [], ◌∷◌, ◌++◌, length, drop, replicate, Bool, true, false, cond, refl, sym, ap, ◌∙◌, arith, rules}
-use Rattle.std.specs.Prelude.{Result, Ok, Err, decimal, ◌==◌, ⊤, codes}
-use Rattle.std.specs.List.{AllByRecursion}
+use Rattle.std.proofs.Common.{◌≡◌, ◌<◌, ◌≤◌, ◌+◌, ℕ, subst, List, [], ◌∷◌, length, drop, replicate, Bool, true, false, cond, refl, sym, ap, ◌∙◌, arith}
+use Rattle.std.specs.Prelude.{Result, Ok, Err, decimal, ◌==◌, ⊤}
 use Rattle.std.proofs.lemmas.Bool.{eqb-true}
 use Rattle.std.proofs.lemmas.List.{length-drop, nil_from_length}
-use Rattle.csv.specs.Records.{field_at}
 use Rattle.event_log.specs.declared.event.Event.TheVariants as event
-use Rattle.trace_file.specs.Histories.{Device, Event, Flags, Outcome}
+use Rattle.trace_file.specs.Histories.{Event}
 use Rattle.trace_file.specs.declared.device_row.DeviceRow.{DeviceRow}
 use Rattle.trace_file.specs.declared.word.Word.{Word}
 use Rattle.trace_file.specs.declared.word.Word.TheVariants as word
 use Rattle.trace_file.specs.Steps.{◌>>=◌}
 use Rattle.trace_file.specs.Fields.{Row, field_of, number_at, byte_at, sense_at, flags_at, flags_text, unused, unused_from}
-use Rattle.trace_file.specs.Records.{hex, padded, adapter_row, device_row, lane_row, event_row}
+use Rattle.trace_file.specs.Records.{hex, adapter_row, device_row, lane_row, event_row}
 use Rattle.trace_file.specs.Rows.{most_number, one_number, two_numbers, device_at, submit_at, done_at, tick_at, event_at, device_of}
 use Rattle.trace_file.specs.Trace.{FitsEvent}
 use Rattle.trace_file.specs.Words.{spelled}
-use Rattle.trace_file.proofs.FieldLaws.{number_takes, number_again, flags_takes, flags_again}
+use Rattle.trace_file.proofs.FieldLaws.{number_takes, flags_takes}
 use Rattle.trace_file.proofs.FieldLemmas.{drop_field}
-use Rattle.trace_file.proofs.HexLaws.{AreBytes, byte_at_takes, byte_at_again, sense_at_takes, sense_at_again}
+use Rattle.trace_file.proofs.HexLaws.{byte_at_takes, sense_at_takes}
 
 -- the value of a step that didn't fail
 pub on_ok : {A B E Q : Type 0} (r : Result A E) (f : A → Result B E) (y : B) → (r >>= f) ≡ Ok y → ((x : A) → r ≡ Ok x → f x ≡ Ok y → Q) → Q

@@ -1,15 +1,14 @@
 -- What is spelled as a record is read again.
-use Rattle.std.proofs.Common.{◌≡◌, ◌<◌, ◌≤◌, ℕ, List, [], ◌∷◌, refl, ap, ◌∙◌, arith}
-use Rattle.std.specs.Prelude.{Result, Ok, Err, decimal}
+use Rattle.std.proofs.Common.{◌≡◌, ◌≤◌, ℕ, List, [], ◌∷◌, refl, arith}
+use Rattle.std.specs.Prelude.{Ok, decimal}
 use Rattle.csv.specs.Records.{field_at}
 use Rattle.event_log.specs.declared.event.Event.TheVariants as event
-use Rattle.trace_file.specs.Histories.{Device, Event}
+use Rattle.trace_file.specs.Histories.{Event}
 use Rattle.trace_file.specs.declared.device_row.DeviceRow.{DeviceRow}
 use Rattle.trace_file.specs.declared.word.Word.{Word}
 use Rattle.trace_file.specs.declared.word.Word.TheVariants as word
-use Rattle.trace_file.specs.Steps.{◌>>=◌}
-use Rattle.trace_file.specs.Fields.{Row, number_at, flags_text, unused_from}
-use Rattle.trace_file.specs.Records.{hex, padded, device_row, event_row}
+use Rattle.trace_file.specs.Fields.{unused_from}
+use Rattle.trace_file.specs.Records.{padded, event_row}
 use Rattle.trace_file.specs.Rows.{most_number, one_number, two_numbers, device_at, submit_at, done_at, tick_at, event_at}
 use Rattle.trace_file.specs.Trace.{FitsEvent}
 use Rattle.trace_file.specs.Words.{spelled}

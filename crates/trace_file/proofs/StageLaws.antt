@@ -1,12 +1,12 @@
 -- What the stages of reading have read is spelled so.
-use Rattle.std.proofs.Common.{◌≡◌, ◌≢◌, ◌<◌, ◌≤◌, ◌+◌, ℕ, zero, suc, List, [], ◌∷◌, ◌++◌, length, drop, map, Bool, true, false, cond, refl, sym, ap, ◌∙◌, subst, arith, rules, append_assoc, append-nil}
-use Rattle.std.specs.Prelude.{Option, Some, None, Result, Ok, Err, ok_or, option_and_then, is_none, codes, bytes_eq, not, if◌then◌else◌, ◌==◌, ◌&&◌, ⊤}
+use Rattle.std.proofs.Common.{◌≡◌, ◌≤◌, ◌+◌, ℕ, List, [], ◌∷◌, ◌++◌, length, drop, map, Bool, true, false, cond, refl, sym, ap, ◌∙◌, subst, arith, append_assoc, append-nil}
+use Rattle.std.specs.Prelude.{Option, Some, None, Result, Ok, Err, ok_or, option_and_then, is_none, codes, if◌then◌else◌, ◌==◌}
 use Rattle.std.specs.List.{AllByRecursion}
-use Rattle.std.proofs.lemmas.Bool.{and_parts, eqb-true, false≢true}
+use Rattle.std.proofs.lemmas.Bool.{and_parts, eqb-true}
 use Rattle.std.proofs.lemmas.List.{map-append, nil_from_length, length-drop}
 use Rattle.cam_types.specs.Topology.{IsDraft}
 use Rattle.trace_file.proofs.HistoryLemmas.{legal_is_unrefused}
-use Rattle.trace_file.specs.Histories.{Topology, Device, Event, Past, ConfigFault, Refusal, adapter_fault, device_fault, lane_fault, refusal, config_fault, is_legal, is_legal_event}
+use Rattle.trace_file.specs.Histories.{Topology, Device, Event, Past, ConfigFault, Refusal, adapter_fault, device_fault, lane_fault, refusal, is_legal_event}
 use Rattle.trace_file.specs.declared.device_row.DeviceRow.{DeviceRow}
 use Rattle.trace_file.specs.declared.trace_fault.TraceFault.{TraceFault}
 use Rattle.trace_file.specs.declared.trace_fault.TraceFault.TheVariants.{BadHeader, BadRecord}
@@ -24,7 +24,7 @@ use Rattle.trace_file.specs.Trace.{FitsEvent, IsHistory}
 use Rattle.trace_file.specs.Words.{spelled, word_of}
 use Rattle.trace_file.proofs.FieldLaws.{same_bytes, word_spelled}
 use Rattle.trace_file.proofs.RowLaws.{adapter_takes, device_row_takes, event_takes, lane_takes, ok_is, on_ok, peel}
-use Rattle.trace_file.proofs.StageLemmas.{config_whole, kept_empty, sound_adapter, sound_device, sound_event, sound_lane}
+use Rattle.trace_file.proofs.StageLemmas.{kept_empty, sound_adapter, sound_device, sound_event, sound_lane}
 
 -- ---- the records of a history with one item more
 

@@ -1,17 +1,15 @@
 -- What a record does to the configuration in the making, and to the history.
-use Rattle.std.proofs.Common.{◌≡◌, ◌≢◌, ◌<◌, ◌≤◌, ℕ, List, [], ◌∷◌, ◌++◌, length, Bool, true, false, cond, min, refl, sym, ap, ◌∙◌, arith, rules, subst, length-append, inl, inr}
-use Rattle.std.specs.Prelude.{Option, Some, None, Result, Ok, Err, MatchOption, IsOkUnless, IsOk, nat_le, not, ◌&&◌}
-use Rattle.std.proofs.lemmas.Bool.{cases_lt, cases_Bool, leb-false, le-leb, ne_eqb, and_from, false_from_ne_true}
+use Rattle.std.proofs.Common.{◌≡◌, ◌≢◌, ◌<◌, ◌≤◌, ℕ, List, [], ◌∷◌, ◌++◌, length, Bool, true, false, cond, min, refl, sym, ap, ◌∙◌, arith, length-append, inl, inr}
+use Rattle.std.specs.Prelude.{Option, Some, None, Result, Ok, Err, MatchOption, IsOkUnless, nat_le, not}
+use Rattle.std.proofs.lemmas.Bool.{cases_lt, leb-false, le-leb, ne_eqb, and_from, false_from_ne_true}
 use Rattle.cam_types.specs.Topology.{IsDraft, address_fault, are_openings}
 use Rattle.cam_types.specs.declared.config_fault.ConfigFault.TheVariants.{TooMany, BadOpenings, NoAdapter}
-use Rattle.cam_types.specs.Lists.{moments, first_answer}
 use Rattle.cam_types.specs.declared.config.ConfigError.{ConfigError}
 use Rattle.cam_types.specs.declared.config.ConfigError.TheVariants as error
 use Rattle.cam_types.proofs.ListLemmas.{first_answer-push}
 use Rattle.cam_types.proofs.TopologyLemmas.{config_fault-draft}
-use Rattle.trace_file.specs.Histories.{Topology, Device, Event, Past, ConfigFault, adapter_fault, device_fault, lane_fault, config_fault, is_legal, is_legal_event}
+use Rattle.trace_file.specs.Histories.{Topology, Device, Event, Past, ConfigFault, adapter_fault, device_fault, lane_fault, config_fault, is_legal_event}
 use Rattle.trace_file.specs.declared.device_row.DeviceRow.{DeviceRow}
-use Rattle.trace_file.specs.declared.trace_fault.TraceFault.{TraceFault}
 use Rattle.trace_file.specs.declared.trace_fault.TraceFault.TheVariants.{BadConfig}
 use Rattle.trace_file.specs.declared.trace_stage.TraceStage.{TraceStage}
 use Rattle.trace_file.specs.declared.trace_stage.TraceStage.TheVariants as stage

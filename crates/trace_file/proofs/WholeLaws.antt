@@ -1,6 +1,6 @@
 -- The records of a whole history are read as that history.
-use Rattle.std.proofs.Common.{◌≡◌, ◌≢◌, ◌<◌, ◌≤◌, ◌+◌, ℕ, List, [], ◌∷◌, ◌++◌, length, map, Bool, true, false, cond, refl, sym, ap, ◌∙◌, arith, length-append}
-use Rattle.std.specs.Prelude.{Option, Some, None, Result, Ok, Err, is_none, codes, not, nat_lt, nat_le, ◌==◌, ◌&&◌, count_by}
+use Rattle.std.proofs.Common.{◌≡◌, ◌≢◌, ◌<◌, ◌≤◌, ◌+◌, ℕ, List, [], ◌∷◌, ◌++◌, length, map, true, false, cond, refl, sym, ap, ◌∙◌, arith, length-append}
+use Rattle.std.specs.Prelude.{Option, Some, None, Result, Ok, is_none, not, nat_lt, nat_le, ◌==◌, count_by}
 use Rattle.std.specs.List.{AllByRecursion, list_any}
 use Rattle.std.specs.Option.{option_or}
 use Rattle.std.proofs.lemmas.Bool.{and_parts, leb-true, leb-false, ltb-false, not-false}
@@ -8,21 +8,17 @@ use Rattle.csv.specs.Records.{field_at}
 use Rattle.cam_types.specs.Lists.{first_answer, moments}
 use Rattle.cam_types.specs.Topology.{address_fault, are_openings, is_same_address, item_fault}
 use Rattle.cam_types.specs.declared.config_fault.ConfigFault.TheVariants.{NoAdapters, TooMany, BadOpenings, NoAdapter, BadAddress, DoubleDevice}
-use Rattle.trace_file.proofs.HistoryLemmas.{legal_is_unrefused}
-use Rattle.cam_event.specs.Legal.{is_legal as legal_by}
-use Rattle.trace_file.specs.Histories.{Topology, Device, Event, Past, ConfigFault, Refusal, adapter_fault, device_fault, lane_fault, refusal, config_fault, is_legal, is_legal_event}
+use Rattle.trace_file.proofs.HistoryLemmas.{is_legal-moments, legal_is_unrefused}
+use Rattle.trace_file.specs.Histories.{Topology, Device, Event, Past, Refusal, adapter_fault, device_fault, lane_fault, refusal, config_fault, is_legal, is_legal_event}
 use Rattle.trace_file.specs.declared.trace_fault.TraceFault.{TraceFault}
 use Rattle.trace_file.specs.declared.trace_stage.TraceStage.{TraceStage}
 use Rattle.trace_file.specs.declared.trace_stage.TraceStage.TheVariants as stage
-use Rattle.trace_file.specs.declared.word.Word.TheVariants as word
-use Rattle.trace_file.specs.Fields.{Row}
-use Rattle.trace_file.specs.Reading.{add_adapter, add_device, add_event, add_lane, ended, has_letters, is_header, lacks_adapters, past_of, reading, stands, step, unless_fault, unless_refused}
+use Rattle.trace_file.specs.Reading.{add_adapter, add_device, add_event, add_lane, ended, has_letters, is_header, lacks_adapters, past_of, reading, stands, step}
 use Rattle.trace_file.specs.Records.{adapter_row, device_row, event_row, header, lane_row, records_of}
-use Rattle.trace_file.specs.Rows.{most_number}
-use Rattle.trace_file.specs.Steps.{◌>>=◌, taken}
+use Rattle.trace_file.specs.Steps.{taken}
 use Rattle.trace_file.specs.Trace.{FitsEvent, IsHistory}
-use Rattle.trace_file.proofs.AgainLaws.{Along, along_all, along_both, neither, none_along, true_along, then_taken, run, adapter_step, lane_step, device_step, event_step, row_for}
-use Rattle.trace_file.proofs.StageLemmas.{bus_below, cond_none, few_adapters}
+use Rattle.trace_file.proofs.AgainLaws.{Along, along_all, along_both, neither, none_along, true_along, then_taken, run, adapter_step, lane_step, device_step, event_step}
+use Rattle.trace_file.proofs.StageLemmas.{cond_none, few_adapters}
 
 -- ---- what the rules of the configuration say of its numbers
 
@@ -175,8 +171,7 @@ kept as' ds ls e =
     record { some = c.0; adapters = none_along adapter_fault [] as' x.0; devices = none_along (device_fault n) [] ds y.0; lanes = none_along (lane_fault n) [] ls y.1 }
 
 legal_along : (c : Topology) (es : List Event) → is_legal c es ≡ true → Along (λ b x. is_legal_event c (b, x) ≡ true) [] es
-unfolding legal_by
-legal_along c es e = true_along (is_legal_event c) [] es e
+legal_along c es e = true_along (is_legal_event c) [] es (sym (is_legal-moments c es) ∙ e)
 
 taken_all : (as' : List ℕ) (ds : List Device) (ls : List ℕ) (es : List Event) → Kept as' ds ls → AllByRecursion (λ (d : Device). d.target ≤ 65535) ds
     → is_legal (config as' ds ls) es ≡ true → AllByRecursion FitsEvent es

@@ -1,6 +1,6 @@
 -- What the records of a trace say: their words' fields, in order.
-use Rattle.std.specs.Prelude.{ℕ, min, List, Result, Ok, Err}
-use Rattle.trace_file.specs.Histories.{Device, Event, Flags, Outcome}
+use Rattle.std.specs.Prelude.{ℕ, min, Result, Ok, Err}
+use Rattle.trace_file.specs.Histories.{Device, Event}
 use Rattle.event_log.specs.declared.event.Event.TheVariants as event
 use Rattle.trace_file.specs.declared.device_row.DeviceRow.{DeviceRow}
 use Rattle.trace_file.specs.declared.word.Word.{Word}

@@ -1,5 +1,5 @@
 -- What each stage of reading keeps.
-use Rattle.std.specs.Prelude.{◌≡◌, ◌<◌, ◌≤◌, ⊤, true, List, [], length, None}
+use Rattle.std.specs.Prelude.{◌≡◌, ◌<◌, ◌≤◌, ⊤, true, [], length, None}
 use Rattle.cam_types.specs.Topology.{IsDraft}
 use Rattle.trace_file.specs.Histories.{Topology, Past, config_fault, is_legal}
 use Rattle.trace_file.specs.declared.trace_stage.TraceStage.{TraceStage}

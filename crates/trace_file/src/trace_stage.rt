@@ -226,14 +226,17 @@ ghost use Rattle.trace_file.specs.Reading.{in_record, unless_fault, unless_refus
 ghost use Rattle.trace_file.specs.Rows.{device_of};
 ghost use Rattle.trace_file.specs.Sound.{IsBegun, IsKept, IsSound};
 
-fn with_adapter(draft: ConfigDraft, number: u32, openings: u32) -> Result<TraceStage, TraceFault>
+fn with_adapter(
+    mut draft: ConfigDraft,
+    number: u32,
+    openings: u32,
+) -> Result<TraceStage, TraceFault>
     requires draft { IsDraft draft }
     requires no_device { draft.devices ≡ [] }
     requires no_lane { draft.lanes ≡ [] }
     ensures value { result ≢ Err TraceFault.OutOfMemory → result ≡ unless_fault number (adapter_fault (draft.adapters, openings)) (TraceStage.Adapters (record draft { adapters = draft.adapters ++ openings ∷ [] })) }
     ensures sound { IfOk result (λ s. IsSound s) }
 {
-    let mut draft = draft;
     match draft.add_adapter(openings) {
         Ok(()) => Ok(TraceStage::Adapters(draft)),
         Err(ConfigError::Fault(fault)) => Err(TraceFault::BadConfig(number, fault)),
@@ -241,13 +244,16 @@ fn with_adapter(draft: ConfigDraft, number: u32, openings: u32) -> Result<TraceS
     }
 }
 
-fn with_device(draft: ConfigDraft, number: u32, device: DeviceRow) -> Result<TraceStage, TraceFault>
+fn with_device(
+    mut draft: ConfigDraft,
+    number: u32,
+    device: DeviceRow,
+) -> Result<TraceStage, TraceFault>
     requires begun { IsBegun draft }
     requires no_lane { draft.lanes ≡ [] }
     ensures value { result ≢ Err TraceFault.OutOfMemory → result ≡ unless_fault number (device_fault (length draft.adapters) (draft.devices, device_of device)) (TraceStage.Devices (record draft { devices = draft.devices ++ device_of device ∷ [] })) }
     ensures sound { IfOk result (λ s. IsSound s) }
 {
-    let mut draft = draft;
     match draft.add_device(device.device()) {
         Ok(()) => Ok(TraceStage::Devices(draft)),
         Err(ConfigError::Fault(fault)) => Err(TraceFault::BadConfig(number, fault)),
@@ -255,12 +261,11 @@ fn with_device(draft: ConfigDraft, number: u32, device: DeviceRow) -> Result<Tra
     }
 }
 
-fn with_lane(draft: ConfigDraft, number: u32, adapter: u32) -> Result<TraceStage, TraceFault>
+fn with_lane(mut draft: ConfigDraft, number: u32, adapter: u32) -> Result<TraceStage, TraceFault>
     requires begun { IsBegun draft }
     ensures value { result ≢ Err TraceFault.OutOfMemory → result ≡ unless_fault number (lane_fault (length draft.adapters) (draft.lanes, adapter)) (TraceStage.Lanes (record draft { lanes = draft.lanes ++ adapter ∷ [] })) }
     ensures sound { IfOk result (λ s. IsSound s) }
 {
-    let mut draft = draft;
     match draft.add_lane(adapter) {
         Ok(()) => Ok(TraceStage::Lanes(draft)),
         Err(ConfigError::Fault(fault)) => Err(TraceFault::BadConfig(number, fault)),
@@ -268,12 +273,11 @@ fn with_lane(draft: ConfigDraft, number: u32, adapter: u32) -> Result<TraceStage
     }
 }
 
-fn with_event(history: History, number: u32, event: Event) -> Result<TraceStage, TraceFault>
+fn with_event(mut history: History, number: u32, event: Event) -> Result<TraceStage, TraceFault>
     requires kept { IsKept history }
     ensures value { result ≢ Err TraceFault.OutOfMemory → result ≡ unless_refused number (refusal history.config history.events event) (TraceStage.Events (record history { events = history.events ++ event ∷ [] })) }
     ensures sound { IfOk result (λ s. IsSound s) }
 {
-    let mut history = history;
     match history.push(event) {
         Ok(()) => Ok(TraceStage::Events(history)),
         Err(PushFault::Refused(refusal)) => Err(TraceFault::Illegal(number, refusal)),

@@ -35,6 +35,14 @@ fn outcome(status: u8, scsi: u8, sense: &[u8]) -> Outcome {
     }
 }
 
+// The command has completed without an error.
+fn done(ccb: u32) -> Event {
+    Event::Done {
+        ccb,
+        outcome: outcome(1, 0, b""),
+    }
+}
+
 fn device(target: u16, openings: u32) -> Device {
     Device {
         bus: 0,
@@ -51,14 +59,7 @@ fn read(alloc: Global, text: &str) -> Result<History, TraceFault> {
 
 #[test]
 fn reads_one_command_however_it_is_quoted(rt: HostRuntime) -> Result<(), Fail> {
-    let want = [
-        submit(0, 1152),
-        Event::Send { lane: 0, ccb: 0 },
-        Event::Done {
-            ccb: 0,
-            outcome: outcome(1, 0, b""),
-        },
-    ];
+    let want = [submit(0, 1152), Event::Send { lane: 0, ccb: 0 }, done(0)];
     for text in [
         ONE_COMMAND,
         "camtrace1,a,b,c,d,e,f,g\r\nsim,1,,,,,,\r\ndev,0,1,0,1,,,\r\nlane,0,,,,,,\r\nsubmit,0,0,1152,4,none,,\r\nsend,0,0,,,,,\r\ndone,0,01,00,,,,",
@@ -83,7 +84,6 @@ fn reads_two_devices_one_of_them_frozen(rt: HostRuntime) -> Result<(), Fail> {
         rt.alloc(),
         "camtrace1,a,b,c,d,e,f,g\nsim,1,,,,,,\ndev,0,1,0,1,,,\ndev,0,2,0,1,,,\nlane,0,,,,,,\nsubmit,0,0,896,4,none,,\nsubmit,0,1,1152,4,none,,\nsend,0,0,,,,,\ndone,0,01,00,,,,\ntick,,,,,,,\nfreeze,1,1,,,,,\ntick,,,,,,,\ntick,,,,,,,\ntick,,,,,,,\nrelease,1,1,,,,,\nsend,0,1,,,,,\ndone,1,01,00,,,,\n",
     )?;
-    let good = outcome(1, 0, b"");
     assert_eq!(rt;
         history.config().devices(),
         [device(1, 1), device(2, 1)].as_slice()
@@ -92,10 +92,7 @@ fn reads_two_devices_one_of_them_frozen(rt: HostRuntime) -> Result<(), Fail> {
         submit(0, 896),
         submit(1, 1152),
         Event::Send { lane: 0, ccb: 0 },
-        Event::Done {
-            ccb: 0,
-            outcome: good,
-        },
+        done(0),
         Event::Tick,
         Event::FreezeDev {
             device: 1,
@@ -109,10 +106,7 @@ fn reads_two_devices_one_of_them_frozen(rt: HostRuntime) -> Result<(), Fail> {
             count: 1,
         },
         Event::Send { lane: 0, ccb: 1 },
-        Event::Done {
-            ccb: 1,
-            outcome: good,
-        },
+        done(1),
     ];
     assert_eq!(rt; history.events(), want.as_slice());
     Ok(())

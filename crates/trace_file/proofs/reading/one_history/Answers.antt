@@ -1,4 +1,3 @@
-use Rattle.trace_file.proofs.FaultLaws.{trace_read}
 use Rattle.trace_file.proofs.WholeLaws.{one_past}
 use Rattle.trace_file.proofs.reading.one_history.Goals as goal
 

@@ -1,4 +1,4 @@
-use Rattle.std.proofs.Common.{◌≡◌, ◌∙◌, sym, refl, ap, inl, inr, Some, List, ℕ, Bor, length, []}
+use Rattle.std.proofs.Common.{◌∙◌, sym, refl, ap, inl, inr, Some, List, ℕ, Bor, length, []}
 use Rattle.std.specs.Prelude.{Err}
 use Rattle.std.proofs.lemmas.Result.{err_from_is_err_and}
 use Rattle.csv.specs.Reading.{strip_bom}

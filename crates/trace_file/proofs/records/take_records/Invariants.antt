@@ -1,8 +1,6 @@
-use Rattle.std.proofs.Common.{◌≡◌, ◌+◌, ◌<◌, ◌≤◌, ℕ, List, Some, length, false}
-use Rattle.csv.specs.Machine.{ends_at_end}
-use Rattle.csv.specs.Reading.{Ready, default_config, records_from, source_of}
+use Rattle.std.proofs.Common.{◌≡◌, ◌<◌, ℕ, List, Some, length}
+use Rattle.csv.specs.Reading.{Ready, default_config, source_of}
 use Rattle.csv.specs.declared.reader.Trim.TheVariants as trim
-use Rattle.trace_file.specs.Steps.{taken}
 use Rattle.trace_file.specs.Text.{records_in}
 use Rattle.trace_file.proofs.RecordLemmas.{IsLeft}
 use Rattle.trace_file.proofs.records.take_records.Given as goal

@@ -1,0 +1,4 @@
+pub mod RowLemmas
+pub mod ReadyLemmas
+pub mod ChangeLemmas
+pub mod TurnLemmas

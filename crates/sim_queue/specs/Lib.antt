@@ -1,0 +1,2 @@
+pub mod Adapter
+pub mod Ready

@@ -1,16 +1,15 @@
 -- The decimal spelling of a number, and the number that a text spells.
-use Rattle.std.proofs.Common.{◌≡◌, ◌<◌, ◌≤◌, ◌^◌, ◌+◌, ◌*◌, ◌-◌, ℕ, List, [], ◌∷◌, Bool, true, false, take, length, get_or, Option, Some, None, refl, sym, ◌∙◌, ap, arith, rules, zero, suc, ltb, leb, eqb}
-use Rattle.std.specs.Prelude.{IfSome, if◌then◌else◌, IsTrue, decimal, nat_lt, nat_le, not, ◌==◌, ◌&&◌, ◌||◌}
+use Rattle.std.proofs.Common.{◌≡◌, ◌<◌, ◌≤◌, ◌^◌, ◌+◌, ◌*◌, ◌-◌, ℕ, List, [], ◌∷◌, Bool, true, false, take, length, get_or, Option, Some, None, refl, sym, ◌∙◌, ap, arith, rules, zero, suc}
+use Rattle.std.specs.Prelude.{IfSome, if◌then◌else◌, decimal, nat_lt, nat_le, not, ◌&&◌}
 use Rattle.std.specs.Char.{is_ascii_digit}
 use Rattle.std.specs.List.{list_all}
 use Rattle.std.specs.Str.Parse.{digits_value}
-use Rattle.std.proofs.lemmas.Bool.{and_parts, and_from, cases_Bool, cases_eq, and_right, leb-true, le-leb, lt-ltb, ltb-true, ne_eqb, eqb-true, or_cases, not-true}
+use Rattle.std.proofs.lemmas.Bool.{and_parts, and_right, leb-true, le-leb, lt-ltb, ltb-true, ne_eqb}
 use Rattle.std.proofs.lemmas.Int.Digits.{digits_value_more}
 use Rattle.std.proofs.lemmas.Str.{digit_value_digit}
 use Rattle.std.proofs.lemmas.Str.Parse.{IsNumeralModel, numerals_by_value}
 use Rattle.std.proofs.lemmas.Fmt.{decimal-digits_value, digits_value-decimal, digits_decimal, decimal_nonempty, first_decimal, decimal_digit}
 use Rattle.std.proofs.lemmas.Bool.Decides.{nat_tests}
-use Rattle.std.proofs.lemmas.Grind.{common_steps}
 use Rattle.cam_types.specs.Number.{has_leading_zero, is_decimal, number_of}
 
 -- digits, as the library's lemmas take them

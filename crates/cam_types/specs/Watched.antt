@@ -9,6 +9,10 @@ device_of w = w.device
 abbrev pub has_failed : {D : Type 0} → Watched D → Bool
 has_failed w = w.failed
 
+-- no write stands behind the last flush that succeeded
+abbrev pub is_flushed : {D : Type 0} → Watched D → Bool
+is_flushed w = w.flushed
+
 -- a write took none of some bytes
 abbrev pub took_nothing : {E : Type 0} → Result ℕ E → List ℕ → Bool
 took_nothing (Ok taken) bytes = (taken == 0) && not (length bytes == 0)

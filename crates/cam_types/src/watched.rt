@@ -1,16 +1,17 @@
-ghost use Rattle.std.specs.Prelude.{◌≡◌, ◌==◌, ◌&&◌, ◌||◌, not, false, length, is_err, Ok, IfOk};
+ghost use Rattle.std.specs.Prelude.{◌≡◌, ◌==◌, ◌&&◌, ◌||◌, not, false, true, length, is_err, is_ok, Ok, IfOk};
 ghost use Rattle.std.specs.Io.{ReadsAtMost, WritesAtMost};
 ghost use Rattle.std.specs.Io.KnownBytes.{Keeps, ReadConsumes, WriteAppends};
-ghost use Rattle.cam_types.specs.Watched.{device_of, has_failed, took_nothing};
+ghost use Rattle.cam_types.specs.Watched.{device_of, has_failed, is_flushed, took_nothing};
 
 use std::io;
 use std::io::{Read, Write};
 
-/// A reader or writer that remembers whether a call of it has failed.
+/// A reader or writer that remembers whether a call of it has failed, and whether a flush stands behind its last write.
 #[derive(Debug, Drop)]
 pub struct Watched<D> {
     device: D,
     failed: bool,
+    flushed: bool,
 }
 
 impl<D> Watched<D> {
@@ -18,10 +19,12 @@ impl<D> Watched<D> {
     pub fn new(device: D) -> Watched<D>
         ensures device { device_of result ≡ device }
         ensures calm { has_failed result ≡ false }
+        ensures flushed { is_flushed result ≡ true }
     {
         Watched {
             device,
             failed: false,
+            flushed: true,
         }
     }
 
@@ -41,6 +44,7 @@ impl<R: Read> Read for Watched<R> {
         ensures bound { ReadsAtMost result buf.new }
         ensures bytes { ReadConsumes (R.remaining (device_of self.old)) (R.remaining (device_of self.new)) result buf.new }
         ensures noted { has_failed self.new ≡ (has_failed self.old || is_err result) }
+        ensures flushed { is_flushed self.new ≡ is_flushed self.old }
     {
         let answer = self.device.read(buf);
         if answer.is_err() {
@@ -58,7 +62,9 @@ impl<W: Write> Write for Watched<W> {
         ensures bound { WritesAtMost result buf.now }
         ensures bytes { WriteAppends (W.contents (device_of self.old)) (W.contents (device_of self.new)) result buf.now }
         ensures noted { has_failed self.new ≡ (has_failed self.old || is_err result || took_nothing result buf.now) }
+        ensures flushed { is_flushed self.new ≡ false }
     {
+        self.flushed = false;
         let answer = self.device.write(buf);
         let failed = match &answer {
             Ok(taken) => *taken == 0 && !buf.is_empty(),
@@ -74,9 +80,12 @@ impl<W: Write> Write for Watched<W> {
     fn flush(&mut self) -> io::Result<()>
         ensures bytes { Keeps (W.contents (device_of self.old)) (W.contents (device_of self.new)) }
         ensures noted { has_failed self.new ≡ (has_failed self.old || is_err result) }
+        ensures flushed { is_flushed self.new ≡ (is_flushed self.old || is_ok result) }
     {
         let answer = self.device.flush();
-        if answer.is_err() {
+        if answer.is_ok() {
+            self.flushed = true;
+        } else {
             self.failed = true;
         }
         answer

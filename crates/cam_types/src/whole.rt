@@ -1,6 +1,6 @@
 ghost use Rattle.std.specs.Prelude.{◌≡◌, ◌≢◌, false, true, Ok, Err, IfOk, OnOk, OnErr};
 ghost use Rattle.std.specs.Io.KnownBytes.{Appends};
-ghost use Rattle.cam_types.specs.Watched.{device_of, has_failed};
+ghost use Rattle.cam_types.specs.Watched.{device_of, has_failed, is_flushed};
 ghost use Rattle.cam_types.specs.Whole.{IsWhole, IsTooLong, AppendsFront};
 
 use crate::watched::Watched;
@@ -62,6 +62,7 @@ pub fn read_whole<R: Read>(alloc: Global, reader: &mut Watched<R>) -> Result<Vec
 /// what was written is then the front of the text.
 pub fn write_whole<W: Write>(writer: &mut Watched<W>, text: &[u8]) -> Result<(), WriteFailed>
     requires { has_failed writer.old ≡ false }
+    ensures flushed { OnOk result (is_flushed writer.new ≡ true) }
     ensures written { OnOk result (Appends (W.contents (device_of writer.old)) (W.contents (device_of writer.new)) text.now) }
     ensures front { OnErr result (AppendsFront (W.contents (device_of writer.old)) (W.contents (device_of writer.new)) text.now) }
     ensures failed { OnErr result (has_failed writer.new ≡ true) }

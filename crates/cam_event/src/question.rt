@@ -1,13 +1,11 @@
 //! What refusals ask of a configuration and a log.
 
 ghost use Rattle.std.specs.Prelude.{◌≡◌};
-ghost use Rattle.cam_types.specs.Topology.{are_openings};
-ghost use Rattle.event_log.specs.Head.{is_on};
 ghost use Rattle.cam_event.specs.Legal.{history_rules, names_device, names_adapter, names_lane, names_ccb, is_count};
 ghost use Rattle.cam_event.specs.Refusals.{device_of, lane_adapter, are_stays_full, have_openings, is_other_next};
 
 use crate::most::MOST_FREEZES;
-use cam_types::{Config, MOST_OPENINGS, MOST_STAYS};
+use cam_types::{Config, MOST_STAYS};
 use event_log::Log;
 
 /// Whether there is a device of that number.
@@ -45,13 +43,6 @@ pub fn is_count(count: u32) -> bool
     0 < count && count <= MOST_FREEZES
 }
 
-/// Whether a device may have so many openings.
-pub fn are_openings(openings: u32) -> bool
-    ensures { result ≡ are_openings openings }
-{
-    0 < openings && openings <= MOST_OPENINGS
-}
-
 /// Whether as many stays have begun as a history has.
 pub fn are_stays_full(log: &Log) -> bool
     ensures { result ≡ are_stays_full history_rules log.now }
@@ -74,16 +65,6 @@ pub fn lane_adapter(config: &Config, lane: u32) -> u32
     ensures { result ≡ lane_adapter config.now lane }
 {
     config.lanes().get(lane as usize).copied().unwrap_or(0)
-}
-
-/// Whether the device is on the adapter.
-pub fn is_on(config: &Config, adapter: u32, device: u32) -> bool
-    ensures { result ≡ is_on config.now adapter device }
-{
-    match config.devices().get(device as usize) {
-        Some(device) => u32::from(device.bus) == adapter,
-        None => false,
-    }
 }
 
 /// Whether an opening is left at the device and at the adapter.

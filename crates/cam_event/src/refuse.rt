@@ -6,12 +6,12 @@ ghost use Rattle.cam_event.specs.Refusals.{refusal, first_cause, submit_causes, 
 
 use crate::most::{MOST_FREEZES, MOST_RETRIES};
 use crate::question::{
-    are_openings, are_stays_full, device_of, have_openings, is_count, is_on, is_other_next,
-    lane_adapter, names_adapter, names_ccb, names_device, names_lane,
+    are_stays_full, device_of, have_openings, is_count, is_other_next, lane_adapter, names_adapter,
+    names_ccb, names_device, names_lane,
 };
 use crate::refusal::Refusal;
-use cam_types::{Config, MOST_EVENTS, MOST_PRIORITY, MOST_ROUNDS, Outcome};
-use event_log::{Event, Log};
+use cam_types::{Config, MOST_EVENTS, MOST_PRIORITY, MOST_ROUNDS, Outcome, are_openings};
+use event_log::{Event, Log, is_on};
 
 /// Why a history refuses the event behind those of the log: the first cause that holds.
 #[tactic(auto, unfolding(crate::specs::Refusals::refusal))]

@@ -271,7 +271,8 @@ fn lanes_of(lanes: &[u32], adapter: u32) -> usize
     lanes.iter().filter(|other| **other == adapter).count()
 }
 
-fn are_openings(openings: u32) -> bool
+/// Whether a device or an adapter may have so many openings: 1 to 255.
+pub fn are_openings(openings: u32) -> bool
     ensures { result ≡ are_openings openings }
 {
     0 < openings && openings <= MOST_OPENINGS

@@ -2,7 +2,7 @@
 #![tactic(auto)]
 
 pub use command::Command;
-pub use config::{Config, ConfigDraft, ConfigError};
+pub use config::{Config, ConfigDraft, ConfigError, are_openings};
 pub use config_fault::{
     ConfigFault, MOST_ADAPTERS, MOST_DEVICES, MOST_LANES, MOST_LUN, MOST_OPENINGS,
 };

@@ -6,3 +6,6 @@ pub mod Live
 pub mod Log
 pub mod Turn
 pub mod State
+pub mod Numbered
+pub mod Tally
+pub mod Opening

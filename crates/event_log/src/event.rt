@@ -60,7 +60,7 @@ pub enum Event {
 
 impl Event {
     ghost use Rattle.std.specs.Prelude.{◌≡◌};
-    ghost use Rattle.event_log.specs.Event.{is_tick, submission_of, is_send_of, is_done_of, is_send_or_done_of, is_requeue_of, is_finish_of, concerns, ccb_of, outcome_of, is_erring, freezes, releases, sim_freezes, is_sim_release_of, is_adjust_of, adjusts_to};
+    ghost use Rattle.event_log.specs.Event.{is_tick, submission_of, is_send_of, is_done_of, is_send_or_done_of, is_requeue_of, is_finish_of, concerns, ccb_of, outcome_of, is_erring};
 
     /// What a submit submits.
     pub fn submission(&self) -> Option<Submission>
@@ -163,60 +163,6 @@ impl Event {
         match *self {
             Event::Done { outcome, .. } => outcome.status & 0x3f != 0x01,
             _ => false,
-        }
-    }
-
-    /// How many freezes of this device it adds for a caller.
-    pub fn freezes(&self, number: u32) -> u32
-        ensures { result ≡ freezes number self.now }
-    {
-        match *self {
-            Event::FreezeDev { device, count } if device == number => count,
-            _ => 0,
-        }
-    }
-
-    /// How many freezes of this device it takes away.
-    pub fn releases(&self, number: u32) -> u32
-        ensures { result ≡ releases number self.now }
-    {
-        match *self {
-            Event::ReleaseDev { device, count } if device == number => count,
-            _ => 0,
-        }
-    }
-
-    /// How many freezes of this adapter it adds.
-    pub fn sim_freezes(&self, number: u32) -> u32
-        ensures { result ≡ sim_freezes number self.now }
-    {
-        match *self {
-            Event::FreezeSim { sim, count } if sim == number => count,
-            _ => 0,
-        }
-    }
-
-    /// Whether it takes a freeze of this adapter away.
-    pub fn is_sim_release_of(&self, number: u32) -> bool
-        ensures { result ≡ is_sim_release_of number self.now }
-    {
-        matches!(*self, Event::ReleaseSim { sim } if sim == number)
-    }
-
-    /// Whether it adjusts the openings of this device.
-    pub fn is_adjust_of(&self, number: u32) -> bool
-        ensures { result ≡ is_adjust_of number self.now }
-    {
-        matches!(*self, Event::Adjust { device, .. } if device == number)
-    }
-
-    /// The openings that it adjusts to, and 0 for an event of another kind.
-    pub fn adjusts_to(&self) -> u32
-        ensures { result ≡ adjusts_to self.now }
-    {
-        match *self {
-            Event::Adjust { openings, .. } => openings,
-            _ => 0,
         }
     }
 }

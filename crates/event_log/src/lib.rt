@@ -2,12 +2,14 @@
 #![tactic(auto)]
 
 pub use event::Event;
-pub use log::Log;
+pub use log::{Log, is_on};
 pub use passage::{Passage, Sending, Stay};
 pub use submission::Submission;
 
 mod event;
 mod log;
+mod opening;
 mod passage;
 mod state;
 mod submission;
+mod tally;

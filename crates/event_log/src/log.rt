@@ -1,5 +1,7 @@
 ghost use Rattle.std.specs.Prelude.{◌≡◌, ◌+◌, ◌<◌, ◌≤◌, [], ◌∷◌, ◌++◌, length, filter, count_by, cond, not, OnOk, OnErr, option_to_list, vec_len, vec_capacity};
+ghost use Rattle.std.specs.Prelude.{IfSome};
 ghost use Rattle.event_log.specs.Event.{is_send_of};
+ghost use Rattle.event_log.specs.Tally.{is_small, device_change, sim_change};
 
 mod flight;
 mod freezes;
@@ -8,10 +10,13 @@ mod live;
 mod queues;
 
 use crate::event::Event;
+use crate::opening::{self, Opening};
 use crate::passage::{Passage, Sending};
-use crate::state::{State, tell};
+use crate::state::{self, State};
 use crate::submission::Submission;
+use crate::tally::{self, Tally};
 use cam_types::MOST_EVENTS;
+pub use heads::is_on;
 use std::alloc::{AllocError, Global};
 use std::marker::Model;
 
@@ -24,6 +29,9 @@ pub struct Log {
     sendings: Vec<Sending>,
     waiting: Vec<Passage>,
     states: Vec<State>,
+    device_tallies: Vec<Tally>,
+    sim_tallies: Vec<Tally>,
+    openings: Vec<Opening>,
     round: u32,
 }
 
@@ -58,6 +66,9 @@ impl Log {
             sendings: Vec::new(alloc),
             waiting: Vec::new(alloc),
             states: Vec::new(alloc),
+            device_tallies: Vec::new(alloc),
+            sim_tallies: Vec::new(alloc),
+            openings: Vec::new(alloc),
             round: 1,
         }
     }
@@ -74,18 +85,26 @@ impl Log {
         self.sendings.reserve(1)?;
         self.waiting.reserve(1)?;
         self.states.reserve(1)?;
+        self.device_tallies.reserve(1)?;
+        self.sim_tallies.reserve(1)?;
+        self.openings.reserve(1)?;
         let submission = event.submission();
         let passage = self.passage_of(&event);
         let sending = self.sending_of(&event);
         let born = self.born(&event);
+        let device_change = self.device_change(&event);
+        let sim_change = sim_change(&event);
         let round = self.round_behind(&event);
         append(&mut self.submissions, submission);
         append(&mut self.passages, passage);
         append(&mut self.sendings, sending);
         drop_sent(&mut self.waiting, &event);
         append(&mut self.waiting, passage);
-        tell(&mut self.states, &event);
+        state::tell(&mut self.states, &event);
         append(&mut self.states, born);
+        tally::count(&mut self.device_tallies, device_change);
+        tally::count(&mut self.sim_tallies, sim_change);
+        opening::tell(&mut self.openings, &event);
         self.round = round;
         self.events.push_reserved(event);
         Ok(())
@@ -150,6 +169,26 @@ impl Log {
         Some(self.state_of(self.commands()))
     }
 
+    // What the event changes of a device's freezes.
+    fn device_change(&self, event: &Event) -> Option<Tally>
+        ensures same { result ≡ device_change (self.now, event.now) }
+        ensures small { IfSome result (is_small 1) }
+    {
+        match *event {
+            Event::FreezeDev { device, count } => Some(Tally::added(device, count)),
+            Event::ReleaseDev { device, count } => Some(Tally::taken(device, count)),
+            Event::Send { .. } => {
+                let sending = self.sending_of(event)?;
+                if sending.qfreeze {
+                    Some(Tally::added(sending.device, 1))
+                } else {
+                    None
+                }
+            }
+            _ => None,
+        }
+    }
+
     // The round behind the event.
     fn round_behind(&self, event: &Event) -> u32
         requires { length self.now < MOST_EVENTS }
@@ -212,6 +251,18 @@ impl Log {
         ensures short { length result.now ≤ MOST_EVENTS }
     {
         &self.events
+    }
+}
+
+// What the event changes of an adapter's freezes.
+fn sim_change(event: &Event) -> Option<Tally>
+    ensures same { result ≡ sim_change event.now }
+    ensures small { IfSome result (is_small 1) }
+{
+    match *event {
+        Event::FreezeSim { sim, count } => Some(Tally::added(sim, count)),
+        Event::ReleaseSim { sim } => Some(Tally::taken(sim, 1)),
+        _ => None,
     }
 }
 

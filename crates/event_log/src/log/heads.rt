@@ -7,7 +7,7 @@ ghost use Rattle.event_log.specs.Head.{is_on, device_openings, adapter_openings,
 ghost use Rattle.event_log.specs.Turn.{key_of};
 
 use super::Log;
-use crate::event::Event;
+use crate::opening::opening_of;
 use crate::passage::{Passage, Sending};
 use cam_types::{Config, Device};
 
@@ -20,8 +20,8 @@ impl Log {
     pub fn openings(&self, config: &Config, device: u32) -> u32
         ensures { result ≡ openings config.now self.now device }
     {
-        match last_adjust(before_last_tick(&self.events), device) {
-            Some(event) => event.adjusts_to(),
+        match opening_of(&self.openings, device).now {
+            Some(count) => count,
             None => device_openings(config, device),
         }
     }
@@ -203,35 +203,4 @@ fn last_sending(sendings: &[Sending], device: u32) -> Option<Sending>
         .rev()
         .copied()
         .find(|sending| sending.device == device)
-}
-
-// The last adjustment of the device.
-fn last_adjust(events: &[Event], device: u32) -> Option<Event>
-    ensures { result ≡ last (is_adjust_of device) events.now }
-{
-    events
-        .iter()
-        .rev()
-        .copied()
-        .find(|event| event.is_adjust_of(device))
-}
-
-// The events before the one that opened the last round.
-fn before_last_tick(events: &[Event]) -> &[Event]
-    ensures { result.now ≡ before_last is_tick events.now }
-{
-    let before = events.len() - behind_last_tick(events);
-    &events[..before.saturating_sub(1)]
-}
-
-// How many events are of the last round.
-fn behind_last_tick(events: &[Event]) -> usize
-    ensures same { result ≡ suffix_len (λ e. not (is_tick e)) events.now }
-    ensures within { result ≤ length events.now }
-{
-    events
-        .iter()
-        .rev()
-        .take_while(|event| !event.is_tick())
-        .count()
 }

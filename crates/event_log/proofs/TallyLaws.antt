@@ -1,0 +1,161 @@
+-- what one event more changes of the freezes that callers added and took away
+use Rattle.std.proofs.Common.{◌≡◌, ℕ, ◌+◌, ◌-◌, ◌^◌, ◌<◌, ◌≤◌, Bool, true, false, cond, List, [], ◌∷◌, ◌++◌, refl, sym, ap, ◌∙◌, arith, Option, Some, None, add-zero, zero-add, append-nil}
+use Rattle.std.specs.Prelude.{◌==◌, sum_by, count_by, option_to_list, All, IfSome, option_and_then, ◌&&◌}
+use Rattle.std.specs.Option.{option_map_or}
+use Rattle.std.proofs.lemmas.List.Sums.{sum_by-append}
+use Rattle.event_log.specs.Event.{freezes, releases, sim_freezes, is_sim_release_of}
+use Rattle.event_log.specs.Counts.{sendings, sending_of, freezes_by_send}
+use Rattle.event_log.specs.Tally.{device_tally, sim_tally, number_of, blank_tally, tally_of, device_change, sim_change, with_change, counted, is_small}
+use Rattle.std.proofs.lemmas.List.Elements.{All-weaker}
+use Rattle.event_log.proofs.Laws.{sendings-push}
+use Rattle.event_log.proofs.NumberedLemmas.{known-changed, All-changed, All-known}
+use Rattle.event_log.proofs.ListFacts.{count_by-push}
+use Rattle.event_log.specs.declared.event.Event.{Event}
+use Rattle.event_log.specs.declared.event.Event.TheVariants.{Submit, Send, Done, Requeue, Finish, FreezeDev, ReleaseDev, FreezeSim, ReleaseSim, Adjust, Tick}
+use Rattle.event_log.specs.declared.passage.Sending.{Sending}
+use Rattle.event_log.specs.declared.tally.Tally.{Tally}
+
+-- what a change is to the tally of a number
+abbrev pub told_of : ℕ → Tally → Tally → Tally
+told_of n c t = cond (c.number == n) (with_change c t) t
+
+-- a tally by its parts
+abbrev tally : ℕ → ℕ → ℕ → Tally
+tally n a t = record { number = n; added = a; taken = t }
+
+tally-same : (n a a' t t' : ℕ) → a ≡ a' → t ≡ t' → tally n a t ≡ tally n a' t'
+tally-same n a a' t t' e e' = rw (e, e') refl
+
+-- what is told of all numbers by a change, or by none
+tally_of-changed : (o : Option Tally) (ts : List Tally) (n : ℕ) → tally_of (counted o ts) n ≡ option_map_or (λ c. told_of n c (tally_of ts n)) o (tally_of ts n)
+tally_of-changed None ts n = refl
+tally_of-changed (Some c) ts n = known-changed number_of blank_tally c.number (with_change c) (λ t. refl) (λ k. refl) ts n
+
+-- a sum or a count takes one event more
+sum-push : (f : Event → ℕ) (es : List Event) (e : Event) → sum_by f (es ++ e ∷ []) ≡ sum_by f es + f e
+sum-push f es e = sum_by-append f es (e ∷ []) ∙ ap (λ n. sum_by f es + n) (zero-add (f e))
+
+abbrev sent_part : ℕ → Option Sending → ℕ
+sent_part d o = option_map_or (λ s. cond (freezes_by_send d s) 1 0) o 0
+
+count-more : (d : ℕ) (ss : List Sending) (o : Option Sending) → count_by (freezes_by_send d) (ss ++ option_to_list o) ≡ count_by (freezes_by_send d) ss + sent_part d o
+count-more d ss None = rw (append-nil ss, add-zero (count_by (freezes_by_send d) ss)) refl
+count-more d ss (Some s) = count_by-push (freezes_by_send d) ss s
+
+device_parts : (es : List Event) (e : Event) (d : ℕ) → device_tally (es ++ e ∷ []) d ≡ record {
+  number = d;
+  added = (sum_by (freezes d) es + freezes d e) + (count_by (freezes_by_send d) (sendings es) + sent_part d (sending_of (es, e)));
+  taken = sum_by (releases d) es + releases d e;
+}
+device_parts es e d =
+    let sent : count_by (freezes_by_send d) (sendings (es ++ e ∷ [])) ≡ count_by (freezes_by_send d) (sendings es) + sent_part d (sending_of (es, e)) =
+    ap (count_by (freezes_by_send d)) (sendings-push es e) ∙ count-more d (sendings es) (sending_of (es, e)) in
+    rw (sum-push (freezes d) es e, sum-push (releases d) es e, sent) refl
+
+none_case : (d a b t : ℕ) → tally d ((a + 0) + (b + 0)) (t + 0) ≡ tally d (a + b) t
+none_case d a b t = tally-same d _ _ _ _ (omega arith) (omega arith)
+
+freeze_case : (d a b t n : ℕ) (x : Bool) → (tally d ((a + cond x n 0) + (b + 0)) (t + 0))
+    ≡ cond x (tally d ((a + b) + n) (t + 0)) (tally d (a + b) t)
+freeze_case d a b t n true = tally-same d _ _ _ _ (omega arith) refl
+freeze_case d a b t n false = none_case d a b t
+
+release_case : (d a b t n : ℕ) (x : Bool) → (tally d ((a + 0) + (b + 0)) (t + cond x n 0))
+    ≡ cond x (tally d ((a + b) + 0) (t + n)) (tally d (a + b) t)
+release_case d a b t n true = tally-same d _ _ _ _ (omega arith) refl
+release_case d a b t n false = none_case d a b t
+
+abbrev freezing : Sending → Option Tally
+freezing s = cond s.qfreeze (Some (tally s.device 1 0)) None
+
+qfreeze_cases : (d a b t n : ℕ) (x q : Bool) → (tally d ((a + 0) + (b + cond (x && q) 1 0)) (t + 0))
+    ≡ cond q (cond x (tally d ((a + b) + 1) (t + 0)) (tally d (a + b) t)) (tally d (a + b) t)
+qfreeze_cases d a b t n true true = tally-same d _ _ _ _ (omega arith) refl
+qfreeze_cases d a b t n true false = none_case d a b t
+qfreeze_cases d a b t n false true = none_case d a b t
+qfreeze_cases d a b t n false false = none_case d a b t
+
+freezing_cases : (d : ℕ) (c t : Tally) (q : Bool) → option_map_or (λ c'. told_of d c' t) (cond q (Some c) None) t ≡ cond q (told_of d c t) t
+freezing_cases d c t true = refl
+freezing_cases d c t false = refl
+
+send_case : (d a b t : ℕ) (o : Option Sending) → (tally d ((a + 0) + (b + sent_part d o)) (t + 0))
+    ≡ option_map_or (λ c. told_of d c (tally d (a + b) t)) (option_and_then freezing o) (tally d (a + b) t)
+send_case d a b t None = none_case d a b t
+send_case d a b t (Some s) = qfreeze_cases d a b t 1 (s.device == d) s.qfreeze ∙ sym (freezing_cases d _ _ s.qfreeze)
+
+pub device_tally-push : (es : List Event) (e : Event) (d : ℕ) → device_tally (es ++ e ∷ []) d ≡ option_map_or (λ c. told_of d c (device_tally es d)) (device_change (es, e)) (device_tally es d)
+device_tally-push es (FreezeDev device count) d = device_parts es (FreezeDev device count) d ∙ freeze_case d _ _ _ count (device == d)
+device_tally-push es (ReleaseDev device count) d = device_parts es (ReleaseDev device count) d ∙ release_case d _ _ _ count (device == d)
+device_tally-push es (Send lane ccb) d = device_parts es (Send lane ccb) d ∙ send_case d _ _ _ (sending_of (es, Send lane ccb))
+device_tally-push es (Submit driver device priority retries flags) d = device_parts es (Submit driver device priority retries flags) d ∙ none_case d _ _ _
+device_tally-push es (Done ccb outcome) d = device_parts es (Done ccb outcome) d ∙ none_case d _ _ _
+device_tally-push es (Requeue ccb) d = device_parts es (Requeue ccb) d ∙ none_case d _ _ _
+device_tally-push es (Finish ccb) d = device_parts es (Finish ccb) d ∙ none_case d _ _ _
+device_tally-push es (FreezeSim sim count) d = device_parts es (FreezeSim sim count) d ∙ none_case d _ _ _
+device_tally-push es (ReleaseSim sim) d = device_parts es (ReleaseSim sim) d ∙ none_case d _ _ _
+device_tally-push es (Adjust device openings) d = device_parts es (Adjust device openings) d ∙ none_case d _ _ _
+device_tally-push es Tick d = device_parts es Tick d ∙ none_case d _ _ _
+
+sim_parts : (es : List Event) (e : Event) (a : ℕ) → sim_tally (es ++ e ∷ []) a ≡ record {
+  number = a;
+  added = sum_by (sim_freezes a) es + sim_freezes a e;
+  taken = count_by (is_sim_release_of a) es + cond (is_sim_release_of a e) 1 0;
+}
+sim_parts es e a = rw (sum-push (sim_freezes a) es e, count_by-push (is_sim_release_of a) es e) refl
+
+sim_none : (n a t : ℕ) → tally n (a + 0) (t + 0) ≡ tally n a t
+sim_none n a t = tally-same n _ _ _ _ (omega arith) (omega arith)
+
+sim_freeze : (n a t k : ℕ) (x : Bool) → (tally n (a + cond x k 0) (t + 0))
+    ≡ cond x (tally n (a + k) (t + 0)) (tally n a t)
+sim_freeze n a t k true = refl
+sim_freeze n a t k false = sim_none n a t
+
+sim_release : (n a t : ℕ) (x : Bool) → (tally n (a + 0) (t + cond x 1 0))
+    ≡ cond x (tally n (a + 0) (t + 1)) (tally n a t)
+sim_release n a t true = refl
+sim_release n a t false = sim_none n a t
+
+pub sim_tally-push : (es : List Event) (e : Event) (a : ℕ) → sim_tally (es ++ e ∷ []) a ≡ option_map_or (λ c. told_of a c (sim_tally es a)) (sim_change e) (sim_tally es a)
+sim_tally-push es (FreezeSim sim count) a = sim_parts es (FreezeSim sim count) a ∙ sim_freeze a _ _ count (sim == a)
+sim_tally-push es (ReleaseSim sim) a = sim_parts es (ReleaseSim sim) a ∙ sim_release a _ _ (sim == a)
+sim_tally-push es (FreezeDev device count) a = sim_parts es (FreezeDev device count) a ∙ sim_none a _ _
+sim_tally-push es (ReleaseDev device count) a = sim_parts es (ReleaseDev device count) a ∙ sim_none a _ _
+sim_tally-push es (Send lane ccb) a = sim_parts es (Send lane ccb) a ∙ sim_none a _ _
+sim_tally-push es (Submit driver device priority retries flags) a = sim_parts es (Submit driver device priority retries flags) a ∙ sim_none a _ _
+sim_tally-push es (Done ccb outcome) a = sim_parts es (Done ccb outcome) a ∙ sim_none a _ _
+sim_tally-push es (Requeue ccb) a = sim_parts es (Requeue ccb) a ∙ sim_none a _ _
+sim_tally-push es (Finish ccb) a = sim_parts es (Finish ccb) a ∙ sim_none a _ _
+sim_tally-push es (Adjust device openings) a = sim_parts es (Adjust device openings) a ∙ sim_none a _ _
+sim_tally-push es Tick a = sim_parts es Tick a ∙ sim_none a _ _
+
+-- tallies that are those of the events, with what one event more changes
+pub devices-step : (ts : List Tally) (es : List Event) (e : Event) → ((d : ℕ) → tally_of ts d ≡ device_tally es d) →
+    (d : ℕ) → tally_of (counted (device_change (es, e)) ts) d ≡ device_tally (es ++ e ∷ []) d
+devices-step ts es e h d =
+    tally_of-changed (device_change (es, e)) ts d ∙ rw (h d) (sym (device_tally-push es e d))
+
+pub sims-step : (ts : List Tally) (es : List Event) (e : Event) → ((a : ℕ) → tally_of ts a ≡ sim_tally es a) →
+    (a : ℕ) → tally_of (counted (sim_change e) ts) a ≡ sim_tally (es ++ e ∷ []) a
+sims-step ts es e h a =
+    tally_of-changed (sim_change e) ts a ∙ rw (h a) (sym (sim_tally-push es e a))
+
+-- they stay small
+is_small-more : (n : ℕ) (t : Tally) → is_small n t → is_small (n + 1) t
+is_small-more n t (a, b) = (omega (arith, a), omega (arith, b))
+
+is_small-with : (n : ℕ) (c t : Tally) → is_small 1 c → is_small n t → is_small (n + 1) (with_change c t)
+is_small-with n c t (a, b) (a', b') = (omega (arith, a, a'), omega (arith, b, b'))
+
+pub small-step : (n : ℕ) (o : Option Tally) (ts : List Tally) → IfSome o (is_small 1) → All (is_small n) ts → All (is_small (n + 1)) (counted o ts)
+small-step n None ts one h = All-weaker (is_small n) (is_small (n + 1)) (is_small-more n) ts h
+small-step n (Some c) ts one h =
+    All-changed number_of blank_tally (is_small n) (is_small (n + 1)) c.number (with_change c) (is_small-more n) (λ t. is_small-with n c t one) (omega arith, omega arith) ts h
+
+short_of : (n d : ℕ) (t : Tally) → n ≤ 65535 → is_small n t → t.added - t.taken < 2 ^ 49
+short_of n d t le (a, b) = omega (arith, a)
+
+-- so few freezes stand that they fit
+pub few_freezes : (n d : ℕ) (ts : List Tally) → n ≤ 65535 → All (is_small n) ts → (tally_of ts d).added - (tally_of ts d).taken < 2 ^ 49
+few_freezes n d ts le h = short_of n d (tally_of ts d) le (All-known number_of blank_tally (is_small n) d (omega arith, omega arith) ts h)

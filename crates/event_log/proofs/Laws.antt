@@ -43,7 +43,7 @@ requeued-place (Some x) f n p h e = let e' : f x ≡ p = cc in ap (λ (q : Passa
 submitted-place : (before : List Event) (q p : Passage) → q.place ≡ length before → Some q ≡ Some p → p.place ≡ length before
 submitted-place before q p h e = let e' : q ≡ p = cc in ap (λ (r : Passage). r.place) (sym e') ∙ h
 
-place-passage_of : (m : List Event × Event) (p : Passage) → passage_of m ≡ Some p → p.place ≡ length m.0
+pub place-passage_of : (m : List Event × Event) (p : Passage) → passage_of m ≡ Some p → p.place ≡ length m.0
 place-passage_of (before, Submit driver device priority retries flags) p e = submitted-place before _ p refl e
 place-passage_of (before, Requeue ccb) p e = requeued-place (submission before ccb) _ (length before) p (λ x. refl) e
 place-passage_of (before, Send lane ccb) p e = absurd (cc)

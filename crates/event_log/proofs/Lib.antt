@@ -4,5 +4,8 @@ pub mod ListFacts
 pub mod LiveLemmas
 pub mod LogLemmas
 pub mod NumberedLemmas
+pub mod QueueLaws
+pub mod SortedLemmas
 pub mod StateLaws
 pub mod TallyLaws
+pub mod TurnLaws

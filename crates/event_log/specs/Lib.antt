@@ -6,6 +6,7 @@ pub mod Live
 pub mod Log
 pub mod Turn
 pub mod State
+pub mod Sorted
 pub mod Numbered
 pub mod Tally
 pub mod Opening

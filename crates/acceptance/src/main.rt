@@ -1,10 +1,11 @@
-//! Runs a check on each of the recorded traces in `data/`, and prints what it says of them.
+//! Checks each of the recorded traces in `data/` and audits some of them, and prints what is said of them.
 #![tactic(auto)]
 
-use audit_report::run_check;
+use audit_report::{AuditFault, run_audit, run_check};
 use cam_types::Watched;
 use std::fs::File;
 use std::io;
+use std::io::Read;
 use std::rt::Files;
 
 #[cfg(test)]
@@ -50,20 +51,54 @@ const TRACES: [&str; 36] = [
     "second-send",
 ];
 
+/// Those whose best schedule is known.
+const AUDITED: [&str; 8] = [
+    "one-command",
+    "no-events",
+    "second-command-waits-two-rounds",
+    "device-frozen-for-three-rounds",
+    "urgent-command-waits-a-round",
+    "check-condition-and-requeue",
+    "send-freezes-its-device",
+    "two-adapters",
+];
+
 fn main(rt: HostRuntime) -> io::Result<()> {
     for name in TRACES {
         println!(rt; "== {name}")?;
-        show(&rt, name)?;
+        show(&rt, name, Run::Check)?;
+    }
+    for name in AUDITED {
+        println!(rt; "== summary of {name}")?;
+        show(&rt, name, Run::Summary)?;
+    }
+    println!(rt; "== report on no-events")?;
+    show(&rt, "no-events", Run::Report)
+}
+
+/// What is done with a trace.
+#[derive(Clone, Copy)]
+enum Run {
+    Check,
+    Summary,
+    Report,
+}
+
+fn show<R: Files + Print + AllocGlobal>(rt: &R, name: &str, run: Run) -> io::Result<()> {
+    let path = format!(in rt.alloc(); "{name}.csv")?;
+    let file = File::open(rt, path.as_str())?;
+    if let Err(fault) = done(rt, file, run) {
+        rt.println(fault)?;
     }
     Ok(())
 }
 
-fn show<R: Files + Print + AllocGlobal>(rt: &R, name: &str) -> io::Result<()> {
-    let path = format!(in rt.alloc(); "{name}.csv")?;
-    let mut trace = Watched::new(File::open(rt, path.as_str())?);
+fn done<R: Print + AllocGlobal>(rt: &R, file: impl Read + Drop, run: Run) -> Result<(), AuditFault> {
+    let mut trace = Watched::new(file);
     let mut out = Watched::new(io::writer(rt));
-    if let Err(fault) = run_check(rt.alloc(), &mut trace, &mut out) {
-        rt.println(fault)?;
+    match run {
+        Run::Check => run_check(rt.alloc(), &mut trace, &mut out),
+        Run::Summary => run_audit(rt.alloc(), &mut trace, &mut out, true),
+        Run::Report => run_audit(rt.alloc(), &mut trace, &mut out, false),
     }
-    Ok(())
 }

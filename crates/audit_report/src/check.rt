@@ -2,7 +2,8 @@ ghost use Rattle.std.specs.Prelude.{◌≡◌, ◌≢◌, Some, true, false, Ok,
 ghost use Rattle.cam_types.specs.Watched.{device_of, has_failed, is_flushed};
 ghost use Rattle.cam_event.specs.Past.{Past};
 ghost use Rattle.event_log.specs.Live.{live_cost};
-ghost use Rattle.audit_report.specs.Check.{check_text, Wrote, Ended};
+ghost use Rattle.audit_report.specs.Check.{check_text, IsCheck};
+ghost use Rattle.audit_report.specs.Runs.{Ended};
 
 use crate::audit_fault::AuditFault;
 use crate::text::push_line;
@@ -21,7 +22,7 @@ pub fn run_check<R: Read, W: Write>(
 ) -> Result<(), AuditFault>
     requires trace_calm { has_failed trace.old ≡ false }
     requires out_calm { has_failed out.old ≡ false }
-    ensures ended { Ended (R.remaining (device_of trace.old)) (R.remaining (device_of trace.new)) (has_failed trace.new) (W.contents (device_of out.old)) (W.contents (device_of out.new)) (has_failed out.new) result }
+    ensures ended { Ended IsCheck (R.remaining (device_of trace.old)) (R.remaining (device_of trace.new)) (has_failed trace.new) (W.contents (device_of out.old)) (W.contents (device_of out.new)) (has_failed out.new) result }
     ensures flushed { OnOk result (is_flushed out.new ≡ true) }
 {
     let history = match read_trace(alloc, trace) {

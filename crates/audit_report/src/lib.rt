@@ -1,9 +1,12 @@
 //! Whole runs over bytes: a trace in, a report out.
 #![tactic(auto)]
 
+pub use audit::run_audit;
 pub use audit_fault::AuditFault;
 pub use check::run_check;
 
+mod audit;
 mod audit_fault;
 mod check;
+mod report;
 mod text;

@@ -3,10 +3,10 @@
 
 use std::process::ExitCode;
 
-mod check;
 mod command_line;
 mod failure;
 mod program;
+mod trace_run;
 
 fn main(rt: HostRuntime) -> ExitCode {
     program::run(&rt)

@@ -1,6 +1,6 @@
-use crate::check::check;
 use crate::command_line::command_line;
 use crate::failure::Failure;
+use crate::trace_run::TraceRun;
 use audit_report::AuditFault;
 use clap::ArgMatches;
 use clap::error::ErrorKind;
@@ -38,9 +38,18 @@ pub fn run<R: Runtime + AllocGlobal>(rt: &R) -> ExitCode {
 
 fn obey<R: Runtime + AllocGlobal>(rt: &R, matches: &ArgMatches<'_>) -> Result<(), Failure> {
     match matches.subcommand() {
-        Some(("check", words)) => check(rt, words.get_str("TRACE")),
-        _ => check(rt, None),
+        Some(("check", words)) => TraceRun::Check.over(rt, words.get_str("TRACE"))?,
+        Some(("audit", words)) => {
+            let run = if words.get_flag("summary") {
+                TraceRun::Summary
+            } else {
+                TraceRun::Audit
+            };
+            run.over(rt, words.get_str("TRACE"))?;
+        }
+        _ => TraceRun::Summary.over(rt, None)?,
     }
+    Ok(())
 }
 
 fn fail<R: Runtime>(rt: &R, failure: Failure) -> ExitCode {

@@ -52,7 +52,7 @@ impl Log {
     ghost use Rattle.event_log.specs.Event.{is_tick, is_requeue_of, submission_of};
     ghost use Rattle.std.specs.Option.{option_map};
     ghost use Rattle.event_log.specs.State.{state_of};
-    ghost use Rattle.event_log.specs.Counts.{round, commands, submission, sending_of};
+    ghost use Rattle.event_log.specs.Counts.{round, commands, submission, sendings, sending_of};
     ghost use Rattle.event_log.specs.Stays.{passage_of};
 
     /// A log without events.
@@ -243,6 +243,15 @@ impl Log {
             .iter()
             .filter(|event| event.is_requeue_of(ccb))
             .count() as u32
+    }
+
+    /// All sends, in order.
+    #[tactic(auto, using(crate::proofs::Laws::few_sends))]
+    pub fn sendings(&self) -> &[Sending]
+        ensures same { result.now ≡ sendings self.now }
+        ensures short { length result.now ≤ MOST_EVENTS }
+    {
+        &self.sendings
     }
 
     /// The events, in order.

@@ -23,6 +23,13 @@ impl Log {
         }
         Some(live_sum(&self.events, &self.passages))
     }
+
+    /// The round of the stay's send, and the last round where it has none.
+    pub fn live_round(&self, passage: &Passage) -> u32
+        ensures { result ≡ live_round self.now passage.now }
+    {
+        live_round(&self.events, passage) as u32
+    }
 }
 
 // What the waiting of all stays cost.

@@ -20,6 +20,13 @@ impl Log {
         self.passages.len() as u32
     }
 
+    /// All stays, in order of birth.
+    pub fn passages(&self) -> &[Passage]
+        ensures { result.now ≡ passages self.now }
+    {
+        &self.passages
+    }
+
     fn has_arrived(&self, passage: &Passage) -> bool
         ensures { result ≡ has_arrived self.now passage.now }
     {

@@ -1,0 +1,44 @@
+-- what the live schedule costs, by the net and by the events
+use Rattle.std.proofs.Common.{◌≡◌, ℕ, zero, suc, ◌+◌, ◌*◌, ◌-◌, List, [], ◌∷◌, length, map, refl, sym, ap, ◌∙◌, arith, Option, Some, None}
+use Rattle.std.specs.Prelude.{sum_by}
+use Rattle.std.specs.List.{list_any}
+use Rattle.std.proofs.lemmas.List.Sums.{sum_by-cons}
+use Rattle.cam_types.specs.Topology.{Topology}
+use Rattle.event_log.specs.Stays.{passages}
+use Rattle.event_log.specs.Live.{live_part, live_cost}
+use Rattle.event_log.specs.declared.event.Event.{Event}
+use Rattle.event_log.specs.declared.passage.Passage.{Passage}
+use Rattle.round_net.specs.Sums.{sum_below}
+use Rattle.round_net.specs.Rows.{of_stay, instance_of_rows, live_of_rows}
+use Rattle.round_net.specs.Schedules.{cost}
+use Rattle.round_net.specs.Nets.{stay_row, net_of, instance_of, live_of}
+use Rattle.round_net.specs.declared.stay_row.StayRow.{StayRow}
+
+sum_below-shift : (n : ℕ) (g : ℕ → ℕ) → sum_below (suc n) g ≡ g 0 + sum_below n (λ i. g (suc i))
+sum_below-shift zero g = omega arith
+sum_below-shift (suc n) g = omega (arith, sum_below-shift n g)
+
+-- what a stay's row costs
+abbrev row_cost : StayRow → ℕ
+row_cost row = row.weight * (row.live - row.arrival)
+
+abbrev cost_at : List StayRow → ℕ → ℕ
+cost_at rows s = of_stay (λ (row : StayRow). row.weight) rows s * (of_stay (λ (row : StayRow). row.live) rows s - of_stay (λ (row : StayRow). row.arrival) rows s)
+
+rows_sum : (rows : List StayRow) → sum_below (length rows) (cost_at rows) ≡ sum_by row_cost rows
+rows_sum [] = refl
+rows_sum (row ∷ rows) =
+    sum_below-shift (length rows) (cost_at (row ∷ rows)) ∙ ap (λ n. row_cost row + n) (rows_sum rows) ∙ sym (sum_by-cons row_cost row rows)
+
+sum_by-map : {X Y : Type 0} (f : X → Y) (g : Y → ℕ) (xs : List X) → sum_by g (map f xs) ≡ sum_by (λ x. g (f x)) xs
+sum_by-map f g [] = refl
+sum_by-map f g (x ∷ xs) = sum_by-cons g (f x) (map f xs) ∙ ap (λ n. g (f x) + n) (sum_by-map f g xs) ∙ sym (sum_by-cons (λ y. g (f y)) x xs)
+
+same_parts : (es : List Event) (ps : List Passage) → sum_by (λ p. row_cost (stay_row es p)) ps ≡ sum_by (live_part es) ps
+unfolding stay_row live_part
+same_parts es ps = refl
+
+-- the net's live schedule costs what the history's stays waited
+pub cost-live : (c : Topology) (es : List Event) → cost (instance_of c es) (live_of c es) ≡ sum_by (live_part es) (passages es)
+unfolding instance_of_rows live_of_rows net_of
+cost-live c es = rows_sum (map (stay_row es) (passages es)) ∙ sum_by-map (stay_row es) row_cost (passages es) ∙ same_parts es (passages es)

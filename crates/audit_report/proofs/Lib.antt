@@ -1,0 +1,3 @@
+pub mod AuditLemmas
+pub mod CostLemmas
+pub mod ReportLemmas

@@ -1,0 +1,70 @@
+-- the report on a history: a schedule, what it costs, and the prices that prove it
+use Rattle.std.specs.Prelude.{ℕ, zero, suc, ◌+◌, ◌-◌, ◌==◌, if◌then◌else◌, List, [], ◌++◌, length, slice_get, codes, decimal}
+use Rattle.std.specs.Option.{option_map_or}
+use Rattle.cam_types.specs.declared.device.Device.{Device}
+use Rattle.cam_path.specs.Paths.{address_of, spelled}
+use Rattle.event_log.specs.Counts.{round, commands}
+use Rattle.event_log.specs.Stays.{passages}
+use Rattle.event_log.specs.declared.event.Event.{Event}
+use Rattle.event_log.specs.declared.passage.Stay.{Stay}
+use Rattle.round_net.specs.Instance.{Instance}
+use Rattle.round_net.specs.Rows.{NetRows, instance_of_rows, live_of_rows, names_of_rows}
+use Rattle.round_net.specs.Value.{Pricing}
+use Rattle.audit_report.specs.Lines.{line}
+
+-- the first seven lines, where the live schedule costs so much and the best one so much
+unfoldable pub summary_text : List Event → ℕ → ℕ → List ℕ
+summary_text events live best =
+    line (codes "camaudit") 1
+    ++ line (codes "commands") (commands events)
+    ++ line (codes "stays") (length (passages events))
+    ++ line (codes "rounds") (round events)
+    ++ line (codes "live") live
+    ++ line (codes "best") best
+    ++ line (codes "excess") (live - best)
+
+-- a number behind a space
+abbrev pub number_text : ℕ → List ℕ
+number_text n = codes " " ++ decimal n
+
+-- the texts of the first n numbers, one behind another
+abbrev pub texts_below : ℕ → (ℕ → List ℕ) → List ℕ
+texts_below zero text = []
+texts_below (suc n) text = texts_below n text ++ text n
+
+-- a stay's CCB and try
+unfoldable pub name_text : NetRows → ℕ → List ℕ
+name_text net s = option_map_or (λ (stay : Stay). number_text stay.ccb ++ number_text stay.attempt) (slice_get (names_of_rows net) s) []
+
+-- a stay: its CCB and try, the rounds in which it arrived, was sent and would best be sent, and its weight
+unfoldable pub stay_line : NetRows → (ℕ → ℕ) → ℕ → List ℕ
+stay_line net best s =
+    codes "stay"
+    ++ (name_text net s
+    ++ (number_text ((instance_of_rows net).arrival s)
+    ++ (number_text (live_of_rows net s)
+    ++ (number_text (best s)
+    ++ (number_text ((instance_of_rows net).weight s)
+    ++ codes "\n")))))
+
+-- a price of an opening in a round, where it isn't 0
+abbrev pub price_line : List ℕ → ℕ → ℕ → List ℕ
+price_line whose r price = if price == 0 then [] else whose ++ (number_text r ++ (number_text price ++ codes "\n"))
+
+-- the path of a device of this number, and nothing where there is none
+unfoldable pub path_text : List Device → ℕ → List ℕ
+path_text devices d = option_map_or (λ (device : Device). spelled (address_of device)) (slice_get devices d) []
+
+unfoldable pub dev_line : List Device → Pricing → ℕ → ℕ → List ℕ
+dev_line devices p d r = price_line (codes "price dev " ++ path_text devices d) r (p.dev d r)
+
+unfoldable pub sim_line : Pricing → ℕ → ℕ → List ℕ
+sim_line p a r = price_line (codes "price sim" ++ number_text a) r (p.sim a r)
+
+-- the stays in order of birth, the prices by device and round, then by adapter and round, and the last line
+unfoldable pub plan_text : List Device → NetRows → (ℕ → ℕ) → Pricing → List ℕ
+plan_text devices net best p =
+    texts_below (instance_of_rows net).stays (stay_line net best)
+    ++ (texts_below (instance_of_rows net).devices (λ d. texts_below (instance_of_rows net).rounds (λ r. dev_line devices p d (r + 1)))
+    ++ (texts_below (instance_of_rows net).adapters (λ a. texts_below (instance_of_rows net).rounds (λ r. sim_line p a (r + 1)))
+    ++ codes "end\n"))

@@ -1,0 +1,43 @@
+-- how a run over a trace ends
+use Rattle.std.specs.Prelude.{◌≡◌, ℕ, Bool, true, List, Option, Some, Result, Ok, Err}
+use Rattle.std.specs.Io.KnownBytes.{Appends}
+use Rattle.cam_types.specs.Whole.{AppendsFront}
+use Rattle.cam_event.specs.Past.{Past}
+use Rattle.event_log.specs.Stays.{unsent}
+use Rattle.event_log.specs.declared.passage.Stay.{Stay}
+use Rattle.trace_file.specs.Trace.{WasTrace, Explains}
+use Rattle.audit_report.specs.declared.audit_fault.AuditFault.{AuditFault}
+use Rattle.audit_report.specs.declared.audit_fault.AuditFault.TheVariants.{Trace, Unsent, WriteFailed, OutOfMemory}
+
+-- a trace was read, and this is the first of its stays that has no send
+pub record WasUnsent (before after : Option (List ℕ)) (s : Stay) : Type 0 where
+  pub past : Past
+  pub trace : WasTrace before after past
+  pub first : unsent past.events ≡ Some s
+
+-- which texts are right for a history is what the run is for
+module _ (IsRight : Past → List ℕ → Type 0) where
+  -- a trace was read to its end, and a text that is right for its history was written, all of it
+  pub record Wrote (before after out out' : Option (List ℕ)) : Type 0 where
+    pub past : Past
+    pub text : List ℕ
+    pub trace : WasTrace before after past
+    pub right : IsRight past text
+    pub written : Appends out out' text
+
+  -- only the front of it was written, and the writer's note says that a call failed
+  pub record WroteFront (before after out out' : Option (List ℕ)) (noted : Bool) : Type 0 where
+    pub past : Past
+    pub text : List ℕ
+    pub trace : WasTrace before after past
+    pub right : IsRight past text
+    pub front : AppendsFront out out' text
+    pub failed : noted ≡ true
+
+  -- how the run ended: with its text written, or with a fault for its cause and nothing written, or with a failed write
+  abbrev pub Ended : Option (List ℕ) → Option (List ℕ) → Bool → Option (List ℕ) → Option (List ℕ) → Bool → Result (Unit {0}) AuditFault → Type 0
+  Ended before after failed out out' out_failed (Ok u) = Wrote before after out out'
+  Ended before after failed out out' out_failed (Err (Trace fault)) = Explains before after failed fault × (out' ≡ out)
+  Ended before after failed out out' out_failed (Err (Unsent s)) = WasUnsent before after s × (out' ≡ out)
+  Ended before after failed out out' out_failed (Err WriteFailed) = WroteFront before after out out' out_failed
+  Ended before after failed out out' out_failed (Err OutOfMemory) = out' ≡ out

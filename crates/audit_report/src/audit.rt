@@ -1,0 +1,107 @@
+ghost use Rattle.std.specs.Prelude.{◌≡◌, true, false, if◌then◌else◌, None, [], ◌++◌, length, slice_index, IfOk, OnOk};
+ghost use Rattle.cam_types.specs.Watched.{device_of, has_failed, is_flushed};
+ghost use Rattle.event_log.specs.Stays.{unsent};
+ghost use Rattle.round_net.specs.Rows.{instance_of_rows};
+ghost use Rattle.round_net.specs.PriceRows.{pricing_of_rows, IsPricingFor};
+ghost use Rattle.round_net.specs.Value.{ProvesBest};
+ghost use Rattle.round_net.specs.Nets.{net_of};
+ghost use Rattle.cam_event.specs.Legal.{history_rules, is_legal};
+ghost use Rattle.audit_report.specs.Report.{plan_text};
+ghost use Rattle.audit_report.specs.Audit.{IsAudit};
+ghost use Rattle.audit_report.specs.Runs.{Ended};
+
+use crate::audit_fault::AuditFault;
+use crate::report::{push_plan, push_summary};
+use cam_event::History;
+use cam_types::{Watched, write_whole};
+use cost_plan::{BestPlan, plan};
+use round_net::{Net, NetFault, cost};
+use std::alloc::{AllocError, Global};
+use std::io::{Read, Write};
+use trace_file::read_trace;
+
+/// Reads a trace and writes the report on it: the live schedule, a best schedule, the excess of the one over the other,
+/// and prices that prove by themselves that no schedule costs less; or, where `summary` is asked for, the first seven
+/// lines of the report alone. Before anything is written the trace is read to its end, tested, found complete and
+/// planned.
+pub fn run_audit<R: Read, W: Write>(
+    alloc: Global,
+    trace: &mut Watched<R>,
+    out: &mut Watched<W>,
+    summary: bool,
+) -> Result<(), AuditFault>
+    requires trace_calm { has_failed trace.old ≡ false }
+    requires out_calm { has_failed out.old ≡ false }
+    ensures ended { Ended (IsAudit summary) (R.remaining (device_of trace.old)) (R.remaining (device_of trace.new)) (has_failed trace.new) (W.contents (device_of out.old)) (W.contents (device_of out.new)) (has_failed out.new) result }
+    ensures flushed { OnOk result (is_flushed out.new ≡ true) }
+{
+    let history = match read_trace(alloc, trace) {
+        Ok(history) => history,
+        Err(fault) => return Err(AuditFault::Trace(fault)),
+    };
+    let net = match Net::of(alloc, &history) {
+        Ok(net) => net,
+        Err(NetFault::Unsent(stay)) => return Err(AuditFault::Unsent(stay)),
+        Err(NetFault::OutOfMemory) => return Err(AuditFault::OutOfMemory),
+    };
+    let best = plan(alloc, &net)?;
+    let text = audit_text(alloc, &history, &net, &best, summary)?;
+    match write_whole(out, &text) {
+        Ok(()) => Ok(()),
+        Err(_) => Err(AuditFault::WriteFailed),
+    }
+}
+
+// The report on a history with a best plan of its net, or its summary alone.
+fn audit_text(
+    alloc: Global,
+    history: &History,
+    net: &Net,
+    best: &BestPlan,
+    summary: bool,
+) -> Result<Vec<u8>, AllocError>
+    requires net { net.now ≡ net_of history.now.config history.now.events }
+    requires complete { unsent history.now.events ≡ None }
+    requires legal { is_legal history_rules history.now.config history.now.events ≡ true }
+    requires proved { ProvesBest (instance_of_rows net.now) (slice_index best.now.schedule) (pricing_of_rows best.now.prices) }
+    requires stays { length best.now.schedule ≡ (instance_of_rows net.now).stays }
+    requires cells { IsPricingFor (instance_of_rows net.now) best.now.prices }
+    ensures { IfOk result (λ text. IsAudit summary history.now text.items) }
+{
+    let Some(live) = history.live_cost() else {
+        unreachable!()
+    };
+    let Some(least) = cost(net, &best.schedule) else {
+        unreachable!()
+    };
+    let mut text = Vec::with_capacity(alloc, 40 * net.stays() as usize)?;
+    push_summary(&mut text, history, live, least)?;
+    push_rest(&mut text, history, net, best, summary)?;
+    Ok(text)
+}
+
+// Puts the report behind its summary, where the whole of it is asked for.
+#[tactic(auto, using(crate::proofs::AuditLemmas::devices_of_net, crate::proofs::AuditLemmas::nothing_more))]
+fn push_rest(
+    text: &mut Vec<u8>,
+    history: &History,
+    net: &Net,
+    best: &BestPlan,
+    summary: bool,
+) -> Result<(), AllocError>
+    requires net { net.now ≡ net_of history.now.config history.now.events }
+    requires stays { length best.now.schedule ≡ (instance_of_rows net.now).stays }
+    requires cells { IsPricingFor (instance_of_rows net.now) best.now.prices }
+    ensures { OnOk result (text.new.items ≡ text.old.items ++ (if summary then [] else plan_text history.now.config.devices net.now (slice_index best.now.schedule) (pricing_of_rows best.now.prices))) }
+{
+    if summary {
+        return Ok(());
+    }
+    push_plan(
+        text,
+        history.config().devices(),
+        net,
+        &best.schedule,
+        &best.prices,
+    )
+}

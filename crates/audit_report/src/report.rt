@@ -1,0 +1,234 @@
+ghost use Rattle.std.specs.Prelude.{◌≡◌, ◌+◌, ◌-◌, ◌<◌, ◌≤◌, ◌++◌, length, slice_index, codes, OnOk, IfOk};
+ghost use Rattle.round_net.specs.Rows.{instance_of_rows};
+ghost use Rattle.round_net.specs.PriceRows.{pricing_of_rows, IsPricingFor};
+ghost use Rattle.audit_report.specs.Report.{summary_text, number_text, texts_below, name_text, stay_line, path_text, price_line, dev_line, sim_line, plan_text};
+
+use crate::text::push_line;
+use cam_event::History;
+use cam_path::CamPath;
+use cam_types::Device;
+use itoa::Buffer;
+use round_net::{Net, Prices, Schedule};
+use std::alloc::AllocError;
+
+/// Puts the report's first seven lines behind the text: the counts of the history, what its live schedule cost, what a
+/// best one costs and by how much the live one is above it.
+#[tactic(auto, unfolding(crate::specs::Report::summary_text))]
+pub fn push_summary(
+    text: &mut Vec<u8>,
+    history: &History,
+    live: u64,
+    best: u64,
+) -> Result<(), AllocError>
+    requires { best ≤ live }
+    ensures { OnOk result (text.new.items ≡ text.old.items ++ summary_text history.now.events live best) }
+{
+    push_line(text, b"camaudit", 1)?;
+    push_line(text, b"commands", u64::from(history.commands()))?;
+    push_line(text, b"stays", u64::from(history.stay_count()))?;
+    push_line(text, b"rounds", u64::from(history.round()))?;
+    push_line(text, b"live", live)?;
+    push_line(text, b"best", best)?;
+    push_line(text, b"excess", live - best)?;
+    Ok(())
+}
+
+/// Puts the rest of the report behind the text: the stays, the prices that aren't 0, and the last line.
+#[tactic(auto, unfolding(crate::specs::Report::plan_text))]
+pub fn push_plan(
+    text: &mut Vec<u8>,
+    devices: &[Device],
+    net: &Net,
+    schedule: &Schedule,
+    prices: &Prices,
+) -> Result<(), AllocError>
+    requires schedule { length schedule.now ≡ (instance_of_rows net.now).stays }
+    requires prices { IsPricingFor (instance_of_rows net.now) prices.now }
+    requires devices { length devices.now ≡ (instance_of_rows net.now).devices }
+    ensures { OnOk result (text.new.items ≡ text.old.items ++ plan_text devices.now net.now (slice_index schedule.now) (pricing_of_rows prices.now)) }
+{
+    push_stays(text, net, schedule)?;
+    push_dev_prices(text, devices, net, prices)?;
+    push_sim_prices(text, net, prices)?;
+    text.extend_from_slice(b"end\n")
+}
+
+#[tactic(auto, using(crate::proofs::ReportLemmas::no_text, crate::proofs::ReportLemmas::next_text))]
+fn push_stays(text: &mut Vec<u8>, net: &Net, schedule: &Schedule) -> Result<(), AllocError>
+    requires { length schedule.now ≡ (instance_of_rows net.now).stays }
+    ensures { OnOk result (text.new.items ≡ text.old.items ++ texts_below (instance_of_rows net.now).stays (stay_line net.now (slice_index schedule.now))) }
+{
+    for stay in 0..net.stays() {
+        push_stay(text, net, schedule, stay)?;
+    }
+    Ok(())
+}
+
+#[tactic(auto, unfolding(crate::specs::Report::stay_line))]
+fn push_stay(
+    text: &mut Vec<u8>,
+    net: &Net,
+    schedule: &Schedule,
+    stay: u32,
+) -> Result<(), AllocError>
+    requires schedule { length schedule.now ≡ (instance_of_rows net.now).stays }
+    requires stay { stay < (instance_of_rows net.now).stays }
+    ensures { OnOk result (text.new.items ≡ text.old.items ++ stay_line net.now (slice_index schedule.now) stay) }
+{
+    text.extend_from_slice(b"stay")?;
+    push_name(text, net, stay)?;
+    push_number(text, u64::from(net.arrival(stay)))?;
+    push_number(text, u64::from(net.live(stay)))?;
+    push_number(text, u64::from(schedule.round(stay)))?;
+    push_number(text, u64::from(net.weight(stay)))?;
+    text.extend_from_slice(b"\n")?;
+    Ok(())
+}
+
+// Puts a stay's CCB and try behind the text.
+#[tactic(auto, unfolding(crate::specs::Report::name_text))]
+fn push_name(text: &mut Vec<u8>, net: &Net, stay: u32) -> Result<(), AllocError>
+    requires { stay < (instance_of_rows net.now).stays }
+    ensures { OnOk result (text.new.items ≡ text.old.items ++ name_text net.now stay) }
+{
+    let name = net.stay(stay);
+    push_number(text, u64::from(name.ccb))?;
+    push_number(text, u64::from(name.attempt))?;
+    Ok(())
+}
+
+#[tactic(auto, using(crate::proofs::ReportLemmas::no_text, crate::proofs::ReportLemmas::next_text))]
+fn push_dev_prices(
+    text: &mut Vec<u8>,
+    devices: &[Device],
+    net: &Net,
+    prices: &Prices,
+) -> Result<(), AllocError>
+    requires prices { IsPricingFor (instance_of_rows net.now) prices.now }
+    requires devices { length devices.now ≡ (instance_of_rows net.now).devices }
+    ensures { OnOk result (text.new.items ≡ text.old.items ++ texts_below (instance_of_rows net.now).devices (λ d. texts_below (instance_of_rows net.now).rounds (λ r. dev_line devices.now (pricing_of_rows prices.now) d (r + 1)))) }
+{
+    for device in 0..net.devices() {
+        push_dev_rounds(text, devices, net, prices, device)?;
+    }
+    Ok(())
+}
+
+#[tactic(auto, using(crate::proofs::ReportLemmas::no_text, crate::proofs::ReportLemmas::next_text))]
+fn push_dev_rounds(
+    text: &mut Vec<u8>,
+    devices: &[Device],
+    net: &Net,
+    prices: &Prices,
+    device: u32,
+) -> Result<(), AllocError>
+    requires prices { IsPricingFor (instance_of_rows net.now) prices.now }
+    requires devices { length devices.now ≡ (instance_of_rows net.now).devices }
+    requires device { device < (instance_of_rows net.now).devices }
+    ensures { OnOk result (text.new.items ≡ text.old.items ++ texts_below (instance_of_rows net.now).rounds (λ r. dev_line devices.now (pricing_of_rows prices.now) device (r + 1))) }
+{
+    for round in 0..net.rounds() {
+        push_dev_price(text, devices, prices, device, round + 1)?;
+    }
+    Ok(())
+}
+
+#[tactic(auto, unfolding(crate::specs::Report::dev_line))]
+fn push_dev_price(
+    text: &mut Vec<u8>,
+    devices: &[Device],
+    prices: &Prices,
+    device: u32,
+    round: u32,
+) -> Result<(), AllocError>
+    requires device { device < prices.now.devices }
+    requires named { device < length devices.now }
+    requires first { 1 ≤ round }
+    requires last { round ≤ prices.now.rounds }
+    ensures { OnOk result (text.new.items ≡ text.old.items ++ dev_line devices.now (pricing_of_rows prices.now) device round) }
+{
+    let price = prices.dev(device, round);
+    if price == 0 {
+        return Ok(());
+    }
+    text.extend_from_slice(b"price dev ")?;
+    push_path(text, devices, device)?;
+    push_price(text, round, price)?;
+    Ok(())
+}
+
+// Puts the path of a device behind the text.
+#[tactic(auto, unfolding(crate::specs::Report::path_text))]
+fn push_path(text: &mut Vec<u8>, devices: &[Device], device: u32) -> Result<(), AllocError>
+    requires { device < length devices.now }
+    ensures { OnOk result (text.new.items ≡ text.old.items ++ path_text devices.now device) }
+{
+    CamPath::of(&devices[device as usize]).write(text)
+}
+
+#[tactic(auto, using(crate::proofs::ReportLemmas::no_text, crate::proofs::ReportLemmas::next_text))]
+fn push_sim_prices(text: &mut Vec<u8>, net: &Net, prices: &Prices) -> Result<(), AllocError>
+    requires { IsPricingFor (instance_of_rows net.now) prices.now }
+    ensures { OnOk result (text.new.items ≡ text.old.items ++ texts_below (instance_of_rows net.now).adapters (λ a. texts_below (instance_of_rows net.now).rounds (λ r. sim_line (pricing_of_rows prices.now) a (r + 1)))) }
+{
+    for adapter in 0..net.adapters() {
+        push_sim_rounds(text, net, prices, adapter)?;
+    }
+    Ok(())
+}
+
+#[tactic(auto, using(crate::proofs::ReportLemmas::no_text, crate::proofs::ReportLemmas::next_text))]
+fn push_sim_rounds(
+    text: &mut Vec<u8>,
+    net: &Net,
+    prices: &Prices,
+    adapter: u32,
+) -> Result<(), AllocError>
+    requires prices { IsPricingFor (instance_of_rows net.now) prices.now }
+    requires adapter { adapter < (instance_of_rows net.now).adapters }
+    ensures { OnOk result (text.new.items ≡ text.old.items ++ texts_below (instance_of_rows net.now).rounds (λ r. sim_line (pricing_of_rows prices.now) adapter (r + 1))) }
+{
+    for round in 0..net.rounds() {
+        push_sim_price(text, prices, adapter, round + 1)?;
+    }
+    Ok(())
+}
+
+#[tactic(auto, unfolding(crate::specs::Report::sim_line))]
+fn push_sim_price(
+    text: &mut Vec<u8>,
+    prices: &Prices,
+    adapter: u32,
+    round: u32,
+) -> Result<(), AllocError>
+    requires adapter { adapter < prices.now.adapters }
+    requires first { 1 ≤ round }
+    requires last { round ≤ prices.now.rounds }
+    ensures { OnOk result (text.new.items ≡ text.old.items ++ sim_line (pricing_of_rows prices.now) adapter round) }
+{
+    let price = prices.sim(adapter, round);
+    if price == 0 {
+        return Ok(());
+    }
+    text.extend_from_slice(b"price sim")?;
+    push_number(text, u64::from(adapter))?;
+    push_price(text, round, price)
+}
+
+// Puts the end of a price's line behind the text.
+fn push_price(text: &mut Vec<u8>, round: u32, price: u64) -> Result<(), AllocError>
+    ensures { OnOk result (text.new.items ≡ text.old.items ++ (number_text round ++ (number_text price ++ codes "\n"))) }
+{
+    push_number(text, u64::from(round))?;
+    push_number(text, price)?;
+    text.extend_from_slice(b"\n")
+}
+
+// Puts a space and a number behind the text.
+fn push_number(text: &mut Vec<u8>, number: u64) -> Result<(), AllocError>
+    ensures { OnOk result (text.new.items ≡ text.old.items ++ number_text number) }
+{
+    let mut digits = Buffer::new();
+    text.extend_from_slice(b" ")?;
+    text.extend_from_slice(digits.format(number).as_bytes())
+}

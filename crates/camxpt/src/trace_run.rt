@@ -1,0 +1,51 @@
+use crate::failure::Failure;
+use audit_report::{run_audit, run_check};
+use cam_types::Watched;
+use std::fs::File;
+use std::io;
+use std::io::Read;
+use std::rt::Files;
+
+/// What is done with a trace.
+#[derive(Clone, Copy)]
+pub enum TraceRun {
+    /// It is checked.
+    Check,
+    /// It is audited, with the whole report.
+    Audit,
+    /// It is audited, with the report's summary.
+    Summary,
+}
+
+impl TraceRun {
+    /// Reads the trace in the file of this name, or on standard input without one.
+    pub fn over<R: Files + Input + Print + AllocGlobal>(
+        self,
+        rt: &R,
+        trace: Option<&str>,
+    ) -> Result<(), Failure> {
+        match trace {
+            Some(name) => match File::open(rt, name) {
+                Ok(file) => self.over_reader(rt, file),
+                Err(_) => Err(Failure::CannotOpen),
+            },
+            None => self.over_reader(rt, rt.reader()),
+        }
+    }
+
+    fn over_reader<R: Print + AllocGlobal>(
+        self,
+        rt: &R,
+        reader: impl Read + Drop,
+    ) -> Result<(), Failure> {
+        let alloc = rt.alloc();
+        let mut trace = Watched::new(reader);
+        let mut out = Watched::new(io::writer(rt));
+        match self {
+            TraceRun::Check => run_check(alloc, &mut trace, &mut out)?,
+            TraceRun::Audit => run_audit(alloc, &mut trace, &mut out, false)?,
+            TraceRun::Summary => run_audit(alloc, &mut trace, &mut out, true)?,
+        }
+        Ok(())
+    }
+}

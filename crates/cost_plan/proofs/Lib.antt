@@ -1,0 +1,13 @@
+pub mod SumLemmas
+pub mod ChangeLemmas
+pub mod CellLemmas
+pub mod BalanceLemmas
+pub mod CycleChangeLemmas
+pub mod LeastLemmas
+pub mod ExchangeLemmas
+pub mod PriceLemmas
+pub mod RaisingLemmas
+pub mod LoadLemmas
+pub mod SearchLemmas
+pub mod PricedLemmas
+pub mod NodeLemmas

@@ -1,0 +1,166 @@
+-- What raising labels by arcs, one after another, does.
+use Rattle.std.proofs.Common.{◌≡◌, ℕ, ◌+◌, ◌*◌, ◌<◌, ◌≤◌, nat_le, true, false, cond, List, length, get_or, set, Option, Some, None, refl, sym, ap, ◌∙◌, subst, inl, inr, arith}
+use Rattle.std.specs.Option.{option_or}
+use Rattle.std.proofs.lemmas.Bool.{cases_eq, cases_lt, leb-true, leb-false, cond-true, cond-false}
+use Rattle.std.proofs.lemmas.List.{length-set, get_or-set_same, get_or-set_other, set_past}
+use Rattle.gaining_cycle.specs.declared.arc.Arc.{Arc}
+use Rattle.gaining_cycle.specs.Walks.{came_by}
+use Rattle.gaining_cycle.specs.Labelling.{Labelling, highest, settles, needed, relaxed, raised, IsSettled}
+use Rattle.round_net.specs.Instance.{Instance}
+use Rattle.cost_plan.specs.Cells.{cell}
+use Rattle.cost_plan.specs.Residual.{IsResidual, move_arc}
+use Rattle.cost_plan.specs.Raising.{Raises, IsRaising}
+
+-- nothing is raised
+pub Raises-none : (net : Instance) (f : ℕ → ℕ) (l : Labelling) → Raises net f l l None
+Raises-none net f l = record {
+  size = refl;
+  rises = λ node. omega arith;
+  quiet = λ none. refl;
+  inside = λ node is. cc;
+  rose = λ node is. cc;
+  came = λ node arc by. inl by;
+}
+
+-- one after another
+some-or : (a b : Option ℕ) → option_or a b ≡ None → (a ≡ None) × (b ≡ None)
+some-or None b e = (refl, e)
+some-or (Some x) b e = cc
+
+pub Raises-then : (net : Instance) (f : ℕ → ℕ) (a b c : Labelling) (first second : Option ℕ) → Raises net f a b first → Raises net f b c second → Raises net f a c (option_or second first)
+Raises-then net f a b c first None r s = record {
+  size = s.size ∙ r.size;
+  rises = λ node. omega (arith, r.rises node, s.rises node);
+  quiet = λ none. s.quiet refl ∙ r.quiet none;
+  inside = r.inside;
+  rose = λ node is.
+      let more = s.rises node in
+      elim (r.rose node is) [ inl up ↦ inl (omega arith) | inr past ↦ inr (omega arith) ];
+  came = λ node arc by. elim (s.came node arc by) [ inl before ↦ r.came node arc before | inr new ↦ inr new ];
+}
+Raises-then net f a b c first (Some x) r s = record {
+  size = s.size ∙ r.size;
+  rises = λ node. omega (arith, r.rises node, s.rises node);
+  quiet = λ none. cc;
+  inside = λ node is. omega (arith, s.inside node is, r.size);
+  rose = λ node is.
+      let before = r.rises node in
+      let sizes = r.size in
+      elim (s.rose node is) [ inl up ↦ inl (omega arith) | inr past ↦ inr (omega arith) ];
+  came = λ node arc by. elim (s.came node arc by) [ inl before ↦ r.came node arc before | inr new ↦ inr new ];
+}
+
+-- an arc that raises nothing is settled
+pub IsSettled-from_raised : (l : Labelling) (arc : Arc) → raised l arc ≡ None → IsSettled l arc
+unfolding raised
+IsSettled-from_raised l arc none =
+    let go = elim (settles l arc) as (λ b. settles l arc ≡ b → cond b None (cond (nat_le (needed l arc) highest) (Some arc.head) (Some arc.tail)) ≡ None → IsSettled l arc) [
+      | true ↦ λ e n. leb-true _ _ e
+      | false ↦ λ e n.
+          let never = elim (nat_le (needed l arc) highest) as (λ b. cond b (Some arc.head) (Some arc.tail) ≡ None → ⊥) [ true ↦ λ k. cc | false ↦ λ k. cc ] in
+          absurd (never n)
+    ] in
+    go refl none
+
+-- one arc of what can be changed
+relaxed-same : (l : Labelling) (arc : Arc) → settles l arc ≡ true → (relaxed l arc ≡ l) × (raised l arc ≡ None)
+unfolding relaxed raised
+relaxed-same l arc e = (cond-true _ _ _ e, cond-true _ _ _ e)
+
+relaxed-past : (l : Labelling) (arc : Arc) → settles l arc ≡ false → nat_le (needed l arc) highest ≡ false → (relaxed l arc ≡ l) × (raised l arc ≡ Some arc.tail)
+unfolding relaxed raised
+relaxed-past l arc e past = (cond-false _ _ _ e ∙ cond-false _ _ _ past, cond-false _ _ _ e ∙ cond-false _ _ _ past)
+
+relaxed-up : (l : Labelling) (arc : Arc) → settles l arc ≡ false → nat_le (needed l arc) highest ≡ true → (relaxed l arc ≡ record { labels = set l.labels arc.head (needed l arc); preds = set l.preds arc.head (Some arc) }) × (raised l arc ≡ Some arc.head)
+unfolding relaxed raised
+relaxed-up l arc e low = (cond-false _ _ _ e ∙ cond-true _ _ _ low, cond-false _ _ _ e ∙ cond-true _ _ _ low)
+
+Raises-up : (net : Instance) (f : ℕ → ℕ) (l : Labelling) (arc : Arc) → arc.head < length l.labels → settles l arc ≡ false → IsResidual net f arc → Raises net f l (record { labels = set l.labels arc.head (needed l arc); preds = set l.preds arc.head (Some arc) }) (Some arc.head)
+Raises-up net f l arc heads unsettled residual =
+    let over = leb-false _ _ unsettled in
+    let here : get_or (set l.labels arc.head (needed l arc)) arc.head 0 ≡ needed l arc = get_or-set_same l.labels arc.head (needed l arc) 0 heads in
+    record {
+      size = length-set l.labels arc.head (needed l arc);
+      rises = λ node. elim (cases_eq node arc.head) [
+        | inl same ↦ omega (arith, over, here, ap (λ (v : ℕ). get_or (set l.labels arc.head (needed l arc)) v 0) same, ap (λ (v : ℕ). get_or l.labels v 0) same)
+        | inr other ↦ omega (arith, get_or-set_other l.labels arc.head node (needed l arc) 0 other)
+      ];
+      quiet = λ none. cc;
+      inside = λ node is. let same : arc.head ≡ node = cc in omega arith;
+      rose = λ node is.
+          let same : arc.head ≡ node = cc in
+          let there : get_or (set l.labels arc.head (needed l arc)) node 0 ≡ needed l arc = ap (λ (v : ℕ). get_or (set l.labels arc.head (needed l arc)) v 0) (sym same) ∙ here in
+          inl (omega (arith, over, there, ap (λ (v : ℕ). get_or l.labels v 0) same));
+      came = λ node by came. elim (cases_eq node arc.head) [
+        | inr other ↦ inl (sym (get_or-set_other l.preds arc.head node (Some arc) None other) ∙ came)
+        | inl same ↦ elim (cases_lt arc.head (length l.preds)) [
+          | inl known ↦
+              let is_arc : Some arc ≡ Some by = sym (get_or-set_same l.preds arc.head (Some arc) None known) ∙ ap (came_by (set l.preds arc.head (Some arc))) (sym same) ∙ came in
+              let which : arc ≡ by = cc in
+              inr (subst (IsResidual net f) which residual)
+          | inr past ↦ inl (ap (λ (ps : List (Option Arc)). came_by ps node) (sym (set_past l.preds arc.head (Some arc) past)) ∙ came)
+        ]
+      ];
+    }
+
+Raises-past : (net : Instance) (f : ℕ → ℕ) (l : Labelling) (arc : Arc) → arc.tail < length l.labels → arc.up ≤ 4096 → length l.labels ≤ 1048576 → nat_le (needed l arc) highest ≡ false → Raises net f l l (Some arc.tail)
+Raises-past net f l arc tails steep few past =
+    let over = leb-false _ _ past in
+    record {
+      size = refl;
+      rises = λ node. omega arith;
+      quiet = λ none. refl;
+      inside = λ node is. let same : arc.tail ≡ node = cc in omega arith;
+      rose = λ node is. let same : arc.tail ≡ node = cc in inr (omega (arith, over, ap (λ (v : ℕ). get_or l.labels v 0) same));
+      came = λ node by came. inl came;
+    }
+
+pub Raises-relaxed : (net : Instance) (f : ℕ → ℕ) (l : Labelling) (arc : Arc) → arc.tail < length l.labels → arc.head < length l.labels → arc.up ≤ 4096 → length l.labels ≤ 1048576 → IsResidual net f arc → Raises net f l (relaxed l arc) (raised l arc)
+Raises-relaxed net f l arc tails heads steep few residual =
+    let P : Labelling → Option ℕ → Type 0 = λ m o. Raises net f l m o in
+    let go = elim (settles l arc) as (λ b. settles l arc ≡ b → Raises net f l (relaxed l arc) (raised l arc)) [
+      | true ↦ λ e. let is = relaxed-same l arc e in
+          subst (λ (m : Labelling). P m (raised l arc)) (sym is.0) (subst (λ (o : Option ℕ). P l o) (sym is.1) (Raises-none net f l))
+      | false ↦ λ e.
+          let on = elim (nat_le (needed l arc) highest) as (λ b. nat_le (needed l arc) highest ≡ b → Raises net f l (relaxed l arc) (raised l arc)) [
+            | true ↦ λ low. let is = relaxed-up l arc e low in
+                subst (λ (m : Labelling). P m (raised l arc)) (sym is.0) (subst (λ (o : Option ℕ). P (record { labels = set l.labels arc.head (needed l arc); preds = set l.preds arc.head (Some arc) }) o) (sym is.1) (Raises-up net f l arc heads e residual))
+            | false ↦ λ past. let is = relaxed-past l arc e past in
+                subst (λ (m : Labelling). P m (raised l arc)) (sym is.0) (subst (λ (o : Option ℕ). P l o) (sym is.1) (Raises-past net f l arc tails steep few past))
+          ] in
+          on refl
+    ] in
+    go refl
+
+-- the same of what `relax` answers
+pub Raises-by : (net : Instance) (f : ℕ → ℕ) (l new : Labelling) (found : Option ℕ) (arc : Arc) (n : ℕ) → new ≡ relaxed l arc → found ≡ raised l arc → length l.labels ≡ n → n ≤ 4096 → arc.tail < n → arc.head < n → arc.up ≤ 4096 → IsResidual net f arc → Raises net f l new found
+Raises-by net f l new found arc n is node size few tails heads steep residual =
+    subst (λ (m : Labelling). Raises net f l m found) (sym is)
+    (subst (λ (o : Option ℕ). Raises net f l (relaxed l arc) o) (sym node)
+    (Raises-relaxed net f l arc (omega arith) (omega arith) steep (omega arith) residual))
+
+pub IsSettled-by : (l : Labelling) (found : Option ℕ) (arc that : Arc) → found ≡ raised l arc → arc ≡ that → found ≡ None → IsSettled l that
+IsSettled-by l found arc that node same none = subst (IsSettled l) same (IsSettled-from_raised l arc (sym node ∙ none))
+
+-- a loop that raises labels part by part
+pub IsRaising-begun : (net : Instance) (f : ℕ → ℕ) (Settles : Labelling → ℕ → Type 0) (low here : ℕ) (l : Labelling) → here ≤ low → IsRaising net f Settles low l l None here
+IsRaising-begun net f Settles low here l begun = record { raises = Raises-none net f l; settled = λ none k from to. absurd (omega arith) }
+
+pub IsRaising-more : (net : Instance) (f : ℕ → ℕ) (Settles : Labelling → ℕ → Type 0) (low : ℕ) (initial now next : Labelling) (found more : Option ℕ) (here : ℕ) → IsRaising net f Settles low initial now found here → Raises net f now next more → (more ≡ None → Settles now here) → IsRaising net f Settles low initial next (option_or more found) (here + 1)
+IsRaising-more net f Settles low initial now next found more here before step settles = record {
+  raises = Raises-then net f initial now next found more before.raises step;
+  settled = λ none k from to.
+      let both = some-or more found none in
+      elim (cases_eq k here) [
+        | inl same ↦ subst (λ (i : ℕ). Settles initial i) (sym same) (subst (λ (l : Labelling). Settles l here) (before.raises.quiet both.1) (settles both.0))
+        | inr other ↦ before.settled both.1 k from (omega arith)
+      ];
+}
+
+-- a move on to a round, from the row's beginning
+pub move_arc-on : (net : Instance) (f : ℕ → ℕ) (stay round weight : ℕ) (start : Arc) → start ≡ move_arc net f stay 0 → weight ≡ net.weight stay → ◌≡◌ {A = Arc} (record { tail = start.tail; head = start.head + round; up = start.up; down = weight * round; mark = start.mark }) (move_arc net f stay round)
+move_arc-on net f stay round weight start is same =
+    let on : cell net (net.device stay) 0 + round ≡ cell net (net.device stay) round = omega arith in
+    let by : (a : Arc) (w : ℕ) → Arc = λ a w. record { tail = a.tail; head = a.head + round; up = a.up; down = w * round; mark = a.mark } in
+    ap (λ (a : Arc). by a weight) is ∙ ap (by (move_arc net f stay 0)) same
+    ∙ ap (λ (h : ℕ). let arc : Arc = record { tail = cell net (net.device stay) (f stay); head = h; up = net.weight stay * f stay; down = net.weight stay * round; mark = Some stay } in arc) on

@@ -1,0 +1,18 @@
+use Rattle.std.proofs.Common.{◌≡◌, length}
+use Rattle.round_net.specs.Rows.{instance_of_rows}
+use Rattle.round_net.specs.Schedules.{IsAdmissible, cost}
+use Rattle.cost_plan.specs.Cells.{node_count}
+use Rattle.cost_plan.specs.Draft.{IsDraftOf, schedule_of}
+use Rattle.cost_plan.proofs.best_plan.plan.Given as goal
+
+abbrev pub invariant-loop-path : goal.invariant-loop-path
+invariant-loop-path l =
+    let net = instance_of_rows l.net in
+    record {
+      draft : IsDraftOf net l.draft;
+      admissible : IsAdmissible net (schedule_of l.draft);
+      size : length l.labels.labels ≡ node_count net;
+    }
+
+abbrev pub decreases-loop-path : goal.decreases-loop-path
+decreases-loop-path l = cost (instance_of_rows l.net) (schedule_of l.draft)

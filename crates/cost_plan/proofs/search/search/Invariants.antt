@@ -1,0 +1,13 @@
+use Rattle.std.proofs.Common.{◌≡◌, length}
+use Rattle.round_net.specs.Rows.{instance_of_rows}
+use Rattle.cost_plan.specs.Cells.{node_count}
+use Rattle.cost_plan.specs.Draft.{schedule_of}
+use Rattle.cost_plan.specs.Raising.{AllResidual}
+use Rattle.cost_plan.proofs.SearchLemmas.{room}
+use Rattle.cost_plan.proofs.search.search.Given as goal
+
+abbrev pub invariant-loop-node : goal.invariant-loop-node
+invariant-loop-node l = AllResidual (instance_of_rows l.net) (schedule_of l.draft) l.labels × (length l.labels.labels ≡ node_count (instance_of_rows l.net))
+
+abbrev pub decreases-loop-node : goal.decreases-loop-node
+decreases-loop-node l = room l.labels

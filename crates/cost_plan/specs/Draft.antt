@@ -1,0 +1,23 @@
+-- What a schedule and its loads are while it is made better.
+use Rattle.std.specs.Prelude.{◌≡◌, ℕ, ◌+◌, ◌*◌, ◌<◌, ◌≤◌, List, length, slice_index}
+use Rattle.round_net.specs.Instance.{Instance}
+use Rattle.cost_plan.specs.declared.draft.Draft.{Draft}
+use Rattle.cost_plan.specs.Cells.{rows, cell, part_load, rounds_of}
+
+-- for each cell, how many of the first stays it has
+pub record AreLoads (net : Instance) (f : ℕ → ℕ) (n : ℕ) (loads : List ℕ) : Type 0 where
+  pub size : length loads ≡ rows net * (net.rounds + 1)
+  pub counts : (row r : ℕ) → row < rows net → r ≤ net.rounds → slice_index loads (cell net row r) ≡ part_load net f n row r
+
+-- a round of the net for each stay, and how many stays each cell has
+pub record IsDraft (net : Instance) (rounds loads : List ℕ) : Type 0 where
+  pub long : length rounds ≡ net.stays
+  pub within : (s : ℕ) → s < net.stays → rounds_of rounds s ≤ net.rounds
+  pub loads_are : AreLoads net (rounds_of rounds) net.stays loads
+
+abbrev pub IsDraftOf : Instance → Draft → Type 0
+IsDraftOf net draft = IsDraft net draft.rounds.items draft.loads.items
+
+-- the schedule of a draft
+abbrev pub schedule_of : Draft → ℕ → ℕ
+schedule_of draft = rounds_of draft.rounds.items

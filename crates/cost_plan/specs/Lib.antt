@@ -1,0 +1,5 @@
+pub mod Cells
+pub mod Residual
+pub mod RowPrices
+pub mod Draft
+pub mod Raising

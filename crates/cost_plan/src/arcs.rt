@@ -1,0 +1,85 @@
+//! What can be changed in a draft, as arcs. Proved: each arc is the one that the definitions name, between nodes of the graph.
+
+ghost use Rattle.std.specs.Prelude.{◌≡◌, ◌+◌, ◌<◌, ◌≤◌};
+ghost use Rattle.round_net.specs.Rows.{instance_of_rows, live_of_rows};
+ghost use Rattle.round_net.specs.Sound.{IsSound};
+ghost use Rattle.cost_plan.specs.Cells.{rows, row_load, node_count};
+ghost use Rattle.cost_plan.specs.Draft.{IsDraftOf, schedule_of};
+ghost use Rattle.cost_plan.specs.Residual.{move_arc, take_arc, give_arc};
+
+use crate::cells::{node, node_above};
+use crate::draft::Draft;
+use gaining_cycle::Arc;
+use round_net::Net;
+
+/// How many stays a cell has.
+pub fn load(net: &Net, draft: &Draft, row: u32, round: u32) -> u32
+    requires draft { IsDraftOf (instance_of_rows net.now) draft.now }
+    requires row { row < rows (instance_of_rows net.now) }
+    requires round { round ≤ (instance_of_rows net.now).rounds }
+    ensures { result ≡ row_load (instance_of_rows net.now) (schedule_of draft.now) row round }
+{
+    draft.loads[node(net, row, round) as usize]
+}
+
+/// The arc of one stay more in a cell.
+pub fn taking(net: &Net, row: u32, round: u32) -> Arc
+    requires row { row < rows (instance_of_rows net.now) }
+    requires round { round ≤ (instance_of_rows net.now).rounds }
+    ensures same { result ≡ take_arc (instance_of_rows net.now) row round }
+    ensures tail { result.tail < node_count (instance_of_rows net.now) }
+    ensures head { result.head < node_count (instance_of_rows net.now) }
+    ensures up { result.up ≡ 0 }
+    ensures few { node_count (instance_of_rows net.now) ≤ 4096 }
+{
+    Arc {
+        tail: node(net, row, round),
+        head: node_above(net, row, round),
+        up: 0,
+        down: 0,
+        mark: None,
+    }
+}
+
+/// The arc of one stay less in a cell.
+pub fn giving(net: &Net, row: u32, round: u32) -> Arc
+    requires row { row < rows (instance_of_rows net.now) }
+    requires round { round ≤ (instance_of_rows net.now).rounds }
+    ensures same { result ≡ give_arc (instance_of_rows net.now) row round }
+    ensures tail { result.tail < node_count (instance_of_rows net.now) }
+    ensures head { result.head < node_count (instance_of_rows net.now) }
+    ensures up { result.up ≡ 0 }
+    ensures few { node_count (instance_of_rows net.now) ≤ 4096 }
+{
+    let arc = taking(net, row, round);
+    Arc {
+        tail: arc.head,
+        head: arc.tail,
+        up: 0,
+        down: 0,
+        mark: None,
+    }
+}
+
+/// The arc of a stay that moves to another round.
+pub fn moving(net: &Net, draft: &Draft, stay: u32, round: u32) -> Arc
+    requires draft { IsDraftOf (instance_of_rows net.now) draft.now }
+    requires stay { stay < (instance_of_rows net.now).stays }
+    requires round { round ≤ (instance_of_rows net.now).rounds }
+    ensures same { result ≡ move_arc (instance_of_rows net.now) (schedule_of draft.now) stay round }
+    ensures tail { result.tail < node_count (instance_of_rows net.now) }
+    ensures head { result.head < node_count (instance_of_rows net.now) }
+    ensures up { result.up ≤ 4096 }
+    ensures sound { IsSound (instance_of_rows net.now) (live_of_rows net.now) }
+{
+    let device = net.device(stay);
+    let weight = net.weight(stay);
+    let now = draft.rounds[stay as usize];
+    Arc {
+        tail: node(net, device, now),
+        head: node(net, device, round),
+        up: weight * now,
+        down: weight * round,
+        mark: Some(stay),
+    }
+}

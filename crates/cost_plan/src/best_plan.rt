@@ -1,0 +1,68 @@
+//! The planner. Proved: each cycle of changes that gains keeps the schedule admissible and lowers its cost, and where there is
+//! none the labels give prices that prove it best.
+
+ghost use Rattle.std.specs.Prelude.{◌≡◌, ℕ, ◌+◌, ◌<◌, ◌≤◌, length, drop, slice_index, IfOk};
+ghost use Rattle.std.specs.List.{All};
+ghost use Rattle.gaining_cycle.specs.Walks.{IsGainingCycle};
+ghost use Rattle.round_net.specs.Rows.{instance_of_rows, live_of_rows};
+ghost use Rattle.round_net.specs.Sound.{IsSound};
+ghost use Rattle.round_net.specs.Schedules.{IsAdmissible, cost};
+ghost use Rattle.round_net.specs.Value.{ProvesBest};
+ghost use Rattle.round_net.specs.PriceRows.{pricing_of_rows, IsPricingFor};
+ghost use Rattle.cost_plan.specs.Draft.{IsDraftOf, schedule_of};
+ghost use Rattle.cost_plan.specs.Residual.{IsResidual};
+ghost use Rattle.cost_plan.specs.RowPrices.{IsAtMost};
+
+use crate::cells::nodes;
+use crate::draft::{Draft, change_all, live_draft};
+use crate::pricing::prices_of;
+use crate::search::search;
+use gaining_cycle::{Arc, Labels};
+use round_net::{Net, Prices, Schedule};
+use std::alloc::{AllocError, Global};
+
+/// A schedule of least cost, and prices that prove it.
+#[derive(Debug, Drop)]
+pub struct BestPlan {
+    /// A round for each stay of the net, in order of birth.
+    pub schedule: Schedule,
+    /// What an opening of each device and adapter is worth in each round.
+    pub prices: Prices,
+}
+
+/// A best plan of the net: no admissible schedule costs less than this one, as its prices prove. Which of several best
+/// plans it is isn't promised. It begins with the live schedule, and as long as some stays can change rounds together so
+/// that all cost less, it changes them.
+pub fn plan(alloc: Global, net: &Net) -> Result<BestPlan, AllocError>
+    ensures proved { IfOk result (λ best. ProvesBest (instance_of_rows net.now) (slice_index best.schedule) (pricing_of_rows best.prices)) }
+    ensures stays { IfOk result (λ best. length best.schedule ≡ (instance_of_rows net.now).stays) }
+    ensures cells { IfOk result (λ best. IsPricingFor (instance_of_rows net.now) best.prices) }
+    ensures small { IfOk result (λ best. IsAtMost (instance_of_rows net.now) (pricing_of_rows best.prices) 1000000000000) }
+{
+    let nodes = nodes(net) as usize;
+    let mut draft = live_draft(alloc, net)?;
+    let mut labels = Labels::new(alloc, nodes)?;
+    let mut path = Vec::with_capacity(alloc, nodes)?;
+    while let Some(place) = search(net, &draft, &mut labels, &mut path)? {
+        improve(net, &mut draft, &path, place);
+    }
+    Ok(BestPlan {
+        schedule: Schedule::new(alloc, &draft.rounds)?,
+        prices: prices_of(alloc, net, &labels)?,
+    })
+}
+
+// Makes the changes of a cycle, which stand in `path` from `place` on.
+fn improve(net: &Net, draft: &mut Draft, path: &[Arc], place: usize)
+    requires sound { IsSound (instance_of_rows net.now) (live_of_rows net.now) }
+    requires draft { IsDraftOf (instance_of_rows net.now) draft.old }
+    requires admissible { IsAdmissible (instance_of_rows net.now) (schedule_of draft.old) }
+    requires gains { IsGainingCycle (drop place path.now) }
+    requires residual { All (IsResidual (instance_of_rows net.now) (schedule_of draft.old)) (drop place path.now) }
+    requires place { place ≤ length path.now }
+    ensures draft { IsDraftOf (instance_of_rows net.now) draft.new }
+    ensures admissible { IsAdmissible (instance_of_rows net.now) (schedule_of draft.new) }
+    ensures cheaper { cost (instance_of_rows net.now) (schedule_of draft.new) < cost (instance_of_rows net.now) (schedule_of draft.old) }
+{
+    change_all(net, draft, &path[place..]);
+}

@@ -1,0 +1,5 @@
+pub mod DualityLemmas
+pub mod FaultLemmas
+pub mod LeastLemmas
+pub mod SumLemmas
+pub mod TallyLemmas

@@ -1,0 +1,17 @@
+use Rattle.std.proofs.Common.{◌≡◌, ◌≤◌, ◌-◌}
+use Rattle.std.specs.Prelude.{map, filter}
+use Rattle.round_net.specs.Sums.{count_up}
+use Rattle.round_net.specs.Rows.{instance_of_rows}
+use Rattle.round_net.specs.PriceRows.{pricing_of_rows}
+use Rattle.round_net.specs.Value.{priced, is_open}
+use Rattle.price_check.proofs.LeastLemmas.{least_of}
+use Rattle.price_check.proofs.value.cheapest.Given as goal
+
+abbrev pub invariant-loop-round : goal.invariant-loop-round
+invariant-loop-round l =
+    let net = instance_of_rows l.net in
+    let from = net.arrival l.stay in
+    record {
+      least : l.least ≡ least_of (map (priced net (pricing_of_rows l.prices) l.stay) (filter (is_open net l.stay) (count_up from (l.round - from))));
+      arrived : from ≤ l.round;
+    }

@@ -1,0 +1,39 @@
+ghost use Rattle.std.specs.Prelude.{◌≡◌, ◌+◌, ◌*◌, ◌≤◌, length, slice_index};
+ghost use Rattle.round_net.specs.Rows.{instance_of_rows, names_of_rows};
+ghost use Rattle.round_net.specs.PriceRows.{pricing_of_rows, IsPricingFor};
+ghost use Rattle.round_net.specs.Value.{ProvesBest};
+ghost use Rattle.price_check.specs.Verdicts.{Means, IsBest};
+
+use crate::faults::first_fault;
+use crate::value::{offered, paid};
+use crate::verdict::Verdict;
+use round_net::{Net, Prices, Schedule, cost};
+
+/// Whether prices prove that a schedule is a best one, whoever made them: it is admissible, and costs what all stays pay,
+/// each in the round that is cheapest for it, less what all openings are worth.
+///
+/// The schedule and the prices have to be of the net's size, and the row has to have a count for each cell of the net. It
+/// is used up, and no memory is taken.
+pub fn check(net: &Net, schedule: &Schedule, prices: &Prices, counts: &mut [u32]) -> Verdict
+    requires schedule { length schedule.now ≡ (instance_of_rows net.now).stays }
+    requires prices { IsPricingFor (instance_of_rows net.now) prices.now }
+    requires cells { let n = instance_of_rows net.now in (n.devices + n.adapters) * n.rounds ≤ length counts.old }
+    ensures means { Means (instance_of_rows net.now) (names_of_rows net.now) (slice_index schedule.now) (pricing_of_rows prices.now) result }
+
+    // Whoever has a proof is told so, and then no admissible schedule costs less.
+    ensures proved { ProvesBest (instance_of_rows net.now) (slice_index schedule.now) (pricing_of_rows prices.now) → result ≡ Verdict.Proved }
+    ensures best { result ≡ Verdict.Proved → IsBest (instance_of_rows net.now) (slice_index schedule.now) }
+{
+    if let Some((stay, cause)) = first_fault(net, schedule, counts) {
+        return Verdict::NotAdmissible(net.stay(stay), cause);
+    }
+    let Some(cost) = cost(net, schedule) else {
+        unreachable!()
+    };
+    let gap = u128::from(cost) + offered(net, prices) - paid(net, prices);
+    if gap == 0 {
+        Verdict::Proved
+    } else {
+        Verdict::Gap(gap)
+    }
+}

@@ -1,0 +1,16 @@
+pub mod CellLemmas
+pub mod ConfigLemmas
+pub mod CountLemmas
+pub mod LoadLemmas
+pub mod MarkLemmas
+pub mod NetLemmas
+pub mod OpeningLemmas
+pub mod PlaceLemmas
+pub mod PriceLemmas
+pub mod RowLemmas
+pub mod SentLemmas
+pub mod SmallLemmas
+pub mod SoundLemmas
+pub mod TableLemmas
+pub mod WaitLemmas
+pub mod WindowLemmas

@@ -1,0 +1,275 @@
+-- the net of a complete history is sound
+use Rattle.std.proofs.Common.{◌≡◌, ℕ, zero, suc, ◌+◌, ◌*◌, ◌<◌, ◌≤◌, Bool, true, false, cond, List, [], ◌∷◌, length, map, take, get_or, refl, sym, ap, ◌∙◌, arith, Some, None, inl, inr}
+use Rattle.std.specs.Prelude.{◌==◌, ◌&&◌, All, slice_get, slice_index, nat_le, find, count_by}
+use Rattle.std.specs.Option.{option_map, option_map_or}
+use Rattle.std.proofs.lemmas.Bool.{and_parts, eqb-true, ltb-true}
+use Rattle.std.proofs.lemmas.Option.{slice_get_cases, slice_get_within, get_or_from_slice_get}
+use Rattle.std.proofs.lemmas.List.{length-map, take_all}
+use Rattle.std.proofs.lemmas.List.Elements.{All-nil, All-cons}
+use Rattle.std.proofs.lemmas.List.Sums.{sum_by_more, AllPass-from_list_all}
+use Rattle.cam_types.specs.Topology.{Topology, IsConfig}
+use Rattle.cam_types.specs.Priority.{weight}
+use Rattle.cam_types.specs.declared.device.Device.{Device}
+use Rattle.cam_types.specs.declared.config_fault.TheConstants.{MOST_OPENINGS}
+use Rattle.cam_types.proofs.TopologyLemmas.{few_devices}
+use Rattle.event_log.specs.Event.{is_some_and}
+use Rattle.event_log.specs.Counts.{round, submission}
+use Rattle.event_log.specs.Stays.{passages, is_unsent, unsent, stay_of}
+use Rattle.event_log.specs.Live.{live_round}
+use Rattle.event_log.specs.Head.{is_on}
+use Rattle.event_log.specs.declared.event.Event.{Event}
+use Rattle.event_log.specs.declared.submission.Submission.{Submission}
+use Rattle.event_log.specs.declared.passage.Passage.{Passage}
+use Rattle.cam_event.specs.Legal.{history_rules, is_legal, names_device}
+use Rattle.cam_event.specs.Laws.{is_in_range, is_stay_of, is_stay_in_range}
+use Rattle.cam_event.proofs.RangeLemmas.{stays_in_range}
+use Rattle.cam_event.proofs.LimitLemmas.{round_first, round_most, stays_most}
+use Rattle.round_net.specs.Sums.{count_below}
+use Rattle.round_net.specs.Instance.{Instance, adapter}
+use Rattle.round_net.specs.Schedules.{IsAdmissible, device_load, adapter_load}
+use Rattle.round_net.specs.Rows.{NetRows, cell, of_stay, instance_of_rows, live_of_rows}
+use Rattle.round_net.specs.Sound.{IsSound, IsNet}
+use Rattle.round_net.specs.Caps.{sends_to, sends_by, dev_cap, sim_cap}
+use Rattle.round_net.specs.Nets.{last_round, stay_row, table, net_of, instance_of, live_of}
+use Rattle.round_net.specs.declared.stay_row.StayRow.{StayRow}
+use Rattle.round_net.proofs.ConfigLemmas.{few_adapters, devices_on_adapters}
+use Rattle.round_net.proofs.LoadLemmas.{covered-legal, sent-complete}
+use Rattle.round_net.proofs.OpeningLemmas.{sends_to-cap, sends_by-cap}
+use Rattle.round_net.proofs.SmallLemmas.{small_dev_cap, small_sim_cap, weight_small}
+use Rattle.round_net.proofs.TableLemmas.{cell-table, All-table, length-cells}
+use Rattle.round_net.proofs.WindowLemmas.{IsInWindow, windows-legal, last_round-le}
+
+-- an element of a list
+element : {X : Type 0} (xs : List X) (i : ℕ) → i < length xs → (x : X) × (slice_get xs i ≡ Some x)
+element xs i lt = elim (slice_get_cases xs i).1 [
+  | inl h ↦ (h.0, h.2)
+  | inr h ↦ absurd (let past = h.0 in omega arith)
+]
+
+at_element : {X : Type 0} (P : X → Type 0) (xs : List X) (i : ℕ) (x : X) → All P xs → slice_get xs i ≡ Some x → P x
+at_element P xs i x h e =
+    let same : get_or xs i x ≡ x = get_or_from_slice_get xs i x x e in
+    rw same at (h i x (slice_get_within xs i x e))
+
+mapped : {X Y : Type 0} (f : X → Y) (xs : List X) (i : ℕ) (x : X) → slice_get xs i ≡ Some x → slice_get (map f xs) i ≡ Some (f x)
+mapped f [] i x e = absurd cc
+mapped f (y ∷ ys) zero x e = let same : y ≡ x = cc in ap (λ z. Some (f z)) same
+mapped f (y ∷ ys) (suc i) x e = mapped f ys i x e
+
+small_at : (xs : List ℕ) (i most : ℕ) → All (λ n. n ≤ most) xs → slice_index xs i ≤ most
+small_at xs i most h = elim (slice_get_cases xs i).1 [
+  | inl g ↦ h i 0 g.1
+  | inr g ↦ let past : slice_index xs i ≡ 0 = past_end xs i g.0 in omega arith
+]
+  where
+    past_end : (xs : List ℕ) (i : ℕ) → length xs ≤ i → get_or xs i 0 ≡ 0
+    past_end [] i le = refl
+    past_end (x ∷ xs) zero le = absurd (omega arith)
+    past_end (x ∷ xs) (suc i) le = past_end xs i (omega arith)
+
+-- a count over numbers as one over a list
+count_front : {X : Type 0} (test : X → Bool) (t : ℕ → Bool) (xs : List X) (d : X) (n : ℕ) → ((i : ℕ) → i < length xs → t i ≡ test (get_or xs i d)) → n ≤ length xs → count_below n t ≡ count_by test (take n xs)
+count_front test t xs d zero h le = refl
+count_front test t xs d (suc n) h le =
+    let rest : count_below n t ≡ count_by test (take n xs) = count_front test t xs d n h (omega arith) in
+    let more : count_by test (take (n + 1) xs) ≡ count_by test (take n xs) + cond (test (get_or xs n d)) 1 0 = sum_by_more (λ x. cond (test x) 1 0) xs n d (omega arith) in
+    let one : n + 1 ≡ suc n = omega arith in
+    let here : ◌≡◌ {A = ℕ} (cond (t n) 1 0) (cond (test (get_or xs n d)) 1 0) = ap (λ b. cond b 1 0) (h n (omega arith)) in
+    let more' : count_by test (take (suc n) xs) ≡ count_by test (take n xs) + cond (test (get_or xs n d)) 1 0 = rw one at more in
+    omega arith
+
+count_list : {X : Type 0} (test : X → Bool) (t : ℕ → Bool) (xs : List X) → ((i : ℕ) (x : X) → slice_get xs i ≡ Some x → t i ≡ test x) → count_below (length xs) t ≡ count_by test xs
+count_list test t [] h = refl
+count_list test t (x ∷ xs) h =
+    let each : (i : ℕ) → i < length (x ∷ xs) → t i ≡ test (get_or (x ∷ xs) i x) = λ i lt.
+    let e = element (x ∷ xs) i lt in
+    let same : get_or (x ∷ xs) i x ≡ e.0 = get_or_from_slice_get (x ∷ xs) i e.0 x e.1 in
+    h i e.0 e.1 ∙ ap test (sym same) in
+    count_front test t (x ∷ xs) x (length (x ∷ xs)) each (omega arith) ∙ ap (count_by test) (take_all (length (x ∷ xs)) (x ∷ xs) (omega arith))
+
+-- what stands in a stay's row
+part_of_stay : (part : StayRow → ℕ) (es : List Event) (s : ℕ) (p : Passage) → slice_get (passages es) s ≡ Some p → of_stay part (map (stay_row es) (passages es)) s ≡ part (stay_row es p)
+part_of_stay part es s p e = ap (λ o. option_map_or part o 0) (mapped (stay_row es) (passages es) s p e)
+
+device_at : (c : Topology) (es : List Event) (s : ℕ) (p : Passage) → slice_get (passages es) s ≡ Some p → (instance_of c es).device s ≡ p.device
+unfolding instance_of_rows net_of stay_row
+device_at c es s p e = part_of_stay (λ (row : StayRow). row.device) es s p e
+
+arrival_at : (c : Topology) (es : List Event) (s : ℕ) (p : Passage) → slice_get (passages es) s ≡ Some p → (instance_of c es).arrival s ≡ p.arrival
+unfolding instance_of_rows net_of stay_row
+arrival_at c es s p e = part_of_stay (λ (row : StayRow). row.arrival) es s p e
+
+last_at : (c : Topology) (es : List Event) (s : ℕ) (p : Passage) → slice_get (passages es) s ≡ Some p → (instance_of c es).last s ≡ last_round es p
+unfolding instance_of_rows net_of stay_row
+last_at c es s p e = part_of_stay (λ (row : StayRow). row.last) es s p e
+
+weight_at : (c : Topology) (es : List Event) (s : ℕ) (p : Passage) → slice_get (passages es) s ≡ Some p → (instance_of c es).weight s ≡ weight p.priority
+unfolding instance_of_rows net_of stay_row
+weight_at c es s p e = part_of_stay (λ (row : StayRow). row.weight) es s p e
+
+live_at : (c : Topology) (es : List Event) (s : ℕ) (p : Passage) → slice_get (passages es) s ≡ Some p → live_of c es s ≡ live_round es p
+unfolding live_of_rows net_of stay_row
+live_at c es s p e = part_of_stay (λ (row : StayRow). row.live) es s p e
+
+stays_of_net : (c : Topology) (es : List Event) → (instance_of c es).stays ≡ length (passages es)
+unfolding instance_of_rows net_of
+stays_of_net c es = length-map (passages es) (stay_row es)
+
+devices_of_net : (c : Topology) (es : List Event) → (instance_of c es).devices ≡ length c.devices
+unfolding instance_of_rows net_of
+devices_of_net c es = length-map c.devices (λ (device : Device). device.bus)
+
+adapters_of_net : (c : Topology) (es : List Event) → (instance_of c es).adapters ≡ length c.adapters
+unfolding instance_of_rows net_of
+adapters_of_net c es = refl
+
+rounds_of_net : (c : Topology) (es : List Event) → (instance_of c es).rounds ≡ round es
+unfolding instance_of_rows net_of
+rounds_of_net c es = refl
+
+bus_of_device : (c : Topology) (es : List Event) (d : ℕ) (device : Device) → slice_get c.devices d ≡ Some device → (instance_of c es).adapter_of d ≡ device.bus
+unfolding instance_of_rows net_of
+bus_of_device c es d device e = get_or_from_slice_get (map (λ (x : Device). x.bus) c.devices) d device.bus 0 (mapped (λ (x : Device). x.bus) c.devices d device e)
+
+dev_cap_of_net : (c : Topology) (es : List Event) (d r : ℕ) → d < length c.devices → 1 ≤ r → r ≤ round es → (instance_of c es).dev_cap d r ≡ dev_cap c es d r
+unfolding instance_of_rows net_of
+dev_cap_of_net c es d r within first last = cell-table (length c.devices) (round es) (dev_cap c es) d r within first last
+
+sim_cap_of_net : (c : Topology) (es : List Event) (a r : ℕ) → a < length c.adapters → 1 ≤ r → r ≤ round es → (instance_of c es).sim_cap a r ≡ sim_cap c es a r
+unfolding instance_of_rows net_of
+sim_cap_of_net c es a r within first last = cell-table (length c.adapters) (round es) (sim_cap c es) a r within first last
+
+-- a stay of the net is one of the history
+stay_of_net : (c : Topology) (es : List Event) (s : ℕ) → s < (instance_of c es).stays → (p : Passage) × (slice_get (passages es) s ≡ Some p)
+stay_of_net c es s lt = element (passages es) s (rw stays_of_net at lt)
+
+-- it is of a device of the configuration
+device_in_range : (c : Topology) (es : List Event) (p : Passage) → is_stay_in_range c es p ≡ true → p.device < length c.devices
+device_in_range c es p h = elim (submission es p.ccb) as (λ o. is_some_and (λ (s : Submission). is_in_range c s && is_stay_of p s) o ≡ true → p.device < length c.devices) [
+  | None ↦ λ g. absurd cc
+  | Some s ↦ λ g.
+      let parts = and_parts (is_in_range c s) (is_stay_of p s) g in
+      let named : names_device c s.device ≡ true = (and_parts (names_device c s.device) _ (and_parts (names_device c s.device && nat_le s.priority _) _ parts.0).0).0 in
+      let same : s.device ≡ p.device = eqb-true s.device p.device (and_parts (s.device == p.device) (s.priority == p.priority) parts.1).0 in
+      let lt = ltb-true s.device (length c.devices) named in
+      omega arith
+] h
+
+device_of_passage : (c : Topology) (es : List Event) (s : ℕ) (p : Passage) → is_legal history_rules c es ≡ true → slice_get (passages es) s ≡ Some p → p.device < length c.devices
+device_of_passage c es s p legal e =
+    device_in_range c es p (at_element (λ q. is_stay_in_range c es q ≡ true) (passages es) s p (AllPass-from_list_all (is_stay_in_range c es) (passages es) (stays_in_range history_rules c es legal)) e)
+
+-- in a complete history each stay was sent
+find_none : (t : Passage → Bool) (xs : List Passage) → option_map stay_of (find t xs) ≡ None → All (λ x. t x ≡ false) xs
+find_none t [] e = All-nil (λ x. t x ≡ false)
+find_none t (x ∷ xs) e = elim (t x) as (λ b. t x ≡ b → option_map stay_of (cond b (Some x) (find t xs)) ≡ None → All (λ y. t y ≡ false) (x ∷ xs)) [
+  | true ↦ λ is g. absurd cc
+  | false ↦ λ is g. All-cons (λ y. t y ≡ false) x xs is (find_none t xs g)
+] refl e
+
+all_sent : (es : List Event) → unsent es ≡ None → All (λ p. is_unsent es p ≡ false) (passages es)
+unfolding unsent
+all_sent es e = find_none (is_unsent es) (passages es) e
+
+-- no device has more stays in a round than its cap
+devices_hold : (c : Topology) (es : List Event) → is_legal history_rules c es ≡ true → unsent es ≡ None → (d r : ℕ) → d < (instance_of c es).devices → 1 ≤ r → r ≤ (instance_of c es).rounds → device_load (instance_of c es) (live_of c es) d r ≤ (instance_of c es).dev_cap d r
+unfolding sends_to
+devices_hold c es legal complete d r within first last =
+    let net : Instance = instance_of c es in
+    let f : ℕ → Bool = λ x. x == d in
+    let load : count_below (length (passages es)) (λ s. (net.device s == d) && (live_of c es s == r)) ≡ count_by (λ (p : Passage). (p.device == d) && (live_round es p == r)) (passages es) =
+    count_list (λ (p : Passage). (p.device == d) && (live_round es p == r)) (λ s. (net.device s == d) && (live_of c es s == r)) (passages es) (λ s p e. rw (device_at c es s p e, live_at c es s p e) refl) in
+    let sent = sent-complete f es r (all_sent es complete) in
+    let covered = (covered-legal f history_rules c es legal).covered r in
+    let capped : sends_to es d r ≤ dev_cap c es d r = sends_to-cap history_rules c es d r legal in
+    rw (dev_cap_of_net c es d r (rw devices_of_net at within) first (rw rounds_of_net at last), stays_of_net c es) (omega arith)
+
+-- nor has an adapter
+on_adapter_test : (c : Topology) (es : List Event) (a s : ℕ) (p : Passage) → is_legal history_rules c es ≡ true → slice_get (passages es) s ≡ Some p → (adapter (instance_of c es) s == a) ≡ is_on c a p.device
+unfolding instance_of_rows
+on_adapter_test c es a s p legal e =
+    let dev = element c.devices p.device (device_of_passage c es s p legal e) in
+    rw (device_at c es s p e, bus_of_device c es p.device dev.0 dev.1, dev.1) refl
+
+adapters_hold : (c : Topology) (es : List Event) → is_legal history_rules c es ≡ true → unsent es ≡ None → (a r : ℕ) → a < (instance_of c es).adapters → 1 ≤ r → r ≤ (instance_of c es).rounds → adapter_load (instance_of c es) (live_of c es) a r ≤ (instance_of c es).sim_cap a r
+unfolding sends_by
+adapters_hold c es legal complete a r within first last =
+    let net : Instance = instance_of c es in
+    let load : count_below (length (passages es)) (λ s. (adapter net s == a) && (live_of c es s == r)) ≡ count_by (λ (p : Passage). is_on c a p.device && (live_round es p == r)) (passages es) =
+    count_list (λ (p : Passage). is_on c a p.device && (live_round es p == r)) (λ s. (adapter net s == a) && (live_of c es s == r)) (passages es) (λ s p e. rw (on_adapter_test c es a s p legal e, live_at c es s p e) refl) in
+    let sent = sent-complete (is_on c a) es r (all_sent es complete) in
+    let covered = (covered-legal (is_on c a) history_rules c es legal).covered r in
+    let capped : sends_by c es a r ≤ sim_cap c es a r = sends_by-cap history_rules c es a r legal in
+    rw (sim_cap_of_net c es a r (rw adapters_of_net at within) first (rw rounds_of_net at last), stays_of_net c es) (omega arith)
+
+in_window : (c : Topology) (es : List Event) (s : ℕ) (p : Passage) → is_legal history_rules c es ≡ true → slice_get (passages es) s ≡ Some p → IsInWindow es p
+in_window c es s p legal e = at_element (IsInWindow es) (passages es) s p (windows-legal history_rules c es legal).each e
+
+sent_stay : (c : Topology) (es : List Event) (s : ℕ) (p : Passage) → unsent es ≡ None → slice_get (passages es) s ≡ Some p → is_unsent es p ≡ false
+sent_stay c es s p complete e = at_element (λ q. is_unsent es q ≡ false) (passages es) s p (all_sent es complete) e
+
+-- the live schedule of a complete history is admissible
+pub live_admissible : (c : Topology) (es : List Event) → is_legal history_rules c es ≡ true → unsent es ≡ None → IsAdmissible (instance_of c es) (live_of c es)
+live_admissible c es legal complete = record {
+  not_early = λ s lt.
+      let stay = stay_of_net c es s lt in
+      let h = (in_window c es s stay.0 legal stay.1).arrived (sent_stay c es s stay.0 complete stay.1) in
+      rw (arrival_at c es s stay.0 stay.1, live_at c es s stay.0 stay.1) h;
+  not_late = λ s lt.
+      let stay = stay_of_net c es s lt in
+      let h = (in_window c es s stay.0 legal stay.1).within (sent_stay c es s stay.0 complete stay.1) in
+      rw (last_at c es s stay.0 stay.1, live_at c es s stay.0 stay.1) h;
+  devices_hold = devices_hold c es legal complete;
+  adapters_hold = adapters_hold c es legal complete;
+}
+
+small_dev_caps : (c : Topology) (es : List Event) → IsConfig c → is_legal history_rules c es ≡ true → (d r : ℕ) → (instance_of c es).dev_cap d r ≤ MOST_OPENINGS
+unfolding instance_of_rows net_of
+small_dev_caps c es config legal d r =
+    small_at (table (length c.devices) (round es) (dev_cap c es)) (cell (round es) d r) MOST_OPENINGS
+    (All-table (λ n. n ≤ MOST_OPENINGS) (length c.devices) (round es) (dev_cap c es) (round_first es) (λ row q within first last. small_dev_cap history_rules c es row q config legal))
+
+small_sim_caps : (c : Topology) (es : List Event) → IsConfig c → is_legal history_rules c es ≡ true → (a r : ℕ) → (instance_of c es).sim_cap a r ≤ MOST_OPENINGS
+unfolding instance_of_rows net_of
+small_sim_caps c es config legal a r =
+    small_at (table (length c.adapters) (round es) (sim_cap c es)) (cell (round es) a r) MOST_OPENINGS
+    (All-table (λ n. n ≤ MOST_OPENINGS) (length c.adapters) (round es) (sim_cap c es) (round_first es) (λ row q within first last. small_sim_cap history_rules c es row q config legal))
+
+net_sound : (c : Topology) (es : List Event) → IsConfig c → is_legal history_rules c es ≡ true → unsent es ≡ None → IsSound (instance_of c es) (live_of c es)
+net_sound c es config legal complete = record {
+  few_rounds = rw (rounds_of_net c es) (round_most c es legal);
+  few_stays = rw (stays_of_net c es) (stays_most c es legal);
+  few_devices = rw (devices_of_net c es) (few_devices c config);
+  few_adapters = rw (adapters_of_net c es) (few_adapters c config);
+  on_device = λ s lt.
+      let stay = stay_of_net c es s lt in
+      rw (device_at c es s stay.0 stay.1, devices_of_net c es) (device_of_passage c es s stay.0 legal stay.1);
+  on_adapter = λ d lt.
+      let dev = element c.devices d (rw devices_of_net at lt) in
+      rw (bus_of_device c es d dev.0 dev.1, adapters_of_net c es) (at_element (λ (device : Device). device.bus < length c.adapters) c.devices d dev.0 (devices_on_adapters c config) dev.1);
+  from_first = λ s lt. let stay = stay_of_net c es s lt in rw (arrival_at c es s stay.0 stay.1) (in_window c es s stay.0 legal stay.1).first;
+  to_last = λ s lt.
+      let stay = stay_of_net c es s lt in
+      rw (last_at c es s stay.0 stay.1, rounds_of_net c es) (last_round-le es stay.0 (λ k d within. ((windows-legal history_rules c es legal).each k d within).soon));
+  some_weight = λ s lt. let stay = stay_of_net c es s lt in rw (weight_at c es s stay.0 stay.1) (weight_small stay.0.priority).0;
+  small_weight = λ s lt. let stay = stay_of_net c es s lt in rw (weight_at c es s stay.0 stay.1) (weight_small stay.0.priority).1;
+  small_dev_cap = small_dev_caps c es config legal;
+  small_sim_cap = small_sim_caps c es config legal;
+  live_admissible = live_admissible c es legal complete;
+}
+
+pub net_is_net : (c : Topology) (es : List Event) → IsConfig c → is_legal history_rules c es ≡ true → unsent es ≡ None → IsNet (net_of c es)
+unfolding net_of
+net_is_net c es config legal complete = record {
+  dev_cells = length-cells (round es) (dev_cap c es) (length c.devices * round es) ∙ ap (λ n. n * round es) (sym (length-map c.devices (λ (device : Device). device.bus)));
+  sim_cells = length-cells (round es) (sim_cap c es) (length c.adapters * round es);
+  sound = net_sound c es config legal complete;
+}
+
+-- rows that have each part of it are the net
+pub net_of_parts : (c : Topology) (es : List Event) (rounds adapters : ℕ) (adapter_of : List ℕ) (stays : List StayRow) (dev_caps sim_caps : List ℕ) →
+    rounds ≡ round es → adapters ≡ length c.adapters → adapter_of ≡ map (λ (device : Device). device.bus) c.devices → stays ≡ map (stay_row es) (passages es) →
+    dev_caps ≡ table (length c.devices) (round es) (dev_cap c es) → sim_caps ≡ table (length c.adapters) (round es) (sim_cap c es) →
+    ◌≡◌ {A = NetRows} (record { rounds = rounds; adapters = adapters; adapter_of = adapter_of; stays = stays; dev_caps = dev_caps; sim_caps = sim_caps }) (net_of c es)
+unfolding net_of
+net_of_parts c es rounds adapters adapter_of stays dev_caps sim_caps r a d s dev sim = rw (r, a, d, s, dev, sim) refl

@@ -1,0 +1,173 @@
+-- the places of a round, and one place more
+use Rattle.std.proofs.Common.{◌≡◌, ℕ, ◌<◌, ◌≤◌, Bool, true, false, cond, List, [], ◌∷◌, ◌++◌, length, take, refl, sym, ap, ◌∙◌, arith, append-nil, append_assoc, length-append}
+use Rattle.std.specs.Prelude.{not, ◌==◌, ◌&&◌, ◌||◌, filter, if◌then◌else◌, slice_get, slice_index, slice_index_or}
+use Rattle.std.specs.List.{list_all, before_last}
+use Rattle.std.specs.Option.{option_map_or}
+use Rattle.std.proofs.lemmas.Bool.{eqb-true, eq-eqb, ne_eqb}
+use Rattle.std.proofs.lemmas.Bool.Decides.{nat_tests}
+use Rattle.std.proofs.lemmas.List.{map-append}
+use Rattle.std.proofs.lemmas.List.Sums.{sum_by-take-le}
+use Rattle.std.proofs.lemmas.List.Elements.{filter-append}
+use Rattle.std.proofs.lemmas.List.Folds.{list_all-append}
+use Rattle.cam_types.specs.Lists.{moments}
+use Rattle.cam_types.specs.Topology.{Topology}
+use Rattle.cam_types.proofs.ListLemmas.{moments-push}
+use Rattle.event_log.specs.Event.{is_tick, is_adjust_of, adjusts_to}
+use Rattle.event_log.specs.Counts.{round, freeze_count, adapter_freezes, last}
+use Rattle.event_log.specs.Head.{openings, device_openings}
+use Rattle.event_log.specs.declared.event.Event.{Event}
+use Rattle.event_log.proofs.Laws.{round-push}
+use Rattle.event_log.proofs.OpeningLaws.{before_last-push}
+use Rattle.round_net.specs.Rows.{cell}
+use Rattle.round_net.specs.Caps.{fronts, places, is_device_free, is_adapter_free, openings_in}
+use Rattle.round_net.specs.Marks.{Marks, Sets, IsNoted}
+
+-- what one element more keeps holds of all lists
+append-induction : {X : Type 0} (P : List X → Type 0) → ((xs : List X) (x : X) → P xs → P (xs ++ x ∷ [])) → (before after : List X) → P before → P (before ++ after)
+append-induction P step before [] h = rw (append-nil before) h
+append-induction P step before (x ∷ after) h = rw (← append_assoc before (x ∷ []) after) (append-induction P step (before ++ x ∷ []) after (step before x h))
+
+pub push-induction : {X : Type 0} (P : List X → Type 0) → P [] → ((xs : List X) (x : X) → P xs → P (xs ++ x ∷ [])) → (xs : List X) → P xs
+push-induction P none step xs = append-induction P step [] xs none
+
+fronts-push : (es : List Event) (e : Event) → fronts (es ++ e ∷ []) ≡ fronts es ++ (es ++ e ∷ []) ∷ []
+fronts-push es e = rw (moments-push es e) (rw (map-append (λ (m : List Event × Event). m.0) (moments es) ((es, e) ∷ [])) refl)
+
+pub places-push : (es : List Event) (e : Event) (r : ℕ) → places (es ++ e ∷ []) r ≡ places es r ++ cond (round (es ++ e ∷ []) == r) ((es ++ e ∷ []) ∷ []) []
+places-push es e r = ap (filter (λ before. round before == r)) (fronts-push es e) ∙ filter-append (λ before. round before == r) (fronts es) ((es ++ e ∷ []) ∷ [])
+
+pub round-grows : (es : List Event) (e : Event) → round es ≤ round (es ++ e ∷ [])
+round-grows es e = omega (arith, round-push es e)
+
+pub round-take : (es : List Event) (i : ℕ) → round (take i es) ≤ round es
+unfolding round
+round-take es i = omega (arith, sum_by-take-le (λ e. cond (is_tick e) 1 0) es i)
+
+-- no place is of a later round
+pub places-later : (es : List Event) (r : ℕ) → round es < r → places es r ≡ []
+places-later es = push-induction (λ xs. (r : ℕ) → round xs < r → places xs r ≡ [])
+    (λ r lt. rw (ne_eqb (round []) r (λ e. omega arith)) refl)
+    (λ xs x h r lt. places-push xs x r ∙ rw (h r (omega (arith, round-grows xs x)), ne_eqb (round (xs ++ x ∷ [])) r (λ e. omega arith)) refl) es
+
+-- the last place is of its round
+pub places-now : (es : List Event) → 0 < length (places es (round es))
+places-now es = push-induction (λ xs. 0 < length (places xs (round xs)))
+    (rw (eq-eqb (round []) (round []) refl) (omega arith))
+    (λ xs x h. rw (places-push xs x (round (xs ++ x ∷ []))) (rw (eq-eqb (round (xs ++ x ∷ [])) (round (xs ++ x ∷ [])) refl) (omega (arith, length-append (places xs (round (xs ++ x ∷ []))) ((xs ++ x ∷ []) ∷ []))))) es
+
+first-append : {X : Type 0} (xs ys : List X) → 0 < length xs → slice_get (xs ++ ys) 0 ≡ slice_get xs 0
+first-append [] ys lt = absurd (omega arith)
+first-append (x ∷ xs) ys lt = refl
+
+-- a device's openings stay as they were until a round opens
+pub openings-push : (c : Topology) (es : List Event) (e : Event) (d : ℕ) → is_tick e ≡ false → openings c (es ++ e ∷ []) d ≡ openings c es d
+unfolding openings
+openings-push c es e d still = ap (λ xs. option_map_or adjusts_to (last (is_adjust_of d) xs) (device_openings c d)) (before_last-push is_tick es e ∙ ap (λ b. cond b es (before_last is_tick es)) still)
+
+abbrev first_openings : Topology → ℕ → List (List Event) → ℕ
+first_openings c d ps = option_map_or (λ before. openings c before d) (slice_get ps 0) 0
+
+-- a place that opens a round has the round's openings
+pub openings_in-opened : (c : Topology) (es : List Event) (e : Event) (d r : ℕ) → is_tick e ≡ true → openings_in c (es ++ e ∷ []) d r ≡ (if r == round (es ++ e ∷ []) then openings c (es ++ e ∷ []) d else openings_in c es d r)
+unfolding openings_in
+openings_in-opened c es e d r ticks =
+    let now : ℕ = round (es ++ e ∷ []) in
+    let later : round es < now = omega (arith, round-push es e, ap {B = ℕ} (λ b. cond b 1 0) ticks) in
+    ap (first_openings c d) (places-push es e r) ∙
+    elim (r == now) as (λ b. (r == now) ≡ b → first_openings c d (places es r ++ cond (now == r) ((es ++ e ∷ []) ∷ []) []) ≡ (if b then openings c (es ++ e ∷ []) d else first_openings c d (places es r))) [
+      | true ↦ λ at.
+          let same : r ≡ now = eqb-true r now at in
+          rw (eq-eqb now r (sym same), places-later es r (omega arith)) refl
+      | false ↦ λ ne.
+          rw (ne_eqb now r (λ at. let both : (r == now) ≡ true = eq-eqb r now (sym at) in cc), append-nil (places es r)) refl
+    ] refl
+
+-- and no other place changes them
+pub openings_in-kept : (c : Topology) (es : List Event) (e : Event) (d r : ℕ) → is_tick e ≡ false → openings_in c (es ++ e ∷ []) d r ≡ openings_in c es d r
+unfolding openings_in
+openings_in-kept c es e d r still =
+    let now : ℕ = round (es ++ e ∷ []) in
+    let same : now ≡ round es = omega (arith, round-push es e, ap {B = ℕ} (λ b. cond b 1 0) still) in
+    ap (first_openings c d) (places-push es e r) ∙
+    elim (now == r) as (λ b. (now == r) ≡ b → first_openings c d (places es r ++ cond b ((es ++ e ∷ []) ∷ []) []) ≡ first_openings c d (places es r)) [
+      | true ↦ λ at.
+          let is : round es ≡ r = sym same ∙ eqb-true now r at in
+          let some : 0 < length (places es r) = rw (← is) (places-now es) in
+          ap (λ o. option_map_or (λ before. openings c before d) o 0) (first-append (places es r) ((es ++ e ∷ []) ∷ []) some)
+      | false ↦ λ ne. rw (append-nil (places es r)) refl
+    ] refl
+
+-- at each place the round's openings are the place's
+pub openings_in-now : (c : Topology) (d : ℕ) (es : List Event) → openings_in c es d (round es) ≡ openings c es d
+unfolding openings_in
+openings_in-now c d es = push-induction (λ xs. openings_in c xs d (round xs) ≡ openings c xs d) (rw (eq-eqb (round []) (round []) refl) refl)
+    (λ xs x h. elim (is_tick x) as (λ b. is_tick x ≡ b → openings_in c (xs ++ x ∷ []) d (round (xs ++ x ∷ [])) ≡ openings c (xs ++ x ∷ []) d) [
+      | true ↦ λ ticks. openings_in-opened c xs x d (round (xs ++ x ∷ [])) ticks ∙ rw (eq-eqb (round (xs ++ x ∷ [])) (round (xs ++ x ∷ [])) refl) refl
+      | false ↦ λ still.
+          let same : round (xs ++ x ∷ []) ≡ round xs = omega (arith, round-push xs x, ap {B = ℕ} (λ b. cond b 1 0) still) in
+          openings_in-kept c xs x d (round (xs ++ x ∷ [])) still ∙ ap (openings_in c xs d) same ∙ h ∙ sym (openings-push c xs x d still)
+    ] refl) es
+
+one_more : {X : Type 0} (test : X → Bool) (x : X) (b : Bool) → list_all test (cond b (x ∷ []) []) ≡ (not b || test x)
+one_more test x true = elim (test x) as (λ t. (t && true) ≡ t) [ true ↦ refl | false ↦ refl ]
+one_more test x false = refl
+
+all_and_one : {X : Type 0} (test : X → Bool) (xs : List X) (x : X) (b : Bool) → list_all test (xs ++ cond b (x ∷ []) []) ≡ (list_all test xs && (not b || test x))
+all_and_one test xs x b = list_all-append test xs (cond b (x ∷ []) []) ∙ ap (λ t. list_all test xs && t) (one_more test x b)
+
+pub is_device_free-push : (es : List Event) (e : Event) (d r : ℕ) → is_device_free (es ++ e ∷ []) d r ≡ (is_device_free es d r && (not (round (es ++ e ∷ []) == r) || (freeze_count (es ++ e ∷ []) d == 0)))
+unfolding is_device_free
+is_device_free-push es e d r = ap (list_all (λ before. freeze_count before d == 0)) (places-push es e r) ∙ all_and_one (λ before. freeze_count before d == 0) (places es r) (es ++ e ∷ []) (round (es ++ e ∷ []) == r)
+
+pub is_adapter_free-push : (es : List Event) (e : Event) (a r : ℕ) → is_adapter_free (es ++ e ∷ []) a r ≡ (is_adapter_free es a r && (not (round (es ++ e ∷ []) == r) || (adapter_freezes (es ++ e ∷ []) a == 0)))
+unfolding is_adapter_free
+is_adapter_free-push es e a r = ap (list_all (λ before. adapter_freezes before a == 0)) (places-push es e r) ∙ all_and_one (λ before. adapter_freezes before a == 0) (places es r) (es ++ e ∷ []) (round (es ++ e ∷ []) == r)
+
+-- what is noted of the places so far and of one more
+eqb-sym : (a b : ℕ) → (a == b) ≡ (b == a)
+eqb-sym a b = grind (arith, nat_tests)
+
+still_marked : (free b zero_count : Bool) → (not free || (b && not zero_count)) ≡ not (free && (not b || zero_count))
+still_marked true true z = refl
+still_marked true false z = refl
+still_marked false b z = refl
+
+pub noted-step : (c : Topology) (es : List Event) (e : Event) (rounds : ℕ) (dev dev' sim sim' : List Bool) (numbers numbers' : List ℕ) (opens : Bool) → IsNoted c es rounds dev sim numbers → opens ≡ is_tick e →
+    Marks (length c.devices) rounds dev dev' (round (es ++ e ∷ [])) (λ d. not (freeze_count (es ++ e ∷ []) d == 0)) →
+    Marks (length c.adapters) rounds sim sim' (round (es ++ e ∷ [])) (λ a. not (adapter_freezes (es ++ e ∷ []) a == 0)) →
+    (opens ≡ true → Sets (length c.devices) rounds numbers numbers' (round (es ++ e ∷ [])) (openings c (es ++ e ∷ []))) → (opens ≡ false → numbers' ≡ numbers) →
+    IsNoted c (es ++ e ∷ []) rounds dev' sim' numbers'
+noted-step c es e rounds dev dev' sim sim' numbers numbers' opens is opens_is devices adapters opened kept = record {
+  devices = λ d r within first last.
+      devices d r within first last
+      ∙ rw (is.devices d r within first last, eqb-sym r (round (es ++ e ∷ [])), is_device_free-push es e d r) (still_marked (is_device_free es d r) (round (es ++ e ∷ []) == r) (freeze_count (es ++ e ∷ []) d == 0));
+  adapters = λ a r within first last.
+      adapters a r within first last
+      ∙ rw (is.adapters a r within first last, eqb-sym r (round (es ++ e ∷ [])), is_adapter_free-push es e a r) (still_marked (is_adapter_free es a r) (round (es ++ e ∷ []) == r) (adapter_freezes (es ++ e ∷ []) a == 0));
+  openings = λ d r within first last.
+      elim (is_tick e) as (λ b. is_tick e ≡ b → slice_index numbers' (cell rounds d r) ≡ openings_in c (es ++ e ∷ []) d r) [
+        | true ↦ λ ticks. opened (opens_is ∙ ticks) d r within first last ∙ rw (is.openings d r within first last) (sym (openings_in-opened c es e d r ticks))
+        | false ↦ λ still. ap (λ ns. slice_index ns (cell rounds d r)) (kept (opens_is ∙ still)) ∙ is.openings d r within first last ∙ sym (openings_in-kept c es e d r still)
+      ] refl;
+}
+
+-- and of the first place
+free_first : (test : List Event → Bool) (b : Bool) → (false || (b && not (test []))) ≡ not (list_all test (cond b ([] ∷ []) []))
+free_first test true = elim (test []) as (λ t. not t ≡ not (t && true)) [ true ↦ refl | false ↦ refl ]
+free_first test false = refl
+
+open_first : (value : List Event → ℕ) (b : Bool) → (if b then value [] else 0) ≡ option_map_or value (slice_get (cond b ([] ∷ []) []) 0) 0
+open_first value true = refl
+open_first value false = refl
+
+pub noted-first : (c : Topology) (rounds : ℕ) (dev dev' sim sim' : List Bool) (numbers numbers' : List ℕ) → ((i : ℕ) → slice_index_or dev i false ≡ false) → ((i : ℕ) → slice_index_or sim i false ≡ false) → ((i : ℕ) → slice_index numbers i ≡ 0) →
+    Marks (length c.devices) rounds dev dev' (round []) (λ d. not (freeze_count [] d == 0)) →
+    Marks (length c.adapters) rounds sim sim' (round []) (λ a. not (adapter_freezes [] a == 0)) →
+    Sets (length c.devices) rounds numbers numbers' (round []) (openings c []) →
+    IsNoted c [] rounds dev' sim' numbers'
+unfolding is_device_free is_adapter_free openings_in
+noted-first c rounds dev dev' sim sim' numbers numbers' no_dev no_sim no_number devices adapters opened = record {
+  devices = λ d r within first last. devices d r within first last ∙ rw (no_dev (cell rounds d r), eqb-sym r (round [])) (free_first (λ before. freeze_count before d == 0) (round [] == r));
+  adapters = λ a r within first last. adapters a r within first last ∙ rw (no_sim (cell rounds a r), eqb-sym r (round [])) (free_first (λ before. adapter_freezes before a == 0) (round [] == r));
+  openings = λ d r within first last. opened d r within first last ∙ rw (no_number (cell rounds d r), eqb-sym r (round [])) (open_first (λ before. openings c before d) (round [] == r));
+}

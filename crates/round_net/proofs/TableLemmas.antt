@@ -1,0 +1,49 @@
+-- tables of values by row and round
+use Rattle.std.proofs.Common.{◌≡◌, ℕ, ◌+◌, ◌-◌, ◌*◌, ◌/◌, ◌%◌, ◌<◌, ◌≤◌, [], ◌∷◌, ◌++◌, length, refl, ◌∙◌, arith, zero-add}
+use Rattle.std.specs.Prelude.{slice_index, All}
+use Rattle.std.proofs.lemmas.Nat.{div-mul-add, mod-mul-add}
+use Rattle.std.proofs.Math.Nat.{div-lt_iff_lt-mul, mod-lt}
+use Rattle.std.proofs.lemmas.List.FromFn.{map-range_with_len_more, get_or-map-range_with_len, length-map-range_with_len}
+use Rattle.std.proofs.lemmas.List.Elements.{All-from_get_or}
+use Rattle.round_net.specs.Rows.{cell}
+use Rattle.round_net.specs.Nets.{cells, table}
+use Rattle.round_net.proofs.CellLemmas.{cell_within}
+
+-- the row and the round of a place
+pub row_of_place : (rows rounds at : ℕ) → 1 ≤ rounds → at < rows * rounds → at / rounds < rows
+row_of_place rows rounds at some lt = (div-lt_iff_lt-mul some).1 lt
+
+pub round_of_place : (rounds at : ℕ) → 1 ≤ rounds → at % rounds + 1 ≤ rounds
+round_of_place rounds at some = let lt : at % rounds < rounds = mod-lt at some in omega arith
+
+pub cells-none : (rounds : ℕ) (value : ℕ → ℕ → ℕ) → cells rounds value 0 ≡ []
+unfolding cells
+cells-none rounds value = refl
+
+pub cells-more : (rounds : ℕ) (value : ℕ → ℕ → ℕ) (n : ℕ) → cells rounds value (n + 1) ≡ cells rounds value n ++ value (n / rounds) (n % rounds + 1) ∷ []
+unfolding cells
+cells-more rounds value n = map-range_with_len_more (λ at. value (at / rounds) (at % rounds + 1)) 0 n n (zero-add n)
+
+pub length-cells : (rounds : ℕ) (value : ℕ → ℕ → ℕ) (n : ℕ) → length (cells rounds value n) ≡ n
+unfolding cells
+length-cells rounds value n = length-map-range_with_len (λ at. value (at / rounds) (at % rounds + 1)) 0 n
+
+get_or-cells : (rounds : ℕ) (value : ℕ → ℕ → ℕ) (n at : ℕ) → at < n → slice_index (cells rounds value n) at ≡ value (at / rounds) (at % rounds + 1)
+unfolding cells
+get_or-cells rounds value n at lt = get_or-map-range_with_len (λ at. value (at / rounds) (at % rounds + 1)) 0 n at at 0 lt (zero-add at)
+
+-- what stands at a row's round is its value
+pub cell-table : (rows rounds : ℕ) (value : ℕ → ℕ → ℕ) (row r : ℕ) → row < rows → 1 ≤ r → r ≤ rounds → slice_index (table rows rounds value) (cell rounds row r) ≡ value row r
+cell-table rows rounds value row r within first last =
+    let lt : r - 1 < rounds = omega arith in
+    let d : cell rounds row r / rounds ≡ row = div-mul-add row rounds (r - 1) lt in
+    let m : cell rounds row r % rounds ≡ r - 1 = mod-mul-add row rounds (r - 1) lt in
+    let back : r - 1 + 1 ≡ r = omega arith in
+    get_or-cells rounds value (rows * rounds) (cell rounds row r) (cell_within rounds rows row r within first last) ∙ rw (d, m, back) refl
+
+-- what holds of each row's value in each round holds of all values
+pub All-table : (P : ℕ → Type 0) (rows rounds : ℕ) (value : ℕ → ℕ → ℕ) → 1 ≤ rounds → ((row r : ℕ) → row < rows → 1 ≤ r → r ≤ rounds → P (value row r)) → All P (table rows rounds value)
+All-table P rows rounds value some h =
+    All-from_get_or P (table rows rounds value) 0 (λ i lt.
+    let within : i < rows * rounds = omega (arith, length-cells rounds value (rows * rounds)) in
+    rw (get_or-cells rounds value (rows * rounds) i within) (h (i / rounds) (i % rounds + 1) (row_of_place rows rounds i some within) (omega arith) (round_of_place rounds i some)))

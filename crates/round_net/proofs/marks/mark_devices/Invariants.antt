@@ -1,0 +1,8 @@
+use Rattle.std.specs.Prelude.{not, ◌==◌, ◌&&◌, nat_lt}
+use Rattle.event_log.specs.Counts.{round, freeze_count}
+use Rattle.round_net.specs.Marks.{Marks}
+use Rattle.round_net.proofs.marks.mark_devices.Given as goal
+
+-- the devices so far
+abbrev pub invariant-loop-device : goal.invariant-loop-device
+invariant-loop-device l = Marks l.devices l.rounds l.fn.marks l.marks (round l.log) (λ x. nat_lt x l.device && not (freeze_count l.log x == 0))

@@ -1,0 +1,6 @@
+use Rattle.std.proofs.Common.{arith}
+use Rattle.round_net.proofs.RowLemmas.{arrival-row}
+use Rattle.round_net.proofs.net.Net.arrival.Goals as goal
+
+pub returns-clause-first : goal.returns-clause-first
+returns-clause-first c = let is = arrival-row c.args.self.now c.args.stay c.row.result c.row.ensures.same in let h = c.row.ensures.sound.from_first c.args.stay c.requires in omega arith

@@ -1,0 +1,10 @@
+pub mod Sums
+pub mod Instance
+pub mod Schedules
+pub mod Value
+pub mod Rows
+pub mod Sound
+pub mod PriceRows
+pub mod Caps
+pub mod Nets
+pub mod Marks

@@ -1,0 +1,61 @@
+-- the net of a history
+use Rattle.std.specs.Prelude.{ℕ, ◌+◌, ◌-◌, ◌*◌, ◌/◌, ◌%◌, ◌==◌, ◌&&◌, nat_lt, List, Option, length, map, find}
+use Rattle.std.specs.List.{range_with_len}
+use Rattle.std.specs.Option.{option_map_or}
+use Rattle.cam_types.specs.Priority.{weight}
+use Rattle.cam_types.specs.Topology.{Topology}
+use Rattle.cam_types.specs.declared.device.Device.{Device}
+use Rattle.event_log.specs.Counts.{round}
+use Rattle.event_log.specs.Stays.{passages, stay_of}
+use Rattle.event_log.specs.Live.{live_round}
+use Rattle.event_log.specs.declared.event.Event.{Event}
+use Rattle.event_log.specs.declared.passage.Passage.{Passage}
+use Rattle.round_net.specs.Instance.{Instance}
+use Rattle.round_net.specs.Rows.{NetRows, instance_of_rows, live_of_rows}
+use Rattle.round_net.specs.Caps.{dev_cap, sim_cap}
+use Rattle.round_net.specs.declared.stay_row.StayRow.{StayRow}
+
+-- the next stay of the same CCB
+abbrev pub next_stay : List Passage → Passage → Option Passage
+next_stay stays p = find (λ (q : Passage). (q.ccb == p.ccb) && nat_lt p.place q.place) stays
+
+-- the last round of a stay: the one before its CCB's next stay arrives, or else the last round of all
+unfoldable pub last_round : List Event → Passage → ℕ
+last_round events p = option_map_or (λ (q : Passage). q.arrival - 1) (next_stay (passages events) p) (round events)
+
+-- a stay with its window and weight, and where it was sent
+unfoldable pub stay_row : List Event → Passage → StayRow
+stay_row events p = record {
+  stay = stay_of p;
+  device = p.device;
+  arrival = p.arrival;
+  last = last_round events p;
+  weight = weight p.priority;
+  live = live_round events p;
+}
+
+-- as many values as asked, by row and round: those of the first row's rounds, then those of the second one's, and so on
+unfoldable pub cells : ℕ → (ℕ → ℕ → ℕ) → ℕ → List ℕ
+cells rounds value n = map (λ at. value (at / rounds) (at % rounds + 1)) (range_with_len 0 n)
+
+-- those of all rounds of so many rows
+abbrev pub table : ℕ → ℕ → (ℕ → ℕ → ℕ) → List ℕ
+table rows rounds value = cells rounds value (rows * rounds)
+
+-- the net of a history's configuration and events
+unfoldable pub net_of : Topology → List Event → NetRows
+net_of c events = record {
+  rounds = round events;
+  adapters = length c.adapters;
+  adapter_of = map (λ (device : Device). device.bus) c.devices;
+  stays = map (stay_row events) (passages events);
+  dev_caps = table (length c.devices) (round events) (dev_cap c events);
+  sim_caps = table (length c.adapters) (round events) (sim_cap c events);
+}
+
+-- what there is to plan of a history, and where its stays were sent
+abbrev pub instance_of : Topology → List Event → Instance
+instance_of c events = instance_of_rows (net_of c events)
+
+abbrev pub live_of : Topology → List Event → ℕ → ℕ
+live_of c events = live_of_rows (net_of c events)

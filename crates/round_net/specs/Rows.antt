@@ -1,0 +1,48 @@
+-- a net as flat rows, and what it holds
+use Rattle.std.specs.Prelude.{ℕ, ◌+◌, ◌-◌, ◌*◌, List, length, map, slice_get, slice_index}
+use Rattle.std.specs.Option.{option_map_or}
+use Rattle.event_log.specs.declared.passage.Stay.{Stay}
+use Rattle.round_net.specs.Instance.{Instance}
+use Rattle.round_net.specs.declared.stay_row.StayRow.{StayRow}
+
+-- each device's adapter, each stay, and the caps of devices and of adapters: those of the first one's rounds, then those
+-- of the second one's, and so on
+pub record NetRows : Type 0 where
+  pub rounds : ℕ
+  pub adapters : ℕ
+  pub adapter_of : List ℕ
+  pub stays : List StayRow
+  pub dev_caps : List ℕ
+  pub sim_caps : List ℕ
+
+-- where a round of a device or of an adapter stands in such a list
+abbrev pub cell : ℕ → ℕ → ℕ → ℕ
+cell rounds row r = row * rounds + (r - 1)
+
+-- what stands in a stay's row, and 0 where there is no such stay
+abbrev pub of_stay : (StayRow → ℕ) → List StayRow → ℕ → ℕ
+of_stay part stays s = option_map_or part (slice_get stays s) 0
+
+-- what there is to plan by these rows
+unfoldable pub instance_of_rows : NetRows → Instance
+instance_of_rows n = record {
+  stays = length n.stays;
+  devices = length n.adapter_of;
+  adapters = n.adapters;
+  rounds = n.rounds;
+  device = of_stay (λ (row : StayRow). row.device) n.stays;
+  adapter_of = slice_index n.adapter_of;
+  arrival = of_stay (λ (row : StayRow). row.arrival) n.stays;
+  last = of_stay (λ (row : StayRow). row.last) n.stays;
+  weight = of_stay (λ (row : StayRow). row.weight) n.stays;
+  dev_cap = λ d r. slice_index n.dev_caps (cell n.rounds d r);
+  sim_cap = λ a r. slice_index n.sim_caps (cell n.rounds a r);
+}
+
+-- the round in which each stay was sent
+unfoldable pub live_of_rows : NetRows → ℕ → ℕ
+live_of_rows n = of_stay (λ (row : StayRow). row.live) n.stays
+
+-- the stays by CCB and try
+unfoldable pub names_of_rows : NetRows → List Stay
+names_of_rows n = map (λ (row : StayRow). row.stay) n.stays

@@ -1,0 +1,30 @@
+-- what holds of every net
+use Rattle.std.specs.Prelude.{◌≡◌, ℕ, ◌*◌, ◌<◌, ◌≤◌, length}
+use Rattle.cam_types.specs.declared.limits.TheConstants.{MOST_ROUNDS, MOST_STAYS}
+use Rattle.cam_types.specs.declared.config_fault.TheConstants.{MOST_DEVICES, MOST_ADAPTERS, MOST_OPENINGS}
+use Rattle.round_net.specs.Instance.{Instance}
+use Rattle.round_net.specs.Schedules.{IsAdmissible}
+use Rattle.round_net.specs.Rows.{NetRows, instance_of_rows, live_of_rows}
+
+-- It is within the limits: each stay is of a device, each device is on an adapter, windows lie within the rounds, and no
+-- weight or cap is too large. Its live schedule is admissible.
+pub record IsSound (net : Instance) (live : ℕ → ℕ) : Type 0 where
+  pub few_rounds : net.rounds ≤ MOST_ROUNDS
+  pub few_stays : net.stays ≤ MOST_STAYS
+  pub few_devices : net.devices ≤ MOST_DEVICES
+  pub few_adapters : net.adapters ≤ MOST_ADAPTERS
+  pub on_device : (s : ℕ) → s < net.stays → net.device s < net.devices
+  pub on_adapter : (d : ℕ) → d < net.devices → net.adapter_of d < net.adapters
+  pub from_first : (s : ℕ) → s < net.stays → 1 ≤ net.arrival s
+  pub to_last : (s : ℕ) → s < net.stays → net.last s ≤ net.rounds
+  pub some_weight : (s : ℕ) → s < net.stays → 1 ≤ net.weight s
+  pub small_weight : (s : ℕ) → s < net.stays → net.weight s ≤ 16
+  pub small_dev_cap : (d r : ℕ) → net.dev_cap d r ≤ MOST_OPENINGS
+  pub small_sim_cap : (a r : ℕ) → net.sim_cap a r ≤ MOST_OPENINGS
+  pub live_admissible : IsAdmissible net live
+
+-- the rows have a cap for each round of each device and adapter, and the net is sound
+pub record IsNet (n : NetRows) : Type 0 where
+  pub dev_cells : length n.dev_caps ≡ length n.adapter_of * n.rounds
+  pub sim_cells : length n.sim_caps ≡ n.adapters * n.rounds
+  pub sound : IsSound (instance_of_rows n) (live_of_rows n)

@@ -1,0 +1,26 @@
+//! The net of a history: stays with windows and weights, caps for each device and adapter in each round; schedules and
+//! prices over it.
+#![tactic(auto)]
+
+pub use flat::cell;
+pub use net::Net;
+pub use net_fault::NetFault;
+pub use price_range::{MOST_PRICE, PriceRange};
+pub use prices::Prices;
+pub use schedule::Schedule;
+pub use waiting::cost;
+
+mod cap_rows;
+mod flat;
+mod marks;
+mod net;
+mod net_fault;
+mod price_range;
+mod prices;
+mod schedule;
+mod stay_row;
+mod stay_rows;
+#[cfg(test)]
+mod tests;
+mod waiting;
+mod walk;

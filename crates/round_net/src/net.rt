@@ -1,0 +1,238 @@
+use crate::cap_rows::{dev_caps, sim_caps};
+use crate::flat::cell;
+use crate::net_fault::NetFault;
+use crate::stay_row::StayRow;
+use crate::stay_rows::{adapters_of, stay_rows};
+use crate::walk::walk_through;
+use cam_event::History;
+use event_log::Stay;
+use std::alloc::Global;
+use std::marker::Model;
+
+/// What a complete history left to plan: stays with windows and weights, and caps.
+///
+/// Stays, devices and adapters are numbered from 0, rounds from 1. Each number that a call takes has to be within the
+/// net.
+#[derive(Debug, Drop)]
+pub struct Net {
+    rounds: u32,
+    adapters: u32,
+    adapter_of: Vec<u32>,
+    stays: Vec<StayRow>,
+    dev_caps: Vec<u32>,
+    sim_caps: Vec<u32>,
+}
+
+impl Model for Net {
+    ghost use Rattle.round_net.specs.Rows.{NetRows};
+    ghost use Rattle.round_net.specs.Sound.{IsNet};
+
+    ghost Value = { NetRows };
+
+    ghost view = { λ n. record { rounds = n.rounds; adapters = n.adapters; adapter_of = n.adapter_of.items; stays = n.stays.items; dev_caps = n.dev_caps.items; sim_caps = n.sim_caps.items } };
+
+    ghost invariant = { λ n. IsNet (record { rounds = n.rounds; adapters = n.adapters; adapter_of = n.adapter_of.items; stays = n.stays.items; dev_caps = n.dev_caps.items; sim_caps = n.sim_caps.items }) };
+}
+
+impl Net {
+    ghost use Rattle.std.specs.Prelude.{◌≡◌, ◌+◌, ◌*◌, ◌<◌, ◌≤◌, Some, length, slice_get};
+    ghost use Rattle.cam_types.specs.declared.limits.TheConstants.{MOST_ROUNDS};
+    ghost use Rattle.cam_types.specs.declared.config_fault.TheConstants.{MOST_OPENINGS};
+    ghost use Rattle.round_net.specs.Instance.{adapter};
+    ghost use Rattle.round_net.specs.Rows.{instance_of_rows, live_of_rows, names_of_rows};
+    ghost use Rattle.round_net.specs.Sound.{IsSound};
+    ghost use Rattle.std.specs.Prelude.{IfOk, MatchOption, IsOkUnless};
+    ghost use Rattle.event_log.specs.Stays.{unsent};
+    ghost use Rattle.round_net.specs.Nets.{net_of, instance_of, live_of};
+    ghost use Rattle.round_net.specs.Schedules.{IsAdmissible};
+
+    /// The net of a history in which each stay was sent. Where one wasn't, the first of these by birth is named.
+    pub fn of(alloc: Global, history: &History) -> Result<Net, NetFault>
+        ensures answer { MatchOption (unsent history.now.events)
+            (IsOkUnless result NetFault.OutOfMemory)
+            (λ stay. result ≡ Err (NetFault.Unsent stay)) }
+        ensures net { IfOk result (λ net. net ≡ net_of history.now.config history.now.events) }
+
+        // Each stay was sent within its window, and no device or adapter was sent more than it takes.
+        ensures live { IfOk result (λ _. IsAdmissible (instance_of history.now.config history.now.events) (live_of history.now.config history.now.events)) }
+    {
+        if let Some(stay) = history.unsent() {
+            return Err(NetFault::Unsent(stay));
+        }
+        let config = history.config();
+        let rounds = history.round();
+        let walked = walk_through(alloc, config, history.events(), rounds)?;
+        Ok(Net {
+            rounds,
+            adapters: config.adapters().len() as u32,
+            adapter_of: adapters_of(alloc, config.devices())?,
+            stays: stay_rows(alloc, &walked.log)?,
+            dev_caps: dev_caps(
+                alloc,
+                config,
+                &walked.log,
+                rounds,
+                &walked.dev_marks,
+                &walked.numbers,
+            )?,
+            sim_caps: sim_caps(alloc, config, &walked.log, rounds, &walked.sim_marks)?,
+        })
+    }
+
+    /// How many rounds there are, at most 128.
+    #[tactic(auto, unfolding(crate::specs::Rows::instance_of_rows))]
+    pub fn rounds(&self) -> u32
+        ensures same { result ≡ (instance_of_rows self.now).rounds }
+        ensures sound { IsSound (instance_of_rows self.now) (live_of_rows self.now) }
+    {
+        self.rounds
+    }
+
+    /// How many stays there are, at most 1,024.
+    #[tactic(auto, unfolding(crate::specs::Rows::instance_of_rows))]
+    pub fn stays(&self) -> u32
+        ensures same { result ≡ (instance_of_rows self.now).stays }
+        ensures sound { IsSound (instance_of_rows self.now) (live_of_rows self.now) }
+    {
+        self.stays.len() as u32
+    }
+
+    /// How many devices there are, at most 16.
+    #[tactic(auto, unfolding(crate::specs::Rows::instance_of_rows))]
+    pub fn devices(&self) -> u32
+        ensures same { result ≡ (instance_of_rows self.now).devices }
+        ensures sound { IsSound (instance_of_rows self.now) (live_of_rows self.now) }
+    {
+        self.adapter_of.len() as u32
+    }
+
+    /// How many adapters there are, at most 4.
+    #[tactic(auto, unfolding(crate::specs::Rows::instance_of_rows))]
+    pub fn adapters(&self) -> u32
+        ensures same { result ≡ (instance_of_rows self.now).adapters }
+        ensures sound { IsSound (instance_of_rows self.now) (live_of_rows self.now) }
+    {
+        self.adapters
+    }
+
+    /// How many pairs there are of a device or adapter with a round.
+    #[tactic(auto, unfolding(crate::specs::Rows::instance_of_rows))]
+    pub fn cells(&self) -> usize
+        ensures { let net = instance_of_rows self.now in result ≡ (net.devices + net.adapters) * net.rounds }
+    {
+        self.dev_caps.len() + self.sim_caps.len()
+    }
+
+    // The row of the stay of this number.
+    fn row(&self, stay: u32) -> StayRow
+        requires { stay < length self.now.stays }
+        ensures same { slice_get self.now.stays stay ≡ Some result }
+        ensures sound { IsSound (instance_of_rows self.now) (live_of_rows self.now) }
+    {
+        self.stays[stay as usize]
+    }
+
+    /// The stay of this number, in order of birth.
+    #[tactic(auto, unfolding(crate::specs::Rows::instance_of_rows, crate::specs::Rows::names_of_rows))]
+    pub fn stay(&self, stay: u32) -> Stay
+        requires { stay < (instance_of_rows self.now).stays }
+        ensures { slice_get (names_of_rows self.now) stay ≡ Some result }
+    {
+        self.row(stay).stay
+    }
+
+    /// The number of the stay's device.
+    #[tactic(auto, unfolding(crate::specs::Rows::instance_of_rows))]
+    pub fn device(&self, stay: u32) -> u32
+        requires { stay < (instance_of_rows self.now).stays }
+        ensures same { result ≡ (instance_of_rows self.now).device stay }
+        ensures within { result < (instance_of_rows self.now).devices }
+    {
+        self.row(stay).device
+    }
+
+    /// The number of the adapter of the stay's device.
+    #[tactic(auto, unfolding(crate::specs::Rows::instance_of_rows))]
+    pub fn adapter(&self, stay: u32) -> u32
+        requires { stay < (instance_of_rows self.now).stays }
+        ensures same { result ≡ adapter (instance_of_rows self.now) stay }
+        ensures within { result < (instance_of_rows self.now).adapters }
+    {
+        self.adapter_of(self.device(stay))
+    }
+
+    /// The number of the device's adapter.
+    #[tactic(auto, unfolding(crate::specs::Rows::instance_of_rows))]
+    pub fn adapter_of(&self, device: u32) -> u32
+        requires { device < (instance_of_rows self.now).devices }
+        ensures same { result ≡ (instance_of_rows self.now).adapter_of device }
+        ensures within { result < (instance_of_rows self.now).adapters }
+    {
+        self.adapter_of[device as usize]
+    }
+
+    /// The first round in which the stay could be sent, from 1.
+    #[tactic(auto, unfolding(crate::specs::Rows::instance_of_rows))]
+    pub fn arrival(&self, stay: u32) -> u32
+        requires { stay < (instance_of_rows self.now).stays }
+        ensures same { result ≡ (instance_of_rows self.now).arrival stay }
+        ensures first { 1 ≤ result }
+    {
+        self.row(stay).arrival
+    }
+
+    /// The last round in which the stay could be sent.
+    #[tactic(auto, unfolding(crate::specs::Rows::instance_of_rows))]
+    pub fn last(&self, stay: u32) -> u32
+        requires { stay < (instance_of_rows self.now).stays }
+        ensures same { result ≡ (instance_of_rows self.now).last stay }
+        ensures within { result ≤ (instance_of_rows self.now).rounds }
+        ensures most { result ≤ MOST_ROUNDS }
+    {
+        self.row(stay).last
+    }
+
+    /// What each round of the stay's waiting costs: 16, 8, 4, 2 or 1.
+    #[tactic(auto, unfolding(crate::specs::Rows::instance_of_rows))]
+    pub fn weight(&self, stay: u32) -> u32
+        requires { stay < (instance_of_rows self.now).stays }
+        ensures same { result ≡ (instance_of_rows self.now).weight stay }
+        ensures some { 1 ≤ result }
+        ensures most { result ≤ 16 }
+    {
+        self.row(stay).weight
+    }
+
+    /// The round in which the stay was sent.
+    #[tactic(auto, unfolding(crate::specs::Rows::instance_of_rows, crate::specs::Rows::live_of_rows))]
+    pub fn live(&self, stay: u32) -> u32
+        requires { stay < (instance_of_rows self.now).stays }
+        ensures { result ≡ live_of_rows self.now stay }
+    {
+        self.row(stay).live
+    }
+
+    /// How many commands the device takes in the round.
+    #[tactic(auto, using(crate::proofs::CellLemmas::cell_in), unfolding(crate::specs::Rows::instance_of_rows))]
+    pub fn dev_cap(&self, device: u32, round: u32) -> u32
+        requires device { device < (instance_of_rows self.now).devices }
+        requires first { 1 ≤ round }
+        requires last { round ≤ (instance_of_rows self.now).rounds }
+        ensures same { result ≡ (instance_of_rows self.now).dev_cap device round }
+        ensures most { result ≤ MOST_OPENINGS }
+    {
+        self.dev_caps[cell(self.rounds, device, round)]
+    }
+
+    /// How many commands the adapter takes in the round.
+    #[tactic(auto, using(crate::proofs::CellLemmas::cell_in), unfolding(crate::specs::Rows::instance_of_rows))]
+    pub fn sim_cap(&self, adapter: u32, round: u32) -> u32
+        requires adapter { adapter < (instance_of_rows self.now).adapters }
+        requires first { 1 ≤ round }
+        requires last { round ≤ (instance_of_rows self.now).rounds }
+        ensures same { result ≡ (instance_of_rows self.now).sim_cap adapter round }
+        ensures most { result ≤ MOST_OPENINGS }
+    {
+        self.sim_caps[cell(self.rounds, adapter, round)]
+    }
+}

@@ -1,0 +1,25 @@
+ghost use Rattle.std.specs.Prelude.{◌≡◌};
+ghost use Rattle.round_net.specs.declared.net_fault.NetFault.TheVariants.{OutOfMemory};
+
+use event_log::Stay;
+use std::alloc::AllocError;
+use thiserror::Error;
+
+/// Why no net was made of a history.
+#[derive(Clone, Copy, Debug, PartialEq, Eq, Hash, Error)]
+pub enum NetFault {
+    /// The history isn't complete: this is the first of its stays, by birth, that has no send.
+    #[error("unsent ccb {} try {}", .0.ccb, .0.attempt)]
+    Unsent(Stay),
+    /// There is no memory left.
+    #[error("out of memory")]
+    OutOfMemory,
+}
+
+impl From<AllocError> for NetFault {
+    ghost from_gives = { λ _ e. e ≡ OutOfMemory };
+
+    fn from(_error: AllocError) -> NetFault {
+        NetFault::OutOfMemory
+    }
+}

@@ -1,0 +1,9 @@
+use thiserror::Error;
+
+/// The most that one opening may be worth.
+pub const MOST_PRICE: u64 = 1_000_000_000_000;
+
+/// A price above the most.
+#[derive(Clone, Copy, Debug, PartialEq, Eq, Hash, Error)]
+#[error("price range")]
+pub struct PriceRange;

@@ -53,13 +53,13 @@ true_along p before (x ∷ xs) e = let n = and_parts _ _ e in (n.0, true_along p
 
 -- ---- records one after the other
 
-pub then_taken : (n : ℕ) (s t u : TraceStage) (xs ys : List Row) → taken step n s xs ≡ Ok t → ((m : ℕ) → taken step m t ys ≡ Ok u) → taken step n s (xs ++ ys) ≡ Ok u
-then_taken n s t u [] ys e k = let same : s ≡ t = cc in rw same (k n)
-then_taken n s t u (x ∷ xs) ys e k = by (step n s x) refl e (λ v h. then_taken (n + 1) v t u xs ys h k)
+pub then_taken : {S : Type 0} (next : ℕ → S → Row → Result S TraceFault) (n : ℕ) (s t u : S) (xs ys : List Row) → taken next n s xs ≡ Ok t → ((m : ℕ) → taken next m t ys ≡ Ok u) → taken next n s (xs ++ ys) ≡ Ok u
+then_taken next n s t u [] ys e k = let same : s ≡ t = cc in rw same (k n)
+then_taken {S = S} next n s t u (x ∷ xs) ys e k = by (next n s x) refl e (λ v h. then_taken next (n + 1) v t u xs ys h k)
   where
-    by : (r : Result TraceStage TraceFault) → step n s x ≡ r → (step n s x >>= λ v. taken step (n + 1) v xs) ≡ Ok t
-        → ((v : TraceStage) → taken step (n + 1) v xs ≡ Ok t → taken step (n + 1) v (xs ++ ys) ≡ Ok u)
-        → (step n s x >>= λ v. taken step (n + 1) v (xs ++ ys)) ≡ Ok u
+    by : (r : Result S TraceFault) → next n s x ≡ r → (next n s x >>= λ v. taken next (n + 1) v xs) ≡ Ok t
+        → ((v : S) → taken next (n + 1) v xs ≡ Ok t → taken next (n + 1) v (xs ++ ys) ≡ Ok u)
+        → (next n s x >>= λ v. taken next (n + 1) v (xs ++ ys)) ≡ Ok u
     by (Ok v) q h more = rw q (more v (rw q at h))
     by (Err f) q h more = absurd (let wrong = rw q at h in cc)
 

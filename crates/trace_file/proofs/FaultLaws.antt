@@ -34,27 +34,27 @@ IsOfText fault.ReadFailed = ⊥
 IsOfText fault.OutOfMemory = ⊥
 
 -- a result that fails does so by a fault of the text
-abbrev FailsByText : {X : Type 0} → Result X TraceFault → Type 0
+abbrev pub FailsByText : {X : Type 0} → Result X TraceFault → Type 0
 FailsByText (Ok x) = ⊤
 FailsByText (Err e) = IsOfText e
 
-bound : {A B : Type 0} (r : Result A TraceFault) (f : A → Result B TraceFault) → FailsByText r → ((x : A) → FailsByText (f x)) → FailsByText (r >>= f)
+pub bound : {A B : Type 0} (r : Result A TraceFault) (f : A → Result B TraceFault) → FailsByText r → ((x : A) → FailsByText (f x)) → FailsByText (r >>= f)
 bound (Ok x) f h k = k x
 bound (Err e) f h k = h
 
-by_config : (n : ℕ) (o : Option ConfigFault) (s : TraceStage) → FailsByText (unless_fault n o s)
+pub by_config : (n : ℕ) (o : Option ConfigFault) (s : TraceStage) → FailsByText (unless_fault n o s)
 by_config n None s = tt
 by_config n (Some f) s = tt
 
-by_refusal : (n : ℕ) (o : Option Refusal) (s : TraceStage) → FailsByText (unless_refused n o s)
+pub by_refusal : (n : ℕ) (o : Option Refusal) (s : TraceStage) → FailsByText (unless_refused n o s)
 by_refusal n None s = tt
 by_refusal n (Some r) s = tt
 
-by_field : {X : Type 0} (n : ℕ) (r : Result X ℕ) → FailsByText (in_record n r)
+pub by_field : {X : Type 0} (n : ℕ) (r : Result X ℕ) → FailsByText (in_record n r)
 by_field n (Ok x) = tt
 by_field n (Err k) = tt
 
-either : (b : Bool) (e : TraceFault) (r : Result TraceStage TraceFault) → IsOfText e → FailsByText r → FailsByText (cond b (Err e) r)
+pub either : (b : Bool) (e : TraceFault) (r : Result TraceStage TraceFault) → IsOfText e → FailsByText r → FailsByText (cond b (Err e) r)
 either true e r h k = h
 either false e r h k = k
 
@@ -77,7 +77,7 @@ event_fails n s e = either (lacks_adapters s) (fault.BadConfig n NoAdapters) _ t
 other_fails : (n : ℕ) (s : TraceStage) (w : Word) (row : Row) → FailsByText (in_record n (event_at w row) >>= add_event n s)
 other_fails n s w row = bound (in_record n (event_at w row)) (add_event n s) (by_field n (event_at w row)) (event_fails n s)
 
-row_fails : (n : ℕ) (s : TraceStage) (w : Word) (row : Row) → FailsByText (add_row n s w row)
+pub row_fails : (n : ℕ) (s : TraceStage) (w : Word) (row : Row) → FailsByText (add_row n s w row)
 unfolding add_row
 row_fails n s word.Sim row = bound (in_record n (one_number row)) (add_adapter n s) (by_field n (one_number row)) (adapter_fails n s)
 row_fails n s word.Dev row = bound (in_record n (device_at row)) (add_device n s) (by_field n (device_at row)) (device_fails n s)
@@ -94,7 +94,7 @@ row_fails n s word.ReleaseSim row = other_fails n s word.ReleaseSim row
 row_fails n s word.Adjust row = other_fails n s word.Adjust row
 row_fails n s word.Tick row = other_fails n s word.Tick row
 
-behind_fails : (n : ℕ) (s : TraceStage) (row : Row) → FailsByText (row_step n s row)
+pub behind_fails : (n : ℕ) (s : TraceStage) (row : Row) → FailsByText (row_step n s row)
 unfolding row_step
 behind_fails n s row = by (placed s row)
   where
@@ -132,25 +132,25 @@ reading_fails : (rows : List Row) → FailsByText (reading rows)
 unfolding reading
 reading_fails rows = bound (taken step 1 stage.Header rows) ended (taken_fails 1 stage.Header rows) end_fails
 
-of_text : {X : Type 0} (r : Result X TraceFault) (e : TraceFault) → FailsByText r → r ≡ Err e → IsOfText e
+pub of_text : {X : Type 0} (r : Result X TraceFault) (e : TraceFault) → FailsByText r → r ≡ Err e → IsOfText e
 of_text r e h is = rw is at h
 
 -- ---- the first record that fails
 
-record Splits (n : ℕ) (s : TraceStage) (rows : List Row) (e : TraceFault) : Type 0 where
+record Splits {S V : Type 0} (next : ℕ → S → Row → Result S TraceFault) (end : S → Result V TraceFault) (n : ℕ) (s : S) (rows : List Row) (e : TraceFault) : Type 0 where
   before : List Row
   rest : List Row
-  reached : TraceStage
+  reached : S
   parts : rows ≡ before ++ rest
-  good : taken step n s before ≡ Ok reached
-  fails : FailsAt (n + length before) reached rest e
+  good : taken next n s before ≡ Ok reached
+  fails : FailsAt next end (n + length before) reached rest e
 
-splits : (n : ℕ) (s : TraceStage) (rows : List Row) (e : TraceFault) → (taken step n s rows >>= ended) ≡ Err e → Splits n s rows e
-splits n s [] e h = record { before = []; rest = []; reached = s; parts = refl; good = refl; fails = h }
-splits n s (row ∷ rows) e h = by (step n s row) refl h (λ t k. splits (n + 1) t rows e k)
+splits : {S V : Type 0} (next : ℕ → S → Row → Result S TraceFault) (end : S → Result V TraceFault) (n : ℕ) (s : S) (rows : List Row) (e : TraceFault) → (taken next n s rows >>= end) ≡ Err e → Splits next end n s rows e
+splits next end n s [] e h = record { before = []; rest = []; reached = s; parts = refl; good = refl; fails = h }
+splits {S = S} next end n s (row ∷ rows) e h = by (next n s row) refl h (λ t k. splits next end (n + 1) t rows e k)
   where
-    by : (r : Result TraceStage TraceFault) → step n s row ≡ r → ((step n s row >>= λ t. taken step (n + 1) t rows) >>= ended) ≡ Err e
-        → ((t : TraceStage) → (taken step (n + 1) t rows >>= ended) ≡ Err e → Splits (n + 1) t rows e) → Splits n s (row ∷ rows) e
+    by : (r : Result S TraceFault) → next n s row ≡ r → ((next n s row >>= λ t. taken next (n + 1) t rows) >>= end) ≡ Err e
+        → ((t : S) → (taken next (n + 1) t rows >>= end) ≡ Err e → Splits next end (n + 1) t rows e) → Splits next end n s (row ∷ rows) e
     by (Ok t) q k more =
         let m = more t (rw q at k) in
         let same : n + 1 + length m.before ≡ n + length (row ∷ m.before) = omega arith in
@@ -160,16 +160,16 @@ splits n s (row ∷ rows) e h = by (step n s row) refl h (λ t k. splits (n + 1)
           reached = m.reached;
           parts = ap (λ (l : List Row). row ∷ l) m.parts;
           good = rw q m.good;
-          fails = subst (λ (i : ℕ). FailsAt i m.reached m.rest e) same m.fails;
+          fails = subst (λ (i : ℕ). FailsAt next end i m.reached m.rest e) same m.fails;
         }
     by (Err d) q k more =
         let same : d ≡ e = (let w = rw q at k in cc) in
         record { before = []; rest = row ∷ rows; reached = s; parts = refl; good = refl; fails = rw add-zero (q ∙ ap (λ (x : TraceFault). Err x) same) }
 
-first_fault : (rows : List Row) (e : TraceFault) → reading rows ≡ Err e → IsFirstFault rows e
-unfolding reading
-first_fault rows e h =
-    let k = splits 1 stage.Header rows e h in
+pub first_fault : {S V : Type 0} (next : ℕ → S → Row → Result S TraceFault) (end : S → Result V TraceFault) (first : S) (rows : List Row) (e : TraceFault)
+    → (taken next 1 first rows >>= end) ≡ Err e → IsFirstFault next end first rows e
+first_fault next end first rows e h =
+    let k = splits next end 1 first rows e h in
     record { exact = h; before = k.before; rest = k.rest; reached = k.reached; parts = k.parts; good = k.good; fails = k.fails }
 
 -- ---- what a reader of traces answers
@@ -199,8 +199,9 @@ was_trace before after text past whole e =
 
 -- a fault that was found is explained
 pub was_faulty : (before after : Option (List ℕ)) (failed : Bool) (text : List ℕ) (e : TraceFault) → IsWhole before after text → reading (records_in text) ≡ Err e → Explains before after failed e
+unfolding reading
 was_faulty before after failed text e whole h =
-    explained before after failed e (of_text (reading (records_in text)) e (reading_fails (records_in text)) h) (record { text = text; whole = whole; first = first_fault (records_in text) e h })
+    explained before after failed e (of_text (reading (records_in text)) e (reading_fails (records_in text)) h) (record { text = text; whole = whole; first = first_fault step ended stage.Header (records_in text) e h })
 
 -- a trace that was read to its end is read as its history
 pub trace_read : (before after : Option (List ℕ)) (text : List ℕ) (past : Past) → IsHistory past → IsWhole before after text

@@ -12,7 +12,7 @@ use Rattle.trace_file.specs.Rows.{most_number}
 use Rattle.trace_file.specs.Fields.{Row, field_of, number_at, flags_at, flags_of, flags_text, flags_by}
 
 -- what is found passes
-found_passes : {X : Type 0} (p : X → Bool) (xs : List X) (x : X) → find p xs ≡ Some x → p x ≡ true
+pub found_passes : {X : Type 0} (p : X → Bool) (xs : List X) (x : X) → find p xs ≡ Some x → p x ≡ true
 found_passes p [] x e = absurd cc
 found_passes p (y ∷ ys) x e = by (p y) refl e (found_passes p ys x)
   where

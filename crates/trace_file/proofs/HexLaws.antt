@@ -114,7 +114,7 @@ pub bytes_again : (bs : List ℕ) → AreBytes bs → bytes_of (hex bs) ≡ Some
 bytes_again [] h = bytes_of_none
 bytes_again (b ∷ bs) h = bytes_of_two (digit_char (b / 16)) (digit_char (b % 16)) (hex bs) ∙ rw (byte_again b h.0, bytes_again bs h.1) refl
 
-length-hex : (bs : List ℕ) → length (hex bs) ≡ 2 * length bs
+pub length-hex : (bs : List ℕ) → length (hex bs) ≡ 2 * length bs
 length-hex [] = refl
 length-hex (b ∷ bs) = let e = length-hex bs in omega arith
 

@@ -7,6 +7,15 @@ pub mod HistoryLemmas
 pub mod RecordLemmas
 pub mod RowLaws
 pub mod RowsAgain
+pub mod ScriptAgain
+pub mod ScriptFaults
+pub mod ScriptLaws
+pub mod ScriptLists
+pub mod ScriptOrder
+pub mod ScriptRowLaws
+pub mod ScriptStageLemmas
 pub mod StageLaws
 pub mod StageLemmas
+pub mod TextLaws
 pub mod WholeLaws
+pub mod WritingLemmas

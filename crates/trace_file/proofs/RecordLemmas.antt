@@ -107,14 +107,14 @@ enough (suc n) (suc m) s xs idle a b = go (next_record default_config s [] [] xs
         ap (λ (rs : List Row). p.0 ∷ rs) (more p h.0 (omega arith) (omega arith))
 
 -- the first of the records that are left
-first_left : (s : State) (xs : List ℕ) (p : Read) → ends_at_end s ≡ false → next_record default_config s [] [] xs ≡ Some p
+pub first_left : (s : State) (xs : List ℕ) (p : Read) → ends_at_end s ≡ false → next_record default_config s [] [] xs ≡ Some p
     → records_from default_config (length xs + 1) s xs ≡ p.0 ∷ records_from default_config (length p.2 + 1) p.1 p.2
 unfolding records_from
 first_left s xs p idle e =
     let h = next_shorter s xs p idle e in
     rw (add-one (length xs), e) (ap (λ (rs : List Row). p.0 ∷ rs) (enough (length xs) (length p.2 + 1) p.1 p.2 h.0 h.1 (omega arith)))
 
-none_left : (s : State) (xs : List ℕ) → next_record default_config s [] [] xs ≡ None → records_from default_config (length xs + 1) s xs ≡ []
+pub none_left : (s : State) (xs : List ℕ) → next_record default_config s [] [] xs ≡ None → records_from default_config (length xs + 1) s xs ≡ []
 unfolding records_from
 none_left s xs e = rw (add-one (length xs), e) refl
 

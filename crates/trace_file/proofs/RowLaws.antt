@@ -4,15 +4,15 @@ use Rattle.std.specs.Prelude.{Result, Ok, Err, decimal, ◌==◌, ⊤}
 use Rattle.std.proofs.lemmas.Bool.{eqb-true}
 use Rattle.std.proofs.lemmas.List.{length-drop, nil_from_length}
 use Rattle.event_log.specs.declared.event.Event.TheVariants as event
-use Rattle.trace_file.specs.Histories.{Event}
+use Rattle.trace_file.specs.Histories.{Event, Outcome}
 use Rattle.trace_file.specs.declared.device_row.DeviceRow.{DeviceRow}
 use Rattle.trace_file.specs.declared.word.Word.{Word}
 use Rattle.trace_file.specs.declared.word.Word.TheVariants as word
 use Rattle.trace_file.specs.Steps.{◌>>=◌}
 use Rattle.trace_file.specs.Fields.{Row, field_of, number_at, byte_at, sense_at, flags_at, flags_text, unused, unused_from}
 use Rattle.trace_file.specs.Records.{hex, adapter_row, device_row, lane_row, event_row}
-use Rattle.trace_file.specs.Rows.{most_number, one_number, two_numbers, device_at, submit_at, done_at, tick_at, event_at, device_of}
-use Rattle.trace_file.specs.Trace.{FitsEvent}
+use Rattle.trace_file.specs.Rows.{most_number, one_number, two_numbers, device_at, submit_at, outcome_at, tick_at, event_at, device_of}
+use Rattle.trace_file.specs.Trace.{FitsEvent, FitsOutcome}
 use Rattle.trace_file.specs.Words.{spelled}
 use Rattle.trace_file.proofs.FieldLaws.{number_takes, flags_takes}
 use Rattle.trace_file.proofs.FieldLemmas.{drop_field}
@@ -40,7 +40,7 @@ unused_all k (f ∷ fs) u e = by (length f == 0) refl e (unused_all (k + 1) fs u
     by true t h more = let none = nil_from_length f (eqb-true _ _ t) in rw none (ap (λ (l : Row). [] ∷ l) (more (rw t at h)))
     by false t h more = absurd (let wrong = rw t at h in cc)
 
-unused_rest : (row : Row) (at n : ℕ) (u : ⊤) → length row ≡ 8 → at + n ≡ 8 → unused_from row at ≡ Ok u → drop at row ≡ replicate n []
+pub unused_rest : (row : Row) (at n : ℕ) (u : ⊤) → length row ≡ 8 → at + n ≡ 8 → unused_from row at ≡ Ok u → drop at row ≡ replicate n []
 unfolding unused_from
 unused_rest row at n u eight e h =
     let size : length (drop at row) ≡ n = omega (arith, length-drop at row) in
@@ -118,24 +118,26 @@ submit_takes row x eight e =
     let made : Tells row word.Submit (event.Submit driver device priority retries flags) = (ap (λ (l : Row). spelled word.Submit ∷ l) t1, (a.1, b.1, c.1, d.1)) in
     subst (λ (y : Event). Tells row word.Submit y) (ok_is _ x s) made))))))
 
-done_takes : (row : Row) (x : Event) → length row ≡ 8 → done_at row ≡ Ok x → Tells row word.Done x
-unfolding done_at
-done_takes row x eight e =
-    on_ok (number_at row 1 most_number) (λ ccb. byte_at row 2 >>= λ status. byte_at row 3 >>= λ scsi. sense_at row 4 >>= λ sense. unused_from row 5 >>= λ _. Ok (event.Done ccb (record { status = status; scsi = scsi; sense = sense }))) x e (λ ccb e1 r1.
-    on_ok (byte_at row 2) (λ status. byte_at row 3 >>= λ scsi. sense_at row 4 >>= λ sense. unused_from row 5 >>= λ _. Ok (event.Done ccb (record { status = status; scsi = scsi; sense = sense }))) x r1 (λ status e2 r2.
-    on_ok (byte_at row 3) (λ scsi. sense_at row 4 >>= λ sense. unused_from row 5 >>= λ _. Ok (event.Done ccb (record { status = status; scsi = scsi; sense = sense }))) x r2 (λ scsi e3 r3.
-    on_ok (sense_at row 4) (λ sense. unused_from row 5 >>= λ _. Ok (event.Done ccb (record { status = status; scsi = scsi; sense = sense }))) x r3 (λ sense e4 r4.
-    on_ok (unused_from row 5) (λ _. Ok (event.Done ccb (record { status = status; scsi = scsi; sense = sense }))) x r4 (λ u eu s.
-    let a = number_takes row 1 most_number ccb (omega arith) e1 in
+pub outcome_takes : (row : Row) (x : ℕ × Outcome) → length row ≡ 8 → outcome_at row ≡ Ok x
+    → (drop 1 row ≡ decimal x.0 ∷ hex (x.1.status ∷ []) ∷ hex (x.1.scsi ∷ []) ∷ hex x.1.sense ∷ [] ∷ [] ∷ [] ∷ []) × FitsOutcome x.0 x.1
+unfolding outcome_at
+outcome_takes row x eight e =
+    on_ok (number_at row 1 most_number) _ x e (λ n e1 r1.
+    on_ok (byte_at row 2) _ x r1 (λ status e2 r2.
+    on_ok (byte_at row 3) _ x r2 (λ scsi e3 r3.
+    on_ok (sense_at row 4) _ x r3 (λ sense e4 r4.
+    on_ok (unused_from row 5) _ x r4 (λ u eu s.
+    let a = number_takes row 1 most_number n (omega arith) e1 in
     let b = byte_at_takes row 2 status e2 in
     let c = byte_at_takes row 3 scsi e3 in
     let d = sense_at_takes row 4 sense e4 in
     let t4 = peel row 4 (hex sense) _ eight (omega arith) d.0 (unused_rest row 5 3 u eight refl eu) in
     let t3 = peel row 3 (hex (scsi ∷ [])) _ eight (omega arith) c.0 t4 in
     let t2 = peel row 2 (hex (status ∷ [])) _ eight (omega arith) b.0 t3 in
-    let t1 = peel row 1 (decimal ccb) _ eight (omega arith) a.0 t2 in
-    let made : Tells row word.Done (event.Done ccb (record { status = status; scsi = scsi; sense = sense })) = (ap (λ (l : Row). spelled word.Done ∷ l) t1, (a.1, b.1, c.1, d.1, d.2)) in
-    subst (λ (y : Event). Tells row word.Done y) (ok_is _ x s) made)))))
+    let t1 = peel row 1 (decimal n) _ eight (omega arith) a.0 t2 in
+    let outcome : Outcome = record { status = status; scsi = scsi; sense = sense } in
+    subst (λ (y : ℕ × Outcome). (drop 1 row ≡ decimal y.0 ∷ hex (y.1.status ∷ []) ∷ hex (y.1.scsi ∷ []) ∷ hex y.1.sense ∷ [] ∷ [] ∷ [] ∷ []) × FitsOutcome y.0 y.1)
+    (ok_is (n, outcome) x s) (t1, (a.1, b.1, c.1, d.1, d.2)))))))
 
 tick_takes : (row : Row) (x : Event) → length row ≡ 8 → tick_at row ≡ Ok x → Tells row word.Tick x
 unfolding tick_at
@@ -168,7 +170,11 @@ event_tells row word.Dev x eight e = absurd cc
 event_tells row word.Lane x eight e = absurd cc
 event_tells row word.Submit x eight e = submit_takes row x eight e
 event_tells row word.Send x eight e = tell_two row word.Send event.Send x eight (λ m n. refl) (λ m n p q. (p, q)) e
-event_tells row word.Done x eight e = done_takes row x eight e
+event_tells row word.Done x eight e =
+    on_ok (outcome_at row) (λ p. Ok (event.Done p.0 p.1)) x e (λ p ep s.
+    let t = outcome_takes row p eight ep in
+    let made : Tells row word.Done (event.Done p.0 p.1) = (ap (λ (l : Row). spelled word.Done ∷ l) t.0, t.1) in
+    subst (λ (y : Event). Tells row word.Done y) (ok_is _ x s) made)
 event_tells row word.Requeue x eight e = tell_one row word.Requeue event.Requeue x eight (λ n. refl) (λ n p. p) e
 event_tells row word.Finish x eight e = tell_one row word.Finish event.Finish x eight (λ n. refl) (λ n p. p) e
 event_tells row word.Freeze x eight e = tell_two row word.Freeze event.FreezeDev x eight (λ m n. refl) (λ m n p q. (p, q)) e

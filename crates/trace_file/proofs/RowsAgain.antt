@@ -9,7 +9,7 @@ use Rattle.trace_file.specs.declared.word.Word.{Word}
 use Rattle.trace_file.specs.declared.word.Word.TheVariants as word
 use Rattle.trace_file.specs.Fields.{unused_from}
 use Rattle.trace_file.specs.Records.{padded, event_row}
-use Rattle.trace_file.specs.Rows.{most_number, one_number, two_numbers, device_at, submit_at, done_at, tick_at, event_at}
+use Rattle.trace_file.specs.Rows.{most_number, one_number, two_numbers, device_at, submit_at, outcome_at, tick_at, event_at}
 use Rattle.trace_file.specs.Trace.{FitsEvent}
 use Rattle.trace_file.specs.Words.{spelled}
 use Rattle.trace_file.proofs.FieldLaws.{number_again, flags_again}
@@ -52,7 +52,7 @@ word_for (event.Adjust device openings) = word.Adjust
 word_for event.Tick = word.Tick
 
 pub event_again : (e : Event) → FitsEvent e → event_at (word_for e) (event_row e) ≡ Ok e
-unfolding event_at submit_at done_at tick_at unused_from field_at
+unfolding event_at submit_at outcome_at tick_at unused_from field_at
 event_again (event.Submit driver device priority retries flags) h =
     let row = event_row (event.Submit driver device priority retries flags) in
     rw (

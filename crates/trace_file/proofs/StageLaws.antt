@@ -109,7 +109,7 @@ lane_ready (stage.Devices t) h e l = ((refl, refl), h.0)
 lane_ready (stage.Lanes t) h e l = ((refl, refl), h)
 lane_ready (stage.Events p) h e l = absurd cc
 
-event_ready : (s : TraceStage) → IsSound s → lacks_adapters s ≡ false → (rows_at s ≡ records_of (past_of s)) × IsKept (past_of s)
+pub event_ready : (s : TraceStage) → IsSound s → lacks_adapters s ≡ false → (rows_at s ≡ records_of (past_of s)) × IsKept (past_of s)
 unfolding IsSound
 event_ready stage.Header h l = absurd cc
 event_ready stage.First h l = absurd cc
@@ -120,19 +120,19 @@ event_ready (stage.Events p) h l = (refl, h)
 
 -- ---- one item more
 
-no_fault : (n : ℕ) (o : Option ConfigFault) (s t : TraceStage) → unless_fault n o s ≡ Ok t → (o ≡ None) × (s ≡ t)
+pub no_fault : (n : ℕ) (o : Option ConfigFault) (s t : TraceStage) → unless_fault n o s ≡ Ok t → (o ≡ None) × (s ≡ t)
 no_fault n None s t e = (refl, ok_is s t e)
 no_fault n (Some f) s t e = absurd cc
 
-no_refusal : (n : ℕ) (o : Option Refusal) (s t : TraceStage) → unless_refused n o s ≡ Ok t → (o ≡ None) × (s ≡ t)
+pub no_refusal : (n : ℕ) (o : Option Refusal) (s t : TraceStage) → unless_refused n o s ≡ Ok t → (o ≡ None) × (s ≡ t)
 no_refusal n None s t e = (refl, ok_is s t e)
 no_refusal n (Some r) s t e = absurd cc
 
-guarded : {X : Type 0} (b : Bool) (d : TraceFault) (r : Result X TraceFault) (x : X) → cond b (Err d) r ≡ Ok x → (b ≡ false) × (r ≡ Ok x)
+pub guarded : {X : Type 0} (b : Bool) (d : TraceFault) (r : Result X TraceFault) (x : X) → cond b (Err d) r ≡ Ok x → (b ≡ false) × (r ≡ Ok x)
 guarded true d r x e = absurd cc
 guarded false d r x e = (refl, e)
 
-in_record_ok : {X : Type 0} (n : ℕ) (r : Result X ℕ) (x : X) → in_record n r ≡ Ok x → r ≡ Ok x
+pub in_record_ok : {X : Type 0} (n : ℕ) (r : Result X ℕ) (x : X) → in_record n r ≡ Ok x → r ≡ Ok x
 in_record_ok n (Ok y) x e = cc
 in_record_ok n (Err k) x e = absurd cc
 
@@ -205,16 +205,18 @@ reads_event n s t x rows h fits e =
 -- ---- a record
 
 -- a record of eight fields is these
-eight : (row : Row) (a b c d e f g h : List ℕ) → length row ≡ 8 → field_of row 0 ≡ a → field_of row 1 ≡ b → field_of row 2 ≡ c → field_of row 3 ≡ d
+pub eight : (row : Row) (a b c d e f g h : List ℕ) → length row ≡ 8 → field_of row 0 ≡ a → field_of row 1 ≡ b → field_of row 2 ≡ c → field_of row 3 ≡ d
     → field_of row 4 ≡ e → field_of row 5 ≡ f → field_of row 6 ≡ g → field_of row 7 ≡ h → row ≡ a ∷ b ∷ c ∷ d ∷ e ∷ f ∷ g ∷ h ∷ []
 eight row a b c d e f g h n e0 e1 e2 e3 e4 e5 e6 e7 =
     let none : drop 8 row ≡ [] = nil_from_length (drop 8 row) (omega (arith, length-drop 8 row)) in
     peel row 0 a _ n (omega arith) e0 (peel row 1 b _ n (omega arith) e1 (peel row 2 c _ n (omega arith) e2 (peel row 3 d _ n (omega arith) e3
     (peel row 4 e _ n (omega arith) e4 (peel row 5 f _ n (omega arith) e5 (peel row 6 g _ n (omega arith) e6 (peel row 7 h [] n (omega arith) e7 none)))))))
 
-header_takes : (row : Row) → is_header (codes "camtrace1") row ≡ true → row ≡ header
-unfolding is_header has_letters header
-header_takes row t =
+-- the header of this name
+pub named_header : (name : List ℕ) (row : Row) → is_header name row ≡ true
+    → row ≡ name ∷ codes "a" ∷ codes "b" ∷ codes "c" ∷ codes "d" ∷ codes "e" ∷ codes "f" ∷ codes "g" ∷ []
+unfolding is_header has_letters
+named_header name row t =
     let whole = and_parts _ _ t in
     let front = and_parts _ _ whole.0 in
     let g = and_parts _ _ whole.1 in
@@ -223,8 +225,12 @@ header_takes row t =
     let d = and_parts _ _ e.0 in
     let c = and_parts _ _ d.0 in
     let b = and_parts _ _ c.0 in
-    eight row (codes "camtrace1") (codes "a") (codes "b") (codes "c") (codes "d") (codes "e") (codes "f") (codes "g") (eqb-true _ _ front.0)
+    eight row name (codes "a") (codes "b") (codes "c") (codes "d") (codes "e") (codes "f") (codes "g") (eqb-true _ _ front.0)
     (same_bytes _ _ front.1) (same_bytes _ _ b.0) (same_bytes _ _ b.1) (same_bytes _ _ c.1) (same_bytes _ _ d.1) (same_bytes _ _ e.1) (same_bytes _ _ f.1) (same_bytes _ _ g.1)
+
+header_takes : (row : Row) → is_header (codes "camtrace1") row ≡ true → row ≡ header
+unfolding header
+header_takes row t = named_header (codes "camtrace1") row t
 
 -- what a word that stands in its place says of the record
 pub record IsPlaced (s : TraceStage) (row : Row) (w : Word) : Type 0 where
@@ -242,7 +248,7 @@ placed_by s row (Some v) w n e h = by (stands s v) refl h
         record { eight = n; word = word_spelled _ w (e ∙ ap (λ (x : Word). Some x) same); place = ap (stands s) (sym same) ∙ t }
     by false t k = absurd (let wrong = rw t at k in cc)
 
-placed_some : (s : TraceStage) (row : Row) (w : Word) → placed s row ≡ Some w → IsPlaced s row w
+pub placed_some : (s : TraceStage) (row : Row) (w : Word) → placed s row ≡ Some w → IsPlaced s row w
 unfolding placed
 placed_some s row w h = by (length row == 8) refl h
   where
@@ -250,7 +256,7 @@ placed_some s row w h = by (length row == 8) refl h
     by true t k = placed_by s row (word_of (field_of row 0)) w (eqb-true _ _ t) refl (rw t at k)
     by false t k = absurd (let wrong = rw t at k in cc)
 
-ok_or_ok : {X E : Type 0} (o : Option X) (d : E) (x : X) → ok_or o d ≡ Ok x → o ≡ Some x
+pub ok_or_ok : {X E : Type 0} (o : Option X) (d : E) (x : X) → ok_or o d ≡ Ok x → o ≡ Some x
 ok_or_ok None d x e = absurd cc
 ok_or_ok (Some y) d x e = cc
 
@@ -286,13 +292,13 @@ reads_row n s t word.ReleaseSim row rows h p e = reads_other n s t word.ReleaseS
 reads_row n s t word.Adjust row rows h p e = reads_other n s t word.Adjust row rows h p e
 reads_row n s t word.Tick row rows h p e = reads_other n s t word.Tick row rows h p e
 
-reads_behind : (n : ℕ) (s t : TraceStage) (row : Row) (rows : List Row) → Reads s rows → row_step n s row ≡ Ok t → Reads t (rows ++ row ∷ [])
+pub reads_behind : (n : ℕ) (s t : TraceStage) (row : Row) (rows : List Row) → Reads s rows → row_step n s row ≡ Ok t → Reads t (rows ++ row ∷ [])
 unfolding row_step
 reads_behind n s t row rows h e =
     on_ok (ok_or (placed s row) (BadRecord n)) (λ w. add_row n s w row) t e (λ w ew r.
     reads_row n s t w row rows h (placed_some s row w (ok_or_ok (placed s row) (BadRecord n) w ew)) r)
 
-header_ok : (b : Bool) (t : TraceStage) → cond b (Ok stage.First) (Err BadHeader) ≡ Ok t → (b ≡ true) × (stage.First ≡ t)
+pub header_ok : (b : Bool) (t : TraceStage) → cond b (Ok stage.First) (Err BadHeader) ≡ Ok t → (b ≡ true) × (stage.First ≡ t)
 header_ok true t e = (refl, ok_is _ t e)
 header_ok false t e = absurd cc
 

@@ -22,14 +22,14 @@ use Rattle.trace_file.proofs.StageLemmas.{cond_none, few_adapters}
 
 -- ---- what the rules of the configuration say of its numbers
 
-adapter_small : (before : List ℕ) (o : ℕ) → adapter_fault (before, o) ≡ None → o ≤ 255
+pub adapter_small : (before : List ℕ) (o : ℕ) → adapter_fault (before, o) ≡ None → o ≤ 255
 unfolding adapter_fault
 adapter_small before o e =
     let a = cond_none (nat_le 4 (length before)) TooMany (cond (not (are_openings o)) (Some BadOpenings) None) e in
     let b = cond_none (not (are_openings o)) BadOpenings None a.1 in
     leb-true _ _ (and_parts _ _ (not-false _ b.0)).1
 
-few_along : (before xs : List ℕ) → length before ≤ 4 → Along (λ b x. adapter_fault (b, x) ≡ None) before xs → length before + length xs ≤ 4
+pub few_along : (before xs : List ℕ) → length before ≤ 4 → Along (λ b x. adapter_fault (b, x) ≡ None) before xs → length before + length xs ≤ 4
 few_along before [] few h = omega arith
 few_along before (x ∷ xs) few h =
     let one = few_adapters before x h.0 in
@@ -37,14 +37,14 @@ few_along before (x ∷ xs) few h =
     let rest = few_along (before ++ x ∷ []) xs (omega arith) h.1 in
     omega arith
 
-lane_small : (n : ℕ) (before : List ℕ) (a : ℕ) → lane_fault n (before, a) ≡ None → a < n
+pub lane_small : (n : ℕ) (before : List ℕ) (a : ℕ) → lane_fault n (before, a) ≡ None → a < n
 unfolding lane_fault
 lane_small n before a e =
     let x = cond_none (nat_le 4 (count_by (λ b. b == a) before)) TooMany (cond (nat_le n a) (Some NoAdapter) None) e in
     let y = cond_none (nat_le n a) NoAdapter None x.1 in
     leb-false _ _ y.0
 
-device_small : (n : ℕ) (before : List Device) (d : Device) → device_fault n (before, d) ≡ None → (d.bus < n) × (d.lun ≤ 16383) × (d.openings ≤ 255)
+pub device_small : (n : ℕ) (before : List Device) (d : Device) → device_fault n (before, d) ≡ None → (d.bus < n) × (d.lun ≤ 16383) × (d.openings ≤ 255)
 unfolding device_fault address_fault
 device_small n before d e =
     let same = list_any (is_same_address d) before in
@@ -58,22 +58,22 @@ device_small n before d e =
 
 -- ---- the stages that the records of a configuration and its events lead through
 
-abbrev config : List ℕ → List Device → List ℕ → Topology
+abbrev pub config : List ℕ → List Device → List ℕ → Topology
 config as' ds ls = record { adapters = as'; devices = ds; lanes = ls }
 
-abbrev at_adapters : List ℕ → TraceStage
+abbrev pub at_adapters : List ℕ → TraceStage
 at_adapters [] = stage.First
 at_adapters (o ∷ os) = stage.Adapters (config (o ∷ os) [] [])
 
-abbrev at_devices : List ℕ → List Device → TraceStage
+abbrev pub at_devices : List ℕ → List Device → TraceStage
 at_devices as' [] = stage.Adapters (config as' [] [])
 at_devices as' (d ∷ ds) = stage.Devices (config as' (d ∷ ds) [])
 
-abbrev at_lanes : List ℕ → List Device → List ℕ → TraceStage
+abbrev pub at_lanes : List ℕ → List Device → List ℕ → TraceStage
 at_lanes as' ds [] = at_devices as' ds
 at_lanes as' ds (l ∷ ls) = stage.Lanes (config as' ds (l ∷ ls))
 
-abbrev at_events : List ℕ → List Device → List ℕ → List Event → TraceStage
+abbrev pub at_events : List ℕ → List Device → List ℕ → List Event → TraceStage
 at_events as' ds ls [] = at_lanes as' ds ls
 at_events as' ds ls (e ∷ es) = stage.Events (record { config = config as' ds ls; events = e ∷ es })
 
@@ -110,7 +110,7 @@ one_lane as' ds few n (b ∷ bs) a e =
     lane_step n (at_lanes as' ds (b ∷ bs)) a (λ k. cc) refl (omega arith) ∙ rw e refl
 
 -- a stage with a configuration
-at_config : (as' : List ℕ) (ds : List Device) (ls : List ℕ)
+pub at_config : (as' : List ℕ) (ds : List Device) (ls : List ℕ)
     → (at_lanes as' ds ls ≢ stage.Header) × (lacks_adapters (at_lanes as' ds ls) ≡ false) × (past_of (at_lanes as' ds ls) ≡ record { config = config as' ds ls; events = [] })
     × (ended (at_lanes as' ds ls) ≡ Ok (record { config = config as' ds ls; events = [] }))
 unfolding ended
@@ -148,7 +148,7 @@ unfolding ended
 at_end as' ds ls [] = (at_config as' ds ls).3
 at_end as' ds ls (e ∷ es) = refl
 
-begun : (as' : List ℕ) → (length as' == 0) ≡ false → at_adapters as' ≡ at_devices as' []
+pub begun : (as' : List ℕ) → (length as' == 0) ≡ false → at_adapters as' ≡ at_devices as' []
 begun [] e = absurd cc
 begun (a ∷ as') e = refl
 
@@ -158,7 +158,7 @@ pub record Kept (as' : List ℕ) (ds : List Device) (ls : List ℕ) : Type 0 whe
   pub devices : Along (λ b x. device_fault (length as') (b, x) ≡ None) [] ds
   pub lanes : Along (λ b x. lane_fault (length as') (b, x) ≡ None) [] ls
 
-kept : (as' : List ℕ) (ds : List Device) (ls : List ℕ) → config_fault (config as' ds ls) ≡ None → Kept as' ds ls
+pub kept : (as' : List ℕ) (ds : List Device) (ls : List ℕ) → config_fault (config as' ds ls) ≡ None → Kept as' ds ls
 unfolding item_fault
 kept as' ds ls e =
     let n = length as' in
@@ -173,7 +173,7 @@ kept as' ds ls e =
 legal_along : (c : Topology) (es : List Event) → is_legal c es ≡ true → Along (λ b x. is_legal_event c (b, x) ≡ true) [] es
 legal_along c es e = true_along (is_legal_event c) [] es (sym (is_legal-moments c es) ∙ e)
 
-taken_all : (as' : List ℕ) (ds : List Device) (ls : List ℕ) (es : List Event) → Kept as' ds ls → AllByRecursion (λ (d : Device). d.target ≤ 65535) ds
+pub taken_all : (as' : List ℕ) (ds : List Device) (ls : List ℕ) (es : List Event) → Kept as' ds ls → AllByRecursion (λ (d : Device). d.target ≤ 65535) ds
     → is_legal (config as' ds ls) es ≡ true → AllByRecursion FitsEvent es
     → (n : ℕ) → taken step n stage.First (map adapter_row as' ++ (map device_row ds ++ (map lane_row ls ++ map event_row es))) ≡ Ok (at_events as' ds ls es)
 taken_all as' ds ls es k targets legal fits n =
@@ -182,9 +182,9 @@ taken_all as' ds ls es k targets legal fits n =
     let good_devices = along_both (λ b x. device_fault (length as') (b, x) ≡ None) (λ b (x : Device). x.target ≤ 65535) (GoodDevice as') [] ds (λ b x p q. (p, q)) k.devices (along_all (λ (x : Device). x.target ≤ 65535) [] ds targets) in
     let good_events = along_both (λ b x. is_legal_event c (b, x) ≡ true) (λ b x. FitsEvent x) (GoodEvent c) [] es (λ b x p q. (p, q)) (legal_along c es legal) (along_all FitsEvent [] es fits) in
     let final = at_events as' ds ls es in
-    then_taken n stage.First (at_adapters as') final (map adapter_row as') _ (run adapter_row at_adapters (λ b x. adapter_fault (b, x) ≡ None) one_adapter [] as' n k.adapters) (λ n1.
-    rw (begun as' k.some) (then_taken n1 (at_devices as' []) (at_devices as' ds) final (map device_row ds) _ (run device_row (at_devices as') (GoodDevice as') (one_device as' few) [] ds n1 good_devices) (λ n2.
-    then_taken n2 (at_lanes as' ds []) (at_lanes as' ds ls) final (map lane_row ls) _ (run lane_row (at_lanes as' ds) (λ b x. lane_fault (length as') (b, x) ≡ None) (one_lane as' ds few) [] ls n2 k.lanes) (λ n3.
+    then_taken step n stage.First (at_adapters as') final (map adapter_row as') _ (run adapter_row at_adapters (λ b x. adapter_fault (b, x) ≡ None) one_adapter [] as' n k.adapters) (λ n1.
+    rw (begun as' k.some) (then_taken step n1 (at_devices as' []) (at_devices as' ds) final (map device_row ds) _ (run device_row (at_devices as') (GoodDevice as') (one_device as' few) [] ds n1 good_devices) (λ n2.
+    then_taken step n2 (at_lanes as' ds []) (at_lanes as' ds ls) final (map lane_row ls) _ (run lane_row (at_lanes as' ds) (λ b x. lane_fault (length as') (b, x) ≡ None) (one_lane as' ds few) [] ls n2 k.lanes) (λ n3.
     run event_row (at_events as' ds ls) (GoodEvent c) (one_event as' ds ls) [] es n3 good_events))))
 
 header_again : step 1 stage.Header header ≡ Ok stage.First

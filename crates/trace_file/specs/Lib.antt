@@ -3,8 +3,13 @@ pub mod Histories
 pub mod Reading
 pub mod Records
 pub mod Rows
+pub mod Scenarios
+pub mod Script
+pub mod ScriptReading
+pub mod ScriptRows
 pub mod Sound
 pub mod Steps
 pub mod Text
 pub mod Trace
 pub mod Words
+pub mod Writing

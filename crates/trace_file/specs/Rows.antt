@@ -1,6 +1,6 @@
 -- What the records of a trace say: their words' fields, in order.
 use Rattle.std.specs.Prelude.{ℕ, min, Result, Ok, Err}
-use Rattle.trace_file.specs.Histories.{Device, Event}
+use Rattle.trace_file.specs.Histories.{Device, Event, Outcome}
 use Rattle.event_log.specs.declared.event.Event.TheVariants as event
 use Rattle.trace_file.specs.declared.device_row.DeviceRow.{DeviceRow}
 use Rattle.trace_file.specs.declared.word.Word.{Word}
@@ -46,14 +46,15 @@ submit_at row = do
   _ ← unused_from row 6
   Ok (event.Submit driver device priority retries flags)
 
-unfoldable pub done_at : Row → Result Event ℕ
-done_at row = do
-  ccb ← number_at row 1 most_number
+-- a number, and what an adapter says of a command
+unfoldable pub outcome_at : Row → Result (ℕ × Outcome) ℕ
+outcome_at row = do
+  n ← number_at row 1 most_number
   status ← byte_at row 2
   scsi ← byte_at row 3
   sense ← sense_at row 4
   _ ← unused_from row 5
-  Ok (event.Done ccb (record { status = status; scsi = scsi; sense = sense }))
+  Ok (n, record { status = status; scsi = scsi; sense = sense })
 
 unfoldable pub tick_at : Row → Result Event ℕ
 tick_at row = do
@@ -64,7 +65,7 @@ tick_at row = do
 unfoldable pub event_at : Word → Row → Result Event ℕ
 event_at word.Submit row = submit_at row
 event_at word.Send row = two_numbers row >>= λ p. Ok (event.Send p.0 p.1)
-event_at word.Done row = done_at row
+event_at word.Done row = outcome_at row >>= λ p. Ok (event.Done p.0 p.1)
 event_at word.Requeue row = one_number row >>= λ ccb. Ok (event.Requeue ccb)
 event_at word.Finish row = one_number row >>= λ ccb. Ok (event.Finish ccb)
 event_at word.Freeze row = two_numbers row >>= λ p. Ok (event.FreezeDev p.0 p.1)

@@ -2,6 +2,9 @@
 use Rattle.std.specs.Prelude.{◌≡◌, ◌<◌, ◌≤◌, ⊤, true, [], length, None}
 use Rattle.cam_types.specs.Topology.{IsDraft}
 use Rattle.trace_file.specs.Histories.{Topology, Past, config_fault, is_legal}
+use Rattle.trace_file.specs.declared.script_stage.ScriptStage.{ScriptStage}
+use Rattle.trace_file.specs.declared.script_stage.ScriptStage.TheVariants as script
+use Rattle.trace_file.specs.ScriptReading.{is_configuring, most_rows}
 use Rattle.trace_file.specs.declared.trace_stage.TraceStage.{TraceStage}
 use Rattle.trace_file.specs.declared.trace_stage.TraceStage.TheVariants as stage
 
@@ -24,3 +27,10 @@ IsSound (stage.Adapters t) = IsBegun t × (t.devices ≡ []) × (t.lanes ≡ [])
 IsSound (stage.Devices t) = IsBegun t × (t.lanes ≡ [])
 IsSound (stage.Lanes t) = IsBegun t
 IsSound (stage.Events p) = IsKept p
+
+-- what holds at a stage of a script
+unfoldable pub IsSoundScript : ScriptStage → Type 0
+IsSoundScript script.Header = ⊤
+IsSoundScript script.First = ⊤
+IsSoundScript (script.Config limits t) = IsSound t × (is_configuring t ≡ true)
+IsSoundScript (script.Rows s steps answers) = (steps ≤ most_rows) × (answers ≤ most_rows)

@@ -1,19 +1,18 @@
 -- Traces of histories, and what a reader of traces answers.
-use Rattle.std.specs.Prelude.{◌≡◌, ℕ, ◌+◌, ◌<◌, ◌≤◌, ◌++◌, ◌∷◌, [], true, ⊤, List, length, Option, None, Ok, Err, Bool}
+use Rattle.std.specs.Prelude.{◌≡◌, ℕ, ◌+◌, ◌<◌, ◌≤◌, ◌++◌, ◌∷◌, [], true, ⊤, List, length, Option, None, Result, Ok, Err, Bool}
 use Rattle.std.specs.List.{AllByRecursion}
 use Rattle.event_log.specs.declared.event.Event.TheVariants as event
 use Rattle.cam_types.specs.declared.whole.TheConstants.{MOST_BYTES}
 use Rattle.cam_types.specs.Whole.{IsWhole, IsTooLong}
-use Rattle.trace_file.specs.Histories.{Device, Event, Past, config_fault, is_legal}
+use Rattle.trace_file.specs.Histories.{Device, Event, Outcome, Past, config_fault, is_legal}
 use Rattle.trace_file.specs.declared.trace_fault.TraceFault.{TraceFault}
 use Rattle.trace_file.specs.declared.trace_fault.TraceFault.TheVariants as fault
-use Rattle.trace_file.specs.declared.trace_stage.TraceStage.{TraceStage}
 use Rattle.trace_file.specs.declared.trace_stage.TraceStage.TheVariants as stage
 use Rattle.trace_file.specs.Fields.{Row}
-use Rattle.trace_file.specs.Reading.{ended, reading, step}
+use Rattle.trace_file.specs.Reading.{ended, step}
 use Rattle.trace_file.specs.Records.{records_of}
 use Rattle.trace_file.specs.Rows.{most_number}
-use Rattle.trace_file.specs.Steps.{taken}
+use Rattle.trace_file.specs.Steps.{◌>>=◌, taken}
 use Rattle.trace_file.specs.Text.{records_in}
 
 -- the text's records are those of the history
@@ -21,13 +20,17 @@ pub record IsTrace (text : List ℕ) (past : Past) : Type 0 where
   pub bounded : length text ≤ MOST_BYTES
   pub spelled : records_in text ≡ records_of past
 
+-- a number and an outcome fit their fields
+abbrev pub FitsOutcome : ℕ → Outcome → Type 0
+FitsOutcome n outcome =
+    (n ≤ most_number) × (outcome.status < 256) × (outcome.scsi < 256) × AllByRecursion (λ b. b < 256) outcome.sense × (length outcome.sense ≤ 18)
+
 -- the numbers of an event fit its fields
 abbrev pub FitsEvent : Event → Type 0
 FitsEvent (event.Submit driver device priority retries flags) =
     (driver ≤ 255) × (device ≤ most_number) × (priority ≤ most_number) × (retries ≤ most_number)
 FitsEvent (event.Send lane ccb) = (lane ≤ most_number) × (ccb ≤ most_number)
-FitsEvent (event.Done ccb outcome) =
-    (ccb ≤ most_number) × (outcome.status < 256) × (outcome.scsi < 256) × AllByRecursion (λ b. b < 256) outcome.sense × (length outcome.sense ≤ 18)
+FitsEvent (event.Done ccb outcome) = FitsOutcome ccb outcome
 FitsEvent (event.Requeue ccb) = ccb ≤ most_number
 FitsEvent (event.Finish ccb) = ccb ≤ most_number
 FitsEvent (event.FreezeDev device count) = (device ≤ most_number) × (count ≤ most_number)
@@ -52,25 +55,25 @@ pub record WasTrace (before after : Option (List ℕ)) (past : Past) : Type 0 wh
   pub history : IsHistory past
 
 -- a stage fails at the next record, or at the end where there is none
-abbrev pub FailsAt : ℕ → TraceStage → List Row → TraceFault → Type 0
-FailsAt n s [] e = ended s ≡ Err e
-FailsAt n s (row ∷ rest) e = step n s row ≡ Err e
+abbrev pub FailsAt : {S V : Type 0} → (ℕ → S → Row → Result S TraceFault) → (S → Result V TraceFault) → ℕ → S → List Row → TraceFault → Type 0
+FailsAt next end n s [] e = end s ≡ Err e
+FailsAt next end n s (row ∷ rest) e = next n s row ≡ Err e
 
--- the first record that fails, behind those that don't, has this fault
-pub record IsFirstFault (rows : List Row) (e : TraceFault) : Type 0 where
-  pub exact : reading rows ≡ Err e
+-- where records are read from this first stage on, the first that fails, behind those that don't, has this fault
+pub record IsFirstFault {S V : Type 0} (next : ℕ → S → Row → Result S TraceFault) (end : S → Result V TraceFault) (first : S) (rows : List Row) (e : TraceFault) : Type 0 where
+  pub exact : (taken next 1 first rows >>= end) ≡ Err e
   pub before : List Row
   pub rest : List Row
-  pub reached : TraceStage
+  pub reached : S
   pub parts : rows ≡ before ++ rest
-  pub good : taken step 1 stage.Header before ≡ Ok reached
-  pub fails : FailsAt (1 + length before) reached rest e
+  pub good : taken next 1 first before ≡ Ok reached
+  pub fails : FailsAt next end (1 + length before) reached rest e
 
 -- what was read to its end was no trace, for this fault
 pub record WasFaulty (before after : Option (List ℕ)) (e : TraceFault) : Type 0 where
   pub text : List ℕ
   pub whole : IsWhole before after text
-  pub first : IsFirstFault (records_in text) e
+  pub first : IsFirstFault step ended stage.Header (records_in text) e
 
 -- why no history was read, where a reader's note says at last whether a call failed
 abbrev pub Explains : Option (List ℕ) → Option (List ℕ) → Bool → TraceFault → Type 0

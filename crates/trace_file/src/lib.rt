@@ -1,16 +1,35 @@
-//! Traces as text: what is read is spelled so, and what is spelled so is read.
+//! Traces and scripts as text: what is read is spelled so, and what is spelled so is read; and traces are written.
 #![tactic(auto)]
 
 pub use reading::{one_history, read_trace};
+pub use script::{DRIVERS, Script};
+pub use script_reading::{read_script, rows_in_order};
+pub use script_stage::MOST_ROWS;
+pub use step::Step;
 pub use trace_fault::TraceFault;
+pub use trace_text::write_trace;
+pub use write_fault::WriteFault;
 
 mod device_row;
 mod fields;
 mod header;
+mod hex;
 mod reading;
 mod records;
+mod row_writer;
 mod rows;
+mod script;
+mod script_item;
+mod script_reading;
+mod script_row;
+mod script_rows;
+mod script_stage;
+mod script_word;
 mod stage;
+mod step;
 mod trace_fault;
 mod trace_stage;
+mod trace_text;
 mod word;
+mod write_fault;
+mod writing;

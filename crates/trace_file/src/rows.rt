@@ -1,6 +1,6 @@
 ghost use Rattle.std.specs.Prelude.{◌≡◌, length};
 ghost use Rattle.csv.specs.Records.{fields_of};
-ghost use Rattle.trace_file.specs.Rows.{one_number, two_numbers, device_at, submit_at, done_at, tick_at, event_at};
+ghost use Rattle.trace_file.specs.Rows.{one_number, two_numbers, device_at, submit_at, outcome_at, tick_at, event_at};
 
 use crate::device_row::DeviceRow;
 use crate::fields::{byte_at, flags_at, number_at, sense_at, unused_from};
@@ -63,7 +63,10 @@ pub(crate) fn event_at(word: Word, row: &ByteRecord) -> Result<Event, u32>
             let (lane, ccb) = two_numbers(row)?;
             Ok(Event::Send { lane, ccb })
         }
-        Word::Done => done_at(row),
+        Word::Done => {
+            let (ccb, outcome) = outcome_at(row)?;
+            Ok(Event::Done { ccb, outcome })
+        }
         Word::Requeue => {
             let ccb = one_number(row)?;
             Ok(Event::Requeue { ccb })
@@ -117,24 +120,25 @@ fn submit_at(row: &ByteRecord) -> Result<Event, u32>
     })
 }
 
-#[tactic(auto, unfolding(crate::specs::Rows::done_at))]
-fn done_at(row: &ByteRecord) -> Result<Event, u32>
+/// The number and the outcome of a record, or the number of the first field that hasn't its form.
+#[tactic(auto, unfolding(crate::specs::Rows::outcome_at))]
+pub(crate) fn outcome_at(row: &ByteRecord) -> Result<(u32, Outcome), u32>
     requires { length (fields_of row.now) ≡ 8 }
-    ensures { result ≡ done_at (fields_of row.now) }
+    ensures { result ≡ outcome_at (fields_of row.now) }
 {
-    let ccb = number_at(row, 1, u32::MAX)?;
+    let number = number_at(row, 1, u32::MAX)?;
     let status = byte_at(row, 2)?;
     let scsi = byte_at(row, 3)?;
     let sense = sense_at(row, 4)?;
     unused_from(row, 5)?;
-    Ok(Event::Done {
-        ccb,
-        outcome: Outcome {
+    Ok((
+        number,
+        Outcome {
             status,
             scsi,
             sense,
         },
-    })
+    ))
 }
 
 #[tactic(auto, unfolding(crate::specs::Rows::tick_at))]

@@ -9,7 +9,7 @@ use crate::stage::Stage;
 use crate::trace_fault::TraceFault;
 use crate::word::Word;
 use cam_event::{Event, History, PushFault};
-use cam_types::{ConfigDraft, ConfigError, ConfigFault};
+use cam_types::{Config, ConfigDraft, ConfigError, ConfigFault};
 use csv::ByteRecord;
 use std::alloc::Global;
 
@@ -32,6 +32,7 @@ pub(crate) enum TraceStage {
 
 impl TraceStage {
     ghost use Rattle.trace_file.specs.Reading.{stands, placed, add_adapter, add_device, add_lane, add_event, add_row, row_step, step, ended};
+    ghost use Rattle.trace_file.specs.ScriptReading.{configured, is_configuring};
     ghost use Rattle.trace_file.specs.Sound.{IsSound};
 
     /// Whether a record of this word may come next.
@@ -134,9 +135,25 @@ impl TraceStage {
         }
     }
 
+    /// The configuration so far, where an adapter has come.
+    #[tactic(auto, unfolding(crate::specs::Sound::IsSound))]
+    pub(crate) fn configured(self, number: u32) -> Result<Config, TraceFault>
+        requires sound { IsSound self }
+        requires configuring { IsTrue (is_configuring self) }
+        ensures { result ≡ configured number self }
+    {
+        match self {
+            TraceStage::First => Err(TraceFault::BadConfig(number, ConfigFault::NoAdapters)),
+            TraceStage::Adapters(draft) => Ok(finished(draft)),
+            TraceStage::Devices(draft) => Ok(finished(draft)),
+            TraceStage::Lanes(draft) => Ok(finished(draft)),
+            _ => unreachable!(),
+        }
+    }
+
     /// A record behind the header, or its fault.
     #[tactic(auto, using(crate::proofs::StageLemmas::add_row_event), unfolding(crate::specs::Reading::row_step, crate::specs::Reading::add_row))]
-    fn take_row(
+    pub(crate) fn take_row(
         self,
         alloc: Global,
         number: u32,
@@ -211,7 +228,7 @@ impl Stage for TraceStage {
 }
 
 /// A field without its form is a fault of the record.
-fn in_record<T>(number: u32, read: Result<T, u32>) -> Result<T, TraceFault>
+pub(crate) fn in_record<T>(number: u32, read: Result<T, u32>) -> Result<T, TraceFault>
     ensures { result ≡ in_record number read }
 {
     match read {
@@ -220,7 +237,7 @@ fn in_record<T>(number: u32, read: Result<T, u32>) -> Result<T, TraceFault>
     }
 }
 
-ghost use Rattle.cam_types.specs.Topology.{IsDraft};
+ghost use Rattle.cam_types.specs.Topology.{IsConfig, IsDraft};
 ghost use Rattle.trace_file.specs.Histories.{adapter_fault, device_fault, lane_fault, refusal};
 ghost use Rattle.trace_file.specs.Reading.{in_record, unless_fault, unless_refused};
 ghost use Rattle.trace_file.specs.Rows.{device_of};
@@ -290,5 +307,14 @@ fn without_events(alloc: Global, draft: ConfigDraft) -> History
     ensures value { result ≡ record { config = draft; events = [] } }
     ensures kept { IsKept result }
 {
-    History::new(alloc, draft.finish().unwrap())
+    History::new(alloc, finished(draft))
+}
+
+/// A draft with an adapter is a configuration.
+fn finished(draft: ConfigDraft) -> Config
+    requires { IsBegun draft }
+    ensures same { result ≡ draft }
+    ensures kept { IsConfig result }
+{
+    draft.finish().unwrap()
 }

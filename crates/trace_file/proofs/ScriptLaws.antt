@@ -1,0 +1,351 @@
+-- What the stages of a script have read is spelled so.
+use Rattle.std.proofs.Common.{◌≡◌, ◌≤◌, ◌+◌, ℕ, List, [], ◌∷◌, ◌++◌, map, Bool, true, false, cond, refl, sym, ap, ◌∙◌, subst, arith, append_assoc, append-nil}
+use Rattle.std.specs.Prelude.{Option, Some, None, IfSome, Result, Ok, Err, ok_or, codes, is_ok, nat_lt, not, option_and_then, unwrap_or, ⊤, ◌==◌}
+use Rattle.std.specs.List.{AllByRecursion, fold}
+use Rattle.std.proofs.lemmas.Bool.{ltb-true}
+use Rattle.std.proofs.lemmas.List.{map-append}
+use Rattle.cam_types.specs.Bounds.{Bounds, are_within, most_bounds}
+use Rattle.cam_types.specs.Whole.{IsWhole}
+use Rattle.cam_types.specs.Topology.{are_openings}
+use Rattle.sense_class.specs.Classes.{status_of}
+use Rattle.cam_event.specs.Legal.{is_count, names_adapter, names_lane}
+use Rattle.cam_event.specs.declared.refusal.Refusal.TheVariants.{NoDevice, NoAdapter, NoLane, BadPriority, BadRetries, BadCount, BadOpenings, BadStatus}
+use Rattle.event_log.proofs.ListFacts.{count_by-push}
+use Rattle.trace_file.specs.declared.script_row.ScriptRow.{ScriptRow}
+use Rattle.trace_file.specs.declared.script_row.ScriptRow.TheVariants as row
+use Rattle.trace_file.specs.declared.script_row.ScriptItem.{ScriptItem}
+use Rattle.trace_file.specs.declared.script_row.ScriptItem.TheVariants as item
+use Rattle.trace_file.specs.declared.script_stage.ScriptStage.{ScriptStage}
+use Rattle.trace_file.specs.declared.script_stage.ScriptStage.TheVariants as stage
+use Rattle.trace_file.specs.declared.script_word.ScriptWord.{ScriptWord}
+use Rattle.trace_file.specs.declared.trace_fault.TraceFault.TheVariants.{BadConfig, BadHeader, BadRecord}
+use Rattle.trace_file.specs.declared.trace_stage.TraceStage.{TraceStage}
+use Rattle.trace_file.specs.declared.trace_stage.TraceStage.TheVariants as trace
+use Rattle.trace_file.specs.Fields.{Row, field_of}
+use Rattle.trace_file.specs.Histories.{NoAdapters, Past, Refusal, Topology}
+use Rattle.trace_file.specs.Reading.{config_of, in_record, is_header, lacks_adapters, past_of, row_step}
+use Rattle.trace_file.specs.Records.{adapter_row, device_row, header, lane_row, records_of}
+use Rattle.trace_file.specs.Scenarios.{Scenario, add_item, device_number, empty_scenario, is_answer_item, is_answer_row, is_answer_word, item_of, refused_if}
+use Rattle.trace_file.specs.Script.{FitsRow, IsManuscript, Manuscript, WasScript, answer_rows, limits_rows, put_item, put_row, scenario_of, script_records, step_rows}
+use Rattle.trace_file.specs.ScriptReading.{config_step, configured, first_row, has_room, is_config_word, is_configuring, is_limits, item_word, limits_step, roomy_word, rows_step, script_ended, script_reading, script_step, with_item}
+use Rattle.trace_file.specs.ScriptRows.{limits_at, script_header, script_row, script_row_at}
+use Rattle.trace_file.specs.Sound.{IsSound}
+use Rattle.trace_file.specs.Steps.{◌>>=◌, taken}
+use Rattle.trace_file.specs.Text.{records_in}
+use Rattle.trace_file.proofs.RowLaws.{ok_is, on_ok}
+use Rattle.trace_file.proofs.ScriptRowLaws.{limits_take, row_takes}
+use Rattle.trace_file.proofs.ScriptStageLemmas.{configures}
+use Rattle.trace_file.proofs.StageLaws.{Reads, event_ready, guarded, in_record_ok, named_header, ok_or_ok, reads_behind}
+
+-- ---- items
+
+abbrev KindIs : Bool → Result ScriptItem Refusal → Type 0
+KindIs kind (Ok i) = is_answer_item i ≡ kind
+KindIs kind (Err cause) = ⊤
+
+kind_of : {A : Type 0} (kind : Bool) (r : Result A Refusal) (f : A → Result ScriptItem Refusal) → ((x : A) → KindIs kind (f x)) → KindIs kind (r >>= f)
+kind_of kind (Ok x) f h = h x
+kind_of kind (Err cause) f h = tt
+
+row_kind : (c : Topology) (x : ScriptRow) → KindIs (is_answer_row x) (item_of c x)
+unfolding item_of
+row_kind c (row.Submit driver at priority retries flags) =
+    kind_of false (ok_or (device_number c at) NoDevice) _ (λ d. kind_of false (refused_if (nat_lt 1279 priority) BadPriority) _ (λ u. kind_of false (refused_if (nat_lt 7 retries) BadRetries) _ (λ v. refl)))
+row_kind c (row.Freeze driver at count) = kind_of false (ok_or (device_number c at) NoDevice) _ (λ d. kind_of false (refused_if (not (is_count count)) BadCount) _ (λ u. refl))
+row_kind c (row.Release driver at count) = kind_of false (ok_or (device_number c at) NoDevice) _ (λ d. kind_of false (refused_if (not (is_count count)) BadCount) _ (λ u. refl))
+row_kind c (row.FreezeSim driver sim count) = kind_of false (refused_if (not (names_adapter c sim)) NoAdapter) _ (λ u. kind_of false (refused_if (not (is_count count)) BadCount) _ (λ v. refl))
+row_kind c (row.ReleaseSim driver sim) = kind_of false (refused_if (not (names_adapter c sim)) NoAdapter) _ (λ u. refl)
+row_kind c (row.Adjust driver at openings) = kind_of false (ok_or (device_number c at) NoDevice) _ (λ d. kind_of false (refused_if (not (are_openings openings)) BadOpenings) _ (λ u. refl))
+row_kind c (row.Pause driver round) = refl
+row_kind c (row.Answer lane outcome) = kind_of true (refused_if (not (names_lane c lane)) NoLane) _ (λ u. kind_of true (refused_if (status_of outcome == 0) BadStatus) _ (λ v. refl))
+
+-- a row of a driver adds a step, and an answer an answer
+pub item_kind : (c : Topology) (x : ScriptRow) (i : ScriptItem) → item_of c x ≡ Ok i → is_answer_item i ≡ is_answer_row x
+item_kind c x i e = by (item_of c x) (row_kind c x) e
+  where
+    by : (r : Result ScriptItem Refusal) → KindIs (is_answer_row x) r → r ≡ Ok i → is_answer_item i ≡ is_answer_row x
+    by r h is = rw is at h
+
+-- so many rows of drivers, and so many answers, with one row more
+abbrev pub more_steps : Bool → ℕ → ℕ
+more_steps answers k = k + cond (not answers) 1 0
+
+abbrev pub more_answers : Bool → ℕ → ℕ
+more_answers answers a = a + cond answers 1 0
+
+pub item_added : (n : ℕ) (s : Scenario) (k a : ℕ) (i : ScriptItem) → with_item n s k a (Ok i) ≡ Ok (stage.Rows (add_item s i) (more_steps (is_answer_item i) k) (more_answers (is_answer_item i) a))
+item_added n s k a (item.Step driver one) = let same : a ≡ a + 0 = omega arith in ap (λ (b : ℕ). Ok (stage.Rows (add_item s (item.Step driver one)) (k + 1) b)) same
+item_added n s k a (item.Answer lane outcome) = let same : k ≡ k + 0 = omega arith in ap (λ (b : ℕ). Ok (stage.Rows (add_item s (item.Answer lane outcome)) b (a + 1))) same
+
+-- what an item that isn't refused makes of a stage
+with_ok : {Q : Type 0} (n : ℕ) (s : Scenario) (k a : ℕ) (r : Result ScriptItem Refusal) (t : ScriptStage) → with_item n s k a r ≡ Ok t
+    → ((i : ScriptItem) → r ≡ Ok i → stage.Rows (add_item s i) (more_steps (is_answer_item i) k) (more_answers (is_answer_item i) a) ≡ t → Q) → Q
+with_ok n s k a (Ok i) t e q = q i refl (ok_is _ t (sym (item_added n s k a i) ∙ e))
+with_ok n s k a (Err r) t e q = absurd cc
+
+-- ---- the scenario of rows
+
+pub put_config : (s : Scenario) (r : Result ScriptItem Refusal) → (put_item s r).config ≡ s.config
+put_config s (Ok (item.Step driver one)) = refl
+put_config s (Ok (item.Answer lane outcome)) = refl
+put_config s (Err cause) = refl
+
+pub fold_config : (s : Scenario) (rows : List ScriptRow) → (fold put_row s rows).config ≡ s.config
+fold_config s [] = refl
+fold_config s (x ∷ xs) = fold_config (put_row s x) xs ∙ put_config s (item_of s.config x)
+
+pub scenario_config : (m : Manuscript) → (scenario_of m).config ≡ m.config
+unfolding scenario_of
+scenario_config m = fold_config (empty_scenario m.config (unwrap_or m.limits most_bounds)) m.rows
+
+fold_push : (s : Scenario) (rows : List ScriptRow) (x : ScriptRow) → fold put_row s (rows ++ x ∷ []) ≡ put_row (fold put_row s rows) x
+fold_push s [] x = refl
+fold_push s (y ∷ ys) x = fold_push (put_row s y) ys x
+
+scenario_push : (m : Manuscript) (x : ScriptRow) → scenario_of (record m { rows = m.rows ++ x ∷ [] }) ≡ put_row (scenario_of m) x
+unfolding scenario_of
+scenario_push m x = fold_push (empty_scenario m.config (unwrap_or m.limits most_bounds)) m.rows x
+
+records_push : (m : Manuscript) (x : ScriptRow) → script_records m ++ script_row x ∷ [] ≡ script_records (record m { rows = m.rows ++ x ∷ [] })
+unfolding script_records
+records_push m x = ap (λ (rs : List Row). script_header ∷ rs) (simp (map-append, append_assoc) refl)
+
+all_push : {X : Type 0} (P : X → Type 0) (xs : List X) (x : X) → AllByRecursion P xs → P x → AllByRecursion P (xs ++ x ∷ [])
+all_push P [] x h p = (p, tt)
+all_push P (y ∷ ys) x h p = (h.0, all_push P ys x h.1 p)
+
+-- ---- what a stage has read
+
+-- the header, the limits if they were given, and records of the configuration, as a trace has them behind its header
+pub record ReadsConfig (bounds : Bounds) (t : TraceStage) (rows : List Row) : Type 0 where
+  pub given : Option Bounds
+  pub limits : bounds ≡ unwrap_or given most_bounds
+  pub within : IfSome given (λ b. are_within b ≡ true)
+  pub trace : List Row
+  pub reads : Reads t (header ∷ trace)
+  pub configuring : is_configuring t ≡ true
+  pub parts : rows ≡ script_header ∷ (limits_rows given ++ trace)
+
+-- the records of a manuscript, of which this is the scenario, with so many rows of drivers and so many answers
+pub record ReadsRows (s : Scenario) (k a : ℕ) (rows : List Row) : Type 0 where
+  pub made : Manuscript
+  pub kept : IsManuscript made
+  pub spelled : rows ≡ script_records made
+  pub value : s ≡ scenario_of made
+  pub steps : k ≡ step_rows made.rows
+  pub answers : a ≡ answer_rows made.rows
+
+abbrev pub ReadsScript : ScriptStage → List Row → Type 0
+ReadsScript stage.Header rows = rows ≡ []
+ReadsScript stage.First rows = rows ≡ script_header ∷ []
+ReadsScript (stage.Config limits t) rows = ReadsConfig limits t rows
+ReadsScript (stage.Rows s steps answers) rows = ReadsRows s steps answers rows
+
+-- ---- the configuration
+
+first_reads : Reads trace.First (header ∷ [])
+unfolding records_of IsSound
+first_reads = record { spelled = refl; sound = tt; targets = tt; events = tt }
+
+reads_given : (given : Option Bounds) (rows : List Row) → IfSome given (λ b. are_within b ≡ true) → rows ≡ script_header ∷ limits_rows given → ReadsConfig (unwrap_or given most_bounds) trace.First rows
+reads_given given rows within e =
+    record { given = given; limits = refl; within = within; trace = []; reads = first_reads; configuring = refl; parts = e ∙ ap (λ (l : List Row). script_header ∷ l) (sym (append-nil (limits_rows given))) }
+
+config_row : (n : ℕ) (limits : Bounds) (t u : TraceStage) (fields : Row) (rows : List Row) → ReadsConfig limits t rows → is_config_word (field_of fields 0) ≡ true → row_step n t fields ≡ Ok u
+    → ReadsConfig limits u (rows ++ fields ∷ [])
+config_row n limits t u fields rows h word e =
+    record {
+      given = h.given;
+      limits = h.limits;
+      within = h.within;
+      trace = h.trace ++ fields ∷ [];
+      reads = reads_behind n t u fields (header ∷ h.trace) h.reads e;
+      configuring = configures n t u fields word e;
+      parts = ap (λ (l : List Row). l ++ fields ∷ []) h.parts ∙ ap (λ (l : List Row). script_header ∷ l) (append_assoc (limits_rows h.given) h.trace (fields ∷ []));
+    }
+
+no_events : (t : TraceStage) → is_configuring t ≡ true → (past_of t).events ≡ []
+no_events trace.Header e = absurd cc
+no_events trace.First e = refl
+no_events (trace.Adapters c) e = refl
+no_events (trace.Devices c) e = refl
+no_events (trace.Lanes c) e = refl
+no_events (trace.Events p) e = absurd cc
+
+config_records : (p : Past) (rows : List Row) → header ∷ rows ≡ records_of p → p.events ≡ [] → rows ≡ map adapter_row p.config.adapters ++ (map device_row p.config.devices ++ (map lane_row p.config.lanes ++ []))
+unfolding records_of
+config_records p rows e none =
+    let is = rw none at e in
+    cc
+
+-- a whole configuration, without a row
+whole_config : (limits : Bounds) (t : TraceStage) (rows : List Row) → ReadsConfig limits t rows → lacks_adapters t ≡ false → ReadsRows (empty_scenario (config_of t) limits) 0 0 rows
+unfolding script_records scenario_of
+whole_config limits t rows h some =
+    let c = config_of t in
+    let ready = event_ready t h.reads.sound some in
+    let behind = config_records (past_of t) h.trace (h.reads.spelled ∙ ready.0) (no_events t h.configuring) in
+    record {
+      made = record { limits = h.given; config = c; rows = [] };
+      kept = record {
+        limits = h.within;
+        config = ready.1.config;
+        targets = h.reads.targets;
+        fits = tt;
+        ruled = tt;
+        steps = omega arith;
+        answers = omega arith;
+      };
+      spelled = h.parts ∙ ap (λ (l : List Row). script_header ∷ (limits_rows h.given ++ l)) behind;
+      value = ap (λ (l : Bounds). empty_scenario c l) h.limits;
+      steps = refl;
+      answers = refl;
+    }
+
+-- ---- rows
+
+room_steps : (b : Bool) (k a : ℕ) → has_room b k a ≡ true → k ≤ 4096 → k + cond (not b) 1 0 ≤ 4096
+room_steps true k a h few = omega arith
+room_steps false k a h few = let lt = ltb-true k 4096 h in omega arith
+
+room_answers : (b : Bool) (k a : ℕ) → has_room b k a ≡ true → a ≤ 4096 → a + cond b 1 0 ≤ 4096
+room_answers true k a h few = let lt = ltb-true a 4096 h in omega arith
+room_answers false k a h few = omega arith
+
+-- one row more
+push_row : (s : Scenario) (k a : ℕ) (rows : List Row) (fields : Row) (w : ScriptWord) (x : ScriptRow) (i : ScriptItem) → ReadsRows s k a rows
+    → item_word fields ≡ Some w → has_room (is_answer_word w) k a ≡ true → script_row_at w fields ≡ Ok x → item_of s.config x ≡ Ok i
+    → ReadsRows (add_item s i) (more_steps (is_answer_item i) k) (more_answers (is_answer_item i) a) (rows ++ fields ∷ [])
+push_row s k a rows fields w x i h word room said is =
+    let m = h.made in
+    let t = row_takes fields w x word said in
+    let kind : is_answer_item i ≡ is_answer_row x = item_kind s.config x i is in
+    let free : has_room (is_answer_row x) k a ≡ true = ap (λ (b : Bool). has_room b k a) t.2 ∙ room in
+    let same : s.config ≡ m.config = ap (λ (y : Scenario). y.config) h.value ∙ scenario_config m in
+    let fine : is_ok (item_of m.config x) ≡ true = ap (λ (c : Topology). is_ok (item_of c x)) (sym same) ∙ ap (λ (r : Result ScriptItem Refusal). is_ok r) is in
+    let steps : more_steps (is_answer_item i) k ≡ step_rows (m.rows ++ x ∷ []) =
+    ap (λ (b : Bool). more_steps b k) kind ∙ ap (λ (j : ℕ). j + cond (not (is_answer_row x)) 1 0) h.steps ∙ sym (count_by-push (λ y. not (is_answer_row y)) m.rows x) in
+    let answers : more_answers (is_answer_item i) a ≡ answer_rows (m.rows ++ x ∷ []) =
+    ap (λ (b : Bool). more_answers b a) kind ∙ ap (λ (j : ℕ). j + cond (is_answer_row x) 1 0) h.answers ∙ sym (count_by-push is_answer_row m.rows x) in
+    let few_steps = room_steps (is_answer_row x) k a free (subst (λ (j : ℕ). j ≤ 4096) (sym h.steps) h.kept.steps) in
+    let few_answers = room_answers (is_answer_row x) k a free (subst (λ (j : ℕ). j ≤ 4096) (sym h.answers) h.kept.answers) in
+    record {
+      made = record m { rows = m.rows ++ x ∷ [] };
+      kept = record {
+        limits = h.kept.limits;
+        config = h.kept.config;
+        targets = h.kept.targets;
+        fits = all_push FitsRow m.rows x h.kept.fits t.1;
+        ruled = all_push (λ y. is_ok (item_of m.config y) ≡ true) m.rows x h.kept.ruled fine;
+        steps = subst (λ (j : ℕ). j ≤ 4096) (ap (λ (b : Bool). more_steps b k) (sym kind) ∙ steps) few_steps;
+        answers = subst (λ (j : ℕ). j ≤ 4096) (ap (λ (b : Bool). more_answers b a) (sym kind) ∙ answers) few_answers;
+      };
+      spelled = ap (λ (l : List Row). l ++ fields ∷ []) h.spelled ∙ ap (λ (f : Row). script_records m ++ f ∷ []) t.0 ∙ records_push m x;
+      value = ap (put_item s) (sym is) ∙ ap (λ (y : Scenario). put_row y x) h.value ∙ sym (scenario_push m x);
+      steps = steps;
+      answers = answers;
+    }
+
+-- ---- a record
+
+roomy : (o : Option ScriptWord) (k a : ℕ) (w : ScriptWord) → option_and_then (λ v. cond (has_room (is_answer_word v) k a) (Some v) None) o ≡ Some w → (o ≡ Some w) × (has_room (is_answer_word w) k a ≡ true)
+roomy None k a w e = absurd cc
+roomy (Some v) k a w e = by (has_room (is_answer_word v) k a) refl e
+  where
+    by : (b : Bool) → has_room (is_answer_word v) k a ≡ b → cond (has_room (is_answer_word v) k a) (Some v) None ≡ Some w → (◌≡◌ {A = Option ScriptWord} (Some v) (Some w)) × (has_room (is_answer_word w) k a ≡ true)
+    by true t h =
+        let same : v ≡ w = (let l = rw t at h in cc) in
+        (ap (λ (y : ScriptWord). Some y) same, ap (λ (y : ScriptWord). has_room (is_answer_word y) k a) (sym same) ∙ t)
+    by false t h = absurd (let wrong = rw t at h in cc)
+
+rows_read : (n : ℕ) (s : Scenario) (k a : ℕ) (t : ScriptStage) (fields : Row) (rows : List Row) → ReadsRows s k a rows → rows_step n s k a fields ≡ Ok t → ReadsScript t (rows ++ fields ∷ [])
+unfolding rows_step roomy_word
+rows_read n s k a t fields rows h e =
+    on_ok (ok_or (roomy_word k a fields) (BadRecord n)) (λ w. in_record n (script_row_at w fields) >>= λ said. with_item n s k a (item_of s.config said)) t e (λ w ew r1.
+    on_ok (in_record n (script_row_at w fields)) (λ said. with_item n s k a (item_of s.config said)) t r1 (λ x ex r2.
+    with_ok n s k a (item_of s.config x) t r2 (λ i ei same.
+    let room = roomy (item_word fields) k a w (ok_or_ok (roomy_word k a fields) (BadRecord n) w ew) in
+    subst (λ (u : ScriptStage). ReadsScript u (rows ++ fields ∷ [])) same (push_row s k a rows fields w x i h room.0 room.1 (in_record_ok n (script_row_at w fields) x ex) ei))))
+
+none_yet : (b : Bool) → has_room b 0 0 ≡ true
+none_yet true = refl
+none_yet false = refl
+
+first_read : (n : ℕ) (limits : Bounds) (t : TraceStage) (u : ScriptStage) (fields : Row) (rows : List Row) → ReadsConfig limits t rows → first_row n limits t fields ≡ Ok u → ReadsScript u (rows ++ fields ∷ [])
+unfolding first_row
+first_read n limits t u fields rows h e =
+    on_ok (ok_or (item_word fields) (BadRecord n)) _ u e (λ w ew r1.
+    on_ok (in_record n (script_row_at w fields)) _ u r1 (λ x ex r2.
+    on_ok (configured n t) _ u r2 (λ c ec r3.
+    let g = guarded (lacks_adapters t) (BadConfig n NoAdapters) (Ok (config_of t)) c ec in
+    let same : config_of t ≡ c = ok_is (config_of t) c g.1 in
+    let whole = subst (λ (y : Topology). ReadsRows (empty_scenario y limits) 0 0 rows) same (whole_config limits t rows h g.0) in
+    with_ok n (empty_scenario c limits) 0 0 (item_of c x) u r3 (λ i ei is.
+    subst (λ (v : ScriptStage). ReadsScript v (rows ++ fields ∷ [])) is
+    (push_row (empty_scenario c limits) 0 0 rows fields w x i whole (ok_or_ok (item_word fields) (BadRecord n) w ew) (none_yet (is_answer_word w)) (in_record_ok n (script_row_at w fields) x ex) ei)))))
+
+config_read : (n : ℕ) (limits : Bounds) (t : TraceStage) (u : ScriptStage) (fields : Row) (rows : List Row) → ReadsConfig limits t rows → config_step n limits t fields ≡ Ok u → ReadsScript u (rows ++ fields ∷ [])
+unfolding config_step
+config_read n limits t u fields rows h e = by (is_config_word (field_of fields 0)) refl e
+  where
+    by : (b : Bool) → is_config_word (field_of fields 0) ≡ b → cond b (row_step n t fields >>= λ v. Ok (stage.Config limits v)) (first_row n limits t fields) ≡ Ok u → ReadsScript u (rows ++ fields ∷ [])
+    by true word k =
+        on_ok (row_step n t fields) (λ v. Ok (stage.Config limits v)) u k (λ v ev s.
+        subst (λ (y : ScriptStage). ReadsScript y (rows ++ fields ∷ [])) (ok_is _ u s) (config_row n limits t v fields rows h word ev))
+    by false word k = first_read n limits t u fields rows h k
+
+header_ok : (b : Bool) (t : ScriptStage) → cond b (Ok stage.First) (Err BadHeader) ≡ Ok t → (b ≡ true) × (stage.First ≡ t)
+header_ok true t e = (refl, ok_is _ t e)
+header_ok false t e = absurd cc
+
+-- a stage that took a record has read it
+step_reads : (n : ℕ) (s t : ScriptStage) (fields : Row) (rows : List Row) → ReadsScript s rows → script_step n s fields ≡ Ok t → ReadsScript t (rows ++ fields ∷ [])
+unfolding script_step script_header limits_step
+step_reads n stage.Header t fields rows h e =
+    let k = header_ok (is_header (codes "camscript1") fields) t e in
+    subst (λ (y : ScriptStage). ReadsScript y (rows ++ fields ∷ [])) k.1 (rw (h, named_header (codes "camscript1") fields k.0) refl)
+step_reads n stage.First t fields rows h e = by (is_limits fields) refl e
+  where
+    by : (b : Bool) → is_limits fields ≡ b → cond b (limits_step n fields) (config_step n most_bounds trace.First fields) ≡ Ok t → ReadsScript t (rows ++ fields ∷ [])
+    by true is k =
+        on_ok (in_record n (limits_at fields)) (λ limits. Ok (stage.Config limits trace.First)) t k (λ limits el s.
+        let l = limits_take fields limits is (in_record_ok n (limits_at fields) limits el) in
+        subst (λ (y : ScriptStage). ReadsScript y (rows ++ fields ∷ [])) (ok_is _ t s) (reads_given (Some limits) (rows ++ fields ∷ []) l.1 (rw (h, l.0) refl)))
+    by false is k = config_read n most_bounds trace.First t fields rows (reads_given None rows tt h) k
+step_reads n (stage.Config limits t') t fields rows h e = config_read n limits t' t fields rows h e
+step_reads n (stage.Rows s k a) t fields rows h e = rows_read n s k a t fields rows h e
+
+taken_reads : (n : ℕ) (s t : ScriptStage) (rows more : List Row) → ReadsScript s rows → taken script_step n s more ≡ Ok t → ReadsScript t (rows ++ more)
+taken_reads n s t rows [] h e = subst (λ (x : ScriptStage). ReadsScript x (rows ++ [])) (ok_is s t e) (subst (λ (l : List Row). ReadsScript s l) (sym (append-nil rows)) h)
+taken_reads n s t rows (fields ∷ more) h e =
+    on_ok (script_step n s fields) (λ u. taken script_step (n + 1) u more) t e (λ u eu r.
+    subst (λ (l : List Row). ReadsScript t l) (append_assoc rows (fields ∷ []) more) (taken_reads (n + 1) u t (rows ++ fields ∷ []) more (step_reads n s u fields rows h eu) r))
+
+-- ---- the end
+
+pub record IsSpelled (rows : List Row) (s : Scenario) : Type 0 where
+  pub made : Manuscript
+  pub kept : IsManuscript made
+  pub spelled : rows ≡ script_records made
+  pub value : s ≡ scenario_of made
+
+ended_reads : (t : ScriptStage) (s : Scenario) (rows : List Row) → ReadsScript t rows → script_ended t ≡ Ok s → IsSpelled rows s
+unfolding script_ended
+ended_reads stage.Header s rows h e = absurd cc
+ended_reads stage.First s rows h e = absurd cc
+ended_reads (stage.Config limits t) s rows h e =
+    on_ok (configured 3 t) (λ c. Ok (empty_scenario c limits)) s e (λ c ec r.
+    let g = guarded (lacks_adapters t) (BadConfig 3 NoAdapters) (Ok (config_of t)) c ec in
+    let w = whole_config limits t rows h g.0 in
+    let same : empty_scenario (config_of t) limits ≡ s = ap (λ (y : Topology). empty_scenario y limits) (ok_is (config_of t) c g.1) ∙ ok_is _ s r in
+    record { made = w.made; kept = w.kept; spelled = w.spelled; value = sym same ∙ w.value })
+ended_reads (stage.Rows one k a) s rows h e =
+    record { made = h.made; kept = h.kept; spelled = h.spelled; value = sym (ok_is one s e) ∙ h.value }
+
+-- what is read is a script
+pub was_script : (before after : Option (List ℕ)) (text : List ℕ) → IsWhole before after text → (s : Scenario) → script_reading (records_in text) ≡ Ok s → WasScript before after s
+unfolding script_reading
+was_script before after text whole s e =
+    on_ok (taken script_step 1 stage.Header (records_in text)) script_ended s e (λ t et r.
+    let k = ended_reads t s (records_in text) (taken_reads 1 stage.Header t [] (records_in text) refl et) r in
+    record { text = text; whole = whole; manuscript = k.made; script = record { bounded = whole.bounded; spelled = k.spelled }; kept = k.kept; value = k.value })

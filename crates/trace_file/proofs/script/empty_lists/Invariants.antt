@@ -1,0 +1,6 @@
+use Rattle.std.proofs.Common.{◌≡◌, [], map}
+use Rattle.std.specs.Prelude.{replicate}
+use Rattle.trace_file.proofs.script.empty_lists.Given as goal
+
+abbrev pub invariant-loop : goal.invariant-loop
+invariant-loop g l = map (λ x. x.items) l.lists.items ≡ replicate l.counter []

@@ -1,0 +1,24 @@
+use Rattle.std.proofs.Common.{◌∙◌, ap, refl}
+use Rattle.std.specs.Prelude.{Err}
+use Rattle.std.proofs.lemmas.Result.{err_from_is_err_and}
+use Rattle.trace_file.specs.declared.trace_fault.TraceFault.{TraceFault}
+use Rattle.trace_file.specs.ScriptReading.{script_reading}
+use Rattle.trace_file.specs.Sound.{IsSoundScript}
+use Rattle.trace_file.proofs.RecordLemmas.{took_err, took_ok}
+use Rattle.trace_file.proofs.script_reading.read_script_text.Goals as goal
+
+pub take_records-requires-clause-sound : goal.take_records-requires-clause-sound
+unfolding IsSoundScript
+take_records-requires-clause-sound c = tt
+
+pub returns-in_err-take_records : goal.returns-in_err-take_records
+unfolding script_reading
+returns-in_err-take_records c =
+    let p = err_from_is_err_and c.from_residual.result c.from_residual.ensures.1 in
+    rw (p.1, p.2) (λ other. let e = took_err _ _ _ _ c.take_records.ensures.value c.in_err-take_records.was (λ k. other (ap (λ (x : TraceFault). Err x) k)) in rw e refl)
+
+pub returns : goal.returns
+unfolding script_reading
+returns c = λ memory.
+    let e = took_ok _ _ _ _ c.take_records.ensures.value c.in_ok-take_records.was in
+    c.finish.ensures memory ∙ rw e refl

@@ -1,0 +1,8 @@
+use Rattle.std.proofs.Common.{[], ◌∷◌, map, take}
+use Rattle.std.specs.Prelude.{decimal}
+use Rattle.trace_file.specs.Records.{padded}
+use Rattle.trace_file.specs.Writing.{Wrote}
+use Rattle.trace_file.proofs.writing.write_numbers.Given as goal
+
+abbrev pub invariant-loop-number : goal.invariant-loop-number
+invariant-loop-number g l = Wrote g.W.Write.contents l.fn.writer l.writer (map (λ n. padded (l.word ∷ decimal n ∷ [])) (take l.number-index l.numbers))

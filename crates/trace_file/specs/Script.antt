@@ -1,0 +1,129 @@
+-- Texts of scripts, and what a reader of scripts answers.
+use Rattle.std.specs.Prelude.{◌≡◌, ℕ, ◌≤◌, Bool, true, not, ⊤, List, [], ◌∷◌, ◌++◌, length, map, count_by, Option, Some, None, IfSome, unwrap_or, Result, Ok, Err, is_ok, if◌then◌else◌, ◌==◌}
+use Rattle.std.specs.List.{AllByRecursion, flat_map, fold}
+use Rattle.cam_types.specs.Bounds.{Bounds, are_within, most_bounds}
+use Rattle.cam_types.specs.Whole.{IsWhole, IsTooLong}
+use Rattle.cam_types.specs.declared.whole.TheConstants.{MOST_BYTES}
+use Rattle.cam_path.specs.Paths.{Fits}
+use Rattle.trace_file.specs.declared.script_row.ScriptRow.{ScriptRow}
+use Rattle.trace_file.specs.declared.script_row.ScriptRow.TheVariants as row
+use Rattle.trace_file.specs.declared.script_row.ScriptItem.{ScriptItem}
+use Rattle.trace_file.specs.declared.script_row.ScriptItem.TheVariants as item
+use Rattle.trace_file.specs.declared.step.Step.{Step}
+use Rattle.trace_file.specs.declared.script_stage.ScriptStage.TheVariants as stage
+use Rattle.trace_file.specs.declared.trace_fault.TraceFault.{TraceFault}
+use Rattle.trace_file.specs.declared.trace_fault.TraceFault.TheVariants as fault
+use Rattle.trace_file.specs.Fields.{Row}
+use Rattle.trace_file.specs.Histories.{Device, Outcome, Refusal, Topology, config_fault}
+use Rattle.trace_file.specs.Records.{adapter_row, device_row, lane_row}
+use Rattle.trace_file.specs.Rows.{most_number}
+use Rattle.trace_file.specs.Scenarios.{Scenario, add_item, empty_scenario, is_answer_row, item_of}
+use Rattle.trace_file.specs.ScriptReading.{most_rows, script_ended, script_step}
+use Rattle.trace_file.specs.ScriptRows.{limits_row, script_header, script_row}
+use Rattle.trace_file.specs.Text.{records_in}
+use Rattle.trace_file.specs.Trace.{FitsOutcome, IsFirstFault}
+
+-- what the records of a script say: limits, if they are given, a configuration, and rows
+pub record Manuscript : Type 0 where
+  pub limits : Option Bounds
+  pub config : Topology
+  pub rows : List ScriptRow
+
+abbrev pub limits_rows : Option Bounds → List Row
+limits_rows None = []
+limits_rows (Some b) = limits_row b ∷ []
+
+-- its records: the header, the limits, one for each adapter, device and lane, and one for each row
+unfoldable pub script_records : Manuscript → List Row
+script_records m =
+    script_header ∷ (limits_rows m.limits ++ (map adapter_row m.config.adapters ++ (map device_row m.config.devices ++ (map lane_row m.config.lanes ++ map script_row m.rows))))
+
+-- a row is put behind the others of its driver, or of its lane
+abbrev pub put_item : Scenario → Result ScriptItem Refusal → Scenario
+put_item s (Ok item) = add_item s item
+put_item s (Err cause) = s
+
+abbrev pub put_row : Scenario → ScriptRow → Scenario
+put_row s said = put_item s (item_of s.config said)
+
+-- the scenario: its rows in order, each behind the others of its driver or of its lane
+unfoldable pub scenario_of : Manuscript → Scenario
+scenario_of m = fold put_row (empty_scenario m.config (unwrap_or m.limits most_bounds)) m.rows
+
+-- what a row says to this driver, and to this lane
+abbrev pub step_said : ℕ → Result ScriptItem Refusal → List Step
+step_said driver (Ok (item.Step by one)) = if by == driver then one ∷ [] else []
+step_said driver (Ok (item.Answer lane outcome)) = []
+step_said driver (Err cause) = []
+
+abbrev pub answer_said : ℕ → Result ScriptItem Refusal → List Outcome
+answer_said lane (Ok (item.Step by one)) = []
+answer_said lane (Ok (item.Answer by outcome)) = if by == lane then outcome ∷ [] else []
+answer_said lane (Err cause) = []
+
+-- a driver's rows in order, and a lane's answers in order
+unfoldable pub steps_of : Topology → ℕ → List ScriptRow → List Step
+steps_of c driver rows = flat_map (λ said. step_said driver (item_of c said)) rows
+
+unfoldable pub answers_of : Topology → ℕ → List ScriptRow → List Outcome
+answers_of c lane rows = flat_map (λ said. answer_said lane (item_of c said)) rows
+
+-- the numbers of a row fit its fields
+abbrev pub FitsRow : ScriptRow → Type 0
+FitsRow (row.Submit driver at priority retries flags) = (driver ≤ 7) × Fits at × (priority ≤ most_number) × (retries ≤ most_number)
+FitsRow (row.Freeze driver at count) = (driver ≤ 7) × Fits at × (count ≤ most_number)
+FitsRow (row.Release driver at count) = (driver ≤ 7) × Fits at × (count ≤ most_number)
+FitsRow (row.FreezeSim driver sim count) = (driver ≤ 7) × (sim ≤ most_number) × (count ≤ most_number)
+FitsRow (row.ReleaseSim driver sim) = (driver ≤ 7) × (sim ≤ most_number)
+FitsRow (row.Adjust driver at openings) = (driver ≤ 7) × Fits at × (openings ≤ most_number)
+FitsRow (row.Pause driver round) = (driver ≤ 7) × (round ≤ most_number)
+FitsRow (row.Answer lane outcome) = FitsOutcome lane outcome
+
+-- how many rows are of drivers, and how many are answers
+abbrev pub step_rows : List ScriptRow → ℕ
+step_rows rows = count_by (λ said. not (is_answer_row said)) rows
+
+abbrev pub answer_rows : List ScriptRow → ℕ
+answer_rows rows = count_by is_answer_row rows
+
+-- limits within their ranges, a configuration within its rules, rows whose numbers fit and that no static cause refuses,
+-- and at most 4,096 rows of drivers and as many answers
+pub record IsManuscript (m : Manuscript) : Type 0 where
+  pub limits : IfSome m.limits (λ b. are_within b ≡ true)
+  pub config : config_fault m.config ≡ None
+  pub targets : AllByRecursion (λ (d : Device). d.target ≤ 65535) m.config.devices
+  pub fits : AllByRecursion FitsRow m.rows
+  pub ruled : AllByRecursion (λ said. is_ok (item_of m.config said) ≡ true) m.rows
+  pub steps : step_rows m.rows ≤ most_rows
+  pub answers : answer_rows m.rows ≤ most_rows
+
+-- the text's records are these
+pub record IsScript (text : List ℕ) (m : Manuscript) : Type 0 where
+  pub bounded : length text ≤ MOST_BYTES
+  pub spelled : records_in text ≡ script_records m
+
+-- what was read to its end was a script of the scenario
+pub record WasScript (before after : Option (List ℕ)) (s : Scenario) : Type 0 where
+  pub text : List ℕ
+  pub whole : IsWhole before after text
+  pub manuscript : Manuscript
+  pub script : IsScript text manuscript
+  pub kept : IsManuscript manuscript
+  pub value : s ≡ scenario_of manuscript
+
+-- what was read to its end was no script, for this fault
+pub record WasFaultyScript (before after : Option (List ℕ)) (e : TraceFault) : Type 0 where
+  pub text : List ℕ
+  pub whole : IsWhole before after text
+  pub first : IsFirstFault script_step script_ended stage.Header (records_in text) e
+
+-- why no script was read, where a reader's note says at last whether a call failed
+abbrev pub ExplainsScript : Option (List ℕ) → Option (List ℕ) → Bool → TraceFault → Type 0
+ExplainsScript before after failed fault.TooLong = IsTooLong before after
+ExplainsScript before after failed fault.ReadFailed = failed ≡ true
+ExplainsScript before after failed fault.OutOfMemory = ⊤
+ExplainsScript before after failed fault.BadHeader = WasFaultyScript before after fault.BadHeader
+ExplainsScript before after failed (fault.BadRecord n) = WasFaultyScript before after (fault.BadRecord n)
+ExplainsScript before after failed (fault.BadField n k) = WasFaultyScript before after (fault.BadField n k)
+ExplainsScript before after failed (fault.BadConfig n c) = WasFaultyScript before after (fault.BadConfig n c)
+ExplainsScript before after failed (fault.Illegal n r) = WasFaultyScript before after (fault.Illegal n r)

@@ -1,0 +1,104 @@
+-- How a list of records is read as a script: record by record, each by the stage that it finds.
+use Rattle.std.specs.Prelude.{ℕ, ◌+◌, ◌==◌, Bool, true, false, nat_lt, ◌&&◌, ◌||◌, if◌then◌else◌, List, length, Option, Some, None, option_and_then, ok_or, Result, Ok, Err, codes, bytes_eq}
+use Rattle.cam_types.specs.Bounds.{Bounds, most_bounds}
+use Rattle.trace_file.specs.Histories.{NoAdapters, Refusal, Topology}
+use Rattle.trace_file.specs.declared.script_row.ScriptItem.{ScriptItem}
+use Rattle.trace_file.specs.declared.script_row.ScriptItem.TheVariants as item
+use Rattle.trace_file.specs.declared.script_stage.ScriptStage.{ScriptStage}
+use Rattle.trace_file.specs.declared.script_stage.ScriptStage.TheVariants as stage
+use Rattle.trace_file.specs.declared.script_word.ScriptWord.{ScriptWord}
+use Rattle.trace_file.specs.declared.trace_fault.TraceFault.{TraceFault}
+use Rattle.trace_file.specs.declared.trace_fault.TraceFault.TheVariants.{BadHeader, BadRecord, BadConfig, Illegal}
+use Rattle.trace_file.specs.declared.trace_stage.TraceStage.{TraceStage}
+use Rattle.trace_file.specs.declared.trace_stage.TraceStage.TheVariants as trace
+use Rattle.trace_file.specs.Fields.{Row, field_of}
+use Rattle.trace_file.specs.Reading.{config_of, in_record, is_header, lacks_adapters, row_step}
+use Rattle.trace_file.specs.Scenarios.{Scenario, add_item, empty_scenario, is_answer_word, item_of}
+use Rattle.trace_file.specs.ScriptRows.{limits_at, script_row_at, script_word_of}
+use Rattle.trace_file.specs.Steps.{◌>>=◌, taken}
+
+-- the most rows of drivers, and the most answers
+abbrev pub most_rows : ℕ
+most_rows = 4096
+
+-- a configuration is in the making, or an adapter is due
+abbrev pub is_configuring : TraceStage → Bool
+is_configuring trace.Header = false
+is_configuring trace.First = true
+is_configuring (trace.Adapters t) = true
+is_configuring (trace.Devices t) = true
+is_configuring (trace.Lanes t) = true
+is_configuring (trace.Events p) = false
+
+-- the configuration, unless no adapter has come
+abbrev pub configured : ℕ → TraceStage → Result Topology TraceFault
+configured n t = if lacks_adapters t then Err (BadConfig n NoAdapters) else Ok (config_of t)
+
+-- the words of the configuration, and of the limits
+unfoldable pub is_config_word : List ℕ → Bool
+is_config_word field = bytes_eq field (codes "sim") || bytes_eq field (codes "dev") || bytes_eq field (codes "lane")
+
+unfoldable pub is_limits : Row → Bool
+is_limits row = (length row == 8) && bytes_eq (field_of row 0) (codes "limits")
+
+-- the word of a record of eight fields
+unfoldable pub item_word : Row → Option ScriptWord
+item_word row = if length row == 8 then script_word_of (field_of row 0) else None
+
+-- one answer more, or one row of a driver more, may come behind so many of each
+abbrev pub has_room : Bool → ℕ → ℕ → Bool
+has_room true steps answers = nat_lt answers most_rows
+has_room false steps answers = nat_lt steps most_rows
+
+-- a word for which there is room
+unfoldable pub roomy_word : ℕ → ℕ → Row → Option ScriptWord
+roomy_word steps answers row = option_and_then (λ w. if has_room (is_answer_word w) steps answers then Some w else None) (item_word row)
+
+-- one item more, unless it is refused
+abbrev pub with_item : ℕ → Scenario → ℕ → ℕ → Result ScriptItem Refusal → Result ScriptStage TraceFault
+with_item n s steps answers (Ok (item.Step driver one)) = Ok (stage.Rows (add_item s (item.Step driver one)) (steps + 1) answers)
+with_item n s steps answers (Ok (item.Answer lane outcome)) = Ok (stage.Rows (add_item s (item.Answer lane outcome)) steps (answers + 1))
+with_item n s steps answers (Err r) = Err (Illegal n r)
+
+-- a row behind others
+unfoldable pub rows_step : ℕ → Scenario → ℕ → ℕ → Row → Result ScriptStage TraceFault
+rows_step n s steps answers row = do
+  w ← ok_or (roomy_word steps answers row) (BadRecord n)
+  said ← in_record n (script_row_at w row)
+  with_item n s steps answers (item_of s.config said)
+
+-- the first row, which ends the configuration
+unfoldable pub first_row : ℕ → Bounds → TraceStage → Row → Result ScriptStage TraceFault
+first_row n limits t row = do
+  w ← ok_or (item_word row) (BadRecord n)
+  said ← in_record n (script_row_at w row)
+  c ← configured n t
+  with_item n (empty_scenario c limits) 0 0 (item_of c said)
+
+-- a record behind the header and the limits: of the configuration, as in a trace, or the first row
+unfoldable pub config_step : ℕ → Bounds → TraceStage → Row → Result ScriptStage TraceFault
+config_step n limits t row =
+    if is_config_word (field_of row 0) then (row_step n t row >>= λ u. Ok (stage.Config limits u))
+    else first_row n limits t row
+
+-- the limits
+unfoldable pub limits_step : ℕ → Row → Result ScriptStage TraceFault
+limits_step n row = in_record n (limits_at row) >>= λ limits. Ok (stage.Config limits trace.First)
+
+-- the record of this number
+unfoldable pub script_step : ℕ → ScriptStage → Row → Result ScriptStage TraceFault
+script_step n stage.Header row = if is_header (codes "camscript1") row then Ok stage.First else Err BadHeader
+script_step n stage.First row = if is_limits row then limits_step n row else config_step n most_bounds trace.First row
+script_step n (stage.Config limits t) row = config_step n limits t row
+script_step n (stage.Rows s steps answers) row = rows_step n s steps answers row
+
+-- the end of the records
+unfoldable pub script_ended : ScriptStage → Result Scenario TraceFault
+script_ended stage.Header = Err BadHeader
+script_ended stage.First = Err (BadConfig 2 NoAdapters)
+script_ended (stage.Config limits t) = configured 3 t >>= λ c. Ok (empty_scenario c limits)
+script_ended (stage.Rows s steps answers) = Ok s
+
+-- the scenario of these records, or the first fault
+unfoldable pub script_reading : List Row → Result Scenario TraceFault
+script_reading rows = taken script_step 1 stage.Header rows >>= script_ended

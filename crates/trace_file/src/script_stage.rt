@@ -1,0 +1,235 @@
+ghost use Rattle.std.specs.Prelude.{◌≡◌, ◌≢◌, Err, IfOk, IfSome, IsTrue, length};
+ghost use Rattle.csv.specs.Records.{fields_of};
+ghost use Rattle.trace_file.specs.Fields.{field_of};
+ghost use Rattle.trace_file.specs.Scenarios.{is_answer_row, is_answer_word, item_of, names_driver};
+ghost use Rattle.trace_file.specs.ScriptReading.{config_step, first_row, has_room, is_config_word, is_configuring, is_limits, item_word, limits_step, roomy_word, rows_step, script_ended, script_step, with_item};
+ghost use Rattle.trace_file.specs.Sound.{IsSound, IsSoundScript};
+
+use crate::fields::{field, is_text};
+use crate::header::is_header;
+use crate::script::Script;
+use crate::script_item::item_of;
+use crate::script_row::{ScriptItem, ScriptRow};
+use crate::script_rows::{limits_at, script_row_at};
+use crate::script_word::ScriptWord;
+use crate::stage::Stage;
+use crate::trace_fault::TraceFault;
+use crate::trace_stage::{TraceStage, in_record};
+use cam_types::{ConfigFault, Limits};
+use csv::ByteRecord;
+use std::alloc::Global;
+
+/// The most rows of drivers, and the most answers, of a script.
+pub const MOST_ROWS: u32 = 4096;
+
+/// What a script has said so far.
+#[derive(Debug, Drop)]
+pub(crate) enum ScriptStage {
+    /// Nothing: the header is due.
+    Header,
+    /// The header: the limits or an adapter are due.
+    First,
+    /// The limits, or none, and a configuration in the making.
+    Config(Limits, TraceStage),
+    /// A whole configuration, so many rows of drivers, and so many answers.
+    Rows(Script, u32, u32),
+}
+
+impl ScriptStage {
+    /// The script, where the records end here.
+    #[tactic(auto, unfolding(crate::specs::ScriptReading::script_ended, crate::specs::Sound::IsSoundScript))]
+    pub(crate) fn finish(self, alloc: Global) -> Result<Script, TraceFault>
+        requires { IsSoundScript self }
+        ensures { result ≢ Err TraceFault.OutOfMemory → result ≡ script_ended self }
+    {
+        match self {
+            ScriptStage::Header => Err(TraceFault::BadHeader),
+            ScriptStage::First => Err(TraceFault::BadConfig(2, ConfigFault::NoAdapters)),
+            ScriptStage::Config(limits, stage) => {
+                let config = stage.configured(3)?;
+                match Script::new(alloc, config, limits) {
+                    Ok(script) => Ok(script),
+                    Err(_) => Err(TraceFault::OutOfMemory),
+                }
+            }
+            ScriptStage::Rows(script, _, _) => Ok(script),
+        }
+    }
+}
+
+impl Stage for ScriptStage {
+    ghost use Rattle.trace_file.specs.ScriptReading.{script_step};
+    ghost use Rattle.trace_file.specs.Sound.{IsSoundScript};
+
+    ghost step = { script_step };
+
+    ghost is_sound = { IsSoundScript };
+
+    #[tactic(auto, unfolding(crate::specs::ScriptReading::script_step, crate::specs::Sound::IsSoundScript, crate::specs::Sound::IsSound))]
+    fn take(self, alloc: Global, number: u32, row: &ByteRecord) -> Result<ScriptStage, TraceFault> {
+        match self {
+            ScriptStage::Header => {
+                if is_header(b"camscript1", row) {
+                    Ok(ScriptStage::First)
+                } else {
+                    Err(TraceFault::BadHeader)
+                }
+            }
+            ScriptStage::First => {
+                if is_limits(row) {
+                    take_limits(number, row)
+                } else {
+                    take_config(alloc, number, Limits::most(), TraceStage::First, row)
+                }
+            }
+            ScriptStage::Config(limits, stage) => take_config(alloc, number, limits, stage, row),
+            ScriptStage::Rows(script, steps, answers) => {
+                take_item(number, script, steps, answers, row)
+            }
+        }
+    }
+}
+
+#[tactic(auto, unfolding(crate::specs::ScriptReading::limits_step, crate::specs::Sound::IsSoundScript, crate::specs::Sound::IsSound))]
+fn take_limits(number: u32, row: &ByteRecord) -> Result<ScriptStage, TraceFault>
+    requires { length (fields_of row.now) ≡ 8 }
+    ensures value { result ≡ limits_step number (fields_of row.now) }
+    ensures sound { IfOk result (λ s. IsSoundScript s) }
+{
+    let limits = in_record(number, limits_at(row))?;
+    Ok(ScriptStage::Config(limits, TraceStage::First))
+}
+
+#[tactic(auto, unfolding(crate::specs::ScriptReading::config_step, crate::specs::Sound::IsSoundScript))]
+fn take_config(
+    alloc: Global,
+    number: u32,
+    limits: Limits,
+    stage: TraceStage,
+    row: &ByteRecord,
+) -> Result<ScriptStage, TraceFault>
+    requires sound { IsSound stage }
+    requires configuring { IsTrue (is_configuring stage) }
+    ensures value { result ≢ Err TraceFault.OutOfMemory → result ≡ config_step number limits stage (fields_of row.now) }
+    ensures sound { IfOk result (λ s. IsSoundScript s) }
+{
+    if !is_config_word(field(row, 0)) {
+        return take_first(alloc, number, limits, stage, row);
+    }
+    let stage = stage.take_row(alloc, number, row)?;
+    Ok(ScriptStage::Config(limits, stage))
+}
+
+#[tactic(auto, unfolding(crate::specs::ScriptReading::first_row))]
+fn take_first(
+    alloc: Global,
+    number: u32,
+    limits: Limits,
+    stage: TraceStage,
+    row: &ByteRecord,
+) -> Result<ScriptStage, TraceFault>
+    requires sound { IsSound stage }
+    requires configuring { IsTrue (is_configuring stage) }
+    ensures value { result ≢ Err TraceFault.OutOfMemory → result ≡ first_row number limits stage (fields_of row.now) }
+    ensures sound { IfOk result (λ s. IsSoundScript s) }
+{
+    let Some(word) = item_word(row) else {
+        return Err(TraceFault::BadRecord(number));
+    };
+    let said = in_record(number, script_row_at(word, row))?;
+    let config = stage.configured(number)?;
+    match Script::new(alloc, config, limits) {
+        Ok(script) => with_row(number, script, 0, 0, said),
+        Err(_) => Err(TraceFault::OutOfMemory),
+    }
+}
+
+#[tactic(auto, unfolding(crate::specs::ScriptReading::rows_step))]
+fn take_item(
+    number: u32,
+    script: Script,
+    steps: u32,
+    answers: u32,
+    row: &ByteRecord,
+) -> Result<ScriptStage, TraceFault>
+    requires { (steps ≤ MOST_ROWS) × (answers ≤ MOST_ROWS) }
+    ensures value { result ≢ Err TraceFault.OutOfMemory → result ≡ rows_step number script steps answers (fields_of row.now) }
+    ensures sound { IfOk result (λ s. IsSoundScript s) }
+{
+    let Some(word) = roomy_word(row, steps, answers) else {
+        return Err(TraceFault::BadRecord(number));
+    };
+    let said = in_record(number, script_row_at(word, row))?;
+    with_row(number, script, steps, answers, said)
+}
+
+#[tactic(auto, unfolding(crate::specs::Sound::IsSoundScript))]
+fn with_row(
+    number: u32,
+    script: Script,
+    steps: u32,
+    answers: u32,
+    said: ScriptRow,
+) -> Result<ScriptStage, TraceFault>
+    requires driver { IsTrue (names_driver said) }
+    requires few { (steps ≤ MOST_ROWS) × (answers ≤ MOST_ROWS) }
+    requires room { IsTrue (has_room (is_answer_row said) steps answers) }
+    ensures value { result ≢ Err TraceFault.OutOfMemory → result ≡ with_item number script steps answers (item_of script.config said) }
+    ensures sound { IfOk result (λ s. IsSoundScript s) }
+{
+    match item_of(script.config(), said) {
+        Err(refusal) => Err(TraceFault::Illegal(number, refusal)),
+        Ok(ScriptItem::Step(driver, step)) => match script.with_step(driver, step) {
+            Ok(script) => Ok(ScriptStage::Rows(script, steps + 1, answers)),
+            Err(_) => Err(TraceFault::OutOfMemory),
+        },
+        Ok(ScriptItem::Answer(lane, outcome)) => match script.with_answer(lane, outcome) {
+            Ok(script) => Ok(ScriptStage::Rows(script, steps, answers + 1)),
+            Err(_) => Err(TraceFault::OutOfMemory),
+        },
+    }
+}
+
+#[tactic(auto, unfolding(crate::specs::ScriptReading::is_limits))]
+fn is_limits(row: &ByteRecord) -> bool
+    ensures value { result ≡ is_limits (fields_of row.now) }
+    ensures eight { IsTrue result → length (fields_of row.now) ≡ 8 }
+{
+    row.len() == 8 && is_text(field(row, 0), b"limits")
+}
+
+#[tactic(auto, unfolding(crate::specs::ScriptReading::is_config_word))]
+fn is_config_word(field: &[u8]) -> bool
+    ensures { result ≡ is_config_word field.now }
+{
+    is_text(field, b"sim") || is_text(field, b"dev") || is_text(field, b"lane")
+}
+
+#[tactic(auto, unfolding(crate::specs::ScriptReading::item_word))]
+fn item_word(row: &ByteRecord) -> Option<ScriptWord>
+    ensures value { result ≡ item_word (fields_of row.now) }
+    ensures eight { IfSome result (λ w. length (fields_of row.now) ≡ 8) }
+{
+    if row.len() != 8 {
+        return None;
+    }
+    ScriptWord::of(field(row, 0))
+}
+
+#[tactic(auto, unfolding(crate::specs::ScriptReading::roomy_word))]
+fn roomy_word(row: &ByteRecord, steps: u32, answers: u32) -> Option<ScriptWord>
+    ensures value { result ≡ roomy_word steps answers (fields_of row.now) }
+    ensures eight { IfSome result (λ w. length (fields_of row.now) ≡ 8) }
+    ensures room { IfSome result (λ w. IsTrue (has_room (is_answer_word w) steps answers)) }
+{
+    let word = item_word(row)?;
+    let room = if word.is_answer() {
+        answers < MOST_ROWS
+    } else {
+        steps < MOST_ROWS
+    };
+    if room { Some(word) } else { None }
+}
+
+ghost use Rattle.std.specs.Prelude.{◌≤◌};
+ghost use Rattle.trace_file.specs.declared.script_stage.TheConstants.{MOST_ROWS};

@@ -1,0 +1,10 @@
+use event_log::Event;
+
+/// What a driver does next.
+#[derive(Clone, Copy, Debug, PartialEq, Eq, Hash)]
+pub enum Step {
+    /// It calls for this event: a submit, a freeze, a release or an adjustment.
+    Act(Event),
+    /// It waits until the round is at least this.
+    Pause(u32),
+}

@@ -1,0 +1,65 @@
+ghost use Rattle.std.specs.Prelude.{◌≡◌, ◌≢◌, false, true, Err, OnOk, IfOk};
+ghost use Rattle.cam_types.specs.Watched.{device_of, has_failed, is_flushed};
+ghost use Rattle.cam_types.specs.Whole.{AppendsFront};
+ghost use Rattle.std.specs.Io.KnownBytes.{Appends};
+ghost use Rattle.trace_file.specs.Trace.{IsHistory, IsTrace};
+ghost use Rattle.trace_file.specs.Writing.{trace_text};
+
+use crate::row_writer::write_row;
+use crate::write_fault::WriteFault;
+use crate::writing::{write_devices, write_events, write_numbers};
+use cam_event::History;
+use cam_types::{Watched, write_whole};
+use csv::WriterBuilder;
+use std::alloc::{AllocError, Global};
+use std::io::Write;
+
+/// Writes the trace of a history and flushes it: its records by CSV's defaults, with a line feed behind each. The text
+/// is made whole before anything of it is written.
+pub fn write_trace<W: Write>(
+    alloc: Global,
+    history: &History,
+    writer: &mut Watched<W>,
+) -> Result<(), WriteFault>
+    requires { has_failed writer.old ≡ false }
+    ensures written { OnOk result (Appends (W.contents (device_of writer.old)) (W.contents (device_of writer.new)) (trace_text history.now)) }
+    ensures flushed { OnOk result (is_flushed writer.new ≡ true) }
+    // What is written is a trace of the history, and so read_trace gives the history back.
+    ensures trace { result ≢ Err WriteFault.OutOfMemory → IsTrace (trace_text history.now) history.now }
+    ensures legal { result ≢ Err WriteFault.OutOfMemory → IsHistory history.now }
+    ensures failed { result ≡ Err WriteFault.WriteFailed → has_failed writer.new ≡ true }
+    ensures calm { result ≢ Err WriteFault.WriteFailed → has_failed writer.new ≡ false }
+    ensures front { result ≡ Err WriteFault.WriteFailed → AppendsFront (W.contents (device_of writer.old)) (W.contents (device_of writer.new)) (trace_text history.now) }
+    ensures untouched { result ≡ Err WriteFault.OutOfMemory → writer.new ≡ writer.old }
+{
+    let text = trace_text(alloc, history)?;
+    match write_whole(writer, &text) {
+        Ok(()) => Ok(()),
+        Err(_) => Err(WriteFault::WriteFailed),
+    }
+}
+
+// The text of a history's records.
+fn trace_text(alloc: Global, history: &History) -> Result<Vec<u8>, AllocError>
+    ensures text { IfOk result (λ t. t.items ≡ trace_text history.now) }
+    ensures trace { OnOk result (IsTrace (trace_text history.now) history.now) }
+    ensures legal { OnOk result (IsHistory history.now) }
+{
+    let mut writer = WriterBuilder::new().from_writer(Vec::new(alloc));
+    write_row(
+        &mut writer,
+        &[b"camtrace1", b"a", b"b", b"c", b"d", b"e", b"f", b"g"],
+    )?;
+    let config = history.config();
+    write_numbers(&mut writer, b"sim", config.adapters())?;
+    write_devices(&mut writer, config.devices())?;
+    write_numbers(&mut writer, b"lane", config.lanes())?;
+    write_events(&mut writer, history.events())?;
+    match writer.into_inner() {
+        Ok(text) => Ok(text),
+        Err(_) => Err(AllocError),
+    }
+}
+
+#[cfg(test)]
+mod tests;

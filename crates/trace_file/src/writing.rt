@@ -1,0 +1,172 @@
+ghost use Rattle.std.specs.Prelude.{◌≡◌, ◌≤◌, ◌∷◌, [], decimal, map, OnOk};
+ghost use Rattle.std.specs.List.{AllByRecursion};
+ghost use Rattle.trace_file.specs.Histories.{Device};
+ghost use Rattle.trace_file.specs.Records.{padded, device_row, event_row, hex};
+ghost use Rattle.trace_file.specs.Fields.{flags_text};
+ghost use Rattle.trace_file.specs.Trace.{FitsEvent};
+ghost use Rattle.trace_file.specs.Writing.{IsBetween, Wrote};
+
+use crate::hex::hex_text;
+use crate::row_writer::{write_one, write_row, write_two, write_word};
+use cam_event::Event;
+use cam_types::{Device, Flags, Outcome};
+use csv::Writer;
+use itoa::Buffer;
+use std::alloc::AllocError;
+use std::io::Write;
+
+/// Writes a record of a word and a number for each of these numbers.
+pub(crate) fn write_numbers<W: Write + Drop>(
+    writer: &mut Writer<W>,
+    word: &[u8],
+    numbers: &[u32],
+) -> Result<(), AllocError>
+    requires { IsBetween writer.old }
+    ensures { OnOk result (Wrote W.contents writer.old writer.new (map (λ n. padded (word.now ∷ decimal n ∷ [])) numbers.now)) }
+{
+    for number in numbers {
+        write_one(writer, word, *number)?;
+    }
+    Ok(())
+}
+
+/// Writes a record for each of these devices.
+pub(crate) fn write_devices<W: Write + Drop>(
+    writer: &mut Writer<W>,
+    devices: &[Device],
+) -> Result<(), AllocError>
+    requires { IsBetween writer.old }
+    ensures rows { OnOk result (Wrote W.contents writer.old writer.new (map device_row devices.now)) }
+    ensures fits { OnOk result (AllByRecursion (λ (d : Device). d.target ≤ 65535) devices.now) }
+{
+    for device in devices {
+        write_device(writer, *device)?;
+    }
+    Ok(())
+}
+
+fn write_device<W: Write + Drop>(writer: &mut Writer<W>, device: Device) -> Result<(), AllocError>
+    requires { IsBetween writer.old }
+    ensures rows { OnOk result (Wrote W.contents writer.old writer.new (device_row device ∷ [])) }
+    ensures fits { device.target ≤ 65535 }
+{
+    let mut bus = Buffer::new();
+    let mut target = Buffer::new();
+    let mut lun = Buffer::new();
+    let mut openings = Buffer::new();
+    let bus = bus.format(device.bus).as_bytes();
+    let target = target.format(device.target).as_bytes();
+    let lun = lun.format(device.lun).as_bytes();
+    let openings = openings.format(device.openings).as_bytes();
+    write_row(writer, &[b"dev", bus, target, lun, openings, b"", b"", b""])
+}
+
+/// Writes a record for each of these events.
+pub(crate) fn write_events<W: Write + Drop>(
+    writer: &mut Writer<W>,
+    events: &[Event],
+) -> Result<(), AllocError>
+    requires { IsBetween writer.old }
+    ensures rows { OnOk result (Wrote W.contents writer.old writer.new (map event_row events.now)) }
+    ensures fits { OnOk result (AllByRecursion FitsEvent events.now) }
+{
+    for event in events {
+        write_event(writer, *event)?;
+    }
+    Ok(())
+}
+
+fn write_event<W: Write + Drop>(writer: &mut Writer<W>, event: Event) -> Result<(), AllocError>
+    requires { IsBetween writer.old }
+    ensures rows { OnOk result (Wrote W.contents writer.old writer.new (event_row event ∷ [])) }
+    ensures fits { FitsEvent event }
+{
+    match event {
+        Event::Submit {
+            driver,
+            device,
+            priority,
+            retries,
+            flags,
+        } => write_submit(writer, driver, device, priority, retries, flags),
+        Event::Send { lane, ccb } => write_two(writer, b"send", lane, ccb),
+        Event::Done { ccb, outcome } => write_done(writer, ccb, outcome),
+        Event::Requeue { ccb } => write_one(writer, b"requeue", ccb),
+        Event::Finish { ccb } => write_one(writer, b"finish", ccb),
+        Event::FreezeDev { device, count } => write_two(writer, b"freeze", device, count),
+        Event::ReleaseDev { device, count } => write_two(writer, b"release", device, count),
+        Event::FreezeSim { sim, count } => write_two(writer, b"sfreeze", sim, count),
+        Event::ReleaseSim { sim } => write_one(writer, b"srelease", sim),
+        Event::Adjust { device, openings } => write_two(writer, b"adjust", device, openings),
+        Event::Tick => write_word(writer, b"tick"),
+    }
+}
+
+fn write_submit<W: Write + Drop>(
+    writer: &mut Writer<W>,
+    driver: u8,
+    device: u32,
+    priority: u32,
+    retries: u32,
+    flags: Flags,
+) -> Result<(), AllocError>
+    requires { IsBetween writer.old }
+    ensures { OnOk result (Wrote W.contents writer.old writer.new (event_row (Event.Submit driver device priority retries flags) ∷ [])) }
+{
+    let mut one = Buffer::new();
+    let mut two = Buffer::new();
+    let mut three = Buffer::new();
+    let mut four = Buffer::new();
+    let driver = one.format(driver).as_bytes();
+    let device = two.format(device).as_bytes();
+    let priority = three.format(priority).as_bytes();
+    let retries = four.format(retries).as_bytes();
+    let flags = flags_text(flags);
+    write_row(
+        writer,
+        &[
+            b"submit", driver, device, priority, retries, flags, b"", b"",
+        ],
+    )
+}
+
+fn write_done<W: Write + Drop>(
+    writer: &mut Writer<W>,
+    ccb: u32,
+    outcome: Outcome,
+) -> Result<(), AllocError>
+    requires { IsBetween writer.old }
+    ensures rows { OnOk result (Wrote W.contents writer.old writer.new (event_row (Event.Done ccb outcome) ∷ [])) }
+    ensures fits { FitsEvent (Event.Done ccb outcome) }
+{
+    let mut digits = Buffer::new();
+    let ccb = digits.format(ccb).as_bytes();
+    let (status, _) = hex_text(&[outcome.status]);
+    let (scsi, _) = hex_text(&[outcome.scsi]);
+    let (sense, count) = hex_text(outcome.sense.bytes());
+    write_row(
+        writer,
+        &[
+            b"done",
+            ccb,
+            &status[..2],
+            &scsi[..2],
+            &sense[..count],
+            b"",
+            b"",
+            b"",
+        ],
+    )
+}
+
+/// How flags are spelled.
+pub(crate) fn flags_text(flags: Flags) -> &'static [u8]
+    ensures { result.now ≡ flags_text flags }
+{
+    match (flags.qfreeze, flags.qfrzdis) {
+        (false, false) => b"none",
+        (true, false) => b"qfreeze",
+        (false, true) => b"qfrzdis",
+        (true, true) => b"both",
+    }
+}

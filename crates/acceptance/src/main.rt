@@ -93,7 +93,11 @@ fn show<R: Files + Print + AllocGlobal>(rt: &R, name: &str, run: Run) -> io::Res
     Ok(())
 }
 
-fn done<R: Print + AllocGlobal>(rt: &R, file: impl Read + Drop, run: Run) -> Result<(), AuditFault> {
+fn done<R: Print + AllocGlobal>(
+    rt: &R,
+    file: impl Read + Drop,
+    run: Run,
+) -> Result<(), AuditFault> {
     let mut trace = Watched::new(file);
     let mut out = Watched::new(io::writer(rt));
     match run {

@@ -68,6 +68,6 @@ is_audit summary past text n live least f p e legal sound proved is cheap lines 
       proved = proved';
       least = best_where_proved (instance_of past.config past.events) (live_of past.config past.events) f p sound' proved';
       lines = lines
-        ∙ ap (λ m. summary_text past.events live m ++ (if summary then [] else plan_text past.config.devices n f p)) (cheap ∙ ap (λ k. cost (instance_of_rows k) f) e)
-        ∙ ap (λ k. summary_text past.events live (cost (instance_of past.config past.events) f) ++ (if summary then [] else plan_text past.config.devices k f p)) e;
+          ∙ ap (λ m. summary_text past.events live m ++ (if summary then [] else plan_text past.config.devices n f p)) (cheap ∙ ap (λ k. cost (instance_of_rows k) f) e)
+          ∙ ap (λ k. summary_text past.events live (cost (instance_of past.config past.events) f) ++ (if summary then [] else plan_text past.config.devices k f p)) e;
     }

@@ -37,7 +37,5 @@ fn audit<'a>(alloc: Global) -> Result<Command<'a>, AllocError> {
 }
 
 fn trace<'a>(alloc: Global) -> Arg<'a> {
-    Arg::new(alloc, "TRACE").help(
-        "The recorded trace; standard input where it is left out",
-    )
+    Arg::new(alloc, "TRACE").help("The recorded trace; standard input where it is left out")
 }

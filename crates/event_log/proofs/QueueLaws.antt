@@ -189,7 +189,7 @@ unfolding queue
 in_order-tick es d =
     ap (sorted_by queue_key) (queue-tick es d)
     ∙ sorted-parts queue_key (is_at d (round es)) (is_later d (round es)) (is_at d (round es + 1)) (waiting es)
-      (parted_all d (round es) (waiting es) (arrived-waiting es)) (all_apart-waiting es)
+    (parted_all d (round es) (waiting es) (arrived-waiting es)) (all_apart-waiting es)
 
 -- nothing waits for the round behind the next
 not_later : (a : Bool) (arrival r : ℕ) → arrival ≤ r → (a && nat_lt r arrival) ≡ false
@@ -208,4 +208,3 @@ later-tick es d =
     ap (λ r. filter (is_later d r) (waiting (es ++ Tick ∷ []))) (round-push es Tick)
     ∙ ap (filter (is_later d (round es + 1))) (waiting-push es Tick ∙ append-nil _ ∙ filter-all (λ (p : Passage). not (is_send_of p.ccb Tick)) (λ p. refl) (waiting es))
     ∙ none_later d (round es) (waiting es) (arrived-waiting es)
-

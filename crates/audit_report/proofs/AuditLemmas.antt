@@ -1,6 +1,6 @@
 -- what is written of a history with a best plan of its net
-use Rattle.std.proofs.Common.{◌≡◌, ℕ, ◌+◌, ◌≤◌, Bool, true, false, List, [], ◌++◌, length, map, refl, sym, ap, subst, ◌∙◌, arith, append-nil, Option, Some, None}
-use Rattle.std.specs.Prelude.{if◌then◌else◌, sum_by, is_some}
+use Rattle.std.proofs.Common.{◌≡◌, ℕ, ◌+◌, ◌-◌, ◌≤◌, Bool, true, false, List, [], ◌++◌, length, map, refl, sym, ap, subst, ◌∙◌, arith, append-nil, Option, Some, None}
+use Rattle.std.specs.Prelude.{sum_by, is_some, slice_index}
 use Rattle.std.proofs.lemmas.List.{length-map}
 use Rattle.cam_types.specs.Topology.{Topology}
 use Rattle.cam_types.specs.declared.device.Device.{Device}
@@ -17,9 +17,10 @@ use Rattle.round_net.specs.Sound.{IsSound}
 use Rattle.round_net.specs.Schedules.{IsAdmissible, cost}
 use Rattle.round_net.specs.Value.{Pricing, ProvesBest}
 use Rattle.round_net.specs.Nets.{net_of, instance_of, live_of}
+use Rattle.round_net.specs.PriceRows.{PriceRows, pricing_of_rows, IsPriced, IsPricingFor}
 use Rattle.price_check.proofs.DualityLemmas.{best_where_proved}
-use Rattle.audit_report.specs.Report.{summary_text, plan_text}
-use Rattle.audit_report.specs.Audit.{IsAudit}
+use Rattle.price_check.specs.Verdicts.{IsBest}
+use Rattle.audit_report.specs.Audit.{audit_text, IsAudit}
 use Rattle.audit_report.proofs.CostLemmas.{cost-live}
 
 pub nothing_more : (text : List ℕ) → text ≡ text ++ []
@@ -40,24 +41,25 @@ live_known c es e =
 pub live_is_known : (c : Topology) (es : List Event) → unsent es ≡ None → live_cost es ≡ None → ⊥
 live_is_known c es e n = let known = live_known c es e in absurd (cc)
 
-live_is : (c : Topology) (es : List Event) (live : ℕ) → unsent es ≡ None → live_cost es ≡ Some live → live ≡ cost (instance_of c es) (live_of c es)
-live_is c es live e is = let known = live_known c es e in cc
+pub live_is : (c : Topology) (es : List Event) (n : NetRows) (live : ℕ) → n ≡ net_of c es → unsent es ≡ None → live_cost es ≡ Some live → live ≡ cost (instance_of_rows n) (live_of_rows n)
+live_is c es n live e sent is =
+    let known = live_known c es sent in
+    let there : live ≡ cost (instance_of c es) (live_of c es) = cc in
+    there ∙ ap (λ k. cost (instance_of_rows k) (live_of_rows k)) (sym e)
 
 -- a best schedule costs no more than the live one
-pub least_le_live : (c : Topology) (es : List Event) (n : NetRows) (live least : ℕ) (f : ℕ → ℕ) (p : Pricing) → n ≡ net_of c es → unsent es ≡ None →
-    IsSound (instance_of_rows n) (live_of_rows n) → ProvesBest (instance_of_rows n) f p → live_cost es ≡ Some live → least ≡ cost (instance_of_rows n) f → least ≤ live
-least_le_live c es n live least f p e sent sound proved is cheap =
-    let best : cost (instance_of_rows n) f ≤ cost (instance_of_rows n) (live_of_rows n) = best_where_proved (instance_of_rows n) (live_of_rows n) f p sound proved (live_of_rows n) sound.live_admissible in
-    let costs : live ≡ cost (instance_of_rows n) (live_of_rows n) = live_is c es live sent is ∙ ap (λ k. cost (instance_of_rows k) (live_of_rows k)) (sym e) in
-    omega (arith, best, costs, cheap)
+pub least_le_live : (n : NetRows) (live least : ℕ) (f : ℕ → ℕ) → IsSound (instance_of_rows n) (live_of_rows n) → IsBest (instance_of_rows n) f →
+    live ≡ cost (instance_of_rows n) (live_of_rows n) → least ≡ cost (instance_of_rows n) f → least ≤ live
+least_le_live n live least f sound best is cheap = omega (arith, best (live_of_rows n) sound.live_admissible, is, cheap)
 
-pub is_audit : (summary : Bool) (past : Past) (text : List ℕ) (n : NetRows) (live least : ℕ) (f : ℕ → ℕ) (p : Pricing) → n ≡ net_of past.config past.events →
-    is_legal history_rules past.config past.events ≡ true → IsSound (instance_of_rows n) (live_of_rows n) → ProvesBest (instance_of_rows n) f p →
-    live_cost past.events ≡ Some live → least ≡ cost (instance_of_rows n) f →
-    text ≡ summary_text past.events live least ++ (if summary then [] else plan_text past.config.devices n f p) → IsAudit summary past text
-is_audit summary past text n live least f p e legal sound proved is cheap lines =
+pub is_audit : (summary : Bool) (past : Past) (text : List ℕ) (n : NetRows) (live : ℕ) (f : List ℕ) (p : PriceRows) → n ≡ net_of past.config past.events →
+    is_legal history_rules past.config past.events ≡ true → IsSound (instance_of_rows n) (live_of_rows n) →
+    length f ≡ (instance_of_rows n).stays → IsPricingFor (instance_of_rows n) p → IsPriced p →
+    ProvesBest (instance_of_rows n) (slice_index f) (pricing_of_rows p) → live_cost past.events ≡ Some live →
+    text ≡ audit_text summary past n live (slice_index f) (pricing_of_rows p) → IsAudit summary past text
+is_audit summary past text n live f p e legal sound stays cells priced proved is lines =
     let sound' : IsSound (instance_of past.config past.events) (live_of past.config past.events) = subst (λ k. IsSound (instance_of_rows k) (live_of_rows k)) e sound in
-    let proved' : ProvesBest (instance_of past.config past.events) f p = subst (λ k. ProvesBest (instance_of_rows k) f p) e proved in
+    let proved' : ProvesBest (instance_of past.config past.events) (slice_index f) (pricing_of_rows p) = subst (λ k. ProvesBest (instance_of_rows k) (slice_index f) (pricing_of_rows p)) e proved in
     record {
       live = live;
       best = f;
@@ -65,9 +67,10 @@ is_audit summary past text n live least f p e legal sound proved is cheap lines 
       costs = is;
       free = sends_stand_free history_rules past.config past.events legal;
       admissible = sound'.live_admissible;
+      stays = stays ∙ ap (λ k. (instance_of_rows k).stays) e;
+      cells = subst (λ k. IsPricingFor (instance_of_rows k) p) e cells;
+      priced = priced;
       proved = proved';
-      least = best_where_proved (instance_of past.config past.events) (live_of past.config past.events) f p sound' proved';
-      lines = lines
-          ∙ ap (λ m. summary_text past.events live m ++ (if summary then [] else plan_text past.config.devices n f p)) (cheap ∙ ap (λ k. cost (instance_of_rows k) f) e)
-          ∙ ap (λ k. summary_text past.events live (cost (instance_of past.config past.events) f) ++ (if summary then [] else plan_text past.config.devices k f p)) e;
+      least = best_where_proved (instance_of past.config past.events) (live_of past.config past.events) (slice_index f) (pricing_of_rows p) sound' proved';
+      lines = lines ∙ ap (λ k. audit_text summary past k live (slice_index f) (pricing_of_rows p)) e;
     }

@@ -1,8 +1,9 @@
 -- what the live schedule costs, by the net and by the events
-use Rattle.std.proofs.Common.{◌≡◌, ℕ, zero, suc, ◌+◌, ◌*◌, ◌-◌, List, [], ◌∷◌, length, map, refl, sym, ap, ◌∙◌, arith, Option, Some, None}
+use Rattle.std.proofs.Common.{◌≡◌, ℕ, zero, suc, ◌+◌, ◌*◌, ◌-◌, ◌<◌, ◌≤◌, List, [], ◌∷◌, length, map, refl, sym, ap, ◌∙◌, arith, Option, Some, None}
 use Rattle.std.specs.Prelude.{sum_by}
 use Rattle.std.specs.List.{list_any}
 use Rattle.std.proofs.lemmas.List.Sums.{sum_by-cons}
+use Rattle.std.proofs.lemmas.Nat.{mul-le}
 use Rattle.cam_types.specs.Topology.{Topology}
 use Rattle.event_log.specs.Stays.{passages}
 use Rattle.event_log.specs.Live.{live_part, live_cost}
@@ -10,7 +11,9 @@ use Rattle.event_log.specs.declared.event.Event.{Event}
 use Rattle.event_log.specs.declared.passage.Passage.{Passage}
 use Rattle.round_net.specs.Sums.{sum_below}
 use Rattle.round_net.specs.Rows.{of_stay, instance_of_rows, live_of_rows}
-use Rattle.round_net.specs.Schedules.{cost}
+use Rattle.round_net.specs.Schedules.{IsAdmissible, cost}
+use Rattle.round_net.specs.Instance.{Instance}
+use Rattle.round_net.specs.Sound.{IsSound}
 use Rattle.round_net.specs.Nets.{stay_row, net_of, instance_of, live_of}
 use Rattle.round_net.specs.declared.stay_row.StayRow.{StayRow}
 
@@ -42,3 +45,15 @@ same_parts es ps = refl
 pub cost-live : (c : Topology) (es : List Event) → cost (instance_of c es) (live_of c es) ≡ sum_by (live_part es) (passages es)
 unfolding instance_of_rows live_of_rows net_of
 cost-live c es = rows_sum (map (stay_row es) (passages es)) ∙ sum_by-map (stay_row es) row_cost (passages es) ∙ same_parts es (passages es)
+
+-- an admissible schedule costs at most what 1,024 stays of weight 16 would that wait for 128 rounds
+sum_below-most : (n most : ℕ) (g : ℕ → ℕ) → ((i : ℕ) → i < n → g i ≤ most) → sum_below n g ≤ n * most
+sum_below-most zero most g h = omega arith
+sum_below-most (suc n) most g h = omega (arith, sum_below-most n most g (λ i lt. h i (omega (arith, lt))), h n (omega arith))
+
+pub cost-most : (net : Instance) (live f : ℕ → ℕ) → IsSound net live → IsAdmissible net f → cost net f ≤ 2097152
+cost-most net live f sound fits =
+    let each : sum_below net.stays (λ s. net.weight s * (f s - net.arrival s)) ≤ net.stays * 2048 =
+        sum_below-most net.stays 2048 _ (λ s lt. mul-le (net.weight s) (f s - net.arrival s) 16 128 (sound.small_weight s lt)
+        (omega (arith, fits.not_late s lt, sound.to_last s lt, sound.few_rounds))) in
+    omega (arith, each, sound.few_stays)

@@ -1,6 +1,6 @@
 -- texts put behind one another
 use Rattle.std.proofs.Common.{◌≡◌, ℕ, zero, suc, ◌+◌, List, [], ◌++◌, refl, sym, ap, ◌∙◌, arith, append_assoc, append-nil}
-use Rattle.audit_report.specs.Report.{texts_below}
+use Rattle.price_check.specs.Report.{texts_below}
 
 pub no_text : (text : ℕ → List ℕ) (before : List ℕ) → before ≡ before ++ texts_below 0 text
 no_text text before = sym (append-nil before)

@@ -1,5 +1,5 @@
 -- what an audit of a trace writes
-use Rattle.std.specs.Prelude.{◌≡◌, ℕ, ◌≤◌, ◌++◌, Bool, if◌then◌else◌, List, [], Some, IsTrue}
+use Rattle.std.specs.Prelude.{◌≡◌, ℕ, ◌-◌, ◌≤◌, ◌++◌, Bool, if◌then◌else◌, List, [], length, slice_index, Some, IsTrue}
 use Rattle.std.specs.List.{list_all}
 use Rattle.cam_types.specs.Lists.{moments}
 use Rattle.event_log.specs.Live.{live_cost}
@@ -7,25 +7,30 @@ use Rattle.cam_event.specs.Past.{Past}
 use Rattle.cam_event.specs.Laws.{stands_free}
 use Rattle.round_net.specs.Schedules.{IsAdmissible, cost}
 use Rattle.round_net.specs.Value.{Pricing, ProvesBest}
+use Rattle.round_net.specs.Rows.{NetRows, instance_of_rows}
+use Rattle.round_net.specs.PriceRows.{PriceRows, pricing_of_rows, IsPriced, IsPricingFor}
 use Rattle.round_net.specs.Nets.{net_of, instance_of, live_of}
-use Rattle.audit_report.specs.Report.{summary_text, plan_text}
+use Rattle.price_check.specs.Report.{summary_text, plan_text}
 
 -- the report on a history whose live schedule costs so much, with this schedule and these prices, or its summary alone
-abbrev pub audit_text : Bool → Past → ℕ → (ℕ → ℕ) → Pricing → List ℕ
-audit_text summary past live best prices =
-    summary_text past.events live (cost (instance_of past.config past.events) best)
-    ++ (if summary then [] else plan_text past.config.devices (net_of past.config past.events) best prices)
+abbrev pub audit_text : Bool → Past → NetRows → ℕ → (ℕ → ℕ) → Pricing → List ℕ
+audit_text summary past net live best prices =
+    (let least = cost (instance_of_rows net) best in summary_text past.events live least (live - least))
+    ++ (if summary then [] else plan_text past.config.devices net best prices)
 
 -- The history is complete. Each of its sends stands where its device and adapter were free, and its live schedule is
 -- admissible. The text has a schedule that is admissible at the cost that stands there, and prices that prove by themselves
--- that no admissible schedule costs less.
+-- that no admissible schedule costs less; none is above the most that a report may have.
 pub record IsAudit (summary : Bool) (past : Past) (text : List ℕ) : Type 0 where
   pub live : ℕ
-  pub best : ℕ → ℕ
-  pub prices : Pricing
+  pub best : List ℕ
+  pub prices : PriceRows
   pub costs : live_cost past.events ≡ Some live
   pub free : IsTrue (list_all (stands_free past.config) (moments past.events))
   pub admissible : IsAdmissible (instance_of past.config past.events) (live_of past.config past.events)
-  pub proved : ProvesBest (instance_of past.config past.events) best prices
-  pub least : (other : ℕ → ℕ) → IsAdmissible (instance_of past.config past.events) other → cost (instance_of past.config past.events) best ≤ cost (instance_of past.config past.events) other
-  pub lines : text ≡ audit_text summary past live best prices
+  pub stays : length best ≡ (instance_of past.config past.events).stays
+  pub cells : IsPricingFor (instance_of past.config past.events) prices
+  pub priced : IsPriced prices
+  pub proved : ProvesBest (instance_of past.config past.events) (slice_index best) (pricing_of_rows prices)
+  pub least : (other : ℕ → ℕ) → IsAdmissible (instance_of past.config past.events) other → cost (instance_of past.config past.events) (slice_index best) ≤ cost (instance_of past.config past.events) other
+  pub lines : text ≡ audit_text summary past (net_of past.config past.events) live (slice_index best) (pricing_of_rows prices)

@@ -5,7 +5,7 @@ use Rattle.event_log.specs.Counts.{round, commands}
 use Rattle.event_log.specs.Stays.{passages}
 use Rattle.event_log.specs.Live.{live_cost}
 use Rattle.event_log.specs.declared.event.Event.{Event}
-use Rattle.audit_report.specs.Lines.{line}
+use Rattle.price_check.specs.Lines.{line}
 
 -- the five lines of a complete history, whose live schedule costs so much
 unfoldable pub check_text : List Event → ℕ → List ℕ

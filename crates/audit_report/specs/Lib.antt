@@ -1,5 +1,4 @@
-pub mod Lines
 pub mod Runs
 pub mod Check
-pub mod Report
 pub mod Audit
+pub mod Findings

@@ -6,16 +6,17 @@ ghost use Rattle.round_net.specs.PriceRows.{pricing_of_rows, IsPricingFor};
 ghost use Rattle.round_net.specs.Value.{ProvesBest};
 ghost use Rattle.round_net.specs.Nets.{net_of};
 ghost use Rattle.cam_event.specs.Legal.{history_rules, is_legal};
-ghost use Rattle.audit_report.specs.Report.{plan_text};
+ghost use Rattle.price_check.specs.Report.{plan_text};
 ghost use Rattle.audit_report.specs.Audit.{IsAudit};
 ghost use Rattle.audit_report.specs.Runs.{Ended};
 
 use crate::audit_fault::AuditFault;
+use crate::costs::Costs;
 use crate::report::{push_plan, push_summary};
 use cam_event::History;
 use cam_types::{Watched, write_whole};
 use cost_plan::{BestPlan, plan};
-use round_net::{Net, NetFault, cost};
+use round_net::{Net, NetFault};
 use std::alloc::{AllocError, Global};
 use std::io::{Read, Write};
 use trace_file::read_trace;
@@ -68,14 +69,9 @@ fn audit_text(
     requires cells { IsPricingFor (instance_of_rows net.now) best.now.prices }
     ensures { IfOk result (λ text. IsAudit summary history.now text.items) }
 {
-    let Some(live) = history.live_cost() else {
-        unreachable!()
-    };
-    let Some(least) = cost(net, &best.schedule) else {
-        unreachable!()
-    };
-    let mut text = Vec::with_capacity(alloc, 40 * net.stays() as usize)?;
-    push_summary(&mut text, history, live, least)?;
+    let lines = net.stays() as usize + best.prices.cells();
+    let mut text = Vec::with_capacity(alloc, 40 * lines)?;
+    push_summary(&mut text, history, Costs::of(history, net, &best.schedule))?;
     push_rest(&mut text, history, net, best, summary)?;
     Ok(text)
 }

@@ -4,9 +4,12 @@
 pub use audit::run_audit;
 pub use audit_fault::AuditFault;
 pub use check::run_check;
+pub use finding::Finding;
 
 mod audit;
 mod audit_fault;
 mod check;
+mod costs;
+mod finding;
 mod report;
 mod text;

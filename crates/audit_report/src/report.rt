@@ -1,40 +1,38 @@
 ghost use Rattle.std.specs.Prelude.{◌≡◌, ◌+◌, ◌-◌, ◌<◌, ◌≤◌, ◌++◌, length, slice_index, codes, OnOk, IfOk};
 ghost use Rattle.round_net.specs.Rows.{instance_of_rows};
 ghost use Rattle.round_net.specs.PriceRows.{pricing_of_rows, IsPricingFor};
-ghost use Rattle.audit_report.specs.Report.{summary_text, number_text, texts_below, name_text, stay_line, path_text, price_line, dev_line, sim_line, plan_text};
+ghost use Rattle.price_check.specs.Report.{summary_text, number_text, texts_below, name_text, stay_line, path_text, price_line, dev_line, sim_line, plan_text};
 
-use crate::text::push_line;
+use crate::costs::Costs;
+use crate::text::{push_line, push_name, push_number};
 use cam_event::History;
 use cam_path::CamPath;
 use cam_types::Device;
-use itoa::Buffer;
 use round_net::{Net, Prices, Schedule};
 use std::alloc::AllocError;
 
 /// Puts the report's first seven lines behind the text: the counts of the history, what its live schedule cost, what a
 /// best one costs and by how much the live one is above it.
-#[tactic(auto, unfolding(crate::specs::Report::summary_text))]
+#[tactic(auto, unfolding(price_check::specs::Report::summary_text))]
 pub fn push_summary(
     text: &mut Vec<u8>,
     history: &History,
-    live: u64,
-    best: u64,
+    costs: Costs,
 ) -> Result<(), AllocError>
-    requires { best ≤ live }
-    ensures { OnOk result (text.new.items ≡ text.old.items ++ summary_text history.now.events live best) }
+    ensures { OnOk result (text.new.items ≡ text.old.items ++ summary_text history.now.events costs.live costs.best costs.excess) }
 {
     push_line(text, b"camaudit", 1)?;
     push_line(text, b"commands", u64::from(history.commands()))?;
     push_line(text, b"stays", u64::from(history.stay_count()))?;
     push_line(text, b"rounds", u64::from(history.round()))?;
-    push_line(text, b"live", live)?;
-    push_line(text, b"best", best)?;
-    push_line(text, b"excess", live - best)?;
+    push_line(text, b"live", costs.live)?;
+    push_line(text, b"best", costs.best)?;
+    push_line(text, b"excess", costs.excess)?;
     Ok(())
 }
 
 /// Puts the rest of the report behind the text: the stays, the prices that aren't 0, and the last line.
-#[tactic(auto, unfolding(crate::specs::Report::plan_text))]
+#[tactic(auto, unfolding(price_check::specs::Report::plan_text))]
 pub fn push_plan(
     text: &mut Vec<u8>,
     devices: &[Device],
@@ -64,7 +62,7 @@ fn push_stays(text: &mut Vec<u8>, net: &Net, schedule: &Schedule) -> Result<(), 
     Ok(())
 }
 
-#[tactic(auto, unfolding(crate::specs::Report::stay_line))]
+#[tactic(auto, unfolding(price_check::specs::Report::stay_line, price_check::specs::Report::name_text))]
 fn push_stay(
     text: &mut Vec<u8>,
     net: &Net,
@@ -76,24 +74,12 @@ fn push_stay(
     ensures { OnOk result (text.new.items ≡ text.old.items ++ stay_line net.now (slice_index schedule.now) stay) }
 {
     text.extend_from_slice(b"stay")?;
-    push_name(text, net, stay)?;
+    push_name(text, net.stay(stay))?;
     push_number(text, u64::from(net.arrival(stay)))?;
     push_number(text, u64::from(net.live(stay)))?;
     push_number(text, u64::from(schedule.round(stay)))?;
     push_number(text, u64::from(net.weight(stay)))?;
     text.extend_from_slice(b"\n")?;
-    Ok(())
-}
-
-// Puts a stay's CCB and try behind the text.
-#[tactic(auto, unfolding(crate::specs::Report::name_text))]
-fn push_name(text: &mut Vec<u8>, net: &Net, stay: u32) -> Result<(), AllocError>
-    requires { stay < (instance_of_rows net.now).stays }
-    ensures { OnOk result (text.new.items ≡ text.old.items ++ name_text net.now stay) }
-{
-    let name = net.stay(stay);
-    push_number(text, u64::from(name.ccb))?;
-    push_number(text, u64::from(name.attempt))?;
     Ok(())
 }
 
@@ -133,7 +119,7 @@ fn push_dev_rounds(
     Ok(())
 }
 
-#[tactic(auto, unfolding(crate::specs::Report::dev_line))]
+#[tactic(auto, unfolding(price_check::specs::Report::dev_line))]
 fn push_dev_price(
     text: &mut Vec<u8>,
     devices: &[Device],
@@ -158,7 +144,7 @@ fn push_dev_price(
 }
 
 // Puts the path of a device behind the text.
-#[tactic(auto, unfolding(crate::specs::Report::path_text))]
+#[tactic(auto, unfolding(price_check::specs::Report::path_text))]
 fn push_path(text: &mut Vec<u8>, devices: &[Device], device: u32) -> Result<(), AllocError>
     requires { device < length devices.now }
     ensures { OnOk result (text.new.items ≡ text.old.items ++ path_text devices.now device) }
@@ -194,7 +180,7 @@ fn push_sim_rounds(
     Ok(())
 }
 
-#[tactic(auto, unfolding(crate::specs::Report::sim_line))]
+#[tactic(auto, unfolding(price_check::specs::Report::sim_line))]
 fn push_sim_price(
     text: &mut Vec<u8>,
     prices: &Prices,
@@ -222,13 +208,4 @@ fn push_price(text: &mut Vec<u8>, round: u32, price: u64) -> Result<(), AllocErr
     push_number(text, u64::from(round))?;
     push_number(text, price)?;
     text.extend_from_slice(b"\n")
-}
-
-// Puts a space and a number behind the text.
-fn push_number(text: &mut Vec<u8>, number: u64) -> Result<(), AllocError>
-    ensures { OnOk result (text.new.items ≡ text.old.items ++ number_text number) }
-{
-    let mut digits = Buffer::new();
-    text.extend_from_slice(b" ")?;
-    text.extend_from_slice(digits.format(number).as_bytes())
 }

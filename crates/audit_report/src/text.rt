@@ -1,6 +1,8 @@
 ghost use Rattle.std.specs.Prelude.{◌≡◌, ◌++◌, OnOk, IfOk, codes};
-ghost use Rattle.audit_report.specs.Lines.{line};
+ghost use Rattle.price_check.specs.Lines.{line};
+ghost use Rattle.price_check.specs.Report.{number_text};
 
+use cam_event::Stay;
 use itoa::Buffer;
 use std::alloc::AllocError;
 
@@ -13,5 +15,23 @@ pub fn push_line(text: &mut Vec<u8>, word: &[u8], number: u64) -> Result<(), All
     text.extend_from_slice(b" ")?;
     text.extend_from_slice(digits.format(number).as_bytes())?;
     text.extend_from_slice(b"\n")?;
+    Ok(())
+}
+
+// Puts a space and a number behind the text.
+pub fn push_number(text: &mut Vec<u8>, number: u64) -> Result<(), AllocError>
+    ensures { OnOk result (text.new.items ≡ text.old.items ++ number_text number) }
+{
+    let mut digits = Buffer::new();
+    text.extend_from_slice(b" ")?;
+    text.extend_from_slice(digits.format(number).as_bytes())
+}
+
+// Puts a stay's CCB and try behind the text.
+pub fn push_name(text: &mut Vec<u8>, stay: Stay) -> Result<(), AllocError>
+    ensures { OnOk result (text.new.items ≡ text.old.items ++ (number_text stay.ccb ++ number_text stay.attempt)) }
+{
+    push_number(text, u64::from(stay.ccb))?;
+    push_number(text, u64::from(stay.attempt))?;
     Ok(())
 }

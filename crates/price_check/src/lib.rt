@@ -2,10 +2,14 @@
 #![tactic(auto)]
 
 pub use checker::check;
+pub use claim::Claim;
+pub use report_fault::ReportFault;
 pub use verdict::{Cause, Verdict};
 
 mod checker;
+mod claim;
 mod faults;
+mod report_fault;
 #[cfg(test)]
 mod tests;
 mod value;

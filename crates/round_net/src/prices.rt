@@ -27,9 +27,9 @@ impl Model for Prices {
 }
 
 impl Prices {
-    ghost use Rattle.std.specs.Prelude.{◌≡◌, ℕ, ◌<◌, ◌≤◌, ◌↔◌, IsOk, IfOk, OnOk, OnErr};
+    ghost use Rattle.std.specs.Prelude.{◌≡◌, ℕ, ◌+◌, ◌<◌, ◌≤◌, ◌↔◌, length, IsOk, IfOk, OnOk, OnErr};
     ghost use Rattle.round_net.specs.Rows.{instance_of_rows};
-    ghost use Rattle.round_net.specs.PriceRows.{pricing_of_rows, IsPricingFor, SetsDev, SetsSim};
+    ghost use Rattle.round_net.specs.PriceRows.{pricing_of_rows, IsPriced, IsPricingFor, SetsDev, SetsSim};
 
     /// Prices for the net, each of them 0.
     #[tactic(auto, unfolding(crate::specs::PriceRows::pricing_of_rows))]
@@ -47,6 +47,14 @@ impl Prices {
             dev: vec![in alloc; 0; dev_cells]?,
             sim: vec![in alloc; 0; sim_cells]?,
         })
+    }
+
+    /// How many prices there are: one for each round of each device and adapter.
+    pub fn cells(&self) -> usize
+        ensures value { result ≡ length self.now.dev + length self.now.sim }
+        ensures priced { IsPriced self.now }
+    {
+        self.dev.len() + self.sim.len()
     }
 
     /// What an opening of the device is worth in the round.

@@ -1,6 +1,7 @@
 ghost use Rattle.std.specs.Prelude.{◌≡◌, ◌<◌, ◌≤◌, ◌*◌, ◌-◌, ◌^◌, length, slice_index, MatchOption, IfSome};
-ghost use Rattle.round_net.specs.Rows.{instance_of_rows};
+ghost use Rattle.round_net.specs.Rows.{instance_of_rows, live_of_rows};
 ghost use Rattle.round_net.specs.Schedules.{cost, IsEarly, IsNowhereEarly};
+ghost use Rattle.round_net.specs.Sound.{IsSound};
 
 use crate::net::Net;
 use crate::schedule::Schedule;
@@ -9,9 +10,11 @@ use crate::schedule::Schedule;
 /// a stay lies before its arrival. The schedule has to have a round for each stay of the net.
 pub fn cost(net: &Net, schedule: &Schedule) -> Option<u64>
     requires { length schedule.now ≡ (instance_of_rows net.now).stays }
-    ensures { MatchOption result
+    ensures waits { MatchOption result
         (IsEarly (instance_of_rows net.now) (slice_index schedule.now))
         (λ c. IsNowhereEarly (instance_of_rows net.now) (slice_index schedule.now) × (c ≡ cost (instance_of_rows net.now) (slice_index schedule.now))) }
+    ensures small { IfSome result (λ c. c ≤ 2 ^ 46) }
+    ensures sound { IsSound (instance_of_rows net.now) (live_of_rows net.now) }
 {
     let mut total = 0;
     for stay in 0..net.stays() {

@@ -1,15 +1,12 @@
-use Rattle.std.proofs.Common.{refl, sym, ◌∙◌}
-use Rattle.audit_report.proofs.AuditLemmas.{live_is_known, least_le_live, is_audit}
+use Rattle.std.proofs.Common.{refl}
+use Rattle.price_check.proofs.DualityLemmas.{best_where_proved}
+use Rattle.audit_report.proofs.AuditLemmas.{is_audit}
 use Rattle.audit_report.proofs.audit.audit_text.Goals as goal
 
-pub unreachable-requires : goal.unreachable-requires
-unreachable-requires c = live_is_known c.args.history.now.config _ c.requires.complete (sym c.live_cost.ensures ∙ c.in_default.is)
-
-pub push_summary-requires : goal.push_summary-requires
-push_summary-requires c =
-    least_le_live _ _ _ _ _ _ _ c.requires.net c.requires.complete c.stays.ensures.sound c.requires.proved (sym c.live_cost.ensures ∙ c.in-Some.is) c.in-Some-cost.ensures.1
+pub of-requires-clause-best : goal.of-requires-clause-best
+of-requires-clause-best c = best_where_proved _ _ _ _ c.stays.ensures.sound c.requires.proved
 
 pub returns : goal.returns
 returns c =
-    is_audit _ _ _ _ _ _ _ _ c.requires.net c.requires.legal c.stays.ensures.sound c.requires.proved (sym c.live_cost.ensures ∙ c.in-Some.is) c.in-Some-cost.ensures.1
-    (rw (c.in_ok-push_rest.ensures, c.in_ok-push_summary.ensures, c.in_ok-text.ensures.items) refl)
+    is_audit _ _ _ _ _ _ _ c.requires.net c.requires.legal c.stays.ensures.sound c.requires.stays c.requires.cells c.cells.ensures.priced c.requires.proved c.of.ensures.known
+    (rw (c.in_ok-push_rest.ensures, c.in_ok-push_summary.ensures, c.in_ok-text.ensures.items, c.of.ensures.excess, c.of.ensures.best) refl)

@@ -1,7 +1,7 @@
 use Rattle.std.proofs.Common.{◌≡◌, ◌+◌, ◌++◌}
 use Rattle.round_net.specs.Rows.{instance_of_rows}
 use Rattle.round_net.specs.PriceRows.{pricing_of_rows}
-use Rattle.audit_report.specs.Report.{texts_below, sim_line}
+use Rattle.price_check.specs.Report.{texts_below, sim_line}
 use Rattle.audit_report.proofs.report.push_sim_prices.Given as goal
 
 abbrev pub invariant-loop-adapter : goal.invariant-loop-adapter

@@ -1,6 +1,6 @@
 use Rattle.std.proofs.Common.{◌≡◌, ◌++◌}
 use Rattle.std.specs.Prelude.{slice_index}
-use Rattle.audit_report.specs.Report.{texts_below, stay_line}
+use Rattle.price_check.specs.Report.{texts_below, stay_line}
 use Rattle.audit_report.proofs.report.push_stays.Given as goal
 
 abbrev pub invariant-loop-stay : goal.invariant-loop-stay

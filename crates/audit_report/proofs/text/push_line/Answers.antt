@@ -1,5 +1,5 @@
 use Rattle.std.proofs.Common.{◌≡◌, ℕ, List, ◌++◌, append_assoc, refl}
-use Rattle.audit_report.specs.Lines.{line}
+use Rattle.price_check.specs.Lines.{line}
 use Rattle.audit_report.proofs.text.push_line.Goals as goal
 
 regroup : (text word space digits feed : List ℕ) → (((text ++ word) ++ space) ++ digits) ++ feed ≡ text ++ (((word ++ space) ++ digits) ++ feed)

@@ -19,7 +19,7 @@ overflow_sub-gap c =
     let f = slice_index c.args.schedule.now in
     let p = pricing_of_rows c.args.prices.now in
     let le : paid net p ≤ cost net f + offered net p = weak_duality net (live_of_rows c.args.net.now) f p c.first_fault.ensures.sound c.in_default.ensures.found in
-    let costs : c.in-Some-cost.cost ≡ cost net f = c.in-Some-cost.ensures.1 in
+    let costs : c.in-Some-cost.cost ≡ cost net f = c.in-Some-cost.ensures.waits.1 in
     rw (c.paid.ensures.same, c.offered.ensures.same, c.from.ensures, costs) le
 
 pub returns-then-gap-eq0-clause-means : goal.returns-then-gap-eq0-clause-means
@@ -27,7 +27,7 @@ returns-then-gap-eq0-clause-means c =
     let net = instance_of_rows c.args.net.now in
     let f = slice_index c.args.schedule.now in
     let p = pricing_of_rows c.args.prices.now in
-    let costs : c.from.result ≡ cost net f = rw c.from.ensures c.in-Some-cost.ensures.1 in
+    let costs : c.from.result ≡ cost net f = rw c.from.ensures c.in-Some-cost.ensures.waits.1 in
     proof_without_gap net (live_of_rows c.args.net.now) f p c.from.result c.offered.result c.paid.result c.first_fault.ensures.sound c.in_default.ensures.found costs c.offered.ensures.same c.paid.ensures.same c.if-gap-eq0.true
 
 pub returns-then-gap-eq0-clause-best : goal.returns-then-gap-eq0-clause-best
@@ -36,6 +36,6 @@ returns-then-gap-eq0-clause-best c = λ _.
     let f = slice_index c.args.schedule.now in
     let p = pricing_of_rows c.args.prices.now in
     let live = live_of_rows c.args.net.now in
-    let costs : c.from.result ≡ cost net f = rw c.from.ensures c.in-Some-cost.ensures.1 in
+    let costs : c.from.result ≡ cost net f = rw c.from.ensures c.in-Some-cost.ensures.waits.1 in
     best_where_proved net live f p c.first_fault.ensures.sound
     (proof_without_gap net live f p c.from.result c.offered.result c.paid.result c.first_fault.ensures.sound c.in_default.ensures.found costs c.offered.ensures.same c.paid.ensures.same c.if-gap-eq0.true)

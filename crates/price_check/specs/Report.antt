@@ -1,5 +1,5 @@
 -- the report on a history: a schedule, what it costs, and the prices that prove it
-use Rattle.std.specs.Prelude.{ℕ, zero, suc, ◌+◌, ◌-◌, ◌==◌, if◌then◌else◌, List, [], ◌++◌, length, slice_get, codes, decimal}
+use Rattle.std.specs.Prelude.{ℕ, zero, suc, ◌+◌, ◌==◌, if◌then◌else◌, List, [], ◌++◌, length, slice_get, codes, decimal}
 use Rattle.std.specs.Option.{option_map_or}
 use Rattle.cam_types.specs.declared.device.Device.{Device}
 use Rattle.cam_path.specs.Paths.{address_of, spelled}
@@ -10,18 +10,19 @@ use Rattle.event_log.specs.declared.passage.Stay.{Stay}
 use Rattle.round_net.specs.Instance.{Instance}
 use Rattle.round_net.specs.Rows.{NetRows, instance_of_rows, live_of_rows, names_of_rows}
 use Rattle.round_net.specs.Value.{Pricing}
-use Rattle.audit_report.specs.Lines.{line}
+use Rattle.price_check.specs.Lines.{line}
 
--- the first seven lines, where the live schedule costs so much and the best one so much
-unfoldable pub summary_text : List Event → ℕ → ℕ → List ℕ
-summary_text events live best =
+-- the first seven lines: what the history has, what its live schedule cost, and what is said of a best one's cost and of
+-- the excess
+unfoldable pub summary_text : List Event → ℕ → ℕ → ℕ → List ℕ
+summary_text events live best excess =
     line (codes "camaudit") 1
     ++ line (codes "commands") (commands events)
     ++ line (codes "stays") (length (passages events))
     ++ line (codes "rounds") (round events)
     ++ line (codes "live") live
     ++ line (codes "best") best
-    ++ line (codes "excess") (live - best)
+    ++ line (codes "excess") excess
 
 -- a number behind a space
 abbrev pub number_text : ℕ → List ℕ

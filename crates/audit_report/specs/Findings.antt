@@ -1,0 +1,67 @@
+-- what comes of a claim about a history, and the line that says so
+use Rattle.std.specs.Prelude.{◌≡◌, ◌≢◌, ℕ, ◌-◌, ◌++◌, List, slice_index, codes, decimal}
+use Rattle.event_log.specs.declared.passage.Stay.{Stay}
+use Rattle.cam_event.specs.Past.{Past}
+use Rattle.round_net.specs.Schedules.{cost}
+use Rattle.round_net.specs.Value.{ProvesBest}
+use Rattle.round_net.specs.Rows.{names_of_rows}
+use Rattle.round_net.specs.PriceRows.{pricing_of_rows}
+use Rattle.round_net.specs.Nets.{net_of, instance_of, live_of}
+use Rattle.price_check.specs.Report.{number_text}
+use Rattle.price_check.specs.Verdicts.{IsGap, IsRefused}
+use Rattle.price_check.specs.declared.claim.Claim.{Claim}
+use Rattle.price_check.specs.declared.verdict.Cause.{Cause}
+use Rattle.price_check.specs.declared.verdict.Cause.TheVariants.{Early, Late, DeviceFull, AdapterFull}
+use Rattle.audit_report.specs.declared.finding.Finding.{Finding}
+use Rattle.audit_report.specs.declared.finding.Finding.TheVariants.{Proved, Gap, NotAdmissible, WrongBest, WrongExcess}
+
+module _ (past : Past) (claim : Claim) where
+  -- what the claimed schedule costs, and by how much the live one costs more
+  abbrev pub claimed_cost : ℕ
+  claimed_cost = cost (instance_of past.config past.events) (slice_index claim.schedule)
+
+  abbrev pub claimed_excess : ℕ
+  claimed_excess = cost (instance_of past.config past.events) (live_of past.config past.events) - claimed_cost
+
+  -- the claimed prices prove the claimed schedule
+  abbrev pub IsProved : Type 0
+  IsProved = ProvesBest (instance_of past.config past.events) (slice_index claim.schedule) (pricing_of_rows claim.prices)
+
+  -- the claim is right in all: its prices prove its schedule, and its numbers are the schedule's
+  pub record IsRight : Type 0 where
+    pub proved : IsProved
+    pub best : claim.best ≡ claimed_cost
+    pub excess : claim.excess ≡ claimed_excess
+
+  -- what a finding on the claim says
+  abbrev pub Says : Finding → Type 0
+  Says Proved = IsRight
+  Says (Gap gap) = IsGap (instance_of past.config past.events) (slice_index claim.schedule) (pricing_of_rows claim.prices) gap
+  Says (NotAdmissible stay cause) =
+      IsRefused (instance_of past.config past.events) (names_of_rows (net_of past.config past.events)) (slice_index claim.schedule) stay cause
+  Says WrongBest = IsProved × (claim.best ≢ claimed_cost)
+  Says WrongExcess = IsProved × (claim.best ≡ claimed_cost) × (claim.excess ≢ claimed_excess)
+
+-- what is wrong with a stay's place
+abbrev pub cause_text : Cause → List ℕ
+cause_text Early = codes "early"
+cause_text Late = codes "late"
+cause_text DeviceFull = codes "device full"
+cause_text AdapterFull = codes "adapter full"
+
+-- the line on a schedule that costs so much more than the prices are worth
+unfoldable pub gap_text : ℕ → List ℕ
+gap_text gap = codes "not proved: gap " ++ (decimal gap ++ codes "\n")
+
+-- the line on a stay with whose place something is wrong
+unfoldable pub stay_text : Stay → Cause → List ℕ
+stay_text stay cause =
+    codes "not proved: stay" ++ ((number_text stay.ccb ++ number_text stay.attempt) ++ (codes " " ++ (cause_text cause ++ codes "\n")))
+
+-- the line that says a finding
+abbrev pub finding_text : Finding → List ℕ
+finding_text Proved = codes "proved\n"
+finding_text (Gap gap) = gap_text gap
+finding_text (NotAdmissible stay cause) = stay_text stay cause
+finding_text WrongBest = codes "not proved: best\n"
+finding_text WrongExcess = codes "not proved: excess\n"

@@ -3,6 +3,7 @@ use Rattle.std.proofs.Common.{◌≡◌, ℕ, ◌+◌, ◌-◌, ◌≤◌, Bool,
 use Rattle.std.specs.Prelude.{sum_by, is_some, slice_index}
 use Rattle.std.proofs.lemmas.List.{length-map}
 use Rattle.cam_types.specs.Topology.{Topology}
+use Rattle.cam_types.specs.declared.whole.TheConstants.{MOST_BYTES}
 use Rattle.cam_types.specs.declared.device.Device.{Device}
 use Rattle.event_log.specs.Stays.{passages, unsent}
 use Rattle.event_log.specs.Live.{live_part, live_cost}
@@ -56,8 +57,8 @@ pub is_audit : (summary : Bool) (past : Past) (text : List ℕ) (n : NetRows) (l
     is_legal history_rules past.config past.events ≡ true → IsSound (instance_of_rows n) (live_of_rows n) →
     length f ≡ (instance_of_rows n).stays → IsPricingFor (instance_of_rows n) p → IsPriced p →
     ProvesBest (instance_of_rows n) (slice_index f) (pricing_of_rows p) → live_cost past.events ≡ Some live →
-    text ≡ audit_text summary past n live (slice_index f) (pricing_of_rows p) → IsAudit summary past text
-is_audit summary past text n live f p e legal sound stays cells priced proved is lines =
+    length text ≤ MOST_BYTES → text ≡ audit_text summary past n live (slice_index f) (pricing_of_rows p) → IsAudit summary past text
+is_audit summary past text n live f p e legal sound stays cells priced proved is short lines =
     let sound' : IsSound (instance_of past.config past.events) (live_of past.config past.events) = subst (λ k. IsSound (instance_of_rows k) (live_of_rows k)) e sound in
     let proved' : ProvesBest (instance_of past.config past.events) (slice_index f) (pricing_of_rows p) = subst (λ k. ProvesBest (instance_of_rows k) (slice_index f) (pricing_of_rows p)) e proved in
     record {
@@ -72,5 +73,6 @@ is_audit summary past text n live f p e legal sound stays cells priced proved is
       priced = priced;
       proved = proved';
       least = best_where_proved (instance_of past.config past.events) (live_of past.config past.events) (slice_index f) (pricing_of_rows p) sound' proved';
+      short = short;
       lines = lines ∙ ap (λ k. audit_text summary past k live (slice_index f) (pricing_of_rows p)) e;
     }

@@ -54,6 +54,6 @@ sum_below-most (suc n) most g h = omega (arith, sum_below-most n most g (λ i lt
 pub cost-most : (net : Instance) (live f : ℕ → ℕ) → IsSound net live → IsAdmissible net f → cost net f ≤ 2097152
 cost-most net live f sound fits =
     let each : sum_below net.stays (λ s. net.weight s * (f s - net.arrival s)) ≤ net.stays * 2048 =
-        sum_below-most net.stays 2048 _ (λ s lt. mul-le (net.weight s) (f s - net.arrival s) 16 128 (sound.small_weight s lt)
-        (omega (arith, fits.not_late s lt, sound.to_last s lt, sound.few_rounds))) in
+    sum_below-most net.stays 2048 _ (λ s lt. mul-le (net.weight s) (f s - net.arrival s) 16 128 (sound.small_weight s lt)
+    (omega (arith, fits.not_late s lt, sound.to_last s lt, sound.few_rounds))) in
     omega (arith, each, sound.few_stays)

@@ -1,5 +1,9 @@
 -- texts put behind one another
-use Rattle.std.proofs.Common.{◌≡◌, ℕ, zero, suc, ◌+◌, List, [], ◌++◌, refl, sym, ap, ◌∙◌, arith, append_assoc, append-nil}
+use Rattle.std.proofs.Common.{◌≡◌, ℕ, zero, suc, ◌+◌, ◌≤◌, List, [], ◌++◌, length, refl, sym, ap, ◌∙◌, arith, append_assoc, append-nil, length-append}
+use Rattle.std.specs.Prelude.{codes, decimal}
+use Rattle.std.proofs.lemmas.Fmt.{length-decimal-le}
+use Rattle.cam_path.specs.Paths.{Fits, spelled}
+use Rattle.cam_path.specs.declared.path.CamPath.{CamPath}
 use Rattle.price_check.specs.Report.{texts_below}
 
 pub no_text : (text : ℕ → List ℕ) (before : List ℕ) → before ≡ before ++ texts_below 0 text
@@ -9,3 +13,19 @@ pub next_text : (text : ℕ → List ℕ) (n : ℕ) (before so_far next : List �
 next_text text n before so_far next is more =
     let one : n + 1 ≡ suc n = omega arith in
     rw one (more ∙ ap (λ t. t ++ text n) is ∙ append_assoc before (texts_below n text) (text n))
+
+-- a device's path has at most 15 bytes
+length-spelled : (p : CamPath) → Fits p → length (spelled p) ≤ 15
+unfolding spelled
+length-spelled p fits =
+    omega (
+      arith,
+      length-append (decimal p.bus) (codes ":" ++ (decimal p.target ++ (codes ":" ++ decimal p.lun))),
+      length-append (decimal p.target) (codes ":" ++ decimal p.lun),
+      length-decimal-le 3 p.bus (omega arith) (omega (arith, fits.bus)) (omega (arith, fits.bus)),
+      length-decimal-le 5 p.target (omega arith) (omega (arith, fits.target)) (omega (arith, fits.target)),
+      length-decimal-le 5 p.lun (omega arith) (omega (arith, fits.lun)) (omega (arith, fits.lun)),
+    )
+
+pub path_behind : (p : CamPath) (before text : List ℕ) → Fits p → text ≡ before ++ spelled p → length text ≤ length before + 15
+path_behind p before text fits is = omega (arith, ap length is, length-append before (spelled p), length-spelled p fits)

@@ -2,6 +2,7 @@
 use Rattle.std.specs.Prelude.{◌≡◌, ℕ, ◌-◌, ◌≤◌, ◌++◌, Bool, if◌then◌else◌, List, [], length, slice_index, Some, IsTrue}
 use Rattle.std.specs.List.{list_all}
 use Rattle.cam_types.specs.Lists.{moments}
+use Rattle.cam_types.specs.declared.whole.TheConstants.{MOST_BYTES}
 use Rattle.event_log.specs.Live.{live_cost}
 use Rattle.cam_event.specs.Past.{Past}
 use Rattle.cam_event.specs.Laws.{stands_free}
@@ -20,7 +21,7 @@ audit_text summary past net live best prices =
 
 -- The history is complete. Each of its sends stands where its device and adapter were free, and its live schedule is
 -- admissible. The text has a schedule that is admissible at the cost that stands there, and prices that prove by themselves
--- that no admissible schedule costs less; none is above the most that a report may have.
+-- that no admissible schedule costs less. It isn't longer than a report may be.
 pub record IsAudit (summary : Bool) (past : Past) (text : List ℕ) : Type 0 where
   pub live : ℕ
   pub best : List ℕ
@@ -33,4 +34,5 @@ pub record IsAudit (summary : Bool) (past : Past) (text : List ℕ) : Type 0 whe
   pub priced : IsPriced prices
   pub proved : ProvesBest (instance_of past.config past.events) (slice_index best) (pricing_of_rows prices)
   pub least : (other : ℕ → ℕ) → IsAdmissible (instance_of past.config past.events) other → cost (instance_of past.config past.events) (slice_index best) ≤ cost (instance_of past.config past.events) other
+  pub short : length text ≤ MOST_BYTES
   pub lines : text ≡ audit_text summary past (net_of past.config past.events) live (slice_index best) (pricing_of_rows prices)

@@ -7,7 +7,7 @@ use Rattle.event_log.specs.Stays.{unsent}
 use Rattle.event_log.specs.declared.passage.Stay.{Stay}
 use Rattle.trace_file.specs.Trace.{WasTrace, Explains}
 use Rattle.audit_report.specs.declared.audit_fault.AuditFault.{AuditFault}
-use Rattle.audit_report.specs.declared.audit_fault.AuditFault.TheVariants.{Trace, Unsent, WriteFailed, OutOfMemory}
+use Rattle.audit_report.specs.declared.audit_fault.AuditFault.TheVariants.{Trace, Unsent, Report, WriteFailed, OutOfMemory}
 
 -- a trace was read, and this is the first of its stays that has no send
 pub record WasUnsent (before after : Option (List ℕ)) (s : Stay) : Type 0 where
@@ -39,5 +39,6 @@ module _ (IsRight : Past → List ℕ → Type 0) where
   Ended before after failed out out' out_failed (Ok u) = Wrote before after out out'
   Ended before after failed out out' out_failed (Err (Trace fault)) = Explains before after failed fault × (out' ≡ out)
   Ended before after failed out out' out_failed (Err (Unsent s)) = WasUnsent before after s × (out' ≡ out)
+  Ended before after failed out out' out_failed (Err (Report fault)) = ⊥
   Ended before after failed out out' out_failed (Err WriteFailed) = WroteFront before after out out' out_failed
   Ended before after failed out out' out_failed (Err OutOfMemory) = out' ≡ out

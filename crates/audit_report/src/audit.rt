@@ -1,4 +1,4 @@
-ghost use Rattle.std.specs.Prelude.{◌≡◌, true, false, if◌then◌else◌, None, [], ◌++◌, length, slice_index, IfOk, OnOk};
+ghost use Rattle.std.specs.Prelude.{◌≡◌, ◌+◌, ◌≤◌, true, false, if◌then◌else◌, None, [], ◌++◌, length, slice_index, IfOk, OnOk};
 ghost use Rattle.cam_types.specs.Watched.{device_of, has_failed, is_flushed};
 ghost use Rattle.event_log.specs.Stays.{unsent};
 ghost use Rattle.round_net.specs.Rows.{instance_of_rows};
@@ -88,7 +88,8 @@ fn push_rest(
     requires net { net.now ≡ net_of history.now.config history.now.events }
     requires stays { length best.now.schedule ≡ (instance_of_rows net.now).stays }
     requires cells { IsPricingFor (instance_of_rows net.now) best.now.prices }
-    ensures { OnOk result (text.new.items ≡ text.old.items ++ (if summary then [] else plan_text history.now.config.devices net.now (slice_index best.now.schedule) (pricing_of_rows best.now.prices))) }
+    ensures text { OnOk result (text.new.items ≡ text.old.items ++ (if summary then [] else plan_text history.now.config.devices net.now (slice_index best.now.schedule) (pricing_of_rows best.now.prices))) }
+    ensures short { OnOk result (length text.new.items ≤ length text.old.items + 1000000) }
 {
     if summary {
         return Ok(());

@@ -2,6 +2,7 @@ ghost use Rattle.std.specs.Prelude.{◌≡◌};
 ghost use Rattle.audit_report.specs.declared.audit_fault.AuditFault.TheVariants.{OutOfMemory};
 
 use cam_event::Stay;
+use price_check::ReportFault;
 use std::alloc::AllocError;
 use thiserror::Error;
 use trace_file::TraceFault;
@@ -15,6 +16,9 @@ pub enum AuditFault {
     /// The history isn't complete: this is the first of its stays, by birth, that has no send.
     #[error("unsent ccb {} try {}", .0.ccb, .0.attempt)]
     Unsent(Stay),
+    /// The report isn't one of the history, or wasn't read.
+    #[error("{0}")]
+    Report(ReportFault),
     /// A write failed. A part of the text may have been written, from its start.
     #[error("write failed")]
     WriteFailed,

@@ -45,11 +45,13 @@ impl Finding {
         ensures right { IfOk result (λ finding. IsRight history.now claim.now → finding ≡ Finding.Proved) }
     {
         let mut counts = vec![in alloc; 0u32; net.cells()]?;
-        Ok(match check(net, &claim.schedule, &claim.prices, &mut counts) {
-            Verdict::Proved => Finding::of_numbers(history, net, claim),
-            Verdict::Gap(gap) => Finding::Gap(gap),
-            Verdict::NotAdmissible(stay, cause) => Finding::NotAdmissible(stay, cause),
-        })
+        Ok(
+            match check(net, &claim.schedule, &claim.prices, &mut counts) {
+                Verdict::Proved => Finding::of_numbers(history, net, claim),
+                Verdict::Gap(gap) => Finding::Gap(gap),
+                Verdict::NotAdmissible(stay, cause) => Finding::NotAdmissible(stay, cause),
+            },
+        )
     }
 
     // What comes of the numbers that stand beside a best schedule.

@@ -14,12 +14,9 @@ use std::alloc::AllocError;
 /// Puts the report's first seven lines behind the text: the counts of the history, what its live schedule cost, what a
 /// best one costs and by how much the live one is above it.
 #[tactic(auto, unfolding(price_check::specs::Report::summary_text))]
-pub fn push_summary(
-    text: &mut Vec<u8>,
-    history: &History,
-    costs: Costs,
-) -> Result<(), AllocError>
-    ensures { OnOk result (text.new.items ≡ text.old.items ++ summary_text history.now.events costs.live costs.best costs.excess) }
+pub fn push_summary(text: &mut Vec<u8>, history: &History, costs: Costs) -> Result<(), AllocError>
+    ensures text { OnOk result (text.new.items ≡ text.old.items ++ summary_text history.now.events costs.live costs.best costs.excess) }
+    ensures short { OnOk result (length text.new.items ≤ length text.old.items + 350) }
 {
     push_line(text, b"camaudit", 1)?;
     push_line(text, b"commands", u64::from(history.commands()))?;
@@ -43,7 +40,8 @@ pub fn push_plan(
     requires schedule { length schedule.now ≡ (instance_of_rows net.now).stays }
     requires prices { IsPricingFor (instance_of_rows net.now) prices.now }
     requires devices { length devices.now ≡ (instance_of_rows net.now).devices }
-    ensures { OnOk result (text.new.items ≡ text.old.items ++ plan_text devices.now net.now (slice_index schedule.now) (pricing_of_rows prices.now)) }
+    ensures text { OnOk result (text.new.items ≡ text.old.items ++ plan_text devices.now net.now (slice_index schedule.now) (pricing_of_rows prices.now)) }
+    ensures short { OnOk result (length text.new.items ≤ length text.old.items + 1000000) }
 {
     push_stays(text, net, schedule)?;
     push_dev_prices(text, devices, net, prices)?;
@@ -54,7 +52,8 @@ pub fn push_plan(
 #[tactic(auto, using(crate::proofs::ReportLemmas::no_text, crate::proofs::ReportLemmas::next_text))]
 fn push_stays(text: &mut Vec<u8>, net: &Net, schedule: &Schedule) -> Result<(), AllocError>
     requires { length schedule.now ≡ (instance_of_rows net.now).stays }
-    ensures { OnOk result (text.new.items ≡ text.old.items ++ texts_below (instance_of_rows net.now).stays (stay_line net.now (slice_index schedule.now))) }
+    ensures text { OnOk result (text.new.items ≡ text.old.items ++ texts_below (instance_of_rows net.now).stays (stay_line net.now (slice_index schedule.now))) }
+    ensures short { OnOk result (length text.new.items ≤ length text.old.items + 270000) }
 {
     for stay in 0..net.stays() {
         push_stay(text, net, schedule, stay)?;
@@ -71,7 +70,8 @@ fn push_stay(
 ) -> Result<(), AllocError>
     requires schedule { length schedule.now ≡ (instance_of_rows net.now).stays }
     requires stay { stay < (instance_of_rows net.now).stays }
-    ensures { OnOk result (text.new.items ≡ text.old.items ++ stay_line net.now (slice_index schedule.now) stay) }
+    ensures text { OnOk result (text.new.items ≡ text.old.items ++ stay_line net.now (slice_index schedule.now) stay) }
+    ensures short { OnOk result (length text.new.items ≤ length text.old.items + 260) }
 {
     text.extend_from_slice(b"stay")?;
     push_name(text, net.stay(stay))?;
@@ -92,7 +92,8 @@ fn push_dev_prices(
 ) -> Result<(), AllocError>
     requires prices { IsPricingFor (instance_of_rows net.now) prices.now }
     requires devices { length devices.now ≡ (instance_of_rows net.now).devices }
-    ensures { OnOk result (text.new.items ≡ text.old.items ++ texts_below (instance_of_rows net.now).devices (λ d. texts_below (instance_of_rows net.now).rounds (λ r. dev_line devices.now (pricing_of_rows prices.now) d (r + 1)))) }
+    ensures text { OnOk result (text.new.items ≡ text.old.items ++ texts_below (instance_of_rows net.now).devices (λ d. texts_below (instance_of_rows net.now).rounds (λ r. dev_line devices.now (pricing_of_rows prices.now) d (r + 1)))) }
+    ensures short { OnOk result (length text.new.items ≤ length text.old.items + 320000) }
 {
     for device in 0..net.devices() {
         push_dev_rounds(text, devices, net, prices, device)?;
@@ -111,7 +112,8 @@ fn push_dev_rounds(
     requires prices { IsPricingFor (instance_of_rows net.now) prices.now }
     requires devices { length devices.now ≡ (instance_of_rows net.now).devices }
     requires device { device < (instance_of_rows net.now).devices }
-    ensures { OnOk result (text.new.items ≡ text.old.items ++ texts_below (instance_of_rows net.now).rounds (λ r. dev_line devices.now (pricing_of_rows prices.now) device (r + 1))) }
+    ensures text { OnOk result (text.new.items ≡ text.old.items ++ texts_below (instance_of_rows net.now).rounds (λ r. dev_line devices.now (pricing_of_rows prices.now) device (r + 1))) }
+    ensures short { OnOk result (length text.new.items ≤ length text.old.items + 20000) }
 {
     for round in 0..net.rounds() {
         push_dev_price(text, devices, prices, device, round + 1)?;
@@ -131,7 +133,8 @@ fn push_dev_price(
     requires named { device < length devices.now }
     requires first { 1 ≤ round }
     requires last { round ≤ prices.now.rounds }
-    ensures { OnOk result (text.new.items ≡ text.old.items ++ dev_line devices.now (pricing_of_rows prices.now) device round) }
+    ensures text { OnOk result (text.new.items ≡ text.old.items ++ dev_line devices.now (pricing_of_rows prices.now) device round) }
+    ensures short { OnOk result (length text.new.items ≤ length text.old.items + 156) }
 {
     let price = prices.dev(device, round);
     if price == 0 {
@@ -147,15 +150,18 @@ fn push_dev_price(
 #[tactic(auto, unfolding(price_check::specs::Report::path_text))]
 fn push_path(text: &mut Vec<u8>, devices: &[Device], device: u32) -> Result<(), AllocError>
     requires { device < length devices.now }
-    ensures { OnOk result (text.new.items ≡ text.old.items ++ path_text devices.now device) }
+    ensures text { OnOk result (text.new.items ≡ text.old.items ++ path_text devices.now device) }
+    ensures short { OnOk result (length text.new.items ≤ length text.old.items + 15) }
 {
-    CamPath::of(&devices[device as usize]).write(text)
+    CamPath::of(&devices[device as usize]).write(text)?;
+    Ok(())
 }
 
 #[tactic(auto, using(crate::proofs::ReportLemmas::no_text, crate::proofs::ReportLemmas::next_text))]
 fn push_sim_prices(text: &mut Vec<u8>, net: &Net, prices: &Prices) -> Result<(), AllocError>
     requires { IsPricingFor (instance_of_rows net.now) prices.now }
-    ensures { OnOk result (text.new.items ≡ text.old.items ++ texts_below (instance_of_rows net.now).adapters (λ a. texts_below (instance_of_rows net.now).rounds (λ r. sim_line (pricing_of_rows prices.now) a (r + 1)))) }
+    ensures text { OnOk result (text.new.items ≡ text.old.items ++ texts_below (instance_of_rows net.now).adapters (λ a. texts_below (instance_of_rows net.now).rounds (λ r. sim_line (pricing_of_rows prices.now) a (r + 1)))) }
+    ensures short { OnOk result (length text.new.items ≤ length text.old.items + 80000) }
 {
     for adapter in 0..net.adapters() {
         push_sim_rounds(text, net, prices, adapter)?;
@@ -172,7 +178,8 @@ fn push_sim_rounds(
 ) -> Result<(), AllocError>
     requires prices { IsPricingFor (instance_of_rows net.now) prices.now }
     requires adapter { adapter < (instance_of_rows net.now).adapters }
-    ensures { OnOk result (text.new.items ≡ text.old.items ++ texts_below (instance_of_rows net.now).rounds (λ r. sim_line (pricing_of_rows prices.now) adapter (r + 1))) }
+    ensures text { OnOk result (text.new.items ≡ text.old.items ++ texts_below (instance_of_rows net.now).rounds (λ r. sim_line (pricing_of_rows prices.now) adapter (r + 1))) }
+    ensures short { OnOk result (length text.new.items ≤ length text.old.items + 20000) }
 {
     for round in 0..net.rounds() {
         push_sim_price(text, prices, adapter, round + 1)?;
@@ -190,7 +197,8 @@ fn push_sim_price(
     requires adapter { adapter < prices.now.adapters }
     requires first { 1 ≤ round }
     requires last { round ≤ prices.now.rounds }
-    ensures { OnOk result (text.new.items ≡ text.old.items ++ sim_line (pricing_of_rows prices.now) adapter round) }
+    ensures text { OnOk result (text.new.items ≡ text.old.items ++ sim_line (pricing_of_rows prices.now) adapter round) }
+    ensures short { OnOk result (length text.new.items ≤ length text.old.items + 156) }
 {
     let price = prices.sim(adapter, round);
     if price == 0 {
@@ -203,7 +211,8 @@ fn push_sim_price(
 
 // Puts the end of a price's line behind the text.
 fn push_price(text: &mut Vec<u8>, round: u32, price: u64) -> Result<(), AllocError>
-    ensures { OnOk result (text.new.items ≡ text.old.items ++ (number_text round ++ (number_text price ++ codes "\n"))) }
+    ensures text { OnOk result (text.new.items ≡ text.old.items ++ (number_text round ++ (number_text price ++ codes "\n"))) }
+    ensures short { OnOk result (length text.new.items ≤ length text.old.items + 83) }
 {
     push_number(text, u64::from(round))?;
     push_number(text, price)?;

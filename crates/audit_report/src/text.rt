@@ -1,4 +1,4 @@
-ghost use Rattle.std.specs.Prelude.{◌≡◌, ◌++◌, OnOk, IfOk, codes};
+ghost use Rattle.std.specs.Prelude.{◌≡◌, ◌+◌, ◌≤◌, ◌++◌, length, OnOk, IfOk, codes};
 ghost use Rattle.price_check.specs.Lines.{line};
 ghost use Rattle.price_check.specs.Report.{number_text};
 
@@ -8,7 +8,8 @@ use std::alloc::AllocError;
 
 // Puts a line of a word and a number behind the text.
 pub fn push_line(text: &mut Vec<u8>, word: &[u8], number: u64) -> Result<(), AllocError>
-    ensures { OnOk result (text.new.items ≡ text.old.items ++ line word.now number) }
+    ensures text { OnOk result (text.new.items ≡ text.old.items ++ line word.now number) }
+    ensures short { OnOk result (length text.new.items ≤ length text.old.items + (length word.now + 42)) }
 {
     let mut digits = Buffer::new();
     text.extend_from_slice(word)?;
@@ -20,7 +21,8 @@ pub fn push_line(text: &mut Vec<u8>, word: &[u8], number: u64) -> Result<(), All
 
 // Puts a space and a number behind the text.
 pub fn push_number(text: &mut Vec<u8>, number: u64) -> Result<(), AllocError>
-    ensures { OnOk result (text.new.items ≡ text.old.items ++ number_text number) }
+    ensures text { OnOk result (text.new.items ≡ text.old.items ++ number_text number) }
+    ensures short { OnOk result (length text.new.items ≤ length text.old.items + 41) }
 {
     let mut digits = Buffer::new();
     text.extend_from_slice(b" ")?;
@@ -29,7 +31,8 @@ pub fn push_number(text: &mut Vec<u8>, number: u64) -> Result<(), AllocError>
 
 // Puts a stay's CCB and try behind the text.
 pub fn push_name(text: &mut Vec<u8>, stay: Stay) -> Result<(), AllocError>
-    ensures { OnOk result (text.new.items ≡ text.old.items ++ (number_text stay.ccb ++ number_text stay.attempt)) }
+    ensures text { OnOk result (text.new.items ≡ text.old.items ++ (number_text stay.ccb ++ number_text stay.attempt)) }
+    ensures short { OnOk result (length text.new.items ≤ length text.old.items + 82) }
 {
     push_number(text, u64::from(stay.ccb))?;
     push_number(text, u64::from(stay.attempt))?;

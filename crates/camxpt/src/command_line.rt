@@ -9,10 +9,11 @@ pub fn command_line<'a>(alloc: Global) -> Result<Command<'a>, AllocError> {
             "Audits recorded traces of a CAM transport. Without a word it prints the summary of the audit of the trace on standard input.",
         )
         .after_help(
-            "Exit status: 0 done, 2 refused words, 3 refused input, 4 a file, read or write that failed, 5 no memory",
+            "Exit status: 0 done, 1 not proved, 2 refused words, 3 refused input, 4 a file, read or write that failed, 5 no memory",
         )
         .subcommand(check(alloc)?)?
-        .subcommand(audit(alloc)?)
+        .subcommand(audit(alloc)?)?
+        .subcommand(prove(alloc)?)
 }
 
 fn check<'a>(alloc: Global) -> Result<Command<'a>, AllocError> {
@@ -34,6 +35,24 @@ fn audit<'a>(alloc: Global) -> Result<Command<'a>, AllocError> {
         .after_help("Example: camxpt audit examples/frozen-device.csv")
         .arg(summary)?
         .arg(trace(alloc))
+}
+
+fn prove<'a>(alloc: Global) -> Result<Command<'a>, AllocError> {
+    let trace = Arg::new(alloc, "TRACE")
+        .required(true)
+        .help("The recorded trace");
+    let report = Arg::new(alloc, "REPORT")
+        .required(true)
+        .help("A report on it, by audit or by anyone else");
+    Command::new(alloc, "prove")
+        .about(
+            "Says whether the prices of a report prove that its schedule is a best one, whoever made it",
+        )
+        .after_help(
+            "Example: camxpt prove examples/frozen-device.csv examples/frozen-device.report",
+        )
+        .arg(trace)?
+        .arg(report)
 }
 
 fn trace<'a>(alloc: Global) -> Arg<'a> {

@@ -1,4 +1,5 @@
 use audit_report::AuditFault;
+use price_check::ReportFault;
 use std::fmt;
 use std::process::ExitCode;
 use trace_file::TraceFault;
@@ -20,6 +21,7 @@ impl Failure {
             Failure::CannotOpen => 4,
             Failure::Audit(AuditFault::Trace(fault)) => trace_status(fault),
             Failure::Audit(AuditFault::Unsent(_)) => 3,
+            Failure::Audit(AuditFault::Report(fault)) => report_status(fault),
             Failure::Audit(AuditFault::WriteFailed) => 4,
             Failure::Audit(AuditFault::OutOfMemory) => 5,
         })
@@ -30,6 +32,14 @@ fn trace_status(fault: &TraceFault) -> u8 {
     match fault {
         TraceFault::ReadFailed => 4,
         TraceFault::OutOfMemory => 5,
+        _ => 3,
+    }
+}
+
+fn report_status(fault: &ReportFault) -> u8 {
+    match fault {
+        ReportFault::ReadFailed => 4,
+        ReportFault::OutOfMemory => 5,
         _ => 3,
     }
 }

@@ -6,6 +6,7 @@ use std::process::ExitCode;
 mod command_line;
 mod failure;
 mod program;
+mod prove;
 mod trace_run;
 
 fn main(rt: HostRuntime) -> ExitCode {

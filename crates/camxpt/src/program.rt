@@ -1,5 +1,6 @@
 use crate::command_line::command_line;
 use crate::failure::Failure;
+use crate::prove::prove;
 use crate::trace_run::TraceRun;
 use audit_report::AuditFault;
 use clap::ArgMatches;
@@ -22,7 +23,7 @@ pub fn run<R: Runtime + AllocGlobal>(rt: &R) -> ExitCode {
     };
     match command.try_get_matches_from(words.as_slice()) {
         Ok(matches) => match obey(rt, &matches) {
-            Ok(()) => ExitCode::SUCCESS,
+            Ok(status) => status,
             Err(failure) => fail(rt, failure),
         },
         Err(error) if error.kind() == ErrorKind::OutOfMemory => fail(
@@ -36,7 +37,8 @@ pub fn run<R: Runtime + AllocGlobal>(rt: &R) -> ExitCode {
     }
 }
 
-fn obey<R: Runtime + AllocGlobal>(rt: &R, matches: &ArgMatches<'_>) -> Result<(), Failure> {
+// The exit status where nothing failed: 1 for a report that isn't proved, else 0.
+fn obey<R: Runtime + AllocGlobal>(rt: &R, matches: &ArgMatches<'_>) -> Result<ExitCode, Failure> {
     match matches.subcommand() {
         Some(("check", words)) => TraceRun::Check.over(rt, words.get_str("TRACE"))?,
         Some(("audit", words)) => {
@@ -47,9 +49,16 @@ fn obey<R: Runtime + AllocGlobal>(rt: &R, matches: &ArgMatches<'_>) -> Result<()
             };
             run.over(rt, words.get_str("TRACE"))?;
         }
+        Some(("prove", words)) => {
+            let trace = words.get_str("TRACE").unwrap_or("");
+            let report = words.get_str("REPORT").unwrap_or("");
+            if !prove(rt, trace, report)? {
+                return Ok(ExitCode::FAILURE);
+            }
+        }
         _ => TraceRun::Summary.over(rt, None)?,
     }
-    Ok(())
+    Ok(ExitCode::SUCCESS)
 }
 
 fn fail<R: Runtime>(rt: &R, failure: Failure) -> ExitCode {

@@ -8,5 +8,5 @@ regroup text words name cause = simp append_assoc
 pub returns : goal.returns
 unfolding stay_text
 returns c =
-    rw (c.in_ok-write_cause.ensures, c.in_ok-push_name.ensures, c.in_ok-extend_from_slice.ensures.items)
+    rw (c.in_ok-write_cause.ensures, c.in_ok-push_name.ensures.text, c.in_ok-extend_from_slice.ensures.items)
     (regroup c.args.text.now.items _ _ _)

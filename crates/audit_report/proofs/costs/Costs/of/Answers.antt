@@ -19,5 +19,5 @@ returns-clause-live c = live_is _ _ _ _ c.requires.net c.requires.complete (sym 
 pub returns-clause-small : goal.returns-clause-small
 returns-clause-small c =
     let is : c.in-Some.live ≡ cost (instance_of_rows c.args.net.now) (live_of_rows c.args.net.now) =
-        live_is _ _ _ _ c.requires.net c.requires.complete (sym c.live_cost.ensures ∙ c.in-Some.is) in
+    live_is _ _ _ _ c.requires.net c.requires.complete (sym c.live_cost.ensures ∙ c.in-Some.is) in
     omega (arith, is, cost-most _ _ _ c.cost.ensures.sound c.cost.ensures.sound.live_admissible)

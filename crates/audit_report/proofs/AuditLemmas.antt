@@ -1,7 +1,8 @@
 -- what is written of a history with a best plan of its net
-use Rattle.std.proofs.Common.{◌≡◌, ℕ, ◌+◌, ◌-◌, ◌≤◌, Bool, true, false, List, [], ◌++◌, length, map, refl, sym, ap, subst, ◌∙◌, arith, append-nil, Option, Some, None}
-use Rattle.std.specs.Prelude.{sum_by, is_some, slice_index}
+use Rattle.std.proofs.Common.{◌≡◌, ℕ, ◌+◌, ◌-◌, ◌<◌, ◌≤◌, Bool, true, false, List, [], ◌++◌, length, map, refl, sym, ap, subst, ◌∙◌, arith, append-nil, Option, Some, None}
+use Rattle.std.specs.Prelude.{sum_by, is_some, slice_index, if◌then◌else◌, All}
 use Rattle.std.proofs.lemmas.List.{length-map}
+use Rattle.std.proofs.lemmas.List.Elements.{All-from_get_or}
 use Rattle.cam_types.specs.Topology.{Topology}
 use Rattle.cam_types.specs.declared.whole.TheConstants.{MOST_BYTES}
 use Rattle.cam_types.specs.declared.device.Device.{Device}
@@ -14,6 +15,7 @@ use Rattle.cam_event.specs.Past.{Past}
 use Rattle.cam_event.specs.Legal.{history_rules, is_legal}
 use Rattle.cam_event.proofs.LawLemmas.{sends_stand_free}
 use Rattle.round_net.specs.Rows.{NetRows, instance_of_rows, live_of_rows}
+use Rattle.round_net.specs.Instance.{Instance}
 use Rattle.round_net.specs.Sound.{IsSound}
 use Rattle.round_net.specs.Schedules.{IsAdmissible, cost}
 use Rattle.round_net.specs.Value.{Pricing, ProvesBest}
@@ -21,6 +23,9 @@ use Rattle.round_net.specs.Nets.{net_of, instance_of, live_of}
 use Rattle.round_net.specs.PriceRows.{PriceRows, pricing_of_rows, IsPriced, IsPricingFor}
 use Rattle.price_check.proofs.DualityLemmas.{best_where_proved}
 use Rattle.price_check.specs.Verdicts.{IsBest}
+use Rattle.price_check.specs.Claims.{report_text}
+use Rattle.price_check.specs.Report.{summary_text, plan_text}
+use Rattle.price_check.specs.declared.claim.Claim.{Claim}
 use Rattle.audit_report.specs.Audit.{audit_text, IsAudit}
 use Rattle.audit_report.proofs.CostLemmas.{cost-live}
 
@@ -53,26 +58,67 @@ pub least_le_live : (n : NetRows) (live least : ℕ) (f : ℕ → ℕ) → IsSou
     live ≡ cost (instance_of_rows n) (live_of_rows n) → least ≡ cost (instance_of_rows n) f → least ≤ live
 least_le_live n live least f sound best is cheap = omega (arith, best (live_of_rows n) sound.live_admissible, is, cheap)
 
-pub is_audit : (summary : Bool) (past : Past) (text : List ℕ) (n : NetRows) (live : ℕ) (f : List ℕ) (p : PriceRows) → n ≡ net_of past.config past.events →
-    is_legal history_rules past.config past.events ≡ true → IsSound (instance_of_rows n) (live_of_rows n) →
-    length f ≡ (instance_of_rows n).stays → IsPricingFor (instance_of_rows n) p → IsPriced p →
-    ProvesBest (instance_of_rows n) (slice_index f) (pricing_of_rows p) → live_cost past.events ≡ Some live →
-    length text ≤ MOST_BYTES → text ≡ audit_text summary past n live (slice_index f) (pricing_of_rows p) → IsAudit summary past text
-is_audit summary past text n live f p e legal sound stays cells priced proved is short lines =
-    let sound' : IsSound (instance_of past.config past.events) (live_of past.config past.events) = subst (λ k. IsSound (instance_of_rows k) (live_of_rows k)) e sound in
-    let proved' : ProvesBest (instance_of past.config past.events) (slice_index f) (pricing_of_rows p) = subst (λ k. ProvesBest (instance_of_rows k) (slice_index f) (pricing_of_rows p)) e proved in
+-- a claim about a net, on a history whose live schedule cost so much, and the text that was made of it
+pub record IsBestClaim (summary : Bool) (past : Past) (text : List ℕ) (n : NetRows) (live : ℕ) (claim : Claim) : Type 0 where
+  pub sound : IsSound (instance_of_rows n) (live_of_rows n)
+  pub stays : length claim.schedule ≡ (instance_of_rows n).stays
+  pub cells : IsPricingFor (instance_of_rows n) claim.prices
+  pub priced : IsPriced claim.prices
+  pub proved : ProvesBest (instance_of_rows n) (slice_index claim.schedule) (pricing_of_rows claim.prices)
+  pub small : live ≤ 2097152
+  pub lived : live ≡ cost (instance_of_rows n) (live_of_rows n)
+  pub best : claim.best ≡ cost (instance_of_rows n) (slice_index claim.schedule)
+  pub excess : claim.excess ≡ live - claim.best
+  pub made : text ≡ summary_text past.events live claim.best claim.excess
+      ++ (if summary then [] else plan_text past.config.devices n (slice_index claim.schedule) (pricing_of_rows claim.prices))
+
+-- its rounds are few
+rounds_few : (net : Instance) (live : ℕ → ℕ) (f : List ℕ) → IsSound net live → IsAdmissible net (slice_index f) → length f ≡ net.stays → All (λ r. r ≤ 65535) f
+rounds_few net live f sound fits long =
+    All-from_get_or (λ r. r ≤ 65535) f 0
+    (λ s lt. let within : s < net.stays = omega (arith, lt, long) in omega (arith, fits.not_late s within, sound.to_last s within, sound.few_rounds))
+
+text_cases : (summary : Bool) (past : Past) (n : NetRows) (live : ℕ) (claim : Claim) →
+    summary_text past.events live claim.best claim.excess
+    ++ (if summary then [] else plan_text past.config.devices n (slice_index claim.schedule) (pricing_of_rows claim.prices))
+    ≡ audit_text summary past n live claim
+unfolding report_text
+text_cases true past n live claim = append-nil (summary_text past.events live claim.best claim.excess)
+text_cases false past n live claim = refl
+
+audited : (summary : Bool) (past : Past) (text : List ℕ) (live : ℕ) (claim : Claim) → IsBestClaim summary past text (net_of past.config past.events) live claim →
+    is_legal history_rules past.config past.events ≡ true → live_cost past.events ≡ Some live → length text ≤ MOST_BYTES → IsAudit summary past text
+audited summary past text live claim b legal is short =
+    let net = instance_of past.config past.events in
+    let least : (other : ℕ → ℕ) → IsAdmissible net other → cost net (slice_index claim.schedule) ≤ cost net other =
+        best_where_proved net (live_of past.config past.events) (slice_index claim.schedule) (pricing_of_rows claim.prices) b.sound b.proved in
+    let best_few : claim.best ≤ live = omega (arith, least (live_of past.config past.events) b.sound.live_admissible, b.best, b.lived) in
     record {
       live = live;
-      best = f;
-      prices = p;
+      claim = claim;
       costs = is;
       free = sends_stand_free history_rules past.config past.events legal;
-      admissible = sound'.live_admissible;
-      stays = stays ∙ ap (λ k. (instance_of_rows k).stays) e;
-      cells = subst (λ k. IsPricingFor (instance_of_rows k) p) e cells;
-      priced = priced;
-      proved = proved';
-      least = best_where_proved (instance_of past.config past.events) (live_of past.config past.events) (slice_index f) (pricing_of_rows p) sound' proved';
+      admissible = b.sound.live_admissible;
+      claims = record {
+        stays = b.stays;
+        rounds = rounds_few net (live_of past.config past.events) claim.schedule b.sound b.proved.admissible b.stays;
+        pricing = b.cells;
+        priced = b.priced;
+        best = omega (arith, best_few, b.small);
+        excess = omega (arith, b.excess, b.small);
+      };
+      right = record {
+        proved = b.proved;
+        best = b.best;
+        excess = b.excess ∙ ap (λ k. k - claim.best) b.lived ∙ ap (λ k. cost net (live_of past.config past.events) - k) b.best;
+      };
+      least = λ other fits. omega (arith, least other fits, b.best);
       short = short;
-      lines = lines ∙ ap (λ k. audit_text summary past k live (slice_index f) (pricing_of_rows p)) e;
+      lines = b.made ∙ text_cases summary past (net_of past.config past.events) live claim;
     }
+
+pub is_audit : (summary : Bool) (past : Past) (text : List ℕ) (n : NetRows) (live : ℕ) (claim : Claim) → n ≡ net_of past.config past.events →
+    IsBestClaim summary past text n live claim → is_legal history_rules past.config past.events ≡ true → live_cost past.events ≡ Some live →
+    length text ≤ MOST_BYTES → IsAudit summary past text
+is_audit summary past text n live claim e b legal is short =
+    audited summary past text live claim (subst (λ k. IsBestClaim summary past text k live claim) e b) legal is short

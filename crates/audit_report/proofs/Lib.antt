@@ -1,3 +1,4 @@
 pub mod AuditLemmas
 pub mod CostLemmas
+pub mod ProveLemmas
 pub mod ReportLemmas

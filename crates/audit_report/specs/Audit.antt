@@ -1,5 +1,5 @@
 -- what an audit of a trace writes
-use Rattle.std.specs.Prelude.{◌≡◌, ℕ, ◌-◌, ◌≤◌, ◌++◌, Bool, if◌then◌else◌, List, [], length, slice_index, Some, IsTrue}
+use Rattle.std.specs.Prelude.{◌≡◌, ℕ, ◌≤◌, Bool, if◌then◌else◌, List, length, slice_index, Some, IsTrue}
 use Rattle.std.specs.List.{list_all}
 use Rattle.cam_types.specs.Lists.{moments}
 use Rattle.cam_types.specs.declared.whole.TheConstants.{MOST_BYTES}
@@ -7,32 +7,29 @@ use Rattle.event_log.specs.Live.{live_cost}
 use Rattle.cam_event.specs.Past.{Past}
 use Rattle.cam_event.specs.Laws.{stands_free}
 use Rattle.round_net.specs.Schedules.{IsAdmissible, cost}
-use Rattle.round_net.specs.Value.{Pricing, ProvesBest}
-use Rattle.round_net.specs.Rows.{NetRows, instance_of_rows}
-use Rattle.round_net.specs.PriceRows.{PriceRows, pricing_of_rows, IsPriced, IsPricingFor}
+use Rattle.round_net.specs.Rows.{NetRows}
 use Rattle.round_net.specs.Nets.{net_of, instance_of, live_of}
-use Rattle.price_check.specs.Report.{summary_text, plan_text}
+use Rattle.price_check.specs.Claims.{IsClaim, report_text}
+use Rattle.price_check.specs.Report.{summary_text}
+use Rattle.price_check.specs.declared.claim.Claim.{Claim}
+use Rattle.audit_report.specs.Findings.{IsRight}
 
--- the report on a history whose live schedule costs so much, with this schedule and these prices, or its summary alone
-abbrev pub audit_text : Bool → Past → NetRows → ℕ → (ℕ → ℕ) → Pricing → List ℕ
-audit_text summary past net live best prices =
-    (let least = cost (instance_of_rows net) best in summary_text past.events live least (live - least))
-    ++ (if summary then [] else plan_text past.config.devices net best prices)
+-- the report of a claim on a history whose live schedule costs so much, or its summary alone
+abbrev pub audit_text : Bool → Past → NetRows → ℕ → Claim → List ℕ
+audit_text summary past net live claim =
+    if summary then summary_text past.events live claim.best claim.excess else report_text past net live claim
 
 -- The history is complete. Each of its sends stands where its device and adapter were free, and its live schedule is
 -- admissible. The text has a schedule that is admissible at the cost that stands there, and prices that prove by themselves
 -- that no admissible schedule costs less. It isn't longer than a report may be.
 pub record IsAudit (summary : Bool) (past : Past) (text : List ℕ) : Type 0 where
   pub live : ℕ
-  pub best : List ℕ
-  pub prices : PriceRows
+  pub claim : Claim
   pub costs : live_cost past.events ≡ Some live
   pub free : IsTrue (list_all (stands_free past.config) (moments past.events))
   pub admissible : IsAdmissible (instance_of past.config past.events) (live_of past.config past.events)
-  pub stays : length best ≡ (instance_of past.config past.events).stays
-  pub cells : IsPricingFor (instance_of past.config past.events) prices
-  pub priced : IsPriced prices
-  pub proved : ProvesBest (instance_of past.config past.events) (slice_index best) (pricing_of_rows prices)
-  pub least : (other : ℕ → ℕ) → IsAdmissible (instance_of past.config past.events) other → cost (instance_of past.config past.events) (slice_index best) ≤ cost (instance_of past.config past.events) other
+  pub claims : IsClaim (instance_of past.config past.events) claim
+  pub right : IsRight past claim
+  pub least : (other : ℕ → ℕ) → IsAdmissible (instance_of past.config past.events) other → claim.best ≤ cost (instance_of past.config past.events) other
   pub short : length text ≤ MOST_BYTES
-  pub lines : text ≡ audit_text summary past (net_of past.config past.events) live (slice_index best) (pricing_of_rows prices)
+  pub lines : text ≡ audit_text summary past (net_of past.config past.events) live claim

@@ -1,5 +1,5 @@
 -- what comes of a claim about a history, and the line that says so
-use Rattle.std.specs.Prelude.{◌≡◌, ◌≢◌, ℕ, ◌-◌, ◌++◌, List, slice_index, codes, decimal}
+use Rattle.std.specs.Prelude.{◌≡◌, ◌≢◌, ℕ, ◌-◌, ◌++◌, Bool, true, false, List, slice_index, codes, decimal}
 use Rattle.event_log.specs.declared.passage.Stay.{Stay}
 use Rattle.cam_event.specs.Past.{Past}
 use Rattle.round_net.specs.Schedules.{cost}
@@ -41,6 +41,11 @@ module _ (past : Past) (claim : Claim) where
       IsRefused (instance_of past.config past.events) (names_of_rows (net_of past.config past.events)) (slice_index claim.schedule) stay cause
   Says WrongBest = IsProved × (claim.best ≢ claimed_cost)
   Says WrongExcess = IsProved × (claim.best ≡ claimed_cost) × (claim.excess ≢ claimed_excess)
+
+-- it says that the claim is right in all
+abbrev pub is_proved : Finding → Bool
+is_proved Proved = true
+is_proved _ = false
 
 -- what is wrong with a stay's place
 abbrev pub cause_text : Cause → List ℕ

@@ -2,3 +2,4 @@ pub mod Runs
 pub mod Check
 pub mod Audit
 pub mod Findings
+pub mod Prove

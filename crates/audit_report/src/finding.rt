@@ -4,7 +4,7 @@ ghost use Rattle.round_net.specs.Rows.{instance_of_rows};
 ghost use Rattle.round_net.specs.PriceRows.{IsPricingFor};
 ghost use Rattle.round_net.specs.Nets.{net_of};
 ghost use Rattle.price_check.specs.Verdicts.{IsBest};
-ghost use Rattle.audit_report.specs.Findings.{IsProved, IsRight, Says, cause_text, gap_text, stay_text, finding_text};
+ghost use Rattle.audit_report.specs.Findings.{IsProved, IsRight, Says, is_proved, cause_text, gap_text, stay_text, finding_text};
 
 use crate::costs::Costs;
 use crate::text::push_name;
@@ -71,6 +71,16 @@ impl Finding {
             Finding::WrongExcess
         } else {
             Finding::Proved
+        }
+    }
+
+    /// Whether the claim is right in all.
+    pub fn is_proved(self) -> bool
+        ensures { result ≡ is_proved self }
+    {
+        match self {
+            Finding::Proved => true,
+            _ => false,
         }
     }
 

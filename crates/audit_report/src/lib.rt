@@ -5,11 +5,13 @@ pub use audit::run_audit;
 pub use audit_fault::AuditFault;
 pub use check::run_check;
 pub use finding::Finding;
+pub use prove::run_prove;
 
 mod audit;
 mod audit_fault;
 mod check;
 mod costs;
 mod finding;
+mod prove;
 mod report;
 mod text;

@@ -1,5 +1,16 @@
+pub mod CellLaws
 pub mod DualityLemmas
 pub mod FaultLemmas
+pub mod ApartLaws
+pub mod FormLaws
 pub mod LeastLemmas
+pub mod LineLaws
+pub mod OutcomeLaws
+pub mod PieceLaws
+pub mod PriceLaws
+pub mod ReadingLaws
+pub mod ReportLaws
+pub mod SeriesLaws
+pub mod SeriesLemmas
 pub mod SumLemmas
 pub mod TallyLemmas

@@ -1,6 +1,10 @@
+pub mod Claims
 pub mod Faults
+pub mod Forms
 pub mod Least
 pub mod Lines
+pub mod Pieces
+pub mod Reading
 pub mod Report
 pub mod Tally
 pub mod Verdicts

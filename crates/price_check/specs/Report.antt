@@ -7,7 +7,6 @@ use Rattle.event_log.specs.Counts.{round, commands}
 use Rattle.event_log.specs.Stays.{passages}
 use Rattle.event_log.specs.declared.event.Event.{Event}
 use Rattle.event_log.specs.declared.passage.Stay.{Stay}
-use Rattle.round_net.specs.Instance.{Instance}
 use Rattle.round_net.specs.Rows.{NetRows, instance_of_rows, live_of_rows, names_of_rows}
 use Rattle.round_net.specs.Value.{Pricing}
 use Rattle.price_check.specs.Lines.{line}

@@ -1,13 +1,15 @@
 use round_net::{Prices, Schedule};
 
-/// What a report claims: that a schedule is a best one, as prices prove, and what it costs.
+/// What a report says of a net: a best schedule, what it costs, how much more the live one cost, and prices that are to
+/// prove it.
+#[derive(Debug, Drop)]
 pub struct Claim {
-    /// The round in which each stay would best be sent.
+    /// The round that is best for each stay, in order of birth. It may be any round up to 65,535.
     pub schedule: Schedule,
-    /// What the openings of the net are worth.
+    /// What an opening of each device and adapter is worth in each round.
     pub prices: Prices,
-    /// What the schedule is said to cost, in weighted rounds, below 10^18.
+    /// What the schedule is said to cost, below 10^18 weighted rounds.
     pub best: u64,
-    /// How much more the live schedule is said to have cost, below 10^18.
+    /// How much more the live schedule is said to cost, below 10^18 weighted rounds.
     pub excess: u64,
 }

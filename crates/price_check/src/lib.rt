@@ -3,13 +3,20 @@
 
 pub use checker::check;
 pub use claim::Claim;
+pub use reader::read_report;
 pub use report_fault::ReportFault;
 pub use verdict::{Cause, Verdict};
 
 mod checker;
 mod claim;
 mod faults;
+mod forms;
+mod pieces;
+mod price_lines;
+mod reader;
 mod report_fault;
+mod stay_lines;
+mod summary;
 #[cfg(test)]
 mod tests;
 mod value;

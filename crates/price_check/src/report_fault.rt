@@ -1,18 +1,22 @@
+ghost use Rattle.std.specs.Prelude.{◌≡◌};
+ghost use Rattle.price_check.specs.declared.report_fault.ReportFault.TheVariants.{OutOfMemory};
+
+use std::alloc::{AllocError, AllocFailed};
 use thiserror::Error;
 
-/// Why a report wasn't read. Lines are numbered from 1.
-#[derive(Clone, Copy, Debug, PartialEq, Eq, Error)]
+/// Why a text isn't a report on the net. Lines are numbered from 1.
+#[derive(Clone, Copy, Debug, PartialEq, Eq, Hash, Error)]
 pub enum ReportFault {
-    /// The line isn't the one that is due, isn't of its form, is too long, or is missing.
+    /// The line isn't the one due or not of its form, or it is missing.
     #[error("report line {0}: bad line")]
     BadLine(u32),
-    /// A price is above the most, in a line that is otherwise right.
+    /// A line that is otherwise right has a price above 1,000,000,000,000.
     #[error("report line {0}: price range")]
     PriceRange(u32),
-    /// The numbers of a stay, but for its best round, aren't the history's.
+    /// A stay's line says another name, arrival, live round or weight than the net.
     #[error("report line {0}: wrong stay")]
     WrongStays(u32),
-    /// More came than the most that a report may have.
+    /// More than 16,777,216 bytes came.
     #[error("too long")]
     TooLong,
     /// A read failed.
@@ -21,4 +25,20 @@ pub enum ReportFault {
     /// There is no memory left.
     #[error("out of memory")]
     OutOfMemory,
+}
+
+impl From<AllocError> for ReportFault {
+    ghost from_gives = { λ _ e. e ≡ OutOfMemory };
+
+    fn from(_error: AllocError) -> ReportFault {
+        ReportFault::OutOfMemory
+    }
+}
+
+impl<T: Drop> From<AllocFailed<T>> for ReportFault {
+    ghost from_gives = { λ _ e. e ≡ OutOfMemory };
+
+    fn from(_error: AllocFailed<T>) -> ReportFault {
+        ReportFault::OutOfMemory
+    }
 }

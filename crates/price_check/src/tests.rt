@@ -33,8 +33,8 @@ fn done(ccb: u32) -> Event {
     }
 }
 
-// The net of a history of one adapter and so many devices on it, of one opening each.
-fn net(alloc: Global, devices: u16, events: &[Event]) -> Result<Net, Fail> {
+// A history of one adapter and so many devices on it, of one opening each.
+fn history(alloc: Global, devices: u16, events: &[Event]) -> Result<History, Fail> {
     let mut list = Vec::new(alloc);
     for target in 0..devices {
         list.push(Device {
@@ -48,12 +48,17 @@ fn net(alloc: Global, devices: u16, events: &[Event]) -> Result<Net, Fail> {
     for event in events {
         history.push(*event)?;
     }
+    Ok(history)
+}
+
+fn net(alloc: Global, devices: u16, events: &[Event]) -> Result<Net, Fail> {
+    let history = history(alloc, devices, events)?;
     Ok(Net::of(alloc, &history)?)
 }
 
 // One device is free in the first round, and the other one is frozen from the second to the fourth.
-fn frozen(alloc: Global) -> Result<Net, Fail> {
-    net(
+pub(crate) fn frozen_history(alloc: Global) -> Result<History, Fail> {
+    history(
         alloc,
         2,
         &[
@@ -76,6 +81,11 @@ fn frozen(alloc: Global) -> Result<Net, Fail> {
             send(1),
         ],
     )
+}
+
+fn frozen(alloc: Global) -> Result<Net, Fail> {
+    let history = frozen_history(alloc)?;
+    Ok(Net::of(alloc, &history)?)
 }
 
 // The verdict on these rounds, and on a price of the first adapter in the first round.

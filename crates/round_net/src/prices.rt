@@ -27,7 +27,7 @@ impl Model for Prices {
 }
 
 impl Prices {
-    ghost use Rattle.std.specs.Prelude.{◌≡◌, ℕ, ◌+◌, ◌<◌, ◌≤◌, ◌↔◌, length, IsOk, IfOk, OnOk, OnErr};
+    ghost use Rattle.std.specs.Prelude.{◌≡◌, ℕ, ◌+◌, ◌*◌, ◌<◌, ◌≤◌, ◌↔◌, length, All, IsOk, IfOk, OnOk, OnErr};
     ghost use Rattle.round_net.specs.Rows.{instance_of_rows};
     ghost use Rattle.round_net.specs.PriceRows.{pricing_of_rows, IsPriced, IsPricingFor, SetsDev, SetsSim};
 
@@ -47,6 +47,25 @@ impl Prices {
             dev: vec![in alloc; 0; dev_cells]?,
             sim: vec![in alloc; 0; sim_cells]?,
         })
+    }
+
+    /// Prices for the net that stand in lists: those of the first device's rounds, then those of the second one's, and so on,
+    /// and the same of adapters. No price may be above 1,000,000,000,000.
+    #[tactic(auto, unfolding(crate::specs::Rows::instance_of_rows))]
+    pub fn listed(net: &Net, dev: Vec<u64>, sim: Vec<u64>) -> Prices
+        requires dev_cells { let n = instance_of_rows net.now in length dev.items ≡ n.devices * n.rounds }
+        requires sim_cells { let n = instance_of_rows net.now in length sim.items ≡ n.adapters * n.rounds }
+        requires dev_small { All (λ price. price ≤ MOST_PRICE) dev.items }
+        requires sim_small { All (λ price. price ≤ MOST_PRICE) sim.items }
+        ensures { let n = instance_of_rows net.now in result ≡ record { rounds = n.rounds; devices = n.devices; adapters = n.adapters; dev = dev.items; sim = sim.items } }
+    {
+        Prices {
+            rounds: net.rounds(),
+            devices: net.devices(),
+            adapters: net.adapters(),
+            dev,
+            sim,
+        }
     }
 
     /// How many prices there are: one for each round of each device and adapter.

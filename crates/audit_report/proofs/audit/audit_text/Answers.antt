@@ -8,6 +8,19 @@ of-requires-clause-best c = best_where_proved _ _ _ _ c.stays.ensures.sound c.re
 
 pub returns : goal.returns
 returns c =
-    is_audit _ _ _ _ _ _ _ c.requires.net c.requires.legal c.stays.ensures.sound c.requires.stays c.requires.cells c.cells.ensures.priced c.requires.proved c.of.ensures.known
+    is_audit _ _ _ _ _ (record { schedule = c.args.best.now.schedule; prices = c.args.best.now.prices; best = c.of.result.best; excess = c.of.result.excess })
+    c.requires.net
+    (record {
+      sound = c.stays.ensures.sound;
+      stays = c.requires.stays;
+      cells = c.requires.cells;
+      priced = c.cells.ensures.priced;
+      proved = c.requires.proved;
+      small = c.of.ensures.small;
+      lived = c.of.ensures.live;
+      best = c.of.ensures.best;
+      excess = c.of.ensures.excess;
+      made = rw (c.in_ok-push_rest.ensures.text, c.in_ok-push_summary.ensures.text, c.in_ok-text.ensures.items) refl;
+    })
+    c.requires.legal c.of.ensures.known
     (omega (arith, c.in_ok-push_rest.ensures.short, c.in_ok-push_summary.ensures.short, ap length c.in_ok-text.ensures.items))
-    (rw (c.in_ok-push_rest.ensures.text, c.in_ok-push_summary.ensures.text, c.in_ok-text.ensures.items, c.of.ensures.excess, c.of.ensures.best) refl)

@@ -1,0 +1,78 @@
+-- how a run over a trace and a report on it ends
+use Rattle.std.specs.Prelude.{◌≡◌, ℕ, Bool, true, ⊤, List, Option, Some, Result, Ok, Err}
+use Rattle.std.specs.Io.KnownBytes.{Appends}
+use Rattle.cam_types.specs.Whole.{AppendsFront}
+use Rattle.cam_event.specs.Past.{Past}
+use Rattle.trace_file.specs.Trace.{WasTrace, Explains}
+use Rattle.trace_file.specs.declared.trace_fault.TraceFault.TheVariants as trace_fault
+use Rattle.round_net.specs.Nets.{net_of}
+use Rattle.price_check.specs.Claims as claims
+use Rattle.price_check.specs.declared.claim.Claim.{Claim}
+use Rattle.price_check.specs.declared.report_fault.ReportFault.{ReportFault}
+use Rattle.price_check.specs.declared.report_fault.ReportFault.TheVariants as report_fault
+use Rattle.audit_report.specs.Runs.{WasUnsent}
+use Rattle.audit_report.specs.Findings.{Says, is_proved, finding_text}
+use Rattle.audit_report.specs.declared.audit_fault.AuditFault.{AuditFault}
+use Rattle.audit_report.specs.declared.audit_fault.AuditFault.TheVariants.{Trace, Unsent, Report, WriteFailed, OutOfMemory}
+use Rattle.audit_report.specs.declared.finding.Finding.{Finding}
+
+-- what the readers still have, what the writer took, and whether a call of each failed
+pub record Streams : Type 0 where
+  pub trace : Option (List ℕ)
+  pub report : Option (List ℕ)
+  pub out : Option (List ℕ)
+  pub trace_failed : Bool
+  pub report_failed : Bool
+  pub out_failed : Bool
+
+module _ (before after : Streams) where
+  -- a trace and a report on it were read to their ends, and this is what comes of the report
+  pub record WasFound (finding : Finding) : Type 0 where
+    pub past : Past
+    pub claim : Claim
+    pub trace : WasTrace before.trace after.trace past
+    pub report : claims.WasReport past (net_of past.config past.events) before.report after.report claim
+    pub says : Says past claim finding
+
+  -- its line was written, all of it, and whether it says that the claim is proved was answered
+  pub record Answered (answer : Bool) : Type 0 where
+    pub finding : Finding
+    pub found : WasFound finding
+    pub answered : answer ≡ is_proved finding
+    pub written : Appends before.out after.out (finding_text finding)
+
+  -- only the front of it was written, and the writer's note says that a call failed
+  pub record AnsweredFront : Type 0 where
+    pub finding : Finding
+    pub found : WasFound finding
+    pub front : AppendsFront before.out after.out (finding_text finding)
+    pub failed : after.out_failed ≡ true
+
+  -- a trace was read to its end, and no report on it, for this fault
+  pub record WasNoReport (fault : ReportFault) : Type 0 where
+    pub past : Past
+    pub trace : WasTrace before.trace after.trace past
+    pub why : claims.Explains past (net_of past.config past.events) before.report after.report after.report_failed fault
+
+  -- how the run ended: with an answer, or with a fault for its cause and nothing written, or with a failed write; nothing
+  -- of the report was read where no complete history was
+  abbrev pub Proving : Result Bool AuditFault → Type 0
+  Proving (Ok answer) = Answered answer
+  Proving (Err (Trace fault)) = Explains before.trace after.trace after.trace_failed fault × (after.report ≡ before.report) × (after.out ≡ before.out)
+  Proving (Err (Unsent s)) = WasUnsent before.trace after.trace s × (after.report ≡ before.report) × (after.out ≡ before.out)
+  Proving (Err (Report fault)) = WasNoReport fault × (after.out ≡ before.out)
+  Proving (Err WriteFailed) = AnsweredFront
+  Proving (Err OutOfMemory) = after.out ≡ before.out
+
+-- the report was proved, unless memory was wanting or a read or a write failed
+abbrev pub IsProvedOrFailed : Result Bool AuditFault → Type 0
+IsProvedOrFailed (Ok answer) = answer ≡ true
+IsProvedOrFailed (Err (Trace trace_fault.ReadFailed)) = ⊤
+IsProvedOrFailed (Err (Trace trace_fault.OutOfMemory)) = ⊤
+IsProvedOrFailed (Err (Trace fault)) = ⊥
+IsProvedOrFailed (Err (Unsent s)) = ⊥
+IsProvedOrFailed (Err (Report report_fault.ReadFailed)) = ⊤
+IsProvedOrFailed (Err (Report report_fault.OutOfMemory)) = ⊤
+IsProvedOrFailed (Err (Report fault)) = ⊥
+IsProvedOrFailed (Err WriteFailed) = ⊤
+IsProvedOrFailed (Err OutOfMemory) = ⊤

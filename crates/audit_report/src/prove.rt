@@ -1,0 +1,60 @@
+ghost use Rattle.std.specs.Prelude.{◌≡◌, ℕ, true, false, List, IfSome, OnOk};
+ghost use Rattle.cam_types.specs.Watched.{device_of, has_failed, is_flushed};
+ghost use Rattle.cam_event.specs.Past.{Past};
+ghost use Rattle.trace_file.specs.Trace.{IsTrace, IsHistory};
+ghost use Rattle.audit_report.specs.Audit.{IsAudit};
+ghost use Rattle.audit_report.specs.Prove.{Proving, IsProvedOrFailed};
+
+use crate::audit_fault::AuditFault;
+use crate::finding::Finding;
+use cam_types::{Watched, write_whole};
+use price_check::read_report;
+use round_net::{Net, NetFault};
+use std::alloc::Global;
+use std::io::{Read, Write};
+use trace_file::read_trace;
+
+/// Reads a trace and a report on it, whoever made it, and writes one line: whether the report's prices prove that its
+/// schedule is a best one, and its numbers are right, or why not. Answers whether it is proved. The trace is read to its
+/// end, tested and found complete before anything of the report is read, and the report before anything is written.
+pub fn run_prove<R: Read, S: Read, W: Write>(
+    alloc: Global,
+    trace: &mut Watched<R>,
+    report: &mut Watched<S>,
+    out: &mut Watched<W>,
+) -> Result<bool, AuditFault>
+    requires trace_calm { has_failed trace.old ≡ false }
+    requires report_calm { has_failed report.old ≡ false }
+    requires out_calm { has_failed out.old ≡ false }
+    ensures ended { Proving
+        (record { trace = R.remaining (device_of trace.old); report = S.remaining (device_of report.old); out = W.contents (device_of out.old); trace_failed = has_failed trace.old; report_failed = has_failed report.old; out_failed = has_failed out.old })
+        (record { trace = R.remaining (device_of trace.new); report = S.remaining (device_of report.new); out = W.contents (device_of out.new); trace_failed = has_failed trace.new; report_failed = has_failed report.new; out_failed = has_failed out.new })
+        result }
+
+    // A report that an audit of the trace writes is proved.
+    ensures audited { (past : Past) (text : List ℕ) → IsHistory past → IsAudit false past text →
+        IfSome (R.remaining (device_of trace.old)) (λ all. IsTrace all past →
+        IfSome (S.remaining (device_of report.old)) (λ given. given ≡ text → IsProvedOrFailed result)) }
+    ensures flushed { OnOk result (is_flushed out.new ≡ true) }
+{
+    let history = match read_trace(alloc, trace) {
+        Ok(history) => history,
+        Err(fault) => return Err(AuditFault::Trace(fault)),
+    };
+    let net = match Net::of(alloc, &history) {
+        Ok(net) => net,
+        Err(NetFault::Unsent(stay)) => return Err(AuditFault::Unsent(stay)),
+        Err(NetFault::OutOfMemory) => return Err(AuditFault::OutOfMemory),
+    };
+    let claim = match read_report(alloc, report, &history, &net) {
+        Ok(claim) => claim,
+        Err(fault) => return Err(AuditFault::Report(fault)),
+    };
+    let finding = Finding::of(alloc, &history, &net, &claim)?;
+    let mut line = Vec::new(alloc);
+    finding.write(&mut line)?;
+    match write_whole(out, &line) {
+        Ok(()) => Ok(finding.is_proved()),
+        Err(_) => Err(AuditFault::WriteFailed),
+    }
+}

@@ -1,0 +1,249 @@
+-- what a reader of reports answers
+use Rattle.std.proofs.Common.{◌≡◌, ◌≢◌, ◌≤◌, ◌+◌, ◌-◌, ◌*◌, ◌/◌, ℕ, zero, suc, List, ◌++◌, length, get_or, Bool, true, false, cond, refl, sym, ap, ◌∙◌, subst, arith, append_assoc, append-nil, length-append, inl, inr}
+use Rattle.std.specs.Prelude.{◌==◌, ◌&&◌, ◌⊎◌, ⊤, nat_le, Option, Some, None, Result, Ok, Err, ok_or, codes, slice_index, slice_get, sum_by, is_some, IfOk, IfErr, IfSome, OnOk}
+use Rattle.std.specs.List.{AllByRecursion}
+use Rattle.std.specs.Option.{option_map_or}
+use Rattle.std.proofs.lemmas.Bool.{eq-eqb, ne_eqb}
+use Rattle.std.proofs.lemmas.List.{append_cancel_right, get_or-append-add, length-map}
+use Rattle.cam_types.specs.Topology.{Topology, IsConfig}
+use Rattle.cam_types.specs.Whole.{IsWhole}
+use Rattle.cam_types.specs.Number.{number_of}
+use Rattle.cam_types.specs.declared.device.Device.{Device}
+use Rattle.cam_path.specs.Paths.{◌>>=◌, digits_at}
+use Rattle.cam_event.specs.Past.{Past}
+use Rattle.event_log.specs.Counts.{round, commands}
+use Rattle.event_log.specs.Live.{live_cost, live_part}
+use Rattle.event_log.specs.Stays.{passages, unsent}
+use Rattle.event_log.specs.declared.event.Event.{Event}
+use Rattle.event_log.specs.declared.passage.Stay.{Stay}
+use Rattle.event_log.proofs.LiveLemmas.{live_cost_sent}
+use Rattle.round_net.specs.Nets.{net_of}
+use Rattle.round_net.specs.PriceRows.{pricing_of_rows}
+use Rattle.round_net.specs.Rows.{NetRows, instance_of_rows, live_of_rows}
+use Rattle.round_net.specs.Sound.{IsSound}
+use Rattle.round_net.specs.declared.price_range.TheConstants.{MOST_PRICE}
+use Rattle.price_check.specs.Pieces.{skip, line_of}
+use Rattle.price_check.specs.Report.{texts_below, summary_text, plan_text, stay_line, dev_line, sim_line}
+use Rattle.price_check.specs.Forms.{known_line, stated_line, own_stay, any_stay}
+use Rattle.price_check.specs.Reading.{closed, due, stops, ended, summary_at, stay_at, is_large, valued, price_at, dev_price_at, sim_price_at, series, reading}
+use Rattle.price_check.specs.Claims.{IsClaim, IsReport, WasReport, WasFaulty, Explains, report_text}
+use Rattle.price_check.specs.declared.claim.Claim.{Claim}
+use Rattle.price_check.specs.declared.report_fault.ReportFault.{ReportFault}
+use Rattle.price_check.specs.declared.report_fault.ReportFault.TheVariants as fault
+use Rattle.price_check.proofs.SeriesLemmas.{Reader}
+use Rattle.price_check.proofs.ApartLaws.{named_devices}
+use Rattle.price_check.proofs.ReadingLaws.{reading_takes, reading_again}
+
+-- ---- the net of a history
+
+pub some_rounds : (c : Topology) (es : List Event) (n : NetRows) → n ≡ net_of c es → 1 ≤ (instance_of_rows n).rounds
+unfolding instance_of_rows net_of round
+some_rounds c es n e = rw e (omega arith)
+
+pub devices_of : (c : Topology) (es : List Event) (n : NetRows) → n ≡ net_of c es → length c.devices ≡ (instance_of_rows n).devices
+unfolding instance_of_rows net_of
+devices_of c es n e = rw e (sym (length-map c.devices (λ (device : Device). device.bus)))
+
+-- where each stay was sent the live schedule has a cost
+pub live_is_known : (es : List Event) → unsent es ≡ None → (live : ℕ) × (live_cost es ≡ Some live)
+live_is_known es e = (sum_by (live_part es) (passages es), live_cost_sent es (ap (λ (o : Option Stay). is_some o) e))
+
+pub live_not_unknown : (es : List Event) → unsent es ≡ None → live_cost es ≡ None → ⊥
+live_not_unknown es e none = let known = (live_is_known es e).1 in absurd (cc)
+
+-- ---- the last line feed
+
+last_byte : (front : List ℕ) (at : ℕ) (tail : List ℕ) (n : ℕ) → length tail ≡ suc n → slice_index (front ++ tail) (length (front ++ tail) - 1) ≡ get_or tail n 0
+last_byte front at tail n e =
+    let size = length-append front tail in
+    let place : length (front ++ tail) - 1 ≡ length front + n = omega arith in
+    rw place (get_or-append-add front tail n 0)
+
+closed_by : (b : Bool) (text whole : List ℕ) → cond b text (text ++ codes "\n") ≡ whole → (text ≡ whole) ⊎ (text ++ codes "\n" ≡ whole)
+closed_by true text whole e = inl e
+closed_by false text whole e = inr e
+
+pub closed_takes : (text whole : List ℕ) → closed text ≡ whole → (text ≡ whole) ⊎ (text ++ codes "\n" ≡ whole)
+closed_takes text whole e = closed_by (slice_index text (length text - 1) == 10) text whole e
+
+pub closed_again : (text front : List ℕ) → (text ≡ front ++ codes "end\n") ⊎ (text ++ codes "\n" ≡ front ++ codes "end\n") → closed text ≡ front ++ codes "end\n"
+closed_again text front (inl e) =
+    let last : slice_index text (length text - 1) ≡ 10 = rw e (last_byte front 0 (codes "end\n") 3 refl) in
+    rw (eq-eqb (slice_index text (length text - 1)) 10 last) e
+closed_again text front (inr e) =
+    let cut : text ≡ front ++ codes "end" = append_cancel_right text (front ++ codes "end") (codes "\n") (e ∙ sym (append_assoc front (codes "end") (codes "\n"))) in
+    let last : slice_index text (length text - 1) ≡ 100 = rw cut (last_byte front 0 (codes "end") 2 refl) in
+    rw (ne_eqb (slice_index text (length text - 1)) 10 (λ is. omega arith)) e
+
+-- a report ends in its last line
+ends : (past : Past) (net : NetRows) (live : ℕ) (claim : Claim) → (front : List ℕ) × (report_text past net live claim ≡ front ++ codes "end\n")
+unfolding report_text plan_text
+ends past net live claim =
+    let s = summary_text past.events live claim.best claim.excess in
+    let a = texts_below (instance_of_rows net).stays (stay_line net (slice_index claim.schedule)) in
+    let b = texts_below (instance_of_rows net).devices (λ d. texts_below (instance_of_rows net).rounds (λ r. dev_line past.config.devices (pricing_of_rows claim.prices) d (r + 1))) in
+    let c = texts_below (instance_of_rows net).adapters (λ d. texts_below (instance_of_rows net).rounds (λ r. sim_line (pricing_of_rows claim.prices) d (r + 1))) in
+    (s ++ (a ++ (b ++ c)), regroup s a b c (codes "end\n"))
+  where
+    regroup : (s a b c e : List ℕ) → s ++ (a ++ (b ++ (c ++ e))) ≡ (s ++ (a ++ (b ++ c))) ++ e
+    regroup s a b c e = simp append_assoc
+
+-- ---- a fault of a text is none of the reader's or of memory
+
+abbrev IsOfText : ReportFault → Type 0
+IsOfText (fault.BadLine n) = ⊤
+IsOfText (fault.PriceRange n) = ⊤
+IsOfText (fault.WrongStays n) = ⊤
+IsOfText fault.TooLong = ⊥
+IsOfText fault.ReadFailed = ⊥
+IsOfText fault.OutOfMemory = ⊥
+
+abbrev FailsByText : {X : Type 0} → Result X ReportFault → Type 0
+FailsByText (Ok x) = ⊤
+FailsByText (Err e) = IsOfText e
+
+bound : {A B : Type 0} (r : Result A ReportFault) (f : A → Result B ReportFault) → FailsByText r → ((x : A) → FailsByText (f x)) → FailsByText (r >>= f)
+bound (Ok x) f h k = k x
+bound (Err e) f h k = h
+
+or_fails : {X : Type 0} (o : Option X) (e : ReportFault) → IsOfText e → FailsByText (ok_or o e)
+or_fails (Some x) e h = tt
+or_fails None e h = h
+
+summary_fails : (events : List Event) (live : ℕ) (text : List ℕ) → FailsByText (summary_at events live text)
+unfolding summary_at
+summary_fails events live text =
+    bound (due (known_line (codes "camaudit") 1 text 0) text 0) _ (or_fails (known_line (codes "camaudit") 1 text 0) _ tt) (λ one.
+    bound (due (known_line (codes "commands") (commands events) text one) text one) _ (or_fails (known_line (codes "commands") (commands events) text one) _ tt) (λ two.
+    bound (due (known_line (codes "stays") (length (passages events)) text two) text two) _ (or_fails (known_line (codes "stays") (length (passages events)) text two) _ tt) (λ three.
+    bound (due (known_line (codes "rounds") (round events) text three) text three) _ (or_fails (known_line (codes "rounds") (round events) text three) _ tt) (λ four.
+    bound (due (known_line (codes "live") live text four) text four) _ (or_fails (known_line (codes "live") live text four) _ tt) (λ five.
+    bound (due (stated_line (codes "best") text five) text five) _ (or_fails (stated_line (codes "best") text five) _ tt) (λ best.
+    bound (due (stated_line (codes "excess") text best.1) text best.1) _ (or_fails (stated_line (codes "excess") text best.1) _ tt) (λ excess. tt)))))))
+
+stay_fails : (net : NetRows) (text : List ℕ) (s at : ℕ) → FailsByText (stay_at net text s at)
+unfolding stay_at
+stay_fails net text s at = or_fails (own_stay net s text at) _ (by (is_some (any_stay text at)))
+  where
+    by : (b : Bool) → IsOfText (cond b (fault.WrongStays (line_of text at)) (fault.BadLine (line_of text at)))
+    by true = tt
+    by false = tt
+
+valued_fails : (text digits : List ℕ) (at next : ℕ) → FailsByText (valued text at next digits)
+unfolding valued
+valued_fails text digits at next = by (number_of MOST_PRICE digits)
+  where
+    read : (b : Bool) (r s : ℕ × ℕ) → FailsByText (cond b (Ok r) (Ok s))
+    read true r s = tt
+    read false r s = tt
+
+    large : (b : Bool) (r : ℕ × ℕ) → FailsByText (cond b (Err (fault.PriceRange (line_of text at))) (Ok r))
+    large true r = tt
+    large false r = tt
+
+    by : (o : Option ℕ) → FailsByText {X = ℕ × ℕ} (option_map_or (λ price. cond (price == 0) (Ok (0, at)) (Ok (price, next))) o (cond (is_large digits && nat_le next (at + 101)) (Err (fault.PriceRange (line_of text at))) (Ok (0, at))))
+    by (Some price) = read (price == 0) (0, at) (price, next)
+    by None = large (is_large digits && nat_le next (at + 101)) (0, at)
+
+mapped : {X Y : Type 0} (f : X → Result Y ReportFault) (o : Option X) (r : Result Y ReportFault) → ((x : X) → FailsByText (f x)) → FailsByText r → FailsByText (option_map_or f o r)
+mapped f (Some x) r h k = h x
+mapped f None r h k = k
+
+price_fails : (front : Option ℕ) (text : List ℕ) (at : ℕ) → FailsByText (price_at front text at)
+unfolding price_at
+price_fails front text at = mapped _ front _ (λ begin. mapped _ (skip (codes "\n") text (begin + digits_at text begin)) _ (λ next. valued_fails text _ at next) tt) tt
+
+dev_fails : (devices : List Device) (rounds : ℕ) (text : List ℕ) (k at : ℕ) → FailsByText (dev_price_at devices rounds text k at)
+unfolding dev_price_at
+dev_fails devices rounds text k at = mapped _ (slice_get devices (k / rounds)) _ (λ device. price_fails _ text at) tt
+
+sim_fails : (rounds : ℕ) (text : List ℕ) (k at : ℕ) → FailsByText (sim_price_at rounds text k at)
+unfolding sim_price_at
+sim_fails rounds text k at = price_fails _ text at
+
+series_fails : (one : Reader) → ((k at : ℕ) → FailsByText (one k at)) → (n at : ℕ) → FailsByText (series one n at)
+unfolding series
+series_fails one h zero at = tt
+series_fails one h (suc n) at = bound (series one n at) _ (series_fails one h n at) (λ before. bound (one n before.1) _ (h n before.1) (λ last. tt))
+
+ended_fails : (text : List ℕ) (at : ℕ) → FailsByText (ended text at)
+unfolding ended
+ended_fails text at = bound (due (skip (codes "end\n") text at) text at) (stops text) (or_fails (skip (codes "end\n") text at) _ tt) (λ next. by next (nat_le (length text) next))
+  where
+    by : (next : ℕ) (b : Bool) → FailsByText {X = ⊤} (cond b (Ok tt) (Err (fault.BadLine (line_of text next))))
+    by next true = tt
+    by next false = tt
+
+pub reading_fails : (devices : List Device) (events : List Event) (live : ℕ) (net : NetRows) (text : List ℕ) → FailsByText (reading devices events live net text)
+unfolding reading
+reading_fails devices events live net text =
+    let rounds = (instance_of_rows net).rounds in
+    bound (summary_at events live text) _ (summary_fails events live text) (λ costs.
+    bound (series (stay_at net text) (instance_of_rows net).stays costs.2) _ (series_fails (stay_at net text) (stay_fails net text) (instance_of_rows net).stays costs.2) (λ best.
+    bound (series (dev_price_at devices rounds text) ((instance_of_rows net).devices * rounds) best.1) _ (series_fails (dev_price_at devices rounds text) (dev_fails devices rounds text) ((instance_of_rows net).devices * rounds) best.1) (λ dev.
+    bound (series (sim_price_at rounds text) ((instance_of_rows net).adapters * rounds) dev.1) _ (series_fails (sim_price_at rounds text) (sim_fails rounds text) ((instance_of_rows net).adapters * rounds) dev.1) (λ sim.
+    bound (ended text sim.1) _ (ended_fails text sim.1) (λ u. tt)))))
+
+-- ---- the clauses of a reader of reports, from what reading the whole text gives
+
+abbrev Gives : Past → NetRows → List ℕ → Result Claim ReportFault → Type 0
+Gives past net text r = (live : ℕ) → live_cost past.events ≡ Some live → r ≢ Err fault.OutOfMemory → r ≡ reading past.config.devices past.events live net (closed text)
+
+pub found_law : (past : Past) (net : NetRows) (before after : Option (List ℕ)) (text : List ℕ) (r : Result Claim ReportFault) → unsent past.events ≡ None
+    → OnOk r (IsSound (instance_of_rows net) (live_of_rows net)) → IsWhole before after text → Gives past net text r → IfOk r (λ claim. WasReport past net before after claim)
+found_law past net before after text (Ok claim) sent sound whole h =
+    let live = live_is_known past.events sent in
+    let taken = reading_takes past net live.0 (closed text) claim sound (sym (h live.0 live.1 (λ k. cc))) in
+    record {
+      text = text;
+      whole = whole;
+      report = record { bounded = whole.bounded; live = live.0; costs = live.1; spelled = closed_takes text _ taken.0 };
+      claims = taken.1;
+    }
+found_law past net before after text (Err e) sent sound whole h = tt
+
+read_again : (past : Past) (net : NetRows) (text : List ℕ) (r : Result Claim ReportFault) (claim : Claim) → net ≡ net_of past.config past.events → IsConfig past.config
+    → AllByRecursion (λ (d : Device). d.target ≤ 65535) past.config.devices → IsClaim (instance_of_rows net) claim → Gives past net text r → IsReport past net text claim → r ≢ Err fault.OutOfMemory → r ≡ Ok claim
+read_again past net text r claim is config targets claims h report memory =
+    let end = ends past net report.live claim in
+    let spelled : (text ≡ end.0 ++ codes "end\n") ⊎ (text ++ codes "\n" ≡ end.0 ++ codes "end\n") = rw end.1 at report.spelled in
+    let whole : closed text ≡ report_text past net report.live claim = closed_again text end.0 spelled ∙ sym end.1 in
+    h report.live report.costs memory
+    ∙ reading_again past net report.live (closed text) claim (named_devices past.config config.kept targets) (devices_of past.config past.events net is) (some_rounds past.config past.events net is) claims whole
+
+pub only_law : (past : Past) (net : NetRows) (before after : Option (List ℕ)) (text : List ℕ) (r : Result Claim ReportFault) (claim : Claim) → net ≡ net_of past.config past.events → IsConfig past.config
+    → IsWhole before after text → Gives past net text r → IsClaim (instance_of_rows net) claim → AllByRecursion (λ (d : Device). d.target ≤ 65535) past.config.devices
+    → IfSome before (λ all. IsReport past net all claim → r ≢ Err fault.OutOfMemory → r ≢ Err fault.ReadFailed → r ≡ Ok claim)
+only_law past net None after text r claim is config whole h claims targets = tt
+only_law past net (Some all) None text r claim is config whole h claims targets = absurd whole.read
+only_law past net (Some all) (Some left) text r claim is config whole h claims targets = λ report memory read.
+    let same : all ≡ text = whole.read ∙ ap (λ (l : List ℕ). text ++ l) whole.ended ∙ append-nil text in
+    read_again past net text r claim is config targets claims h (subst (λ (l : List ℕ). IsReport past net l claim) same report) memory
+
+explained : (past : Past) (net : NetRows) (before after : Option (List ℕ)) (failed : Bool) (e : ReportFault) → IsOfText e → WasFaulty past net before after e → Explains past net before after failed e
+explained past net before after failed (fault.BadLine n) t h = h
+explained past net before after failed (fault.PriceRange n) t h = h
+explained past net before after failed (fault.WrongStays n) t h = h
+explained past net before after failed fault.TooLong t h = absurd t
+explained past net before after failed fault.ReadFailed t h = absurd t
+explained past net before after failed fault.OutOfMemory t h = absurd t
+
+of_text : {X : Type 0} (r : Result X ReportFault) (e : ReportFault) → FailsByText r → r ≡ Err e → IsOfText e
+of_text r e h is = rw is at h
+
+was_faulty : (past : Past) (net : NetRows) (before after : Option (List ℕ)) (failed : Bool) (text : List ℕ) (e : ReportFault) → unsent past.events ≡ None → IsWhole before after text
+    → Gives past net text (Err e) → e ≢ fault.OutOfMemory → Explains past net before after failed e
+was_faulty past net before after failed text e sent whole h other =
+    let live = live_is_known past.events sent in
+    let first : reading past.config.devices past.events live.0 net (closed text) ≡ Err e = sym (h live.0 live.1 (λ k. other (cc))) in
+    explained past net before after failed e (of_text _ e (reading_fails past.config.devices past.events live.0 net (closed text)) first) (record { text = text; whole = whole; live = live.0; costs = live.1; first = first })
+
+pub faults_law : (past : Past) (net : NetRows) (before after : Option (List ℕ)) (failed : Bool) (text : List ℕ) (r : Result Claim ReportFault) → unsent past.events ≡ None → IsWhole before after text
+    → Gives past net text r → IfErr r (Explains past net before after failed)
+faults_law past net before after failed text (Ok claim) sent whole h = tt
+faults_law past net before after failed text (Err fault.OutOfMemory) sent whole h = tt
+faults_law past net before after failed text (Err (fault.BadLine n)) sent whole h = was_faulty past net before after failed text (fault.BadLine n) sent whole h (λ k. cc)
+faults_law past net before after failed text (Err (fault.PriceRange n)) sent whole h = was_faulty past net before after failed text (fault.PriceRange n) sent whole h (λ k. cc)
+faults_law past net before after failed text (Err (fault.WrongStays n)) sent whole h = was_faulty past net before after failed text (fault.WrongStays n) sent whole h (λ k. cc)
+faults_law past net before after failed text (Err fault.TooLong) sent whole h = was_faulty past net before after failed text fault.TooLong sent whole h (λ k. cc)
+faults_law past net before after failed text (Err fault.ReadFailed) sent whole h = was_faulty past net before after failed text fault.ReadFailed sent whole h (λ k. cc)

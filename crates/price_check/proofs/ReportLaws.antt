@@ -1,0 +1,96 @@
+-- a report that is read is spelled so, and what is spelled so is read
+use Rattle.std.proofs.Common.{◌≡◌, ◌≤◌, ◌+◌, ◌*◌, ◌/◌, ◌%◌, ℕ, List, ◌++◌, length, drop, get_or, refl, sym, ap, ◌∙◌, subst, arith, append_assoc}
+use Rattle.std.specs.Prelude.{Ok, codes, slice_index}
+use Rattle.std.proofs.Math.Nat.{div-add-mod}
+use Rattle.cam_types.specs.declared.device.Device.{Device}
+use Rattle.event_log.specs.Counts.{round, commands}
+use Rattle.event_log.specs.Stays.{passages}
+use Rattle.event_log.specs.declared.event.Event.{Event}
+use Rattle.round_net.specs.PriceRows.{PriceRows, pricing_of_rows}
+use Rattle.round_net.specs.Rows.{NetRows, cell}
+use Rattle.price_check.specs.Lines.{line}
+use Rattle.price_check.specs.Report.{texts_below, summary_text, stay_line, path_text, number_text, price_line, dev_line, sim_line}
+use Rattle.price_check.specs.Forms.{known_line, stated_line, most_stated}
+use Rattle.price_check.specs.Reading.{due, summary_at}
+use Rattle.price_check.proofs.SeriesLaws.{on_ok, texts_of, texts_below-same, texts_by_row}
+use Rattle.price_check.proofs.CellLaws.{form_of, dev_whose, sim_whose}
+use Rattle.price_check.proofs.LineLaws.{known_takes, known_again, stated_takes, stated_again, stay_form}
+
+-- ---- the summary
+
+seven : (a b c d e f g rest : List ℕ) → a ++ (b ++ (c ++ (d ++ (e ++ (f ++ (g ++ rest)))))) ≡ (a ++ b ++ c ++ d ++ e ++ f ++ g) ++ rest
+seven a b c d e f g rest = simp append_assoc
+
+pub behind : (a b c rest : List ℕ) → a ≡ b ++ c → c ≡ rest → a ≡ b ++ rest
+behind a b c rest e h = e ∙ ap (λ (l : List ℕ). b ++ l) h
+
+pub summary_takes : (events : List Event) (live : ℕ) (text : List ℕ) (said : ℕ × ℕ × ℕ) → summary_at events live text ≡ Ok said
+    → (text ≡ summary_text events live said.0 said.1 ++ drop said.2 text) × (said.0 ≤ most_stated) × (said.1 ≤ most_stated)
+unfolding summary_at summary_text
+summary_takes events live text said e =
+    on_ok (due (known_line (codes "camaudit") 1 text 0) text 0) _ said e (λ one e1 r1.
+    on_ok (due (known_line (codes "commands") (commands events) text one) text one) _ said r1 (λ two e2 r2.
+    on_ok (due (known_line (codes "stays") (length (passages events)) text two) text two) _ said r2 (λ three e3 r3.
+    on_ok (due (known_line (codes "rounds") (round events) text three) text three) _ said r3 (λ four e4 r4.
+    on_ok (due (known_line (codes "live") live text four) text four) _ said r4 (λ five e5 r5.
+    on_ok (due (stated_line (codes "best") text five) text five) _ said r5 (λ best e6 r6.
+    on_ok (due (stated_line (codes "excess") text best.1) text best.1) _ said r6 (λ excess e7 r7.
+    let t1 = known_takes (codes "camaudit") 1 text 0 one e1 in
+    let t2 = known_takes (codes "commands") (commands events) text one two e2 in
+    let t3 = known_takes (codes "stays") (length (passages events)) text two three e3 in
+    let t4 = known_takes (codes "rounds") (round events) text three four e4 in
+    let t5 = known_takes (codes "live") live text four five e5 in
+    let t6 = stated_takes (codes "best") text five best e6 in
+    let t7 = stated_takes (codes "excess") text best.1 excess e7 in
+    let whole = behind _ _ _ _ t1 (behind _ _ _ _ t2 (behind _ _ _ _ t3 (behind _ _ _ _ t4 (behind _ _ _ _ t5 (behind _ _ _ _ t6.0 t7.0))))) in
+    let made : ℕ × ℕ × ℕ = (best.0, excess.0, excess.1) in
+    let same : made ≡ said = cc in
+    subst (λ (q : ℕ × ℕ × ℕ). (text ≡ summary_text events live q.0 q.1 ++ drop q.2 text) × (q.0 ≤ most_stated) × (q.1 ≤ most_stated)) same (
+      whole ∙ seven (line (codes "camaudit") 1) (line (codes "commands") (commands events)) (line (codes "stays") (length (passages events))) (line (codes "rounds") (round events)) (line (codes "live") live)
+          (line (codes "best") best.0) (line (codes "excess") excess.0) (drop excess.1 text),
+      t6.1,
+      t7.1,
+    ))))))))
+
+pub summary_again : (events : List Event) (live best excess : ℕ) (text rest : List ℕ) → best ≤ most_stated → excess ≤ most_stated → text ≡ summary_text events live best excess ++ rest
+    → (e : ℕ) × (summary_at events live text ≡ Ok (best, excess, e)) × (drop e text ≡ rest)
+unfolding summary_at summary_text
+summary_again events live best excess text rest small small' e =
+    let parts = e ∙ sym (seven (line (codes "camaudit") 1) (line (codes "commands") (commands events)) (line (codes "stays") (length (passages events))) (line (codes "rounds") (round events)) (line (codes "live") live)
+    (line (codes "best") best) (line (codes "excess") excess) rest) in
+    let t1 = known_again (codes "camaudit") 1 text _ 0 parts in
+    let t2 = known_again (codes "commands") (commands events) text _ t1.0 t1.2 in
+    let t3 = known_again (codes "stays") (length (passages events)) text _ t2.0 t2.2 in
+    let t4 = known_again (codes "rounds") (round events) text _ t3.0 t3.2 in
+    let t5 = known_again (codes "live") live text _ t4.0 t4.2 in
+    let t6 = stated_again (codes "best") best text _ t5.0 small t5.2 in
+    let t7 = stated_again (codes "excess") excess text rest t6.0 small' t6.2 in
+    (t7.0, rw (t1.1, t2.1, t3.1, t4.1, t5.1, t6.1, t7.1) refl, t7.2)
+
+-- ---- the texts of stays and of prices, by their definitions
+
+pub stay_texts : (net : NetRows) (n : ℕ) (vs : List ℕ) → texts_of (stay_form net) n vs ≡ texts_below n (stay_line net (slice_index vs))
+unfolding stay_line
+stay_texts net n vs = texts_below-same n _ _ (λ i lt. refl)
+
+at_place : (rounds k : ℕ) (vs : List ℕ) → get_or vs k 0 ≡ slice_index vs (cell rounds (k / rounds) (k % rounds + 1))
+at_place rounds k vs =
+    let h = div-add-mod k rounds in
+    let place : k ≡ cell rounds (k / rounds) (k % rounds + 1) = omega arith in
+    ap (slice_index vs) place
+
+pub dev_texts : (devices : List Device) (p : PriceRows) (rows : ℕ) → texts_of (form_of (dev_whose devices p.rounds) p.rounds) (rows * p.rounds) p.dev
+    ≡ texts_below rows (λ d. texts_below p.rounds (λ r. dev_line devices (pricing_of_rows p) d (r + 1)))
+unfolding dev_line pricing_of_rows
+dev_texts devices p rows =
+    texts_below-same (rows * p.rounds) _ (λ k. price_line (codes "price dev " ++ path_text devices (k / p.rounds)) (k % p.rounds + 1) (slice_index p.dev (cell p.rounds (k / p.rounds) (k % p.rounds + 1))))
+    (λ k lt. ap (price_line (codes "price dev " ++ path_text devices (k / p.rounds)) (k % p.rounds + 1)) (at_place p.rounds k p.dev))
+    ∙ texts_by_row rows p.rounds (λ d r. price_line (codes "price dev " ++ path_text devices d) (r + 1) (slice_index p.dev (cell p.rounds d (r + 1))))
+
+pub sim_texts : (p : PriceRows) (rows : ℕ) → texts_of (form_of (sim_whose p.rounds) p.rounds) (rows * p.rounds) p.sim
+    ≡ texts_below rows (λ a. texts_below p.rounds (λ r. sim_line (pricing_of_rows p) a (r + 1)))
+unfolding sim_line pricing_of_rows
+sim_texts p rows =
+    texts_below-same (rows * p.rounds) _ (λ k. price_line (codes "price sim" ++ number_text (k / p.rounds)) (k % p.rounds + 1) (slice_index p.sim (cell p.rounds (k / p.rounds) (k % p.rounds + 1))))
+    (λ k lt. ap (price_line (codes "price sim" ++ number_text (k / p.rounds)) (k % p.rounds + 1)) (at_place p.rounds k p.sim))
+    ∙ texts_by_row rows p.rounds (λ a r. price_line (codes "price sim" ++ number_text a) (r + 1) (slice_index p.sim (cell p.rounds a (r + 1))))

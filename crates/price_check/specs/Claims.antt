@@ -1,0 +1,62 @@
+-- Reports of claims, and what a reader of reports answers.
+use Rattle.std.specs.Prelude.{◌≡◌, ℕ, ◌≤◌, ◌⊎◌, ⊤, Bool, true, List, ◌++◌, length, slice_index, All, Option, Some, Err, codes}
+use Rattle.cam_types.specs.Whole.{IsWhole, IsTooLong}
+use Rattle.cam_types.specs.declared.whole.TheConstants.{MOST_BYTES}
+use Rattle.cam_event.specs.Past.{Past}
+use Rattle.event_log.specs.Live.{live_cost}
+use Rattle.round_net.specs.Instance.{Instance}
+use Rattle.round_net.specs.PriceRows.{pricing_of_rows, IsPriced, IsPricingFor}
+use Rattle.round_net.specs.Rows.{NetRows, instance_of_rows}
+use Rattle.price_check.specs.Forms.{most_stated}
+use Rattle.price_check.specs.Report.{summary_text, plan_text}
+use Rattle.price_check.specs.Reading.{closed, reading}
+use Rattle.price_check.specs.declared.claim.Claim.{Claim}
+use Rattle.price_check.specs.declared.report_fault.ReportFault.{ReportFault}
+use Rattle.price_check.specs.declared.report_fault.ReportFault.TheVariants as fault
+
+-- a round of at most 65,535 for each stay, a price for each round of each device and adapter, none above the most, and costs
+-- of at most 18 digits
+pub record IsClaim (net : Instance) (claim : Claim) : Type 0 where
+  pub stays : length claim.schedule ≡ net.stays
+  pub rounds : All (λ r. r ≤ 65535) claim.schedule
+  pub pricing : IsPricingFor net claim.prices
+  pub priced : IsPriced claim.prices
+  pub best : claim.best ≤ most_stated
+  pub excess : claim.excess ≤ most_stated
+
+-- the report of a claim on a history whose live schedule costs so much
+unfoldable pub report_text : Past → NetRows → ℕ → Claim → List ℕ
+report_text past net live claim =
+    summary_text past.events live claim.best claim.excess
+    ++ plan_text past.config.devices net (slice_index claim.schedule) (pricing_of_rows claim.prices)
+
+-- the text is the report of the claim, or that without its last line feed
+pub record IsReport (past : Past) (net : NetRows) (text : List ℕ) (claim : Claim) : Type 0 where
+  pub bounded : length text ≤ MOST_BYTES
+  pub live : ℕ
+  pub costs : live_cost past.events ≡ Some live
+  pub spelled : (text ≡ report_text past net live claim) ⊎ (text ++ codes "\n" ≡ report_text past net live claim)
+
+-- what was read to its end was a report of the claim
+pub record WasReport (past : Past) (net : NetRows) (before after : Option (List ℕ)) (claim : Claim) : Type 0 where
+  pub text : List ℕ
+  pub whole : IsWhole before after text
+  pub report : IsReport past net text claim
+  pub claims : IsClaim (instance_of_rows net) claim
+
+-- what was read to its end was no report, for this fault of its first line that isn't the one due
+pub record WasFaulty (past : Past) (net : NetRows) (before after : Option (List ℕ)) (e : ReportFault) : Type 0 where
+  pub text : List ℕ
+  pub whole : IsWhole before after text
+  pub live : ℕ
+  pub costs : live_cost past.events ≡ Some live
+  pub first : reading past.config.devices past.events live net (closed text) ≡ Err e
+
+-- why no report was read, where a reader's note says at last whether a call failed
+abbrev pub Explains : Past → NetRows → Option (List ℕ) → Option (List ℕ) → Bool → ReportFault → Type 0
+Explains past net before after failed (fault.BadLine n) = WasFaulty past net before after (fault.BadLine n)
+Explains past net before after failed (fault.PriceRange n) = WasFaulty past net before after (fault.PriceRange n)
+Explains past net before after failed (fault.WrongStays n) = WasFaulty past net before after (fault.WrongStays n)
+Explains past net before after failed fault.TooLong = IsTooLong before after
+Explains past net before after failed fault.ReadFailed = failed ≡ true
+Explains past net before after failed fault.OutOfMemory = ⊤

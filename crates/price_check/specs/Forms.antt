@@ -1,0 +1,83 @@
+-- the forms of a report's lines: where one stands at an offset, what it says and the offset behind it
+use Rattle.std.specs.Prelude.{ℕ, List, Option, Some, codes, decimal, option_and_then, slice_get}
+use Rattle.cam_types.specs.declared.device.Device.{Device}
+use Rattle.event_log.specs.declared.passage.Stay.{Stay}
+use Rattle.round_net.specs.Rows.{NetRows, instance_of_rows, live_of_rows, names_of_rows}
+use Rattle.price_check.specs.Pieces.{◌>>=◌, skip, skip_number, found_number}
+
+-- the line of this word and this number
+unfoldable pub known_line : List ℕ → ℕ → List ℕ → ℕ → Option ℕ
+known_line word n text at = do
+  begin ← skip word text at
+  end ← skip_number n text begin
+  skip (codes "\n") text end
+
+-- the most that may be said of a cost: 18 digits
+abbrev pub most_stated : ℕ
+most_stated = 999999999999999999
+
+-- the line of this word and a number
+unfoldable pub stated_line : List ℕ → List ℕ → ℕ → Option (ℕ × ℕ)
+stated_line word text at = do
+  space ← skip word text at
+  begin ← skip (codes " ") text space
+  number ← found_number most_stated text begin
+  next ← skip (codes "\n") text number.1
+  Some (number.0, next)
+
+-- the line of a stay of this name, arrival, live round and weight, with a round that is best for it
+unfoldable pub named_stay : Stay → ℕ → ℕ → ℕ → List ℕ → ℕ → Option (ℕ × ℕ)
+named_stay name arrival live weight text at = do
+  word ← skip (codes "stay") text at
+  ccb ← skip_number name.ccb text word
+  attempt ← skip_number name.attempt text ccb
+  arrived ← skip_number arrival text attempt
+  sent ← skip_number live text arrived
+  begin ← skip (codes " ") text sent
+  best ← found_number 65535 text begin
+  end ← skip_number weight text best.1
+  next ← skip (codes "\n") text end
+  Some (best.0, next)
+
+-- the line of the net's stay of this number
+unfoldable pub own_stay : NetRows → ℕ → List ℕ → ℕ → Option (ℕ × ℕ)
+own_stay net s text at =
+    option_and_then (λ name. named_stay name ((instance_of_rows net).arrival s) (live_of_rows net s) ((instance_of_rows net).weight s) text at) (slice_get (names_of_rows net) s)
+
+-- a space and a number of at most 65535
+unfoldable pub small_number : List ℕ → ℕ → Option ℕ
+small_number text at = do
+  begin ← skip (codes " ") text at
+  number ← found_number 65535 text begin
+  Some number.1
+
+-- the line of any stay: six such numbers
+unfoldable pub any_stay : List ℕ → ℕ → Option ℕ
+any_stay text at = do
+  word ← skip (codes "stay") text at
+  ccb ← small_number text word
+  attempt ← small_number text ccb
+  arrival ← small_number text attempt
+  live ← small_number text arrival
+  best ← small_number text live
+  weight ← small_number text best
+  skip (codes "\n") text weight
+
+-- the front of a price's line, up to the price: that of a device's opening in a round, and that of an adapter's
+unfoldable pub dev_front : Device → ℕ → List ℕ → ℕ → Option ℕ
+dev_front device r text at = do
+  bus ← skip (codes "price dev ") text at
+  colon ← skip (decimal device.bus) text bus
+  target ← skip (codes ":") text colon
+  second ← skip (decimal device.target) text target
+  lun ← skip (codes ":") text second
+  end ← skip (decimal device.lun) text lun
+  space ← skip_number r text end
+  skip (codes " ") text space
+
+unfoldable pub sim_front : ℕ → ℕ → List ℕ → ℕ → Option ℕ
+sim_front adapter r text at = do
+  number ← skip (codes "price sim") text at
+  round ← skip_number adapter text number
+  space ← skip_number r text round
+  skip (codes " ") text space

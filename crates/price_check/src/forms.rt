@@ -1,0 +1,140 @@
+ghost use Rattle.std.specs.Prelude.{◌≡◌, ◌<◌, ◌≤◌, length, IfSome};
+ghost use Rattle.round_net.specs.Rows.{instance_of_rows};
+ghost use Rattle.price_check.specs.Forms.{known_line, stated_line, named_stay, own_stay, small_number, any_stay, dev_front, sim_front, most_stated};
+
+use crate::pieces::{number_at, skip, skip_digits, skip_number};
+use cam_types::Device;
+use event_log::Stay;
+use round_net::Net;
+
+/// The most that may be said of a cost: 18 digits.
+const MOST_STATED: u64 = 999_999_999_999_999_999;
+
+/// The most that a stay's line may say.
+const MOST_ROUND: u64 = 65_535;
+
+/// The offset behind the line of this word and this number.
+#[tactic(auto, unfolding(crate::specs::Forms::known_line))]
+pub(crate) fn known_line(text: &[u8], at: usize, word: &[u8], number: u64) -> Option<usize>
+    requires { at ≤ length text.now }
+    ensures value { result ≡ known_line word.now number text.now at }
+    ensures within { IfSome result (λ next. next ≤ length text.now) }
+{
+    let begin = skip(text, at, word)?;
+    let end = skip_number(text, begin, number)?;
+    skip(text, end, b"\n")
+}
+
+/// The number in the line of this word, and the offset behind the line.
+#[tactic(auto, unfolding(crate::specs::Forms::stated_line))]
+pub(crate) fn stated_line(text: &[u8], at: usize, word: &[u8]) -> Option<(u64, usize)>
+    requires { at ≤ length text.now }
+    ensures value { result ≡ stated_line word.now text.now at }
+    ensures within { IfSome result (λ r. r.1 ≤ length text.now) }
+{
+    let space = skip(text, at, word)?;
+    let begin = skip(text, space, b" ")?;
+    let (number, end) = number_at(text, begin, MOST_STATED)?;
+    let next = skip(text, end, b"\n")?;
+    Some((number, next))
+}
+
+/// The round that is best for the stay by its line, and the offset behind the line.
+#[tactic(auto, unfolding(crate::specs::Forms::own_stay))]
+pub(crate) fn own_stay(text: &[u8], at: usize, net: &Net, stay: u32) -> Option<(u32, usize)>
+    requires within { at ≤ length text.now }
+    requires stay { stay < (instance_of_rows net.now).stays }
+    ensures value { result ≡ own_stay net.now stay text.now at }
+    ensures within { IfSome result (λ r. r.1 ≤ length text.now) }
+{
+    named_stay(
+        text,
+        at,
+        net.stay(stay),
+        net.arrival(stay),
+        net.live(stay),
+        net.weight(stay),
+    )
+}
+
+#[tactic(auto, unfolding(crate::specs::Forms::named_stay))]
+fn named_stay(
+    text: &[u8],
+    at: usize,
+    name: Stay,
+    arrival: u32,
+    live: u32,
+    weight: u32,
+) -> Option<(u32, usize)>
+    requires { at ≤ length text.now }
+    ensures value { result ≡ named_stay name arrival live weight text.now at }
+    ensures within { IfSome result (λ r. r.1 ≤ length text.now) }
+{
+    let word = skip(text, at, b"stay")?;
+    let ccb = skip_number(text, word, u64::from(name.ccb))?;
+    let attempt = skip_number(text, ccb, u64::from(name.attempt))?;
+    let arrived = skip_number(text, attempt, u64::from(arrival))?;
+    let sent = skip_number(text, arrived, u64::from(live))?;
+    let begin = skip(text, sent, b" ")?;
+    let (best, end) = number_at(text, begin, MOST_ROUND)?;
+    let end = skip_number(text, end, u64::from(weight))?;
+    let next = skip(text, end, b"\n")?;
+    Some((best as u32, next))
+}
+
+/// The offset behind the line of any stay.
+#[tactic(auto, unfolding(crate::specs::Forms::any_stay))]
+pub(crate) fn any_stay(text: &[u8], at: usize) -> Option<usize>
+    requires { at ≤ length text.now }
+    ensures { result ≡ any_stay text.now at }
+{
+    let word = skip(text, at, b"stay")?;
+    let ccb = small_number(text, word)?;
+    let attempt = small_number(text, ccb)?;
+    let arrival = small_number(text, attempt)?;
+    let live = small_number(text, arrival)?;
+    let best = small_number(text, live)?;
+    let weight = small_number(text, best)?;
+    skip(text, weight, b"\n")
+}
+
+#[tactic(auto, unfolding(crate::specs::Forms::small_number))]
+fn small_number(text: &[u8], at: usize) -> Option<usize>
+    requires { at ≤ length text.now }
+    ensures value { result ≡ small_number text.now at }
+    ensures within { IfSome result (λ end. end ≤ length text.now) }
+{
+    let begin = skip(text, at, b" ")?;
+    let (_, end) = number_at(text, begin, MOST_ROUND)?;
+    Some(end)
+}
+
+/// The offset behind the front of the line of the price of a device's opening in a round.
+#[tactic(auto, unfolding(crate::specs::Forms::dev_front))]
+pub(crate) fn dev_front(text: &[u8], at: usize, device: &Device, round: u32) -> Option<usize>
+    requires { at ≤ length text.now }
+    ensures value { result ≡ dev_front device.now round text.now at }
+    ensures within { IfSome result (λ end. end ≤ length text.now) }
+{
+    let bus = skip(text, at, b"price dev ")?;
+    let colon = skip_digits(text, bus, u64::from(device.bus))?;
+    let target = skip(text, colon, b":")?;
+    let second = skip_digits(text, target, u64::from(device.target))?;
+    let lun = skip(text, second, b":")?;
+    let end = skip_digits(text, lun, u64::from(device.lun))?;
+    let space = skip_number(text, end, u64::from(round))?;
+    skip(text, space, b" ")
+}
+
+/// The offset behind the front of the line of the price of an adapter's opening in a round.
+#[tactic(auto, unfolding(crate::specs::Forms::sim_front))]
+pub(crate) fn sim_front(text: &[u8], at: usize, adapter: u32, round: u32) -> Option<usize>
+    requires { at ≤ length text.now }
+    ensures value { result ≡ sim_front adapter round text.now at }
+    ensures within { IfSome result (λ end. end ≤ length text.now) }
+{
+    let number = skip(text, at, b"price sim")?;
+    let round_at = skip_number(text, number, u64::from(adapter))?;
+    let space = skip_number(text, round_at, u64::from(round))?;
+    skip(text, space, b" ")
+}

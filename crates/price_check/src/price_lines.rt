@@ -1,0 +1,153 @@
+ghost use Rattle.std.specs.Prelude.{◌≡◌, ◌≢◌, ◌+◌, ◌*◌, ◌<◌, ◌≤◌, ◌^◌, ◌/◌, length, Ok, Err, IfOk, IfErr, IfSome};
+ghost use Rattle.round_net.specs.Rows.{instance_of_rows};
+ghost use Rattle.price_check.specs.Reading.{series, dev_price_at, sim_price_at, price_at, valued, is_large};
+ghost use Rattle.round_net.specs.declared.price_range.TheConstants.{MOST_PRICE};
+
+use crate::forms::{dev_front, sim_front};
+use crate::pieces::{digits_from, line_of, skip};
+use crate::report_fault::ReportFault;
+use cam_types::{Device, read_number};
+use round_net::{MOST_PRICE, Net};
+use std::alloc::Global;
+
+/// How many bytes a line may have, its line feed included.
+const MOST_LINE: usize = 101;
+
+/// The prices of the devices' cells, and the offset behind their lines.
+pub(crate) fn read_dev_prices(
+    alloc: Global,
+    text: &[u8],
+    at: usize,
+    devices: &[Device],
+    net: &Net,
+) -> Result<(Vec<u64>, usize), ReportFault>
+    requires within { at ≤ length text.now }
+    requires short { length text.now < 2 ^ 31 }
+    requires devices { length devices.now ≡ (instance_of_rows net.now).devices }
+    requires some { 1 ≤ (instance_of_rows net.now).rounds }
+    ensures ok { let n = instance_of_rows net.now in IfOk result (λ r. series (dev_price_at devices.now n.rounds text.now) (n.devices * n.rounds) at ≡ Ok (r.0.items, r.1)) }
+    ensures err { let n = instance_of_rows net.now in IfErr result (λ e. e ≢ ReportFault.OutOfMemory → series (dev_price_at devices.now n.rounds text.now) (n.devices * n.rounds) at ≡ Err e) }
+    ensures within { IfOk result (λ r. r.1 ≤ length text.now) }
+{
+    let rounds = net.rounds();
+    let mut prices = Vec::new(alloc);
+    let mut next = at;
+    for cell in 0..net.devices() * rounds {
+        let (price, end) = read_dev_price(text, next, devices, rounds, cell)?;
+        prices.push(price)?;
+        next = end;
+    }
+    Ok((prices, next))
+}
+
+/// The prices of the adapters' cells, and the offset behind their lines.
+pub(crate) fn read_sim_prices(
+    alloc: Global,
+    text: &[u8],
+    at: usize,
+    net: &Net,
+) -> Result<(Vec<u64>, usize), ReportFault>
+    requires within { at ≤ length text.now }
+    requires short { length text.now < 2 ^ 31 }
+    requires some { 1 ≤ (instance_of_rows net.now).rounds }
+    ensures ok { let n = instance_of_rows net.now in IfOk result (λ r. series (sim_price_at n.rounds text.now) (n.adapters * n.rounds) at ≡ Ok (r.0.items, r.1)) }
+    ensures err { let n = instance_of_rows net.now in IfErr result (λ e. e ≢ ReportFault.OutOfMemory → series (sim_price_at n.rounds text.now) (n.adapters * n.rounds) at ≡ Err e) }
+    ensures within { IfOk result (λ r. r.1 ≤ length text.now) }
+{
+    let rounds = net.rounds();
+    let mut prices = Vec::new(alloc);
+    let mut next = at;
+    for cell in 0..net.adapters() * rounds {
+        let (price, end) = read_sim_price(text, next, rounds, cell)?;
+        prices.push(price)?;
+        next = end;
+    }
+    Ok((prices, next))
+}
+
+// The price of a cell of the devices, and the offset behind its line.
+#[tactic(auto, unfolding(crate::specs::Reading::dev_price_at))]
+fn read_dev_price(
+    text: &[u8],
+    at: usize,
+    devices: &[Device],
+    rounds: u32,
+    cell: u32,
+) -> Result<(u64, usize), ReportFault>
+    requires within { at ≤ length text.now }
+    requires short { length text.now < 2 ^ 31 }
+    requires some { 1 ≤ rounds }
+    requires cell { cell / rounds < length devices.now }
+    ensures value { result ≡ dev_price_at devices.now rounds text.now cell at }
+    ensures within { IfOk result (λ r. r.1 ≤ length text.now) }
+{
+    let device = &devices[(cell / rounds) as usize];
+    read_price(text, at, dev_front(text, at, device, cell % rounds + 1))
+}
+
+// The price of a cell of the adapters, and the offset behind its line.
+#[tactic(auto, unfolding(crate::specs::Reading::sim_price_at))]
+fn read_sim_price(
+    text: &[u8],
+    at: usize,
+    rounds: u32,
+    cell: u32,
+) -> Result<(u64, usize), ReportFault>
+    requires within { at ≤ length text.now }
+    requires short { length text.now < 2 ^ 31 }
+    requires some { 1 ≤ rounds }
+    requires fits { cell < 2 ^ 31 }
+    ensures value { result ≡ sim_price_at rounds text.now cell at }
+    ensures within { IfOk result (λ r. r.1 ≤ length text.now) }
+{
+    let front = sim_front(text, at, cell / rounds, cell % rounds + 1);
+    read_price(text, at, front)
+}
+
+// The price behind a front, and the offset behind its line; or 0 where no price stands there.
+#[tactic(auto, unfolding(crate::specs::Reading::price_at))]
+fn read_price(text: &[u8], at: usize, front: Option<usize>) -> Result<(u64, usize), ReportFault>
+    requires within { at ≤ length text.now }
+    requires short { length text.now < 2 ^ 31 }
+    requires front { IfSome front (λ begin. begin ≤ length text.now) }
+    ensures value { result ≡ price_at front text.now at }
+    ensures within { IfOk result (λ r. r.1 ≤ length text.now) }
+{
+    let Some(begin) = front else {
+        return Ok((0, at));
+    };
+    let end = begin + digits_from(text, begin);
+    match skip(text, end, b"\n") {
+        Some(next) => valued(text, at, next, &text[begin..end]),
+        None => Ok((0, at)),
+    }
+}
+
+// The price that these digits spell, and the offset behind its line; or 0 where they spell none.
+#[tactic(auto, unfolding(crate::specs::Reading::valued))]
+fn valued(text: &[u8], at: usize, next: usize, digits: &[u8]) -> Result<(u64, usize), ReportFault>
+    requires within { at ≤ length text.now }
+    requires next { next ≤ length text.now }
+    requires short { length text.now < 2 ^ 31 }
+    ensures value { result ≡ valued text.now at next digits.now }
+    ensures within { IfOk result (λ r. r.1 ≤ length text.now) }
+{
+    match read_number(digits, MOST_PRICE) {
+        Some(0) => Ok((0, at)),
+        Some(price) => Ok((price, next)),
+        None => {
+            if is_large(digits) && next <= at + MOST_LINE {
+                Err(ReportFault::PriceRange(line_of(text, at)))
+            } else {
+                Ok((0, at))
+            }
+        }
+    }
+}
+
+// Whether digits that spell no price spell a number that is too large for one.
+fn is_large(digits: &[u8]) -> bool
+    ensures { result ≡ is_large digits.now }
+{
+    !digits.is_empty() && !(digits.len() > 1 && digits[0] == b'0')
+}

@@ -1,13 +1,13 @@
 -- what is written of a history with a best plan of its net
-use Rattle.std.proofs.Common.{◌≡◌, ℕ, ◌+◌, ◌-◌, ◌<◌, ◌≤◌, Bool, true, false, List, [], ◌++◌, length, map, refl, sym, ap, subst, ◌∙◌, arith, append-nil, Option, Some, None}
-use Rattle.std.specs.Prelude.{sum_by, is_some, slice_index, if◌then◌else◌, All}
+use Rattle.std.proofs.Common.{◌≡◌, ℕ, ◌-◌, ◌<◌, ◌≤◌, Bool, true, false, List, [], ◌++◌, length, refl, sym, ap, subst, ◌∙◌, arith, append-nil, Option, Some, None}
+use Rattle.std.specs.Prelude.{is_some, slice_index, if◌then◌else◌, All}
 use Rattle.std.proofs.lemmas.List.{length-map}
 use Rattle.std.proofs.lemmas.List.Elements.{All-from_get_or}
 use Rattle.cam_types.specs.Topology.{Topology}
 use Rattle.cam_types.specs.declared.whole.TheConstants.{MOST_BYTES}
 use Rattle.cam_types.specs.declared.device.Device.{Device}
-use Rattle.event_log.specs.Stays.{passages, unsent}
-use Rattle.event_log.specs.Live.{live_part, live_cost}
+use Rattle.event_log.specs.Stays.{unsent}
+use Rattle.event_log.specs.Live.{live_cost}
 use Rattle.event_log.specs.declared.event.Event.{Event}
 use Rattle.event_log.specs.declared.passage.Stay.{Stay}
 use Rattle.event_log.proofs.LiveLemmas.{live_cost_sent}
@@ -18,9 +18,9 @@ use Rattle.round_net.specs.Rows.{NetRows, instance_of_rows, live_of_rows}
 use Rattle.round_net.specs.Instance.{Instance}
 use Rattle.round_net.specs.Sound.{IsSound}
 use Rattle.round_net.specs.Schedules.{IsAdmissible, cost}
-use Rattle.round_net.specs.Value.{Pricing, ProvesBest}
+use Rattle.round_net.specs.Value.{ProvesBest}
 use Rattle.round_net.specs.Nets.{net_of, instance_of, live_of}
-use Rattle.round_net.specs.PriceRows.{PriceRows, pricing_of_rows, IsPriced, IsPricingFor}
+use Rattle.round_net.specs.PriceRows.{pricing_of_rows, IsPriced, IsPricingFor}
 use Rattle.price_check.proofs.DualityLemmas.{best_where_proved}
 use Rattle.price_check.specs.Verdicts.{IsBest}
 use Rattle.price_check.specs.Claims.{report_text}
@@ -91,7 +91,7 @@ audited : (summary : Bool) (past : Past) (text : List ℕ) (live : ℕ) (claim :
 audited summary past text live claim b legal is short =
     let net = instance_of past.config past.events in
     let least : (other : ℕ → ℕ) → IsAdmissible net other → cost net (slice_index claim.schedule) ≤ cost net other =
-        best_where_proved net (live_of past.config past.events) (slice_index claim.schedule) (pricing_of_rows claim.prices) b.sound b.proved in
+    best_where_proved net (live_of past.config past.events) (slice_index claim.schedule) (pricing_of_rows claim.prices) b.sound b.proved in
     let best_few : claim.best ≤ live = omega (arith, least (live_of past.config past.events) b.sound.live_admissible, b.best, b.lived) in
     record {
       live = live;

@@ -1,12 +1,11 @@
 -- what the live schedule costs, by the net and by the events
-use Rattle.std.proofs.Common.{◌≡◌, ℕ, zero, suc, ◌+◌, ◌*◌, ◌-◌, ◌<◌, ◌≤◌, List, [], ◌∷◌, length, map, refl, sym, ap, ◌∙◌, arith, Option, Some, None}
+use Rattle.std.proofs.Common.{◌≡◌, ℕ, zero, suc, ◌+◌, ◌*◌, ◌-◌, ◌<◌, ◌≤◌, List, [], ◌∷◌, length, map, refl, sym, ap, ◌∙◌, arith}
 use Rattle.std.specs.Prelude.{sum_by}
-use Rattle.std.specs.List.{list_any}
 use Rattle.std.proofs.lemmas.List.Sums.{sum_by-cons}
 use Rattle.std.proofs.lemmas.Nat.{mul-le}
 use Rattle.cam_types.specs.Topology.{Topology}
 use Rattle.event_log.specs.Stays.{passages}
-use Rattle.event_log.specs.Live.{live_part, live_cost}
+use Rattle.event_log.specs.Live.{live_part}
 use Rattle.event_log.specs.declared.event.Event.{Event}
 use Rattle.event_log.specs.declared.passage.Passage.{Passage}
 use Rattle.round_net.specs.Sums.{sum_below}

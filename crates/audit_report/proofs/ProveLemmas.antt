@@ -1,13 +1,13 @@
 -- a report that an audit of the trace wrote is proved
-use Rattle.std.proofs.Common.{◌≡◌, ℕ, Bool, true, false, List, ◌++◌, refl, sym, ap, subst, ◌∙◌, Option, Some, None, inl}
-use Rattle.std.specs.Prelude.{◌≢◌, ⊤, slice_index, codes, is_some, Result, Ok, Err, IfSome, MatchOption, IsOkUnless}
+use Rattle.std.proofs.Common.{◌≡◌, ℕ, true, false, List, refl, sym, ap, subst, ◌∙◌, Option, Some, None, inl}
+use Rattle.std.specs.Prelude.{◌≢◌, is_some, Result, Ok, Err, IfSome, MatchOption, IsOkUnless}
 use Rattle.event_log.specs.Live.{live_cost}
 use Rattle.event_log.specs.Stays.{unsent}
 use Rattle.event_log.specs.declared.passage.Stay.{Stay}
 use Rattle.event_log.proofs.LiveLemmas.{live_cost_unsent}
 use Rattle.cam_event.specs.Past.{Past}
 use Rattle.round_net.specs.Rows.{NetRows, instance_of_rows}
-use Rattle.round_net.specs.Nets.{net_of, instance_of}
+use Rattle.round_net.specs.Nets.{net_of}
 use Rattle.round_net.specs.declared.net_fault.NetFault.{NetFault}
 use Rattle.round_net.specs.declared.net_fault.NetFault.TheVariants as net_fault
 use Rattle.trace_file.specs.declared.trace_fault.TraceFault.{TraceFault}
@@ -39,7 +39,7 @@ pub trace_again : (P : Past → List ℕ → Type 0) (r : Option (List ℕ)) (al
     IfSome r (λ t. P past t → result ≢ Err trace_fault.OutOfMemory → result ≢ Err trace_fault.ReadFailed → result ≡ Ok past) → history ≡ past
 trace_again P r all past history result e trace is only =
     let there : result ≡ Ok past = of_known r (λ t. P past t → result ≢ Err trace_fault.OutOfMemory → result ≢ Err trace_fault.ReadFailed → result ≡ Ok past) all e only trace
-        (λ bad. absurd (cc)) (λ bad. absurd (cc)) in
+    (λ bad. absurd (cc)) (λ bad. absurd (cc)) in
     cc
 
 -- an audited history is complete

@@ -1,5 +1,5 @@
 -- what an audit of a trace writes
-use Rattle.std.specs.Prelude.{◌≡◌, ℕ, ◌≤◌, Bool, if◌then◌else◌, List, length, slice_index, Some, IsTrue}
+use Rattle.std.specs.Prelude.{◌≡◌, ℕ, ◌≤◌, Bool, if◌then◌else◌, List, length, Some, IsTrue}
 use Rattle.std.specs.List.{list_all}
 use Rattle.cam_types.specs.Lists.{moments}
 use Rattle.cam_types.specs.declared.whole.TheConstants.{MOST_BYTES}

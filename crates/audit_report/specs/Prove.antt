@@ -1,5 +1,5 @@
 -- how a run over a trace and a report on it ends
-use Rattle.std.specs.Prelude.{◌≡◌, ℕ, Bool, true, ⊤, List, Option, Some, Result, Ok, Err}
+use Rattle.std.specs.Prelude.{◌≡◌, ℕ, Bool, true, ⊤, List, Option, Result, Ok, Err}
 use Rattle.std.specs.Io.KnownBytes.{Appends}
 use Rattle.cam_types.specs.Whole.{AppendsFront}
 use Rattle.cam_event.specs.Past.{Past}

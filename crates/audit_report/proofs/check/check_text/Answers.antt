@@ -1,4 +1,4 @@
-use Rattle.std.proofs.Common.{◌≡◌, rules}
+use Rattle.std.proofs.Common.{rules}
 use Rattle.audit_report.specs.Check.{check_text}
 use Rattle.audit_report.proofs.check.check_text.Goals as goal
 

@@ -1,4 +1,4 @@
-use Rattle.std.proofs.Common.{◌≡◌, ap, sym, Option, Some, None, false}
+use Rattle.std.proofs.Common.{◌≡◌, ap, sym, Option, None, false}
 use Rattle.std.specs.Prelude.{is_some}
 use Rattle.event_log.specs.Live.{live_cost}
 use Rattle.event_log.specs.Stays.{unsent}

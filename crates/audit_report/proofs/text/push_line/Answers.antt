@@ -1,4 +1,4 @@
-use Rattle.std.proofs.Common.{◌≡◌, ℕ, List, ◌++◌, append_assoc, refl}
+use Rattle.std.proofs.Common.{◌≡◌, ℕ, List, ◌++◌, append_assoc}
 use Rattle.price_check.specs.Lines.{line}
 use Rattle.audit_report.proofs.text.push_line.Goals as goal
 

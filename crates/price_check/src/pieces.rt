@@ -1,6 +1,4 @@
-ghost use Rattle.std.specs.Prelude.{◌≡◌, ◌<◌, ◌≤◌, ◌+◌, ◌^◌, ◌==◌, length, drop, take, count_by, decimal, IfSome};
-ghost use Rattle.std.specs.Char.{is_ascii_digit};
-ghost use Rattle.std.specs.List.{prefix_len};
+ghost use Rattle.std.specs.Prelude.{◌≡◌, ◌<◌, ◌≤◌, ◌+◌, ◌^◌, length, decimal, IfSome};
 ghost use Rattle.cam_path.specs.Paths.{digits_at};
 ghost use Rattle.price_check.specs.Pieces.{skip, skip_number, found_number, line_of};
 

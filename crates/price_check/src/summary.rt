@@ -1,6 +1,5 @@
-ghost use Rattle.std.specs.Prelude.{◌≡◌, ◌<◌, ◌≤◌, ◌^◌, length, Some, IfOk};
-ghost use Rattle.event_log.specs.Live.{live_cost};
-ghost use Rattle.price_check.specs.Forms.{known_line, stated_line, most_stated};
+ghost use Rattle.std.specs.Prelude.{◌≡◌, ◌<◌, ◌≤◌, ◌^◌, length, IfOk};
+ghost use Rattle.price_check.specs.Forms.{known_line, stated_line};
 ghost use Rattle.price_check.specs.Reading.{due, summary_at};
 
 use crate::forms::{known_line, stated_line};

@@ -1,5 +1,6 @@
 use super::*;
 use crate::tests::frozen_history;
+use crate::{Verdict, check};
 use std::io;
 use std::test::Fail;
 
@@ -37,6 +38,23 @@ fn a_report_is_read_with_its_last_line_feed_and_without_it(rt: HostRuntime) -> R
             "Schedule { rounds: [2, 1] } Prices { rounds: 5, devices: 2, adapters: 1, dev: [0, 0, 0, 0, 0, 0, 0, 0, 0, 0], sim: [3, 0, 0, 0, 0] }"
         );
     }
+    Ok(())
+}
+
+#[test]
+fn a_report_that_is_read_can_be_checked(rt: HostRuntime) -> Result<(), Fail> {
+    let alloc = rt.alloc();
+    let text = format!(in alloc; "{SUMMARY}{STAYS}price sim 0 1 3\nend\n")?;
+    let history = frozen_history(alloc)?;
+    let net = Net::of(alloc, &history)?;
+    if history.unsent().is_some() {
+        return Err(Fail::new("a stay without a send"));
+    }
+    let mut reader = Watched::new(text.as_str().as_bytes());
+    let claim = read_report(alloc, &mut reader, &history, &net)?;
+    let mut counts = vec![in alloc; 0u32; net.cells()]?;
+    let verdict = check(&net, &claim.schedule, &claim.prices, &mut counts);
+    assert_eq!(rt; verdict, Verdict::Proved);
     Ok(())
 }
 
@@ -158,6 +176,35 @@ fn a_failed_read_is_no_end(rt: HostRuntime) -> Result<(), Fail> {
             Ok(())
         }
     }
+}
+
+/// Gives so many bytes, as many as there is room for in each read.
+#[derive(Drop)]
+struct Many(usize);
+
+impl Read for Many {
+    fn read(&mut self, buf: &mut [u8]) -> io::Result<usize> {
+        let count = self.0.min(buf.len());
+        for byte in buf[..count].iter_mut() {
+            *byte = b'c';
+        }
+        self.0 -= count;
+        Ok(count)
+    }
+}
+
+#[test]
+fn reads_no_more_than_may_be(rt: HostRuntime) -> Result<(), Fail> {
+    for (bytes, want) in [
+        (16_777_216, ReportFault::BadLine(1)),
+        (16_777_217, ReportFault::TooLong),
+    ] {
+        match read(rt.alloc(), Many(bytes))? {
+            Ok(_) => return Err(Fail::new("a report")),
+            Err(fault) => assert_eq!(rt; fault, want),
+        }
+    }
+    Ok(())
 }
 
 #[test]

@@ -7,3 +7,6 @@ pub mod SendLemmas
 pub mod LawLemmas
 pub mod LimitLemmas
 pub mod RangeLemmas
+pub mod StandLemmas
+pub mod CoverLemmas
+pub mod FirstLemmas

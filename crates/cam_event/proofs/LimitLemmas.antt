@@ -52,13 +52,13 @@ one_more : (ps : List Passage) (o : Option Passage) (most : ℕ) → length ps <
 one_more ps None most lt = omega (arith, length-append ps [])
 one_more ps (Some p) most lt = omega (arith, length-append ps (p ∷ []))
 
-room_submit : (rules : Rules) (c : Topology) (before : List Event) (driver device priority retries : ℕ) (flags : Flags) → is_legal_event rules c (before, Submit driver device priority retries flags) ≡ true → length (passages before) < rules.stays
+pub room_submit : (rules : Rules) (c : Topology) (before : List Event) (driver device priority retries : ℕ) (flags : Flags) → is_legal_event rules c (before, Submit driver device priority retries flags) ≡ true → length (passages before) < rules.stays
 room_submit rules c before driver device priority retries flags legal =
     let asked = (allowed-legal_event rules c before (Submit driver device priority retries flags) legal).1 in
     let named = names_device c device && nat_le priority MOST_PRIORITY && nat_le retries MOST_RETRIES && has_ccb rules before in
     ltb-true _ _ (and_parts named (has_stay rules before) asked).1
 
-room_requeue : (rules : Rules) (c : Topology) (before : List Event) (ccb : ℕ) → is_legal_event rules c (before, Requeue ccb) ≡ true → length (passages before) < rules.stays
+pub room_requeue : (rules : Rules) (c : Topology) (before : List Event) (ccb : ℕ) → is_legal_event rules c (before, Requeue ccb) ≡ true → length (passages before) < rules.stays
 room_requeue rules c before ccb legal =
     let asked = (allowed-legal_event rules c before (Requeue ccb) legal).1 in
     let one = and_parts (names_ccb before ccb && has_stay rules before && is_recovering before ccb) (wants_requeue before ccb) asked in

@@ -23,7 +23,7 @@ use Rattle.cam_event.proofs.LawLemmas.{allowed-legal_event}
 use Rattle.cam_event.proofs.LimitLemmas.{legal-induction}
 use Rattle.cam_event.proofs.StayLemmas.{is_of_its_ccb, of_its_ccb-passages}
 
-range_submit : (rules : Rules) (c : Topology) (before : List Event) (driver device priority retries : ℕ) (flags : Flags) → is_legal_event rules c (before, Submit driver device priority retries flags) ≡ true → (names_device c device && nat_le priority MOST_PRIORITY && nat_le retries MOST_RETRIES) ≡ true
+pub range_submit : (rules : Rules) (c : Topology) (before : List Event) (driver device priority retries : ℕ) (flags : Flags) → is_legal_event rules c (before, Submit driver device priority retries flags) ≡ true → (names_device c device && nat_le priority MOST_PRIORITY && nat_le retries MOST_RETRIES) ≡ true
 range_submit rules c before driver device priority retries flags legal =
     let asked = (allowed-legal_event rules c before (Submit driver device priority retries flags) legal).1 in
     let named = names_device c device && nat_le priority MOST_PRIORITY && nat_le retries MOST_RETRIES in
@@ -52,7 +52,7 @@ unfolding is_legal submissions
 submissions_in_range rules c events legal = legal-induction rules c (λ es. list_all (is_in_range c) (submissions es) ≡ true) (range_step rules c) [] events legal refl
 
 -- what each element passes, one that is got does
-passes-slice_get : {X : Type 0} → (p : X → Bool) (xs : List X) (i : ℕ) (x : X) → list_all p xs ≡ true → slice_get xs i ≡ Some x → p x ≡ true
+pub passes-slice_get : {X : Type 0} → (p : X → Bool) (xs : List X) (i : ℕ) (x : X) → list_all p xs ≡ true → slice_get xs i ≡ Some x → p x ≡ true
 passes-slice_get p [] i x all e = absurd cc
 passes-slice_get p (y ∷ ys) zero x all e =
     let same : y ≡ x = cc in

@@ -1,3 +1,4 @@
+pub mod CcbLaws
 pub mod Laws
 pub mod OpeningLaws
 pub mod ListFacts
@@ -5,7 +6,9 @@ pub mod LiveLemmas
 pub mod LogLemmas
 pub mod NumberedLemmas
 pub mod QueueLaws
+pub mod ShareLaws
 pub mod SortedLemmas
 pub mod StateLaws
 pub mod TallyLaws
+pub mod TotalLaws
 pub mod TurnLaws

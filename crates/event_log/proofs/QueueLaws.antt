@@ -56,7 +56,7 @@ module _ (test : Passage → Bool) where
       ∙ ap (λ ps. ps ++ filter test (option_to_list (passage_of (es, e)))) (filter-comm test (λ (p : Passage). not (is_send_of p.ccb e)) (waiting es))
 
 -- where no round opens, the queue and what waits for the next round change so
-round-still : (es : List Event) (e : Event) → is_tick e ≡ false → round (es ++ e ∷ []) ≡ round es
+pub round-still : (es : List Event) (e : Event) → is_tick e ≡ false → round (es ++ e ∷ []) ≡ round es
 round-still es e still = round-push es e ∙ ap (λ b. round es + cond b 1 0) still ∙ add-zero (round es)
 
 pub queue-push : (es : List Event) (e : Event) (d : ℕ) → is_tick e ≡ false →
@@ -103,11 +103,11 @@ arrival-passage_of (before, Tick) p e = absurd (cc)
 
 -- what holds of each stay that begins holds of all
 module _ (test : Passage → Bool) where
-  kept_stay : (o : Option Passage) (ps : List Passage) → ((p : Passage) → o ≡ Some p → test p ≡ true) → list_all test ps ≡ true → list_all test (cons_option o ps) ≡ true
+  pub kept_stay : (o : Option Passage) (ps : List Passage) → ((p : Passage) → o ≡ Some p → test p ≡ true) → list_all test ps ≡ true → list_all test (cons_option o ps) ≡ true
   kept_stay None ps h k = k
   kept_stay (Some p) ps h k = and_from _ _ (h p refl) k
 
-  all_begun : (good : List Event → Type 0) → ((before : List Event) (e : Event) → good before → good (before ++ e ∷ [])) →
+  pub all_begun : (good : List Event → Type 0) → ((before : List Event) (e : Event) → good before → good (before ++ e ∷ [])) →
       ((before : List Event) (e : Event) (p : Passage) → good before → passage_of (before, e) ≡ Some p → test p ≡ true) →
       (before xs : List Event) → good before → list_all test (filter_map passage_of (moments_after before xs)) ≡ true
   all_begun good more holds before [] g = refl
@@ -115,13 +115,13 @@ module _ (test : Passage → Bool) where
       kept_stay (passage_of (before, x)) (filter_map passage_of (moments_after (before ++ x ∷ []) xs)) (λ p e. holds before x p g e) (all_begun good more holds (before ++ x ∷ []) xs (more before x g))
 
 -- the stays begin one behind another
-le_test : (a b : ℕ) → a ≤ b → nat_le a b ≡ true
+pub le_test : (a b : ℕ) → a ≤ b → nat_le a b ≡ true
 le_test a b h = grind (arith, nat_tests)
 
-test_le : (a b : ℕ) → nat_le a b ≡ true → a ≤ b
+pub test_le : (a b : ℕ) → nat_le a b ≡ true → a ≤ b
 test_le a b h = grind (arith, nat_tests)
 
-begun_from : (n : ℕ) (before xs : List Event) → n ≤ length before → list_all (λ (p : Passage). nat_le n p.place) (filter_map passage_of (moments_after before xs)) ≡ true
+pub begun_from : (n : ℕ) (before xs : List Event) → n ≤ length before → list_all (λ (p : Passage). nat_le n p.place) (filter_map passage_of (moments_after before xs)) ≡ true
 begun_from n before xs le =
     all_begun (λ (p : Passage). nat_le n p.place) (λ es. n ≤ length es) (λ es e h. omega (arith, h, length-append es (e ∷ [])))
     (λ es e p h is. let at : p.place ≡ length es = place-passage_of (es, e) p is in le_test n p.place (omega (arith, h))) before xs le

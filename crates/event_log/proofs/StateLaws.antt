@@ -65,12 +65,12 @@ next_state-none (Adjust device openings) k s e = refl
 next_state-none Tick k s e = refl
 
 -- functions over a range that agree on it, or but at one place
-map-range_same : {X : Type 0} → (f g : ℕ → X) (a n : ℕ) → ((k : ℕ) → a ≤ k → k < a + n → g k ≡ f k) → map g (range_with_len a n) ≡ map f (range_with_len a n)
+pub map-range_same : {X : Type 0} → (f g : ℕ → X) (a n : ℕ) → ((k : ℕ) → a ≤ k → k < a + n → g k ≡ f k) → map g (range_with_len a n) ≡ map f (range_with_len a n)
 map-range_same f g a zero h = refl
 map-range_same f g a (suc n) h =
     rw (h a (omega arith) (omega arith), map-range_same f g (a + 1) n (λ k le lt. h k (omega arith) (omega arith))) refl
 
-map-range_but : {X : Type 0} → (f g : ℕ → X) (a n c : ℕ) → ((k : ℕ) → k ≢ a + c → g k ≡ f k) → map g (range_with_len a n) ≡ set (map f (range_with_len a n)) c (g (a + c))
+pub map-range_but : {X : Type 0} → (f g : ℕ → X) (a n c : ℕ) → ((k : ℕ) → k ≢ a + c → g k ≡ f k) → map g (range_with_len a n) ≡ set (map f (range_with_len a n)) c (g (a + c))
 map-range_but f g a zero c h = refl
 map-range_but f g a (suc n) zero h =
     let here : a + 0 ≡ a = omega arith in
@@ -81,7 +81,7 @@ map-range_but f g a (suc n) (suc c) h =
     rw (h a (λ e. omega arith), rest, there) refl
 
 -- the element of a function's values over a range
-slice_get-range : {X : Type 0} → (f : ℕ → X) (a n c : ℕ) → c < n → slice_get (map f (range_with_len a n)) c ≡ Some (f (a + c))
+pub slice_get-range : {X : Type 0} → (f : ℕ → X) (a n c : ℕ) → c < n → slice_get (map f (range_with_len a n)) c ≡ Some (f (a + c))
 slice_get-range f a zero c lt = absurd (omega arith)
 slice_get-range f a (suc n) zero lt = let here : a + 0 ≡ a = omega arith in rw here refl
 slice_get-range f a (suc n) (suc c) lt =
@@ -89,7 +89,7 @@ slice_get-range f a (suc n) (suc c) lt =
     let rest : slice_get (map f (range_with_len (a + 1) n)) c ≡ Some (f ((a + 1) + c)) = slice_get-range f (a + 1) n c (omega arith) in
     rest ∙ ap (λ k. Some (f k)) there
 
-slice_get-range_past : {X : Type 0} → (f : ℕ → X) (a n c : ℕ) → n ≤ c → slice_get (map f (range_with_len a n)) c ≡ None
+pub slice_get-range_past : {X : Type 0} → (f : ℕ → X) (a n c : ℕ) → n ≤ c → slice_get (map f (range_with_len a n)) c ≡ None
 slice_get-range_past f a zero c le = refl
 slice_get-range_past f a (suc n) zero le = absurd (omega arith)
 slice_get-range_past f a (suc n) (suc c) le = slice_get-range_past f (a + 1) n c (omega arith)

@@ -1,0 +1,11 @@
+pub mod CountLemmas
+pub mod DeviceLaws
+pub mod EntryLemmas
+pub mod FieldLaws
+pub mod OrderLaws
+pub mod RoomLemmas
+pub mod SoundLemmas
+pub mod TellLemmas
+pub mod TransportLemmas
+pub mod WiderLemmas
+pub mod TouchLaws

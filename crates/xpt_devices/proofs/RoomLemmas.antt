@@ -1,0 +1,152 @@
+-- what the devices' queues have room for, and what they hold
+use Rattle.std.proofs.Common.{◌≡◌, ◌≢◌, ℕ, zero, suc, ◌+◌, ◌<◌, ◌≤◌, Bool, true, false, cond, List, [], ◌∷◌, length, refl, sym, ap, subst, ◌∙◌, arith, Some, inl, inr, map, zero-add}
+use Rattle.std.specs.Prelude.{not, ◌==◌, ◌&&◌, ◌||◌, nat_lt, nat_le, filter, fold, count_by, slice_get, slice_set, is_some, All}
+use Rattle.std.specs.List.{list_any, range_with_len}
+use Rattle.std.specs.Option.{option_map_or}
+use Rattle.std.proofs.lemmas.Bool.{cases_lt}
+use Rattle.std.proofs.lemmas.Bool.Decides.{nat_tests}
+use Rattle.std.proofs.lemmas.List.{length-map}
+use Rattle.std.proofs.lemmas.List.Elements.{All-nil, All-cons}
+use Rattle.std.proofs.lemmas.List.FromFn.{length-range_with_len}
+use Rattle.std.proofs.lemmas.List.Sums.{sum_by-cons, length-filter, count_by-le-length}
+use Rattle.std.proofs.lemmas.Option.{slice_get_cases}
+use Rattle.cam_types.specs.Lists.{is_less}
+use Rattle.cam_types.specs.Topology.{Topology}
+use Rattle.event_log.specs.Event.{is_some_and}
+use Rattle.event_log.specs.Counts.{round, commands, ccbs, submission, submissions, is_in_flight, freeze_count, has_in_flight}
+use Rattle.event_log.specs.Stays.{passages, waiting, is_at, queue, queue_key, first}
+use Rattle.event_log.specs.Sorted.{insert_by}
+use Rattle.event_log.specs.Head.{is_ready, has_opening, openings}
+use Rattle.event_log.specs.declared.event.Event.{Event}
+use Rattle.event_log.specs.declared.submission.Submission.{Submission}
+use Rattle.event_log.specs.declared.passage.Passage.{Passage}
+use Rattle.event_log.proofs.QueueLaws.{first-in_order}
+use Rattle.event_log.proofs.StateLaws.{map-range_same, map-range_but, slice_get-range, slice_get-range_past}
+use Rattle.dev_queue.specs.Device.{Device, held_count}
+use Rattle.dev_queue.specs.Device as dev
+use Rattle.event_log.proofs.TotalLaws.{few_waiting}
+use Rattle.xpt_devices.specs.Device.{entry, in_order, is_later, later, device_state}
+use Rattle.xpt_devices.specs.Told.{at_device, HasAt}
+use Rattle.xpt_devices.proofs.FieldLaws.{is_stay_at, sent_now}
+
+-- a function over a range that changes at one place
+hit_cases : (change : Device → Device) (q q' : Device) (b : Bool) → b ≡ true → q' ≡ cond b (change q) q → q' ≡ change q
+hit_cases change q q' true e h = h
+hit_cases change q q' false e h = absurd (cc)
+
+miss_cases : (change : Device → Device) (q q' : Device) (b : Bool) → b ≡ false → q' ≡ cond b (change q) q → q' ≡ q
+miss_cases change q q' true e h = absurd (cc)
+miss_cases change q q' false e h = h
+
+same_number : (k : ℕ) → (k == k) ≡ true
+same_number k = grind (arith, nat_tests)
+
+other_number : (a b : ℕ) → b ≢ a → (a == b) ≡ false
+other_number a b ne = grind (arith, nat_tests)
+
+module _ (f g : ℕ → Device) (n : ℕ) where
+  pub at_range : (target : ℕ) (change : Device → Device) → ((d : ℕ) → g d ≡ cond (target == d) (change (f d)) (f d)) → map g (range_with_len 0 n) ≡ at_device target change (map f (range_with_len 0 n))
+  at_range target change h = elim (cases_lt target n) [
+    | inl lt ↦
+        let at : 0 + target ≡ target = zero-add target in
+        let whole : map g (range_with_len 0 n) ≡ slice_set (map f (range_with_len 0 n)) target (g (0 + target)) =
+        map-range_but f g 0 n target (λ k ne. miss_cases change (f k) (g k) (target == k) (other_number target k (λ i. ne (i ∙ sym at))) (h k)) in
+        let made : g (0 + target) ≡ change (f (0 + target)) = rw at (hit_cases change (f target) (g target) (target == target) (same_number target) (h target)) in
+        whole ∙ ap (slice_set (map f (range_with_len 0 n)) target) made
+        ∙ sym (ap (λ o. option_map_or (λ q. slice_set (map f (range_with_len 0 n)) target (change q)) o (map f (range_with_len 0 n))) (slice_get-range f 0 n target lt))
+    | inr le ↦
+        map-range_same f g 0 n (λ k low lt. miss_cases change (f k) (g k) (target == k) (other_number target k (λ i. omega arith)) (h k))
+        ∙ sym (ap (λ o. option_map_or (λ q. slice_set (map f (range_with_len 0 n)) target (change q)) o (map f (range_with_len 0 n))) (slice_get-range_past f 0 n target le))
+  ]
+
+  pub all_range : (change : Device → Device) → ((d : ℕ) → g d ≡ change (f d)) → (a m : ℕ) → map g (range_with_len a m) ≡ map change (map f (range_with_len a m))
+  all_range change h a zero = refl
+  all_range change h a (suc m) = rw (h a, all_range change h (a + 1) m) refl
+
+module _ (P : Device → Type 0) (f : ℕ → Device) where
+  pub has_range : (n d : ℕ) → d < n → P (f d) → HasAt P (map f (range_with_len 0 n)) d
+  has_range n d lt h = record {
+    there = omega (arith, length-map (range_with_len 0 n) f, length-range_with_len 0 n);
+    so = λ q e.
+        let at : Some (f (0 + d)) ≡ Some q = sym (slice_get-range f 0 n d lt) ∙ e in
+        let same : f (0 + d) ≡ q = cc in
+        subst P (ap f (sym (zero-add d)) ∙ same) h;
+  }
+
+  pub All-range : ((d : ℕ) → P (f d)) → (a m : ℕ) → All P (map f (range_with_len a m))
+  All-range h a zero = All-nil P
+  All-range h a (suc m) = All-cons P (f a) (map f (range_with_len (a + 1) m)) (h a) (All-range h (a + 1) m)
+
+-- how many stays wait
+length_cases : (y x : Passage) (ys rest : List Passage) (b : Bool) → length rest ≡ length ys + 1 → length (cond b (x ∷ y ∷ ys) (y ∷ rest)) ≡ length (y ∷ ys) + 1
+length_cases y x ys rest true e = omega arith
+length_cases y x ys rest false e = omega (arith, e)
+
+length-insert : (ys : List Passage) (x : Passage) → length (insert_by queue_key ys x) ≡ length ys + 1
+length-insert [] x = omega arith
+length-insert (y ∷ ys) x = length_cases y x ys (insert_by queue_key ys x) (is_less (queue_key x) (queue_key y)) (length-insert ys x)
+
+length-fold : (ys xs : List Passage) → length (fold (insert_by queue_key) ys xs) ≡ length ys + length xs
+length-fold ys [] = omega arith
+length-fold ys (x ∷ xs) = omega (arith, length-fold (insert_by queue_key ys x) xs, length-insert ys x)
+
+not_both : (same : Bool) (a r : ℕ) → cond {A = ℕ} (same && nat_le a r) 1 0 + cond {A = ℕ} (same && nat_lt r a) 1 0 ≤ 1
+not_both true a r = grind (arith, nat_tests)
+not_both false a r = omega arith
+
+held_few : (d r : ℕ) (ps : List Passage) → count_by (is_at d r) ps + count_by (is_later d r) ps ≤ length ps
+held_few d r [] = omega arith
+held_few d r (p ∷ ps) =
+    omega (arith, not_both (p.device == d) p.arrival r, held_few d r ps, sum_by-cons (λ (x : Passage). cond (is_at d r x) 1 0) p ps, sum_by-cons (λ (x : Passage). cond (is_later d r x) 1 0) p ps)
+
+held-passages : (es : List Event) (d : ℕ) → length (in_order es d) + length (later es d) ≤ length (passages es)
+unfolding queue
+held-passages es d =
+    omega (arith, length-fold [] (filter (is_at d (round es)) (waiting es)), length-filter (is_at d (round es)) (waiting es), length-filter (is_later d (round es)) (waiting es), held_few d (round es) (waiting es), few_waiting es)
+
+pub held-few : (c : Topology) (n : ℕ) (es : List Event) (d : ℕ) → held_count (device_state c n es d) ≤ length (passages es)
+unfolding device_state
+held-few c n es d = omega (arith, held-passages es d, length-map (in_order es d) entry, length-map (later es d) entry)
+
+pub entered-few : (c : Topology) (n : ℕ) (es : List Event) (d : ℕ) → (device_state c n es d).entered ≤ length (passages es)
+unfolding device_state
+entered-few c n es d = count_by-le-length (is_stay_at d) (passages es)
+
+-- none counts where none is in flight
+or_parts : (a b : Bool) → (a || b) ≡ false → (a ≡ false) × (b ≡ false)
+or_parts true b e = absurd (cc)
+or_parts false b e = (refl, e)
+
+none_any : (p q : ℕ → Bool) (xs : List ℕ) → list_any p xs ≡ false → count_by (λ x. p x && q x) xs ≡ 0
+none_any p q [] h = refl
+none_any p q (x ∷ xs) h =
+    let parts = or_parts (p x) (list_any p xs) h in
+    let here : ◌≡◌ {A = ℕ} (cond (p x && q x) 1 0) 0 = ap (λ b. cond {A = ℕ} (b && q x) 1 0) parts.0 in
+    omega (arith, here, none_any p q xs parts.1, sum_by-cons (λ y. cond (p y && q y) 1 0) x xs)
+
+pub none-flying : (c : Topology) (n : ℕ) (es : List Event) (d : ℕ) → has_in_flight es ≡ false → (device_state c n es d).in_flight ≡ 0
+unfolding device_state has_in_flight
+none-flying c n es d h = none_any (is_in_flight es) (λ ccb. is_some_and (λ (s : Submission). s.device == d) (submission es ccb)) (ccbs es) h
+
+-- what was submitted
+pub submitted : (es : List Event) (ccb : ℕ) → ccb < commands es → (s : Submission) × (submission es ccb ≡ Some s)
+submitted es ccb lt = elim (slice_get_cases (submissions es) ccb).1 [
+  | inl w ↦ (w.0, w.2)
+  | inr v ↦ absurd (omega (arith, v.0))
+]
+
+-- a device is ready where its queue is
+some_first : (ps : List Passage) → not (length (map entry ps) == 0) ≡ is_some (slice_get ps 0)
+some_first [] = refl
+some_first (p ∷ ps) = grind (arith, nat_tests)
+
+ready_cases : (a b c : Bool) (n : ℕ) → (n == 0) ≡ b → (a && (not (not (n == 0)) && c)) ≡ ((a && b) && c)
+ready_cases true true c n e = rw e refl
+ready_cases true false c n e = rw e refl
+ready_cases false b c n e = refl
+
+pub ready-state : (c : Topology) (n : ℕ) (es : List Event) (d : ℕ) → dev.is_ready (device_state c n es d) ≡ is_ready c es d
+unfolding device_state is_ready has_opening
+ready-state c n es d =
+    ap (λ b. b && (not (not (freeze_count es d == 0)) && nat_lt (sent_now es d) (openings c es d))) (some_first (in_order es d) ∙ ap is_some (first-in_order es d))
+    ∙ ready_cases (is_some (first es d)) (freeze_count es d == 0) (nat_lt (sent_now es d) (openings c es d)) (freeze_count es d) refl

@@ -4,7 +4,6 @@
 pub use audit::run_audit;
 pub use audit_fault::AuditFault;
 pub use check::run_check;
-pub use finding::Finding;
 pub use prove::run_prove;
 
 mod audit;

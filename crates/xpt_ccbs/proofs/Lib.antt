@@ -1,0 +1,7 @@
+pub mod ListFacts
+pub mod RowLaws
+pub mod CaseLaws
+pub mod PlaceLaws
+pub mod BookLaws
+pub mod SoundLemmas
+pub mod HistoryLemmas

@@ -1,0 +1,32 @@
+-- what there is to see of a transport
+use Rattle.std.specs.Prelude.{ℕ, List, length, Option, is_some, count_by, slice_get, option_and_then}
+use Rattle.std.specs.Option.{option_map}
+use Rattle.cam_types.specs.Topology.{Topology}
+use Rattle.sense_class.specs.declared.class.Class as class
+use Rattle.event_log.specs.Counts.{round, ccbs, is_in_flight, is_recovering}
+use Rattle.event_log.specs.Stays.{waiting}
+use Rattle.event_log.specs.Head.{head}
+use Rattle.event_log.specs.declared.event.Event.{Event}
+use Rattle.cam_event.specs.Laws.{last_class}
+use Rattle.xpt_ccbs.specs.Cases.{cases}
+use Rattle.xpt_state.specs.declared.look.Case.{Case}
+use Rattle.xpt_state.specs.declared.look.Look.{Look}
+
+abbrev pub case_of : ℕ → Option class.Class → Option Case
+case_of ccb class = option_map (λ known. record { ccb = ccb; class = known }) class
+
+-- of the recovering CCBs the one that completed first, with the class of its last result
+abbrev pub next_case : List Event → Option Case
+next_case events =
+    option_and_then (λ ccb. case_of ccb (last_class events ccb)) (slice_get (cases events) 0)
+
+-- all counts
+abbrev pub look : Topology → List Event → Look
+look c events = record {
+  length = length events;
+  round = round events;
+  in_flight = count_by (is_in_flight events) (ccbs events);
+  heads = count_by (λ a. is_some (head c events a)) c.lanes;
+  cases = count_by (is_recovering events) (ccbs events);
+  waiting = length (waiting events);
+}

@@ -1,0 +1,11 @@
+pub mod AppendLemmas
+pub mod ConfigLemmas
+pub mod HeadLaws
+pub mod NoteLaws
+pub mod PlaceLemmas
+pub mod RefreshLaws
+pub mod RowLemmas
+pub mod SimLemmas
+pub mod NextLemmas
+pub mod OpenLemmas
+pub mod ReadyLemmas

@@ -1,0 +1,4 @@
+pub mod Known
+pub mod Touched
+pub mod Told
+pub mod Turn

@@ -1,0 +1,91 @@
+-- what an event makes of the adapters' queues
+use Rattle.std.specs.Prelude.{◌≡◌, ℕ, ◌+◌, ◌-◌, ◌<◌, ◌≤◌, true, List, length, map, slice_get, slice_set, is_some, Some}
+use Rattle.std.specs.Option.{option_map_or}
+use Rattle.cam_types.specs.Topology.{Topology}
+use Rattle.cam_types.specs.declared.device.Device.{Device}
+use Rattle.event_log.specs.declared.event.Event.{Event}
+use Rattle.event_log.specs.declared.event.Event.TheVariants.{Send, FreezeSim, ReleaseSim, Tick}
+use Rattle.sim_queue.specs.Adapter.{Adapter, with_priority, with_send, best_ready}
+use Rattle.sim_queue.specs.declared.row.Row.{Row}
+use Rattle.xpt_devices.specs.Ready.{ready_priority}
+use Rattle.xpt_adapters.specs.Known.{Known, adapters_of}
+use Rattle.xpt_adapters.specs.declared.touched.Touched.{Touched}
+use Rattle.xpt_adapters.specs.declared.touched.Touched.TheVariants.{Nothing, One, All}
+
+-- the adapters' queues, of which the one of this number changes
+abbrev pub at_adapter : ℕ → (Adapter → Adapter) → List Adapter → List Adapter
+at_adapter a change sims = option_map_or (λ s. slice_set sims a (change s)) (slice_get sims a) sims
+
+-- the adapter of a lane, and 0 where there is no such lane
+abbrev pub lane_adapter : List ℕ → ℕ → ℕ
+lane_adapter lanes lane = option_map_or (λ a. a) (slice_get lanes lane) 0
+
+-- the adapter of a device, and 0 where there is no such device
+abbrev pub bus_of : Topology → ℕ → ℕ
+bus_of c d = option_map_or (λ (device : Device). device.bus) (slice_get c.devices d) 0
+
+-- a send at this place to the device whose turn it is
+abbrev pub with_turn : ℕ → Adapter → Adapter
+with_turn place s =
+    option_map_or (λ d. record s { rows = with_send d place s.rows; sent = s.sent + 1 }) (best_ready s) s
+
+-- so many more freezes
+abbrev pub with_freezes : ℕ → Adapter → Adapter
+with_freezes count s = record s { callers = s.callers + count }
+
+-- one freeze fewer
+abbrev pub less_freeze : Adapter → Adapter
+less_freeze s = record s { callers = s.callers - 1 }
+
+-- the next round opens
+abbrev pub in_next_round : Adapter → Adapter
+in_next_round s = record s { sent = 0 }
+
+-- what an event at this place makes of the queues, apart from which devices are ready
+abbrev pub noted : List ℕ → ℕ → Event → List Adapter → List Adapter
+noted lanes place (Send lane ccb) sims = at_adapter (lane_adapter lanes lane) (with_turn place) sims
+noted lanes place (FreezeSim sim count) sims = at_adapter sim (with_freezes count) sims
+noted lanes place (ReleaseSim sim) sims = at_adapter sim less_freeze sims
+noted lanes place Tick sims = map in_next_round sims
+noted lanes place _ sims = sims
+
+-- the adapter of this number is there, and its queue is so
+pub record HasAt (P : Adapter → Type 0) (sims : List Adapter) (a : ℕ) : Type 0 where
+  pub there : a < length sims
+  pub so : (s : Adapter) → slice_get sims a ≡ Some s → P s
+
+-- what each kind of event finds in the queues
+abbrev pub CanNote : List ℕ → ℕ → Event → List Adapter → Type 0
+CanNote lanes place (Send lane ccb) sims =
+    (lane < length lanes) × (place < 65535)
+    × HasAt (λ s. is_some (best_ready s) ≡ true) sims (lane_adapter lanes lane)
+CanNote lanes place (FreezeSim sim count) sims = HasAt (λ s. s.callers + count ≤ 65535) sims sim
+CanNote lanes place (ReleaseSim sim) sims = HasAt (λ s. 0 < s.callers) sims sim
+CanNote lanes place _ sims = Unit
+
+-- the device, ready as it is by the events
+abbrev pub with_ready : Topology → List Event → ℕ → Adapter → Adapter
+with_ready c events d s = record s { rows = with_priority d (ready_priority c events d) s.rows }
+
+-- each device, ready as it is by the events
+abbrev pub fresh_row : Topology → List Event → Row → Row
+fresh_row c events r = record r { priority = ready_priority c events r.device }
+
+abbrev pub all_ready : Topology → List Event → Adapter → Adapter
+all_ready c events s = record s { rows = map (fresh_row c events) s.rows }
+
+-- the queues, with the devices that were touched ready as they are by the events
+abbrev pub refreshed : Topology → List Event → Touched → List Adapter → List Adapter
+refreshed c events Nothing sims = sims
+refreshed c events (One d) sims = at_adapter (bus_of c d) (with_ready c events d) sims
+refreshed c events All sims = map (all_ready c events) sims
+
+-- they are the queues of the adapters of this configuration, and of its devices
+pub record AreAdapters (c : Topology) (sims : List Adapter) : Type 0 where
+  pub by : Known
+  pub is : sims ≡ adapters_of c by
+
+-- a device that was touched is there
+abbrev pub IsThere : Topology → Touched → Type 0
+IsThere c (One d) = d < length c.devices
+IsThere c _ = Unit

@@ -1,0 +1,127 @@
+ghost use Rattle.std.specs.Prelude.{◌≡◌, ◌<◌, ◌≤◌, ◌==◌, not, [], ◌∷◌, ◌++◌, length, IsTrue, IfOk};
+ghost use Rattle.std.specs.Option.{option_map};
+ghost use Rattle.cam_event.specs.declared.most.TheConstants.{MOST_FREEZES};
+
+use crate::note::note;
+use crate::open::open_queues;
+use crate::refresh::refresh;
+use crate::touched::touched_by;
+use crate::turn::Turn;
+use cam_types::{Config, Limits};
+use event_log::Event;
+use sim_queue::SimQueue;
+use std::alloc::{AllocError, Global};
+use std::marker::Model;
+use xpt_devices::Devices;
+
+/// The adapters of a transport over its devices: whose turn it is on each. Nothing grows after `open`.
+#[derive(Drop)]
+pub struct Adapters {
+    devices: Devices,
+    sims: Vec<SimQueue>,
+}
+
+impl Model for Adapters {
+    ghost use Rattle.std.specs.Prelude.{◌≡◌};
+    ghost use Rattle.xpt_devices.specs.Transport.{Transport};
+    ghost use Rattle.xpt_adapters.specs.Known.{known, adapters_of};
+
+    ghost Value = { Transport };
+
+    ghost view = { λ x. x.devices };
+
+    ghost invariant = { λ x. x.sims.items ≡ adapters_of x.devices.config (known x.devices.config x.devices.events) };
+}
+
+impl Adapters {
+    ghost use Rattle.event_log.specs.Counts.{adapter_freezes};
+    ghost use Rattle.event_log.specs.Head.{adapter_has_opening, next};
+    ghost use Rattle.cam_event.specs.Legal.{rules_of, is_legal_event};
+    ghost use Rattle.xpt_adapters.specs.Known.{known, adapter_of};
+    ghost use Rattle.xpt_adapters.specs.Turn.{turn_of};
+
+    /// Adapters and devices to which nothing has happened, with memory for all that the limits let happen.
+    pub fn open(alloc: Global, config: Config, limits: Limits) -> Result<Adapters, AllocError>
+        ensures { IfOk result (λ x. x ≡ record { config = config; limits = limits; events = [] }) }
+    {
+        let sims = open_queues(alloc, &config)?;
+        let devices = Devices::open(alloc, config, limits)?;
+        Ok(Adapters { devices, sims })
+    }
+
+    /// Puts a legal event behind the others. It takes the time of `Devices::append`, and time that grows with the number
+    /// of devices on the adapter; a tick asks each device.
+    pub fn append(&mut self, event: Event)
+        requires legal { IsTrue (is_legal_event (rules_of self.old.limits) self.old.config (self.old.events, event)) }
+        ensures { self.new ≡ record self.old { events = self.old.events ++ event ∷ [] } }
+    {
+        let touched = touched_by(&self.devices, &event);
+        self.devices.append(event);
+        let place = self.devices.events().len() as u32 - 1;
+        note(&mut self.sims, self.devices.config().lanes(), &event, place);
+        refresh(&mut self.sims, &self.devices, touched);
+    }
+
+    /// The devices, with the configuration, the limits and the events.
+    pub fn devices(&self) -> &Devices
+        ensures { result.now ≡ self.now }
+    {
+        &self.devices
+    }
+
+    // The adapter's queue.
+    fn sim(&self, adapter: u32) -> &SimQueue
+        requires { adapter < length self.now.config.adapters }
+        ensures { result.now ≡ adapter_of self.now.config (known self.now.config self.now.events) adapter }
+    {
+        &self.sims[adapter as usize]
+    }
+
+    /// Whose turn it is on the adapter: the first stay of its device that sends next. None where it is frozen, its
+    /// openings are used, or no device on it is ready.
+    pub fn next(&self, adapter: u32) -> Option<Turn>
+        requires { adapter < length self.now.config.adapters }
+        ensures { result ≡ option_map turn_of (next self.now.config self.now.events adapter) }
+    {
+        let device = self.sim(adapter).best_ready()?;
+        let stay = self.devices.first(device)?;
+        Some(Turn::new(device, stay))
+    }
+
+    /// The freezes of the adapter, at most 65,535.
+    #[tactic(auto, unfolding(crate::specs::Known::known))]
+    pub fn callers(&self, adapter: u32) -> u32
+        requires { adapter < length self.now.config.adapters }
+        ensures same { result ≡ adapter_freezes self.now.events adapter }
+        ensures most { result ≤ MOST_FREEZES }
+    {
+        self.sim(adapter).callers()
+    }
+
+    /// Whether a freeze of the adapter holds.
+    #[tactic(auto, unfolding(crate::specs::Known::known))]
+    pub fn is_frozen(&self, adapter: u32) -> bool
+        requires { adapter < length self.now.config.adapters }
+        ensures { result ≡ not (adapter_freezes self.now.events adapter == 0) }
+    {
+        self.sim(adapter).frozen()
+    }
+
+    /// Whether the adapter has an opening left in this round.
+    #[tactic(auto, unfolding(crate::specs::Known::known, event_log::specs::Head::adapter_has_opening))]
+    pub fn has_opening(&self, adapter: u32) -> bool
+        requires { adapter < length self.now.config.adapters }
+        ensures { result ≡ adapter_has_opening self.now.config self.now.events adapter }
+    {
+        let sim = self.sim(adapter);
+        sim.sent() < sim.openings()
+    }
+
+    /// The configuration and the events.
+    pub fn into_parts(self) -> (Config, Vec<Event>)
+        ensures config { result.0 ≡ self.config }
+        ensures events { result.1.items ≡ self.events }
+    {
+        self.devices.into_parts()
+    }
+}

@@ -1,0 +1,14 @@
+//! The adapters of a transport over its devices: whose turn it is on each adapter.
+#![tactic(auto)]
+
+pub use adapters::Adapters;
+pub use turn::Turn;
+
+mod adapters;
+mod note;
+mod open;
+mod refresh;
+#[cfg(test)]
+mod tests;
+mod touched;
+mod turn;

@@ -5,6 +5,7 @@ use Rattle.std.specs.List.{list_any, list_all}
 use Rattle.cam_types.specs.Lists.{first_answer, least_by}
 use Rattle.cam_types.specs.Topology.{Topology}
 use Rattle.std.proofs.lemmas.Bool.{and_parts, and_from}
+use Rattle.std.proofs.Math.Bool.{not-not}
 use Rattle.event_log.specs.Counts.{freeze_count, adapter_freezes}
 use Rattle.event_log.specs.Stays.{first}
 use Rattle.event_log.specs.Head.{is_on, devices, has_opening, adapter_has_opening, is_ready, may_send, turn_key, head, next}
@@ -59,7 +60,7 @@ head_cases : (b : Bool) (o : Option ℕ) → is_some (cond b o None) ≡ (b && i
 head_cases true o = refl
 head_cases false o = refl
 
-is_some-head : (c : Topology) (es : List Event) (a : ℕ) → is_some (head c es a) ≡ ((adapter_freezes es a == 0) && adapter_has_opening c es a && list_any (may_send c es a) (devices c))
+pub is_some-head : (c : Topology) (es : List Event) (a : ℕ) → is_some (head c es a) ≡ ((adapter_freezes es a == 0) && adapter_has_opening c es a && list_any (may_send c es a) (devices c))
 unfolding head
 is_some-head c es a =
     head_cases ((adapter_freezes es a == 0) && adapter_has_opening c es a) (least_by (turn_key es) (filter (may_send c es a) (devices c)))
@@ -69,7 +70,7 @@ from_head : (es : List Event) (o : Option ℕ) → is_some (option_and_then (fir
 from_head es (Some d) h = refl
 from_head es None h = h
 
-is_some-next_head : (c : Topology) (es : List Event) (a : ℕ) → is_some (next c es a) ≡ is_some (head c es a)
+pub is_some-next_head : (c : Topology) (es : List Event) (a : ℕ) → is_some (next c es a) ≡ is_some (head c es a)
 unfolding next
 is_some-next_head c es a = same_tests _ _ (from_head es (head c es a)) (is_some-next c es a)
 
@@ -108,3 +109,9 @@ pub idle_is_by_tests : (c : Topology) (es : List Event) (a : ℕ) → next c es 
 idle_is_by_tests c es a none =
     by_tests (list_any (has_stay_on c es a) (devices c)) (adapter_freezes es a == 0) (adapter_has_opening c es a) (list_all (λ d. not (has_stay_on c es a d) || is_held_back c es d) (devices c))
     (sym (is_some-first (idle_causes c es a)) ∙ idle_is_no_next c es a ∙ ap (λ o. not (is_some o)) none)
+
+-- the same of what the tests were found to be
+pub idle_found : (c : Topology) (es : List Event) (a : ℕ) (queued frozen left : Bool) → next c es a ≡ None → queued ≡ list_any (has_stay_on c es a) (devices c) → frozen ≡ not (adapter_freezes es a == 0) → left ≡ adapter_has_opening c es a →
+    idle c es a ≡ Some (idle_by queued (not frozen) left)
+idle_found c es a queued frozen left none i j k =
+    idle_is_by_tests c es a none ∙ ap Some (rw (i, j, k, not-not (adapter_freezes es a == 0)) refl)

@@ -28,7 +28,7 @@ lane_refused rules c es lane ccb why h =
     lane_cases (nat_le rules.events (length es)) (names_lane c lane) (HistoryFull (length es)) why
     ((not (names_ccb es ccb), NoCcb) ∷ (not (has_queued es ccb), NotQueued) ∷ turn_causes c es (device_of es ccb) (lane_adapter c lane) ccb) h
 
-free_cases : (full there : Bool) (h : Refusal) → first_cause ((full, h) ∷ (not there, NoLane) ∷ []) ≡ None → (full ≡ false) × (there ≡ true)
+pub free_cases : (full there : Bool) (h : Refusal) → first_cause ((full, h) ∷ (not there, NoLane) ∷ []) ≡ None → (full ≡ false) × (there ≡ true)
 free_cases true there h e = absurd (cc)
 free_cases false false h e = absurd (cc)
 free_cases false true h e = (refl, refl)

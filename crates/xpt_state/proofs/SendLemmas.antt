@@ -23,7 +23,7 @@ ccb_of_stay : (es : List Event) (p : Passage) (o : Option Submission) → submis
 ccb_of_stay es p None is h = absurd (cc)
 ccb_of_stay es p (Some s) is h = lt-ltb p.ccb (commands es) (slice_get_within (submissions es) p.ccb s is)
 
-lane_named : (c : Topology) (lane : ℕ) → names_lane c lane ≡ true → slice_get c.lanes lane ≡ Some (lane_adapter c lane)
+pub lane_named : (c : Topology) (lane : ℕ) → names_lane c lane ≡ true → slice_get c.lanes lane ≡ Some (lane_adapter c lane)
 lane_named c lane there =
     let e : slice_get c.lanes lane ≡ Some (get_or c.lanes lane 0) = slice_get-get_or c.lanes lane 0 (ltb-true lane (length c.lanes) there) in
     e ∙ ap Some (sym (ap (λ o. option_map_or (λ a. a) o 0) e))

@@ -6,3 +6,5 @@ pub mod Sends
 pub mod Steps
 pub mod Looks
 pub mod Laws
+pub mod Sound
+pub mod Calls

@@ -1,4 +1,5 @@
-//! What a transport answers: what is sent, why nothing is, what a completion comes to, and what there is to see.
+//! The transport on one thread, and what it answers: what is sent, why nothing is, what a completion comes to, and what
+//! there is to see.
 #![tactic(auto)]
 
 pub use ccb_refusals::{done_refusal, finish_refusal, requeue_refusal};
@@ -12,6 +13,7 @@ pub use laws::{
 };
 pub use look::{Case, Look};
 pub use reply::{Reply, Sent};
+pub use xpt::Xpt;
 
 mod ccb_refusals;
 mod command;
@@ -19,6 +21,8 @@ mod done;
 mod idle;
 mod laws;
 mod look;
+mod refusals;
 mod reply;
 #[cfg(test)]
 mod tests;
+mod xpt;

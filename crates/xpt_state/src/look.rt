@@ -45,7 +45,7 @@ pub struct Look {
     /// The CCBs on their way.
     pub in_flight: u32,
     /// The lanes whose adapter has something to send.
-    pub heads: u32,
+    pub heads: usize,
     /// The CCBs that wait for a decision on their error.
     pub cases: u32,
     /// The stays without a send.

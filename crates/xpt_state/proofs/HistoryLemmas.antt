@@ -1,0 +1,42 @@
+-- a transport's events, one by one into a history
+use Rattle.std.proofs.Common.{◌≡◌, ℕ, ◌+◌, ◌<◌, ◌≤◌, true, List, [], ◌∷◌, ◌++◌, length, take, get_or, Option, Some, None, Result, Err, refl, sym, ap, subst, ◌∙◌}
+use Rattle.std.specs.Prelude.{MatchOption, IsOkUnless, slice_index_or}
+use Rattle.std.proofs.lemmas.List.{take_more, take_all}
+use Rattle.cam_types.specs.Topology.{Topology}
+use Rattle.event_log.specs.declared.event.Event.{Event}
+use Rattle.cam_event.specs.Past.{Past}
+use Rattle.cam_event.specs.Legal.{rules_of, history_rules, is_legal, is_legal_event}
+use Rattle.cam_event.specs.declared.refusal.Refusal.{Refusal}
+use Rattle.cam_event.specs.declared.refusal.PushFault.{PushFault}
+use Rattle.cam_event.specs.declared.refusal.PushFault.TheVariants.{Refused, OutOfMemory}
+use Rattle.cam_event.proofs.LawLemmas.{narrower_is_legal, within_history}
+use Rattle.cam_event.proofs.LimitLemmas.{legal-at}
+use Rattle.xpt_state.specs.Sound.{IsXpt}
+use Rattle.xpt_state.specs.declared.xpt.Xpt.TheInside.{Inside}
+
+-- what isn't refused is pushed unless there is no memory
+pub unrefused_push : (o : Option Refusal) (r : Result (Unit {0}) PushFault) (why : Refusal) → o ≡ None → r ≡ Err (Refused why) → MatchOption o (IsOkUnless r OutOfMemory) (λ x. r ≡ Err (Refused x)) → ⊥
+unrefused_push None r why free is h =
+    let other : Refused why ≡ OutOfMemory = subst (λ (x : Result (Unit {0}) PushFault). IsOkUnless x OutOfMemory) is h in
+    absurd (cc)
+unrefused_push (Some x) r why free is h = absurd (cc)
+
+-- the events are legal in a history
+pub legal_in_history : (x : Inside) → IsXpt x → is_legal history_rules x.adapters.config x.adapters.events ≡ true
+legal_in_history x is = narrower_is_legal (rules_of x.ccbs.limits) x.adapters.config x.adapters.events (within_history x.ccbs.limits is.book.within) is.book.legal
+
+-- behind the first of them the next is legal, and is one more of them; in the end all are there
+pub next_is_legal_there : (c d : Topology) (all items es : List Event) (i : ℕ) (e : Event) → is_legal history_rules c all ≡ true → d ≡ c → items ≡ all → es ≡ take i items → i < length items → e ≡ slice_index_or items i e →
+    is_legal_event history_rules d (es, e) ≡ true
+next_is_legal_there c d all items es i e legal config same so_far lt item =
+    let here : is_legal_event history_rules c (take i items, get_or items i e) ≡ true = legal-at history_rules c items i e lt (rw same legal) in
+    rw (config, so_far) (ap (λ (x : Event). is_legal_event history_rules c (take i items, x)) item ∙ here)
+
+pub one_more_there : (items es : List Event) (i : ℕ) (e : Event) → es ≡ take i items → i < length items → e ≡ slice_index_or items i e → es ++ e ∷ [] ≡ take (i + 1) items
+one_more_there items es i e so_far lt item =
+    ap (λ (xs : List Event). xs ++ e ∷ []) so_far ∙ ap (λ (x : Event). take i items ++ x ∷ []) item ∙ sym (take_more items i e lt)
+
+pub all_there : (c : Topology) (all items : List Event) (h : Past) (i : ℕ) → h.config ≡ c → h.events ≡ take i items → length items ≤ i → items ≡ all → h ≡ record { config = c; events = all }
+all_there c all items h i config so_far end same =
+    let events : h.events ≡ all = so_far ∙ take_all i items end ∙ same in
+    rw (← config, ← events) refl

@@ -35,14 +35,18 @@ bus_room n before x none =
     below n x.bus (not_first (nat_le n x.bus) NoAdapter _ two.1).0
 
 -- the adapter of a device is there
-pub bus-there : (c : Topology) (d : ℕ) → IsConfig c → d < length c.devices → bus_of c d < length c.adapters
+room_at : (c : Topology) (d : ℕ) (x : Device) → IsConfig c → slice_get c.devices d ≡ Some x → x.bus < length c.adapters
 unfolding item_fault
+room_at c d x is at =
+    let none = or_left _ _ (or_right _ _ (not_first (length c.adapters == 0) _ _ is.kept).1) in
+    let found = none_at (device_fault (length c.adapters)) [] c.devices d x none at in
+    bus_room (length c.adapters) found.0 x found.1
+
+pub bus-there : (c : Topology) (d : ℕ) → IsConfig c → d < length c.devices → bus_of c d < length c.adapters
 bus-there c d is lt = elim (slice_get_cases c.devices d).1 [
   | inl w ↦
-      let none = or_left _ _ (or_right _ _ (not_first (length c.adapters == 0) _ _ is.kept).1) in
-      let at = none_at (device_fault (length c.adapters)) [] c.devices d w.0 none w.2 in
       let own : bus_of c d ≡ w.0.bus = ap (λ o. option_map_or (λ (x : Device). x.bus) o 0) w.2 in
-      omega (arith, own, bus_room (length c.adapters) at.0 w.0 at.1)
+      omega (arith, own, room_at c d w.0 is w.2)
   | inr v ↦ absurd (omega (arith, v.0))
 ]
 

@@ -1,7 +1,7 @@
 //! What an event makes of the adapters' queues, apart from which devices are ready.
-ghost use Rattle.std.specs.Prelude.{◌≡◌, ◌+◌, ◌<◌, ◌≤◌, true, length, map, is_some};
+ghost use Rattle.std.specs.Prelude.{◌≡◌, ◌+◌, ◌<◌, ◌≤◌, true, map, is_some};
 ghost use Rattle.sim_queue.specs.Adapter.{best_ready};
-ghost use Rattle.xpt_adapters.specs.Told.{at_adapter, lane_adapter, with_turn, with_freezes, less_freeze, in_next_round, noted, CanNote, HasAt};
+ghost use Rattle.xpt_adapters.specs.Told.{at_adapter, with_turn, with_freezes, less_freeze, in_next_round, noted, CanNote, HasAt};
 
 use event_log::Event;
 use sim_queue::SimQueue;

@@ -1,7 +1,6 @@
 //! Which devices are ready, as the adapters know it.
-ghost use Rattle.std.specs.Prelude.{◌≡◌, ◌<◌, length, map, true};
-ghost use Rattle.sim_queue.specs.Adapter.{is_named};
-ghost use Rattle.xpt_adapters.specs.Told.{at_adapter, bus_of, with_ready, all_ready, refreshed, HasAt, AreAdapters, IsThere};
+ghost use Rattle.std.specs.Prelude.{◌≡◌, ◌<◌, length, map};
+ghost use Rattle.xpt_adapters.specs.Told.{at_adapter, bus_of, with_ready, all_ready, refreshed, AreAdapters, IsThere};
 
 use crate::touched::Touched;
 use sim_queue::SimQueue;

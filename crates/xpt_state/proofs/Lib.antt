@@ -3,6 +3,7 @@ pub mod SendLemmas
 pub mod AttemptLaws
 pub mod RowLaws
 pub mod LaneLemmas
+pub mod SentLemmas
 pub mod CcbRefusalLemmas
 pub mod XptLemmas
 pub mod TurnLemmas

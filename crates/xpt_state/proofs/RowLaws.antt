@@ -1,22 +1,20 @@
 -- commands and completions are what the CCB's row says
-use Rattle.std.proofs.Common.{◌≡◌, ℕ, Bool, true, false, cond, List, [], ◌∷◌, ◌++◌, Option, Some, None, refl, sym, ap, ◌∙◌, slice_get, add-zero, append-nil, ◌<◌, get_or}
+use Rattle.std.proofs.Common.{◌≡◌, ℕ, Bool, true, false, cond, List, [], ◌∷◌, Option, Some, None, refl, sym, ap, ◌∙◌, slice_get, ◌<◌, get_or}
 use Rattle.std.specs.Prelude.{◌==◌, ◌&&◌, not, nat_lt, option_and_then, IfSome, IsTrue}
 use Rattle.std.specs.Option.{option_map}
-use Rattle.std.proofs.lemmas.Bool.{and_parts, eqb-true, eq-eqb, ltb-true}
+use Rattle.std.proofs.lemmas.Bool.{and_parts, eqb-true, ltb-true}
 use Rattle.std.proofs.lemmas.Option.{slice_get-get_or}
 use Rattle.cam_types.specs.Topology.{Topology}
 use Rattle.cam_types.specs.declared.command.Command.{Command}
 use Rattle.cam_types.specs.declared.outcome.Outcome.{Outcome}
 use Rattle.sense_class.specs.Classes.{status_of}
 use Rattle.event_log.specs.Event.{is_some_and}
-use Rattle.event_log.specs.Counts.{submission, submissions, commands, is_in_flight, is_recovering, counted_requeues}
+use Rattle.event_log.specs.Counts.{submission, submissions, commands, is_in_flight, is_recovering}
 use Rattle.event_log.specs.Head.{next}
 use Rattle.event_log.specs.declared.event.Event.{Event}
 use Rattle.event_log.specs.declared.event.Event.TheVariants.{Send, Done}
 use Rattle.event_log.specs.declared.passage.Passage.{Passage}
 use Rattle.event_log.specs.declared.submission.Submission.{Submission}
-use Rattle.event_log.proofs.Laws.{submissions-push}
-use Rattle.event_log.proofs.CcbLaws.{last_result-push, counted_requeues-push}
 use Rattle.cam_event.specs.Laws.{last_class, is_stay_of}
 use Rattle.cam_event.specs.Legal.{Rules, rules_of, names_ccb, is_legal, is_legal_event}
 use Rattle.cam_event.specs.Refusals.{lane_adapter}
@@ -52,16 +50,10 @@ row_alive es n s lives is = rw (lives, is) refl
 done_row : (es : List Event) (n : ℕ) (s : Submission) (outcome : Outcome) → submission es n ≡ Some s → done_of es n outcome ≡ done_by (ccb_by es n s) outcome
 done_row es n s outcome is = rw is refl
 
-last_class_row : (es : List Event) (n : ℕ) (s : Submission) (outcome : Outcome) → submission es n ≡ Some s → last_class (es ++ Done n outcome ∷ []) n ≡ Some (done_by (ccb_by es n s) outcome).class
-last_class_row es n s outcome is =
-    rw (last_result-push es (Done n outcome) n, eq-eqb n n refl, counted_requeues-push es (Done n outcome) n, add-zero (counted_requeues es n), submissions-push es (Done n outcome), append-nil (submissions es), is) refl
-
-pub done_is_by_row : (es : List Event) (n : ℕ) (row : Ccb) (outcome : Outcome) → alive_ccb es n ≡ Some row → (done_of es n outcome ≡ done_by row outcome) × (last_class (es ++ Done n outcome ∷ []) n ≡ Some (done_by row outcome).class)
+pub done_is_by_row : (es : List Event) (n : ℕ) (row : Ccb) (outcome : Outcome) → alive_ccb es n ≡ Some row → done_of es n outcome ≡ done_by row outcome
 done_is_by_row es n row outcome h =
-    let r = alive_row es n row h in (
-      done_row es n r.0 outcome r.1 ∙ ap (λ (x : Ccb). done_by x outcome) (sym r.2),
-      last_class_row es n r.0 outcome r.1 ∙ ap (λ (x : Ccb). Some (done_by x outcome).class) (sym r.2),
-    )
+    let r = alive_row es n row h in
+    done_row es n r.0 outcome r.1 ∙ ap (λ (x : Ccb). done_by x outcome) (sym r.2)
 
 -- a command
 stay_parts : (p : Passage) (s : Submission) → is_stay_of p s ≡ true → (s.device ≡ p.device) × (s.priority ≡ p.priority)
@@ -106,15 +98,14 @@ submitted es n lt =
     (get_or (submissions es) n blank, slice_get-get_or (submissions es) n blank lt)
 
 pub done_answers_by_row : (rules : Rules) (c : Topology) (es : List Event) (ccb : ℕ) (outcome : Outcome) → is_legal rules c es ≡ true → is_legal_event rules c (es, Done ccb outcome) ≡ true →
-    (row : Ccb) × (alive_ccb es ccb ≡ Some row) × (reply_of c es (Done ccb outcome) ≡ replies.Done (done_by row outcome)) × (last_class (es ++ Done ccb outcome ∷ []) ccb ≡ Some (done_by row outcome).class)
+    (row : Ccb) × (alive_ccb es ccb ≡ Some row) × (done_of es ccb outcome ≡ done_by row outcome)
 done_answers_by_row rules c es ccb outcome legal here =
     let asked = (allowed-legal_event rules c es (Done ccb outcome) here).1 in
     let flies = (and_parts (names_ccb es ccb && not (status_of outcome == 0)) (is_in_flight es ccb) asked).1 in
     let held = in_flight_held es ccb ((settled-legal rules c es legal).placed ccb) flies in
     let own = submitted es ccb (ltb-true ccb (commands es) held.0) in
     let row = row_alive es ccb own.0 held.1 own.1 in
-    let by = done_is_by_row es ccb (ccb_by es ccb own.0) outcome row in
-    (ccb_by es ccb own.0, row, ap replies.Done by.0, by.1)
+    (ccb_by es ccb own.0, row, done_is_by_row es ccb (ccb_by es ccb own.0) outcome row)
 
 -- the next case is alive, so that its class is known
 case_cases : (es : List Event) (ks : List ℕ) → IfSome (slice_get ks 0) (λ n. is_alive es n ≡ true) →

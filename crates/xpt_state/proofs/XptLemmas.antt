@@ -1,16 +1,13 @@
 -- what an event that isn't refused finds, and what it leaves
-use Rattle.std.proofs.Common.{◌≡◌, ℕ, true, List, [], ◌∷◌, ◌++◌, Option, Some, None, Result, Ok, Err, sym, ap, subst, ◌∙◌}
-use Rattle.std.specs.Prelude.{MatchOption}
+use Rattle.std.proofs.Common.{◌≡◌, ℕ, true, [], ◌∷◌, ◌++◌, Option, Some, None, sym, ap, subst, ◌∙◌}
 use Rattle.std.specs.Option.{option_map_or}
 use Rattle.cam_types.specs.declared.command.Command.{Command}
 use Rattle.cam_types.specs.declared.outcome.Outcome.{Outcome}
 use Rattle.event_log.specs.declared.event.Event.TheVariants.{Send, Done}
-use Rattle.cam_event.specs.declared.refusal.Refusal.{Refusal}
 use Rattle.xpt_ccbs.specs.Ccbs.{alive_ccb}
 use Rattle.xpt_ccbs.specs.declared.ccb.Ccb.{Ccb}
 use Rattle.xpt_state.specs.Replies.{done_of, next_command}
 use Rattle.xpt_state.specs.Rows.{command_by, done_by}
-use Rattle.xpt_state.specs.declared.done.Done as done
 use Rattle.xpt_state.specs.declared.reply.Reply.{Reply}
 use Rattle.xpt_state.specs.declared.reply.Reply.TheVariants as replies
 use Rattle.xpt_state.proofs.RowLaws.{send_answers_by_row, done_answers_by_row}
@@ -48,21 +45,11 @@ behind_here x e t b is same limits book = record {
   limits = limits ∙ is.limits ∙ sym (ap (λ (s : Transport). s.limits) same);
 }
 
--- where a call is answered, so is one that gives a number in place of nothing
-pub number_answer : (o : Option Refusal) (P : Type 0) (u : Unit {0}) (n m : ℕ) → n ≡ m → MatchOption o P (λ why. ◌≡◌ {A = Result (Unit {0}) Refusal} (Ok u) (Err why)) →
-    MatchOption o (◌≡◌ {A = Result ℕ Refusal} (Ok n) (Ok m)) (λ why. ◌≡◌ {A = Result ℕ Refusal} (Ok n) (Err why))
-number_answer None P u n m same h = ap Ok same
-number_answer (Some why) P u n m same h = absurd (cc)
-
 -- a completion that isn't refused is of a CCB that is alive
 pub done_row : (x : Inside) (seen : Transport) (ccb : ℕ) (outcome : Outcome) → IsXpt x → x.adapters ≡ seen → refused seen (Done ccb outcome) ≡ None →
     (row : Ccb) × (alive_ccb x.adapters.events ccb ≡ Some row) × (done_of x.adapters.events ccb outcome ≡ done_by row outcome)
 done_row x seen ccb outcome is same free =
-    let by = done_answers_by_row (rules_of x.adapters.limits) x.adapters.config x.adapters.events ccb outcome (legal_so_far x is) (legal_here x.adapters seen (Done ccb outcome) same free) in
-    (by.0, by.1, done_same by.2)
-  where
-    done_same : {a b : done.Done} → ◌≡◌ {A = Reply} (replies.Done a) (replies.Done b) → a ≡ b
-    done_same h = cc
+    done_answers_by_row (rules_of x.adapters.limits) x.adapters.config x.adapters.events ccb outcome (legal_so_far x is) (legal_here x.adapters seen (Done ccb outcome) same free)
 
 -- a send that isn't refused is of a CCB that is alive
 pub send_row : (x : Inside) (seen : Transport) (lane ccb : ℕ) → IsXpt x → x.adapters ≡ seen → refused seen (Send lane ccb) ≡ None →

@@ -59,3 +59,7 @@ reply_of c before (Send lane ccb) = option_map_or replies.Command (next_command 
 reply_of c before (Done ccb outcome) = replies.Done (done_of before ccb outcome)
 reply_of c before Tick = replies.Round (round before + 1)
 reply_of c before _ = replies.Nothing
+
+-- the reply of a call that only says that its event happened
+abbrev pub nothing : {A : Type 0} → A → Reply
+nothing _ = replies.Nothing

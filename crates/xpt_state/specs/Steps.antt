@@ -1,35 +1,36 @@
--- what the calls of a transport come to, by its limits, its configuration and the events before
-use Rattle.std.specs.Prelude.{◌≡◌, ℕ, List, [], ◌∷◌, ◌++◌, Some, None, MatchResult, Result}
-use Rattle.cam_types.specs.Bounds.{Bounds}
-use Rattle.cam_types.specs.Topology.{Topology}
-use Rattle.event_log.specs.Head.{next}
+-- what the calls of a transport come to
+use Rattle.std.specs.Prelude.{◌≡◌, ℕ, Some, None, MatchResult, Result}
+use Rattle.cam_event.specs.Refusals.{lane_adapter}
+use Rattle.cam_event.specs.declared.refusal.Refusal.{Refusal}
 use Rattle.event_log.specs.declared.event.Event.{Event}
 use Rattle.event_log.specs.declared.event.Event.TheVariants.{Send}
-use Rattle.event_log.specs.declared.passage.Passage.{Passage}
-use Rattle.cam_event.specs.Legal.{rules_of}
-use Rattle.cam_event.specs.Refusals.{lane_adapter, refusal}
-use Rattle.cam_event.specs.declared.refusal.Refusal.{Refusal}
+use Rattle.xpt_devices.specs.Transport.{Transport}
 use Rattle.xpt_state.specs.declared.reply.Reply.{Reply}
 use Rattle.xpt_state.specs.declared.reply.Sent.{Sent}
 use Rattle.xpt_state.specs.declared.reply.Sent.TheVariants as sents
+use Rattle.xpt_state.specs.Calls.{refused, lane_refused, with_event}
 use Rattle.xpt_state.specs.Idle.{idle}
-use Rattle.xpt_state.specs.Replies.{command_of, reply_of}
-use Rattle.xpt_state.specs.Sends.{lane_refusal}
+use Rattle.xpt_state.specs.Replies.{next_command, reply_of}
 
--- An event that isn't refused is put behind those before it and gets its reply; where it is refused nothing changes.
-abbrev pub IsStep : Bounds → Topology → Event → List Event → List Event → Result Reply Refusal → Type 0
-IsStep limits c event old new result = MatchResult result
-    (λ reply. (refusal (rules_of limits) c old event ≡ None) × (reply ≡ reply_of c old event) × (new ≡ old ++ event ∷ []))
-    (λ why. (refusal (rules_of limits) c old event ≡ Some why) × (new ≡ old))
+-- the event isn't refused, and is put behind those before
+abbrev pub IsTaken : Transport → Event → Transport → Type 0
+IsTaken old event new = (refused old event ≡ None) × (new ≡ with_event old event)
 
--- a lane sent the next stay's CCB, or it was idle and nothing changed
-abbrev pub IsSent : Topology → ℕ → List Event → List Event → Sent → Type 0
-IsSent c lane old new (sents.Command command) =
-    (p : Passage) × (next c old (lane_adapter c lane) ≡ Some p) × (command_of old p ≡ Some command) × (new ≡ old ++ Send lane p.ccb ∷ [])
-IsSent c lane old new (sents.Idle why) = (idle c old (lane_adapter c lane) ≡ Some why) × (new ≡ old)
+-- the event is refused, and nothing changes
+abbrev pub IsRefused : Transport → Event → Refusal → Transport → Type 0
+IsRefused old event why new = (refused old event ≡ Some why) × (new ≡ old)
+
+-- A call takes its event and answers the event's reply, or refuses it for the first cause.
+abbrev pub IsStep : {A : Type 0} → (A → Reply) → Transport → Event → Transport → Result A Refusal → Type 0
+IsStep as_reply old event new result =
+    MatchResult result (λ given. IsTaken old event new × (as_reply given ≡ reply_of old.config old.events event)) (λ why. IsRefused old event why new)
+
+-- a lane sent its next command, or it was idle and nothing changed
+abbrev pub IsSent : Transport → ℕ → Transport → Sent → Type 0
+IsSent old lane new (sents.Command command) = IsTaken old (Send lane command.ccb) new × (next_command old.config old.events lane ≡ Some command)
+IsSent old lane new (sents.Idle why) = (idle old.config old.events (lane_adapter old.config lane) ≡ Some why) × (new ≡ old)
 
 -- A lane that isn't refused sends or is idle; where it is refused nothing changes.
-abbrev pub IsTurn : Bounds → Topology → ℕ → List Event → List Event → Result Sent Refusal → Type 0
-IsTurn limits c lane old new result = MatchResult result
-    (λ sent. (lane_refusal (rules_of limits) c old lane ≡ None) × IsSent c lane old new sent)
-    (λ why. (lane_refusal (rules_of limits) c old lane ≡ Some why) × (new ≡ old))
+abbrev pub IsTurn : Transport → ℕ → Transport → Result Sent Refusal → Type 0
+IsTurn old lane new result =
+    MatchResult result (λ sent. (lane_refused old lane ≡ None) × IsSent old lane new sent) (λ why. (lane_refused old lane ≡ Some why) × (new ≡ old))

@@ -2,14 +2,11 @@
 //! there is to see.
 #![tactic(auto)]
 
-pub use ccb_refusals::{done_refusal, finish_refusal, requeue_refusal};
-pub use command::command_of;
 pub use done::Done;
 pub use idle::Idle;
 pub use laws::{
-    done_answers_by_row, idle_is_by_tests, idle_where_there_is_no_head,
-    lane_is_refused_as_its_sends, next_is_unrefused, next_may_be_sent, only_the_next_is_sent,
-    send_answers_by_row,
+    idle_where_there_is_no_head, lane_is_refused_as_its_sends, legal_sends_are_made,
+    next_is_unrefused, only_the_next_is_sent,
 };
 pub use look::{Case, Look};
 pub use reply::{Reply, Sent};

@@ -1,4 +1,6 @@
-use crate::{Case, Done, Idle, command_of, done_refusal, finish_refusal, requeue_refusal};
+use crate::ccb_refusals::{done_refusal, finish_refusal, requeue_refusal};
+use crate::command::command_of;
+use crate::{Case, Done, Idle};
 use cam_event::Refusal;
 use cam_types::{Command, Flags, Limits, Outcome, SenseBytes};
 use event_log::Submission;

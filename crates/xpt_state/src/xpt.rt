@@ -1,4 +1,4 @@
-ghost use Rattle.std.specs.Prelude.{◌≡◌, ◌+◌, ◌≤◌, false, [], ◌∷◌, ◌++◌, length, None, IsTrue, IfOk, IsOk, OnOk, OnErr, MatchOption};
+ghost use Rattle.std.specs.Prelude.{◌≡◌, ◌≤◌, false, [], length, None, IsTrue, IfOk, MatchResult};
 
 mod calls;
 mod lanes;
@@ -39,6 +39,7 @@ impl Xpt {
     ghost use Rattle.cam_types.specs.declared.limits.TheConstants.{MOST_EVENTS};
     ghost use Rattle.cam_event.specs.Legal.{rules_of, is_legal};
     ghost use Rattle.xpt_state.specs.Calls.{refused, refused_by_kind, with_event, is_send};
+    ghost use Rattle.xpt_state.specs.Steps.{IsTaken, IsRefused};
 
     /// A transport to which nothing has happened, with memory for all that the limits let happen. All growth is here.
     pub fn open(alloc: Global, config: Config, limits: Limits) -> Result<Xpt, AllocError>
@@ -129,9 +130,7 @@ impl Xpt {
     // Puts an event that is no send behind the others, where it isn't refused.
     fn push(&mut self, event: Event) -> Result<(), Refusal>
         requires { is_send event ≡ false }
-        ensures answer { MatchOption (refused self.old event) (IsOk result) (λ why. result ≡ Err why) }
-        ensures ok { OnOk result (self.new ≡ with_event self.old event) }
-        ensures err { OnErr result (self.new ≡ self.old) }
+        ensures { MatchResult result (λ _. IsTaken self.old event self.new) (λ why. IsRefused self.old event why self.new) }
     {
         if let Some(why) = self.refusal(&event) {
             return Err(why);

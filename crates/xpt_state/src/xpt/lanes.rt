@@ -17,19 +17,15 @@ use xpt_devices::Devices;
 
 impl Xpt {
     ghost use Rattle.event_log.specs.Head.{next};
-    ghost use Rattle.cam_event.specs.Legal.{rules_of, names_lane};
-    ghost use Rattle.cam_event.specs.Refusals.{lane_adapter};
-    ghost use Rattle.xpt_state.specs.Calls.{refused, with_event};
+    ghost use Rattle.xpt_state.specs.Calls.{refused, lane_refused};
     ghost use Rattle.xpt_state.specs.Idle.{idle};
     ghost use Rattle.xpt_state.specs.Replies.{next_command};
-    ghost use Rattle.xpt_state.specs.Sends.{lane_refusal};
     ghost use Rattle.xpt_state.specs.Steps.{IsTurn, IsSent};
 
     /// Sends the next command of the lane's adapter, or says why there is none. It is refused where there may be no event
     /// more, or no such lane is; then, and where the lane is idle, nothing changes.
     pub fn send_next(&mut self, lane: u32) -> Result<Sent, Refusal>
-        ensures turn { IsTurn self.old.limits self.old.config lane self.old.events self.new.events result }
-        ensures rest { self.new ≡ record self.old { events = self.new.events } }
+        ensures { IsTurn self.old lane self.new result }
     {
         if let Some(why) = lane_refusal(self.adapters.devices(), lane) {
             return Err(why);
@@ -39,9 +35,8 @@ impl Xpt {
 
     // Sends the next command of the adapter of a lane that isn't refused, or says why there is none.
     fn take_turn(&mut self, lane: u32) -> Sent
-        requires { lane_refusal (rules_of self.old.limits) self.old.config self.old.events lane ≡ None }
-        ensures turn { IsSent self.old.config lane self.old.events self.new.events result }
-        ensures rest { self.new ≡ record self.old { events = self.new.events } }
+        requires { lane_refused self.old lane ≡ None }
+        ensures { IsSent self.old lane self.new result }
     {
         let adapter = lane_adapter(self.adapters.devices().config(), lane);
         match self.adapters.next(adapter) {
@@ -53,8 +48,7 @@ impl Xpt {
     // Sends the CCB, whose turn it is on the lane's adapter.
     fn send(&mut self, lane: u32, ccb: u32) -> Command
         requires { refused self.old (Event.Send lane ccb) ≡ None }
-        ensures command { next_command self.old.config self.old.events lane ≡ Some result }
-        ensures new { self.new ≡ with_event self.old (Event.Send lane ccb) }
+        ensures { IsSent self.old lane self.new (Sent.Command result) }
     {
         let command = self.command(lane, ccb);
         self.add(Event::Send { lane, ccb });
@@ -64,7 +58,8 @@ impl Xpt {
     // The command by which the CCB is sent, whose turn it is on the lane's adapter.
     fn command(&self, lane: u32, ccb: u32) -> Command
         requires { refused self.now (Event.Send lane ccb) ≡ None }
-        ensures { next_command self.now.config self.now.events lane ≡ Some result }
+        ensures command { next_command self.now.config self.now.events lane ≡ Some result }
+        ensures ccb { result.ccb ≡ ccb }
     {
         match self.ccbs.ccb(ccb) {
             Some(row) => command_of(ccb, row),

@@ -1,29 +1,36 @@
 use super::Xpt;
 use crate::{Case, Done, Idle, Look, Sent};
-use cam_event::Refusal;
+use cam_event::{Event, Refusal};
 use cam_types::{Command, Config, Device, Flags, Limits, Outcome, SenseBytes};
 use sense_class::Class;
 use std::alloc::Global;
 use std::test::Fail;
 
-// A transport of one adapter of so many openings, one device on it of 2, and one lane.
-fn open(alloc: Global, openings: u32, limits: Limits) -> Result<Xpt, Fail> {
-    let device = Device {
-        bus: 0,
-        target: 1,
-        lun: 0,
-        openings: 2,
-    };
-    let config = Config::new(alloc, &[openings], &[device], &[0])?;
+mod runs;
+
+const PLAIN: Flags = Flags {
+    qfreeze: false,
+    qfrzdis: false,
+};
+
+// A transport of one adapter of so many openings, a device on it for each number, of so many, from target 1 on, and one lane.
+fn open(alloc: Global, adapter: u32, openings: &[u32], limits: Limits) -> Result<Xpt, Fail> {
+    let mut devices = Vec::new(alloc);
+    for (target, openings) in (1..=16).zip(openings) {
+        let device = Device {
+            bus: 0,
+            target,
+            lun: 0,
+            openings: *openings,
+        };
+        devices.push(device)?;
+    }
+    let config = Config::new(alloc, &[adapter], &devices, &[0])?;
     Ok(Xpt::open(alloc, config, limits)?)
 }
 
-fn submit(xpt: &mut Xpt, retries: u32) -> Result<u32, Refusal> {
-    let flags = Flags {
-        qfreeze: false,
-        qfrzdis: false,
-    };
-    xpt.submit(3, 0, 1152, retries, flags)
+fn submit(xpt: &mut Xpt, device: u32, priority: u32) -> Result<u32, Refusal> {
+    xpt.submit(3, device, priority, 4, PLAIN)
 }
 
 fn outcome(status: u8) -> Outcome {
@@ -34,32 +41,60 @@ fn outcome(status: u8) -> Outcome {
     }
 }
 
-fn command(ccb: u32, attempt: u32) -> Result<Sent, Refusal> {
+fn command(ccb: u32, attempt: u32, device: u32, priority: u32) -> Result<Sent, Refusal> {
     Ok(Sent::Command(Command {
         ccb,
         attempt,
         driver: 3,
+        device,
+        priority,
+    }))
+}
+
+const GOOD: Done = Done {
+    class: Class::Complete,
+    value: 0x01,
+};
+
+#[test]
+fn a_command_and_a_tick_are_four_events(rt: HostRuntime) -> Result<(), Fail> {
+    let alloc = rt.alloc();
+    let mut xpt = open(alloc, 1, &[1], Limits::most())?;
+    assert_eq!(rt; submit(&mut xpt, 0, 1152), Ok(0));
+    assert_eq!(rt; xpt.send_next(0), command(0, 0, 0, 1152));
+    assert_eq!(rt; xpt.done(0, outcome(0x01)), Ok(GOOD));
+    assert_eq!(rt; xpt.tick(), Ok(2));
+    let history = xpt.into_history(alloc)?;
+    let submit = Event::Submit {
+        driver: 3,
         device: 0,
         priority: 1152,
-    }))
+        retries: 4,
+        flags: PLAIN,
+    };
+    let send = Event::Send { lane: 0, ccb: 0 };
+    let done = Event::Done {
+        ccb: 0,
+        outcome: outcome(0x01),
+    };
+    assert_eq!(rt;
+        history.events(),
+        [submit, send, done, Event::Tick].as_slice()
+    );
+    assert_eq!(rt; history.round(), 2);
+    Ok(())
 }
 
 #[test]
 fn a_busy_command_is_sent_again_in_the_next_round(rt: HostRuntime) -> Result<(), Fail> {
-    let alloc = rt.alloc();
-    let mut xpt = open(alloc, 2, Limits::most())?;
-    assert_eq!(rt; submit(&mut xpt, 1), Ok(0));
-    assert_eq!(rt; xpt.send_next(0), command(0, 0));
+    let mut xpt = open(rt.alloc(), 2, &[2], Limits::most())?;
+    assert_eq!(rt; submit(&mut xpt, 0, 1152), Ok(0));
+    assert_eq!(rt; xpt.send_next(0), command(0, 0, 0, 1152));
     let busy = Done {
         class: Class::CountedRequeue,
         value: 0x45,
     };
     assert_eq!(rt; xpt.done(0, outcome(0x05)), Ok(busy));
-    let case = Case {
-        ccb: 0,
-        class: Class::CountedRequeue,
-    };
-    assert_eq!(rt; xpt.next_case(), Some(case));
     assert_eq!(rt; xpt.requeue(0), Ok(()));
     assert_eq!(rt; xpt.send_next(0), Ok(Sent::Idle(Idle::Empty)));
     assert_eq!(rt; xpt.tick(), Ok(2));
@@ -72,81 +107,123 @@ fn a_busy_command_is_sent_again_in_the_next_round(rt: HostRuntime) -> Result<(),
         waiting: 1,
     };
     assert_eq!(rt; xpt.look(), ready);
-    assert_eq!(rt; xpt.send_next(0), command(0, 1));
-    let good = Done {
-        class: Class::Complete,
-        value: 0x01,
-    };
-    assert_eq!(rt; xpt.done(0, outcome(0x01)), Ok(good));
+    assert_eq!(rt; xpt.send_next(0), command(0, 1, 0, 1152));
+    assert_eq!(rt; xpt.done(0, outcome(0x01)), Ok(GOOD));
     assert_eq!(rt; (xpt.config().devices().len(), xpt.events().len()), (1, 7));
     assert_eq!(rt; xpt.limits(), Limits::most());
-    let history = xpt.into_history(alloc)?;
-    assert_eq!(rt; (history.events().len(), history.round()), (7, 2));
     Ok(())
 }
 
 #[test]
-fn limits_refuse_what_is_past_them(rt: HostRuntime) -> Result<(), Fail> {
-    let Ok(limits) = Limits::new(1, 2, 4, 2) else {
+fn the_cases_are_told_in_the_order_of_completion(rt: HostRuntime) -> Result<(), Fail> {
+    let mut xpt = open(rt.alloc(), 2, &[1, 1], Limits::most())?;
+    for (device, ccb) in [(0, 0), (1, 1)] {
+        assert_eq!(rt; submit(&mut xpt, device, 1152), Ok(ccb));
+        assert_eq!(rt; xpt.send_next(0), command(ccb, 0, device, 1152));
+    }
+    assert_eq!(rt; (xpt.next_case(), xpt.look().in_flight), (None, 2));
+    let reset = Outcome {
+        status: 0x0c,
+        scsi: 0x02,
+        sense: SenseBytes::first(&[
+            0x70, 0x00, 0x06, 0x00, 0x00, 0x00, 0x00, 0x0a, 0x00, 0x00, 0x00, 0x00, 0x29, 0x00,
+        ]),
+    };
+    let done = Done {
+        class: Class::CountedRequeue,
+        value: 0xcc,
+    };
+    assert_eq!(rt; xpt.done(1, reset), Ok(done));
+    let first = Some(Case {
+        ccb: 1,
+        class: Class::CountedRequeue,
+    });
+    assert_eq!(rt; (xpt.next_case(), xpt.look().cases), (first, 1));
+    assert!(rt; xpt.done(0, outcome(0x1b)).is_ok());
+    assert_eq!(rt; (xpt.next_case(), xpt.look().cases), (first, 2));
+    assert_eq!(rt; xpt.requeue(1), Ok(()));
+    let second = Some(Case {
+        ccb: 0,
+        class: Class::FreeRequeue,
+    });
+    assert_eq!(rt; (xpt.next_case(), xpt.look().cases), (second, 1));
+    Ok(())
+}
+
+#[test]
+fn a_more_urgent_command_goes_first(rt: HostRuntime) -> Result<(), Fail> {
+    let mut xpt = open(rt.alloc(), 1, &[1], Limits::most())?;
+    assert_eq!(rt; submit(&mut xpt, 0, 1152), Ok(0));
+    assert_eq!(rt; submit(&mut xpt, 0, 896), Ok(1));
+    assert_eq!(rt; xpt.send_next(0), command(1, 0, 0, 896));
+    Ok(())
+}
+
+#[test]
+fn devices_take_turns(rt: HostRuntime) -> Result<(), Fail> {
+    let mut xpt = open(rt.alloc(), 2, &[2, 2], Limits::most())?;
+    for (device, ccb) in [(0, 0), (0, 1), (1, 2)] {
+        assert_eq!(rt; submit(&mut xpt, device, 1152), Ok(ccb));
+    }
+    assert_eq!(rt; xpt.send_next(0), command(0, 0, 0, 1152));
+    assert_eq!(rt; xpt.done(0, outcome(0x01)), Ok(GOOD));
+    assert_eq!(rt; xpt.send_next(0), command(2, 0, 1, 1152));
+    Ok(())
+}
+
+#[test]
+fn a_second_ccb_is_one_too_many(rt: HostRuntime) -> Result<(), Fail> {
+    let Ok(limits) = Limits::new(1, 128, 1024, 65535) else {
         panic!(rt; "the limits are out of range");
     };
-    let mut xpt = open(rt.alloc(), 2, limits)?;
-    assert_eq!(rt; submit(&mut xpt, 1), Ok(0));
-    assert_eq!(rt; submit(&mut xpt, 1), Err(Refusal::CcbFull));
-    assert_eq!(rt; xpt.look().length, 1);
-    assert_eq!(rt; xpt.tick(), Ok(2));
+    let mut xpt = open(rt.alloc(), 1, &[1], limits)?;
+    assert_eq!(rt; submit(&mut xpt, 0, 1152), Ok(0));
+    assert_eq!(rt; submit(&mut xpt, 0, 1152), Err(Refusal::CcbFull));
+    assert_eq!(rt; (xpt.look().length, xpt.limits()), (1, limits));
+    Ok(())
+}
+
+#[test]
+fn a_full_history_refuses_every_further_event(rt: HostRuntime) -> Result<(), Fail> {
+    let alloc = rt.alloc();
+    let Ok(limits) = Limits::new(1024, 128, 1024, 2) else {
+        panic!(rt; "the limits are out of range");
+    };
+    let mut xpt = open(alloc, 2, &[2], limits)?;
+    assert_eq!(rt; submit(&mut xpt, 0, 1152), Ok(0));
+    assert_eq!(rt; xpt.send_next(0), command(0, 0, 0, 1152));
     let full = Refusal::HistoryFull(2);
-    assert_eq!(rt; submit(&mut xpt, 1), Err(full));
-    assert_eq!(rt; xpt.send_next(0), Err(full));
+    assert_eq!(rt; xpt.done(0, outcome(0x01)), Err(full));
+    assert_eq!(rt; submit(&mut xpt, 0, 1152), Err(full));
+    assert_eq!(rt;
+        (xpt.send_next(0), xpt.send_next(1)),
+        (Err(full), Err(full))
+    );
     assert_eq!(rt; xpt.tick(), Err(full));
-    assert_eq!(rt; (xpt.look().length, xpt.look().round), (2, 2));
-    Ok(())
-}
-
-#[test]
-fn an_idle_lane_says_why(rt: HostRuntime) -> Result<(), Fail> {
-    let mut xpt = open(rt.alloc(), 1, Limits::most())?;
-    assert_eq!(rt; xpt.send_next(0), Ok(Sent::Idle(Idle::Empty)));
-    assert_eq!(rt; submit(&mut xpt, 1), Ok(0));
-    assert_eq!(rt; xpt.freeze_sim(0, 2), Ok(()));
-    assert_eq!(rt; xpt.release_sim(0), Ok(()));
-    assert_eq!(rt; xpt.send_next(0), Ok(Sent::Idle(Idle::AdapterFrozen)));
-    assert_eq!(rt; xpt.release_sim(0), Ok(()));
-    assert_eq!(rt; xpt.freeze_dev(0, 2), Ok(()));
-    assert_eq!(rt; xpt.release_dev(0, 1), Ok(()));
-    assert_eq!(rt; xpt.send_next(0), Ok(Sent::Idle(Idle::DevicesHeld)));
-    assert_eq!(rt; xpt.release_dev(0, 1), Ok(()));
-    assert_eq!(rt; submit(&mut xpt, 1), Ok(1));
-    assert_eq!(rt; xpt.send_next(0), command(0, 0));
-    assert_eq!(rt; xpt.send_next(0), Ok(Sent::Idle(Idle::AdapterBusy)));
-    assert_eq!(rt; xpt.send_next(1), Err(Refusal::NoLane));
-    Ok(())
-}
-
-#[test]
-fn calls_are_refused_by_the_first_cause(rt: HostRuntime) -> Result<(), Fail> {
-    let mut xpt = open(rt.alloc(), 2, Limits::most())?;
     let answers = [
-        (xpt.freeze_dev(1, 0), Refusal::NoDevice),
-        (xpt.freeze_dev(0, 0), Refusal::BadCount),
-        (xpt.release_dev(0, 1), Refusal::ReleaseTooMany),
-        (xpt.freeze_sim(1, 0), Refusal::NoAdapter),
-        (xpt.release_sim(0), Refusal::ReleaseTooMany),
-        (xpt.adjust(0, 256), Refusal::BadOpenings),
-        (xpt.requeue(0), Refusal::NoCcb),
-        (xpt.finish(0), Refusal::NoCcb),
+        xpt.requeue(0),
+        xpt.finish(0),
+        xpt.freeze_dev(0, 1),
+        xpt.freeze_dev(1, 1),
+        xpt.release_dev(0, 1),
+        xpt.freeze_sim(0, 1),
+        xpt.release_sim(0),
+        xpt.adjust(0, 1),
     ];
-    for (given, cause) in answers {
-        assert_eq!(rt; given, Err(cause));
+    for answer in answers {
+        assert_eq!(rt; answer, Err(full));
     }
-    assert_eq!(rt; xpt.done(0, outcome(0)), Err(Refusal::NoCcb));
-    assert_eq!(rt; submit(&mut xpt, 0), Ok(0));
-    assert_eq!(rt; xpt.send_next(0), command(0, 0));
-    assert_eq!(rt; xpt.tick(), Err(Refusal::InFlight));
-    assert!(rt; xpt.done(0, outcome(0x0b)).is_ok());
-    assert_eq!(rt; xpt.requeue(0), Err(Refusal::WrongDecision));
-    assert_eq!(rt; xpt.finish(0), Ok(()));
-    assert_eq!(rt; xpt.adjust(0, 255), Ok(()));
-    assert_eq!(rt; xpt.look().length, 5);
+    assert_eq!(rt; (xpt.look().length, xpt.next_case()), (2, None));
+    assert_eq!(rt; xpt.into_history(alloc)?.events().len(), 2);
+    Ok(())
+}
+
+#[test]
+fn a_frozen_device_keeps_its_command(rt: HostRuntime) -> Result<(), Fail> {
+    let mut xpt = open(rt.alloc(), 1, &[1], Limits::most())?;
+    assert_eq!(rt; submit(&mut xpt, 0, 1152), Ok(0));
+    assert_eq!(rt; xpt.freeze_dev(0, 1), Ok(()));
+    assert_eq!(rt; xpt.send_next(0), Ok(Sent::Idle(Idle::DevicesHeld)));
+    assert_eq!(rt; (xpt.look().length, xpt.look().heads), (2, 0));
     Ok(())
 }

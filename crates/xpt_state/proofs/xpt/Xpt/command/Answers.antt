@@ -14,8 +14,8 @@ unreachable-requires c =
     ap option_copied (sym c.in-None.is) ∙ c.ccb.ensures c.self.inside.adapters.config c.self.inside.adapters.events c.self.invariant.book ∙ by.1 in
     absurd (cc)
 
-pub returns : goal.returns
-returns c =
+pub returns-clause-command : goal.returns-clause-command
+returns-clause-command c =
     let by = send_row c.self.inside c.args.self.now c.args.lane c.args.ccb c.self.invariant c.self.view_is c.requires in
     let some : ◌≡◌ {A = Option Ccb} (Some c.in-Some.row.now) (Some by.0) =
     ap option_copied (sym c.in-Some.is) ∙ c.ccb.ensures c.self.inside.adapters.config c.self.inside.adapters.events c.self.invariant.book ∙ by.1 in

@@ -8,6 +8,7 @@ pub use laws::{
     stays_are_in_range,
 };
 pub use most::{MOST_FREEZES, MOST_RETRIES};
+pub use question::{is_count, names_adapter, names_device, names_lane};
 pub use refusal::{PushFault, Refusal};
 
 mod history;

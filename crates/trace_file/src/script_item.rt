@@ -1,13 +1,13 @@
 ghost use Rattle.std.specs.Prelude.{◌≡◌, ◌<◌, length, IfOk, IfSome, IsTrue};
 ghost use Rattle.sense_class.specs.Classes.{status_of};
-ghost use Rattle.cam_event.specs.Legal.{is_count, names_adapter, names_device, names_lane};
+ghost use Rattle.cam_event.specs.Legal.{names_device};
 ghost use Rattle.trace_file.specs.Scenarios.{device_number, is_answer_item, is_answer_row, is_at, is_ruled_item, item_of, names_driver, refused_if};
 
 use crate::script_row::{ScriptItem, ScriptRow};
 use crate::step::Step;
-use cam_event::{Event, MOST_FREEZES, MOST_RETRIES, Refusal};
+use cam_event::{Event, MOST_RETRIES, Refusal, is_count, names_adapter, names_lane};
 use cam_path::CamPath;
-use cam_types::{Config, Device, MOST_OPENINGS, MOST_PRIORITY, Outcome};
+use cam_types::{Config, Device, MOST_PRIORITY, Outcome, are_openings};
 
 /// What a row asks for, or the first static cause that refuses it.
 #[tactic(auto, unfolding(crate::specs::Scenarios::item_of))]
@@ -70,8 +70,7 @@ pub(crate) fn item_of(config: &Config, row: ScriptRow) -> Result<ScriptItem, Ref
             openings,
         } => {
             let device = device_at(config, path)?;
-            let fits = 0 < openings && openings <= MOST_OPENINGS;
-            refused_if(!fits, Refusal::BadOpenings)?;
+            refused_if(!are_openings(openings), Refusal::BadOpenings)?;
             Ok(ScriptItem::Step(driver, Step::Act(Event::Adjust { device, openings })))
         }
         ScriptRow::Pause { driver, round } => Ok(ScriptItem::Step(driver, Step::Pause(round))),
@@ -107,24 +106,6 @@ fn is_at(path: CamPath, device: Device) -> bool
     ensures { result ≡ is_at path device }
 {
     device.bus == path.bus && device.target == path.target && device.lun == path.lun
-}
-
-fn is_count(count: u32) -> bool
-    ensures { result ≡ is_count count }
-{
-    0 < count && count <= MOST_FREEZES
-}
-
-fn names_adapter(config: &Config, sim: u32) -> bool
-    ensures { result ≡ names_adapter config.now sim }
-{
-    (sim as usize) < config.adapters().len()
-}
-
-fn names_lane(config: &Config, lane: u32) -> bool
-    ensures { result ≡ names_lane config.now lane }
-{
-    (lane as usize) < config.lanes().len()
 }
 
 // Status 00 is no result.

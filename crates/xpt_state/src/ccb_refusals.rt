@@ -16,7 +16,12 @@ use cam_types::{Limits, Outcome};
 use xpt_ccbs::Ccbs;
 
 /// Why a completion of the CCB is refused, where so many CCBs were submitted.
-pub fn done_refusal(ccbs: &Ccbs, submitted: u32, ccb: u32, outcome: &Outcome) -> Option<Refusal>
+pub(crate) fn done_refusal(
+    ccbs: &Ccbs,
+    submitted: u32,
+    ccb: u32,
+    outcome: &Outcome,
+) -> Option<Refusal>
     ensures { (c : Topology) (events : List Event) → IsBookOf c events ccbs.now → submitted ≡ commands events
         → result ≡ first_cause (done_causes events ccb outcome.now) }
 {
@@ -25,7 +30,7 @@ pub fn done_refusal(ccbs: &Ccbs, submitted: u32, ccb: u32, outcome: &Outcome) ->
 }
 
 /// Why a requeue of the CCB is refused, where so many CCBs were submitted and so many stays began.
-pub fn requeue_refusal(
+pub(crate) fn requeue_refusal(
     ccbs: &Ccbs,
     limits: Limits,
     submitted: u32,
@@ -42,7 +47,7 @@ pub fn requeue_refusal(
 }
 
 /// Why a finish of the CCB is refused, where so many CCBs were submitted.
-pub fn finish_refusal(ccbs: &Ccbs, submitted: u32, ccb: u32) -> Option<Refusal>
+pub(crate) fn finish_refusal(ccbs: &Ccbs, submitted: u32, ccb: u32) -> Option<Refusal>
     ensures { (c : Topology) (events : List Event) → IsBookOf c events ccbs.now → submitted ≡ commands events
         → result ≡ first_cause (finish_causes events ccb) }
 {

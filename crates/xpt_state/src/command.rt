@@ -5,7 +5,7 @@ use cam_types::Command;
 use xpt_ccbs::Ccb;
 
 /// The command by which the CCB of this number is sent.
-pub fn command_of(ccb: u32, row: &Ccb) -> Command
+pub(crate) fn command_of(ccb: u32, row: &Ccb) -> Command
     ensures { result ≡ command_by ccb row.now }
 {
     Command {

@@ -18,7 +18,7 @@ pub struct Done {
 
 impl Done {
     /// What a completion of the CCB comes to.
-    pub fn of(row: &Ccb, outcome: &Outcome) -> Done
+    pub(crate) fn of(row: &Ccb, outcome: &Outcome) -> Done
         ensures { result ≡ done_by row.now outcome.now }
     {
         let errs = outcome.status & 0x3f != 0x01;
@@ -29,7 +29,7 @@ impl Done {
     }
 
     /// The value of a completion that did or didn't freeze its device's queue.
-    pub fn value_of(outcome: &Outcome, froze: bool) -> u8
+    pub(crate) fn value_of(outcome: &Outcome, froze: bool) -> u8
         ensures { result ≡ value_of outcome.now froze }
     {
         let status = outcome.status & 0x3f;

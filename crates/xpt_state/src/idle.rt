@@ -23,7 +23,7 @@ pub enum Idle {
 impl Idle {
     /// Why a lane without a next stay is idle: whether a stay is queued at a device of its adapter, whether no freeze of the
     /// adapter holds, and whether an opening of it is left.
-    pub fn by(queued: bool, free: bool, left: bool) -> Idle
+    pub(crate) fn by(queued: bool, free: bool, left: bool) -> Idle
         ensures { result ≡ idle_by queued free left }
     {
         if !queued {

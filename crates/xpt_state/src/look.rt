@@ -18,7 +18,7 @@ pub struct Case {
 
 impl Case {
     /// Of the CCBs that wait for a decision, the one that completed first.
-    pub fn first_of(ccbs: &Ccbs) -> Option<Case>
+    pub(crate) fn first_of(ccbs: &Ccbs) -> Option<Case>
         ensures { (c : Topology) (events : List Event) → IsBookOf c events ccbs.now → result ≡ next_case events }
     {
         match ccbs.next_case() {

@@ -3,12 +3,14 @@
 ghost use Rattle.std.specs.Prelude.{◌≡◌, nat_le, [], ◌∷◌, length};
 ghost use Rattle.cam_event.specs.declared.refusal.Refusal.TheVariants.{HistoryFull};
 ghost use Rattle.event_log.specs.Counts.{alive};
-ghost use Rattle.cam_event.specs.Legal.{rules_of, names_device, names_adapter, names_lane, is_count};
+ghost use Rattle.cam_event.specs.Legal.{rules_of};
 ghost use Rattle.cam_event.specs.Refusals.{first_cause, submit_causes, freeze_dev_causes, release_dev_causes, freeze_sim_causes, release_sim_causes, adjust_causes, tick_causes};
 ghost use Rattle.xpt_state.specs.Sends.{lane_refusal};
 
-use cam_event::{MOST_FREEZES, MOST_RETRIES, Refusal};
-use cam_types::{Config, MOST_PRIORITY, are_openings};
+use cam_event::{
+    MOST_FREEZES, MOST_RETRIES, Refusal, is_count, names_adapter, names_device, names_lane,
+};
+use cam_types::{MOST_PRIORITY, are_openings};
 use xpt_adapters::Adapters;
 use xpt_devices::Devices;
 
@@ -146,28 +148,4 @@ pub(crate) fn full_refusal(devices: &Devices) -> Option<Refusal>
     } else {
         None
     }
-}
-
-fn names_device(config: &Config, device: u32) -> bool
-    ensures { result ≡ names_device config.now device }
-{
-    (device as usize) < config.devices().len()
-}
-
-fn names_adapter(config: &Config, adapter: u32) -> bool
-    ensures { result ≡ names_adapter config.now adapter }
-{
-    (adapter as usize) < config.adapters().len()
-}
-
-fn names_lane(config: &Config, lane: u32) -> bool
-    ensures { result ≡ names_lane config.now lane }
-{
-    (lane as usize) < config.lanes().len()
-}
-
-fn is_count(count: u32) -> bool
-    ensures { result ≡ is_count count }
-{
-    0 < count && count <= MOST_FREEZES
 }

@@ -1,5 +1,5 @@
 -- what the live schedule costs, by the net and by the events
-use Rattle.std.proofs.Common.{◌≡◌, ℕ, zero, suc, ◌+◌, ◌*◌, ◌-◌, ◌<◌, ◌≤◌, List, [], ◌∷◌, length, map, refl, sym, ap, ◌∙◌, arith}
+use Rattle.std.proofs.Common.{◌≡◌, ℕ, ◌+◌, ◌*◌, ◌-◌, ◌≤◌, List, [], ◌∷◌, length, map, refl, sym, ap, ◌∙◌, arith}
 use Rattle.std.specs.Prelude.{sum_by}
 use Rattle.std.proofs.lemmas.List.Sums.{sum_by-cons}
 use Rattle.std.proofs.lemmas.Nat.{mul-le}
@@ -15,10 +15,7 @@ use Rattle.round_net.specs.Instance.{Instance}
 use Rattle.round_net.specs.Sound.{IsSound}
 use Rattle.round_net.specs.Nets.{stay_row, net_of, instance_of, live_of}
 use Rattle.round_net.specs.declared.stay_row.StayRow.{StayRow}
-
-sum_below-shift : (n : ℕ) (g : ℕ → ℕ) → sum_below (suc n) g ≡ g 0 + sum_below n (λ i. g (suc i))
-sum_below-shift zero g = omega arith
-sum_below-shift (suc n) g = omega (arith, sum_below-shift n g)
+use Rattle.round_net.proofs.SumLemmas.{sum_below-shift, sum_below-most}
 
 -- what a stay's row costs
 abbrev row_cost : StayRow → ℕ
@@ -46,10 +43,6 @@ unfolding instance_of_rows live_of_rows net_of
 cost-live c es = rows_sum (map (stay_row es) (passages es)) ∙ sum_by-map (stay_row es) row_cost (passages es) ∙ same_parts es (passages es)
 
 -- an admissible schedule costs at most what 1,024 stays of weight 16 would that wait for 128 rounds
-sum_below-most : (n most : ℕ) (g : ℕ → ℕ) → ((i : ℕ) → i < n → g i ≤ most) → sum_below n g ≤ n * most
-sum_below-most zero most g h = omega arith
-sum_below-most (suc n) most g h = omega (arith, sum_below-most n most g (λ i lt. h i (omega (arith, lt))), h n (omega arith))
-
 pub cost-most : (net : Instance) (live f : ℕ → ℕ) → IsSound net live → IsAdmissible net f → cost net f ≤ 2097152
 cost-most net live f sound fits =
     let each : sum_below net.stays (λ s. net.weight s * (f s - net.arrival s)) ≤ net.stays * 2048 =

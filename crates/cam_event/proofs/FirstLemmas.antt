@@ -19,7 +19,7 @@ use Rattle.event_log.proofs.TotalLaws.{is_of, not_of, unsent_count}
 use Rattle.cam_event.specs.Legal.{is_next}
 use Rattle.cam_event.specs.Refusals.{device_of}
 use Rattle.cam_event.proofs.NextLemmas.{head_stands, queued-first, device-of_its_ccb}
-use Rattle.cam_event.proofs.StandLemmas.{count_cases, AreStates, IsWaiting, waiting-states}
+use Rattle.cam_event.proofs.StandLemmas.{AreStates, IsWaiting, waiting-states}
 
 -- the CCB that a legal send sends is the first of its device, which is ready
 pub record IsFirst (c : Topology) (es : List Event) (ccb : ℕ) (p : Passage) : Type 0 where
@@ -57,6 +57,11 @@ and_false true b e = e
 and_false false b e = refl
 
 -- no more of a part pass a test than of the whole
+count_cases : (p q : Passage → Bool) (x : Passage) (xs : List Passage) (b : Bool) → q x ≡ b →
+    count_by p (cond b (x ∷ filter q xs) (filter q xs)) ≡ cond b (cond (p x) 1 0) 0 + count_by p (filter q xs)
+count_cases p q x xs true e = sum_by-cons (λ y. cond (p y) 1 0) x (filter q xs)
+count_cases p q x xs false e = omega arith
+
 count_part : (b : Bool) (n : ℕ) → cond b n 0 ≤ n
 count_part true n = omega arith
 count_part false n = omega arith

@@ -10,3 +10,4 @@ pub mod RangeLemmas
 pub mod StandLemmas
 pub mod CoverLemmas
 pub mod FirstLemmas
+pub mod WiderLemmas

@@ -1,236 +1,30 @@
--- where each CCB of a legal list stands: it has one unsent stay, is in flight, is recovering, or none of these
-use Rattle.std.proofs.Common.{◌≡◌, ℕ, ◌+◌, ◌<◌, ◌≤◌, Bool, true, false, cond, List, [], ◌∷◌, ◌++◌, length, refl, ap, ◌∙◌, arith, Option, Some, None, add-zero, zero-add, length-append}
+-- where each CCB of a legal list stands: one that was submitted and hasn't ended has an unsent stay, is in flight or recovers, and each other does none of these
+use Rattle.std.proofs.Common.{◌≡◌, ◌≢◌, ℕ, ◌+◌, ◌<◌, ◌≤◌, Bool, true, false, cond, List, [], ◌∷◌, ◌++◌, refl, sym, ap, ◌∙◌, arith, Option, Some, None, inl, inr, add-zero, zero-add}
 use Rattle.std.specs.Prelude.{not, ◌==◌, ◌&&◌, ◌||◌, nat_lt, filter, count_by, option_to_list}
-use Rattle.std.specs.Option.{option_map}
-use Rattle.std.proofs.lemmas.Bool.{and_parts, or_from, eqb-true, ltb-true}
-use Rattle.std.proofs.lemmas.Bool.Decides.{nat_tests}
+use Rattle.std.specs.List.{list_any}
+use Rattle.std.proofs.lemmas.Bool.{cases_lt, cases_eq, and_parts, ltb-true, lt-ltb, le-ltb, eq-eqb, ne_eqb, eqb-true, or_cases}
+use Rattle.std.proofs.lemmas.Option.{slice_get-get_or}
 use Rattle.std.proofs.lemmas.List.Sums.{sum_by-cons, sum_by-append}
 use Rattle.cam_types.specs.Topology.{Topology}
-use Rattle.cam_types.specs.declared.flags.Flags.{Flags}
 use Rattle.cam_types.specs.declared.outcome.Outcome.{Outcome}
 use Rattle.sense_class.specs.Classes.{status_of}
-use Rattle.event_log.specs.Event.{is_send_of, is_send_or_done_of, concerns, is_erring, submission_of}
+use Rattle.event_log.specs.Event.{is_send_of, concerns, ccb_of, is_erring, ends, submission_of}
 use Rattle.event_log.specs.Counts.{commands, submission, submissions, is_in_flight, is_recovering, wants_requeue, wants_finish}
-use Rattle.event_log.specs.Stays.{passages, waiting, passage_of}
+use Rattle.event_log.specs.Stays.{passages, waiting, passage_of, has_arrived, has_queued}
 use Rattle.event_log.specs.declared.event.Event.{Event}
 use Rattle.event_log.specs.declared.event.Event.TheVariants.{Submit, Send, Done, Requeue, Finish, FreezeDev, ReleaseDev, FreezeSim, ReleaseSim, Adjust, Tick}
 use Rattle.event_log.specs.declared.submission.Submission.{Submission}
 use Rattle.event_log.specs.declared.passage.Passage.{Passage}
-use Rattle.event_log.proofs.Laws.{waiting-push, submissions-push}
-use Rattle.event_log.proofs.ListFacts.{filter-all}
+use Rattle.event_log.proofs.Laws.{waiting-push}
+use Rattle.event_log.proofs.ListFacts.{count_by-kept, count_by-dropped}
+use Rattle.event_log.proofs.ConcernLaws.{apart, concerns-none, concerns-other, submit_concerns_none}
 use Rattle.event_log.proofs.StateLaws.{is_in_flight-push, is_recovering-push}
-use Rattle.event_log.proofs.TotalLaws.{is_of, not_of, unsent_count, requeued_stay}
+use Rattle.event_log.proofs.CcbLaws.{not_ended-push}
+use Rattle.event_log.proofs.TotalLaws.{unsent_count, commands-submit, commands-none}
 use Rattle.cam_event.specs.Legal.{Rules, names_lane, names_ccb, has_stay, is_next, is_legal_event, is_legal}
 use Rattle.cam_event.proofs.LawLemmas.{allowed-legal_event}
 use Rattle.cam_event.proofs.LimitLemmas.{legal-induction}
-
--- in how many ways it stands in the list
-abbrev pub ways : List Event → ℕ → ℕ
-ways events ccb = unsent_count events ccb + cond (is_in_flight events ccb) 1 0 + cond (is_recovering events ccb) 1 0
-
--- each CCB that was submitted stands in one way at the most, and no other does
-pub record AreStates (events : List Event) : Type 0 where
-  pub once : (ccb : ℕ) → ways events ccb ≤ cond (nat_lt ccb (commands events)) 1 0
-
--- the unsent stays of a CCB: none behind a send of it, and else those before
-pub count_cases : (p q : Passage → Bool) (x : Passage) (xs : List Passage) (b : Bool) → q x ≡ b →
-    count_by p (cond b (x ∷ filter q xs) (filter q xs)) ≡ cond b (cond (p x) 1 0) 0 + count_by p (filter q xs)
-count_cases p q x xs true e = sum_by-cons (λ y. cond (p y) 1 0) x (filter q xs)
-count_cases p q x xs false e = omega arith
-
-not_same : (a b c : ℕ) → (a == c) ≡ false → ◌≡◌ {A = ℕ} (cond (not (a == b)) (cond (b == c) 1 0) 0) (cond (b == c) 1 0)
-not_same a b c e = grind (arith, nat_tests)
-
-not_other : (a b c : ℕ) → (a == c) ≡ true → ◌≡◌ {A = ℕ} (cond (not (a == b)) (cond (b == c) 1 0) 0) 0
-not_other a b c e = grind (arith, nat_tests)
-
-kept-other : (sent ccb : ℕ) (ps : List Passage) → (sent == ccb) ≡ false → count_by (is_of ccb) (filter (not_of sent) ps) ≡ count_by (is_of ccb) ps
-kept-other sent ccb [] e = refl
-kept-other sent ccb (p ∷ ps) e =
-    omega (arith, count_cases (is_of ccb) (not_of sent) p ps (not_of sent p) refl, not_same sent p.ccb ccb e, kept-other sent ccb ps e, sum_by-cons (λ (x : Passage). cond (is_of ccb x) 1 0) p ps)
-
-none-kept : (sent ccb : ℕ) (ps : List Passage) → (sent == ccb) ≡ true → count_by (is_of ccb) (filter (not_of sent) ps) ≡ 0
-none-kept sent ccb [] e = refl
-none-kept sent ccb (p ∷ ps) e =
-    omega (arith, count_cases (is_of ccb) (not_of sent) p ps (not_of sent p) refl, not_other sent p.ccb ccb e, none-kept sent ccb ps e)
-
-unsent-push : (es : List Event) (e : Event) (ccb : ℕ) → unsent_count (es ++ e ∷ []) ccb
-    ≡ count_by (is_of ccb) (filter (λ (p : Passage). not (is_send_of p.ccb e)) (waiting es)) + count_by (is_of ccb) (option_to_list (passage_of (es, e)))
-unsent-push es e ccb = ap (count_by (is_of ccb)) (waiting-push es e)
-    ∙ sum_by-append (λ (x : Passage). cond (is_of ccb x) 1 0) (filter (λ (p : Passage). not (is_send_of p.ccb e)) (waiting es)) (option_to_list (passage_of (es, e)))
-
-commands-push : (es : List Event) (e : Event) → commands (es ++ e ∷ []) ≡ commands es + length (option_to_list (submission_of e))
-commands-push es e = ap length (submissions-push es e) ∙ length-append (submissions es) (option_to_list (submission_of e))
-
--- an event that begins and sends no stay leaves them as they were
-pub unsent-same : (es : List Event) (e : Event) (ccb : ℕ) → passage_of (es, e) ≡ None → ((p : Passage) → not (is_send_of p.ccb e) ≡ true) → unsent_count (es ++ e ∷ []) ccb ≡ unsent_count es ccb
-unsent-same es e ccb none unsent =
-    unsent-push es e ccb
-    ∙ ap (λ o. count_by (is_of ccb) (filter (λ (p : Passage). not (is_send_of p.ccb e)) (waiting es)) + count_by (is_of ccb) (option_to_list o)) none
-    ∙ ap (λ ps. count_by (is_of ccb) ps + 0) (filter-all (λ (p : Passage). not (is_send_of p.ccb e)) unsent (waiting es)) ∙ add-zero (unsent_count es ccb)
-
-commands-same : (es : List Event) (e : Event) → submission_of e ≡ None → commands (es ++ e ∷ []) ≡ commands es
-commands-same es e none = commands-push es e ∙ ap (λ o. commands es + length (option_to_list o)) none ∙ add-zero (commands es)
-
-flag-same : (x : Bool) (t a b : Bool) → x ≡ cond t a b → t ≡ false → ◌≡◌ {A = ℕ} (cond x 1 0) (cond b 1 0)
-flag-same x true a b e f = absurd (cc)
-flag-same x false a b e f = ap (λ y. cond {A = ℕ} y 1 0) e
-
-flag-new : (x : Bool) (t a b : Bool) → x ≡ cond t a b → t ≡ true → ◌≡◌ {A = ℕ} (cond x 1 0) (cond a 1 0)
-flag-new x true a b e f = ap (λ y. cond {A = ℕ} y 1 0) e
-flag-new x false a b e f = absurd (cc)
-
--- what an event that concerns no CCB leaves as it was
-module _ (es : List Event) (e : Event) (ccb : ℕ) where
-  flying-same : is_send_or_done_of ccb e ≡ false → ◌≡◌ {A = ℕ} (cond (is_in_flight (es ++ e ∷ []) ccb) 1 0) (cond (is_in_flight es ccb) 1 0)
-  flying-same h = flag-same _ _ _ _ (is_in_flight-push es e ccb) h
-
-  recovering-same : concerns ccb e ≡ false → ◌≡◌ {A = ℕ} (cond (is_recovering (es ++ e ∷ []) ccb) 1 0) (cond (is_recovering es ccb) 1 0)
-  recovering-same h = flag-same _ _ _ _ (is_recovering-push es e ccb) h
-
-  flying-new : is_send_or_done_of ccb e ≡ true → ◌≡◌ {A = ℕ} (cond (is_in_flight (es ++ e ∷ []) ccb) 1 0) (cond (is_send_of ccb e) 1 0)
-  flying-new h = flag-new _ _ _ _ (is_in_flight-push es e ccb) h
-
-  recovering-new : concerns ccb e ≡ true → ◌≡◌ {A = ℕ} (cond (is_recovering (es ++ e ∷ []) ccb) 1 0) (cond (is_erring e) 1 0)
-  recovering-new h = flag-new _ _ _ _ (is_recovering-push es e ccb) h
-
-  ways-same : passage_of (es, e) ≡ None → submission_of e ≡ None → ((p : Passage) → not (is_send_of p.ccb e) ≡ true) → is_send_or_done_of ccb e ≡ false → concerns ccb e ≡ false →
-      ways es ccb ≤ cond (nat_lt ccb (commands es)) 1 0 → ways (es ++ e ∷ []) ccb ≤ cond (nat_lt ccb (commands (es ++ e ∷ []))) 1 0
-  ways-same none nothing unsent still apart h =
-      omega (arith, h, unsent-same es e ccb none unsent, flying-same still, recovering-same apart, ap (λ n. cond {A = ℕ} (nat_lt ccb n) 1 0) (commands-same es e nothing))
-
--- a submit
-one_more : (n ccb : ℕ) → ◌≡◌ {A = ℕ} (cond (nat_lt ccb n) 1 0 + cond (n == ccb) 1 0) (cond (nat_lt ccb (n + 1)) 1 0)
-one_more n ccb = grind (arith, nat_tests)
-
-unsent-submit : (es : List Event) (driver device priority retries : ℕ) (flags : Flags) (ccb : ℕ) →
-    unsent_count (es ++ Submit driver device priority retries flags ∷ []) ccb ≡ unsent_count es ccb + cond (commands es == ccb) 1 0
-unsent-submit es driver device priority retries flags ccb =
-    let e = Submit driver device priority retries flags in
-    unsent-push es e ccb
-    ∙ ap (λ ps. count_by (is_of ccb) ps + count_by (is_of ccb) (option_to_list (passage_of (es, e)))) (filter-all (λ (p : Passage). not (is_send_of p.ccb e)) (λ p. refl) (waiting es))
-    ∙ ap (λ n. unsent_count es ccb + n) (zero-add (cond (commands es == ccb) 1 0))
-
-ways-submit : (es : List Event) (driver device priority retries : ℕ) (flags : Flags) (ccb : ℕ) → ways es ccb ≤ cond (nat_lt ccb (commands es)) 1 0 →
-    ways (es ++ Submit driver device priority retries flags ∷ []) ccb ≤ cond (nat_lt ccb (commands (es ++ Submit driver device priority retries flags ∷ []))) 1 0
-ways-submit es driver device priority retries flags ccb h =
-    let e = Submit driver device priority retries flags in
-    omega (
-      arith,
-      h,
-      unsent-submit es driver device priority retries flags ccb,
-      flying-same es e ccb refl,
-      recovering-same es e ccb refl,
-      one_more (commands es) ccb,
-      ap (λ n. cond {A = ℕ} (nat_lt ccb n) 1 0) (commands-push es e),
-    )
-
--- what concerns a CCB, and no other
-named : (n k : ℕ) → n < k → (m : ℕ) → (n == m) ≡ true → ◌≡◌ {A = ℕ} (cond (nat_lt m k) 1 0) 1
-named n k lt m e = grind (arith, nat_tests)
-
-limit-same : (es : List Event) (e : Event) (ccb : ℕ) → submission_of e ≡ None → ◌≡◌ {A = ℕ} (cond (nat_lt ccb (commands (es ++ e ∷ []))) 1 0) (cond (nat_lt ccb (commands es)) 1 0)
-limit-same es e ccb nothing = ap (λ n. cond {A = ℕ} (nat_lt ccb n) 1 0) (commands-same es e nothing)
-
-or-left : (a b : Bool) → a ≡ true → (a || b) ≡ true
-or-left true b e = refl
-or-left false b e = absurd (cc)
-
-concerned : (ccb : ℕ) (e : Event) → is_send_or_done_of ccb e ≡ true → concerns ccb e ≡ true
-concerned ccb e h = or-left _ _ (or-left _ _ h)
-
-few : (b : Bool) → cond {A = ℕ} b 1 0 ≤ 1
-few true = omega arith
-few false = omega arith
-
--- a send
-unsent-send : (es : List Event) (lane sent ccb : ℕ) → unsent_count (es ++ Send lane sent ∷ []) ccb ≡ count_by (is_of ccb) (filter (not_of sent) (waiting es)) + 0
-unsent-send es lane sent ccb = unsent-push es (Send lane sent) ccb
-
-ways-send : (es : List Event) (lane sent ccb : ℕ) → sent < commands es → (b : Bool) → (sent == ccb) ≡ b → ways es ccb ≤ cond (nat_lt ccb (commands es)) 1 0 →
-    ways (es ++ Send lane sent ∷ []) ccb ≤ cond (nat_lt ccb (commands (es ++ Send lane sent ∷ []))) 1 0
-ways-send es lane sent ccb lt true is h =
-    let e = Send lane sent in
-    omega (
-      arith,
-      unsent-send es lane sent ccb,
-      none-kept sent ccb (waiting es) is,
-      flying-new es e ccb (or-left _ _ is),
-      recovering-new es e ccb (concerned ccb e (or-left _ _ is)),
-      limit-same es e ccb refl,
-      named sent (commands es) lt ccb is,
-      ap (λ b. cond {A = ℕ} b 1 0) is,
-    )
-ways-send es lane sent ccb lt false is h =
-    let e = Send lane sent in
-    omega (arith, h, unsent-send es lane sent ccb, kept-other sent ccb (waiting es) is, flying-same es e ccb (or_from _ _ is refl), recovering-same es e ccb (or_from _ _ (or_from _ _ (or_from _ _ is refl) refl) refl), limit-same es e ccb refl)
-
--- a completion of a CCB in flight
-ways-done : (es : List Event) (gone : ℕ) (o : Outcome) (ccb : ℕ) → gone < commands es → is_in_flight es gone ≡ true → (b : Bool) → (gone == ccb) ≡ b →
-    ways es ccb ≤ cond (nat_lt ccb (commands es)) 1 0 → ways (es ++ Done gone o ∷ []) ccb ≤ cond (nat_lt ccb (commands (es ++ Done gone o ∷ []))) 1 0
-ways-done es gone o ccb lt flying true is h =
-    let e = Done gone o in
-    let here : is_in_flight es ccb ≡ true = rw (← eqb-true gone ccb is) flying in
-    omega (
-      arith,
-      h,
-      unsent-same es e ccb refl (λ p. refl),
-      flying-new es e ccb is,
-      recovering-new es e ccb (concerned ccb e is),
-      limit-same es e ccb refl,
-      named gone (commands es) lt ccb is,
-      ap (λ b. cond {A = ℕ} b 1 0) here,
-      few (is_erring e),
-    )
-ways-done es gone o ccb lt flying false is h =
-    let e = Done gone o in
-    ways-same es e ccb refl refl (λ p. refl) is (or_from _ _ (or_from _ _ is refl) refl) h
-
--- a requeue or a finish of a CCB that recovers
-abbrev begun_count : List Event → Event → ℕ → ℕ
-begun_count es e ccb = count_by (is_of ccb) (option_to_list (passage_of (es, e)))
-
-begun_few : (o : Option Submission) (make : Submission → Passage) (ccb : ℕ) → count_by (is_of ccb) (option_to_list (option_map make o)) ≤ 1
-begun_few None make ccb = omega arith
-begun_few (Some s) make ccb = elim (is_of ccb (make s)) as (λ b. 0 + cond {A = ℕ} b 1 0 ≤ 1) [ true ↦ omega arith | false ↦ omega arith ]
-
-begun_none : (o : Option Submission) (make : Submission → Passage) (n ccb : ℕ) → ((s : Submission) → (make s).ccb ≡ n) → (n == ccb) ≡ false → count_by (is_of ccb) (option_to_list (option_map make o)) ≡ 0
-begun_none None make n ccb same e = refl
-begun_none (Some s) make n ccb same e = let other : is_of ccb (make s) ≡ false = ap (λ k. k == ccb) (same s) ∙ e in omega (arith, ap (λ b. cond {A = ℕ} b 1 0) other)
-
-unsent-requeue : (es : List Event) (again ccb : ℕ) → unsent_count (es ++ Requeue again ∷ []) ccb ≡ unsent_count es ccb + begun_count es (Requeue again) ccb
-unsent-requeue es again ccb =
-    unsent-push es (Requeue again) ccb
-    ∙ ap (λ ps. count_by (is_of ccb) ps + begun_count es (Requeue again) ccb) (filter-all (λ (p : Passage). not (is_send_of p.ccb (Requeue again))) (λ p. refl) (waiting es))
-
-ways-requeue : (es : List Event) (again ccb : ℕ) → again < commands es → is_recovering es again ≡ true → (b : Bool) → (again == ccb) ≡ b →
-    ways es ccb ≤ cond (nat_lt ccb (commands es)) 1 0 → ways (es ++ Requeue again ∷ []) ccb ≤ cond (nat_lt ccb (commands (es ++ Requeue again ∷ []))) 1 0
-ways-requeue es again ccb lt recovers true is h =
-    let e = Requeue again in
-    let here : is_recovering es ccb ≡ true = rw (← eqb-true again ccb is) recovers in
-    omega (
-      arith,
-      h,
-      unsent-requeue es again ccb,
-      begun_few (submission es again) (requeued_stay es again) ccb,
-      flying-same es e ccb refl,
-      recovering-new es e ccb (or-left _ _ is),
-      limit-same es e ccb refl,
-      named again (commands es) lt ccb is,
-      ap (λ b. cond {A = ℕ} b 1 0) here,
-    )
-ways-requeue es again ccb lt recovers false is h =
-    let e = Requeue again in
-    omega (arith, h, unsent-requeue es again ccb, begun_none (submission es again) (requeued_stay es again) again ccb (λ s. refl) is, flying-same es e ccb refl, recovering-same es e ccb (or_from _ _ is refl), limit-same es e ccb refl)
-
-ways-finish : (es : List Event) (over ccb : ℕ) → (b : Bool) → (over == ccb) ≡ b →
-    ways es ccb ≤ cond (nat_lt ccb (commands es)) 1 0 → ways (es ++ Finish over ∷ []) ccb ≤ cond (nat_lt ccb (commands (es ++ Finish over ∷ []))) 1 0
-ways-finish es over ccb true is h =
-    let e = Finish over in
-    omega (arith, h, unsent-same es e ccb refl (λ p. refl), flying-same es e ccb refl, recovering-new es e ccb is, limit-same es e ccb refl)
-ways-finish es over ccb false is h =
-    let e = Finish over in
-    ways-same es e ccb refl refl (λ p. refl) refl is h
+use Rattle.cam_event.proofs.SendLemmas.{send_from_next}
 
 -- what a legal event of each kind asks
 pub asks-send : (rules : Rules) (c : Topology) (es : List Event) (lane ccb : ℕ) → is_legal_event rules c (es, Send lane ccb) ≡ true → (ccb < commands es) × (is_next c es lane ccb ≡ true)
@@ -259,91 +53,318 @@ asks-finish rules c es ccb legal =
     let two = and_parts (names_ccb es ccb) (is_recovering es ccb) one.0 in
     (ltb-true _ _ two.0, two.1)
 
--- a legal event leaves each CCB standing in one way at the most
-states_step : (rules : Rules) (c : Topology) (es : List Event) (e : Event) → is_legal_event rules c (es, e) ≡ true → AreStates es → AreStates (es ++ e ∷ [])
-states_step rules c es (Submit driver device priority retries flags) legal h = record { once = λ ccb. ways-submit es driver device priority retries flags ccb (h.once ccb) }
-states_step rules c es (Send lane sent) legal h = record { once = λ ccb. ways-send es lane sent ccb (asks-send rules c es lane sent legal).0 (sent == ccb) refl (h.once ccb) }
-states_step rules c es (Done gone o) legal h =
-    let asks = asks-done rules c es gone o legal in
-    record { once = λ ccb. ways-done es gone o ccb asks.0 asks.1 (gone == ccb) refl (h.once ccb) }
-states_step rules c es (Requeue again) legal h =
-    let asks = asks-requeue rules c es again legal in
-    record { once = λ ccb. ways-requeue es again ccb asks.0 asks.1 (again == ccb) refl (h.once ccb) }
-states_step rules c es (Finish over) legal h = record { once = λ ccb. ways-finish es over ccb (over == ccb) refl (h.once ccb) }
-states_step rules c es (FreezeDev device count) legal h = record { once = λ ccb. ways-same es (FreezeDev device count) ccb refl refl (λ p. refl) refl refl (h.once ccb) }
-states_step rules c es (ReleaseDev device count) legal h = record { once = λ ccb. ways-same es (ReleaseDev device count) ccb refl refl (λ p. refl) refl refl (h.once ccb) }
-states_step rules c es (FreezeSim sim count) legal h = record { once = λ ccb. ways-same es (FreezeSim sim count) ccb refl refl (λ p. refl) refl refl (h.once ccb) }
-states_step rules c es (ReleaseSim sim) legal h = record { once = λ ccb. ways-same es (ReleaseSim sim) ccb refl refl (λ p. refl) refl refl (h.once ccb) }
-states_step rules c es (Adjust device openings) legal h = record { once = λ ccb. ways-same es (Adjust device openings) ccb refl refl (λ p. refl) refl refl (h.once ccb) }
-states_step rules c es Tick legal h = record { once = λ ccb. ways-same es Tick ccb refl refl (λ p. refl) refl refl (h.once ccb) }
+-- a legal event names a CCB that was submitted
+named_before : (rules : Rules) (c : Topology) (es : List Event) (e : Event) (n : ℕ) → is_legal_event rules c (es, e) ≡ true → ccb_of e ≡ Some n → n < commands es
+named_before rules c es (Send lane ccb) n legal is = let same : ccb ≡ n = cc in omega (arith, (asks-send rules c es lane ccb legal).0)
+named_before rules c es (Done ccb outcome) n legal is = let same : ccb ≡ n = cc in omega (arith, (asks-done rules c es ccb outcome legal).0)
+named_before rules c es (Requeue ccb) n legal is = let same : ccb ≡ n = cc in omega (arith, (asks-requeue rules c es ccb legal).0)
+named_before rules c es (Finish ccb) n legal is = let same : ccb ≡ n = cc in omega (arith, (asks-finish rules c es ccb legal).0)
+named_before rules c es (Submit driver device priority retries flags) n legal is = absurd (cc)
+named_before rules c es (FreezeDev device count) n legal is = absurd (cc)
+named_before rules c es (ReleaseDev device count) n legal is = absurd (cc)
+named_before rules c es (FreezeSim sim count) n legal is = absurd (cc)
+named_before rules c es (ReleaseSim sim) n legal is = absurd (cc)
+named_before rules c es (Adjust device openings) n legal is = absurd (cc)
+named_before rules c es Tick n legal is = absurd (cc)
 
-no_states : AreStates []
-unfolding waiting passages is_in_flight is_recovering submissions
-no_states = record { once = λ ccb. omega arith }
+concerns_by : (rules : Rules) (c : Topology) (es : List Event) (e : Event) (n : ℕ) (o : Option ℕ) → ccb_of e ≡ o → is_legal_event rules c (es, e) ≡ true → commands es ≤ n → concerns n e ≡ false
+concerns_by rules c es e n None is legal le = concerns-none e n is
+concerns_by rules c es e n (Some m) is legal le = let lt = named_before rules c es e m legal is in concerns-other e m n is (λ same. omega arith)
 
-pub states-legal : (rules : Rules) (c : Topology) (events : List Event) → is_legal rules c events ≡ true → AreStates events
+-- and none that wasn't
+pub concerns-past : (rules : Rules) (c : Topology) (es : List Event) (e : Event) (n : ℕ) → is_legal_event rules c (es, e) ≡ true → commands es ≤ n → concerns n e ≡ false
+concerns-past rules c es e n legal le = concerns_by rules c es e n (ccb_of e) refl legal le
+
+commands_by : (es : List Event) (e : Event) (o : Option Submission) → submission_of e ≡ o → commands es ≤ commands (es ++ e ∷ [])
+commands_by es e None is = omega (arith, commands-none es e is)
+commands_by es e (Some s) is = omega (arith, commands-submit es e s is)
+
+pub commands-grow : (es : List Event) (e : Event) → commands es ≤ commands (es ++ e ∷ [])
+commands-grow es e = commands_by es e (submission_of e) refl
+
+abbrev bit : Bool → ℕ
+bit b = cond b 1 0
+
+-- how many unsent stays of a CCB the event begins
+abbrev begun : List Event → Event → ℕ → ℕ
+begun es e n = count_by (λ (p : Passage). p.ccb == n) (option_to_list (passage_of (es, e)))
+
+sent_cases : (es : List Event) (e : Event) (n : ℕ) (t : Bool) → is_send_of n e ≡ t → count_by (λ (p : Passage). p.ccb == n) (filter (λ (p : Passage). not (is_send_of p.ccb e)) (waiting es)) ≡ cond t 0 (unsent_count es n)
+sent_cases es e n true is = count_by-dropped (λ (p : Passage). p.ccb == n) (λ (p : Passage). not (is_send_of p.ccb e)) (waiting es) (λ p kept. differs p kept (p.ccb == n) refl)
+  where
+    differs : (p : Passage) → not (is_send_of p.ccb e) ≡ true → (b : Bool) → (p.ccb == n) ≡ b → (p.ccb == n) ≡ false
+    differs p kept false same = same
+    differs p kept true same = let k : p.ccb ≡ n = eqb-true p.ccb n same in let off : not (is_send_of n e) ≡ true = rw k at kept in let on : not true ≡ true = rw is at off in absurd (cc)
+sent_cases es e n false is = count_by-kept (λ (p : Passage). p.ccb == n) (λ (p : Passage). not (is_send_of p.ccb e)) (waiting es) (λ p same. let k : p.ccb ≡ n = eqb-true p.ccb n same in rw k (ap not is))
+
+unsent-push : (es : List Event) (e : Event) (n : ℕ) → unsent_count (es ++ e ∷ []) n ≡ cond (is_send_of n e) 0 (unsent_count es n) + begun es e n
+unsent-push es e n =
+    ap (λ ps. count_by (λ (p : Passage). p.ccb == n) ps) (waiting-push es e)
+    ∙ sum_by-append (λ (p : Passage). cond {A = ℕ} (p.ccb == n) 1 0) (filter (λ (p : Passage). not (is_send_of p.ccb e)) (waiting es)) (option_to_list (passage_of (es, e)))
+    ∙ ap (λ m. m + begun es e n) (sent_cases es e n (is_send_of n e) refl)
+
+-- it was submitted and hasn't ended
+abbrev pub is_held : List Event → ℕ → Bool
+is_held es n = nat_lt n (commands es) && not (list_any (ends n) es)
+
+-- it stands in one way where that is so, and else in none
+pub record IsPlaced (es : List Event) (n : ℕ) : Type 0 where
+  pub place : unsent_count es n + bit (is_in_flight es n) + bit (is_recovering es n) ≡ bit (is_held es n)
+
+placed : (es : List Event) (n u : ℕ) (f r s a : Bool) → unsent_count es n ≡ u → is_in_flight es n ≡ f → is_recovering es n ≡ r → nat_lt n (commands es) ≡ s → not (list_any (ends n) es) ≡ a → u + bit f + bit r ≡ bit (s && a) → IsPlaced es n
+placed es n u f r s a i j k l m h = record { place = rw (i, j, k, l, m) h }
+
+bit_le : (b : Bool) → bit b ≤ 1
+bit_le true = omega arith
+bit_le false = omega arith
+
+bit_one : (b : Bool) → 1 ≤ bit b → b ≡ true
+bit_one true le = refl
+bit_one false le = absurd (omega arith)
+
+bit_none : (b : Bool) → bit b ≡ 0 → b ≡ false
+bit_none true e = absurd (omega arith)
+bit_none false e = refl
+
+and_true : (b : Bool) → (b && true) ≡ b
+and_true true = refl
+and_true false = refl
+
+-- an event that concerns another CCB
+other_step : (es : List Event) (e : Event) (n : ℕ) → concerns n e ≡ false → begun es e n ≡ 0 → nat_lt n (commands (es ++ e ∷ [])) ≡ nat_lt n (commands es) → IsPlaced es n → IsPlaced (es ++ e ∷ []) n
+other_step es e n none begins same h =
+    let a = apart n e none in
+    placed (es ++ e ∷ []) n (unsent_count es n) (is_in_flight es n) (is_recovering es n) (nat_lt n (commands es)) (not (list_any (ends n) es))
+    (unsent-push es e n ∙ rw (a.send, begins) (add-zero (unsent_count es n)))
+    (is_in_flight-push es e n ∙ rw (a.send_or_done) refl)
+    (is_recovering-push es e n ∙ rw none refl)
+    same
+    (not_ended-push es e n ∙ rw (a.ends) (and_true (not (list_any (ends n) es))))
+    h.place
+
+same_commands : (es : List Event) (e : Event) (n : ℕ) → submission_of e ≡ None → nat_lt n (commands (es ++ e ∷ [])) ≡ nat_lt n (commands es)
+same_commands es e n is = ap (λ m. nat_lt n m) (commands-none es e is)
+
+-- what each event finds and makes of the CCB that it concerns
+queued_count : (es : List Event) (n : ℕ) (ps : List Passage) → list_any (λ (p : Passage). (p.ccb == n) && has_arrived es p) ps ≡ true → 1 ≤ count_by (λ (p : Passage). p.ccb == n) ps
+queued_count es n [] h = absurd (cc)
+queued_count es n (p ∷ ps) h = elim (or_cases ((p.ccb == n) && has_arrived es p) (list_any (λ (q : Passage). (q.ccb == n) && has_arrived es q) ps) h) [
+  | inl here ↦ omega (arith, sum_by-cons (λ (q : Passage). cond {A = ℕ} (q.ccb == n) 1 0) p ps, ap bit (and_parts (p.ccb == n) (has_arrived es p) here).0)
+  | inr later ↦ omega (arith, sum_by-cons (λ (q : Passage). cond {A = ℕ} (q.ccb == n) 1 0) p ps, queued_count es n ps later)
+]
+
+unsent_queued : (es : List Event) (n : ℕ) → has_queued es n ≡ true → 1 ≤ unsent_count es n
+unfolding has_queued
+unsent_queued es n h = queued_count es n (waiting es) h
+
+held_by : (es : List Event) (n : ℕ) → 1 ≤ bit (is_held es n) → (nat_lt n (commands es) ≡ true) × (not (list_any (ends n) es) ≡ true)
+held_by es n le = and_parts (nat_lt n (commands es)) (not (list_any (ends n) es)) (bit_one (is_held es n) le)
+
+send_step : (es : List Event) (lane n : ℕ) → has_queued es n ≡ true → IsPlaced es n → IsPlaced (es ++ Send lane n ∷ []) n
+send_step es lane n queued h =
+    let e = Send lane n in
+    let me : (n == n) ≡ true = eq-eqb n n refl in
+    let some = unsent_queued es n queued in
+    let place = h.place in
+    let held = held_by es n (omega arith) in
+    placed (es ++ e ∷ []) n 0 true false true true
+    (unsent-push es e n ∙ rw me refl) (is_in_flight-push es e n ∙ rw me refl) (is_recovering-push es e n ∙ rw me refl)
+    (same_commands es e n refl ∙ held.0) (not_ended-push es e n ∙ rw (held.1) refl) refl
+
+done_step : (es : List Event) (n : ℕ) (o : Outcome) → is_in_flight es n ≡ true → IsPlaced es n → IsPlaced (es ++ Done n o ∷ []) n
+done_step es n o flies h =
+    let e = Done n o in
+    let me : (n == n) ≡ true = eq-eqb n n refl in
+    let place = h.place in
+    let fly : bit (is_in_flight es n) ≡ 1 = ap bit flies in
+    let held = held_by es n (omega arith) in
+    let is : is_held es n ≡ true = rw (held.0, held.1) refl in
+    let one : bit (is_held es n) ≡ 1 = ap bit is in
+    let none : unsent_count es n ≡ 0 = omega arith in
+    placed (es ++ e ∷ []) n 0 false (is_erring e) true (is_erring e)
+    (unsent-push es e n ∙ rw none refl) (is_in_flight-push es e n ∙ rw me refl) (is_recovering-push es e n ∙ rw me refl)
+    (same_commands es e n refl ∙ held.0) (not_ended-push es e n ∙ rw (held.1, me) (twice (is_erring e))) (erred (is_erring e))
+  where
+    twice : (b : Bool) → (true && not ((true && not b) || false)) ≡ b
+    twice true = refl
+    twice false = refl
+
+    erred : (b : Bool) → 0 + 0 + bit b ≡ bit (true && b)
+    erred true = refl
+    erred false = refl
+
+begun_requeue : (es : List Event) (n : ℕ) (o : Option Submission) → submission es n ≡ o → nat_lt n (commands es) ≡ true → begun es (Requeue n) n ≡ 1
+begun_requeue es n None is lt = let le = ltb-true n (commands es) lt in absurd (past es n is le)
+  where
+    past : (es : List Event) (n : ℕ) → submission es n ≡ None → n < commands es → ⊥
+    past es n is lt = let some = slice_get-get_or (submissions es) n (let s : Submission = record { driver = 0; device = 0; priority = 0; retries = 0; flags = record { qfreeze = false; qfrzdis = false } } in s) lt in cc
+begun_requeue es n (Some s) is lt = rw (is, eq-eqb n n refl) refl
+
+requeue_step : (es : List Event) (n : ℕ) → is_recovering es n ≡ true → IsPlaced es n → IsPlaced (es ++ Requeue n ∷ []) n
+requeue_step es n recovers h =
+    let e = Requeue n in
+    let me : (n == n) ≡ true = eq-eqb n n refl in
+    let place = h.place in
+    let one : bit (is_recovering es n) ≡ 1 = ap bit recovers in
+    let most = bit_le (is_held es n) in
+    let held = held_by es n (omega arith) in
+    let grounded : is_in_flight es n ≡ false = bit_none (is_in_flight es n) (omega arith) in
+    let none : unsent_count es n ≡ 0 = omega arith in
+    placed (es ++ e ∷ []) n 1 false false true true
+    (unsent-push es e n ∙ rw (none, begun_requeue es n (submission es n) refl held.0) refl) (is_in_flight-push es e n ∙ grounded) (is_recovering-push es e n ∙ rw me refl)
+    (same_commands es e n refl ∙ held.0) (not_ended-push es e n ∙ rw (held.1) refl) refl
+
+finish_step : (es : List Event) (n : ℕ) → is_recovering es n ≡ true → IsPlaced es n → IsPlaced (es ++ Finish n ∷ []) n
+finish_step es n recovers h =
+    let e = Finish n in
+    let me : (n == n) ≡ true = eq-eqb n n refl in
+    let place = h.place in
+    let one : bit (is_recovering es n) ≡ 1 = ap bit recovers in
+    let most = bit_le (is_held es n) in
+    let held = held_by es n (omega arith) in
+    let grounded : is_in_flight es n ≡ false = bit_none (is_in_flight es n) (omega arith) in
+    let none : unsent_count es n ≡ 0 = omega arith in
+    placed (es ++ e ∷ []) n 0 false false true false
+    (unsent-push es e n ∙ rw none refl) (is_in_flight-push es e n ∙ grounded) (is_recovering-push es e n ∙ rw me refl)
+    (same_commands es e n refl ∙ held.0) (not_ended-push es e n ∙ rw (held.1, me) refl) refl
+
+submit_step : (es : List Event) (e : Event) (s : Submission) (n : ℕ) → submission_of e ≡ Some s → not (list_any (ends (commands es)) es) ≡ true → begun es e n ≡ bit (commands es == n) → IsPlaced es n → IsPlaced (es ++ e ∷ []) n
+submit_step es e s n is lives begins h = elim (cases_eq (commands es) n) [
+  | inl same ↦
+      let none = concerns-none e n (submit_concerns_none e s is) in
+      let a = apart n e none in
+      let place = h.place in
+      let past : nat_lt n (commands es) ≡ false = le-ltb n (commands es) (omega arith) in
+      let out : is_held es n ≡ false = rw past refl in
+      let nowhere : bit (is_held es n) ≡ 0 = ap bit out in
+      let grounded : is_in_flight es n ≡ false = bit_none (is_in_flight es n) (omega arith) in
+      let fine : is_recovering es n ≡ false = bit_none (is_recovering es n) (omega arith) in
+      let unsent_none : unsent_count es n ≡ 0 = omega arith in
+      let one : begun es e n ≡ 1 = begins ∙ ap bit (eq-eqb (commands es) n same) in
+      placed (es ++ e ∷ []) n 1 false false true true
+      (unsent-push es e n ∙ rw (a.send, unsent_none, one) refl) (is_in_flight-push es e n ∙ rw (a.send_or_done) grounded) (is_recovering-push es e n ∙ rw none fine)
+      (lt-ltb n (commands (es ++ e ∷ [])) (omega (arith, commands-submit es e s is))) (not_ended-push es e n ∙ rw (a.ends, ap (λ k. not (list_any (ends k) es)) (sym same) ∙ lives) refl) refl
+  | inr ne ↦
+      let none = concerns-none e n (submit_concerns_none e s is) in
+      let zero_begun : begun es e n ≡ 0 = begins ∙ ap bit (ne_eqb (commands es) n ne) in
+      let more : commands (es ++ e ∷ []) ≡ commands es + 1 = commands-submit es e s is in
+      other_step es e n none zero_begun (ap (λ m. nat_lt n m) more ∙ next_lt n (commands es) (λ same. ne (sym same))) h
+]
+  where
+    next_lt : (n m : ℕ) → n ≢ m → nat_lt n (m + 1) ≡ nat_lt n m
+    next_lt n m ne = elim (cases_lt n m) [
+      | inl lt ↦ lt-ltb n (m + 1) (omega arith) ∙ sym (lt-ltb n m lt)
+      | inr le ↦ le-ltb n (m + 1) (more le ne) ∙ sym (le-ltb n m le)
+    ]
+      where
+        more : m ≤ n → n ≢ m → m + 1 ≤ n
+        more le ne = omega arith
+
+-- so does each CCB, and none that wasn't submitted has ended
+pub record AreStates (es : List Event) : Type 0 where
+  pub placed : (n : ℕ) → IsPlaced es n
+  pub lives : (n : ℕ) → commands es ≤ n → not (list_any (ends n) es) ≡ true
+
+begun_other : (es : List Event) (m n : ℕ) (o : Option Submission) → submission es m ≡ o → n ≢ m → begun es (Requeue m) n ≡ 0
+begun_other es m n None is ne = rw is refl
+begun_other es m n (Some s) is ne = rw (is, ne_eqb m n (λ e. ne (sym e))) refl
+
+at_ccb : (es : List Event) (e : Event) (m n : ℕ) → ccb_of e ≡ Some m → submission_of e ≡ None → (n ≢ m → begun es e n ≡ 0) → IsPlaced (es ++ e ∷ []) m → IsPlaced es n → IsPlaced (es ++ e ∷ []) n
+at_ccb es e m n is none begins here h = elim (cases_eq n m) [
+  | inl same ↦ rw same here
+  | inr ne ↦ other_step es e n (concerns-other e m n is ne) (begins ne) (same_commands es e n none) h
+]
+
+place_step : (rules : Rules) (c : Topology) (es : List Event) (e : Event) → is_legal_event rules c (es, e) ≡ true → AreStates es → (n : ℕ) → IsPlaced (es ++ e ∷ []) n
+place_step rules c es (Submit driver device priority retries flags) legal h n =
+    submit_step es (Submit driver device priority retries flags) _ n refl (h.lives (commands es) (omega arith)) (zero-add (bit (commands es == n))) (h.placed n)
+place_step rules c es (Send lane ccb) legal h n =
+    let turn = (asks-send rules c es lane ccb legal).1 in
+    at_ccb es (Send lane ccb) ccb n refl refl (λ ne. refl) (send_step es lane ccb (send_from_next c es lane ccb turn).sendable.queued (h.placed ccb)) (h.placed n)
+place_step rules c es (Done ccb outcome) legal h n =
+    at_ccb es (Done ccb outcome) ccb n refl refl (λ ne. refl) (done_step es ccb outcome (asks-done rules c es ccb outcome legal).1 (h.placed ccb)) (h.placed n)
+place_step rules c es (Requeue ccb) legal h n =
+    at_ccb es (Requeue ccb) ccb n refl refl (λ ne. begun_other es ccb n (submission es ccb) refl ne) (requeue_step es ccb (asks-requeue rules c es ccb legal).1 (h.placed ccb)) (h.placed n)
+place_step rules c es (Finish ccb) legal h n =
+    at_ccb es (Finish ccb) ccb n refl refl (λ ne. refl) (finish_step es ccb (asks-finish rules c es ccb legal).1 (h.placed ccb)) (h.placed n)
+place_step rules c es (FreezeDev device count) legal h n = other_step es (FreezeDev device count) n refl refl (same_commands es (FreezeDev device count) n refl) (h.placed n)
+place_step rules c es (ReleaseDev device count) legal h n = other_step es (ReleaseDev device count) n refl refl (same_commands es (ReleaseDev device count) n refl) (h.placed n)
+place_step rules c es (FreezeSim sim count) legal h n = other_step es (FreezeSim sim count) n refl refl (same_commands es (FreezeSim sim count) n refl) (h.placed n)
+place_step rules c es (ReleaseSim sim) legal h n = other_step es (ReleaseSim sim) n refl refl (same_commands es (ReleaseSim sim) n refl) (h.placed n)
+place_step rules c es (Adjust device openings) legal h n = other_step es (Adjust device openings) n refl refl (same_commands es (Adjust device openings) n refl) (h.placed n)
+place_step rules c es Tick legal h n = other_step es Tick n refl refl (same_commands es Tick n refl) (h.placed n)
+
+lives_step : (rules : Rules) (c : Topology) (es : List Event) (e : Event) → is_legal_event rules c (es, e) ≡ true → AreStates es → (n : ℕ) → commands (es ++ e ∷ []) ≤ n → not (list_any (ends n) (es ++ e ∷ [])) ≡ true
+lives_step rules c es e legal h n le =
+    let before : commands es ≤ n = omega (arith, commands-grow es e) in
+    let none = concerns-past rules c es e n legal before in
+    not_ended-push es e n ∙ rw (h.lives n before, (apart n e none).ends) refl
+
+pub states_step : (rules : Rules) (c : Topology) (es : List Event) (e : Event) → is_legal_event rules c (es, e) ≡ true → AreStates es → AreStates (es ++ e ∷ [])
+states_step rules c es e legal h = record { placed = place_step rules c es e legal h; lives = lives_step rules c es e legal h }
+
+placed_none : (n : ℕ) → IsPlaced [] n
+unfolding waiting passages submissions is_in_flight is_recovering
+placed_none n = record { place = rw (le-ltb n 0 (omega arith)) refl }
+
+pub states_none : AreStates []
+states_none = record { placed = placed_none; lives = λ n le. refl }
+
+pub states-legal : (rules : Rules) (c : Topology) (es : List Event) → is_legal rules c es ≡ true → AreStates es
 unfolding is_legal
-states-legal rules c events legal = legal-induction rules c AreStates (states_step rules c) [] events legal no_states
+states-legal rules c es legal = legal-induction rules c AreStates (states_step rules c) [] es legal states_none
 
--- what AreStates says of a CCB that stands in one way
-flag : (b : Bool) → cond {A = ℕ} b 1 0 ≤ 0 → b ≡ false
-flag true le = absurd (omega arith)
-flag false le = refl
+-- one in flight or recovering was submitted and hasn't ended
+pub in_flight_held : (es : List Event) (n : ℕ) → IsPlaced es n → is_in_flight es n ≡ true → (nat_lt n (commands es) ≡ true) × (not (list_any (ends n) es) ≡ true)
+in_flight_held es n h flies = let place = h.place in let one : bit (is_in_flight es n) ≡ 1 = ap bit flies in held_by es n (omega arith)
 
-at_most : (n k : ℕ) → cond {A = ℕ} (nat_lt n k) 1 0 ≤ 1
-at_most n k = few (nat_lt n k)
+pub recovering_held : (es : List Event) (n : ℕ) → IsPlaced es n → is_recovering es n ≡ true → (nat_lt n (commands es) ≡ true) × (not (list_any (ends n) es) ≡ true)
+recovering_held es n h recovers = let place = h.place in let one : bit (is_recovering es n) ≡ 1 = ap bit recovers in held_by es n (omega arith)
+
+-- at most one stay of a CCB is unsent, and none of one that recovers
+pub unsent-most : (es : List Event) (n : ℕ) → IsPlaced es n → unsent_count es n ≤ 1
+unsent-most es n h = let place = h.place in let most = bit_le (is_held es n) in omega arith
+
+pub unsent-recovering : (es : List Event) (n : ℕ) → IsPlaced es n → is_recovering es n ≡ true → unsent_count es n ≡ 0
+unsent-recovering es n h recovers =
+    let place = h.place in
+    let one : bit (is_recovering es n) ≡ 1 = ap bit recovers in
+    let most = bit_le (is_held es n) in
+    omega arith
 
 -- one in flight has no unsent stay and isn't recovering
-pub record IsFlying (events : List Event) (ccb : ℕ) : Type 0 where
-  pub unsent : unsent_count events ccb ≡ 0
-  pub recovering : is_recovering events ccb ≡ false
+pub record IsFlying (es : List Event) (n : ℕ) : Type 0 where
+  pub unsent : unsent_count es n ≡ 0
+  pub recovering : is_recovering es n ≡ false
 
-pub flying-states : (events : List Event) (ccb : ℕ) → AreStates events → is_in_flight events ccb ≡ true → IsFlying events ccb
-flying-states events ccb h flying =
-    let one : ◌≡◌ {A = ℕ} (cond (is_in_flight events ccb) 1 0) 1 = ap (λ b. cond {A = ℕ} b 1 0) flying in
-    record {
-      unsent = omega (arith, h.once ccb, one, at_most ccb (commands events));
-      recovering = flag (is_recovering events ccb) (omega (arith, h.once ccb, one, at_most ccb (commands events)));
-    }
-
--- one that recovers has no unsent stay and isn't in flight
-pub record IsBetween (events : List Event) (ccb : ℕ) : Type 0 where
-  pub unsent : unsent_count events ccb ≡ 0
-  pub in_flight : is_in_flight events ccb ≡ false
-
-pub recovering-states : (events : List Event) (ccb : ℕ) → AreStates events → is_recovering events ccb ≡ true → IsBetween events ccb
-recovering-states events ccb h recovers =
-    let one : ◌≡◌ {A = ℕ} (cond (is_recovering events ccb) 1 0) 1 = ap (λ b. cond {A = ℕ} b 1 0) recovers in
-    record {
-      unsent = omega (arith, h.once ccb, one, at_most ccb (commands events));
-      in_flight = flag (is_in_flight events ccb) (omega (arith, h.once ccb, one, at_most ccb (commands events)));
-    }
+pub flying-states : (es : List Event) (n : ℕ) → AreStates es → is_in_flight es n ≡ true → IsFlying es n
+flying-states es n h flies =
+    let place = (h.placed n).place in
+    let one : bit (is_in_flight es n) ≡ 1 = ap bit flies in
+    let most = bit_le (is_held es n) in
+    record { unsent = omega arith; recovering = bit_none (is_recovering es n) (omega arith) }
 
 -- one with an unsent stay has no other, isn't in flight and isn't recovering
-pub record IsWaiting (events : List Event) (ccb : ℕ) : Type 0 where
-  pub unsent : unsent_count events ccb ≡ 1
-  pub in_flight : is_in_flight events ccb ≡ false
-  pub recovering : is_recovering events ccb ≡ false
+pub record IsWaiting (es : List Event) (n : ℕ) : Type 0 where
+  pub unsent : unsent_count es n ≡ 1
+  pub in_flight : is_in_flight es n ≡ false
+  pub recovering : is_recovering es n ≡ false
 
-pub waiting-states : (events : List Event) (ccb : ℕ) → AreStates events → 1 ≤ unsent_count events ccb → IsWaiting events ccb
-waiting-states events ccb h some =
-    record {
-      unsent = omega (arith, h.once ccb, at_most ccb (commands events));
-      in_flight = flag (is_in_flight events ccb) (omega (arith, h.once ccb, at_most ccb (commands events)));
-      recovering = flag (is_recovering events ccb) (omega (arith, h.once ccb, at_most ccb (commands events)));
-    }
+pub waiting-states : (es : List Event) (n : ℕ) → AreStates es → 1 ≤ unsent_count es n → IsWaiting es n
+waiting-states es n h some =
+    let place = (h.placed n).place in
+    let most = bit_le (is_held es n) in
+    record { unsent = omega arith; in_flight = bit_none (is_in_flight es n) (omega arith); recovering = bit_none (is_recovering es n) (omega arith) }
 
 -- one that wasn't submitted is neither in flight nor recovering
-pub record IsNew (events : List Event) (ccb : ℕ) : Type 0 where
-  pub in_flight : is_in_flight events ccb ≡ false
-  pub recovering : is_recovering events ccb ≡ false
+pub record IsNew (es : List Event) (n : ℕ) : Type 0 where
+  pub in_flight : is_in_flight es n ≡ false
+  pub recovering : is_recovering es n ≡ false
 
-past : (n k : ℕ) → k ≤ n → ◌≡◌ {A = ℕ} (cond (nat_lt n k) 1 0) 0
-past n k le = grind (arith, nat_tests)
-
-pub new-states : (events : List Event) (ccb : ℕ) → AreStates events → commands events ≤ ccb → IsNew events ccb
-new-states events ccb h le =
-    record {
-      in_flight = flag (is_in_flight events ccb) (omega (arith, h.once ccb, past ccb (commands events) le));
-      recovering = flag (is_recovering events ccb) (omega (arith, h.once ccb, past ccb (commands events) le));
-    }
+pub new-states : (es : List Event) (n : ℕ) → AreStates es → commands es ≤ n → IsNew es n
+new-states es n h le =
+    let place = (h.placed n).place in
+    let past : nat_lt n (commands es) ≡ false = le-ltb n (commands es) le in
+    let out : is_held es n ≡ false = rw past refl in
+    let nowhere : bit (is_held es n) ≡ 0 = ap bit out in
+    record { in_flight = bit_none (is_in_flight es n) (omega arith); recovering = bit_none (is_recovering es n) (omega arith) }

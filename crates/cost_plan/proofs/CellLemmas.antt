@@ -5,7 +5,7 @@ use Rattle.std.proofs.lemmas.Nat.{div-mul-add, mod-mul-add}
 use Rattle.round_net.specs.Instance.{Instance}
 use Rattle.round_net.specs.Schedules.{device_load, adapter_load}
 use Rattle.cost_plan.specs.Cells.{rows, cell, row_above, above, covers, row_load, row_cap}
-use Rattle.cost_plan.proofs.SumLemmas.{sum_below-same}
+use Rattle.round_net.proofs.SumLemmas.{sum_below-same}
 
 -- the row and the round of a cell
 pub cell-row : (net : Instance) (row round : ℕ) → round ≤ net.rounds → cell net row round / (net.rounds + 1) ≡ row

@@ -9,7 +9,7 @@ use Rattle.round_net.specs.Sums.{sum_below}
 use Rattle.round_net.specs.Instance.{Instance}
 use Rattle.cost_plan.specs.Cells.{rounds_of}
 use Rattle.cost_plan.specs.Residual.{put_in, changed, changed_all, MarksWithin}
-use Rattle.cost_plan.proofs.SumLemmas.{sum_below-set}
+use Rattle.round_net.proofs.SumLemmas.{sum_below-set}
 
 -- what the marked stay has where it is, and where it is taken
 abbrev pub left_by : (ℕ → ℕ → ℕ) → (ℕ → ℕ) → Option ℕ → ℕ

@@ -1,7 +1,8 @@
 -- The least of numbers that are made from a range.
 use Rattle.std.proofs.Common.{◌≡◌, ℕ, zero, suc, ◌+◌, ◌<◌, ◌≤◌, ◌⊎◌, Bool, true, false, cond, nat_le, List, [], ◌∷◌, map, filter, refl, sym, ap, ◌∙◌, subst, inl, inr, arith}
 use Rattle.std.proofs.lemmas.Bool.{cases_eq, cases_lt, cond-true, cond-false, le-leb, lt-leb}
-use Rattle.round_net.specs.Sums.{count_up, least}
+use Rattle.std.specs.List.{range_with_len}
+use Rattle.round_net.specs.Sums.{least}
 
 -- a number is in a list
 abbrev pub In : ℕ → List ℕ → Type 0
@@ -9,18 +10,18 @@ In x [] = ⊥
 In x (y ∷ ys) = (x ≡ y) ⊎ In x ys
 
 -- what is in a range, in a part of a list, and in a list of values
-pub In-count_up : (x from n : ℕ) → from ≤ x → x < from + n → In x (count_up from n)
-In-count_up x from zero low high = absurd (omega arith)
-In-count_up x from (suc n) low high = elim (cases_eq x from) [
+pub In-range : (x from n : ℕ) → from ≤ x → x < from + n → In x (range_with_len from n)
+In-range x from zero low high = absurd (omega arith)
+In-range x from (suc n) low high = elim (cases_eq x from) [
   | inl same ↦ inl same
-  | inr other ↦ inr (In-count_up x (from + 1) n (omega arith) (omega arith))
+  | inr other ↦ inr (In-range x (from + 1) n (omega arith) (omega arith))
 ]
 
-pub count_up-In : (x from n : ℕ) → In x (count_up from n) → (from ≤ x) × (x < from + n)
-count_up-In x from zero h = absurd h
-count_up-In x from (suc n) h = elim h [
+pub range-In : (x from n : ℕ) → In x (range_with_len from n) → (from ≤ x) × (x < from + n)
+range-In x from zero h = absurd h
+range-In x from (suc n) h = elim h [
   | inl same ↦ (omega arith, omega arith)
-  | inr later ↦ let rest = count_up-In x (from + 1) n later in (omega (arith, rest.0), omega (arith, rest.1))
+  | inr later ↦ let rest = range-In x (from + 1) n later in (omega (arith, rest.0), omega (arith, rest.1))
 ]
 
 pub In-filter : (test : ℕ → Bool) (x : ℕ) (xs : List ℕ) → In x xs → test x ≡ true → In x (filter test xs)
@@ -76,12 +77,12 @@ least-le x (y ∷ z ∷ zs) h = elim (cases_lt (least (z ∷ zs)) y) [
 ]
 
 -- the least value over part of a range is the one at a place where no other is less
-pub least-at : (g : ℕ → ℕ) (test : ℕ → Bool) (from n best : ℕ) → from ≤ best → best < from + n → test best ≡ true → ((x : ℕ) → from ≤ x → x < from + n → test x ≡ true → g best ≤ g x) → least (map g (filter test (count_up from n))) ≡ g best
+pub least-at : (g : ℕ → ℕ) (test : ℕ → Bool) (from n best : ℕ) → from ≤ best → best < from + n → test best ≡ true → ((x : ℕ) → from ≤ x → x < from + n → test x ≡ true → g best ≤ g x) → least (map g (filter test (range_with_len from n))) ≡ g best
 least-at g test from n best low high pass no_less =
-    let xs : List ℕ = filter test (count_up from n) in
-    let found : In (g best) (map g xs) = In-map g best xs (In-filter test best (count_up from n) (In-count_up best from n low high) pass) in
+    let xs : List ℕ = filter test (range_with_len from n) in
+    let found : In (g best) (map g xs) = In-map g best xs (In-filter test best (range_with_len from n) (In-range best from n low high) pass) in
     let (x, in_xs, is) = map-In g (least (map g xs)) xs (least-In (g best) (map g xs) found) in
-    let (in_range, passes) = filter-In test x (count_up from n) in_xs in
-    let (from_le, below) = count_up-In x from n in_range in
+    let (in_range, passes) = filter-In test x (range_with_len from n) in_xs in
+    let (from_le, below) = range-In x from n in_range in
     let above = no_less x from_le below passes in
     omega (arith, least-le (g best) (map g xs) found, above, is)

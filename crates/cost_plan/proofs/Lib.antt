@@ -1,10 +1,8 @@
-pub mod SumLemmas
 pub mod ChangeLemmas
 pub mod CellLemmas
 pub mod BalanceLemmas
 pub mod CycleChangeLemmas
 pub mod LeastLemmas
-pub mod ExchangeLemmas
 pub mod PriceLemmas
 pub mod RaisingLemmas
 pub mod LoadLemmas

@@ -6,7 +6,7 @@ use Rattle.round_net.specs.Instance.{Instance, adapter}
 use Rattle.round_net.specs.Schedules.{IsAdmissible, device_load, adapter_load}
 use Rattle.cost_plan.specs.Cells.{rows, cell, row_above, covers, stands, part_load, rounds_of}
 use Rattle.cost_plan.specs.Draft.{AreLoads, IsDraft}
-use Rattle.cost_plan.proofs.SumLemmas.{sum_below-same, sum_below-more, sum_below-set}
+use Rattle.round_net.proofs.SumLemmas.{sum_below-same, sum_below-more, sum_below-set}
 use Rattle.cost_plan.proofs.CellLemmas.{cell-row, cell-round, row_above-device}
 
 -- 1 at equal numbers, and 0 elsewhere

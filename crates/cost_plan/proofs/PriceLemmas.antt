@@ -9,11 +9,11 @@ use Rattle.round_net.specs.Sound.{IsSound}
 use Rattle.cost_plan.specs.Cells.{rows, cell, above, covers, row_load, row_cap}
 use Rattle.cost_plan.specs.Residual.{move_arc, take_arc, give_arc}
 use Rattle.cost_plan.specs.RowPrices.{SettlesAll, row_price, label_pricing}
-use Rattle.cost_plan.proofs.SumLemmas.{sum_below-same, sum_below-add, term-le-sum_below}
+use Rattle.round_net.proofs.SumLemmas.{sum_below-same, sum_below-add, term-le-sum_below}
 use Rattle.cost_plan.proofs.CellLemmas.{device_load-row, adapter_load-row, dev_cap-row, sim_cap-row, covers-device, covers-adapter, row_above-device, above-device, above-adapter}
 use Rattle.cost_plan.proofs.CycleChangeLemmas.{mul-sub}
 use Rattle.cost_plan.proofs.LeastLemmas.{least-at}
-use Rattle.cost_plan.proofs.ExchangeLemmas.{exchange}
+use Rattle.round_net.proofs.ExchangeLemmas.{exchange}
 
 -- the price of a cell that takes stays
 row_price-open : (net : Instance) (y : ℕ → ℕ) (row r : ℕ) → 0 < row_cap net row r → row_price net y row r ≡ y (cell net row r) - y (above net row r)

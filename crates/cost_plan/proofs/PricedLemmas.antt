@@ -8,8 +8,8 @@ use Rattle.round_net.specs.Rows.{cell}
 use Rattle.round_net.specs.PriceRows.{PriceRows, pricing_of_rows, IsPricingFor, IsSameSize, SetsPrice, SetsDev, SetsSim}
 use Rattle.round_net.specs.Value.{Pricing, is_open, allowed, paid, ProvesBest}
 use Rattle.cost_plan.specs.RowPrices.{row_price, label_pricing, IsPrice, PricesDevice, PricesAdapter, PricesDevices, PricesAdapters}
-use Rattle.cost_plan.proofs.SumLemmas.{sum_below-same}
-use Rattle.cost_plan.proofs.LeastLemmas.{In, filter-In, count_up-In}
+use Rattle.round_net.proofs.SumLemmas.{sum_below-same}
+use Rattle.cost_plan.proofs.LeastLemmas.{In, filter-In, range-In}
 
 -- the size stays
 pub IsPricingFor-kept : (net : Instance) (old new : PriceRows) → IsSameSize old new → IsPricingFor net old → IsPricingFor net new
@@ -98,7 +98,7 @@ ProvesBest-priced net live f label p sound devices adapters proof =
     let on = sound.on_device s within in
     let adapter_on = sound.on_adapter (net.device s) on in
     ap least (map-same _ _ (allowed net s) (λ r i.
-    let range = count_up-In r (net.arrival s) (net.last s + 1 - net.arrival s) (filter-In (is_open net s) r _ i).0 in
+    let range = range-In r (net.arrival s) (net.last s + 1 - net.arrival s) (filter-In (is_open net s) r _ i).0 in
     let low : 1 ≤ r = omega (arith, range.0, sound.from_first s within) in
     let high : r < net.rounds + 1 = omega (arith, range.1, range.0, sound.to_last s within) in
     omega (arith, (devices (net.device s) on r low high).0, (adapters (adapter net s) adapter_on r low high).0)))) in

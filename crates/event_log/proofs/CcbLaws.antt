@@ -1,6 +1,6 @@
 -- what one event more makes of a CCB's results, requeues and end
 use Rattle.std.proofs.Common.{◌≡◌, ℕ, ◌+◌, ◌≤◌, Bool, true, false, cond, List, [], ◌∷◌, ◌++◌, length, refl, ap, ◌∙◌, arith, Option, Some, append-nil, append_assoc, length-append}
-use Rattle.std.specs.Prelude.{◌&&◌, ◌||◌, count_by, option_and_then, option_to_list}
+use Rattle.std.specs.Prelude.{◌&&◌, ◌||◌, not, count_by, option_and_then, option_to_list}
 use Rattle.std.specs.List.{list_any}
 use Rattle.std.proofs.lemmas.List.Folds.{list_any-append}
 use Rattle.cam_types.specs.Lists.{moments}
@@ -46,6 +46,14 @@ or_one false false = refl
 
 pub ends-push : (es : List Event) (e : Event) (c : ℕ) → list_any (ends c) (es ++ e ∷ []) ≡ (list_any (ends c) es || ends c e)
 ends-push es e c = list_any-append (ends c) es (e ∷ []) ∙ or_one (list_any (ends c) es) (ends c e)
+
+not_or : (a b : Bool) → not (a || b) ≡ (not a && not b)
+not_or true b = refl
+not_or false b = refl
+
+-- it has not ended where it had not and the event does not end it
+pub not_ended-push : (es : List Event) (e : Event) (c : ℕ) → not (list_any (ends c) (es ++ e ∷ [])) ≡ (not (list_any (ends c) es) && not (ends c e))
+not_ended-push es e c = ap not (ends-push es e c) ∙ not_or (list_any (ends c) es) (ends c e)
 
 -- no more requeues count than there are
 counted_le : (t u : Bool) → cond (t && u) 1 0 ≤ cond {A = ℕ} t 1 0

@@ -63,24 +63,26 @@ places-passages es = All-filter_map-moments (λ (p : Passage). p.place < length 
     (λ before x p lt e. let at : p.place ≡ length before = place-passage_of (before, x) p e in omega arith) [] es (omega arith)
 
 -- a stay that began before is without a send where it was and the event doesn't send it
-not_both : (a b : Bool) → not (a || (b || false)) ≡ (not a && not b)
+pub not_both : (a b : Bool) → not (a || (b || false)) ≡ (not a && not b)
 not_both true b = refl
 not_both false true = refl
 not_both false false = refl
 
-is_unsent-push : (es : List Event) (e : Event) (p : Passage) → p.place < length es → is_unsent (es ++ e ∷ []) p ≡ (is_unsent es p && not (is_send_of p.ccb e))
+pub is_unsent-push : (es : List Event) (e : Event) (p : Passage) → p.place < length es → is_unsent (es ++ e ∷ []) p ≡ (is_unsent es p && not (is_send_of p.ccb e))
 is_unsent-push es e p lt =
     let le : p.place + 1 ≤ length es = omega arith in
     rw (drop-append-le (p.place + 1) es (e ∷ []) le) (rw (list_any-append (is_send_of p.ccb) (drop (p.place + 1) es) (e ∷ []))
     (not_both (list_any (is_send_of p.ccb) (drop (p.place + 1) es)) (is_send_of p.ccb e)))
 
 -- the stay that the event begins is without a send
-new_unsent : (es : List Event) (e : Event) (o : Option Passage) → ((p : Passage) → o ≡ Some p → p.place ≡ length es) → filter (is_unsent (es ++ e ∷ [])) (option_to_list o) ≡ option_to_list o
-new_unsent es e None h = refl
-new_unsent es e (Some p) h =
-    let at : p.place ≡ length es = h p refl in
+pub born_unsent : (es : List Event) (e : Event) (p : Passage) → p.place ≡ length es → is_unsent (es ++ e ∷ []) p ≡ true
+born_unsent es e p at =
     let past : length (es ++ e ∷ []) ≤ p.place + 1 = omega (arith, length-append es (e ∷ [])) in
     rw (drop_all (p.place + 1) (es ++ e ∷ []) past) refl
+
+new_unsent : (es : List Event) (e : Event) (o : Option Passage) → ((p : Passage) → o ≡ Some p → p.place ≡ length es) → filter (is_unsent (es ++ e ∷ [])) (option_to_list o) ≡ option_to_list o
+new_unsent es e None h = refl
+new_unsent es e (Some p) h = rw (born_unsent es e p (h p refl)) refl
 
 -- the stays that wait are those that the event doesn't send, and the one that it begins
 pub waiting-push : (es : List Event) (e : Event) → waiting (es ++ e ∷ []) ≡ filter (λ (p : Passage). not (is_send_of p.ccb e)) (waiting es) ++ option_to_list (passage_of (es, e))

@@ -1,4 +1,5 @@
 pub mod CcbLaws
+pub mod ConcernLaws
 pub mod Laws
 pub mod OpeningLaws
 pub mod ListFacts

@@ -4,7 +4,7 @@ use Rattle.std.specs.Prelude.{◌&&◌, filter, find, slice_get, count_by, optio
 use Rattle.std.specs.List.{filter_map, cons_option, range_with_len}
 use Rattle.std.proofs.lemmas.List.{take_more}
 use Rattle.std.proofs.lemmas.List.Elements.{filter_map-append, filter-append, All-nil, All-cons, All-head, All-tail}
-use Rattle.std.proofs.lemmas.List.Sums.{sum_by-append}
+use Rattle.std.proofs.lemmas.List.Sums.{sum_by-append, sum_by-cons}
 use Rattle.cam_types.specs.Lists.{moments_after, least_by, better}
 use Rattle.cam_types.proofs.LeastLemmas.{least_by-push}
 
@@ -97,3 +97,22 @@ next_in_range key p n best best' t is counts more =
 pub find-filter : {X : Type 0} → (p : X → Bool) (xs : List X) → find p xs ≡ slice_get (filter p xs) 0
 find-filter p [] = refl
 find-filter p (x ∷ xs) = elim (p x) as (λ t. cond t (Some x) (find p xs) ≡ slice_get (cond t (x ∷ filter p xs) (filter p xs)) 0) [ true ↦ refl | false ↦ find-filter p xs ]
+
+-- a count of the elements that a filter keeps: all that are of a kind, or none
+kept_cases : {X : Type 0} → (b c : Bool) (p : X → Bool) (x : X) (fs : List X) (n : ℕ) → p x ≡ c → (c ≡ true → b ≡ true) → count_by p fs ≡ n → count_by p (cond b (x ∷ fs) fs) ≡ cond c 1 0 + n
+kept_cases true c p x fs n is h e = omega (arith, sum_by-cons (λ y. cond {A = ℕ} (p y) 1 0) x fs, ap (λ b. cond {A = ℕ} b 1 0) is, e)
+kept_cases false true p x fs n is h e = absurd (let g : false ≡ true = h refl in cc)
+kept_cases false false p x fs n is h e = omega (arith, e)
+
+pub count_by-kept : {X : Type 0} → (p q : X → Bool) (xs : List X) → ((x : X) → p x ≡ true → q x ≡ true) → count_by p (filter q xs) ≡ count_by p xs
+count_by-kept p q [] h = refl
+count_by-kept p q (x ∷ xs) h =
+    kept_cases (q x) (p x) p x (filter q xs) (count_by p xs) refl (h x) (count_by-kept p q xs h) ∙ sym (sum_by-cons (λ y. cond {A = ℕ} (p y) 1 0) x xs)
+
+dropped_cases : {X : Type 0} → (b : Bool) (p : X → Bool) (x : X) (fs : List X) → (b ≡ true → p x ≡ false) → count_by p fs ≡ 0 → count_by p (cond b (x ∷ fs) fs) ≡ 0
+dropped_cases true p x fs h e = omega (arith, sum_by-cons (λ y. cond {A = ℕ} (p y) 1 0) x fs, ap (λ b. cond {A = ℕ} b 1 0) (h refl), e)
+dropped_cases false p x fs h e = e
+
+pub count_by-dropped : {X : Type 0} → (p q : X → Bool) (xs : List X) → ((x : X) → q x ≡ true → p x ≡ false) → count_by p (filter q xs) ≡ 0
+count_by-dropped p q [] h = refl
+count_by-dropped p q (x ∷ xs) h = dropped_cases (q x) p x (filter q xs) (h x) (count_by-dropped p q xs h)

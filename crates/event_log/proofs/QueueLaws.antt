@@ -14,7 +14,7 @@ use Rattle.event_log.specs.Sorted.{insert_by, sorted_by}
 use Rattle.event_log.proofs.Laws.{round-push, waiting-push, place-passage_of}
 use Rattle.event_log.proofs.ListFacts.{filter-all}
 use Rattle.event_log.proofs.TurnLaws.{round-more}
-use Rattle.event_log.proofs.SortedLemmas.{sorted_by-push, filter-sorted_by, first-sorted_by, are_apart, all_apart, all-filter, apart-filter, is_parted, sorted-parts}
+use Rattle.event_log.proofs.SortedLemmas.{filter-sorted_by, first-sorted_by, are_apart, all_apart, all-filter, apart-filter, is_parted, sorted-parts}
 use Rattle.event_log.specs.declared.event.Event.{Event}
 use Rattle.event_log.specs.declared.event.Event.TheVariants.{Submit, Send, Done, Requeue, Finish, FreezeDev, ReleaseDev, FreezeSim, ReleaseSim, Adjust, Tick}
 use Rattle.event_log.specs.declared.passage.Passage.{Passage}

@@ -11,6 +11,7 @@ use Rattle.event_log.specs.Counts.{last, commands, submissions, ccbs, is_in_flig
 use Rattle.event_log.specs.State.{state_of, states, next_state, told_at, told}
 use Rattle.event_log.proofs.Laws.{submissions-push}
 use Rattle.event_log.proofs.ListFacts.{range_with_len-push}
+use Rattle.event_log.proofs.ConcernLaws.{submit_concerns_none}
 use Rattle.event_log.specs.declared.event.Event.{Event}
 use Rattle.event_log.specs.declared.event.Event.TheVariants.{Submit, Send, Done, Requeue, Finish, FreezeDev, ReleaseDev, FreezeSim, ReleaseSim, Adjust, Tick}
 use Rattle.event_log.specs.declared.state.State.{State}
@@ -109,20 +110,6 @@ told_cases es e (Some c) is = elim (cases_lt c (commands es)) [
       map-range_same (state_of es) (state_of (es ++ e ∷ [])) 0 (commands es) (λ k low lt. state_of-push es e k ∙ next_state-other e c k (state_of es k) is (λ i. omega arith)) in
       same ∙ rw (slice_get-range_past (state_of es) 0 (commands es) c le) refl
 ]
-
--- a submit concerns no CCB that was there
-submit_concerns_none : (e : Event) (s : Submission) → submission_of e ≡ Some s → ccb_of e ≡ None
-submit_concerns_none (Submit driver device priority retries flags) s e = refl
-submit_concerns_none (Send lane ccb) s e = absurd (cc)
-submit_concerns_none (Done ccb outcome) s e = absurd (cc)
-submit_concerns_none (Requeue ccb) s e = absurd (cc)
-submit_concerns_none (Finish ccb) s e = absurd (cc)
-submit_concerns_none (FreezeDev device count) s e = refl
-submit_concerns_none (ReleaseDev device count) s e = refl
-submit_concerns_none (FreezeSim sim count) s e = refl
-submit_concerns_none (ReleaseSim sim) s e = refl
-submit_concerns_none (Adjust device openings) s e = refl
-submit_concerns_none Tick s e = refl
 
 born_cases : (es : List Event) (e : Event) (o : Option Submission) → submission_of e ≡ o → map (state_of (es ++ e ∷ [])) (range_with_len 0 (commands es + length (option_to_list o))) ≡ told e (states es) ++ option_to_list (option_map (λ _. state_of es (commands es)) o)
 born_cases es e None is = rw (add-zero (commands es), append-nil (told e (states es))) (told_cases es e (ccb_of e) refl)

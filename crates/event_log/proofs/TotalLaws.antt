@@ -52,16 +52,23 @@ requeued_stay before ccb s = record {
   place = length before;
 }
 
+-- how many CCBs were submitted
+pub commands-push : (es : List Event) (e : Event) → commands (es ++ e ∷ []) ≡ commands es + length (option_to_list (submission_of e))
+commands-push es e = ap length (submissions-push es e) ∙ length-append (submissions es) (option_to_list (submission_of e))
+
+pub commands-submit : (es : List Event) (e : Event) (s : Submission) → submission_of e ≡ Some s → commands (es ++ e ∷ []) ≡ commands es + 1
+commands-submit es e s is = commands-push es e ∙ ap (λ o. commands es + length (option_to_list o)) is
+
+pub commands-none : (es : List Event) (e : Event) → submission_of e ≡ None → commands (es ++ e ∷ []) ≡ commands es
+commands-none es e is = commands-push es e ∙ ap (λ o. commands es + length (option_to_list o)) is ∙ add-zero (commands es)
+
 -- CCBs in flight
 abbrev pub flying : List Event → ℕ
 flying es = count_by (is_in_flight es) (ccbs es)
 
 module _ (es : List Event) (e : Event) where
-  commands-same : submission_of e ≡ None → commands (es ++ e ∷ []) ≡ commands es
-  commands-same none = ap length (submissions-push es e ∙ ap (λ o. submissions es ++ option_to_list o) none ∙ append-nil (submissions es))
-
   flying-before : submission_of e ≡ None → flying (es ++ e ∷ []) ≡ count_by (is_in_flight (es ++ e ∷ [])) (ccbs es)
-  flying-before none = ap (λ n. count_by (is_in_flight (es ++ e ∷ [])) (range_with_len 0 n)) (commands-same none)
+  flying-before none = ap (λ n. count_by (is_in_flight (es ++ e ∷ [])) (range_with_len 0 n)) (commands-none es e none)
 
   pub flying-same : submission_of e ≡ None → ((k : ℕ) → is_in_flight (es ++ e ∷ []) k ≡ is_in_flight es k) → flying (es ++ e ∷ []) ≡ flying es
   flying-same none h = flying-before none ∙ count-range_same (is_in_flight es) (is_in_flight (es ++ e ∷ [])) 0 (commands es) (λ k le lt. h k)
@@ -75,12 +82,11 @@ module _ (es : List Event) (e : Event) where
 
   pub flying-submit : (s : Submission) → submission_of e ≡ Some s → ((k : ℕ) → is_in_flight (es ++ e ∷ []) k ≡ is_in_flight es k) → is_in_flight es (commands es) ≡ false → flying (es ++ e ∷ []) ≡ flying es
   flying-submit s is h new =
-      let more : commands (es ++ e ∷ []) ≡ commands es + 1 = ap length (submissions-push es e ∙ ap (λ o. submissions es ++ option_to_list o) is) ∙ length-append (submissions es) (s ∷ []) in
       let p' = is_in_flight (es ++ e ∷ []) in
       let range : count_by p' (range_with_len 0 (commands es + 1)) ≡ count_by p' (ccbs es) + cond (p' (0 + commands es)) 1 0 =
       ap (count_by p') (range_with_len-push 0 (commands es)) ∙ count_by-push p' (ccbs es) (0 + commands es) in
       let none : ◌≡◌ {A = ℕ} (cond (p' (0 + commands es)) 1 0) 0 = ap (λ k. cond {A = ℕ} (p' k) 1 0) (zero-add (commands es)) ∙ ap (λ b. cond {A = ℕ} b 1 0) (h (commands es) ∙ new) in
-      ap (λ n. count_by p' (range_with_len 0 n)) more ∙ range ∙ ap (λ n. count_by p' (ccbs es) + n) none ∙ add-zero (count_by p' (ccbs es))
+      ap (λ n. count_by p' (range_with_len 0 n)) (commands-submit es e s is) ∙ range ∙ ap (λ n. count_by p' (ccbs es) + n) none ∙ add-zero (count_by p' (ccbs es))
       ∙ count-range_same (is_in_flight es) p' 0 (commands es) (λ k le lt. h k)
 
   -- stays, and those without a send

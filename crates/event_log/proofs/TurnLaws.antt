@@ -1,5 +1,5 @@
 -- what one event more changes of the sends: those of this round, and the last to a device
-use Rattle.std.proofs.Common.{◌≡◌, ℕ, ◌+◌, ◌<◌, ◌≤◌, Bool, true, false, cond, List, [], ◌∷◌, ◌++◌, length, reverse, refl, sym, ap, ◌∙◌, arith, Option, Some, None, append-nil, append_assoc, length-append, add-zero}
+use Rattle.std.proofs.Common.{◌≡◌, ℕ, ◌+◌, ◌≤◌, Bool, true, false, cond, List, [], ◌∷◌, ◌++◌, length, reverse, refl, sym, ap, ◌∙◌, arith, Option, Some, None, append-nil, append_assoc, add-zero}
 use Rattle.std.specs.Prelude.{◌==◌, ◌&&◌, find, count_by, option_to_list, All}
 use Rattle.std.specs.List.{filter_map, cons_option}
 use Rattle.std.specs.Option.{option_map, option_map_or}
@@ -7,7 +7,7 @@ use Rattle.std.proofs.lemmas.Bool.Decides.{nat_tests}
 use Rattle.std.proofs.lemmas.List.{reverse-append}
 use Rattle.std.proofs.lemmas.List.Elements.{All-nil, All-cons, All-head, All-tail}
 use Rattle.std.proofs.lemmas.List.Sums.{sum_by-append, sum_by-cons}
-use Rattle.cam_types.specs.Lists.{moments, moments_after}
+use Rattle.cam_types.specs.Lists.{moments_after}
 use Rattle.event_log.specs.Event.{is_some_and, is_tick}
 use Rattle.event_log.specs.Counts.{round, submission, sendings, sending_of, goes_to}
 use Rattle.event_log.specs.Head.{last_sent}

@@ -10,7 +10,8 @@ use Rattle.round_net.specs.Sound.{IsSound}
 use Rattle.round_net.specs.Value.{Pricing, is_open, allowed, priced, paid, offered, ProvesBest}
 use Rattle.price_check.specs.Faults.{at_device, at_adapter}
 use Rattle.price_check.specs.Verdicts.{IsBest}
-use Rattle.price_check.proofs.SumLemmas.{sum_below-le, sum_below-add, sum_to-le, exchange}
+use Rattle.round_net.proofs.SumLemmas.{sum_below-le, sum_below-add, sum_to-le}
+use Rattle.round_net.proofs.ExchangeLemmas.{exchange}
 use Rattle.price_check.proofs.LeastLemmas.{least-le_at}
 use Rattle.price_check.proofs.TallyLemmas.{count_here}
 use Rattle.price_check.proofs.FaultLemmas.{well_where_admissible}
@@ -37,7 +38,7 @@ worth_within : (n rows rounds : ℕ) (row round : ℕ → ℕ) (cap q : ℕ → 
     ((x r : ℕ) → x < rows → 1 ≤ r → r ≤ rounds → count_below n (λ t. (row t == x) && (round t == r)) ≤ cap x r) →
     sum_below n (λ s. q (row s) (round s)) ≤ sum_below rows (λ x. sum_to rounds (λ r. cap x r * q x r))
 worth_within n rows rounds row round cap q within some most holds =
-    let same = exchange n rows rounds row round q within some most in
+    let same = exchange n rows rounds row round q (λ s lt. (within s lt, some s lt, most s lt)) in
     let le : sum_below rows (λ x. sum_to rounds (λ r. count_below n (λ t. (row t == x) && (round t == r)) * q x r)) ≤ sum_below rows (λ x. sum_to rounds (λ r. cap x r * q x r)) =
     sum_below-le rows _ _ (λ x lt. sum_to-le rounds (λ r. count_below n (λ t. (row t == x) && (round t == r)) * q x r) (λ r. cap x r * q x r) (λ r r1 rn. mul-le-mul_right (q x r) (holds x r lt r1 rn))) in
     omega arith

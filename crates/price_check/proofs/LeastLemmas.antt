@@ -1,12 +1,13 @@
 -- the least of a list of numbers
-use Rattle.std.proofs.Common.{◌≡◌, ℕ, zero, suc, ◌+◌, ◌-◌, ◌<◌, ◌≤◌, Bool, true, false, cond, List, [], ◌∷◌, ◌++◌, refl, sym, ap, ◌∙◌, arith, inl, inr, Option, Some, None, add-zero, append-nil}
+use Rattle.std.proofs.Common.{◌≡◌, ℕ, zero, suc, ◌+◌, ◌-◌, ◌<◌, ◌≤◌, Bool, true, false, cond, List, [], ◌∷◌, ◌++◌, refl, sym, ap, ◌∙◌, arith, inl, inr, Option, Some, None, append-nil}
 use Rattle.std.specs.Prelude.{◌==◌, ◌||◌, nat_le, if◌then◌else◌, map, filter, unwrap_or}
-use Rattle.std.specs.List.{list_any}
+use Rattle.std.specs.List.{list_any, range_with_len}
 use Rattle.std.proofs.lemmas.Bool.{or_cases, or_left, or_right, eqb-true, eq-eqb, cases_lt}
 use Rattle.std.proofs.lemmas.Bool.Decides.{nat_tests}
 use Rattle.std.proofs.lemmas.List.{map-append}
 use Rattle.std.proofs.lemmas.List.Elements.{filter-append}
-use Rattle.round_net.specs.Sums.{count_up, least}
+use Rattle.event_log.proofs.ListFacts.{range_with_len-push}
+use Rattle.round_net.specs.Sums.{least}
 use Rattle.price_check.specs.Least.{cheaper}
 
 -- the least, where there is a number
@@ -50,20 +51,13 @@ least_of-more f p xs y =
       | false ↦ rw (append-nil (filter p xs)) (sym (cheaper-none (least_of (map f (filter p xs)))))
     ])
 
-pub count_up-push : (from n : ℕ) → count_up from (n + 1) ≡ count_up from n ++ (from + n) ∷ []
-count_up-push from zero = rw (add-zero from) refl
-count_up-push from (suc n) =
-    let one : suc n + 1 ≡ suc (n + 1) = omega arith in
-    let at : (from + 1) + n ≡ from + suc n = omega arith in
-    rw one (ap (λ ns. from ∷ ns) (count_up-push (from + 1) n ∙ ap (λ k. count_up (from + 1) n ++ k ∷ []) at))
-
 -- a round more in a window
-pub least_of-next : (f : ℕ → ℕ) (p : ℕ → Bool) (from round : ℕ) (so_far next offer : Option ℕ) → from ≤ round → so_far ≡ least_of (map f (filter p (count_up from (round - from)))) →
-    offer ≡ cond (p round) (Some (f round)) None → next ≡ cheaper so_far offer → next ≡ least_of (map f (filter p (count_up from (round + 1 - from))))
+pub least_of-next : (f : ℕ → ℕ) (p : ℕ → Bool) (from round : ℕ) (so_far next offer : Option ℕ) → from ≤ round → so_far ≡ least_of (map f (filter p (range_with_len from (round - from)))) →
+    offer ≡ cond (p round) (Some (f round)) None → next ≡ cheaper so_far offer → next ≡ least_of (map f (filter p (range_with_len from (round + 1 - from))))
 least_of-next f p from round so_far next offer le is is' e =
     let more : round + 1 - from ≡ (round - from) + 1 = omega arith in
     let at : from + (round - from) ≡ round = omega arith in
-    e ∙ rw (is, is', more, count_up-push from (round - from), at) (sym (least_of-more f p (count_up from (round - from)) round))
+    e ∙ rw (is, is', more, range_with_len-push from (round - from), at) (sym (least_of-more f p (range_with_len from (round - from)) round))
 
 -- the least is at most each of them
 lesser_left : (x l : ℕ) → lesser x l ≤ x
@@ -90,12 +84,12 @@ least-le (x ∷ y ∷ ys) k e = elim (or_cases (x == k) (list_any (λ z. z == k)
 ]
 
 -- a round of a range that passes is among those that do
-pub any_in_range : (f : ℕ → ℕ) (p : ℕ → Bool) (from n r : ℕ) → from ≤ r → r < from + n → p r ≡ true → list_any (λ x. x == f r) (map f (filter p (count_up from n))) ≡ true
+pub any_in_range : (f : ℕ → ℕ) (p : ℕ → Bool) (from n r : ℕ) → from ≤ r → r < from + n → p r ≡ true → list_any (λ x. x == f r) (map f (filter p (range_with_len from n))) ≡ true
 any_in_range f p from zero r le lt passes = absurd (omega arith)
 any_in_range f p from (suc n) r le lt passes = elim (cases_lt from r) [
   | inl before ↦
-      let rest : list_any (λ x. x == f r) (map f (filter p (count_up (from + 1) n))) ≡ true = any_in_range f p (from + 1) n r (omega arith) (omega arith) passes in
-      elim (p from) as (λ b. list_any (λ x. x == f r) (map f (cond b (from ∷ filter p (count_up (from + 1) n)) (filter p (count_up (from + 1) n)))) ≡ true) [
+      let rest : list_any (λ x. x == f r) (map f (filter p (range_with_len (from + 1) n))) ≡ true = any_in_range f p (from + 1) n r (omega arith) (omega arith) passes in
+      elim (p from) as (λ b. list_any (λ x. x == f r) (map f (cond b (from ∷ filter p (range_with_len (from + 1) n)) (filter p (range_with_len (from + 1) n)))) ≡ true) [
         | true ↦ or_right (f from == f r) _ rest
         | false ↦ rest
       ]
@@ -104,5 +98,5 @@ any_in_range f p from (suc n) r le lt passes = elim (cases_lt from r) [
       rw (at, passes) (or_left _ _ (eq-eqb (f r) (f r) refl))
 ]
 
-pub least-le_at : (f : ℕ → ℕ) (p : ℕ → Bool) (from n r : ℕ) → from ≤ r → r < from + n → p r ≡ true → least (map f (filter p (count_up from n))) ≤ f r
-least-le_at f p from n r le lt passes = least-le (map f (filter p (count_up from n))) (f r) (any_in_range f p from n r le lt passes)
+pub least-le_at : (f : ℕ → ℕ) (p : ℕ → Bool) (from n r : ℕ) → from ≤ r → r < from + n → p r ≡ true → least (map f (filter p (range_with_len from n))) ≤ f r
+least-le_at f p from n r le lt passes = least-le (map f (filter p (range_with_len from n))) (f r) (any_in_range f p from n r le lt passes)

@@ -12,5 +12,4 @@ pub mod ReadingLaws
 pub mod ReportLaws
 pub mod SeriesLaws
 pub mod SeriesLemmas
-pub mod SumLemmas
 pub mod TallyLemmas

@@ -1,6 +1,7 @@
 pub mod CellLemmas
 pub mod ConfigLemmas
 pub mod CountLemmas
+pub mod ExchangeLemmas
 pub mod LoadLemmas
 pub mod MarkLemmas
 pub mod NetLemmas
@@ -11,6 +12,6 @@ pub mod RowLemmas
 pub mod SentLemmas
 pub mod SmallLemmas
 pub mod SoundLemmas
+pub mod SumLemmas
 pub mod TableLemmas
-pub mod WaitLemmas
 pub mod WindowLemmas

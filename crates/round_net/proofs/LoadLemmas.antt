@@ -14,14 +14,15 @@ use Rattle.event_log.specs.declared.event.Event.TheVariants.{Submit, Send, Done,
 use Rattle.event_log.specs.declared.submission.Submission.{Submission}
 use Rattle.event_log.specs.declared.passage.Passage.{Passage}
 use Rattle.event_log.specs.declared.passage.Sending.{Sending}
-use Rattle.event_log.proofs.Laws.{passages-push, sendings-push, places-passages, place-passage_of}
+use Rattle.event_log.proofs.Laws.{is_unsent-push, born_unsent, passages-push, sendings-push, places-passages, place-passage_of}
 use Rattle.cam_event.specs.Legal.{Rules, is_legal_event, is_legal}
 use Rattle.cam_event.specs.Laws.{is_stay_of}
 use Rattle.cam_event.proofs.LimitLemmas.{legal-induction}
 use Rattle.cam_event.proofs.StayLemmas.{is_of_its_ccb, of_its_ccb-passages}
 use Rattle.round_net.proofs.CountLemmas.{count_by-append, count_by-same, count_by-none, count_by-either, count_by-weaker, count_by-filter}
-use Rattle.round_net.proofs.SentLemmas.{is_unsent-push, born_unsent, live_round-sent, live_round-sending}
-use Rattle.round_net.proofs.WaitLemmas.{IsTidy, is_of, waiting_of, one_waits, legal-named, tidy-step, tidy-none}
+use Rattle.round_net.proofs.SentLemmas.{live_round-sent, live_round-sending}
+use Rattle.event_log.proofs.TotalLaws.{is_of, unsent_count}
+use Rattle.cam_event.proofs.StandLemmas.{AreStates, asks-send, unsent-most, states_step, states_none}
 
 -- the stay was sent in the round, to a device that the test takes
 unfoldable pub was_sent : (ℕ → Bool) → List Event → ℕ → Passage → Bool
@@ -82,11 +83,11 @@ device_of_stay es p ccb s is at found =
     let here : is_stay_of p s ≡ true = rw (at, found) at own in
     eqb-true s.device p.device (and_parts (s.device == p.device) (s.priority == p.priority) here).0
 
-one_sending : (f : ℕ → Bool) (es : List Event) (lane ccb r : ℕ) (s : Submission) → IsTidy es → submission es ccb ≡ Some s → count_by (is_sending f es (Send lane ccb) r) (passages es) ≤ cond (f s.device && (round es == r)) 1 0
-unfolding is_sending waiting_of waiting
-one_sending f es lane ccb r s tidy found =
-    let one : waiting_of es ccb ≤ 1 = one_waits es ccb tidy in
-    let few : waiting_of es ccb ≡ count_by (λ p. is_unsent es p && is_of ccb p) (passages es) = count_by-filter (is_unsent es) (is_of ccb) (passages es) in
+one_sending : (f : ℕ → Bool) (es : List Event) (lane ccb r : ℕ) (s : Submission) → AreStates es → submission es ccb ≡ Some s → count_by (is_sending f es (Send lane ccb) r) (passages es) ≤ cond (f s.device && (round es == r)) 1 0
+unfolding is_sending waiting
+one_sending f es lane ccb r s states found =
+    let one : unsent_count es ccb ≤ 1 = unsent-most es ccb (states.placed ccb) in
+    let few : unsent_count es ccb ≡ count_by (λ p. is_unsent es p && is_of ccb p) (passages es) = count_by-filter (is_unsent es) (is_of ccb) (passages es) in
     elim (f s.device && (round es == r)) as (λ b. (f s.device && (round es == r)) ≡ b → count_by (is_sending f es (Send lane ccb) r) (passages es) ≤ cond b 1 0) [
       | true ↦ λ is.
           let le : count_by (is_sending f es (Send lane ccb) r) (passages es) ≤ count_by (λ p. is_unsent es p && is_of ccb p) (passages es) =
@@ -144,7 +145,7 @@ submission-named es ccb lt = elim (submission es ccb) as (λ o. submission es cc
 
 -- not more were sent than there were sends
 pub record IsCovered (f : ℕ → Bool) (es : List Event) : Type 0 where
-  pub tidy : IsTidy es
+  pub states : AreStates es
   pub covered : (r : ℕ) → count_by (was_sent f es r) (passages es) ≤ count_by (goes f r) (sendings es)
 
 covered-other : (f : ℕ → Bool) (es : List Event) (e : Event) (r : ℕ) → ((p : Passage) → is_send_of p.ccb e ≡ false) → sending_of (es, e) ≡ None → count_by (was_sent f es r) (passages es) ≤ count_by (goes f r) (sendings es) → count_by (was_sent f (es ++ e ∷ []) r) (passages (es ++ e ∷ [])) ≤ count_by (goes f r) (sendings (es ++ e ∷ []))
@@ -154,37 +155,37 @@ covered-other f es e r other none h =
     let same = goes-other f es e r none in
     omega arith
 
-covered-send : (f : ℕ → Bool) (rules : Rules) (c : Topology) (es : List Event) (lane ccb r : ℕ) → is_legal_event rules c (es, Send lane ccb) ≡ true → IsTidy es → count_by (was_sent f es r) (passages es) ≤ count_by (goes f r) (sendings es) → count_by (was_sent f (es ++ Send lane ccb ∷ []) r) (passages (es ++ Send lane ccb ∷ [])) ≤ count_by (goes f r) (sendings (es ++ Send lane ccb ∷ []))
-covered-send f rules c es lane ccb r legal tidy h =
-    let found = submission-named es ccb (legal-named rules c es lane ccb legal) in
+covered-send : (f : ℕ → Bool) (rules : Rules) (c : Topology) (es : List Event) (lane ccb r : ℕ) → is_legal_event rules c (es, Send lane ccb) ≡ true → AreStates es → count_by (was_sent f es r) (passages es) ≤ count_by (goes f r) (sendings es) → count_by (was_sent f (es ++ Send lane ccb ∷ []) r) (passages (es ++ Send lane ccb ∷ [])) ≤ count_by (goes f r) (sendings (es ++ Send lane ccb ∷ []))
+covered-send f rules c es lane ccb r legal states h =
+    let found = submission-named es ccb (asks-send rules c es lane ccb legal).0 in
     let more = sent-more f es (Send lane ccb) r in
-    let one = one_sending f es lane ccb r found.0 tidy found.1 in
+    let one = one_sending f es lane ccb r found.0 states found.1 in
     let same = goes-send f es lane ccb r found.0 found.1 in
     omega arith
 
-covered-events : (f : ℕ → Bool) (rules : Rules) (c : Topology) (es : List Event) (e : Event) (r : ℕ) → is_legal_event rules c (es, e) ≡ true → IsTidy es → count_by (was_sent f es r) (passages es) ≤ count_by (goes f r) (sendings es) → count_by (was_sent f (es ++ e ∷ []) r) (passages (es ++ e ∷ [])) ≤ count_by (goes f r) (sendings (es ++ e ∷ []))
-covered-events f rules c es (Send lane ccb) r legal tidy h = covered-send f rules c es lane ccb r legal tidy h
-covered-events f rules c es (Submit driver device priority retries flags) r legal tidy h = covered-other f es (Submit driver device priority retries flags) r (λ p. refl) refl h
-covered-events f rules c es (Done ccb outcome) r legal tidy h = covered-other f es (Done ccb outcome) r (λ p. refl) refl h
-covered-events f rules c es (Requeue ccb) r legal tidy h = covered-other f es (Requeue ccb) r (λ p. refl) refl h
-covered-events f rules c es (Finish ccb) r legal tidy h = covered-other f es (Finish ccb) r (λ p. refl) refl h
-covered-events f rules c es (FreezeDev device count) r legal tidy h = covered-other f es (FreezeDev device count) r (λ p. refl) refl h
-covered-events f rules c es (ReleaseDev device count) r legal tidy h = covered-other f es (ReleaseDev device count) r (λ p. refl) refl h
-covered-events f rules c es (FreezeSim sim count) r legal tidy h = covered-other f es (FreezeSim sim count) r (λ p. refl) refl h
-covered-events f rules c es (ReleaseSim sim) r legal tidy h = covered-other f es (ReleaseSim sim) r (λ p. refl) refl h
-covered-events f rules c es (Adjust device openings) r legal tidy h = covered-other f es (Adjust device openings) r (λ p. refl) refl h
-covered-events f rules c es Tick r legal tidy h = covered-other f es Tick r (λ p. refl) refl h
+covered-events : (f : ℕ → Bool) (rules : Rules) (c : Topology) (es : List Event) (e : Event) (r : ℕ) → is_legal_event rules c (es, e) ≡ true → AreStates es → count_by (was_sent f es r) (passages es) ≤ count_by (goes f r) (sendings es) → count_by (was_sent f (es ++ e ∷ []) r) (passages (es ++ e ∷ [])) ≤ count_by (goes f r) (sendings (es ++ e ∷ []))
+covered-events f rules c es (Send lane ccb) r legal states h = covered-send f rules c es lane ccb r legal states h
+covered-events f rules c es (Submit driver device priority retries flags) r legal states h = covered-other f es (Submit driver device priority retries flags) r (λ p. refl) refl h
+covered-events f rules c es (Done ccb outcome) r legal states h = covered-other f es (Done ccb outcome) r (λ p. refl) refl h
+covered-events f rules c es (Requeue ccb) r legal states h = covered-other f es (Requeue ccb) r (λ p. refl) refl h
+covered-events f rules c es (Finish ccb) r legal states h = covered-other f es (Finish ccb) r (λ p. refl) refl h
+covered-events f rules c es (FreezeDev device count) r legal states h = covered-other f es (FreezeDev device count) r (λ p. refl) refl h
+covered-events f rules c es (ReleaseDev device count) r legal states h = covered-other f es (ReleaseDev device count) r (λ p. refl) refl h
+covered-events f rules c es (FreezeSim sim count) r legal states h = covered-other f es (FreezeSim sim count) r (λ p. refl) refl h
+covered-events f rules c es (ReleaseSim sim) r legal states h = covered-other f es (ReleaseSim sim) r (λ p. refl) refl h
+covered-events f rules c es (Adjust device openings) r legal states h = covered-other f es (Adjust device openings) r (λ p. refl) refl h
+covered-events f rules c es Tick r legal states h = covered-other f es Tick r (λ p. refl) refl h
 
 covered-none : (f : ℕ → Bool) → IsCovered f []
 unfolding passages sendings
-covered-none f = record { tidy = tidy-none; covered = λ r. omega arith }
+covered-none f = record { states = states_none; covered = λ r. omega arith }
 
 pub covered-legal : (f : ℕ → Bool) (rules : Rules) (c : Topology) (es : List Event) → is_legal rules c es ≡ true → IsCovered f es
 unfolding is_legal
 covered-legal f rules c es legal = legal-induction rules c (IsCovered f)
     (λ before event here is. record {
-      tidy = tidy-step rules c before event here is.tidy;
-      covered = λ r. covered-events f rules c before event r here is.tidy (is.covered r);
+      states = states_step rules c before event here is.states;
+      covered = λ r. covered-events f rules c before event r here is.states (is.covered r);
     }) [] es legal (covered-none f)
 
 -- where each stay was sent, those sent in a round are those whose live round it is

@@ -19,7 +19,7 @@ use Rattle.cam_event.proofs.LimitLemmas.{legal-induction}
 use Rattle.round_net.specs.Caps.{places, openings_in, sends_to, sends_by, is_device_free, is_adapter_free, dev_cap, sim_cap}
 use Rattle.round_net.proofs.PlaceLemmas.{places-push, openings_in-now}
 use Rattle.round_net.proofs.LoadLemmas.{goes, goes-send, goes-other, submission-named}
-use Rattle.round_net.proofs.WaitLemmas.{legal-named}
+use Rattle.cam_event.proofs.StandLemmas.{asks-send}
 
 -- what a legal send says of its place
 pub legal-send : (rules : Rules) (c : Topology) (es : List Event) (lane ccb : ℕ) → is_legal_event rules c (es, Send lane ccb) ≡ true → IsSend c es lane ccb
@@ -55,7 +55,7 @@ opening_left c es d h = ltb-true (count_by (goes_now_to es d) (sendings es)) (op
 
 keeps-send : (rules : Rules) (c : Topology) (es : List Event) (lane ccb : ℕ) → is_legal_event rules c (es, Send lane ccb) ≡ true → KeepsOpenings c es → KeepsOpenings c (es ++ Send lane ccb ∷ [])
 keeps-send rules c es lane ccb legal h d r =
-    let found = submission-named es ccb (legal-named rules c es lane ccb legal) in
+    let found = submission-named es ccb (asks-send rules c es lane ccb legal).0 in
     let s : Submission = found.0 in
     let grows = openings_in-grows c es (Send lane ccb) d r in
     let more = goes-send (to_device d) es lane ccb r s found.1 in
@@ -115,7 +115,7 @@ on_one c a b d h g = elim (slice_get c.devices d) as (λ o. is_some_and (λ (dev
 
 keeps_adapter-send : (rules : Rules) (c : Topology) (es : List Event) (lane ccb : ℕ) → is_legal_event rules c (es, Send lane ccb) ≡ true → KeepsAdapter c es → KeepsAdapter c (es ++ Send lane ccb ∷ [])
 keeps_adapter-send rules c es lane ccb legal h a r =
-    let found = submission-named es ccb (legal-named rules c es lane ccb legal) in
+    let found = submission-named es ccb (asks-send rules c es lane ccb legal).0 in
     let s : Submission = found.0 in
     let send = (legal-send rules c es lane ccb legal).sendable in
     let more = goes-send (is_on c a) es lane ccb r s found.1 in

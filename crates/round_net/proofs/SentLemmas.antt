@@ -1,10 +1,10 @@
 -- where stays were sent, and one event more
-use Rattle.std.proofs.Common.{◌≡◌, ◌+◌, ◌<◌, ◌≤◌, Bool, true, false, cond, List, [], ◌∷◌, ◌++◌, length, take, drop, refl, sym, ap, ◌∙◌, arith, length-append, length-drop}
-use Rattle.std.specs.Prelude.{not, ◌&&◌, ◌||◌}
+use Rattle.std.proofs.Common.{◌≡◌, ◌+◌, ◌<◌, ◌≤◌, Bool, true, false, cond, List, [], ◌∷◌, ◌++◌, length, take, drop, refl, sym, ap, ◌∙◌, arith, length-drop}
+use Rattle.std.specs.Prelude.{not, ◌||◌}
 use Rattle.std.specs.List.{list_any, position_or_len, prefix_len}
 use Rattle.std.proofs.lemmas.Bool.{eq-eqb, ne_eqb}
-use Rattle.std.proofs.lemmas.List.{drop-append-le, drop_all, take-append-le}
-use Rattle.std.proofs.lemmas.List.Folds.{list_any-append, prefix_len-append}
+use Rattle.std.proofs.lemmas.List.{drop-append-le, take-append-le}
+use Rattle.std.proofs.lemmas.List.Folds.{prefix_len-append}
 use Rattle.std.proofs.Math.Seq.{take-append_seam}
 use Rattle.event_log.specs.Event.{is_send_of}
 use Rattle.event_log.specs.Counts.{round}
@@ -13,22 +13,6 @@ use Rattle.event_log.specs.Live.{send_place, live_round}
 use Rattle.event_log.specs.declared.event.Event.{Event}
 use Rattle.event_log.specs.declared.passage.Passage.{Passage}
 use Rattle.round_net.proofs.PlaceLemmas.{round-take}
-
-not_both : (a b : Bool) → not (a || (b || false)) ≡ (not a && not b)
-not_both true b = refl
-not_both false true = refl
-not_both false false = refl
-
-pub is_unsent-push : (es : List Event) (e : Event) (p : Passage) → p.place < length es → is_unsent (es ++ e ∷ []) p ≡ (is_unsent es p && not (is_send_of p.ccb e))
-is_unsent-push es e p lt =
-    let le : p.place + 1 ≤ length es = omega arith in
-    rw (drop-append-le (p.place + 1) es (e ∷ []) le) (rw (list_any-append (is_send_of p.ccb) (drop (p.place + 1) es) (e ∷ []))
-    (not_both (list_any (is_send_of p.ccb) (drop (p.place + 1) es)) (is_send_of p.ccb e)))
-
-pub born_unsent : (es : List Event) (e : Event) (p : Passage) → p.place ≡ length es → is_unsent (es ++ e ∷ []) p ≡ true
-born_unsent es e p at =
-    let past : length (es ++ e ∷ []) ≤ p.place + 1 = omega (arith, length-append es (e ∷ [])) in
-    rw (drop_all (p.place + 1) (es ++ e ∷ []) past) refl
 
 -- where some element passes, the first that does is within the list, and where none does it isn't
 first_within : {X : Type 0} (q : X → Bool) (xs : List X) → list_any q xs ≡ true → position_or_len q xs < length xs

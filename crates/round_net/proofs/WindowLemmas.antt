@@ -17,7 +17,7 @@ use Rattle.event_log.specs.declared.event.Event.{Event}
 use Rattle.event_log.specs.declared.event.Event.TheVariants.{Submit, Send, Done, Requeue, Finish, FreezeDev, ReleaseDev, FreezeSim, ReleaseSim, Adjust, Tick}
 use Rattle.event_log.specs.declared.submission.Submission.{Submission}
 use Rattle.event_log.specs.declared.passage.Passage.{Passage}
-use Rattle.event_log.proofs.Laws.{passages-push, places-passages, place-passage_of}
+use Rattle.event_log.proofs.Laws.{is_unsent-push, born_unsent, passages-push, places-passages, place-passage_of}
 use Rattle.cam_event.specs.Legal.{Rules, is_legal_event, is_legal}
 use Rattle.cam_event.specs.Laws.{is_stay_of}
 use Rattle.cam_event.proofs.LimitLemmas.{legal-induction, round_first}
@@ -25,8 +25,9 @@ use Rattle.cam_event.proofs.StayLemmas.{is_of_its_ccb, of_its_ccb-passages}
 use Rattle.round_net.specs.Nets.{next_stay, last_round}
 use Rattle.round_net.proofs.CountLemmas.{count_by-filter, none-by-count, all_where_one}
 use Rattle.round_net.proofs.PlaceLemmas.{round-grows}
-use Rattle.round_net.proofs.SentLemmas.{is_unsent-push, born_unsent, live_round-sent, live_round-sending, live_round-le}
-use Rattle.round_net.proofs.WaitLemmas.{IsTidy, is_of, waiting_of, one_waits, none_waits, legal-requeue, tidy-step, tidy-none}
+use Rattle.round_net.proofs.SentLemmas.{live_round-sent, live_round-sending, live_round-le}
+use Rattle.event_log.proofs.TotalLaws.{is_of}
+use Rattle.cam_event.proofs.StandLemmas.{AreStates, asks-requeue, unsent-most, unsent-recovering, states_step, states_none}
 use Rattle.round_net.proofs.OpeningLemmas.{legal-send}
 
 -- what holds of the stays so far and of one that begins holds of all
@@ -73,7 +74,7 @@ born_requeued rules c es (Requeue ccb) q legal is lt =
     let at : q.ccb ≡ ccb = requeued_ccb (submission es ccb) _ ccb q (λ s. refl) is in
     record {
       arrival = requeued_arrival (submission es ccb) _ (round es + 1) q (λ s. refl) is;
-      recovering = rw at (legal-requeue rules c es ccb legal);
+      recovering = rw at (asks-requeue rules c es ccb legal).1;
     }
 born_requeued rules c es (Send lane ccb) q legal is lt = absurd cc
 born_requeued rules c es (Done ccb outcome) q legal is lt = absurd cc
@@ -109,10 +110,10 @@ named_stays : (es : List Event) → All (λ (p : Passage). p.ccb < commands es) 
 named_stays es k d lt = named_stay es (get_or (passages es) k d) (AllPass-from_list_all (is_of_its_ccb es) (passages es) (of_its_ccb-passages es) k d lt)
 
 -- a legal send is of a stay that has arrived
-arrived_where_sent : (rules : Rules) (c : Topology) (es : List Event) (lane ccb : ℕ) → is_legal_event rules c (es, Send lane ccb) ≡ true → IsTidy es → All (λ (p : Passage). (p.ccb == ccb) ≡ true → has_arrived es p ≡ true) (waiting es)
-unfolding has_queued waiting_of
-arrived_where_sent rules c es lane ccb legal tidy =
-    all_where_one (is_of ccb) (has_arrived es) (waiting es) (one_waits es ccb tidy) (legal-send rules c es lane ccb legal).sendable.queued
+arrived_where_sent : (rules : Rules) (c : Topology) (es : List Event) (lane ccb : ℕ) → is_legal_event rules c (es, Send lane ccb) ≡ true → AreStates es → All (λ (p : Passage). (p.ccb == ccb) ≡ true → has_arrived es p ≡ true) (waiting es)
+unfolding has_queued
+arrived_where_sent rules c es lane ccb legal states =
+    all_where_one (is_of ccb) (has_arrived es) (waiting es) (unsent-most es ccb (states.placed ccb)) (legal-send rules c es lane ccb legal).sendable.queued
 
 in_filter : (p : Passage → Bool) (P : Passage → Type 0) (xs : List Passage) → All P (filter p xs) → All (λ x. p x ≡ true → P x) xs
 in_filter p P [] h = All-nil (λ x. p x ≡ true → P x)
@@ -122,30 +123,30 @@ in_filter p P (x ∷ xs) h = elim (p x) as (λ b. p x ≡ b → All P (cond b (x
 ] refl h
 
 -- what is sent has arrived
-arrived_when_sent : (rules : Rules) (c : Topology) (es : List Event) (e : Event) → is_legal_event rules c (es, e) ≡ true → IsTidy es → All (λ (p : Passage). is_unsent es p ≡ true → is_send_of p.ccb e ≡ true → p.arrival ≤ round es) (passages es)
+arrived_when_sent : (rules : Rules) (c : Topology) (es : List Event) (e : Event) → is_legal_event rules c (es, e) ≡ true → AreStates es → All (λ (p : Passage). is_unsent es p ≡ true → is_send_of p.ccb e ≡ true → p.arrival ≤ round es) (passages es)
 unfolding waiting
-arrived_when_sent rules c es (Send lane ccb) legal tidy k d lt unsent sends =
+arrived_when_sent rules c es (Send lane ccb) legal states k d lt unsent sends =
     let p = get_or (passages es) k d in
-    let all = in_filter (is_unsent es) (λ (q : Passage). (q.ccb == ccb) ≡ true → has_arrived es q ≡ true) (passages es) (arrived_where_sent rules c es lane ccb legal tidy) in
+    let all = in_filter (is_unsent es) (λ (q : Passage). (q.ccb == ccb) ≡ true → has_arrived es q ≡ true) (passages es) (arrived_where_sent rules c es lane ccb legal states) in
     let arrived : has_arrived es p ≡ true = all k d lt unsent (eq-eqb p.ccb ccb (sym (eqb-true ccb p.ccb sends))) in
     leb-true p.arrival (round es) arrived
-arrived_when_sent rules c es (Submit driver device priority retries flags) legal tidy k d lt unsent sends = absurd cc
-arrived_when_sent rules c es (Requeue ccb) legal tidy k d lt unsent sends = absurd cc
-arrived_when_sent rules c es (Done ccb outcome) legal tidy k d lt unsent sends = absurd cc
-arrived_when_sent rules c es (Finish ccb) legal tidy k d lt unsent sends = absurd cc
-arrived_when_sent rules c es (FreezeDev device count) legal tidy k d lt unsent sends = absurd cc
-arrived_when_sent rules c es (ReleaseDev device count) legal tidy k d lt unsent sends = absurd cc
-arrived_when_sent rules c es (FreezeSim sim count) legal tidy k d lt unsent sends = absurd cc
-arrived_when_sent rules c es (ReleaseSim sim) legal tidy k d lt unsent sends = absurd cc
-arrived_when_sent rules c es (Adjust device openings) legal tidy k d lt unsent sends = absurd cc
-arrived_when_sent rules c es Tick legal tidy k d lt unsent sends = absurd cc
+arrived_when_sent rules c es (Submit driver device priority retries flags) legal states k d lt unsent sends = absurd cc
+arrived_when_sent rules c es (Requeue ccb) legal states k d lt unsent sends = absurd cc
+arrived_when_sent rules c es (Done ccb outcome) legal states k d lt unsent sends = absurd cc
+arrived_when_sent rules c es (Finish ccb) legal states k d lt unsent sends = absurd cc
+arrived_when_sent rules c es (FreezeDev device count) legal states k d lt unsent sends = absurd cc
+arrived_when_sent rules c es (ReleaseDev device count) legal states k d lt unsent sends = absurd cc
+arrived_when_sent rules c es (FreezeSim sim count) legal states k d lt unsent sends = absurd cc
+arrived_when_sent rules c es (ReleaseSim sim) legal states k d lt unsent sends = absurd cc
+arrived_when_sent rules c es (Adjust device openings) legal states k d lt unsent sends = absurd cc
+arrived_when_sent rules c es Tick legal states k d lt unsent sends = absurd cc
 
 -- no stay of a CCB waits where a further one begins
-none_waiting : (es : List Event) (ccb : ℕ) → IsTidy es → is_recovering es ccb ≡ true → All (λ (p : Passage). is_unsent es p ≡ true → (p.ccb == ccb) ≡ false) (passages es)
-unfolding waiting waiting_of
-none_waiting es ccb tidy errs k d lt unsent =
+none_waiting : (es : List Event) (ccb : ℕ) → AreStates es → is_recovering es ccb ≡ true → All (λ (p : Passage). is_unsent es p ≡ true → (p.ccb == ccb) ≡ false) (passages es)
+unfolding waiting
+none_waiting es ccb states errs k d lt unsent =
     let p = get_or (passages es) k d in
-    let none : count_by (λ q. is_unsent es q && is_of ccb q) (passages es) ≡ 0 = sym (count_by-filter (is_unsent es) (is_of ccb) (passages es)) ∙ none_waits es ccb tidy errs in
+    let none : count_by (λ q. is_unsent es q && is_of ccb q) (passages es) ≡ 0 = sym (count_by-filter (is_unsent es) (is_of ccb) (passages es)) ∙ unsent-recovering es ccb (states.placed ccb) errs in
     let fails : (is_unsent es p && (p.ccb == ccb)) ≡ false = none-by-count (λ q. is_unsent es q && is_of ccb q) (passages es) none k d lt in
     rw unsent at fails
 
@@ -202,9 +203,9 @@ next-push : (es : List Event) (e : Event) (p : Passage) → next_stay (passages 
 next-push es e p = ap (find (follows p)) (passages-push es e) ∙ find-append (follows p) (passages es) (option_to_list (passage_of (es, e)))
 
 -- what it begins isn't of a CCB of which a stay waits
-next_not_waiting : (rules : Rules) (c : Topology) (es : List Event) (e : Event) (k : ℕ) (d : Passage) (o : Option Passage) → is_legal_event rules c (es, e) ≡ true → IsTidy es → k < length (passages es) → is_unsent es (get_or (passages es) k d) ≡ true → passage_of (es, e) ≡ o → next_stay (option_to_list o) (get_or (passages es) k d) ≡ None
-next_not_waiting rules c es e k d None legal tidy lt unsent is = refl
-next_not_waiting rules c es e k d (Some q) legal tidy lt unsent is =
+next_not_waiting : (rules : Rules) (c : Topology) (es : List Event) (e : Event) (k : ℕ) (d : Passage) (o : Option Passage) → is_legal_event rules c (es, e) ≡ true → AreStates es → k < length (passages es) → is_unsent es (get_or (passages es) k d) ≡ true → passage_of (es, e) ≡ o → next_stay (option_to_list o) (get_or (passages es) k d) ≡ None
+next_not_waiting rules c es e k d None legal states lt unsent is = refl
+next_not_waiting rules c es e k d (Some q) legal states lt unsent is =
     let p = get_or (passages es) k d in
     elim (q.ccb == p.ccb) as (λ b. (q.ccb == p.ccb) ≡ b → cond (b && nat_lt p.place q.place) (Some q) None ≡ None) [
       | false ↦ λ ne. refl
@@ -212,7 +213,7 @@ next_not_waiting rules c es e k d (Some q) legal tidy lt unsent is =
           let at : q.ccb ≡ p.ccb = eqb-true q.ccb p.ccb same in
           let named : p.ccb < commands es = named_stays es k d lt in
           let requeued = born_requeued rules c es e q legal is (omega arith) in
-          let other : (p.ccb == q.ccb) ≡ false = none_waiting es q.ccb tidy requeued.recovering k d lt unsent in
+          let other : (p.ccb == q.ccb) ≡ false = none_waiting es q.ccb states requeued.recovering k d lt unsent in
           let both : (p.ccb == q.ccb) ≡ true = eq-eqb p.ccb q.ccb (sym at) in
           absurd cc
     ] refl
@@ -257,8 +258,8 @@ old_within rules c es e k d legal lt is sent =
       | false ↦ λ s. let both : is_unsent (es ++ e ∷ []) p ≡ true = is_unsent-push es e p lt ∙ rw (unsent, s) refl in absurd cc
     ] refl
 
-old_window : (rules : Rules) (c : Topology) (es : List Event) (e : Event) (k : ℕ) (d : Passage) → is_legal_event rules c (es, e) ≡ true → IsTidy es → k < length (passages es) → IsInWindow es (get_or (passages es) k d) → IsInWindow (es ++ e ∷ []) (get_or (passages es) k d)
-old_window rules c es e k d legal tidy lt is =
+old_window : (rules : Rules) (c : Topology) (es : List Event) (e : Event) (k : ℕ) (d : Passage) → is_legal_event rules c (es, e) ≡ true → AreStates es → k < length (passages es) → IsInWindow es (get_or (passages es) k d) → IsInWindow (es ++ e ∷ []) (get_or (passages es) k d)
+old_window rules c es e k d legal states lt is =
     let p = get_or (passages es) k d in
     let early = places-passages es k d lt in
     let grows = round-grows es e in
@@ -269,30 +270,30 @@ old_window rules c es e k d legal tidy lt is =
       arrived = λ sent. elim (is_unsent es p) as (λ b. is_unsent es p ≡ b → p.arrival ≤ live_round (es ++ e ∷ []) p) [
         | false ↦ λ sent'. rw (live_round-sent es e p early sent') (is.arrived sent')
         | true ↦ λ unsent. elim (is_send_of p.ccb e) as (λ b. is_send_of p.ccb e ≡ b → p.arrival ≤ live_round (es ++ e ∷ []) p) [
-          | true ↦ λ sends. rw (live_round-sending es e p early unsent sends) (arrived_when_sent rules c es e legal tidy k d lt unsent sends)
+          | true ↦ λ sends. rw (live_round-sending es e p early unsent sends) (arrived_when_sent rules c es e legal states k d lt unsent sends)
           | false ↦ λ other. let both : is_unsent (es ++ e ∷ []) p ≡ true = push ∙ rw (unsent, other) refl in absurd cc
         ] refl
       ] refl;
       alone = λ unsent'.
           let unsent : is_unsent es p ≡ true = (and_parts (is_unsent es p) (not (is_send_of p.ccb e)) (sym push ∙ unsent')).0 in
-          next-push es e p ∙ rw (is.alone unsent) (next_not_waiting rules c es e k d (passage_of (es, e)) legal tidy lt unsent refl);
+          next-push es e p ∙ rw (is.alone unsent) (next_not_waiting rules c es e k d (passage_of (es, e)) legal states lt unsent refl);
       within = λ sent. old_within rules c es e k d legal lt is sent;
     }
 
 pub record AreInWindows (es : List Event) : Type 0 where
-  pub tidy : IsTidy es
+  pub states : AreStates es
   pub each : All (IsInWindow es) (passages es)
 
 windows-step : (rules : Rules) (c : Topology) (es : List Event) (e : Event) → is_legal_event rules c (es, e) ≡ true → AreInWindows es → AreInWindows (es ++ e ∷ [])
 windows-step rules c es e legal is = record {
-  tidy = tidy-step rules c es e legal is.tidy;
+  states = states_step rules c es e legal is.states;
   each = rw passages-push (All-born (IsInWindow (es ++ e ∷ [])) (passages es) (passage_of (es, e))
-      (λ k d lt. old_window rules c es e k d legal is.tidy lt (is.each k d lt)) (λ p born. born_window es e p born));
+      (λ k d lt. old_window rules c es e k d legal is.states lt (is.each k d lt)) (λ p born. born_window es e p born));
 }
 
 windows-none : AreInWindows []
 unfolding passages
-windows-none = record { tidy = tidy-none; each = All-nil (IsInWindow []) }
+windows-none = record { states = states_none; each = All-nil (IsInWindow []) }
 
 pub windows-legal : (rules : Rules) (c : Topology) (es : List Event) → is_legal rules c es ≡ true → AreInWindows es
 unfolding is_legal

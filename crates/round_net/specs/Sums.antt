@@ -14,11 +14,6 @@ sum_to n g = sum_below n (λ i. g (i + 1))
 abbrev pub count_below : ℕ → (ℕ → Bool) → ℕ
 count_below n test = sum_below n (λ i. cond (test i) 1 0)
 
--- from, from + 1, .., as many numbers as are asked
-abbrev pub count_up : ℕ → ℕ → List ℕ
-count_up from zero = []
-count_up from (suc n) = from ∷ count_up (from + 1) n
-
 -- the least of the numbers, and 0 of none
 abbrev pub least : List ℕ → ℕ
 least [] = 0

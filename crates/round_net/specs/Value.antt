@@ -1,6 +1,7 @@
 -- prices of the openings, and what they prove
 use Rattle.std.specs.Prelude.{◌≡◌, ℕ, ◌+◌, ◌-◌, ◌*◌, Bool, ◌&&◌, nat_lt, List, map, filter}
-use Rattle.round_net.specs.Sums.{sum_below, sum_to, count_up, least}
+use Rattle.std.specs.List.{range_with_len}
+use Rattle.round_net.specs.Sums.{sum_below, sum_to, least}
 use Rattle.round_net.specs.Instance.{Instance, adapter}
 use Rattle.round_net.specs.Schedules.{IsAdmissible, cost}
 
@@ -15,7 +16,7 @@ is_open net s r = nat_lt 0 (net.dev_cap (net.device s) r) && nat_lt 0 (net.sim_c
 
 -- the rounds of the stay's window in which it could be sent at all
 abbrev pub allowed : Instance → ℕ → List ℕ
-allowed net s = filter (is_open net s) (count_up (net.arrival s) (net.last s + 1 - net.arrival s))
+allowed net s = filter (is_open net s) (range_with_len (net.arrival s) (net.last s + 1 - net.arrival s))
 
 -- what the stay pays in a round: its waiting, and the openings that it uses
 abbrev pub priced : Instance → Pricing → ℕ → ℕ → ℕ

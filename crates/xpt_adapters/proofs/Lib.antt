@@ -2,7 +2,6 @@ pub mod AppendLemmas
 pub mod ConfigLemmas
 pub mod HeadLaws
 pub mod NoteLaws
-pub mod PlaceLemmas
 pub mod RefreshLaws
 pub mod RowLemmas
 pub mod SimLemmas

@@ -31,10 +31,11 @@ use Rattle.sim_queue.specs.declared.row.Row.{Row}
 use Rattle.xpt_devices.specs.Ready.{ready_priority}
 use Rattle.xpt_devices.proofs.RoomLemmas.{submitted}
 use Rattle.xpt_adapters.specs.Known.{Known, known, devices_on, row_of, adapter_of, adapters_of}
-use Rattle.xpt_adapters.specs.Told.{at_adapter, lane_adapter, bus_of, with_turn, with_freezes, less_freeze, in_next_round, noted, CanNote, HasAt}
+use Rattle.xpt_adapters.specs.Told.{lane_adapter, bus_of, with_turn, with_freezes, less_freeze, in_next_round, noted, CanNote}
+use Rattle.xpt_devices.specs.Told.{at_place, HasAt}
 use Rattle.xpt_adapters.proofs.ConfigLemmas.{bus-there}
 use Rattle.xpt_adapters.proofs.HeadLaws.{best_ready-head}
-use Rattle.xpt_adapters.proofs.PlaceLemmas.{at_range, all_range, has_range}
+use Rattle.xpt_devices.proofs.PlaceLemmas.{at_range, all_range, has_range}
 use Rattle.xpt_adapters.proofs.RowLemmas.{adapter, adapter-same, known-same, row-same, row-sent, rows_where, rows_change, on-bus, on-there}
 
 -- the sends of this round on an adapter
@@ -255,7 +256,7 @@ module _ (rules : Rules) (c : Topology) (es : List Event) where
         adapter-same _ _ (adapter_openings c x) _ _ _ _ refl (sent-send x) (callers-still es e x refl)
         ∙ turn_cases (map (row_of before) (devices_on c x)) _ (adapter_openings c x) (sent_on c es x) (adapter_freezes es x) d (length es) (a == x)
         (λ same. best_ready-head c es x ∙ ap (head c es) (sym (eqb-true a x same)) ∙ turn.head) (rows-send x))
-        ∙ ap (λ k. at_adapter k (with_turn (length es)) (adapters_of c before)) (sym (ap (λ o. option_map_or (λ n. n) o 0) turn.over))
+        ∙ ap (λ k. at_place k (with_turn (length es)) (adapters_of c before)) (sym (ap (λ o. option_map_or (λ n. n) o 0) turn.over))
 
     can_send : (place : ℕ) → IsConfig c → place < 65535 → lane < length c.lanes → CanNote c.lanes place (Send lane ccb) (adapters_of c before)
     can_send place config lt named =

@@ -18,9 +18,10 @@ use Rattle.sim_queue.specs.Adapter.{Adapter, is_named}
 use Rattle.sim_queue.specs.declared.row.Row.{Row}
 use Rattle.xpt_devices.specs.Ready.{ready_priority}
 use Rattle.xpt_adapters.specs.Known.{Known, row_of, adapter_of, adapters_of, adapters, set_at}
-use Rattle.xpt_adapters.specs.Told.{at_adapter, bus_of, with_ready, all_ready, AreAdapters}
+use Rattle.xpt_adapters.specs.Told.{bus_of, with_ready, all_ready, AreAdapters}
+use Rattle.xpt_devices.specs.Told.{at_place}
 use Rattle.xpt_adapters.proofs.ConfigLemmas.{bus-there}
-use Rattle.xpt_adapters.proofs.PlaceLemmas.{value_at}
+use Rattle.xpt_devices.proofs.PlaceLemmas.{value_at}
 use Rattle.xpt_adapters.proofs.RefreshLaws.{one-ready, each-ready}
 use Rattle.xpt_adapters.proofs.RowLemmas.{adapter, row-same, rows_where, on-bus, on-there}
 
@@ -91,10 +92,10 @@ SoFar c es before n now =
 pub so_far-start : (c : Topology) (es : List Event) (ss : List Adapter) → SoFar c es ss 0 ss
 so_far-start c es ss k is = is ∙ same_where c k k.ready (below 0 (ready_priority c es) k.ready) (λ x lt. sym (below_none (ready_priority c es) k.ready x))
 
-pub so_far-step : (c : Topology) (es : List Event) (before now ss : List Adapter) (d : ℕ) → d < length c.devices → SoFar c es before d now → ss ≡ at_adapter (bus_of c d) (with_ready c es d) now → SoFar c es before (d + 1) ss
+pub so_far-step : (c : Topology) (es : List Event) (before now ss : List Adapter) (d : ℕ) → d < length c.devices → SoFar c es before d now → ss ≡ at_place (bus_of c d) (with_ready c es d) now → SoFar c es before (d + 1) ss
 so_far-step c es before now ss d lt h made k is =
     let f = ready_priority c es in
-    made ∙ ap (at_adapter (bus_of c d) (with_ready c es d)) (h k is) ∙ one-ready c (record k { ready = below d f k.ready }) es d lt
+    made ∙ ap (at_place (bus_of c d) (with_ready c es d)) (h k is) ∙ one-ready c (record k { ready = below d f k.ready }) es d lt
     ∙ same_where c k (set_at d (f d) (below d f k.ready)) (below (d + 1) f k.ready) (λ x in_range. sym (below_more d f k.ready x (d == x) refl))
 
 pub so_far-adapters : (c : Topology) (es : List Event) (before now : List Adapter) (n : ℕ) → AreAdapters c before → SoFar c es before n now → AreAdapters c now

@@ -6,17 +6,16 @@ use Rattle.std.proofs.lemmas.Bool.{and_parts, eqb-true, eqb-false, ltb-true}
 use Rattle.cam_types.specs.Topology.{Topology}
 use Rattle.cam_types.specs.declared.priority.TheConstants.{MOST_PRIORITY}
 use Rattle.event_log.specs.Event.{is_tick}
-use Rattle.event_log.specs.Counts.{commands, submission, submissions, caller_count}
+use Rattle.event_log.specs.Counts.{commands, submission, caller_count}
 use Rattle.event_log.specs.Head.{adapter_openings}
 use Rattle.event_log.specs.declared.event.Event.{Event}
 use Rattle.event_log.specs.declared.event.Event.TheVariants.{Submit, Send, Done, Requeue, Finish, FreezeDev, ReleaseDev, FreezeSim, ReleaseSim, Adjust, Tick}
 use Rattle.event_log.specs.declared.submission.Submission.{Submission}
 use Rattle.event_log.proofs.StateLaws.{map-range_same}
 use Rattle.cam_event.specs.Legal.{Rules, names_device, is_count, is_legal_event, is_legal}
-use Rattle.cam_event.specs.Laws.{is_in_range}
 use Rattle.cam_event.specs.declared.most.TheConstants.{MOST_RETRIES, MOST_FREEZES}
 use Rattle.cam_event.proofs.LawLemmas.{allowed-legal_event}
-use Rattle.cam_event.proofs.RangeLemmas.{range_submit, submissions_in_range, passes-slice_get}
+use Rattle.cam_event.proofs.RangeLemmas.{range_submit}
 use Rattle.cam_event.proofs.StandLemmas.{asks-send, asks-done, asks-requeue, asks-finish}
 use Rattle.sim_queue.specs.Adapter.{prioritized}
 use Rattle.sim_queue.specs.declared.row.Row.{Row}
@@ -30,29 +29,26 @@ use Rattle.event_log.specs.declared.passage.Passage.{Passage}
 use Rattle.xpt_devices.specs.Device.{device_state, entry}
 use Rattle.xpt_devices.specs.Told.{with_openings}
 use Rattle.xpt_devices.proofs.DeviceLaws.{state-adjust}
-use Rattle.xpt_devices.proofs.RoomLemmas.{submitted, ready-state}
+use Rattle.xpt_devices.proofs.TransportLemmas.{ccb_known}
+use Rattle.xpt_devices.proofs.RoomLemmas.{ready-state}
 use Rattle.xpt_devices.proofs.SoundLemmas.{entry_priority, first-state}
 use Rattle.xpt_devices.proofs.TouchLaws as device
 use Rattle.xpt_devices.proofs.TouchLaws.{ready_priority-untouched}
 use Rattle.xpt_adapters.specs.Known.{Known, known, devices_on, adapter_of, adapters_of, set_at}
 use Rattle.xpt_adapters.specs.Touched.{touched_by, touched_ccb}
-use Rattle.xpt_adapters.specs.Told.{at_adapter, bus_of, with_ready, fresh_row, all_ready, refreshed, IsThere}
+use Rattle.xpt_adapters.specs.Told.{bus_of, with_ready, fresh_row, all_ready, refreshed, IsThere}
+use Rattle.xpt_devices.specs.Told.{at_place}
 use Rattle.xpt_adapters.specs.declared.touched.Touched.{Touched}
 use Rattle.xpt_adapters.specs.declared.touched.Touched.TheVariants.{Nothing, One, All}
 use Rattle.xpt_adapters.proofs.NoteLaws.{told}
-use Rattle.xpt_adapters.proofs.PlaceLemmas.{at_range, all_range}
+use Rattle.xpt_devices.proofs.PlaceLemmas.{at_range, all_range}
 use Rattle.xpt_adapters.proofs.RowLemmas.{adapter, known-same, row-same, row-ready, rows_all, rows_change, on-bus}
 
 -- a device that was touched is there
 there_ccb : (rules : Rules) (c : Topology) (es : List Event) (ccb : ℕ) → is_legal rules c es ≡ true → ccb < commands es → IsThere c (touched_ccb es ccb)
 there_ccb rules c es ccb legal lt =
-    let one = submitted es ccb lt in
-    let s = one.0 in
-    let range = passes-slice_get (is_in_range c) (submissions es) ccb s (submissions_in_range rules c es legal) one.1 in
-    let two = and_parts (names_device c s.device && nat_le s.priority MOST_PRIORITY) (nat_le s.retries MOST_RETRIES) range in
-    let three = and_parts (names_device c s.device) (nat_le s.priority MOST_PRIORITY) two.0 in
-    let at : s.device < length c.devices = ltb-true _ _ three.0 in
-    subst (λ o. IsThere c (option_map_or (λ (x : Submission). One x.device) o Nothing)) (sym one.1) at
+    let known = ccb_known rules c es ccb legal lt in
+    subst (λ o. IsThere c (option_map_or (λ (x : Submission). One x.device) o Nothing)) (sym known.1.is) known.1.device
 
 pub touched-there : (rules : Rules) (c : Topology) (es : List Event) (e : Event) → is_legal rules c es ≡ true → is_legal_event rules c (es, e) ≡ true → IsThere c (touched_by es e)
 touched-there rules c es (Submit driver device priority retries flags) legal allowed =
@@ -127,7 +123,7 @@ rows_cases rows rows' rows'' o s f false e = ap (λ r. adapter r o s f) e
 
 -- one device's readiness set anew
 pub one-ready : (c : Topology) (k : Known) (es : List Event) (d : ℕ) → d < length c.devices →
-    at_adapter (bus_of c d) (with_ready c es d) (adapters_of c k) ≡ adapters_of c (record k { ready = set_at d (ready_priority c es d) k.ready })
+    at_place (bus_of c d) (with_ready c es d) (adapters_of c k) ≡ adapters_of c (record k { ready = set_at d (ready_priority c es d) k.ready })
 one-ready c k es d lt =
     let k' : Known = record k { ready = set_at d (ready_priority c es d) k.ready } in
     sym (at_range (adapter_of c k) (adapter_of c k') (length c.adapters) (bus_of c d) (with_ready c es d)

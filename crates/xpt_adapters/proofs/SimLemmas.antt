@@ -5,7 +5,7 @@ use Rattle.std.proofs.lemmas.List.FromFn.{length-range_with_len}
 use Rattle.sim_queue.specs.Adapter.{Adapter}
 use Rattle.xpt_devices.specs.Transport.{Transport}
 use Rattle.xpt_adapters.specs.Known.{known, adapter_of, adapters_of, adapters}
-use Rattle.xpt_adapters.proofs.PlaceLemmas.{value_at}
+use Rattle.xpt_devices.proofs.PlaceLemmas.{value_at}
 
 -- what the queues of a transport's adapters are
 abbrev pub queues_of : Transport → List Adapter

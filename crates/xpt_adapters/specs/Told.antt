@@ -1,5 +1,5 @@
 -- what an event makes of the adapters' queues
-use Rattle.std.specs.Prelude.{◌≡◌, ℕ, ◌+◌, ◌-◌, ◌<◌, ◌≤◌, true, List, length, map, slice_get, slice_set, is_some, Some}
+use Rattle.std.specs.Prelude.{◌≡◌, ℕ, ◌+◌, ◌-◌, ◌<◌, ◌≤◌, true, List, length, map, slice_get, is_some}
 use Rattle.std.specs.Option.{option_map_or}
 use Rattle.cam_types.specs.Topology.{Topology}
 use Rattle.cam_types.specs.declared.device.Device.{Device}
@@ -8,13 +8,10 @@ use Rattle.event_log.specs.declared.event.Event.TheVariants.{Send, FreezeSim, Re
 use Rattle.sim_queue.specs.Adapter.{Adapter, with_priority, with_send, best_ready}
 use Rattle.sim_queue.specs.declared.row.Row.{Row}
 use Rattle.xpt_devices.specs.Ready.{ready_priority}
+use Rattle.xpt_devices.specs.Told.{at_place, HasAt}
 use Rattle.xpt_adapters.specs.Known.{Known, adapters_of}
 use Rattle.xpt_adapters.specs.declared.touched.Touched.{Touched}
 use Rattle.xpt_adapters.specs.declared.touched.Touched.TheVariants.{Nothing, One, All}
-
--- the adapters' queues, of which the one of this number changes
-abbrev pub at_adapter : ℕ → (Adapter → Adapter) → List Adapter → List Adapter
-at_adapter a change sims = option_map_or (λ s. slice_set sims a (change s)) (slice_get sims a) sims
 
 -- the adapter of a lane, and 0 where there is no such lane
 abbrev pub lane_adapter : List ℕ → ℕ → ℕ
@@ -43,16 +40,11 @@ in_next_round s = record s { sent = 0 }
 
 -- what an event at this place makes of the queues, apart from which devices are ready
 abbrev pub noted : List ℕ → ℕ → Event → List Adapter → List Adapter
-noted lanes place (Send lane ccb) sims = at_adapter (lane_adapter lanes lane) (with_turn place) sims
-noted lanes place (FreezeSim sim count) sims = at_adapter sim (with_freezes count) sims
-noted lanes place (ReleaseSim sim) sims = at_adapter sim less_freeze sims
+noted lanes place (Send lane ccb) sims = at_place (lane_adapter lanes lane) (with_turn place) sims
+noted lanes place (FreezeSim sim count) sims = at_place sim (with_freezes count) sims
+noted lanes place (ReleaseSim sim) sims = at_place sim less_freeze sims
 noted lanes place Tick sims = map in_next_round sims
 noted lanes place _ sims = sims
-
--- the adapter of this number is there, and its queue is so
-pub record HasAt (P : Adapter → Type 0) (sims : List Adapter) (a : ℕ) : Type 0 where
-  pub there : a < length sims
-  pub so : (s : Adapter) → slice_get sims a ≡ Some s → P s
 
 -- what each kind of event finds in the queues
 abbrev pub CanNote : List ℕ → ℕ → Event → List Adapter → Type 0
@@ -77,7 +69,7 @@ all_ready c events s = record s { rows = map (fresh_row c events) s.rows }
 -- the queues, with the devices that were touched ready as they are by the events
 abbrev pub refreshed : Topology → List Event → Touched → List Adapter → List Adapter
 refreshed c events Nothing sims = sims
-refreshed c events (One d) sims = at_adapter (bus_of c d) (with_ready c events d) sims
+refreshed c events (One d) sims = at_place (bus_of c d) (with_ready c events d) sims
 refreshed c events All sims = map (all_ready c events) sims
 
 -- they are the queues of the adapters of this configuration, and of its devices

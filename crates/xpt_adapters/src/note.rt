@@ -1,7 +1,8 @@
 //! What an event makes of the adapters' queues, apart from which devices are ready.
 ghost use Rattle.std.specs.Prelude.{◌≡◌, ◌+◌, ◌<◌, ◌≤◌, true, map, is_some};
 ghost use Rattle.sim_queue.specs.Adapter.{best_ready};
-ghost use Rattle.xpt_adapters.specs.Told.{at_adapter, with_turn, with_freezes, less_freeze, in_next_round, noted, CanNote, HasAt};
+ghost use Rattle.xpt_adapters.specs.Told.{with_turn, with_freezes, less_freeze, in_next_round, noted, CanNote};
+ghost use Rattle.xpt_devices.specs.Told.{at_place, HasAt};
 
 use event_log::Event;
 use sim_queue::SimQueue;
@@ -24,7 +25,7 @@ pub(crate) fn note(sims: &mut Vec<SimQueue>, lanes: &[u32], event: &Event, place
 fn send(sims: &mut Vec<SimQueue>, adapter: u32, place: u32)
     requires head { HasAt (λ s. is_some (best_ready s) ≡ true) sims.old.items adapter }
     requires place { place < 65535 }
-    ensures { sims.new.items ≡ at_adapter adapter (with_turn place) sims.old.items }
+    ensures { sims.new.items ≡ at_place adapter (with_turn place) sims.old.items }
 {
     let sim = &mut sims[adapter as usize];
     send_first(sim, place);
@@ -42,7 +43,7 @@ fn send_first(sim: &mut SimQueue, place: u32)
 // Adds freezes of the adapter.
 fn freeze(sims: &mut Vec<SimQueue>, adapter: u32, count: u32)
     requires { HasAt (λ s. s.callers + count ≤ 65535) sims.old.items adapter }
-    ensures { sims.new.items ≡ at_adapter adapter (with_freezes count) sims.old.items }
+    ensures { sims.new.items ≡ at_place adapter (with_freezes count) sims.old.items }
 {
     let sim = &mut sims[adapter as usize];
     sim.freeze(count).unwrap();
@@ -51,7 +52,7 @@ fn freeze(sims: &mut Vec<SimQueue>, adapter: u32, count: u32)
 // Takes a freeze of the adapter away.
 fn release(sims: &mut Vec<SimQueue>, adapter: u32)
     requires { HasAt (λ s. 0 < s.callers) sims.old.items adapter }
-    ensures { sims.new.items ≡ at_adapter adapter less_freeze sims.old.items }
+    ensures { sims.new.items ≡ at_place adapter less_freeze sims.old.items }
 {
     let sim = &mut sims[adapter as usize];
     sim.release().unwrap();

@@ -1,6 +1,7 @@
 //! Which devices are ready, as the adapters know it.
 ghost use Rattle.std.specs.Prelude.{◌≡◌, ◌<◌, length, map};
-ghost use Rattle.xpt_adapters.specs.Told.{at_adapter, bus_of, with_ready, all_ready, refreshed, AreAdapters, IsThere};
+ghost use Rattle.xpt_adapters.specs.Told.{bus_of, with_ready, all_ready, refreshed, AreAdapters, IsThere};
+ghost use Rattle.xpt_devices.specs.Told.{at_place};
 
 use crate::touched::Touched;
 use sim_queue::SimQueue;
@@ -23,7 +24,7 @@ pub(crate) fn refresh(sims: &mut Vec<SimQueue>, devices: &Devices, touched: Touc
 fn refresh_one(sims: &mut Vec<SimQueue>, devices: &Devices, device: u32)
     requires there { device < length devices.now.config.devices }
     requires adapters { AreAdapters devices.now.config sims.old.items }
-    ensures { sims.new.items ≡ at_adapter (bus_of devices.now.config device) (with_ready devices.now.config devices.now.events device) sims.old.items }
+    ensures { sims.new.items ≡ at_place (bus_of devices.now.config device) (with_ready devices.now.config devices.now.events device) sims.old.items }
 {
     let bus = devices.config().devices()[device as usize].bus;
     let priority = devices.ready_priority(device);

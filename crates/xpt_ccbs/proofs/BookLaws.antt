@@ -32,7 +32,8 @@ use Rattle.xpt_ccbs.specs.Book.{Book, book_of, IsBookOf, Takes}
 use Rattle.xpt_ccbs.specs.Change.{fresh, class_of_row, other_cases, told, IsSmall}
 use Rattle.xpt_ccbs.specs.Sound.{is_row_in_flight}
 use Rattle.xpt_ccbs.proofs.ListFacts.{count_by-range, length-by_number, sum_by-same}
-use Rattle.xpt_ccbs.proofs.RowLaws.{length-rows, get_or-rows, rows-same, rows-told, rows-submit, small_rows, submit_concerns_none, concerns-none}
+use Rattle.xpt_ccbs.proofs.RowLaws.{length-rows, get_or-rows, rows-same, rows-told, rows-submit, small_rows}
+use Rattle.event_log.proofs.ConcernLaws.{submit_concerns_none, concerns-none}
 use Rattle.xpt_ccbs.proofs.CaseLaws.{cases-told, cases-same, count_cases, case_recovers}
 use Rattle.xpt_ccbs.proofs.PlaceLaws.{IsSettled, settled-legal, in_flight_held, recovering_held}
 

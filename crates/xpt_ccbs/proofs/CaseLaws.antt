@@ -15,13 +15,14 @@ use Rattle.event_log.specs.Event.{concerns, ccb_of, is_erring}
 use Rattle.event_log.specs.Counts.{is_recovering}
 use Rattle.event_log.specs.declared.event.Event.{Event}
 use Rattle.event_log.specs.declared.event.Event.TheVariants.{Submit, Send, Done, Requeue, Finish, FreezeDev, ReleaseDev, FreezeSim, ReleaseSim, Adjust, Tick}
-use Rattle.event_log.proofs.ListFacts.{filter_map-push, filter-same, filter-both, filter-all, All-filter_map-moments}
+use Rattle.event_log.proofs.Laws.{not_both}
+use Rattle.event_log.proofs.ListFacts.{count_by-kept, count_by-dropped, filter_map-push, filter-same, filter-both, filter-all, All-filter_map-moments}
 use Rattle.event_log.proofs.StateLaws.{is_recovering-push}
 use Rattle.event_log.proofs.CcbLaws.{event-induction}
 use Rattle.xpt_ccbs.specs.Cases.{Failure, failure_of, failures, is_undecided, failed_ccb, cases}
 use Rattle.xpt_ccbs.specs.Change.{other_cases, decided_at}
-use Rattle.xpt_ccbs.proofs.ListFacts.{filter-map, map-option_to_list, count_by-kept, count_by-dropped}
-use Rattle.xpt_ccbs.proofs.RowLaws.{concerns-none}
+use Rattle.xpt_ccbs.proofs.ListFacts.{filter-map, map-option_to_list}
+use Rattle.event_log.proofs.ConcernLaws.{concerns-none}
 
 failures-push : (es : List Event) (e : Event) → failures (es ++ e ∷ []) ≡ failures es ++ option_to_list (failure_of (es, e))
 unfolding failures
@@ -49,11 +50,6 @@ places-failures : (es : List Event) → All (λ (f : Failure). f.place < length 
 unfolding failures
 places-failures es = All-filter_map-moments (λ (f : Failure). f.place < length es) failure_of (length es)
     (λ before x f lt e. let at : f.place ≡ length before = place-failure_of (before, x) f e in omega arith) [] es (omega arith)
-
-not_both : (a b : Bool) → not (a || (b || false)) ≡ (not a && not b)
-not_both true b = refl
-not_both false true = refl
-not_both false false = refl
 
 is_undecided-push : (es : List Event) (e : Event) (f : Failure) → f.place < length es → is_undecided (es ++ e ∷ []) f ≡ (is_undecided es f && not (concerns f.ccb e))
 is_undecided-push es e f lt =

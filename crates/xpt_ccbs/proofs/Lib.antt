@@ -4,4 +4,3 @@ pub mod CaseLaws
 pub mod PlaceLaws
 pub mod BookLaws
 pub mod SoundLemmas
-pub mod HistoryLemmas

@@ -1,5 +1,5 @@
 -- facts on lists that std lacks
-use Rattle.std.proofs.Common.{◌≡◌, ◌≢◌, ℕ, zero, suc, ◌+◌, ◌<◌, ◌≤◌, Bool, true, false, cond, List, [], ◌∷◌, length, map, set, get_or, refl, sym, ap, ◌∙◌, arith, Option, Some, None, inl, inr}
+use Rattle.std.proofs.Common.{◌≡◌, ◌≢◌, ℕ, zero, suc, ◌+◌, ◌<◌, ◌≤◌, Bool, true, false, cond, List, [], ◌∷◌, length, map, set, get_or, refl, sym, ap, arith, Option, Some, None, inl, inr}
 use Rattle.std.specs.Prelude.{◌==◌, filter, count_by, sum_by, option_to_list, All}
 use Rattle.std.specs.List.{range_with_len}
 use Rattle.std.specs.Option.{option_map}
@@ -87,22 +87,3 @@ length-by_number n (y ∷ ys) h =
 pub sum_by-same : {X : Type 0} → (f g : X → ℕ) (xs : List X) → ((x : X) → f x ≡ g x) → sum_by f xs ≡ sum_by g xs
 sum_by-same f g [] h = refl
 sum_by-same f g (x ∷ xs) h = omega (arith, sum_by-cons f x xs, sum_by-cons g x xs, h x, sum_by-same f g xs h)
-
--- a count of the elements that a filter keeps: all that are of a kind, or none
-kept_cases : {X : Type 0} → (b c : Bool) (p : X → Bool) (x : X) (fs : List X) (n : ℕ) → p x ≡ c → (c ≡ true → b ≡ true) → count_by p fs ≡ n → count_by p (cond b (x ∷ fs) fs) ≡ cond c 1 0 + n
-kept_cases true c p x fs n is h e = omega (arith, sum_by-cons (λ y. cond {A = ℕ} (p y) 1 0) x fs, ap (λ b. cond {A = ℕ} b 1 0) is, e)
-kept_cases false true p x fs n is h e = absurd (let g : false ≡ true = h refl in cc)
-kept_cases false false p x fs n is h e = omega (arith, e)
-
-pub count_by-kept : {X : Type 0} → (p q : X → Bool) (xs : List X) → ((x : X) → p x ≡ true → q x ≡ true) → count_by p (filter q xs) ≡ count_by p xs
-count_by-kept p q [] h = refl
-count_by-kept p q (x ∷ xs) h =
-    kept_cases (q x) (p x) p x (filter q xs) (count_by p xs) refl (h x) (count_by-kept p q xs h) ∙ sym (sum_by-cons (λ y. cond {A = ℕ} (p y) 1 0) x xs)
-
-dropped_cases : {X : Type 0} → (b : Bool) (p : X → Bool) (x : X) (fs : List X) → (b ≡ true → p x ≡ false) → count_by p fs ≡ 0 → count_by p (cond b (x ∷ fs) fs) ≡ 0
-dropped_cases true p x fs h e = omega (arith, sum_by-cons (λ y. cond {A = ℕ} (p y) 1 0) x fs, ap (λ b. cond {A = ℕ} b 1 0) (h refl), e)
-dropped_cases false p x fs h e = e
-
-pub count_by-dropped : {X : Type 0} → (p q : X → Bool) (xs : List X) → ((x : X) → q x ≡ true → p x ≡ false) → count_by p (filter q xs) ≡ 0
-count_by-dropped p q [] h = refl
-count_by-dropped p q (x ∷ xs) h = dropped_cases (q x) p x (filter q xs) (h x) (count_by-dropped p q xs h)

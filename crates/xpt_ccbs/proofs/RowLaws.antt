@@ -1,23 +1,23 @@
 -- what one event more makes of each CCB's row
-use Rattle.std.proofs.Common.{◌≡◌, ◌≢◌, ℕ, ◌+◌, ◌-◌, ◌^◌, ◌<◌, ◌≤◌, Bool, true, false, cond, List, [], ◌∷◌, ◌++◌, length, set, map, get_or, refl, sym, ap, ◌∙◌, arith, Option, Some, None, inl, inr, add-zero, zero-add, length-append, length-set, slice_get}
-use Rattle.std.specs.Prelude.{◌==◌, ◌&&◌, ◌||◌, not, option_to_list, All}
-use Rattle.std.specs.List.{list_any}
+use Rattle.std.proofs.Common.{◌≡◌, ℕ, ◌+◌, ◌-◌, ◌^◌, ◌<◌, ◌≤◌, Bool, true, false, cond, List, [], ◌∷◌, ◌++◌, length, set, map, get_or, refl, sym, ap, ◌∙◌, arith, Option, Some, None, inl, inr, add-zero, zero-add, length-append, length-set, slice_get}
+use Rattle.std.specs.Prelude.{◌&&◌, not, option_to_list, All}
 use Rattle.std.specs.Option.{option_map}
-use Rattle.std.proofs.lemmas.Bool.{cases_lt, cases_eq, or_parts, and_left, or_from, ne_eqb}
+use Rattle.std.proofs.lemmas.Bool.{cases_lt, cases_eq}
 use Rattle.std.proofs.lemmas.Option.{slice_get-get_or, slice_get_past}
 use Rattle.std.proofs.lemmas.List.{get_or_past, get_or-set_same, get_or-set_other, get_or_append_left, get_or_push, ext_get_or, length_push}
 use Rattle.std.proofs.lemmas.List.Elements.{All-from_get_or}
 use Rattle.std.proofs.lemmas.List.FromFn.{length-map-range_with_len, get_or-map-range_with_len}
 use Rattle.std.proofs.lemmas.List.Sums.{count_by-le-length}
 use Rattle.cam_types.specs.declared.outcome.Outcome.{Outcome}
-use Rattle.event_log.specs.Event.{is_send_of, is_done_of, is_send_or_done_of, is_requeue_of, is_finish_of, concerns, ccb_of, outcome_of, is_erring, ends, submission_of}
+use Rattle.event_log.specs.Event.{is_send_of, is_done_of, is_send_or_done_of, is_requeue_of, concerns, ccb_of, outcome_of, is_erring, ends, submission_of}
 use Rattle.event_log.specs.Counts.{submission, submissions, commands, ccbs}
 use Rattle.event_log.specs.declared.event.Event.{Event}
-use Rattle.event_log.specs.declared.event.Event.TheVariants.{Submit, Send, Done, Requeue, Finish, FreezeDev, ReleaseDev, FreezeSim, ReleaseSim, Adjust, Tick}
 use Rattle.event_log.specs.declared.submission.Submission.{Submission}
 use Rattle.event_log.proofs.Laws.{submissions-push}
 use Rattle.event_log.proofs.StateLaws.{is_in_flight-push, is_recovering-push}
-use Rattle.event_log.proofs.CcbLaws.{last_result-push, counted_requeues-push, requeues-push, ends-push, few_counted}
+use Rattle.event_log.proofs.CcbLaws.{last_result-push, counted_requeues-push, requeues-push, not_ended-push, few_counted}
+use Rattle.event_log.proofs.ConcernLaws.{apart, concerns-other, concerns-none, submit_concerns_none}
+use Rattle.event_log.proofs.TotalLaws.{commands-submit, commands-none}
 use Rattle.xpt_ccbs.specs.declared.ccb.Ccb.{Ccb}
 use Rattle.xpt_ccbs.specs.Ccbs.{is_alive, ccb_by, alive_ccb, rows}
 use Rattle.xpt_ccbs.specs.Change.{fresh, counts, next_ccb, next_row, told_at, IsSmall}
@@ -25,34 +25,6 @@ use Rattle.xpt_ccbs.specs.Change.{fresh, counts, next_ccb, next_row, told_at, Is
 -- the CCB behind one event more
 pub ccb_by-push : (es : List Event) (e : Event) (n : ℕ) (s : Submission) → ccb_by (es ++ e ∷ []) n s ≡ next_ccb n e (ccb_by es n s)
 ccb_by-push es e n s = rw (is_in_flight-push es e n, is_recovering-push es e n, last_result-push es e n, counted_requeues-push es e n, requeues-push es e n) refl
-
-not_or : (a b : Bool) → not (a || b) ≡ (not a && not b)
-not_or true b = refl
-not_or false b = refl
-
-pub is_alive-push : (es : List Event) (e : Event) (n : ℕ) → is_alive (es ++ e ∷ []) n ≡ (is_alive es n && not (ends n e))
-is_alive-push es e n = ap not (ends-push es e n) ∙ not_or (list_any (ends n) es) (ends n e)
-
--- an event changes no CCB that it doesn't concern
-pub record IsApart (n : ℕ) (e : Event) : Type 0 where
-  pub send_or_done : is_send_or_done_of n e ≡ false
-  pub done : is_done_of n e ≡ false
-  pub requeue : is_requeue_of n e ≡ false
-  pub ends : ends n e ≡ false
-  pub send : is_send_of n e ≡ false
-
-pub apart : (n : ℕ) (e : Event) → concerns n e ≡ false → IsApart n e
-apart n e h =
-    let one = or_parts (is_send_or_done_of n e || is_requeue_of n e) (is_finish_of n e) h in
-    let two = or_parts (is_send_or_done_of n e) (is_requeue_of n e) one.0 in
-    let three = or_parts (is_send_of n e) (is_done_of n e) two.0 in
-    record {
-      send_or_done = two.0;
-      done = three.1;
-      requeue = two.1;
-      ends = or_from _ _ (and_left (is_done_of n e) (not (is_erring e)) three.1) one.1;
-      send = three.0;
-    }
 
 tests_other : (r : Ccb) (a b d q : Bool) (s f : Bool) (o : Option Outcome) → a ≡ false → b ≡ false → d ≡ false → q ≡ false →
     ◌≡◌ {A = Ccb} (record {
@@ -73,59 +45,6 @@ next_ccb-other n e r h =
 next_row-other : (n : ℕ) (e : Event) (o : Option Ccb) → concerns n e ≡ false → next_row n e o ≡ o
 next_row-other n e None h = refl
 next_row-other n e (Some r) h = let a = apart n e h in rw (a.ends) (ap Some (next_ccb-other n e r h))
-
--- the CCB that an event concerns
-none_of : (c n : ℕ) → n ≢ c → (c == n) ≡ false
-none_of c n ne = ne_eqb c n (λ e. ne (sym e))
-
-pub concerns-other : (e : Event) (c n : ℕ) → ccb_of e ≡ Some c → n ≢ c → concerns n e ≡ false
-concerns-other (Send lane ccb) c n is ne = let same : ccb ≡ c = cc in rw (none_of ccb n (λ e. ne (e ∙ same))) refl
-concerns-other (Done ccb outcome) c n is ne = let same : ccb ≡ c = cc in rw (none_of ccb n (λ e. ne (e ∙ same))) refl
-concerns-other (Requeue ccb) c n is ne = let same : ccb ≡ c = cc in rw (none_of ccb n (λ e. ne (e ∙ same))) refl
-concerns-other (Finish ccb) c n is ne = let same : ccb ≡ c = cc in rw (none_of ccb n (λ e. ne (e ∙ same))) refl
-concerns-other (Submit driver device priority retries flags) c n is ne = refl
-concerns-other (FreezeDev device count) c n is ne = refl
-concerns-other (ReleaseDev device count) c n is ne = refl
-concerns-other (FreezeSim sim count) c n is ne = refl
-concerns-other (ReleaseSim sim) c n is ne = refl
-concerns-other (Adjust device openings) c n is ne = refl
-concerns-other Tick c n is ne = refl
-
-pub concerns-none : (e : Event) (n : ℕ) → ccb_of e ≡ None → concerns n e ≡ false
-concerns-none (Send lane ccb) n is = absurd (cc)
-concerns-none (Done ccb outcome) n is = absurd (cc)
-concerns-none (Requeue ccb) n is = absurd (cc)
-concerns-none (Finish ccb) n is = absurd (cc)
-concerns-none (Submit driver device priority retries flags) n is = refl
-concerns-none (FreezeDev device count) n is = refl
-concerns-none (ReleaseDev device count) n is = refl
-concerns-none (FreezeSim sim count) n is = refl
-concerns-none (ReleaseSim sim) n is = refl
-concerns-none (Adjust device openings) n is = refl
-concerns-none Tick n is = refl
-
-pub submit_concerns_none : (e : Event) (s : Submission) → submission_of e ≡ Some s → ccb_of e ≡ None
-submit_concerns_none (Submit driver device priority retries flags) s e = refl
-submit_concerns_none (Send lane ccb) s e = absurd (cc)
-submit_concerns_none (Done ccb outcome) s e = absurd (cc)
-submit_concerns_none (Requeue ccb) s e = absurd (cc)
-submit_concerns_none (Finish ccb) s e = absurd (cc)
-submit_concerns_none (FreezeDev device count) s e = refl
-submit_concerns_none (ReleaseDev device count) s e = refl
-submit_concerns_none (FreezeSim sim count) s e = refl
-submit_concerns_none (ReleaseSim sim) s e = refl
-submit_concerns_none (Adjust device openings) s e = refl
-submit_concerns_none Tick s e = refl
-
--- how many there are
-pub commands-push : (es : List Event) (e : Event) → commands (es ++ e ∷ []) ≡ commands es + length (option_to_list (submission_of e))
-commands-push es e = ap length (submissions-push es e) ∙ length-append (submissions es) (option_to_list (submission_of e))
-
-pub commands-submit : (es : List Event) (e : Event) (s : Submission) → submission_of e ≡ Some s → commands (es ++ e ∷ []) ≡ commands es + 1
-commands-submit es e s is = commands-push es e ∙ ap (λ o. commands es + length (option_to_list o)) is
-
-pub commands-none : (es : List Event) (e : Event) → submission_of e ≡ None → commands (es ++ e ∷ []) ≡ commands es
-commands-none es e is = commands-push es e ∙ ap (λ o. commands es + length (option_to_list o)) is ∙ add-zero (commands es)
 
 -- what was submitted as each
 pub submission-past : (es : List Event) (n : ℕ) → commands es ≤ n → submission es n ≡ None
@@ -156,7 +75,7 @@ alive_cases false ended o n e es is = refl
 
 pub alive_ccb-push : (es : List Event) (e : Event) (n : ℕ) → n < commands es → alive_ccb (es ++ e ∷ []) n ≡ next_row n e (alive_ccb es n)
 unfolding alive_ccb
-alive_ccb-push es e n lt = rw (is_alive-push es e n, submission-push es e n lt) (alive_cases (is_alive es n) (ends n e) (submission es n) n e es refl)
+alive_ccb-push es e n lt = rw (not_ended-push es e n, submission-push es e n lt) (alive_cases (is_alive es n) (ends n e) (submission es n) n e es refl)
 
 pub alive_ccb-past : (es : List Event) (n : ℕ) → commands es ≤ n → alive_ccb es n ≡ None
 unfolding alive_ccb
@@ -212,7 +131,7 @@ born : (es : List Event) (e : Event) (s : Submission) → submission_of e ≡ So
 unfolding alive_ccb
 born es e s is blank_row lives =
     let none = concerns-none e (commands es) (submit_concerns_none e s is) in
-    rw (is_alive-push es e (commands es), (apart (commands es) e none).ends, lives, submission-new es e s is)
+    rw (not_ended-push es e (commands es), (apart (commands es) e none).ends, lives, submission-new es e s is)
     (ap Some (ccb_by-push es e (commands es) s ∙ next_ccb-other (commands es) e (ccb_by es (commands es) s) none ∙ blank_row))
 
 -- a submit puts the new row behind the others

@@ -3,9 +3,8 @@ pub mod DeviceLaws
 pub mod EntryLemmas
 pub mod FieldLaws
 pub mod OrderLaws
+pub mod PlaceLemmas
 pub mod RoomLemmas
 pub mod SoundLemmas
-pub mod TellLemmas
 pub mod TransportLemmas
-pub mod WiderLemmas
 pub mod TouchLaws

@@ -1,13 +1,9 @@
 -- what the devices' queues have room for, and what they hold
-use Rattle.std.proofs.Common.{◌≡◌, ◌≢◌, ℕ, zero, suc, ◌+◌, ◌<◌, ◌≤◌, Bool, true, false, cond, List, [], ◌∷◌, length, refl, sym, ap, subst, ◌∙◌, arith, Some, inl, inr, map, zero-add}
-use Rattle.std.specs.Prelude.{not, ◌==◌, ◌&&◌, ◌||◌, nat_lt, nat_le, filter, fold, count_by, slice_get, slice_set, is_some, All}
-use Rattle.std.specs.List.{list_any, range_with_len}
-use Rattle.std.specs.Option.{option_map_or}
-use Rattle.std.proofs.lemmas.Bool.{cases_lt}
+use Rattle.std.proofs.Common.{◌≡◌, ℕ, ◌+◌, ◌<◌, ◌≤◌, Bool, true, false, cond, List, [], ◌∷◌, length, refl, ap, ◌∙◌, arith, Some, inl, inr, map}
+use Rattle.std.specs.Prelude.{not, ◌==◌, ◌&&◌, ◌||◌, nat_lt, nat_le, filter, fold, count_by, slice_get, is_some}
+use Rattle.std.specs.List.{list_any}
 use Rattle.std.proofs.lemmas.Bool.Decides.{nat_tests}
 use Rattle.std.proofs.lemmas.List.{length-map}
-use Rattle.std.proofs.lemmas.List.Elements.{All-nil, All-cons}
-use Rattle.std.proofs.lemmas.List.FromFn.{length-range_with_len}
 use Rattle.std.proofs.lemmas.List.Sums.{sum_by-cons, length-filter, count_by-le-length}
 use Rattle.std.proofs.lemmas.Option.{slice_get_cases}
 use Rattle.cam_types.specs.Lists.{is_less}
@@ -21,61 +17,11 @@ use Rattle.event_log.specs.declared.event.Event.{Event}
 use Rattle.event_log.specs.declared.submission.Submission.{Submission}
 use Rattle.event_log.specs.declared.passage.Passage.{Passage}
 use Rattle.event_log.proofs.QueueLaws.{first-in_order}
-use Rattle.event_log.proofs.StateLaws.{map-range_same, map-range_but, slice_get-range, slice_get-range_past}
 use Rattle.dev_queue.specs.Device.{Device, held_count}
 use Rattle.dev_queue.specs.Device as dev
 use Rattle.event_log.proofs.TotalLaws.{few_waiting}
 use Rattle.xpt_devices.specs.Device.{entry, in_order, is_later, later, device_state}
-use Rattle.xpt_devices.specs.Told.{at_device, HasAt}
 use Rattle.xpt_devices.proofs.FieldLaws.{is_stay_at, sent_now}
-
--- a function over a range that changes at one place
-hit_cases : (change : Device → Device) (q q' : Device) (b : Bool) → b ≡ true → q' ≡ cond b (change q) q → q' ≡ change q
-hit_cases change q q' true e h = h
-hit_cases change q q' false e h = absurd (cc)
-
-miss_cases : (change : Device → Device) (q q' : Device) (b : Bool) → b ≡ false → q' ≡ cond b (change q) q → q' ≡ q
-miss_cases change q q' true e h = absurd (cc)
-miss_cases change q q' false e h = h
-
-same_number : (k : ℕ) → (k == k) ≡ true
-same_number k = grind (arith, nat_tests)
-
-other_number : (a b : ℕ) → b ≢ a → (a == b) ≡ false
-other_number a b ne = grind (arith, nat_tests)
-
-module _ (f g : ℕ → Device) (n : ℕ) where
-  pub at_range : (target : ℕ) (change : Device → Device) → ((d : ℕ) → g d ≡ cond (target == d) (change (f d)) (f d)) → map g (range_with_len 0 n) ≡ at_device target change (map f (range_with_len 0 n))
-  at_range target change h = elim (cases_lt target n) [
-    | inl lt ↦
-        let at : 0 + target ≡ target = zero-add target in
-        let whole : map g (range_with_len 0 n) ≡ slice_set (map f (range_with_len 0 n)) target (g (0 + target)) =
-        map-range_but f g 0 n target (λ k ne. miss_cases change (f k) (g k) (target == k) (other_number target k (λ i. ne (i ∙ sym at))) (h k)) in
-        let made : g (0 + target) ≡ change (f (0 + target)) = rw at (hit_cases change (f target) (g target) (target == target) (same_number target) (h target)) in
-        whole ∙ ap (slice_set (map f (range_with_len 0 n)) target) made
-        ∙ sym (ap (λ o. option_map_or (λ q. slice_set (map f (range_with_len 0 n)) target (change q)) o (map f (range_with_len 0 n))) (slice_get-range f 0 n target lt))
-    | inr le ↦
-        map-range_same f g 0 n (λ k low lt. miss_cases change (f k) (g k) (target == k) (other_number target k (λ i. omega arith)) (h k))
-        ∙ sym (ap (λ o. option_map_or (λ q. slice_set (map f (range_with_len 0 n)) target (change q)) o (map f (range_with_len 0 n))) (slice_get-range_past f 0 n target le))
-  ]
-
-  pub all_range : (change : Device → Device) → ((d : ℕ) → g d ≡ change (f d)) → (a m : ℕ) → map g (range_with_len a m) ≡ map change (map f (range_with_len a m))
-  all_range change h a zero = refl
-  all_range change h a (suc m) = rw (h a, all_range change h (a + 1) m) refl
-
-module _ (P : Device → Type 0) (f : ℕ → Device) where
-  pub has_range : (n d : ℕ) → d < n → P (f d) → HasAt P (map f (range_with_len 0 n)) d
-  has_range n d lt h = record {
-    there = omega (arith, length-map (range_with_len 0 n) f, length-range_with_len 0 n);
-    so = λ q e.
-        let at : Some (f (0 + d)) ≡ Some q = sym (slice_get-range f 0 n d lt) ∙ e in
-        let same : f (0 + d) ≡ q = cc in
-        subst P (ap f (sym (zero-add d)) ∙ same) h;
-  }
-
-  pub All-range : ((d : ℕ) → P (f d)) → (a m : ℕ) → All P (map f (range_with_len a m))
-  All-range h a zero = All-nil P
-  All-range h a (suc m) = All-cons P (f a) (map f (range_with_len (a + 1) m)) (h a) (All-range h (a + 1) m)
 
 -- how many stays wait
 length_cases : (y x : Passage) (ys rest : List Passage) (b : Bool) → length rest ≡ length ys + 1 → length (cond b (x ∷ y ∷ ys) (y ∷ rest)) ≡ length (y ∷ ys) + 1

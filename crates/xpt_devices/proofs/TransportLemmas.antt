@@ -28,10 +28,11 @@ use Rattle.event_log.proofs.ShareLaws.{error_count-share, some-share}
 use Rattle.cam_event.proofs.StandLemmas.{AreStates, states-legal, asks-send, asks-done, asks-requeue, asks-finish}
 use Rattle.cam_event.proofs.FirstLemmas.{IsFirst, first-legal}
 use Rattle.xpt_devices.specs.Device.{device_state}
-use Rattle.xpt_devices.specs.Told.{at_device, told, told_ccb, CanTell, HasAt, HasCcb, HasRoom, HasError, with_stay, with_send, with_done, with_requeue, with_finish, with_freezes, less_freezes, with_openings, in_next_round}
+use Rattle.xpt_devices.specs.Told.{at_place, told, told_ccb, CanTell, HasAt, HasCcb, HasRoom, HasError, with_stay, with_send, with_done, with_requeue, with_finish, with_freezes, less_freezes, with_openings, in_next_round}
 use Rattle.cam_event.proofs.CoverLemmas.{AreCovered, covered-legal}
 use Rattle.xpt_devices.proofs.DeviceLaws.{state-submit, state-send, state-done, state-requeue, state-finish, state-freeze, state-release, state-adjust, state-freeze_sim, state-release_sim, state-tick}
-use Rattle.xpt_devices.proofs.RoomLemmas.{at_range, all_range, has_range, All-range, held-few, entered-few, none-flying, submitted, ready-state}
+use Rattle.xpt_devices.proofs.PlaceLemmas.{at_range, all_range, has_range, All-range}
+use Rattle.xpt_devices.proofs.RoomLemmas.{held-few, entered-few, none-flying, submitted, ready-state}
 
 -- what is known of the CCB that a legal event names
 pub record IsCcb (c : Topology) (es : List Event) (ccb : ℕ) (s : Submission) : Type 0 where
@@ -39,7 +40,7 @@ pub record IsCcb (c : Topology) (es : List Event) (ccb : ℕ) (s : Submission) :
   pub device : s.device < length c.devices
   pub priority : s.priority ≤ MOST_PRIORITY
 
-ccb_known : (rules : Rules) (c : Topology) (es : List Event) (ccb : ℕ) → is_legal rules c es ≡ true → ccb < commands es → (s : Submission) × IsCcb c es ccb s
+pub ccb_known : (rules : Rules) (c : Topology) (es : List Event) (ccb : ℕ) → is_legal rules c es ≡ true → ccb < commands es → (s : Submission) × IsCcb c es ccb s
 ccb_known rules c es ccb legal lt =
     let one = submitted es ccb lt in
     let s = one.0 in
@@ -49,8 +50,8 @@ ccb_known rules c es ccb legal lt =
     (s, record { is = one.1; device = ltb-true _ _ three.0; priority = leb-true _ _ three.1 })
 
 -- a change of the CCB's device is one of that device
-ccb_change : (es : List Event) (ccb : ℕ) (s : Submission) (change : Submission → Device → Device) (qs : List Device) → submission es ccb ≡ Some s → told_ccb (submissions es) ccb change qs ≡ at_device s.device (change s) qs
-ccb_change es ccb s change qs is = ap (λ o. option_map_or (λ (x : Submission). at_device x.device (change x) qs) o qs) is
+ccb_change : (es : List Event) (ccb : ℕ) (s : Submission) (change : Submission → Device → Device) (qs : List Device) → submission es ccb ≡ Some s → told_ccb (submissions es) ccb change qs ≡ at_place s.device (change s) qs
+ccb_change es ccb s change qs is = ap (λ o. option_map_or (λ (x : Submission). at_place x.device (change x) qs) o qs) is
 
 map_same : (qs : List Device) → map (λ (q : Device). q) qs ≡ qs
 map_same [] = refl
@@ -68,7 +69,7 @@ module _ (rules : Rules) (c : Topology) (n : ℕ) (es : List Event) (legal : is_
 
   -- the queues behind an event that changes one device
   changed : (e : Event) (target : ℕ) (change : Device → Device) → ((d : ℕ) → device_state c n (es ++ e ∷ []) d ≡ cond (target == d) (change (device_state c n es d)) (device_state c n es d)) →
-      map (device_state c n (es ++ e ∷ [])) (devices c) ≡ at_device target change queues
+      map (device_state c n (es ++ e ∷ [])) (devices c) ≡ at_place target change queues
   changed e target change h = at_range (device_state c n es) (device_state c n (es ++ e ∷ [])) (length c.devices) target change h
 
   unchanged : (e : Event) → ((d : ℕ) → device_state c n (es ++ e ∷ []) d ≡ device_state c n es d) → map (device_state c n (es ++ e ∷ [])) (devices c) ≡ queues

@@ -9,9 +9,9 @@ use Rattle.event_log.specs.declared.event.Event.{Event}
 use Rattle.event_log.specs.declared.event.Event.TheVariants.{Submit, Send, Done, Requeue, Finish, FreezeDev, ReleaseDev, Adjust, Tick}
 use Rattle.event_log.specs.declared.submission.Submission.{Submission}
 
--- the queues, of which the one of this number changes
-abbrev pub at_device : ℕ → (Device → Device) → List Device → List Device
-at_device d change queues = option_map_or (λ q. slice_set queues d (change q)) (slice_get queues d) queues
+-- the list, of which the element of this number changes
+abbrev pub at_place : {X : Type 0} → ℕ → (X → X) → List X → List X
+at_place n change xs = option_map_or (λ x. slice_set xs n (change x)) (slice_get xs n) xs
 
 -- one more stay in the queue
 abbrev pub with_stay : Waiting → Device → Device
@@ -61,28 +61,28 @@ in_next_round q = record q { waiting = enter_all q.waiting q.later; later = []; 
 -- what an event makes of the queue of its CCB's device
 abbrev pub told_ccb : List Submission → ℕ → (Submission → Device → Device) → List Device → List Device
 told_ccb submissions ccb change queues =
-    option_map_or (λ (s : Submission). at_device s.device (change s) queues) (slice_get submissions ccb) queues
+    option_map_or (λ (s : Submission). at_place s.device (change s) queues) (slice_get submissions ccb) queues
 
 -- and of all queues, behind these submissions
 abbrev pub told : List Submission → Event → List Device → List Device
 told submissions (Submit driver device priority retries flags) queues =
-    at_device device (with_stay (record { ccb = length submissions; priority = priority })) queues
+    at_place device (with_stay (record { ccb = length submissions; priority = priority })) queues
 told submissions (Send lane ccb) queues = told_ccb submissions ccb (λ s. with_send s.flags.qfreeze) queues
 told submissions (Done ccb outcome) queues =
     told_ccb submissions ccb (λ s. with_done (is_erring (Done ccb outcome) && not s.flags.qfrzdis)) queues
 told submissions (Requeue ccb) queues =
     told_ccb submissions ccb (λ s. with_requeue (record { ccb = ccb; priority = s.priority }) (not s.flags.qfrzdis)) queues
 told submissions (Finish ccb) queues = told_ccb submissions ccb (λ s. with_finish (not s.flags.qfrzdis)) queues
-told submissions (FreezeDev device count) queues = at_device device (with_freezes count) queues
-told submissions (ReleaseDev device count) queues = at_device device (less_freezes count) queues
-told submissions (Adjust device openings) queues = at_device device (with_openings openings) queues
+told submissions (FreezeDev device count) queues = at_place device (with_freezes count) queues
+told submissions (ReleaseDev device count) queues = at_place device (less_freezes count) queues
+told submissions (Adjust device openings) queues = at_place device (with_openings openings) queues
 told submissions Tick queues = map in_next_round queues
 told submissions _ queues = queues
 
--- the device of this number is there, and its queue is so
-pub record HasAt (P : Device → Type 0) (queues : List Device) (d : ℕ) : Type 0 where
-  pub there : d < length queues
-  pub so : (q : Device) → slice_get queues d ≡ Some q → P q
+-- the element of this number is there, and is so
+pub record HasAt {X : Type 0} (P : X → Type 0) (xs : List X) (n : ℕ) : Type 0 where
+  pub there : n < length xs
+  pub so : (x : X) → slice_get xs n ≡ Some x → P x
 
 -- the CCB of this number was submitted, and so
 pub record HasCcb (P : Submission → Type 0) (submissions : List Submission) (ccb : ℕ) : Type 0 where

@@ -3,7 +3,7 @@ ghost use Rattle.std.specs.Prelude.{◌≡◌, ◌+◌, ◌<◌, ◌≤◌, ◌&
 ghost use Rattle.cam_types.specs.declared.priority.TheConstants.{MOST_PRIORITY};
 ghost use Rattle.dev_queue.specs.Device.{is_ready};
 ghost use Rattle.event_log.specs.Event.{is_erring};
-ghost use Rattle.xpt_devices.specs.Told.{at_device, with_stay, with_send, with_done, with_requeue, with_finish, with_freezes, less_freezes, with_openings, in_next_round, told, CanTell, HasAt, HasRoom, HasError};
+ghost use Rattle.xpt_devices.specs.Told.{at_place, with_stay, with_send, with_done, with_requeue, with_finish, with_freezes, less_freezes, with_openings, in_next_round, told, CanTell, HasAt, HasRoom, HasError};
 
 use cam_types::Priority;
 use dev_queue::DevQueue;
@@ -36,7 +36,7 @@ pub(crate) fn tell(queues: &mut Vec<DevQueue>, submissions: &[Submission], event
 fn insert(queues: &mut Vec<DevQueue>, device: u32, ccb: u32, priority: u32)
     requires has { HasAt HasRoom queues.old.items device }
     requires urgent { priority ≤ MOST_PRIORITY }
-    ensures { queues.new.items ≡ at_device device (with_stay (record { ccb = ccb; priority = priority })) queues.old.items }
+    ensures { queues.new.items ≡ at_place device (with_stay (record { ccb = ccb; priority = priority })) queues.old.items }
 {
     let queue = &mut queues[device as usize];
     put_in(queue, ccb, priority);
@@ -54,7 +54,7 @@ fn put_in(queue: &mut DevQueue, ccb: u32, priority: u32)
 // Sends the first of the CCB's device.
 fn send(queues: &mut Vec<DevQueue>, submission: Submission)
     requires { HasAt (λ q. is_ready q ≡ true) queues.old.items submission.device }
-    ensures { queues.new.items ≡ at_device submission.device (with_send submission.flags.qfreeze) queues.old.items }
+    ensures { queues.new.items ≡ at_place submission.device (with_send submission.flags.qfreeze) queues.old.items }
 {
     let queue = &mut queues[submission.device as usize];
     queue.send(submission.flags.qfreeze);
@@ -63,7 +63,7 @@ fn send(queues: &mut Vec<DevQueue>, submission: Submission)
 // Notes that the CCB has completed, by an error or not.
 fn done(queues: &mut Vec<DevQueue>, submission: Submission, errs: bool)
     requires { HasAt (λ q. 0 < q.in_flight) queues.old.items submission.device }
-    ensures { queues.new.items ≡ at_device submission.device (with_done (errs && not submission.flags.qfrzdis)) queues.old.items }
+    ensures { queues.new.items ≡ at_place submission.device (with_done (errs && not submission.flags.qfrzdis)) queues.old.items }
 {
     let freezes = freezes(errs, submission);
     let queue = &mut queues[submission.device as usize];
@@ -81,7 +81,7 @@ fn freezes(errs: bool, submission: Submission) -> bool
 fn requeue(queues: &mut Vec<DevQueue>, ccb: u32, submission: Submission)
     requires has { HasAt (λ q. HasRoom q × HasError (not submission.flags.qfrzdis) q) queues.old.items submission.device }
     requires urgent { submission.priority ≤ MOST_PRIORITY }
-    ensures { queues.new.items ≡ at_device submission.device (with_requeue (record { ccb = ccb; priority = submission.priority }) (not submission.flags.qfrzdis)) queues.old.items }
+    ensures { queues.new.items ≡ at_place submission.device (with_requeue (record { ccb = ccb; priority = submission.priority }) (not submission.flags.qfrzdis)) queues.old.items }
 {
     let queue = &mut queues[submission.device as usize];
     put_back(queue, ccb, submission);
@@ -101,7 +101,7 @@ fn put_back(queue: &mut DevQueue, ccb: u32, submission: Submission)
 // Takes the freeze of the CCB's error away.
 fn finish(queues: &mut Vec<DevQueue>, submission: Submission)
     requires { HasAt (HasError (not submission.flags.qfrzdis)) queues.old.items submission.device }
-    ensures { queues.new.items ≡ at_device submission.device (with_finish (not submission.flags.qfrzdis)) queues.old.items }
+    ensures { queues.new.items ≡ at_place submission.device (with_finish (not submission.flags.qfrzdis)) queues.old.items }
 {
     let queue = &mut queues[submission.device as usize];
     resolve(queue, !submission.flags.qfrzdis);
@@ -120,7 +120,7 @@ fn resolve(queue: &mut DevQueue, frozen: bool)
 // Adds callers' freezes of the device.
 fn freeze(queues: &mut Vec<DevQueue>, device: u32, count: u32)
     requires { HasAt (λ q. q.callers + count ≤ 65535) queues.old.items device }
-    ensures { queues.new.items ≡ at_device device (with_freezes count) queues.old.items }
+    ensures { queues.new.items ≡ at_place device (with_freezes count) queues.old.items }
 {
     let queue = &mut queues[device as usize];
     queue.freeze(count).unwrap();
@@ -129,7 +129,7 @@ fn freeze(queues: &mut Vec<DevQueue>, device: u32, count: u32)
 // Takes callers' freezes of the device away.
 fn release(queues: &mut Vec<DevQueue>, device: u32, count: u32)
     requires { HasAt (λ q. count ≤ q.callers) queues.old.items device }
-    ensures { queues.new.items ≡ at_device device (less_freezes count) queues.old.items }
+    ensures { queues.new.items ≡ at_place device (less_freezes count) queues.old.items }
 {
     let queue = &mut queues[device as usize];
     queue.release(count).unwrap();
@@ -138,7 +138,7 @@ fn release(queues: &mut Vec<DevQueue>, device: u32, count: u32)
 // Sets the device's openings from the next round on.
 fn adjust(queues: &mut Vec<DevQueue>, device: u32, openings: u32)
     requires { device < length queues.old.items }
-    ensures { queues.new.items ≡ at_device device (with_openings openings) queues.old.items }
+    ensures { queues.new.items ≡ at_place device (with_openings openings) queues.old.items }
 {
     let queue = &mut queues[device as usize];
     queue.adjust(openings);

@@ -2,7 +2,7 @@ use Rattle.std.proofs.Common.{ℕ, ◌≡◌, ◌<◌, ◌+◌, ◌∙◌, ap, a
 use Rattle.std.proofs.lemmas.List.{get_or_read}
 use Rattle.round_net.specs.Rows.{instance_of_rows}
 use Rattle.cost_plan.specs.Cells.{cell, stands, rounds_of}
-use Rattle.cost_plan.proofs.SumLemmas.{term-le-sum_below}
+use Rattle.round_net.proofs.SumLemmas.{term-le-sum_below}
 use Rattle.cost_plan.proofs.LoadLemmas.{part_load-le, IsDraft-put}
 use Rattle.cost_plan.proofs.draft.put.Goals as goal
 

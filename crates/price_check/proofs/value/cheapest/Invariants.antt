@@ -1,6 +1,6 @@
 use Rattle.std.proofs.Common.{◌≡◌, ◌≤◌, ◌-◌}
 use Rattle.std.specs.Prelude.{map, filter}
-use Rattle.round_net.specs.Sums.{count_up}
+use Rattle.std.specs.List.{range_with_len}
 use Rattle.round_net.specs.Rows.{instance_of_rows}
 use Rattle.round_net.specs.PriceRows.{pricing_of_rows}
 use Rattle.round_net.specs.Value.{priced, is_open}
@@ -12,6 +12,6 @@ invariant-loop-round l =
     let net = instance_of_rows l.net in
     let from = net.arrival l.stay in
     record {
-      least : l.least ≡ least_of (map (priced net (pricing_of_rows l.prices) l.stay) (filter (is_open net l.stay) (count_up from (l.round - from))));
+      least : l.least ≡ least_of (map (priced net (pricing_of_rows l.prices) l.stay) (filter (is_open net l.stay) (range_with_len from (l.round - from))));
       arrived : from ≤ l.round;
     }

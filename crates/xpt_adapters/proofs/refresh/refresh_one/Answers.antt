@@ -1,8 +1,9 @@
 use Rattle.std.proofs.Common.{refl, ap, subst, ◌∙◌}
 use Rattle.cam_types.specs.Topology.{Topology, IsConfig}
 use Rattle.sim_queue.specs.Adapter.{with_priority}
-use Rattle.xpt_adapters.specs.Told.{at_adapter, with_ready}
-use Rattle.xpt_adapters.proofs.PlaceLemmas.{written_at}
+use Rattle.xpt_adapters.specs.Told.{with_ready}
+use Rattle.xpt_devices.specs.Told.{at_place}
+use Rattle.xpt_devices.proofs.PlaceLemmas.{written_at}
 use Rattle.xpt_adapters.proofs.ReadyLemmas.{bus_read, bus_within, named-at}
 use Rattle.xpt_adapters.proofs.refresh.refresh_one.Goals as goal
 
@@ -27,4 +28,4 @@ returns c =
     let within = bus_within config sims c.args.device _ c.from.result (subst IsConfig c.config.ensures c.devices.ensures.kept) c.requires.there bus refl c.requires.adapters in
     written_at change sims c.from.result c.index_mut-sim.result.now c.set_ready.new.self within c.index_mut-sim.ensures.value
     (c.set_ready.ensures ∙ ap (λ p. record c.index_mut-sim.result.now { rows = with_priority c.args.device p c.index_mut-sim.result.now.rows }) c.ready_priority-priority.ensures)
-    ∙ ap (λ n. at_adapter n change sims) bus
+    ∙ ap (λ n. at_place n change sims) bus

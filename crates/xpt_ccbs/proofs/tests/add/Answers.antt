@@ -6,7 +6,7 @@ use Rattle.event_log.specs.Counts.{alive}
 use Rattle.cam_event.specs.Legal.{rules_of, is_legal_event}
 use Rattle.cam_event.specs.Past.{Past}
 use Rattle.xpt_ccbs.specs.Book.{IsBookOf}
-use Rattle.xpt_ccbs.proofs.HistoryLemmas.{legal_most}
+use Rattle.cam_event.proofs.WiderLemmas.{legal_most}
 use Rattle.xpt_ccbs.proofs.tests.add.Goals as goal
 
 pub append-requires : goal.append-requires

@@ -1,5 +1,5 @@
 use Rattle.xpt_devices.specs.Told.{HasRoom}
-use Rattle.xpt_devices.proofs.TellLemmas.{has_at, written_at}
+use Rattle.xpt_devices.proofs.PlaceLemmas.{has_at, written_at}
 use Rattle.xpt_devices.proofs.tell.insert.Goals as goal
 
 pub put_in-requires-clause-has : goal.put_in-requires-clause-has

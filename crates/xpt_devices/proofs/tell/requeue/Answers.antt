@@ -1,6 +1,6 @@
 use Rattle.std.specs.Prelude.{not}
 use Rattle.xpt_devices.specs.Told.{HasRoom, HasError}
-use Rattle.xpt_devices.proofs.TellLemmas.{has_at, written_at}
+use Rattle.xpt_devices.proofs.PlaceLemmas.{has_at, written_at}
 use Rattle.xpt_devices.proofs.tell.requeue.Goals as goal
 
 pub put_back-requires-clause-has : goal.put_back-requires-clause-has

@@ -4,7 +4,7 @@ use Rattle.cam_types.specs.Bounds.{Bounds}
 use Rattle.event_log.specs.declared.event.Event.{Event}
 use Rattle.std.specs.Prelude.{List}
 use Rattle.cam_event.specs.Legal.{history_rules, rules_of, is_legal_event}
-use Rattle.xpt_devices.proofs.WiderLemmas.{wider_legal}
+use Rattle.cam_event.proofs.WiderLemmas.{legal_most, few_alive}
 use Rattle.xpt_devices.proofs.tests.append.Goals as goal
 
 pub append-requires : goal.append-requires
@@ -14,4 +14,4 @@ append-requires g c =
     let taken : is_legal_event history_rules d.config (d.events, c.args.event.now) ≡ true =
     ap (λ (t : Topology). is_legal_event history_rules t (d.events, c.args.event.now)) (sym c.requires.config)
     ∙ ap (λ (es : List Event). is_legal_event history_rules h.config (es, c.args.event.now)) (sym c.requires.events) ∙ c.in-Ok.ensures.legal in
-    record { legal = subst (λ (b : Bounds). is_legal_event (rules_of b) d.config (d.events, c.args.event.now) ≡ true) (sym c.requires.limits) (wider_legal d.config d.events c.args.event.now (omega arith) taken) }
+    record { legal = subst (λ (b : Bounds). is_legal_event (rules_of b) d.config (d.events, c.args.event.now) ≡ true) (sym c.requires.limits) (legal_most d.config d.events c.args.event.now (few_alive d.events (omega arith)) taken) }

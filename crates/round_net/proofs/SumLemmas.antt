@@ -1,12 +1,17 @@
--- Sums over ranges of numbers.
-use Rattle.std.proofs.Common.{◌≡◌, ◌≢◌, ℕ, zero, suc, ◌+◌, ◌<◌, ◌≤◌, List, length, get_or, set, refl, sym, ap, ◌∙◌, inl, inr, arith, add-one}
+-- sums over ranges of numbers
+use Rattle.std.proofs.Common.{◌≡◌, ◌≢◌, ℕ, zero, suc, ◌+◌, ◌*◌, ◌<◌, ◌≤◌, List, length, get_or, set, refl, sym, ap, ◌∙◌, inl, inr, arith, add-one}
 use Rattle.std.proofs.lemmas.Bool.{cases_eq}
 use Rattle.std.proofs.lemmas.List.{get_or-set_same, get_or-set_other}
-use Rattle.round_net.specs.Sums.{sum_below}
+use Rattle.round_net.specs.Sums.{sum_below, sum_to}
 
 -- one number more
 pub sum_below-more : (n : ℕ) (g : ℕ → ℕ) → sum_below (n + 1) g ≡ sum_below n g + g n
 sum_below-more n g = rw add-one refl
+
+-- the first number apart
+pub sum_below-shift : (n : ℕ) (g : ℕ → ℕ) → sum_below (suc n) g ≡ g 0 + sum_below n (λ i. g (suc i))
+sum_below-shift zero g = omega arith
+sum_below-shift (suc n) g = omega (arith, sum_below-shift n g)
 
 -- sums of equal, of larger, and of added terms
 pub sum_below-same : (n : ℕ) (g h : ℕ → ℕ) → ((i : ℕ) → i < n → g i ≡ h i) → sum_below n g ≡ sum_below n h
@@ -22,6 +27,14 @@ sum_below-le (suc n) g h e =
     let rest = sum_below-le n g h (λ i less. e i (omega arith)) in
     let here = e n (omega arith) in
     omega arith
+
+pub sum_to-le : (n : ℕ) (g h : ℕ → ℕ) → ((r : ℕ) → 1 ≤ r → r ≤ n → g r ≤ h r) → sum_to n g ≤ sum_to n h
+sum_to-le n g h e = sum_below-le n (λ i. g (i + 1)) (λ i. h (i + 1)) (λ i less. e (i + 1) (omega arith) (omega arith))
+
+-- a sum of terms that are at most so large
+pub sum_below-most : (n most : ℕ) (g : ℕ → ℕ) → ((i : ℕ) → i < n → g i ≤ most) → sum_below n g ≤ n * most
+sum_below-most zero most g h = omega arith
+sum_below-most (suc n) most g h = omega (arith, sum_below-most n most g (λ i lt. h i (omega (arith, lt))), h n (omega arith))
 
 pub sum_below-add : (n : ℕ) (g h : ℕ → ℕ) → sum_below n (λ i. g i + h i) ≡ sum_below n g + sum_below n h
 sum_below-add zero g h = refl

@@ -1,8 +1,8 @@
--- A sum over stays of what each one's cell is worth is a sum over cells of load times worth.
+-- a sum over stays of what each one's cell is worth is a sum over cells of load times worth
 use Rattle.std.proofs.Common.{◌≡◌, ◌≢◌, ℕ, zero, suc, ◌+◌, ◌-◌, ◌*◌, ◌<◌, ◌≤◌, ◌==◌, ◌&&◌, Bool, cond, refl, sym, ap, ◌∙◌, arith}
 use Rattle.std.proofs.lemmas.Bool.{eq-eqb, ne_eqb, and_from, and_left, and_right}
 use Rattle.round_net.specs.Sums.{sum_below, sum_to, count_below}
-use Rattle.cost_plan.proofs.SumLemmas.{sum_below-same, sum_below-add, sum_below-zero, sum_below-one}
+use Rattle.round_net.proofs.SumLemmas.{sum_below-same, sum_below-add, sum_below-zero, sum_below-one}
 
 -- how many of the first n are in a cell
 abbrev pub load_below : ℕ → (ℕ → ℕ) → (ℕ → ℕ) → ℕ → ℕ → ℕ

@@ -1,0 +1,72 @@
+-- which CCB an event concerns
+use Rattle.std.proofs.Common.{◌≡◌, ◌≢◌, ℕ, false, refl, sym, ◌∙◌, Some, None}
+use Rattle.std.specs.Prelude.{◌==◌, ◌||◌, not}
+use Rattle.std.proofs.lemmas.Bool.{or_parts, and_left, or_from, ne_eqb}
+use Rattle.event_log.specs.Event.{is_send_of, is_done_of, is_send_or_done_of, is_requeue_of, is_finish_of, concerns, ccb_of, is_erring, ends, submission_of}
+use Rattle.event_log.specs.declared.event.Event.{Event}
+use Rattle.event_log.specs.declared.event.Event.TheVariants.{Submit, Send, Done, Requeue, Finish, FreezeDev, ReleaseDev, FreezeSim, ReleaseSim, Adjust, Tick}
+use Rattle.event_log.specs.declared.submission.Submission.{Submission}
+
+-- an event changes no CCB that it doesn't concern
+pub record IsApart (n : ℕ) (e : Event) : Type 0 where
+  pub send_or_done : is_send_or_done_of n e ≡ false
+  pub done : is_done_of n e ≡ false
+  pub requeue : is_requeue_of n e ≡ false
+  pub ends : ends n e ≡ false
+  pub send : is_send_of n e ≡ false
+
+pub apart : (n : ℕ) (e : Event) → concerns n e ≡ false → IsApart n e
+apart n e h =
+    let one = or_parts (is_send_or_done_of n e || is_requeue_of n e) (is_finish_of n e) h in
+    let two = or_parts (is_send_or_done_of n e) (is_requeue_of n e) one.0 in
+    let three = or_parts (is_send_of n e) (is_done_of n e) two.0 in
+    record {
+      send_or_done = two.0;
+      done = three.1;
+      requeue = two.1;
+      ends = or_from _ _ (and_left (is_done_of n e) (not (is_erring e)) three.1) one.1;
+      send = three.0;
+    }
+
+-- the CCB that an event concerns
+none_of : (c n : ℕ) → n ≢ c → (c == n) ≡ false
+none_of c n ne = ne_eqb c n (λ e. ne (sym e))
+
+pub concerns-other : (e : Event) (c n : ℕ) → ccb_of e ≡ Some c → n ≢ c → concerns n e ≡ false
+concerns-other (Send lane ccb) c n is ne = let same : ccb ≡ c = cc in rw (none_of ccb n (λ e. ne (e ∙ same))) refl
+concerns-other (Done ccb outcome) c n is ne = let same : ccb ≡ c = cc in rw (none_of ccb n (λ e. ne (e ∙ same))) refl
+concerns-other (Requeue ccb) c n is ne = let same : ccb ≡ c = cc in rw (none_of ccb n (λ e. ne (e ∙ same))) refl
+concerns-other (Finish ccb) c n is ne = let same : ccb ≡ c = cc in rw (none_of ccb n (λ e. ne (e ∙ same))) refl
+concerns-other (Submit driver device priority retries flags) c n is ne = refl
+concerns-other (FreezeDev device count) c n is ne = refl
+concerns-other (ReleaseDev device count) c n is ne = refl
+concerns-other (FreezeSim sim count) c n is ne = refl
+concerns-other (ReleaseSim sim) c n is ne = refl
+concerns-other (Adjust device openings) c n is ne = refl
+concerns-other Tick c n is ne = refl
+
+pub concerns-none : (e : Event) (n : ℕ) → ccb_of e ≡ None → concerns n e ≡ false
+concerns-none (Send lane ccb) n is = absurd (cc)
+concerns-none (Done ccb outcome) n is = absurd (cc)
+concerns-none (Requeue ccb) n is = absurd (cc)
+concerns-none (Finish ccb) n is = absurd (cc)
+concerns-none (Submit driver device priority retries flags) n is = refl
+concerns-none (FreezeDev device count) n is = refl
+concerns-none (ReleaseDev device count) n is = refl
+concerns-none (FreezeSim sim count) n is = refl
+concerns-none (ReleaseSim sim) n is = refl
+concerns-none (Adjust device openings) n is = refl
+concerns-none Tick n is = refl
+
+pub submit_concerns_none : (e : Event) (s : Submission) → submission_of e ≡ Some s → ccb_of e ≡ None
+submit_concerns_none (Submit driver device priority retries flags) s e = refl
+submit_concerns_none (Send lane ccb) s e = absurd (cc)
+submit_concerns_none (Done ccb outcome) s e = absurd (cc)
+submit_concerns_none (Requeue ccb) s e = absurd (cc)
+submit_concerns_none (Finish ccb) s e = absurd (cc)
+submit_concerns_none (FreezeDev device count) s e = refl
+submit_concerns_none (ReleaseDev device count) s e = refl
+submit_concerns_none (FreezeSim sim count) s e = refl
+submit_concerns_none (ReleaseSim sim) s e = refl
+submit_concerns_none (Adjust device openings) s e = refl
+submit_concerns_none Tick s e = refl

@@ -63,7 +63,7 @@ const NO_FLAGS: Flags = Flags {
     qfrzdis: false,
 };
 
-// A transport of one disk of one opening, on one adapter of one, with one lane. All memory is taken here.
+// A transport of one disk of one opening, on one adapter of one, with one lane. The memory of all its calls is taken here.
 fn open(alloc: Global) -> Result<Xpt, Fault> {
     let disk = Device {
         bus: 0,

@@ -8,9 +8,6 @@ use std::io;
 use std::io::Read;
 use std::rt::Files;
 
-#[cfg(test)]
-mod tests;
-
 /// The traces, each named for what it shows.
 const TRACES: [&str; 36] = [
     "one-command",

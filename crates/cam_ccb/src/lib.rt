@@ -6,5 +6,3 @@ pub use table::{CcbFull, CcbTable, StaleCcb};
 
 mod handle;
 mod table;
-#[cfg(test)]
-mod tests;

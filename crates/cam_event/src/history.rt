@@ -125,6 +125,3 @@ impl History {
         self.log.live_cost()
     }
 }
-
-#[cfg(test)]
-mod tests;

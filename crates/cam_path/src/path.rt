@@ -88,6 +88,3 @@ fn push_number(text: &mut Vec<u8>, number: u16) -> Result<(), AllocError>
 }
 
 ghost use Rattle.std.specs.Prelude.{decimal};
-
-#[cfg(test)]
-mod tests;

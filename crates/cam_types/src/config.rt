@@ -342,6 +342,3 @@ fn config_fault(adapters: &[u32], devices: &[Device], lanes: &[u32]) -> Option<C
         .or(devices_fault(adapters.len(), devices))
         .or(lanes_fault(adapters.len(), lanes))
 }
-
-#[cfg(test)]
-mod tests;

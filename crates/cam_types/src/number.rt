@@ -61,6 +61,3 @@ fn value_of_digits(text: &[u8]) -> Option<u64>
     }
     Some(number)
 }
-
-#[cfg(test)]
-mod tests;

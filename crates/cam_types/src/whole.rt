@@ -83,6 +83,3 @@ pub fn write_whole<W: Write>(writer: &mut Watched<W>, text: &[u8]) -> Result<(),
     }
     Ok(())
 }
-
-#[cfg(test)]
-mod tests;

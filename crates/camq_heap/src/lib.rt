@@ -9,5 +9,3 @@ mod entry;
 mod find;
 mod heap;
 mod sift;
-#[cfg(test)]
-mod tests;

@@ -10,5 +10,3 @@ mod draft;
 mod pricing;
 mod relax;
 mod search;
-#[cfg(test)]
-mod tests;

@@ -10,6 +10,4 @@ pub use waiting::Waiting;
 mod device;
 mod enter;
 mod fault;
-#[cfg(test)]
-mod tests;
 mod waiting;

@@ -17,7 +17,5 @@ mod reader;
 mod report_fault;
 mod stay_lines;
 mod summary;
-#[cfg(test)]
-mod tests;
 mod value;
 mod verdict;

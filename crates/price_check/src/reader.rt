@@ -131,6 +131,3 @@ fn read_end(text: &[u8], at: usize) -> Result<(), ReportFault>
         Err(ReportFault::BadLine(line_of(text, next)))
     }
 }
-
-#[cfg(test)]
-mod tests;

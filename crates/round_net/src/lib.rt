@@ -20,7 +20,5 @@ mod prices;
 mod schedule;
 mod stay_row;
 mod stay_rows;
-#[cfg(test)]
-mod tests;
 mod waiting;
 mod walk;

@@ -61,35 +61,3 @@ fn byte_at(bytes: &[u8], i: usize) -> u8
 {
     bytes.get(i).copied().unwrap_or(0)
 }
-
-#[cfg(test)]
-mod tests {
-    use super::*;
-
-    #[test]
-    fn forms_of_sense(rt: HostRuntime) {
-        let unit_attention = Sense {
-            deferred: false,
-            key: 6,
-            asc: 0x29,
-            ascq: 0,
-        };
-        let deferred = Sense {
-            deferred: true,
-            key: 6,
-            asc: 0,
-            ascq: 0,
-        };
-        let medium_error = Sense {
-            deferred: false,
-            key: 3,
-            asc: 0,
-            ascq: 0,
-        };
-        assert_eq!(rt; read_sense(&[0x70, 0x00]), None);
-        assert_eq!(rt; read_sense(&[0x72, 0x06, 0x29, 0x00]), Some(unit_attention));
-        assert_eq!(rt; read_sense(&[0x71, 0x00, 0x06]), Some(deferred));
-        assert_eq!(rt; read_sense(&[0xf0, 0x00, 0x03]), Some(medium_error));
-        assert_eq!(rt; read_sense(&[0x7e, 0x00, 0x06]), None);
-    }
-}

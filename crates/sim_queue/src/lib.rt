@@ -10,5 +10,3 @@ mod fault;
 mod queue;
 mod row;
 mod rows;
-#[cfg(test)]
-mod tests;

@@ -47,6 +47,3 @@ fn read_text(alloc: Global, text: &[u8]) -> Result<History, TraceFault>
 pub fn one_history()
     ensures { (one other : Past) → IsHistory one → IsHistory other → records_of one ≡ records_of other → one ≡ other }
 {}
-
-#[cfg(test)]
-mod tests;

@@ -46,6 +46,3 @@ pub fn rows_in_order()
     ensures drivers { (m : Manuscript) → (driver : ℕ) → driver < 8 → get_or (scenario_of m).drivers driver [] ≡ steps_of m.config driver m.rows }
     ensures lanes { (m : Manuscript) → (lane : ℕ) → lane < length m.config.lanes → get_or (scenario_of m).answers lane [] ≡ answers_of m.config lane m.rows }
 {}
-
-#[cfg(test)]
-mod tests;

@@ -60,6 +60,3 @@ fn trace_text(alloc: Global, history: &History) -> Result<Vec<u8>, AllocError>
         Err(_) => Err(AllocError),
     }
 }
-
-#[cfg(test)]
-mod tests;

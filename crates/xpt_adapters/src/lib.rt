@@ -8,7 +8,5 @@ mod adapters;
 mod note;
 mod open;
 mod refresh;
-#[cfg(test)]
-mod tests;
 mod touched;
 mod turn;

@@ -7,5 +7,3 @@ pub use ccbs::Ccbs;
 mod ccb;
 mod ccbs;
 mod parts;
-#[cfg(test)]
-mod tests;

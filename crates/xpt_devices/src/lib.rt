@@ -8,5 +8,3 @@ mod counts;
 mod devices;
 mod open;
 mod tell;
-#[cfg(test)]
-mod tests;

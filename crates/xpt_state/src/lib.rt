@@ -20,6 +20,4 @@ mod laws;
 mod look;
 mod refusals;
 mod reply;
-#[cfg(test)]
-mod tests;
 mod xpt;

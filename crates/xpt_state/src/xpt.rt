@@ -139,6 +139,3 @@ impl Xpt {
         Ok(())
     }
 }
-
-#[cfg(test)]
-mod tests;

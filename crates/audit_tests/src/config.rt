@@ -1,0 +1,57 @@
+//! Configurations, limits and priorities.
+
+use cam_types::{Config, ConfigError, ConfigFault, Device, Limits, Priority};
+use std::test::Fail;
+use test_events::device;
+
+#[test]
+fn a_configuration_gives_back_its_items(rt: HostRuntime) -> Result<(), Fail> {
+    let devices = [device(0, 1, 2), device(1, 1, 2)];
+    let config = Config::new(rt.alloc(), &[4, 8], &devices, &[0, 1, 1])?;
+    let copy = config.copy(rt.alloc())?;
+    assert_eq!(rt; copy.adapters(), [4, 8].as_slice());
+    assert_eq!(rt; copy.devices(), devices.as_slice());
+    assert_eq!(rt; copy.lanes(), [0, 1, 1].as_slice());
+    Ok(())
+}
+
+#[test]
+fn the_first_rule_that_is_broken_is_named(rt: HostRuntime) {
+    let twice = [device(0, 1, 2), device(0, 1, 2)];
+    let cases: [(&[u32], &[Device], &[u32], ConfigFault); 5] = [
+        (&[], &[], &[], ConfigFault::NoAdapters),
+        (&[1, 1, 1, 1, 1], &[], &[], ConfigFault::TooMany),
+        (&[256], &twice, &[], ConfigFault::BadOpenings),
+        (&[1], &twice, &[1], ConfigFault::DoubleDevice),
+        (&[1], &[], &[1], ConfigFault::NoAdapter),
+    ];
+    for (adapters, devices, lanes, fault) in cases {
+        match Config::new(rt.alloc(), adapters, devices, lanes) {
+            Ok(_) => assert!(rt; false, "due {fault}"),
+            Err(given) => assert_eq!(rt; given, ConfigError::Fault(fault)),
+        }
+    }
+}
+
+#[test]
+fn limits_and_priorities_within_their_ranges(rt: HostRuntime) -> Result<(), Fail> {
+    let limits = Limits::new(1, 128, 2, 65535)?;
+    assert_eq!(rt;
+        (
+            limits.ccbs(),
+            limits.rounds(),
+            limits.stays(),
+            limits.events()
+        ),
+        (1, 128, 2, 65535)
+    );
+    assert!(rt; Limits::new(1, 129, 2, 3).is_err());
+    assert_eq!(rt; Limits::most().stays(), 1024);
+    let urgent = Priority::new(128)?;
+    assert_eq!(rt;
+        (urgent.number(), urgent.run_level(), urgent.weight()),
+        (128, 0, 16)
+    );
+    assert!(rt; Priority::new(1280).is_err());
+    Ok(())
+}

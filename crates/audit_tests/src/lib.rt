@@ -1,0 +1,34 @@
+//! Tests of what is read, written, planned and audited, by public calls. They stand here so that no crate is proved twice
+//! for its tests.
+#![tactic(auto)]
+
+#[cfg(test)]
+mod checker;
+#[cfg(test)]
+mod config;
+#[cfg(test)]
+mod failing_devices;
+#[cfg(test)]
+mod fakes;
+#[cfg(test)]
+mod histories;
+#[cfg(test)]
+mod net;
+#[cfg(test)]
+mod number;
+#[cfg(test)]
+mod path;
+#[cfg(test)]
+mod plan;
+#[cfg(test)]
+mod report;
+#[cfg(test)]
+mod script;
+#[cfg(test)]
+mod texts;
+#[cfg(test)]
+mod trace;
+#[cfg(test)]
+mod whole;
+#[cfg(test)]
+mod written_trace;

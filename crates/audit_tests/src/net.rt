@@ -7,6 +7,11 @@ use std::alloc::{AllocError, Global};
 use std::test::Fail;
 use test_events::{PLAIN, QFREEZE, adjust, done, freeze_sim, release, requeue, send, submit};
 
+fn net_of(alloc: Global, openings: u32, devices: u16, events: &[Event]) -> Result<Net, Fail> {
+    let history = history(alloc, openings, devices, events)?;
+    Ok(Net::of(alloc, &history)?)
+}
+
 fn dev_caps(alloc: Global, net: &Net, device: u32) -> Result<Vec<u32>, AllocError> {
     let mut caps = Vec::new(alloc);
     if device < net.devices() {
@@ -60,7 +65,7 @@ fn a_freeze_caps_its_round_at_what_was_sent(rt: HostRuntime) -> Result<(), Fail>
         release(0, 1),
         send(0, 1),
     ];
-    let net = Net::of(rt.alloc(), &history(rt.alloc(), 2, 1, &events)?)?;
+    let net = net_of(rt.alloc(), 2, 1, &events)?;
     assert_eq!(rt;
         dev_caps(rt.alloc(), &net, 0)?.as_slice(),
         [1, 1].as_slice()
@@ -89,7 +94,7 @@ fn a_requeued_stay_arrives_in_the_next_round(rt: HostRuntime) -> Result<(), Fail
         Event::Tick,
         send(0, 0),
     ];
-    let net = Net::of(rt.alloc(), &history(rt.alloc(), 1, 1, &events)?)?;
+    let net = net_of(rt.alloc(), 1, 1, &events)?;
     assert_eq!(rt; window(&net, 0), Some((1, 1, 4, 1)));
     assert_eq!(rt; window(&net, 1), Some((1, 3, 16, 2)));
     assert_eq!(rt; window(&net, 2), Some((2, 3, 4, 3)));
@@ -112,7 +117,7 @@ fn an_adjustment_counts_from_the_next_round(rt: HostRuntime) -> Result<(), Fail>
         Event::Tick,
         freeze_sim(0, 1),
     ];
-    let net = Net::of(rt.alloc(), &history(rt.alloc(), 3, 1, &events)?)?;
+    let net = net_of(rt.alloc(), 3, 1, &events)?;
     assert_eq!(rt;
         dev_caps(rt.alloc(), &net, 0)?.as_slice(),
         [3, 2].as_slice()
@@ -159,7 +164,7 @@ fn one_command(alloc: Global) -> Result<Net, Fail> {
         done(0, 1),
         Event::Tick,
     ];
-    Ok(Net::of(alloc, &history(alloc, 1, 1, &events)?)?)
+    net_of(alloc, 1, 1, &events)
 }
 
 #[test]

@@ -1,14 +1,12 @@
 //! Scripts, read.
 
 use crate::fakes::Pieces;
-use cam_event::{Event, Refusal};
-use cam_types::{ConfigFault, Limits, Outcome, SenseBytes, Watched};
+use cam_event::Event;
+use cam_types::{Limits, Outcome, SenseBytes, Watched};
 use std::alloc::Global;
 use std::test::Fail;
 use test_events::{PLAIN, adjust, freeze, freeze_sim, release, release_sim};
 use trace_file::{Script, Step, TraceFault, read_script};
-
-const HEADER: &str = "camscript1,a,b,c,d,e,f,g\n";
 
 // A header, an adapter, a device and a lane.
 const FRAME: &str = "camscript1,a,b,c,d,e,f,g\nsim,1,,,,,,\ndev,0,1,0,1,,,\nlane,0,,,,,,\n";

@@ -4,9 +4,7 @@ use cam_event::{Event, History, PushFault, Refusal, Stay};
 use cam_types::{Config, ConfigError};
 use std::alloc::Global;
 use std::test::Fail;
-use test_events::{
-    PLAIN, attention, device, done, finish, freeze, freeze_sim, release, requeue, send, submit,
-};
+use test_events::{PLAIN, attention, device, done, freeze, release, requeue, send, submit};
 
 // One adapter, one device with one opening and one lane.
 fn frame(alloc: Global, adapter_openings: u32) -> Result<History, ConfigError> {
@@ -14,28 +12,11 @@ fn frame(alloc: Global, adapter_openings: u32) -> Result<History, ConfigError> {
     Ok(History::new(alloc, config))
 }
 
-// Pushes the events up to the first that is refused, and says its place and why.
-fn first_refusal(
-    history: &mut History,
-    events: &[Event],
-) -> Result<Option<(usize, Refusal)>, PushFault> {
-    for (place, event) in events.iter().enumerate() {
-        match history.push(*event) {
-            Ok(()) => {}
-            Err(PushFault::Refused(refusal)) => return Ok(Some((place, refusal))),
-            Err(PushFault::OutOfMemory) => return Err(PushFault::OutOfMemory),
-        }
+fn push_all(history: &mut History, events: &[Event]) -> Result<(), PushFault> {
+    for event in events {
+        history.push(*event)?;
     }
-    Ok(None)
-}
-
-fn refusal_of(
-    alloc: Global,
-    adapter_openings: u32,
-    events: &[Event],
-) -> Result<Option<(usize, Refusal)>, Fail> {
-    let mut history = frame(alloc, adapter_openings)?;
-    Ok(first_refusal(&mut history, events)?)
+    Ok(())
 }
 
 #[test]
@@ -58,7 +39,7 @@ fn a_frozen_device_waits_at_a_cost(rt: HostRuntime) -> Result<(), Fail> {
         send(0, 1),
         done(1, 0x01),
     ];
-    assert_eq!(rt; first_refusal(&mut history, &events)?, None);
+    push_all(&mut history, &events)?;
     assert_eq!(rt; history.events(), events.as_slice());
     assert_eq!(rt; history.config().devices(), devices.as_slice());
     assert_eq!(rt;
@@ -86,101 +67,26 @@ fn a_requeued_command_is_a_stay_more(rt: HostRuntime) -> Result<(), Fail> {
         done(1, 0x01),
         Event::Tick,
     ];
-    assert_eq!(rt; first_refusal(&mut history, &events)?, None);
+    push_all(&mut history, &events)?;
     let requeued = Stay { ccb: 0, attempt: 1 };
     assert_eq!(rt;
         (history.unsent(), history.live_cost()),
         (Some(requeued), None)
     );
-    assert_eq!(rt; first_refusal(&mut history, &[send(0, 0)])?, None);
+    history.push(send(0, 0))?;
     assert_eq!(rt; (history.commands(), history.stay_count()), (2, 3));
     assert_eq!(rt; history.live_cost(), Some(20));
     Ok(())
 }
 
 #[test]
-fn sends_are_refused_by_the_first_cause(rt: HostRuntime) -> Result<(), Fail> {
-    let alloc = rt.alloc();
-    let c0 = submit(0, 1152, 4, PLAIN);
-    let frozen = [c0, freeze(0, 1), send(0, 0)];
-    assert_eq!(rt;
-        refusal_of(alloc, 1, &frozen)?,
-        Some((2, Refusal::DeviceFrozen))
-    );
-    let sim_frozen = [c0, freeze_sim(0, 1), send(0, 0)];
-    assert_eq!(rt;
-        refusal_of(alloc, 1, &sim_frozen)?,
-        Some((2, Refusal::AdapterFrozen))
-    );
-    let full = [c0, c0, send(0, 0), done(0, 0x01), send(0, 1)];
-    assert_eq!(rt; refusal_of(alloc, 2, &full)?, Some((4, Refusal::NoOpening)));
-    let second = [c0, submit(0, 896, 4, PLAIN), send(0, 0)];
-    assert_eq!(rt; refusal_of(alloc, 1, &second)?, Some((2, Refusal::NotHead)));
-    Ok(())
-}
-
-#[test]
-fn decisions_go_by_the_class(rt: HostRuntime) -> Result<(), Fail> {
-    let alloc = rt.alloc();
-    let spent = [
-        submit(0, 1152, 0, PLAIN),
-        send(0, 0),
-        Event::Done {
-            ccb: 0,
-            outcome: attention(),
-        },
-        requeue(0),
-    ];
-    assert_eq!(rt;
-        refusal_of(alloc, 1, &spent)?,
-        Some((3, Refusal::WrongDecision))
-    );
-    let failed = [
-        submit(0, 1152, 0, PLAIN),
-        send(0, 0),
-        Event::Done {
-            ccb: 0,
-            outcome: attention(),
-        },
-        finish(0),
-    ];
-    assert_eq!(rt; refusal_of(alloc, 1, &failed)?, None);
-    let release = release(0, 1);
-    let released = [
-        submit(0, 1152, 4, PLAIN),
-        send(0, 0),
-        Event::Done {
-            ccb: 0,
-            outcome: attention(),
-        },
-        release,
-    ];
-    assert_eq!(rt;
-        refusal_of(alloc, 1, &released)?,
-        Some((3, Refusal::ReleaseTooMany))
-    );
-    let no_status = [submit(0, 1152, 4, PLAIN), send(0, 0), done(0, 0x40)];
-    assert_eq!(rt;
-        refusal_of(alloc, 1, &no_status)?,
-        Some((2, Refusal::BadStatus))
-    );
-    Ok(())
-}
-
-#[test]
-fn rounds_end_at_the_last(rt: HostRuntime) -> Result<(), Fail> {
-    let alloc = rt.alloc();
-    let ticks = [Event::Tick; 128];
-    assert_eq!(rt;
-        refusal_of(alloc, 1, &ticks)?,
-        Some((127, Refusal::RoundsFull))
-    );
-    let sent = [submit(0, 1279, 7, PLAIN), send(0, 0), Event::Tick];
-    assert_eq!(rt; refusal_of(alloc, 1, &sent)?, Some((2, Refusal::InFlight)));
-    assert_eq!(rt;
-        refusal_of(alloc, 1, &[submit(0, 1280, 4, PLAIN)])?,
-        Some((0, Refusal::BadPriority))
-    );
+fn a_refused_event_is_not_kept(rt: HostRuntime) -> Result<(), Fail> {
+    let mut history = frame(rt.alloc(), 1)?;
+    let refused = PushFault::Refused(Refusal::NotQueued);
+    history.push(submit(0, 1152, 4, PLAIN))?;
+    history.push(send(0, 0))?;
+    assert_eq!(rt; history.push(send(0, 0)), Err(refused));
+    assert_eq!(rt; history.events().len(), 2);
     Ok(())
 }
 

@@ -7,7 +7,7 @@ mod adapter_queue;
 #[cfg(test)]
 mod adapters;
 #[cfg(test)]
-mod answers;
+mod both;
 #[cfg(test)]
 mod ccb_slots;
 #[cfg(test)]

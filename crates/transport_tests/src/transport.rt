@@ -8,7 +8,7 @@ use std::alloc::Global;
 use std::test::Fail;
 use test_events::{
     PLAIN, QFRZDIS, adjust, attention, device, done, finish, freeze, freeze_sim, outcome, release,
-    release_sim, requeue, send, submit,
+    release_sim, requeue, send,
 };
 use xpt_state::{Case, Done, Idle, Look, Reply};
 
@@ -23,6 +23,17 @@ fn open(alloc: Global, adapter: u32, openings: &[u32], limits: Limits) -> Result
     Both::open(alloc, &[adapter], &devices, &[0], limits)
 }
 
+// Driver 3 submits.
+fn submit(device: u32, priority: u32, retries: u32, flags: Flags) -> Event {
+    Event::Submit {
+        driver: 3,
+        device,
+        priority,
+        retries,
+        flags,
+    }
+}
+
 fn number(ccb: u32) -> Due {
     Due::Reply(Reply::Ccb(ccb))
 }
@@ -31,7 +42,7 @@ fn command(ccb: u32, attempt: u32, device: u32, priority: u32) -> Due {
     Due::Reply(Reply::Command(Command {
         ccb,
         attempt,
-        driver: 0,
+        driver: 3,
         device,
         priority,
     }))
@@ -94,6 +105,7 @@ fn a_busy_command_is_sent_again_in_the_next_round(rt: HostRuntime) -> Result<(),
         &rt,
         &[(send(0, 0), command(0, 1, 0, 1152)), (done(0, 0x01), GOOD)],
     );
+    assert_eq!(rt; both.xpt.events().len(), 7);
     both.end(&rt, rt.alloc())
 }
 
@@ -126,16 +138,18 @@ fn the_cases_are_told_in_the_order_of_completion(rt: HostRuntime) -> Result<(), 
     ];
     let reset = completed(Class::CountedRequeue, 0xcc);
     let again = completed(Class::FreeRequeue, 0x5b);
-    let runs: [(&[(Event, Due)], Option<Case>, u32); 4] = [
-        (&sent, None, 0),
-        (&[(completion(1, attention()), reset)], Some(first), 1),
-        (&[(done(0, 0x1b), again)], Some(first), 2),
-        (&[(requeue(1), NOTHING)], Some(second), 1),
+    // The steps, the next case behind them, how many cases there are, and how many commands are in flight.
+    let runs: [(&[(Event, Due)], Option<Case>, u32, u32); 4] = [
+        (&sent, None, 0, 2),
+        (&[(completion(1, attention()), reset)], Some(first), 1, 1),
+        (&[(done(0, 0x1b), again)], Some(first), 2, 0),
+        (&[(requeue(1), NOTHING)], Some(second), 1, 0),
     ];
-    for (steps, case, cases) in runs {
+    for (steps, case, cases, in_flight) in runs {
         both.take(&rt, steps);
         assert_eq!(rt; both.xpt.next_case(), case);
-        assert_eq!(rt; both.xpt.look().cases, cases);
+        let look = both.xpt.look();
+        assert_eq!(rt; (look.cases, look.in_flight), (cases, in_flight));
     }
     both.end(&rt, rt.alloc())
 }

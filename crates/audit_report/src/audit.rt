@@ -13,13 +13,13 @@ ghost use Rattle.audit_report.specs.Runs.{Ended};
 use crate::audit_fault::AuditFault;
 use crate::costs::Costs;
 use crate::report::{push_plan, push_summary};
-use cam_event::History;
 use cam_types::{Watched, write_whole};
 use cost_plan::{BestPlan, plan};
 use round_net::{Net, NetFault};
 use std::alloc::{AllocError, Global};
 use std::io::{Read, Write};
 use trace_file::read_trace;
+use xpt_state::History;
 
 /// Reads a trace and writes the report on it: the live schedule, a best schedule, the excess of the one over the other,
 /// and prices that prove by themselves that no schedule costs less; or, where `summary` is asked for, the first seven

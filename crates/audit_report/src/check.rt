@@ -7,11 +7,11 @@ ghost use Rattle.audit_report.specs.Runs.{Ended};
 
 use crate::audit_fault::AuditFault;
 use crate::text::push_line;
-use cam_event::History;
 use cam_types::{Watched, write_whole};
 use std::alloc::{AllocError, Global};
 use std::io::{Read, Write};
 use trace_file::read_trace;
+use xpt_state::History;
 
 /// Reads a trace and writes five lines on it: the version of this form, how many commands, stays and rounds it has, and
 /// what its live schedule cost. Before anything is written the trace is read to its end, tested and found complete.

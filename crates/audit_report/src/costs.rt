@@ -6,8 +6,8 @@ ghost use Rattle.round_net.specs.Nets.{net_of};
 ghost use Rattle.round_net.specs.Schedules.{IsAdmissible, cost};
 ghost use Rattle.price_check.specs.Verdicts.{IsBest};
 
-use cam_event::History;
 use round_net::{Net, Schedule, cost};
+use xpt_state::History;
 
 /// What waiting cost, in weighted rounds.
 #[derive(Clone, Copy, Debug, PartialEq, Eq)]

@@ -8,11 +8,12 @@ ghost use Rattle.audit_report.specs.Findings.{IsProved, IsRight, Says, is_proved
 
 use crate::costs::Costs;
 use crate::text::push_name;
-use cam_event::{History, Stay};
+use cam_event::Stay;
 use itoa::Buffer;
 use price_check::{Cause, Claim, Verdict, check};
 use round_net::Net;
 use std::alloc::{AllocError, Global};
+use xpt_state::History;
 
 /// What comes of a claim that somebody made about a history.
 #[derive(Clone, Copy, Debug, PartialEq, Eq)]

@@ -1,10 +1,11 @@
 //! Histories of one adapter.
 
-use cam_event::{Event, History};
+use cam_event::Event;
 use cam_types::Config;
 use std::alloc::Global;
 use std::test::Fail;
 use test_events::{PLAIN, device, done, freeze, release, send, submit};
+use xpt_state::History;
 
 /// A history of one adapter and so many devices on it, each of the same openings.
 pub(crate) fn history(
@@ -17,7 +18,7 @@ pub(crate) fn history(
     for target in 0..devices {
         list.push(device(0, target, openings))?;
     }
-    let mut history = History::new(alloc, Config::new(alloc, &[openings], &list, &[0])?);
+    let mut history = History::new(alloc, Config::new(alloc, &[openings], &list, &[0])?)?;
     for event in events {
         history.push(*event)?;
     }

@@ -2,7 +2,7 @@
 
 use crate::fakes::{Many, Pieces};
 use crate::texts::{FROZEN, ONE_COMMAND};
-use cam_event::{Event, History};
+use cam_event::Event;
 use cam_types::{Flags, Outcome, SenseBytes, Watched};
 use std::alloc::Global;
 use std::test::Fail;
@@ -11,6 +11,7 @@ use test_events::{
     submit,
 };
 use trace_file::{TraceFault, read_trace};
+use xpt_state::History;
 
 // A header, an adapter, a device and a lane.
 const FRAME: &str = "camtrace1,a,b,c,d,e,f,g\nsim,1,,,,,,\ndev,0,1,0,1,,,\nlane,0,,,,,,\n";

@@ -5,12 +5,10 @@ use Rattle.std.specs.Option.{option_map_or}
 use Rattle.std.proofs.lemmas.Bool.{and_parts, leb-true, eqb-true}
 use Rattle.cam_types.specs.Topology.{Topology}
 use Rattle.event_log.specs.Counts.{sendings, sending_of, caller_count}
-use Rattle.event_log.specs.Tally.{device_tally, device_change, with_change}
 use Rattle.event_log.specs.declared.event.Event.{Event}
 use Rattle.event_log.specs.declared.event.Event.TheVariants.{Submit, Send, Done, Requeue, Finish, FreezeDev, ReleaseDev, FreezeSim, ReleaseSim, Adjust, Tick}
 use Rattle.event_log.specs.declared.passage.Sending.{Sending}
-use Rattle.event_log.specs.declared.tally.Tally.{Tally}
-use Rattle.event_log.proofs.TallyLaws.{told_of, device_tally-push}
+use Rattle.event_log.proofs.TallyLaws.{Tally, device_tally, device_change, with_change, told_of, device_tally-push}
 use Rattle.cam_event.specs.Legal.{Rules, names_device, is_count, is_legal_event, is_legal}
 use Rattle.cam_event.proofs.LawLemmas.{allowed-legal_event}
 use Rattle.cam_event.proofs.LimitLemmas.{legal-induction}
@@ -75,9 +73,6 @@ callers-send es lane ccb d s is h =
     ∙ standing-send d t.number t.added t.taken s s.qfreeze (h.covered d) ∙ ap (λ n. n + cond (s.device == d) (cond s.qfreeze 1 0) 0) (sym (caller_count-standing es d))
 
 -- a legal event takes away no more than stands
-covered_by : Tally → Type 0
-covered_by t = t.taken ≤ t.added
-
 covered-some : (d : ℕ) (c t : Tally) → t.taken ≤ t.added → ((c.number == d) ≡ true → c.taken ≤ (t.added - t.taken) + c.added) → (told_of d c t).taken ≤ (told_of d c t).added
 covered-some d c t le more = elim (c.number == d) as (λ b. (b ≡ true → c.taken ≤ (t.added - t.taken) + c.added) → (cond b (with_change c t) t).taken ≤ (cond b (with_change c t) t).added) [
   | true ↦ λ m. let k = m refl in omega arith

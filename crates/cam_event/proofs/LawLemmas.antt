@@ -7,7 +7,6 @@ use Rattle.std.proofs.lemmas.Bool.{and_parts, and_from, eqb-true, ltb-true, lt-l
 use Rattle.std.proofs.lemmas.List.Folds.{list_all-append}
 use Rattle.cam_types.specs.Lists.{moments}
 use Rattle.cam_types.specs.Topology.{Topology}
-use Rattle.cam_types.specs.Bounds.{Bounds, IsWithin}
 use Rattle.cam_types.proofs.ListLemmas.{moments-push}
 use Rattle.sense_class.specs.Classes.{kind_of, is_counted, class_of, asks_requeue}
 use Rattle.sense_class.specs.declared.class.Kind.{Kind}
@@ -18,7 +17,7 @@ use Rattle.event_log.specs.Event.{is_some_and}
 use Rattle.event_log.specs.Counts.{last_result, is_counted_requeue, counted_requeues, retries_of, wants_requeue, is_recovering, round, has_in_flight}
 use Rattle.event_log.specs.declared.event.Event.{Event}
 use Rattle.event_log.specs.declared.event.Event.TheVariants.{Submit, Send, Done, Requeue, Finish, FreezeDev, ReleaseDev, FreezeSim, ReleaseSim, Adjust, Tick}
-use Rattle.cam_event.specs.Legal.{names_device, Rules, history_rules, rules_of, IsWithinHistory, names_ccb, names_lane, has_ccb, has_stay, is_next, is_allowed, is_legal_event, is_legal}
+use Rattle.cam_event.specs.Legal.{names_device, Rules, history_rules, IsWithinHistory, names_ccb, names_lane, has_ccb, has_stay, is_next, is_allowed, is_legal_event, is_legal}
 use Rattle.cam_types.specs.declared.flags.Flags.{Flags}
 use Rattle.cam_types.specs.declared.priority.TheConstants.{MOST_PRIORITY}
 use Rattle.cam_event.specs.declared.most.TheConstants.{MOST_RETRIES}
@@ -165,7 +164,3 @@ legal_event-history rules c (before, event) w h =
 pub narrower_is_legal : (rules : Rules) (c : Topology) (events : List Event) → IsWithinHistory rules → is_legal rules c events ≡ true → is_legal history_rules c events ≡ true
 unfolding is_legal
 narrower_is_legal rules c events w h = list_all-weaker (is_legal_event rules c) (is_legal_event history_rules c) (moments events) (λ m. legal_event-history rules c m w) h
-
--- a transport's own limits go no further than a history's
-pub within_history : (b : Bounds) → IsWithin b → IsWithinHistory (rules_of b)
-within_history b w = record { rounds = w.rounds; stays = w.stays; events = w.events }

@@ -6,8 +6,8 @@ pub mod LegalLemmas
 pub mod SendLemmas
 pub mod LawLemmas
 pub mod LimitLemmas
+pub mod WithinLemmas
 pub mod RangeLemmas
 pub mod StandLemmas
 pub mod CoverLemmas
 pub mod FirstLemmas
-pub mod WiderLemmas

@@ -117,8 +117,3 @@ legal-at rules c events i d lt legal =
     let parts : events ≡ take i events ++ get_or events i d ∷ drop (i + 1) events =
     sym (take-append-drop i events) ∙ ap (λ es. take i events ++ es) (drop_more events i d lt) in
     legal-next rules c (take i events) (get_or events i d) (drop (i + 1) events) (rw (← parts) legal)
-
-pub legal-take : (rules : Rules) (c : Topology) (events : List Event) (i : ℕ) → is_legal rules c events ≡ true → is_legal rules c (take i events) ≡ true
-legal-take rules c events i legal =
-    let parts : events ≡ take i events ++ drop i events = sym (take-append-drop i events) in
-    legal-front rules c (take i events) (drop i events) (rw (← parts) legal)

@@ -1,5 +1,5 @@
 -- what holds of all legal events
-use Rattle.std.specs.Prelude.{◌≡◌, ℕ, ◌==◌, Bool, true, false, ◌&&◌, nat_le, List, Option, filter, is_none, IsTrue}
+use Rattle.std.specs.Prelude.{◌≡◌, ℕ, ◌≤◌, ◌==◌, Bool, true, false, ◌&&◌, nat_le, List, ◌∷◌, ◌++◌, length, Option, filter, is_none, IsTrue, IfSome}
 use Rattle.std.specs.List.{list_all}
 use Rattle.std.specs.Option.{option_map}
 use Rattle.cam_types.specs.Lists.{moments}
@@ -9,7 +9,7 @@ use Rattle.sense_class.specs.declared.class.Class as class
 use Rattle.sense_class.specs.declared.class.Class.TheVariants.{CountedRequeue}
 use Rattle.event_log.specs.Event.{is_some_and, is_requeue_of}
 use Rattle.event_log.specs.Stays.{passages}
-use Rattle.event_log.specs.Counts.{submission, last_result, is_counted_requeue, counted_requeues, retries_of, freeze_count, adapter_freezes}
+use Rattle.event_log.specs.Counts.{round, submission, alive, last_result, is_counted_requeue, counted_requeues, retries_of, freeze_count, adapter_freezes}
 use Rattle.event_log.specs.Head.{is_on}
 use Rattle.cam_types.specs.declared.priority.TheConstants.{MOST_PRIORITY}
 use Rattle.event_log.specs.declared.submission.Submission.{Submission}
@@ -88,3 +88,22 @@ abbrev pub StaysAreInRange : Type 0
 StaysAreInRange =
     (rules : Rules) (c : Topology) (events : List Event)
     → IsTrue (is_legal rules c events) → IsTrue (list_all (is_stay_in_range c events) (passages events))
+
+-- so many events, rounds and stays, and CCBs alive where they are counted, as the rules allow at the most
+pub record IsWithinRules (rules : Rules) (events : List Event) : Type 0 where
+  pub few_events : length events ≤ rules.events
+  pub few_rounds : round events ≤ rules.rounds
+  pub few_stays : length (passages events) ≤ rules.stays
+  pub few_alive : IfSome rules.ccbs (λ most. alive events ≤ most)
+
+-- Legal events go no further than their rules, which allow a round.
+abbrev pub LegalIsWithin : Type 0
+LegalIsWithin =
+    (rules : Rules) (c : Topology) (events : List Event)
+    → 1 ≤ rules.rounds → IsTrue (is_legal rules c events) → IsWithinRules rules events
+
+-- Each event of a legal list is legal behind those before it.
+abbrev pub EachIsLegal : Type 0
+EachIsLegal =
+    (rules : Rules) (c : Topology) (before : List Event) (event : Event) (behind : List Event)
+    → IsTrue (is_legal rules c (before ++ event ∷ behind)) → IsTrue (is_legal_event rules c (before, event))

@@ -33,6 +33,10 @@ history_rules = record { ccbs = None; rounds = MOST_ROUNDS; stays = MOST_STAYS; 
 abbrev pub rules_of : Bounds → Rules
 rules_of b = record { ccbs = Some b.ccbs; rounds = b.rounds; stays = b.stays; events = b.events }
 
+-- how many CCBs can be alive at once, each of which has had a stay
+abbrev pub most_alive : Rules → ℕ
+most_alive rules = option_map_or (λ most. most) rules.ccbs rules.stays
+
 -- they go no further than a history's
 pub record IsWithinHistory (rules : Rules) : Type 0 where
   pub rounds : rules.rounds ≤ MOST_ROUNDS

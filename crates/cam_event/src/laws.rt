@@ -1,4 +1,4 @@
-ghost use Rattle.cam_event.specs.Laws.{LegalIsUnrefused, SendsStandFree, RequeuesCountByClass, NarrowerIsLegal, StaysAreInRange};
+ghost use Rattle.cam_event.specs.Laws.{LegalIsUnrefused, LegalIsWithin, EachIsLegal, SendsStandFree, RequeuesCountByClass, NarrowerIsLegal, StaysAreInRange};
 
 /// By any rules, what each kind of event asks of those before it is what no cause of a refusal denies.
 pub fn legal_is_unrefused()
@@ -24,4 +24,14 @@ pub fn narrower_is_legal()
 /// retries that there are.
 pub fn stays_are_in_range()
     ensures { StaysAreInRange }
+{}
+
+/// Legal events are no more than their rules allow, nor are their rounds, their stays and the CCBs alive.
+pub fn legal_is_within()
+    ensures { LegalIsWithin }
+{}
+
+/// Each event of a legal list is legal behind those before it.
+pub fn each_is_legal()
+    ensures { EachIsLegal }
 {}

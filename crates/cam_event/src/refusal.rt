@@ -1,4 +1,3 @@
-use std::alloc::AllocError;
 use thiserror::Error;
 
 /// Why an event is refused: the first cause that holds, in the order of this list.
@@ -79,26 +78,4 @@ pub enum Refusal {
     /// The round is the last that there may be.
     #[error("RoundsFull")]
     RoundsFull,
-}
-
-/// Why an event wasn't put behind the others.
-#[derive(Clone, Copy, Debug, PartialEq, Eq, Error)]
-pub enum PushFault {
-    /// The event isn't legal.
-    #[error("{0}")]
-    Refused(Refusal),
-    /// There was no memory for it.
-    #[error("out of memory")]
-    OutOfMemory,
-}
-
-impl From<AllocError> for PushFault {
-    ghost use Rattle.std.specs.Prelude.{◌≡◌};
-    ghost use Rattle.cam_event.specs.declared.refusal.PushFault.TheVariants.{OutOfMemory};
-
-    ghost from_gives = { λ _ fault. fault ≡ OutOfMemory };
-
-    fn from(_error: AllocError) -> PushFault {
-        PushFault::OutOfMemory
-    }
 }

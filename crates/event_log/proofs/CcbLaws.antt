@@ -70,29 +70,3 @@ counted_none c = omega arith
 
 pub few_counted : (es : List Event) (c : ℕ) → counted_requeues es c ≤ count_by (is_requeue_of c) es
 few_counted es c = event-induction (λ xs. counted_requeues xs c ≤ count_by (is_requeue_of c) xs) (counted_none c) (counted_step c) es
-
--- each submission begins a stay
-one_each : (es : List Event) (e : Event) → length (option_to_list (submission_of e)) ≤ length (option_to_list (passage_of (es, e)))
-one_each es (Submit driver device priority retries flags) = omega arith
-one_each es (Requeue ccb) = omega arith
-one_each es (Send lane ccb) = omega arith
-one_each es (Done ccb outcome) = omega arith
-one_each es (Finish ccb) = omega arith
-one_each es (FreezeDev device count) = omega arith
-one_each es (ReleaseDev device count) = omega arith
-one_each es (FreezeSim sim count) = omega arith
-one_each es (ReleaseSim sim) = omega arith
-one_each es (Adjust device openings) = omega arith
-one_each es Tick = omega arith
-
-commands_step : (es : List Event) (e : Event) → commands es ≤ length (passages es) → commands (es ++ e ∷ []) ≤ length (passages (es ++ e ∷ []))
-commands_step es e h =
-    rw (submissions-push es e, passages-push es e)
-    (omega (arith, one_each es e, length-append (submissions es) (option_to_list (submission_of e)), length-append (passages es) (option_to_list (passage_of (es, e)))))
-
-commands_none : commands [] ≤ length (passages [])
-unfolding submissions
-commands_none = omega arith
-
-pub commands_within_stays : (es : List Event) → commands es ≤ length (passages es)
-commands_within_stays es = event-induction (λ xs. commands xs ≤ length (passages xs)) commands_none commands_step es

@@ -1,6 +1,6 @@
 -- what one event more changes
 use Rattle.std.proofs.Common.{◌≡◌, ℕ, ◌+◌, ◌<◌, ◌≤◌, Bool, true, false, cond, List, [], ◌∷◌, ◌++◌, length, drop, refl, sym, ap, ◌∙◌, arith, Option, Some, None, length-append}
-use Rattle.std.specs.Prelude.{not, ◌&&◌, ◌||◌, filter, option_to_list, All, slice_get}
+use Rattle.std.specs.Prelude.{not, ◌&&◌, ◌||◌, filter, option_to_list, All}
 use Rattle.std.specs.List.{list_any}
 use Rattle.std.specs.Option.{option_map}
 use Rattle.std.proofs.lemmas.List.{drop-append-le, drop_all}
@@ -10,10 +10,9 @@ use Rattle.std.proofs.lemmas.List.Sums.{count_by-le-length}
 use Rattle.cam_types.specs.Lists.{moments}
 use Rattle.cam_types.proofs.ListLemmas.{moments-push}
 use Rattle.event_log.specs.Event.{is_tick, is_send_of, submission_of}
-use Rattle.event_log.specs.Counts.{round, submissions, submission, commands, ccbs, sendings, sending_of, freezes_by_error, error_count}
-use Rattle.event_log.specs.Stays.{passages, passage_of, is_unsent, waiting, stay_of, unsent}
-use Rattle.event_log.proofs.ListFacts.{filter_map-push, count_by-push, filter-same, filter-both, All-filter_map-moments, length-filter_map, length-moments_after, find-filter}
-use Rattle.std.proofs.lemmas.List.FromFn.{length-range_with_len}
+use Rattle.event_log.specs.Counts.{round, submissions, submission, sendings, sending_of}
+use Rattle.event_log.specs.Stays.{passages, passage_of, is_unsent, waiting}
+use Rattle.event_log.proofs.ListFacts.{filter_map-push, count_by-push, filter-same, filter-both, All-filter_map-moments, length-filter_map, length-moments_after}
 use Rattle.event_log.specs.declared.event.Event.{Event}
 use Rattle.event_log.specs.declared.event.Event.TheVariants.{Submit, Send, Done, Requeue, Finish, FreezeDev, ReleaseDev, FreezeSim, ReleaseSim, Adjust, Tick}
 use Rattle.event_log.specs.declared.submission.Submission.{Submission}
@@ -107,22 +106,3 @@ few_stays es = omega (arith, length-filter_map passage_of (moments es), length-m
 pub few_commands : (es : List Event) → length (submissions es) ≤ length es
 unfolding submissions
 few_commands es = length-filter_map submission_of es
-
-pub few_sends : (es : List Event) → length (sendings es) ≤ length es
-unfolding sendings
-few_sends es = omega (arith, length-filter_map sending_of (moments es), length-moments_after [] es)
-
--- as many CCBs freeze a device by errors as there are, at the most
-pub few_errors : (es : List Event) (d : ℕ) → error_count es d ≤ length es
-unfolding error_count
-few_errors es d = omega (arith, count_by-le-length (freezes_by_error es d) (ccbs es), length-range_with_len 0 (commands es), few_commands es)
-
--- the first stay without a send is the first that waits
-pub unsent_is_first_waiting : (es : List Event) → unsent es ≡ option_map stay_of (slice_get (waiting es) 0)
-unfolding unsent waiting
-unsent_is_first_waiting es = ap (option_map stay_of) (find-filter (is_unsent es) (passages es))
-
--- an event that is no send sends no CCB
-pub no_send : (e : Event) → ((lane ccb : ℕ) → e ≡ Send lane ccb → ⊥) → (c : ℕ) → not (is_send_of c e) ≡ true
-no_send (Send lane ccb) h c = absurd (h lane ccb refl)
-no_send _ h c = refl

@@ -4,8 +4,6 @@ pub mod Laws
 pub mod OpeningLaws
 pub mod ListFacts
 pub mod LiveLemmas
-pub mod LogLemmas
-pub mod NumberedLemmas
 pub mod QueueLaws
 pub mod ShareLaws
 pub mod SortedLemmas

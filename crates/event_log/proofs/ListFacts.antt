@@ -72,32 +72,6 @@ range_with_len-push a (suc n) =
     let e : (a + 1) + n ≡ a + suc n = omega arith in
     rw one (ap (λ ns. a ∷ ns) (range_with_len-push (a + 1) n ∙ ap (λ k. range_with_len (a + 1) n ++ k ∷ []) e))
 
-least_cases : {X : Type 0} → (key : X → List ℕ) (xs : List X) (x : X) (t : Bool) → least_by key (xs ++ cond t (x ∷ []) []) ≡ cond t (better key (least_by key xs) x) (least_by key xs)
-least_cases key xs x true = least_by-push key xs x
-least_cases key xs x false = rw (append-nil xs) refl
-
--- the least of those that pass takes one more
-pub least_by-filter_push : {X : Type 0} → (key : X → List ℕ) (p : X → Bool) (xs : List X) (x : X) → least_by key (filter p (xs ++ x ∷ [])) ≡ cond (p x) (better key (least_by key (filter p xs)) x) (least_by key (filter p xs))
-least_by-filter_push key p xs x = rw (filter-append p xs (x ∷ [])) (least_cases key (filter p xs) x (p x))
-
--- the best so far and one element more, of a list or of a range
-pub next_best : {X : Type 0} → (key : X → List ℕ) (p : X → Bool) (xs : List X) (i : ℕ) (d : X) (best best' : Option X) (t : Bool) → i < length xs →
-    best ≡ least_by key (filter p (take i xs)) → t ≡ p (get_or xs i d) → best' ≡ cond t (better key best (get_or xs i d)) best →
-    best' ≡ least_by key (filter p (take (i + 1) xs))
-next_best key p xs i d best best' t lt is counts more =
-    more ∙ rw (counts, is) (sym (rw (take_more xs i d lt) (least_by-filter_push key p (take i xs) (get_or xs i d))))
-
-pub next_in_range : (key : ℕ → List ℕ) (p : ℕ → Bool) (n : ℕ) (best best' : Option ℕ) (t : Bool) →
-    best ≡ least_by key (filter p (range_with_len 0 n)) → t ≡ p n → best' ≡ cond t (better key best n) best →
-    best' ≡ least_by key (filter p (range_with_len 0 (n + 1)))
-next_in_range key p n best best' t is counts more =
-    more ∙ rw (counts, is) (sym (rw (range_with_len-push 0 n, zero-add n) (least_by-filter_push key p (range_with_len 0 n) n)))
-
--- the first that passes is the first of those that pass
-pub find-filter : {X : Type 0} → (p : X → Bool) (xs : List X) → find p xs ≡ slice_get (filter p xs) 0
-find-filter p [] = refl
-find-filter p (x ∷ xs) = elim (p x) as (λ t. cond t (Some x) (find p xs) ≡ slice_get (cond t (x ∷ filter p xs) (filter p xs)) 0) [ true ↦ refl | false ↦ find-filter p xs ]
-
 -- a count of the elements that a filter keeps: all that are of a kind, or none
 kept_cases : {X : Type 0} → (b c : Bool) (p : X → Bool) (x : X) (fs : List X) (n : ℕ) → p x ≡ c → (c ≡ true → b ≡ true) → count_by p fs ≡ n → count_by p (cond b (x ∷ fs) fs) ≡ cond c 1 0 + n
 kept_cases true c p x fs n is h e = omega (arith, sum_by-cons (λ y. cond {A = ℕ} (p y) 1 0) x fs, ap (λ b. cond {A = ℕ} b 1 0) is, e)

@@ -7,14 +7,13 @@ use Rattle.std.proofs.lemmas.List.Sums.{sum_by-cons}
 use Rattle.cam_types.specs.declared.outcome.Outcome.{Outcome}
 use Rattle.event_log.specs.Event.{is_some_and, ccb_of, submission_of}
 use Rattle.event_log.specs.Counts.{commands, ccbs, submission, submissions, is_in_flight, is_recovering, error_count}
-use Rattle.event_log.specs.State.{state_of}
 use Rattle.event_log.specs.declared.event.Event.{Event}
 use Rattle.event_log.specs.declared.event.Event.TheVariants.{Send, Done}
-use Rattle.event_log.specs.declared.state.State.{State}
 use Rattle.event_log.specs.declared.submission.Submission.{Submission}
 use Rattle.event_log.proofs.Laws.{submissions-push}
 use Rattle.event_log.proofs.ListFacts.{range_with_len-push, count_by-push}
-use Rattle.event_log.proofs.StateLaws.{state_of-push, next_state-other, is_in_flight-push}
+use Rattle.event_log.proofs.ConcernLaws.{apart as apart_from, concerns-other}
+use Rattle.event_log.proofs.StateLaws.{is_in_flight-push, is_recovering-push}
 
 -- counts of the CCBs that stand so and whose submission passes a test
 abbrev pub share : (List Event → ℕ → Bool) → (Submission → Bool) → List Event → ℕ
@@ -104,10 +103,10 @@ module _ (stands : List Event → ℕ → Bool) (q : Submission → Bool) (es : 
 
 -- a CCB that an event doesn't concern stands as it did
 pub flying-other : (es : List Event) (e : Event) (c k : ℕ) → ccb_of e ≡ Some c → k ≢ c → is_in_flight (es ++ e ∷ []) k ≡ is_in_flight es k
-flying-other es e c k is ne = ap (λ (s : State). s.in_flight) (state_of-push es e k ∙ next_state-other e c k (state_of es k) is ne)
+flying-other es e c k is ne = is_in_flight-push es e k ∙ rw ((apart_from k e (concerns-other e c k is ne)).send_or_done) refl
 
 pub recovering-other : (es : List Event) (e : Event) (c k : ℕ) → ccb_of e ≡ Some c → k ≢ c → is_recovering (es ++ e ∷ []) k ≡ is_recovering es k
-recovering-other es e c k is ne = ap (λ (s : State). s.recovering) (state_of-push es e k ∙ next_state-other e c k (state_of es k) is ne)
+recovering-other es e c k is ne = is_recovering-push es e k ∙ rw (concerns-other e c k is ne) refl
 
 -- the CCB of a send is in flight behind it, and that of a completion isn't
 pub same_number : (k : ℕ) → (k == k) ≡ true

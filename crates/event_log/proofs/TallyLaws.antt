@@ -1,19 +1,56 @@
 -- what one event more changes of the freezes that callers added and took away
-use Rattle.std.proofs.Common.{◌≡◌, ℕ, ◌+◌, ◌-◌, ◌^◌, ◌<◌, ◌≤◌, Bool, true, false, cond, List, [], ◌∷◌, ◌++◌, refl, sym, ap, ◌∙◌, arith, Option, Some, None, add-zero, zero-add, append-nil}
-use Rattle.std.specs.Prelude.{◌==◌, sum_by, count_by, option_to_list, All, IfSome, option_and_then, ◌&&◌}
+use Rattle.std.proofs.Common.{◌≡◌, ℕ, ◌+◌, Bool, true, false, cond, List, [], ◌∷◌, ◌++◌, refl, sym, ap, ◌∙◌, arith, Option, Some, None, add-zero, zero-add, append-nil}
+use Rattle.std.specs.Prelude.{◌==◌, ◌&&◌, sum_by, count_by, option_to_list, option_and_then, if◌then◌else◌}
 use Rattle.std.specs.Option.{option_map_or}
 use Rattle.std.proofs.lemmas.List.Sums.{sum_by-append}
 use Rattle.event_log.specs.Event.{freezes, releases, sim_freezes, is_sim_release_of}
 use Rattle.event_log.specs.Counts.{sendings, sending_of, freezes_by_send}
-use Rattle.event_log.specs.Tally.{device_tally, sim_tally, number_of, blank_tally, tally_of, device_change, sim_change, with_change, counted, is_small}
-use Rattle.std.proofs.lemmas.List.Elements.{All-weaker}
 use Rattle.event_log.proofs.Laws.{sendings-push}
-use Rattle.event_log.proofs.NumberedLemmas.{known-changed, All-changed, All-known}
 use Rattle.event_log.proofs.ListFacts.{count_by-push}
 use Rattle.event_log.specs.declared.event.Event.{Event}
 use Rattle.event_log.specs.declared.event.Event.TheVariants.{Submit, Send, Done, Requeue, Finish, FreezeDev, ReleaseDev, FreezeSim, ReleaseSim, Adjust, Tick}
 use Rattle.event_log.specs.declared.passage.Sending.{Sending}
-use Rattle.event_log.specs.declared.tally.Tally.{Tally}
+
+-- how many freezes of a device or an adapter callers added and took away
+pub record Tally : Type 0 where
+  pub number : ℕ
+  pub added : ℕ
+  pub taken : ℕ
+
+-- what callers added to a device's freezes, and what they took away
+abbrev pub device_tally : List Event → ℕ → Tally
+device_tally events d = record {
+  number = d;
+  added = sum_by (freezes d) events + count_by (freezes_by_send d) (sendings events);
+  taken = sum_by (releases d) events;
+}
+
+-- the same of an adapter
+abbrev pub sim_tally : List Event → ℕ → Tally
+sim_tally events a = record {
+  number = a;
+  added = sum_by (sim_freezes a) events;
+  taken = count_by (is_sim_release_of a) events;
+}
+
+-- what an event changes of a device's freezes, behind the events before it
+abbrev pub device_change : List Event × Event → Option Tally
+device_change (before, FreezeDev device count) = Some (record { number = device; added = count; taken = 0 })
+device_change (before, ReleaseDev device count) = Some (record { number = device; added = 0; taken = count })
+device_change (before, Send lane ccb) =
+    option_and_then (λ (s : Sending). if s.qfreeze then Some (record { number = s.device; added = 1; taken = 0 }) else None)
+    (sending_of (before, Send lane ccb))
+device_change (before, _) = None
+
+-- what an event changes of an adapter's freezes
+abbrev pub sim_change : Event → Option Tally
+sim_change (FreezeSim sim count) = Some (record { number = sim; added = count; taken = 0 })
+sim_change (ReleaseSim sim) = Some (record { number = sim; added = 0; taken = 1 })
+sim_change _ = None
+
+-- a tally with one more change
+abbrev pub with_change : Tally → Tally → Tally
+with_change c t = record { number = t.number; added = t.added + c.added; taken = t.taken + c.taken }
 
 -- what a change is to the tally of a number
 abbrev pub told_of : ℕ → Tally → Tally → Tally
@@ -25,11 +62,6 @@ tally n a t = record { number = n; added = a; taken = t }
 
 tally-same : (n a a' t t' : ℕ) → a ≡ a' → t ≡ t' → tally n a t ≡ tally n a' t'
 tally-same n a a' t t' e e' = rw (e, e') refl
-
--- what is told of all numbers by a change, or by none
-tally_of-changed : (o : Option Tally) (ts : List Tally) (n : ℕ) → tally_of (counted o ts) n ≡ option_map_or (λ c. told_of n c (tally_of ts n)) o (tally_of ts n)
-tally_of-changed None ts n = refl
-tally_of-changed (Some c) ts n = known-changed number_of blank_tally c.number (with_change c) (λ t. refl) (λ k. refl) ts n
 
 -- a sum or a count takes one event more
 sum-push : (f : Event → ℕ) (es : List Event) (e : Event) → sum_by f (es ++ e ∷ []) ≡ sum_by f es + f e
@@ -129,33 +161,3 @@ sim_tally-push es (Requeue ccb) a = sim_parts es (Requeue ccb) a ∙ sim_none a 
 sim_tally-push es (Finish ccb) a = sim_parts es (Finish ccb) a ∙ sim_none a _ _
 sim_tally-push es (Adjust device openings) a = sim_parts es (Adjust device openings) a ∙ sim_none a _ _
 sim_tally-push es Tick a = sim_parts es Tick a ∙ sim_none a _ _
-
--- tallies that are those of the events, with what one event more changes
-pub devices-step : (ts : List Tally) (es : List Event) (e : Event) → ((d : ℕ) → tally_of ts d ≡ device_tally es d) →
-    (d : ℕ) → tally_of (counted (device_change (es, e)) ts) d ≡ device_tally (es ++ e ∷ []) d
-devices-step ts es e h d =
-    tally_of-changed (device_change (es, e)) ts d ∙ rw (h d) (sym (device_tally-push es e d))
-
-pub sims-step : (ts : List Tally) (es : List Event) (e : Event) → ((a : ℕ) → tally_of ts a ≡ sim_tally es a) →
-    (a : ℕ) → tally_of (counted (sim_change e) ts) a ≡ sim_tally (es ++ e ∷ []) a
-sims-step ts es e h a =
-    tally_of-changed (sim_change e) ts a ∙ rw (h a) (sym (sim_tally-push es e a))
-
--- they stay small
-is_small-more : (n : ℕ) (t : Tally) → is_small n t → is_small (n + 1) t
-is_small-more n t (a, b) = (omega (arith, a), omega (arith, b))
-
-is_small-with : (n : ℕ) (c t : Tally) → is_small 1 c → is_small n t → is_small (n + 1) (with_change c t)
-is_small-with n c t (a, b) (a', b') = (omega (arith, a, a'), omega (arith, b, b'))
-
-pub small-step : (n : ℕ) (o : Option Tally) (ts : List Tally) → IfSome o (is_small 1) → All (is_small n) ts → All (is_small (n + 1)) (counted o ts)
-small-step n None ts one h = All-weaker (is_small n) (is_small (n + 1)) (is_small-more n) ts h
-small-step n (Some c) ts one h =
-    All-changed number_of blank_tally (is_small n) (is_small (n + 1)) c.number (with_change c) (is_small-more n) (λ t. is_small-with n c t one) (omega arith, omega arith) ts h
-
-short_of : (n d : ℕ) (t : Tally) → n ≤ 65535 → is_small n t → t.added - t.taken < 2 ^ 49
-short_of n d t le (a, b) = omega (arith, a)
-
--- so few freezes stand that they fit
-pub few_freezes : (n d : ℕ) (ts : List Tally) → n ≤ 65535 → All (is_small n) ts → (tally_of ts d).added - (tally_of ts d).taken < 2 ^ 49
-few_freezes n d ts le h = short_of n d (tally_of ts d) le (All-known number_of blank_tally (is_small n) d (omega arith, omega arith) ts h)

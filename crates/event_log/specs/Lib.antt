@@ -3,10 +3,4 @@ pub mod Counts
 pub mod Stays
 pub mod Head
 pub mod Live
-pub mod Log
-pub mod Turn
-pub mod State
 pub mod Sorted
-pub mod Numbered
-pub mod Tally
-pub mod Opening

@@ -19,11 +19,11 @@ use crate::price_lines::{read_dev_prices, read_sim_prices};
 use crate::report_fault::ReportFault;
 use crate::stay_lines::read_stays;
 use crate::summary::read_summary;
-use cam_event::History;
 use cam_types::{Device, Watched, WholeFault, read_whole};
 use round_net::{Net, Prices, Schedule};
 use std::alloc::{AllocError, Global};
 use std::io::Read;
+use xpt_state::History;
 
 /// Reads a report on a complete history and its net to the end of the input, whoever made it. A fault of the text names
 /// the first line that isn't the one due, and why. `ReadFailed` and `TooLong` come before any of these.

@@ -5,11 +5,11 @@ pub mod ExchangeLemmas
 pub mod LoadLemmas
 pub mod MarkLemmas
 pub mod NetLemmas
+pub mod FoundLemmas
 pub mod OpeningLemmas
 pub mod PlaceLemmas
 pub mod PriceLemmas
 pub mod RowLemmas
-pub mod SentLemmas
 pub mod SmallLemmas
 pub mod SoundLemmas
 pub mod SumLemmas

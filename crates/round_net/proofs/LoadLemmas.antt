@@ -20,7 +20,7 @@ use Rattle.cam_event.specs.Laws.{is_stay_of}
 use Rattle.cam_event.proofs.LimitLemmas.{legal-induction}
 use Rattle.cam_event.proofs.StayLemmas.{is_of_its_ccb, of_its_ccb-passages}
 use Rattle.round_net.proofs.CountLemmas.{count_by-append, count_by-same, count_by-none, count_by-either, count_by-weaker, count_by-filter}
-use Rattle.round_net.proofs.SentLemmas.{live_round-sent, live_round-sending}
+use Rattle.xpt_stays.proofs.SentLemmas.{live_round-sent, live_round-sending}
 use Rattle.event_log.proofs.TotalLaws.{is_of, unsent_count}
 use Rattle.cam_event.proofs.StandLemmas.{AreStates, asks-send, unsent-most, states_step, states_none}
 

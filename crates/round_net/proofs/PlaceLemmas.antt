@@ -1,8 +1,8 @@
 -- the places of a round, and one place more
-use Rattle.std.proofs.Common.{◌≡◌, ℕ, ◌<◌, ◌≤◌, Bool, true, false, cond, List, [], ◌∷◌, ◌++◌, length, take, refl, sym, ap, ◌∙◌, arith, append-nil, append_assoc, length-append}
-use Rattle.std.specs.Prelude.{not, ◌==◌, ◌&&◌, ◌||◌, filter, if◌then◌else◌, slice_get, slice_index, slice_index_or}
+use Rattle.std.proofs.Common.{◌≡◌, ◌≢◌, ℕ, ◌<◌, ◌≤◌, Bool, true, false, cond, List, [], ◌∷◌, ◌++◌, length, take, refl, sym, ap, ◌∙◌, arith, append-nil, append_assoc, length-append, Option, Some, None}
+use Rattle.std.specs.Prelude.{not, ◌==◌, ◌&&◌, ◌||◌, filter, if◌then◌else◌, count_by, option_to_list, slice_get, slice_index, slice_index_or}
 use Rattle.std.specs.List.{list_all, before_last}
-use Rattle.std.specs.Option.{option_map_or}
+use Rattle.std.specs.Option.{option_map, option_map_or}
 use Rattle.std.proofs.lemmas.Bool.{eqb-true, eq-eqb, ne_eqb}
 use Rattle.std.proofs.lemmas.Bool.Decides.{nat_tests}
 use Rattle.std.proofs.lemmas.List.{map-append}
@@ -13,13 +13,17 @@ use Rattle.cam_types.specs.Lists.{moments}
 use Rattle.cam_types.specs.Topology.{Topology}
 use Rattle.cam_types.proofs.ListLemmas.{moments-push}
 use Rattle.event_log.specs.Event.{is_tick, is_adjust_of, adjusts_to}
-use Rattle.event_log.specs.Counts.{round, freeze_count, adapter_freezes, last}
-use Rattle.event_log.specs.Head.{openings, device_openings}
+use Rattle.event_log.specs.Counts.{round, submission, sending_of, sendings, goes_to, freeze_count, adapter_freezes, last}
+use Rattle.event_log.specs.Head.{is_on, openings as place_openings, openings, device_openings, goes_now_to, goes_now_to_adapter}
 use Rattle.event_log.specs.declared.event.Event.{Event}
-use Rattle.event_log.proofs.Laws.{round-push}
+use Rattle.event_log.specs.declared.event.Event.TheVariants.{Submit, Send, Done, Requeue, Finish, FreezeDev, ReleaseDev, FreezeSim, ReleaseSim, Adjust, Tick}
+use Rattle.event_log.specs.declared.submission.Submission.{Submission}
+use Rattle.event_log.specs.declared.passage.Sending.{Sending}
+use Rattle.event_log.proofs.Laws.{round-push, sendings-push}
+use Rattle.round_net.proofs.CountLemmas.{count_by-append}
 use Rattle.event_log.proofs.OpeningLaws.{before_last-push}
 use Rattle.round_net.specs.Rows.{cell}
-use Rattle.round_net.specs.Caps.{fronts, places, is_device_free, is_adapter_free, openings_in}
+use Rattle.round_net.specs.Caps.{fronts, places, is_device_free, is_adapter_free, openings_in, sends_to, sends_by}
 use Rattle.round_net.specs.Marks.{Marks, Sets, IsNoted}
 
 -- what one element more keeps holds of all lists
@@ -132,12 +136,63 @@ still_marked true true z = refl
 still_marked true false z = refl
 still_marked false b z = refl
 
-pub noted-step : (c : Topology) (es : List Event) (e : Event) (rounds : ℕ) (dev dev' sim sim' : List Bool) (numbers numbers' : List ℕ) (opens : Bool) → IsNoted c es rounds dev sim numbers → opens ≡ is_tick e →
+-- one send more counts in the place's round alone
+abbrev in_round : (Sending → Bool) → ℕ → Sending → Bool
+in_round test r s = test s && (s.round == r)
+
+made_now : (es : List Event) (n : ℕ) (o : Option Submission) (make : Submission → Sending) → ((x : Submission) → (make x).round ≡ n) → (s : Sending) → option_map make o ≡ Some s → s.round ≡ n
+made_now es n None make h s is = absurd (cc)
+made_now es n (Some x) make h s is = let same : make x ≡ s = cc in ap (λ (y : Sending). y.round) (sym same) ∙ h x
+
+sent_now : (es : List Event) (e : Event) (s : Sending) → sending_of (es, e) ≡ Some s → s.round ≡ round (es ++ e ∷ [])
+sent_now es (Send lane ccb) s is = made_now es (round (es ++ Send lane ccb ∷ [])) (submission es ccb) _ (λ x. omega (arith, round-push es (Send lane ccb))) s is
+sent_now es (Submit driver device priority retries flags) s is = absurd (cc)
+sent_now es (Done ccb outcome) s is = absurd (cc)
+sent_now es (Requeue ccb) s is = absurd (cc)
+sent_now es (Finish ccb) s is = absurd (cc)
+sent_now es (FreezeDev device count) s is = absurd (cc)
+sent_now es (ReleaseDev device count) s is = absurd (cc)
+sent_now es (FreezeSim sim count) s is = absurd (cc)
+sent_now es (ReleaseSim sim) s is = absurd (cc)
+sent_now es (Adjust device openings) s is = absurd (cc)
+sent_now es Tick s is = absurd (cc)
+
+and_false : (b : Bool) → (b && false) ≡ false
+and_false true = refl
+and_false false = refl
+
+none_sent : (test : Sending → Bool) (r n : ℕ) (o : Option Sending) → ((s : Sending) → o ≡ Some s → s.round ≡ n) → r ≢ n → count_by (in_round test r) (option_to_list o) ≡ 0
+none_sent test r n None at ne = refl
+none_sent test r n (Some s) at ne = rw (ne_eqb s.round r (λ e. ne (sym e ∙ at s refl)), and_false (test s)) refl
+
+sends-kept : (test : Sending → Bool) (es : List Event) (e : Event) (r : ℕ) → r ≢ round (es ++ e ∷ []) → count_by (in_round test r) (sendings (es ++ e ∷ [])) ≡ count_by (in_round test r) (sendings es)
+sends-kept test es e r ne =
+    omega (
+      arith,
+      ap (count_by (in_round test r)) (sendings-push es e),
+      count_by-append (in_round test r) (sendings es) (option_to_list (sending_of (es, e))),
+      none_sent test r (round (es ++ e ∷ [])) (sending_of (es, e)) (λ s is. sent_now es e s is) ne,
+    )
+
+sent-step : (test : Sending → Bool) (es : List Event) (e : Event) (r old new : ℕ) → old ≡ count_by (in_round test r) (sendings es) →
+    new ≡ (if r == round (es ++ e ∷ []) then count_by (in_round test (round (es ++ e ∷ []))) (sendings (es ++ e ∷ [])) else old) → new ≡ count_by (in_round test r) (sendings (es ++ e ∷ []))
+sent-step test es e r old new was is =
+    is ∙ elim (r == round (es ++ e ∷ [])) as (λ b. (r == round (es ++ e ∷ [])) ≡ b →
+    (if b then count_by (in_round test (round (es ++ e ∷ []))) (sendings (es ++ e ∷ [])) else old) ≡ count_by (in_round test r) (sendings (es ++ e ∷ []))) [
+      | true ↦ λ at. ap (λ n. count_by (in_round test n) (sendings (es ++ e ∷ []))) (sym (eqb-true r (round (es ++ e ∷ [])) at))
+      | false ↦ λ ne. was ∙ sym (sends-kept test es e r (λ at. let both : (r == round (es ++ e ∷ [])) ≡ true = eq-eqb r (round (es ++ e ∷ [])) at in absurd (cc)))
+    ] refl
+
+pub noted-step : (c : Topology) (es : List Event) (e : Event) (rounds : ℕ) (dev dev' sim sim' : List Bool) (openings openings' sends sends' sim_sends sim_sends' : List ℕ) (opens : Bool) →
+    IsNoted c es rounds dev sim openings sends sim_sends → opens ≡ is_tick e →
     Marks (length c.devices) rounds dev dev' (round (es ++ e ∷ [])) (λ d. not (freeze_count (es ++ e ∷ []) d == 0)) →
     Marks (length c.adapters) rounds sim sim' (round (es ++ e ∷ [])) (λ a. not (adapter_freezes (es ++ e ∷ []) a == 0)) →
-    (opens ≡ true → Sets (length c.devices) rounds numbers numbers' (round (es ++ e ∷ [])) (openings c (es ++ e ∷ []))) → (opens ≡ false → numbers' ≡ numbers) →
-    IsNoted c (es ++ e ∷ []) rounds dev' sim' numbers'
-noted-step c es e rounds dev dev' sim sim' numbers numbers' opens is opens_is devices adapters opened kept = record {
+    (opens ≡ true → Sets (length c.devices) rounds openings openings' (round (es ++ e ∷ [])) (place_openings c (es ++ e ∷ []))) → (opens ≡ false → openings' ≡ openings) →
+    Sets (length c.devices) rounds sends sends' (round (es ++ e ∷ [])) (λ d. count_by (goes_now_to (es ++ e ∷ []) d) (sendings (es ++ e ∷ []))) →
+    Sets (length c.adapters) rounds sim_sends sim_sends' (round (es ++ e ∷ [])) (λ a. count_by (goes_now_to_adapter c (es ++ e ∷ []) a) (sendings (es ++ e ∷ []))) →
+    IsNoted c (es ++ e ∷ []) rounds dev' sim' openings' sends' sim_sends'
+unfolding sends_to sends_by
+noted-step c es e rounds dev dev' sim sim' openings openings' sends sends' sim_sends sim_sends' opens is opens_is devices adapters opened kept sent adapter_sent = record {
   devices = λ d r within first last.
       devices d r within first last
       ∙ rw (is.devices d r within first last, eqb-sym r (round (es ++ e ∷ [])), is_device_free-push es e d r) (still_marked (is_device_free es d r) (round (es ++ e ∷ []) == r) (freeze_count (es ++ e ∷ []) d == 0));
@@ -145,10 +200,13 @@ noted-step c es e rounds dev dev' sim sim' numbers numbers' opens is opens_is de
       adapters a r within first last
       ∙ rw (is.adapters a r within first last, eqb-sym r (round (es ++ e ∷ [])), is_adapter_free-push es e a r) (still_marked (is_adapter_free es a r) (round (es ++ e ∷ []) == r) (adapter_freezes (es ++ e ∷ []) a == 0));
   openings = λ d r within first last.
-      elim (is_tick e) as (λ b. is_tick e ≡ b → slice_index numbers' (cell rounds d r) ≡ openings_in c (es ++ e ∷ []) d r) [
+      elim (is_tick e) as (λ b. is_tick e ≡ b → slice_index openings' (cell rounds d r) ≡ openings_in c (es ++ e ∷ []) d r) [
         | true ↦ λ ticks. opened (opens_is ∙ ticks) d r within first last ∙ rw (is.openings d r within first last) (sym (openings_in-opened c es e d r ticks))
         | false ↦ λ still. ap (λ ns. slice_index ns (cell rounds d r)) (kept (opens_is ∙ still)) ∙ is.openings d r within first last ∙ sym (openings_in-kept c es e d r still)
       ] refl;
+  sends = λ d r within first last. sent-step (goes_to d) es e r (slice_index sends (cell rounds d r)) (slice_index sends' (cell rounds d r)) (is.sends d r within first last) (sent d r within first last);
+  adapter_sends = λ a r within first last.
+      sent-step (λ (s : Sending). is_on c a s.device) es e r (slice_index sim_sends (cell rounds a r)) (slice_index sim_sends' (cell rounds a r)) (is.adapter_sends a r within first last) (adapter_sent a r within first last);
 }
 
 -- and of the first place
@@ -160,14 +218,23 @@ open_first : (value : List Event → ℕ) (b : Bool) → (if b then value [] els
 open_first value true = refl
 open_first value false = refl
 
-pub noted-first : (c : Topology) (rounds : ℕ) (dev dev' sim sim' : List Bool) (numbers numbers' : List ℕ) → ((i : ℕ) → slice_index_or dev i false ≡ false) → ((i : ℕ) → slice_index_or sim i false ≡ false) → ((i : ℕ) → slice_index numbers i ≡ 0) →
+none_yet : (test : Sending → Bool) (r old new : ℕ) → old ≡ 0 → new ≡ (if r == round [] then count_by (in_round test (round [])) (sendings []) else old) → new ≡ count_by (in_round test r) (sendings [])
+unfolding sendings
+none_yet test r old new was is = is ∙ elim (r == round []) as (λ b. (if b then 0 else old) ≡ 0) [ true ↦ refl | false ↦ was ]
+
+pub noted-first : (c : Topology) (rounds : ℕ) (dev dev' sim sim' : List Bool) (openings openings' sends sends' sim_sends sim_sends' : List ℕ) →
+    ((i : ℕ) → slice_index_or dev i false ≡ false) → ((i : ℕ) → slice_index_or sim i false ≡ false) → ((i : ℕ) → slice_index openings i ≡ 0) → ((i : ℕ) → slice_index sends i ≡ 0) → ((i : ℕ) → slice_index sim_sends i ≡ 0) →
     Marks (length c.devices) rounds dev dev' (round []) (λ d. not (freeze_count [] d == 0)) →
     Marks (length c.adapters) rounds sim sim' (round []) (λ a. not (adapter_freezes [] a == 0)) →
-    Sets (length c.devices) rounds numbers numbers' (round []) (openings c []) →
-    IsNoted c [] rounds dev' sim' numbers'
-unfolding is_device_free is_adapter_free openings_in
-noted-first c rounds dev dev' sim sim' numbers numbers' no_dev no_sim no_number devices adapters opened = record {
+    Sets (length c.devices) rounds openings openings' (round []) (place_openings c []) →
+    Sets (length c.devices) rounds sends sends' (round []) (λ d. count_by (goes_now_to [] d) (sendings [])) →
+    Sets (length c.adapters) rounds sim_sends sim_sends' (round []) (λ a. count_by (goes_now_to_adapter c [] a) (sendings [])) →
+    IsNoted c [] rounds dev' sim' openings' sends' sim_sends'
+unfolding is_device_free is_adapter_free openings_in sends_to sends_by
+noted-first c rounds dev dev' sim sim' openings openings' sends sends' sim_sends sim_sends' no_dev no_sim no_opening no_send no_sim_send devices adapters opened sent adapter_sent = record {
   devices = λ d r within first last. devices d r within first last ∙ rw (no_dev (cell rounds d r), eqb-sym r (round [])) (free_first (λ before. freeze_count before d == 0) (round [] == r));
   adapters = λ a r within first last. adapters a r within first last ∙ rw (no_sim (cell rounds a r), eqb-sym r (round [])) (free_first (λ before. adapter_freezes before a == 0) (round [] == r));
-  openings = λ d r within first last. opened d r within first last ∙ rw (no_number (cell rounds d r), eqb-sym r (round [])) (open_first (λ before. openings c before d) (round [] == r));
+  openings = λ d r within first last. opened d r within first last ∙ rw (no_opening (cell rounds d r), eqb-sym r (round [])) (open_first (λ before. place_openings c before d) (round [] == r));
+  sends = λ d r within first last. none_yet (goes_to d) r (slice_index sends (cell rounds d r)) (slice_index sends' (cell rounds d r)) (no_send (cell rounds d r)) (sent d r within first last);
+  adapter_sends = λ a r within first last. none_yet (λ (s : Sending). is_on c a s.device) r (slice_index sim_sends (cell rounds a r)) (slice_index sim_sends' (cell rounds a r)) (no_sim_send (cell rounds a r)) (adapter_sent a r within first last);
 }

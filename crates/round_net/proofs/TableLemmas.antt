@@ -1,8 +1,9 @@
 -- tables of values by row and round
-use Rattle.std.proofs.Common.{◌≡◌, ℕ, ◌+◌, ◌-◌, ◌*◌, ◌/◌, ◌%◌, ◌<◌, ◌≤◌, [], ◌∷◌, ◌++◌, length, refl, ◌∙◌, arith, zero-add}
+use Rattle.std.proofs.Common.{◌≡◌, ℕ, ◌+◌, ◌-◌, ◌*◌, ◌/◌, ◌%◌, ◌<◌, ◌≤◌, List, [], ◌∷◌, ◌++◌, length, refl, sym, ap, ◌∙◌, arith, zero-add}
 use Rattle.std.specs.Prelude.{slice_index, All}
 use Rattle.std.proofs.lemmas.Nat.{div-mul-add, mod-mul-add}
-use Rattle.std.proofs.Math.Nat.{div-lt_iff_lt-mul, mod-lt}
+use Rattle.std.proofs.Math.Nat.{div-lt_iff_lt-mul, mod-lt, mod-eq-sub-div-mul, div-mul-le_self}
+use Rattle.std.proofs.lemmas.List.{ext_get_or}
 use Rattle.std.proofs.lemmas.List.FromFn.{map-range_with_len_more, get_or-map-range_with_len, length-map-range_with_len}
 use Rattle.std.proofs.lemmas.List.Elements.{All-from_get_or}
 use Rattle.round_net.specs.Rows.{cell}
@@ -47,3 +48,12 @@ All-table P rows rounds value some h =
     All-from_get_or P (table rows rounds value) 0 (λ i lt.
     let within : i < rows * rounds = omega (arith, length-cells rounds value (rows * rounds)) in
     rw (get_or-cells rounds value (rows * rounds) i within) (h (i / rounds) (i % rounds + 1) (row_of_place rows rounds i some within) (omega arith) (round_of_place rounds i some)))
+
+-- values that are each row's in each round are the table
+pub table_by_cells : (rows rounds : ℕ) (value : ℕ → ℕ → ℕ) (xs : List ℕ) → 1 ≤ rounds → length xs ≡ rows * rounds → ((row r : ℕ) → row < rows → 1 ≤ r → r ≤ rounds → slice_index xs (cell rounds row r) ≡ value row r) → xs ≡ table rows rounds value
+table_by_cells rows rounds value xs some count h =
+    ext_get_or 0 xs (table rows rounds value) (omega (arith, count, length-cells rounds value (rows * rounds))) (λ i lt.
+    let within : i < rows * rounds = omega (arith, count) in
+    let row = row_of_place rows rounds i some within in
+    let here : cell rounds (i / rounds) (i % rounds + 1) ≡ i = omega (arith, mod-eq-sub-div-mul i rounds, div-mul-le_self i rounds) in
+    ap (slice_index xs) (sym here) ∙ h (i / rounds) (i % rounds + 1) row (omega arith) (round_of_place rounds i some) ∙ sym (get_or-cells rounds value (rows * rounds) i within))

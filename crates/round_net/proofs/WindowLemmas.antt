@@ -12,7 +12,7 @@ use Rattle.cam_types.specs.Topology.{Topology}
 use Rattle.event_log.specs.Event.{is_some_and, is_send_of}
 use Rattle.event_log.specs.Counts.{round, commands, submissions, submission, is_recovering}
 use Rattle.event_log.specs.Stays.{passages, passage_of, is_unsent, waiting, has_arrived, has_queued}
-use Rattle.event_log.specs.Live.{live_round}
+use Rattle.event_log.specs.Live.{send_place, live_round}
 use Rattle.event_log.specs.declared.event.Event.{Event}
 use Rattle.event_log.specs.declared.event.Event.TheVariants.{Submit, Send, Done, Requeue, Finish, FreezeDev, ReleaseDev, FreezeSim, ReleaseSim, Adjust, Tick}
 use Rattle.event_log.specs.declared.submission.Submission.{Submission}
@@ -22,13 +22,18 @@ use Rattle.cam_event.specs.Legal.{Rules, is_legal_event, is_legal}
 use Rattle.cam_event.specs.Laws.{is_stay_of}
 use Rattle.cam_event.proofs.LimitLemmas.{legal-induction, round_first}
 use Rattle.cam_event.proofs.StayLemmas.{is_of_its_ccb, of_its_ccb-passages}
-use Rattle.round_net.specs.Nets.{next_stay, last_round}
+use Rattle.xpt_stays.specs.Records.{next_stay}
+use Rattle.round_net.specs.Nets.{last_round}
 use Rattle.round_net.proofs.CountLemmas.{count_by-filter, none-by-count, all_where_one}
-use Rattle.round_net.proofs.PlaceLemmas.{round-grows}
-use Rattle.round_net.proofs.SentLemmas.{live_round-sent, live_round-sending, live_round-le}
+use Rattle.round_net.proofs.PlaceLemmas.{round-grows, round-take}
+use Rattle.xpt_stays.proofs.SentLemmas.{live_round-sent, live_round-sending}
 use Rattle.event_log.proofs.TotalLaws.{is_of}
 use Rattle.cam_event.proofs.StandLemmas.{AreStates, asks-requeue, unsent-most, unsent-recovering, states_step, states_none}
 use Rattle.round_net.proofs.OpeningLemmas.{legal-send}
+
+-- no stay was sent later than in the last round
+live_round-le : (es : List Event) (p : Passage) → live_round es p ≤ round es
+live_round-le es p = round-take es (send_place es p)
 
 -- what holds of the stays so far and of one that begins holds of all
 All-born : (P : Passage → Type 0) (ps : List Passage) (o : Option Passage) → All P ps → ((p : Passage) → o ≡ Some p → P p) → All P (ps ++ option_to_list o)

@@ -1,5 +1,5 @@
 -- the net of a history
-use Rattle.std.specs.Prelude.{ℕ, ◌+◌, ◌-◌, ◌*◌, ◌/◌, ◌%◌, ◌==◌, ◌&&◌, nat_lt, List, Option, length, map, find}
+use Rattle.std.specs.Prelude.{ℕ, ◌+◌, ◌-◌, ◌*◌, ◌/◌, ◌%◌, List, length, map, unwrap_or}
 use Rattle.std.specs.List.{range_with_len}
 use Rattle.std.specs.Option.{option_map_or}
 use Rattle.cam_types.specs.Priority.{weight}
@@ -10,14 +10,12 @@ use Rattle.event_log.specs.Stays.{passages, stay_of}
 use Rattle.event_log.specs.Live.{live_round}
 use Rattle.event_log.specs.declared.event.Event.{Event}
 use Rattle.event_log.specs.declared.passage.Passage.{Passage}
+use Rattle.xpt_stays.specs.Records.{next_stay}
+use Rattle.xpt_stays.specs.declared.stay_record.StayRecord.{StayRecord}
 use Rattle.round_net.specs.Instance.{Instance}
 use Rattle.round_net.specs.Rows.{NetRows, instance_of_rows, live_of_rows}
 use Rattle.round_net.specs.Caps.{dev_cap, sim_cap}
 use Rattle.round_net.specs.declared.stay_row.StayRow.{StayRow}
-
--- the next stay of the same CCB
-abbrev pub next_stay : List Passage → Passage → Option Passage
-next_stay stays p = find (λ (q : Passage). (q.ccb == p.ccb) && nat_lt p.place q.place) stays
 
 -- the last round of a stay: the one before its CCB's next stay arrives, or else the last round of all
 unfoldable pub last_round : List Event → Passage → ℕ
@@ -32,6 +30,17 @@ stay_row events p = record {
   last = last_round events p;
   weight = weight p.priority;
   live = live_round events p;
+}
+
+-- the same by the record of the stay, in a history of so many rounds
+abbrev pub row_of : ℕ → StayRecord → StayRow
+row_of rounds r = record {
+  stay = stay_of r.passage;
+  device = r.passage.device;
+  arrival = r.passage.arrival;
+  last = option_map_or (λ arrival. arrival - 1) r.next_arrival rounds;
+  weight = weight r.passage.priority;
+  live = unwrap_or r.sent rounds;
 }
 
 -- as many values as asked, by row and round: those of the first row's rounds, then those of the second one's, and so on

@@ -1,43 +1,39 @@
-ghost use Rattle.std.specs.Prelude.{◌≡◌, ◌<◌, ◌≤◌, ◌*◌, ◌||◌, not, ◌==◌, false, length, slice_set, slice_index_or, cond, IfOk, OnOk};
+//! What is noted at a place of a history, of the place's round.
+
+ghost use Rattle.std.specs.Prelude.{◌≡◌, ◌<◌, ◌≤◌, ◌*◌, ◌||◌, not, ◌==◌, false, length, slice_set, slice_index_or, count_by};
 ghost use Rattle.cam_types.specs.declared.limits.TheConstants.{MOST_ROUNDS};
-ghost use Rattle.event_log.specs.Event.{is_tick};
-ghost use Rattle.event_log.specs.Counts.{round, freeze_count, adapter_freezes};
-ghost use Rattle.event_log.specs.Head.{openings};
+ghost use Rattle.event_log.specs.Counts.{round, sendings, freeze_count, adapter_freezes};
+ghost use Rattle.event_log.specs.Head.{openings, goes_now_to, goes_now_to_adapter};
 ghost use Rattle.round_net.specs.Marks.{Marks, Sets};
 
 use crate::flat::cell;
-use cam_types::Config;
-use event_log::Log;
+use xpt_adapters::Adapters;
 
-/// Marks each device that is frozen at the log's place, in the place's round.
-pub fn mark_devices(log: &Log, rounds: u32, devices: u32, marks: &mut [bool])
+/// Marks each device that is frozen at the place.
+pub fn mark_devices(replay: &Adapters, rounds: u32, marks: &mut [bool])
     requires few { rounds ≤ MOST_ROUNDS }
-    requires within { round log.now ≤ rounds }
-    requires cells { devices * rounds ≤ length marks.old }
-    ensures { Marks devices rounds marks.old marks.new (round log.now) (λ d. not (freeze_count log.now d == 0)) }
+    requires within { round replay.now.events ≤ rounds }
+    requires cells { length replay.now.config.devices * rounds ≤ length marks.old }
+    ensures { Marks (length replay.now.config.devices) rounds marks.old marks.new (round replay.now.events) (λ d. not (freeze_count replay.now.events d == 0)) }
 {
-    for device in 0..devices {
-        mark(
-            marks,
-            cell(rounds, device, log.round()),
-            log.freeze_count(device) != 0,
-        );
+    let devices = replay.devices();
+    for device in 0..devices.config().devices().len() as u32 {
+        let at = cell(rounds, device, devices.round());
+        mark(marks, at, devices.is_frozen(device));
     }
 }
 
-/// Marks each adapter that is frozen at the log's place, in the place's round.
-pub fn mark_adapters(log: &Log, rounds: u32, adapters: u32, marks: &mut [bool])
+/// Marks each adapter that is frozen at the place.
+pub fn mark_adapters(replay: &Adapters, rounds: u32, marks: &mut [bool])
     requires few { rounds ≤ MOST_ROUNDS }
-    requires within { round log.now ≤ rounds }
-    requires cells { adapters * rounds ≤ length marks.old }
-    ensures { Marks adapters rounds marks.old marks.new (round log.now) (λ a. not (adapter_freezes log.now a == 0)) }
+    requires within { round replay.now.events ≤ rounds }
+    requires cells { length replay.now.config.adapters * rounds ≤ length marks.old }
+    ensures { Marks (length replay.now.config.adapters) rounds marks.old marks.new (round replay.now.events) (λ a. not (adapter_freezes replay.now.events a == 0)) }
 {
-    for adapter in 0..adapters {
-        mark(
-            marks,
-            cell(rounds, adapter, log.round()),
-            log.adapter_freezes(adapter) != 0,
-        );
+    let devices = replay.devices();
+    for adapter in 0..devices.config().adapters().len() as u32 {
+        let at = cell(rounds, adapter, devices.round());
+        mark(marks, at, replay.is_frozen(adapter));
     }
 }
 
@@ -48,15 +44,44 @@ fn mark(marks: &mut [bool], at: usize, is_frozen: bool)
     marks[at] |= is_frozen;
 }
 
-/// Notes the openings of each device in the round of the log's place.
-pub fn note_openings(config: &Config, log: &Log, rounds: u32, numbers: &mut [u32])
+/// Notes the openings of each device.
+pub fn note_openings(replay: &Adapters, rounds: u32, numbers: &mut [u32])
     requires few { rounds ≤ MOST_ROUNDS }
-    requires within { round log.now ≤ rounds }
-    requires cells { length config.now.devices * rounds ≤ length numbers.old }
-    ensures { Sets (length config.now.devices) rounds numbers.old numbers.new (round log.now) (openings config.now log.now) }
+    requires within { round replay.now.events ≤ rounds }
+    requires cells { length replay.now.config.devices * rounds ≤ length numbers.old }
+    ensures { Sets (length replay.now.config.devices) rounds numbers.old numbers.new (round replay.now.events) (openings replay.now.config replay.now.events) }
 {
-    for device in 0..config.devices().len() as u32 {
-        let at = cell(rounds, device, log.round());
-        numbers[at] = log.openings(config, device);
+    let devices = replay.devices();
+    for device in 0..devices.config().devices().len() as u32 {
+        let at = cell(rounds, device, devices.round());
+        numbers[at] = devices.openings(device);
+    }
+}
+
+/// Notes how many commands were sent to each device.
+pub fn note_device_sends(replay: &Adapters, rounds: u32, numbers: &mut [u32])
+    requires few { rounds ≤ MOST_ROUNDS }
+    requires within { round replay.now.events ≤ rounds }
+    requires cells { length replay.now.config.devices * rounds ≤ length numbers.old }
+    ensures { Sets (length replay.now.config.devices) rounds numbers.old numbers.new (round replay.now.events) (λ d. count_by (goes_now_to replay.now.events d) (sendings replay.now.events)) }
+{
+    let devices = replay.devices();
+    for device in 0..devices.config().devices().len() as u32 {
+        let at = cell(rounds, device, devices.round());
+        numbers[at] = devices.sent(device);
+    }
+}
+
+/// Notes how many commands were sent by each adapter.
+pub fn note_adapter_sends(replay: &Adapters, rounds: u32, numbers: &mut [u32])
+    requires few { rounds ≤ MOST_ROUNDS }
+    requires within { round replay.now.events ≤ rounds }
+    requires cells { length replay.now.config.adapters * rounds ≤ length numbers.old }
+    ensures { Sets (length replay.now.config.adapters) rounds numbers.old numbers.new (round replay.now.events) (λ a. count_by (goes_now_to_adapter replay.now.config replay.now.events a) (sendings replay.now.events)) }
+{
+    let devices = replay.devices();
+    for adapter in 0..devices.config().adapters().len() as u32 {
+        let at = cell(rounds, adapter, devices.round());
+        numbers[at] = replay.sent(adapter);
     }
 }

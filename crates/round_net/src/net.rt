@@ -1,13 +1,13 @@
-use crate::cap_rows::{dev_caps, sim_caps};
+use crate::cap_rows::{adapter_rows, caps};
 use crate::flat::cell;
 use crate::net_fault::NetFault;
 use crate::stay_row::StayRow;
 use crate::stay_rows::{adapters_of, stay_rows};
 use crate::walk::walk_through;
-use cam_event::History;
 use event_log::Stay;
 use std::alloc::Global;
 use std::marker::Model;
+use xpt_state::History;
 
 /// What a complete history left to plan: stays with windows and weights, and caps.
 ///
@@ -61,21 +61,20 @@ impl Net {
         }
         let config = history.config();
         let rounds = history.round();
-        let walked = walk_through(alloc, config, history.events(), rounds)?;
+        let notes = walk_through(alloc, config, history.events(), rounds)?;
+        let openings = adapter_rows(alloc, config, rounds)?;
         Ok(Net {
             rounds,
             adapters: config.adapters().len() as u32,
             adapter_of: adapters_of(alloc, config.devices())?,
-            stays: stay_rows(alloc, &walked.log)?,
-            dev_caps: dev_caps(
+            stays: stay_rows(alloc, history.stays(), rounds)?,
+            dev_caps: caps(
                 alloc,
-                config,
-                &walked.log,
-                rounds,
-                &walked.dev_marks,
-                &walked.numbers,
+                &notes.dev_frozen,
+                &notes.dev_sends,
+                &notes.dev_openings,
             )?,
-            sim_caps: sim_caps(alloc, config, &walked.log, rounds, &walked.sim_marks)?,
+            sim_caps: caps(alloc, &notes.sim_frozen, &notes.sim_sends, &openings)?,
         })
     }
 

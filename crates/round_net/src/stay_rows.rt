@@ -1,28 +1,36 @@
+//! The stays of a history with their windows.
+
 ghost use Rattle.std.specs.Prelude.{◌≡◌, map, IfOk};
-ghost use Rattle.event_log.specs.Stays.{passages};
 ghost use Rattle.cam_types.specs.declared.device.Device.{Device};
-ghost use Rattle.round_net.specs.Nets.{next_stay, last_round, stay_row};
+ghost use Rattle.round_net.specs.Nets.{row_of};
 
 use crate::stay_row::StayRow;
 use cam_types::{Device, weight_of};
-use event_log::{Log, Passage, Stay};
+use event_log::Stay;
 use std::alloc::{AllocError, Global};
+use xpt_state::StayRecord;
 
-/// The rows of all stays, in order of birth.
-pub fn stay_rows(alloc: Global, log: &Log) -> Result<Vec<StayRow>, AllocError>
-    ensures { IfOk result (λ rows. rows.items ≡ map (stay_row log.now) (passages log.now)) }
+/// The rows of these stays of a history of so many rounds.
+pub fn stay_rows(
+    alloc: Global,
+    records: &[StayRecord],
+    rounds: u32,
+) -> Result<Vec<StayRow>, AllocError>
+    ensures { IfOk result (λ rows. rows.items ≡ map (row_of rounds) records.now) }
 {
     let mut rows = Vec::new(alloc);
-    for passage in log.passages() {
-        rows.push(stay_row(log, passage))?;
+    for record in records {
+        rows.push(stay_row(record, rounds))?;
     }
     Ok(rows)
 }
 
-#[tactic(auto, unfolding(crate::specs::Nets::stay_row))]
-fn stay_row(log: &Log, passage: &Passage) -> StayRow
-    ensures { result ≡ stay_row log.now passage.now }
+// The last round of a stay is the one before its CCB's next stay arrives, or else the last of all; a stay without a send
+// counts as sent in the last.
+fn stay_row(stay: &StayRecord, rounds: u32) -> StayRow
+    ensures { result ≡ row_of rounds stay.now }
 {
+    let passage = &stay.passage;
     StayRow {
         stay: Stay {
             ccb: passage.ccb,
@@ -30,28 +38,13 @@ fn stay_row(log: &Log, passage: &Passage) -> StayRow
         },
         device: passage.device,
         arrival: passage.arrival,
-        last: last_round(log, passage),
+        last: match stay.next_arrival {
+            Some(arrival) => arrival.saturating_sub(1),
+            None => rounds,
+        },
         weight: weight_of(passage.priority),
-        live: log.live_round(passage),
+        live: stay.sent.unwrap_or(rounds),
     }
-}
-
-// The last round of the stay: the one before its CCB's next stay arrives, or else the last round of all.
-#[tactic(auto, unfolding(crate::specs::Nets::last_round))]
-fn last_round(log: &Log, passage: &Passage) -> u32
-    ensures { result ≡ last_round log.now passage.now }
-{
-    match next_stay(log.passages(), passage) {
-        Some(next) => next.arrival.saturating_sub(1),
-        None => log.round(),
-    }
-}
-
-// The next stay of the same CCB.
-fn next_stay(stays: &[Passage], passage: &Passage) -> Option<Passage>
-    ensures { result ≡ next_stay stays.now passage.now }
-{
-    stays.iter().copied().find(|next| next.ccb == passage.ccb && next.place > passage.place)
 }
 
 /// The adapter of each device.

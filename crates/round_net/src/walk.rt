@@ -1,22 +1,30 @@
-ghost use Rattle.std.specs.Prelude.{◌≡◌, ℕ, ◌<◌, ◌≤◌, ◌*◌, not, ◌==◌, true, false, length, slice_index, slice_index_or, IfOk, OnOk};
-ghost use Rattle.cam_types.specs.declared.limits.TheConstants.{MOST_ROUNDS, MOST_EVENTS};
-ghost use Rattle.event_log.specs.Counts.{round, freeze_count, adapter_freezes};
-ghost use Rattle.event_log.specs.Head.{openings};
-ghost use Rattle.round_net.specs.Marks.{Marks, Sets, IsNoted};
+//! One pass over the places of a history.
 
-use crate::marks::{mark_adapters, mark_devices, note_openings};
+ghost use Rattle.std.specs.Prelude.{◌≡◌, ℕ, ◌≤◌, not, ◌==◌, true, false, [], length, slice_index, slice_index_or, count_by, IsTrue, IfOk, OnOk};
+ghost use Rattle.cam_types.specs.declared.limits.TheConstants.{MOST_ROUNDS};
+ghost use Rattle.cam_event.specs.Legal.{history_rules, is_legal};
+ghost use Rattle.event_log.specs.Counts.{round, sendings, freeze_count, adapter_freezes};
+ghost use Rattle.event_log.specs.Head.{openings, goes_now_to, goes_now_to_adapter};
+ghost use Rattle.round_net.specs.Marks.{Marks, Sets, IsNoted, HasCells};
+
+use crate::marks::{
+    mark_adapters, mark_devices, note_adapter_sends, note_device_sends, note_openings,
+};
+use cam_event::Rules;
 use cam_types::Config;
-use event_log::{Event, Log};
+use event_log::Event;
 use std::alloc::{AllocError, Global};
+use xpt_adapters::Adapters;
 
-/// What was found on the way through a history: the log of its events, the rounds in which each device and adapter was frozen,
-/// and each device's openings in each round.
+/// What was found at the places of a history, in rows of rounds: whether each device and each adapter was frozen in the
+/// round, how many commands were sent to it, and how many each device took.
 #[derive(Drop)]
-pub struct Walked {
-    pub log: Log,
-    pub dev_marks: Vec<bool>,
-    pub sim_marks: Vec<bool>,
-    pub numbers: Vec<u32>,
+pub struct RoundNotes {
+    pub dev_frozen: Vec<bool>,
+    pub dev_sends: Vec<u32>,
+    pub dev_openings: Vec<u32>,
+    pub sim_frozen: Vec<bool>,
+    pub sim_sends: Vec<u32>,
 }
 
 /// Goes through the places of a history of so many rounds.
@@ -25,101 +33,114 @@ pub fn walk_through(
     config: &Config,
     events: &[Event],
     rounds: u32,
-) -> Result<Walked, AllocError>
+) -> Result<RoundNotes, AllocError>
     requires few { rounds ≤ MOST_ROUNDS }
     requires within { round events.now ≤ rounds }
-    requires short { length events.now ≤ MOST_EVENTS }
-    ensures log { IfOk result (λ walked. walked.log ≡ events.now) }
-    ensures noted { IfOk result (λ walked. IsNoted config.now events.now rounds walked.dev_marks.items walked.sim_marks.items walked.numbers.items) }
-    ensures dev_cells { IfOk result (λ walked. length walked.dev_marks.items ≡ length config.now.devices * rounds) }
-    ensures sim_cells { IfOk result (λ walked. length walked.sim_marks.items ≡ length config.now.adapters * rounds) }
-    ensures number_cells { IfOk result (λ walked. length walked.numbers.items ≡ length config.now.devices * rounds) }
+    requires legal { IsTrue (is_legal history_rules config.now events.now) }
+    ensures noted { IfOk result (λ notes. IsNoted config.now events.now rounds notes.dev_frozen.items notes.sim_frozen.items notes.dev_openings.items notes.dev_sends.items notes.sim_sends.items) }
+    ensures cells { IfOk result (λ notes. HasCells config.now rounds notes.dev_frozen.items notes.sim_frozen.items notes.dev_openings.items notes.dev_sends.items notes.sim_sends.items) }
 {
     let dev_cells = config.devices().len() * rounds as usize;
     let sim_cells = config.adapters().len() * rounds as usize;
-    let mut dev_marks = vec![in alloc; false; dev_cells]?;
-    let mut sim_marks = vec![in alloc; false; sim_cells]?;
-    let mut numbers = vec![in alloc; 0; dev_cells]?;
-    let log = walk(
-        alloc,
-        config,
+    let mut dev_frozen = vec![in alloc; false; dev_cells]?;
+    let mut dev_sends = vec![in alloc; 0; dev_cells]?;
+    let mut dev_openings = vec![in alloc; 0; dev_cells]?;
+    let mut sim_frozen = vec![in alloc; false; sim_cells]?;
+    let mut sim_sends = vec![in alloc; 0; sim_cells]?;
+    walk(
+        Adapters::open(alloc, config.copy(alloc)?, Rules::of_history())?,
         events,
         rounds,
-        &mut dev_marks,
-        &mut sim_marks,
-        &mut numbers,
-    )?;
-    Ok(Walked {
-        log,
-        dev_marks,
-        sim_marks,
-        numbers,
+        &mut dev_frozen,
+        &mut sim_frozen,
+        &mut dev_openings,
+        &mut dev_sends,
+        &mut sim_sends,
+    );
+    Ok(RoundNotes {
+        dev_frozen,
+        dev_sends,
+        dev_openings,
+        sim_frozen,
+        sim_sends,
     })
 }
 
-// The log of the events. On the way each round in which a device or an adapter is frozen is marked in its row, and each
-// device's openings are noted for each round. The rows have to be blank.
+// Lets the events happen again, and notes at each place what is asked of its round. The rows have to be blank.
 fn walk(
-    alloc: Global,
-    config: &Config,
+    mut replay: Adapters,
     events: &[Event],
     rounds: u32,
-    dev_marks: &mut [bool],
-    sim_marks: &mut [bool],
-    numbers: &mut [u32],
-) -> Result<Log, AllocError>
-    requires few { rounds ≤ MOST_ROUNDS }
-    requires within { round events.now ≤ rounds }
-    requires short { length events.now ≤ MOST_EVENTS }
-    requires dev_cells { length config.now.devices * rounds ≤ length dev_marks.old }
-    requires sim_cells { length config.now.adapters * rounds ≤ length sim_marks.old }
-    requires number_cells { length config.now.devices * rounds ≤ length numbers.old }
-    requires no_dev_mark { (i : ℕ) → slice_index_or dev_marks.old i false ≡ false }
-    requires no_sim_mark { (i : ℕ) → slice_index_or sim_marks.old i false ≡ false }
-    requires no_number { (i : ℕ) → slice_index numbers.old i ≡ 0 }
-    ensures log { IfOk result (λ log. log ≡ events.now) }
-    ensures noted { OnOk result (IsNoted config.now events.now rounds dev_marks.new sim_marks.new numbers.new) }
-{
-    let mut log = Log::new(alloc);
-    note(config, &log, rounds, true, dev_marks, sim_marks, numbers);
-    for event in events {
-        log.push(*event)?;
-        note(
-            config,
-            &log,
-            rounds,
-            event.is_tick(),
-            dev_marks,
-            sim_marks,
-            numbers,
-        );
-    }
-    Ok(log)
-}
-
-// Notes what there is to note at the log's place, which may open a round.
-fn note(
-    config: &Config,
-    log: &Log,
-    rounds: u32,
-    opens: bool,
-    dev_marks: &mut [bool],
-    sim_marks: &mut [bool],
-    numbers: &mut [u32],
+    dev_frozen: &mut [bool],
+    sim_frozen: &mut [bool],
+    dev_openings: &mut [u32],
+    dev_sends: &mut [u32],
+    sim_sends: &mut [u32],
 )
     requires few { rounds ≤ MOST_ROUNDS }
-    requires within { round log.now ≤ rounds }
-    requires dev_cells { length config.now.devices * rounds ≤ length dev_marks.old }
-    requires sim_cells { length config.now.adapters * rounds ≤ length sim_marks.old }
-    requires number_cells { length config.now.devices * rounds ≤ length numbers.old }
-    ensures devices { Marks (length config.now.devices) rounds dev_marks.old dev_marks.new (round log.now) (λ d. not (freeze_count log.now d == 0)) }
-    ensures adapters { Marks (length config.now.adapters) rounds sim_marks.old sim_marks.new (round log.now) (λ a. not (adapter_freezes log.now a == 0)) }
-    ensures opened { opens ≡ true → Sets (length config.now.devices) rounds numbers.old numbers.new (round log.now) (openings config.now log.now) }
-    ensures kept { opens ≡ false → numbers.new ≡ numbers.old }
+    requires within { round events.now ≤ rounds }
+    requires start { replay.events ≡ [] }
+    requires rules { replay.rules ≡ history_rules }
+    requires legal { IsTrue (is_legal history_rules replay.config events.now) }
+    requires cells { HasCells replay.config rounds dev_frozen.old sim_frozen.old dev_openings.old dev_sends.old sim_sends.old }
+    requires no_dev_mark { (i : ℕ) → slice_index_or dev_frozen.old i false ≡ false }
+    requires no_sim_mark { (i : ℕ) → slice_index_or sim_frozen.old i false ≡ false }
+    requires no_opening { (i : ℕ) → slice_index dev_openings.old i ≡ 0 }
+    requires no_dev_send { (i : ℕ) → slice_index dev_sends.old i ≡ 0 }
+    requires no_sim_send { (i : ℕ) → slice_index sim_sends.old i ≡ 0 }
+    ensures { IsNoted replay.config events.now rounds dev_frozen.new sim_frozen.new dev_openings.new dev_sends.new sim_sends.new }
+{
+    note(
+        &replay,
+        rounds,
+        true,
+        dev_frozen,
+        sim_frozen,
+        dev_openings,
+        dev_sends,
+        sim_sends,
+    );
+    for event in events {
+        replay.append(*event);
+        note(
+            &replay,
+            rounds,
+            event.is_tick(),
+            dev_frozen,
+            sim_frozen,
+            dev_openings,
+            dev_sends,
+            sim_sends,
+        );
+    }
+}
+
+// Notes what there is to note at the place, which may open a round.
+fn note(
+    replay: &Adapters,
+    rounds: u32,
+    opens: bool,
+    dev_frozen: &mut [bool],
+    sim_frozen: &mut [bool],
+    dev_openings: &mut [u32],
+    dev_sends: &mut [u32],
+    sim_sends: &mut [u32],
+)
+    requires few { rounds ≤ MOST_ROUNDS }
+    requires within { round replay.now.events ≤ rounds }
+    requires cells { HasCells replay.now.config rounds dev_frozen.old sim_frozen.old dev_openings.old dev_sends.old sim_sends.old }
+    ensures devices { Marks (length replay.now.config.devices) rounds dev_frozen.old dev_frozen.new (round replay.now.events) (λ d. not (freeze_count replay.now.events d == 0)) }
+    ensures adapters { Marks (length replay.now.config.adapters) rounds sim_frozen.old sim_frozen.new (round replay.now.events) (λ a. not (adapter_freezes replay.now.events a == 0)) }
+    ensures opened { opens ≡ true → Sets (length replay.now.config.devices) rounds dev_openings.old dev_openings.new (round replay.now.events) (openings replay.now.config replay.now.events) }
+    ensures kept { opens ≡ false → dev_openings.new ≡ dev_openings.old }
+    ensures dev_sends { Sets (length replay.now.config.devices) rounds dev_sends.old dev_sends.new (round replay.now.events) (λ d. count_by (goes_now_to replay.now.events d) (sendings replay.now.events)) }
+    ensures sim_sends { Sets (length replay.now.config.adapters) rounds sim_sends.old sim_sends.new (round replay.now.events) (λ a. count_by (goes_now_to_adapter replay.now.config replay.now.events a) (sendings replay.now.events)) }
 {
     if opens {
-        note_openings(config, log, rounds, numbers);
+        note_openings(replay, rounds, dev_openings);
     }
-    mark_devices(log, rounds, config.devices().len() as u32, dev_marks);
-    mark_adapters(log, rounds, config.adapters().len() as u32, sim_marks);
+    mark_devices(replay, rounds, dev_frozen);
+    mark_adapters(replay, rounds, sim_frozen);
+    note_device_sends(replay, rounds, dev_sends);
+    note_adapter_sends(replay, rounds, sim_sends);
 }

@@ -1,4 +1,3 @@
+pub mod TreeLemmas
+pub mod HeadLemmas
 pub mod RowLemmas
-pub mod ReadyLemmas
-pub mod ChangeLemmas
-pub mod TurnLemmas

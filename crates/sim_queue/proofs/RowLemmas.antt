@@ -1,133 +1,117 @@
--- The rows of an adapter and the entries of the ready ones.
-use Rattle.std.proofs.Common.{◌≡◌, ◌≢◌, ℕ, suc, ◌+◌, ◌^◌, ◌<◌, ◌≤◌, ◌==◌, nat_lt, cond, true, List, [], ◌∷◌, length, get_or, count_by, Option, Some, None, ◌⊎◌, inl, inr, ap, sym, refl, ◌∙◌, arith}
-use Rattle.std.proofs.lemmas.Bool.{or_cases, eqb-true, false≢true}
-use Rattle.std.proofs.lemmas.List.Elements.{All-contains, All-cons, All-tail, All-head}
-use Rattle.std.proofs.lemmas.List.Sums.{sum_by-cons}
-use Rattle.std.specs.List.{All, cons_option}
-use Rattle.camq_heap.specs.declared.entry.Entry.{Entry}
-use Rattle.camq_heap.specs.Order.{rank, AllApart}
-use Rattle.camq_heap.specs.Queue.{key}
-use Rattle.camq_heap.proofs.OrderLemmas.{IsAmong, Contains-from_among, AllApart-head, AllApart-tail, AllApart-cons}
-use Rattle.camq_heap.proofs.QueueLemmas.{keys_apart}
+-- Rows of rising numbers, of which one is changed.
+use Rattle.std.proofs.Common.{◌≡◌, ◌≢◌, ℕ, ◌+◌, ◌<◌, ◌==◌, nat_lt, cond, Bool, true, false, List, [], ◌∷◌, ◌++◌, length, take, drop, get_or, map, inl, inr, ap, sym, subst, refl, ◌∙◌, arith}
+use Rattle.std.proofs.lemmas.Bool.{cases_eq, cases_order, cases_lt, eq-eqb, ne_eqb, eqb-true, ltb-true, ltb-false, cond-true, cond-false}
+use Rattle.std.proofs.lemmas.List.{get_or-map, get_or_default, get_or-set_same, get_or-set_other, length-set, length-map, map-set, set-get_or, same_lists, take_at}
+use Rattle.std.proofs.lemmas.List.Folds.{Any-from_list_any}
+use Rattle.std.proofs.lemmas.List.FromFn.{get_or-range_with_len, length-range_with_len}
+use Rattle.std.proofs.lemmas.List.Kept.{AllPairs-from_increasing, IsStrictlyIncreasing-filter}
+use Rattle.std.proofs.Math.ListN.{set}
+use Rattle.std.specs.Prelude.{filter}
+use Rattle.std.specs.List.{range_with_len}
+use Rattle.std.specs.List.Sorted.{IsStrictlyIncreasing, IsPartitionPoint, IsNonDecreasingBy}
 use Rattle.sim_queue.specs.declared.row.Row.{Row}
-use Rattle.sim_queue.specs.Adapter.{is_named}
-use Rattle.sim_queue.specs.Ready.{generation_of, entry_at, entry_of, goes_before, ready_entries, IsRow}
+use Rattle.sim_queue.specs.Adapter.{new_row, is_named}
+use Rattle.sim_queue.specs.Winners.{IsTree, IsSound}
 
--- the row of a device that is named is there
-pub named_somewhere : (rows : List Row) (device : ℕ) → is_named device rows ≡ true → ((k : ℕ) (d : Row) → k < length rows → (get_or rows k d).device ≢ device) → ⊥
-named_somewhere [] device named none = false≢true named
-named_somewhere (r ∷ rows) device named none =
-    elim (or_cases (r.device == device) (is_named device rows) named) [
-      | inl here ↦ none 0 r (omega arith) (eqb-true r.device device here)
-      | inr later ↦ named_somewhere rows device later (λ k d inside. none (suc k) d (omega arith))
-    ]
+-- numbers in a range rise, and so do those of them that pass a test
+pub rising-filter : (test : ℕ → Bool) (n : ℕ) → IsStrictlyIncreasing (filter test (range_with_len 0 n))
+rising-filter test n =
+    IsStrictlyIncreasing-filter test (range_with_len 0 n)
+    (λ k low. let inside : k + 1 < n = omega (arith, length-range_with_len 0 n) in omega (arith, get_or-range_with_len 0 n k 0 (omega arith), get_or-range_with_len 0 n (k + 1) 0 inside))
 
--- a row by its parts
-abbrev row_of : ℕ → ℕ → Option ℕ → Row
-row_of device turn priority = record { device = device; turn = turn; priority = priority }
+pub device-new : (devices : List ℕ) → map (λ r. r.device) (map new_row devices) ≡ devices
+device-new [] = refl
+device-new (d ∷ devices) = ap (λ l. d ∷ l) (device-new devices)
 
-count_entry : (n device turn : ℕ) (p : Option ℕ) (es : List (Entry ℕ)) → cond (goes_before n (row_of device turn p)) 1 0 + rank key n es ≡ rank key n (cons_option (entry_of (row_of device turn p)) es)
-count_entry n device turn None es = omega arith
-count_entry n device turn (Some p) es = sym (sum_by-cons (λ e. cond (nat_lt (key e) n) 1 0) (entry_at (row_of device turn (Some p)) p) es)
+module _ (rows : List Row) (rising : IsStrictlyIncreasing (map (λ r. r.device) rows)) where
+  rises : (i j : ℕ) (d : Row) → i < j → j < length rows → (get_or rows i d).device < (get_or rows j d).device
+  rises i j d less inside =
+      let number = λ (k : ℕ) (low : k < length rows). get_or-map (λ (r : Row). r.device) rows k d 0 low in
+      omega (
+        arith,
+        number i (omega arith),
+        number j inside,
+        AllPairs-from_increasing (map (λ r. r.device) rows) rising i j 0 less (omega (arith, length-map rows (λ (r : Row). r.device))),
+      )
 
--- how many ready rows go before a key is its rank among their entries
-pub count_by-goes_before : (n : ℕ) (rows : List Row) → count_by (goes_before n) rows ≡ rank key n (ready_entries rows)
-count_by-goes_before n [] = refl
-count_by-goes_before n (r ∷ rows) =
-    sum_by-cons (λ s. cond (goes_before n s) 1 0) r rows ∙ ap (λ m. cond (goes_before n r) 1 0 + m) (count_by-goes_before n rows)
-    ∙ count_entry n r.device r.turn r.priority (ready_entries rows)
+  pub IsNonDecreasingBy-device : IsNonDecreasingBy (λ r. r.device) rows
+  IsNonDecreasingBy-device i j d le inside =
+      elim (cases_eq i j) [ inl same ↦ omega (arith, ap (λ k. (get_or rows k d).device) same) | inr less ↦ omega (arith, rises i j d (omega arith) inside) ]
 
-among_entry : (e : Entry ℕ) (device turn : ℕ) (p : Option ℕ) (es : List (Entry ℕ)) → IsAmong e (cons_option (entry_of (row_of device turn p)) es) → (entry_of (row_of device turn p) ≡ Some e) ⊎ IsAmong e es
-among_entry e device turn None es a = inr a
-among_entry e device turn (Some p) es (inl same) = inl (ap Some (sym same))
-among_entry e device turn (Some p) es (inr a) = inr a
+  -- the place up to which the numbers are less is that of a device that is named
+  pub point : (device at : ℕ) → is_named device rows ≡ true → IsPartitionPoint (λ r. nat_lt r.device device ≡ true) (λ r. nat_lt r.device device ≡ false) rows at
+      → (at < length rows) × ((d : Row) → (get_or rows at d).device ≡ device)
+  point device at named parts =
+      let found = Any-from_list_any (λ r. r.device == device) rows named in
+      let k = found.0 in
+      let r = found.1 in
+      let here : (get_or rows k r).device ≡ device = ap (λ s. s.device) found.3 ∙ eqb-true r.device device found.4 in
+      let same : at ≡ k = elim (cases_order at k) [
+        | inl e ↦ e
+        | inr differ ↦ elim differ [
+          | inl less ↦ absurd (omega (arith, rises at k r less found.2, ltb-false (get_or rows at r).device device (parts.1 at r (omega arith) (omega (arith, found.2)))))
+          | inr more ↦ absurd (omega (arith, ltb-true (get_or rows k r).device device (parts.0 k r (omega arith) more)))
+        ]
+      ] in
+      (omega (arith, found.2), λ d. ap (λ s. s.device) (get_or_default rows at d r (omega (arith, found.2)) ∙ ap (λ i. get_or rows i r) same) ∙ here)
 
--- an entry of the ready ones is a row's
-pub IsAmong-ready : (e : Entry ℕ) (rows : List Row) → IsAmong e (ready_entries rows) → (r : Row) × IsAmong r rows × (entry_of r ≡ Some e)
-IsAmong-ready e [] a = absurd a
-IsAmong-ready e (r ∷ rows) a =
-    elim (among_entry e r.device r.turn r.priority (ready_entries rows) a) [
-      | inl is ↦ (r, inl refl, is)
-      | inr later ↦ let found = IsAmong-ready e rows later in (found.0, inr found.1, found.2)
-    ]
+  -- a write to the row of a device changes it alone
+  set-changed : (f : Row → Row) (device at : ℕ) (x : Row) → at < length rows → ((d : Row) → (get_or rows at d).device ≡ device) → x ≡ get_or rows at x
+      → set rows at (f x) ≡ map (λ r. cond (r.device == device) (f r) r) rows
+  set-changed f device at x inside named is =
+      same_lists (set rows at (f x)) (map (λ r. cond (r.device == device) (f r) r) rows)
+      (length-set rows at (f x) ∙ sym (length-map rows (λ (r : Row). cond (r.device == device) (f r) r)))
+      (λ k d low.
+      let low_before : k < length rows = omega (arith, length-set rows at (f x)) in
+      let r = get_or rows k d in
+      elim (cases_eq k at) [
+        | inl same ↦
+            let own : r ≡ x = ap (λ i. get_or rows i d) same ∙ get_or_default rows at d x inside ∙ sym is in
+            ap (λ i. get_or (set rows at (f x)) i d) same ∙ get_or-set_same rows at (f x) d inside ∙ ap f (sym own)
+            ∙ sym (cond-true (r.device == device) (f r) r (eq-eqb r.device device (ap (λ i. (get_or rows i d).device) same ∙ named d)))
+            ∙ sym (get_or-map (λ (s : Row). cond (s.device == device) (f s) s) rows k d d low_before)
+        | inr other ↦
+            let differs : r.device ≢ device = λ e. elim (cases_lt k at) [
+              | inl less ↦ absurd (omega (arith, rises k at d less inside, named d))
+              | inr more ↦ absurd (omega (arith, rises at k d (omega arith) low_before, named d))
+            ] in
+            get_or-set_other rows at k (f x) d other ∙ sym (cond-false (r.device == device) (f r) r (ne_eqb r.device device differs))
+            ∙ sym (get_or-map (λ (s : Row). cond (s.device == device) (f s) s) rows k d d low_before)
+      ])
 
-entry_among : (e : Entry ℕ) (o : Option (Entry ℕ)) (es : List (Entry ℕ)) → (o ≡ Some e) ⊎ IsAmong e es → IsAmong e (cons_option o es)
-entry_among e None es (inl is) = absurd (cc)
-entry_among e None es (inr a) = a
-entry_among e (Some f) es (inl is) = let same : e ≡ f = cc in inl same
-entry_among e (Some f) es (inr a) = inr a
+  -- and keeps the numbers, if it keeps its own
+  rising-set : (at : ℕ) (x y : Row) → at < length rows → x ≡ get_or rows at x → y.device ≡ x.device → IsStrictlyIncreasing (map (λ r. r.device) (set rows at y))
+  rising-set at x y inside is keeps =
+      let own : y.device ≡ get_or (map (λ (r : Row). r.device) rows) at 0 = keeps ∙ ap (λ r. r.device) is ∙ sym (get_or-map (λ (r : Row). r.device) rows at x 0 inside) in
+      subst IsStrictlyIncreasing
+      (sym (map-set (λ (r : Row). r.device) rows at y ∙ ap (set (map (λ (r : Row). r.device) rows) at) own ∙ set-get_or (map (λ (r : Row). r.device) rows) at 0))
+      rising
 
--- the entry of a ready row is one of the ready ones
-pub ready-has : (e : Entry ℕ) (r : Row) (rows : List Row) → IsAmong r rows → entry_of r ≡ Some e → IsAmong e (ready_entries rows)
-ready-has e r [] a is = absurd a
-ready-has e r (s ∷ rows) (inl same) is = entry_among e (entry_of s) (ready_entries rows) (inl (ap entry_of (sym same) ∙ is))
-ready-has e r (s ∷ rows) (inr a) is = entry_among e (entry_of s) (ready_entries rows) (inr (ready-has e r rows a is))
+-- a slice of a `Vec` that was lent, and one row written
+back_written : (rows lent new : List Row) (at m : ℕ) (y : Row) → lent ≡ rows → new ≡ set lent at y → m ≡ length rows → take m (new ++ drop (length new) rows) ≡ set rows at y
+back_written rows lent new at m y same written size =
+    let here : new ≡ set rows at y = written ∙ ap (λ l. set l at y) same in
+    take_at new (drop (length new) rows) m (ap length here ∙ length-set rows at y ∙ sym size) ∙ here
 
--- what an entry says of its row
-pub record IsEntryOf (r : Row) (e : Entry ℕ) : Type 0 where
-  pub priority : r.priority ≡ Some e.priority
-  pub generation : e.generation ≡ generation_of r
-  pub item : e.item ≡ r.device
+-- the write keeps a queue sound
+pub IsSound-written : (rows seen lent new : List Row) (ws news : List ℕ) (callers at m n : ℕ) (x y : Row) → IsSound rows ws callers → seen ≡ rows → at < length seen → x ≡ get_or rows at x → y.device ≡ x.device
+    → lent ≡ rows → new ≡ set lent at y → IsTree new news → m ≡ length rows → n ≡ length ws → IsSound (take m (new ++ drop (length new) rows)) (take n (news ++ drop (length news) ws)) callers
+IsSound-written rows seen lent new ws news callers at m n x y sound shown inside is keeps same written tree rows_len ws_len =
+    let back = back_written rows lent new at m y same written rows_len in
+    let here : new ≡ set rows at y = written ∙ ap (λ l. set l at y) same in
+    let inside_here : at < length rows = omega (arith, ap length shown) in
+    let backs : take n (news ++ drop (length news) ws) ≡ news =
+    take_at news (drop (length news) ws) n (tree.size ∙ ap length here ∙ length-set rows at y ∙ sym sound.tree.size ∙ sym ws_len) in
+    record {
+      rising = subst (λ l. IsStrictlyIncreasing (map (λ r. r.device) l)) (sym back) (rising-set rows sound.rising at x y inside_here is keeps);
+      tree = subst (IsTree (take m (new ++ drop (length new) rows))) (sym backs) (subst (λ l. IsTree l news) (here ∙ sym back) tree);
+      few_freezes = sound.few_freezes;
+    }
 
-entry_says : (e : Entry ℕ) (device turn : ℕ) (p : Option ℕ) → entry_of (row_of device turn p) ≡ Some e → IsEntryOf (row_of device turn p) e
-entry_says e device turn None is = absurd (cc)
-entry_says e device turn (Some p) is =
-    let same : entry_at (row_of device turn (Some p)) p ≡ e = cc in
-    record { priority = ap (λ x. Some x.priority) same; generation = sym (ap (λ x. x.generation) same); item = sym (ap (λ x. x.item) same) }
-
-pub IsEntryOf-from : (r : Row) (e : Entry ℕ) → entry_of r ≡ Some e → IsEntryOf r e
-IsEntryOf-from r e is = entry_says e r.device r.turn r.priority is
-
-pub row_fits : (rows : List Row) (r : Row) → All IsRow rows → IsAmong r rows → IsRow r
-row_fits rows r fits a = All-contains IsRow rows r fits (Contains-from_among rows r a)
-
-apart_entry : (o : Option (Entry ℕ)) (es : List (Entry ℕ)) → ((e y : Entry ℕ) → o ≡ Some e → IsAmong y es → y.generation ≢ e.generation) → AllApart (λ e. e.generation) es → AllApart (λ e. e.generation) (cons_option o es)
-apart_entry None es differ h = h
-apart_entry (Some e) es differ h = AllApart-cons (λ x. x.generation) e es (λ y a. differ e y refl a) h
-
--- the generations of ready devices are apart
-pub AllApart-ready : (rows : List Row) → AllApart (λ r. r.device) rows → All IsRow rows → AllApart (λ e. e.generation) (ready_entries rows)
-AllApart-ready [] apart fits = λ n. omega arith
-AllApart-ready (r ∷ rows) apart fits =
-    apart_entry (entry_of r) (ready_entries rows)
-    (λ e y is a same.
-    let found = IsAmong-ready y rows a in
-    let mine = IsEntryOf-from r e is in
-    let theirs = IsEntryOf-from found.0 y found.2 in
-    let my_fit = row_fits (r ∷ rows) r fits (inl refl) in
-    let their_fit = row_fits (r ∷ rows) found.0 fits (inr found.1) in
-    AllApart-head (λ s. s.device) r rows apart found.0 found.1
-    (same_device found.0 r their_fit my_fit (sym theirs.generation ∙ same ∙ mine.generation)))
-    (AllApart-ready rows (AllApart-tail (λ s. s.device) r rows apart) (All-tail IsRow r rows fits))
-  where
-    same_device : (r s : Row) → IsRow r → IsRow s → generation_of r ≡ generation_of s → r.device ≡ s.device
-    same_device r s h k e = let a = h.device in let b = k.device in omega arith
-
-fits_entry : (o : Option (Entry ℕ)) (es : List (Entry ℕ)) → ((e : Entry ℕ) → o ≡ Some e → e.generation < 2 ^ 64) → All (λ e. e.generation < 2 ^ 64) es → All (λ e. e.generation < 2 ^ 64) (cons_option o es)
-fits_entry None es first h = h
-fits_entry (Some e) es first h = All-cons (λ x. x.generation < 2 ^ 64) e es (first e refl) h
-
--- they fit 64 bits
-pub fits_ready : (rows : List Row) → All IsRow rows → All (λ e. e.generation < 2 ^ 64) (ready_entries rows)
-fits_ready [] fits = λ k d inside. absurd (omega arith)
-fits_ready (r ∷ rows) fits =
-    fits_entry (entry_of r) (ready_entries rows)
-    (λ e is.
-    let says = (IsEntryOf-from r e is).generation in
-    let fit = All-head IsRow r rows fits in
-    let device = fit.device in
-    let turn = fit.turn in
-    omega arith)
-    (fits_ready rows (All-tail IsRow r rows fits))
-
--- so are their keys
-pub keys_apart_ready : (rows : List Row) → AllApart (λ r. r.device) rows → All IsRow rows → AllApart key (ready_entries rows)
-keys_apart_ready rows apart fits = keys_apart (ready_entries rows) (AllApart-ready rows apart fits) (fits_ready rows fits)
-
-length_entry : (o : Option (Entry ℕ)) (es : List (Entry ℕ)) → length (cons_option o es) ≤ length es + 1
-length_entry None es = omega arith
-length_entry (Some e) es = omega arith
-
-pub length-ready : (rows : List Row) → length (ready_entries rows) ≤ length rows
-length-ready [] = omega arith
-length-ready (r ∷ rows) = omega (arith, length_entry (entry_of r) (ready_entries rows), length-ready rows)
+-- and is to the rows what was said
+pub rows_written : (f : Row → Row) (rows seen lent new : List Row) (device at m : ℕ) (x : Row) → IsStrictlyIncreasing (map (λ r. r.device) rows) → seen ≡ rows → at < length seen
+    → ((d : Row) → (get_or seen at d).device ≡ device) → x ≡ get_or rows at x → lent ≡ rows → new ≡ set lent at (f x) → m ≡ length rows
+    → take m (new ++ drop (length new) rows) ≡ map (λ r. cond (r.device == device) (f r) r) rows
+rows_written f rows seen lent new device at m x rising shown inside named is same written size =
+    back_written rows lent new at m (f x) same written size
+    ∙ set-changed rows rising f device at x (omega (arith, ap length shown)) (subst (λ l. (d : Row) → (get_or l at d).device ≡ device) shown named) is

@@ -10,3 +10,4 @@ mod fault;
 mod queue;
 mod row;
 mod rows;
+mod winners;

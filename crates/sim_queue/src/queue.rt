@@ -1,8 +1,8 @@
 use crate::fault::{FreezeOverflow, ReleaseTooMany};
 use crate::row::Row;
-use crate::rows::{first_device, new_rows, place_of, put_in, take_out};
+use crate::rows::{new_rows, place_of};
+use crate::winners::{first_device, new_winners, put_row};
 use cam_types::Priority;
-use camq_heap::Camq;
 use std::alloc::{AllocError, Global};
 use std::marker::Model;
 
@@ -12,11 +12,12 @@ const MOST_FREEZES: u32 = 65_535;
 /// An adapter's choice among its devices: which of the ready ones sends next.
 ///
 /// Devices take turns by the priority of their first CCB, then least recently sent to, one never sent to
-/// before all others, then by number. Nothing grows after `open`.
+/// before all others, then by number. The head stands at the root of a winner tree, so `set_ready` and
+/// `send` take a binary search and one walk up the tree. Nothing grows after `open`.
 #[derive(Drop)]
 pub struct SimQueue {
     rows: Vec<Row>,
-    ready: Camq<u32>,
+    winners: Vec<usize>,
     openings: u32,
     sent: u32,
     callers: u32,
@@ -24,7 +25,7 @@ pub struct SimQueue {
 
 impl Model for SimQueue {
     ghost use Rattle.sim_queue.specs.Adapter.{Adapter};
-    ghost use Rattle.sim_queue.specs.Ready.{IsSound};
+    ghost use Rattle.sim_queue.specs.Winners.{IsSound};
 
     ghost Value = { Adapter };
 
@@ -35,23 +36,24 @@ impl Model for SimQueue {
       callers = a.callers;
     } };
 
-    ghost invariant = { λ a. IsSound a.rows.items a.ready a.callers };
+    ghost invariant = { λ a. IsSound a.rows.items a.winners.items a.callers };
 }
 
 impl SimQueue {
     ghost use Rattle.std.specs.Prelude.{◌≡◌, ℕ, ◌+◌, ◌-◌, ◌^◌, ◌<◌, ◌≤◌, ◌==◌, ◌↔◌, nat_le, not, true, Some, map, IfOk, IsOk, OnOk, OnErr};
-    ghost use Rattle.camq_heap.specs.Order.{AllApart};
+    ghost use Rattle.std.specs.List.Sorted.{IsStrictlyIncreasing};
     ghost use Rattle.sim_queue.specs.Adapter.{new_row, is_named, with_priority, with_send, can_send, best_ready};
 
-    /// A queue for these devices, of distinct numbers, with so many openings in each round. No device is
+    /// A queue for these devices, of rising numbers, with so many openings in each round. No device is
     /// ready, and none was sent to.
     pub fn open(alloc: Global, openings: u32, devices: &[u32]) -> Result<SimQueue, AllocError>
-        requires { AllApart (λ device. device) devices.now }
+        requires { IsStrictlyIncreasing devices.now }
         ensures { IfOk result (λ a. a ≡ record { rows = map new_row devices.now; openings = openings; sent = 0; callers = 0 }) }
     {
+        let rows = new_rows(alloc, devices)?;
         Ok(SimQueue {
-            rows: new_rows(alloc, devices)?,
-            ready: Camq::with_capacity(alloc, devices.len())?,
+            winners: new_winners(alloc, &rows)?,
+            rows,
             openings,
             sent: 0,
             callers: 0,
@@ -107,9 +109,11 @@ impl SimQueue {
         ensures { self.new ≡ record self.old { rows = with_priority device priority self.old.rows } }
     {
         let at = place_of(&self.rows, device);
-        take_out(&mut self.ready, &self.rows, at);
-        self.rows[at].priority = priority;
-        put_in(&mut self.ready, &self.rows, at);
+        let row = Row {
+            priority,
+            ..self.rows[at]
+        };
+        put_row(&mut self.rows, &mut self.winners, at, row);
     }
 
     /// The device whose turn it is; none while the adapter is frozen or has used its openings.
@@ -119,7 +123,7 @@ impl SimQueue {
         if !self.can_send() {
             return None;
         }
-        first_device(&self.ready)
+        first_device(&self.rows, &self.winners)
     }
 
     // Whether no freeze holds and an opening of this round is left.
@@ -137,9 +141,11 @@ impl SimQueue {
         ensures { self.new ≡ record self.old { rows = with_send device place self.old.rows; sent = self.old.sent + 1 } }
     {
         let at = place_of(&self.rows, device);
-        take_out(&mut self.ready, &self.rows, at);
-        self.rows[at].turn = place + 1;
-        put_in(&mut self.ready, &self.rows, at);
+        let row = Row {
+            turn: place + 1,
+            ..self.rows[at]
+        };
+        put_row(&mut self.rows, &mut self.winners, at, row);
         self.sent += 1;
     }
 

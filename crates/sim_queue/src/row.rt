@@ -1,8 +1,5 @@
 use cam_types::Priority;
 
-/// More than any device's number.
-const DEVICES: u64 = 4_294_967_296;
-
 /// What an adapter knows of one of its devices.
 #[derive(Clone, Copy, Debug)]
 pub struct Row {
@@ -15,26 +12,23 @@ pub struct Row {
 }
 
 impl Row {
-    ghost use Rattle.std.specs.Prelude.{◌≡◌, ◌+◌, ◌*◌, ◌^◌};
-    ghost use Rattle.sim_queue.specs.Ready.{generation_of, goes_before};
+    ghost use Rattle.std.specs.Prelude.{◌≡◌};
+    ghost use Rattle.cam_types.specs.Lists.{is_less};
+    ghost use Rattle.sim_queue.specs.Winners.{ready_key};
 
-    /// What decides between ready devices of one priority: the last send, then the number.
-    pub(crate) fn generation(&self) -> u64
-        ensures { result ≡ generation_of self.now }
+    /// Whether this device goes before the other: a ready one before one that isn't, then by turn.
+    pub(crate) fn goes_before(&self, other: &Row) -> bool
+        ensures { result ≡ is_less (ready_key self.now) (ready_key other.now) }
     {
-        let (turn, device) = (self.turn, self.device);
-        u64::from(turn) * DEVICES + u64::from(device)
-    }
-
-    /// Whether this device is ready and takes its turn before an entry of this priority and generation.
-    pub(crate) fn is_before(&self, priority: Priority, generation: u64) -> bool
-        ensures { result ≡ goes_before (priority * 2 ^ 64 + generation) self.now }
-    {
-        let own = self.generation();
-        match self.priority {
-            Some(mine) if mine == priority => own < generation,
-            Some(mine) => mine < priority,
-            None => false,
+        let longer_ago = if self.turn == other.turn {
+            self.device < other.device
+        } else {
+            self.turn < other.turn
+        };
+        match (self.priority, other.priority) {
+            (Some(mine), Some(theirs)) => mine < theirs || (mine == theirs && longer_ago),
+            (None, None) => longer_ago,
+            (mine, _) => mine.is_some(),
         }
     }
 }

@@ -10,10 +10,10 @@ ghost use Rattle.trace_file.specs.Trace.{IsTrace, IsHistory, WasTrace, Explains}
 use crate::records::take_records;
 use crate::trace_fault::TraceFault;
 use crate::trace_stage::TraceStage;
-use cam_event::History;
 use cam_types::{Watched, WholeFault, read_whole};
 use std::alloc::Global;
 use std::io::Read;
+use xpt_state::History;
 
 /// Reads a trace to the end of the input. A fault of the text names the first record that fails, and the first test
 /// that it fails: of its length, word and place; of its fields; of the configuration's rules; of its event.

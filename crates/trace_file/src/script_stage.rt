@@ -23,7 +23,7 @@ use std::alloc::Global;
 pub const MOST_ROWS: u32 = 4096;
 
 /// What a script has said so far.
-#[derive(Debug, Drop)]
+#[derive(Drop)]
 pub(crate) enum ScriptStage {
     /// Nothing: the header is due.
     Header,

@@ -8,13 +8,14 @@ use crate::rows::{device_at, event_at, one_number};
 use crate::stage::Stage;
 use crate::trace_fault::TraceFault;
 use crate::word::Word;
-use cam_event::{Event, History, PushFault};
+use cam_event::Event;
 use cam_types::{Config, ConfigDraft, ConfigError, ConfigFault};
 use csv::ByteRecord;
 use std::alloc::Global;
+use xpt_state::History;
 
 /// What a trace has said so far.
-#[derive(Debug, Drop)]
+#[derive(Drop)]
 pub(crate) enum TraceStage {
     /// Nothing: the header is due.
     Header,
@@ -128,9 +129,9 @@ impl TraceStage {
                 number,
                 ConfigFault::NoAdapters,
             )),
-            TraceStage::Adapters(draft) => with_event(without_events(alloc, draft), number, event),
-            TraceStage::Devices(draft) => with_event(without_events(alloc, draft), number, event),
-            TraceStage::Lanes(draft) => with_event(without_events(alloc, draft), number, event),
+            TraceStage::Adapters(draft) => with_event(without_events(alloc, draft)?, number, event),
+            TraceStage::Devices(draft) => with_event(without_events(alloc, draft)?, number, event),
+            TraceStage::Lanes(draft) => with_event(without_events(alloc, draft)?, number, event),
             TraceStage::Events(history) => with_event(history, number, event),
         }
     }
@@ -190,15 +191,15 @@ impl TraceStage {
     #[tactic(auto, unfolding(crate::specs::Reading::ended, crate::specs::Sound::IsSound))]
     pub(crate) fn finish(self, alloc: Global) -> Result<History, TraceFault>
         requires { IsSound self }
-        ensures value { result ≡ ended self }
+        ensures value { result ≢ Err TraceFault.OutOfMemory → result ≡ ended self }
         ensures kept { IfOk result (λ h. IsKept h) }
     {
         match self {
             TraceStage::Header => Err(TraceFault::BadHeader),
             TraceStage::First => Err(TraceFault::BadConfig(2, ConfigFault::NoAdapters)),
-            TraceStage::Adapters(draft) => Ok(without_events(alloc, draft)),
-            TraceStage::Devices(draft) => Ok(without_events(alloc, draft)),
-            TraceStage::Lanes(draft) => Ok(without_events(alloc, draft)),
+            TraceStage::Adapters(draft) => without_events(alloc, draft),
+            TraceStage::Devices(draft) => without_events(alloc, draft),
+            TraceStage::Lanes(draft) => without_events(alloc, draft),
             TraceStage::Events(history) => Ok(history),
         }
     }
@@ -297,17 +298,19 @@ fn with_event(mut history: History, number: u32, event: Event) -> Result<TraceSt
 {
     match history.push(event) {
         Ok(()) => Ok(TraceStage::Events(history)),
-        Err(PushFault::Refused(refusal)) => Err(TraceFault::Illegal(number, refusal)),
-        Err(PushFault::OutOfMemory) => Err(TraceFault::OutOfMemory),
+        Err(refusal) => Err(TraceFault::Illegal(number, refusal)),
     }
 }
 
-fn without_events(alloc: Global, draft: ConfigDraft) -> History
+fn without_events(alloc: Global, draft: ConfigDraft) -> Result<History, TraceFault>
     requires begun { IsBegun draft }
-    ensures value { result ≡ record { config = draft; events = [] } }
-    ensures kept { IsKept result }
+    ensures value { result ≢ Err TraceFault.OutOfMemory → result ≡ Ok (record { config = draft; events = [] }) }
+    ensures kept { IfOk result IsKept }
 {
-    History::new(alloc, finished(draft))
+    match History::new(alloc, finished(draft)) {
+        Ok(history) => Ok(history),
+        Err(_) => Err(TraceFault::OutOfMemory),
+    }
 }
 
 /// A draft with an adapter is a configuration.

@@ -1,25 +1,25 @@
 //! A transport's adapters beside a history of the same events.
 
 ghost use Rattle.std.specs.Prelude.{◌≡◌};
-ghost use Rattle.cam_types.specs.Bounds.{most_bounds};
+ghost use Rattle.cam_event.specs.Legal.{history_rules};
 
-use cam_event::{Event, History};
-use cam_types::{Config, Limits};
+use cam_event::{Event, Rules};
+use cam_types::Config;
 use std::process::Abort;
 use std::test::Fail;
 use test_events::{PLAIN, device, done, freeze, freeze_sim, release_sim, send, submit};
 use xpt_adapters::Adapters;
+use xpt_state::History;
 
 // Appends an event to adapters and to a history of the same events, which takes what is legal.
 fn append(rt: &impl Abort, history: &mut History, adapters: &mut Adapters, event: &Event)
     requires config { history.old.config ≡ adapters.old.config }
     requires events { history.old.events ≡ adapters.old.events }
-    requires limits { adapters.old.limits ≡ most_bounds }
+    requires rules { adapters.old.rules ≡ history_rules }
     ensures config { history.new.config ≡ adapters.new.config }
     ensures events { history.new.events ≡ adapters.new.events }
-    ensures limits { adapters.new.limits ≡ most_bounds }
+    ensures rules { adapters.new.rules ≡ history_rules }
 {
-    assert!(rt; adapters.devices().commands() < 1024);
     match history.push(*event) {
         Ok(()) => adapters.append(*event),
         Err(_) => panic!(rt; "the event is refused"),
@@ -47,8 +47,8 @@ fn devices_of_an_adapter_take_turns(rt: HostRuntime) -> Result<(), Fail> {
     let alloc = rt.alloc();
     let devices = [device(0, 1, 2), device(0, 2, 2), device(1, 1, 2)];
     let config = Config::new(alloc, &[2, 1], &devices, &[0, 1])?;
-    let mut history = History::new(alloc, config.copy(alloc)?);
-    let mut adapters = Adapters::open(alloc, config, Limits::most())?;
+    let mut history = History::new(alloc, config.copy(alloc)?)?;
+    let mut adapters = Adapters::open(alloc, config, Rules::of_history())?;
     let none = (None, 0, true);
     let used = (None, 0, false);
     let turn = |ccb, device| (Some((ccb, device)), 0, true);

@@ -1,11 +1,11 @@
-//! The same calls on a transport and events on a history.
+//! The same calls on a transport, and events on a transport and a history.
 
-use cam_event::{Event, History, PushFault, Refusal};
+use cam_event::{Event, Refusal};
 use cam_types::{Config, Device, Limits};
 use std::alloc::Global;
 use std::process::Abort;
 use std::test::Fail;
-use xpt_state::{Idle, Reply, Sent, Xpt};
+use xpt_state::{History, Idle, Reply, Sent, Xpt};
 
 /// What is due of an event.
 #[derive(Clone, Copy, Debug, PartialEq)]
@@ -22,10 +22,11 @@ pub(crate) enum Due {
     Idle(Idle),
 }
 
-/// A transport and a history of the same events.
+/// A transport, one that takes the same events as events, and a history of them.
 #[derive(Drop)]
 pub(crate) struct Both {
     pub(crate) xpt: Xpt,
+    taker: Xpt,
     history: History,
 }
 
@@ -39,18 +40,28 @@ impl Both {
         limits: Limits,
     ) -> Result<Both, Fail> {
         let config = Config::new(alloc, adapters, devices, lanes)?;
-        let history = History::new(alloc, config.copy(alloc)?);
+        let history = History::new(alloc, config.copy(alloc)?)?;
+        let taker = Xpt::open(alloc, config.copy(alloc)?, limits)?;
         let xpt = Xpt::open(alloc, config, limits)?;
-        Ok(Both { xpt, history })
+        Ok(Both {
+            xpt,
+            taker,
+            history,
+        })
     }
 
     /// Makes the calls, and holds each answer against what is due.
     pub(crate) fn take(&mut self, rt: &impl Abort, steps: &[(Event, Due)]) {
         for (event, due) in steps {
+            let refusal = self.xpt.refusal(event);
             let given = call(&mut self.xpt, *event);
             assert!(rt;
                 is_due(given, *due),
                 "{event:?} gave {given:?}, due {due:?}"
+            );
+            assert!(rt;
+                agrees(self.taker.take(*event), refusal, given),
+                "{event:?} is taken otherwise than called"
             );
             self.push(rt, *event, *due);
         }
@@ -63,8 +74,7 @@ impl Both {
                 assert!(rt; self.history.push(event).is_ok(), "{event:?} is refused");
             }
             Due::Refused(why) => {
-                let refused = Err(PushFault::Refused(why));
-                assert!(rt; self.history.push(event) == refused, "{event:?}");
+                assert!(rt; self.history.push(event) == Err(why), "{event:?}");
             }
             Due::Idle(_) => assert!(rt; self.history.push(event).is_err(), "{event:?} is taken"),
             Due::Limited(_) => {}
@@ -73,7 +83,7 @@ impl Both {
 
     /// Both have the same events.
     pub(crate) fn end(self, rt: &impl Abort, alloc: Global) -> Result<(), Fail> {
-        let Both { xpt, history } = self;
+        let Both { xpt, history, .. } = self;
         assert!(rt; xpt.into_history(alloc)?.events() == history.events());
         Ok(())
     }
@@ -85,6 +95,16 @@ fn is_due(given: Due, due: Due) -> bool {
         Due::Taken => matches!(given, Due::Reply(_)),
         Due::Limited(why) => given == Due::Refused(why),
         _ => given == due,
+    }
+}
+
+// Whether an event that is taken as such comes to what its call gave, and is refused as it was said.
+fn agrees(taken: Result<Reply, Refusal>, refusal: Option<Refusal>, given: Due) -> bool {
+    match (taken, given) {
+        (Ok(reply), Due::Reply(called)) => refusal.is_none() && reply == called,
+        (Err(why), Due::Refused(called)) => refusal == Some(why) && why == called,
+        (Err(why), Due::Idle(_)) => refusal == Some(why),
+        _ => false,
     }
 }
 

@@ -1,32 +1,27 @@
 //! What is known of each CCB, beside a history of the same events.
 
-ghost use Rattle.std.specs.Prelude.{◌≡◌, [], IfOk};
-ghost use Rattle.cam_types.specs.Bounds.{most_bounds};
-ghost use Rattle.xpt_ccbs.specs.Book.{IsBookOf};
+ghost use Rattle.std.specs.Prelude.{◌≡◌, IfOk};
+ghost use Rattle.cam_event.specs.Legal.{history_rules};
 
-use cam_event::{Event, History};
-use cam_types::{Config, ConfigError, Limits, MOST_CCBS};
+use cam_event::{Event, Rules};
+use cam_types::Config;
 use sense_class::{Class, Why};
 use std::alloc::Global;
+use std::process::Abort;
 use std::test::Fail;
 use test_events::{PLAIN, device, done, finish, requeue, send};
 use xpt_ccbs::Ccbs;
+use xpt_state::History;
 
-// One adapter, and one device on it, with two openings each, and one lane.
-fn frame(alloc: Global) -> Result<History, ConfigError>
-    ensures { IfOk result (λ h. h.events ≡ []) }
+// One adapter, and one device on it, with two openings each, and one lane: a history without events, and its CCBs.
+fn start(alloc: Global) -> Result<(History, Ccbs), Fail>
+    ensures config { IfOk result (λ (history, ccbs). history.config ≡ ccbs.config) }
+    ensures events { IfOk result (λ (history, ccbs). history.events ≡ ccbs.events) }
+    ensures rules { IfOk result (λ (history, ccbs). ccbs.rules ≡ history_rules) }
 {
     let config = Config::new(alloc, &[2], &[device(0, 1, 2)], &[0])?;
-    Ok(History::new(alloc, config))
-}
-
-// A history without events, and its book.
-fn start(alloc: Global) -> Result<(History, Ccbs), Fail>
-    ensures book { IfOk result (λ (history, ccbs). IsBookOf history.config history.events ccbs) }
-    ensures limits { IfOk result (λ (history, ccbs). ccbs.limits ≡ most_bounds) }
-{
-    let history = frame(alloc)?;
-    let ccbs = Ccbs::open(alloc, Limits::most())?;
+    let history = History::new(alloc, config.copy(alloc)?)?;
+    let ccbs = Ccbs::open(alloc, config, Rules::of_history())?;
     Ok((history, ccbs))
 }
 
@@ -41,44 +36,38 @@ fn submit(retries: u32) -> Event {
     }
 }
 
-// Puts one event more into a history and its book, and says whether it was legal.
-fn add(history: &mut History, ccbs: &mut Ccbs, event: Event) -> bool
-    requires book { IsBookOf history.old.config history.old.events ccbs.old }
-    requires limits { ccbs.old.limits ≡ most_bounds }
-    ensures book { IsBookOf history.new.config history.new.events ccbs.new }
-    ensures limits { ccbs.new.limits ≡ most_bounds }
+// Appends an event to CCBs and to a history of the same events, which takes what is legal.
+fn append(rt: &impl Abort, history: &mut History, ccbs: &mut Ccbs, event: &Event)
+    requires config { history.old.config ≡ ccbs.old.config }
+    requires events { history.old.events ≡ ccbs.old.events }
+    requires rules { ccbs.old.rules ≡ history_rules }
+    ensures config { history.new.config ≡ ccbs.new.config }
+    ensures events { history.new.events ≡ ccbs.new.events }
+    ensures rules { ccbs.new.rules ≡ history_rules }
 {
-    if ccbs.alive() >= MOST_CCBS {
-        return false;
-    }
-    match history.push(event) {
-        Ok(()) => {
-            ccbs.append(&event);
-            true
-        }
-        Err(_) => false,
+    match history.push(*event) {
+        Ok(()) => ccbs.append(*event),
+        Err(_) => panic!(rt; "the event is refused"),
     }
 }
 
-// Puts events into a history and its book up to the first that isn't legal, and says whether all were.
-fn add_all(history: &mut History, ccbs: &mut Ccbs, events: &[Event]) -> bool
-    requires book { IsBookOf history.old.config history.old.events ccbs.old }
-    requires limits { ccbs.old.limits ≡ most_bounds }
-    ensures book { IsBookOf history.new.config history.new.events ccbs.new }
-    ensures limits { ccbs.new.limits ≡ most_bounds }
+fn append_all(rt: &impl Abort, history: &mut History, ccbs: &mut Ccbs, events: &[Event])
+    requires config { history.old.config ≡ ccbs.old.config }
+    requires events { history.old.events ≡ ccbs.old.events }
+    requires rules { ccbs.old.rules ≡ history_rules }
+    ensures config { history.new.config ≡ ccbs.new.config }
+    ensures events { history.new.events ≡ ccbs.new.events }
+    ensures rules { ccbs.new.rules ≡ history_rules }
 {
     for event in events {
-        if !add(history, ccbs, *event) {
-            return false;
-        }
+        append(rt, history, ccbs, event);
     }
-    true
 }
 
 #[test]
 fn a_busy_ccb_is_tried_again(rt: HostRuntime) -> Result<(), Fail> {
     let (mut history, mut ccbs) = start(rt.alloc())?;
-    assert!(rt; add_all(&mut history, &mut ccbs, &[submit(4), send(0, 0)]));
+    append_all(&rt, &mut history, &mut ccbs, &[submit(4), send(0, 0)]);
     assert_eq!(rt;
         (ccbs.is_in_flight(0), ccbs.is_recovering(0)),
         (true, false)
@@ -87,7 +76,7 @@ fn a_busy_ccb_is_tried_again(rt: HostRuntime) -> Result<(), Fail> {
         (ccbs.alive(), ccbs.in_flight_count(), ccbs.class(0)),
         (1, 1, None)
     );
-    assert!(rt; add(&mut history, &mut ccbs, done(0, 0x05)));
+    append(&rt, &mut history, &mut ccbs, &done(0, 0x05));
     assert_eq!(rt;
         (ccbs.is_in_flight(0), ccbs.is_recovering(0)),
         (false, true)
@@ -102,13 +91,13 @@ fn a_busy_ccb_is_tried_again(rt: HostRuntime) -> Result<(), Fail> {
         (true, false)
     );
     let again = [requeue(0), Event::Tick, send(0, 0)];
-    assert!(rt; add_all(&mut history, &mut ccbs, &again));
+    append_all(&rt, &mut history, &mut ccbs, &again);
     assert_eq!(rt;
         ccbs.ccb(0)
             .map(|ccb| (ccb.counted, ccb.attempt, ccb.submission.driver)),
         Some((1, 1, 3))
     );
-    assert!(rt; add(&mut history, &mut ccbs, done(0, 0x01)));
+    append(&rt, &mut history, &mut ccbs, &done(0, 0x01));
     assert!(rt; ccbs.ccb(0).is_none());
     assert_eq!(rt;
         (ccbs.alive(), ccbs.case_count(), ccbs.class(0)),
@@ -129,13 +118,13 @@ fn a_ccb_without_retries_left_is_finished(rt: HostRuntime) -> Result<(), Fail> {
         send(0, 0),
         done(0, 0x05),
     ];
-    assert!(rt; add_all(&mut history, &mut ccbs, &events));
+    append_all(&rt, &mut history, &mut ccbs, &events);
     assert_eq!(rt; ccbs.class(0), Some(Class::Fail(Why::Spent)));
     assert_eq!(rt;
         (ccbs.wants_requeue(0), ccbs.wants_finish(0)),
         (false, true)
     );
-    assert!(rt; add(&mut history, &mut ccbs, finish(0)));
+    append(&rt, &mut history, &mut ccbs, &finish(0));
     for number in [0, 9] {
         assert!(rt;
             ccbs.ccb(number).is_none(),
@@ -165,9 +154,9 @@ fn cases_stand_in_the_order_of_completion(rt: HostRuntime) -> Result<(), Fail> {
         done(1, 0x04),
         done(0, 0x04),
     ];
-    assert!(rt; add_all(&mut history, &mut ccbs, &events));
+    append_all(&rt, &mut history, &mut ccbs, &events);
     assert_eq!(rt; (ccbs.case_count(), ccbs.next_case()), (2, Some(1)));
-    assert!(rt; add(&mut history, &mut ccbs, finish(1)));
+    append(&rt, &mut history, &mut ccbs, &finish(1));
     assert_eq!(rt; (ccbs.case_count(), ccbs.next_case()), (1, Some(0)));
     Ok(())
 }

@@ -1,10 +1,10 @@
 //! A transport's device queues beside a history of the same events.
 
 ghost use Rattle.std.specs.Prelude.{◌≡◌};
-ghost use Rattle.cam_types.specs.Bounds.{most_bounds};
+ghost use Rattle.cam_event.specs.Legal.{history_rules};
 
-use cam_event::{Event, History};
-use cam_types::{Config, Limits};
+use cam_event::{Event, Rules};
+use cam_types::Config;
 use std::process::Abort;
 use std::test::Fail;
 use test_events::{
@@ -12,17 +12,17 @@ use test_events::{
     requeue, send, submit,
 };
 use xpt_devices::Devices;
+use xpt_state::History;
 
 // Appends an event to devices and to a history of the same events, which takes what is legal.
 fn append(rt: &impl Abort, history: &mut History, devices: &mut Devices, event: &Event)
     requires config { history.old.config ≡ devices.old.config }
     requires events { history.old.events ≡ devices.old.events }
-    requires limits { devices.old.limits ≡ most_bounds }
+    requires rules { devices.old.rules ≡ history_rules }
     ensures config { history.new.config ≡ devices.new.config }
     ensures events { history.new.events ≡ devices.new.events }
-    ensures limits { devices.new.limits ≡ most_bounds }
+    ensures rules { devices.new.rules ≡ history_rules }
 {
-    assert!(rt; devices.commands() < 1024);
     match history.push(*event) {
         Ok(()) => devices.append(*event),
         Err(_) => panic!(rt; "the event is refused"),
@@ -39,10 +39,10 @@ fn append_to(
 )
     requires config { history.old.config ≡ devices.old.config }
     requires events { history.old.events ≡ devices.old.events }
-    requires limits { devices.old.limits ≡ most_bounds }
+    requires rules { devices.old.rules ≡ history_rules }
     ensures config { history.new.config ≡ devices.new.config }
     ensures events { history.new.events ≡ devices.new.events }
-    ensures limits { devices.new.limits ≡ most_bounds }
+    ensures rules { devices.new.rules ≡ history_rules }
 {
     let from = devices.events().len();
     for event in events.iter().take(place).skip(from) {
@@ -86,8 +86,8 @@ fn of_all(devices: &Devices) -> (u32, u32, u32, bool) {
 fn queues_follow_the_events(rt: HostRuntime) -> Result<(), Fail> {
     let alloc = rt.alloc();
     let config = Config::new(alloc, &[4], &[device(0, 1, 2), device(0, 2, 1)], &[0])?;
-    let mut history = History::new(alloc, config.copy(alloc)?);
-    let mut devices = Devices::open(alloc, config, Limits::most())?;
+    let mut history = History::new(alloc, config.copy(alloc)?)?;
+    let mut devices = Devices::open(alloc, config, Rules::of_history())?;
     let events = [
         submit(0, 640, 1, PLAIN),
         submit(0, 128, 1, QFREEZE),
@@ -178,7 +178,7 @@ fn queues_follow_the_events(rt: HostRuntime) -> Result<(), Fail> {
         devices.submission(1).map(|submission| submission.priority),
         Some(128)
     );
-    assert_eq!(rt; devices.limits(), Limits::most());
+    assert_eq!(rt; devices.rules(), Rules::of_history());
     let (config, kept) = devices.into_parts();
     assert_eq!(rt; (config.devices().len(), kept.len()), (2, 18));
     Ok(())

@@ -1,18 +1,19 @@
 //! Histories: what is refused and why, and what the events come to.
 
-use cam_event::{Event, History, PushFault, Refusal, Stay};
-use cam_types::{Config, ConfigError};
+use cam_event::{Event, Refusal, Stay};
+use cam_types::Config;
 use std::alloc::Global;
 use std::test::Fail;
 use test_events::{PLAIN, attention, device, done, freeze, release, requeue, send, submit};
+use xpt_state::History;
 
 // One adapter, one device with one opening and one lane.
-fn frame(alloc: Global, adapter_openings: u32) -> Result<History, ConfigError> {
+fn frame(alloc: Global, adapter_openings: u32) -> Result<History, Fail> {
     let config = Config::new(alloc, &[adapter_openings], &[device(0, 1, 1)], &[0])?;
-    Ok(History::new(alloc, config))
+    Ok(History::new(alloc, config)?)
 }
 
-fn push_all(history: &mut History, events: &[Event]) -> Result<(), PushFault> {
+fn push_all(history: &mut History, events: &[Event]) -> Result<(), Refusal> {
     for event in events {
         history.push(*event)?;
     }
@@ -24,7 +25,7 @@ fn a_frozen_device_waits_at_a_cost(rt: HostRuntime) -> Result<(), Fail> {
     let alloc = rt.alloc();
     let devices = [1, 2].map(|target| device(0, target, 1));
     let config = Config::new(alloc, &[1], &devices, &[0])?;
-    let mut history = History::new(alloc, config);
+    let mut history = History::new(alloc, config)?;
     let events = [
         submit(0, 896, 4, PLAIN),
         submit(1, 1152, 4, PLAIN),
@@ -82,10 +83,9 @@ fn a_requeued_command_is_a_stay_more(rt: HostRuntime) -> Result<(), Fail> {
 #[test]
 fn a_refused_event_is_not_kept(rt: HostRuntime) -> Result<(), Fail> {
     let mut history = frame(rt.alloc(), 1)?;
-    let refused = PushFault::Refused(Refusal::NotQueued);
     history.push(submit(0, 1152, 4, PLAIN))?;
     history.push(send(0, 0))?;
-    assert_eq!(rt; history.push(send(0, 0)), Err(refused));
+    assert_eq!(rt; history.push(send(0, 0)), Err(Refusal::NotQueued));
     assert_eq!(rt; history.events().len(), 2);
     Ok(())
 }
@@ -95,9 +95,7 @@ fn refusals_print_their_names(rt: HostRuntime) -> Result<(), Fail> {
     let alloc = rt.alloc();
     let full = format!(in alloc; "{}", Refusal::HistoryFull(65535))?;
     assert_eq!(rt; full.as_str(), "HistoryFull");
-    let refused = format!(in alloc; "{}", PushFault::Refused(Refusal::NotHead))?;
-    assert_eq!(rt; refused.as_str(), "NotHead");
-    let no_memory = format!(in alloc; "{}", PushFault::OutOfMemory)?;
-    assert_eq!(rt; no_memory.as_str(), "out of memory");
+    let of_turn = format!(in alloc; "{}", Refusal::NotHead)?;
+    assert_eq!(rt; of_turn.as_str(), "NotHead");
     Ok(())
 }

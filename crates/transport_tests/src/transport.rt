@@ -1,7 +1,7 @@
 //! A transport's calls in short runs, with the same events on a history.
 
 use crate::both::{Both, Due};
-use cam_event::{Event, Refusal};
+use cam_event::{Event, Refusal, Rules};
 use cam_types::{Command, Flags, Limits, Outcome, SenseBytes};
 use sense_class::{Class, Why};
 use std::alloc::Global;
@@ -112,7 +112,7 @@ fn a_busy_command_is_sent_again_in_the_next_round(rt: HostRuntime) -> Result<(),
 #[test]
 fn what_was_given_is_given_back(rt: HostRuntime) -> Result<(), Fail> {
     let both = open(rt.alloc(), 2, &[2], Limits::most())?;
-    assert_eq!(rt; both.xpt.limits(), Limits::most());
+    assert_eq!(rt; both.xpt.rules(), Rules::of(Limits::most()));
     assert_eq!(rt; both.xpt.config().devices().len(), 1);
     assert!(rt; both.xpt.events().is_empty());
     assert_eq!(rt; both.xpt.next_case(), None);
@@ -192,7 +192,7 @@ fn a_second_ccb_is_one_too_many(rt: HostRuntime) -> Result<(), Fail> {
         (submit(0, 1152, 4, PLAIN), Due::Limited(Refusal::CcbFull)),
     ];
     both.take(&rt, &steps);
-    assert_eq!(rt; both.xpt.limits(), limits);
+    assert_eq!(rt; both.xpt.rules(), Rules::of(limits));
     both.end(&rt, rt.alloc())
 }
 

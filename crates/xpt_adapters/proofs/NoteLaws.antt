@@ -9,15 +9,13 @@ use Rattle.event_log.specs.Event.{is_some_and, is_tick}
 use Rattle.event_log.specs.Counts.{round, submission, sendings, sending_of, goes_to, adapter_freezes}
 use Rattle.event_log.specs.Stays.{first}
 use Rattle.event_log.specs.Head.{is_on, adapter_openings, goes_now_to_adapter, last_sent, head, next}
-use Rattle.event_log.specs.Tally.{sim_tally, sim_change}
 use Rattle.event_log.specs.declared.event.Event.{Event}
 use Rattle.event_log.specs.declared.event.Event.TheVariants.{Submit, Send, Done, Requeue, Finish, FreezeDev, ReleaseDev, FreezeSim, ReleaseSim, Adjust, Tick}
 use Rattle.event_log.specs.declared.passage.Passage.{Passage}
 use Rattle.event_log.specs.declared.passage.Sending.{Sending}
 use Rattle.event_log.specs.declared.submission.Submission.{Submission}
-use Rattle.event_log.specs.declared.tally.Tally.{Tally}
 use Rattle.event_log.proofs.StateLaws.{map-range_same}
-use Rattle.event_log.proofs.TallyLaws.{told_of, sim_tally-push}
+use Rattle.event_log.proofs.TallyLaws.{Tally, sim_tally, sim_change, told_of, sim_tally-push}
 use Rattle.event_log.proofs.TurnLaws.{last_sent-push, sends_now-push, sends_now-tick}
 use Rattle.cam_event.specs.Legal.{Rules, names_adapter, is_count, is_next, is_legal_event, is_legal}
 use Rattle.cam_event.specs.Refusals.{device_of}

@@ -1,23 +1,20 @@
 -- the adapters' queues before any event
-use Rattle.std.proofs.Common.{◌≡◌, ℕ, zero, suc, ◌+◌, ◌<◌, ◌≤◌, Bool, true, false, cond, List, [], ◌∷◌, ◌++◌, length, get_or, refl, sym, ap, ◌∙◌, arith, map, append-nil, zero-add}
-use Rattle.std.specs.Prelude.{◌==◌, filter, count_by, slice_get}
+use Rattle.std.proofs.Common.{◌≡◌, ℕ, ◌+◌, ◌<◌, Bool, true, false, cond, List, [], ◌∷◌, ◌++◌, length, get_or, refl, sym, ap, ◌∙◌, arith, map, append-nil, zero-add}
+use Rattle.std.specs.Prelude.{◌==◌, filter, slice_get}
 use Rattle.std.specs.List.{range_with_len}
 use Rattle.std.specs.Option.{option_map_or}
-use Rattle.std.proofs.lemmas.Bool.{eqb-true}
 use Rattle.std.proofs.lemmas.Bool.Decides.{nat_tests}
 use Rattle.std.proofs.lemmas.List.{map-append}
 use Rattle.std.proofs.lemmas.List.Elements.{filter-append}
-use Rattle.std.proofs.lemmas.List.Sums.{sum_by-cons}
 use Rattle.std.proofs.lemmas.Option.{slice_get-get_or}
 use Rattle.cam_types.specs.Topology.{Topology}
 use Rattle.cam_types.specs.declared.device.Device.{Device}
 use Rattle.event_log.specs.Event.{is_some_and}
 use Rattle.event_log.specs.Counts.{sendings, adapter_freezes}
 use Rattle.event_log.specs.Stays.{first, queue, waiting, passages}
-use Rattle.event_log.specs.Head.{is_on, devices, is_ready, last_sent, adapter_openings}
+use Rattle.event_log.specs.Head.{is_on, is_ready, last_sent, adapter_openings}
 use Rattle.event_log.proofs.ListFacts.{range_with_len-push}
 use Rattle.event_log.proofs.StateLaws.{map-range_same}
-use Rattle.camq_heap.specs.Order.{AllApart}
 use Rattle.sim_queue.specs.Adapter.{Adapter, new_row}
 use Rattle.xpt_adapters.specs.Known.{known, nothing, devices_on, adapter_of, adapters_of}
 use Rattle.xpt_adapters.proofs.RowLemmas.{adapter, known-same}
@@ -48,34 +45,6 @@ module _ (c : Topology) (a n : ℕ) (ds : List Device) (d : Device) (same : ds �
       so_far
       ∙ sym (filter-range_more (is_on c a) n ∙ ap (λ l. filter (is_on c a) (range_with_len 0 n) ++ l) (more_cases (is_on c a) n false (bus_is c a n ds d same lt ∙ ap (λ b. b == a) (sym is) ∙ off))
       ∙ append-nil (filter (is_on c a) (range_with_len 0 n)))
-
--- numbers in a range are apart
-count_cases : (q : ℕ → Bool) (x : ℕ) (xs : List ℕ) (b : Bool) → count_by q (cond b (x ∷ xs) xs) ≤ cond (q x) 1 0 + count_by q xs
-count_cases q x xs true = omega (arith, sum_by-cons (λ y. cond (q y) 1 0) x xs)
-count_cases q x xs false = omega arith
-
-count-filter : (q p : ℕ → Bool) (xs : List ℕ) → count_by q (filter p xs) ≤ count_by q xs
-count-filter q p [] = omega arith
-count-filter q p (x ∷ xs) =
-    omega (arith, count_cases q x (filter p xs) (p x), count-filter q p xs, sum_by-cons (λ y. cond (q y) 1 0) x xs)
-
-past_none : (a m n : ℕ) → n < a → count_by (λ x. x == n) (range_with_len a m) ≡ 0
-past_none a zero n lt = refl
-past_none a (suc m) n lt =
-    let here : (a == n) ≡ false = grind (arith, nat_tests) in
-    omega (arith, sum_by-cons (λ x. cond (x == n) 1 0) a (range_with_len (a + 1) m), ap (λ b. cond {A = ℕ} b 1 0) here, past_none (a + 1) m n (omega arith))
-
-range_apart : (a m n : ℕ) → count_by (λ x. x == n) (range_with_len a m) ≤ 1
-range_apart a zero n = omega arith
-range_apart a (suc m) n = part (a == n) refl (range_apart (a + 1) m n)
-  where
-    part : (b : Bool) → (a == n) ≡ b → count_by (λ x. x == n) (range_with_len (a + 1) m) ≤ 1 → count_by (λ x. x == n) (a ∷ range_with_len (a + 1) m) ≤ 1
-    part true e le =
-        omega (arith, sum_by-cons (λ x. cond (x == n) 1 0) a (range_with_len (a + 1) m), ap (λ b. cond {A = ℕ} b 1 0) e, past_none (a + 1) m n (omega (arith, eqb-true a n e)))
-    part false e le = omega (arith, sum_by-cons (λ x. cond (x == n) 1 0) a (range_with_len (a + 1) m), ap (λ b. cond {A = ℕ} b 1 0) e, le)
-
-pub devices-apart : (c : Topology) (a : ℕ) → AllApart (λ d. d) (devices_on c a)
-devices-apart c a = λ n. omega (arith, count-filter (λ x. x == n) (is_on c a) (devices c), range_apart 0 (length c.devices) n)
 
 -- one adapter more
 pub adapter_more : (c : Topology) (n : ℕ) (openings : List ℕ) (ds : List ℕ) (d : ℕ) (ss : List Adapter) → openings ≡ c.adapters → n < length openings → ds ≡ devices_on c n →

@@ -1,4 +1,4 @@
-ghost use Rattle.std.specs.Prelude.{◌≡◌, ◌<◌, ◌≤◌, ◌==◌, not, [], ◌∷◌, ◌++◌, length, IsTrue, IfOk};
+ghost use Rattle.std.specs.Prelude.{◌≡◌, ◌<◌, ◌≤◌, ◌==◌, not, [], ◌∷◌, ◌++◌, length, count_by, IsTrue, IfOk};
 ghost use Rattle.std.specs.Option.{option_map};
 ghost use Rattle.cam_event.specs.declared.most.TheConstants.{MOST_FREEZES};
 
@@ -7,7 +7,8 @@ use crate::open::open_queues;
 use crate::refresh::refresh;
 use crate::touched::touched_by;
 use crate::turn::Turn;
-use cam_types::{Config, Limits};
+use cam_event::Rules;
+use cam_types::Config;
 use event_log::Event;
 use sim_queue::SimQueue;
 use std::alloc::{AllocError, Global};
@@ -34,25 +35,25 @@ impl Model for Adapters {
 }
 
 impl Adapters {
-    ghost use Rattle.event_log.specs.Counts.{adapter_freezes};
-    ghost use Rattle.event_log.specs.Head.{adapter_has_opening, next};
-    ghost use Rattle.cam_event.specs.Legal.{rules_of, is_legal_event};
+    ghost use Rattle.event_log.specs.Counts.{sendings, adapter_freezes};
+    ghost use Rattle.event_log.specs.Head.{goes_now_to_adapter, adapter_has_opening, next};
+    ghost use Rattle.cam_event.specs.Legal.{is_legal_event};
     ghost use Rattle.xpt_adapters.specs.Known.{known, adapter_of};
     ghost use Rattle.xpt_adapters.specs.Turn.{turn_of};
 
-    /// Adapters and devices to which nothing has happened, with memory for all that the limits let happen.
-    pub fn open(alloc: Global, config: Config, limits: Limits) -> Result<Adapters, AllocError>
-        ensures { IfOk result (λ x. x ≡ record { config = config; limits = limits; events = [] }) }
+    /// Adapters and devices to which nothing has happened, with memory for all that the rules let happen.
+    pub fn open(alloc: Global, config: Config, rules: Rules) -> Result<Adapters, AllocError>
+        ensures { IfOk result (λ x. x ≡ record { config = config; rules = rules; events = [] }) }
     {
         let sims = open_queues(alloc, &config)?;
-        let devices = Devices::open(alloc, config, limits)?;
+        let devices = Devices::open(alloc, config, rules)?;
         Ok(Adapters { devices, sims })
     }
 
     /// Puts a legal event behind the others. It takes the time of `Devices::append`, and time that grows with the number
     /// of devices on the adapter; a tick asks each device.
     pub fn append(&mut self, event: Event)
-        requires legal { IsTrue (is_legal_event (rules_of self.old.limits) self.old.config (self.old.events, event)) }
+        requires legal { IsTrue (is_legal_event (self.old.rules) self.old.config (self.old.events, event)) }
         ensures { self.new ≡ record self.old { events = self.old.events ++ event ∷ [] } }
     {
         let touched = touched_by(&self.devices, &event);
@@ -62,7 +63,7 @@ impl Adapters {
         refresh(&mut self.sims, &self.devices, touched);
     }
 
-    /// The devices, with the configuration, the limits and the events.
+    /// The devices, with the configuration, the rules and the events.
     pub fn devices(&self) -> &Devices
         ensures { result.now ≡ self.now }
     {
@@ -105,6 +106,15 @@ impl Adapters {
         ensures { result ≡ not (adapter_freezes self.now.events adapter == 0) }
     {
         self.sim(adapter).frozen()
+    }
+
+    /// How many commands were sent by the adapter in this round.
+    #[tactic(auto, unfolding(crate::specs::Known::known))]
+    pub fn sent(&self, adapter: u32) -> u32
+        requires { adapter < length self.now.config.adapters }
+        ensures { result ≡ count_by (goes_now_to_adapter self.now.config self.now.events adapter) (sendings self.now.events) }
+    {
+        self.sim(adapter).sent()
     }
 
     /// Whether the adapter has an opening left in this round.

@@ -19,12 +19,20 @@ use Rattle.event_log.proofs.Laws.{not_both}
 use Rattle.event_log.proofs.ListFacts.{count_by-kept, count_by-dropped, filter_map-push, filter-same, filter-both, filter-all, All-filter_map-moments}
 use Rattle.event_log.proofs.StateLaws.{is_recovering-push}
 use Rattle.event_log.proofs.CcbLaws.{event-induction}
+use Rattle.event_log.proofs.TotalLaws.{commands-stays}
+use Rattle.cam_types.specs.Topology.{Topology}
+use Rattle.cam_types.specs.declared.outcome.Outcome.{Outcome}
+use Rattle.cam_event.specs.Legal.{Rules, is_legal_event, is_legal}
+use Rattle.cam_event.proofs.LimitLemmas.{stays-legal}
+use Rattle.cam_event.proofs.StandLemmas.{AreStates, states-legal, asks-send, asks-done, asks-requeue, asks-finish, flying-states}
+use Rattle.cam_event.proofs.FirstLemmas.{first-legal, stands}
+use Rattle.xpt_ccbs.proofs.RingLemmas.{lacks-times, kept-all}
 use Rattle.xpt_ccbs.specs.Cases.{Failure, failure_of, failures, is_undecided, failed_ccb, cases}
-use Rattle.xpt_ccbs.specs.Change.{other_cases, decided_at}
+use Rattle.xpt_ccbs.specs.Order.{times, other_cases, decided, CanDecide, CaseOrder}
 use Rattle.xpt_ccbs.proofs.ListFacts.{filter-map, map-option_to_list}
 use Rattle.event_log.proofs.ConcernLaws.{concerns-none}
 
-failures-push : (es : List Event) (e : Event) → failures (es ++ e ∷ []) ≡ failures es ++ option_to_list (failure_of (es, e))
+pub failures-push : (es : List Event) (e : Event) → failures (es ++ e ∷ []) ≡ failures es ++ option_to_list (failure_of (es, e))
 unfolding failures
 failures-push es e = rw moments-push (filter_map-push failure_of (moments es) (es, e))
 
@@ -33,7 +41,7 @@ placed : (b : Bool) (f g : Failure) (n : ℕ) → f.place ≡ n → cond b (Some
 placed true f g n is e = let same : f ≡ g = cc in ap (λ (h : Failure). h.place) (sym same) ∙ is
 placed false f g n is e = absurd (cc)
 
-place-failure_of : (m : List Event × Event) (f : Failure) → failure_of m ≡ Some f → f.place ≡ length m.0
+pub place-failure_of : (m : List Event × Event) (f : Failure) → failure_of m ≡ Some f → f.place ≡ length m.0
 place-failure_of (before, Done ccb outcome) f e = placed (is_erring (Done ccb outcome)) _ f (length before) refl e
 place-failure_of (before, Submit driver device priority retries flags) f e = absurd (cc)
 place-failure_of (before, Send lane ccb) f e = absurd (cc)
@@ -90,7 +98,7 @@ or_none : (b : Bool) → (b || false) ≡ b
 or_none true = refl
 or_none false = refl
 
-concerns-same : (e : Event) (c : ℕ) → ccb_of e ≡ Some c → (k : ℕ) → concerns k e ≡ (c == k)
+pub concerns-same : (e : Event) (c : ℕ) → ccb_of e ≡ Some c → (k : ℕ) → concerns k e ≡ (c == k)
 concerns-same (Send lane ccb) c is k = let same : ccb ≡ c = cc in rw (or_none (ccb == k), or_none (ccb == k), or_none (ccb == k)) (ap (λ n. n == k) same)
 concerns-same (Done ccb outcome) c is k = let same : ccb ≡ c = cc in rw (or_none (ccb == k), or_none (ccb == k)) (ap (λ n. n == k) same)
 concerns-same (Requeue ccb) c is k = let same : ccb ≡ c = cc in rw (or_none (ccb == k)) (ap (λ n. n == k) same)
@@ -107,7 +115,7 @@ erring_case : (b : Bool) (ccb c n : ℕ) → ccb ≡ c → option_to_list (optio
 erring_case true ccb c n e = ap (λ k. k ∷ []) e
 erring_case false ccb c n e = refl
 
-new_case-same : (es : List Event) (e : Event) (c : ℕ) → ccb_of e ≡ Some c → new_case es e ≡ cond (is_erring e) (c ∷ []) []
+pub new_case-same : (es : List Event) (e : Event) (c : ℕ) → ccb_of e ≡ Some c → new_case es e ≡ cond (is_erring e) (c ∷ []) []
 new_case-same es (Done ccb outcome) c is = let same : ccb ≡ c = cc in erring_case (is_erring (Done ccb outcome)) ccb c (length es) same
 new_case-same es (Send lane ccb) c is = refl
 new_case-same es (Requeue ccb) c is = refl
@@ -120,7 +128,7 @@ new_case-same es (ReleaseSim sim) c is = absurd (cc)
 new_case-same es (Adjust device openings) c is = absurd (cc)
 new_case-same es Tick c is = absurd (cc)
 
-new_case-none : (es : List Event) (e : Event) → ccb_of e ≡ None → new_case es e ≡ []
+pub new_case-none : (es : List Event) (e : Event) → ccb_of e ≡ None → new_case es e ≡ []
 new_case-none es (Done ccb outcome) is = absurd (cc)
 new_case-none es (Send lane ccb) is = absurd (cc)
 new_case-none es (Requeue ccb) is = absurd (cc)
@@ -133,12 +141,12 @@ new_case-none es (ReleaseSim sim) is = refl
 new_case-none es (Adjust device openings) is = refl
 new_case-none es Tick is = refl
 
-pub cases-told : (es : List Event) (e : Event) (c : ℕ) → ccb_of e ≡ Some c → cases (es ++ e ∷ []) ≡ decided_at e (cases es) c
+cases-told : (es : List Event) (e : Event) (c : ℕ) → ccb_of e ≡ Some c → cases (es ++ e ∷ []) ≡ other_cases c (cases es) ++ cond (is_erring e) (c ∷ []) []
 cases-told es e c is =
     cases-push es e ∙ ap (λ ks. ks ++ new_case es e) (filter_agree (λ k. not (concerns k e)) (λ k. not (c == k)) (λ k. ap not (concerns-same e c is k)) (cases es))
     ∙ ap (λ ks. other_cases c (cases es) ++ ks) (new_case-same es e c is)
 
-pub cases-same : (es : List Event) (e : Event) → ccb_of e ≡ None → cases (es ++ e ∷ []) ≡ cases es
+cases-same : (es : List Event) (e : Event) → ccb_of e ≡ None → cases (es ++ e ∷ []) ≡ cases es
 cases-same es e is =
     cases-push es e ∙ ap (λ ks. filter (λ k. not (concerns k e)) (cases es) ++ ks) (new_case-none es e is)
     ∙ append-nil (filter (λ k. not (concerns k e)) (cases es)) ∙ filter-all (λ k. not (concerns k e)) (λ k. ap not (concerns-none e k is)) (cases es)
@@ -147,18 +155,18 @@ cases-same es e is =
 same_number : (a b : ℕ) → (a == b) ≡ true → a ≡ b
 same_number a b e = grind (arith, nat_tests)
 
-one_case : (b : Bool) (c k : ℕ) → count_by (λ x. x == k) (cond b (c ∷ []) []) ≡ cond (c == k) (cond b 1 0) 0
+one_case : (b : Bool) (c k : ℕ) → times k (cond b (c ∷ []) []) ≡ cond (c == k) (cond b 1 0) 0
 one_case true c k = omega (arith, sum_by-cons (λ x. cond {A = ℕ} (x == k) 1 0) c [])
 one_case false c k = elim (c == k) as (λ t. 0 ≡ cond {A = ℕ} t 0 0) [ true ↦ refl | false ↦ refl ]
 
-new_count : (es : List Event) (e : Event) (k : ℕ) (o : Option ℕ) → ccb_of e ≡ o → count_by (λ x. x == k) (new_case es e) ≡ cond (concerns k e) (cond (is_erring e) 1 0) 0
+new_count : (es : List Event) (e : Event) (k : ℕ) (o : Option ℕ) → ccb_of e ≡ o → times k (new_case es e) ≡ cond (concerns k e) (cond (is_erring e) 1 0) 0
 new_count es e k None is = rw (new_case-none es e is, concerns-none e k is) refl
 new_count es e k (Some c) is = rw (new_case-same es e c is, concerns-same e c is k) (one_case (is_erring e) c k)
 
-count_step_cases : (es : List Event) (e : Event) (k : ℕ) (t r : Bool) → concerns k e ≡ t → count_by (λ x. x == k) (cases es) ≡ cond r 1 0 →
-    count_by (λ x. x == k) (filter (λ n. not (concerns n e)) (cases es)) + cond t (cond (is_erring e) 1 0) 0 ≡ cond (cond t (is_erring e) r) 1 0
+count_step_cases : (es : List Event) (e : Event) (k : ℕ) (t r : Bool) → concerns k e ≡ t → times k (cases es) ≡ cond r 1 0 →
+    times k (filter (λ n. not (concerns n e)) (cases es)) + cond t (cond (is_erring e) 1 0) 0 ≡ cond (cond t (is_erring e) r) 1 0
 count_step_cases es e k true r is h =
-    let none : count_by (λ x. x == k) (filter (λ n. not (concerns n e)) (cases es)) ≡ 0 =
+    let none : times k (filter (λ n. not (concerns n e)) (cases es)) ≡ 0 =
     count_by-dropped (λ x. x == k) (λ n. not (concerns n e)) (cases es) (λ x kept. differs x kept (x == k) refl) in
     omega (arith, none)
   where
@@ -166,24 +174,24 @@ count_step_cases es e k true r is h =
     differs x kept false same = same
     differs x kept true same = let n : x ≡ k = same_number x k same in let off : not (concerns k e) ≡ true = rw n at kept in let on : not true ≡ true = rw is at off in absurd (cc)
 count_step_cases es e k false r is h =
-    let all : count_by (λ x. x == k) (filter (λ n. not (concerns n e)) (cases es)) ≡ count_by (λ x. x == k) (cases es) =
+    let all : times k (filter (λ n. not (concerns n e)) (cases es)) ≡ times k (cases es) =
     count_by-kept (λ x. x == k) (λ n. not (concerns n e)) (cases es) (λ x same. let n : x ≡ k = same_number x k same in rw n (ap not is)) in
     omega (arith, all, h)
 
-count_step : (k : ℕ) (es : List Event) (e : Event) → count_by (λ x. x == k) (cases es) ≡ cond (is_recovering es k) 1 0 → count_by (λ x. x == k) (cases (es ++ e ∷ [])) ≡ cond (is_recovering (es ++ e ∷ []) k) 1 0
+count_step : (k : ℕ) (es : List Event) (e : Event) → times k (cases es) ≡ cond (is_recovering es k) 1 0 → times k (cases (es ++ e ∷ [])) ≡ cond (is_recovering (es ++ e ∷ []) k) 1 0
 count_step k es e h =
-    ap (λ ks. count_by (λ x. x == k) ks) (cases-push es e)
+    ap (λ ks. times k ks) (cases-push es e)
     ∙ sum_by-append (λ x. cond {A = ℕ} (x == k) 1 0) (filter (λ n. not (concerns n e)) (cases es)) (new_case es e)
-    ∙ ap (λ n. count_by (λ x. x == k) (filter (λ m. not (concerns m e)) (cases es)) + n) (new_count es e k (ccb_of e) refl)
+    ∙ ap (λ n. times k (filter (λ m. not (concerns m e)) (cases es)) + n) (new_count es e k (ccb_of e) refl)
     ∙ count_step_cases es e k (concerns k e) (is_recovering es k) refl h
     ∙ ap (λ b. cond {A = ℕ} b 1 0) (sym (is_recovering-push es e k))
 
-count_none : (k : ℕ) → count_by (λ x. x == k) (cases []) ≡ cond (is_recovering [] k) 1 0
+count_none : (k : ℕ) → times k (cases []) ≡ cond (is_recovering [] k) 1 0
 unfolding cases failures is_recovering
 count_none k = refl
 
-pub count_cases : (es : List Event) (k : ℕ) → count_by (λ x. x == k) (cases es) ≡ cond (is_recovering es k) 1 0
-count_cases es k = event-induction (λ xs. count_by (λ x. x == k) (cases xs) ≡ cond (is_recovering xs k) 1 0) (count_none k) (count_step k) es
+pub count_cases : (es : List Event) (k : ℕ) → times k (cases es) ≡ cond (is_recovering es k) 1 0
+count_cases es k = event-induction (λ xs. times k (cases xs) ≡ cond (is_recovering xs k) 1 0) (count_none k) (count_step k) es
 
 -- a number at a place of a list is counted
 counted_at : (xs : List ℕ) (i d : ℕ) → i < length xs → 1 ≤ count_by (λ x. x == get_or xs i d) xs
@@ -199,3 +207,56 @@ pub case_recovers : (es : List Event) (i d : ℕ) → i < length (cases es) → 
 case_recovers es i d lt =
     let k = get_or (cases es) i d in
     counted_recovering (is_recovering es k) (omega (arith, counted_at (cases es) i d lt, count_cases es k))
+
+-- the cases behind a legal event, which finds its CCB where it is to be
+module _ (rules : Rules) (c : Topology) (es : List Event) (legal : is_legal rules c es ≡ true) where
+  states : AreStates es
+  states = states-legal rules c es legal
+
+  times-cases : (k : ℕ) (b : Bool) → is_recovering es k ≡ b → times k (cases es) ≡ cond b 1 0
+  times-cases k b is = count_cases es k ∙ ap (λ t. cond {A = ℕ} t 1 0) is
+
+  unsent : (lane ccb : ℕ) → is_legal_event rules c (es, Send lane ccb) ≡ true → is_recovering es ccb ≡ false
+  unsent lane ccb allowed =
+      let turn = first-legal c es lane ccb (asks-send rules c es lane ccb allowed).1 in
+      (stands c es ccb turn.0 states turn.1).recovering
+
+  flies : (ccb : ℕ) (o : Outcome) → is_legal_event rules c (es, Done ccb o) ≡ true → is_recovering es ccb ≡ false
+  flies ccb o allowed = (flying-states es ccb states (asks-done rules c es ccb o allowed).1).recovering
+
+  others-all : (k : ℕ) → is_recovering es k ≡ false → other_cases k (cases es) ≡ cases es
+  others-all k is = kept-all k (cases es) (lacks-times k (cases es) (times-cases k false is))
+
+  pub cases-decided : (e : Event) → is_legal_event rules c (es, e) ≡ true → cases (es ++ e ∷ []) ≡ decided e (cases es)
+  cases-decided (Send lane ccb) allowed = cases-told es (Send lane ccb) ccb refl ∙ append-nil (other_cases ccb (cases es)) ∙ others-all ccb (unsent lane ccb allowed)
+  cases-decided (Done ccb o) allowed =
+      cases-told es (Done ccb o) ccb refl ∙ ap (λ ks. ks ++ cond (is_erring (Done ccb o)) (ccb ∷ []) []) (others-all ccb (flies ccb o allowed)) ∙ one_more (is_erring (Done ccb o)) ccb (cases es)
+    where
+      one_more : (b : Bool) (k : ℕ) (ks : List ℕ) → ks ++ cond b (k ∷ []) [] ≡ cond b (ks ++ k ∷ []) ks
+      one_more true k ks = refl
+      one_more false k ks = append-nil ks
+  cases-decided (Requeue ccb) allowed = cases-told es (Requeue ccb) ccb refl ∙ append-nil (other_cases ccb (cases es))
+  cases-decided (Finish ccb) allowed = cases-told es (Finish ccb) ccb refl ∙ append-nil (other_cases ccb (cases es))
+  cases-decided (Submit driver device priority retries flags) allowed = cases-same es (Submit driver device priority retries flags) refl
+  cases-decided (FreezeDev device count) allowed = cases-same es (FreezeDev device count) refl
+  cases-decided (ReleaseDev device count) allowed = cases-same es (ReleaseDev device count) refl
+  cases-decided (FreezeSim sim count) allowed = cases-same es (FreezeSim sim count) refl
+  cases-decided (ReleaseSim sim) allowed = cases-same es (ReleaseSim sim) refl
+  cases-decided (Adjust device openings) allowed = cases-same es (Adjust device openings) refl
+  cases-decided Tick allowed = cases-same es Tick refl
+
+  pub can-decide : (e : Event) (o : CaseOrder) → o.cases ≡ cases es → o.most ≡ rules.stays → is_legal_event rules c (es, e) ≡ true → CanDecide e o
+  can-decide (Requeue ccb) o is most allowed = ap (times ccb) is ∙ times-cases ccb true (asks-requeue rules c es ccb allowed).1
+  can-decide (Finish ccb) o is most allowed = ap (times ccb) is ∙ times-cases ccb true (asks-finish rules c es ccb allowed).1
+  can-decide (Done ccb outcome) o is most allowed = (
+    (let lt = (asks-done rules c es ccb outcome allowed).0 in omega (arith, lt, most, commands-stays es, stays-legal rules c es legal)),
+    ap (times ccb) is ∙ times-cases ccb false (flies ccb outcome allowed),
+  )
+  can-decide (Send lane ccb) o is most allowed = tt
+  can-decide (Submit driver device priority retries flags) o is most allowed = tt
+  can-decide (FreezeDev device count) o is most allowed = tt
+  can-decide (ReleaseDev device count) o is most allowed = tt
+  can-decide (FreezeSim sim count) o is most allowed = tt
+  can-decide (ReleaseSim sim) o is most allowed = tt
+  can-decide (Adjust device openings) o is most allowed = tt
+  can-decide Tick o is most allowed = tt

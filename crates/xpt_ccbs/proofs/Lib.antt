@@ -1,6 +1,8 @@
 pub mod ListFacts
 pub mod RowLaws
-pub mod CaseLaws
 pub mod PlaceLaws
-pub mod BookLaws
-pub mod SoundLemmas
+pub mod TableLemmas
+pub mod RingLemmas
+pub mod CaseLaws
+pub mod CcbLemmas
+pub mod LawLemmas

@@ -87,3 +87,8 @@ length-by_number n (y ∷ ys) h =
 pub sum_by-same : {X : Type 0} → (f g : X → ℕ) (xs : List X) → ((x : X) → f x ≡ g x) → sum_by f xs ≡ sum_by g xs
 sum_by-same f g [] h = refl
 sum_by-same f g (x ∷ xs) h = omega (arith, sum_by-cons f x xs, sum_by-cons g x xs, h x, sum_by-same f g xs h)
+
+-- a sum of numbers that are at most 1
+pub sum_by-ones : (f : ℕ → ℕ) (ns : List ℕ) → ((n : ℕ) → f n ≤ 1) → sum_by f ns ≤ length ns
+sum_by-ones f [] h = omega arith
+sum_by-ones f (n ∷ ns) h = let le = h n in omega (arith, sum_by-cons f n ns, le, sum_by-ones f ns h)

@@ -1,13 +1,12 @@
--- what an event makes of the book
-use Rattle.std.specs.Prelude.{ℕ, ◌+◌, ◌-◌, ◌^◌, ◌<◌, ◌==◌, Bool, false, ◌&&◌, List, [], ◌∷◌, ◌++◌, Option, Some, None, not, filter, if◌then◌else◌, slice_get, slice_set}
+-- what an event makes of a row
+use Rattle.std.specs.Prelude.{ℕ, ◌+◌, ◌-◌, ◌^◌, ◌<◌, Bool, false, ◌&&◌, List, Option, Some, None, if◌then◌else◌, slice_get, slice_set}
 use Rattle.std.specs.Option.{option_map, option_map_or}
 use Rattle.sense_class.specs.Classes.{kind_of, is_counted, classify}
 use Rattle.sense_class.specs.declared.class.Class as class
-use Rattle.event_log.specs.Event.{is_some_and, is_send_of, is_done_of, is_send_or_done_of, is_requeue_of, concerns, ccb_of, outcome_of, is_erring, ends}
+use Rattle.event_log.specs.Event.{is_some_and, is_send_of, is_done_of, is_send_or_done_of, is_requeue_of, concerns, outcome_of, is_erring, ends}
 use Rattle.event_log.specs.declared.event.Event.{Event}
 use Rattle.event_log.specs.declared.submission.Submission.{Submission}
 use Rattle.xpt_ccbs.specs.declared.ccb.Ccb.{Ccb}
-use Rattle.xpt_ccbs.specs.Book.{Book}
 
 -- a CCB that was submitted just now
 abbrev pub fresh : Submission → Ccb
@@ -40,18 +39,6 @@ next_row ccb event (Some r) = if ends ccb event then None else Some (next_ccb cc
 -- the rows, where the event concerns the CCB of this number
 abbrev pub told_at : Event → List (Option Ccb) → ℕ → List (Option Ccb)
 told_at event rows ccb = option_map_or (λ r. slice_set rows ccb (next_row ccb event r)) (slice_get rows ccb) rows
-
--- the cases but the CCB of this number
-abbrev pub other_cases : ℕ → List ℕ → List ℕ
-other_cases ccb cases = filter (λ k. not (ccb == k)) cases
-
--- the cases, where the event concerns the CCB of this number
-abbrev pub decided_at : Event → List ℕ → ℕ → List ℕ
-decided_at event cases ccb = other_cases ccb cases ++ (if is_erring event then ccb ∷ [] else [])
-
--- the book behind an event that is no submit
-abbrev pub told : Event → Book → Book
-told event b = option_map_or (λ ccb. record b { rows = told_at event b.rows ccb; cases = decided_at event b.cases ccb }) (ccb_of event) b
 
 -- the counters of a row have room for one more
 abbrev pub IsSmall : Option Ccb → Type 0

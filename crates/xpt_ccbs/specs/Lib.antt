@@ -1,5 +1,7 @@
 pub mod Ccbs
 pub mod Cases
-pub mod Book
 pub mod Change
+pub mod Rows
+pub mod Order
 pub mod Sound
+pub mod Laws

@@ -1,10 +1,10 @@
-//! The parts of the book of CCBs.
+//! The parts of the rows.
 
-ghost use Rattle.std.specs.Prelude.{◌≡◌, ◌+◌, ◌-◌, ◌^◌, ◌<◌, ◌≤◌, length, slice_get, vec_len, vec_capacity, cond, is_some, IsSome, IsTrue};
+ghost use Rattle.std.specs.Prelude.{◌≡◌, ◌+◌, ◌-◌, ◌^◌, ◌<◌, ◌≤◌, slice_get, cond, is_some, IsSome};
 ghost use Rattle.cam_ccb.specs.Table.{find, held_count, Updates};
-ghost use Rattle.event_log.specs.Event.{is_erring, ends};
-ghost use Rattle.xpt_ccbs.specs.Change.{fresh, next_row, other_cases, decided_at, IsSmall};
-ghost use Rattle.xpt_ccbs.specs.Sound.{is_row_in_flight};
+ghost use Rattle.event_log.specs.Event.{ends};
+ghost use Rattle.xpt_ccbs.specs.Change.{fresh, next_row, IsSmall};
+ghost use Rattle.xpt_ccbs.specs.Rows.{is_row_in_flight};
 
 use crate::ccb::Ccb;
 use cam_ccb::{CcbTable, Handle};
@@ -88,24 +88,4 @@ pub fn put(slots: &mut CcbTable<Ccb>, handle: Handle, row: Option<Ccb>)
             let _ = slots.give_back(handle);
         }
     }
-}
-
-/// Takes the CCB that the event concerns out of the cases, and puts it behind them where the event errs.
-pub fn decide(cases: &mut Vec<u32>, ccb: u32, event: &Event)
-    requires { IsTrue (is_erring event.now) → length (other_cases ccb cases.old.items) < vec_capacity cases.old }
-    ensures items { cases.new.items ≡ decided_at event.now cases.old.items ccb }
-    ensures capacity { vec_capacity cases.new ≡ vec_capacity cases.old }
-{
-    drop_case(cases, ccb);
-    if event.is_erring() {
-        cases.push_reserved(ccb);
-    }
-}
-
-fn drop_case(cases: &mut Vec<u32>, ccb: u32)
-    ensures items { cases.new.items ≡ other_cases ccb cases.old.items }
-    ensures capacity { vec_capacity cases.new ≡ vec_capacity cases.old }
-    ensures len { vec_len cases.new ≡ length (other_cases ccb cases.old.items) }
-{
-    cases.retain(|case| ccb != *case);
 }

@@ -1,5 +1,5 @@
 -- the parts of a transport's devices, before any event and behind one more
-use Rattle.std.proofs.Common.{◌≡◌, ℕ, suc, ◌+◌, ◌<◌, ◌≤◌, Bool, true, false, cond, List, [], ◌∷◌, ◌++◌, length, refl, sym, ap, subst, ◌∙◌, arith, Option, Some, None, map, get_or, length-append, zero-add}
+use Rattle.std.proofs.Common.{◌≡◌, ℕ, suc, ◌+◌, ◌<◌, ◌≤◌, Bool, true, false, cond, List, [], ◌∷◌, ◌++◌, length, refl, sym, ap, subst, ◌∙◌, arith, Option, Some, None, map, get_or, zero-add}
 use Rattle.std.specs.Prelude.{not, ◌==◌, ◌||◌, count_by, slice_get, option_to_list, is_some, IfSome, is_some, vec_len, vec_capacity}
 use Rattle.std.specs.List.{list_any, range_with_len}
 use Rattle.std.specs.Option.{option_map}
@@ -9,7 +9,6 @@ use Rattle.std.proofs.lemmas.Option.{slice_get_read}
 use Rattle.std.proofs.lemmas.List.Sums.{sum_by-cons}
 use Rattle.std.proofs.lemmas.Bool.Decides.{nat_tests}
 use Rattle.cam_types.specs.Topology.{Topology}
-use Rattle.cam_types.specs.Bounds.{IsWithin}
 use Rattle.cam_types.specs.declared.device.Device as config
 use Rattle.event_log.specs.Event.{submission_of}
 use Rattle.event_log.specs.Counts.{submissions, ccbs, sendings, is_in_flight, has_in_flight, caller_count, error_count}
@@ -21,9 +20,10 @@ use Rattle.event_log.specs.declared.passage.Passage.{Passage}
 use Rattle.event_log.proofs.QueueLaws.{first-in_order}
 use Rattle.event_log.proofs.Laws.{submissions-push, few_commands}
 use Rattle.event_log.proofs.StateLaws.{slice_get-range}
-use Rattle.cam_event.specs.Legal.{Rules, rules_of, is_legal_event, is_legal}
+use Rattle.cam_event.specs.Legal.{Rules, IsWithinHistory, is_legal_event, is_legal}
 use Rattle.cam_event.proofs.LawLemmas.{allowed-legal_event, legal-push}
-use Rattle.cam_event.proofs.LimitLemmas.{legal-induction, room_submit}
+use Rattle.cam_event.proofs.LimitLemmas.{room_submit}
+use Rattle.cam_event.proofs.WithinLemmas.{short-legal}
 use Rattle.dev_queue.specs.Device.{Device}
 use Rattle.dev_queue.specs.declared.waiting.Waiting.{Waiting}
 use Rattle.event_log.proofs.TotalLaws.{commands-stays}
@@ -35,53 +35,45 @@ use Rattle.xpt_devices.specs.declared.devices.Devices.TheInside.{Inside}
 use Rattle.xpt_devices.proofs.TransportLemmas.{told-push, can-tell}
 use Rattle.xpt_devices.proofs.CountLemmas.{counts-push, can-count, are-few}
 
--- a legal list is as short as the rules say
-short_step : (rules : Rules) (c : Topology) (es : List Event) (e : Event) → is_legal_event rules c (es, e) ≡ true → length es ≤ rules.events → length (es ++ e ∷ []) ≤ rules.events
-short_step rules c es e allowed le = omega (arith, (allowed-legal_event rules c es e allowed).0, length-append es (e ∷ []))
-
-pub short-legal : (rules : Rules) (c : Topology) (es : List Event) → is_legal rules c es ≡ true → length es ≤ rules.events
-unfolding is_legal
-short-legal rules c es legal = legal-induction rules c (λ xs. length xs ≤ rules.events) (short_step rules c) [] es legal (omega arith)
-
 pub short-sound : (i : Inside) → IsDevices i → length i.events.items ≤ 65535
-short-sound i is = let h = short-legal (rules_of i.limits) i.config i.events.items is.legal in omega (arith, h, is.within.events)
+short-sound i is = let h = short-legal i.rules i.config i.events.items is.legal in omega (arith, h, is.within.events)
 
 pub few-sound : (i : Inside) → IsDevices i → length i.submissions.items ≤ 65535
 few-sound i is = omega (arith, ap length is.submissions, few_commands i.events.items, short-sound i is)
 
 -- what an event finds, and makes
-module _ (i : Inside) (is : IsDevices i) (e : Event) (allowed : is_legal_event (rules_of i.limits) i.config (i.events.items, e) ≡ true) where
+module _ (i : Inside) (is : IsDevices i) (e : Event) (allowed : is_legal_event i.rules i.config (i.events.items, e) ≡ true) where
   pub sound-tell : CanTell i.submissions.items e i.queues.items
   sound-tell =
       subst (λ ss. CanTell ss e i.queues.items) (sym is.submissions)
-      (subst (λ qs. CanTell (submissions i.events.items) e qs) (sym is.queues) (can-tell i.limits is.within i.config i.events.items is.legal e allowed))
+      (subst (λ qs. CanTell (submissions i.events.items) e qs) (sym is.queues) (can-tell i.rules is.within i.config i.events.items is.legal e allowed))
 
   pub sound-count : CanCount e i.counts
-  sound-count = subst (CanCount e) (sym is.counts) (can-count (rules_of i.limits) i.config i.events.items is.legal e allowed)
+  sound-count = subst (CanCount e) (sym is.counts) (can-count i.rules i.config i.events.items is.legal e allowed)
 
   pub sound-few : AreFew i.counts
   sound-few = subst AreFew (sym is.counts) (are-few i.events.items (short-sound i is))
 
   pub sound-events : vec_len i.events < vec_capacity i.events
-  sound-events = omega (arith, i.events.ok.0, (allowed-legal_event (rules_of i.limits) i.config i.events.items e allowed).0, is.events_room)
+  sound-events = omega (arith, i.events.ok.0, (allowed-legal_event i.rules i.config i.events.items e allowed).0, is.events_room)
 
-  pub sound-push : (i' : Inside) → i'.config ≡ i.config → i'.limits ≡ i.limits → i'.events.items ≡ i.events.items ++ e ∷ [] → i'.submissions.items ≡ i.submissions.items ++ option_to_list (submission_of e) →
+  pub sound-push : (i' : Inside) → i'.config ≡ i.config → i'.rules ≡ i.rules → i'.events.items ≡ i.events.items ++ e ∷ [] → i'.submissions.items ≡ i.submissions.items ++ option_to_list (submission_of e) →
       i'.queues.items ≡ told i.submissions.items e i.queues.items → i'.counts ≡ counted e i.counts → vec_capacity i'.events ≡ vec_capacity i.events → vec_capacity i'.submissions ≡ vec_capacity i.submissions → IsDevices i'
   sound-push i' ec el ee es eq en ev ew = record {
     within = rw el is.within;
-    legal = rw (el, ec, ee) (legal-push (rules_of i.limits) i.config i.events.items e is.legal allowed);
+    legal = rw (el, ec, ee) (legal-push i.rules i.config i.events.items e is.legal allowed);
     submissions = rw (ee, submissions-push, ← is.submissions) es;
     queues = eq ∙ ap (λ ss. told ss e i.queues.items) is.submissions ∙ ap (told (submissions i.events.items) e) is.queues
-        ∙ sym (told-push (rules_of i.limits) i.config i.limits.stays i.events.items is.legal e allowed) ∙ rw (el, ec, ee) refl;
-    counts = en ∙ ap (counted e) is.counts ∙ sym (counts-push (rules_of i.limits) i.config i.events.items is.legal e allowed) ∙ ap counts_of (sym ee);
+        ∙ sym (told-push i.rules i.config i.rules.stays i.events.items is.legal e allowed) ∙ rw (el, ec, ee) refl;
+    counts = en ∙ ap (counted e) is.counts ∙ sym (counts-push i.rules i.config i.events.items is.legal e allowed) ∙ ap counts_of (sym ee);
     events_room = rw (el, ev) is.events_room;
     submissions_room = rw (el, ew) is.submissions_room;
   }
 
 -- what a submit submits has room
-pub sound-note : (i : Inside) (e : Event) → IsDevices i → is_legal_event (rules_of i.limits) i.config (i.events.items, e) ≡ true → IfSome (submission_of e) (λ _. vec_len i.submissions < vec_capacity i.submissions)
+pub sound-note : (i : Inside) (e : Event) → IsDevices i → is_legal_event i.rules i.config (i.events.items, e) ≡ true → IfSome (submission_of e) (λ _. vec_len i.submissions < vec_capacity i.submissions)
 sound-note i (Submit driver device priority retries flags) is allowed =
-    omega (arith, i.submissions.ok.0, room_submit (rules_of i.limits) i.config i.events.items driver device priority retries flags allowed, commands-stays i.events.items, ap length is.submissions, is.submissions_room)
+    omega (arith, i.submissions.ok.0, room_submit i.rules i.config i.events.items driver device priority retries flags allowed, commands-stays i.events.items, ap length is.submissions, is.submissions_room)
 sound-note i (Send lane ccb) is allowed = tt
 sound-note i (Done ccb o) is allowed = tt
 sound-note i (Requeue ccb) is allowed = tt
@@ -101,11 +93,11 @@ new-state c n d device is = rw is refl
 -- the queue of a device
 pub queue-within : (i : Inside) (d : ℕ) → IsDevices i → d < length i.config.devices → d < vec_len i.queues
 queue-within i d is lt =
-    omega (arith, i.queues.ok.0, ap length is.queues, length-map (devices i.config) (device_state i.config i.limits.stays i.events.items), length-range_with_len 0 (length i.config.devices))
+    omega (arith, i.queues.ok.0, ap length is.queues, length-map (devices i.config) (device_state i.config i.rules.stays i.events.items), length-range_with_len 0 (length i.config.devices))
 
-pub queue-state : (i : Inside) (d : ℕ) (q : Device) → IsDevices i → d < length i.config.devices → q ≡ get_or i.queues.items d q → q ≡ device_state i.config i.limits.stays i.events.items d
+pub queue-state : (i : Inside) (d : ℕ) (q : Device) → IsDevices i → d < length i.config.devices → q ≡ get_or i.queues.items d q → q ≡ device_state i.config i.rules.stays i.events.items d
 queue-state i d q is lt at =
-    let state = device_state i.config i.limits.stays i.events.items in
+    let state = device_state i.config i.rules.stays i.events.items in
     let read : slice_get i.queues.items d ≡ Some q = slice_get_read i.queues.items (length i.queues.items) d q refl (omega (arith, i.queues.ok.0, queue-within i d is lt)) at in
     let made : slice_get i.queues.items d ≡ Some (state (0 + d)) = ap (λ qs. slice_get qs d) is.queues ∙ slice_get-range state 0 (length i.config.devices) d lt in
     let same : q ≡ state (0 + d) = cc in
@@ -167,13 +159,13 @@ no_submissions : submissions [] ≡ []
 unfolding submissions
 no_submissions = refl
 
-pub sound-open : (i : Inside) → IsWithin i.limits → i.events.items ≡ [] → i.submissions.items ≡ [] → i.queues.items ≡ map (new_device i.limits.stays) i.config.devices → i.counts ≡ counts_of [] →
-    i.limits.events ≤ vec_capacity i.events → i.limits.stays ≤ vec_capacity i.submissions → IsDevices i
+pub sound-open : (i : Inside) → IsWithinHistory i.rules → i.events.items ≡ [] → i.submissions.items ≡ [] → i.queues.items ≡ map (new_device i.rules.stays) i.config.devices → i.counts ≡ counts_of [] →
+    i.rules.events ≤ vec_capacity i.events → i.rules.stays ≤ vec_capacity i.submissions → IsDevices i
 sound-open i within ee es eq en ev ew = record {
   within = within;
-  legal = rw ee (none_legal (rules_of i.limits) i.config);
+  legal = rw ee (none_legal i.rules i.config);
   submissions = es ∙ sym no_submissions ∙ ap submissions (sym ee);
-  queues = rw ee (eq ∙ new_queues i.config i.limits.stays);
+  queues = rw ee (eq ∙ new_queues i.config i.rules.stays);
   counts = en ∙ ap counts_of (sym ee);
   events_room = ev;
   submissions_room = ew;

@@ -4,7 +4,6 @@ use Rattle.std.specs.Prelude.{not, ◌==◌, ◌&&◌, nat_lt, nat_le}
 use Rattle.std.specs.Option.{option_map_or}
 use Rattle.std.proofs.lemmas.Bool.{and_parts, and_from, eq-eqb, ltb-true, leb-true, not-true}
 use Rattle.cam_types.specs.Topology.{Topology, are_openings}
-use Rattle.cam_types.specs.Bounds.{Bounds, IsWithin}
 use Rattle.cam_types.specs.declared.priority.TheConstants.{MOST_PRIORITY}
 use Rattle.event_log.specs.Event.{is_some_and, is_erring}
 use Rattle.event_log.specs.Counts.{round, commands, submission, submissions, is_in_flight, is_recovering, has_in_flight, caller_count}
@@ -15,7 +14,7 @@ use Rattle.event_log.specs.declared.event.Event.TheVariants.{Submit, Send, Done,
 use Rattle.event_log.specs.declared.submission.Submission.{Submission}
 use Rattle.event_log.specs.declared.passage.Passage.{Passage}
 use Rattle.event_log.proofs.Laws.{few_commands}
-use Rattle.cam_event.specs.Legal.{Rules, rules_of, names_device, is_count, is_legal_event, is_legal}
+use Rattle.cam_event.specs.Legal.{Rules, IsWithinHistory, names_device, is_count, is_legal_event, is_legal}
 use Rattle.cam_event.specs.Laws.{is_in_range}
 use Rattle.cam_event.specs.Refusals.{device_of}
 use Rattle.cam_event.specs.declared.most.TheConstants.{MOST_RETRIES, MOST_FREEZES}
@@ -107,7 +106,7 @@ module _ (rules : Rules) (c : Topology) (n : ℕ) (es : List Event) (legal : is_
   told-push Tick allowed = all_range (device_state c n es) (device_state c n (es ++ Tick ∷ [])) (length c.devices) in_next_round (λ d. state-tick c n es d) 0 (length c.devices)
 
 -- what a legal event finds in the queues
-module _ (b : Bounds) (within : IsWithin b) (c : Topology) (es : List Event) (legal : is_legal (rules_of b) c es ≡ true) where
+module _ (b : Rules) (within : IsWithinHistory b) (c : Topology) (es : List Event) (legal : is_legal b c es ≡ true) where
   abbrev found : List Device
   found = map (device_state c b.stays es) (devices c)
 
@@ -158,57 +157,57 @@ module _ (b : Bounds) (within : IsWithin b) (c : Topology) (es : List Event) (le
     so = λ x e. let same : Some s ≡ Some x = sym is ∙ e in let s' : s ≡ x = cc in subst P s' h;
   }
 
-  pub can-tell : (e : Event) → is_legal_event (rules_of b) c (es, e) ≡ true → CanTell (submissions es) e found
+  pub can-tell : (e : Event) → is_legal_event b c (es, e) ≡ true → CanTell (submissions es) e found
   can-tell (Submit driver device priority retries flags) allowed =
-      let range = range_submit (rules_of b) c es driver device priority retries flags allowed in
+      let range = range_submit b c es driver device priority retries flags allowed in
       let one = and_parts (names_device c device && nat_le priority MOST_PRIORITY) (nat_le retries MOST_RETRIES) range in
       let two = and_parts (names_device c device) (nat_le priority MOST_PRIORITY) one.0 in
-      let room = room_submit (rules_of b) c es driver device priority retries flags allowed in (
+      let room = room_submit b c es driver device priority retries flags allowed in (
         at_found HasRoom device (ltb-true _ _ two.0) (has_room device room),
         leb-true _ _ two.1,
-        omega (arith, few_commands es, (allowed-legal_event (rules_of b) c es (Submit driver device priority retries flags) allowed).0, within.events),
+        omega (arith, few_commands es, (allowed-legal_event b c es (Submit driver device priority retries flags) allowed).0, within.events),
       )
   can-tell (Send lane ccb) allowed =
-      let asks = asks-send (rules_of b) c es lane ccb allowed in
-      let one = ccb_known (rules_of b) c es ccb legal asks.0 in
+      let asks = asks-send b c es lane ccb allowed in
+      let one = ccb_known b c es ccb legal asks.0 in
       let turn = first-legal c es lane ccb asks.1 in
       has_ccb (λ s. HasAt (λ q. dev.is_ready q ≡ true) found s.device) ccb one.0 one.1.is asks.0
       (at_found (λ q. dev.is_ready q ≡ true) one.0.device one.1.device (has_ready ccb one.0 turn.0 one.1.is turn.1))
   can-tell (Done ccb o) allowed =
-      let asks = asks-done (rules_of b) c es ccb o allowed in
-      let one = ccb_known (rules_of b) c es ccb legal asks.0 in
+      let asks = asks-done b c es ccb o allowed in
+      let one = ccb_known b c es ccb legal asks.0 in
       has_ccb (λ s. HasAt (λ q. 0 < q.in_flight) found s.device) ccb one.0 one.1.is asks.0
       (at_found (λ q. 0 < q.in_flight) one.0.device one.1.device (has_flying ccb one.0 one.1.is asks.0 asks.1))
   can-tell (Requeue ccb) allowed =
-      let asks = asks-requeue (rules_of b) c es ccb allowed in
-      let one = ccb_known (rules_of b) c es ccb legal asks.0 in
+      let asks = asks-requeue b c es ccb allowed in
+      let one = ccb_known b c es ccb legal asks.0 in
       has_ccb (λ s. HasAt (λ q. HasRoom q × HasError (not s.flags.qfrzdis) q) found s.device × (s.priority ≤ MOST_PRIORITY)) ccb one.0 one.1.is asks.0 (
         at_found (λ q. HasRoom q × HasError (not one.0.flags.qfrzdis) q) one.0.device one.1.device
-            (has_room one.0.device (room_requeue (rules_of b) c es ccb allowed), has_error ccb one.0 one.1.is asks.0 asks.1),
+            (has_room one.0.device (room_requeue b c es ccb allowed), has_error ccb one.0 one.1.is asks.0 asks.1),
         one.1.priority,
       )
   can-tell (Finish ccb) allowed =
-      let asks = asks-finish (rules_of b) c es ccb allowed in
-      let one = ccb_known (rules_of b) c es ccb legal asks.0 in
+      let asks = asks-finish b c es ccb allowed in
+      let one = ccb_known b c es ccb legal asks.0 in
       has_ccb (λ s. HasAt (HasError (not s.flags.qfrzdis)) found s.device) ccb one.0 one.1.is asks.0
       (at_found (HasError (not one.0.flags.qfrzdis)) one.0.device one.1.device (has_error ccb one.0 one.1.is asks.0 asks.1))
   can-tell (FreezeDev device count) allowed =
-      let asked = (allowed-legal_event (rules_of b) c es (FreezeDev device count) allowed).1 in
+      let asked = (allowed-legal_event b c es (FreezeDev device count) allowed).1 in
       let one = and_parts (names_device c device && is_count count) (nat_le (caller_count es device + count) MOST_FREEZES) asked in
       let two = and_parts (names_device c device) (is_count count) one.0 in
       at_found (λ q. q.callers + count ≤ 65535) device (ltb-true _ _ two.0) (few_callers device count (leb-true _ _ one.1))
   can-tell (ReleaseDev device count) allowed =
-      let asked = (allowed-legal_event (rules_of b) c es (ReleaseDev device count) allowed).1 in
+      let asked = (allowed-legal_event b c es (ReleaseDev device count) allowed).1 in
       let one = and_parts (names_device c device && is_count count) (nat_le count (caller_count es device)) asked in
       let two = and_parts (names_device c device) (is_count count) one.0 in
       at_found (λ q. count ≤ q.callers) device (ltb-true _ _ two.0) (enough_callers device count (leb-true _ _ one.1))
   can-tell (Adjust device openings) allowed =
-      let asked = (allowed-legal_event (rules_of b) c es (Adjust device openings) allowed).1 in
+      let asked = (allowed-legal_event b c es (Adjust device openings) allowed).1 in
       let one = and_parts (names_device c device) (are_openings openings) asked in
       (at_found (λ q. Unit) device (ltb-true _ _ one.0) tt).there
   can-tell (FreezeSim sim count) allowed = tt
   can-tell (ReleaseSim sim) allowed = tt
   can-tell Tick allowed =
-      let asked = (allowed-legal_event (rules_of b) c es Tick allowed).1 in
+      let asked = (allowed-legal_event b c es Tick allowed).1 in
       let one = and_parts (not (has_in_flight es)) (nat_lt (round es) b.rounds) asked in
       All-range (λ q. q.in_flight ≡ 0) (device_state c b.stays es) (λ d. none-flying c b.stays es d (not-true (has_in_flight es) one.0)) 0 (length c.devices)

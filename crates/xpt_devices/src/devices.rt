@@ -6,18 +6,19 @@ mod questions;
 use crate::counts::Counts;
 use crate::open::open_queues;
 use crate::tell::tell;
-use cam_types::{Config, Limits};
+use cam_event::Rules;
+use cam_types::Config;
 use dev_queue::DevQueue;
 use event_log::{Event, Submission};
 use std::alloc::{AllocError, Global};
 use std::marker::Model;
 
 /// The devices of a transport, each with its queue, and the events so far, each legal at its place within the
-/// transport's limits. Nothing grows after `open`.
+/// transport's rules. Nothing grows after `open`.
 #[derive(Drop)]
 pub struct Devices {
     config: Config,
-    limits: Limits,
+    rules: Rules,
     events: Vec<Event>,
     submissions: Vec<Submission>,
     queues: Vec<DevQueue>,
@@ -30,25 +31,25 @@ impl Model for Devices {
 
     ghost Value = { Transport };
 
-    ghost view = { λ d. record { config = d.config; limits = d.limits; events = d.events.items } };
+    ghost view = { λ d. record { config = d.config; rules = d.rules; events = d.events.items } };
 
     ghost invariant = { IsDevices };
 }
 
 impl Devices {
-    ghost use Rattle.cam_event.specs.Legal.{rules_of, is_legal, is_legal_event};
+    ghost use Rattle.cam_event.specs.Legal.{is_legal, is_legal_event};
 
-    /// Devices to which nothing has happened, with memory for all that the limits let happen.
-    pub fn open(alloc: Global, config: Config, limits: Limits) -> Result<Devices, AllocError>
-        ensures { IfOk result (λ d. d ≡ record { config = config; limits = limits; events = [] }) }
+    /// Devices to which nothing has happened, with memory for all that the rules let happen.
+    pub fn open(alloc: Global, config: Config, rules: Rules) -> Result<Devices, AllocError>
+        ensures { IfOk result (λ d. d ≡ record { config = config; rules = rules; events = [] }) }
     {
-        let stays = limits.stays() as usize;
+        let stays = rules.stays() as usize;
         let queues = open_queues(alloc, config.devices(), stays)?;
-        let events = Vec::with_capacity(alloc, limits.events() as usize)?;
+        let events = Vec::with_capacity(alloc, rules.events() as usize)?;
         let submissions = Vec::with_capacity(alloc, stays)?;
         Ok(Devices {
             config,
-            limits,
+            rules,
             events,
             submissions,
             queues,
@@ -59,7 +60,7 @@ impl Devices {
     /// Puts a legal event behind the others. It takes time that grows with the logarithm of what waits at the device;
     /// a tick visits each device, and enters what waits for the round that opens.
     pub fn append(&mut self, event: Event)
-        requires legal { IsTrue (is_legal_event (rules_of self.old.limits) self.old.config (self.old.events, event)) }
+        requires legal { IsTrue (is_legal_event (self.old.rules) self.old.config (self.old.events, event)) }
         ensures { self.new ≡ record self.old { events = self.old.events ++ event ∷ [] } }
     {
         tell(&mut self.queues, &self.submissions, &event);

@@ -4,7 +4,6 @@ pub mod AttemptLaws
 pub mod RowLaws
 pub mod LaneLemmas
 pub mod SentLemmas
-pub mod CcbRefusalLemmas
 pub mod XptLemmas
 pub mod TurnLemmas
 pub mod HistoryLemmas

@@ -16,15 +16,14 @@ use Rattle.event_log.specs.declared.event.Event.TheVariants.{Send, Done}
 use Rattle.event_log.specs.declared.passage.Passage.{Passage}
 use Rattle.event_log.specs.declared.submission.Submission.{Submission}
 use Rattle.cam_event.specs.Laws.{last_class, is_stay_of}
-use Rattle.cam_event.specs.Legal.{Rules, rules_of, names_ccb, is_legal, is_legal_event}
+use Rattle.cam_event.specs.Legal.{Rules, names_ccb, is_legal, is_legal_event}
 use Rattle.cam_event.specs.Refusals.{lane_adapter}
 use Rattle.cam_event.proofs.LawLemmas.{allowed-legal_event}
 use Rattle.cam_event.proofs.NextLemmas.{next_stands}
 use Rattle.xpt_ccbs.specs.declared.ccb.Ccb.{Ccb}
 use Rattle.xpt_ccbs.specs.Ccbs.{is_alive, ccb_by, alive_ccb}
-use Rattle.xpt_ccbs.specs.Book.{Book, IsBookOf}
 use Rattle.xpt_ccbs.specs.Cases.{cases}
-use Rattle.xpt_ccbs.proofs.PlaceLaws.{IsSettled, settled-legal, in_flight_held, recovering_held}
+use Rattle.cam_event.proofs.StandLemmas.{AreStates, states-legal, in_flight_held, recovering_held}
 use Rattle.xpt_state.specs.declared.reply.Reply.TheVariants as replies
 use Rattle.xpt_state.specs.Looks.{case_of, next_case}
 use Rattle.xpt_state.specs.Replies.{command_of, done_of, reply_of}
@@ -102,10 +101,14 @@ pub done_answers_by_row : (rules : Rules) (c : Topology) (es : List Event) (ccb 
 done_answers_by_row rules c es ccb outcome legal here =
     let asked = (allowed-legal_event rules c es (Done ccb outcome) here).1 in
     let flies = (and_parts (names_ccb es ccb && not (status_of outcome == 0)) (is_in_flight es ccb) asked).1 in
-    let held = in_flight_held es ccb ((settled-legal rules c es legal).placed ccb) flies in
+    let held = in_flight_held es ccb ((states-legal rules c es legal).placed ccb) flies in
     let own = submitted es ccb (ltb-true ccb (commands es) held.0) in
     let row = row_alive es ccb own.0 held.1 own.1 in
     (ccb_by es ccb own.0, row, done_is_by_row es ccb (ccb_by es ccb own.0) outcome row)
+
+-- a CCB that is recovering is alive
+pub recovering_lives : (rules : Rules) (c : Topology) (es : List Event) (n : ℕ) → is_legal rules c es ≡ true → is_recovering es n ≡ true → is_alive es n ≡ true
+recovering_lives rules c es n legal recovers = (recovering_held es n ((states-legal rules c es legal).placed n) recovers).1
 
 -- the next case is alive, so that its class is known
 case_cases : (es : List Event) (ks : List ℕ) → IfSome (slice_get ks 0) (λ n. is_alive es n ≡ true) →
@@ -113,10 +116,10 @@ case_cases : (es : List Event) (ks : List ℕ) → IfSome (slice_get ks 0) (λ n
 case_cases es [] h = refl
 case_cases es (k ∷ ks) h = rw h refl
 
-recovering_alive : (es : List Event) (o : Option ℕ) → IsSettled es → IfSome o (λ n. IsTrue (is_recovering es n)) → IfSome o (λ n. is_alive es n ≡ true)
+recovering_alive : (es : List Event) (o : Option ℕ) → AreStates es → IfSome o (λ n. IsTrue (is_recovering es n)) → IfSome o (λ n. is_alive es n ≡ true)
 recovering_alive es None h r = r
 recovering_alive es (Some n) h r = (recovering_held es n (h.placed n) r).1
 
-pub next_case_by_book : (c : Topology) (es : List Event) (b : Book) → IsBookOf c es b → IfSome (slice_get (cases es) 0) (λ n. IsTrue (is_recovering es n)) →
+pub next_case_alive : (rules : Rules) (c : Topology) (es : List Event) → is_legal rules c es ≡ true → IfSome (slice_get (cases es) 0) (λ n. IsTrue (is_recovering es n)) →
     option_and_then (λ n. case_of n (cond (is_alive es n) (last_class es n) None)) (slice_get (cases es) 0) ≡ next_case es
-next_case_by_book c es b is recovers = case_cases es (cases es) (recovering_alive es (slice_get (cases es) 0) (settled-legal (rules_of b.limits) c es is.legal) recovers)
+next_case_alive rules c es legal recovers = case_cases es (cases es) (recovering_alive es (slice_get (cases es) 0) (states-legal rules c es legal) recovers)

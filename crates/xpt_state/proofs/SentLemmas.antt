@@ -9,7 +9,6 @@ use Rattle.event_log.specs.declared.event.Event.{Event}
 use Rattle.event_log.specs.declared.event.Event.TheVariants.{Send}
 use Rattle.event_log.specs.declared.passage.Passage.{Passage}
 use Rattle.event_log.specs.declared.submission.Submission.{Submission}
-use Rattle.cam_event.specs.Legal.{rules_of}
 use Rattle.cam_event.specs.Refusals.{lane_adapter}
 use Rattle.cam_event.specs.declared.refusal.Refusal.{Refusal}
 use Rattle.cam_event.proofs.LegalLemmas.{legal-none}
@@ -48,7 +47,7 @@ is_some-map None ccb h = absurd (cc)
 is_some-map (Some p) ccb h = refl
 
 next_sent : (old : Transport) (lane ccb : ℕ) → refused old (Send lane ccb) ≡ None → option_map (λ (p : Passage). p.ccb) (next old.config old.events (lane_adapter old.config lane)) ≡ Some ccb
-next_sent old lane ccb free = legal_is_next (rules_of old.limits) old.config old.events lane ccb (legal-none (rules_of old.limits) old.config old.events (Send lane ccb) free)
+next_sent old lane ccb free = legal_is_next old.rules old.config old.events lane ccb (legal-none old.rules old.config old.events (Send lane ccb) free)
 
 -- a lane with a next stay isn't idle
 not_idle : (old : Transport) (lane ccb : ℕ) (why : Idle) → refused old (Send lane ccb) ≡ None → idle old.config old.events (lane_adapter old.config lane) ≡ Some why → ⊥
@@ -60,7 +59,7 @@ not_idle old lane ccb why free is =
 pub legal_send_is_made : (old new : Transport) (lane ccb : ℕ) (result : Result Sent Refusal) → refused old (Send lane ccb) ≡ None → IsTurn old lane new result →
     (command : Command) × (result ≡ Ok (sents.Command command)) × (command.ccb ≡ ccb) × IsStep replies.Command old (Send lane ccb) new (Ok command)
 legal_send_is_made old new lane ccb (Err why) free turn =
-    let refuses : ◌≡◌ {A = Option Refusal} None (Some why) = sym free ∙ refused_as_its_sends (rules_of old.limits) old.config old.events lane ccb why turn.0 in
+    let refuses : ◌≡◌ {A = Option Refusal} None (Some why) = sym free ∙ refused_as_its_sends old.rules old.config old.events lane ccb why turn.0 in
     absurd (cc)
 legal_send_is_made old new lane ccb (Ok (sents.Idle why)) free turn = absurd (not_idle old lane ccb why free turn.1.0)
 legal_send_is_made old new lane ccb (Ok (sents.Command command)) free turn =

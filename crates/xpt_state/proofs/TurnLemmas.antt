@@ -15,7 +15,7 @@ use Rattle.event_log.specs.Head.{adapter_has_opening, devices, head, may_send, n
 use Rattle.event_log.specs.declared.event.Event.{Event}
 use Rattle.event_log.specs.declared.event.Event.TheVariants.{Send}
 use Rattle.event_log.specs.declared.passage.Passage.{Passage}
-use Rattle.cam_event.specs.Legal.{rules_of, names_lane}
+use Rattle.cam_event.specs.Legal.{names_lane}
 use Rattle.cam_event.specs.Refusals.{lane_adapter}
 use Rattle.cam_event.specs.declared.refusal.Refusal.TheVariants.{HistoryFull}
 use Rattle.xpt_adapters.specs.Turn.{turn_of}
@@ -61,20 +61,23 @@ lanes_free c is =
 pub lane_adapter_within : (c : Topology) (lane : ℕ) → IsConfig c → names_lane c lane ≡ true → lane_adapter c lane < length c.adapters
 lane_adapter_within c lane is there = lanes_within (length c.adapters) [] c.lanes lane (lane_adapter c lane) (lanes_free c is) (lane_named c lane there)
 
-pub free_lane_within : (t : Transport) (lane a : ℕ) → IsConfig t.config → a ≡ lane_adapter t.config lane → lane_refusal (rules_of t.limits) t.config t.events lane ≡ None → a < length t.config.adapters
+pub named_lane_within : (c : Topology) (lane a : ℕ) → IsConfig c → a ≡ lane_adapter c lane → names_lane c lane ≡ true → a < length c.adapters
+named_lane_within c lane a is at there = rw at (lane_adapter_within c lane is there)
+
+pub free_lane_within : (t : Transport) (lane a : ℕ) → IsConfig t.config → a ≡ lane_adapter t.config lane → lane_refusal t.rules t.config t.events lane ≡ None → a < length t.config.adapters
 free_lane_within t lane a is at free =
-    rw at (lane_adapter_within t.config lane is (free_cases (nat_le t.limits.events (length t.events)) (names_lane t.config lane) (HistoryFull (length t.events)) free).1)
+    rw at (lane_adapter_within t.config lane is (free_cases (nat_le t.rules.events (length t.events)) (names_lane t.config lane) (HistoryFull (length t.events)) free).1)
 
 -- where there is a next stay, a send of its CCB isn't refused
 turn_cases : (o : Option Passage) (turn : Turn) → Some turn ≡ option_map turn_of o → (p : Passage) × (o ≡ Some p) × (p.ccb ≡ turn.ccb)
 turn_cases None turn h = absurd (cc)
 turn_cases (Some p) turn h = let same : turn ≡ turn_of p = cc in (p, refl, sym (ap (λ (x : Turn). x.ccb) same))
 
-pub turn_free : (t : Transport) (lane : ℕ) (turn : Turn) → lane_refusal (rules_of t.limits) t.config t.events lane ≡ None →
+pub turn_free : (t : Transport) (lane : ℕ) (turn : Turn) → lane_refusal t.rules t.config t.events lane ≡ None →
     Some turn ≡ option_map turn_of (next t.config t.events (lane_adapter t.config lane)) → refused t (Send lane turn.ccb) ≡ None
 turn_free t lane turn free is =
     let by = turn_cases (next t.config t.events (lane_adapter t.config lane)) turn is in
-    ap (λ n. refused t (Send lane n)) (sym by.2) ∙ next_unrefused (rules_of t.limits) t.config t.events lane by.0 free by.1
+    ap (λ n. refused t (Send lane n)) (sym by.2) ∙ next_unrefused t.rules t.config t.events lane by.0 free by.1
 
 -- an adapter has a head where it has a next stay
 some_turn : (o : Option Passage) → is_some (option_map turn_of o) ≡ is_some o

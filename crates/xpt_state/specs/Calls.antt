@@ -1,30 +1,19 @@
 -- why a transport refuses an event, and what it is behind one
-use Rattle.std.specs.Prelude.{ℕ, Bool, true, false, [], ◌∷◌, ◌++◌, Option}
+use Rattle.std.specs.Prelude.{ℕ, [], ◌∷◌, ◌++◌, Option}
 use Rattle.event_log.specs.declared.event.Event.{Event}
-use Rattle.event_log.specs.declared.event.Event.TheVariants.{Send}
-use Rattle.cam_event.specs.Legal.{rules_of}
-use Rattle.cam_event.specs.Refusals.{causes, first_cause, refusal}
+use Rattle.cam_event.specs.Refusals.{refusal}
 use Rattle.cam_event.specs.declared.refusal.Refusal.{Refusal}
 use Rattle.xpt_devices.specs.Transport.{Transport}
 use Rattle.xpt_state.specs.Sends.{lane_refusal}
 
 -- the first cause that refuses the event behind those of the transport
 abbrev pub refused : Transport → Event → Option Refusal
-refused t event = refusal (rules_of t.limits) t.config t.events event
-
--- the same, where there may be one event more
-abbrev pub refused_by_kind : Transport → Event → Option Refusal
-refused_by_kind t event = first_cause (causes (rules_of t.limits) t.config t.events event)
+refused t event = refusal t.rules t.config t.events event
 
 -- the first cause that refuses a lane that asks for the next command
 abbrev pub lane_refused : Transport → ℕ → Option Refusal
-lane_refused t lane = lane_refusal (rules_of t.limits) t.config t.events lane
+lane_refused t lane = lane_refusal t.rules t.config t.events lane
 
 -- the event behind those of the transport
 abbrev pub with_event : Transport → Event → Transport
 with_event t event = record t { events = t.events ++ event ∷ [] }
-
--- a lane sends a CCB
-abbrev pub is_send : Event → Bool
-is_send (Send lane ccb) = true
-is_send _ = false

@@ -1,4 +1,3 @@
-pub mod CcbRefusals
 pub mod Idle
 pub mod Replies
 pub mod Rows
@@ -6,5 +5,5 @@ pub mod Sends
 pub mod Steps
 pub mod Looks
 pub mod Laws
-pub mod Sound
 pub mod Calls
+pub mod Sound

@@ -1,8 +1,9 @@
 -- what there is to see of a transport
-use Rattle.std.specs.Prelude.{ℕ, List, length, Option, is_some, count_by, slice_get, option_and_then}
+use Rattle.std.specs.Prelude.{ℕ, Bool, List, length, Option, is_some, count_by, slice_get, option_and_then}
 use Rattle.std.specs.Option.{option_map}
 use Rattle.cam_types.specs.Topology.{Topology}
 use Rattle.sense_class.specs.declared.class.Class as class
+use Rattle.event_log.specs.Event.{is_some_and}
 use Rattle.event_log.specs.Counts.{round, ccbs, is_in_flight, is_recovering}
 use Rattle.event_log.specs.Stays.{waiting}
 use Rattle.event_log.specs.Head.{head}
@@ -19,6 +20,10 @@ case_of ccb class = option_map (λ known. record { ccb = ccb; class = known }) c
 abbrev pub next_case : List Event → Option Case
 next_case events =
     option_and_then (λ ccb. case_of ccb (last_class events ccb)) (slice_get (cases events) 0)
+
+-- the lane's adapter has something to send
+abbrev pub has_head : Topology → List Event → ℕ → Bool
+has_head c events lane = is_some_and (λ a. is_some (head c events a)) (slice_get c.lanes lane)
 
 -- all counts
 abbrev pub look : Topology → List Event → Look

@@ -1,9 +1,9 @@
--- the parts that hold a transport
-use Rattle.std.specs.Prelude.{◌≡◌}
-use Rattle.xpt_ccbs.specs.Book.{IsBookOf}
-use Rattle.xpt_state.specs.declared.xpt.Xpt.TheInside.{Inside}
+-- the transport that holds a history
+use Rattle.std.specs.Prelude.{◌≡◌, IsTrue}
+use Rattle.cam_event.specs.Legal.{history_rules, is_legal}
+use Rattle.xpt_devices.specs.Transport.{Transport}
 
--- the book is that of the events, by the same limits
-pub record IsXpt (x : Inside) : Type 0 where
-  pub book : IsBookOf x.adapters.config x.adapters.events x.ccbs
-  pub limits : x.ccbs.limits ≡ x.adapters.limits
+-- its rules are a history's, and its events are legal by them
+pub record IsHistory (t : Transport) : Type 0 where
+  pub rules : t.rules ≡ history_rules
+  pub legal : IsTrue (is_legal history_rules t.config t.events)

@@ -1,18 +1,19 @@
-ghost use Rattle.std.specs.Prelude.{◌≡◌, ◌+◌, ◌<◌, ◌≤◌, ◌==◌, not, length, IsTrue, is_some};
+ghost use Rattle.std.specs.Prelude.{◌≡◌, ◌+◌, ◌<◌, ◌≤◌, ◌==◌, not, length, IsTrue, is_some, count_by};
 ghost use Rattle.std.specs.Option.{option_map};
 ghost use Rattle.cam_types.specs.declared.limits.TheConstants.{MOST_EVENTS};
 ghost use Rattle.cam_event.specs.declared.most.TheConstants.{MOST_FREEZES};
 
 use super::Devices;
-use cam_types::{Config, Limits, Priority};
+use cam_event::Rules;
+use cam_types::{Config, Priority};
 use dev_queue::{DevQueue, Waiting};
 use event_log::{Event, Submission};
 
 impl Devices {
-    ghost use Rattle.event_log.specs.Counts.{round, commands, submission, caller_count, freeze_count, has_in_flight};
+    ghost use Rattle.event_log.specs.Counts.{round, commands, submission, sendings, caller_count, freeze_count, has_in_flight};
     ghost use Rattle.event_log.specs.Stays.{passages, waiting, first};
-    ghost use Rattle.event_log.specs.Head.{is_ready, has_opening};
-    ghost use Rattle.cam_event.specs.Legal.{rules_of, is_legal};
+    ghost use Rattle.event_log.specs.Head.{openings, goes_now_to, is_ready, has_opening};
+    ghost use Rattle.cam_event.specs.Legal.{is_legal};
     ghost use Rattle.xpt_devices.specs.Device.{entry, device_state};
     ghost use Rattle.xpt_devices.specs.Ready.{ready_priority};
 
@@ -23,17 +24,17 @@ impl Devices {
         &self.config
     }
 
-    /// How far the transport goes.
-    pub fn limits(&self) -> Limits
-        ensures { result ≡ self.now.limits }
+    /// How far the events may go.
+    pub fn rules(&self) -> Rules
+        ensures { result ≡ self.now.rules }
     {
-        self.limits
+        self.rules
     }
 
     /// The events so far, in order: each is legal at its place.
     pub fn events(&self) -> &[Event]
         ensures same { result.now ≡ self.now.events }
-        ensures legal { IsTrue (is_legal (rules_of self.now.limits) self.now.config self.now.events) }
+        ensures legal { IsTrue (is_legal self.now.rules self.now.config self.now.events) }
         ensures short { length result.now ≤ MOST_EVENTS }
     {
         &self.events
@@ -87,7 +88,7 @@ impl Devices {
     // The device's queue.
     fn queue(&self, device: u32) -> &DevQueue
         requires { device < length self.now.config.devices }
-        ensures { result.now ≡ device_state self.now.config self.now.limits.stays self.now.events device }
+        ensures { result.now ≡ device_state self.now.config self.now.rules.stays self.now.events device }
     {
         &self.queues[device as usize]
     }
@@ -135,6 +136,24 @@ impl Devices {
         ensures { result ≡ not (freeze_count self.now.events device == 0) }
     {
         self.queue(device).frozen()
+    }
+
+    /// How many commands the device takes in this round.
+    #[tactic(auto, unfolding(crate::specs::Device::device_state))]
+    pub fn openings(&self, device: u32) -> u32
+        requires { device < length self.now.config.devices }
+        ensures { result ≡ openings self.now.config self.now.events device }
+    {
+        self.queue(device).openings()
+    }
+
+    /// How many commands were sent to the device in this round.
+    #[tactic(auto, unfolding(crate::specs::Device::device_state))]
+    pub fn sent(&self, device: u32) -> u32
+        requires { device < length self.now.config.devices }
+        ensures { result ≡ count_by (goes_now_to self.now.events device) (sendings self.now.events) }
+    {
+        self.queue(device).sent()
     }
 
     /// Whether the device has an opening left in this round.

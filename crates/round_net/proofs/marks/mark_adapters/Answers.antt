@@ -1,22 +1,42 @@
-use Rattle.std.proofs.Common.{ap, arith}
+use Rattle.std.proofs.Common.{◌≡◌, ◌<◌, ◌≤◌, length, ap, ◌∙◌, arith}
 use Rattle.std.specs.Prelude.{not, ◌==◌}
 use Rattle.event_log.specs.Counts.{round, adapter_freezes}
+use Rattle.cam_types.specs.Topology.{Topology}
+use Rattle.cam_types.specs.declared.config_fault.TheConstants.{MOST_ADAPTERS}
 use Rattle.cam_event.proofs.LimitLemmas.{round_first}
+use Rattle.xpt_devices.specs.Transport.{Transport}
+use Rattle.round_net.specs.Rows.{cell}
 use Rattle.round_net.proofs.CellLemmas.{cell_room}
+use Rattle.round_net.proofs.ConfigLemmas.{few_adapters}
 use Rattle.round_net.proofs.MarkLemmas.{marks-none, marks-step, marks-all}
 use Rattle.round_net.proofs.marks.mark_adapters.Goals as goal
 
+pub overflow_cast-adapter-end : goal.overflow_cast-adapter-end
+overflow_cast-adapter-end c =
+    let few : length c.adapters.result.now ≤ MOST_ADAPTERS = rw c.adapters.ensures.same (few_adapters c.config.result.now c.adapters.ensures.kept) in
+    omega arith
+
 pub mark-requires : goal.mark-requires
 mark-requires c =
-    cell_room c.args.adapters c.args.rounds c.loop-adapter.adapter (round c.args.log.now) c.cell.result _ (omega arith) c.loop-adapter-test.true (round_first c.args.log.now) c.requires.within (rw c.round.ensures.same at c.cell.ensures)
+    let rows : length c.adapters.result.now ≡ length c.args.replay.now.config.adapters = ap length c.adapters.ensures.same ∙ ap (λ (g : Topology). length g.adapters) (c.config.ensures ∙ ap (λ (t : Transport). t.config) c.devices-devices.ensures) in
+    let now : c.round.result ≡ round c.args.replay.now.events = c.round.ensures ∙ ap (λ (t : Transport). round t.events) c.devices-devices.ensures in
+    let at : c.cell-at.result ≡ cell c.args.rounds c.loop-adapter.adapter (round c.args.replay.now.events) = c.cell-at.ensures ∙ ap (cell c.args.rounds c.loop-adapter.adapter) now in
+    let lt : c.loop-adapter.adapter < length c.args.replay.now.config.adapters = omega (arith, rows, c.loop-adapter-test.true) in
+    cell_room (length c.args.replay.now.config.adapters) c.args.rounds c.loop-adapter.adapter (round c.args.replay.now.events) c.cell-at.result _ (omega arith) lt (round_first c.args.replay.now.events) c.requires.within at
 
 pub loop-adapter-init : goal.loop-adapter-init
-loop-adapter-init c = marks-none c.args.adapters c.args.rounds c.args.marks.now (round c.args.log.now) (λ x. not (adapter_freezes c.args.log.now x == 0))
+loop-adapter-init c = marks-none (length c.args.replay.now.config.adapters) c.args.rounds c.args.marks.now (round c.args.replay.now.events) (λ x. not (adapter_freezes c.args.replay.now.events x == 0))
 
 pub loop-adapter-preserved : goal.loop-adapter-preserved
 loop-adapter-preserved c =
-    marks-step c.args.adapters c.args.rounds (round c.args.log.now) c.loop-adapter.adapter c.cell.result c.args.marks.now c.loop-adapter.marks c.mark.new.marks (λ x. not (adapter_freezes c.args.log.now x == 0)) _
-    (omega arith) c.loop-adapter-test.true (round_first c.args.log.now) c.requires.within c.loop-adapter.invariant (ap (λ n. not (n == 0)) c.adapter_freezes.ensures.same) (rw c.round.ensures.same at c.cell.ensures) c.mark.ensures
+    let rows : length c.adapters.result.now ≡ length c.args.replay.now.config.adapters = ap length c.adapters.ensures.same ∙ ap (λ (g : Topology). length g.adapters) (c.config.ensures ∙ ap (λ (t : Transport). t.config) c.devices-devices.ensures) in
+    let now : c.round.result ≡ round c.args.replay.now.events = c.round.ensures ∙ ap (λ (t : Transport). round t.events) c.devices-devices.ensures in
+    let at : c.cell-at.result ≡ cell c.args.rounds c.loop-adapter.adapter (round c.args.replay.now.events) = c.cell-at.ensures ∙ ap (cell c.args.rounds c.loop-adapter.adapter) now in
+    let lt : c.loop-adapter.adapter < length c.args.replay.now.config.adapters = omega (arith, rows, c.loop-adapter-test.true) in
+    marks-step (length c.args.replay.now.config.adapters) c.args.rounds (round c.args.replay.now.events) c.loop-adapter.adapter c.cell-at.result c.args.marks.now c.loop-adapter.marks c.mark.new.marks (λ x. not (adapter_freezes c.args.replay.now.events x == 0)) _
+    (omega arith) lt (round_first c.args.replay.now.events) c.requires.within c.loop-adapter.invariant (c.is_frozen.ensures) at c.mark.ensures
 
 pub returns : goal.returns
-returns c = marks-all c.args.adapters c.args.rounds (round c.args.log.now) c.loop-adapter.adapter c.args.marks.now c.loop-adapter.marks (λ x. not (adapter_freezes c.args.log.now x == 0)) c.loop-adapter-test.false c.loop-adapter.invariant
+returns c =
+    let rows : length c.adapters.result.now ≡ length c.args.replay.now.config.adapters = ap length c.adapters.ensures.same ∙ ap (λ (g : Topology). length g.adapters) (c.config.ensures ∙ ap (λ (t : Transport). t.config) c.devices-devices.ensures) in
+    marks-all (length c.args.replay.now.config.adapters) c.args.rounds (round c.args.replay.now.events) c.loop-adapter.adapter c.args.marks.now c.loop-adapter.marks (λ x. not (adapter_freezes c.args.replay.now.events x == 0)) (omega (arith, rows, c.loop-adapter-test.false)) c.loop-adapter.invariant

@@ -1,3 +1,4 @@
+use Rattle.std.proofs.Common.{length}
 use Rattle.std.specs.Prelude.{not, ◌==◌, ◌&&◌, nat_lt}
 use Rattle.event_log.specs.Counts.{round, adapter_freezes}
 use Rattle.round_net.specs.Marks.{Marks}
@@ -5,4 +6,5 @@ use Rattle.round_net.proofs.marks.mark_adapters.Given as goal
 
 -- the adapters so far
 abbrev pub invariant-loop-adapter : goal.invariant-loop-adapter
-invariant-loop-adapter l = Marks l.adapters l.rounds l.fn.marks l.marks (round l.log) (λ x. nat_lt x l.adapter && not (adapter_freezes l.log x == 0))
+invariant-loop-adapter l =
+    Marks (length l.replay.config.adapters) l.rounds l.fn.marks l.marks (round l.replay.events) (λ x. nat_lt x l.adapter && not (adapter_freezes l.replay.events x == 0))

@@ -6,4 +6,4 @@ use Rattle.round_net.proofs.marks.note_openings.Given as goal
 
 -- the devices so far
 abbrev pub invariant-loop-device : goal.invariant-loop-device
-invariant-loop-device l = SetsBelow (length l.config.devices) l.rounds l.fn.numbers l.numbers (round l.log) (openings l.config l.log) l.device
+invariant-loop-device l = SetsBelow (length l.replay.config.devices) l.rounds l.fn.numbers l.numbers (round l.replay.events) (openings l.replay.config l.replay.events) l.device

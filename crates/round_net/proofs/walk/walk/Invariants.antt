@@ -1,9 +1,11 @@
 use Rattle.std.proofs.Common.{◌≡◌, take}
-use Rattle.round_net.specs.Marks.{IsNoted}
+use Rattle.cam_event.specs.Legal.{history_rules}
+use Rattle.round_net.specs.Marks.{IsNoted, HasCells}
 use Rattle.round_net.proofs.walk.walk.Given as goal
 
 abbrev pub invariant-loop-event : goal.invariant-loop-event
 invariant-loop-event l = record {
-  log : l.log ≡ take l.event-index l.events;
-  noted : IsNoted l.config (take l.event-index l.events) l.rounds l.dev_marks l.sim_marks l.numbers;
+  replay : l.replay ≡ record { config = l.fn.replay.config; rules = history_rules; events = take l.event-index l.events };
+  cells : HasCells l.fn.replay.config l.rounds l.dev_frozen l.sim_frozen l.dev_openings l.dev_sends l.sim_sends;
+  noted : IsNoted l.fn.replay.config (take l.event-index l.events) l.rounds l.dev_frozen l.sim_frozen l.dev_openings l.dev_sends l.sim_sends;
 }

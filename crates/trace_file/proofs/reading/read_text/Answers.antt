@@ -18,6 +18,6 @@ returns-in_err-take_records c =
 
 pub returns : goal.returns
 unfolding reading
-returns c = λ _.
+returns c = λ other.
     let e = took_ok _ _ _ _ c.take_records.ensures.value c.in_ok-take_records.was in
-    c.finish.ensures.value ∙ rw e refl
+    c.finish.ensures.value other ∙ rw e refl

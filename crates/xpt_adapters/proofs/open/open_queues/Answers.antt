@@ -2,10 +2,12 @@ use Rattle.std.proofs.Common.{arith, ap, sym, subst, length, ◌++◌, ◌∷◌
 use Rattle.std.specs.List.{range_with_len}
 use Rattle.std.proofs.lemmas.List.{length-map}
 use Rattle.std.proofs.lemmas.List.FromFn.{length-range_with_len}
-use Rattle.camq_heap.specs.Order.{AllApart}
+use Rattle.std.specs.List.Sorted.{IsStrictlyIncreasing}
+use Rattle.event_log.specs.Head.{is_on}
+use Rattle.sim_queue.proofs.RowLemmas.{rising-filter}
 use Rattle.xpt_adapters.specs.Known.{nothing, adapter_of}
 use Rattle.xpt_adapters.proofs.ConfigLemmas.{few_adapters}
-use Rattle.xpt_adapters.proofs.OpenLemmas.{devices-apart, adapter_more}
+use Rattle.xpt_adapters.proofs.OpenLemmas.{adapter_more}
 use Rattle.xpt_adapters.proofs.open.open_queues.Goals as goal
 
 pub overflow_cast-adapter : goal.overflow_cast-adapter
@@ -13,7 +15,7 @@ overflow_cast-adapter c =
     omega (arith, c.loop-adapter-test.true, ap length c.adapters-adapters.ensures.same, few_adapters c.args.config.now c.adapters-adapters.ensures.kept)
 
 pub open-requires : goal.open-requires
-open-requires c = subst (AllApart (λ d. d)) (sym (c.deref.ensures.value ∙ c.in_ok-devices.ensures)) (devices-apart c.args.config.now c.loop-adapter.adapter)
+open-requires c = subst IsStrictlyIncreasing (sym (c.deref.ensures.value ∙ c.in_ok-devices.ensures)) (rising-filter (is_on c.args.config.now c.loop-adapter.adapter) (length c.args.config.now.devices))
 
 pub push_reserved-requires : goal.push_reserved-requires
 push_reserved-requires c =

@@ -1,11 +1,13 @@
-use Rattle.std.proofs.Common.{◌^◌, ◌<◌, ap, arith}
-use Rattle.std.proofs.lemmas.List.Elements.{All-from_get_or}
-use Rattle.sim_queue.proofs.ChangeLemmas.{IsSound-new}
+use Rattle.std.proofs.Common.{◌∙◌, sym, subst, ap, arith, map}
+use Rattle.std.specs.List.Sorted.{IsStrictlyIncreasing}
+use Rattle.sim_queue.specs.Winners.{IsTree}
+use Rattle.sim_queue.proofs.RowLemmas.{device-new}
 use Rattle.sim_queue.proofs.queue.SimQueue.open.Goals as goal
 
 pub invariant_of-result : goal.invariant_of-result
 invariant_of-result c =
-    let made = c.in_ok-with_capacity.ensures in
-    IsSound-new _ c.args.devices.now _ c.in_ok-new_rows.ensures c.requires
-    (All-from_get_or (λ d. d < 2 ^ 32) c.args.devices.now 0 (λ k inside. omega (arith, c.type_inv.devices k)))
-    (ap (λ q. q.entries) made) (ap (λ q. q.capacity) made)
+    record {
+      rising = subst IsStrictlyIncreasing (sym (ap (map (λ r. r.device)) c.in_ok-rows.ensures ∙ device-new c.args.devices.now)) c.requires;
+      tree = subst (λ rows. IsTree rows c.in_ok-new_winners.field-0.items) c.deref.ensures.value c.in_ok-new_winners.ensures;
+      few_freezes = omega arith;
+    }

@@ -1,33 +1,19 @@
-use Rattle.std.proofs.Common.{sym, ap, subst, refl, ◌∙◌}
-use Rattle.camq_heap.specs.Order.{AllApart, in_order}
-use Rattle.camq_heap.specs.Queue.{key}
-use Rattle.sim_queue.specs.Adapter.{with_priority}
-use Rattle.sim_queue.specs.Ready.{ready_entries}
-use Rattle.sim_queue.proofs.ChangeLemmas.{write-changed, AllApart-write, IsSound-write, rows_changed}
+use Rattle.std.proofs.Common.{List, ap, refl, ◌∙◌}
+use Rattle.sim_queue.specs.declared.row.Row.{Row}
+use Rattle.sim_queue.specs.Adapter.{Adapter, with_priority}
+use Rattle.sim_queue.proofs.RowLemmas.{IsSound-written, rows_written}
 use Rattle.sim_queue.proofs.queue.SimQueue.set_ready.Goals as goal
-
-pub take_out-requires-clause-apart : goal.take_out-requires-clause-apart
-take_out-requires-clause-apart c = subst (AllApart (λ r. r.device)) (sym c.deref-2.ensures.value) c.self.invariant.apart
-
-pub put_in-requires-clause-apart : goal.put_in-requires-clause-apart
-put_in-requires-clause-apart c =
-    subst (AllApart (λ r. r.device)) (sym c.deref-3.ensures.value)
-    (AllApart-write (λ r. record r { priority = c.args.priority }) c.args.device (λ r. refl) (λ r h. record { device = h.device; turn = h.turn })
-    c.self.inside.rows.items c.deref.result.now c.place_of-at.result c.index_mut.result.now
-    c.deref.ensures.value c.place_of-at.ensures.in_range c.place_of-at.ensures.device c.index_mut.ensures.value c.self.invariant.apart)
 
 pub invariant_of-self : goal.invariant_of-self
 invariant_of-self c =
-    IsSound-write (λ r. record r { priority = c.args.priority }) c.args.device (λ r. refl) (λ r h. record { device = h.device; turn = h.turn })
-    c.self.inside.rows.items c.deref.result.now c.place_of-at.result c.index_mut.result.now c.self.inside.ready c.put_in.new.ready c.self.inside.callers _
-    c.deref.ensures.value c.place_of-at.ensures.in_range c.place_of-at.ensures.device c.index_mut.ensures.value
-    (c.put_in.ensures.ordered ∙ ap (λ rows. in_order key (ready_entries rows)) c.deref-3.ensures.value)
-    (c.put_in.ensures.capacity ∙ c.take_out.ensures.capacity) c.self.invariant c.self.invariant.few_freezes
+    let q = c.self.inside in
+    IsSound-written _ _ _ _ _ _ _ _ _ _ c.index.result.now _ c.self.invariant c.deref.ensures.value c.place_of-at.ensures.in_range c.index.ensures refl c.deref_mut.ensures.value c.put_row.ensures.rows
+    c.put_row.ensures.tree q.rows.ok.0 q.winners.ok.0
 
 pub returns : goal.returns
 returns c =
-    let rows = c.self.inside.rows.items in
-    rows_changed c.args.self.now rows _ c.self.inside.openings c.self.inside.sent c.self.inside.callers (with_priority c.args.device c.args.priority) c.self.view_is
-    (write-changed (λ r. record r { priority = c.args.priority }) c.args.device (λ r. refl) (λ r h. record { device = h.device; turn = h.turn })
-    rows c.deref.result.now c.place_of-at.result c.index_mut.result.now
-    c.deref.ensures.value c.place_of-at.ensures.in_range c.place_of-at.ensures.device c.index_mut.ensures.value c.self.invariant.apart)
+    let q = c.self.inside in
+    let rows = rows_written (λ r. record r { priority = c.args.priority }) _ _ _ _ c.args.device _ _ _ c.self.invariant.rising c.deref.ensures.value c.place_of-at.ensures.in_range c.place_of-at.ensures.device
+    c.index.ensures c.deref_mut.ensures.value c.put_row.ensures.rows q.rows.ok.0 in
+    ap (λ (l : List Row). let a : Adapter = record { rows = l; openings = q.openings; sent = q.sent; callers = q.callers } in a) rows
+    ∙ ap (λ (b : Adapter). record b { rows = with_priority c.args.device c.args.priority b.rows }) c.self.view_is

@@ -1,6 +1,6 @@
 use Rattle.std.proofs.Common.{◌≡◌, true, refl, ap, sym, subst, ◌∙◌}
 use Rattle.event_log.specs.declared.event.Event.{Event}
-use Rattle.cam_event.specs.Legal.{rules_of, is_legal_event}
+use Rattle.cam_event.specs.Legal.{is_legal_event}
 use Rattle.xpt_devices.specs.Told.{CanTell, told}
 use Rattle.xpt_devices.specs.Transport.{Transport}
 use Rattle.xpt_devices.specs.declared.devices.Devices.TheInside.{Inside}
@@ -8,9 +8,9 @@ use Rattle.xpt_devices.proofs.SoundLemmas.{sound-tell, sound-count, sound-few, s
 use Rattle.xpt_devices.proofs.devices.Devices.append.Goals as goal
 
 -- the event is legal behind those of the fields
-allowed : (i : Inside) (t : Transport) (e : Event) → ◌≡◌ {A = Transport} (record { config = i.config; limits = i.limits; events = i.events.items }) t → is_legal_event (rules_of t.limits) t.config (t.events, e) ≡ true →
-    is_legal_event (rules_of i.limits) i.config (i.events.items, e) ≡ true
-allowed i t e view legal = ap (λ (x : Transport). is_legal_event (rules_of x.limits) x.config (x.events, e)) view ∙ legal
+allowed : (i : Inside) (t : Transport) (e : Event) → ◌≡◌ {A = Transport} (record { config = i.config; rules = i.rules; events = i.events.items }) t → is_legal_event t.rules t.config (t.events, e) ≡ true →
+    is_legal_event i.rules i.config (i.events.items, e) ≡ true
+allowed i t e view legal = ap (λ (x : Transport). is_legal_event x.rules x.config (x.events, e)) view ∙ legal
 
 pub tell-requires : goal.tell-requires
 tell-requires c =

@@ -7,4 +7,4 @@ use Rattle.xpt_devices.proofs.devices.Devices.first.Goals as goal
 pub returns : goal.returns
 returns c =
     c.first.ensures.value ∙ ap (λ (q : Device). slice_get q.waiting 0) c.queue.ensures
-    ∙ first-state c.args.self.now.config c.args.self.now.limits.stays c.args.self.now.events c.args.device
+    ∙ first-state c.args.self.now.config c.args.self.now.rules.stays c.args.self.now.events c.args.device

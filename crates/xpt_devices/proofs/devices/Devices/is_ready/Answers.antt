@@ -5,4 +5,4 @@ use Rattle.xpt_devices.proofs.devices.Devices.is_ready.Goals as goal
 
 pub returns : goal.returns
 returns c =
-    c.ready.ensures ∙ ap is_ready c.queue.ensures ∙ ready-state c.args.self.now.config c.args.self.now.limits.stays c.args.self.now.events c.args.device
+    c.ready.ensures ∙ ap is_ready c.queue.ensures ∙ ready-state c.args.self.now.config c.args.self.now.rules.stays c.args.self.now.events c.args.device

@@ -11,4 +11,4 @@ index-requires c =
 pub returns : goal.returns
 returns c =
     queue-state c.self.inside c.args.device c.index.result.now c.self.invariant (subst (λ (t : Transport). c.args.device < length t.config.devices) (sym c.self.view_is) c.requires) c.index.ensures
-    ∙ ap (λ (t : Transport). device_state t.config t.limits.stays t.events c.args.device) c.self.view_is
+    ∙ ap (λ (t : Transport). device_state t.config t.rules.stays t.events c.args.device) c.self.view_is

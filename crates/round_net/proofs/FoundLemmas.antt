@@ -1,0 +1,90 @@
+-- what was found at the places of a history makes its net
+use Rattle.std.proofs.Common.{◌≡◌, ℕ, ◌+◌, ◌-◌, ◌≤◌, Bool, true, false, cond, List, [], ◌∷◌, length, map, drop, refl, sym, ap, ◌∙◌, arith, length-drop, Option, Some, None}
+use Rattle.std.specs.Prelude.{not, unwrap_or}
+use Rattle.std.specs.Option.{option_map, option_map_or}
+use Rattle.std.proofs.lemmas.List.{take_all}
+use Rattle.cam_types.specs.Topology.{Topology}
+use Rattle.cam_types.specs.declared.device.Device.{Device}
+use Rattle.event_log.specs.Event.{is_send_of}
+use Rattle.event_log.specs.Counts.{round}
+use Rattle.event_log.specs.Head.{adapter_openings}
+use Rattle.event_log.specs.Stays.{passages, is_unsent}
+use Rattle.event_log.specs.Live.{send_place, live_round}
+use Rattle.event_log.specs.declared.event.Event.{Event}
+use Rattle.event_log.specs.declared.passage.Passage.{Passage}
+use Rattle.cam_event.proofs.LimitLemmas.{round_first}
+use Rattle.xpt_stays.specs.Records.{next_stay, record_of, records}
+use Rattle.round_net.specs.Rows.{NetRows, cell}
+use Rattle.round_net.specs.Caps.{is_device_free, is_adapter_free, openings_in, sends_to, sends_by, dev_cap, sim_cap}
+use Rattle.round_net.specs.Nets.{last_round, stay_row, row_of, table, net_of}
+use Rattle.round_net.specs.Marks.{AreCaps, IsNoted, HasCells}
+use Rattle.round_net.specs.declared.stay_row.StayRow.{StayRow}
+use Rattle.round_net.proofs.NetLemmas.{net_of_parts}
+use Rattle.round_net.proofs.CellLemmas.{cell_within}
+use Rattle.xpt_stays.proofs.SentLemmas.{first_past, unsent_none}
+use Rattle.round_net.proofs.TableLemmas.{cell-table, table_by_cells}
+
+-- a stay without a send counts as sent in the last round
+live_round-unsent : (es : List Event) (p : Passage) → is_unsent es p ≡ true → live_round es p ≡ round es
+unfolding send_place
+live_round-unsent es p unsent =
+    let past = first_past (is_send_of p.ccb) (drop (p.place + 1) es) (unsent_none es p unsent) in
+    ap round (take_all (send_place es p) es (omega (arith, past, length-drop (p.place + 1) es)))
+
+live_cases : (es : List Event) (p : Passage) (b : Bool) → is_unsent es p ≡ b → unwrap_or (cond b None (Some (live_round es p))) (round es) ≡ live_round es p
+live_cases es p true unsent = sym (live_round-unsent es p unsent)
+live_cases es p false sent = refl
+
+last_cases : (o : Option Passage) (n : ℕ) → option_map_or (λ arrival. arrival - 1) (option_map (λ (q : Passage). q.arrival) o) n ≡ option_map_or (λ (q : Passage). q.arrival - 1) o n
+last_cases None n = refl
+last_cases (Some q) n = refl
+
+row_of-record : (es : List Event) (p : Passage) → row_of (round es) (record_of es p) ≡ stay_row es p
+unfolding stay_row last_round
+row_of-record es p = rw (live_cases es p (is_unsent es p) refl, last_cases (next_stay (passages es) p) (round es)) refl
+
+map-map : {X Y Z : Type 0} (g : Y → Z) (f : X → Y) (xs : List X) → map g (map f xs) ≡ map (λ x. g (f x)) xs
+map-map g f [] = refl
+map-map g f (x ∷ xs) = ap (λ zs. g (f x) ∷ zs) (map-map g f xs)
+
+map-same : {X Y : Type 0} (f g : X → Y) → ((x : X) → f x ≡ g x) → (xs : List X) → map f xs ≡ map g xs
+map-same f g h [] = refl
+map-same f g h (x ∷ xs) = rw (h x, map-same f g h xs) refl
+
+pub rows_of_records : (es : List Event) → map (row_of (round es)) (records es) ≡ map (stay_row es) (passages es)
+unfolding records
+rows_of_records es = map-map (row_of (round es)) (record_of es) (passages es) ∙ map-same (λ p. row_of (round es) (record_of es p)) (stay_row es) (row_of-record es) (passages es)
+
+-- caps by what was noted
+flipped : {X : Type 0} (b : Bool) (x y : X) → cond (not b) x y ≡ cond b y x
+flipped true x y = refl
+flipped false x y = refl
+
+pub dev_caps_found : (c : Topology) (es : List Event) (rounds : ℕ) (dev sim : List Bool) (openings sends sim_sends caps : List ℕ) → 1 ≤ rounds →
+    IsNoted c es rounds dev sim openings sends sim_sends → HasCells c rounds dev sim openings sends sim_sends → AreCaps dev sends openings caps → caps ≡ table (length c.devices) rounds (dev_cap c es)
+unfolding dev_cap
+dev_caps_found c es rounds dev sim openings sends sim_sends caps some noted cells are =
+    table_by_cells (length c.devices) rounds (dev_cap c es) caps some (are.0 ∙ cells.devices) (λ d r within first last.
+    are.1 (cell rounds d r) (omega (arith, cells.devices, cell_within rounds (length c.devices) d r within first last))
+    ∙ rw (noted.devices d r within first last, noted.sends d r within first last, noted.openings d r within first last) (flipped (is_device_free es d r) (sends_to es d r) (openings_in c es d r)))
+
+pub sim_caps_found : (c : Topology) (es : List Event) (rounds : ℕ) (dev sim : List Bool) (openings sends sim_sends sim_openings caps : List ℕ) → 1 ≤ rounds →
+    IsNoted c es rounds dev sim openings sends sim_sends → HasCells c rounds dev sim openings sends sim_sends → sim_openings ≡ table (length c.adapters) rounds (λ a r. adapter_openings c a) → AreCaps sim sim_sends sim_openings caps →
+    caps ≡ table (length c.adapters) rounds (sim_cap c es)
+unfolding sim_cap
+sim_caps_found c es rounds dev sim openings sends sim_sends sim_openings caps some noted cells there are =
+    table_by_cells (length c.adapters) rounds (sim_cap c es) caps some (are.0 ∙ cells.adapters) (λ a r within first last.
+    are.1 (cell rounds a r) (omega (arith, cells.adapters, cell_within rounds (length c.adapters) a r within first last))
+    ∙ rw (noted.adapters a r within first last, noted.adapter_sends a r within first last, there, cell-table (length c.adapters) rounds (λ a r. adapter_openings c a) a r within first last) (flipped (is_adapter_free es a r) (sends_by c es a r) (adapter_openings c a)))
+
+-- all parts of the net
+pub net_found : (c : Topology) (es : List Event) (rounds adapters : ℕ) (adapter_of : List ℕ) (rows : List StayRow) (dev sim : List Bool) (openings sends sim_sends sim_openings dev_caps sim_caps : List ℕ) →
+    rounds ≡ round es → adapters ≡ length c.adapters → adapter_of ≡ map (λ (device : Device). device.bus) c.devices → rows ≡ map (row_of rounds) (records es) →
+    IsNoted c es rounds dev sim openings sends sim_sends → HasCells c rounds dev sim openings sends sim_sends → sim_openings ≡ table (length c.adapters) rounds (λ a r. adapter_openings c a) →
+    AreCaps dev sends openings dev_caps → AreCaps sim sim_sends sim_openings sim_caps →
+    ◌≡◌ {A = NetRows} (record { rounds = rounds; adapters = adapters; adapter_of = adapter_of; stays = rows; dev_caps = dev_caps; sim_caps = sim_caps }) (net_of c es)
+net_found c es rounds adapters adapter_of rows dev sim openings sends sim_sends sim_openings dev_caps sim_caps r a d s noted cells there are sim_are =
+    let some : 1 ≤ rounds = rw r (round_first es) in
+    net_of_parts c es rounds adapters adapter_of rows dev_caps sim_caps r a d (s ∙ ap (λ n. map (row_of n) (records es)) r ∙ rows_of_records es)
+    (dev_caps_found c es rounds dev sim openings sends sim_sends dev_caps some noted cells are ∙ ap (λ n. table (length c.devices) n (dev_cap c es)) r)
+    (sim_caps_found c es rounds dev sim openings sends sim_sends sim_openings sim_caps some noted cells there sim_are ∙ ap (λ n. table (length c.adapters) n (sim_cap c es)) r)

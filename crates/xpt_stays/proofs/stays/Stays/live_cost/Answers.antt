@@ -1,0 +1,10 @@
+use Rattle.std.proofs.Common.{◌∙◌, arith}
+use Rattle.xpt_stays.proofs.SoundLemmas.{few-records}
+use Rattle.xpt_stays.proofs.QuestionLemmas.{cost-by}
+use Rattle.xpt_stays.proofs.stays.Stays.live_cost.Goals as goal
+
+pub live_sum-requires : goal.live_sum-requires
+live_sum-requires c = omega (arith, few-records c.self.inside c.self.invariant, c.deref.ensures.len)
+
+pub returns : goal.returns
+returns c = c.live_sum.ensures ∙ cost-by c.self.inside c.self.invariant c.args.self.now c.self.view_is c.deref.result.now c.deref.ensures.value

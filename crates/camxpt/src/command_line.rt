@@ -19,7 +19,7 @@ pub fn command_line<'a>(alloc: Global) -> Result<Command<'a>, AllocError> {
 fn check<'a>(alloc: Global) -> Result<Command<'a>, AllocError> {
     Command::new(alloc, "check")
         .about("Tests a trace and prints its counts and what its waiting cost")
-        .after_help("Example: camxpt check examples/two-devices.csv")
+        .after_help("Example: camxpt check examples/frozen-device.csv")
         .arg(trace(alloc))
 }
 

@@ -12,7 +12,8 @@ pub struct Done {
     /// The class of the result.
     pub class: Class,
     /// The CAM status in its lower six bits, with 0x40 (CAM_DEV_QFRZN) where the completion froze its device's queue and
-    /// 0x80 (CAM_AUTOSNS_VALID) where the kept sense data can be read.
+    /// 0x80 (CAM_AUTOSNS_VALID) where the kept sense data can be read. That freeze is lifted by `requeue` or `finish` of
+    /// the CCB, and not by `release_dev`.
     pub value: u8,
 }
 

@@ -1,9 +1,10 @@
-// Preloaded, it refuses the request for memory whose number REFUSE gives, and with COUNT set says at the end how many
-// there were.
+// Preloaded, it refuses the request for memory whose number REFUSE gives. With COUNT set it says at the end how many there
+// were, and with MARK set before each write of the program how many there were so far.
 #define _GNU_SOURCE
 #include <dlfcn.h>
 #include <stdio.h>
 #include <stdlib.h>
+#include <unistd.h>
 
 static long requests;
 
@@ -22,6 +23,22 @@ void *realloc(void *block, size_t size) {
     return is_refused() ? NULL : real(block, size);
 }
 
-__attribute__((destructor)) static void say(void) {
-    if (getenv("COUNT")) dprintf(2, "%ld\n", requests);
+static ssize_t put(int file, const void *bytes, size_t size) {
+    ssize_t (*real)(int, const void *, size_t) = dlsym(RTLD_NEXT, "write");
+    return real(file, bytes, size);
+}
+
+// It requests no memory itself, as dprintf does.
+static ssize_t say(void) {
+    char line[24];
+    return put(2, line, (size_t)snprintf(line, sizeof line, "%ld\n", requests));
+}
+
+ssize_t write(int file, const void *bytes, size_t size) {
+    if (getenv("MARK")) say();
+    return put(file, bytes, size);
+}
+
+__attribute__((destructor)) static void say_last(void) {
+    if (getenv("COUNT")) say();
 }

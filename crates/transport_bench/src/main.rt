@@ -1,96 +1,94 @@
-//! Times the events of a transport at its limits: commands in each round, and then freezes and releases up to so many
-//! events.
+//! Makes the calls that standard input lists on a transport, in order. Without a word it tells what came of each. With a
+//! number it makes them on so many transports, one after the other, and tells how many events there were and the processor
+//! time that the calls took.
 #![tactic(auto)]
 
-use cam_types::{Config, Device, Flags, Limits, Outcome, SenseBytes};
-use std::alloc::Global;
-use std::io;
+mod answer;
+mod call;
+mod fault;
+mod line;
+mod maker;
+mod opening;
+mod script;
+
+use answer::Answer;
+use fault::Fault;
+use script::Script;
 use std::process::ExitCode;
-use std::time::CpuClock;
-use xpt_state::{Sent, Xpt};
-
-const DEVICES: u32 = 16;
-
-const LANES: u32 = 4;
-
-const ROUNDS: u32 = 127;
-
-const COMMANDS: u32 = 8;
-
-const FLAGS: Flags = Flags {
-    qfreeze: false,
-    qfrzdis: false,
-};
+use std::rt::{Env, Runtime};
+use std::time::{CpuClock, Duration};
+use std::{env, io};
 
 fn main(rt: HostRuntime) -> io::Result<ExitCode> {
-    for events in [6_500, 65_000] {
-        let Some(mut xpt) = opened(rt.alloc()) else {
-            eprintln!(rt; "transport_bench: no memory")?;
-            return Ok(ExitCode::FAILURE);
-        };
+    match run(&rt) {
+        Ok(()) => Ok(ExitCode::SUCCESS),
+        Err(fault) => {
+            eprintln!(rt; "transport_bench: {fault}")?;
+            Ok(ExitCode::FAILURE)
+        }
+    }
+}
+
+fn run<R: Runtime + AllocGlobal + CpuClock>(rt: &R) -> Result<(), Fault> {
+    let text = io::read_to_string(rt.alloc(), rt.reader())?;
+    let script = Script::read(rt.alloc(), &text)?;
+    let mut answers = vec![in rt.alloc(); Answer::Done; script.len()]?;
+    match transports(rt)? {
+        None => tell(rt, &script, &mut answers),
+        Some(count) => time(rt, &script, &mut answers, count),
+    }
+}
+
+// How many transports are wanted, if a word says so.
+fn transports<R: Env + AllocGlobal>(rt: &R) -> Result<Option<u32>, Fault> {
+    let words: Vec<String> = env::args(rt)?.collect(rt.alloc())?;
+    match words.get(1) {
+        None => Ok(None),
+        Some(word) => match word.parse() {
+            Ok(count) => Ok(Some(count)),
+            Err(_) => Err(Fault::Count),
+        },
+    }
+}
+
+// `opened` and `called` stand between the requests for memory of `open`, of the calls and of `into_history`.
+fn tell<R: Print + AllocGlobal>(
+    rt: &R,
+    script: &Script,
+    answers: &mut [Answer],
+) -> Result<(), Fault> {
+    let mut xpt = script.open(rt.alloc())?;
+    println!(rt; "opened")?;
+    script.make(&mut xpt, answers);
+    println!(rt; "called")?;
+    let history = xpt.into_history(rt.alloc())?;
+    println!(rt; "history of {} events", history.events().len())?;
+    for answer in answers.iter() {
+        println!(rt; "{answer}")?;
+    }
+    Ok(())
+}
+
+fn time<R: Print + AllocGlobal + CpuClock>(
+    rt: &R,
+    script: &Script,
+    answers: &mut [Answer],
+    count: u32,
+) -> Result<(), Fault> {
+    let mut events = 0usize;
+    let mut taken = Duration::ZERO;
+    for _ in 0..count {
+        let mut xpt = script.open(rt.alloc())?;
         let start = rt.process_cpu_time()?;
-        for _ in 0..ROUNDS {
-            round(&mut xpt);
-        }
-        for number in 0..events {
-            freeze_or_release(&mut xpt, number, events as usize);
-        }
-        let taken = rt.process_cpu_time()?.saturating_sub(start);
-        println!(rt; "events {} round {}", xpt.events().len(), xpt.look().round)?;
-        eprintln!(rt; "{events} events {taken:?}")?;
+        script.make(&mut xpt, answers);
+        let end = rt.process_cpu_time()?;
+        taken = taken.saturating_add(end.saturating_sub(start));
+        events = events.saturating_add(xpt.events().len());
     }
-    Ok(ExitCode::SUCCESS)
-}
-
-// A transport of four adapters and sixteen devices, at the most limits.
-fn opened(alloc: Global) -> Option<Xpt> {
-    let mut devices = Vec::new(alloc);
-    for target in 0..16u16 {
-        let device = Device {
-            bus: (target % 4) as u8,
-            target,
-            lun: 0,
-            openings: 255,
-        };
-        devices.push(device).ok()?;
-    }
-    let config = Config::new(alloc, &[255, 255, 255, 255], &devices, &[0, 1, 2, 3]).ok()?;
-    Xpt::open(alloc, config, Limits::most()).ok()
-}
-
-// Commands for half of the devices, sent and completed, and the next round.
-fn round(xpt: &mut Xpt) {
-    for command in 0..COMMANDS {
-        let _ = xpt.submit(0, command, 1152, 4, FLAGS);
-    }
-    for lane in 0..LANES {
-        for _ in 0..COMMANDS {
-            send_and_complete(xpt, lane);
-        }
-    }
-    let _ = xpt.tick();
-}
-
-fn send_and_complete(xpt: &mut Xpt, lane: u32) {
-    if let Ok(Sent::Command(command)) = xpt.send_next(lane) {
-        let done = Outcome {
-            status: 1,
-            scsi: 0,
-            sense: SenseBytes::first(&[]),
-        };
-        let _ = xpt.done(command.ccb, done);
-    }
-}
-
-// A freeze of a device or its release, in turn, where there are fewer events.
-fn freeze_or_release(xpt: &mut Xpt, number: u32, events: usize) {
-    if xpt.events().len() >= events {
-        return;
-    }
-    let device = number / 2 % DEVICES;
-    let _ = if number % 2 == 0 {
-        xpt.freeze_dev(device, 1)
-    } else {
-        xpt.release_dev(device, 1)
-    };
+    println!(rt;
+        "{events} events {}.{:09} s",
+        taken.as_secs(),
+        taken.subsec_nanos()
+    )?;
+    Ok(())
 }

@@ -1,0 +1,43 @@
+"""Builds and measures the programs of the benches."""
+import os
+import subprocess
+import sys
+
+top = os.path.dirname(os.path.dirname(os.path.abspath(__file__)))
+crates = os.path.join(top, "crates")
+
+
+def camxpt():
+    """The program `camxpt`, which is proved and built first where that is due."""
+    subprocess.run([os.path.join(top, "camxpt"), "--version"], stdout=subprocess.DEVNULL, check=True)
+    return os.path.join(crates, "camxpt", "out", "camxpt")
+
+
+def built(crate):
+    """The program of another crate, which is proved and built first where that is due."""
+    folder = os.path.join(crates, crate)
+    with open(os.path.join(folder, "stdin")) as small:
+        if subprocess.run(["rt", "run"], cwd=folder, stdin=small, capture_output=True).returncode:
+            sys.exit(f"{crate} wasn't built")
+    return os.path.join(folder, "out", crate)
+
+
+def measured(*words, source=os.devnull, runs=5):
+    """The least processor time of the runs in seconds, and what the last wrote."""
+    least = float("inf")
+    for _ in range(runs):
+        with open(source) as text, subprocess.Popen(words, stdin=text, stdout=subprocess.PIPE, text=True) as child:
+            written = child.stdout.read()
+            _, status, used = os.wait4(child.pid, 0)
+            child.returncode = os.waitstatus_to_exitcode(status)
+        if status:
+            sys.exit(f"{words} ended with status {child.returncode}")
+        least = min(least, used.ru_utime + used.ru_stime)
+    return least, written
+
+
+def peak(*words, source=os.devnull):
+    """The peak memory of a run in MB. GNU time says it, since what Python is told of a child is at least its own memory."""
+    with open(source) as text:
+        told = subprocess.run(["/usr/bin/time", "-f", "%M", *words], stdin=text, capture_output=True, text=True, check=True)
+    return int(told.stderr) / 1024

@@ -1,6 +1,6 @@
 -- a report that an audit of the trace wrote is proved
 use Rattle.std.proofs.Common.{◌≡◌, ℕ, true, false, List, refl, sym, ap, subst, ◌∙◌, Option, Some, None, inl}
-use Rattle.std.specs.Prelude.{◌≢◌, is_some, Result, Ok, Err, IfSome, MatchOption, IsOkUnless}
+use Rattle.std.specs.Prelude.{◌≢◌, is_some, Result, Ok, Err, IfSome, MatchOption, IsOkUnless, IsErrAnd, Bool}
 use Rattle.event_log.specs.Live.{live_cost}
 use Rattle.event_log.specs.Stays.{unsent}
 use Rattle.event_log.specs.declared.passage.Stay.{Stay}
@@ -19,7 +19,8 @@ use Rattle.price_check.specs.declared.report_fault.ReportFault.TheVariants as re
 use Rattle.audit_report.specs.Audit.{IsAudit}
 use Rattle.audit_report.specs.Findings.{IsRight, is_proved}
 use Rattle.audit_report.specs.Prove.{IsProvedOrFailed}
-use Rattle.audit_report.specs.declared.audit_fault.AuditFault.TheVariants.{Report}
+use Rattle.audit_report.specs.declared.audit_fault.AuditFault.{AuditFault}
+use Rattle.audit_report.specs.declared.audit_fault.AuditFault.TheVariants.{Report, OutOfMemory}
 use Rattle.audit_report.specs.declared.finding.Finding.{Finding}
 use Rattle.audit_report.specs.declared.finding.Finding.TheVariants as finding
 
@@ -64,6 +65,11 @@ never_unsent past history text result stay a same answer is =
 -- its text is the report of its claim
 pub audited_report : (past : Past) (text : List ℕ) (a : IsAudit false past text) → IsReport past (net_of past.config past.events) text a.claim
 audited_report past text a = record { bounded = a.short; live = a.live; costs = a.costs; spelled = inl a.lines }
+
+-- want of memory says nothing of a report
+pub unless_out_of_memory : (result : Result Bool AuditFault) → IsErrAnd result (λ fault. fault ≡ OutOfMemory) → IsProvedOrFailed result
+unless_out_of_memory (Ok answer) h = absurd h
+unless_out_of_memory (Err fault) h = subst (λ f. IsProvedOrFailed (Err f)) (sym h) tt
 
 -- reading it can only fail by want of memory or a failed read
 fault_cases : (result : Result Claim ReportFault) (claim : Claim) (fault : ReportFault) → result ≡ Err fault →

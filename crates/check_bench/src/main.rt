@@ -13,11 +13,7 @@ use trace_file::read_trace;
 const CHECKS: u32 = 100;
 
 fn main(rt: HostRuntime) -> io::Result<ExitCode> {
-    let mut input = Watched::new(rt.reader());
-    let Ok(history) = read_trace(rt.alloc(), &mut input) else {
-        return refused(rt, "no trace");
-    };
-    let Ok(net) = Net::of(rt.alloc(), &history) else {
+    let Some(net) = read_net(rt) else {
         return refused(rt, "no net");
     };
     let Ok(best) = plan(rt.alloc(), &net) else {
@@ -38,6 +34,12 @@ fn main(rt: HostRuntime) -> io::Result<ExitCode> {
     println!(rt; "stays {} cells {} proved", net.stays(), net.cells())?;
     eprintln!(rt; "check {least:?}")?;
     Ok(ExitCode::SUCCESS)
+}
+
+fn read_net(rt: HostRuntime) -> Option<Net> {
+    let mut input = Watched::new(rt.reader());
+    let history = read_trace(rt.alloc(), &mut input).ok()?;
+    Net::of(rt.alloc(), &history).ok()
 }
 
 fn refused(rt: HostRuntime, why: &str) -> io::Result<ExitCode> {

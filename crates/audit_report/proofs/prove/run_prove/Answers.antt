@@ -4,7 +4,7 @@ use Rattle.std.specs.List.{AllByRecursion}
 use Rattle.cam_types.specs.declared.device.Device.{Device}
 use Rattle.cam_event.specs.Past.{Past}
 use Rattle.trace_file.specs.Trace.{IsTrace}
-use Rattle.audit_report.proofs.ProveLemmas.{where_known, trace_again, never_unsent, report_fails, finding_proved}
+use Rattle.audit_report.proofs.ProveLemmas.{where_known, trace_again, never_unsent, report_fails, finding_proved, unless_out_of_memory}
 use Rattle.audit_report.proofs.prove.run_prove.Goals as goal
 
 abbrev have_targets : Past → Type 0
@@ -25,6 +25,11 @@ returns-in-Err-read_report-clause-audited g c =
     report_fails have_targets past c.in-Ok.history c.in-Ok-of.net text given _ _ c.in-Err-read_report.fault audit history.targets
     (trace_again (λ p t. IsTrace t p) _ all past c.in-Ok.history _ e trace c.in-Ok.is (c.read_trace.ensures.only past history))
     c.in-Ok-of.ensures.net e' equal c.read_report.ensures.only c.in-Err-read_report.is)
+
+pub returns-in_err-write-clause-audited : goal.returns-in_err-write-clause-audited
+returns-in_err-write-clause-audited g c =
+    λ past text history audit.
+    where_known _ _ _ _ _ (λ all given e e' trace equal. unless_out_of_memory _ c.from_residual-in_err-write.ensures.1)
 
 pub returns-in-Ok-write_whole-clause-audited : goal.returns-in-Ok-write_whole-clause-audited
 returns-in-Ok-write_whole-clause-audited g c =

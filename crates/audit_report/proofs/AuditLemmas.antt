@@ -4,12 +4,12 @@ use Rattle.std.specs.Prelude.{is_some, slice_index, if◌then◌else◌, All}
 use Rattle.std.proofs.lemmas.List.{length-map}
 use Rattle.std.proofs.lemmas.List.Elements.{All-from_get_or}
 use Rattle.cam_types.specs.Topology.{Topology}
-use Rattle.cam_types.specs.declared.whole.TheConstants.{MOST_BYTES}
+use Rattle.cam_types.specs.declared.maxima.TheConstants.{MOST_BYTES}
 use Rattle.cam_types.specs.declared.device.Device.{Device}
 use Rattle.event_log.specs.Stays.{unsent}
 use Rattle.event_log.specs.Live.{live_cost}
 use Rattle.event_log.specs.declared.event.Event.{Event}
-use Rattle.event_log.specs.declared.passage.Stay.{Stay}
+use Rattle.event_log.specs.declared.stay.StayName.{StayName}
 use Rattle.event_log.proofs.LiveLemmas.{live_cost_sent}
 use Rattle.cam_event.specs.Past.{Past}
 use Rattle.cam_event.specs.Legal.{history_rules, is_legal}
@@ -42,7 +42,7 @@ devices_of_net c es n e = devices_of c es ∙ ap (λ k. (instance_of_rows k).dev
 -- where each stay was sent the live schedule has a cost, that of the net
 live_known : (c : Topology) (es : List Event) → unsent es ≡ None → live_cost es ≡ Some (cost (instance_of c es) (live_of c es))
 live_known c es e =
-    live_cost_sent es (ap (λ (o : Option Stay). is_some o) e) ∙ ap (λ n. Some n) (sym (cost-live c es))
+    live_cost_sent es (ap (λ (o : Option StayName). is_some o) e) ∙ ap (λ n. Some n) (sym (cost-live c es))
 
 pub live_is_known : (c : Topology) (es : List Event) → unsent es ≡ None → live_cost es ≡ None → ⊥
 live_is_known c es e n = let known = live_known c es e in absurd (cc)
@@ -99,6 +99,7 @@ audited summary past text live claim b legal is short =
       costs = is;
       free = sends_stand_free history_rules past.config past.events legal;
       admissible = b.sound.live_admissible;
+      lived = b.lived;
       claims = record {
         stays = b.stays;
         rounds = rounds_few net (live_of past.config past.events) claim.schedule b.sound b.proved.admissible b.stays;

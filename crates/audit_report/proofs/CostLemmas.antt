@@ -4,10 +4,10 @@ use Rattle.std.specs.Prelude.{sum_by}
 use Rattle.std.proofs.lemmas.List.Sums.{sum_by-cons}
 use Rattle.std.proofs.lemmas.Nat.{mul-le}
 use Rattle.cam_types.specs.Topology.{Topology}
-use Rattle.event_log.specs.Stays.{passages}
+use Rattle.event_log.specs.Stays.{stays_begun}
 use Rattle.event_log.specs.Live.{live_part}
 use Rattle.event_log.specs.declared.event.Event.{Event}
-use Rattle.event_log.specs.declared.passage.Passage.{Passage}
+use Rattle.event_log.specs.declared.stay.Stay.{Stay}
 use Rattle.round_net.specs.Sums.{sum_below}
 use Rattle.round_net.specs.Rows.{of_stay, instance_of_rows, live_of_rows}
 use Rattle.round_net.specs.Schedules.{IsAdmissible, cost}
@@ -33,14 +33,14 @@ sum_by-map : {X Y : Type 0} (f : X → Y) (g : Y → ℕ) (xs : List X) → sum_
 sum_by-map f g [] = refl
 sum_by-map f g (x ∷ xs) = sum_by-cons g (f x) (map f xs) ∙ ap (λ n. g (f x) + n) (sum_by-map f g xs) ∙ sym (sum_by-cons (λ y. g (f y)) x xs)
 
-same_parts : (es : List Event) (ps : List Passage) → sum_by (λ p. row_cost (stay_row es p)) ps ≡ sum_by (live_part es) ps
+same_parts : (es : List Event) (ps : List Stay) → sum_by (λ p. row_cost (stay_row es p)) ps ≡ sum_by (live_part es) ps
 unfolding stay_row live_part
 same_parts es ps = refl
 
 -- the net's live schedule costs what the history's stays waited
-pub cost-live : (c : Topology) (es : List Event) → cost (instance_of c es) (live_of c es) ≡ sum_by (live_part es) (passages es)
+pub cost-live : (c : Topology) (es : List Event) → cost (instance_of c es) (live_of c es) ≡ sum_by (live_part es) (stays_begun es)
 unfolding instance_of_rows live_of_rows net_of
-cost-live c es = rows_sum (map (stay_row es) (passages es)) ∙ sum_by-map (stay_row es) row_cost (passages es) ∙ same_parts es (passages es)
+cost-live c es = rows_sum (map (stay_row es) (stays_begun es)) ∙ sum_by-map (stay_row es) row_cost (stays_begun es) ∙ same_parts es (stays_begun es)
 
 -- an admissible schedule costs at most what 1,024 stays of weight 16 would that wait for 128 rounds
 pub cost-most : (net : Instance) (live f : ℕ → ℕ) → IsSound net live → IsAdmissible net f → cost net f ≤ 2097152

@@ -3,7 +3,7 @@ use Rattle.std.proofs.Common.{◌≡◌, ℕ, true, false, List, refl, sym, ap, 
 use Rattle.std.specs.Prelude.{◌≢◌, is_some, Result, Ok, Err, IfSome, MatchOption, IsOkUnless, IsErrAnd, Bool}
 use Rattle.event_log.specs.Live.{live_cost}
 use Rattle.event_log.specs.Stays.{unsent}
-use Rattle.event_log.specs.declared.passage.Stay.{Stay}
+use Rattle.event_log.specs.declared.stay.StayName.{StayName}
 use Rattle.event_log.proofs.LiveLemmas.{live_cost_unsent}
 use Rattle.cam_event.specs.Past.{Past}
 use Rattle.round_net.specs.Rows.{NetRows, instance_of_rows}
@@ -44,20 +44,20 @@ trace_again P r all past history result e trace is only =
     cc
 
 -- an audited history is complete
-sent_cases : (es : List _) (o : Option Stay) (live : ℕ) → unsent es ≡ o → live_cost es ≡ Some live → o ≡ None
+sent_cases : (es : List _) (o : Option StayName) (live : ℕ) → unsent es ≡ o → live_cost es ≡ Some live → o ≡ None
 sent_cases es None live e is = refl
-sent_cases es (Some s) live e is = let none : live_cost es ≡ None = live_cost_unsent es (ap (λ (p : Option Stay). is_some p) e) in absurd (cc)
+sent_cases es (Some s) live e is = let none : live_cost es ≡ None = live_cost_unsent es (ap (λ (p : Option StayName). is_some p) e) in absurd (cc)
 
 pub audited_sent : (past : Past) (text : List ℕ) → IsAudit false past text → unsent past.events ≡ None
 audited_sent past text a = sent_cases past.events (unsent past.events) a.live refl a.costs
 
-unsent_refuted : (o : Option Stay) (result : Result NetRows NetFault) (stay : Stay) → o ≡ None →
+unsent_refuted : (o : Option StayName) (result : Result NetRows NetFault) (stay : StayName) → o ≡ None →
     MatchOption o (IsOkUnless result net_fault.OutOfMemory) (λ s. result ≡ Err (net_fault.Unsent s)) → result ≡ Err (net_fault.Unsent stay) → ⊥
 unsent_refuted None (Ok net) stay e m is = absurd (cc)
 unsent_refuted None (Err fault) stay e m is = absurd (cc)
 unsent_refuted (Some s) result stay e m is = absurd (cc)
 
-pub never_unsent : (past history : Past) (text : List ℕ) (result : Result NetRows NetFault) (stay : Stay) → IsAudit false past text → history ≡ past →
+pub never_unsent : (past history : Past) (text : List ℕ) (result : Result NetRows NetFault) (stay : StayName) → IsAudit false past text → history ≡ past →
     MatchOption (unsent history.events) (IsOkUnless result net_fault.OutOfMemory) (λ s. result ≡ Err (net_fault.Unsent s)) → result ≡ Err (net_fault.Unsent stay) → ⊥
 never_unsent past history text result stay a same answer is =
     unsent_refuted (unsent history.events) result stay (ap (λ (p : Past). unsent p.events) same ∙ audited_sent past text a) answer is

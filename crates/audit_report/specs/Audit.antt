@@ -2,7 +2,7 @@
 use Rattle.std.specs.Prelude.{◌≡◌, ℕ, ◌≤◌, Bool, if◌then◌else◌, List, length, Some, IsTrue}
 use Rattle.std.specs.List.{list_all}
 use Rattle.cam_types.specs.Lists.{moments}
-use Rattle.cam_types.specs.declared.whole.TheConstants.{MOST_BYTES}
+use Rattle.cam_types.specs.declared.maxima.TheConstants.{MOST_BYTES}
 use Rattle.event_log.specs.Live.{live_cost}
 use Rattle.cam_event.specs.Past.{Past}
 use Rattle.cam_event.specs.Laws.{stands_free}
@@ -20,7 +20,7 @@ audit_text summary past net live claim =
     if summary then summary_text past.events live claim.best claim.excess else report_text past net live claim
 
 -- The history is complete. Each of its sends stands where its device and adapter were free, and its live schedule is
--- admissible. The text has a schedule that is admissible at the cost that stands there, and prices that prove by themselves
+-- admissible at the live cost that stands in the text. The text has a schedule that is admissible at the cost that stands there, and prices that prove by themselves
 -- that no admissible schedule costs less. It isn't longer than a report may be.
 pub record IsAudit (summary : Bool) (past : Past) (text : List ℕ) : Type 0 where
   pub live : ℕ
@@ -28,6 +28,7 @@ pub record IsAudit (summary : Bool) (past : Past) (text : List ℕ) : Type 0 whe
   pub costs : live_cost past.events ≡ Some live
   pub free : IsTrue (list_all (stands_free past.config) (moments past.events))
   pub admissible : IsAdmissible (instance_of past.config past.events) (live_of past.config past.events)
+  pub lived : live ≡ cost (instance_of past.config past.events) (live_of past.config past.events)
   pub claims : IsClaim (instance_of past.config past.events) claim
   pub right : IsRight past claim
   pub least : (other : ℕ → ℕ) → IsAdmissible (instance_of past.config past.events) other → claim.best ≤ cost (instance_of past.config past.events) other

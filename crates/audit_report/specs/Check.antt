@@ -2,7 +2,7 @@
 use Rattle.std.specs.Prelude.{◌≡◌, ℕ, ◌++◌, List, length, Some, codes}
 use Rattle.cam_event.specs.Past.{Past}
 use Rattle.event_log.specs.Counts.{round, commands}
-use Rattle.event_log.specs.Stays.{passages}
+use Rattle.event_log.specs.Stays.{stays_begun}
 use Rattle.event_log.specs.Live.{live_cost}
 use Rattle.event_log.specs.declared.event.Event.{Event}
 use Rattle.price_check.specs.Lines.{line}
@@ -12,7 +12,7 @@ unfoldable pub check_text : List Event → ℕ → List ℕ
 check_text events cost =
     line (codes "camcheck") 1
     ++ line (codes "commands") (commands events)
-    ++ line (codes "stays") (length (passages events))
+    ++ line (codes "stays") (length (stays_begun events))
     ++ line (codes "rounds") (round events)
     ++ line (codes "live") cost
 

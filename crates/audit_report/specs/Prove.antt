@@ -1,8 +1,9 @@
 -- how a run over a trace and a report on it ends
-use Rattle.std.specs.Prelude.{◌≡◌, ℕ, Bool, true, ⊤, List, Option, Result, Ok, Err}
+use Rattle.std.specs.Prelude.{◌≡◌, ℕ, Bool, true, ⊤, List, Option, None, Result, Ok, Err}
 use Rattle.std.specs.Io.KnownBytes.{Appends}
 use Rattle.cam_types.specs.Whole.{AppendsFront}
 use Rattle.cam_event.specs.Past.{Past}
+use Rattle.event_log.specs.Stays.{unsent}
 use Rattle.trace_file.specs.Trace.{WasTrace, Explains}
 use Rattle.trace_file.specs.declared.trace_fault.TraceFault.TheVariants as trace_fault
 use Rattle.round_net.specs.Nets.{net_of}
@@ -48,10 +49,11 @@ module _ (before after : Streams) where
     pub front : AppendsFront before.out after.out (finding_text finding)
     pub failed : after.out_failed ≡ true
 
-  -- a trace was read to its end, and no report on it, for this fault
+  -- the trace of a complete history was read to its end, and no report on it, for this fault
   pub record WasNoReport (fault : ReportFault) : Type 0 where
     pub past : Past
     pub trace : WasTrace before.trace after.trace past
+    pub complete : unsent past.events ≡ None
     pub why : claims.Explains past (net_of past.config past.events) before.report after.report after.report_failed fault
 
   -- how the run ended: with an answer, or with a fault for its cause and nothing written, or with a failed write; nothing

@@ -4,13 +4,13 @@ use Rattle.std.specs.Io.KnownBytes.{Appends}
 use Rattle.cam_types.specs.Whole.{AppendsFront}
 use Rattle.cam_event.specs.Past.{Past}
 use Rattle.event_log.specs.Stays.{unsent}
-use Rattle.event_log.specs.declared.passage.Stay.{Stay}
+use Rattle.event_log.specs.declared.stay.StayName.{StayName}
 use Rattle.trace_file.specs.Trace.{WasTrace, Explains}
 use Rattle.audit_report.specs.declared.audit_fault.AuditFault.{AuditFault}
 use Rattle.audit_report.specs.declared.audit_fault.AuditFault.TheVariants.{Trace, Unsent, Report, WriteFailed, OutOfMemory}
 
 -- a trace was read, and this is the first of its stays that has no send
-pub record WasUnsent (before after : Option (List ℕ)) (s : Stay) : Type 0 where
+pub record WasUnsent (before after : Option (List ℕ)) (s : StayName) : Type 0 where
   pub past : Past
   pub trace : WasTrace before after past
   pub first : unsent past.events ≡ Some s

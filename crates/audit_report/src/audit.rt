@@ -1,4 +1,6 @@
-ghost use Rattle.std.specs.Prelude.{◌≡◌, ◌+◌, ◌≤◌, true, false, if◌then◌else◌, None, [], ◌++◌, length, slice_index, IfOk, OnOk};
+//! The audit of a trace: the report on it, or the report's first seven lines.
+
+ghost use Rattle.std.specs.Prelude.{◌≡◌, ◌≢◌, ◌+◌, ◌≤◌, true, false, if◌then◌else◌, None, Err, [], ◌++◌, length, slice_index, IfOk, OnOk};
 ghost use Rattle.cam_types.specs.Watched.{device_of, has_failed, is_flushed};
 ghost use Rattle.event_log.specs.Stays.{unsent};
 ghost use Rattle.round_net.specs.Rows.{instance_of_rows};
@@ -18,7 +20,7 @@ use cost_plan::{BestPlan, plan};
 use round_net::{Net, NetFault};
 use std::alloc::{AllocError, Global};
 use std::io::{Read, Write};
-use trace_file::read_trace;
+use trace_file::{TraceFault, read_trace};
 use xpt_state::History;
 
 /// Reads a trace and writes the report on it: the live schedule, a best schedule, the excess of the one over the other,
@@ -35,6 +37,8 @@ pub fn run_audit<R: Read, W: Write>(
     requires out_calm { has_failed out.old ≡ false }
     ensures ended { Ended (IsAudit summary) (R.remaining (device_of trace.old)) (R.remaining (device_of trace.new)) (has_failed trace.new) (W.contents (device_of out.old)) (W.contents (device_of out.new)) (has_failed out.new) result }
     ensures flushed { OnOk result (is_flushed out.new ≡ true) }
+    ensures trace_calm { result ≢ Err (AuditFault.Trace TraceFault.ReadFailed) → has_failed trace.new ≡ false }
+    ensures out_calm { result ≢ Err AuditFault.WriteFailed → has_failed out.new ≡ false }
 {
     let history = match read_trace(alloc, trace) {
         Ok(history) => history,

@@ -1,3 +1,5 @@
+//! The check of a trace: its counts, and what its live schedule cost.
+
 ghost use Rattle.std.specs.Prelude.{◌≡◌, ◌≢◌, Some, true, false, Ok, Err, IfOk, OnOk};
 ghost use Rattle.cam_types.specs.Watched.{device_of, has_failed, is_flushed};
 ghost use Rattle.cam_event.specs.Past.{Past};
@@ -10,7 +12,7 @@ use crate::text::push_line;
 use cam_types::{Watched, write_whole};
 use std::alloc::{AllocError, Global};
 use std::io::{Read, Write};
-use trace_file::read_trace;
+use trace_file::{TraceFault, read_trace};
 use xpt_state::History;
 
 /// Reads a trace and writes five lines on it: the version of this form, how many commands, stays and rounds it has, and
@@ -24,6 +26,8 @@ pub fn run_check<R: Read, W: Write>(
     requires out_calm { has_failed out.old ≡ false }
     ensures ended { Ended IsCheck (R.remaining (device_of trace.old)) (R.remaining (device_of trace.new)) (has_failed trace.new) (W.contents (device_of out.old)) (W.contents (device_of out.new)) (has_failed out.new) result }
     ensures flushed { OnOk result (is_flushed out.new ≡ true) }
+    ensures trace_calm { result ≢ Err (AuditFault.Trace TraceFault.ReadFailed) → has_failed trace.new ≡ false }
+    ensures out_calm { result ≢ Err AuditFault.WriteFailed → has_failed out.new ≡ false }
 {
     let history = match read_trace(alloc, trace) {
         Ok(history) => history,

@@ -1,3 +1,5 @@
+//! What the live schedule cost, what a best one costs, and the excess.
+
 ghost use Rattle.std.specs.Prelude.{◌≡◌, ◌-◌, ◌^◌, ◌≤◌, None, Some, length, slice_index};
 ghost use Rattle.event_log.specs.Live.{live_cost};
 ghost use Rattle.event_log.specs.Stays.{unsent};

@@ -1,3 +1,5 @@
+//! What comes of a claim about a history, and the line that says so.
+
 ghost use Rattle.std.specs.Prelude.{◌≡◌, ◌≢◌, ◌++◌, None, length, slice_index, codes, IfOk, OnOk};
 ghost use Rattle.event_log.specs.Stays.{unsent};
 ghost use Rattle.round_net.specs.Rows.{instance_of_rows};
@@ -8,7 +10,7 @@ ghost use Rattle.audit_report.specs.Findings.{IsProved, IsRight, Says, is_proved
 
 use crate::costs::Costs;
 use crate::text::push_name;
-use cam_event::Stay;
+use cam_event::StayName;
 use itoa::Buffer;
 use price_check::{Cause, Claim, Verdict, check};
 use round_net::Net;
@@ -23,7 +25,7 @@ pub enum Finding {
     /// The schedule is admissible, but costs so much more than the prices are worth.
     Gap(u128),
     /// The schedule isn't admissible: the first stay, in order of birth, with whose place something is wrong.
-    NotAdmissible(Stay, Cause),
+    NotAdmissible(StayName, Cause),
     /// The prices prove the schedule, but it doesn't cost what is said.
     WrongBest,
     /// The prices prove the schedule, and it costs what is said, but the live one isn't so much above it.
@@ -111,7 +113,7 @@ fn write_gap(text: &mut Vec<u8>, gap: u128) -> Result<(), AllocError>
 }
 
 #[tactic(auto, unfolding(crate::specs::Findings::stay_text))]
-fn write_stay(text: &mut Vec<u8>, stay: Stay, cause: Cause) -> Result<(), AllocError>
+fn write_stay(text: &mut Vec<u8>, stay: StayName, cause: Cause) -> Result<(), AllocError>
     ensures { OnOk result (text.new.items ≡ text.old.items ++ stay_text stay cause) }
 {
     text.extend_from_slice(b"not proved: stay")?;

@@ -1,4 +1,6 @@
-ghost use Rattle.std.specs.Prelude.{◌≡◌, ℕ, true, false, List, IfSome, OnOk};
+//! Whether a report on a trace is proved, whoever made it.
+
+ghost use Rattle.std.specs.Prelude.{◌≡◌, ◌≢◌, ℕ, true, false, Err, List, IfSome, OnOk};
 ghost use Rattle.cam_types.specs.Watched.{device_of, has_failed, is_flushed};
 ghost use Rattle.cam_event.specs.Past.{Past};
 ghost use Rattle.trace_file.specs.Trace.{IsTrace, IsHistory};
@@ -8,11 +10,11 @@ ghost use Rattle.audit_report.specs.Prove.{Proving, IsProvedOrFailed};
 use crate::audit_fault::AuditFault;
 use crate::finding::Finding;
 use cam_types::{Watched, write_whole};
-use price_check::read_report;
+use price_check::{ReportFault, read_report};
 use round_net::{Net, NetFault};
 use std::alloc::Global;
 use std::io::{Read, Write};
-use trace_file::read_trace;
+use trace_file::{TraceFault, read_trace};
 
 /// Reads a trace and a report on it, whoever made it, and writes one line: whether the report's prices prove that its
 /// schedule is a best one, and its numbers are right, or why not. Answers whether it is proved. The trace is read to its
@@ -36,6 +38,9 @@ pub fn run_prove<R: Read, S: Read, W: Write>(
         IfSome (R.remaining (device_of trace.old)) (λ all. IsTrace all past →
         IfSome (S.remaining (device_of report.old)) (λ given. given ≡ text → IsProvedOrFailed result)) }
     ensures flushed { OnOk result (is_flushed out.new ≡ true) }
+    ensures trace_calm { result ≢ Err (AuditFault.Trace TraceFault.ReadFailed) → has_failed trace.new ≡ false }
+    ensures report_calm { result ≢ Err (AuditFault.Report ReportFault.ReadFailed) → has_failed report.new ≡ false }
+    ensures out_calm { result ≢ Err AuditFault.WriteFailed → has_failed out.new ≡ false }
 {
     let history = match read_trace(alloc, trace) {
         Ok(history) => history,

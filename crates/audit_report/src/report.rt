@@ -1,3 +1,5 @@
+//! The text of a report: its first seven lines, its stays and its prices.
+
 ghost use Rattle.std.specs.Prelude.{◌≡◌, ◌+◌, ◌-◌, ◌<◌, ◌≤◌, ◌++◌, length, slice_index, codes, OnOk, IfOk};
 ghost use Rattle.round_net.specs.Rows.{instance_of_rows};
 ghost use Rattle.round_net.specs.PriceRows.{pricing_of_rows, IsPricingFor};

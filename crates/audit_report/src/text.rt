@@ -1,8 +1,10 @@
+//! The pieces that lines of output are made of: words, numbers and the names of stays.
+
 ghost use Rattle.std.specs.Prelude.{◌≡◌, ◌+◌, ◌≤◌, ◌++◌, length, OnOk, IfOk, codes};
 ghost use Rattle.price_check.specs.Lines.{line};
 ghost use Rattle.price_check.specs.Report.{number_text};
 
-use cam_event::Stay;
+use cam_event::StayName;
 use itoa::Buffer;
 use std::alloc::AllocError;
 
@@ -30,7 +32,7 @@ pub fn push_number(text: &mut Vec<u8>, number: u64) -> Result<(), AllocError>
 }
 
 // Puts a stay's CCB and try behind the text.
-pub fn push_name(text: &mut Vec<u8>, stay: Stay) -> Result<(), AllocError>
+pub fn push_name(text: &mut Vec<u8>, stay: StayName) -> Result<(), AllocError>
     ensures text { OnOk result (text.new.items ≡ text.old.items ++ (number_text stay.ccb ++ number_text stay.attempt)) }
     ensures short { OnOk result (length text.new.items ≤ length text.old.items + 82) }
 {

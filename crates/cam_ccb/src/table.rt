@@ -1,3 +1,5 @@
+//! A table of CCB slots: values are taken in, found and given back by handles.
+
 use crate::handle::Handle;
 use slab::Slab;
 use std::alloc::{AllocError, Global};

@@ -7,9 +7,10 @@ use Rattle.cam_types.specs.Topology.{Topology}
 use Rattle.event_log.specs.Counts.{sendings, sending_of, caller_count}
 use Rattle.event_log.specs.declared.event.Event.{Event}
 use Rattle.event_log.specs.declared.event.Event.TheVariants.{Submit, Send, Done, Requeue, Finish, FreezeDev, ReleaseDev, FreezeSim, ReleaseSim, Adjust, Tick}
-use Rattle.event_log.specs.declared.passage.Sending.{Sending}
-use Rattle.event_log.proofs.TallyLaws.{Tally, device_tally, device_change, with_change, told_of, device_tally-push}
-use Rattle.cam_event.specs.Legal.{Rules, names_device, is_count, is_legal_event, is_legal}
+use Rattle.event_log.specs.declared.sending.Sending.{Sending}
+use Rattle.event_log.proofs.TallyLaws.{Tally, device_tally, device_change, with_change, tallied, device_tally-push}
+use Rattle.cam_types.specs.Questions.{names_device}
+use Rattle.cam_event.specs.Legal.{Rules, is_count, is_legal_event, is_legal}
 use Rattle.cam_event.proofs.LawLemmas.{allowed-legal_event}
 use Rattle.cam_event.proofs.LimitLemmas.{legal-induction}
 
@@ -27,7 +28,7 @@ caller_count-standing es d = refl
 
 -- the change of a tally, where there is one
 abbrev changed_by : ℕ → Option Tally → Tally → Tally
-changed_by d o t = option_map_or (λ c. told_of d c t) o t
+changed_by d o t = option_map_or (λ c. tallied d c t) o t
 
 callers-push : (es : List Event) (e : Event) (d : ℕ) → caller_count (es ++ e ∷ []) d ≡ standing (changed_by d (device_change (es, e)) (device_tally es d))
 callers-push es e d = caller_count-standing (es ++ e ∷ []) d ∙ ap standing (device_tally-push es e d)
@@ -60,7 +61,7 @@ freezing : Sending → Option Tally
 freezing s = cond s.qfreeze (Some (change s.device 1 0)) None
 
 standing-send : (d n a t : ℕ) (s : Sending) (q : Bool) → t ≤ a →
-    standing (option_map_or (λ (c : Tally). told_of d c (change n a t)) (cond q (Some (change s.device 1 0)) None) (change n a t)) ≡ (a - t) + cond (s.device == d) (cond q 1 0) 0
+    standing (option_map_or (λ (c : Tally). tallied d c (change n a t)) (cond q (Some (change s.device 1 0)) None) (change n a t)) ≡ (a - t) + cond (s.device == d) (cond q 1 0) 0
 standing-send d n a t s true le = standing-more (s.device == d) n a 1 t le
 standing-send d n a t s false le = elim (s.device == d) as (λ b. a - t ≡ (a - t) + cond {A = ℕ} b 0 0) [ true ↦ omega arith | false ↦ omega arith ]
 
@@ -73,7 +74,7 @@ callers-send es lane ccb d s is h =
     ∙ standing-send d t.number t.added t.taken s s.qfreeze (h.covered d) ∙ ap (λ n. n + cond (s.device == d) (cond s.qfreeze 1 0) 0) (sym (caller_count-standing es d))
 
 -- a legal event takes away no more than stands
-covered-some : (d : ℕ) (c t : Tally) → t.taken ≤ t.added → ((c.number == d) ≡ true → c.taken ≤ (t.added - t.taken) + c.added) → (told_of d c t).taken ≤ (told_of d c t).added
+covered-some : (d : ℕ) (c t : Tally) → t.taken ≤ t.added → ((c.number == d) ≡ true → c.taken ≤ (t.added - t.taken) + c.added) → (tallied d c t).taken ≤ (tallied d c t).added
 covered-some d c t le more = elim (c.number == d) as (λ b. (b ≡ true → c.taken ≤ (t.added - t.taken) + c.added) → (cond b (with_change c t) t).taken ≤ (cond b (with_change c t) t).added) [
   | true ↦ λ m. let k = m refl in omega arith
   | false ↦ λ m. le
@@ -117,14 +118,7 @@ covered_step rules c es (ReleaseDev device count) legal h =
     omega (arith, taken, le))
 covered_step rules c es (Send lane ccb) legal h =
     covered-step es (Send lane ccb) h (λ d t is at. let none = send_takes_none (sending_of (es, Send lane ccb)) t is in omega (arith, none))
-covered_step rules c es (Submit driver device priority retries flags) legal h = none_changed es (Submit driver device priority retries flags) refl h
-covered_step rules c es (Done ccb outcome) legal h = none_changed es (Done ccb outcome) refl h
-covered_step rules c es (Requeue ccb) legal h = none_changed es (Requeue ccb) refl h
-covered_step rules c es (Finish ccb) legal h = none_changed es (Finish ccb) refl h
-covered_step rules c es (FreezeSim sim count) legal h = none_changed es (FreezeSim sim count) refl h
-covered_step rules c es (ReleaseSim sim) legal h = none_changed es (ReleaseSim sim) refl h
-covered_step rules c es (Adjust device openings) legal h = none_changed es (Adjust device openings) refl h
-covered_step rules c es Tick legal h = none_changed es Tick refl h
+covered_step rules c es e legal h = none_changed es e refl h
 
 none_taken : AreCovered []
 unfolding sendings

@@ -17,10 +17,10 @@ use Rattle.event_log.specs.Event.{is_some_and}
 use Rattle.event_log.specs.Counts.{last_result, is_counted_requeue, counted_requeues, retries_of, wants_requeue, is_recovering, round, has_in_flight}
 use Rattle.event_log.specs.declared.event.Event.{Event}
 use Rattle.event_log.specs.declared.event.Event.TheVariants.{Submit, Send, Done, Requeue, Finish, FreezeDev, ReleaseDev, FreezeSim, ReleaseSim, Adjust, Tick}
-use Rattle.cam_event.specs.Legal.{names_device, Rules, history_rules, IsWithinHistory, names_ccb, names_lane, has_ccb, has_stay, is_next, is_allowed, is_legal_event, is_legal}
+use Rattle.cam_types.specs.Questions.{names_device, names_lane}
+use Rattle.cam_event.specs.Legal.{Rules, history_rules, IsWithinHistory, names_ccb, has_ccb, has_stay, is_next, is_allowed, is_legal_event, is_legal}
 use Rattle.cam_types.specs.declared.flags.Flags.{Flags}
-use Rattle.cam_types.specs.declared.priority.TheConstants.{MOST_PRIORITY}
-use Rattle.cam_event.specs.declared.most.TheConstants.{MOST_RETRIES}
+use Rattle.cam_types.specs.declared.maxima.TheConstants.{MOST_PRIORITY, MOST_RETRIES}
 use Rattle.cam_event.specs.Laws.{stands_free, last_class, is_counted_class, is_requeue_by_class}
 use Rattle.cam_event.proofs.TestLemmas.{list_all-weaker}
 use Rattle.cam_event.proofs.SendLemmas.{send_from_next}
@@ -145,14 +145,7 @@ allowed_history : (rules : Rules) (c : Topology) (before : List Event) (event : 
 allowed_history rules c before (Submit driver device priority retries flags) w h = allowed_submit rules c before driver device priority retries flags w h
 allowed_history rules c before (Requeue ccb) w h = allowed_requeue rules c before ccb w h
 allowed_history rules c before Tick w h = allowed_tick rules c before w h
-allowed_history rules c before (Send lane ccb) w h = h
-allowed_history rules c before (Done ccb outcome) w h = h
-allowed_history rules c before (Finish ccb) w h = h
-allowed_history rules c before (FreezeDev device count) w h = h
-allowed_history rules c before (ReleaseDev device count) w h = h
-allowed_history rules c before (FreezeSim sim count) w h = h
-allowed_history rules c before (ReleaseSim sim) w h = h
-allowed_history rules c before (Adjust device openings) w h = h
+allowed_history rules c before _ w h = h
 
 -- an event that is legal by narrower rules is legal in a history
 pub legal_event-history : (rules : Rules) (c : Topology) (m : List Event × Event) → IsWithinHistory rules → is_legal_event rules c m ≡ true → is_legal_event history_rules c m ≡ true

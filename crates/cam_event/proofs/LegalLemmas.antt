@@ -11,8 +11,9 @@ use Rattle.cam_types.specs.Topology.{Topology}
 use Rattle.event_log.specs.Event.{is_some_and}
 use Rattle.event_log.specs.declared.event.Event.{Event}
 use Rattle.event_log.specs.declared.event.Event.TheVariants.{Submit, Send, Done, Requeue, Finish, FreezeDev, ReleaseDev, FreezeSim, ReleaseSim, Adjust, Tick}
-use Rattle.cam_event.specs.Legal.{Rules, is_legal_event, is_allowed, has_ccb, names_lane, names_ccb, is_next}
-use Rattle.cam_event.specs.Refusals.{device_of, lane_adapter, are_ccbs_full, causes, first_cause, refusal}
+use Rattle.cam_types.specs.Questions.{names_lane, lane_adapter}
+use Rattle.cam_event.specs.Legal.{Rules, is_legal_event, is_allowed, has_ccb, names_ccb, is_next}
+use Rattle.cam_event.specs.Refusals.{device_of, are_ccbs_full, causes, first_cause, refusal}
 use Rattle.cam_event.specs.declared.refusal.Refusal.{Refusal}
 use Rattle.cam_event.specs.declared.refusal.Refusal.TheVariants.{HistoryFull}
 use Rattle.cam_event.proofs.SendLemmas.{is_sendable, is_next-is_sendable}
@@ -53,15 +54,10 @@ allowed_send rules c before lane ccb = simp (not-not, and-true) (send_asks c bef
 pub allowed-causes : (rules : Rules) (c : Topology) (before : List Event) (event : Event) → is_allowed rules c before event ≡ list_all (λ m. not m.0) (causes rules c before event)
 allowed-causes rules c before (Submit driver device priority retries flags) = allowed_submit rules c before driver device priority retries flags
 allowed-causes rules c before (Send lane ccb) = allowed_send rules c before lane ccb
-allowed-causes rules c before (Done ccb outcome) = simp (not-ltb, not-leb, not-not, and-true, and_assoc) refl
-allowed-causes rules c before (Requeue ccb) = simp (not-ltb, not-leb, not-not, and-true, and_assoc) refl
-allowed-causes rules c before (Finish ccb) = simp (not-ltb, not-leb, not-not, and-true, and_assoc) refl
-allowed-causes rules c before (FreezeDev device count) = simp (not-ltb, not-leb, not-not, and-true, and_assoc) refl
-allowed-causes rules c before (ReleaseDev device count) = simp (not-ltb, not-leb, not-not, and-true, and_assoc) refl
-allowed-causes rules c before (FreezeSim sim count) = simp (not-ltb, not-leb, not-not, and-true, and_assoc) refl
 allowed-causes rules c before (ReleaseSim sim) = simp (not-ltb, not-leb, and-true) refl
 allowed-causes rules c before (Adjust device openings) = simp (not-ltb, not-leb, not-not, and-true) refl
 allowed-causes rules c before Tick = simp (not-leb, and-true) refl
+allowed-causes rules c before _ = simp (not-ltb, not-leb, not-not, and-true, and_assoc) refl
 
 -- an event is legal where no cause refuses it
 pub legal-unrefused : (rules : Rules) (c : Topology) (before : List Event) (event : Event) → is_legal_event rules c (before, event) ≡ is_none (refusal rules c before event)

@@ -7,16 +7,15 @@ use Rattle.std.proofs.lemmas.List.{take-append-drop, drop_more}
 use Rattle.cam_types.specs.Lists.{moments_after}
 use Rattle.cam_types.specs.Topology.{Topology}
 use Rattle.event_log.specs.Counts.{round, has_in_flight, is_recovering, wants_requeue}
-use Rattle.event_log.specs.Stays.{passages, passage_of}
+use Rattle.event_log.specs.Stays.{stays_begun, stay_begun}
 use Rattle.event_log.specs.declared.event.Event.{Event}
 use Rattle.event_log.specs.declared.event.Event.TheVariants.{Submit, Send, Done, Requeue, Finish, FreezeDev, ReleaseDev, FreezeSim, ReleaseSim, Adjust, Tick}
-use Rattle.event_log.specs.declared.passage.Passage.{Passage}
-use Rattle.event_log.proofs.Laws.{round-push, passages-push}
-use Rattle.cam_event.specs.Legal.{names_device, Rules, history_rules, names_ccb, has_ccb, has_stay, is_legal_event, is_legal}
+use Rattle.event_log.specs.declared.stay.Stay.{Stay}
+use Rattle.event_log.proofs.Laws.{round-push, stays_begun-push}
+use Rattle.cam_types.specs.Questions.{names_device}
+use Rattle.cam_event.specs.Legal.{Rules, history_rules, names_ccb, has_ccb, has_stay, is_legal_event, is_legal}
 use Rattle.cam_types.specs.declared.flags.Flags.{Flags}
-use Rattle.cam_types.specs.declared.priority.TheConstants.{MOST_PRIORITY}
-use Rattle.cam_event.specs.declared.most.TheConstants.{MOST_RETRIES}
-use Rattle.cam_types.specs.declared.limits.TheConstants.{MOST_ROUNDS, MOST_STAYS}
+use Rattle.cam_types.specs.declared.maxima.TheConstants.{MOST_PRIORITY, MOST_RETRIES, MOST_ROUNDS, MOST_STAYS}
 use Rattle.cam_event.proofs.LawLemmas.{allowed-legal_event}
 
 -- what a legal event leads to, where it holds before it, holds behind all of a legal list
@@ -32,57 +31,40 @@ round_step rules c before Tick legal h =
     let asked = (allowed-legal_event rules c before Tick legal).1 in
     let lt = ltb-true _ _ (and_parts (not (has_in_flight before)) (nat_lt (round before) rules.rounds) asked).1 in
     omega (arith, round-push before Tick)
-round_step rules c before (Submit driver device priority retries flags) legal h = omega (arith, round-push before (Submit driver device priority retries flags))
-round_step rules c before (Send lane ccb) legal h = omega (arith, round-push before (Send lane ccb))
-round_step rules c before (Done ccb outcome) legal h = omega (arith, round-push before (Done ccb outcome))
-round_step rules c before (Requeue ccb) legal h = omega (arith, round-push before (Requeue ccb))
-round_step rules c before (Finish ccb) legal h = omega (arith, round-push before (Finish ccb))
-round_step rules c before (FreezeDev device count) legal h = omega (arith, round-push before (FreezeDev device count))
-round_step rules c before (ReleaseDev device count) legal h = omega (arith, round-push before (ReleaseDev device count))
-round_step rules c before (FreezeSim sim count) legal h = omega (arith, round-push before (FreezeSim sim count))
-round_step rules c before (ReleaseSim sim) legal h = omega (arith, round-push before (ReleaseSim sim))
-round_step rules c before (Adjust device openings) legal h = omega (arith, round-push before (Adjust device openings))
+round_step rules c before e legal h = omega (arith, round-push before e)
 
 pub round-legal : (rules : Rules) (c : Topology) (events : List Event) → 1 ≤ rules.rounds → is_legal rules c events ≡ true → round events ≤ rules.rounds
 unfolding is_legal round
 round-legal rules c events some legal = legal-induction rules c (λ es. round es ≤ rules.rounds) (round_step rules c) [] events legal some
 
 -- a stay begins where there may be one more
-one_more : (ps : List Passage) (o : Option Passage) (most : ℕ) → length ps < most → length (ps ++ option_to_list o) ≤ most
+one_more : (ps : List Stay) (o : Option Stay) (most : ℕ) → length ps < most → length (ps ++ option_to_list o) ≤ most
 one_more ps None most lt = omega (arith, length-append ps [])
 one_more ps (Some p) most lt = omega (arith, length-append ps (p ∷ []))
 
-pub room_submit : (rules : Rules) (c : Topology) (before : List Event) (driver device priority retries : ℕ) (flags : Flags) → is_legal_event rules c (before, Submit driver device priority retries flags) ≡ true → length (passages before) < rules.stays
+pub room_submit : (rules : Rules) (c : Topology) (before : List Event) (driver device priority retries : ℕ) (flags : Flags) → is_legal_event rules c (before, Submit driver device priority retries flags) ≡ true → length (stays_begun before) < rules.stays
 room_submit rules c before driver device priority retries flags legal =
     let asked = (allowed-legal_event rules c before (Submit driver device priority retries flags) legal).1 in
     let named = names_device c device && nat_le priority MOST_PRIORITY && nat_le retries MOST_RETRIES && has_ccb rules before in
     ltb-true _ _ (and_parts named (has_stay rules before) asked).1
 
-pub room_requeue : (rules : Rules) (c : Topology) (before : List Event) (ccb : ℕ) → is_legal_event rules c (before, Requeue ccb) ≡ true → length (passages before) < rules.stays
+pub room_requeue : (rules : Rules) (c : Topology) (before : List Event) (ccb : ℕ) → is_legal_event rules c (before, Requeue ccb) ≡ true → length (stays_begun before) < rules.stays
 room_requeue rules c before ccb legal =
     let asked = (allowed-legal_event rules c before (Requeue ccb) legal).1 in
     let one = and_parts (names_ccb before ccb && has_stay rules before && is_recovering before ccb) (wants_requeue before ccb) asked in
     let two = and_parts (names_ccb before ccb && has_stay rules before) (is_recovering before ccb) one.0 in
     ltb-true _ _ (and_parts (names_ccb before ccb) (has_stay rules before) two.0).1
 
-stays_step : (rules : Rules) (c : Topology) (before : List Event) (event : Event) → is_legal_event rules c (before, event) ≡ true → length (passages before) ≤ rules.stays → length (passages (before ++ event ∷ [])) ≤ rules.stays
+stays_step : (rules : Rules) (c : Topology) (before : List Event) (event : Event) → is_legal_event rules c (before, event) ≡ true → length (stays_begun before) ≤ rules.stays → length (stays_begun (before ++ event ∷ [])) ≤ rules.stays
 stays_step rules c before (Submit driver device priority retries flags) legal h =
-    rw passages-push (one_more (passages before) (passage_of (before, Submit driver device priority retries flags)) rules.stays (room_submit rules c before driver device priority retries flags legal))
+    rw stays_begun-push (one_more (stays_begun before) (stay_begun (before, Submit driver device priority retries flags)) rules.stays (room_submit rules c before driver device priority retries flags legal))
 stays_step rules c before (Requeue ccb) legal h =
-    rw passages-push (one_more (passages before) (passage_of (before, Requeue ccb)) rules.stays (room_requeue rules c before ccb legal))
-stays_step rules c before (Send lane ccb) legal h = rw passages-push (rw (append-nil (passages before)) h)
-stays_step rules c before (Done ccb outcome) legal h = rw passages-push (rw (append-nil (passages before)) h)
-stays_step rules c before (Finish ccb) legal h = rw passages-push (rw (append-nil (passages before)) h)
-stays_step rules c before (FreezeDev device count) legal h = rw passages-push (rw (append-nil (passages before)) h)
-stays_step rules c before (ReleaseDev device count) legal h = rw passages-push (rw (append-nil (passages before)) h)
-stays_step rules c before (FreezeSim sim count) legal h = rw passages-push (rw (append-nil (passages before)) h)
-stays_step rules c before (ReleaseSim sim) legal h = rw passages-push (rw (append-nil (passages before)) h)
-stays_step rules c before (Adjust device openings) legal h = rw passages-push (rw (append-nil (passages before)) h)
-stays_step rules c before Tick legal h = rw passages-push (rw (append-nil (passages before)) h)
+    rw stays_begun-push (one_more (stays_begun before) (stay_begun (before, Requeue ccb)) rules.stays (room_requeue rules c before ccb legal))
+stays_step rules c before _ legal h = rw stays_begun-push (rw (append-nil (stays_begun before)) h)
 
-pub stays-legal : (rules : Rules) (c : Topology) (events : List Event) → is_legal rules c events ≡ true → length (passages events) ≤ rules.stays
-unfolding is_legal passages
-stays-legal rules c events legal = legal-induction rules c (λ es. length (passages es) ≤ rules.stays) (stays_step rules c) [] events legal (omega arith)
+pub stays-legal : (rules : Rules) (c : Topology) (events : List Event) → is_legal rules c events ≡ true → length (stays_begun events) ≤ rules.stays
+unfolding is_legal stays_begun
+stays-legal rules c events legal = legal-induction rules c (λ es. length (stays_begun es) ≤ rules.stays) (stays_step rules c) [] events legal (omega arith)
 
 -- a history's last round, and how many stays it has
 pub round_most : (c : Topology) (events : List Event) → is_legal history_rules c events ≡ true → round events ≤ MOST_ROUNDS
@@ -92,7 +74,7 @@ pub round_first : (events : List Event) → 1 ≤ round events
 unfolding round
 round_first events = omega arith
 
-pub stays_most : (c : Topology) (events : List Event) → is_legal history_rules c events ≡ true → length (passages events) ≤ MOST_STAYS
+pub stays_most : (c : Topology) (events : List Event) → is_legal history_rules c events ≡ true → length (stays_begun events) ≤ MOST_STAYS
 stays_most c events legal = stays-legal history_rules c events legal
 
 -- the front of a legal list is legal, and so is what follows it

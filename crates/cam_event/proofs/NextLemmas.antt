@@ -12,39 +12,40 @@ use Rattle.cam_types.specs.Topology.{Topology}
 use Rattle.cam_types.specs.declared.device.Device.{Device}
 use Rattle.event_log.specs.Event.{is_some_and}
 use Rattle.event_log.specs.Counts.{submission, freeze_count, adapter_freezes}
-use Rattle.event_log.specs.Stays.{passages, waiting, is_unsent, has_arrived, has_queued, queue, queue_key, first}
-use Rattle.event_log.specs.Head.{is_on, has_opening, adapter_has_opening, is_ready, turn_key, devices, head, next}
+use Rattle.event_log.specs.Stays.{stays_begun, waiting, is_unsent, has_arrived, has_queued, queue, queue_key, first}
+use Rattle.cam_types.specs.Questions.{is_on, devices}
+use Rattle.event_log.specs.Head.{has_opening, adapter_has_opening, is_ready, turn_key, head, next}
 use Rattle.event_log.specs.declared.event.Event.{Event}
 use Rattle.event_log.specs.declared.submission.Submission.{Submission}
-use Rattle.event_log.specs.declared.passage.Passage.{Passage}
+use Rattle.event_log.specs.declared.stay.Stay.{Stay}
 use Rattle.cam_event.specs.Laws.{is_stay_of}
 use Rattle.cam_event.specs.Refusals.{device_of}
 use Rattle.cam_event.proofs.TestLemmas.{IsIn, in_found, in_filter, passes-all, list_any-with, list_all-filter, list_all-filtered}
 use Rattle.cam_event.proofs.LeastLemmas.{is_some-least_by-filter}
-use Rattle.cam_event.proofs.StayLemmas.{is_of_its_ccb, of_its_ccb-passages}
+use Rattle.cam_event.proofs.StayLemmas.{is_of_its_ccb, of_its_ccb-stays_begun}
 
 -- a waiting stay is of its CCB
 of_its_ccb-waiting : (events : List Event) → list_all (is_of_its_ccb events) (waiting events) ≡ true
 unfolding waiting
-of_its_ccb-waiting events = list_all-filtered (is_unsent events) (is_of_its_ccb events) (passages events) (of_its_ccb-passages events)
+of_its_ccb-waiting events = list_all-filtered (is_unsent events) (is_of_its_ccb events) (stays_begun events) (of_its_ccb-stays_begun events)
 
 -- the device of a stay's CCB is the stay's
-pub device-of_its_ccb : (events : List Event) (p : Passage) → is_of_its_ccb events p ≡ true → device_of events p.ccb ≡ p.device
+pub device-of_its_ccb : (events : List Event) (p : Stay) → is_of_its_ccb events p ≡ true → device_of events p.ccb ≡ p.device
 device-of_its_ccb events p h = elim (submission events p.ccb) as (λ o. is_some_and (is_stay_of p) o ≡ true → option_map_or (λ (s : Submission). s.device) o 0 ≡ p.device) [
   | None ↦ λ g. absurd cc
   | Some s ↦ λ g. eqb-true s.device p.device (and_parts (s.device == p.device) (s.priority == p.priority) g).0
 ] h
 
 -- the first of a device's queue is one of its stays, and queued
-pub record IsQueued (events : List Event) (d : ℕ) (p : Passage) : Type 0 where
+pub record IsQueued (events : List Event) (d : ℕ) (p : Stay) : Type 0 where
   pub at : p.device ≡ d
   pub of_its_ccb : is_of_its_ccb events p ≡ true
   pub queued : has_queued events p.ccb ≡ true
 
-pub queued-first : (events : List Event) (d : ℕ) (p : Passage) → first events d ≡ Some p → IsQueued events d p
+pub queued-first : (events : List Event) (d : ℕ) (p : Stay) → first events d ≡ Some p → IsQueued events d p
 unfolding first queue has_queued
 queued-first events d p h =
-    let here = λ (q : Passage). (q.device == d) && has_arrived events q in
+    let here = λ (q : Stay). (q.device == d) && has_arrived events q in
     let one = in_found _ (filter here (waiting events)) p h in
     let within : IsIn p (waiting events) = in_filter here (waiting events) p one.0 in
     let passes : here p ≡ true = passes-all p (filter here (waiting events)) here one.0 (list_all-filter here (waiting events)) in
@@ -56,7 +57,7 @@ queued-first events d p h =
     }
 
 -- a stay of the CCB that has arrived has arrived at the CCB's device
-at_device : (events : List Event) (ccb : ℕ) (q : Passage) → ((q.ccb == ccb) ≡ true) × (has_arrived events q ≡ true) → is_of_its_ccb events q ≡ true → ((q.device == device_of events ccb) && has_arrived events q) ≡ true
+at_device : (events : List Event) (ccb : ℕ) (q : Stay) → ((q.ccb == ccb) ≡ true) × (has_arrived events q ≡ true) → is_of_its_ccb events q ≡ true → ((q.device == device_of events ccb) && has_arrived events q) ≡ true
 at_device events ccb q h own =
     let same = eqb-true q.ccb ccb h.0 in
     and_from _ _ (eq-eqb q.device (device_of events ccb) (sym (device-of_its_ccb events q own) ∙ ap (device_of events) same)) h.1
@@ -94,7 +95,7 @@ pub is_some-head : (c : Topology) (events : List Event) (a d : ℕ) → IsHead c
 unfolding head
 is_some-head c events a d h =
     let takes = λ (n : ℕ). is_on c a n && is_ready c events n in
-    let there = elim (slice_get c.devices d) as (λ o. slice_get c.devices d ≡ o → is_some_and (λ (device : Device). device.bus == a) o ≡ true → d < length c.devices) [
+    let there = elim (slice_get c.devices d) as (λ o. slice_get c.devices d ≡ o → option_map_or (λ (device : Device). device.bus == a) o false ≡ true → d < length c.devices) [
       | None ↦ λ e g. absurd cc
       | Some device ↦ λ e g. slice_get_within c.devices d device e
     ] refl h.on in
@@ -103,7 +104,7 @@ is_some-head c events a d h =
     rw (and_from _ _ h.adapter_free h.adapter_opening) (is_some-least_by-filter (turn_key events) takes (devices c) ∙ some)
 
 -- what is said of an adapter's next stay
-pub record IsNextStay (c : Topology) (events : List Event) (a : ℕ) (p : Passage) : Type 0 where
+pub record IsNextStay (c : Topology) (events : List Event) (a : ℕ) (p : Stay) : Type 0 where
   pub of_its_ccb : is_of_its_ccb events p ≡ true
   pub queued : has_queued events p.ccb ≡ true
   pub on : is_on c a p.device ≡ true
@@ -112,7 +113,7 @@ pub record IsNextStay (c : Topology) (events : List Event) (a : ℕ) (p : Passag
   pub adapter_free : (adapter_freezes events a == 0) ≡ true
   pub adapter_opening : adapter_has_opening c events a ≡ true
 
-pub next_stands : (c : Topology) (events : List Event) (a : ℕ) (p : Passage) → next c events a ≡ Some p → IsNextStay c events a p
+pub next_stands : (c : Topology) (events : List Event) (a : ℕ) (p : Stay) → next c events a ≡ Some p → IsNextStay c events a p
 unfolding next is_ready
 next_stands c events a p h =
     elim (head c events a) as (λ o. head c events a ≡ o → option_and_then (first events) o ≡ Some p → IsNextStay c events a p) [

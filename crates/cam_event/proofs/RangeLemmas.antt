@@ -6,22 +6,22 @@ use Rattle.std.proofs.lemmas.Bool.{and_parts, and_from}
 use Rattle.std.proofs.lemmas.List.Folds.{list_all-append}
 use Rattle.cam_types.specs.Topology.{Topology}
 use Rattle.cam_types.specs.declared.flags.Flags.{Flags}
-use Rattle.cam_types.specs.declared.priority.TheConstants.{MOST_PRIORITY}
+use Rattle.cam_types.specs.declared.maxima.TheConstants.{MOST_PRIORITY, MOST_RETRIES}
 use Rattle.event_log.specs.Event.{is_some_and}
 use Rattle.event_log.specs.Counts.{submissions, submission}
-use Rattle.event_log.specs.Stays.{passages}
+use Rattle.event_log.specs.Stays.{stays_begun}
 use Rattle.event_log.specs.declared.event.Event.{Event}
 use Rattle.event_log.specs.declared.event.Event.TheVariants.{Submit, Send, Done, Requeue, Finish, FreezeDev, ReleaseDev, FreezeSim, ReleaseSim, Adjust, Tick}
 use Rattle.event_log.specs.declared.submission.Submission.{Submission}
-use Rattle.event_log.specs.declared.passage.Passage.{Passage}
+use Rattle.event_log.specs.declared.stay.Stay.{Stay}
 use Rattle.event_log.proofs.Laws.{submissions-push}
-use Rattle.cam_event.specs.Legal.{Rules, names_device, has_ccb, has_stay, is_legal_event, is_legal}
+use Rattle.cam_types.specs.Questions.{names_device}
+use Rattle.cam_event.specs.Legal.{Rules, has_ccb, has_stay, is_legal_event, is_legal}
 use Rattle.cam_event.specs.Laws.{is_in_range, is_stay_of, is_stay_in_range}
-use Rattle.cam_event.specs.declared.most.TheConstants.{MOST_RETRIES}
 use Rattle.cam_event.proofs.TestLemmas.{list_all-weaker}
 use Rattle.cam_event.proofs.LawLemmas.{allowed-legal_event}
 use Rattle.cam_event.proofs.LimitLemmas.{legal-induction}
-use Rattle.cam_event.proofs.StayLemmas.{is_of_its_ccb, of_its_ccb-passages}
+use Rattle.cam_event.proofs.StayLemmas.{is_of_its_ccb, of_its_ccb-stays_begun}
 
 pub range_submit : (rules : Rules) (c : Topology) (before : List Event) (driver device priority retries : ℕ) (flags : Flags) → is_legal_event rules c (before, Submit driver device priority retries flags) ≡ true → (names_device c device && nat_le priority MOST_PRIORITY && nat_le retries MOST_RETRIES) ≡ true
 range_submit rules c before driver device priority retries flags legal =
@@ -36,16 +36,7 @@ in_range_push c xs s all one = rw list_all-append (and_from _ _ all (and_from _ 
 range_step : (rules : Rules) (c : Topology) (before : List Event) (event : Event) → is_legal_event rules c (before, event) ≡ true → list_all (is_in_range c) (submissions before) ≡ true → list_all (is_in_range c) (submissions (before ++ event ∷ [])) ≡ true
 range_step rules c before (Submit driver device priority retries flags) legal h =
     rw submissions-push (in_range_push c (submissions before) (record { driver = driver; device = device; priority = priority; retries = retries; flags = flags }) h (range_submit rules c before driver device priority retries flags legal))
-range_step rules c before (Send lane ccb) legal h = rw submissions-push (rw (append-nil (submissions before)) h)
-range_step rules c before (Done ccb outcome) legal h = rw submissions-push (rw (append-nil (submissions before)) h)
-range_step rules c before (Requeue ccb) legal h = rw submissions-push (rw (append-nil (submissions before)) h)
-range_step rules c before (Finish ccb) legal h = rw submissions-push (rw (append-nil (submissions before)) h)
-range_step rules c before (FreezeDev device count) legal h = rw submissions-push (rw (append-nil (submissions before)) h)
-range_step rules c before (ReleaseDev device count) legal h = rw submissions-push (rw (append-nil (submissions before)) h)
-range_step rules c before (FreezeSim sim count) legal h = rw submissions-push (rw (append-nil (submissions before)) h)
-range_step rules c before (ReleaseSim sim) legal h = rw submissions-push (rw (append-nil (submissions before)) h)
-range_step rules c before (Adjust device openings) legal h = rw submissions-push (rw (append-nil (submissions before)) h)
-range_step rules c before Tick legal h = rw submissions-push (rw (append-nil (submissions before)) h)
+range_step rules c before _ legal h = rw submissions-push (rw (append-nil (submissions before)) h)
 
 pub submissions_in_range : (rules : Rules) (c : Topology) (events : List Event) → is_legal rules c events ≡ true → list_all (is_in_range c) (submissions events) ≡ true
 unfolding is_legal submissions
@@ -59,12 +50,12 @@ passes-slice_get p (y ∷ ys) zero x all e =
     rw (← same) (and_parts (p y) (list_all p ys) all).0
 passes-slice_get p (y ∷ ys) (suc i) x all e = passes-slice_get p ys i x (and_parts (p y) (list_all p ys) all).1 e
 
-stay_range : (c : Topology) (events : List Event) → list_all (is_in_range c) (submissions events) ≡ true → (p : Passage) → is_of_its_ccb events p ≡ true → is_stay_in_range c events p ≡ true
+stay_range : (c : Topology) (events : List Event) → list_all (is_in_range c) (submissions events) ≡ true → (p : Stay) → is_of_its_ccb events p ≡ true → is_stay_in_range c events p ≡ true
 stay_range c events all p own = elim (submission events p.ccb) as (λ o. submission events p.ccb ≡ o → is_some_and (is_stay_of p) o ≡ true → is_some_and (λ (s : Submission). is_in_range c s && is_stay_of p s) o ≡ true) [
   | None ↦ λ e g. g
   | Some s ↦ λ e g. and_from _ _ (passes-slice_get (is_in_range c) (submissions events) p.ccb s all e) g
 ] refl own
 
-pub stays_in_range : (rules : Rules) (c : Topology) (events : List Event) → is_legal rules c events ≡ true → list_all (is_stay_in_range c events) (passages events) ≡ true
+pub stays_in_range : (rules : Rules) (c : Topology) (events : List Event) → is_legal rules c events ≡ true → list_all (is_stay_in_range c events) (stays_begun events) ≡ true
 stays_in_range rules c events legal =
-    list_all-weaker (is_of_its_ccb events) (is_stay_in_range c events) (passages events) (stay_range c events (submissions_in_range rules c events legal)) (of_its_ccb-passages events)
+    list_all-weaker (is_of_its_ccb events) (is_stay_in_range c events) (stays_begun events) (stay_range c events (submissions_in_range rules c events legal)) (of_its_ccb-stays_begun events)

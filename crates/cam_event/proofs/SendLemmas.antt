@@ -8,11 +8,12 @@ use Rattle.cam_types.specs.Topology.{Topology}
 use Rattle.event_log.specs.Event.{is_some_and}
 use Rattle.event_log.specs.Counts.{freeze_count, adapter_freezes}
 use Rattle.event_log.specs.Stays.{has_queued}
-use Rattle.event_log.specs.Head.{is_on, has_opening, adapter_has_opening, next}
+use Rattle.cam_types.specs.Questions.{names_lane, is_on, lane_adapter}
+use Rattle.event_log.specs.Head.{has_opening, adapter_has_opening, next}
 use Rattle.event_log.specs.declared.event.Event.{Event}
-use Rattle.event_log.specs.declared.passage.Passage.{Passage}
-use Rattle.cam_event.specs.Legal.{names_lane, is_next}
-use Rattle.cam_event.specs.Refusals.{device_of, lane_adapter, have_openings, is_other_next}
+use Rattle.event_log.specs.declared.stay.Stay.{Stay}
+use Rattle.cam_event.specs.Legal.{is_next}
+use Rattle.cam_event.specs.Refusals.{device_of, have_openings, is_other_next}
 use Rattle.cam_event.proofs.TestLemmas.{same_tests}
 use Rattle.cam_event.proofs.NextLemmas.{next_stands, IsSendable, is_some-next_at, device-of_its_ccb}
 
@@ -22,7 +23,7 @@ pub record IsSend (c : Topology) (before : List Event) (lane ccb : ℕ) : Type 0
   pub turn : is_other_next c before (lane_adapter c lane) ccb ≡ false
 
 -- the next stay's CCB may be sent
-sendable_next : (c : Topology) (before : List Event) (a ccb : ℕ) (p : Passage) → next c before a ≡ Some p → (p.ccb == ccb) ≡ true → IsSendable c before a ccb
+sendable_next : (c : Topology) (before : List Event) (a ccb : ℕ) (p : Stay) → next c before a ≡ Some p → (p.ccb == ccb) ≡ true → IsSendable c before a ccb
 sendable_next c before a ccb p e same =
     let s = next_stands c before a p e in
     let name = eqb-true p.ccb ccb same in
@@ -38,10 +39,10 @@ sendable_next c before a ccb p e same =
 
 -- whose turn it is, on the adapter a
 abbrev is_turn : Topology → List Event → ℕ → ℕ → Bool
-is_turn c before a ccb = is_some_and (λ (p : Passage). p.ccb == ccb) (next c before a)
+is_turn c before a ccb = is_some_and (λ (p : Stay). p.ccb == ccb) (next c before a)
 
 sendable_turn : (c : Topology) (before : List Event) (a ccb : ℕ) → is_turn c before a ccb ≡ true → IsSendable c before a ccb × (is_other_next c before a ccb ≡ false)
-sendable_turn c before a ccb h = elim (next c before a) as (λ o. next c before a ≡ o → is_some_and (λ (p : Passage). p.ccb == ccb) o ≡ true → IsSendable c before a ccb × (is_some_and (λ (p : Passage). not (p.ccb == ccb)) o ≡ false)) [
+sendable_turn c before a ccb h = elim (next c before a) as (λ o. next c before a ≡ o → is_some_and (λ (p : Stay). p.ccb == ccb) o ≡ true → IsSendable c before a ccb × (is_some_and (λ (p : Stay). not (p.ccb == ccb)) o ≡ false)) [
   | None ↦ λ e g. absurd cc
   | Some p ↦ λ e g. (sendable_next c before a ccb p e g, not_from_true (p.ccb == ccb) g)
 ] refl h
@@ -49,7 +50,7 @@ sendable_turn c before a ccb h = elim (next c before a) as (λ o. next c before 
 turn_sendable : (c : Topology) (before : List Event) (a ccb : ℕ) → IsSendable c before a ccb → is_other_next c before a ccb ≡ false → is_turn c before a ccb ≡ true
 turn_sendable c before a ccb s h =
     let there = is_some-next_at c before a ccb s in
-    elim (next c before a) as (λ o. is_some o ≡ true → is_some_and (λ (p : Passage). not (p.ccb == ccb)) o ≡ false → is_some_and (λ (p : Passage). p.ccb == ccb) o ≡ true) [
+    elim (next c before a) as (λ o. is_some o ≡ true → is_some_and (λ (p : Stay). not (p.ccb == ccb)) o ≡ false → is_some_and (λ (p : Stay). p.ccb == ccb) o ≡ true) [
       | None ↦ λ e g. e
       | Some p ↦ λ e g. not-false (p.ccb == ccb) g
     ] there h

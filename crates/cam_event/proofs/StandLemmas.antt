@@ -5,23 +5,25 @@ use Rattle.std.specs.List.{list_any}
 use Rattle.std.proofs.lemmas.Bool.{cases_lt, cases_eq, and_parts, ltb-true, lt-ltb, le-ltb, eq-eqb, ne_eqb, eqb-true, or_cases}
 use Rattle.std.proofs.lemmas.Option.{slice_get-get_or}
 use Rattle.std.proofs.lemmas.List.Sums.{sum_by-cons, sum_by-append}
+use Rattle.std.proofs.Math.Bool.{and-true}
 use Rattle.cam_types.specs.Topology.{Topology}
 use Rattle.cam_types.specs.declared.outcome.Outcome.{Outcome}
 use Rattle.sense_class.specs.Classes.{status_of}
 use Rattle.event_log.specs.Event.{is_send_of, concerns, ccb_of, is_erring, ends, submission_of}
 use Rattle.event_log.specs.Counts.{commands, submission, submissions, is_in_flight, is_recovering, wants_requeue, wants_finish}
-use Rattle.event_log.specs.Stays.{passages, waiting, passage_of, has_arrived, has_queued}
+use Rattle.event_log.specs.Stays.{stays_begun, waiting, stay_begun, has_arrived, has_queued}
 use Rattle.event_log.specs.declared.event.Event.{Event}
 use Rattle.event_log.specs.declared.event.Event.TheVariants.{Submit, Send, Done, Requeue, Finish, FreezeDev, ReleaseDev, FreezeSim, ReleaseSim, Adjust, Tick}
 use Rattle.event_log.specs.declared.submission.Submission.{Submission}
-use Rattle.event_log.specs.declared.passage.Passage.{Passage}
+use Rattle.event_log.specs.declared.stay.Stay.{Stay}
 use Rattle.event_log.proofs.Laws.{waiting-push}
 use Rattle.event_log.proofs.ListFacts.{count_by-kept, count_by-dropped}
 use Rattle.event_log.proofs.ConcernLaws.{apart, concerns-none, concerns-other, submit_concerns_none}
 use Rattle.event_log.proofs.StateLaws.{is_in_flight-push, is_recovering-push}
 use Rattle.event_log.proofs.CcbLaws.{not_ended-push}
 use Rattle.event_log.proofs.TotalLaws.{unsent_count, commands-submit, commands-none}
-use Rattle.cam_event.specs.Legal.{Rules, names_lane, names_ccb, has_stay, is_next, is_legal_event, is_legal}
+use Rattle.cam_types.specs.Questions.{names_lane}
+use Rattle.cam_event.specs.Legal.{Rules, names_ccb, has_stay, is_next, is_legal_event, is_legal}
 use Rattle.cam_event.proofs.LawLemmas.{allowed-legal_event}
 use Rattle.cam_event.proofs.LimitLemmas.{legal-induction}
 use Rattle.cam_event.proofs.SendLemmas.{send_from_next}
@@ -59,13 +61,7 @@ named_before rules c es (Send lane ccb) n legal is = let same : ccb ≡ n = cc i
 named_before rules c es (Done ccb outcome) n legal is = let same : ccb ≡ n = cc in omega (arith, (asks-done rules c es ccb outcome legal).0)
 named_before rules c es (Requeue ccb) n legal is = let same : ccb ≡ n = cc in omega (arith, (asks-requeue rules c es ccb legal).0)
 named_before rules c es (Finish ccb) n legal is = let same : ccb ≡ n = cc in omega (arith, (asks-finish rules c es ccb legal).0)
-named_before rules c es (Submit driver device priority retries flags) n legal is = absurd (cc)
-named_before rules c es (FreezeDev device count) n legal is = absurd (cc)
-named_before rules c es (ReleaseDev device count) n legal is = absurd (cc)
-named_before rules c es (FreezeSim sim count) n legal is = absurd (cc)
-named_before rules c es (ReleaseSim sim) n legal is = absurd (cc)
-named_before rules c es (Adjust device openings) n legal is = absurd (cc)
-named_before rules c es Tick n legal is = absurd (cc)
+named_before rules c es _ n legal is = absurd (cc)
 
 concerns_by : (rules : Rules) (c : Topology) (es : List Event) (e : Event) (n : ℕ) (o : Option ℕ) → ccb_of e ≡ o → is_legal_event rules c (es, e) ≡ true → commands es ≤ n → concerns n e ≡ false
 concerns_by rules c es e n None is legal le = concerns-none e n is
@@ -87,20 +83,20 @@ bit b = cond b 1 0
 
 -- how many unsent stays of a CCB the event begins
 abbrev begun : List Event → Event → ℕ → ℕ
-begun es e n = count_by (λ (p : Passage). p.ccb == n) (option_to_list (passage_of (es, e)))
+begun es e n = count_by (λ (p : Stay). p.ccb == n) (option_to_list (stay_begun (es, e)))
 
-sent_cases : (es : List Event) (e : Event) (n : ℕ) (t : Bool) → is_send_of n e ≡ t → count_by (λ (p : Passage). p.ccb == n) (filter (λ (p : Passage). not (is_send_of p.ccb e)) (waiting es)) ≡ cond t 0 (unsent_count es n)
-sent_cases es e n true is = count_by-dropped (λ (p : Passage). p.ccb == n) (λ (p : Passage). not (is_send_of p.ccb e)) (waiting es) (λ p kept. differs p kept (p.ccb == n) refl)
+sent_cases : (es : List Event) (e : Event) (n : ℕ) (t : Bool) → is_send_of n e ≡ t → count_by (λ (p : Stay). p.ccb == n) (filter (λ (p : Stay). not (is_send_of p.ccb e)) (waiting es)) ≡ cond t 0 (unsent_count es n)
+sent_cases es e n true is = count_by-dropped (λ (p : Stay). p.ccb == n) (λ (p : Stay). not (is_send_of p.ccb e)) (waiting es) (λ p kept. differs p kept (p.ccb == n) refl)
   where
-    differs : (p : Passage) → not (is_send_of p.ccb e) ≡ true → (b : Bool) → (p.ccb == n) ≡ b → (p.ccb == n) ≡ false
+    differs : (p : Stay) → not (is_send_of p.ccb e) ≡ true → (b : Bool) → (p.ccb == n) ≡ b → (p.ccb == n) ≡ false
     differs p kept false same = same
     differs p kept true same = let k : p.ccb ≡ n = eqb-true p.ccb n same in let off : not (is_send_of n e) ≡ true = rw k at kept in let on : not true ≡ true = rw is at off in absurd (cc)
-sent_cases es e n false is = count_by-kept (λ (p : Passage). p.ccb == n) (λ (p : Passage). not (is_send_of p.ccb e)) (waiting es) (λ p same. let k : p.ccb ≡ n = eqb-true p.ccb n same in rw k (ap not is))
+sent_cases es e n false is = count_by-kept (λ (p : Stay). p.ccb == n) (λ (p : Stay). not (is_send_of p.ccb e)) (waiting es) (λ p same. let k : p.ccb ≡ n = eqb-true p.ccb n same in rw k (ap not is))
 
 unsent-push : (es : List Event) (e : Event) (n : ℕ) → unsent_count (es ++ e ∷ []) n ≡ cond (is_send_of n e) 0 (unsent_count es n) + begun es e n
 unsent-push es e n =
-    ap (λ ps. count_by (λ (p : Passage). p.ccb == n) ps) (waiting-push es e)
-    ∙ sum_by-append (λ (p : Passage). cond {A = ℕ} (p.ccb == n) 1 0) (filter (λ (p : Passage). not (is_send_of p.ccb e)) (waiting es)) (option_to_list (passage_of (es, e)))
+    ap (λ ps. count_by (λ (p : Stay). p.ccb == n) ps) (waiting-push es e)
+    ∙ sum_by-append (λ (p : Stay). cond {A = ℕ} (p.ccb == n) 1 0) (filter (λ (p : Stay). not (is_send_of p.ccb e)) (waiting es)) (option_to_list (stay_begun (es, e)))
     ∙ ap (λ m. m + begun es e n) (sent_cases es e n (is_send_of n e) refl)
 
 -- it was submitted and hasn't ended
@@ -126,10 +122,6 @@ bit_none : (b : Bool) → bit b ≡ 0 → b ≡ false
 bit_none true e = absurd (omega arith)
 bit_none false e = refl
 
-and_true : (b : Bool) → (b && true) ≡ b
-and_true true = refl
-and_true false = refl
-
 -- an event that concerns another CCB
 other_step : (es : List Event) (e : Event) (n : ℕ) → concerns n e ≡ false → begun es e n ≡ 0 → nat_lt n (commands (es ++ e ∷ [])) ≡ nat_lt n (commands es) → IsPlaced es n → IsPlaced (es ++ e ∷ []) n
 other_step es e n none begins same h =
@@ -139,18 +131,18 @@ other_step es e n none begins same h =
     (is_in_flight-push es e n ∙ rw (a.send_or_done) refl)
     (is_recovering-push es e n ∙ rw none refl)
     same
-    (not_ended-push es e n ∙ rw (a.ends) (and_true (not (list_any (ends n) es))))
+    (not_ended-push es e n ∙ rw (a.ends) (and-true (not (list_any (ends n) es))))
     h.place
 
 same_commands : (es : List Event) (e : Event) (n : ℕ) → submission_of e ≡ None → nat_lt n (commands (es ++ e ∷ [])) ≡ nat_lt n (commands es)
 same_commands es e n is = ap (λ m. nat_lt n m) (commands-none es e is)
 
 -- what each event finds and makes of the CCB that it concerns
-queued_count : (es : List Event) (n : ℕ) (ps : List Passage) → list_any (λ (p : Passage). (p.ccb == n) && has_arrived es p) ps ≡ true → 1 ≤ count_by (λ (p : Passage). p.ccb == n) ps
+queued_count : (es : List Event) (n : ℕ) (ps : List Stay) → list_any (λ (p : Stay). (p.ccb == n) && has_arrived es p) ps ≡ true → 1 ≤ count_by (λ (p : Stay). p.ccb == n) ps
 queued_count es n [] h = absurd (cc)
-queued_count es n (p ∷ ps) h = elim (or_cases ((p.ccb == n) && has_arrived es p) (list_any (λ (q : Passage). (q.ccb == n) && has_arrived es q) ps) h) [
-  | inl here ↦ omega (arith, sum_by-cons (λ (q : Passage). cond {A = ℕ} (q.ccb == n) 1 0) p ps, ap bit (and_parts (p.ccb == n) (has_arrived es p) here).0)
-  | inr later ↦ omega (arith, sum_by-cons (λ (q : Passage). cond {A = ℕ} (q.ccb == n) 1 0) p ps, queued_count es n ps later)
+queued_count es n (p ∷ ps) h = elim (or_cases ((p.ccb == n) && has_arrived es p) (list_any (λ (q : Stay). (q.ccb == n) && has_arrived es q) ps) h) [
+  | inl here ↦ omega (arith, sum_by-cons (λ (q : Stay). cond {A = ℕ} (q.ccb == n) 1 0) p ps, ap bit (and_parts (p.ccb == n) (has_arrived es p) here).0)
+  | inr later ↦ omega (arith, sum_by-cons (λ (q : Stay). cond {A = ℕ} (q.ccb == n) 1 0) p ps, queued_count es n ps later)
 ]
 
 unsent_queued : (es : List Event) (n : ℕ) → has_queued es n ≡ true → 1 ≤ unsent_count es n
@@ -287,12 +279,7 @@ place_step rules c es (Requeue ccb) legal h n =
     at_ccb es (Requeue ccb) ccb n refl refl (λ ne. begun_other es ccb n (submission es ccb) refl ne) (requeue_step es ccb (asks-requeue rules c es ccb legal).1 (h.placed ccb)) (h.placed n)
 place_step rules c es (Finish ccb) legal h n =
     at_ccb es (Finish ccb) ccb n refl refl (λ ne. refl) (finish_step es ccb (asks-finish rules c es ccb legal).1 (h.placed ccb)) (h.placed n)
-place_step rules c es (FreezeDev device count) legal h n = other_step es (FreezeDev device count) n refl refl (same_commands es (FreezeDev device count) n refl) (h.placed n)
-place_step rules c es (ReleaseDev device count) legal h n = other_step es (ReleaseDev device count) n refl refl (same_commands es (ReleaseDev device count) n refl) (h.placed n)
-place_step rules c es (FreezeSim sim count) legal h n = other_step es (FreezeSim sim count) n refl refl (same_commands es (FreezeSim sim count) n refl) (h.placed n)
-place_step rules c es (ReleaseSim sim) legal h n = other_step es (ReleaseSim sim) n refl refl (same_commands es (ReleaseSim sim) n refl) (h.placed n)
-place_step rules c es (Adjust device openings) legal h n = other_step es (Adjust device openings) n refl refl (same_commands es (Adjust device openings) n refl) (h.placed n)
-place_step rules c es Tick legal h n = other_step es Tick n refl refl (same_commands es Tick n refl) (h.placed n)
+place_step rules c es e legal h n = other_step es e n refl refl (same_commands es e n refl) (h.placed n)
 
 lives_step : (rules : Rules) (c : Topology) (es : List Event) (e : Event) → is_legal_event rules c (es, e) ≡ true → AreStates es → (n : ℕ) → commands (es ++ e ∷ []) ≤ n → not (list_any (ends n) (es ++ e ∷ [])) ≡ true
 lives_step rules c es e legal h n le =
@@ -304,7 +291,7 @@ pub states_step : (rules : Rules) (c : Topology) (es : List Event) (e : Event) �
 states_step rules c es e legal h = record { placed = place_step rules c es e legal h; lives = lives_step rules c es e legal h }
 
 placed_none : (n : ℕ) → IsPlaced [] n
-unfolding waiting passages submissions is_in_flight is_recovering
+unfolding waiting stays_begun submissions is_in_flight is_recovering
 placed_none n = record { place = rw (le-ltb n 0 (omega arith)) refl }
 
 pub states_none : AreStates []

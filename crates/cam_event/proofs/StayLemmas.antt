@@ -11,15 +11,15 @@ use Rattle.std.proofs.lemmas.Bool.{and_from, eq-eqb}
 use Rattle.cam_types.specs.Lists.{moments_after}
 use Rattle.event_log.specs.Event.{is_some_and, submission_of}
 use Rattle.event_log.specs.Counts.{submissions, submission, commands}
-use Rattle.event_log.specs.Stays.{passages, passage_of}
+use Rattle.event_log.specs.Stays.{stays_begun, stay_begun}
 use Rattle.event_log.specs.declared.event.Event.{Event}
 use Rattle.event_log.specs.declared.event.Event.TheVariants.{Submit, Send, Done, Requeue, Finish, FreezeDev, ReleaseDev, FreezeSim, ReleaseSim, Adjust, Tick}
 use Rattle.event_log.specs.declared.submission.Submission.{Submission}
-use Rattle.event_log.specs.declared.passage.Passage.{Passage}
+use Rattle.event_log.specs.declared.stay.Stay.{Stay}
 use Rattle.cam_event.specs.Laws.{is_stay_of}
 
 -- the stay's CCB was submitted with the stay's device and priority
-abbrev pub is_of_its_ccb : List Event → Passage → Bool
+abbrev pub is_of_its_ccb : List Event → Stay → Bool
 is_of_its_ccb events p = is_some_and (is_stay_of p) (submission events p.ccb)
 
 pub submissions-append : (xs ys : List Event) → submissions (xs ++ ys) ≡ submissions xs ++ submissions ys
@@ -47,52 +47,44 @@ unfolding submissions
 submission-seam before after event s e =
     rw filter_map-append (rw e (slice_get-seam (submissions before) (submissions after) s))
 
-of_its_ccb-from : (events : List Event) (p : Passage) (ccb : ℕ) (s : Submission) → submission events ccb ≡ Some s → p.ccb ≡ ccb → p.device ≡ s.device → p.priority ≡ s.priority → is_of_its_ccb events p ≡ true
+of_its_ccb-from : (events : List Event) (p : Stay) (ccb : ℕ) (s : Submission) → submission events ccb ≡ Some s → p.ccb ≡ ccb → p.device ≡ s.device → p.priority ≡ s.priority → is_of_its_ccb events p ≡ true
 of_its_ccb-from events p ccb s e same_ccb same_device same_priority =
     rw (same_ccb, e) (and_from _ _ (eq-eqb s.device p.device (sym same_device)) (eq-eqb s.priority p.priority (sym same_priority)))
 
-abbrev ccb_of : Option Passage → ℕ
-ccb_of o = option_map_or (λ (p : Passage). p.ccb) o 0
+abbrev ccb_of : Option Stay → ℕ
+ccb_of o = option_map_or (λ (p : Stay). p.ccb) o 0
 
-abbrev device_at : Option Passage → ℕ
-device_at o = option_map_or (λ (p : Passage). p.device) o 0
+abbrev device_at : Option Stay → ℕ
+device_at o = option_map_or (λ (p : Stay). p.device) o 0
 
-abbrev priority_of : Option Passage → ℕ
-priority_of o = option_map_or (λ (p : Passage). p.priority) o 0
+abbrev priority_of : Option Stay → ℕ
+priority_of o = option_map_or (λ (p : Stay). p.priority) o 0
 
 -- the stay that an event begins
-of_its_ccb-passage_of : (before after : List Event) (event : Event) (p : Passage) → passage_of (before, event) ≡ Some p → is_of_its_ccb (before ++ event ∷ after) p ≡ true
-of_its_ccb-passage_of before after (Submit driver device priority retries flags) p h =
+of_its_ccb-stay_begun : (before after : List Event) (event : Event) (p : Stay) → stay_begun (before, event) ≡ Some p → is_of_its_ccb (before ++ event ∷ after) p ≡ true
+of_its_ccb-stay_begun before after (Submit driver device priority retries flags) p h =
     let s : Submission = record { driver = driver; device = device; priority = priority; retries = retries; flags = flags } in
     let e = submission-seam before after (Submit driver device priority retries flags) s refl in
     of_its_ccb-from _ p (commands before) s e (sym (ap ccb_of h)) (sym (ap device_at h)) (sym (ap priority_of h))
-of_its_ccb-passage_of before after (Requeue ccb) p h =
+of_its_ccb-stay_begun before after (Requeue ccb) p h =
     elim (submission before ccb) as (λ o. submission before ccb ≡ o → is_of_its_ccb (before ++ Requeue ccb ∷ after) p ≡ true) [
       | None ↦ λ e. let g = rw e at h in absurd cc
       | Some s ↦ λ e. let g = rw e at h in
           of_its_ccb-from _ p ccb s (submission-append before (Requeue ccb ∷ after) ccb s e) (sym (ap ccb_of g)) (sym (ap device_at g)) (sym (ap priority_of g))
     ] refl
-of_its_ccb-passage_of before after (Send lane ccb) p h = absurd cc
-of_its_ccb-passage_of before after (Done ccb outcome) p h = absurd cc
-of_its_ccb-passage_of before after (Finish ccb) p h = absurd cc
-of_its_ccb-passage_of before after (FreezeDev device count) p h = absurd cc
-of_its_ccb-passage_of before after (ReleaseDev device count) p h = absurd cc
-of_its_ccb-passage_of before after (FreezeSim sim count) p h = absurd cc
-of_its_ccb-passage_of before after (ReleaseSim sim) p h = absurd cc
-of_its_ccb-passage_of before after (Adjust device openings) p h = absurd cc
-of_its_ccb-passage_of before after Tick p h = absurd cc
+of_its_ccb-stay_begun before after _ p h = absurd cc
 
 -- the stays that events begin behind others
-of_its_ccb-after : (before after : List Event) → list_all (is_of_its_ccb (before ++ after)) (filter_map passage_of (moments_after before after)) ≡ true
+of_its_ccb-after : (before after : List Event) → list_all (is_of_its_ccb (before ++ after)) (filter_map stay_begun (moments_after before after)) ≡ true
 of_its_ccb-after before [] = refl
 of_its_ccb-after before (event ∷ after) =
-    let rest : list_all (is_of_its_ccb (before ++ event ∷ after)) (filter_map passage_of (moments_after (before ++ event ∷ []) after)) ≡ true =
+    let rest : list_all (is_of_its_ccb (before ++ event ∷ after)) (filter_map stay_begun (moments_after (before ++ event ∷ []) after)) ≡ true =
     rw append_assoc at (of_its_ccb-after (before ++ event ∷ []) after) in
-    elim (passage_of (before, event)) as (λ o. passage_of (before, event) ≡ o → list_all (is_of_its_ccb (before ++ event ∷ after)) (cons_option o (filter_map passage_of (moments_after (before ++ event ∷ []) after))) ≡ true) [
+    elim (stay_begun (before, event)) as (λ o. stay_begun (before, event) ≡ o → list_all (is_of_its_ccb (before ++ event ∷ after)) (cons_option o (filter_map stay_begun (moments_after (before ++ event ∷ []) after))) ≡ true) [
       | None ↦ λ _. rest
-      | Some p ↦ λ e. and_from _ _ (of_its_ccb-passage_of before after event p e) rest
+      | Some p ↦ λ e. and_from _ _ (of_its_ccb-stay_begun before after event p e) rest
     ] refl
 
-pub of_its_ccb-passages : (events : List Event) → list_all (is_of_its_ccb events) (passages events) ≡ true
-unfolding passages
-of_its_ccb-passages events = of_its_ccb-after [] events
+pub of_its_ccb-stays_begun : (events : List Event) → list_all (is_of_its_ccb events) (stays_begun events) ≡ true
+unfolding stays_begun
+of_its_ccb-stays_begun events = of_its_ccb-after [] events

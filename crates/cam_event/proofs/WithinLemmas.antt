@@ -6,7 +6,7 @@ use Rattle.std.specs.Option.{option_map_or}
 use Rattle.std.proofs.lemmas.Bool.{and_parts, ltb-true}
 use Rattle.std.proofs.lemmas.List.Sums.{sum_by-cons}
 use Rattle.cam_types.specs.Topology.{Topology}
-use Rattle.cam_types.specs.declared.priority.TheConstants.{MOST_PRIORITY}
+use Rattle.cam_types.specs.declared.maxima.TheConstants.{MOST_PRIORITY, MOST_RETRIES}
 use Rattle.event_log.specs.Event.{ends, submission_of}
 use Rattle.event_log.specs.Counts.{commands, submissions, ccbs, alive}
 use Rattle.event_log.specs.declared.event.Event.{Event}
@@ -16,8 +16,8 @@ use Rattle.event_log.proofs.CcbLaws.{not_ended-push}
 use Rattle.event_log.proofs.ListFacts.{range_with_len-push, count_by-push}
 use Rattle.event_log.proofs.TotalLaws.{commands-submit, commands-none}
 use Rattle.cam_event.specs.Laws.{IsWithinRules}
-use Rattle.cam_event.specs.Legal.{Rules, names_device, has_ccb, has_stay, is_legal_event, is_legal}
-use Rattle.cam_event.specs.declared.most.TheConstants.{MOST_RETRIES}
+use Rattle.cam_types.specs.Questions.{names_device}
+use Rattle.cam_event.specs.Legal.{Rules, has_ccb, has_stay, is_legal_event, is_legal}
 use Rattle.cam_event.proofs.LawLemmas.{allowed-legal_event}
 use Rattle.cam_event.proofs.LimitLemmas.{legal-induction, round-legal, stays-legal}
 

@@ -8,17 +8,16 @@ use Rattle.sense_class.specs.Classes.{classify}
 use Rattle.sense_class.specs.declared.class.Class as class
 use Rattle.sense_class.specs.declared.class.Class.TheVariants.{CountedRequeue}
 use Rattle.event_log.specs.Event.{is_some_and, is_requeue_of}
-use Rattle.event_log.specs.Stays.{passages}
+use Rattle.event_log.specs.Stays.{stays_begun}
 use Rattle.event_log.specs.Counts.{round, submission, alive, last_result, is_counted_requeue, counted_requeues, retries_of, freeze_count, adapter_freezes}
-use Rattle.event_log.specs.Head.{is_on}
-use Rattle.cam_types.specs.declared.priority.TheConstants.{MOST_PRIORITY}
+use Rattle.cam_types.specs.Questions.{names_device, names_lane, is_on, lane_adapter}
+use Rattle.cam_types.specs.declared.maxima.TheConstants.{MOST_PRIORITY, MOST_RETRIES}
 use Rattle.event_log.specs.declared.submission.Submission.{Submission}
-use Rattle.event_log.specs.declared.passage.Passage.{Passage}
-use Rattle.cam_event.specs.declared.most.TheConstants.{MOST_RETRIES}
+use Rattle.event_log.specs.declared.stay.Stay.{Stay}
 use Rattle.event_log.specs.declared.event.Event.{Event}
 use Rattle.event_log.specs.declared.event.Event.TheVariants.{Send}
-use Rattle.cam_event.specs.Legal.{Rules, history_rules, IsWithinHistory, names_device, names_lane, names_ccb, is_legal_event, is_legal}
-use Rattle.cam_event.specs.Refusals.{device_of, lane_adapter, have_openings, refusal}
+use Rattle.cam_event.specs.Legal.{Rules, history_rules, IsWithinHistory, names_ccb, is_legal_event, is_legal}
+use Rattle.cam_event.specs.Refusals.{device_of, have_openings, refusal}
 
 -- What each kind of event asks and the causes that refuse it say the same.
 abbrev pub LegalIsUnrefused : Type 0
@@ -75,11 +74,11 @@ abbrev pub is_in_range : Topology → Submission → Bool
 is_in_range c s = names_device c s.device && nat_le s.priority MOST_PRIORITY && nat_le s.retries MOST_RETRIES
 
 -- the stay is of a CCB that was submitted with its device and priority
-abbrev pub is_stay_of : Passage → Submission → Bool
+abbrev pub is_stay_of : Stay → Submission → Bool
 is_stay_of p s = (s.device == p.device) && (s.priority == p.priority)
 
 -- the stay's CCB was submitted, in range, with the stay's device and priority
-abbrev pub is_stay_in_range : Topology → List Event → Passage → Bool
+abbrev pub is_stay_in_range : Topology → List Event → Stay → Bool
 is_stay_in_range c events p =
     is_some_and (λ (s : Submission). is_in_range c s && is_stay_of p s) (submission events p.ccb)
 
@@ -87,13 +86,13 @@ is_stay_in_range c events p =
 abbrev pub StaysAreInRange : Type 0
 StaysAreInRange =
     (rules : Rules) (c : Topology) (events : List Event)
-    → IsTrue (is_legal rules c events) → IsTrue (list_all (is_stay_in_range c events) (passages events))
+    → IsTrue (is_legal rules c events) → IsTrue (list_all (is_stay_in_range c events) (stays_begun events))
 
 -- so many events, rounds and stays, and CCBs alive where they are counted, as the rules allow at the most
 pub record IsWithinRules (rules : Rules) (events : List Event) : Type 0 where
   pub few_events : length events ≤ rules.events
   pub few_rounds : round events ≤ rules.rounds
-  pub few_stays : length (passages events) ≤ rules.stays
+  pub few_stays : length (stays_begun events) ≤ rules.stays
   pub few_alive : IfSome rules.ccbs (λ most. alive events ≤ most)
 
 -- Legal events go no further than their rules, which allow a round.

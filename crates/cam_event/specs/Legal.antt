@@ -3,19 +3,18 @@ use Rattle.std.specs.Prelude.{ℕ, ◌+◌, ◌==◌, ◌≤◌, Bool, true, not
 use Rattle.std.specs.List.{list_all}
 use Rattle.std.specs.Option.{option_map_or}
 use Rattle.cam_types.specs.Lists.{moments}
+use Rattle.cam_types.specs.Questions.{names_device, names_adapter, names_lane}
 use Rattle.cam_types.specs.Topology.{Topology, are_openings}
 use Rattle.cam_types.specs.Bounds.{Bounds}
-use Rattle.cam_types.specs.declared.limits.TheConstants.{MOST_ROUNDS, MOST_STAYS, MOST_EVENTS}
-use Rattle.cam_types.specs.declared.priority.TheConstants.{MOST_PRIORITY}
+use Rattle.cam_types.specs.declared.maxima.TheConstants.{MOST_ROUNDS, MOST_STAYS, MOST_EVENTS, MOST_PRIORITY, MOST_RETRIES, MOST_FREEZES}
 use Rattle.sense_class.specs.Classes.{status_of}
 use Rattle.event_log.specs.Event.{is_some_and}
 use Rattle.event_log.specs.Counts.{round, commands, alive, is_in_flight, has_in_flight, is_recovering, wants_requeue, wants_finish, caller_count, adapter_freezes}
-use Rattle.event_log.specs.Stays.{passages}
+use Rattle.event_log.specs.Stays.{stays_begun}
 use Rattle.event_log.specs.Head.{next}
 use Rattle.event_log.specs.declared.event.Event.{Event}
 use Rattle.event_log.specs.declared.event.Event.TheVariants.{Submit, Send, Done, Requeue, Finish, FreezeDev, ReleaseDev, FreezeSim, ReleaseSim, Adjust, Tick}
-use Rattle.event_log.specs.declared.passage.Passage.{Passage}
-use Rattle.cam_event.specs.declared.most.TheConstants.{MOST_RETRIES, MOST_FREEZES}
+use Rattle.event_log.specs.declared.stay.Stay.{Stay}
 
 -- how far events may go: how many CCBs may be alive at once, where they are counted, and how many rounds, stays and
 -- events there may be
@@ -43,16 +42,7 @@ pub record IsWithinHistory (rules : Rules) : Type 0 where
   pub stays : rules.stays ≤ MOST_STAYS
   pub events : rules.events ≤ MOST_EVENTS
 
--- there is a device, an adapter, a lane or a CCB of this number
-abbrev pub names_device : Topology → ℕ → Bool
-names_device c d = nat_lt d (length c.devices)
-
-abbrev pub names_adapter : Topology → ℕ → Bool
-names_adapter c a = nat_lt a (length c.adapters)
-
-abbrev pub names_lane : Topology → ℕ → Bool
-names_lane c l = nat_lt l (length c.lanes)
-
+-- there is a CCB of this number
 abbrev pub names_ccb : List Event → ℕ → Bool
 names_ccb before ccb = nat_lt ccb (commands before)
 
@@ -66,12 +56,12 @@ has_ccb rules before = option_map_or (λ most. nat_lt (alive before) most) rules
 
 -- one more stay may begin
 abbrev pub has_stay : Rules → List Event → Bool
-has_stay rules before = nat_lt (length (passages before)) rules.stays
+has_stay rules before = nat_lt (length (stays_begun before)) rules.stays
 
 -- the lane's adapter has a head, and its first stay is the CCB's
 unfoldable pub is_next : Topology → List Event → ℕ → ℕ → Bool
 is_next c before lane ccb =
-    is_some_and (λ a. is_some_and (λ (p : Passage). p.ccb == ccb) (next c before a)) (slice_get c.lanes lane)
+    is_some_and (λ a. is_some_and (λ (p : Stay). p.ccb == ccb) (next c before a)) (slice_get c.lanes lane)
 
 -- what each kind of event asks of the events before it
 abbrev pub is_allowed : Rules → Topology → List Event → Event → Bool

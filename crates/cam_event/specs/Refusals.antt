@@ -4,18 +4,18 @@ use Rattle.std.specs.Option.{option_map_or}
 use Rattle.cam_types.specs.Lists.{first_answer}
 use Rattle.cam_types.specs.Topology.{Topology, are_openings}
 use Rattle.cam_types.specs.declared.outcome.Outcome.{Outcome}
-use Rattle.cam_types.specs.declared.priority.TheConstants.{MOST_PRIORITY}
+use Rattle.cam_types.specs.declared.maxima.TheConstants.{MOST_PRIORITY, MOST_RETRIES, MOST_FREEZES}
 use Rattle.sense_class.specs.Classes.{status_of}
 use Rattle.event_log.specs.Event.{is_some_and}
 use Rattle.event_log.specs.Counts.{round, submission, alive, is_in_flight, has_in_flight, is_recovering, wants_requeue, wants_finish, caller_count, freeze_count, adapter_freezes}
-use Rattle.event_log.specs.Stays.{passages, has_queued}
-use Rattle.event_log.specs.Head.{is_on, has_opening, adapter_has_opening, next}
+use Rattle.event_log.specs.Stays.{stays_begun, has_queued}
+use Rattle.cam_types.specs.Questions.{names_device, names_adapter, names_lane, is_on, lane_adapter}
+use Rattle.event_log.specs.Head.{has_opening, adapter_has_opening, next}
 use Rattle.event_log.specs.declared.event.Event.{Event}
 use Rattle.event_log.specs.declared.event.Event.TheVariants.{Submit, Send, Done, Requeue, Finish, FreezeDev, ReleaseDev, FreezeSim, ReleaseSim, Adjust, Tick}
 use Rattle.event_log.specs.declared.submission.Submission.{Submission}
-use Rattle.event_log.specs.declared.passage.Passage.{Passage}
-use Rattle.cam_event.specs.Legal.{Rules, names_device, names_adapter, names_lane, names_ccb, is_count}
-use Rattle.cam_event.specs.declared.most.TheConstants.{MOST_RETRIES, MOST_FREEZES}
+use Rattle.event_log.specs.declared.stay.Stay.{Stay}
+use Rattle.cam_event.specs.Legal.{Rules, names_ccb, is_count}
 use Rattle.cam_event.specs.declared.refusal.Refusal.{Refusal}
 use Rattle.cam_event.specs.declared.refusal.Refusal.TheVariants.{HistoryFull, NoDevice, NoAdapter, NoLane, NoCcb, BadPriority, BadRetries, BadCount, BadOpenings, BadStatus, CcbFull, StaysFull, NotQueued, WrongLane, DeviceFrozen, AdapterFrozen, NoOpening, NotHead, NotInFlight, NotRecovering, WrongDecision, FreezeOverflow, ReleaseTooMany, InFlight, RoundsFull}
 
@@ -23,17 +23,13 @@ use Rattle.cam_event.specs.declared.refusal.Refusal.TheVariants.{HistoryFull, No
 abbrev pub device_of : List Event → ℕ → ℕ
 device_of before ccb = option_map_or (λ (s : Submission). s.device) (submission before ccb) 0
 
--- the lane's adapter, and 0 where there is no such lane
-abbrev pub lane_adapter : Topology → ℕ → ℕ
-lane_adapter c lane = option_map_or (λ a. a) (slice_get c.lanes lane) 0
-
 -- as many CCBs are alive as the rules allow
 abbrev pub are_ccbs_full : Rules → List Event → Bool
 are_ccbs_full rules before = is_some_and (λ most. nat_le most (alive before)) rules.ccbs
 
 -- as many stays have begun as the rules allow
 abbrev pub are_stays_full : Rules → List Event → Bool
-are_stays_full rules before = nat_le rules.stays (length (passages before))
+are_stays_full rules before = nat_le rules.stays (length (stays_begun before))
 
 -- an opening is left at the device and at the adapter
 abbrev pub have_openings : Topology → List Event → ℕ → ℕ → Bool
@@ -41,7 +37,7 @@ have_openings c before d a = has_opening c before d && adapter_has_opening c bef
 
 -- the adapter's next stay is another CCB's
 abbrev pub is_other_next : Topology → List Event → ℕ → ℕ → Bool
-is_other_next c before a ccb = is_some_and (λ (p : Passage). not (p.ccb == ccb)) (next c before a)
+is_other_next c before a ccb = is_some_and (λ (p : Stay). not (p.ccb == ccb)) (next c before a)
 
 -- Each cause that may refuse an event of a kind stands beside its name, in the order of testing.
 

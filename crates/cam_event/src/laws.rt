@@ -1,3 +1,5 @@
+//! What holds of each legal list of events.
+
 ghost use Rattle.cam_event.specs.Laws.{LegalIsUnrefused, LegalIsWithin, EachIsLegal, SendsStandFree, RequeuesCountByClass, NarrowerIsLegal, StaysAreInRange};
 
 /// By any rules, what each kind of event asks of those before it is what no cause of a refusal denies.

@@ -1,3 +1,5 @@
+//! The causes that refuse an event, in the order of testing.
+
 use thiserror::Error;
 
 /// Why an event is refused: the first cause that holds, in the order of this list.

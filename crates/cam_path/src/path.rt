@@ -1,3 +1,5 @@
+//! A device's path, read and written.
+
 ghost use Rattle.std.specs.Prelude.{◌≡◌, ◌++◌, length, take, Ok, Err, IfOk, OnOk, OnErr, MatchResult};
 ghost use Rattle.cam_path.specs.Paths.{address_of, spelled, reading, Fits};
 ghost use Rattle.cam_path.specs.declared.path.CamPath.{CamPath};

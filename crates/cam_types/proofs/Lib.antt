@@ -1,3 +1,4 @@
+pub mod ConfigLemmas
 pub mod LeastLemmas
 pub mod ListLemmas
 pub mod NumberLemmas

@@ -5,7 +5,7 @@ use Rattle.cam_types.specs.declared.device.Device.{Device}
 use Rattle.cam_types.specs.Topology.{Topology, IsDraft, IsConfig, adapter_fault, device_fault, lane_fault, item_fault, config_fault}
 use Rattle.cam_types.proofs.ListLemmas.{first_answer-push, few_where_none, or_left, or_right}
 use Rattle.cam_types.specs.declared.config_fault.ConfigFault.TheVariants.{TooMany}
-use Rattle.cam_types.specs.declared.config_fault.TheConstants.{MOST_DEVICES}
+use Rattle.cam_types.specs.declared.maxima.TheConstants.{MOST_DEVICES}
 
 -- a draft with an adapter breaks no rule
 pub config_fault-draft : (t : Topology) → IsDraft t → nat_eq (length t.adapters) 0 ≡ false → config_fault t ≡ None

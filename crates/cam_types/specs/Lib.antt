@@ -3,6 +3,7 @@ pub mod Lists
 pub mod Made
 pub mod Number
 pub mod Priority
+pub mod Questions
 pub mod SenseBytes
 pub mod Topology
 pub mod Watched

@@ -5,7 +5,7 @@ use Rattle.cam_types.specs.Lists.{moments, first_answer}
 use Rattle.cam_types.specs.declared.device.Device.{Device}
 use Rattle.cam_types.specs.declared.config_fault.ConfigFault.{ConfigFault}
 use Rattle.cam_types.specs.declared.config_fault.ConfigFault.TheVariants.{NoAdapters, TooMany, BadOpenings, NoAdapter, BadAddress, DoubleDevice}
-use Rattle.cam_types.specs.declared.config_fault.TheConstants.{MOST_ADAPTERS, MOST_DEVICES, MOST_LANES, MOST_OPENINGS, MOST_LUN}
+use Rattle.cam_types.specs.declared.maxima.TheConstants.{MOST_ADAPTERS, MOST_DEVICES, MOST_LANES, MOST_OPENINGS, MOST_LUN}
 
 -- what there is: each adapter's openings, the devices, and each lane's adapter
 pub record Topology : Type 0 where

@@ -1,3 +1,5 @@
+//! What an adapter gets to serve.
+
 /// A command on its way to a device.
 #[derive(Clone, Copy, Debug, PartialEq, Eq, Hash)]
 pub struct Command {

@@ -1,15 +1,18 @@
+//! Configurations: adapters, devices and lanes that keep the rules.
+
 ghost use Rattle.std.specs.Prelude.{◌≡◌, ℕ, [], ◌∷◌, ◌++◌, ◌==◌, ◌≤◌, length, count_by, IfOk, OnOk, OnErr, MatchOption, IsOkUnless};
 ghost use Rattle.cam_types.specs.Topology.{Topology, are_openings, is_same_address, adapter_fault, address_fault, device_fault, lane_fault, config_fault, IsConfig};
 ghost use Rattle.cam_types.specs.Made.{MadeFrom};
-ghost use Rattle.cam_types.specs.declared.config_fault.TheConstants.{MOST_DEVICES};
+ghost use Rattle.cam_types.specs.declared.maxima.TheConstants.{MOST_DEVICES};
 ghost use Rattle.cam_types.specs.Lists.{moments, first_answer};
 ghost use Rattle.std.specs.List.{list_any};
 ghost use Rattle.cam_types.specs.declared.config.ConfigError.TheVariants.{Fault, OutOfMemory};
 
-use crate::config_fault::{
-    ConfigFault, MOST_ADAPTERS, MOST_DEVICES, MOST_LANES, MOST_LUN, MOST_OPENINGS,
-};
+mod questions;
+
+use crate::config_fault::ConfigFault;
 use crate::device::Device;
+use crate::maxima::{MOST_ADAPTERS, MOST_DEVICES, MOST_LANES, MOST_LUN, MOST_OPENINGS};
 use std::alloc::{AllocError, AllocFailed, Global};
 use std::marker::Model;
 use thiserror::Error;

@@ -1,15 +1,6 @@
-use thiserror::Error;
+//! The rules that a configuration may break.
 
-/// The most adapters of a configuration.
-pub const MOST_ADAPTERS: usize = 4;
-/// The most devices of a configuration.
-pub const MOST_DEVICES: usize = 16;
-/// The most lanes of an adapter.
-pub const MOST_LANES: usize = 4;
-/// The most openings of an adapter or a device.
-pub const MOST_OPENINGS: u32 = 255;
-/// The largest logical unit of a device.
-pub const MOST_LUN: u16 = 16383;
+use thiserror::Error;
 
 /// The rule that a configuration breaks.
 #[derive(Clone, Copy, Debug, PartialEq, Eq, Hash, Error)]

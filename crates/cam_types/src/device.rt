@@ -1,3 +1,5 @@
+//! A device's address and openings.
+
 /// A device, by its address and how many commands it takes at once.
 #[derive(Clone, Copy, Debug, PartialEq, Eq, Hash)]
 pub struct Device {

@@ -3,18 +3,21 @@
 
 pub use command::Command;
 pub use config::{Config, ConfigDraft, ConfigError, are_openings};
-pub use config_fault::{
-    ConfigFault, MOST_ADAPTERS, MOST_DEVICES, MOST_LANES, MOST_LUN, MOST_OPENINGS,
-};
+pub use config_fault::ConfigFault;
 pub use device::Device;
 pub use flags::Flags;
-pub use limits::{BadLimit, Limits, MOST_CCBS, MOST_EVENTS, MOST_ROUNDS, MOST_STAYS};
+pub use limits::{BadLimit, Limits};
+pub use maxima::{
+    MOST_ADAPTERS, MOST_BYTES, MOST_CCBS, MOST_DEVICES, MOST_EVENTS, MOST_FREEZES, MOST_LANES,
+    MOST_LUN, MOST_OPENINGS, MOST_PRIORITY, MOST_RETRIES, MOST_ROUNDS, MOST_SENSE, MOST_STAYS,
+    MOST_WEIGHT, maxima_are_these,
+};
 pub use number::read_number;
 pub use outcome::Outcome;
-pub use priority::{BadPriority, MOST_PRIORITY, Priority, weight_of};
-pub use sense_bytes::{MOST_SENSE, SenseBytes};
+pub use priority::{BadPriority, Priority};
+pub use sense_bytes::SenseBytes;
 pub use watched::Watched;
-pub use whole::{MOST_BYTES, WholeFault, WriteFailed, read_whole, write_whole};
+pub use whole::{WholeFault, WriteFailed, read_whole, write_whole};
 
 mod command;
 mod config;
@@ -22,6 +25,7 @@ mod config_fault;
 mod device;
 mod flags;
 mod limits;
+mod maxima;
 mod number;
 mod outcome;
 mod priority;

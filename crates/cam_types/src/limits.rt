@@ -1,17 +1,11 @@
+//! How many CCBs, rounds, stays and events a transport may have.
+
 ghost use Rattle.std.specs.Prelude.{◌≡◌};
 ghost use Rattle.cam_types.specs.Bounds.{is_limit};
 
+use crate::maxima::{MOST_CCBS, MOST_EVENTS, MOST_ROUNDS, MOST_STAYS};
 use std::marker::Model;
 use thiserror::Error;
-
-/// The most CCBs that may be alive at once.
-pub const MOST_CCBS: u32 = 1024;
-/// The most rounds of a history.
-pub const MOST_ROUNDS: u32 = 128;
-/// The most stays of a history.
-pub const MOST_STAYS: u32 = 1024;
-/// The most events of a history.
-pub const MOST_EVENTS: u32 = 65535;
 
 /// How far a transport goes: the CCBs alive at once, the rounds, the stays and the events.
 #[derive(Clone, Copy, Debug, PartialEq, Eq, Hash)]

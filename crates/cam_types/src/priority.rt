@@ -1,12 +1,12 @@
+//! Priorities, their run levels and their weights.
+
 ghost use Rattle.std.specs.Prelude.{◌≡◌, ℕ, ◌<◌, ◌≤◌, MatchResult};
 ghost use Rattle.cam_types.specs.Priority.{run_level, weight};
-ghost use Rattle.cam_types.specs.declared.priority.TheConstants.{MOST_PRIORITY};
+ghost use Rattle.cam_types.specs.declared.maxima.TheConstants.{MOST_PRIORITY, MOST_WEIGHT};
 
+use crate::maxima::{MOST_PRIORITY, MOST_WEIGHT};
 use std::marker::Model;
 use thiserror::Error;
-
-/// The least urgent priority.
-pub const MOST_PRIORITY: u32 = 1279;
 
 /// How urgent a CCB is, from 0 to 1279: the smaller number is the more urgent, as in FreeBSD's `cam.h`.
 #[derive(Clone, Copy, Debug, PartialEq, Eq, Hash, PartialOrd, Ord)]
@@ -68,10 +68,10 @@ impl Priority {
 /// urgent priority.
 pub fn weight_of(priority: u32) -> u32
     ensures same { result ≡ weight priority }
-    ensures most { result ≤ 16 }
+    ensures most { result ≤ MOST_WEIGHT }
 {
     match priority >> 8 {
-        0 => 16,
+        0 => MOST_WEIGHT,
         1 => 8,
         2 => 4,
         3 => 2,

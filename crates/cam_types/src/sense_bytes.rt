@@ -1,10 +1,10 @@
+//! The bytes of sense data that a result keeps.
+
 ghost use Rattle.std.specs.Prelude.{◌≡◌, ℕ, ◌≤◌, List, length, take};
-ghost use Rattle.cam_types.specs.declared.sense_bytes.TheConstants.{MOST_SENSE};
+ghost use Rattle.cam_types.specs.declared.maxima.TheConstants.{MOST_SENSE};
 
+use crate::maxima::MOST_SENSE;
 use std::marker::Model;
-
-/// How many bytes of sense data are kept.
-pub const MOST_SENSE: usize = 18;
 
 /// The first 18 bytes of some sense data, or all of it where it is shorter.
 #[derive(Clone, Copy, Debug, PartialEq, Eq, Hash)]

@@ -1,15 +1,15 @@
+//! Reads an input to its end, and writes a text whole.
+
 ghost use Rattle.std.specs.Prelude.{◌≡◌, ◌≢◌, false, true, Ok, Err, IfOk, OnOk, OnErr};
 ghost use Rattle.std.specs.Io.KnownBytes.{Appends};
 ghost use Rattle.cam_types.specs.Watched.{device_of, has_failed, is_flushed};
 ghost use Rattle.cam_types.specs.Whole.{IsWhole, IsTooLong, AppendsFront};
 
+use crate::maxima::MOST_BYTES;
 use crate::watched::Watched;
 use std::alloc::Global;
 use std::io::{Read, Write};
 use thiserror::Error;
-
-/// The most bytes of a trace, a script or a report.
-pub const MOST_BYTES: usize = 16_777_216;
 
 /// How many bytes a read asks for.
 const PIECE: usize = 4096;

@@ -1,3 +1,5 @@
+//! An entry of the heap, and the error of a full one.
+
 use cam_types::Priority;
 use std::fmt;
 use thiserror::Error;

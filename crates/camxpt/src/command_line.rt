@@ -1,3 +1,5 @@
+//! The command line: its subcommands, their arguments and the help.
+
 use clap::{Arg, ArgAction, Command};
 use std::alloc::{AllocError, Global};
 

@@ -1,3 +1,5 @@
+//! Why the program failed, and the exit status that says so.
+
 use audit_report::AuditFault;
 use price_check::ReportFault;
 use std::fmt;

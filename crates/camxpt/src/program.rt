@@ -1,3 +1,5 @@
+//! Runs the subcommand that the command line asks for.
+
 use crate::command_line::command_line;
 use crate::failure::Failure;
 use crate::prove::prove;

@@ -1,3 +1,5 @@
+//! Opens the trace and the report, and proves the one by the other.
+
 use crate::failure::Failure;
 use audit_report::run_prove;
 use cam_types::Watched;

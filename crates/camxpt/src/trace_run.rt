@@ -1,3 +1,5 @@
+//! Checks or audits the trace in a file or on standard input.
+
 use crate::failure::Failure;
 use audit_report::{run_audit, run_check};
 use cam_types::Watched;

@@ -1,13 +1,12 @@
+//! The queue of one device, by its public calls.
+
 use crate::enter::{enter_each, enter_one};
 use crate::fault::{FreezeOverflow, QueueFull, ReleaseTooMany};
 use crate::waiting::Waiting;
-use cam_types::Priority;
+use cam_types::{MOST_FREEZES, Priority};
 use camq_heap::Camq;
 use std::alloc::{AllocError, Global};
 use std::marker::Model;
-
-/// The most freezes by callers that a device takes.
-const MOST_FREEZES: u32 = 65_535;
 
 /// The queue of one device: what waits, what enters at the next round, openings, and freezes.
 ///

@@ -1,3 +1,5 @@
+//! Why a call on a device's queue is refused.
+
 use thiserror::Error;
 
 /// The device holds as many CCBs as it may.

@@ -1,3 +1,5 @@
+//! A CCB in a device's queue.
+
 use cam_types::Priority;
 
 /// A CCB that waits to be sent.

@@ -1,31 +1,21 @@
 //! A driver's loop over a transport. One command goes to a disk, which answers it with a CAM status for each word of two
-//! hexadecimal digits; without words it is busy once (05) and then done (01). Each answer of the transport is a line.
+//! hexadecimal digits; without statuses it is busy once (05) and then done (01). Each answer of the transport is a line.
+//! With `--trace` as the first word the trace of the run is printed in place of these lines.
 #![tactic(auto)]
 
-use cam_event::Refusal;
-use cam_types::{Config, ConfigError, Device, Flags, Limits, Outcome, SenseBytes};
-use sense_class::Class;
-use std::alloc::{AllocError, Global};
+use crate::fault::Fault;
+use crate::lines::Lines;
+use cam_types::{Config, Device, Flags, Limits, Outcome, Watched};
+use sense_class::{CAM_BUSY, CAM_REQ_CMP, Class};
+use std::alloc::Global;
 use std::process::ExitCode;
 use std::rt::Runtime;
 use std::{env, io};
-use thiserror::Error;
+use trace_file::write_trace;
 use xpt_state::{Case, Sent, Xpt};
 
-/// Why the loop ended early.
-#[derive(Drop, Debug, Error)]
-enum Fault {
-    #[error("not a status: two hexadecimal digits are wanted")]
-    Status,
-    #[error("{0}")]
-    Config(#[from] ConfigError),
-    #[error("refused {0}")]
-    Refused(#[from] Refusal),
-    #[error("out of memory")]
-    OutOfMemory(#[from] AllocError),
-    #[error("{0}")]
-    Io(#[from] io::Error),
-}
+mod fault;
+mod lines;
 
 fn main(rt: HostRuntime) -> io::Result<ExitCode> {
     match run(&rt) {
@@ -38,30 +28,38 @@ fn main(rt: HostRuntime) -> io::Result<ExitCode> {
 }
 
 fn run<R: Runtime + AllocGlobal>(rt: &R) -> Result<(), Fault> {
-    let alloc = rt.alloc();
-    let words: Vec<String> = env::args(rt)?.collect(alloc)?;
-    let mut xpt = open(alloc)?;
-    let ccb = xpt.submit(0, 0, 1152, 4, NO_FLAGS)?;
-    println!(rt; "submit ccb {ccb}")?;
-    if words.len() < 2 {
-        round(rt, &mut xpt, 0x05)?;
-        round(rt, &mut xpt, 0x01)?;
+    let words: Vec<String> = env::args(rt)?.collect(rt.alloc())?;
+    match words.get(1) {
+        Some(word) if word.as_str() == "--trace" => serve(rt, &words[2..], true),
+        Some(_) => serve(rt, &words[1..], false),
+        None => serve(rt, &[], false),
     }
-    for word in words.iter().skip(1) {
-        let Ok(status) = u8::from_str_radix(word, 16) else {
-            return Err(Fault::Status);
-        };
-        round(rt, &mut xpt, status)?;
-    }
-    let history = xpt.into_history(alloc)?;
-    println!(rt; "history of {} events", history.events().len())?;
-    Ok(())
 }
 
-const NO_FLAGS: Flags = Flags {
-    qfreeze: false,
-    qfrzdis: false,
-};
+// Runs one command over a disk that answers with these statuses. Prints each answer, or the trace at the end.
+fn serve<R: Runtime + AllocGlobal>(rt: &R, statuses: &[String], traced: bool) -> Result<(), Fault> {
+    let alloc = rt.alloc();
+    let lines = Lines::new(rt, !traced);
+    let mut xpt = open(alloc)?;
+    let ccb = xpt.submit(0, 0, 1152, 4, Flags::none())?;
+    lines.print(format_args!("submit ccb {ccb}"))?;
+    if statuses.is_empty() {
+        round(&lines, &mut xpt, CAM_BUSY)?;
+        round(&lines, &mut xpt, CAM_REQ_CMP)?;
+    }
+    for status in statuses {
+        let Ok(status) = u8::from_str_radix(status, 16) else {
+            return Err(Fault::Status);
+        };
+        round(&lines, &mut xpt, status)?;
+    }
+    let history = xpt.into_history(alloc)?;
+    lines.print(format_args!("history of {} events", history.events().len()))?;
+    if traced {
+        write_trace(alloc, &history, &mut Watched::new(io::writer(rt)))?;
+    }
+    Ok(())
+}
 
 // A transport of one disk of one opening, on one adapter of one, with one lane. The memory of all its calls is taken here.
 fn open(alloc: Global) -> Result<Xpt, Fault> {
@@ -76,46 +74,47 @@ fn open(alloc: Global) -> Result<Xpt, Fault> {
 }
 
 // What the lane may send is sent, and answered with the status; what failed is decided; and the next round opens.
-fn round(rt: &impl Print, xpt: &mut Xpt, status: u8) -> Result<(), Fault> {
+fn round<R: Print>(lines: &Lines<'_, R>, xpt: &mut Xpt, status: u8) -> Result<(), Fault> {
     match xpt.send_next(0)? {
         Sent::Command(command) => {
-            println!(rt; "send ccb {} attempt {}", command.ccb, command.attempt)?;
-            complete(rt, xpt, command.ccb, status)?;
+            lines.print(format_args!("send ccb {} attempt {}", command.ccb, command.attempt))?;
+            complete(lines, xpt, command.ccb, status)?;
         }
-        Sent::Idle(why) => println!(rt; "idle {why}")?,
+        Sent::Idle(why) => lines.print(format_args!("idle {why}"))?,
     }
     for _ in 0..xpt.look().cases {
         if let Some(case) = xpt.next_case() {
-            decide(rt, xpt, case)?;
+            decide(lines, xpt, case)?;
         }
     }
     let number = xpt.tick()?;
-    println!(rt; "round {number}")?;
+    lines.print(format_args!("round {number}"))?;
     Ok(())
 }
 
-fn complete(rt: &impl Print, xpt: &mut Xpt, ccb: u32, status: u8) -> Result<(), Fault> {
-    let outcome = Outcome {
-        status,
-        scsi: 0,
-        sense: SenseBytes::first(&[]),
-    };
-    let done = xpt.done(ccb, outcome)?;
-    println!(rt; "done {:?} value {:02x}", done.class, done.value)?;
+// The disk has answered the command with the status.
+fn complete<R: Print>(
+    lines: &Lines<'_, R>,
+    xpt: &mut Xpt,
+    ccb: u32,
+    status: u8,
+) -> Result<(), Fault> {
+    let done = xpt.done(ccb, Outcome::of_status(status))?;
+    lines.print(format_args!("done {:?} value {:02x}", done.class, done.value))?;
     Ok(())
 }
 
 // A CCB that failed is sent again or given back, as its class asks.
-fn decide(rt: &impl Print, xpt: &mut Xpt, case: Case) -> Result<(), Fault> {
+fn decide<R: Print>(lines: &Lines<'_, R>, xpt: &mut Xpt, case: Case) -> Result<(), Fault> {
     let Case { ccb, class } = case;
     match class {
         Class::FreeRequeue | Class::CountedRequeue => {
             xpt.requeue(ccb)?;
-            println!(rt; "requeue ccb {ccb}")?;
+            lines.print(format_args!("requeue ccb {ccb}"))?;
         }
         Class::Complete | Class::Fail(_) => {
             xpt.finish(ccb)?;
-            println!(rt; "finish ccb {ccb}")?;
+            lines.print(format_args!("finish ccb {ccb}"))?;
         }
     }
     Ok(())

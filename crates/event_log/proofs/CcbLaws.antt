@@ -8,11 +8,11 @@ use Rattle.cam_types.proofs.ListLemmas.{moments-push}
 use Rattle.sense_class.specs.Classes.{is_counted, kind_of}
 use Rattle.event_log.specs.Event.{is_some_and, is_done_of, is_requeue_of, outcome_of, ends, submission_of}
 use Rattle.event_log.specs.Counts.{last, last_result, is_counted_requeue, counted_requeues, commands, submissions}
-use Rattle.event_log.specs.Stays.{passages, passage_of}
+use Rattle.event_log.specs.Stays.{stays_begun, stay_begun}
 use Rattle.event_log.specs.declared.event.Event.{Event}
 use Rattle.event_log.specs.declared.event.Event.TheVariants.{Submit, Send, Done, Requeue, Finish, FreezeDev, ReleaseDev, FreezeSim, ReleaseSim, Adjust, Tick}
 use Rattle.event_log.proofs.ListFacts.{count_by-push}
-use Rattle.event_log.proofs.Laws.{submissions-push, passages-push}
+use Rattle.event_log.proofs.Laws.{submissions-push, stays_begun-push}
 use Rattle.event_log.proofs.StateLaws.{last-push}
 
 -- what holds of no events, and behind one event more, holds of all lists

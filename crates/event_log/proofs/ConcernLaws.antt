@@ -37,36 +37,18 @@ concerns-other (Send lane ccb) c n is ne = let same : ccb ≡ c = cc in rw (none
 concerns-other (Done ccb outcome) c n is ne = let same : ccb ≡ c = cc in rw (none_of ccb n (λ e. ne (e ∙ same))) refl
 concerns-other (Requeue ccb) c n is ne = let same : ccb ≡ c = cc in rw (none_of ccb n (λ e. ne (e ∙ same))) refl
 concerns-other (Finish ccb) c n is ne = let same : ccb ≡ c = cc in rw (none_of ccb n (λ e. ne (e ∙ same))) refl
-concerns-other (Submit driver device priority retries flags) c n is ne = refl
-concerns-other (FreezeDev device count) c n is ne = refl
-concerns-other (ReleaseDev device count) c n is ne = refl
-concerns-other (FreezeSim sim count) c n is ne = refl
-concerns-other (ReleaseSim sim) c n is ne = refl
-concerns-other (Adjust device openings) c n is ne = refl
-concerns-other Tick c n is ne = refl
+concerns-other _ c n is ne = refl
 
 pub concerns-none : (e : Event) (n : ℕ) → ccb_of e ≡ None → concerns n e ≡ false
 concerns-none (Send lane ccb) n is = absurd (cc)
 concerns-none (Done ccb outcome) n is = absurd (cc)
 concerns-none (Requeue ccb) n is = absurd (cc)
 concerns-none (Finish ccb) n is = absurd (cc)
-concerns-none (Submit driver device priority retries flags) n is = refl
-concerns-none (FreezeDev device count) n is = refl
-concerns-none (ReleaseDev device count) n is = refl
-concerns-none (FreezeSim sim count) n is = refl
-concerns-none (ReleaseSim sim) n is = refl
-concerns-none (Adjust device openings) n is = refl
-concerns-none Tick n is = refl
+concerns-none _ n is = refl
 
 pub submit_concerns_none : (e : Event) (s : Submission) → submission_of e ≡ Some s → ccb_of e ≡ None
-submit_concerns_none (Submit driver device priority retries flags) s e = refl
 submit_concerns_none (Send lane ccb) s e = absurd (cc)
 submit_concerns_none (Done ccb outcome) s e = absurd (cc)
 submit_concerns_none (Requeue ccb) s e = absurd (cc)
 submit_concerns_none (Finish ccb) s e = absurd (cc)
-submit_concerns_none (FreezeDev device count) s e = refl
-submit_concerns_none (ReleaseDev device count) s e = refl
-submit_concerns_none (FreezeSim sim count) s e = refl
-submit_concerns_none (ReleaseSim sim) s e = refl
-submit_concerns_none (Adjust device openings) s e = refl
-submit_concerns_none Tick s e = refl
+submit_concerns_none _ s e = refl

@@ -9,7 +9,7 @@ use Rattle.event_log.proofs.Laws.{sendings-push}
 use Rattle.event_log.proofs.ListFacts.{count_by-push}
 use Rattle.event_log.specs.declared.event.Event.{Event}
 use Rattle.event_log.specs.declared.event.Event.TheVariants.{Submit, Send, Done, Requeue, Finish, FreezeDev, ReleaseDev, FreezeSim, ReleaseSim, Adjust, Tick}
-use Rattle.event_log.specs.declared.passage.Sending.{Sending}
+use Rattle.event_log.specs.declared.sending.Sending.{Sending}
 
 -- how many freezes of a device or an adapter callers added and took away
 pub record Tally : Type 0 where
@@ -53,8 +53,8 @@ abbrev pub with_change : Tally → Tally → Tally
 with_change c t = record { number = t.number; added = t.added + c.added; taken = t.taken + c.taken }
 
 -- what a change is to the tally of a number
-abbrev pub told_of : ℕ → Tally → Tally → Tally
-told_of n c t = cond (c.number == n) (with_change c t) t
+abbrev pub tallied : ℕ → Tally → Tally → Tally
+tallied n c t = cond (c.number == n) (with_change c t) t
 
 -- a tally by its parts
 abbrev tally : ℕ → ℕ → ℕ → Tally
@@ -107,27 +107,20 @@ qfreeze_cases d a b t n true false = none_case d a b t
 qfreeze_cases d a b t n false true = none_case d a b t
 qfreeze_cases d a b t n false false = none_case d a b t
 
-freezing_cases : (d : ℕ) (c t : Tally) (q : Bool) → option_map_or (λ c'. told_of d c' t) (cond q (Some c) None) t ≡ cond q (told_of d c t) t
+freezing_cases : (d : ℕ) (c t : Tally) (q : Bool) → option_map_or (λ c'. tallied d c' t) (cond q (Some c) None) t ≡ cond q (tallied d c t) t
 freezing_cases d c t true = refl
 freezing_cases d c t false = refl
 
 send_case : (d a b t : ℕ) (o : Option Sending) → (tally d ((a + 0) + (b + sent_part d o)) (t + 0))
-    ≡ option_map_or (λ c. told_of d c (tally d (a + b) t)) (option_and_then freezing o) (tally d (a + b) t)
+    ≡ option_map_or (λ c. tallied d c (tally d (a + b) t)) (option_and_then freezing o) (tally d (a + b) t)
 send_case d a b t None = none_case d a b t
 send_case d a b t (Some s) = qfreeze_cases d a b t 1 (s.device == d) s.qfreeze ∙ sym (freezing_cases d _ _ s.qfreeze)
 
-pub device_tally-push : (es : List Event) (e : Event) (d : ℕ) → device_tally (es ++ e ∷ []) d ≡ option_map_or (λ c. told_of d c (device_tally es d)) (device_change (es, e)) (device_tally es d)
+pub device_tally-push : (es : List Event) (e : Event) (d : ℕ) → device_tally (es ++ e ∷ []) d ≡ option_map_or (λ c. tallied d c (device_tally es d)) (device_change (es, e)) (device_tally es d)
 device_tally-push es (FreezeDev device count) d = device_parts es (FreezeDev device count) d ∙ freeze_case d _ _ _ count (device == d)
 device_tally-push es (ReleaseDev device count) d = device_parts es (ReleaseDev device count) d ∙ release_case d _ _ _ count (device == d)
 device_tally-push es (Send lane ccb) d = device_parts es (Send lane ccb) d ∙ send_case d _ _ _ (sending_of (es, Send lane ccb))
-device_tally-push es (Submit driver device priority retries flags) d = device_parts es (Submit driver device priority retries flags) d ∙ none_case d _ _ _
-device_tally-push es (Done ccb outcome) d = device_parts es (Done ccb outcome) d ∙ none_case d _ _ _
-device_tally-push es (Requeue ccb) d = device_parts es (Requeue ccb) d ∙ none_case d _ _ _
-device_tally-push es (Finish ccb) d = device_parts es (Finish ccb) d ∙ none_case d _ _ _
-device_tally-push es (FreezeSim sim count) d = device_parts es (FreezeSim sim count) d ∙ none_case d _ _ _
-device_tally-push es (ReleaseSim sim) d = device_parts es (ReleaseSim sim) d ∙ none_case d _ _ _
-device_tally-push es (Adjust device openings) d = device_parts es (Adjust device openings) d ∙ none_case d _ _ _
-device_tally-push es Tick d = device_parts es Tick d ∙ none_case d _ _ _
+device_tally-push es e d = device_parts es e d ∙ none_case d _ _ _
 
 sim_parts : (es : List Event) (e : Event) (a : ℕ) → sim_tally (es ++ e ∷ []) a ≡ record {
   number = a;
@@ -149,15 +142,7 @@ sim_release : (n a t : ℕ) (x : Bool) → (tally n (a + 0) (t + cond x 1 0))
 sim_release n a t true = refl
 sim_release n a t false = sim_none n a t
 
-pub sim_tally-push : (es : List Event) (e : Event) (a : ℕ) → sim_tally (es ++ e ∷ []) a ≡ option_map_or (λ c. told_of a c (sim_tally es a)) (sim_change e) (sim_tally es a)
+pub sim_tally-push : (es : List Event) (e : Event) (a : ℕ) → sim_tally (es ++ e ∷ []) a ≡ option_map_or (λ c. tallied a c (sim_tally es a)) (sim_change e) (sim_tally es a)
 sim_tally-push es (FreezeSim sim count) a = sim_parts es (FreezeSim sim count) a ∙ sim_freeze a _ _ count (sim == a)
 sim_tally-push es (ReleaseSim sim) a = sim_parts es (ReleaseSim sim) a ∙ sim_release a _ _ (sim == a)
-sim_tally-push es (FreezeDev device count) a = sim_parts es (FreezeDev device count) a ∙ sim_none a _ _
-sim_tally-push es (ReleaseDev device count) a = sim_parts es (ReleaseDev device count) a ∙ sim_none a _ _
-sim_tally-push es (Send lane ccb) a = sim_parts es (Send lane ccb) a ∙ sim_none a _ _
-sim_tally-push es (Submit driver device priority retries flags) a = sim_parts es (Submit driver device priority retries flags) a ∙ sim_none a _ _
-sim_tally-push es (Done ccb outcome) a = sim_parts es (Done ccb outcome) a ∙ sim_none a _ _
-sim_tally-push es (Requeue ccb) a = sim_parts es (Requeue ccb) a ∙ sim_none a _ _
-sim_tally-push es (Finish ccb) a = sim_parts es (Finish ccb) a ∙ sim_none a _ _
-sim_tally-push es (Adjust device openings) a = sim_parts es (Adjust device openings) a ∙ sim_none a _ _
-sim_tally-push es Tick a = sim_parts es Tick a ∙ sim_none a _ _
+sim_tally-push es e a = sim_parts es e a ∙ sim_none a _ _

@@ -8,20 +8,20 @@ use Rattle.std.proofs.lemmas.List.Sums.{sum_by-cons, length-filter, count_by-le-
 use Rattle.cam_types.specs.Lists.{moments_after}
 use Rattle.event_log.specs.Event.{is_send_of, is_requeue_of, submission_of}
 use Rattle.event_log.specs.Counts.{round, commands, ccbs, submission, submissions, is_in_flight}
-use Rattle.event_log.specs.Stays.{passages, passage_of, waiting, is_unsent}
+use Rattle.event_log.specs.Stays.{stays_begun, stay_begun, waiting, is_unsent}
 use Rattle.event_log.specs.declared.event.Event.{Event}
 use Rattle.event_log.specs.declared.event.Event.TheVariants.{Submit, Send, Done, Requeue, Finish, FreezeDev, ReleaseDev, FreezeSim, ReleaseSim, Adjust, Tick}
 use Rattle.event_log.specs.declared.submission.Submission.{Submission}
-use Rattle.event_log.specs.declared.passage.Passage.{Passage}
-use Rattle.event_log.proofs.Laws.{passages-push, waiting-push, submissions-push}
+use Rattle.event_log.specs.declared.stay.Stay.{Stay}
+use Rattle.event_log.proofs.Laws.{stays_begun-push, waiting-push, submissions-push}
 use Rattle.event_log.proofs.ListFacts.{filter-all, range_with_len-push, count_by-push}
 use Rattle.event_log.proofs.ShareLaws.{count-range_same, count-range_but}
 
 -- it is a stay of the CCB, or of another than the one that is sent
-abbrev pub is_of : ℕ → Passage → Bool
+abbrev pub is_of : ℕ → Stay → Bool
 is_of ccb p = p.ccb == ccb
 
-abbrev pub not_of : ℕ → Passage → Bool
+abbrev pub not_of : ℕ → Stay → Bool
 not_of sent p = not (sent == p.ccb)
 
 -- how many of its stays are unsent
@@ -29,7 +29,7 @@ abbrev pub unsent_count : List Event → ℕ → ℕ
 unsent_count events ccb = count_by (is_of ccb) (waiting events)
 
 -- the stay that a submit begins
-abbrev pub submitted_stay : List Event → ℕ → ℕ → Passage
+abbrev pub submitted_stay : List Event → ℕ → ℕ → Stay
 submitted_stay before device priority = record {
   ccb = commands before;
   attempt = 0;
@@ -41,7 +41,7 @@ submitted_stay before device priority = record {
 }
 
 -- the stay that a requeue begins
-abbrev pub requeued_stay : List Event → ℕ → Submission → Passage
+abbrev pub requeued_stay : List Event → ℕ → Submission → Stay
 requeued_stay before ccb s = record {
   ccb = ccb;
   attempt = 1 + count_by (is_requeue_of ccb) before;
@@ -90,33 +90,33 @@ module _ (es : List Event) (e : Event) where
       ∙ count-range_same (is_in_flight es) p' 0 (commands es) (λ k le lt. h k)
 
   -- stays, and those without a send
-  pub begun-none : passage_of (es, e) ≡ None → length (passages (es ++ e ∷ [])) ≡ length (passages es)
-  begun-none none = ap length (passages-push es e ∙ ap (λ o. passages es ++ option_to_list o) none ∙ append-nil (passages es))
+  pub begun-none : stay_begun (es, e) ≡ None → length (stays_begun (es ++ e ∷ [])) ≡ length (stays_begun es)
+  begun-none none = ap length (stays_begun-push es e ∙ ap (λ o. stays_begun es ++ option_to_list o) none ∙ append-nil (stays_begun es))
 
-  pub begun-one : (p : Passage) → passage_of (es, e) ≡ Some p → length (passages (es ++ e ∷ [])) ≡ length (passages es) + 1
-  begun-one p is = ap length (passages-push es e ∙ ap (λ o. passages es ++ option_to_list o) is) ∙ length-append (passages es) (p ∷ [])
+  pub begun-one : (p : Stay) → stay_begun (es, e) ≡ Some p → length (stays_begun (es ++ e ∷ [])) ≡ length (stays_begun es) + 1
+  begun-one p is = ap length (stays_begun-push es e ∙ ap (λ o. stays_begun es ++ option_to_list o) is) ∙ length-append (stays_begun es) (p ∷ [])
 
-  kept-all : ((x : Passage) → not (is_send_of x.ccb e) ≡ true) → waiting (es ++ e ∷ []) ≡ waiting es ++ option_to_list (passage_of (es, e))
-  kept-all unsent = waiting-push es e ∙ ap (λ ps. ps ++ option_to_list (passage_of (es, e))) (filter-all (λ (x : Passage). not (is_send_of x.ccb e)) unsent (waiting es))
+  kept-all : ((x : Stay) → not (is_send_of x.ccb e) ≡ true) → waiting (es ++ e ∷ []) ≡ waiting es ++ option_to_list (stay_begun (es, e))
+  kept-all unsent = waiting-push es e ∙ ap (λ ps. ps ++ option_to_list (stay_begun (es, e))) (filter-all (λ (x : Stay). not (is_send_of x.ccb e)) unsent (waiting es))
 
-  pub waiting-none : ((x : Passage) → not (is_send_of x.ccb e) ≡ true) → passage_of (es, e) ≡ None → length (waiting (es ++ e ∷ [])) ≡ length (waiting es)
+  pub waiting-none : ((x : Stay) → not (is_send_of x.ccb e) ≡ true) → stay_begun (es, e) ≡ None → length (waiting (es ++ e ∷ [])) ≡ length (waiting es)
   waiting-none unsent none = ap length (kept-all unsent ∙ ap (λ o. waiting es ++ option_to_list o) none ∙ append-nil (waiting es))
 
-  pub waiting-one : (p : Passage) → ((x : Passage) → not (is_send_of x.ccb e) ≡ true) → passage_of (es, e) ≡ Some p → length (waiting (es ++ e ∷ [])) ≡ length (waiting es) + 1
+  pub waiting-one : (p : Stay) → ((x : Stay) → not (is_send_of x.ccb e) ≡ true) → stay_begun (es, e) ≡ Some p → length (waiting (es ++ e ∷ [])) ≡ length (waiting es) + 1
   waiting-one p unsent is = ap length (kept-all unsent ∙ ap (λ o. waiting es ++ option_to_list o) is) ∙ length-append (waiting es) (p ∷ [])
 
 -- of those that wait, the CCB's are sent
-length_cases : (x : Passage) (xs : List Passage) (b : Bool) → length (cond b (x ∷ xs) xs) ≡ cond b 1 0 + length xs
+length_cases : (x : Stay) (xs : List Stay) (b : Bool) → length (cond b (x ∷ xs) xs) ≡ cond b 1 0 + length xs
 length_cases x xs true = omega arith
 length_cases x xs false = omega arith
 
 one_way : (a b : ℕ) → ◌≡◌ {A = ℕ} (cond (not (a == b)) 1 0 + cond (b == a) 1 0) 1
 one_way a b = grind (arith, nat_tests)
 
-sent_parts : (ccb : ℕ) (ps : List Passage) → length (filter (not_of ccb) ps) + count_by (is_of ccb) ps ≡ length ps
+sent_parts : (ccb : ℕ) (ps : List Stay) → length (filter (not_of ccb) ps) + count_by (is_of ccb) ps ≡ length ps
 sent_parts ccb [] = refl
 sent_parts ccb (p ∷ ps) =
-    omega (arith, length_cases p (filter (not_of ccb) ps) (not_of ccb p), one_way ccb p.ccb, sent_parts ccb ps, sum_by-cons (λ (x : Passage). cond (is_of ccb x) 1 0) p ps)
+    omega (arith, length_cases p (filter (not_of ccb) ps) (not_of ccb p), one_way ccb p.ccb, sent_parts ccb ps, sum_by-cons (λ (x : Stay). cond (is_of ccb x) 1 0) p ps)
 
 pub waiting-send : (es : List Event) (lane ccb : ℕ) → unsent_count es ccb ≡ 1 → length (waiting (es ++ Send lane ccb ∷ [])) ≡ length (waiting es) - 1
 waiting-send es lane ccb one =
@@ -127,31 +127,24 @@ pub some_waits : (es : List Event) (ccb : ℕ) → unsent_count es ccb ≡ 1 →
 some_waits es ccb one = omega (arith, one, sent_parts ccb (waiting es))
 
 -- each submission begins a stay
-begins_stay : (before : List Event) (x : Event) (ss : List Submission) (ps : List Passage) → length ss ≤ length ps → length (cons_option (submission_of x) ss) ≤ length (cons_option (passage_of (before, x)) ps)
+begins_stay : (before : List Event) (x : Event) (ss : List Submission) (ps : List Stay) → length ss ≤ length ps → length (cons_option (submission_of x) ss) ≤ length (cons_option (stay_begun (before, x)) ps)
 begins_stay before (Submit driver device priority retries flags) ss ps le = omega (arith, le)
 begins_stay before (Requeue ccb) ss ps le = elim (submission before ccb) as (λ o. length ss ≤ length (cons_option (option_map (requeued_stay before ccb) o) ps)) [
   | None ↦ le
   | Some s ↦ omega (arith, le)
 ]
 begins_stay before (Send lane ccb) ss ps le = le
-begins_stay before (Done ccb o) ss ps le = le
-begins_stay before (Finish ccb) ss ps le = le
-begins_stay before (FreezeDev device count) ss ps le = le
-begins_stay before (ReleaseDev device count) ss ps le = le
-begins_stay before (FreezeSim sim count) ss ps le = le
-begins_stay before (ReleaseSim sim) ss ps le = le
-begins_stay before (Adjust device openings) ss ps le = le
-begins_stay before Tick ss ps le = le
+begins_stay before _ ss ps le = le
 
-begin_after : (before xs : List Event) → length (filter_map submission_of xs) ≤ length (filter_map passage_of (moments_after before xs))
+begin_after : (before xs : List Event) → length (filter_map submission_of xs) ≤ length (filter_map stay_begun (moments_after before xs))
 begin_after before [] = omega arith
-begin_after before (x ∷ xs) = begins_stay before x (filter_map submission_of xs) (filter_map passage_of (moments_after (before ++ x ∷ []) xs)) (begin_after (before ++ x ∷ []) xs)
+begin_after before (x ∷ xs) = begins_stay before x (filter_map submission_of xs) (filter_map stay_begun (moments_after (before ++ x ∷ []) xs)) (begin_after (before ++ x ∷ []) xs)
 
-pub commands-stays : (es : List Event) → commands es ≤ length (passages es)
-unfolding submissions passages
+pub commands-stays : (es : List Event) → commands es ≤ length (stays_begun es)
+unfolding submissions stays_begun
 commands-stays es = begin_after [] es
 
 -- no more stays wait than began
-pub few_waiting : (es : List Event) → length (waiting es) ≤ length (passages es)
+pub few_waiting : (es : List Event) → length (waiting es) ≤ length (stays_begun es)
 unfolding waiting
-few_waiting es = omega (arith, length-filter (is_unsent es) (passages es), count_by-le-length (is_unsent es) (passages es))
+few_waiting es = omega (arith, length-filter (is_unsent es) (stays_begun es), count_by-le-length (is_unsent es) (stays_begun es))

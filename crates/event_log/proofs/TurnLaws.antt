@@ -7,6 +7,7 @@ use Rattle.std.proofs.lemmas.Bool.Decides.{nat_tests}
 use Rattle.std.proofs.lemmas.List.{reverse-append}
 use Rattle.std.proofs.lemmas.List.Elements.{All-nil, All-cons, All-head, All-tail}
 use Rattle.std.proofs.lemmas.List.Sums.{sum_by-append, sum_by-cons}
+use Rattle.std.proofs.Math.Bool.{and-false, and-true}
 use Rattle.cam_types.specs.Lists.{moments_after}
 use Rattle.event_log.specs.Event.{is_some_and, is_tick}
 use Rattle.event_log.specs.Counts.{round, submission, sendings, sending_of, goes_to}
@@ -16,7 +17,7 @@ use Rattle.event_log.proofs.ListFacts.{count_by-push}
 use Rattle.event_log.specs.declared.event.Event.{Event}
 use Rattle.event_log.specs.declared.event.Event.TheVariants.{Submit, Send, Done, Requeue, Finish, FreezeDev, ReleaseDev, FreezeSim, ReleaseSim, Adjust, Tick}
 use Rattle.event_log.specs.declared.submission.Submission.{Submission}
-use Rattle.event_log.specs.declared.passage.Sending.{Sending}
+use Rattle.event_log.specs.declared.sending.Sending.{Sending}
 
 -- a send stands at its place, in its place's round
 module _ {F : Type 0} (f : Sending → F) where
@@ -92,23 +93,15 @@ rounds-sendings es = rounds_after [] es
 abbrev pub sends_in : (Sending → Bool) → ℕ → List Sending → ℕ
 sends_in q r ss = count_by (λ (s : Sending). q s && (s.round == r)) ss
 
-and_false : (b : Bool) → (b && false) ≡ false
-and_false true = refl
-and_false false = refl
-
 other_round : (a n : ℕ) → a ≤ n → (a == n + 1) ≡ false
 other_round a n le = grind (arith, nat_tests)
 
 none_yet : (q : Sending → Bool) (n : ℕ) (ss : List Sending) → All (λ (s : Sending). s.round ≤ n) ss → sends_in q (n + 1) ss ≡ 0
 none_yet q n [] h = refl
 none_yet q n (s ∷ ss) h =
-    let here : (q s && (s.round == n + 1)) ≡ false = ap (λ b. q s && b) (other_round s.round n (All-head (λ (x : Sending). x.round ≤ n) s ss h)) ∙ and_false (q s) in
+    let here : (q s && (s.round == n + 1)) ≡ false = ap (λ b. q s && b) (other_round s.round n (All-head (λ (x : Sending). x.round ≤ n) s ss h)) ∙ and-false (q s) in
     let rest : sends_in q (n + 1) ss ≡ 0 = none_yet q n ss (All-tail (λ (x : Sending). x.round ≤ n) s ss h) in
     omega (arith, sum_by-cons (λ (x : Sending). cond (q x && (x.round == n + 1)) 1 0) s ss, ap (λ b. cond {A = ℕ} b 1 0) here, rest)
-
-and_true : (b : Bool) → (b && true) ≡ b
-and_true true = refl
-and_true false = refl
 
 is_same : (a b : ℕ) → a ≡ b → (a == b) ≡ true
 is_same a b e = grind (arith, nat_tests)
@@ -118,7 +111,7 @@ more_cases : (q : Sending → Bool) (n : ℕ) (ss : List Sending) (o : Option Se
 more_cases q n ss None at = rw (append-nil ss) (omega arith)
 more_cases q n ss (Some s) at =
     let now : (s.round == n) ≡ true = is_same s.round n (at s refl) in
-    count_by-push (λ (x : Sending). q x && (x.round == n)) ss s ∙ ap (λ b. sends_in q n ss + cond b 1 0) (ap (λ b. q s && b) now ∙ and_true (q s))
+    count_by-push (λ (x : Sending). q x && (x.round == n)) ss s ∙ ap (λ b. sends_in q n ss + cond b 1 0) (ap (λ b. q s && b) now ∙ and-true (q s))
 
 -- of the place's round: none where it opens, and one more where the event is such a send
 abbrev pub sends_now : (Sending → Bool) → List Event → ℕ

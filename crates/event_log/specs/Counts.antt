@@ -9,7 +9,7 @@ use Rattle.event_log.specs.Event.{is_some_and, is_tick, submission_of, is_send_o
 use Rattle.event_log.specs.declared.event.Event.{Event}
 use Rattle.event_log.specs.declared.event.Event.TheVariants.{Send}
 use Rattle.event_log.specs.declared.submission.Submission.{Submission}
-use Rattle.event_log.specs.declared.passage.Sending.{Sending}
+use Rattle.event_log.specs.declared.sending.Sending.{Sending}
 
 -- the place's round, the first of which is 1
 unfoldable pub round : List Event → ℕ

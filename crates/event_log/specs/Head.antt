@@ -3,43 +3,40 @@ use Rattle.std.specs.Prelude.{ℕ, ◌+◌, ◌==◌, Bool, ◌&&◌, if◌then�
 use Rattle.std.specs.List.{range_with_len, before_last}
 use Rattle.std.specs.Option.{option_map_or}
 use Rattle.cam_types.specs.Lists.{least_by}
+use Rattle.cam_types.specs.Questions.{is_on, device_openings, adapter_openings, devices}
 use Rattle.cam_types.specs.Topology.{Topology}
 use Rattle.cam_types.specs.declared.device.Device.{Device}
 use Rattle.event_log.specs.Event.{is_some_and, is_tick, is_adjust_of, adjusts_to}
 use Rattle.event_log.specs.Counts.{round, last, sendings, goes_to, freeze_count, adapter_freezes}
 use Rattle.event_log.specs.Stays.{first}
 use Rattle.event_log.specs.declared.event.Event.{Event}
-use Rattle.event_log.specs.declared.passage.Passage.{Passage}
-use Rattle.event_log.specs.declared.passage.Sending.{Sending}
-
--- the device is on the adapter
-abbrev pub is_on : Topology → ℕ → ℕ → Bool
-is_on c a d = is_some_and (λ (device : Device). device.bus == a) (slice_get c.devices d)
-
-abbrev pub device_openings : Topology → ℕ → ℕ
-device_openings c d = option_map_or (λ (device : Device). device.openings) (slice_get c.devices d) 0
-
-abbrev pub adapter_openings : Topology → ℕ → ℕ
-adapter_openings c a = option_map_or (λ n. n) (slice_get c.adapters a) 0
+use Rattle.event_log.specs.declared.stay.Stay.{Stay}
+use Rattle.event_log.specs.declared.sending.Sending.{Sending}
 
 -- how many commands a device takes in the place's round: the last adjustment before the round opened says so, or else
 -- the configuration
 unfoldable pub openings : Topology → List Event → ℕ → ℕ
 openings c events d = option_map_or adjusts_to (last (is_adjust_of d) (before_last is_tick events)) (device_openings c d)
 
--- a send in the place's round to the device, or to one on the adapter
+-- a send in the place's round that passes the test: one to the device, or to a device on the adapter
+abbrev pub goes_now : List Event → (Sending → Bool) → Sending → Bool
+goes_now events test s = test s && (s.round == round events)
+
 abbrev pub goes_now_to : List Event → ℕ → Sending → Bool
-goes_now_to events d s = goes_to d s && (s.round == round events)
+goes_now_to events d s = goes_now events (goes_to d) s
 
 abbrev pub goes_now_to_adapter : Topology → List Event → ℕ → Sending → Bool
-goes_now_to_adapter c events a s = is_on c a s.device && (s.round == round events)
+goes_now_to_adapter c events a s = goes_now events (λ (t : Sending). is_on c a t.device) s
 
--- an opening is left in the place's round
+-- of so many openings one is left: each send in the place's round that passes the test uses one
+abbrev pub is_left : List Event → (Sending → Bool) → ℕ → Bool
+is_left events test openings = nat_lt (count_by (goes_now events test) (sendings events)) openings
+
 unfoldable pub has_opening : Topology → List Event → ℕ → Bool
-has_opening c events d = nat_lt (count_by (goes_now_to events d) (sendings events)) (openings c events d)
+has_opening c events d = is_left events (goes_to d) (openings c events d)
 
 unfoldable pub adapter_has_opening : Topology → List Event → ℕ → Bool
-adapter_has_opening c events a = nat_lt (count_by (goes_now_to_adapter c events a) (sendings events)) (adapter_openings c a)
+adapter_has_opening c events a = is_left events (λ (s : Sending). is_on c a s.device) (adapter_openings c a)
 
 -- a stay is queued, no freeze stands and an opening is left
 unfoldable pub is_ready : Topology → List Event → ℕ → Bool
@@ -51,11 +48,7 @@ last_sent events d = option_map_or (λ (s : Sending). s.place + 1) (find (goes_t
 
 -- devices take turns by the priority of their first stay, then least recently sent to, then by number
 abbrev pub turn_key : List Event → ℕ → List ℕ
-turn_key events d = option_map_or (λ (p : Passage). p.priority) (first events d) 0 ∷ last_sent events d ∷ d ∷ []
-
--- the numbers of the devices
-abbrev pub devices : Topology → List ℕ
-devices c = range_with_len 0 (length c.devices)
+turn_key events d = option_map_or (λ (p : Stay). p.priority) (first events d) 0 ∷ last_sent events d ∷ d ∷ []
 
 -- it is a device on the adapter, and ready
 abbrev pub may_send : Topology → List Event → ℕ → ℕ → Bool
@@ -69,5 +62,5 @@ head c events a =
     else None
 
 -- the first stay of the device whose turn it is
-unfoldable pub next : Topology → List Event → ℕ → Option Passage
+unfoldable pub next : Topology → List Event → ℕ → Option Stay
 next c events a = option_and_then (first events) (head c events a)

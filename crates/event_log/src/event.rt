@@ -1,3 +1,5 @@
+//! The eleven kinds of events, and what each concerns.
+
 use crate::submission::Submission;
 use cam_types::{Flags, Outcome};
 

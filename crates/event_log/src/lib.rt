@@ -3,9 +3,11 @@
 #![tactic(auto)]
 
 pub use event::Event;
-pub use passage::{Passage, Sending, Stay};
+pub use sending::Sending;
+pub use stay::{Stay, StayName};
 pub use submission::Submission;
 
 mod event;
-mod passage;
+mod sending;
+mod stay;
 mod submission;

@@ -1,3 +1,5 @@
+//! What a submit hands in.
+
 use cam_types::Flags;
 
 /// What a driver submitted. The CCB's number is its place among the submissions.

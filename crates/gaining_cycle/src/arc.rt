@@ -1,3 +1,5 @@
+//! An arc of the graph, with what it gains and loses.
+
 /// A step from one node to another, with what it gains and what it loses.
 #[derive(Clone, Copy)]
 pub struct Arc {

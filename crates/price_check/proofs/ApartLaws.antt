@@ -5,7 +5,7 @@ use Rattle.std.specs.Char.{is_ascii_digit}
 use Rattle.std.specs.List.{list_all, list_any, AllByRecursion}
 use Rattle.std.specs.Option.{option_or}
 use Rattle.std.specs.Str.Parse.{digits_value}
-use Rattle.std.proofs.lemmas.Bool.{and_parts, leb-true, leb-false, ltb-false, eq-eqb, cases_lt}
+use Rattle.std.proofs.lemmas.Bool.{and_parts, leb-true, leb-false, ltb-false, eq-eqb, cases_lt, or_parts}
 use Rattle.std.proofs.lemmas.Fmt.{digits_decimal}
 use Rattle.std.proofs.lemmas.Str.Parse.{IsNumeralModel, numerals_by_value}
 use Rattle.std.proofs.lemmas.List.{length_push}
@@ -86,10 +86,6 @@ at_moment f before (y ∷ ys) e (suc j) x is =
     let parts = none_first (f (before, y)) (first_answer f (moments_after (before ++ y ∷ []) ys)) e in
     let rest : f ((before ++ y ∷ []) ++ take j ys, x) ≡ None = at_moment f (before ++ y ∷ []) ys parts.1 j x is in
     rw append_assoc at rest
-
-or_parts : (a b : Bool) → (a || b) ≡ false → (a ≡ false) × (b ≡ false)
-or_parts true b h = absurd cc
-or_parts false b h = (refl, h)
 
 not_any : {X : Type 0} (p : X → Bool) (xs : List X) (i j : ℕ) (x : X) → i < j → list_any p (take j xs) ≡ false → slice_get xs i ≡ Some x → p x ≡ false
 not_any p [] i j x lt e is = absurd cc

@@ -13,9 +13,9 @@ use Rattle.cam_path.specs.Paths.{◌>>=◌, digits_at}
 use Rattle.cam_event.specs.Past.{Past}
 use Rattle.event_log.specs.Counts.{round, commands}
 use Rattle.event_log.specs.Live.{live_cost, live_part}
-use Rattle.event_log.specs.Stays.{passages, unsent}
+use Rattle.event_log.specs.Stays.{stays_begun, unsent}
 use Rattle.event_log.specs.declared.event.Event.{Event}
-use Rattle.event_log.specs.declared.passage.Stay.{Stay}
+use Rattle.event_log.specs.declared.stay.StayName.{StayName}
 use Rattle.event_log.proofs.LiveLemmas.{live_cost_sent}
 use Rattle.round_net.specs.Nets.{net_of}
 use Rattle.round_net.specs.PriceRows.{pricing_of_rows}
@@ -46,7 +46,7 @@ devices_of c es n e = rw e (sym (length-map c.devices (λ (device : Device). dev
 
 -- where each stay was sent the live schedule has a cost
 pub live_is_known : (es : List Event) → unsent es ≡ None → (live : ℕ) × (live_cost es ≡ Some live)
-live_is_known es e = (sum_by (live_part es) (passages es), live_cost_sent es (ap (λ (o : Option Stay). is_some o) e))
+live_is_known es e = (sum_by (live_part es) (stays_begun es), live_cost_sent es (ap (λ (o : Option StayName). is_some o) e))
 
 pub live_not_unknown : (es : List Event) → unsent es ≡ None → live_cost es ≡ None → ⊥
 live_not_unknown es e none = let known = (live_is_known es e).1 in absurd (cc)
@@ -115,7 +115,7 @@ unfolding summary_at
 summary_fails events live text =
     bound (due (known_line (codes "camaudit") 1 text 0) text 0) _ (or_fails (known_line (codes "camaudit") 1 text 0) _ tt) (λ one.
     bound (due (known_line (codes "commands") (commands events) text one) text one) _ (or_fails (known_line (codes "commands") (commands events) text one) _ tt) (λ two.
-    bound (due (known_line (codes "stays") (length (passages events)) text two) text two) _ (or_fails (known_line (codes "stays") (length (passages events)) text two) _ tt) (λ three.
+    bound (due (known_line (codes "stays") (length (stays_begun events)) text two) text two) _ (or_fails (known_line (codes "stays") (length (stays_begun events)) text two) _ tt) (λ three.
     bound (due (known_line (codes "rounds") (round events) text three) text three) _ (or_fails (known_line (codes "rounds") (round events) text three) _ tt) (λ four.
     bound (due (known_line (codes "live") live text four) text four) _ (or_fails (known_line (codes "live") live text four) _ tt) (λ five.
     bound (due (stated_line (codes "best") text five) text five) _ (or_fails (stated_line (codes "best") text five) _ tt) (λ best.

@@ -4,7 +4,7 @@ use Rattle.std.specs.Prelude.{Ok, codes, slice_index}
 use Rattle.std.proofs.Math.Nat.{div-add-mod}
 use Rattle.cam_types.specs.declared.device.Device.{Device}
 use Rattle.event_log.specs.Counts.{round, commands}
-use Rattle.event_log.specs.Stays.{passages}
+use Rattle.event_log.specs.Stays.{stays_begun}
 use Rattle.event_log.specs.declared.event.Event.{Event}
 use Rattle.round_net.specs.PriceRows.{PriceRows, pricing_of_rows}
 use Rattle.round_net.specs.Rows.{NetRows, cell}
@@ -30,14 +30,14 @@ unfolding summary_at summary_text
 summary_takes events live text said e =
     on_ok (due (known_line (codes "camaudit") 1 text 0) text 0) _ said e (λ one e1 r1.
     on_ok (due (known_line (codes "commands") (commands events) text one) text one) _ said r1 (λ two e2 r2.
-    on_ok (due (known_line (codes "stays") (length (passages events)) text two) text two) _ said r2 (λ three e3 r3.
+    on_ok (due (known_line (codes "stays") (length (stays_begun events)) text two) text two) _ said r2 (λ three e3 r3.
     on_ok (due (known_line (codes "rounds") (round events) text three) text three) _ said r3 (λ four e4 r4.
     on_ok (due (known_line (codes "live") live text four) text four) _ said r4 (λ five e5 r5.
     on_ok (due (stated_line (codes "best") text five) text five) _ said r5 (λ best e6 r6.
     on_ok (due (stated_line (codes "excess") text best.1) text best.1) _ said r6 (λ excess e7 r7.
     let t1 = known_takes (codes "camaudit") 1 text 0 one e1 in
     let t2 = known_takes (codes "commands") (commands events) text one two e2 in
-    let t3 = known_takes (codes "stays") (length (passages events)) text two three e3 in
+    let t3 = known_takes (codes "stays") (length (stays_begun events)) text two three e3 in
     let t4 = known_takes (codes "rounds") (round events) text three four e4 in
     let t5 = known_takes (codes "live") live text four five e5 in
     let t6 = stated_takes (codes "best") text five best e6 in
@@ -46,7 +46,7 @@ summary_takes events live text said e =
     let made : ℕ × ℕ × ℕ = (best.0, excess.0, excess.1) in
     let same : made ≡ said = cc in
     subst (λ (q : ℕ × ℕ × ℕ). (text ≡ summary_text events live q.0 q.1 ++ drop q.2 text) × (q.0 ≤ most_stated) × (q.1 ≤ most_stated)) same (
-      whole ∙ seven (line (codes "camaudit") 1) (line (codes "commands") (commands events)) (line (codes "stays") (length (passages events))) (line (codes "rounds") (round events)) (line (codes "live") live)
+      whole ∙ seven (line (codes "camaudit") 1) (line (codes "commands") (commands events)) (line (codes "stays") (length (stays_begun events))) (line (codes "rounds") (round events)) (line (codes "live") live)
           (line (codes "best") best.0) (line (codes "excess") excess.0) (drop excess.1 text),
       t6.1,
       t7.1,
@@ -56,11 +56,11 @@ pub summary_again : (events : List Event) (live best excess : ℕ) (text rest : 
     → (e : ℕ) × (summary_at events live text ≡ Ok (best, excess, e)) × (drop e text ≡ rest)
 unfolding summary_at summary_text
 summary_again events live best excess text rest small small' e =
-    let parts = e ∙ sym (seven (line (codes "camaudit") 1) (line (codes "commands") (commands events)) (line (codes "stays") (length (passages events))) (line (codes "rounds") (round events)) (line (codes "live") live)
+    let parts = e ∙ sym (seven (line (codes "camaudit") 1) (line (codes "commands") (commands events)) (line (codes "stays") (length (stays_begun events))) (line (codes "rounds") (round events)) (line (codes "live") live)
     (line (codes "best") best) (line (codes "excess") excess) rest) in
     let t1 = known_again (codes "camaudit") 1 text _ 0 parts in
     let t2 = known_again (codes "commands") (commands events) text _ t1.0 t1.2 in
-    let t3 = known_again (codes "stays") (length (passages events)) text _ t2.0 t2.2 in
+    let t3 = known_again (codes "stays") (length (stays_begun events)) text _ t2.0 t2.2 in
     let t4 = known_again (codes "rounds") (round events) text _ t3.0 t3.2 in
     let t5 = known_again (codes "live") live text _ t4.0 t4.2 in
     let t6 = stated_again (codes "best") best text _ t5.0 small t5.2 in

@@ -1,7 +1,7 @@
 -- Reports of claims, and what a reader of reports answers.
 use Rattle.std.specs.Prelude.{◌≡◌, ℕ, ◌≤◌, ◌⊎◌, ⊤, Bool, true, List, ◌++◌, length, slice_index, All, Option, Some, Err, codes}
 use Rattle.cam_types.specs.Whole.{IsWhole, IsTooLong}
-use Rattle.cam_types.specs.declared.whole.TheConstants.{MOST_BYTES}
+use Rattle.cam_types.specs.declared.maxima.TheConstants.{MOST_BYTES}
 use Rattle.cam_event.specs.Past.{Past}
 use Rattle.event_log.specs.Live.{live_cost}
 use Rattle.round_net.specs.Instance.{Instance}

@@ -1,7 +1,7 @@
 -- the forms of a report's lines: where one stands at an offset, what it says and the offset behind it
 use Rattle.std.specs.Prelude.{ℕ, List, Option, Some, codes, decimal, option_and_then, slice_get}
 use Rattle.cam_types.specs.declared.device.Device.{Device}
-use Rattle.event_log.specs.declared.passage.Stay.{Stay}
+use Rattle.event_log.specs.declared.stay.StayName.{StayName}
 use Rattle.round_net.specs.Rows.{NetRows, instance_of_rows, live_of_rows, names_of_rows}
 use Rattle.price_check.specs.Pieces.{◌>>=◌, skip, skip_number, found_number}
 
@@ -26,7 +26,7 @@ stated_line word text at = do
   Some (number.0, next)
 
 -- the line of a stay of this name, arrival, live round and weight, with a round that is best for it
-unfoldable pub named_stay : Stay → ℕ → ℕ → ℕ → List ℕ → ℕ → Option (ℕ × ℕ)
+unfoldable pub named_stay : StayName → ℕ → ℕ → ℕ → List ℕ → ℕ → Option (ℕ × ℕ)
 named_stay name arrival live weight text at = do
   word ← skip (codes "stay") text at
   ccb ← skip_number name.ccb text word

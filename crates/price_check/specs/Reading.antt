@@ -5,7 +5,7 @@ use Rattle.cam_types.specs.Number.{has_leading_zero, number_of}
 use Rattle.cam_types.specs.declared.device.Device.{Device}
 use Rattle.cam_path.specs.Paths.{◌>>=◌, digits_at}
 use Rattle.event_log.specs.Counts.{round, commands}
-use Rattle.event_log.specs.Stays.{passages}
+use Rattle.event_log.specs.Stays.{stays_begun}
 use Rattle.event_log.specs.declared.event.Event.{Event}
 use Rattle.round_net.specs.Rows.{NetRows, instance_of_rows}
 use Rattle.round_net.specs.declared.price_range.TheConstants.{MOST_PRICE}
@@ -28,7 +28,7 @@ unfoldable pub summary_at : List Event → ℕ → List ℕ → Result (ℕ × �
 summary_at events live text = do
   one ← due (known_line (codes "camaudit") 1 text 0) text 0
   two ← due (known_line (codes "commands") (commands events) text one) text one
-  three ← due (known_line (codes "stays") (length (passages events)) text two) text two
+  three ← due (known_line (codes "stays") (length (stays_begun events)) text two) text two
   four ← due (known_line (codes "rounds") (round events) text three) text three
   five ← due (known_line (codes "live") live text four) text four
   best ← due (stated_line (codes "best") text five) text five

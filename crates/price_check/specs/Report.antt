@@ -4,9 +4,9 @@ use Rattle.std.specs.Option.{option_map_or}
 use Rattle.cam_types.specs.declared.device.Device.{Device}
 use Rattle.cam_path.specs.Paths.{address_of, spelled}
 use Rattle.event_log.specs.Counts.{round, commands}
-use Rattle.event_log.specs.Stays.{passages}
+use Rattle.event_log.specs.Stays.{stays_begun}
 use Rattle.event_log.specs.declared.event.Event.{Event}
-use Rattle.event_log.specs.declared.passage.Stay.{Stay}
+use Rattle.event_log.specs.declared.stay.StayName.{StayName}
 use Rattle.round_net.specs.Rows.{NetRows, instance_of_rows, live_of_rows, names_of_rows}
 use Rattle.round_net.specs.Value.{Pricing}
 use Rattle.price_check.specs.Lines.{line}
@@ -17,7 +17,7 @@ unfoldable pub summary_text : List Event → ℕ → ℕ → ℕ → List ℕ
 summary_text events live best excess =
     line (codes "camaudit") 1
     ++ line (codes "commands") (commands events)
-    ++ line (codes "stays") (length (passages events))
+    ++ line (codes "stays") (length (stays_begun events))
     ++ line (codes "rounds") (round events)
     ++ line (codes "live") live
     ++ line (codes "best") best
@@ -34,7 +34,7 @@ texts_below (suc n) text = texts_below n text ++ text n
 
 -- a stay's CCB and try
 unfoldable pub name_text : NetRows → ℕ → List ℕ
-name_text net s = option_map_or (λ (stay : Stay). number_text stay.ccb ++ number_text stay.attempt) (slice_get (names_of_rows net) s) []
+name_text net s = option_map_or (λ (stay : StayName). number_text stay.ccb ++ number_text stay.attempt) (slice_get (names_of_rows net) s) []
 
 -- a stay: its CCB and try, the rounds in which it arrived, was sent and would best be sent, and its weight
 unfoldable pub stay_line : NetRows → (ℕ → ℕ) → ℕ → List ℕ

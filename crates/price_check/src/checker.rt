@@ -1,3 +1,5 @@
+//! The check of a schedule and its prices.
+
 ghost use Rattle.std.specs.Prelude.{◌≡◌, ◌+◌, ◌*◌, ◌≤◌, length, slice_index};
 ghost use Rattle.round_net.specs.Rows.{instance_of_rows, names_of_rows};
 ghost use Rattle.round_net.specs.PriceRows.{pricing_of_rows, IsPricingFor};

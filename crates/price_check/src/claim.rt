@@ -1,3 +1,5 @@
+//! What a report claims: a schedule, prices, a cost and an excess.
+
 use round_net::{Prices, Schedule};
 
 /// What a report says of a net: a best schedule, what it costs, how much more the live one cost, and prices that are to

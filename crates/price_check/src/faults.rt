@@ -1,3 +1,5 @@
+//! The first stay that makes a schedule inadmissible.
+
 ghost use Rattle.std.specs.Prelude.{◌≡◌, ℕ, ◌+◌, ◌*◌, ◌^◌, ◌<◌, ◌≤◌, length, slice_index, slice_set, MatchOption, IfNone};
 ghost use Rattle.round_net.specs.Rows.{instance_of_rows, live_of_rows};
 ghost use Rattle.round_net.specs.Sound.{IsSound};

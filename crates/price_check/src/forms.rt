@@ -1,10 +1,12 @@
+//! The forms of a report's lines, each read from an offset on.
+
 ghost use Rattle.std.specs.Prelude.{◌≡◌, ◌<◌, ◌≤◌, length, IfSome};
 ghost use Rattle.round_net.specs.Rows.{instance_of_rows};
 ghost use Rattle.price_check.specs.Forms.{known_line, stated_line, named_stay, own_stay, small_number, any_stay, dev_front, sim_front};
 
 use crate::pieces::{number_at, skip, skip_digits, skip_number};
 use cam_types::Device;
-use event_log::Stay;
+use event_log::StayName;
 use round_net::Net;
 
 /// The most that may be said of a cost: 18 digits.
@@ -61,7 +63,7 @@ pub(crate) fn own_stay(text: &[u8], at: usize, net: &Net, stay: u32) -> Option<(
 fn named_stay(
     text: &[u8],
     at: usize,
-    name: Stay,
+    name: StayName,
     arrival: u32,
     live: u32,
     weight: u32,

@@ -1,3 +1,5 @@
+//! The pieces of a report's lines: words, numbers and offsets.
+
 ghost use Rattle.std.specs.Prelude.{◌≡◌, ◌<◌, ◌≤◌, ◌+◌, ◌^◌, length, decimal, IfSome};
 ghost use Rattle.cam_path.specs.Paths.{digits_at};
 ghost use Rattle.price_check.specs.Pieces.{skip, skip_number, found_number, line_of};

@@ -1,3 +1,5 @@
+//! Reads the price lines of a report, cell by cell.
+
 ghost use Rattle.std.specs.Prelude.{◌≡◌, ◌≢◌, ◌+◌, ◌*◌, ◌<◌, ◌≤◌, ◌^◌, ◌/◌, length, Ok, Err, IfOk, IfErr, IfSome};
 ghost use Rattle.round_net.specs.Rows.{instance_of_rows};
 ghost use Rattle.price_check.specs.Reading.{series, dev_price_at, sim_price_at, price_at, valued, is_large};

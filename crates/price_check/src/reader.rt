@@ -1,9 +1,11 @@
+//! Reads a report, whoever made it.
+
 ghost use Rattle.std.specs.Prelude.{◌≡◌, ◌≢◌, ℕ, ◌<◌, ◌≤◌, ◌^◌, false, None, Some, Ok, Err, length, IfOk, IfErr, IfSome, OnOk};
 ghost use Rattle.std.specs.List.{AllByRecursion};
 ghost use Rattle.cam_types.specs.Topology.{IsConfig};
 ghost use Rattle.cam_types.specs.Watched.{device_of, has_failed};
 ghost use Rattle.cam_types.specs.declared.device.Device.{Device};
-ghost use Rattle.cam_types.specs.declared.whole.TheConstants.{MOST_BYTES};
+ghost use Rattle.cam_types.specs.declared.maxima.TheConstants.{MOST_BYTES};
 ghost use Rattle.event_log.specs.Live.{live_cost};
 ghost use Rattle.event_log.specs.Stays.{unsent};
 ghost use Rattle.round_net.specs.Nets.{net_of};

@@ -1,3 +1,5 @@
+//! Why a text isn't a report on a history.
+
 ghost use Rattle.std.specs.Prelude.{◌≡◌};
 ghost use Rattle.price_check.specs.declared.report_fault.ReportFault.TheVariants.{OutOfMemory};
 

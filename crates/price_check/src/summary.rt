@@ -1,3 +1,5 @@
+//! Reads the first seven lines of a report.
+
 ghost use Rattle.std.specs.Prelude.{◌≡◌, ◌<◌, ◌≤◌, ◌^◌, length, IfOk};
 ghost use Rattle.price_check.specs.Forms.{known_line, stated_line};
 ghost use Rattle.price_check.specs.Reading.{due, summary_at};

@@ -1,10 +1,12 @@
+//! What prices are worth: what all stays pay, and what all openings are worth.
+
 ghost use Rattle.std.specs.Prelude.{◌≡◌, ◌+◌, ◌*◌, ◌^◌, ◌<◌, ◌≤◌, Some, None, cond, map};
 ghost use Rattle.round_net.specs.Sums.{sum_below, sum_to, least};
 ghost use Rattle.round_net.specs.Rows.{instance_of_rows};
 ghost use Rattle.round_net.specs.PriceRows.{pricing_of_rows, IsPricingFor};
 ghost use Rattle.round_net.specs.Value.{is_open, allowed, priced, paid, offered};
 ghost use Rattle.price_check.specs.Least.{cheaper};
-ghost use Rattle.cam_types.specs.declared.config_fault.TheConstants.{MOST_OPENINGS};
+ghost use Rattle.cam_types.specs.declared.maxima.TheConstants.{MOST_OPENINGS};
 ghost use Rattle.round_net.specs.declared.price_range.TheConstants.{MOST_PRICE};
 
 use round_net::{Net, Prices};

@@ -1,4 +1,6 @@
-use event_log::Stay;
+//! What the check of a schedule and its prices answers.
+
+use event_log::StayName;
 
 /// What is wrong with a stay's place in a schedule.
 #[derive(Clone, Copy, Debug, PartialEq, Eq, Hash)]
@@ -21,5 +23,5 @@ pub enum Verdict {
     /// The schedule is admissible, but costs so much more than the prices are worth.
     Gap(u128),
     /// The schedule isn't admissible: the first stay, in order of birth, with whose place something is wrong.
-    NotAdmissible(Stay, Cause),
+    NotAdmissible(StayName, Cause),
 }

@@ -1,3 +1,5 @@
+//! A heap with entries at random priorities, and counts of what its calls move.
+
 ghost use Rattle.std.specs.Prelude.{◌<◌, ◌+◌, length};
 ghost use Rattle.dev_queue.specs.Order.{AllBefore};
 

@@ -7,11 +7,11 @@ use Rattle.cam_types.specs.Topology.{Topology}
 use Rattle.cam_types.specs.declared.device.Device.{Device}
 use Rattle.event_log.specs.Event.{is_send_of}
 use Rattle.event_log.specs.Counts.{round}
-use Rattle.event_log.specs.Head.{adapter_openings}
-use Rattle.event_log.specs.Stays.{passages, is_unsent}
+use Rattle.cam_types.specs.Questions.{adapter_openings}
+use Rattle.event_log.specs.Stays.{stays_begun, is_unsent}
 use Rattle.event_log.specs.Live.{send_place, live_round}
 use Rattle.event_log.specs.declared.event.Event.{Event}
-use Rattle.event_log.specs.declared.passage.Passage.{Passage}
+use Rattle.event_log.specs.declared.stay.Stay.{Stay}
 use Rattle.cam_event.proofs.LimitLemmas.{round_first}
 use Rattle.xpt_stays.specs.Records.{next_stay, record_of, records}
 use Rattle.round_net.specs.Rows.{NetRows, cell}
@@ -25,23 +25,23 @@ use Rattle.xpt_stays.proofs.SentLemmas.{first_past, unsent_none}
 use Rattle.round_net.proofs.TableLemmas.{cell-table, table_by_cells}
 
 -- a stay without a send counts as sent in the last round
-live_round-unsent : (es : List Event) (p : Passage) → is_unsent es p ≡ true → live_round es p ≡ round es
+live_round-unsent : (es : List Event) (p : Stay) → is_unsent es p ≡ true → live_round es p ≡ round es
 unfolding send_place
 live_round-unsent es p unsent =
     let past = first_past (is_send_of p.ccb) (drop (p.place + 1) es) (unsent_none es p unsent) in
     ap round (take_all (send_place es p) es (omega (arith, past, length-drop (p.place + 1) es)))
 
-live_cases : (es : List Event) (p : Passage) (b : Bool) → is_unsent es p ≡ b → unwrap_or (cond b None (Some (live_round es p))) (round es) ≡ live_round es p
+live_cases : (es : List Event) (p : Stay) (b : Bool) → is_unsent es p ≡ b → unwrap_or (cond b None (Some (live_round es p))) (round es) ≡ live_round es p
 live_cases es p true unsent = sym (live_round-unsent es p unsent)
 live_cases es p false sent = refl
 
-last_cases : (o : Option Passage) (n : ℕ) → option_map_or (λ arrival. arrival - 1) (option_map (λ (q : Passage). q.arrival) o) n ≡ option_map_or (λ (q : Passage). q.arrival - 1) o n
+last_cases : (o : Option Stay) (n : ℕ) → option_map_or (λ arrival. arrival - 1) (option_map (λ (q : Stay). q.arrival) o) n ≡ option_map_or (λ (q : Stay). q.arrival - 1) o n
 last_cases None n = refl
 last_cases (Some q) n = refl
 
-row_of-record : (es : List Event) (p : Passage) → row_of (round es) (record_of es p) ≡ stay_row es p
+row_of-record : (es : List Event) (p : Stay) → row_of (round es) (record_of es p) ≡ stay_row es p
 unfolding stay_row last_round
-row_of-record es p = rw (live_cases es p (is_unsent es p) refl, last_cases (next_stay (passages es) p) (round es)) refl
+row_of-record es p = rw (live_cases es p (is_unsent es p) refl, last_cases (next_stay (stays_begun es) p) (round es)) refl
 
 map-map : {X Y Z : Type 0} (g : Y → Z) (f : X → Y) (xs : List X) → map g (map f xs) ≡ map (λ x. g (f x)) xs
 map-map g f [] = refl
@@ -51,9 +51,9 @@ map-same : {X Y : Type 0} (f g : X → Y) → ((x : X) → f x ≡ g x) → (xs 
 map-same f g h [] = refl
 map-same f g h (x ∷ xs) = rw (h x, map-same f g h xs) refl
 
-pub rows_of_records : (es : List Event) → map (row_of (round es)) (records es) ≡ map (stay_row es) (passages es)
+pub rows_of_records : (es : List Event) → map (row_of (round es)) (records es) ≡ map (stay_row es) (stays_begun es)
 unfolding records
-rows_of_records es = map-map (row_of (round es)) (record_of es) (passages es) ∙ map-same (λ p. row_of (round es) (record_of es p)) (stay_row es) (row_of-record es) (passages es)
+rows_of_records es = map-map (row_of (round es)) (record_of es) (stays_begun es) ∙ map-same (λ p. row_of (round es) (record_of es p)) (stay_row es) (row_of-record es) (stays_begun es)
 
 -- caps by what was noted
 flipped : {X : Type 0} (b : Bool) (x y : X) → cond (not b) x y ≡ cond b y x

@@ -1,5 +1,4 @@
 pub mod CellLemmas
-pub mod ConfigLemmas
 pub mod CountLemmas
 pub mod ExchangeLemmas
 pub mod LoadLemmas

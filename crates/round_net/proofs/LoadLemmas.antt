@@ -4,28 +4,29 @@ use Rattle.std.specs.Prelude.{not, ◌==◌, ◌&&◌, ◌||◌, count_by, optio
 use Rattle.std.proofs.lemmas.Bool.{and_parts, eqb-true, eq-eqb}
 use Rattle.std.proofs.lemmas.Option.{slice_get-get_or}
 use Rattle.std.proofs.lemmas.List.Sums.{AllPass-from_list_all}
+use Rattle.std.proofs.Math.Bool.{and-false}
 use Rattle.cam_types.specs.Topology.{Topology}
 use Rattle.event_log.specs.Event.{is_some_and, is_send_of}
 use Rattle.event_log.specs.Counts.{round, commands, submissions, submission, sendings, sending_of}
-use Rattle.event_log.specs.Stays.{passages, passage_of, is_unsent, waiting}
+use Rattle.event_log.specs.Stays.{stays_begun, stay_begun, is_unsent, waiting}
 use Rattle.event_log.specs.Live.{live_round}
 use Rattle.event_log.specs.declared.event.Event.{Event}
 use Rattle.event_log.specs.declared.event.Event.TheVariants.{Submit, Send, Done, Requeue, Finish, FreezeDev, ReleaseDev, FreezeSim, ReleaseSim, Adjust, Tick}
 use Rattle.event_log.specs.declared.submission.Submission.{Submission}
-use Rattle.event_log.specs.declared.passage.Passage.{Passage}
-use Rattle.event_log.specs.declared.passage.Sending.{Sending}
-use Rattle.event_log.proofs.Laws.{is_unsent-push, born_unsent, passages-push, sendings-push, places-passages, place-passage_of}
+use Rattle.event_log.specs.declared.stay.Stay.{Stay}
+use Rattle.event_log.specs.declared.sending.Sending.{Sending}
+use Rattle.event_log.proofs.Laws.{is_unsent-push, born_unsent, stays_begun-push, sendings-push, places-stays_begun, place-stay_begun}
 use Rattle.cam_event.specs.Legal.{Rules, is_legal_event, is_legal}
 use Rattle.cam_event.specs.Laws.{is_stay_of}
 use Rattle.cam_event.proofs.LimitLemmas.{legal-induction}
-use Rattle.cam_event.proofs.StayLemmas.{is_of_its_ccb, of_its_ccb-passages}
+use Rattle.cam_event.proofs.StayLemmas.{is_of_its_ccb, of_its_ccb-stays_begun}
 use Rattle.round_net.proofs.CountLemmas.{count_by-append, count_by-same, count_by-none, count_by-either, count_by-weaker, count_by-filter}
 use Rattle.xpt_stays.proofs.SentLemmas.{live_round-sent, live_round-sending}
 use Rattle.event_log.proofs.TotalLaws.{is_of, unsent_count}
 use Rattle.cam_event.proofs.StandLemmas.{AreStates, asks-send, unsent-most, states_step, states_none}
 
 -- the stay was sent in the round, to a device that the test takes
-unfoldable pub was_sent : (ℕ → Bool) → List Event → ℕ → Passage → Bool
+unfoldable pub was_sent : (ℕ → Bool) → List Event → ℕ → Stay → Bool
 was_sent f es r p = not (is_unsent es p) && (f p.device && (live_round es p == r))
 
 -- a send in the round, to a device that the test takes
@@ -33,7 +34,7 @@ abbrev pub goes : (ℕ → Bool) → ℕ → Sending → Bool
 goes f r s = f s.device && (s.round == r)
 
 -- it waits, and the event sends it, in the round and to such a device
-is_sending : (ℕ → Bool) → List Event → Event → ℕ → Passage → Bool
+is_sending : (ℕ → Bool) → List Event → Event → ℕ → Stay → Bool
 is_sending f es e r p = (is_unsent es p && is_send_of p.ccb e) && (f p.device && (round es == r))
 
 or_false : (b : Bool) → b ≡ (b || false)
@@ -41,7 +42,7 @@ or_false true = refl
 or_false false = refl
 
 -- it was sent so far, or the event sends it
-was_sent-push : (f : ℕ → Bool) (es : List Event) (e : Event) (r : ℕ) (p : Passage) → p.place < length es → was_sent f (es ++ e ∷ []) r p ≡ (was_sent f es r p || is_sending f es e r p)
+was_sent-push : (f : ℕ → Bool) (es : List Event) (e : Event) (r : ℕ) (p : Stay) → p.place < length es → was_sent f (es ++ e ∷ []) r p ≡ (was_sent f es r p || is_sending f es e r p)
 unfolding was_sent is_sending
 was_sent-push f es e r p lt =
     rw (is_unsent-push es e p lt) (elim (is_unsent es p) as (λ u. is_unsent es p ≡ u → (not (u && not (is_send_of p.ccb e)) && (f p.device && (live_round (es ++ e ∷ []) p == r))) ≡ ((not u && (f p.device && (live_round es p == r))) || ((u && is_send_of p.ccb e) && (f p.device && (round es == r))))) [
@@ -53,68 +54,64 @@ was_sent-push f es e r p lt =
     ] refl)
 
 -- a stay that begins wasn't sent
-born_none : (f : ℕ → Bool) (es : List Event) (e : Event) (r : ℕ) (o : Option Passage) → passage_of (es, e) ≡ o → count_by (was_sent f (es ++ e ∷ []) r) (option_to_list o) ≡ 0
+born_none : (f : ℕ → Bool) (es : List Event) (e : Event) (r : ℕ) (o : Option Stay) → stay_begun (es, e) ≡ o → count_by (was_sent f (es ++ e ∷ []) r) (option_to_list o) ≡ 0
 unfolding was_sent
 born_none f es e r None is = refl
-born_none f es e r (Some p) is = rw (born_unsent es e p (place-passage_of (es, e) p is)) refl
+born_none f es e r (Some p) is = rw (born_unsent es e p (place-stay_begun (es, e) p is)) refl
 
 -- how many were sent behind one event more
-sent-more : (f : ℕ → Bool) (es : List Event) (e : Event) (r : ℕ) → count_by (was_sent f (es ++ e ∷ []) r) (passages (es ++ e ∷ [])) ≤ count_by (was_sent f es r) (passages es) + count_by (is_sending f es e r) (passages es)
+sent-more : (f : ℕ → Bool) (es : List Event) (e : Event) (r : ℕ) → count_by (was_sent f (es ++ e ∷ []) r) (stays_begun (es ++ e ∷ [])) ≤ count_by (was_sent f es r) (stays_begun es) + count_by (is_sending f es e r) (stays_begun es)
 sent-more f es e r =
-    let parts : count_by (was_sent f (es ++ e ∷ []) r) (passages (es ++ e ∷ [])) ≡ count_by (was_sent f (es ++ e ∷ []) r) (passages es) + count_by (was_sent f (es ++ e ∷ []) r) (option_to_list (passage_of (es, e))) =
-    ap (count_by (was_sent f (es ++ e ∷ []) r)) (passages-push es e) ∙ count_by-append (was_sent f (es ++ e ∷ []) r) (passages es) (option_to_list (passage_of (es, e))) in
-    let none = born_none f es e r (passage_of (es, e)) refl in
-    let each = count_by-either (was_sent f es r) (is_sending f es e r) (was_sent f (es ++ e ∷ []) r) (passages es) (λ k d lt. was_sent-push f es e r (get_or (passages es) k d) (places-passages es k d lt)) in
+    let parts : count_by (was_sent f (es ++ e ∷ []) r) (stays_begun (es ++ e ∷ [])) ≡ count_by (was_sent f (es ++ e ∷ []) r) (stays_begun es) + count_by (was_sent f (es ++ e ∷ []) r) (option_to_list (stay_begun (es, e))) =
+    ap (count_by (was_sent f (es ++ e ∷ []) r)) (stays_begun-push es e) ∙ count_by-append (was_sent f (es ++ e ∷ []) r) (stays_begun es) (option_to_list (stay_begun (es, e))) in
+    let none = born_none f es e r (stay_begun (es, e)) refl in
+    let each = count_by-either (was_sent f es r) (is_sending f es e r) (was_sent f (es ++ e ∷ []) r) (stays_begun es) (λ k d lt. was_sent-push f es e r (get_or (stays_begun es) k d) (places-stays_begun es k d lt)) in
     omega arith
 
 -- an event that is no send sends none
-none_sending : (f : ℕ → Bool) (es : List Event) (e : Event) (r : ℕ) → ((p : Passage) → is_send_of p.ccb e ≡ false) → count_by (is_sending f es e r) (passages es) ≡ 0
+none_sending : (f : ℕ → Bool) (es : List Event) (e : Event) (r : ℕ) → ((p : Stay) → is_send_of p.ccb e ≡ false) → count_by (is_sending f es e r) (stays_begun es) ≡ 0
 unfolding is_sending
-none_sending f es e r other = count_by-none (is_sending f es e r) (passages es) (λ k d lt. rw (other (get_or (passages es) k d)) (cases (is_unsent es (get_or (passages es) k d)) _))
+none_sending f es e r other = count_by-none (is_sending f es e r) (stays_begun es) (λ k d lt. rw (other (get_or (stays_begun es) k d)) (cases (is_unsent es (get_or (stays_begun es) k d)) _))
   where
     cases : (b c : Bool) → ((b && false) && c) ≡ false
     cases true c = refl
     cases false c = refl
 
 -- of the stays that a send sends there is one, of the CCB's device
-device_of_stay : (es : List Event) (p : Passage) (ccb : ℕ) (s : Submission) → is_of_its_ccb es p ≡ true → p.ccb ≡ ccb → submission es ccb ≡ Some s → s.device ≡ p.device
+device_of_stay : (es : List Event) (p : Stay) (ccb : ℕ) (s : Submission) → is_of_its_ccb es p ≡ true → p.ccb ≡ ccb → submission es ccb ≡ Some s → s.device ≡ p.device
 device_of_stay es p ccb s is at found =
     let own : is_some_and (is_stay_of p) (submission es p.ccb) ≡ true = is in
     let here : is_stay_of p s ≡ true = rw (at, found) at own in
     eqb-true s.device p.device (and_parts (s.device == p.device) (s.priority == p.priority) here).0
 
-one_sending : (f : ℕ → Bool) (es : List Event) (lane ccb r : ℕ) (s : Submission) → AreStates es → submission es ccb ≡ Some s → count_by (is_sending f es (Send lane ccb) r) (passages es) ≤ cond (f s.device && (round es == r)) 1 0
+one_sending : (f : ℕ → Bool) (es : List Event) (lane ccb r : ℕ) (s : Submission) → AreStates es → submission es ccb ≡ Some s → count_by (is_sending f es (Send lane ccb) r) (stays_begun es) ≤ cond (f s.device && (round es == r)) 1 0
 unfolding is_sending waiting
 one_sending f es lane ccb r s states found =
     let one : unsent_count es ccb ≤ 1 = unsent-most es ccb (states.placed ccb) in
-    let few : unsent_count es ccb ≡ count_by (λ p. is_unsent es p && is_of ccb p) (passages es) = count_by-filter (is_unsent es) (is_of ccb) (passages es) in
-    elim (f s.device && (round es == r)) as (λ b. (f s.device && (round es == r)) ≡ b → count_by (is_sending f es (Send lane ccb) r) (passages es) ≤ cond b 1 0) [
+    let few : unsent_count es ccb ≡ count_by (λ p. is_unsent es p && is_of ccb p) (stays_begun es) = count_by-filter (is_unsent es) (is_of ccb) (stays_begun es) in
+    elim (f s.device && (round es == r)) as (λ b. (f s.device && (round es == r)) ≡ b → count_by (is_sending f es (Send lane ccb) r) (stays_begun es) ≤ cond b 1 0) [
       | true ↦ λ is.
-          let le : count_by (is_sending f es (Send lane ccb) r) (passages es) ≤ count_by (λ p. is_unsent es p && is_of ccb p) (passages es) =
-          count_by-weaker (is_sending f es (Send lane ccb) r) (λ p. is_unsent es p && is_of ccb p) (passages es) (λ k d lt sends.
-          let p = get_or (passages es) k d in
+          let le : count_by (is_sending f es (Send lane ccb) r) (stays_begun es) ≤ count_by (λ p. is_unsent es p && is_of ccb p) (stays_begun es) =
+          count_by-weaker (is_sending f es (Send lane ccb) r) (λ p. is_unsent es p && is_of ccb p) (stays_begun es) (λ k d lt sends.
+          let p = get_or (stays_begun es) k d in
           let parts = and_parts (is_unsent es p && (ccb == p.ccb)) (f p.device && (round es == r)) sends in
           let both = and_parts (is_unsent es p) (ccb == p.ccb) parts.0 in
           rw (both.0, eq-eqb p.ccb ccb (sym (eqb-true ccb p.ccb both.1))) refl) in
           omega arith
       | false ↦ λ is.
-          let none : count_by (is_sending f es (Send lane ccb) r) (passages es) ≡ 0 = count_by-none (is_sending f es (Send lane ccb) r) (passages es) (λ k d lt.
-          let p = get_or (passages es) k d in
-          let own : is_of_its_ccb es p ≡ true = AllPass-from_list_all (is_of_its_ccb es) (passages es) (of_its_ccb-passages es) k d lt in
+          let none : count_by (is_sending f es (Send lane ccb) r) (stays_begun es) ≡ 0 = count_by-none (is_sending f es (Send lane ccb) r) (stays_begun es) (λ k d lt.
+          let p = get_or (stays_begun es) k d in
+          let own : is_of_its_ccb es p ≡ true = AllPass-from_list_all (is_of_its_ccb es) (stays_begun es) (of_its_ccb-stays_begun es) k d lt in
           elim (ccb == p.ccb) as (λ b. (ccb == p.ccb) ≡ b → ((is_unsent es p && b) && (f p.device && (round es == r))) ≡ false) [
             | true ↦ λ e.
                 let at : s.device ≡ p.device = device_of_stay es p ccb s own (sym (eqb-true ccb p.ccb e)) found in
                 let fails : (f p.device && (round es == r)) ≡ false = rw (← at) is in
-                rw fails (last_false (is_unsent es p && true))
+                rw fails (and-false (is_unsent es p && true))
             | false ↦ λ e. middle_false (is_unsent es p) (f p.device && (round es == r))
           ] refl) in
           omega arith
     ] refl
   where
-    last_false : (b : Bool) → (b && false) ≡ false
-    last_false true = refl
-    last_false false = refl
-
     middle_false : (b c : Bool) → ((b && false) && c) ≡ false
     middle_false true c = refl
     middle_false false c = refl
@@ -146,16 +143,16 @@ submission-named es ccb lt = elim (submission es ccb) as (λ o. submission es cc
 -- not more were sent than there were sends
 pub record IsCovered (f : ℕ → Bool) (es : List Event) : Type 0 where
   pub states : AreStates es
-  pub covered : (r : ℕ) → count_by (was_sent f es r) (passages es) ≤ count_by (goes f r) (sendings es)
+  pub covered : (r : ℕ) → count_by (was_sent f es r) (stays_begun es) ≤ count_by (goes f r) (sendings es)
 
-covered-other : (f : ℕ → Bool) (es : List Event) (e : Event) (r : ℕ) → ((p : Passage) → is_send_of p.ccb e ≡ false) → sending_of (es, e) ≡ None → count_by (was_sent f es r) (passages es) ≤ count_by (goes f r) (sendings es) → count_by (was_sent f (es ++ e ∷ []) r) (passages (es ++ e ∷ [])) ≤ count_by (goes f r) (sendings (es ++ e ∷ []))
+covered-other : (f : ℕ → Bool) (es : List Event) (e : Event) (r : ℕ) → ((p : Stay) → is_send_of p.ccb e ≡ false) → sending_of (es, e) ≡ None → count_by (was_sent f es r) (stays_begun es) ≤ count_by (goes f r) (sendings es) → count_by (was_sent f (es ++ e ∷ []) r) (stays_begun (es ++ e ∷ [])) ≤ count_by (goes f r) (sendings (es ++ e ∷ []))
 covered-other f es e r other none h =
     let more = sent-more f es e r in
     let zero' = none_sending f es e r other in
     let same = goes-other f es e r none in
     omega arith
 
-covered-send : (f : ℕ → Bool) (rules : Rules) (c : Topology) (es : List Event) (lane ccb r : ℕ) → is_legal_event rules c (es, Send lane ccb) ≡ true → AreStates es → count_by (was_sent f es r) (passages es) ≤ count_by (goes f r) (sendings es) → count_by (was_sent f (es ++ Send lane ccb ∷ []) r) (passages (es ++ Send lane ccb ∷ [])) ≤ count_by (goes f r) (sendings (es ++ Send lane ccb ∷ []))
+covered-send : (f : ℕ → Bool) (rules : Rules) (c : Topology) (es : List Event) (lane ccb r : ℕ) → is_legal_event rules c (es, Send lane ccb) ≡ true → AreStates es → count_by (was_sent f es r) (stays_begun es) ≤ count_by (goes f r) (sendings es) → count_by (was_sent f (es ++ Send lane ccb ∷ []) r) (stays_begun (es ++ Send lane ccb ∷ [])) ≤ count_by (goes f r) (sendings (es ++ Send lane ccb ∷ []))
 covered-send f rules c es lane ccb r legal states h =
     let found = submission-named es ccb (asks-send rules c es lane ccb legal).0 in
     let more = sent-more f es (Send lane ccb) r in
@@ -163,21 +160,12 @@ covered-send f rules c es lane ccb r legal states h =
     let same = goes-send f es lane ccb r found.0 found.1 in
     omega arith
 
-covered-events : (f : ℕ → Bool) (rules : Rules) (c : Topology) (es : List Event) (e : Event) (r : ℕ) → is_legal_event rules c (es, e) ≡ true → AreStates es → count_by (was_sent f es r) (passages es) ≤ count_by (goes f r) (sendings es) → count_by (was_sent f (es ++ e ∷ []) r) (passages (es ++ e ∷ [])) ≤ count_by (goes f r) (sendings (es ++ e ∷ []))
+covered-events : (f : ℕ → Bool) (rules : Rules) (c : Topology) (es : List Event) (e : Event) (r : ℕ) → is_legal_event rules c (es, e) ≡ true → AreStates es → count_by (was_sent f es r) (stays_begun es) ≤ count_by (goes f r) (sendings es) → count_by (was_sent f (es ++ e ∷ []) r) (stays_begun (es ++ e ∷ [])) ≤ count_by (goes f r) (sendings (es ++ e ∷ []))
 covered-events f rules c es (Send lane ccb) r legal states h = covered-send f rules c es lane ccb r legal states h
-covered-events f rules c es (Submit driver device priority retries flags) r legal states h = covered-other f es (Submit driver device priority retries flags) r (λ p. refl) refl h
-covered-events f rules c es (Done ccb outcome) r legal states h = covered-other f es (Done ccb outcome) r (λ p. refl) refl h
-covered-events f rules c es (Requeue ccb) r legal states h = covered-other f es (Requeue ccb) r (λ p. refl) refl h
-covered-events f rules c es (Finish ccb) r legal states h = covered-other f es (Finish ccb) r (λ p. refl) refl h
-covered-events f rules c es (FreezeDev device count) r legal states h = covered-other f es (FreezeDev device count) r (λ p. refl) refl h
-covered-events f rules c es (ReleaseDev device count) r legal states h = covered-other f es (ReleaseDev device count) r (λ p. refl) refl h
-covered-events f rules c es (FreezeSim sim count) r legal states h = covered-other f es (FreezeSim sim count) r (λ p. refl) refl h
-covered-events f rules c es (ReleaseSim sim) r legal states h = covered-other f es (ReleaseSim sim) r (λ p. refl) refl h
-covered-events f rules c es (Adjust device openings) r legal states h = covered-other f es (Adjust device openings) r (λ p. refl) refl h
-covered-events f rules c es Tick r legal states h = covered-other f es Tick r (λ p. refl) refl h
+covered-events f rules c es e r legal states h = covered-other f es e r (λ p. refl) refl h
 
 covered-none : (f : ℕ → Bool) → IsCovered f []
-unfolding passages sendings
+unfolding stays_begun sendings
 covered-none f = record { states = states_none; covered = λ r. omega arith }
 
 pub covered-legal : (f : ℕ → Bool) (rules : Rules) (c : Topology) (es : List Event) → is_legal rules c es ≡ true → IsCovered f es
@@ -189,6 +177,6 @@ covered-legal f rules c es legal = legal-induction rules c (IsCovered f)
     }) [] es legal (covered-none f)
 
 -- where each stay was sent, those sent in a round are those whose live round it is
-pub sent-complete : (f : ℕ → Bool) (es : List Event) (r : ℕ) → All (λ p. is_unsent es p ≡ false) (passages es) → count_by (was_sent f es r) (passages es) ≡ count_by (λ (p : Passage). f p.device && (live_round es p == r)) (passages es)
+pub sent-complete : (f : ℕ → Bool) (es : List Event) (r : ℕ) → All (λ p. is_unsent es p ≡ false) (stays_begun es) → count_by (was_sent f es r) (stays_begun es) ≡ count_by (λ (p : Stay). f p.device && (live_round es p == r)) (stays_begun es)
 unfolding was_sent
-sent-complete f es r sent = count_by-same (was_sent f es r) (λ (p : Passage). f p.device && (live_round es p == r)) (passages es) (λ k d lt. rw (sent k d lt) refl)
+sent-complete f es r sent = count_by-same (was_sent f es r) (λ (p : Stay). f p.device && (live_round es p == r)) (stays_begun es) (λ k d lt. rw (sent k d lt) refl)

@@ -10,17 +10,17 @@ use Rattle.std.proofs.lemmas.List.Sums.{sum_by_more, AllPass-from_list_all}
 use Rattle.cam_types.specs.Topology.{Topology, IsConfig}
 use Rattle.cam_types.specs.Priority.{weight}
 use Rattle.cam_types.specs.declared.device.Device.{Device}
-use Rattle.cam_types.specs.declared.config_fault.TheConstants.{MOST_OPENINGS}
+use Rattle.cam_types.specs.declared.maxima.TheConstants.{MOST_OPENINGS}
 use Rattle.cam_types.proofs.TopologyLemmas.{few_devices}
 use Rattle.event_log.specs.Event.{is_some_and}
 use Rattle.event_log.specs.Counts.{round, submission}
-use Rattle.event_log.specs.Stays.{passages, is_unsent, unsent, stay_of}
+use Rattle.event_log.specs.Stays.{stays_begun, is_unsent, unsent, name_of}
 use Rattle.event_log.specs.Live.{live_round}
-use Rattle.event_log.specs.Head.{is_on}
+use Rattle.cam_types.specs.Questions.{names_device, is_on}
 use Rattle.event_log.specs.declared.event.Event.{Event}
 use Rattle.event_log.specs.declared.submission.Submission.{Submission}
-use Rattle.event_log.specs.declared.passage.Passage.{Passage}
-use Rattle.cam_event.specs.Legal.{history_rules, is_legal, names_device}
+use Rattle.event_log.specs.declared.stay.Stay.{Stay}
+use Rattle.cam_event.specs.Legal.{history_rules, is_legal}
 use Rattle.cam_event.specs.Laws.{is_in_range, is_stay_of, is_stay_in_range}
 use Rattle.cam_event.proofs.RangeLemmas.{stays_in_range}
 use Rattle.cam_event.proofs.LimitLemmas.{round_first, round_most, stays_most}
@@ -32,7 +32,7 @@ use Rattle.round_net.specs.Sound.{IsSound, IsNet}
 use Rattle.round_net.specs.Caps.{sends_to, sends_by, dev_cap, sim_cap}
 use Rattle.round_net.specs.Nets.{last_round, stay_row, table, net_of, instance_of, live_of}
 use Rattle.round_net.specs.declared.stay_row.StayRow.{StayRow}
-use Rattle.round_net.proofs.ConfigLemmas.{few_adapters, devices_on_adapters}
+use Rattle.cam_types.proofs.ConfigLemmas.{few_adapters, devices_on_adapters}
 use Rattle.round_net.proofs.LoadLemmas.{covered-legal, sent-complete}
 use Rattle.round_net.proofs.OpeningLemmas.{sends_to-cap, sends_by-cap}
 use Rattle.round_net.proofs.SmallLemmas.{small_dev_cap, small_sim_cap, weight_small}
@@ -88,32 +88,32 @@ count_list test t (x ∷ xs) h =
     count_front test t (x ∷ xs) x (length (x ∷ xs)) each (omega arith) ∙ ap (count_by test) (take_all (length (x ∷ xs)) (x ∷ xs) (omega arith))
 
 -- what stands in a stay's row
-part_of_stay : (part : StayRow → ℕ) (es : List Event) (s : ℕ) (p : Passage) → slice_get (passages es) s ≡ Some p → of_stay part (map (stay_row es) (passages es)) s ≡ part (stay_row es p)
-part_of_stay part es s p e = ap (λ o. option_map_or part o 0) (mapped (stay_row es) (passages es) s p e)
+part_of_stay : (part : StayRow → ℕ) (es : List Event) (s : ℕ) (p : Stay) → slice_get (stays_begun es) s ≡ Some p → of_stay part (map (stay_row es) (stays_begun es)) s ≡ part (stay_row es p)
+part_of_stay part es s p e = ap (λ o. option_map_or part o 0) (mapped (stay_row es) (stays_begun es) s p e)
 
-device_at : (c : Topology) (es : List Event) (s : ℕ) (p : Passage) → slice_get (passages es) s ≡ Some p → (instance_of c es).device s ≡ p.device
+device_at : (c : Topology) (es : List Event) (s : ℕ) (p : Stay) → slice_get (stays_begun es) s ≡ Some p → (instance_of c es).device s ≡ p.device
 unfolding instance_of_rows net_of stay_row
 device_at c es s p e = part_of_stay (λ (row : StayRow). row.device) es s p e
 
-arrival_at : (c : Topology) (es : List Event) (s : ℕ) (p : Passage) → slice_get (passages es) s ≡ Some p → (instance_of c es).arrival s ≡ p.arrival
+arrival_at : (c : Topology) (es : List Event) (s : ℕ) (p : Stay) → slice_get (stays_begun es) s ≡ Some p → (instance_of c es).arrival s ≡ p.arrival
 unfolding instance_of_rows net_of stay_row
 arrival_at c es s p e = part_of_stay (λ (row : StayRow). row.arrival) es s p e
 
-last_at : (c : Topology) (es : List Event) (s : ℕ) (p : Passage) → slice_get (passages es) s ≡ Some p → (instance_of c es).last s ≡ last_round es p
+last_at : (c : Topology) (es : List Event) (s : ℕ) (p : Stay) → slice_get (stays_begun es) s ≡ Some p → (instance_of c es).last s ≡ last_round es p
 unfolding instance_of_rows net_of stay_row
 last_at c es s p e = part_of_stay (λ (row : StayRow). row.last) es s p e
 
-weight_at : (c : Topology) (es : List Event) (s : ℕ) (p : Passage) → slice_get (passages es) s ≡ Some p → (instance_of c es).weight s ≡ weight p.priority
+weight_at : (c : Topology) (es : List Event) (s : ℕ) (p : Stay) → slice_get (stays_begun es) s ≡ Some p → (instance_of c es).weight s ≡ weight p.priority
 unfolding instance_of_rows net_of stay_row
 weight_at c es s p e = part_of_stay (λ (row : StayRow). row.weight) es s p e
 
-live_at : (c : Topology) (es : List Event) (s : ℕ) (p : Passage) → slice_get (passages es) s ≡ Some p → live_of c es s ≡ live_round es p
+live_at : (c : Topology) (es : List Event) (s : ℕ) (p : Stay) → slice_get (stays_begun es) s ≡ Some p → live_of c es s ≡ live_round es p
 unfolding live_of_rows net_of stay_row
 live_at c es s p e = part_of_stay (λ (row : StayRow). row.live) es s p e
 
-stays_of_net : (c : Topology) (es : List Event) → (instance_of c es).stays ≡ length (passages es)
+stays_of_net : (c : Topology) (es : List Event) → (instance_of c es).stays ≡ length (stays_begun es)
 unfolding instance_of_rows net_of
-stays_of_net c es = length-map (passages es) (stay_row es)
+stays_of_net c es = length-map (stays_begun es) (stay_row es)
 
 devices_of_net : (c : Topology) (es : List Event) → (instance_of c es).devices ≡ length c.devices
 unfolding instance_of_rows net_of
@@ -140,11 +140,11 @@ unfolding instance_of_rows net_of
 sim_cap_of_net c es a r within first last = cell-table (length c.adapters) (round es) (sim_cap c es) a r within first last
 
 -- a stay of the net is one of the history
-stay_of_net : (c : Topology) (es : List Event) (s : ℕ) → s < (instance_of c es).stays → (p : Passage) × (slice_get (passages es) s ≡ Some p)
-stay_of_net c es s lt = element (passages es) s (rw stays_of_net at lt)
+stay_of_net : (c : Topology) (es : List Event) (s : ℕ) → s < (instance_of c es).stays → (p : Stay) × (slice_get (stays_begun es) s ≡ Some p)
+stay_of_net c es s lt = element (stays_begun es) s (rw stays_of_net at lt)
 
 -- it is of a device of the configuration
-device_in_range : (c : Topology) (es : List Event) (p : Passage) → is_stay_in_range c es p ≡ true → p.device < length c.devices
+device_in_range : (c : Topology) (es : List Event) (p : Stay) → is_stay_in_range c es p ≡ true → p.device < length c.devices
 device_in_range c es p h = elim (submission es p.ccb) as (λ o. is_some_and (λ (s : Submission). is_in_range c s && is_stay_of p s) o ≡ true → p.device < length c.devices) [
   | None ↦ λ g. absurd cc
   | Some s ↦ λ g.
@@ -155,21 +155,21 @@ device_in_range c es p h = elim (submission es p.ccb) as (λ o. is_some_and (λ 
       omega arith
 ] h
 
-device_of_passage : (c : Topology) (es : List Event) (s : ℕ) (p : Passage) → is_legal history_rules c es ≡ true → slice_get (passages es) s ≡ Some p → p.device < length c.devices
-device_of_passage c es s p legal e =
-    device_in_range c es p (at_element (λ q. is_stay_in_range c es q ≡ true) (passages es) s p (AllPass-from_list_all (is_stay_in_range c es) (passages es) (stays_in_range history_rules c es legal)) e)
+device_of_stay : (c : Topology) (es : List Event) (s : ℕ) (p : Stay) → is_legal history_rules c es ≡ true → slice_get (stays_begun es) s ≡ Some p → p.device < length c.devices
+device_of_stay c es s p legal e =
+    device_in_range c es p (at_element (λ q. is_stay_in_range c es q ≡ true) (stays_begun es) s p (AllPass-from_list_all (is_stay_in_range c es) (stays_begun es) (stays_in_range history_rules c es legal)) e)
 
 -- in a complete history each stay was sent
-find_none : (t : Passage → Bool) (xs : List Passage) → option_map stay_of (find t xs) ≡ None → All (λ x. t x ≡ false) xs
+find_none : (t : Stay → Bool) (xs : List Stay) → option_map name_of (find t xs) ≡ None → All (λ x. t x ≡ false) xs
 find_none t [] e = All-nil (λ x. t x ≡ false)
-find_none t (x ∷ xs) e = elim (t x) as (λ b. t x ≡ b → option_map stay_of (cond b (Some x) (find t xs)) ≡ None → All (λ y. t y ≡ false) (x ∷ xs)) [
+find_none t (x ∷ xs) e = elim (t x) as (λ b. t x ≡ b → option_map name_of (cond b (Some x) (find t xs)) ≡ None → All (λ y. t y ≡ false) (x ∷ xs)) [
   | true ↦ λ is g. absurd cc
   | false ↦ λ is g. All-cons (λ y. t y ≡ false) x xs is (find_none t xs g)
 ] refl e
 
-all_sent : (es : List Event) → unsent es ≡ None → All (λ p. is_unsent es p ≡ false) (passages es)
+all_sent : (es : List Event) → unsent es ≡ None → All (λ p. is_unsent es p ≡ false) (stays_begun es)
 unfolding unsent
-all_sent es e = find_none (is_unsent es) (passages es) e
+all_sent es e = find_none (is_unsent es) (stays_begun es) e
 
 -- no device has more stays in a round than its cap
 devices_hold : (c : Topology) (es : List Event) → is_legal history_rules c es ≡ true → unsent es ≡ None → (d r : ℕ) → d < (instance_of c es).devices → 1 ≤ r → r ≤ (instance_of c es).rounds → device_load (instance_of c es) (live_of c es) d r ≤ (instance_of c es).dev_cap d r
@@ -177,36 +177,36 @@ unfolding sends_to
 devices_hold c es legal complete d r within first last =
     let net : Instance = instance_of c es in
     let f : ℕ → Bool = λ x. x == d in
-    let load : count_below (length (passages es)) (λ s. (net.device s == d) && (live_of c es s == r)) ≡ count_by (λ (p : Passage). (p.device == d) && (live_round es p == r)) (passages es) =
-    count_list (λ (p : Passage). (p.device == d) && (live_round es p == r)) (λ s. (net.device s == d) && (live_of c es s == r)) (passages es) (λ s p e. rw (device_at c es s p e, live_at c es s p e) refl) in
+    let load : count_below (length (stays_begun es)) (λ s. (net.device s == d) && (live_of c es s == r)) ≡ count_by (λ (p : Stay). (p.device == d) && (live_round es p == r)) (stays_begun es) =
+    count_list (λ (p : Stay). (p.device == d) && (live_round es p == r)) (λ s. (net.device s == d) && (live_of c es s == r)) (stays_begun es) (λ s p e. rw (device_at c es s p e, live_at c es s p e) refl) in
     let sent = sent-complete f es r (all_sent es complete) in
     let covered = (covered-legal f history_rules c es legal).covered r in
     let capped : sends_to es d r ≤ dev_cap c es d r = sends_to-cap history_rules c es d r legal in
     rw (dev_cap_of_net c es d r (rw devices_of_net at within) first (rw rounds_of_net at last), stays_of_net c es) (omega arith)
 
 -- nor has an adapter
-on_adapter_test : (c : Topology) (es : List Event) (a s : ℕ) (p : Passage) → is_legal history_rules c es ≡ true → slice_get (passages es) s ≡ Some p → (adapter (instance_of c es) s == a) ≡ is_on c a p.device
+on_adapter_test : (c : Topology) (es : List Event) (a s : ℕ) (p : Stay) → is_legal history_rules c es ≡ true → slice_get (stays_begun es) s ≡ Some p → (adapter (instance_of c es) s == a) ≡ is_on c a p.device
 unfolding instance_of_rows
 on_adapter_test c es a s p legal e =
-    let dev = element c.devices p.device (device_of_passage c es s p legal e) in
+    let dev = element c.devices p.device (device_of_stay c es s p legal e) in
     rw (device_at c es s p e, bus_of_device c es p.device dev.0 dev.1, dev.1) refl
 
 adapters_hold : (c : Topology) (es : List Event) → is_legal history_rules c es ≡ true → unsent es ≡ None → (a r : ℕ) → a < (instance_of c es).adapters → 1 ≤ r → r ≤ (instance_of c es).rounds → adapter_load (instance_of c es) (live_of c es) a r ≤ (instance_of c es).sim_cap a r
 unfolding sends_by
 adapters_hold c es legal complete a r within first last =
     let net : Instance = instance_of c es in
-    let load : count_below (length (passages es)) (λ s. (adapter net s == a) && (live_of c es s == r)) ≡ count_by (λ (p : Passage). is_on c a p.device && (live_round es p == r)) (passages es) =
-    count_list (λ (p : Passage). is_on c a p.device && (live_round es p == r)) (λ s. (adapter net s == a) && (live_of c es s == r)) (passages es) (λ s p e. rw (on_adapter_test c es a s p legal e, live_at c es s p e) refl) in
+    let load : count_below (length (stays_begun es)) (λ s. (adapter net s == a) && (live_of c es s == r)) ≡ count_by (λ (p : Stay). is_on c a p.device && (live_round es p == r)) (stays_begun es) =
+    count_list (λ (p : Stay). is_on c a p.device && (live_round es p == r)) (λ s. (adapter net s == a) && (live_of c es s == r)) (stays_begun es) (λ s p e. rw (on_adapter_test c es a s p legal e, live_at c es s p e) refl) in
     let sent = sent-complete (is_on c a) es r (all_sent es complete) in
     let covered = (covered-legal (is_on c a) history_rules c es legal).covered r in
     let capped : sends_by c es a r ≤ sim_cap c es a r = sends_by-cap history_rules c es a r legal in
     rw (sim_cap_of_net c es a r (rw adapters_of_net at within) first (rw rounds_of_net at last), stays_of_net c es) (omega arith)
 
-in_window : (c : Topology) (es : List Event) (s : ℕ) (p : Passage) → is_legal history_rules c es ≡ true → slice_get (passages es) s ≡ Some p → IsInWindow es p
-in_window c es s p legal e = at_element (IsInWindow es) (passages es) s p (windows-legal history_rules c es legal).each e
+in_window : (c : Topology) (es : List Event) (s : ℕ) (p : Stay) → is_legal history_rules c es ≡ true → slice_get (stays_begun es) s ≡ Some p → IsInWindow es p
+in_window c es s p legal e = at_element (IsInWindow es) (stays_begun es) s p (windows-legal history_rules c es legal).each e
 
-sent_stay : (c : Topology) (es : List Event) (s : ℕ) (p : Passage) → unsent es ≡ None → slice_get (passages es) s ≡ Some p → is_unsent es p ≡ false
-sent_stay c es s p complete e = at_element (λ q. is_unsent es q ≡ false) (passages es) s p (all_sent es complete) e
+sent_stay : (c : Topology) (es : List Event) (s : ℕ) (p : Stay) → unsent es ≡ None → slice_get (stays_begun es) s ≡ Some p → is_unsent es p ≡ false
+sent_stay c es s p complete e = at_element (λ q. is_unsent es q ≡ false) (stays_begun es) s p (all_sent es complete) e
 
 -- the live schedule of a complete history is admissible
 pub live_admissible : (c : Topology) (es : List Event) → is_legal history_rules c es ≡ true → unsent es ≡ None → IsAdmissible (instance_of c es) (live_of c es)
@@ -243,7 +243,7 @@ net_sound c es config legal complete = record {
   few_adapters = rw (adapters_of_net c es) (few_adapters c config);
   on_device = λ s lt.
       let stay = stay_of_net c es s lt in
-      rw (device_at c es s stay.0 stay.1, devices_of_net c es) (device_of_passage c es s stay.0 legal stay.1);
+      rw (device_at c es s stay.0 stay.1, devices_of_net c es) (device_of_stay c es s stay.0 legal stay.1);
   on_adapter = λ d lt.
       let dev = element c.devices d (rw devices_of_net at lt) in
       rw (bus_of_device c es d dev.0 dev.1, adapters_of_net c es) (at_element (λ (device : Device). device.bus < length c.adapters) c.devices d dev.0 (devices_on_adapters c config) dev.1);
@@ -268,7 +268,7 @@ net_is_net c es config legal complete = record {
 
 -- rows that have each part of it are the net
 pub net_of_parts : (c : Topology) (es : List Event) (rounds adapters : ℕ) (adapter_of : List ℕ) (stays : List StayRow) (dev_caps sim_caps : List ℕ) →
-    rounds ≡ round es → adapters ≡ length c.adapters → adapter_of ≡ map (λ (device : Device). device.bus) c.devices → stays ≡ map (stay_row es) (passages es) →
+    rounds ≡ round es → adapters ≡ length c.adapters → adapter_of ≡ map (λ (device : Device). device.bus) c.devices → stays ≡ map (stay_row es) (stays_begun es) →
     dev_caps ≡ table (length c.devices) (round es) (dev_cap c es) → sim_caps ≡ table (length c.adapters) (round es) (sim_cap c es) →
     ◌≡◌ {A = NetRows} (record { rounds = rounds; adapters = adapters; adapter_of = adapter_of; stays = stays; dev_caps = dev_caps; sim_caps = sim_caps }) (net_of c es)
 unfolding net_of

@@ -7,12 +7,13 @@ use Rattle.cam_types.specs.Topology.{Topology}
 use Rattle.cam_types.specs.declared.device.Device.{Device}
 use Rattle.event_log.specs.Event.{is_some_and}
 use Rattle.event_log.specs.Counts.{round, submission, sendings, sending_of}
-use Rattle.event_log.specs.Head.{is_on, adapter_openings, openings, goes_now_to, goes_now_to_adapter, has_opening, adapter_has_opening}
+use Rattle.cam_types.specs.Questions.{names_lane, is_on, lane_adapter, adapter_openings}
+use Rattle.event_log.specs.Head.{openings, goes_now_to, goes_now_to_adapter, has_opening, adapter_has_opening}
 use Rattle.event_log.specs.declared.event.Event.{Event}
 use Rattle.event_log.specs.declared.event.Event.TheVariants.{Submit, Send, Done, Requeue, Finish, FreezeDev, ReleaseDev, FreezeSim, ReleaseSim, Adjust, Tick}
 use Rattle.event_log.specs.declared.submission.Submission.{Submission}
-use Rattle.cam_event.specs.Legal.{Rules, is_next, is_legal_event, is_legal, names_lane, names_ccb}
-use Rattle.cam_event.specs.Refusals.{device_of, lane_adapter}
+use Rattle.cam_event.specs.Legal.{Rules, is_next, is_legal_event, is_legal, names_ccb}
+use Rattle.cam_event.specs.Refusals.{device_of}
 use Rattle.cam_event.proofs.SendLemmas.{IsSend, send_from_next}
 use Rattle.cam_event.proofs.LawLemmas.{allowed-legal_event}
 use Rattle.cam_event.proofs.LimitLemmas.{legal-induction}
@@ -79,16 +80,7 @@ keeps-other c es e none h d r =
 
 keeps-step : (rules : Rules) (c : Topology) (es : List Event) (e : Event) → is_legal_event rules c (es, e) ≡ true → KeepsOpenings c es → KeepsOpenings c (es ++ e ∷ [])
 keeps-step rules c es (Send lane ccb) legal h = keeps-send rules c es lane ccb legal h
-keeps-step rules c es (Submit driver device priority retries flags) legal h = keeps-other c es (Submit driver device priority retries flags) refl h
-keeps-step rules c es (Done ccb outcome) legal h = keeps-other c es (Done ccb outcome) refl h
-keeps-step rules c es (Requeue ccb) legal h = keeps-other c es (Requeue ccb) refl h
-keeps-step rules c es (Finish ccb) legal h = keeps-other c es (Finish ccb) refl h
-keeps-step rules c es (FreezeDev device count) legal h = keeps-other c es (FreezeDev device count) refl h
-keeps-step rules c es (ReleaseDev device count) legal h = keeps-other c es (ReleaseDev device count) refl h
-keeps-step rules c es (FreezeSim sim count) legal h = keeps-other c es (FreezeSim sim count) refl h
-keeps-step rules c es (ReleaseSim sim) legal h = keeps-other c es (ReleaseSim sim) refl h
-keeps-step rules c es (Adjust device openings) legal h = keeps-other c es (Adjust device openings) refl h
-keeps-step rules c es Tick legal h = keeps-other c es Tick refl h
+keeps-step rules c es e legal h = keeps-other c es e refl h
 
 keeps-none : (c : Topology) → KeepsOpenings c []
 unfolding sendings
@@ -108,7 +100,7 @@ adapter_left c es a h = ltb-true (count_by (goes_now_to_adapter c es a) (sending
 
 -- a device is on one adapter
 on_one : (c : Topology) (a b d : ℕ) → is_on c a d ≡ true → is_on c b d ≡ true → a ≡ b
-on_one c a b d h g = elim (slice_get c.devices d) as (λ o. is_some_and (λ (device : Device). device.bus == a) o ≡ true → is_some_and (λ (device : Device). device.bus == b) o ≡ true → a ≡ b) [
+on_one c a b d h g = elim (slice_get c.devices d) as (λ o. option_map_or (λ (device : Device). device.bus == a) o false ≡ true → option_map_or (λ (device : Device). device.bus == b) o false ≡ true → a ≡ b) [
   | None ↦ λ h' g'. absurd cc
   | Some device ↦ λ h' g'. sym (eqb-true device.bus a h') ∙ eqb-true device.bus b g'
 ] h g
@@ -137,16 +129,7 @@ keeps_adapter-other c es e none h a r = let same = goes-other (is_on c a) es e r
 
 keeps_adapter-step : (rules : Rules) (c : Topology) (es : List Event) (e : Event) → is_legal_event rules c (es, e) ≡ true → KeepsAdapter c es → KeepsAdapter c (es ++ e ∷ [])
 keeps_adapter-step rules c es (Send lane ccb) legal h = keeps_adapter-send rules c es lane ccb legal h
-keeps_adapter-step rules c es (Submit driver device priority retries flags) legal h = keeps_adapter-other c es (Submit driver device priority retries flags) refl h
-keeps_adapter-step rules c es (Done ccb outcome) legal h = keeps_adapter-other c es (Done ccb outcome) refl h
-keeps_adapter-step rules c es (Requeue ccb) legal h = keeps_adapter-other c es (Requeue ccb) refl h
-keeps_adapter-step rules c es (Finish ccb) legal h = keeps_adapter-other c es (Finish ccb) refl h
-keeps_adapter-step rules c es (FreezeDev device count) legal h = keeps_adapter-other c es (FreezeDev device count) refl h
-keeps_adapter-step rules c es (ReleaseDev device count) legal h = keeps_adapter-other c es (ReleaseDev device count) refl h
-keeps_adapter-step rules c es (FreezeSim sim count) legal h = keeps_adapter-other c es (FreezeSim sim count) refl h
-keeps_adapter-step rules c es (ReleaseSim sim) legal h = keeps_adapter-other c es (ReleaseSim sim) refl h
-keeps_adapter-step rules c es (Adjust device openings) legal h = keeps_adapter-other c es (Adjust device openings) refl h
-keeps_adapter-step rules c es Tick legal h = keeps_adapter-other c es Tick refl h
+keeps_adapter-step rules c es e legal h = keeps_adapter-other c es e refl h
 
 keeps_adapter-none : (c : Topology) → KeepsAdapter c []
 unfolding sendings

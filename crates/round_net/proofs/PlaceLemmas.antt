@@ -9,16 +9,18 @@ use Rattle.std.proofs.lemmas.List.{map-append}
 use Rattle.std.proofs.lemmas.List.Sums.{sum_by-take-le}
 use Rattle.std.proofs.lemmas.List.Elements.{filter-append}
 use Rattle.std.proofs.lemmas.List.Folds.{list_all-append}
+use Rattle.std.proofs.Math.Bool.{and-false}
 use Rattle.cam_types.specs.Lists.{moments}
 use Rattle.cam_types.specs.Topology.{Topology}
 use Rattle.cam_types.proofs.ListLemmas.{moments-push}
 use Rattle.event_log.specs.Event.{is_tick, is_adjust_of, adjusts_to}
 use Rattle.event_log.specs.Counts.{round, submission, sending_of, sendings, goes_to, freeze_count, adapter_freezes, last}
-use Rattle.event_log.specs.Head.{is_on, openings as place_openings, openings, device_openings, goes_now_to, goes_now_to_adapter}
+use Rattle.cam_types.specs.Questions.{is_on, device_openings}
+use Rattle.event_log.specs.Head.{openings as place_openings, openings, goes_now_to, goes_now_to_adapter}
 use Rattle.event_log.specs.declared.event.Event.{Event}
 use Rattle.event_log.specs.declared.event.Event.TheVariants.{Submit, Send, Done, Requeue, Finish, FreezeDev, ReleaseDev, FreezeSim, ReleaseSim, Adjust, Tick}
 use Rattle.event_log.specs.declared.submission.Submission.{Submission}
-use Rattle.event_log.specs.declared.passage.Sending.{Sending}
+use Rattle.event_log.specs.declared.sending.Sending.{Sending}
 use Rattle.event_log.proofs.Laws.{round-push, sendings-push}
 use Rattle.round_net.proofs.CountLemmas.{count_by-append}
 use Rattle.event_log.proofs.OpeningLaws.{before_last-push}
@@ -146,24 +148,11 @@ made_now es n (Some x) make h s is = let same : make x ≡ s = cc in ap (λ (y :
 
 sent_now : (es : List Event) (e : Event) (s : Sending) → sending_of (es, e) ≡ Some s → s.round ≡ round (es ++ e ∷ [])
 sent_now es (Send lane ccb) s is = made_now es (round (es ++ Send lane ccb ∷ [])) (submission es ccb) _ (λ x. omega (arith, round-push es (Send lane ccb))) s is
-sent_now es (Submit driver device priority retries flags) s is = absurd (cc)
-sent_now es (Done ccb outcome) s is = absurd (cc)
-sent_now es (Requeue ccb) s is = absurd (cc)
-sent_now es (Finish ccb) s is = absurd (cc)
-sent_now es (FreezeDev device count) s is = absurd (cc)
-sent_now es (ReleaseDev device count) s is = absurd (cc)
-sent_now es (FreezeSim sim count) s is = absurd (cc)
-sent_now es (ReleaseSim sim) s is = absurd (cc)
-sent_now es (Adjust device openings) s is = absurd (cc)
-sent_now es Tick s is = absurd (cc)
-
-and_false : (b : Bool) → (b && false) ≡ false
-and_false true = refl
-and_false false = refl
+sent_now es _ s is = absurd (cc)
 
 none_sent : (test : Sending → Bool) (r n : ℕ) (o : Option Sending) → ((s : Sending) → o ≡ Some s → s.round ≡ n) → r ≢ n → count_by (in_round test r) (option_to_list o) ≡ 0
 none_sent test r n None at ne = refl
-none_sent test r n (Some s) at ne = rw (ne_eqb s.round r (λ e. ne (sym e ∙ at s refl)), and_false (test s)) refl
+none_sent test r n (Some s) at ne = rw (ne_eqb s.round r (λ e. ne (sym e ∙ at s refl)), and-false (test s)) refl
 
 sends-kept : (test : Sending → Bool) (es : List Event) (e : Event) (r : ℕ) → r ≢ round (es ++ e ∷ []) → count_by (in_round test r) (sendings (es ++ e ∷ [])) ≡ count_by (in_round test r) (sendings es)
 sends-kept test es e r ne =

@@ -8,20 +8,21 @@ use Rattle.std.proofs.lemmas.Option.{slice_get_within, get_or_from_slice_get}
 use Rattle.cam_types.specs.Topology.{Topology, IsConfig, are_openings}
 use Rattle.cam_types.specs.Priority.{weight, run_level}
 use Rattle.cam_types.specs.declared.device.Device.{Device}
-use Rattle.cam_types.specs.declared.config_fault.TheConstants.{MOST_OPENINGS}
+use Rattle.cam_types.specs.declared.maxima.TheConstants.{MOST_OPENINGS}
 use Rattle.event_log.specs.Event.{is_tick, is_adjust_of, adjusts_to}
 use Rattle.event_log.specs.Counts.{round, last}
-use Rattle.event_log.specs.Head.{device_openings, adapter_openings, openings}
+use Rattle.cam_types.specs.Questions.{names_device, device_openings, adapter_openings}
+use Rattle.event_log.specs.Head.{openings}
 use Rattle.event_log.specs.declared.event.Event.{Event}
 use Rattle.event_log.specs.declared.event.Event.TheVariants.{Submit, Send, Done, Requeue, Finish, FreezeDev, ReleaseDev, FreezeSim, ReleaseSim, Adjust, Tick}
 use Rattle.event_log.proofs.OpeningLaws.{before_last-push}
 use Rattle.event_log.proofs.StateLaws.{last-push}
-use Rattle.cam_event.specs.Legal.{Rules, names_device, is_legal_event, is_legal}
+use Rattle.cam_event.specs.Legal.{Rules, is_legal_event, is_legal}
 use Rattle.cam_event.proofs.LawLemmas.{allowed-legal_event}
 use Rattle.cam_event.proofs.LimitLemmas.{legal-induction}
 use Rattle.round_net.specs.Caps.{openings_in, sends_to, sends_by, is_device_free, is_adapter_free, dev_cap, sim_cap}
 use Rattle.round_net.proofs.PlaceLemmas.{openings_in-opened, openings_in-kept}
-use Rattle.round_net.proofs.ConfigLemmas.{small_adapters, small_devices}
+use Rattle.cam_types.proofs.ConfigLemmas.{small_adapters, small_devices}
 use Rattle.round_net.proofs.OpeningLemmas.{sends_to-openings, sends_by-openings}
 
 slice_or_small : (xs : List ℕ) (i most : ℕ) → All (λ n. n ≤ most) xs → option_map_or (λ n. n) (slice_get xs i) 0 ≤ most
@@ -54,16 +55,7 @@ adjusted_small rules c es (Adjust device openings') d legal is =
     let asked = (allowed-legal_event rules c es (Adjust device openings') legal).1 in
     let range = (and_parts (names_device c device) (are_openings openings') asked).1 in
     leb-true openings' MOST_OPENINGS (and_parts (nat_lt 0 openings') (nat_le openings' MOST_OPENINGS) range).1
-adjusted_small rules c es (Submit driver device priority retries flags) d legal is = absurd cc
-adjusted_small rules c es (Send lane ccb) d legal is = absurd cc
-adjusted_small rules c es (Done ccb outcome) d legal is = absurd cc
-adjusted_small rules c es (Requeue ccb) d legal is = absurd cc
-adjusted_small rules c es (Finish ccb) d legal is = absurd cc
-adjusted_small rules c es (FreezeDev device count) d legal is = absurd cc
-adjusted_small rules c es (ReleaseDev device count) d legal is = absurd cc
-adjusted_small rules c es (FreezeSim sim count) d legal is = absurd cc
-adjusted_small rules c es (ReleaseSim sim) d legal is = absurd cc
-adjusted_small rules c es Tick d legal is = absurd cc
+adjusted_small rules c es _ d legal is = absurd cc
 
 next_small : (rules : Rules) (c : Topology) (es : List Event) (e : Event) → is_legal_event rules c (es, e) ≡ true → AreSmall c es → (d : ℕ) → option_map_or adjusts_to (last (is_adjust_of d) (es ++ e ∷ [])) (device_openings c d) ≤ MOST_OPENINGS
 next_small rules c es e legal is d =

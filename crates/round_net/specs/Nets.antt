@@ -6,10 +6,10 @@ use Rattle.cam_types.specs.Priority.{weight}
 use Rattle.cam_types.specs.Topology.{Topology}
 use Rattle.cam_types.specs.declared.device.Device.{Device}
 use Rattle.event_log.specs.Counts.{round}
-use Rattle.event_log.specs.Stays.{passages, stay_of}
+use Rattle.event_log.specs.Stays.{stays_begun, name_of}
 use Rattle.event_log.specs.Live.{live_round}
 use Rattle.event_log.specs.declared.event.Event.{Event}
-use Rattle.event_log.specs.declared.passage.Passage.{Passage}
+use Rattle.event_log.specs.declared.stay.Stay.{Stay}
 use Rattle.xpt_stays.specs.Records.{next_stay}
 use Rattle.xpt_stays.specs.declared.stay_record.StayRecord.{StayRecord}
 use Rattle.round_net.specs.Instance.{Instance}
@@ -18,13 +18,13 @@ use Rattle.round_net.specs.Caps.{dev_cap, sim_cap}
 use Rattle.round_net.specs.declared.stay_row.StayRow.{StayRow}
 
 -- the last round of a stay: the one before its CCB's next stay arrives, or else the last round of all
-unfoldable pub last_round : List Event → Passage → ℕ
-last_round events p = option_map_or (λ (q : Passage). q.arrival - 1) (next_stay (passages events) p) (round events)
+unfoldable pub last_round : List Event → Stay → ℕ
+last_round events p = option_map_or (λ (q : Stay). q.arrival - 1) (next_stay (stays_begun events) p) (round events)
 
 -- a stay with its window and weight, and where it was sent
-unfoldable pub stay_row : List Event → Passage → StayRow
+unfoldable pub stay_row : List Event → Stay → StayRow
 stay_row events p = record {
-  stay = stay_of p;
+  stay = name_of p;
   device = p.device;
   arrival = p.arrival;
   last = last_round events p;
@@ -35,11 +35,11 @@ stay_row events p = record {
 -- the same by the record of the stay, in a history of so many rounds
 abbrev pub row_of : ℕ → StayRecord → StayRow
 row_of rounds r = record {
-  stay = stay_of r.passage;
-  device = r.passage.device;
-  arrival = r.passage.arrival;
+  stay = name_of r.stay;
+  device = r.stay.device;
+  arrival = r.stay.arrival;
   last = option_map_or (λ arrival. arrival - 1) r.next_arrival rounds;
-  weight = weight r.passage.priority;
+  weight = weight r.stay.priority;
   live = unwrap_or r.sent rounds;
 }
 
@@ -57,7 +57,7 @@ net_of c events = record {
   rounds = round events;
   adapters = length c.adapters;
   adapter_of = map (λ (device : Device). device.bus) c.devices;
-  stays = map (stay_row events) (passages events);
+  stays = map (stay_row events) (stays_begun events);
   dev_caps = table (length c.devices) (round events) (dev_cap c events);
   sim_caps = table (length c.adapters) (round events) (sim_cap c events);
 }

@@ -1,7 +1,6 @@
 -- prices as flat rows
 use Rattle.std.specs.Prelude.{◌≡◌, ℕ, ◌*◌, ◌≤◌, ◌==◌, ◌&&◌, if◌then◌else◌, List, length, slice_index, All}
-use Rattle.cam_types.specs.declared.limits.TheConstants.{MOST_ROUNDS}
-use Rattle.cam_types.specs.declared.config_fault.TheConstants.{MOST_DEVICES, MOST_ADAPTERS}
+use Rattle.cam_types.specs.declared.maxima.TheConstants.{MOST_ROUNDS, MOST_DEVICES, MOST_ADAPTERS}
 use Rattle.round_net.specs.Instance.{Instance}
 use Rattle.round_net.specs.Rows.{cell}
 use Rattle.round_net.specs.Value.{Pricing}

@@ -1,7 +1,6 @@
 -- what holds of every net
 use Rattle.std.specs.Prelude.{◌≡◌, ℕ, ◌*◌, ◌<◌, ◌≤◌, length}
-use Rattle.cam_types.specs.declared.limits.TheConstants.{MOST_ROUNDS, MOST_STAYS}
-use Rattle.cam_types.specs.declared.config_fault.TheConstants.{MOST_DEVICES, MOST_ADAPTERS, MOST_OPENINGS}
+use Rattle.cam_types.specs.declared.maxima.TheConstants.{MOST_ROUNDS, MOST_STAYS, MOST_DEVICES, MOST_ADAPTERS, MOST_OPENINGS}
 use Rattle.round_net.specs.Instance.{Instance}
 use Rattle.round_net.specs.Schedules.{IsAdmissible}
 use Rattle.round_net.specs.Rows.{NetRows, instance_of_rows, live_of_rows}

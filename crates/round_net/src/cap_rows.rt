@@ -1,8 +1,8 @@
 //! How many commands the devices and adapters of a history take in each round.
 
 ghost use Rattle.std.specs.Prelude.{◌≡◌, ◌≤◌, length, IfOk};
-ghost use Rattle.cam_types.specs.declared.limits.TheConstants.{MOST_ROUNDS};
-ghost use Rattle.event_log.specs.Head.{adapter_openings};
+ghost use Rattle.cam_types.specs.declared.maxima.TheConstants.{MOST_ROUNDS};
+ghost use Rattle.cam_types.specs.Questions.{adapter_openings};
 ghost use Rattle.round_net.specs.Nets.{table};
 ghost use Rattle.round_net.specs.Marks.{AreCaps};
 

@@ -1,5 +1,7 @@
+//! Where a round of a device or an adapter stands in one list of them all.
+
 ghost use Rattle.std.specs.Prelude.{◌≡◌, ◌≤◌};
-ghost use Rattle.cam_types.specs.declared.limits.TheConstants.{MOST_ROUNDS};
+ghost use Rattle.cam_types.specs.declared.maxima.TheConstants.{MOST_ROUNDS};
 ghost use Rattle.round_net.specs.Rows.{cell};
 
 /// Where a round of a device or of an adapter stands in a list that has all rounds of the first one, then those of the

@@ -1,10 +1,12 @@
+//! The net of a complete history.
+
 use crate::cap_rows::{adapter_rows, caps};
 use crate::flat::cell;
 use crate::net_fault::NetFault;
 use crate::stay_row::StayRow;
 use crate::stay_rows::{adapters_of, stay_rows};
 use crate::walk::walk_through;
-use event_log::Stay;
+use event_log::StayName;
 use std::alloc::Global;
 use std::marker::Model;
 use xpt_state::History;
@@ -36,8 +38,7 @@ impl Model for Net {
 
 impl Net {
     ghost use Rattle.std.specs.Prelude.{◌≡◌, ◌+◌, ◌*◌, ◌<◌, ◌≤◌, Some, length, slice_get};
-    ghost use Rattle.cam_types.specs.declared.limits.TheConstants.{MOST_ROUNDS};
-    ghost use Rattle.cam_types.specs.declared.config_fault.TheConstants.{MOST_OPENINGS};
+    ghost use Rattle.cam_types.specs.declared.maxima.TheConstants.{MOST_ROUNDS, MOST_OPENINGS};
     ghost use Rattle.round_net.specs.Instance.{adapter};
     ghost use Rattle.round_net.specs.Rows.{instance_of_rows, live_of_rows, names_of_rows};
     ghost use Rattle.round_net.specs.Sound.{IsSound};
@@ -67,7 +68,7 @@ impl Net {
             rounds,
             adapters: config.adapters().len() as u32,
             adapter_of: adapters_of(alloc, config.devices())?,
-            stays: stay_rows(alloc, history.stays(), rounds)?,
+            stays: stay_rows(alloc, config, history.stays(), rounds)?,
             dev_caps: caps(
                 alloc,
                 &notes.dev_frozen,
@@ -133,7 +134,7 @@ impl Net {
 
     /// The stay of this number, in order of birth.
     #[tactic(auto, unfolding(crate::specs::Rows::instance_of_rows, crate::specs::Rows::names_of_rows))]
-    pub fn stay(&self, stay: u32) -> Stay
+    pub fn stay(&self, stay: u32) -> StayName
         requires { stay < (instance_of_rows self.now).stays }
         ensures { slice_get (names_of_rows self.now) stay ≡ Some result }
     {

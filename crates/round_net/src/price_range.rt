@@ -1,3 +1,5 @@
+//! The largest price, and the error of one above it.
+
 use thiserror::Error;
 
 /// The most that one opening may be worth.

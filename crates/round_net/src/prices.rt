@@ -1,3 +1,5 @@
+//! A price for an opening of each device and adapter in each round.
+
 use crate::flat::cell;
 use crate::net::Net;
 use crate::price_range::{MOST_PRICE, PriceRange};

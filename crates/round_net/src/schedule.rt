@@ -1,3 +1,5 @@
+//! A round for each stay.
+
 ghost use Rattle.std.specs.Prelude.{◌≡◌, ◌<◌, ◌==◌, length, slice_index, IfOk};
 
 use std::alloc::{AllocError, Global};

@@ -1,10 +1,12 @@
-use event_log::Stay;
+//! What a net knows of one stay.
+
+use event_log::StayName;
 
 /// A stay, with its window and weight, and where it was sent.
 #[derive(Clone, Copy, Debug, PartialEq, Eq)]
 pub struct StayRow {
     /// Its CCB and try.
-    pub stay: Stay,
+    pub stay: StayName,
     /// The number of its device.
     pub device: u32,
     /// The first round of its window.

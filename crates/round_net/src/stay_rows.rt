@@ -5,14 +5,15 @@ ghost use Rattle.cam_types.specs.declared.device.Device.{Device};
 ghost use Rattle.round_net.specs.Nets.{row_of};
 
 use crate::stay_row::StayRow;
-use cam_types::{Device, weight_of};
-use event_log::Stay;
+use cam_types::{Config, Device};
+use event_log::StayName;
 use std::alloc::{AllocError, Global};
 use xpt_state::StayRecord;
 
 /// The rows of these stays of a history of so many rounds.
 pub fn stay_rows(
     alloc: Global,
+    config: &Config,
     records: &[StayRecord],
     rounds: u32,
 ) -> Result<Vec<StayRow>, AllocError>
@@ -20,30 +21,30 @@ pub fn stay_rows(
 {
     let mut rows = Vec::new(alloc);
     for record in records {
-        rows.push(stay_row(record, rounds))?;
+        rows.push(stay_row(config, record, rounds))?;
     }
     Ok(rows)
 }
 
 // The last round of a stay is the one before its CCB's next stay arrives, or else the last of all; a stay without a send
 // counts as sent in the last.
-fn stay_row(stay: &StayRecord, rounds: u32) -> StayRow
-    ensures { result ≡ row_of rounds stay.now }
+fn stay_row(config: &Config, kept: &StayRecord, rounds: u32) -> StayRow
+    ensures { result ≡ row_of rounds kept.now }
 {
-    let passage = &stay.passage;
+    let stay = &kept.stay;
     StayRow {
-        stay: Stay {
-            ccb: passage.ccb,
-            attempt: passage.attempt,
+        stay: StayName {
+            ccb: stay.ccb,
+            attempt: stay.attempt,
         },
-        device: passage.device,
-        arrival: passage.arrival,
-        last: match stay.next_arrival {
+        device: stay.device,
+        arrival: stay.arrival,
+        last: match kept.next_arrival {
             Some(arrival) => arrival.saturating_sub(1),
             None => rounds,
         },
-        weight: weight_of(passage.priority),
-        live: stay.sent.unwrap_or(rounds),
+        weight: config.weight(stay.priority),
+        live: kept.sent.unwrap_or(rounds),
     }
 }
 

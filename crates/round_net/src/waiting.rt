@@ -1,3 +1,5 @@
+//! What the waiting of all stays costs by a schedule.
+
 ghost use Rattle.std.specs.Prelude.{◌≡◌, ◌<◌, ◌≤◌, ◌*◌, ◌-◌, ◌^◌, length, slice_index, MatchOption, IfSome};
 ghost use Rattle.round_net.specs.Rows.{instance_of_rows, live_of_rows};
 ghost use Rattle.round_net.specs.Schedules.{cost, IsEarly, IsNowhereEarly};

@@ -1,7 +1,7 @@
 //! One pass over the places of a history.
 
 ghost use Rattle.std.specs.Prelude.{◌≡◌, ℕ, ◌≤◌, not, ◌==◌, true, false, [], length, slice_index, slice_index_or, count_by, IsTrue, IfOk, OnOk};
-ghost use Rattle.cam_types.specs.declared.limits.TheConstants.{MOST_ROUNDS};
+ghost use Rattle.cam_types.specs.declared.maxima.TheConstants.{MOST_ROUNDS};
 ghost use Rattle.cam_event.specs.Legal.{history_rules, is_legal};
 ghost use Rattle.event_log.specs.Counts.{round, sendings, freeze_count, adapter_freezes};
 ghost use Rattle.event_log.specs.Head.{openings, goes_now_to, goes_now_to_adapter};

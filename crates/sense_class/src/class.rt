@@ -1,7 +1,14 @@
+//! The table of results: whether a CCB has completed, is sent again, or has failed.
+
 ghost use Rattle.std.specs.Prelude.{◌≡◌};
 ghost use Rattle.sense_class.specs.Classes.{sense_kind, scsi_kind, kind_of, class_of, classify, asks_requeue, asks_finish, is_counted};
 
 use crate::sense::{Sense, read_sense};
+use crate::status::{
+    BUSY, CAM_BDR_SENT, CAM_BUSY, CAM_CMD_TIMEOUT, CAM_REQ_CMP, CAM_REQUEUE_REQ,
+    CAM_SCSI_BUS_RESET, CAM_SCSI_STATUS_ERROR, CAM_SEL_TIMEOUT, CAM_UNCOR_PARITY,
+    CAM_UNEXP_BUSFREE, CHECK_CONDITION, TASK_SET_FULL,
+};
 use cam_types::Outcome;
 
 /// What a result asks for, after the manner of FreeBSD's `cam_periph_error`.
@@ -60,10 +67,16 @@ pub fn kind_of(outcome: &Outcome) -> Kind
     ensures { result ≡ kind_of outcome.now }
 {
     match outcome.status & 0x3f {
-        0x01 => Kind::Good,
-        0x1b => Kind::Free,
-        0x05 | 0x0a | 0x0b | 0x0e | 0x0f | 0x13 | 0x17 => Kind::Counted,
-        0x0c => scsi_kind(outcome),
+        CAM_REQ_CMP => Kind::Good,
+        CAM_REQUEUE_REQ => Kind::Free,
+        CAM_BUSY
+        | CAM_SEL_TIMEOUT
+        | CAM_CMD_TIMEOUT
+        | CAM_SCSI_BUS_RESET
+        | CAM_UNCOR_PARITY
+        | CAM_UNEXP_BUSFREE
+        | CAM_BDR_SENT => Kind::Counted,
+        CAM_SCSI_STATUS_ERROR => scsi_kind(outcome),
         _ => Kind::Other,
     }
 }
@@ -73,9 +86,9 @@ fn scsi_kind(outcome: &Outcome) -> Kind
     ensures { result ≡ scsi_kind outcome.now }
 {
     match outcome.scsi {
-        0x28 => Kind::Free,
-        0x08 => Kind::Counted,
-        0x02 => sense_kind(read_sense(outcome.sense.bytes())),
+        TASK_SET_FULL => Kind::Free,
+        BUSY => Kind::Counted,
+        CHECK_CONDITION => sense_kind(read_sense(outcome.sense.bytes())),
         _ => Kind::Other,
     }
 }

@@ -1,3 +1,5 @@
+//! Reads sense data in its fixed and its descriptor form.
+
 ghost use Rattle.std.specs.Prelude.{◌≡◌};
 ghost use Rattle.sense_class.specs.Sense.{byte_at, fixed_sense, descriptor_sense, read_sense};
 

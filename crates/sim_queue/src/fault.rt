@@ -1,3 +1,5 @@
+//! Why a call on an adapter's queue is refused.
+
 use thiserror::Error;
 
 /// The callers' freeze count would pass 65,535.

@@ -1,13 +1,12 @@
+//! The queue of one adapter, by its public calls.
+
 use crate::fault::{FreezeOverflow, ReleaseTooMany};
 use crate::row::Row;
 use crate::rows::{new_rows, place_of};
 use crate::winners::{first_device, new_winners, put_row};
-use cam_types::Priority;
+use cam_types::{MOST_FREEZES, Priority};
 use std::alloc::{AllocError, Global};
 use std::marker::Model;
-
-/// The most freezes by callers that an adapter takes.
-const MOST_FREEZES: u32 = 65_535;
 
 /// An adapter's choice among its devices: which of the ready ones sends next.
 ///

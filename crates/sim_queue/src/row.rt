@@ -1,3 +1,5 @@
+//! What an adapter knows of one device, and which of two goes first.
+
 use cam_types::Priority;
 
 /// What an adapter knows of one of its devices.

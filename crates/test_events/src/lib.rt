@@ -34,11 +34,7 @@ pub fn device(bus: u8, target: u16, openings: u32) -> Device {
 
 /// A result of that status, with SCSI status 00 and without sense.
 pub fn outcome(status: u8) -> Outcome {
-    Outcome {
-        status,
-        scsi: 0,
-        sense: SenseBytes::first(&[]),
-    }
+    Outcome::of_status(status)
 }
 
 /// A unit attention: the device was reset.

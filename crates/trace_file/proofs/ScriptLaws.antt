@@ -8,7 +8,8 @@ use Rattle.cam_types.specs.Bounds.{Bounds, are_within, most_bounds}
 use Rattle.cam_types.specs.Whole.{IsWhole}
 use Rattle.cam_types.specs.Topology.{are_openings}
 use Rattle.sense_class.specs.Classes.{status_of}
-use Rattle.cam_event.specs.Legal.{is_count, names_adapter, names_lane}
+use Rattle.cam_types.specs.Questions.{names_adapter, names_lane}
+use Rattle.cam_event.specs.Legal.{is_count}
 use Rattle.cam_event.specs.declared.refusal.Refusal.TheVariants.{NoDevice, NoAdapter, NoLane, BadPriority, BadRetries, BadCount, BadOpenings, BadStatus}
 use Rattle.event_log.proofs.ListFacts.{count_by-push}
 use Rattle.trace_file.specs.declared.script_row.ScriptRow.{ScriptRow}

@@ -3,7 +3,7 @@ use Rattle.std.specs.Prelude.{◌≡◌, ℕ, ◌≤◌, Bool, true, not, ⊤, L
 use Rattle.std.specs.List.{AllByRecursion, flat_map, fold}
 use Rattle.cam_types.specs.Bounds.{Bounds, are_within, most_bounds}
 use Rattle.cam_types.specs.Whole.{IsWhole, IsTooLong}
-use Rattle.cam_types.specs.declared.whole.TheConstants.{MOST_BYTES}
+use Rattle.cam_types.specs.declared.maxima.TheConstants.{MOST_BYTES}
 use Rattle.cam_path.specs.Paths.{Fits}
 use Rattle.trace_file.specs.declared.script_row.ScriptRow.{ScriptRow}
 use Rattle.trace_file.specs.declared.script_row.ScriptRow.TheVariants as row

@@ -1,7 +1,7 @@
 -- The records of a script behind its configuration: how each is spelled, and what it says.
 use Rattle.std.specs.Prelude.{ℕ, ◌+◌, nat_le, if◌then◌else◌, List, [], ◌∷◌, Option, Result, Ok, Err, codes, decimal, find, bytes_eq}
 use Rattle.cam_types.specs.Bounds.{Bounds}
-use Rattle.cam_types.specs.declared.limits.TheConstants.{MOST_CCBS, MOST_ROUNDS, MOST_STAYS, MOST_EVENTS}
+use Rattle.cam_types.specs.declared.maxima.TheConstants.{MOST_CCBS, MOST_ROUNDS, MOST_STAYS, MOST_EVENTS}
 use Rattle.cam_path.specs.Paths as path
 use Rattle.cam_path.specs.declared.path.CamPath.{CamPath}
 use Rattle.trace_file.specs.declared.script_row.ScriptRow.{ScriptRow}

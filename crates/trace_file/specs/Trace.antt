@@ -2,7 +2,7 @@
 use Rattle.std.specs.Prelude.{◌≡◌, ℕ, ◌+◌, ◌<◌, ◌≤◌, ◌++◌, ◌∷◌, [], true, ⊤, List, length, Option, None, Result, Ok, Err, Bool}
 use Rattle.std.specs.List.{AllByRecursion}
 use Rattle.event_log.specs.declared.event.Event.TheVariants as event
-use Rattle.cam_types.specs.declared.whole.TheConstants.{MOST_BYTES}
+use Rattle.cam_types.specs.declared.maxima.TheConstants.{MOST_BYTES}
 use Rattle.cam_types.specs.Whole.{IsWhole, IsTooLong}
 use Rattle.trace_file.specs.Histories.{Device, Event, Outcome, Past, config_fault, is_legal}
 use Rattle.trace_file.specs.declared.trace_fault.TraceFault.{TraceFault}

@@ -1,3 +1,5 @@
+//! A device as its record spells it.
+
 ghost use Rattle.std.specs.Prelude.{◌≡◌};
 ghost use Rattle.trace_file.specs.Rows.{clamped};
 

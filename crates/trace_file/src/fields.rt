@@ -1,3 +1,5 @@
+//! Reads the fields of a record, each by its form.
+
 ghost use Rattle.std.specs.Prelude.{◌≡◌, ◌<◌, ◌≤◌, ◌+◌, length, IfOk, IfSome, drop, bytes_eq};
 ghost use Rattle.csv.specs.Records.{fields_of};
 ghost use Rattle.trace_file.specs.Fields.{field_of, number_at, hex_value, hex_byte, byte_of, byte_at, bytes_of, sense_of, sense_at, flags_of, flags_at, unused, unused_from};

@@ -1,3 +1,5 @@
+//! Whether a record is the header.
+
 ghost use Rattle.std.specs.Prelude.{◌≡◌};
 ghost use Rattle.csv.specs.Records.{fields_of};
 ghost use Rattle.trace_file.specs.Reading.{has_letters, is_header};

@@ -1,3 +1,5 @@
+//! Writes bytes in hexadecimal digits.
+
 ghost use Rattle.std.specs.Prelude.{◌≡◌, ◌*◌, ◌<◌, ◌≤◌, length, take};
 ghost use Rattle.std.specs.Char.{digit_char};
 ghost use Rattle.std.specs.List.{AllByRecursion};

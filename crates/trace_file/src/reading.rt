@@ -1,5 +1,7 @@
+//! Reads a trace.
+
 ghost use Rattle.std.specs.Prelude.{◌≡◌, ◌≢◌, ◌≤◌, false, length, Ok, Err, IfOk, IfErr, IfSome};
-ghost use Rattle.cam_types.specs.declared.whole.TheConstants.{MOST_BYTES};
+ghost use Rattle.cam_types.specs.declared.maxima.TheConstants.{MOST_BYTES};
 ghost use Rattle.cam_types.specs.Watched.{device_of, has_failed};
 ghost use Rattle.trace_file.specs.Histories.{Past};
 ghost use Rattle.trace_file.specs.Reading.{reading};

@@ -1,5 +1,7 @@
+//! Takes the records of a text in order, up to the first fault.
+
 ghost use Rattle.std.specs.Prelude.{◌≡◌, ◌≢◌, ◌≤◌, length, Err, IfOk};
-ghost use Rattle.cam_types.specs.declared.whole.TheConstants.{MOST_BYTES};
+ghost use Rattle.cam_types.specs.declared.maxima.TheConstants.{MOST_BYTES};
 ghost use Rattle.trace_file.specs.Steps.{taken};
 ghost use Rattle.trace_file.specs.Text.{records_in};
 

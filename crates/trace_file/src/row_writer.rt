@@ -1,3 +1,5 @@
+//! Writes one record of eight fields.
+
 ghost use Rattle.std.specs.Prelude.{◌≡◌, ◌∷◌, [], decimal, map, OnOk};
 ghost use Rattle.trace_file.specs.Records.{padded};
 ghost use Rattle.trace_file.specs.Writing.{IsBetween, Wrote};

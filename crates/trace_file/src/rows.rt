@@ -1,3 +1,5 @@
+//! Reads a record of a trace: its numbers, its device or its event.
+
 ghost use Rattle.std.specs.Prelude.{◌≡◌, length};
 ghost use Rattle.csv.specs.Records.{fields_of};
 ghost use Rattle.trace_file.specs.Rows.{one_number, two_numbers, device_at, submit_at, outcome_at, tick_at, event_at};

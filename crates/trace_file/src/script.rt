@@ -1,6 +1,8 @@
+//! What a script asks of a run.
+
 ghost use Rattle.std.specs.Prelude.{◌≡◌, ◌<◌, ◌≤◌, [], length, map, replicate, IfOk, IsTrue};
 ghost use Rattle.trace_file.specs.Scenarios.{Scenario, add_item, empty_scenario, is_answer, is_ruled, push_at};
-ghost use Rattle.cam_event.specs.Legal.{names_lane};
+ghost use Rattle.cam_types.specs.Questions.{names_lane};
 ghost use Rattle.trace_file.specs.declared.script_row.ScriptItem.TheVariants as item;
 
 use crate::step::Step;

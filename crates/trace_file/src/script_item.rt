@@ -1,13 +1,15 @@
+//! The static causes that refuse a script's record.
+
 ghost use Rattle.std.specs.Prelude.{◌≡◌, ◌<◌, length, IfOk, IfSome, IsTrue};
 ghost use Rattle.sense_class.specs.Classes.{status_of};
-ghost use Rattle.cam_event.specs.Legal.{names_device};
+ghost use Rattle.cam_types.specs.Questions.{names_device};
 ghost use Rattle.trace_file.specs.Scenarios.{device_number, is_answer_item, is_answer_row, is_at, is_ruled_item, item_of, names_driver, refused_if};
 
 use crate::script_row::{ScriptItem, ScriptRow};
 use crate::step::Step;
-use cam_event::{Event, MOST_RETRIES, Refusal, is_count, names_adapter, names_lane};
+use cam_event::{Event, Refusal, is_count};
 use cam_path::CamPath;
-use cam_types::{Config, Device, MOST_PRIORITY, Outcome, are_openings};
+use cam_types::{Config, Device, MOST_PRIORITY, MOST_RETRIES, Outcome, are_openings};
 
 /// What a row asks for, or the first static cause that refuses it.
 #[tactic(auto, unfolding(crate::specs::Scenarios::item_of))]
@@ -56,12 +58,12 @@ pub(crate) fn item_of(config: &Config, row: ScriptRow) -> Result<ScriptItem, Ref
             Ok(ScriptItem::Step(driver, Step::Act(Event::ReleaseDev { device, count })))
         }
         ScriptRow::FreezeSim { driver, sim, count } => {
-            refused_if(!names_adapter(config, sim), Refusal::NoAdapter)?;
+            refused_if(!config.names_adapter(sim), Refusal::NoAdapter)?;
             refused_if(!is_count(count), Refusal::BadCount)?;
             Ok(ScriptItem::Step(driver, Step::Act(Event::FreezeSim { sim, count })))
         }
         ScriptRow::ReleaseSim { driver, sim } => {
-            refused_if(!names_adapter(config, sim), Refusal::NoAdapter)?;
+            refused_if(!config.names_adapter(sim), Refusal::NoAdapter)?;
             Ok(ScriptItem::Step(driver, Step::Act(Event::ReleaseSim { sim })))
         }
         ScriptRow::Adjust {
@@ -75,7 +77,7 @@ pub(crate) fn item_of(config: &Config, row: ScriptRow) -> Result<ScriptItem, Ref
         }
         ScriptRow::Pause { driver, round } => Ok(ScriptItem::Step(driver, Step::Pause(round))),
         ScriptRow::Answer { lane, outcome } => {
-            refused_if(!names_lane(config, lane), Refusal::NoLane)?;
+            refused_if(!config.names_lane(lane), Refusal::NoLane)?;
             refused_if(is_in_progress(&outcome), Refusal::BadStatus)?;
             Ok(ScriptItem::Answer(lane, outcome))
         }

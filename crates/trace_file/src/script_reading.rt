@@ -1,5 +1,7 @@
+//! Reads a script.
+
 ghost use Rattle.std.specs.Prelude.{◌≡◌, ◌≢◌, ◌<◌, ◌≤◌, ℕ, [], false, get_or, length, Ok, Err, IfOk, IfErr, IfSome};
-ghost use Rattle.cam_types.specs.declared.whole.TheConstants.{MOST_BYTES};
+ghost use Rattle.cam_types.specs.declared.maxima.TheConstants.{MOST_BYTES};
 ghost use Rattle.cam_types.specs.Watched.{device_of, has_failed};
 ghost use Rattle.trace_file.specs.Script.{ExplainsScript, IsManuscript, IsScript, Manuscript, WasScript, answers_of, scenario_of, steps_of};
 ghost use Rattle.trace_file.specs.ScriptReading.{script_reading};

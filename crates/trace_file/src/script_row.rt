@@ -1,3 +1,5 @@
+//! What a script's record says by its fields alone.
+
 use crate::step::Step;
 use cam_path::CamPath;
 use cam_types::{Flags, Outcome};

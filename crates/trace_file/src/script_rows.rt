@@ -1,3 +1,5 @@
+//! Reads a record of a script: its limits, its step or its answer.
+
 ghost use Rattle.std.specs.Prelude.{◌≡◌, ◌<◌, ◌≤◌, false, length, IfOk, IsTrue};
 ghost use Rattle.csv.specs.Records.{fields_of};
 ghost use Rattle.trace_file.specs.ScriptRows.{limit_at, limits_at, path_at, driver_at, by_path_at, by_number_at, submission_at, adapter_freeze_at, script_row_at};

@@ -1,3 +1,5 @@
+//! The words of a script's records.
+
 use crate::fields::is_text;
 
 /// What the first field of a script's record names, behind the configuration.

@@ -1,3 +1,5 @@
+//! What a text has said so far, for traces and scripts alike.
+
 ghost use Rattle.std.specs.Prelude.{◌≡◌, ◌≢◌, ℕ, List, Result, Err, IfOk};
 ghost use Rattle.csv.specs.Records.{fields_of};
 ghost use Rattle.trace_file.specs.declared.trace_fault.TraceFault.{TraceFault};

@@ -1,3 +1,5 @@
+//! One step of a driver's script.
+
 use event_log::Event;
 
 /// What a driver does next.

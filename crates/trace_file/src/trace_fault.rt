@@ -1,3 +1,5 @@
+//! Why a text isn't a trace or a script.
+
 use cam_event::Refusal;
 use cam_types::ConfigFault;
 use thiserror::Error;

@@ -1,3 +1,5 @@
+//! What a trace has said so far, record by record.
+
 ghost use Rattle.std.specs.Prelude.{◌≡◌, ◌≢◌, length, [], ◌∷◌, ◌++◌, Ok, Err, IfOk, IfSome, IsTrue, None};
 ghost use Rattle.csv.specs.Records.{fields_of};
 

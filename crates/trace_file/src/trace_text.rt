@@ -1,3 +1,5 @@
+//! Writes the trace of a history.
+
 ghost use Rattle.std.specs.Prelude.{◌≡◌, ◌≢◌, false, true, Err, OnOk, IfOk};
 ghost use Rattle.cam_types.specs.Watched.{device_of, has_failed, is_flushed};
 ghost use Rattle.cam_types.specs.Whole.{AppendsFront};

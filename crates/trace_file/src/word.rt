@@ -1,3 +1,5 @@
+//! The words of a trace's records.
+
 use crate::fields::is_text;
 
 /// What the first field of a trace's record names.

@@ -1,3 +1,5 @@
+//! Why a trace wasn't written.
+
 ghost use Rattle.std.specs.Prelude.{◌≡◌};
 ghost use Rattle.trace_file.specs.declared.write_fault.WriteFault.TheVariants.{OutOfMemory};
 

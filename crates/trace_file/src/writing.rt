@@ -1,3 +1,5 @@
+//! Writes the records of a configuration and of events.
+
 ghost use Rattle.std.specs.Prelude.{◌≡◌, ◌≤◌, ◌∷◌, [], decimal, map, OnOk};
 ghost use Rattle.std.specs.List.{AllByRecursion};
 ghost use Rattle.trace_file.specs.Histories.{Device};

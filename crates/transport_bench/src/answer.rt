@@ -1,3 +1,5 @@
+//! What came of a call.
+
 use cam_event::Refusal;
 use std::fmt;
 use xpt_state::{Idle, Look};

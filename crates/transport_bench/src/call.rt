@@ -1,3 +1,5 @@
+//! The calls that a line may ask for.
+
 use crate::line::read_line;
 use cam_types::{Flags, Outcome, SenseBytes};
 

@@ -1,3 +1,5 @@
+//! Why the bench ended early.
+
 use cam_types::ConfigError;
 use std::alloc::AllocError;
 use std::io;

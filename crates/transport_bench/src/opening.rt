@@ -1,3 +1,5 @@
+//! What a transport is opened with.
+
 use crate::fault::Fault;
 use crate::line::read_line;
 use cam_types::{Config, Device, Limits};

@@ -1,3 +1,5 @@
+//! The calls of one run, read and made.
+
 use crate::answer::Answer;
 use crate::call::Call;
 use crate::fault::Fault;

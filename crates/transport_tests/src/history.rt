@@ -1,6 +1,6 @@
 //! Histories: what is refused and why, and what the events come to.
 
-use cam_event::{Event, Refusal, Stay};
+use cam_event::{Event, Refusal, StayName};
 use cam_types::Config;
 use std::alloc::Global;
 use std::test::Fail;
@@ -69,7 +69,7 @@ fn a_requeued_command_is_a_stay_more(rt: HostRuntime) -> Result<(), Fail> {
         Event::Tick,
     ];
     push_all(&mut history, &events)?;
-    let requeued = Stay { ccb: 0, attempt: 1 };
+    let requeued = StayName { ccb: 0, attempt: 1 };
     assert_eq!(rt;
         (history.unsent(), history.live_cost()),
         (Some(requeued), None)

@@ -8,9 +8,10 @@ use Rattle.cam_types.specs.Lists.{is_less, least_by}
 use Rattle.cam_types.specs.Topology.{Topology}
 use Rattle.event_log.specs.Counts.{freeze_count, adapter_freezes}
 use Rattle.event_log.specs.Stays.{first}
-use Rattle.event_log.specs.Head.{is_on, devices, is_ready, has_opening, adapter_has_opening, turn_key, may_send, head}
+use Rattle.cam_types.specs.Questions.{is_on, devices}
+use Rattle.event_log.specs.Head.{is_ready, has_opening, adapter_has_opening, turn_key, may_send, head}
 use Rattle.event_log.specs.declared.event.Event.{Event}
-use Rattle.event_log.specs.declared.passage.Passage.{Passage}
+use Rattle.event_log.specs.declared.stay.Stay.{Stay}
 use Rattle.event_log.proofs.ListFacts.{filter-both, filter-same}
 use Rattle.sim_queue.specs.Adapter as sim
 use Rattle.sim_queue.specs.declared.row.Row.{Row}
@@ -67,7 +68,7 @@ All-each P h [] = All-nil P
 All-each P h (x ∷ xs) = All-cons P x xs (h x) (All-each P h xs)
 
 -- a device has a ready priority where it is ready
-some_cases : (o : Option Passage) (a b : Bool) → is_some (cond (is_some o && a && b) (option_map (λ (p : Passage). p.priority) o) None) ≡ (is_some o && a && b)
+some_cases : (o : Option Stay) (a b : Bool) → is_some (cond (is_some o && a && b) (option_map (λ (p : Stay). p.priority) o) None) ≡ (is_some o && a && b)
 some_cases None a b = refl
 some_cases (Some p) true true = refl
 some_cases (Some p) true false = refl
@@ -78,15 +79,15 @@ some-ready : (c : Topology) (es : List Event) (d : ℕ) → is_some (ready_prior
 unfolding is_ready
 some-ready c es d = some_cases (first es d) (freeze_count es d == 0) (has_opening c es d)
 
-value_cases : (o : Option Passage) → unwrap_or (option_map (λ (p : Passage). p.priority) o) 0 ≡ option_map_or (λ (p : Passage). p.priority) o 0
+value_cases : (o : Option Stay) → unwrap_or (option_map (λ (p : Stay). p.priority) o) 0 ≡ option_map_or (λ (p : Stay). p.priority) o 0
 value_cases None = refl
 value_cases (Some p) = refl
 
 same_key : (c : Topology) (es : List Event) (d : ℕ) → is_ready c es d ≡ true → sim.turn_key (row_of (known c es) d) ≡ turn_key es d
 unfolding known
 same_key c es d ready =
-    let value : unwrap_or (ready_priority c es d) 0 ≡ option_map_or (λ (p : Passage). p.priority) (first es d) 0 =
-    ap (λ b. unwrap_or (cond b (option_map (λ (p : Passage). p.priority) (first es d)) None) 0) ready ∙ value_cases (first es d) in
+    let value : unwrap_or (ready_priority c es d) 0 ≡ option_map_or (λ (p : Stay). p.priority) (first es d) 0 =
+    ap (λ b. unwrap_or (cond b (option_map (λ (p : Stay). p.priority) (first es d)) None) 0) ready ∙ value_cases (first es d) in
     ap (λ n. n ∷ (row_of (known c es) d).turn ∷ d ∷ []) value
 
 device_cases : (k : _) (o : Option ℕ) → option_map (λ (r : Row). r.device) (option_map (row_of k) o) ≡ o

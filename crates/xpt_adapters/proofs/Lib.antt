@@ -1,7 +1,6 @@
 pub mod AppendLemmas
-pub mod ConfigLemmas
 pub mod HeadLaws
-pub mod NoteLaws
+pub mod UpdateLaws
 pub mod RefreshLaws
 pub mod RowLemmas
 pub mod SimLemmas

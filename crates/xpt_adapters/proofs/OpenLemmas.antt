@@ -11,8 +11,9 @@ use Rattle.cam_types.specs.Topology.{Topology}
 use Rattle.cam_types.specs.declared.device.Device.{Device}
 use Rattle.event_log.specs.Event.{is_some_and}
 use Rattle.event_log.specs.Counts.{sendings, adapter_freezes}
-use Rattle.event_log.specs.Stays.{first, queue, waiting, passages}
-use Rattle.event_log.specs.Head.{is_on, is_ready, last_sent, adapter_openings}
+use Rattle.event_log.specs.Stays.{first, queue, waiting, stays_begun}
+use Rattle.cam_types.specs.Questions.{is_on, adapter_openings}
+use Rattle.event_log.specs.Head.{is_ready, last_sent}
 use Rattle.event_log.proofs.ListFacts.{range_with_len-push}
 use Rattle.event_log.proofs.StateLaws.{map-range_same}
 use Rattle.sim_queue.specs.Adapter.{Adapter, new_row}
@@ -29,7 +30,7 @@ filter-range_more p n =
 
 bus_is : (c : Topology) (a n : ℕ) (ds : List Device) (d : Device) → ds ≡ c.devices → n < length ds → is_on c a n ≡ ((get_or ds n d).bus == a)
 bus_is c a n ds d same lt =
-    ap (λ xs. is_some_and (λ (x : Device). x.bus == a) (slice_get xs n)) (sym same) ∙ ap (is_some_and (λ (x : Device). x.bus == a)) (slice_get-get_or ds n d lt)
+    ap (λ xs. option_map_or (λ (x : Device). x.bus == a) (slice_get xs n) false) (sym same) ∙ ap (λ o. option_map_or (λ (x : Device). x.bus == a) o false) (slice_get-get_or ds n d lt)
 
 same_number : (a b : ℕ) → a ≡ b → (a == b) ≡ true
 same_number a b e = grind (arith, nat_tests)
@@ -60,6 +61,6 @@ adapter_more c n openings ds d ss same lt on so_far =
 
 -- nothing is known before any event
 pub known-nothing : (c : Topology) → adapters_of c nothing ≡ adapters_of c (known c [])
-unfolding known last_sent sendings adapter_freezes is_ready first queue waiting passages
+unfolding known last_sent sendings adapter_freezes is_ready first queue waiting stays_begun
 known-nothing c =
     sym (map-range_same (adapter_of c nothing) (adapter_of c (known c [])) 0 (length c.adapters) (λ a low lt. known-same c nothing (known c []) a (λ x. refl) (λ x. refl) refl refl))

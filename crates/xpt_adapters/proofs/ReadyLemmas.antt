@@ -1,36 +1,39 @@
 -- the devices' readiness, set one after another
-use Rattle.std.proofs.Common.{◌≡◌, ℕ, ◌+◌, ◌<◌, ◌≤◌, Bool, true, false, cond, List, [], ◌∷◌, length, get_or, refl, sym, ap, ◌∙◌, arith, Option, map, zero-add}
-use Rattle.std.specs.Prelude.{◌==◌, ◌&&◌, ◌||◌, nat_lt, filter}
+use Rattle.std.proofs.Common.{◌≡◌, ℕ, ◌+◌, ◌<◌, ◌≤◌, Bool, true, false, cond, List, [], ◌∷◌, length, get_or, refl, sym, ap, ◌∙◌, arith, Option, Some, None, map, zero-add}
+use Rattle.std.specs.Prelude.{◌==◌, ◌&&◌, ◌||◌, nat_lt, filter, slice_get}
 use Rattle.std.specs.List.{list_any}
-use Rattle.std.specs.Option.{option_map_or}
+use Rattle.std.specs.Option.{option_map, option_map_or}
 use Rattle.std.proofs.lemmas.Bool.{and_from, eqb-true, lt-ltb}
 use Rattle.std.proofs.lemmas.List.Folds.{list_any_at}
 use Rattle.std.proofs.lemmas.Bool.Decides.{nat_tests}
 use Rattle.std.proofs.lemmas.List.{length-map}
 use Rattle.std.proofs.lemmas.List.FromFn.{length-range_with_len, get_or-range_with_len}
-use Rattle.std.proofs.lemmas.Option.{slice_get-get_or}
 use Rattle.cam_types.specs.Topology.{Topology, IsConfig}
 use Rattle.cam_types.specs.declared.device.Device.{Device}
-use Rattle.event_log.specs.Head.{is_on, devices, adapter_openings}
+use Rattle.cam_types.specs.Questions.{is_on, device_adapter, adapter_openings, devices}
 use Rattle.event_log.specs.declared.event.Event.{Event}
 use Rattle.event_log.proofs.StateLaws.{map-range_same}
 use Rattle.sim_queue.specs.Adapter.{Adapter, is_named}
 use Rattle.sim_queue.specs.declared.row.Row.{Row}
 use Rattle.xpt_devices.specs.Ready.{ready_priority}
 use Rattle.xpt_adapters.specs.Known.{Known, row_of, adapter_of, adapters_of, adapters, set_at}
-use Rattle.xpt_adapters.specs.Told.{bus_of, with_ready, all_ready, AreAdapters}
-use Rattle.xpt_devices.specs.Told.{at_place}
-use Rattle.xpt_adapters.proofs.ConfigLemmas.{bus-there}
+use Rattle.xpt_adapters.specs.Updated.{with_ready, all_ready, AreAdapters}
+use Rattle.xpt_devices.specs.Updated.{at_place}
+use Rattle.cam_types.proofs.ConfigLemmas.{bus-there}
 use Rattle.xpt_devices.proofs.PlaceLemmas.{value_at}
 use Rattle.xpt_adapters.proofs.RefreshLaws.{one-ready, each-ready}
 use Rattle.xpt_adapters.proofs.RowLemmas.{adapter, row-same, rows_where, on-bus, on-there}
 
--- the adapter that is read from the configuration
-pub bus_read : (c : Topology) (ds : List Device) (d n : ℕ) (e : Device) → ds ≡ c.devices → d < length c.devices → n ≡ (get_or ds d e).bus → n ≡ bus_of c d
-bus_read c ds d n e same lt is =
-    is ∙ ap (λ xs. (get_or xs d e).bus) same ∙ sym (ap (λ o. option_map_or (λ (x : Device). x.bus) o 0) (slice_get-get_or c.devices d e lt))
+-- the adapter that the configuration answers
+pub adapter_read : (c k : Topology) (d n : ℕ) (o : Option ℕ) → k ≡ c → o ≡ option_map (λ (x : Device). x.bus) (slice_get k.devices d) → o ≡ Some n → n ≡ device_adapter c d
+adapter_read c k d n o same is some =
+    ap (λ p. option_map_or (λ m. m) p 0) (sym some ∙ is) ∙ by (slice_get k.devices d) ∙ ap (λ t. device_adapter t d) same
+  where
+    by : (p : Option Device) → option_map_or (λ (m : ℕ). m) (option_map (λ (x : Device). x.bus) p) 0 ≡ option_map_or (λ (x : Device). x.bus) p 0
+    by None = refl
+    by (Some x) = refl
 
-pub bus_within : (c : Topology) (ss : List Adapter) (d m n : ℕ) → IsConfig c → d < length c.devices → n ≡ bus_of c d → m ≡ length ss → AreAdapters c ss → n < m
+pub bus_within : (c : Topology) (ss : List Adapter) (d m n : ℕ) → IsConfig c → d < length c.devices → n ≡ device_adapter c d → m ≡ length ss → AreAdapters c ss → n < m
 bus_within c ss d m n config lt is len are =
     omega (arith, is, len, bus-there c d config lt, ap length are.is, length-map (adapters c) (adapter_of c are.by), length-range_with_len 0 (length c.adapters))
 
@@ -51,7 +54,7 @@ any-rows k p q (x ∷ xs) =
 same_number : (a : ℕ) → (a == a) ≡ true
 same_number a = grind (arith, nat_tests)
 
-pub named-at : (c : Topology) (ss : List Adapter) (d n : ℕ) (s : Adapter) → IsConfig c → d < length c.devices → n ≡ bus_of c d → AreAdapters c ss → s ≡ get_or ss n s → is_named d s.rows ≡ true
+pub named-at : (c : Topology) (ss : List Adapter) (d n : ℕ) (s : Adapter) → IsConfig c → d < length c.devices → n ≡ device_adapter c d → AreAdapters c ss → s ≡ get_or ss n s → is_named d s.rows ≡ true
 named-at c ss d n s config lt is are read =
     let there : n < length c.adapters = omega (arith, is, bus-there c d config lt) in
     let own : s ≡ adapter_of c are.by n = value_at (adapter_of c are.by) (length c.adapters) n s there (read ∙ ap (λ xs. get_or xs n s) are.is) in
@@ -92,10 +95,10 @@ SoFar c es before n now =
 pub so_far-start : (c : Topology) (es : List Event) (ss : List Adapter) → SoFar c es ss 0 ss
 so_far-start c es ss k is = is ∙ same_where c k k.ready (below 0 (ready_priority c es) k.ready) (λ x lt. sym (below_none (ready_priority c es) k.ready x))
 
-pub so_far-step : (c : Topology) (es : List Event) (before now ss : List Adapter) (d : ℕ) → d < length c.devices → SoFar c es before d now → ss ≡ at_place (bus_of c d) (with_ready c es d) now → SoFar c es before (d + 1) ss
+pub so_far-step : (c : Topology) (es : List Event) (before now ss : List Adapter) (d : ℕ) → d < length c.devices → SoFar c es before d now → ss ≡ at_place (device_adapter c d) (with_ready c es d) now → SoFar c es before (d + 1) ss
 so_far-step c es before now ss d lt h made k is =
     let f = ready_priority c es in
-    made ∙ ap (at_place (bus_of c d) (with_ready c es d)) (h k is) ∙ one-ready c (record k { ready = below d f k.ready }) es d lt
+    made ∙ ap (at_place (device_adapter c d) (with_ready c es d)) (h k is) ∙ one-ready c (record k { ready = below d f k.ready }) es d lt
     ∙ same_where c k (set_at d (f d) (below d f k.ready)) (below (d + 1) f k.ready) (λ x in_range. sym (below_more d f k.ready x (d == x) refl))
 
 pub so_far-adapters : (c : Topology) (es : List Event) (before now : List Adapter) (n : ℕ) → AreAdapters c before → SoFar c es before n now → AreAdapters c now

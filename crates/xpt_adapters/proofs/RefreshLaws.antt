@@ -4,16 +4,15 @@ use Rattle.std.specs.Prelude.{◌==◌, ◌&&◌, nat_le, slice_get}
 use Rattle.std.specs.Option.{option_map, option_map_or}
 use Rattle.std.proofs.lemmas.Bool.{and_parts, eqb-true, eqb-false, ltb-true}
 use Rattle.cam_types.specs.Topology.{Topology}
-use Rattle.cam_types.specs.declared.priority.TheConstants.{MOST_PRIORITY}
+use Rattle.cam_types.specs.declared.maxima.TheConstants.{MOST_PRIORITY, MOST_RETRIES, MOST_FREEZES}
 use Rattle.event_log.specs.Event.{is_tick}
 use Rattle.event_log.specs.Counts.{commands, submission, caller_count}
-use Rattle.event_log.specs.Head.{adapter_openings}
+use Rattle.cam_types.specs.Questions.{names_device, device_adapter, adapter_openings}
 use Rattle.event_log.specs.declared.event.Event.{Event}
 use Rattle.event_log.specs.declared.event.Event.TheVariants.{Submit, Send, Done, Requeue, Finish, FreezeDev, ReleaseDev, FreezeSim, ReleaseSim, Adjust, Tick}
 use Rattle.event_log.specs.declared.submission.Submission.{Submission}
 use Rattle.event_log.proofs.StateLaws.{map-range_same}
-use Rattle.cam_event.specs.Legal.{Rules, names_device, is_count, is_legal_event, is_legal}
-use Rattle.cam_event.specs.declared.most.TheConstants.{MOST_RETRIES, MOST_FREEZES}
+use Rattle.cam_event.specs.Legal.{Rules, is_count, is_legal_event, is_legal}
 use Rattle.cam_event.proofs.LawLemmas.{allowed-legal_event}
 use Rattle.cam_event.proofs.RangeLemmas.{range_submit}
 use Rattle.cam_event.proofs.StandLemmas.{asks-send, asks-done, asks-requeue, asks-finish}
@@ -25,53 +24,50 @@ use Rattle.dev_queue.specs.Device.{Device}
 use Rattle.dev_queue.specs.declared.waiting.Waiting.{Waiting}
 use Rattle.event_log.specs.Stays.{first}
 use Rattle.event_log.specs.Head.{is_ready}
-use Rattle.event_log.specs.declared.passage.Passage.{Passage}
+use Rattle.event_log.specs.declared.stay.Stay.{Stay}
 use Rattle.xpt_devices.specs.Device.{device_state, entry}
-use Rattle.xpt_devices.specs.Told.{with_openings}
+use Rattle.xpt_devices.specs.Updated.{with_openings}
 use Rattle.xpt_devices.proofs.DeviceLaws.{state-adjust}
 use Rattle.xpt_devices.proofs.TransportLemmas.{ccb_known}
 use Rattle.xpt_devices.proofs.RoomLemmas.{ready-state}
 use Rattle.xpt_devices.proofs.SoundLemmas.{entry_priority, first-state}
-use Rattle.xpt_devices.proofs.TouchLaws as device
-use Rattle.xpt_devices.proofs.TouchLaws.{ready_priority-untouched}
+use Rattle.xpt_devices.proofs.AffectedLaws as device
+use Rattle.xpt_devices.proofs.AffectedLaws.{ready_priority-unaffected}
 use Rattle.xpt_adapters.specs.Known.{Known, known, devices_on, adapter_of, adapters_of, set_at}
-use Rattle.xpt_adapters.specs.Touched.{touched_by, touched_ccb}
-use Rattle.xpt_adapters.specs.Told.{bus_of, with_ready, fresh_row, all_ready, refreshed, IsThere}
-use Rattle.xpt_devices.specs.Told.{at_place}
-use Rattle.xpt_adapters.specs.declared.touched.Touched.{Touched}
-use Rattle.xpt_adapters.specs.declared.touched.Touched.TheVariants.{Nothing, One, All}
-use Rattle.xpt_adapters.proofs.NoteLaws.{told}
+use Rattle.xpt_adapters.specs.Affected.{affected_by, affected_ccb}
+use Rattle.xpt_adapters.specs.Updated.{with_ready, fresh_row, all_ready, refreshed, IsThere}
+use Rattle.xpt_devices.specs.Updated.{at_place}
+use Rattle.xpt_adapters.specs.declared.affected.Affected.{Affected}
+use Rattle.xpt_adapters.specs.declared.affected.Affected.TheVariants.{Nothing, One, All}
+use Rattle.xpt_adapters.proofs.UpdateLaws.{unrefreshed}
 use Rattle.xpt_devices.proofs.PlaceLemmas.{at_range, all_range}
 use Rattle.xpt_adapters.proofs.RowLemmas.{adapter, known-same, row-same, row-ready, rows_all, rows_change, on-bus}
 
--- a device that was touched is there
-there_ccb : (rules : Rules) (c : Topology) (es : List Event) (ccb : ℕ) → is_legal rules c es ≡ true → ccb < commands es → IsThere c (touched_ccb es ccb)
+-- a device that was affected is there
+there_ccb : (rules : Rules) (c : Topology) (es : List Event) (ccb : ℕ) → is_legal rules c es ≡ true → ccb < commands es → IsThere c (affected_ccb es ccb)
 there_ccb rules c es ccb legal lt =
     let known = ccb_known rules c es ccb legal lt in
     subst (λ o. IsThere c (option_map_or (λ (x : Submission). One x.device) o Nothing)) (sym known.1.is) known.1.device
 
-pub touched-there : (rules : Rules) (c : Topology) (es : List Event) (e : Event) → is_legal rules c es ≡ true → is_legal_event rules c (es, e) ≡ true → IsThere c (touched_by es e)
-touched-there rules c es (Submit driver device priority retries flags) legal allowed =
+pub affected-there : (rules : Rules) (c : Topology) (es : List Event) (e : Event) → is_legal rules c es ≡ true → is_legal_event rules c (es, e) ≡ true → IsThere c (affected_by es e)
+affected-there rules c es (Submit driver device priority retries flags) legal allowed =
     let range = range_submit rules c es driver device priority retries flags allowed in
     let one = and_parts (names_device c device && nat_le priority MOST_PRIORITY) (nat_le retries MOST_RETRIES) range in
     ltb-true _ _ (and_parts (names_device c device) (nat_le priority MOST_PRIORITY) one.0).0
-touched-there rules c es (Send lane ccb) legal allowed = there_ccb rules c es ccb legal (asks-send rules c es lane ccb allowed).0
-touched-there rules c es (Done ccb o) legal allowed = there_ccb rules c es ccb legal (asks-done rules c es ccb o allowed).0
-touched-there rules c es (Requeue ccb) legal allowed = there_ccb rules c es ccb legal (asks-requeue rules c es ccb allowed).0
-touched-there rules c es (Finish ccb) legal allowed = there_ccb rules c es ccb legal (asks-finish rules c es ccb allowed).0
-touched-there rules c es (FreezeDev device count) legal allowed =
+affected-there rules c es (Send lane ccb) legal allowed = there_ccb rules c es ccb legal (asks-send rules c es lane ccb allowed).0
+affected-there rules c es (Done ccb o) legal allowed = there_ccb rules c es ccb legal (asks-done rules c es ccb o allowed).0
+affected-there rules c es (Requeue ccb) legal allowed = there_ccb rules c es ccb legal (asks-requeue rules c es ccb allowed).0
+affected-there rules c es (Finish ccb) legal allowed = there_ccb rules c es ccb legal (asks-finish rules c es ccb allowed).0
+affected-there rules c es (FreezeDev device count) legal allowed =
     let one = and_parts (names_device c device && is_count count) (nat_le (caller_count es device + count) MOST_FREEZES) (allowed-legal_event rules c es (FreezeDev device count) allowed).1 in
     ltb-true _ _ (and_parts (names_device c device) (is_count count) one.0).0
-touched-there rules c es (ReleaseDev device count) legal allowed =
+affected-there rules c es (ReleaseDev device count) legal allowed =
     let one = and_parts (names_device c device && is_count count) (nat_le count (caller_count es device)) (allowed-legal_event rules c es (ReleaseDev device count) allowed).1 in
     ltb-true _ _ (and_parts (names_device c device) (is_count count) one.0).0
-touched-there rules c es (Adjust device openings) legal allowed = tt
-touched-there rules c es (FreezeSim sim count) legal allowed = tt
-touched-there rules c es (ReleaseSim sim) legal allowed = tt
-touched-there rules c es Tick legal allowed = tt
+affected-there rules c es _ legal allowed = tt
 
--- an event that touches no device, or another
-abbrev Misses : ℕ → Touched → Type 0
+-- an event that affects no device, or another
+abbrev Misses : ℕ → Affected → Type 0
 Misses x (One d) = d ≢ x
 Misses x Nothing = Unit
 Misses x All = ⊥
@@ -84,7 +80,7 @@ abbrev is_adjust : Event → Bool
 is_adjust (Adjust d openings) = true
 is_adjust _ = false
 
-misses : (es : List Event) (e : Event) (x : ℕ) → is_adjust e ≡ false → Misses x (touched_by es e) → (is_tick e ≡ false) × (device.touched es e ≢ Some x)
+misses : (es : List Event) (e : Event) (x : ℕ) → is_adjust e ≡ false → Misses x (affected_by es e) → (is_tick e ≡ false) × (device.affected es e ≢ Some x)
 misses es (Submit driver d priority retries flags) x other h = (refl, λ e. let same : d ≡ x = cc in h same)
 misses es (Send lane ccb) x other h = (refl, ccb_misses (submission es ccb) x h)
 misses es (Done ccb o) x other h = (refl, ccb_misses (submission es ccb) x h)
@@ -113,7 +109,7 @@ ready-adjust c es d n x =
     sym (ready-state c 0 (es ++ e ∷ []) x) ∙ ap dev.is_ready (state-adjust c 0 es x d n) ∙ adjusted_ready (d == x) n (device_state c 0 es x) ∙ ready-state c 0 es x in
     let stay : option_map entry (first (es ++ e ∷ []) x) ≡ option_map entry (first es x) =
     sym (first-state c 0 (es ++ e ∷ []) x) ∙ ap (λ (q : Device). slice_get q.waiting 0) (state-adjust c 0 es x d n) ∙ adjusted_first (d == x) n (device_state c 0 es x) ∙ first-state c 0 es x in
-    ap (λ b. cond b (option_map (λ (p : Passage). p.priority) (first (es ++ e ∷ []) x)) None) ready
+    ap (λ b. cond b (option_map (λ (p : Stay). p.priority) (first (es ++ e ∷ []) x)) None) ready
     ∙ ap (λ o. cond (is_ready c es x) o None)
     (sym (entry_priority (first (es ++ e ∷ []) x)) ∙ ap (option_map (λ (w : Waiting). w.priority)) stay ∙ entry_priority (first es x))
 
@@ -123,13 +119,13 @@ rows_cases rows rows' rows'' o s f false e = ap (λ r. adapter r o s f) e
 
 -- one device's readiness set anew
 pub one-ready : (c : Topology) (k : Known) (es : List Event) (d : ℕ) → d < length c.devices →
-    at_place (bus_of c d) (with_ready c es d) (adapters_of c k) ≡ adapters_of c (record k { ready = set_at d (ready_priority c es d) k.ready })
+    at_place (device_adapter c d) (with_ready c es d) (adapters_of c k) ≡ adapters_of c (record k { ready = set_at d (ready_priority c es d) k.ready })
 one-ready c k es d lt =
     let k' : Known = record k { ready = set_at d (ready_priority c es d) k.ready } in
-    sym (at_range (adapter_of c k) (adapter_of c k') (length c.adapters) (bus_of c d) (with_ready c es d)
-    (λ a. rows_cases _ _ _ (adapter_openings c a) (k.sent a) (k.callers a) (bus_of c d == a)
-    (rows_change c k k' d (bus_of c d) (on-bus c d lt) (prioritized d (ready_priority c es d)) (row-ready k k' d (ready_priority c es d) (λ x. refl) (λ x. refl))
-    (λ x far. row-same x _ _ _ _ refl (ap (λ b. cond b (ready_priority c es d) (k.ready x)) far)) a (bus_of c d == a) refl)))
+    sym (at_range (adapter_of c k) (adapter_of c k') (length c.adapters) (device_adapter c d) (with_ready c es d)
+    (λ a. rows_cases _ _ _ (adapter_openings c a) (k.sent a) (k.callers a) (device_adapter c d == a)
+    (rows_change c k k' d (device_adapter c d) (on-bus c d lt) (prioritized d (ready_priority c es d)) (row-ready k k' d (ready_priority c es d) (λ x. refl) (λ x. refl))
+    (λ x far. row-same x _ _ _ _ refl (ap (λ b. cond b (ready_priority c es d) (k.ready x)) far)) a (device_adapter c d == a) refl)))
 
 -- and that of each device
 pub each-ready : (c : Topology) (k : Known) (es : List Event) → map (all_ready c es) (adapters_of c k) ≡ adapters_of c (record k { ready = ready_priority c es })
@@ -138,9 +134,9 @@ each-ready c k es =
     sym (all_range (adapter_of c k) (adapter_of c k') (length c.adapters) (all_ready c es)
     (λ a. ap (λ r. adapter r (adapter_openings c a) (k.sent a) (k.callers a)) (rows_all k k' (fresh_row c es) (λ x. refl) (devices_on c a))) 0 (length c.adapters))
 
-missed : (rules : Rules) (c : Topology) (es : List Event) → is_legal rules c es ≡ true → (e : Event) → is_legal_event rules c (es, e) ≡ true → (x : ℕ) → Misses x (touched_by es e) → ready_priority c (es ++ e ∷ []) x ≡ ready_priority c es x
+missed : (rules : Rules) (c : Topology) (es : List Event) → is_legal rules c es ≡ true → (e : Event) → is_legal_event rules c (es, e) ≡ true → (x : ℕ) → Misses x (affected_by es e) → ready_priority c (es ++ e ∷ []) x ≡ ready_priority c es x
 missed rules c es legal (Adjust d n) allowed x h = ready-adjust c es d n x
-missed rules c es legal e allowed x h = let m = misses es e x refl h in ready_priority-untouched rules c 0 es legal x e allowed m.0 m.1
+missed rules c es legal e allowed x h = let m = misses es e x refl h in ready_priority-unaffected rules c 0 es legal x e allowed m.0 m.1
 
 module _ (rules : Rules) (c : Topology) (es : List Event) (legal : is_legal rules c es ≡ true) (e : Event) (allowed : is_legal_event rules c (es, e) ≡ true) where
   same_all : (k : Known) → ((x : ℕ) → ready_priority c (es ++ e ∷ []) x ≡ k.ready x) → adapters_of c (record k { ready = ready_priority c (es ++ e ∷ []) }) ≡ adapters_of c k
@@ -153,14 +149,14 @@ module _ (rules : Rules) (c : Topology) (es : List Event) (legal : is_legal rule
   one_cases d x true is h = ap (ready_priority c (es ++ e ∷ [])) (sym (eqb-true d x is))
   one_cases d x false is h = h (eqb-false d x is)
 
-  refresh_cases : (t : Touched) → IsThere c t → ((x : ℕ) → Misses x t → ready_priority c (es ++ e ∷ []) x ≡ ready_priority c es x) →
-      adapters_of c (record (told c es e) { ready = ready_priority c (es ++ e ∷ []) }) ≡ refreshed c (es ++ e ∷ []) t (adapters_of c (told c es e))
-  refresh_cases Nothing there h = same_all (told c es e) (λ x. h x tt)
-  refresh_cases All there h = sym (each-ready c (told c es e) (es ++ e ∷ []))
+  refresh_cases : (t : Affected) → IsThere c t → ((x : ℕ) → Misses x t → ready_priority c (es ++ e ∷ []) x ≡ ready_priority c es x) →
+      adapters_of c (record (unrefreshed c es e) { ready = ready_priority c (es ++ e ∷ []) }) ≡ refreshed c (es ++ e ∷ []) t (adapters_of c (unrefreshed c es e))
+  refresh_cases Nothing there h = same_all (unrefreshed c es e) (λ x. h x tt)
+  refresh_cases All there h = sym (each-ready c (unrefreshed c es e) (es ++ e ∷ []))
   refresh_cases (One d) there h =
       let p = ready_priority c (es ++ e ∷ []) d in
-      same_all (record (told c es e) { ready = set_at d p (ready_priority c es) }) (λ x. one_cases d x (d == x) refl (h x)) ∙ sym (one-ready c (told c es e) (es ++ e ∷ []) d there)
+      same_all (record (unrefreshed c es e) { ready = set_at d p (ready_priority c es) }) (λ x. one_cases d x (d == x) refl (h x)) ∙ sym (one-ready c (unrefreshed c es e) (es ++ e ∷ []) d there)
 
-  pub refresh-push : adapters_of c (known c (es ++ e ∷ [])) ≡ refreshed c (es ++ e ∷ []) (touched_by es e) (adapters_of c (told c es e))
+  pub refresh-push : adapters_of c (known c (es ++ e ∷ [])) ≡ refreshed c (es ++ e ∷ []) (affected_by es e) (adapters_of c (unrefreshed c es e))
   unfolding known
-  refresh-push = refresh_cases (touched_by es e) (touched-there rules c es e legal allowed) (missed rules c es legal e allowed)
+  refresh-push = refresh_cases (affected_by es e) (affected-there rules c es e legal allowed) (missed rules c es legal e allowed)

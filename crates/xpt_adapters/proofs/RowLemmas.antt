@@ -8,11 +8,10 @@ use Rattle.std.proofs.lemmas.Bool.Decides.{nat_tests}
 use Rattle.cam_types.specs.Topology.{Topology}
 use Rattle.cam_types.specs.declared.device.Device.{Device}
 use Rattle.event_log.specs.Event.{is_some_and}
-use Rattle.event_log.specs.Head.{is_on, devices, adapter_openings}
+use Rattle.cam_types.specs.Questions.{is_on, device_adapter, adapter_openings, devices}
 use Rattle.sim_queue.specs.Adapter.{Adapter, prioritized, sent_at}
 use Rattle.sim_queue.specs.declared.row.Row.{Row}
 use Rattle.xpt_adapters.specs.Known.{Known, devices_on, row_of, adapter_of}
-use Rattle.xpt_adapters.specs.Told.{bus_of}
 
 -- a row by its parts
 abbrev pub row : ℕ → ℕ → Option ℕ → Row
@@ -55,15 +54,15 @@ module _ (k k' : Known) where
       part false e rest = rest
 
 -- a device is on its own adapter alone
-pub on-bus : (c : Topology) (d : ℕ) → d < length c.devices → (a : ℕ) → is_on c a d ≡ (bus_of c d == a)
+pub on-bus : (c : Topology) (d : ℕ) → d < length c.devices → (a : ℕ) → is_on c a d ≡ (device_adapter c d == a)
 on-bus c d lt a = elim (slice_get_cases c.devices d).1 [
-  | inl w ↦ ap (is_some_and (λ (x : Device). x.bus == a)) w.2 ∙ sym (ap (λ o. option_map_or (λ (x : Device). x.bus) o 0 == a) w.2)
+  | inl w ↦ ap (λ o. option_map_or (λ (x : Device). x.bus == a) o false) w.2 ∙ sym (ap (λ o. option_map_or (λ (x : Device). x.bus) o 0 == a) w.2)
   | inr v ↦ absurd (omega (arith, v.0))
 ]
 
 -- a device is there that is on an adapter
 pub on-there : (c : Topology) (a d : ℕ) → is_on c a d ≡ true → d < length c.devices
-on-there c a d on = elim (slice_get c.devices d) as (λ o. slice_get c.devices d ≡ o → is_some_and (λ (x : Device). x.bus == a) o ≡ true → d < length c.devices) [
+on-there c a d on = elim (slice_get c.devices d) as (λ o. slice_get c.devices d ≡ o → option_map_or (λ (x : Device). x.bus == a) o false ≡ true → d < length c.devices) [
   | None ↦ λ e g. absurd (cc)
   | Some x ↦ λ e g. slice_get_within c.devices d x e
 ] refl on

@@ -3,7 +3,8 @@ use Rattle.std.specs.Prelude.{ℕ, ◌==◌, if◌then◌else◌, List, length, 
 use Rattle.std.specs.List.{range_with_len}
 use Rattle.cam_types.specs.Topology.{Topology}
 use Rattle.event_log.specs.Counts.{sendings, adapter_freezes}
-use Rattle.event_log.specs.Head.{is_on, devices, adapter_openings, goes_now_to_adapter, last_sent}
+use Rattle.cam_types.specs.Questions.{is_on, adapter_openings, devices}
+use Rattle.event_log.specs.Head.{goes_now_to_adapter, last_sent}
 use Rattle.event_log.specs.declared.event.Event.{Event}
 use Rattle.sim_queue.specs.Adapter.{Adapter}
 use Rattle.sim_queue.specs.declared.row.Row.{Row}

@@ -1,4 +1,4 @@
 pub mod Known
-pub mod Touched
-pub mod Told
-pub mod Turn
+pub mod Affected
+pub mod Updated
+pub mod Next

@@ -1,12 +1,14 @@
+//! The adapters of a transport, by their public calls.
+
 ghost use Rattle.std.specs.Prelude.{◌≡◌, ◌<◌, ◌≤◌, ◌==◌, not, [], ◌∷◌, ◌++◌, length, count_by, IsTrue, IfOk};
 ghost use Rattle.std.specs.Option.{option_map};
-ghost use Rattle.cam_event.specs.declared.most.TheConstants.{MOST_FREEZES};
+ghost use Rattle.cam_types.specs.declared.maxima.TheConstants.{MOST_FREEZES};
 
-use crate::note::note;
+use crate::affected::affected_by;
+use crate::next::Next;
 use crate::open::open_queues;
 use crate::refresh::refresh;
-use crate::touched::touched_by;
-use crate::turn::Turn;
+use crate::update::update;
 use cam_event::Rules;
 use cam_types::Config;
 use event_log::Event;
@@ -39,7 +41,7 @@ impl Adapters {
     ghost use Rattle.event_log.specs.Head.{goes_now_to_adapter, adapter_has_opening, next};
     ghost use Rattle.cam_event.specs.Legal.{is_legal_event};
     ghost use Rattle.xpt_adapters.specs.Known.{known, adapter_of};
-    ghost use Rattle.xpt_adapters.specs.Turn.{turn_of};
+    ghost use Rattle.xpt_adapters.specs.Next.{next_of};
 
     /// Adapters and devices to which nothing has happened, with memory for all that the rules let happen.
     pub fn open(alloc: Global, config: Config, rules: Rules) -> Result<Adapters, AllocError>
@@ -56,11 +58,11 @@ impl Adapters {
         requires legal { IsTrue (is_legal_event (self.old.rules) self.old.config (self.old.events, event)) }
         ensures { self.new ≡ record self.old { events = self.old.events ++ event ∷ [] } }
     {
-        let touched = touched_by(&self.devices, &event);
+        let affected = affected_by(&self.devices, &event);
         self.devices.append(event);
         let place = self.devices.events().len() as u32 - 1;
-        note(&mut self.sims, self.devices.config().lanes(), &event, place);
-        refresh(&mut self.sims, &self.devices, touched);
+        update(&mut self.sims, self.devices.config(), &event, place);
+        refresh(&mut self.sims, &self.devices, affected);
     }
 
     /// The devices, with the configuration, the rules and the events.
@@ -80,13 +82,13 @@ impl Adapters {
 
     /// Whose turn it is on the adapter: the first stay of its device that sends next. None where it is frozen, its
     /// openings are used, or no device on it is ready.
-    pub fn next(&self, adapter: u32) -> Option<Turn>
+    pub fn next(&self, adapter: u32) -> Option<Next>
         requires { adapter < length self.now.config.adapters }
-        ensures { result ≡ option_map turn_of (next self.now.config self.now.events adapter) }
+        ensures { result ≡ option_map next_of (next self.now.config self.now.events adapter) }
     {
         let device = self.sim(adapter).best_ready()?;
         let stay = self.devices.first(device)?;
-        Some(Turn::new(device, stay))
+        Some(Next::new(device, stay))
     }
 
     /// The freezes of the adapter, at most 65,535.

@@ -2,11 +2,11 @@
 #![tactic(auto)]
 
 pub use adapters::Adapters;
-pub use turn::Turn;
+pub use next::Next;
 
 mod adapters;
-mod note;
+mod affected;
+mod next;
 mod open;
 mod refresh;
-mod touched;
-mod turn;
+mod update;

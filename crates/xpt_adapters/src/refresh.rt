@@ -1,22 +1,23 @@
 //! Which devices are ready, as the adapters know it.
 ghost use Rattle.std.specs.Prelude.{◌≡◌, ◌<◌, length, map};
-ghost use Rattle.xpt_adapters.specs.Told.{bus_of, with_ready, all_ready, refreshed, AreAdapters, IsThere};
-ghost use Rattle.xpt_devices.specs.Told.{at_place};
+ghost use Rattle.cam_types.specs.Questions.{device_adapter};
+ghost use Rattle.xpt_adapters.specs.Updated.{with_ready, all_ready, refreshed, AreAdapters, IsThere};
+ghost use Rattle.xpt_devices.specs.Updated.{at_place};
 
-use crate::touched::Touched;
+use crate::affected::Affected;
 use sim_queue::SimQueue;
 use xpt_devices::Devices;
 
-/// Asks the devices that were touched anew whether they are ready.
-pub(crate) fn refresh(sims: &mut Vec<SimQueue>, devices: &Devices, touched: Touched)
-    requires there { IsThere devices.now.config touched }
+/// Asks the devices that were affected anew whether they are ready.
+pub(crate) fn refresh(sims: &mut Vec<SimQueue>, devices: &Devices, affected: Affected)
+    requires there { IsThere devices.now.config affected }
     requires adapters { AreAdapters devices.now.config sims.old.items }
-    ensures { sims.new.items ≡ refreshed devices.now.config devices.now.events touched sims.old.items }
+    ensures { sims.new.items ≡ refreshed devices.now.config devices.now.events affected sims.old.items }
 {
-    match touched {
-        Touched::Nothing => {}
-        Touched::One(device) => refresh_one(sims, devices, device),
-        Touched::All => refresh_all(sims, devices),
+    match affected {
+        Affected::Nothing => {}
+        Affected::One(device) => refresh_one(sims, devices, device),
+        Affected::All => refresh_all(sims, devices),
     }
 }
 
@@ -24,11 +25,11 @@ pub(crate) fn refresh(sims: &mut Vec<SimQueue>, devices: &Devices, touched: Touc
 fn refresh_one(sims: &mut Vec<SimQueue>, devices: &Devices, device: u32)
     requires there { device < length devices.now.config.devices }
     requires adapters { AreAdapters devices.now.config sims.old.items }
-    ensures { sims.new.items ≡ at_place (bus_of devices.now.config device) (with_ready devices.now.config devices.now.events device) sims.old.items }
+    ensures { sims.new.items ≡ at_place (device_adapter devices.now.config device) (with_ready devices.now.config devices.now.events device) sims.old.items }
 {
-    let bus = devices.config().devices()[device as usize].bus;
+    let adapter = devices.config().device_adapter(device).unwrap();
     let priority = devices.ready_priority(device);
-    let sim = &mut sims[usize::from(bus)];
+    let sim = &mut sims[adapter as usize];
     sim.set_ready(device, priority);
 }
 

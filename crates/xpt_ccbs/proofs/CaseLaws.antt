@@ -103,13 +103,7 @@ concerns-same (Send lane ccb) c is k = let same : ccb ≡ c = cc in rw (or_none 
 concerns-same (Done ccb outcome) c is k = let same : ccb ≡ c = cc in rw (or_none (ccb == k), or_none (ccb == k)) (ap (λ n. n == k) same)
 concerns-same (Requeue ccb) c is k = let same : ccb ≡ c = cc in rw (or_none (ccb == k)) (ap (λ n. n == k) same)
 concerns-same (Finish ccb) c is k = let same : ccb ≡ c = cc in ap (λ n. n == k) same
-concerns-same (Submit driver device priority retries flags) c is k = absurd (cc)
-concerns-same (FreezeDev device count) c is k = absurd (cc)
-concerns-same (ReleaseDev device count) c is k = absurd (cc)
-concerns-same (FreezeSim sim count) c is k = absurd (cc)
-concerns-same (ReleaseSim sim) c is k = absurd (cc)
-concerns-same (Adjust device openings) c is k = absurd (cc)
-concerns-same Tick c is k = absurd (cc)
+concerns-same _ c is k = absurd (cc)
 
 erring_case : (b : Bool) (ccb c n : ℕ) → ccb ≡ c → option_to_list (option_map failed_ccb (cond b (Some (let f : Failure = record { ccb = ccb; place = n } in f)) None)) ≡ cond b (c ∷ []) []
 erring_case true ccb c n e = ap (λ k. k ∷ []) e
@@ -120,29 +114,17 @@ new_case-same es (Done ccb outcome) c is = let same : ccb ≡ c = cc in erring_c
 new_case-same es (Send lane ccb) c is = refl
 new_case-same es (Requeue ccb) c is = refl
 new_case-same es (Finish ccb) c is = refl
-new_case-same es (Submit driver device priority retries flags) c is = absurd (cc)
-new_case-same es (FreezeDev device count) c is = absurd (cc)
-new_case-same es (ReleaseDev device count) c is = absurd (cc)
-new_case-same es (FreezeSim sim count) c is = absurd (cc)
-new_case-same es (ReleaseSim sim) c is = absurd (cc)
-new_case-same es (Adjust device openings) c is = absurd (cc)
-new_case-same es Tick c is = absurd (cc)
+new_case-same es _ c is = absurd (cc)
 
 pub new_case-none : (es : List Event) (e : Event) → ccb_of e ≡ None → new_case es e ≡ []
 new_case-none es (Done ccb outcome) is = absurd (cc)
 new_case-none es (Send lane ccb) is = absurd (cc)
 new_case-none es (Requeue ccb) is = absurd (cc)
 new_case-none es (Finish ccb) is = absurd (cc)
-new_case-none es (Submit driver device priority retries flags) is = refl
-new_case-none es (FreezeDev device count) is = refl
-new_case-none es (ReleaseDev device count) is = refl
-new_case-none es (FreezeSim sim count) is = refl
-new_case-none es (ReleaseSim sim) is = refl
-new_case-none es (Adjust device openings) is = refl
-new_case-none es Tick is = refl
+new_case-none es _ is = refl
 
-cases-told : (es : List Event) (e : Event) (c : ℕ) → ccb_of e ≡ Some c → cases (es ++ e ∷ []) ≡ other_cases c (cases es) ++ cond (is_erring e) (c ∷ []) []
-cases-told es e c is =
+cases-updated : (es : List Event) (e : Event) (c : ℕ) → ccb_of e ≡ Some c → cases (es ++ e ∷ []) ≡ other_cases c (cases es) ++ cond (is_erring e) (c ∷ []) []
+cases-updated es e c is =
     cases-push es e ∙ ap (λ ks. ks ++ new_case es e) (filter_agree (λ k. not (concerns k e)) (λ k. not (c == k)) (λ k. ap not (concerns-same e c is k)) (cases es))
     ∙ ap (λ ks. other_cases c (cases es) ++ ks) (new_case-same es e c is)
 
@@ -228,22 +210,16 @@ module _ (rules : Rules) (c : Topology) (es : List Event) (legal : is_legal rule
   others-all k is = kept-all k (cases es) (lacks-times k (cases es) (times-cases k false is))
 
   pub cases-decided : (e : Event) → is_legal_event rules c (es, e) ≡ true → cases (es ++ e ∷ []) ≡ decided e (cases es)
-  cases-decided (Send lane ccb) allowed = cases-told es (Send lane ccb) ccb refl ∙ append-nil (other_cases ccb (cases es)) ∙ others-all ccb (unsent lane ccb allowed)
+  cases-decided (Send lane ccb) allowed = cases-updated es (Send lane ccb) ccb refl ∙ append-nil (other_cases ccb (cases es)) ∙ others-all ccb (unsent lane ccb allowed)
   cases-decided (Done ccb o) allowed =
-      cases-told es (Done ccb o) ccb refl ∙ ap (λ ks. ks ++ cond (is_erring (Done ccb o)) (ccb ∷ []) []) (others-all ccb (flies ccb o allowed)) ∙ one_more (is_erring (Done ccb o)) ccb (cases es)
+      cases-updated es (Done ccb o) ccb refl ∙ ap (λ ks. ks ++ cond (is_erring (Done ccb o)) (ccb ∷ []) []) (others-all ccb (flies ccb o allowed)) ∙ one_more (is_erring (Done ccb o)) ccb (cases es)
     where
       one_more : (b : Bool) (k : ℕ) (ks : List ℕ) → ks ++ cond b (k ∷ []) [] ≡ cond b (ks ++ k ∷ []) ks
       one_more true k ks = refl
       one_more false k ks = append-nil ks
-  cases-decided (Requeue ccb) allowed = cases-told es (Requeue ccb) ccb refl ∙ append-nil (other_cases ccb (cases es))
-  cases-decided (Finish ccb) allowed = cases-told es (Finish ccb) ccb refl ∙ append-nil (other_cases ccb (cases es))
-  cases-decided (Submit driver device priority retries flags) allowed = cases-same es (Submit driver device priority retries flags) refl
-  cases-decided (FreezeDev device count) allowed = cases-same es (FreezeDev device count) refl
-  cases-decided (ReleaseDev device count) allowed = cases-same es (ReleaseDev device count) refl
-  cases-decided (FreezeSim sim count) allowed = cases-same es (FreezeSim sim count) refl
-  cases-decided (ReleaseSim sim) allowed = cases-same es (ReleaseSim sim) refl
-  cases-decided (Adjust device openings) allowed = cases-same es (Adjust device openings) refl
-  cases-decided Tick allowed = cases-same es Tick refl
+  cases-decided (Requeue ccb) allowed = cases-updated es (Requeue ccb) ccb refl ∙ append-nil (other_cases ccb (cases es))
+  cases-decided (Finish ccb) allowed = cases-updated es (Finish ccb) ccb refl ∙ append-nil (other_cases ccb (cases es))
+  cases-decided e allowed = cases-same es e refl
 
   pub can-decide : (e : Event) (o : CaseOrder) → o.cases ≡ cases es → o.most ≡ rules.stays → is_legal_event rules c (es, e) ≡ true → CanDecide e o
   can-decide (Requeue ccb) o is most allowed = ap (times ccb) is ∙ times-cases ccb true (asks-requeue rules c es ccb allowed).1
@@ -253,10 +229,4 @@ module _ (rules : Rules) (c : Topology) (es : List Event) (legal : is_legal rule
     ap (times ccb) is ∙ times-cases ccb false (flies ccb outcome allowed),
   )
   can-decide (Send lane ccb) o is most allowed = tt
-  can-decide (Submit driver device priority retries flags) o is most allowed = tt
-  can-decide (FreezeDev device count) o is most allowed = tt
-  can-decide (ReleaseDev device count) o is most allowed = tt
-  can-decide (FreezeSim sim count) o is most allowed = tt
-  can-decide (ReleaseSim sim) o is most allowed = tt
-  can-decide (Adjust device openings) o is most allowed = tt
-  can-decide Tick o is most allowed = tt
+  can-decide _ o is most allowed = tt

@@ -10,19 +10,19 @@ use Rattle.std.proofs.lemmas.List.FromFn.{length-range_with_len}
 use Rattle.std.proofs.lemmas.List.Sums.{count_by-le-length}
 use Rattle.cam_types.specs.Topology.{Topology}
 use Rattle.cam_types.specs.declared.outcome.Outcome.{Outcome}
-use Rattle.cam_types.specs.declared.priority.TheConstants.{MOST_PRIORITY}
+use Rattle.cam_types.specs.declared.maxima.TheConstants.{MOST_PRIORITY, MOST_RETRIES}
 use Rattle.sense_class.specs.Classes.{classify, asks_requeue, asks_finish}
 use Rattle.sense_class.specs.declared.class.Class as class
 use Rattle.event_log.specs.Event.{is_some_and, ccb_of, ends, submission_of}
 use Rattle.event_log.specs.Counts.{submission, submissions, commands, ccbs, alive, is_in_flight, is_recovering, last_result, counted_requeues, retries_of, wants_requeue, wants_finish}
-use Rattle.event_log.specs.Stays.{passages}
+use Rattle.event_log.specs.Stays.{stays_begun}
 use Rattle.event_log.specs.declared.event.Event.{Event}
 use Rattle.event_log.specs.declared.event.Event.TheVariants.{Submit, Send, Done, Requeue, Finish, FreezeDev, ReleaseDev, FreezeSim, ReleaseSim, Adjust, Tick}
 use Rattle.event_log.specs.declared.submission.Submission.{Submission}
 use Rattle.event_log.proofs.ConcernLaws.{concerns-none}
 use Rattle.event_log.proofs.TotalLaws.{commands-stays}
-use Rattle.cam_event.specs.declared.most.TheConstants.{MOST_RETRIES}
-use Rattle.cam_event.specs.Legal.{Rules, IsWithinHistory, names_device, most_alive, has_ccb, has_stay, is_legal_event, is_legal}
+use Rattle.cam_types.specs.Questions.{names_device}
+use Rattle.cam_event.specs.Legal.{Rules, IsWithinHistory, most_alive, has_ccb, has_stay, is_legal_event, is_legal}
 use Rattle.cam_event.specs.Laws.{last_class}
 use Rattle.cam_event.proofs.LawLemmas.{allowed-legal_event, legal-push}
 use Rattle.xpt_devices.specs.Transport.{Transport}
@@ -30,12 +30,12 @@ use Rattle.xpt_ccbs.specs.declared.ccb.Ccb.{Ccb}
 use Rattle.xpt_ccbs.specs.declared.ccbs.Ccbs.TheInside.{Inside}
 use Rattle.xpt_ccbs.specs.Ccbs.{is_alive, ccb_by, alive_ccb, rows}
 use Rattle.xpt_ccbs.specs.Cases.{cases, failures}
-use Rattle.xpt_ccbs.specs.Change.{fresh, class_of_row, told_at, IsSmall}
-use Rattle.xpt_ccbs.specs.Rows.{RowTable, is_row_in_flight, told, CanTell}
+use Rattle.xpt_ccbs.specs.Change.{fresh, class_of_row, updated_at, IsSmall}
+use Rattle.xpt_ccbs.specs.Rows.{RowTable, is_row_in_flight, updated, CanUpdate}
 use Rattle.xpt_ccbs.specs.Order.{CaseOrder, times, decided, CanDecide}
 use Rattle.xpt_ccbs.specs.Sound.{IsCcbs}
 use Rattle.xpt_ccbs.proofs.ListFacts.{count_by-range, length-by_number, sum_by-same}
-use Rattle.xpt_ccbs.proofs.RowLaws.{length-rows, get_or-rows, rows-same, rows-told, rows-submit, small_rows}
+use Rattle.xpt_ccbs.proofs.RowLaws.{length-rows, get_or-rows, rows-same, rows-updated, rows-submit, small_rows}
 use Rattle.xpt_ccbs.proofs.CaseLaws.{count_cases, case_recovers, cases-decided, can-decide}
 use Rattle.xpt_ccbs.proofs.PlaceLaws.{IsSettled, settled-legal}
 use Rattle.cam_event.proofs.StandLemmas.{in_flight_held, recovering_held}
@@ -148,16 +148,7 @@ submit_room rules c es (Submit driver device priority retries flags) s is legal 
     let named = names_device c device && nat_le priority MOST_PRIORITY && nat_le retries MOST_RETRIES in
     let one = and_parts (named && has_ccb rules es) (has_stay rules es) asked in
     record { ccb = (and_parts named (has_ccb rules es) one.0).1; stay = one.1 }
-submit_room rules c es (Send lane ccb) s is legal = absurd (cc)
-submit_room rules c es (Done ccb outcome) s is legal = absurd (cc)
-submit_room rules c es (Requeue ccb) s is legal = absurd (cc)
-submit_room rules c es (Finish ccb) s is legal = absurd (cc)
-submit_room rules c es (FreezeDev device count) s is legal = absurd (cc)
-submit_room rules c es (ReleaseDev device count) s is legal = absurd (cc)
-submit_room rules c es (FreezeSim sim count) s is legal = absurd (cc)
-submit_room rules c es (ReleaseSim sim) s is legal = absurd (cc)
-submit_room rules c es (Adjust device openings) s is legal = absurd (cc)
-submit_room rules c es Tick s is legal = absurd (cc)
+submit_room rules c es _ s is legal = absurd (cc)
 
 few_alive : (es : List Event) → alive es ≤ commands es
 unfolding alive
@@ -175,18 +166,18 @@ module _ (i : Inside) (is : IsCcbs i) (e : Event) (legal : is_legal_event i.adap
   submit_alive None at = tt
   submit_alive (Some s) at =
       let room = submit_room i.adapters.rules i.adapters.config i.adapters.events e s at legal in
-      let stay = ltb-true (length (passages i.adapters.events)) i.adapters.rules.stays room.stay in
+      let stay = ltb-true (length (stays_begun i.adapters.events)) i.adapters.rules.stays room.stay in
       let lt = room_alive i.adapters.rules.ccbs (alive i.adapters.events) i.adapters.rules.stays (omega (arith, stay, few_alive i.adapters.events, commands-stays i.adapters.events)) room.ccb in
       omega (arith, lt, is.slots, ap (count_by is_some) is.rows, alive_rows i.adapters.events)
 
   submit_stay : (o : Option Submission) → submission_of e ≡ o → IfSome o (λ _. length i.rows.rows < i.rows.room)
   submit_stay None at = tt
   submit_stay (Some s) at =
-      let stay = ltb-true (length (passages i.adapters.events)) i.adapters.rules.stays (submit_room i.adapters.rules i.adapters.config i.adapters.events e s at legal).stay in
+      let stay = ltb-true (length (stays_begun i.adapters.events)) i.adapters.rules.stays (submit_room i.adapters.rules i.adapters.config i.adapters.events e s at legal).stay in
       omega (arith, stay, rows_many, commands-stays i.adapters.events, is.row_room)
 
-  can-tell : CanTell e i.rows
-  can-tell =
+  can-update : CanUpdate e i.rows
+  can-update =
       let short = (allowed-legal_event i.adapters.rules i.adapters.config i.adapters.events e legal).0 in
       record {
         small = subst (All IsSmall) (sym is.rows) (small_rows i.adapters.events (omega (arith, short, is.within.events)));
@@ -195,25 +186,25 @@ module _ (i : Inside) (is : IsCcbs i) (e : Event) (legal : is_legal_event i.adap
       }
 
 -- the rows behind a legal event
-told_cases : (es : List Event) (e : Event) (o : Option ℕ) → ccb_of e ≡ o → submission_of e ≡ None → rows (es ++ e ∷ []) ≡ option_map_or (told_at e (rows es)) o (rows es)
-told_cases es e None is none = rows-same es e none (λ n lt. concerns-none e n is)
-told_cases es e (Some n) is none = rows-told es e n none is
+updated_cases : (es : List Event) (e : Event) (o : Option ℕ) → ccb_of e ≡ o → submission_of e ≡ None → rows (es ++ e ∷ []) ≡ option_map_or (updated_at e (rows es)) o (rows es)
+updated_cases es e None is none = rows-same es e none (λ n lt. concerns-none e n is)
+updated_cases es e (Some n) is none = rows-updated es e n none is
 
 rows_cases : (es : List Event) (e : Event) (o : Option Submission) → submission_of e ≡ o → IsSettled es →
-    rows (es ++ e ∷ []) ≡ option_map_or (λ s. rows es ++ Some (fresh s) ∷ []) o (option_map_or (told_at e (rows es)) (ccb_of e) (rows es))
-rows_cases es e None is h = told_cases es e (ccb_of e) refl is
+    rows (es ++ e ∷ []) ≡ option_map_or (λ s. rows es ++ Some (fresh s) ∷ []) o (option_map_or (updated_at e (rows es)) (ccb_of e) (rows es))
+rows_cases es e None is h = updated_cases es e (ccb_of e) refl is
 rows_cases es e (Some s) is h = rows-submit es e s is (h.row (commands es) s (omega arith)) (h.states.lives (commands es) (omega arith))
 
 -- one legal event more
 pub ccbs-push : (i i' : Inside) (e : Event) → IsCcbs i → is_legal_event i.adapters.rules i.adapters.config (i.adapters.events, e) ≡ true → i'.adapters ≡ record i.adapters { events = i.adapters.events ++ e ∷ [] } →
-    i'.rows ≡ record i.rows { rows = told e i.rows.rows } → i'.cases ≡ record i.cases { cases = decided e i.cases.cases } → IsCcbs i'
+    i'.rows ≡ record i.rows { rows = updated e i.rows.rows } → i'.cases ≡ record i.cases { cases = decided e i.cases.cases } → IsCcbs i'
 ccbs-push i i' e is legal ea er ec =
     let es = i.adapters.events in
     let rules : i'.adapters.rules ≡ i.adapters.rules = ap (λ (t : Transport). t.rules) ea in
     record {
       within = rw rules is.within;
       legal = ap (λ (t : Transport). is_legal t.rules t.config t.events) ea ∙ legal-push i.adapters.rules i.adapters.config es e is.legal legal;
-      rows = ap (λ (r : RowTable). r.rows) er ∙ ap (told e) is.rows ∙ sym (rows_cases es e (submission_of e) refl (settled_of i is)) ∙ ap (λ (t : Transport). rows t.events) (sym ea);
+      rows = ap (λ (r : RowTable). r.rows) er ∙ ap (updated e) is.rows ∙ sym (rows_cases es e (submission_of e) refl (settled_of i is)) ∙ ap (λ (t : Transport). rows t.events) (sym ea);
       cases = ap (λ (o : CaseOrder). o.cases) ec ∙ ap (decided e) is.cases ∙ sym (cases-decided i.adapters.rules i.adapters.config es is.legal e legal) ∙ ap (λ (t : Transport). cases t.events) (sym ea);
       slots = ap (λ (r : RowTable). r.slots) er ∙ is.slots ∙ ap most_alive (sym rules);
       row_room = rw (rules, ap (λ (r : RowTable). r.room) er) is.row_room;
@@ -279,8 +270,8 @@ module _ (i : Inside) (t : Transport) (is : IsCcbs i) (same : i.adapters ≡ t) 
     pub legal_here : is_legal_event i.adapters.rules i.adapters.config (i.adapters.events, e) ≡ true
     legal_here = ap (λ (x : Transport). is_legal_event x.rules x.config (x.events, e)) same ∙ legal
 
-    pub tells : CanTell e i.rows
-    tells = can-tell i is e legal_here
+    pub can_update : CanUpdate e i.rows
+    can_update = can-update i is e legal_here
 
     pub decides : CanDecide e i.cases
     decides = can-decide i.adapters.rules i.adapters.config i.adapters.events is.legal e i.cases is.cases is.case_room legal_here

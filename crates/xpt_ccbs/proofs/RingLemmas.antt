@@ -70,7 +70,7 @@ module _ (P : ℕ → Type 0) where
   weaker-by Q f [] h = tt
   weaker-by Q f (x ∷ xs) h = (f x h.0, weaker-by Q f xs h.1)
 
--- links tell the places, and the neighbours of each
+-- links update the places, and the neighbours of each
 links-follow : (n p : List ℕ) (from : ℕ) (xs : List ℕ) (to : ℕ) → Links n p from xs to → follow n from (length xs) ≡ xs
 links-follow n p from [] to h = refl
 links-follow n p from (x ∷ xs) to h = rw (h.0) (ap (λ ys. x ∷ ys) (links-follow n p x xs to h.2))

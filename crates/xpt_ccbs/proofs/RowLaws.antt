@@ -20,7 +20,7 @@ use Rattle.event_log.proofs.ConcernLaws.{apart, concerns-other, concerns-none, s
 use Rattle.event_log.proofs.TotalLaws.{commands-submit, commands-none}
 use Rattle.xpt_ccbs.specs.declared.ccb.Ccb.{Ccb}
 use Rattle.xpt_ccbs.specs.Ccbs.{is_alive, ccb_by, alive_ccb, rows}
-use Rattle.xpt_ccbs.specs.Change.{fresh, counts, next_ccb, next_row, told_at, IsSmall}
+use Rattle.xpt_ccbs.specs.Change.{fresh, counts, next_ccb, next_row, updated_at, IsSmall}
 
 -- the CCB behind one event more
 pub ccb_by-push : (es : List Event) (e : Event) (n : ℕ) (s : Submission) → ccb_by (es ++ e ∷ []) n s ≡ next_ccb n e (ccb_by es n s)
@@ -117,8 +117,8 @@ rows-set es e c none is lt =
       | inr ne ↦ row_other es e n l' (concerns-other e c n is ne) ∙ sym (get_or-rows es n) ∙ sym (get_or-set_other (rows es) c n (next_row c e (alive_ccb es c)) None ne)
     ])
 
-pub rows-told : (es : List Event) (e : Event) (c : ℕ) → submission_of e ≡ None → ccb_of e ≡ Some c → rows (es ++ e ∷ []) ≡ told_at e (rows es) c
-rows-told es e c none is = elim (cases_lt c (commands es)) [
+pub rows-updated : (es : List Event) (e : Event) (c : ℕ) → submission_of e ≡ None → ccb_of e ≡ Some c → rows (es ++ e ∷ []) ≡ updated_at e (rows es) c
+rows-updated es e c none is = elim (cases_lt c (commands es)) [
   | inl lt ↦
       let at : slice_get (rows es) c ≡ Some (alive_ccb es c) = slice_get-get_or (rows es) c None (omega (arith, length-rows es)) ∙ ap Some (get_or-rows es c) in
       rows-set es e c none is lt ∙ rw at refl

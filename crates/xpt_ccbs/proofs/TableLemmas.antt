@@ -11,7 +11,7 @@ use Rattle.cam_ccb.specs.declared.handle.Handle.{Handle}
 use Rattle.cam_ccb.specs.Table.{Table, find, held_count, Updates}
 use Rattle.event_log.specs.declared.event.Event.{Event}
 use Rattle.xpt_ccbs.specs.declared.ccb.Ccb.{Ccb}
-use Rattle.xpt_ccbs.specs.Change.{next_row, told_at, IsSmall}
+use Rattle.xpt_ccbs.specs.Change.{next_row, updated_at, IsSmall}
 use Rattle.xpt_ccbs.specs.Rows.{rows_in, is_row_in_flight, IsTable}
 use Rattle.xpt_ccbs.proofs.ListFacts.{map-same, map-but}
 
@@ -114,7 +114,7 @@ small_at slots handles n handle small at =
 -- the change of a row by an event
 pub rows-event : (slots slots' : Table Ccb) (handles : List Handle) (room flying : ℕ) (handle : Handle) (old new : Option Ccb) (n : ℕ) (e : Event) →
     IsTable slots handles room flying → Updates slots slots' handle new → slice_get handles n ≡ Some handle → old ≡ find slots handle → new ≡ next_row n e old →
-    rows_in slots' handles ≡ told_at e (rows_in slots handles) n
+    rows_in slots' handles ≡ updated_at e (rows_in slots handles) n
 rows-event slots slots' handles room flying handle old new n e sound updates at was is =
     rows-changed slots slots' handles room flying handle new sound updates n at
     ∙ ap (set (rows_in slots handles) n) (is ∙ ap (next_row n e) was)

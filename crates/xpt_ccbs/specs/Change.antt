@@ -37,8 +37,8 @@ next_row ccb event None = None
 next_row ccb event (Some r) = if ends ccb event then None else Some (next_ccb ccb event r)
 
 -- the rows, where the event concerns the CCB of this number
-abbrev pub told_at : Event → List (Option Ccb) → ℕ → List (Option Ccb)
-told_at event rows ccb = option_map_or (λ r. slice_set rows ccb (next_row ccb event r)) (slice_get rows ccb) rows
+abbrev pub updated_at : Event → List (Option Ccb) → ℕ → List (Option Ccb)
+updated_at event rows ccb = option_map_or (λ r. slice_set rows ccb (next_row ccb event r)) (slice_get rows ccb) rows
 
 -- the counters of a row have room for one more
 abbrev pub IsSmall : Option Ccb → Type 0

@@ -6,7 +6,7 @@ use Rattle.cam_ccb.specs.Table.{Table, find, held_count}
 use Rattle.event_log.specs.Event.{is_some_and, ccb_of, submission_of}
 use Rattle.event_log.specs.declared.event.Event.{Event}
 use Rattle.xpt_ccbs.specs.declared.ccb.Ccb.{Ccb}
-use Rattle.xpt_ccbs.specs.Change.{fresh, told_at, IsSmall}
+use Rattle.xpt_ccbs.specs.Change.{fresh, updated_at, IsSmall}
 
 -- the rows, for how many CCBs at once there are slots, and for how many in all there is memory
 pub record RowTable : Type 0 where
@@ -32,12 +32,12 @@ pub record IsTable (slots : Table Ccb) (handles : List Handle) (room in_flight :
   pub range : room < 2 ^ 32
 
 -- the rows behind an event
-abbrev pub told : Event → List (Option Ccb) → List (Option Ccb)
-told event rows =
-    option_map_or (λ s. rows ++ Some (fresh s) ∷ []) (submission_of event) (option_map_or (told_at event rows) (ccb_of event) rows)
+abbrev pub updated : Event → List (Option Ccb) → List (Option Ccb)
+updated event rows =
+    option_map_or (λ s. rows ++ Some (fresh s) ∷ []) (submission_of event) (option_map_or (updated_at event rows) (ccb_of event) rows)
 
 -- a legal event finds counters and rows with room for it
-pub record CanTell (event : Event) (t : RowTable) : Type 0 where
+pub record CanUpdate (event : Event) (t : RowTable) : Type 0 where
   pub small : All IsSmall t.rows
   pub alive : IfSome (submission_of event) (λ _. count_by is_some t.rows < t.slots)
   pub room : IfSome (submission_of event) (λ _. length t.rows < t.room)

@@ -1,3 +1,5 @@
+//! The cases in the order of completion, in a ring.
+
 ghost use Rattle.std.specs.Prelude.{◌≡◌, ◌<◌, length, slice_set};
 
 use event_log::Event;
@@ -43,8 +45,8 @@ impl CaseList {
         })
     }
 
-    /// Learns of one event more.
-    pub fn tell(&mut self, event: &Event)
+    /// Updates the cases by one event more.
+    pub fn update(&mut self, event: &Event)
         requires { CanDecide event.now self.old }
         ensures { self.new ≡ record self.old { cases = decided event.now self.old.cases } }
     {

@@ -1,3 +1,5 @@
+//! What is known of one CCB that is alive.
+
 use cam_types::Outcome;
 use event_log::{Event, Submission};
 use sense_class::{Class, classify, kind_of};

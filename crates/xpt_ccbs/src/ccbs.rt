@@ -1,3 +1,5 @@
+//! The CCBs of a transport, by their public calls.
+
 use crate::case_list::CaseList;
 use crate::ccb::Ccb;
 use crate::rows::Rows;
@@ -59,8 +61,8 @@ impl Ccbs {
         requires legal { IsTrue (is_legal_event self.old.rules self.old.config (self.old.events, event)) }
         ensures { self.new ≡ record self.old { events = self.old.events ++ event ∷ [] } }
     {
-        self.rows.tell(&event);
-        self.cases.tell(&event);
+        self.rows.update(&event);
+        self.cases.update(&event);
         self.adapters.append(event);
     }
 

@@ -1,3 +1,5 @@
+//! What holds of the cases of each legal list of events.
+
 ghost use Rattle.xpt_ccbs.specs.Laws.{FirstCaseRecovers, FirstCaseFailedFirst, AskedDecisionsAreTaken, DecisionsEndCases, FailuresAreClassed};
 
 /// While a CCB waits for a decision, there is a first case, and that one waits.
@@ -10,7 +12,7 @@ pub fn first_case_failed_first()
     ensures { FirstCaseFailedFirst }
 {}
 
-/// While there is room for one more event and one more stay, the decision that is told for a case is taken.
+/// While there is room for one more event and one more stay, the decision that a case's class asks for is taken.
 pub fn asked_decisions_are_taken()
     ensures { AskedDecisionsAreTaken }
 {}
@@ -20,7 +22,7 @@ pub fn decisions_end_cases()
     ensures { DecisionsEndCases }
 {}
 
-/// The class that is told for a case is that of its failure, after the requeues that counted before it.
+/// The class of a case is that of its failure, after the requeues that counted before it.
 pub fn failures_are_classed()
     ensures { FailuresAreClassed }
 {}

@@ -1,3 +1,5 @@
+//! What is known of all CCBs that are alive, by number.
+
 use crate::ccb::Ccb;
 use crate::parts::{flight, handle_at, next_row, put, take};
 use cam_ccb::{CcbTable, Handle};
@@ -28,8 +30,8 @@ impl Model for Rows {
 impl Rows {
     ghost use Rattle.std.specs.Prelude.{◌≡◌, ◌<◌, [], ◌∷◌, ◌++◌, length, Some, None, is_some, All, count_by, slice_index_or, IfOk};
     ghost use Rattle.std.specs.Option.{option_copied};
-    ghost use Rattle.xpt_ccbs.specs.Change.{fresh, told_at, IsSmall};
-    ghost use Rattle.xpt_ccbs.specs.Rows.{told, is_row_in_flight, CanTell};
+    ghost use Rattle.xpt_ccbs.specs.Change.{fresh, updated_at, IsSmall};
+    ghost use Rattle.xpt_ccbs.specs.Rows.{updated, is_row_in_flight, CanUpdate};
 
     /// Knows of no CCB, and has memory for so many at once and in all.
     pub fn open(alloc: Global, slots: u32, room: u32) -> Result<Rows, AllocError>
@@ -42,10 +44,10 @@ impl Rows {
         })
     }
 
-    /// Learns of one event more. It takes no memory.
-    pub fn tell(&mut self, event: &Event)
-        requires { CanTell event.now self.old }
-        ensures { self.new ≡ record self.old { rows = told event.now self.old.rows } }
+    /// Updates the rows by one event more. It takes no memory.
+    pub fn update(&mut self, event: &Event)
+        requires { CanUpdate event.now self.old }
+        ensures { self.new ≡ record self.old { rows = updated event.now self.old.rows } }
     {
         match (event.submission(), event.ccb()) {
             (Some(submission), _) => self.submit(submission),
@@ -67,7 +69,7 @@ impl Rows {
     // Changes the row of the CCB as the event says.
     fn change(&mut self, ccb: u32, event: &Event)
         requires { All IsSmall self.old.rows }
-        ensures { self.new ≡ record self.old { rows = told_at event.now self.old.rows ccb } }
+        ensures { self.new ≡ record self.old { rows = updated_at event.now self.old.rows ccb } }
     {
         let Some(handle) = handle_at(&self.handles, ccb) else {
             return;

@@ -7,10 +7,10 @@ use Rattle.std.proofs.lemmas.List.Sums.{count_by-le-length}
 use Rattle.cam_types.specs.Topology.{Topology}
 use Rattle.event_log.specs.Event.{is_tick, is_send_of, submission_of}
 use Rattle.event_log.specs.Counts.{round, commands, ccbs, is_in_flight}
-use Rattle.event_log.specs.Stays.{passages, passage_of, waiting}
+use Rattle.event_log.specs.Stays.{stays_begun, stay_begun, waiting}
 use Rattle.event_log.specs.declared.event.Event.{Event}
 use Rattle.event_log.specs.declared.event.Event.TheVariants.{Submit, Send, Done, Requeue, Finish, FreezeDev, ReleaseDev, FreezeSim, ReleaseSim, Adjust, Tick}
-use Rattle.event_log.specs.declared.passage.Passage.{Passage}
+use Rattle.event_log.specs.declared.stay.Stay.{Stay}
 use Rattle.event_log.proofs.Laws.{round-push, few_rounds, few_stays, few_commands}
 use Rattle.event_log.proofs.StateLaws.{is_in_flight-push}
 use Rattle.cam_event.specs.Legal.{Rules, is_legal_event, is_legal}
@@ -22,7 +22,7 @@ use Rattle.xpt_devices.specs.Counted.{counts_of, counted, CanCount, AreFew}
 use Rattle.xpt_devices.proofs.RoomLemmas.{submitted}
 
 -- all counts
-counts-same : (es : List Event) (e : Event) (r s w f : ℕ) → round (es ++ e ∷ []) ≡ r → length (passages (es ++ e ∷ [])) ≡ s → length (waiting (es ++ e ∷ [])) ≡ w → flying (es ++ e ∷ []) ≡ f →
+counts-same : (es : List Event) (e : Event) (r s w f : ℕ) → round (es ++ e ∷ []) ≡ r → length (stays_begun (es ++ e ∷ [])) ≡ s → length (waiting (es ++ e ∷ [])) ≡ w → flying (es ++ e ∷ []) ≡ f →
     counts_of (es ++ e ∷ []) ≡ record { round = r; stays = s; waiting = w; in_flight = f }
 unfolding counts_of
 counts-same es e r s w f er es' ew ef = rw (er, es', ew, ef) refl
@@ -30,7 +30,7 @@ counts-same es e r s w f er es' ew ef = rw (er, es', ew, ef) refl
 round-same : (es : List Event) (e : Event) → is_tick e ≡ false → round (es ++ e ∷ []) ≡ round es
 round-same es e still = round-push es e ∙ ap (λ b. round es + cond b 1 0) still ∙ add-zero (round es)
 
-quiet-counts : (es : List Event) (e : Event) → is_tick e ≡ false → passage_of (es, e) ≡ None → ((x : Passage) → not (is_send_of x.ccb e) ≡ true) → submission_of e ≡ None →
+quiet-counts : (es : List Event) (e : Event) → is_tick e ≡ false → stay_begun (es, e) ≡ None → ((x : Stay) → not (is_send_of x.ccb e) ≡ true) → submission_of e ≡ None →
     ((k : ℕ) → is_in_flight (es ++ e ∷ []) k ≡ is_in_flight es k) → counts_of (es ++ e ∷ []) ≡ counts_of es
 unfolding counts_of
 quiet-counts es e still none unsent nothing h = counts-same es e _ _ _ _ (round-same es e still) (begun-none es e none) (waiting-none es e unsent none) (flying-same es e nothing h)
@@ -66,17 +66,12 @@ module _ (rules : Rules) (c : Topology) (es : List Event) (legal : is_legal rule
   counts-push (Requeue ccb) allowed =
       let e = Requeue ccb in
       let one = submitted es ccb (asks-requeue rules c es ccb allowed).0 in
-      let begins : passage_of (es, e) ≡ Some (requeued_stay es ccb one.0) = ap (option_map (requeued_stay es ccb)) one.1 in
+      let begins : stay_begun (es, e) ≡ Some (requeued_stay es ccb one.0) = ap (option_map (requeued_stay es ccb)) one.1 in
       counts-same es e _ _ _ _ (round-same es e refl) (begun-one es e (requeued_stay es ccb one.0) begins) (waiting-one es e (requeued_stay es ccb one.0) (λ x. refl) begins)
       (flying-same es e refl (λ k. is_in_flight-push es e k))
   counts-push Tick allowed =
       counts-same es Tick _ _ _ _ (round-push es Tick) (begun-none es Tick refl) (waiting-none es Tick (λ x. refl) refl) (flying-same es Tick refl (λ k. is_in_flight-push es Tick k))
-  counts-push (Finish ccb) allowed = quiet-counts es (Finish ccb) refl refl (λ x. refl) refl (λ k. is_in_flight-push es (Finish ccb) k)
-  counts-push (FreezeDev device count) allowed = quiet-counts es (FreezeDev device count) refl refl (λ x. refl) refl (λ k. is_in_flight-push es (FreezeDev device count) k)
-  counts-push (ReleaseDev device count) allowed = quiet-counts es (ReleaseDev device count) refl refl (λ x. refl) refl (λ k. is_in_flight-push es (ReleaseDev device count) k)
-  counts-push (FreezeSim sim count) allowed = quiet-counts es (FreezeSim sim count) refl refl (λ x. refl) refl (λ k. is_in_flight-push es (FreezeSim sim count) k)
-  counts-push (ReleaseSim sim) allowed = quiet-counts es (ReleaseSim sim) refl refl (λ x. refl) refl (λ k. is_in_flight-push es (ReleaseSim sim) k)
-  counts-push (Adjust device openings) allowed = quiet-counts es (Adjust device openings) refl refl (λ x. refl) refl (λ k. is_in_flight-push es (Adjust device openings) k)
+  counts-push e allowed = quiet-counts es e refl refl (λ x. refl) refl (λ k. is_in_flight-push es e k)
 
   pub can-count : (e : Event) → is_legal_event rules c (es, e) ≡ true → CanCount e (counts_of es)
   unfolding counts_of
@@ -84,15 +79,7 @@ module _ (rules : Rules) (c : Topology) (es : List Event) (legal : is_legal rule
   can-count (Done ccb o) allowed =
       let asks = asks-done rules c es ccb o allowed in
       some-range (is_in_flight es) 0 (commands es) ccb asks.0 (ap (is_in_flight es) (zero-add ccb) ∙ asks.1)
-  can-count (Submit driver device priority retries flags) allowed = tt
-  can-count (Requeue ccb) allowed = tt
-  can-count (Finish ccb) allowed = tt
-  can-count (FreezeDev device count) allowed = tt
-  can-count (ReleaseDev device count) allowed = tt
-  can-count (FreezeSim sim count) allowed = tt
-  can-count (ReleaseSim sim) allowed = tt
-  can-count (Adjust device openings) allowed = tt
-  can-count Tick allowed = tt
+  can-count _ allowed = tt
 
 pub are-few : (es : List Event) → length es ≤ 65535 → AreFew (counts_of es)
 unfolding counts_of

@@ -8,13 +8,13 @@ use Rattle.cam_types.specs.declared.flags.Flags.{Flags}
 use Rattle.cam_types.specs.declared.outcome.Outcome.{Outcome}
 use Rattle.event_log.specs.Event.{is_some_and, is_tick, is_send_of, is_erring, submission_of}
 use Rattle.event_log.specs.Counts.{round, commands, ccbs, submission, is_in_flight, is_recovering, sending_of, goes_to, caller_count, error_count}
-use Rattle.event_log.specs.Stays.{passage_of}
+use Rattle.event_log.specs.Stays.{stay_begun}
 use Rattle.event_log.specs.Head.{openings}
 use Rattle.event_log.specs.declared.event.Event.{Event}
 use Rattle.event_log.specs.declared.event.Event.TheVariants.{Submit, Send, Done, Requeue, Finish, FreezeDev, ReleaseDev, FreezeSim, ReleaseSim, Adjust, Tick}
 use Rattle.event_log.specs.declared.submission.Submission.{Submission}
-use Rattle.event_log.specs.declared.passage.Passage.{Passage}
-use Rattle.event_log.specs.declared.passage.Sending.{Sending}
+use Rattle.event_log.specs.declared.stay.Stay.{Stay}
+use Rattle.event_log.specs.declared.sending.Sending.{Sending}
 use Rattle.event_log.proofs.StateLaws.{is_in_flight-push, is_recovering-push}
 use Rattle.event_log.proofs.QueueLaws.{later-tick}
 use Rattle.cam_event.specs.Refusals.{device_of}
@@ -25,7 +25,7 @@ use Rattle.event_log.proofs.TotalLaws.{submitted_stay, requeued_stay}
 use Rattle.cam_event.proofs.StandLemmas.{AreStates, new-states, flying-states}
 use Rattle.cam_event.proofs.FirstLemmas.{IsFirst, stands, in_order-first, in_order-elsewhere, later-send}
 use Rattle.xpt_devices.specs.Device.{entry, in_order, later, next_openings, is_in_flight_at, device_state}
-use Rattle.xpt_devices.specs.Told.{with_stay, with_send, with_done, with_requeue, with_finish, with_freezes, less_freezes, with_openings, in_next_round}
+use Rattle.xpt_devices.specs.Updated.{with_stay, with_send, with_done, with_requeue, with_finish, with_freezes, less_freezes, with_openings, in_next_round}
 use Rattle.xpt_devices.proofs.FieldLaws.{entered, entered-push, next_openings-push, openings-still, openings-tick, sent_now, sent-push, sent-tick}
 use Rattle.cam_event.proofs.CoverLemmas.{AreCovered, callers-same, callers-freeze, callers-release, callers-send}
 use Rattle.xpt_devices.proofs.OrderLaws.{in_order-same, later-same, waiting-submit, later-submit, in_order-requeue, later-requeue, waiting-tick, entries-drop}
@@ -79,7 +79,7 @@ module _ (c : Topology) (n : ℕ) (es : List Event) (d : ℕ) where
   state = device_state c n es d
 
   -- the callers' freezes and the next openings may change
-  quiet : (e : Event) (a p : ℕ) → is_tick e ≡ false → passage_of (es, e) ≡ None → ((x : Passage) → not (is_send_of x.ccb e) ≡ true) → submission_of e ≡ None → sending_of (es, e) ≡ None →
+  quiet : (e : Event) (a p : ℕ) → is_tick e ≡ false → stay_begun (es, e) ≡ None → ((x : Stay) → not (is_send_of x.ccb e) ≡ true) → submission_of e ≡ None → sending_of (es, e) ≡ None →
       ((k : ℕ) → is_in_flight (es ++ e ∷ []) k ≡ is_in_flight es k) → ((k : ℕ) → is_recovering (es ++ e ∷ []) k ≡ is_recovering es k) →
       caller_count (es ++ e ∷ []) d ≡ a → next_openings c (es ++ e ∷ []) d ≡ p → device_state c n (es ++ e ∷ []) d ≡ record state { callers = a; next_openings = p }
   unfolding device_state
@@ -197,7 +197,7 @@ module _ (c : Topology) (n : ℕ) (es : List Event) (d ccb : ℕ) (s : Submissio
   hit_frozen = ap (is_some_and (frozen_device d)) is
 
   -- a send
-  waiting_cases : (p : Passage) (lane : ℕ) (b : Bool) → (s.device == d) ≡ b → AreStates es → IsFirst c es ccb p →
+  waiting_cases : (p : Stay) (lane : ℕ) (b : Bool) → (s.device == d) ≡ b → AreStates es → IsFirst c es ccb p →
       map entry (in_order (es ++ Send lane ccb ∷ []) d) ≡ cond b (drop 1 (map entry (in_order es d))) (map entry (in_order es d))
   waiting_cases p lane true at states turn =
       let here : device_of es ccb ≡ d = own_device ∙ eqb-true s.device d at in
@@ -211,7 +211,7 @@ module _ (c : Topology) (n : ℕ) (es : List Event) (d ccb : ℕ) (s : Submissio
   send_cases true f q = ap (λ k. record (with_send f q) { errors = k }) (add-zero q.errors)
   send_cases false f q = rw (add-zero q.sent, add-zero q.in_flight, add-zero q.callers, add-zero q.errors) refl
 
-  pub state-send : (p : Passage) (lane : ℕ) → AreStates es → AreCovered es → IsFirst c es ccb p →
+  pub state-send : (p : Stay) (lane : ℕ) → AreStates es → AreCovered es → IsFirst c es ccb p →
       device_state c n (es ++ Send lane ccb ∷ []) d ≡ hits (s.device == d) (with_send s.flags.qfreeze) own_state
   unfolding device_state
   state-send p lane states covered turn =
@@ -267,7 +267,7 @@ module _ (c : Topology) (n : ℕ) (es : List Event) (d ccb : ℕ) (s : Submissio
   unfolding device_state
   state-requeue states recovering =
       let e = Requeue ccb in
-      let begins : passage_of (es, e) ≡ Some (requeued_stay es ccb s) = ap (option_map (requeued_stay es ccb)) is in
+      let begins : stay_begun (es, e) ≡ Some (requeued_stay es ccb s) = ap (option_map (requeued_stay es ccb)) is in
       let leaves : is_recovering (es ++ e ∷ []) ccb ≡ false = is_recovering-push es e ccb ∙ taken_new _ (is_recovering es ccb) false (or-left _ _ (same_number ccb)) in
       parts c n (es ++ e ∷ []) d _ _ _ _ _ _ _ _ _
       (ap (map entry) (in_order-requeue es d ccb s is)) (later-requeue es d ccb s is) (openings-still c es e d refl) (next_openings-push c es e d)

@@ -6,12 +6,13 @@ use Rattle.std.specs.Option.{option_map_or}
 use Rattle.cam_types.specs.Topology.{Topology}
 use Rattle.event_log.specs.Event.{is_some_and, is_tick, is_adjust_of, adjusts_to}
 use Rattle.event_log.specs.Counts.{last, sendings, sending_of, goes_to}
-use Rattle.event_log.specs.Stays.{passages, passage_of}
-use Rattle.event_log.specs.Head.{openings, device_openings, goes_now_to}
+use Rattle.event_log.specs.Stays.{stays_begun, stay_begun}
+use Rattle.cam_types.specs.Questions.{device_openings}
+use Rattle.event_log.specs.Head.{openings, goes_now_to}
 use Rattle.event_log.specs.declared.event.Event.{Event}
 use Rattle.event_log.specs.declared.event.Event.TheVariants.{Tick}
-use Rattle.event_log.specs.declared.passage.Passage.{Passage}
-use Rattle.event_log.proofs.Laws.{passages-push}
+use Rattle.event_log.specs.declared.stay.Stay.{Stay}
+use Rattle.event_log.proofs.Laws.{stays_begun-push}
 use Rattle.event_log.proofs.ListFacts.{count_by-push}
 use Rattle.event_log.proofs.StateLaws.{last-push}
 use Rattle.event_log.proofs.OpeningLaws.{before_last-push}
@@ -19,17 +20,17 @@ use Rattle.event_log.proofs.TurnLaws.{sends_now-push, sends_now-tick}
 use Rattle.xpt_devices.specs.Device.{next_openings}
 
 -- the stays of a device so far
-abbrev pub is_stay_at : ℕ → Passage → Bool
+abbrev pub is_stay_at : ℕ → Stay → Bool
 is_stay_at d p = p.device == d
 
 abbrev pub entered : List Event → ℕ → ℕ
-entered es d = count_by (is_stay_at d) (passages es)
+entered es d = count_by (is_stay_at d) (stays_begun es)
 
-pub entered-push : (es : List Event) (e : Event) (d : ℕ) (o : Option Passage) → passage_of (es, e) ≡ o → entered (es ++ e ∷ []) d ≡ entered es d + cond (is_some_and (is_stay_at d) o) 1 0
+pub entered-push : (es : List Event) (e : Event) (d : ℕ) (o : Option Stay) → stay_begun (es, e) ≡ o → entered (es ++ e ∷ []) d ≡ entered es d + cond (is_some_and (is_stay_at d) o) 1 0
 entered-push es e d None is =
-    ap (count_by (is_stay_at d)) (passages-push es e ∙ ap (λ o. passages es ++ option_to_list o) is ∙ append-nil (passages es)) ∙ sym (add-zero (entered es d))
+    ap (count_by (is_stay_at d)) (stays_begun-push es e ∙ ap (λ o. stays_begun es ++ option_to_list o) is ∙ append-nil (stays_begun es)) ∙ sym (add-zero (entered es d))
 entered-push es e d (Some p) is =
-    ap (count_by (is_stay_at d)) (passages-push es e ∙ ap (λ o. passages es ++ option_to_list o) is) ∙ count_by-push (is_stay_at d) (passages es) p
+    ap (count_by (is_stay_at d)) (stays_begun-push es e ∙ ap (λ o. stays_begun es ++ option_to_list o) is) ∙ count_by-push (is_stay_at d) (stays_begun es) p
 
 -- openings
 next_cases : (e : Event) (b : Bool) (o : Option Event) (n : ℕ) → option_map_or adjusts_to (cond b (Some e) o) n ≡ cond b (adjusts_to e) (option_map_or adjusts_to o n)

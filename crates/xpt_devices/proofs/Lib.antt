@@ -7,4 +7,4 @@ pub mod PlaceLemmas
 pub mod RoomLemmas
 pub mod SoundLemmas
 pub mod TransportLemmas
-pub mod TouchLaws
+pub mod AffectedLaws

@@ -11,7 +11,7 @@ use Rattle.std.proofs.lemmas.List.FromFn.{length-range_with_len}
 use Rattle.std.proofs.lemmas.Option.{slice_get_read}
 use Rattle.event_log.proofs.ShareLaws.{same_number}
 use Rattle.event_log.proofs.StateLaws.{map-range_same, map-range_but, slice_get-range, slice_get-range_past}
-use Rattle.xpt_devices.specs.Told.{at_place, HasAt}
+use Rattle.xpt_devices.specs.Updated.{at_place, HasAt}
 
 -- a function over a range that changes at one place
 hit_cases : {X : Type 0} → (change : X → X) (q q' : X) (b : Bool) → b ≡ true → q' ≡ cond b (change q) q → q' ≡ change q

@@ -6,16 +6,17 @@ use Rattle.std.proofs.lemmas.Bool.Decides.{nat_tests}
 use Rattle.std.proofs.lemmas.List.{length-map}
 use Rattle.std.proofs.lemmas.List.Sums.{sum_by-cons, length-filter, count_by-le-length}
 use Rattle.std.proofs.lemmas.Option.{slice_get_cases}
+use Rattle.std.proofs.lemmas.Bool.{or_parts}
 use Rattle.cam_types.specs.Lists.{is_less}
 use Rattle.cam_types.specs.Topology.{Topology}
 use Rattle.event_log.specs.Event.{is_some_and}
 use Rattle.event_log.specs.Counts.{round, commands, ccbs, submission, submissions, is_in_flight, freeze_count, has_in_flight}
-use Rattle.event_log.specs.Stays.{passages, waiting, is_at, queue, queue_key, first}
+use Rattle.event_log.specs.Stays.{stays_begun, waiting, is_at, queue, queue_key, first}
 use Rattle.event_log.specs.Sorted.{insert_by}
 use Rattle.event_log.specs.Head.{is_ready, has_opening, openings}
 use Rattle.event_log.specs.declared.event.Event.{Event}
 use Rattle.event_log.specs.declared.submission.Submission.{Submission}
-use Rattle.event_log.specs.declared.passage.Passage.{Passage}
+use Rattle.event_log.specs.declared.stay.Stay.{Stay}
 use Rattle.event_log.proofs.QueueLaws.{first-in_order}
 use Rattle.dev_queue.specs.Device.{Device, held_count}
 use Rattle.dev_queue.specs.Device as dev
@@ -24,15 +25,15 @@ use Rattle.xpt_devices.specs.Device.{entry, in_order, is_later, later, device_st
 use Rattle.xpt_devices.proofs.FieldLaws.{is_stay_at, sent_now}
 
 -- how many stays wait
-length_cases : (y x : Passage) (ys rest : List Passage) (b : Bool) → length rest ≡ length ys + 1 → length (cond b (x ∷ y ∷ ys) (y ∷ rest)) ≡ length (y ∷ ys) + 1
+length_cases : (y x : Stay) (ys rest : List Stay) (b : Bool) → length rest ≡ length ys + 1 → length (cond b (x ∷ y ∷ ys) (y ∷ rest)) ≡ length (y ∷ ys) + 1
 length_cases y x ys rest true e = omega arith
 length_cases y x ys rest false e = omega (arith, e)
 
-length-insert : (ys : List Passage) (x : Passage) → length (insert_by queue_key ys x) ≡ length ys + 1
+length-insert : (ys : List Stay) (x : Stay) → length (insert_by queue_key ys x) ≡ length ys + 1
 length-insert [] x = omega arith
 length-insert (y ∷ ys) x = length_cases y x ys (insert_by queue_key ys x) (is_less (queue_key x) (queue_key y)) (length-insert ys x)
 
-length-fold : (ys xs : List Passage) → length (fold (insert_by queue_key) ys xs) ≡ length ys + length xs
+length-fold : (ys xs : List Stay) → length (fold (insert_by queue_key) ys xs) ≡ length ys + length xs
 length-fold ys [] = omega arith
 length-fold ys (x ∷ xs) = omega (arith, length-fold (insert_by queue_key ys x) xs, length-insert ys x)
 
@@ -40,29 +41,25 @@ not_both : (same : Bool) (a r : ℕ) → cond {A = ℕ} (same && nat_le a r) 1 0
 not_both true a r = grind (arith, nat_tests)
 not_both false a r = omega arith
 
-held_few : (d r : ℕ) (ps : List Passage) → count_by (is_at d r) ps + count_by (is_later d r) ps ≤ length ps
+held_few : (d r : ℕ) (ps : List Stay) → count_by (is_at d r) ps + count_by (is_later d r) ps ≤ length ps
 held_few d r [] = omega arith
 held_few d r (p ∷ ps) =
-    omega (arith, not_both (p.device == d) p.arrival r, held_few d r ps, sum_by-cons (λ (x : Passage). cond (is_at d r x) 1 0) p ps, sum_by-cons (λ (x : Passage). cond (is_later d r x) 1 0) p ps)
+    omega (arith, not_both (p.device == d) p.arrival r, held_few d r ps, sum_by-cons (λ (x : Stay). cond (is_at d r x) 1 0) p ps, sum_by-cons (λ (x : Stay). cond (is_later d r x) 1 0) p ps)
 
-held-passages : (es : List Event) (d : ℕ) → length (in_order es d) + length (later es d) ≤ length (passages es)
+held-stays_begun : (es : List Event) (d : ℕ) → length (in_order es d) + length (later es d) ≤ length (stays_begun es)
 unfolding queue
-held-passages es d =
+held-stays_begun es d =
     omega (arith, length-fold [] (filter (is_at d (round es)) (waiting es)), length-filter (is_at d (round es)) (waiting es), length-filter (is_later d (round es)) (waiting es), held_few d (round es) (waiting es), few_waiting es)
 
-pub held-few : (c : Topology) (n : ℕ) (es : List Event) (d : ℕ) → held_count (device_state c n es d) ≤ length (passages es)
+pub held-few : (c : Topology) (n : ℕ) (es : List Event) (d : ℕ) → held_count (device_state c n es d) ≤ length (stays_begun es)
 unfolding device_state
-held-few c n es d = omega (arith, held-passages es d, length-map (in_order es d) entry, length-map (later es d) entry)
+held-few c n es d = omega (arith, held-stays_begun es d, length-map (in_order es d) entry, length-map (later es d) entry)
 
-pub entered-few : (c : Topology) (n : ℕ) (es : List Event) (d : ℕ) → (device_state c n es d).entered ≤ length (passages es)
+pub entered-few : (c : Topology) (n : ℕ) (es : List Event) (d : ℕ) → (device_state c n es d).entered ≤ length (stays_begun es)
 unfolding device_state
-entered-few c n es d = count_by-le-length (is_stay_at d) (passages es)
+entered-few c n es d = count_by-le-length (is_stay_at d) (stays_begun es)
 
 -- none counts where none is in flight
-or_parts : (a b : Bool) → (a || b) ≡ false → (a ≡ false) × (b ≡ false)
-or_parts true b e = absurd (cc)
-or_parts false b e = (refl, e)
-
 none_any : (p q : ℕ → Bool) (xs : List ℕ) → list_any p xs ≡ false → count_by (λ x. p x && q x) xs ≡ 0
 none_any p q [] h = refl
 none_any p q (x ∷ xs) h =
@@ -82,7 +79,7 @@ submitted es ccb lt = elim (slice_get_cases (submissions es) ccb).1 [
 ]
 
 -- a device is ready where its queue is
-some_first : (ps : List Passage) → not (length (map entry ps) == 0) ≡ is_some (slice_get ps 0)
+some_first : (ps : List Stay) → not (length (map entry ps) == 0) ≡ is_some (slice_get ps 0)
 some_first [] = refl
 some_first (p ∷ ps) = grind (arith, nat_tests)
 

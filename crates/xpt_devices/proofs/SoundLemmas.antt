@@ -12,11 +12,12 @@ use Rattle.cam_types.specs.Topology.{Topology}
 use Rattle.cam_types.specs.declared.device.Device as config
 use Rattle.event_log.specs.Event.{submission_of}
 use Rattle.event_log.specs.Counts.{submissions, ccbs, sendings, is_in_flight, has_in_flight, caller_count, error_count}
-use Rattle.event_log.specs.Stays.{passages, waiting, queue, first}
-use Rattle.event_log.specs.Head.{devices, openings}
+use Rattle.event_log.specs.Stays.{stays_begun, waiting, queue, first}
+use Rattle.cam_types.specs.Questions.{devices}
+use Rattle.event_log.specs.Head.{openings}
 use Rattle.event_log.specs.declared.event.Event.{Event}
 use Rattle.event_log.specs.declared.event.Event.TheVariants.{Submit, Send, Done, Requeue, Finish, FreezeDev, ReleaseDev, FreezeSim, ReleaseSim, Adjust, Tick}
-use Rattle.event_log.specs.declared.passage.Passage.{Passage}
+use Rattle.event_log.specs.declared.stay.Stay.{Stay}
 use Rattle.event_log.proofs.QueueLaws.{first-in_order}
 use Rattle.event_log.proofs.Laws.{submissions-push, few_commands}
 use Rattle.event_log.proofs.StateLaws.{slice_get-range}
@@ -28,11 +29,11 @@ use Rattle.dev_queue.specs.Device.{Device}
 use Rattle.dev_queue.specs.declared.waiting.Waiting.{Waiting}
 use Rattle.event_log.proofs.TotalLaws.{commands-stays}
 use Rattle.xpt_devices.specs.Device.{entry, in_order, device_state, new_device}
-use Rattle.xpt_devices.specs.Told.{told, CanTell}
+use Rattle.xpt_devices.specs.Updated.{updated, CanUpdate}
 use Rattle.xpt_devices.specs.Counted.{counts_of, counted, CanCount, AreFew}
 use Rattle.xpt_devices.specs.Sound.{IsDevices}
 use Rattle.xpt_devices.specs.declared.devices.Devices.TheInside.{Inside}
-use Rattle.xpt_devices.proofs.TransportLemmas.{told-push, can-tell}
+use Rattle.xpt_devices.proofs.TransportLemmas.{updated-push, can-update}
 use Rattle.xpt_devices.proofs.CountLemmas.{counts-push, can-count, are-few}
 
 pub short-sound : (i : Inside) → IsDevices i → length i.events.items ≤ 65535
@@ -43,10 +44,10 @@ few-sound i is = omega (arith, ap length is.submissions, few_commands i.events.i
 
 -- what an event finds, and makes
 module _ (i : Inside) (is : IsDevices i) (e : Event) (allowed : is_legal_event i.rules i.config (i.events.items, e) ≡ true) where
-  pub sound-tell : CanTell i.submissions.items e i.queues.items
-  sound-tell =
-      subst (λ ss. CanTell ss e i.queues.items) (sym is.submissions)
-      (subst (λ qs. CanTell (submissions i.events.items) e qs) (sym is.queues) (can-tell i.rules is.within i.config i.events.items is.legal e allowed))
+  pub sound-update : CanUpdate i.submissions.items e i.queues.items
+  sound-update =
+      subst (λ ss. CanUpdate ss e i.queues.items) (sym is.submissions)
+      (subst (λ qs. CanUpdate (submissions i.events.items) e qs) (sym is.queues) (can-update i.rules is.within i.config i.events.items is.legal e allowed))
 
   pub sound-count : CanCount e i.counts
   sound-count = subst (CanCount e) (sym is.counts) (can-count i.rules i.config i.events.items is.legal e allowed)
@@ -58,36 +59,27 @@ module _ (i : Inside) (is : IsDevices i) (e : Event) (allowed : is_legal_event i
   sound-events = omega (arith, i.events.ok.0, (allowed-legal_event i.rules i.config i.events.items e allowed).0, is.events_room)
 
   pub sound-push : (i' : Inside) → i'.config ≡ i.config → i'.rules ≡ i.rules → i'.events.items ≡ i.events.items ++ e ∷ [] → i'.submissions.items ≡ i.submissions.items ++ option_to_list (submission_of e) →
-      i'.queues.items ≡ told i.submissions.items e i.queues.items → i'.counts ≡ counted e i.counts → vec_capacity i'.events ≡ vec_capacity i.events → vec_capacity i'.submissions ≡ vec_capacity i.submissions → IsDevices i'
+      i'.queues.items ≡ updated i.submissions.items e i.queues.items → i'.counts ≡ counted e i.counts → vec_capacity i'.events ≡ vec_capacity i.events → vec_capacity i'.submissions ≡ vec_capacity i.submissions → IsDevices i'
   sound-push i' ec el ee es eq en ev ew = record {
     within = rw el is.within;
     legal = rw (el, ec, ee) (legal-push i.rules i.config i.events.items e is.legal allowed);
     submissions = rw (ee, submissions-push, ← is.submissions) es;
-    queues = eq ∙ ap (λ ss. told ss e i.queues.items) is.submissions ∙ ap (told (submissions i.events.items) e) is.queues
-        ∙ sym (told-push i.rules i.config i.rules.stays i.events.items is.legal e allowed) ∙ rw (el, ec, ee) refl;
+    queues = eq ∙ ap (λ ss. updated ss e i.queues.items) is.submissions ∙ ap (updated (submissions i.events.items) e) is.queues
+        ∙ sym (updated-push i.rules i.config i.rules.stays i.events.items is.legal e allowed) ∙ rw (el, ec, ee) refl;
     counts = en ∙ ap (counted e) is.counts ∙ sym (counts-push i.rules i.config i.events.items is.legal e allowed) ∙ ap counts_of (sym ee);
     events_room = rw (el, ev) is.events_room;
     submissions_room = rw (el, ew) is.submissions_room;
   }
 
 -- what a submit submits has room
-pub sound-note : (i : Inside) (e : Event) → IsDevices i → is_legal_event i.rules i.config (i.events.items, e) ≡ true → IfSome (submission_of e) (λ _. vec_len i.submissions < vec_capacity i.submissions)
-sound-note i (Submit driver device priority retries flags) is allowed =
+pub sound-keep_submission : (i : Inside) (e : Event) → IsDevices i → is_legal_event i.rules i.config (i.events.items, e) ≡ true → IfSome (submission_of e) (λ _. vec_len i.submissions < vec_capacity i.submissions)
+sound-keep_submission i (Submit driver device priority retries flags) is allowed =
     omega (arith, i.submissions.ok.0, room_submit i.rules i.config i.events.items driver device priority retries flags allowed, commands-stays i.events.items, ap length is.submissions, is.submissions_room)
-sound-note i (Send lane ccb) is allowed = tt
-sound-note i (Done ccb o) is allowed = tt
-sound-note i (Requeue ccb) is allowed = tt
-sound-note i (Finish ccb) is allowed = tt
-sound-note i (FreezeDev device count) is allowed = tt
-sound-note i (ReleaseDev device count) is allowed = tt
-sound-note i (FreezeSim sim count) is allowed = tt
-sound-note i (ReleaseSim sim) is allowed = tt
-sound-note i (Adjust device openings) is allowed = tt
-sound-note i Tick is allowed = tt
+sound-keep_submission i _ is allowed = tt
 
 -- before any event
 pub new-state : (c : Topology) (n d : ℕ) (device : config.Device) → slice_get c.devices d ≡ Some device → device_state c n [] d ≡ new_device n device
-unfolding device_state queue waiting passages openings sendings submissions caller_count error_count
+unfolding device_state queue waiting stays_begun openings sendings submissions caller_count error_count
 new-state c n d device is = rw is refl
 
 -- the queue of a device
@@ -118,7 +110,7 @@ unfolding counts_of has_in_flight
 flying-counts es = some_counts (is_in_flight es) (ccbs es)
 
 -- the first of its queue
-first_entry : (ps : List Passage) → slice_get (map entry ps) 0 ≡ option_map entry (slice_get ps 0)
+first_entry : (ps : List Stay) → slice_get (map entry ps) 0 ≡ option_map entry (slice_get ps 0)
 first_entry [] = refl
 first_entry (p ∷ ps) = refl
 
@@ -127,12 +119,12 @@ unfolding device_state
 first-state c n es d = first_entry (in_order es d) ∙ ap (option_map entry) (first-in_order es d)
 
 -- and whether there is one
-pub some_entry : (o : Option Passage) → is_some (option_map entry o) ≡ is_some o
+pub some_entry : (o : Option Stay) → is_some (option_map entry o) ≡ is_some o
 some_entry None = refl
 some_entry (Some p) = refl
 
 -- and its priority
-pub entry_priority : (o : Option Passage) → option_map (λ (w : Waiting). w.priority) (option_map entry o) ≡ option_map (λ (p : Passage). p.priority) o
+pub entry_priority : (o : Option Stay) → option_map (λ (w : Waiting). w.priority) (option_map entry o) ≡ option_map (λ (p : Stay). p.priority) o
 entry_priority None = refl
 entry_priority (Some p) = refl
 

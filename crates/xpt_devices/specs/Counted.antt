@@ -1,7 +1,7 @@
 -- what is counted of all devices together
 use Rattle.std.specs.Prelude.{◌+◌, ◌-◌, ◌<◌, ◌≤◌, List, length, count_by}
 use Rattle.event_log.specs.Counts.{round, ccbs, is_in_flight}
-use Rattle.event_log.specs.Stays.{passages, waiting}
+use Rattle.event_log.specs.Stays.{stays_begun, waiting}
 use Rattle.event_log.specs.declared.event.Event.{Event}
 use Rattle.event_log.specs.declared.event.Event.TheVariants.{Submit, Send, Done, Requeue, Tick}
 use Rattle.xpt_devices.specs.declared.counts.Counts.{Counts}
@@ -10,7 +10,7 @@ use Rattle.xpt_devices.specs.declared.counts.Counts.{Counts}
 unfoldable pub counts_of : List Event → Counts
 counts_of events = record {
   round = round events;
-  stays = length (passages events);
+  stays = length (stays_begun events);
   waiting = length (waiting events);
   in_flight = count_by (is_in_flight events) (ccbs events);
 }

@@ -7,27 +7,28 @@ use Rattle.dev_queue.specs.Device.{Device}
 use Rattle.dev_queue.specs.declared.waiting.Waiting.{Waiting}
 use Rattle.event_log.specs.Event.{is_some_and, is_adjust_of, adjusts_to}
 use Rattle.event_log.specs.Counts.{round, ccbs, submission, last, is_in_flight, sendings, caller_count, error_count}
-use Rattle.event_log.specs.Stays.{passages, waiting, queue, queue_key}
+use Rattle.event_log.specs.Stays.{stays_begun, waiting, queue, queue_key}
 use Rattle.event_log.specs.Sorted.{sorted_by}
-use Rattle.event_log.specs.Head.{device_openings, openings, goes_now_to}
+use Rattle.cam_types.specs.Questions.{device_openings}
+use Rattle.event_log.specs.Head.{openings, goes_now_to}
 use Rattle.event_log.specs.declared.event.Event.{Event}
 use Rattle.event_log.specs.declared.submission.Submission.{Submission}
-use Rattle.event_log.specs.declared.passage.Passage.{Passage}
+use Rattle.event_log.specs.declared.stay.Stay.{Stay}
 
 -- a stay as it waits at its device
-abbrev pub entry : Passage → Waiting
+abbrev pub entry : Stay → Waiting
 entry p = record { ccb = p.ccb; priority = p.priority }
 
 -- the stays in the device's queue, the first in front
-abbrev pub in_order : List Event → ℕ → List Passage
+abbrev pub in_order : List Event → ℕ → List Stay
 in_order events d = sorted_by queue_key (queue events d)
 
 -- it is a stay at the device, and arrives after this round
-abbrev pub is_later : ℕ → ℕ → Passage → Bool
+abbrev pub is_later : ℕ → ℕ → Stay → Bool
 is_later d round p = (p.device == d) && nat_lt round p.arrival
 
 -- the device's stays that wait for the next round, in order of birth
-abbrev pub later : List Event → ℕ → List Passage
+abbrev pub later : List Event → ℕ → List Stay
 later events d = filter (is_later d (round events)) (waiting events)
 
 -- the openings of the next round: the last adjustment says so, or else the configuration
@@ -51,7 +52,7 @@ device_state c capacity events d = record {
   in_flight = count_by (is_in_flight_at events d) (ccbs events);
   callers = caller_count events d;
   errors = error_count events d;
-  entered = count_by (λ (p : Passage). p.device == d) (passages events);
+  entered = count_by (λ (p : Stay). p.device == d) (stays_begun events);
 }
 
 -- what a device of the configuration holds before any event

@@ -5,9 +5,9 @@ use Rattle.cam_types.specs.Topology.{Topology}
 use Rattle.event_log.specs.Stays.{first}
 use Rattle.event_log.specs.Head.{is_ready}
 use Rattle.event_log.specs.declared.event.Event.{Event}
-use Rattle.event_log.specs.declared.passage.Passage.{Passage}
+use Rattle.event_log.specs.declared.stay.Stay.{Stay}
 
 -- the priority of the device's first stay, where the device is ready
 abbrev pub ready_priority : Topology → List Event → ℕ → Option ℕ
 ready_priority c events d =
-    if is_ready c events d then option_map (λ (p : Passage). p.priority) (first events d) else None
+    if is_ready c events d then option_map (λ (p : Stay). p.priority) (first events d) else None

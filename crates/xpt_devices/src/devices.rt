@@ -1,3 +1,5 @@
+//! The devices of a transport: how they open, and how an event is put behind the others.
+
 ghost use Rattle.std.specs.Prelude.{◌≡◌, ◌<◌, ◌≤◌, [], ◌∷◌, ◌++◌, length, IsTrue, IfOk, IfSome, option_to_list, vec_len, vec_capacity};
 ghost use Rattle.event_log.specs.Event.{submission_of};
 
@@ -5,7 +7,7 @@ mod questions;
 
 use crate::counts::Counts;
 use crate::open::open_queues;
-use crate::tell::tell;
+use crate::update::update;
 use cam_event::Rules;
 use cam_types::Config;
 use dev_queue::DevQueue;
@@ -63,9 +65,9 @@ impl Devices {
         requires legal { IsTrue (is_legal_event (self.old.rules) self.old.config (self.old.events, event)) }
         ensures { self.new ≡ record self.old { events = self.old.events ++ event ∷ [] } }
     {
-        tell(&mut self.queues, &self.submissions, &event);
+        update(&mut self.queues, &self.submissions, &event);
         self.counts = self.counts.behind(&event);
-        note(&mut self.submissions, &event);
+        keep_submission(&mut self.submissions, &event);
         self.events.push_reserved(event);
     }
 
@@ -80,7 +82,7 @@ impl Devices {
 }
 
 // Keeps what the event submits.
-fn note(submissions: &mut Vec<Submission>, event: &Event)
+fn keep_submission(submissions: &mut Vec<Submission>, event: &Event)
     requires room { IfSome (submission_of event.now) (λ _. vec_len submissions.old < vec_capacity submissions.old) }
     ensures items { submissions.new.items ≡ submissions.old.items ++ option_to_list (submission_of event.now) }
     ensures capacity { vec_capacity submissions.new ≡ vec_capacity submissions.old }

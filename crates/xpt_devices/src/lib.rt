@@ -7,4 +7,4 @@ pub use devices::Devices;
 mod counts;
 mod devices;
 mod open;
-mod tell;
+mod update;

@@ -5,5 +5,5 @@ pub mod RowLaws
 pub mod LaneLemmas
 pub mod SentLemmas
 pub mod XptLemmas
-pub mod TurnLemmas
+pub mod NextLemmas
 pub mod HistoryLemmas

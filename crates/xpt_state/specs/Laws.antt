@@ -6,9 +6,10 @@ use Rattle.cam_types.specs.declared.command.Command.{Command}
 use Rattle.event_log.specs.Head.{next}
 use Rattle.event_log.specs.declared.event.Event.{Event}
 use Rattle.event_log.specs.declared.event.Event.TheVariants.{Send}
-use Rattle.event_log.specs.declared.passage.Passage.{Passage}
+use Rattle.event_log.specs.declared.stay.Stay.{Stay}
 use Rattle.cam_event.specs.Legal.{Rules, is_legal_event}
-use Rattle.cam_event.specs.Refusals.{lane_adapter, refusal}
+use Rattle.cam_types.specs.Questions.{lane_adapter}
+use Rattle.cam_event.specs.Refusals.{refusal}
 use Rattle.cam_event.specs.declared.refusal.Refusal.{Refusal}
 use Rattle.xpt_devices.specs.Transport.{Transport}
 use Rattle.xpt_state.specs.declared.reply.Reply.TheVariants as replies
@@ -17,7 +18,7 @@ use Rattle.xpt_state.specs.declared.reply.Sent.TheVariants as sents
 use Rattle.xpt_state.specs.Calls.{refused}
 use Rattle.xpt_state.specs.Idle.{idle}
 use Rattle.xpt_state.specs.Sends.{lane_refusal}
-use Rattle.xpt_state.specs.Steps.{IsStep, IsTurn}
+use Rattle.xpt_state.specs.Steps.{IsStep, IsLaneStep}
 
 -- An adapter has a cause to be idle exactly where it has no next stay.
 abbrev pub IdleIsNoNext : Type 0
@@ -26,7 +27,7 @@ IdleIsNoNext = (c : Topology) (events : List Event) (a : ℕ) → is_some (idle 
 -- Where a lane isn't refused, no send of the next stay of its adapter is.
 abbrev pub NextIsUnrefused : Type 0
 NextIsUnrefused =
-    (rules : Rules) (c : Topology) (events : List Event) (lane : ℕ) (p : Passage)
+    (rules : Rules) (c : Topology) (events : List Event) (lane : ℕ) (p : Stay)
     → lane_refusal rules c events lane ≡ None → next c events (lane_adapter c lane) ≡ Some p
     → refusal rules c events (Send lane p.ccb) ≡ None
 
@@ -41,11 +42,11 @@ abbrev pub LegalIsNext : Type 0
 LegalIsNext =
     (rules : Rules) (c : Topology) (events : List Event) (lane ccb : ℕ)
     → IsTrue (is_legal_event rules c (events, Send lane ccb))
-    → option_map (λ (p : Passage). p.ccb) (next c events (lane_adapter c lane)) ≡ Some ccb
+    → option_map (λ (p : Stay). p.ccb) (next c events (lane_adapter c lane)) ≡ Some ccb
 
 -- Where a send isn't refused, the lane's turn is that send, and its command the reply.
 abbrev pub LegalSendIsMade : Type 0
 LegalSendIsMade =
     (old new : Transport) (lane ccb : ℕ) (result : Result Sent Refusal)
-    → refused old (Send lane ccb) ≡ None → IsTurn old lane new result
+    → refused old (Send lane ccb) ≡ None → IsLaneStep old lane new result
     → (command : Command) × (result ≡ Ok (sents.Command command)) × (command.ccb ≡ ccb) × IsStep replies.Command old (Send lane ccb) new (Ok command)

@@ -11,15 +11,15 @@ use Rattle.event_log.specs.Counts.{round, commands, submission, counted_requeues
 use Rattle.event_log.specs.Head.{next}
 use Rattle.event_log.specs.declared.event.Event.{Event}
 use Rattle.event_log.specs.declared.event.Event.TheVariants.{Submit, Send, Done, Tick}
-use Rattle.event_log.specs.declared.passage.Passage.{Passage}
+use Rattle.event_log.specs.declared.stay.Stay.{Stay}
 use Rattle.event_log.specs.declared.submission.Submission.{Submission}
-use Rattle.cam_event.specs.Refusals.{lane_adapter}
+use Rattle.cam_types.specs.Questions.{lane_adapter}
 use Rattle.xpt_state.specs.declared.done.Done as done
 use Rattle.xpt_state.specs.declared.reply.Reply.{Reply}
 use Rattle.xpt_state.specs.declared.reply.Reply.TheVariants as replies
 
 -- the command by which a stay's CCB is sent
-abbrev pub command_of : List Event → Passage → Option Command
+abbrev pub command_of : List Event → Stay → Option Command
 command_of before p = option_map (λ (s : Submission). record {
   ccb = p.ccb;
   attempt = p.attempt;

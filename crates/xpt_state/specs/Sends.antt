@@ -2,7 +2,8 @@
 use Rattle.std.specs.Prelude.{ℕ, not, nat_le, List, [], ◌∷◌, length, Option}
 use Rattle.cam_types.specs.Topology.{Topology}
 use Rattle.event_log.specs.declared.event.Event.{Event}
-use Rattle.cam_event.specs.Legal.{Rules, names_lane}
+use Rattle.cam_types.specs.Questions.{names_lane}
+use Rattle.cam_event.specs.Legal.{Rules}
 use Rattle.cam_event.specs.Refusals.{first_cause}
 use Rattle.cam_event.specs.declared.refusal.Refusal.{Refusal}
 use Rattle.cam_event.specs.declared.refusal.Refusal.TheVariants.{HistoryFull, NoLane}

@@ -1,6 +1,6 @@
 -- what the calls of a transport come to
 use Rattle.std.specs.Prelude.{◌≡◌, ℕ, Some, None, MatchResult, Result}
-use Rattle.cam_event.specs.Refusals.{lane_adapter}
+use Rattle.cam_types.specs.Questions.{lane_adapter}
 use Rattle.cam_event.specs.declared.refusal.Refusal.{Refusal}
 use Rattle.event_log.specs.declared.event.Event.{Event}
 use Rattle.event_log.specs.declared.event.Event.TheVariants.{Send}
@@ -31,6 +31,6 @@ IsSent old lane new (sents.Command command) = IsTaken old (Send lane command.ccb
 IsSent old lane new (sents.Idle why) = (idle old.config old.events (lane_adapter old.config lane) ≡ Some why) × (new ≡ old)
 
 -- A lane that isn't refused sends or is idle; where it is refused nothing changes.
-abbrev pub IsTurn : Transport → ℕ → Transport → Result Sent Refusal → Type 0
-IsTurn old lane new result =
+abbrev pub IsLaneStep : Transport → ℕ → Transport → Result Sent Refusal → Type 0
+IsLaneStep old lane new result =
     MatchResult result (λ sent. (lane_refused old lane ≡ None) × IsSent old lane new sent) (λ why. (lane_refused old lane ≡ Some why) × (new ≡ old))

@@ -6,7 +6,7 @@ ghost use Rattle.cam_event.specs.Legal.{is_legal};
 ghost use Rattle.event_log.specs.Head.{next, head};
 ghost use Rattle.event_log.specs.declared.event.Event.TheVariants as events;
 ghost use Rattle.xpt_state.specs.Calls.{refused, lane_refused};
-ghost use Rattle.cam_event.specs.Refusals.{lane_adapter};
+ghost use Rattle.cam_types.specs.Questions.{lane_adapter};
 ghost use Rattle.xpt_state.specs.Idle.{idle, has_stay_on};
 ghost use Rattle.xpt_state.specs.Looks.{next_case, case_of};
 ghost use Rattle.xpt_state.specs.Replies.{done_of, next_command};
@@ -16,7 +16,6 @@ use crate::done::Done;
 use crate::idle::Idle;
 use crate::look::Case;
 use crate::questions::{adapters, config, devices, has_head, lane_adapter};
-use cam_event::is_on;
 use cam_types::{Command, Outcome};
 use sense_class::Class;
 use xpt_stays::Stays;
@@ -47,14 +46,14 @@ pub(crate) fn command(state: &Stays, lane: u32, ccb: u32) -> Command
 }
 
 /// The CCB whose turn it is on the adapter of a lane that isn't refused, or why there is none.
-pub(crate) fn turn(state: &Stays, lane: u32) -> Result<u32, Idle>
+pub(crate) fn next_command(state: &Stays, lane: u32) -> Result<u32, Idle>
     requires { lane_refused state.now lane ≡ None }
     ensures ok { IfOk result (λ ccb. refused state.now (events.Send lane ccb) ≡ None) }
     ensures err { IfErr result (λ why. idle state.now.config state.now.events (lane_adapter state.now.config lane) ≡ Some why) }
 {
     let adapter = lane_adapter(config(state), lane);
     match adapters(state).next(adapter) {
-        Some(turn) => Ok(turn.ccb),
+        Some(next_command) => Ok(next_command.ccb),
         None => Err(idle(state, adapter)),
     }
 }
@@ -83,7 +82,7 @@ fn has_stay(state: &Stays, adapter: u32) -> bool
 fn has_stay_on(state: &Stays, adapter: u32, device: u32) -> bool
     ensures { result ≡ has_stay_on state.now.config state.now.events adapter device }
 {
-    is_on(config(state), adapter, device) && devices(state).has_queued_stay(device)
+    config(state).is_on(adapter, device) && devices(state).has_queued_stay(device)
 }
 
 /// How many lanes are of an adapter that has something to send.

@@ -1,3 +1,5 @@
+//! The command by which a CCB is sent.
+
 ghost use Rattle.std.specs.Prelude.{◌≡◌};
 ghost use Rattle.xpt_state.specs.Rows.{command_by};
 

@@ -1,3 +1,5 @@
+//! What a completion comes to: its class, and the status to hand up.
+
 ghost use Rattle.std.specs.Prelude.{◌≡◌};
 ghost use Rattle.xpt_state.specs.Replies.{has_sense, value_of};
 ghost use Rattle.xpt_state.specs.Rows.{done_by};

@@ -1,17 +1,25 @@
+//! Histories: the events of one configuration, each legal at its place.
+
 ghost use Rattle.std.specs.Prelude.{◌≡◌, ◌≤◌, [], ◌∷◌, ◌++◌, length, IsTrue, IfOk, OnOk, OnErr, MatchOption, Ok, Err};
 
 use crate::questions::devices;
 use crate::xpt::Xpt;
-use cam_event::{Event, Refusal, Rules, Stay};
+use cam_event::{Event, Refusal, Rules, StayName};
 use cam_types::Config;
 use std::alloc::{AllocError, Global};
 use std::marker::Model;
 use xpt_stays::StayRecord;
 
 /// The events of one configuration so far, each legal at its place. Nothing grows after `new`.
-#[derive(Drop)]
 pub struct History {
     xpt: Xpt,
+}
+
+// By hand, so that to its owners a history that ends is one call and not each of its fields.
+impl Drop for History {
+    fn drop(self) {
+        let History { xpt: _ } = self;
+    }
 }
 
 impl Model for History {
@@ -26,9 +34,9 @@ impl Model for History {
 }
 
 impl History {
-    ghost use Rattle.cam_types.specs.declared.limits.TheConstants.{MOST_ROUNDS, MOST_STAYS, MOST_EVENTS};
+    ghost use Rattle.cam_types.specs.declared.maxima.TheConstants.{MOST_ROUNDS, MOST_STAYS, MOST_EVENTS};
     ghost use Rattle.event_log.specs.Counts.{round, commands};
-    ghost use Rattle.event_log.specs.Stays.{passages, unsent};
+    ghost use Rattle.event_log.specs.Stays.{stays_begun, unsent};
     ghost use Rattle.event_log.specs.Live.{live_cost};
     ghost use Rattle.cam_event.specs.Legal.{history_rules, is_legal, is_legal_event};
     ghost use Rattle.cam_event.specs.Refusals.{refusal};
@@ -93,7 +101,7 @@ impl History {
     /// How many stays began, at most 1,024.
     #[tactic(auto, using(cam_event::proofs::LimitLemmas::stays_most))]
     pub fn stay_count(&self) -> u32
-        ensures same { result ≡ length (passages self.now.events) }
+        ensures same { result ≡ length (stays_begun self.now.events) }
         ensures most { result ≤ MOST_STAYS }
     {
         devices(self.xpt.state()).stay_count()
@@ -107,7 +115,7 @@ impl History {
     }
 
     /// The first stay by birth that has no send.
-    pub fn unsent(&self) -> Option<Stay>
+    pub fn unsent(&self) -> Option<StayName>
         ensures { result ≡ unsent self.now.events }
     {
         self.xpt.state().unsent()

@@ -1,3 +1,5 @@
+//! Why a lane has nothing to send.
+
 ghost use Rattle.std.specs.Prelude.{◌≡◌};
 ghost use Rattle.xpt_state.specs.Idle.{idle_by};
 

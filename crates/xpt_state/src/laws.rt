@@ -1,3 +1,5 @@
+//! What holds of sends and of idle lanes.
+
 ghost use Rattle.xpt_state.specs.Laws.{IdleIsNoNext, NextIsUnrefused, LaneIsRefusedAsItsSends, LegalIsNext, LegalSendIsMade};
 
 /// An adapter's lane is idle exactly where no stay's turn has come.

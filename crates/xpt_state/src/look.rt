@@ -1,3 +1,5 @@
+//! What there is to see of a transport: its next case, and counts.
+
 use sense_class::Class;
 
 /// A CCB that waits for a decision on its error.

@@ -4,7 +4,8 @@ ghost use Rattle.std.specs.Prelude.{◌≡◌, ◌<◌, true, length, is_some, I
 ghost use Rattle.event_log.specs.Head.{head};
 ghost use Rattle.event_log.specs.Counts.{is_recovering, wants_requeue, wants_finish};
 ghost use Rattle.cam_event.specs.Legal.{names_ccb, is_legal};
-ghost use Rattle.cam_event.specs.Refusals.{device_of, lane_adapter, are_ccbs_full, are_stays_full, have_openings, is_other_next};
+ghost use Rattle.cam_types.specs.Questions.{lane_adapter};
+ghost use Rattle.cam_event.specs.Refusals.{device_of, are_ccbs_full, are_stays_full, have_openings, is_other_next};
 ghost use Rattle.cam_types.specs.Topology.{IsConfig};
 
 use cam_types::Config;
@@ -72,7 +73,7 @@ pub(crate) fn lane_adapter(config: &Config, lane: u32) -> u32
     ensures same { result ≡ lane_adapter config.now lane }
     ensures kept { IsConfig config.now }
 {
-    config.lanes().get(lane as usize).copied().unwrap_or(0)
+    config.lane_adapter(lane).unwrap_or(0)
 }
 
 /// Whether an opening is left at the device and at the adapter.
@@ -90,7 +91,7 @@ pub(crate) fn is_other_next(state: &Stays, adapter: u32, ccb: u32) -> bool
     ensures { result ≡ is_other_next state.now.config state.now.events adapter ccb }
 {
     match adapters(state).next(adapter) {
-        Some(turn) => turn.ccb != ccb,
+        Some(next_command) => next_command.ccb != ccb,
         None => false,
     }
 }

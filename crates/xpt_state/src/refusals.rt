@@ -10,11 +10,8 @@ use crate::questions::{
     adapters, are_ccbs_full, are_stays_full, config, device_of, devices, have_openings,
     is_other_next, lane_adapter, names_ccb, wants_finish, wants_requeue,
 };
-use cam_event::{
-    Event, MOST_FREEZES, MOST_RETRIES, Refusal, is_count, is_on, names_adapter, names_device,
-    names_lane,
-};
-use cam_types::{MOST_PRIORITY, Outcome, are_openings};
+use cam_event::{Event, Refusal, is_count};
+use cam_types::{MOST_FREEZES, MOST_PRIORITY, MOST_RETRIES, Outcome, are_openings};
 use xpt_stays::Stays;
 
 /// Why the event is refused behind those of the state.
@@ -69,7 +66,7 @@ fn cause(state: &Stays, event: &Event) -> Option<Refusal>
 fn submit_refusal(state: &Stays, device: u32, priority: u32, retries: u32) -> Option<Refusal>
     ensures { result ≡ first_cause (submit_causes state.now.rules state.now.config state.now.events device priority retries) }
 {
-    if !names_device(config(state), device) {
+    if !config(state).names_device(device) {
         Some(Refusal::NoDevice)
     } else if priority > MOST_PRIORITY {
         Some(Refusal::BadPriority)
@@ -87,7 +84,7 @@ fn submit_refusal(state: &Stays, device: u32, priority: u32, retries: u32) -> Op
 fn send_refusal(state: &Stays, lane: u32, ccb: u32) -> Option<Refusal>
     ensures { result ≡ first_cause (send_causes state.now.config state.now.events lane ccb) }
 {
-    if !names_lane(config(state), lane) {
+    if !config(state).names_lane(lane) {
         Some(Refusal::NoLane)
     } else if !names_ccb(state, ccb) {
         Some(Refusal::NoCcb)
@@ -105,7 +102,7 @@ fn turn_refusal(state: &Stays, device: u32, adapter: u32, ccb: u32) -> Option<Re
     requires { adapter < length state.now.config.adapters }
     ensures { result ≡ first_cause (turn_causes state.now.config state.now.events device adapter ccb) }
 {
-    if !is_on(config(state), adapter, device) {
+    if !config(state).is_on(adapter, device) {
         Some(Refusal::WrongLane)
     } else if devices(state).is_frozen(device) {
         Some(Refusal::DeviceFrozen)
@@ -169,7 +166,7 @@ fn finish_refusal(state: &Stays, ccb: u32) -> Option<Refusal>
 fn freeze_dev_refusal(state: &Stays, device: u32, count: u32) -> Option<Refusal>
     ensures { result ≡ first_cause (freeze_dev_causes state.now.config state.now.events device count) }
 {
-    if !names_device(config(state), device) {
+    if !config(state).names_device(device) {
         Some(Refusal::NoDevice)
     } else if !is_count(count) {
         Some(Refusal::BadCount)
@@ -185,7 +182,7 @@ fn freeze_dev_refusal(state: &Stays, device: u32, count: u32) -> Option<Refusal>
 fn release_dev_refusal(state: &Stays, device: u32, count: u32) -> Option<Refusal>
     ensures { result ≡ first_cause (release_dev_causes state.now.config state.now.events device count) }
 {
-    if !names_device(config(state), device) {
+    if !config(state).names_device(device) {
         Some(Refusal::NoDevice)
     } else if !is_count(count) {
         Some(Refusal::BadCount)
@@ -199,7 +196,7 @@ fn release_dev_refusal(state: &Stays, device: u32, count: u32) -> Option<Refusal
 fn freeze_sim_refusal(state: &Stays, sim: u32, count: u32) -> Option<Refusal>
     ensures { result ≡ first_cause (freeze_sim_causes state.now.config state.now.events sim count) }
 {
-    if !names_adapter(config(state), sim) {
+    if !config(state).names_adapter(sim) {
         Some(Refusal::NoAdapter)
     } else if !is_count(count) {
         Some(Refusal::BadCount)
@@ -213,7 +210,7 @@ fn freeze_sim_refusal(state: &Stays, sim: u32, count: u32) -> Option<Refusal>
 fn release_sim_refusal(state: &Stays, sim: u32) -> Option<Refusal>
     ensures { result ≡ first_cause (release_sim_causes state.now.config state.now.events sim) }
 {
-    if !names_adapter(config(state), sim) {
+    if !config(state).names_adapter(sim) {
         Some(Refusal::NoAdapter)
     } else if adapters(state).callers(sim) < 1 {
         Some(Refusal::ReleaseTooMany)
@@ -225,7 +222,7 @@ fn release_sim_refusal(state: &Stays, sim: u32) -> Option<Refusal>
 fn adjust_refusal(state: &Stays, device: u32, openings: u32) -> Option<Refusal>
     ensures { result ≡ first_cause (adjust_causes state.now.config device openings) }
 {
-    if !names_device(config(state), device) {
+    if !config(state).names_device(device) {
         Some(Refusal::NoDevice)
     } else if !are_openings(openings) {
         Some(Refusal::BadOpenings)
@@ -252,7 +249,7 @@ pub(crate) fn lane_refusal(state: &Stays, lane: u32) -> Option<Refusal>
 {
     if let Some(full) = full_refusal(state) {
         Some(full)
-    } else if !names_lane(config(state), lane) {
+    } else if !config(state).names_lane(lane) {
         Some(Refusal::NoLane)
     } else {
         None

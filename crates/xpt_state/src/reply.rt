@@ -1,3 +1,5 @@
+//! What a transport answers to a lane and to an event.
+
 use crate::done::Done;
 use crate::idle::Idle;
 use cam_types::Command;

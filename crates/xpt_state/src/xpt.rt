@@ -1,7 +1,9 @@
+//! The transport's calls.
+
 ghost use Rattle.std.specs.Prelude.{◌≡◌, ◌≤◌, [], length, None, IsTrue, IfOk, MatchResult};
 ghost use Rattle.xpt_state.specs.declared.reply.Reply.TheVariants as replies;
 
-use crate::answers::{command, done_of, heads, next_case, turn};
+use crate::answers::{command, done_of, heads, next_case, next_command};
 use crate::done::Done;
 use crate::history::History;
 use crate::look::{Case, Look};
@@ -16,9 +18,18 @@ use xpt_stays::Stays;
 
 /// A transport on one thread: a configuration, how far it goes, and the events so far, each legal at its place. Nothing
 /// grows after `open`.
-#[derive(Drop)]
+///
+/// CCBs, devices, adapters and lanes are numbered from 0, rounds from 1. A call that is refused names the first cause
+/// that holds, in the order in which its documentation lists them, and changes nothing.
 pub struct Xpt {
     state: Stays,
+}
+
+// By hand, so that to its owners a transport that ends is one call and not each of its fields.
+impl Drop for Xpt {
+    fn drop(self) {
+        let Xpt { state: _ } = self;
+    }
 }
 
 impl Model for Xpt {
@@ -34,14 +45,15 @@ impl Model for Xpt {
 }
 
 impl Xpt {
-    ghost use Rattle.cam_types.specs.declared.limits.TheConstants.{MOST_EVENTS};
+    ghost use Rattle.cam_types.specs.declared.maxima.TheConstants.{MOST_EVENTS};
     ghost use Rattle.cam_event.specs.Legal.{rules_of, is_legal};
     ghost use Rattle.xpt_state.specs.Calls.{refused, lane_refused, with_event};
     ghost use Rattle.xpt_state.specs.Looks.{look, has_head, next_case};
     ghost use Rattle.xpt_state.specs.Replies.{nothing};
-    ghost use Rattle.xpt_state.specs.Steps.{IsTaken, IsRefused, IsStep, IsTurn, IsSent};
+    ghost use Rattle.xpt_state.specs.Steps.{IsTaken, IsRefused, IsStep, IsLaneStep, IsSent};
 
-    /// A transport to which nothing has happened, with memory for all that the limits let happen. All growth is here.
+    /// A transport to which nothing has happened, in round 1, with memory for all that the limits let happen. All
+    /// growth is here; it fails only if there is no memory.
     pub fn open(alloc: Global, config: Config, limits: Limits) -> Result<Xpt, AllocError>
         ensures { IfOk result (λ x. x ≡ record { config = config; rules = rules_of limits; events = [] }) }
     {
@@ -65,7 +77,7 @@ impl Xpt {
         config(&self.state)
     }
 
-    /// How far the transport goes.
+    /// How far the transport goes: the CCBs alive at once, the rounds, the stays and the events.
     pub fn rules(&self) -> Rules
         ensures { result ≡ self.now.rules }
     {
@@ -88,7 +100,7 @@ impl Xpt {
         &self.state
     }
 
-    /// Why the event would be refused: the first cause that holds.
+    /// Why the event would be refused now: the first cause that holds. None if `take` would accept it.
     pub fn refusal(&self, event: &Event) -> Option<Refusal>
         ensures { result ≡ refused self.now event.now }
     {
@@ -114,7 +126,11 @@ impl Xpt {
         Ok(())
     }
 
-    /// Takes an event of any kind and answers what its own call does. Refused, nothing changes.
+    /// Takes an event of any kind and answers what the call of that kind does, with the refusals of that call.
+    ///
+    /// A send of a CCB by a lane is refused with the first of `HistoryFull`, `NoLane`, `NoCcb`, `NotQueued`,
+    /// `WrongLane`, `DeviceFrozen`, `AdapterFrozen`, `NoOpening` and `NotHead`: only what `send_next` would send is
+    /// sent. If the event is refused, nothing changes.
     pub fn take(&mut self, event: Event) -> Result<Reply, Refusal>
         ensures { IsStep (λ reply. reply) self.old event self.new result }
     {
@@ -136,8 +152,12 @@ impl Xpt {
         }
     }
 
-    /// Submits a CCB of the driver to the device: it gets the next number, which is the answer, and its first stay begins.
-    /// Refused, nothing changes.
+    /// Submits a CCB of the driver to the device: it gets the next number, which is the answer, and its first stay
+    /// begins in this round. A priority is 0 to 1279, the smaller number the more urgent; retries are 0 to 7, and the
+    /// driver's number is any byte.
+    ///
+    /// Refused with the first of `HistoryFull`, `NoDevice`, `BadPriority`, `BadRetries`, `CcbFull` and `StaysFull`;
+    /// then nothing changes.
     pub fn submit(
         &mut self,
         driver: u8,
@@ -172,7 +192,12 @@ impl Xpt {
         Ok(command)
     }
 
-    /// The command that was sent as this CCB has completed. Refused, nothing changes.
+    /// The command that was sent as this CCB has completed, with this result: its CAM status (the lower six bits) isn't
+    /// 00. Status 01 ends the CCB. Any other is a failure: the CCB waits for `requeue` or `finish`, as the class in the
+    /// answer asks. Until then its device has one freeze more, unless the CCB's flags have `qfrzdis`. The opening isn't
+    /// given back before the next round.
+    ///
+    /// Refused with the first of `HistoryFull`, `NoCcb`, `BadStatus` and `NotInFlight`; then nothing changes.
     pub fn done(&mut self, ccb: u32, outcome: Outcome) -> Result<Done, Refusal>
         ensures { IsStep replies.Done self.old (Event.Done ccb outcome) self.new result }
     {
@@ -185,56 +210,79 @@ impl Xpt {
         Ok(done)
     }
 
-    /// Puts a CCB that failed back into its device's queue, from the next round on. Refused, nothing changes.
+    /// Puts a CCB that failed back into its device's queue, from the next round on, where it stands before what is
+    /// submitted in that round at its priority. The freeze that its failure made ends.
+    ///
+    /// Refused with the first of `HistoryFull`, `NoCcb`, `StaysFull`, `NotRecovering` and `WrongDecision` (its class
+    /// asks for `finish`); then nothing changes.
     pub fn requeue(&mut self, ccb: u32) -> Result<(), Refusal>
         ensures { IsStep nothing self.old (Event.Requeue ccb) self.new result }
     {
         self.push(Event::Requeue { ccb })
     }
 
-    /// Gives a CCB that failed back to its driver. Refused, nothing changes.
+    /// Gives a CCB that failed back to its driver, which ends it. The freeze that its failure made ends too.
+    ///
+    /// Refused with the first of `HistoryFull`, `NoCcb`, `NotRecovering` and `WrongDecision` (its class asks for
+    /// `requeue`); then nothing changes.
     pub fn finish(&mut self, ccb: u32) -> Result<(), Refusal>
         ensures { IsStep nothing self.old (Event.Finish ccb) self.new result }
     {
         self.push(Event::Finish { ccb })
     }
 
-    /// Freezes the device's queue so many times, 1 to 65,535. Refused, nothing changes.
+    /// Freezes the device's queue so many times, 1 to 65,535. Commands in flight are left alone. The freezes by
+    /// callers, with those of sends with `qfreeze`, are at most 65,535 at a time.
+    ///
+    /// Refused with the first of `HistoryFull`, `NoDevice`, `BadCount` and `FreezeOverflow`; then nothing changes.
     pub fn freeze_dev(&mut self, device: u32, count: u32) -> Result<(), Refusal>
         ensures { IsStep nothing self.old (Event.FreezeDev device count) self.new result }
     {
         self.push(Event::FreezeDev { device, count })
     }
 
-    /// Takes so many of the callers' freezes of the device away. Refused, nothing changes.
+    /// Takes so many freezes of the device away, 1 to 65,535, of those that `freeze_dev` and sends with `qfreeze` made.
+    /// The freezes by failures stay: `requeue` or `finish` of the CCB that failed ends one of these.
+    ///
+    /// Refused with the first of `HistoryFull`, `NoDevice`, `BadCount` and `ReleaseTooMany`; then nothing changes.
     pub fn release_dev(&mut self, device: u32, count: u32) -> Result<(), Refusal>
         ensures { IsStep nothing self.old (Event.ReleaseDev device count) self.new result }
     {
         self.push(Event::ReleaseDev { device, count })
     }
 
-    /// Freezes the adapter so many times, 1 to 65,535. Refused, nothing changes.
+    /// Freezes the adapter so many times, 1 to 65,535. Commands in flight are left alone. The freezes of an adapter are
+    /// at most 65,535 at a time.
+    ///
+    /// Refused with the first of `HistoryFull`, `NoAdapter`, `BadCount` and `FreezeOverflow`; then nothing changes.
     pub fn freeze_sim(&mut self, sim: u32, count: u32) -> Result<(), Refusal>
         ensures { IsStep nothing self.old (Event.FreezeSim sim count) self.new result }
     {
         self.push(Event::FreezeSim { sim, count })
     }
 
-    /// Takes one freeze of the adapter away. Refused, nothing changes.
+    /// Takes one freeze of the adapter away.
+    ///
+    /// Refused with the first of `HistoryFull`, `NoAdapter` and `ReleaseTooMany`; then nothing changes.
     pub fn release_sim(&mut self, sim: u32) -> Result<(), Refusal>
         ensures { IsStep nothing self.old (Event.ReleaseSim sim) self.new result }
     {
         self.push(Event::ReleaseSim { sim })
     }
 
-    /// Gives the device so many openings, 1 to 255, from the next round on. Refused, nothing changes.
+    /// Gives the device so many openings, 1 to 255, from the next round on. This round keeps the openings that it has.
+    ///
+    /// Refused with the first of `HistoryFull`, `NoDevice` and `BadOpenings`; then nothing changes.
     pub fn adjust(&mut self, device: u32, openings: u32) -> Result<(), Refusal>
         ensures { IsStep nothing self.old (Event.Adjust device openings) self.new result }
     {
         self.push(Event::Adjust { device, openings })
     }
 
-    /// Opens the next round, which is the answer. Refused, nothing changes.
+    /// Opens the next round, which is the answer: all openings come back, adjusted ones at their new number, and what
+    /// was requeued enters its queue. Freezes stay.
+    ///
+    /// Refused with the first of `HistoryFull`, `InFlight` and `RoundsFull`; then nothing changes.
     pub fn tick(&mut self) -> Result<u32, Refusal>
         ensures { IsStep replies.Round self.old Event.Tick self.new result }
     {
@@ -246,16 +294,19 @@ impl Xpt {
     pub fn has_head(&self, lane: u32) -> bool
         ensures { result ≡ has_head self.now.config self.now.events lane }
     {
-        match config(&self.state).lanes().get(lane as usize) {
-            Some(adapter) => has_head(&self.state, *adapter),
+        match config(&self.state).lane_adapter(lane) {
+            Some(adapter) => has_head(&self.state, adapter),
             None => false,
         }
     }
 
-    /// Sends the next command of the lane's adapter, or says why there is none. It is refused where there may be no event
-    /// more, or no such lane is; then, and where the lane is idle, nothing changes.
+    /// Sends the next command of the lane's adapter: the first stay of its head. It uses an opening of the device and
+    /// one of the adapter for the whole round. If nothing can be sent, the lane is idle, and the answer says why by the
+    /// first of `Empty`, `AdapterFrozen`, `AdapterBusy` and `DevicesHeld`; then nothing changes.
+    ///
+    /// Refused with the first of `HistoryFull` and `NoLane`; then nothing changes either.
     pub fn send_next(&mut self, lane: u32) -> Result<Sent, Refusal>
-        ensures { IsTurn self.old lane self.new result }
+        ensures { IsLaneStep self.old lane self.new result }
     {
         if let Some(why) = lane_refusal(&self.state, lane) {
             return Err(why);
@@ -268,7 +319,7 @@ impl Xpt {
         requires { lane_refused self.old lane ≡ None }
         ensures { IsSent self.old lane self.new result }
     {
-        match turn(&self.state, lane) {
+        match next_command(&self.state, lane) {
             Ok(ccb) => {
                 let command = command(&self.state, lane, ccb);
                 self.add(Event::Send { lane, ccb });
@@ -278,14 +329,15 @@ impl Xpt {
         }
     }
 
-    /// Of the CCBs that wait for a decision on their error, the one that completed first.
+    /// Of the CCBs that wait for a decision on their error, the one that completed first, and its class. None if none
+    /// waits.
     pub fn next_case(&self) -> Option<Case>
         ensures { result ≡ next_case self.now.events }
     {
         next_case(&self.state)
     }
 
-    /// What there is to see, all in counts.
+    /// What there is to see, all in counts. It changes nothing.
     pub fn look(&self) -> Look
         ensures { result ≡ look self.now.config self.now.events }
     {
@@ -300,11 +352,13 @@ impl Xpt {
         }
     }
 
-    /// The history of the events, which are legal in it too.
+    /// The history of the events, which are legal in it too. It takes memory of its own; if there is none, the
+    /// transport is gone.
     pub fn into_history(self, alloc: Global) -> Result<History, AllocError>
         ensures { IfOk result (λ h. h ≡ record { config = self.config; events = self.events }) }
     {
-        let (config, events) = self.state.into_parts();
+        let Xpt { state } = self;
+        let (config, events) = state.into_parts();
         let mut history = History::new(alloc, config)?;
         for event in &events {
             history.push(*event).unwrap();

@@ -5,7 +5,7 @@ use Rattle.std.specs.List.{list_any}
 use Rattle.std.proofs.lemmas.Bool.{or_left, or_right}
 use Rattle.std.proofs.lemmas.Option.{slice_get_within, slice_get-get_or, get_or_from_slice_get, slice_get-map}
 use Rattle.std.proofs.Math.Seq.{get_or-append_seam}
-use Rattle.xpt_devices.specs.Told.{at_place}
+use Rattle.xpt_devices.specs.Updated.{at_place}
 
 module _ {X : Type 0} where
   -- what holds of each holds of the one at a place

@@ -5,16 +5,16 @@ use Rattle.std.specs.List.{list_any}
 use Rattle.std.specs.Option.{option_map}
 use Rattle.std.proofs.lemmas.List.Sums.{sum_by-cons}
 use Rattle.std.proofs.lemmas.Option.{slice_get_within, slice_get_cases, get_or_from_slice_get}
-use Rattle.std.proofs.lemmas.Bool.{cases_lt}
+use Rattle.std.proofs.lemmas.Bool.{cases_lt, or_parts}
 use Rattle.cam_types.specs.Priority.{weight}
 use Rattle.event_log.specs.Counts.{round, commands}
 use Rattle.event_log.specs.Event.{is_some_and}
-use Rattle.event_log.specs.Stays.{passages, stay_of, unsent, has_arrived, has_queued}
+use Rattle.event_log.specs.Stays.{stays_begun, name_of, unsent, has_arrived, has_queued}
 use Rattle.event_log.specs.Stays as stays
 use Rattle.event_log.specs.Live.{live_part, live_cost, live_round}
 use Rattle.event_log.specs.declared.event.Event.{Event}
-use Rattle.event_log.specs.declared.passage.Passage.{Passage}
-use Rattle.event_log.specs.declared.passage.Stay.{Stay}
+use Rattle.event_log.specs.declared.stay.Stay.{Stay}
+use Rattle.event_log.specs.declared.stay.StayName.{StayName}
 use Rattle.xpt_devices.specs.Transport.{Transport}
 use Rattle.xpt_stays.specs.StayRecord.{is_unsent, is_queued, waiting_cost}
 use Rattle.xpt_stays.specs.Latest.{latest_stay}
@@ -31,56 +31,52 @@ none_cases : (n : ℕ) (b : Bool) → is_none (cond b None (Some n)) ≡ b
 none_cases n true = refl
 none_cases n false = refl
 
-pub unsent-of : (es : List Event) (p : Passage) → is_unsent (record_of es p) ≡ stays.is_unsent es p
+pub unsent-of : (es : List Event) (p : Stay) → is_unsent (record_of es p) ≡ stays.is_unsent es p
 unsent-of es p = none_cases (live_round es p) (stays.is_unsent es p)
 
-abbrev stay_in : StayRecord → Stay
-stay_in r = stay_of r.passage
+abbrev stay_in : StayRecord → StayName
+stay_in r = name_of r.stay
 
 module _ (es : List Event) where
-  found_cases : (p : Passage) (ps : List Passage) (b : Bool) → option_map stay_in (find is_unsent (map (record_of es) ps)) ≡ option_map stay_of (find (stays.is_unsent es) ps) →
-      option_map stay_in (cond b (Some (record_of es p)) (find is_unsent (map (record_of es) ps))) ≡ option_map stay_of (cond b (Some p) (find (stays.is_unsent es) ps))
+  found_cases : (p : Stay) (ps : List Stay) (b : Bool) → option_map stay_in (find is_unsent (map (record_of es) ps)) ≡ option_map name_of (find (stays.is_unsent es) ps) →
+      option_map stay_in (cond b (Some (record_of es p)) (find is_unsent (map (record_of es) ps))) ≡ option_map name_of (cond b (Some p) (find (stays.is_unsent es) ps))
   found_cases p ps true same = refl
   found_cases p ps false same = same
 
-  found : (ps : List Passage) → option_map stay_in (find is_unsent (map (record_of es) ps)) ≡ option_map stay_of (find (stays.is_unsent es) ps)
+  found : (ps : List Stay) → option_map stay_in (find is_unsent (map (record_of es) ps)) ≡ option_map name_of (find (stays.is_unsent es) ps)
   found [] = refl
   found (p ∷ ps) = rw (unsent-of es p) (found_cases p ps (stays.is_unsent es p) (found ps))
 
-  pub find-records : option_map (λ (r : StayRecord). stay_of r.passage) (find is_unsent (records es)) ≡ unsent es
+  pub find-records : option_map (λ (r : StayRecord). name_of r.stay) (find is_unsent (records es)) ≡ unsent es
   unfolding records unsent
-  find-records = found (passages es)
+  find-records = found (stays_begun es)
 
-  any-map : (ps : List Passage) → list_any is_unsent (map (record_of es) ps) ≡ list_any (stays.is_unsent es) ps
+  any-map : (ps : List Stay) → list_any is_unsent (map (record_of es) ps) ≡ list_any (stays.is_unsent es) ps
   any-map [] = refl
   any-map (p ∷ ps) = rw (unsent-of es p, any-map ps) refl
 
   -- where each was sent, records cost what the live schedule did
-  cost_cases : (p : Passage) (n : ℕ) (b : Bool) → b ≡ false → weight p.priority * (unwrap_or (cond b None (Some n)) 0 - p.arrival) ≡ weight p.priority * (n - p.arrival)
+  cost_cases : (p : Stay) (n : ℕ) (b : Bool) → b ≡ false → weight p.priority * (unwrap_or (cond b None (Some n)) 0 - p.arrival) ≡ weight p.priority * (n - p.arrival)
   cost_cases p n true is = absurd (cc)
   cost_cases p n false is = refl
 
-  sum-map : (ps : List Passage) → list_any (stays.is_unsent es) ps ≡ false → sum_by waiting_cost (map (record_of es) ps) ≡ sum_by (live_part es) ps
+  sum-map : (ps : List Stay) → list_any (stays.is_unsent es) ps ≡ false → sum_by waiting_cost (map (record_of es) ps) ≡ sum_by (live_part es) ps
   unfolding live_part
   sum-map [] h = refl
   sum-map (p ∷ ps) h =
-      let parts = or_false (stays.is_unsent es p) (list_any (stays.is_unsent es) ps) h in
+      let parts = or_parts (stays.is_unsent es p) (list_any (stays.is_unsent es) ps) h in
       sum_by-cons waiting_cost (record_of es p) (map (record_of es) ps)
       ∙ ap (λ n. n + sum_by waiting_cost (map (record_of es) ps)) (cost_cases p (live_round es p) (stays.is_unsent es p) parts.0)
       ∙ ap (λ n. live_part es p + n) (sum-map ps parts.1) ∙ sym (sum_by-cons (live_part es) p ps)
-    where
-      or_false : (a b : Bool) → (a || b) ≡ false → (a ≡ false) × (b ≡ false)
-      or_false true b e = absurd (cc)
-      or_false false b e = (refl, e)
 
-  all_sent : (t : Bool) → list_any (stays.is_unsent es) (passages es) ≡ t →
-      cond t None (Some (sum_by waiting_cost (map (record_of es) (passages es)))) ≡ cond t None (Some (sum_by (live_part es) (passages es)))
+  all_sent : (t : Bool) → list_any (stays.is_unsent es) (stays_begun es) ≡ t →
+      cond t None (Some (sum_by waiting_cost (map (record_of es) (stays_begun es)))) ≡ cond t None (Some (sum_by (live_part es) (stays_begun es)))
   all_sent true h = refl
-  all_sent false h = ap Some (sum-map (passages es) h)
+  all_sent false h = ap Some (sum-map (stays_begun es) h)
 
   pub cost-records : cond (list_any is_unsent (records es)) None (Some (sum_by waiting_cost (records es))) ≡ live_cost es
   unfolding records live_cost
-  cost-records = rw (any-map (passages es)) (all_sent (list_any (stays.is_unsent es) (passages es)) refl)
+  cost-records = rw (any-map (stays_begun es)) (all_sent (list_any (stays.is_unsent es) (stays_begun es)) refl)
 
 -- what is read of a CCB's latest stay, behind a transport's events
 module _ (i : Inside) (is : IsStays i) (t : Transport) (view : i.ccbs ≡ t) where
@@ -135,13 +131,13 @@ module _ (i : Inside) (is : IsStays i) (t : Transport) (view : i.ccbs ≡ t) whe
       ∙ ap (λ (x : Transport). has_queued x.events k) view
 
   -- the first without a send, and the live cost
-  pub found-some : (r : StayRecord) → find is_unsent i.records.items ≡ Some r → Some (stay_of r.passage) ≡ unsent t.events
+  pub found-some : (r : StayRecord) → find is_unsent i.records.items ≡ Some r → Some (name_of r.stay) ≡ unsent t.events
   found-some r h =
-      ap (option_map (λ (x : StayRecord). stay_of x.passage)) (sym h ∙ ap (find is_unsent) is.records) ∙ find-records i.ccbs.events ∙ ap (λ (x : Transport). unsent x.events) view
+      ap (option_map (λ (x : StayRecord). name_of x.stay)) (sym h ∙ ap (find is_unsent) is.records) ∙ find-records i.ccbs.events ∙ ap (λ (x : Transport). unsent x.events) view
 
   pub found-none : find is_unsent i.records.items ≡ None → None ≡ unsent t.events
   found-none h =
-      ap (option_map (λ (x : StayRecord). stay_of x.passage)) (sym h ∙ ap (find is_unsent) is.records) ∙ find-records i.ccbs.events ∙ ap (λ (x : Transport). unsent x.events) view
+      ap (option_map (λ (x : StayRecord). name_of x.stay)) (sym h ∙ ap (find is_unsent) is.records) ∙ find-records i.ccbs.events ∙ ap (λ (x : Transport). unsent x.events) view
 
   pub cost-by : (rs : List StayRecord) → rs ≡ i.records.items → cond (list_any is_unsent rs) None (Some (sum_by waiting_cost rs)) ≡ live_cost t.events
   cost-by rs same =

@@ -11,7 +11,7 @@ use Rattle.event_log.specs.Counts.{round}
 use Rattle.event_log.specs.Stays.{is_unsent}
 use Rattle.event_log.specs.Live.{send_place, live_round}
 use Rattle.event_log.specs.declared.event.Event.{Event}
-use Rattle.event_log.specs.declared.passage.Passage.{Passage}
+use Rattle.event_log.specs.declared.stay.Stay.{Stay}
 use Rattle.event_log.proofs.Laws.{is_unsent-push}
 use Rattle.xpt_stays.specs.Records.{sent_round}
 
@@ -35,32 +35,32 @@ first_stays q xs ys e =
     let lt = first_within q xs e in
     prefix_len-append (λ x. not (q x)) xs ys ∙ rw (ne_eqb (prefix_len (λ x. not (q x)) xs) (length xs) (λ at. omega arith)) refl
 
-sent_any : (es : List Event) (p : Passage) → is_unsent es p ≡ false → list_any (is_send_of p.ccb) (drop (p.place + 1) es) ≡ true
+sent_any : (es : List Event) (p : Stay) → is_unsent es p ≡ false → list_any (is_send_of p.ccb) (drop (p.place + 1) es) ≡ true
 sent_any es p e = elim (list_any (is_send_of p.ccb) (drop (p.place + 1) es)) as (λ b. not b ≡ false → b ≡ true) [ true ↦ λ g. refl | false ↦ λ g. sym g ] e
 
-pub unsent_none : (es : List Event) (p : Passage) → is_unsent es p ≡ true → list_any (is_send_of p.ccb) (drop (p.place + 1) es) ≡ false
+pub unsent_none : (es : List Event) (p : Stay) → is_unsent es p ≡ true → list_any (is_send_of p.ccb) (drop (p.place + 1) es) ≡ false
 unsent_none es p e = elim (list_any (is_send_of p.ccb) (drop (p.place + 1) es)) as (λ b. not b ≡ true → b ≡ false) [ true ↦ λ g. sym g | false ↦ λ g. refl ] e
 
 -- a stay that was sent was sent where it was
-send_place_within : (es : List Event) (p : Passage) → p.place < length es → is_unsent es p ≡ false → send_place es p < length es
+send_place_within : (es : List Event) (p : Stay) → p.place < length es → is_unsent es p ≡ false → send_place es p < length es
 unfolding send_place
 send_place_within es p lt e =
     let h = first_within (is_send_of p.ccb) (drop (p.place + 1) es) (sent_any es p e) in
     omega (arith, length-drop (p.place + 1) es)
 
-send_place-sent : (es : List Event) (e : Event) (p : Passage) → p.place < length es → is_unsent es p ≡ false → send_place (es ++ e ∷ []) p ≡ send_place es p
+send_place-sent : (es : List Event) (e : Event) (p : Stay) → p.place < length es → is_unsent es p ≡ false → send_place (es ++ e ∷ []) p ≡ send_place es p
 unfolding send_place
 send_place-sent es e p lt sent =
     let le : p.place + 1 ≤ length es = omega arith in
     rw (drop-append-le (p.place + 1) es (e ∷ []) le) (ap (λ n. p.place + 1 + n) (first_stays (is_send_of p.ccb) (drop (p.place + 1) es) (e ∷ []) (sent_any es p sent)))
 
-pub live_round-sent : (es : List Event) (e : Event) (p : Passage) → p.place < length es → is_unsent es p ≡ false → live_round (es ++ e ∷ []) p ≡ live_round es p
+pub live_round-sent : (es : List Event) (e : Event) (p : Stay) → p.place < length es → is_unsent es p ≡ false → live_round (es ++ e ∷ []) p ≡ live_round es p
 live_round-sent es e p lt sent =
     let within = send_place_within es p lt sent in
     ap round (ap (λ n. take n (es ++ e ∷ [])) (send_place-sent es e p lt sent) ∙ take-append-le (send_place es p) es (e ∷ []) (omega arith))
 
 -- and one that waits is sent where the event sends it
-send_place-sending : (es : List Event) (e : Event) (p : Passage) → p.place < length es → is_unsent es p ≡ true → is_send_of p.ccb e ≡ true → send_place (es ++ e ∷ []) p ≡ length es
+send_place-sending : (es : List Event) (e : Event) (p : Stay) → p.place < length es → is_unsent es p ≡ true → is_send_of p.ccb e ≡ true → send_place (es ++ e ∷ []) p ≡ length es
 unfolding send_place
 send_place-sending es e p lt unsent sends =
     let le : p.place + 1 ≤ length es = omega arith in
@@ -69,18 +69,18 @@ send_place-sending es e p lt unsent sends =
     prefix_len-append (λ x. not (is_send_of p.ccb x)) (drop (p.place + 1) es) (e ∷ []) ∙ rw (eq-eqb (prefix_len (λ x. not (is_send_of p.ccb x)) (drop (p.place + 1) es)) (length (drop (p.place + 1) es)) past, sends) (omega arith) in
     rw (drop-append-le (p.place + 1) es (e ∷ []) le) (omega (arith, length-drop (p.place + 1) es))
 
-pub live_round-sending : (es : List Event) (e : Event) (p : Passage) → p.place < length es → is_unsent es p ≡ true → is_send_of p.ccb e ≡ true → live_round (es ++ e ∷ []) p ≡ round es
+pub live_round-sending : (es : List Event) (e : Event) (p : Stay) → p.place < length es → is_unsent es p ≡ true → is_send_of p.ccb e ≡ true → live_round (es ++ e ∷ []) p ≡ round es
 live_round-sending es e p lt unsent sends =
     ap round (ap (λ n. take n (es ++ e ∷ [])) (send_place-sending es e p lt unsent sends) ∙ take-append_seam es (e ∷ []))
 
 -- a stay was sent where it was, or where it waited and the event sends it
-round_cases : (es : List Event) (e : Event) (p : Passage) (unsent sends : Bool) → p.place < length es → is_unsent es p ≡ unsent → is_send_of p.ccb e ≡ sends →
+round_cases : (es : List Event) (e : Event) (p : Stay) (unsent sends : Bool) → p.place < length es → is_unsent es p ≡ unsent → is_send_of p.ccb e ≡ sends →
     cond (unsent && not sends) None (Some (live_round (es ++ e ∷ []) p)) ≡ cond (unsent && sends) (Some (round es)) (cond unsent None (Some (live_round es p)))
 round_cases es e p true true lt is on = ap Some (live_round-sending es e p lt is on)
 round_cases es e p true false lt is on = refl
 round_cases es e p false sends lt is on = ap Some (live_round-sent es e p lt is)
 
-pub sent_round-push : (es : List Event) (e : Event) (p : Passage) → p.place < length es → sent_round (es ++ e ∷ []) p ≡ cond (is_unsent es p && is_send_of p.ccb e) (Some (round es)) (sent_round es p)
+pub sent_round-push : (es : List Event) (e : Event) (p : Stay) → p.place < length es → sent_round (es ++ e ∷ []) p ≡ cond (is_unsent es p && is_send_of p.ccb e) (Some (round es)) (sent_round es p)
 sent_round-push es e p lt =
     ap (λ b. cond b None (Some (live_round (es ++ e ∷ []) p))) (is_unsent-push es e p lt)
     ∙ round_cases es e p (is_unsent es p) (is_send_of p.ccb e) lt refl refl

@@ -10,17 +10,17 @@ use Rattle.cam_types.specs.Topology.{Topology}
 use Rattle.cam_types.specs.declared.flags.Flags.{Flags}
 use Rattle.event_log.specs.Event.{submission_of, is_send_of, is_requeue_of}
 use Rattle.event_log.specs.Counts.{round, commands, ccbs, submissions}
-use Rattle.event_log.specs.Stays.{passages, passage_of}
+use Rattle.event_log.specs.Stays.{stays_begun, stay_begun}
 use Rattle.event_log.specs.declared.event.Event.{Event}
 use Rattle.event_log.specs.declared.event.Event.TheVariants.{Submit, Send, Done, Requeue, Finish, FreezeDev, ReleaseDev, FreezeSim, ReleaseSim, Adjust, Tick}
-use Rattle.event_log.specs.declared.passage.Passage.{Passage}
+use Rattle.event_log.specs.declared.stay.Stay.{Stay}
 use Rattle.event_log.proofs.Laws.{few_rounds}
 use Rattle.event_log.proofs.TotalLaws.{commands-stays, submitted_stay}
 use Rattle.cam_event.specs.Legal.{Rules, IsWithinHistory, is_legal_event, is_legal}
 use Rattle.cam_event.proofs.LawLemmas.{legal-push}
 use Rattle.cam_event.proofs.LimitLemmas.{room_submit, room_requeue, stays-legal}
 use Rattle.cam_event.proofs.StandLemmas.{asks-send, asks-requeue}
-use Rattle.xpt_devices.specs.Told.{at_place, HasAt}
+use Rattle.xpt_devices.specs.Updated.{at_place, HasAt}
 use Rattle.xpt_devices.proofs.PlaceLemmas.{value_at}
 use Rattle.cam_event.proofs.WithinLemmas.{short-legal}
 use Rattle.xpt_stays.specs.Latest.{latest_place, latest_places}
@@ -32,9 +32,9 @@ use Rattle.xpt_stays.specs.declared.stays.Stays.TheInside.{Inside}
 use Rattle.xpt_stays.proofs.LatestLemmas.{HasLatest, AreLatest, latest-legal}
 use Rattle.xpt_stays.proofs.RecordLaws.{records-quiet, records-submit, records-send, records-requeue, places-quiet, places-submit, places-requeue}
 
-length-records : (es : List Event) → length (records es) ≡ length (passages es)
+length-records : (es : List Event) → length (records es) ≡ length (stays_begun es)
 unfolding records
-length-records es = length-map (passages es) (record_of es)
+length-records es = length-map (stays_begun es) (record_of es)
 
 length-places : (es : List Event) → length (latest_places es) ≡ commands es
 unfolding latest_places
@@ -46,10 +46,10 @@ read_place es k n lt is = value_at (latest_place es) (commands es) k n lt is
 
 record_at : (es : List Event) (k : ℕ) (h : HasLatest es k) → slice_get (records es) (latest_place es k) ≡ Some (record_of es h.stay)
 unfolding records
-record_at es k h = slice_get-map (record_of es) (passages es) (latest_place es k) ∙ ap (λ o. option_map (record_of es) o) h.there
+record_at es k h = slice_get-map (record_of es) (stays_begun es) (latest_place es k) ∙ ap (λ o. option_map (record_of es) o) h.there
 
 -- the stay that a submit begins
-abbrev pub submitted_in : ℕ → ℕ → ℕ → ℕ → ℕ → Passage
+abbrev pub submitted_in : ℕ → ℕ → ℕ → ℕ → ℕ → Stay
 submitted_in ccb device priority round place = record {
   ccb = ccb;
   attempt = 0;
@@ -61,7 +61,7 @@ submitted_in ccb device priority round place = record {
 }
 
 none_begun : (c : Topology) (rules : Rules) → (is_legal rules c [] ≡ true) × (records [] ≡ []) × (latest_places [] ≡ [])
-unfolding is_legal records passages latest_places submissions
+unfolding is_legal records stays_begun latest_places submissions
 none_begun c rules = (refl, refl, refl)
 
 pub sound-open : (i : Inside) (c : Topology) (rules : Rules) (n : ℕ) → n ≡ rules.stays → IsWithinHistory rules → i.ccbs ≡ record { config = c; rules = rules; events = [] } → i.records.items ≡ [] → i.latest.items ≡ [] →
@@ -86,7 +86,7 @@ module _ (i : Inside) (is : IsStays i) where
   pub held-latest : (k : ℕ) → k < commands i.ccbs.events → HasLatest i.ccbs.events k
   held-latest k lt = all.latest k lt
 
-  pub len-records : vec_len i.records ≡ length (passages i.ccbs.events)
+  pub len-records : vec_len i.records ≡ length (stays_begun i.ccbs.events)
   len-records = omega (arith, i.records.ok.0, ap length is.records, length-records i.ccbs.events)
 
   pub len-latest : vec_len i.latest ≡ commands i.ccbs.events
@@ -115,7 +115,7 @@ module _ (i : Inside) (is : IsStays i) where
   pub few-rounds : round i.ccbs.events ≤ 65536
   few-rounds = omega (arith, few_rounds i.ccbs.events, short)
 
-  pub few-attempts : (k n : ℕ) → k < commands i.ccbs.events → n ≡ latest_place i.ccbs.events k → HasAt (λ (r : StayRecord). r.passage.attempt + 1 < 2 ^ 32) i.records.items n
+  pub few-attempts : (k n : ℕ) → k < commands i.ccbs.events → n ≡ latest_place i.ccbs.events k → HasAt (λ (r : StayRecord). r.stay.attempt + 1 < 2 ^ 32) i.records.items n
   few-attempts k n lt at =
       let h = all.latest k lt in
       let few : h.stay.attempt + 1 < 2 ^ 32 = omega (arith, h.attempt, count_by-le-length (is_requeue_of k) i.ccbs.events, short) in record {
@@ -123,13 +123,13 @@ module _ (i : Inside) (is : IsStays i) where
         so = λ r is-r.
             let both : Some (record_of i.ccbs.events h.stay) ≡ Some r = sym (ap (slice_get i.records.items) at ∙ held-record k h) ∙ is-r in
             let same : record_of i.ccbs.events h.stay ≡ r = cc in
-            subst (λ (x : StayRecord). x.passage.attempt + 1 < 2 ^ 32) same few;
+            subst (λ (x : StayRecord). x.stay.attempt + 1 < 2 ^ 32) same few;
       }
 
-  pub room-records : length (passages i.ccbs.events) < i.ccbs.rules.stays → vec_len i.records < vec_capacity i.records
+  pub room-records : length (stays_begun i.ccbs.events) < i.ccbs.rules.stays → vec_len i.records < vec_capacity i.records
   room-records few = omega (arith, len-records, is.records_room)
 
-  pub room-latest : length (passages i.ccbs.events) < i.ccbs.rules.stays → vec_len i.latest < vec_capacity i.latest
+  pub room-latest : length (stays_begun i.ccbs.events) < i.ccbs.rules.stays → vec_len i.latest < vec_capacity i.latest
   room-latest few = omega (arith, len-latest, commands-stays i.ccbs.events, is.latest_room)
 
   -- one more event
@@ -144,11 +144,11 @@ module _ (i : Inside) (is : IsStays i) where
     requeued-ccb ccb same = (asks-requeue i.ccbs.rules i.ccbs.config i.ccbs.events ccb (legal-of (Requeue ccb) same)).0
 
     -- there is room for the stay that it begins
-    pub submitted-few : (driver device priority retries : ℕ) (flags : Flags) → e ≡ Submit driver device priority retries flags → length (passages i.ccbs.events) < i.ccbs.rules.stays
+    pub submitted-few : (driver device priority retries : ℕ) (flags : Flags) → e ≡ Submit driver device priority retries flags → length (stays_begun i.ccbs.events) < i.ccbs.rules.stays
     submitted-few driver device priority retries flags same =
         room_submit i.ccbs.rules i.ccbs.config i.ccbs.events driver device priority retries flags (legal-of (Submit driver device priority retries flags) same)
 
-    pub requeued-few : (ccb : ℕ) → e ≡ Requeue ccb → length (passages i.ccbs.events) < i.ccbs.rules.stays
+    pub requeued-few : (ccb : ℕ) → e ≡ Requeue ccb → length (stays_begun i.ccbs.events) < i.ccbs.rules.stays
     requeued-few ccb same = room_requeue i.ccbs.rules i.ccbs.config i.ccbs.events ccb (legal-of (Requeue ccb) same)
 
     module _ (i' : Inside) (made : i'.ccbs ≡ record i.ccbs { events = i.ccbs.events ++ e ∷ [] })
@@ -170,7 +170,7 @@ module _ (i : Inside) (is : IsStays i) where
           sound-push (Submit driver device priority retries flags) same
           (is-records ∙ ap (λ y. i.records.items ++ y ∷ []) (is-x ∙ rw (is-n ∙ len-latest, now, at) refl) ∙ ap (λ rs. rs ++ begun (submitted_stay i.ccbs.events device priority) ∷ []) is.records
           ∙ sym (records-submit i.ccbs.rules i.ccbs.config i.ccbs.events is.legal driver device priority retries flags))
-          (is-latest ∙ ap (λ n. i.latest.items ++ n ∷ []) len-records ∙ ap (λ ns. ns ++ length (passages i.ccbs.events) ∷ []) is.latest
+          (is-latest ∙ ap (λ n. i.latest.items ++ n ∷ []) len-records ∙ ap (λ ns. ns ++ length (stays_begun i.ccbs.events) ∷ []) is.latest
           ∙ sym (places-submit i.ccbs.rules i.ccbs.config i.ccbs.events is.legal driver device priority retries flags))
 
       pub sound-send : (lane ccb : ℕ) → e ≡ Send lane ccb → (n r : ℕ) → n ≡ get_or i.latest.items ccb n → r ≡ round i.ccbs.events → i'.records.items ≡ at_place n (sent_in r) i.records.items → i'.latest.items ≡ i.latest.items → IsStays i'
@@ -181,8 +181,8 @@ module _ (i : Inside) (is : IsStays i) where
           ∙ sym (records-send i.ccbs.rules i.ccbs.config i.ccbs.events is.legal lane ccb (legal-of (Send lane ccb) same)))
           (is-latest ∙ is.latest ∙ sym (places-quiet i.ccbs.events (Send lane ccb) refl refl))
 
-      pub sound-requeue : (ccb : ℕ) → e ≡ Requeue ccb → (n r m : ℕ) (x : StayRecord) (p : Passage) → n ≡ get_or i.latest.items ccb n → r ≡ round i.ccbs.events → m ≡ length i.ccbs.events → x ≡ begun p →
-          IfSome (slice_get i.records.items n) (λ y. p ≡ requeued_in r m y.passage) → i'.records.items ≡ at_place n (followed_in r) i.records.items ++ x ∷ [] → i'.latest.items ≡ set i.latest.items ccb (vec_len i.records) → IsStays i'
+      pub sound-requeue : (ccb : ℕ) → e ≡ Requeue ccb → (n r m : ℕ) (x : StayRecord) (p : Stay) → n ≡ get_or i.latest.items ccb n → r ≡ round i.ccbs.events → m ≡ length i.ccbs.events → x ≡ begun p →
+          IfSome (slice_get i.records.items n) (λ y. p ≡ requeued_in r m y.stay) → i'.records.items ≡ at_place n (followed_in r) i.records.items ++ x ∷ [] → i'.latest.items ≡ set i.latest.items ccb (vec_len i.records) → IsStays i'
       sound-requeue ccb same n r m x p read now at is-x next is-records is-latest =
           let lt = requeued-ccb ccb same in
           let h = held-latest ccb lt in
@@ -196,24 +196,17 @@ module _ (i : Inside) (is : IsStays i) where
           (ap (λ k. at_place k (followed_in r) i.records.items) here ∙ ap (λ k. at_place (latest_place i.ccbs.events ccb) (followed_in k) i.records.items) now
           ∙ ap (at_place (latest_place i.ccbs.events ccb) (followed_in (round i.ccbs.events))) is.records)
           ∙ sym (records-requeue i.ccbs.rules i.ccbs.config i.ccbs.events is.legal ccb (legal-of (Requeue ccb) same) h))
-          (is-latest ∙ ap (set i.latest.items ccb) len-records ∙ ap (λ ns. set ns ccb (length (passages i.ccbs.events))) is.latest
+          (is-latest ∙ ap (set i.latest.items ccb) len-records ∙ ap (λ ns. set ns ccb (length (stays_begun i.ccbs.events))) is.latest
           ∙ sym (places-requeue i.ccbs.rules i.ccbs.config i.ccbs.events is.legal ccb (legal-of (Requeue ccb) same) h))
 
       -- any other event
-      quiet : (e' : Event) → e ≡ e' → passage_of (i.ccbs.events, e') ≡ None → submission_of e' ≡ None → ((k : ℕ) → is_send_of k e' ≡ false) → i'.records.items ≡ i.records.items → i'.latest.items ≡ i.latest.items → IsStays i'
+      quiet : (e' : Event) → e ≡ e' → stay_begun (i.ccbs.events, e') ≡ None → submission_of e' ≡ None → ((k : ℕ) → is_send_of k e' ≡ false) → i'.records.items ≡ i.records.items → i'.latest.items ≡ i.latest.items → IsStays i'
       quiet e' same none still unsent is-records is-latest =
           sound-push e' same (is-records ∙ is.records ∙ sym (records-quiet i.ccbs.events e' none unsent)) (is-latest ∙ is.latest ∙ sym (places-quiet i.ccbs.events e' none still))
 
       pub sound-quiet : (e' : Event) → e ≡ e' → ((driver device priority retries : ℕ) (flags : Flags) → e ≡ Submit driver device priority retries flags → ⊥) → ((lane ccb : ℕ) → e ≡ Send lane ccb → ⊥) → ((ccb : ℕ) → e ≡ Requeue ccb → ⊥) →
           i'.records.items ≡ i.records.items → i'.latest.items ≡ i.latest.items → IsStays i'
-      sound-quiet (Done ccb outcome) same a b d is-records is-latest = quiet (Done ccb outcome) same refl refl (λ k. refl) is-records is-latest
-      sound-quiet (Finish ccb) same a b d is-records is-latest = quiet (Finish ccb) same refl refl (λ k. refl) is-records is-latest
-      sound-quiet (FreezeDev device count) same a b d is-records is-latest = quiet (FreezeDev device count) same refl refl (λ k. refl) is-records is-latest
-      sound-quiet (ReleaseDev device count) same a b d is-records is-latest = quiet (ReleaseDev device count) same refl refl (λ k. refl) is-records is-latest
-      sound-quiet (FreezeSim sim count) same a b d is-records is-latest = quiet (FreezeSim sim count) same refl refl (λ k. refl) is-records is-latest
-      sound-quiet (ReleaseSim sim) same a b d is-records is-latest = quiet (ReleaseSim sim) same refl refl (λ k. refl) is-records is-latest
-      sound-quiet (Adjust device openings) same a b d is-records is-latest = quiet (Adjust device openings) same refl refl (λ k. refl) is-records is-latest
-      sound-quiet Tick same a b d is-records is-latest = quiet Tick same refl refl (λ k. refl) is-records is-latest
       sound-quiet (Submit driver device priority retries flags) same a b d is-records is-latest = absurd (a driver device priority retries flags same)
       sound-quiet (Send lane ccb) same a b d is-records is-latest = absurd (b lane ccb same)
       sound-quiet (Requeue ccb) same a b d is-records is-latest = absurd (d ccb same)
+      sound-quiet e same a b d is-records is-latest = quiet e same refl refl (λ k. refl) is-records is-latest

@@ -2,20 +2,20 @@
 use Rattle.std.specs.Prelude.{ℕ, ◌-◌, ◌==◌, Bool, List, length, map, find, reverse, Option}
 use Rattle.std.specs.List.{position_or_len}
 use Rattle.event_log.specs.Counts.{ccbs}
-use Rattle.event_log.specs.Stays.{passages}
+use Rattle.event_log.specs.Stays.{stays_begun}
 use Rattle.event_log.specs.declared.event.Event.{Event}
-use Rattle.event_log.specs.declared.passage.Passage.{Passage}
+use Rattle.event_log.specs.declared.stay.Stay.{Stay}
 
-abbrev pub is_of : ℕ → Passage → Bool
+abbrev pub is_of : ℕ → Stay → Bool
 is_of ccb p = p.ccb == ccb
 
 -- the CCB's latest stay, if it was submitted
-unfoldable pub latest_stay : List Event → ℕ → Option Passage
-latest_stay events ccb = find (is_of ccb) (reverse (passages events))
+unfoldable pub latest_stay : List Event → ℕ → Option Stay
+latest_stay events ccb = find (is_of ccb) (reverse (stays_begun events))
 
 -- where that stands among all stays
 unfoldable pub latest_place : List Event → ℕ → ℕ
-latest_place events ccb = length (passages events) - 1 - position_or_len (is_of ccb) (reverse (passages events))
+latest_place events ccb = length (stays_begun events) - 1 - position_or_len (is_of ccb) (reverse (stays_begun events))
 
 -- those places, by the number of the CCB
 unfoldable pub latest_places : List Event → List ℕ

@@ -1,10 +1,12 @@
-use event_log::Passage;
+//! A stay with its send and the stay that follows it.
+
+use event_log::Stay;
 
 /// A stay, its send, and the stay that follows it.
 #[derive(Clone, Copy, Debug, PartialEq, Eq)]
 pub struct StayRecord {
     /// The stay.
-    pub passage: Passage,
+    pub stay: Stay,
     /// The round of its send, if it was sent.
     pub sent: Option<u32>,
     /// The round in which its CCB's next stay enters the queue, if there is one.
@@ -16,11 +18,11 @@ impl StayRecord {
     ghost use Rattle.xpt_stays.specs.StayRecord.{begun, is_queued, followed_in, requeued_in};
 
     // The record of a stay that begins.
-    pub(crate) fn begun(passage: Passage) -> StayRecord
-        ensures { result ≡ begun passage }
+    pub(crate) fn begun(stay: Stay) -> StayRecord
+        ensures { result ≡ begun stay }
     {
         StayRecord {
-            passage,
+            stay,
             sent: None,
             next_arrival: None,
         }
@@ -30,24 +32,24 @@ impl StayRecord {
     pub(crate) fn is_queued(&self, round: u32) -> bool
         ensures { result ≡ is_queued round self.now }
     {
-        self.sent.is_none() && self.passage.arrival <= round
+        self.sent.is_none() && self.stay.arrival <= round
     }
 
     // Ends the stay by a requeue in this round, at this place of the events, which begins its CCB's next one.
-    pub(crate) fn requeue(&mut self, round: u32, place: u32) -> Passage
-        requires few { self.old.passage.attempt + 1 < 2 ^ 32 }
+    pub(crate) fn requeue(&mut self, round: u32, place: u32) -> Stay
+        requires few { self.old.stay.attempt + 1 < 2 ^ 32 }
         requires rounds { round + 1 < 2 ^ 32 }
-        ensures next { result ≡ requeued_in round place self.old.passage }
+        ensures next { result ≡ requeued_in round place self.old.stay }
         ensures here { self.new ≡ followed_in round self.old }
     {
         let arrival = round + 1;
         self.next_arrival = Some(arrival);
-        Passage {
-            attempt: self.passage.attempt + 1,
+        Stay {
+            attempt: self.stay.attempt + 1,
             arrival,
             requeued: true,
             place,
-            ..self.passage
+            ..self.stay
         }
     }
 }

@@ -1,14 +1,16 @@
+//! The stays of a transport, by their public calls.
+
 ghost use Rattle.std.specs.Prelude.{◌≡◌, ◌≤◌, [], ◌∷◌, ◌++◌, length, find, slice_get, sum_by, if◌then◌else◌, IsTrue, IfOk};
 ghost use Rattle.std.specs.Option.{option_map};
 ghost use Rattle.std.specs.List.{list_any};
-ghost use Rattle.cam_types.specs.declared.limits.TheConstants.{MOST_STAYS};
+ghost use Rattle.cam_types.specs.declared.maxima.TheConstants.{MOST_STAYS};
 ghost use Rattle.xpt_stays.specs.StayRecord.{is_unsent, waiting_cost};
 
 use crate::stay_record::StayRecord;
 use crate::update::update;
 use cam_event::Rules;
-use cam_types::{Config, weight_of};
-use event_log::{Event, Stay};
+use cam_types::Config;
+use event_log::{Event, StayName};
 use std::alloc::{AllocError, Global};
 use std::marker::Model;
 use xpt_ccbs::Ccbs;
@@ -111,13 +113,13 @@ impl Stays {
     }
 
     /// The first stay by birth that has no send. It takes time that grows with the number of stays.
-    pub fn unsent(&self) -> Option<Stay>
+    pub fn unsent(&self) -> Option<StayName>
         ensures { result ≡ unsent self.now.events }
     {
         let record = first_unsent(&self.records)?;
-        Some(Stay {
-            ccb: record.passage.ccb,
-            attempt: record.passage.attempt,
+        Some(StayName {
+            ccb: record.stay.ccb,
+            attempt: record.stay.attempt,
         })
     }
 
@@ -126,7 +128,7 @@ impl Stays {
     pub fn live_cost(&self) -> Option<u64>
         ensures { result ≡ live_cost self.now.events }
     {
-        live_sum(&self.records)
+        live_sum(self.ccbs.adapters().devices().config(), &self.records)
     }
 }
 
@@ -145,14 +147,14 @@ fn first_unsent(records: &[StayRecord]) -> Option<StayRecord>
 }
 
 // What the waiting of all stays cost, if each of them was sent.
-fn live_sum(records: &[StayRecord]) -> Option<u64>
+fn live_sum(config: &Config, records: &[StayRecord]) -> Option<u64>
     requires { length records.now ≤ MOST_STAYS }
     ensures { result ≡ (if list_any is_unsent records.now then None else Some (sum_by waiting_cost records.now)) }
 {
     let mut total = 0;
     for record in records {
-        let waited = record.sent?.saturating_sub(record.passage.arrival);
-        total += u64::from(weight_of(record.passage.priority)) * u64::from(waited);
+        let waited = record.sent?.saturating_sub(record.stay.arrival);
+        total += u64::from(config.weight(record.stay.priority)) * u64::from(waited);
     }
     Some(total)
 }

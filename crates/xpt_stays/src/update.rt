@@ -1,12 +1,12 @@
 //! What an event makes of the stays' records.
 ghost use Rattle.std.specs.Prelude.{◌≡◌, ◌+◌, ◌<◌, ◌^◌, [], ◌∷◌, ◌++◌, length, slice_get, IsTrue, IfSome, vec_len, vec_capacity};
 ghost use Rattle.cam_event.specs.Legal.{is_legal_event};
-ghost use Rattle.xpt_devices.specs.Told.{at_place, HasAt};
+ghost use Rattle.xpt_devices.specs.Updated.{at_place, HasAt};
 ghost use Rattle.xpt_stays.specs.StayRecord.{sent_in, followed_in, requeued_in};
 ghost use Rattle.xpt_stays.specs.Sound.{IsStays};
 
 use crate::stay_record::StayRecord;
-use event_log::{Event, Passage};
+use event_log::{Event, Stay};
 use xpt_adapters::Adapters;
 
 /// Keeps what a legal event makes of the stays, behind the events of these adapters.
@@ -22,14 +22,14 @@ pub(crate) fn update(
 {
     let round = adapters.devices().round();
     let place = adapters.devices().events().len() as u32;
-    let stay = records.len() as u32;
+    let number = records.len() as u32;
     match *event {
         Event::Submit {
             device,
             priority,
             ..
         } => {
-            let passage = Passage {
+            let stay = Stay {
                 ccb: latest.len() as u32,
                 attempt: 0,
                 device,
@@ -38,15 +38,15 @@ pub(crate) fn update(
                 requeued: false,
                 place,
             };
-            latest.push_reserved(stay);
-            records.push_reserved(StayRecord::begun(passage));
+            latest.push_reserved(number);
+            records.push_reserved(StayRecord::begun(stay));
         }
         Event::Send { ccb, .. } => send(records, latest[ccb as usize], round),
         Event::Requeue { ccb } => {
             let before = latest[ccb as usize];
-            let passage = requeue(records, before, round, place);
-            latest[ccb as usize] = stay;
-            records.push_reserved(StayRecord::begun(passage));
+            let stay = requeue(records, before, round, place);
+            latest[ccb as usize] = number;
+            records.push_reserved(StayRecord::begun(stay));
         }
         _ => {}
     }
@@ -63,10 +63,10 @@ fn send(records: &mut Vec<StayRecord>, stay: u32, round: u32)
 }
 
 // Ends the stay of this number by a requeue, which begins its CCB's next one.
-fn requeue(records: &mut Vec<StayRecord>, stay: u32, round: u32, place: u32) -> Passage
-    requires few { HasAt (λ r. r.passage.attempt + 1 < 2 ^ 32) records.old.items stay }
+fn requeue(records: &mut Vec<StayRecord>, stay: u32, round: u32, place: u32) -> Stay
+    requires few { HasAt (λ r. r.stay.attempt + 1 < 2 ^ 32) records.old.items stay }
     requires rounds { round + 1 < 2 ^ 32 }
-    ensures next { IfSome (slice_get records.old.items stay) (λ r. result ≡ requeued_in round place r.passage) }
+    ensures next { IfSome (slice_get records.old.items stay) (λ r. result ≡ requeued_in round place r.stay) }
     ensures items { records.new.items ≡ at_place stay (followed_in round) records.old.items }
     ensures len { vec_len records.new ≡ vec_len records.old }
     ensures capacity { vec_capacity records.new ≡ vec_capacity records.old }

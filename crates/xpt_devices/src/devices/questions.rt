@@ -1,7 +1,8 @@
+//! What there is to ask of a transport's devices.
+
 ghost use Rattle.std.specs.Prelude.{◌≡◌, ◌+◌, ◌<◌, ◌≤◌, ◌==◌, not, length, IsTrue, is_some, count_by};
 ghost use Rattle.std.specs.Option.{option_map};
-ghost use Rattle.cam_types.specs.declared.limits.TheConstants.{MOST_EVENTS};
-ghost use Rattle.cam_event.specs.declared.most.TheConstants.{MOST_FREEZES};
+ghost use Rattle.cam_types.specs.declared.maxima.TheConstants.{MOST_EVENTS, MOST_FREEZES};
 
 use super::Devices;
 use cam_event::Rules;
@@ -11,7 +12,7 @@ use event_log::{Event, Submission};
 
 impl Devices {
     ghost use Rattle.event_log.specs.Counts.{round, commands, submission, sendings, caller_count, freeze_count, has_in_flight};
-    ghost use Rattle.event_log.specs.Stays.{passages, waiting, first};
+    ghost use Rattle.event_log.specs.Stays.{stays_begun, waiting, first};
     ghost use Rattle.event_log.specs.Head.{openings, goes_now_to, is_ready, has_opening};
     ghost use Rattle.cam_event.specs.Legal.{is_legal};
     ghost use Rattle.xpt_devices.specs.Device.{entry, device_state};
@@ -58,7 +59,7 @@ impl Devices {
     /// How many stays began.
     #[tactic(auto, unfolding(crate::specs::Counted::counts_of))]
     pub fn stay_count(&self) -> u32
-        ensures { result ≡ length (passages self.now.events) }
+        ensures { result ≡ length (stays_begun self.now.events) }
     {
         self.counts.stays
     }

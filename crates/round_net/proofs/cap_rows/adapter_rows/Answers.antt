@@ -1,9 +1,9 @@
 use Rattle.std.proofs.Common.{◌≡◌, ◌*◌, ◌/◌, ◌<◌, ◌≤◌, length, sym, ap, ◌∙◌, arith}
 use Rattle.std.proofs.lemmas.Nat.{mul-le}
-use Rattle.cam_types.specs.declared.config_fault.TheConstants.{MOST_ADAPTERS}
-use Rattle.event_log.specs.Head.{adapter_openings}
+use Rattle.cam_types.specs.declared.maxima.TheConstants.{MOST_ADAPTERS}
+use Rattle.cam_types.specs.Questions.{adapter_openings}
 use Rattle.round_net.specs.Nets.{cells}
-use Rattle.round_net.proofs.ConfigLemmas.{few_adapters}
+use Rattle.cam_types.proofs.ConfigLemmas.{few_adapters}
 use Rattle.round_net.proofs.TableLemmas.{cells-none, cells-more, row_of_place}
 use Rattle.round_net.proofs.cap_rows.adapter_rows.Goals as goal
 

@@ -1,5 +1,5 @@
 use Rattle.std.proofs.Common.{◌≡◌}
-use Rattle.event_log.specs.Head.{adapter_openings}
+use Rattle.cam_types.specs.Questions.{adapter_openings}
 use Rattle.round_net.specs.Nets.{cells}
 use Rattle.round_net.proofs.cap_rows.adapter_rows.Given as goal
 

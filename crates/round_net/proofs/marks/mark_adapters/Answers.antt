@@ -2,12 +2,12 @@ use Rattle.std.proofs.Common.{◌≡◌, ◌<◌, ◌≤◌, length, ap, ◌∙�
 use Rattle.std.specs.Prelude.{not, ◌==◌}
 use Rattle.event_log.specs.Counts.{round, adapter_freezes}
 use Rattle.cam_types.specs.Topology.{Topology}
-use Rattle.cam_types.specs.declared.config_fault.TheConstants.{MOST_ADAPTERS}
+use Rattle.cam_types.specs.declared.maxima.TheConstants.{MOST_ADAPTERS}
 use Rattle.cam_event.proofs.LimitLemmas.{round_first}
 use Rattle.xpt_devices.specs.Transport.{Transport}
 use Rattle.round_net.specs.Rows.{cell}
 use Rattle.round_net.proofs.CellLemmas.{cell_room}
-use Rattle.round_net.proofs.ConfigLemmas.{few_adapters}
+use Rattle.cam_types.proofs.ConfigLemmas.{few_adapters}
 use Rattle.round_net.proofs.MarkLemmas.{marks-none, marks-step, marks-all}
 use Rattle.round_net.proofs.marks.mark_adapters.Goals as goal
 

@@ -3,12 +3,12 @@ use Rattle.std.specs.Prelude.{count_by}
 use Rattle.event_log.specs.Counts.{round, sendings}
 use Rattle.event_log.specs.Head.{goes_now_to_adapter}
 use Rattle.cam_types.specs.Topology.{Topology}
-use Rattle.cam_types.specs.declared.config_fault.TheConstants.{MOST_ADAPTERS}
+use Rattle.cam_types.specs.declared.maxima.TheConstants.{MOST_ADAPTERS}
 use Rattle.cam_event.proofs.LimitLemmas.{round_first}
 use Rattle.xpt_devices.specs.Transport.{Transport}
 use Rattle.round_net.specs.Rows.{cell}
 use Rattle.round_net.proofs.CellLemmas.{cell_room}
-use Rattle.round_net.proofs.ConfigLemmas.{few_adapters}
+use Rattle.cam_types.proofs.ConfigLemmas.{few_adapters}
 use Rattle.round_net.proofs.MarkLemmas.{sets-step}
 use Rattle.round_net.proofs.marks.note_adapter_sends.Goals as goal
 

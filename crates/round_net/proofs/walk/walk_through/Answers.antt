@@ -1,10 +1,10 @@
 use Rattle.std.proofs.Common.{◌≡◌, ◌*◌, ◌≤◌, length, refl, ap, subst, arith, ◌∙◌}
 use Rattle.std.proofs.lemmas.Nat.{mul-le}
 use Rattle.cam_types.specs.Topology.{Topology}
-use Rattle.cam_types.specs.declared.config_fault.TheConstants.{MOST_ADAPTERS}
+use Rattle.cam_types.specs.declared.maxima.TheConstants.{MOST_ADAPTERS}
 use Rattle.xpt_devices.specs.Transport.{Transport}
 use Rattle.round_net.specs.Marks.{IsNoted}
-use Rattle.round_net.proofs.ConfigLemmas.{few_adapters}
+use Rattle.cam_types.proofs.ConfigLemmas.{few_adapters}
 use Rattle.round_net.proofs.MarkLemmas.{written_back}
 use Rattle.round_net.proofs.walk.walk_through.Goals as goal
 

@@ -1,7 +1,7 @@
 use Rattle.std.proofs.Common.{◌≡◌, ◌≤◌, length, vec_capacity}
 use Rattle.std.specs.Prelude.{filter}
 use Rattle.std.specs.List.{range_with_len}
-use Rattle.event_log.specs.Head.{is_on}
+use Rattle.cam_types.specs.Questions.{is_on}
 use Rattle.xpt_adapters.proofs.open.devices_on.Given as goal
 
 abbrev pub invariant-loop-device : goal.invariant-loop-device

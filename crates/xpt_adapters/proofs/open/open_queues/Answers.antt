@@ -3,10 +3,10 @@ use Rattle.std.specs.List.{range_with_len}
 use Rattle.std.proofs.lemmas.List.{length-map}
 use Rattle.std.proofs.lemmas.List.FromFn.{length-range_with_len}
 use Rattle.std.specs.List.Sorted.{IsStrictlyIncreasing}
-use Rattle.event_log.specs.Head.{is_on}
+use Rattle.cam_types.specs.Questions.{is_on}
 use Rattle.sim_queue.proofs.RowLemmas.{rising-filter}
 use Rattle.xpt_adapters.specs.Known.{nothing, adapter_of}
-use Rattle.xpt_adapters.proofs.ConfigLemmas.{few_adapters}
+use Rattle.cam_types.proofs.ConfigLemmas.{few_adapters}
 use Rattle.xpt_adapters.proofs.OpenLemmas.{adapter_more}
 use Rattle.xpt_adapters.proofs.open.open_queues.Goals as goal
 

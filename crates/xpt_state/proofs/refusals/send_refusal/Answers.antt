@@ -1,8 +1,7 @@
 use Rattle.std.proofs.Common.{ap, sym, subst, ◌∙◌}
 use Rattle.cam_types.specs.Topology.{Topology, IsConfig}
-use Rattle.cam_event.specs.Legal.{names_lane}
-use Rattle.cam_event.specs.Refusals.{lane_adapter}
-use Rattle.xpt_state.proofs.TurnLemmas.{named_lane_within}
+use Rattle.cam_types.specs.Questions.{names_lane, lane_adapter}
+use Rattle.xpt_state.proofs.NextLemmas.{named_lane_within}
 use Rattle.xpt_state.proofs.refusals.send_refusal.Goals as goal
 
 pub turn_refusal-requires : goal.turn_refusal-requires

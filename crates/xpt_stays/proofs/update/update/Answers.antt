@@ -26,28 +26,28 @@ returns-in-Send c =
     sound-send _ c.requires.kept c.args.event.now c.requires.legal _ refl c.send.ensures.capacity refl _ _ c.in-Send.is _ _ c.index.ensures
     (c.round-round.ensures ∙ ap (λ (t : Transport). round t.events) c.devices.ensures) c.send.ensures.items refl
 
-pub overflow_cast-passage : goal.overflow_cast-passage
-overflow_cast-passage c = omega (arith, few-latest _ c.requires.kept)
-
 pub overflow_cast-stay : goal.overflow_cast-stay
-overflow_cast-stay c = omega (arith, few-records _ c.requires.kept)
+overflow_cast-stay c = omega (arith, few-latest _ c.requires.kept)
+
+pub overflow_cast-number : goal.overflow_cast-number
+overflow_cast-number c = omega (arith, few-records _ c.requires.kept)
 
 pub returns-in-Submit : goal.returns-in-Submit
 returns-in-Submit c =
     sound-submit _ c.requires.kept c.args.event.now c.requires.legal _ refl c.push_reserved-in-Submit.ensures.capacity c.push_reserved.ensures.capacity _ _ _ _ _ c.in-Submit.is
     _ _ _ _ c.len.ensures (c.round-round.ensures ∙ ap (λ (t : Transport). round t.events) c.devices.ensures) (ap length (c.events.ensures.same ∙ ap (λ (t : Transport). t.events) c.devices-2.ensures))
-    c.begun.ensures c.push_reserved-in-Submit.ensures.items (c.push_reserved.ensures.items ∙ ap (λ n. c.args.latest.now.items ++ n ∷ []) c.len-stay.ensures)
+    c.begun.ensures c.push_reserved-in-Submit.ensures.items (c.push_reserved.ensures.items ∙ ap (λ n. c.args.latest.now.items ++ n ∷ []) c.len-number.ensures)
 
 pub index-before-requires : goal.index-before-requires
 index-before-requires c = let lt = requeued-ccb _ c.requires.kept c.args.event.now c.requires.legal _ c.in-Requeue.is in omega (arith, lt, len-latest _ c.requires.kept)
 
-pub requeue-passage-requires-clause-few : goal.requeue-passage-requires-clause-few
-requeue-passage-requires-clause-few c =
+pub requeue-stay-requires-clause-few : goal.requeue-stay-requires-clause-few
+requeue-stay-requires-clause-few c =
     let lt = requeued-ccb _ c.requires.kept c.args.event.now c.requires.legal _ c.in-Requeue.is in
     few-attempts _ c.requires.kept _ _ lt (held-place _ c.requires.kept _ _ lt c.index-before.ensures)
 
-pub requeue-passage-requires-clause-rounds : goal.requeue-passage-requires-clause-rounds
-requeue-passage-requires-clause-rounds c =
+pub requeue-stay-requires-clause-rounds : goal.requeue-stay-requires-clause-rounds
+requeue-stay-requires-clause-rounds c =
     omega (arith, few-rounds _ c.requires.kept, c.round-round.ensures ∙ ap (λ (t : Transport). round t.events) c.devices.ensures)
 
 pub index_mut-requires : goal.index_mut-requires
@@ -56,12 +56,12 @@ index_mut-requires c = let lt = requeued-ccb _ c.requires.kept c.args.event.now 
 pub push_reserved-requires-in-Requeue : goal.push_reserved-requires-in-Requeue
 push_reserved-requires-in-Requeue c =
     let room = room-records _ c.requires.kept (requeued-few _ c.requires.kept c.args.event.now c.requires.legal _ c.in-Requeue.is) in
-    omega (arith, room, c.requeue-passage.ensures.len, c.requeue-passage.ensures.capacity)
+    omega (arith, room, c.requeue-stay.ensures.len, c.requeue-stay.ensures.capacity)
 
 pub returns-in-Requeue : goal.returns-in-Requeue
 returns-in-Requeue c =
-    sound-requeue _ c.requires.kept c.args.event.now c.requires.legal _ refl (c.push_reserved-in-Requeue.ensures.capacity ∙ c.requeue-passage.ensures.capacity) refl _ c.in-Requeue.is
+    sound-requeue _ c.requires.kept c.args.event.now c.requires.legal _ refl (c.push_reserved-in-Requeue.ensures.capacity ∙ c.requeue-stay.ensures.capacity) refl _ c.in-Requeue.is
     _ _ _ _ _ c.index-before.ensures (c.round-round.ensures ∙ ap (λ (t : Transport). round t.events) c.devices.ensures) (ap length (c.events.ensures.same ∙ ap (λ (t : Transport). t.events) c.devices-2.ensures))
-    c.begun-in-Requeue.ensures c.requeue-passage.ensures.next
-    (c.push_reserved-in-Requeue.ensures.items ∙ ap (λ rs. rs ++ c.begun-in-Requeue.result ∷ []) c.requeue-passage.ensures.items)
-    (ap (set c.args.latest.now.items c.in-Requeue.ccb) c.len-stay.ensures)
+    c.begun-in-Requeue.ensures c.requeue-stay.ensures.next
+    (c.push_reserved-in-Requeue.ensures.items ∙ ap (λ rs. rs ++ c.begun-in-Requeue.result ∷ []) c.requeue-stay.ensures.items)
+    (ap (set c.args.latest.now.items c.in-Requeue.ccb) c.len-number.ensures)

@@ -1,12 +1,12 @@
 use Rattle.std.proofs.Common.{◌≡◌, ◌*◌, ◌≤◌, length, map, refl, sym, ap, ◌∙◌, arith, None}
 use Rattle.cam_types.specs.Topology.{IsConfig}
-use Rattle.cam_types.specs.declared.config_fault.TheConstants.{MOST_ADAPTERS}
+use Rattle.cam_types.specs.declared.maxima.TheConstants.{MOST_ADAPTERS}
 use Rattle.event_log.specs.Counts.{round}
-use Rattle.event_log.specs.Head.{adapter_openings}
+use Rattle.cam_types.specs.Questions.{adapter_openings}
 use Rattle.event_log.specs.Stays.{unsent}
 use Rattle.xpt_stays.specs.Records.{records}
 use Rattle.round_net.specs.Nets.{row_of}
-use Rattle.round_net.proofs.ConfigLemmas.{few_adapters}
+use Rattle.cam_types.proofs.ConfigLemmas.{few_adapters}
 use Rattle.round_net.proofs.FoundLemmas.{net_found}
 use Rattle.round_net.proofs.NetLemmas.{net_is_net, live_admissible}
 use Rattle.round_net.proofs.TableLemmas.{length-cells}

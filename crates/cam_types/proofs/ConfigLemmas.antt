@@ -1,0 +1,84 @@
+-- what the rules of a configuration say of its items
+use Rattle.std.proofs.Common.{◌≡◌, ℕ, ◌<◌, ◌≤◌, Bool, true, false, cond, List, [], ◌∷◌, ◌++◌, length, get_or, refl, ap, arith, Option, Some, None, inl, inr}
+use Rattle.std.specs.Prelude.{not, ◌==◌, nat_le, All}
+use Rattle.std.specs.Option.{option_map_or}
+use Rattle.std.proofs.lemmas.Bool.Decides.{nat_tests}
+use Rattle.std.proofs.lemmas.Option.{slice_get_cases, slice_get-get_or}
+use Rattle.std.proofs.lemmas.List.Elements.{All-nil, All-cons}
+use Rattle.cam_types.specs.Lists.{moments_after, first_answer}
+use Rattle.cam_types.specs.Questions.{device_adapter}
+use Rattle.cam_types.specs.Topology.{Topology, IsConfig, are_openings, adapter_fault, address_fault, device_fault, item_fault}
+use Rattle.cam_types.specs.declared.config_fault.ConfigFault.TheVariants.{NoAdapters, TooMany, BadOpenings, NoAdapter}
+use Rattle.cam_types.specs.declared.maxima.TheConstants.{MOST_ADAPTERS, MOST_DEVICES, MOST_OPENINGS}
+use Rattle.cam_types.specs.declared.device.Device.{Device}
+use Rattle.cam_types.proofs.ListLemmas.{few_where_none, or_left, or_right}
+
+not_taken : {F : Type 0} → (b : Bool) (x : F) (o : Option F) → cond b (Some x) o ≡ None → (b ≡ false) × (o ≡ None)
+not_taken true x o e = absurd cc
+not_taken false x o e = (refl, e)
+
+not_least : (a b : ℕ) → nat_le a b ≡ false → b < a
+not_least a b e = grind (arith, nat_tests)
+
+small_openings : (n : ℕ) → not (are_openings n) ≡ false → n ≤ MOST_OPENINGS
+small_openings n e = grind (arith, nat_tests)
+
+-- where no item has a fault, what the lack of one says holds of each
+each_where_none : {X F : Type 0} → (f : List X × X → Option F) (P : X → Type 0) → ((before : List X) (x : X) → f (before, x) ≡ None → P x) → (before xs : List X) → first_answer f (moments_after before xs) ≡ None → All P xs
+each_where_none f P h before [] none = All-nil P
+each_where_none f P h before (x ∷ xs) none =
+    All-cons P x xs (h before x (or_left (f (before, x)) _ none)) (each_where_none f P h (before ++ x ∷ []) xs (or_right (f (before, x)) _ none))
+
+items : (t : Topology) → IsConfig t → item_fault t ≡ None
+items t is = (not_taken (length t.adapters == 0) NoAdapters _ is.kept).1
+
+adapter_items : (t : Topology) → IsConfig t → first_answer adapter_fault (moments_after [] t.adapters) ≡ None
+unfolding item_fault
+adapter_items t is = or_left _ _ (items t is)
+
+device_items : (t : Topology) → IsConfig t → first_answer (device_fault (length t.adapters)) (moments_after [] t.devices) ≡ None
+unfolding item_fault
+device_items t is = or_left _ _ (or_right _ _ (items t is))
+
+adapter_room : (before : List ℕ) (n : ℕ) → adapter_fault (before, n) ≡ None → length before < MOST_ADAPTERS
+unfolding adapter_fault
+adapter_room before n none = not_least MOST_ADAPTERS (length before) (not_taken (nat_le MOST_ADAPTERS (length before)) TooMany _ none).0
+
+pub few_adapters : (t : Topology) → IsConfig t → length t.adapters ≤ MOST_ADAPTERS
+few_adapters t is = few_where_none adapter_fault MOST_ADAPTERS adapter_room t.adapters (adapter_items t is)
+
+adapter_openings_small : (before : List ℕ) (n : ℕ) → adapter_fault (before, n) ≡ None → n ≤ MOST_OPENINGS
+unfolding adapter_fault
+adapter_openings_small before n none =
+    small_openings n (not_taken (not (are_openings n)) BadOpenings _ (not_taken (nat_le MOST_ADAPTERS (length before)) TooMany _ none).1).0
+
+-- no adapter, and no device, has too many openings
+pub small_adapters : (t : Topology) → IsConfig t → All (λ n. n ≤ MOST_OPENINGS) t.adapters
+small_adapters t is = each_where_none adapter_fault (λ n. n ≤ MOST_OPENINGS) adapter_openings_small [] t.adapters (adapter_items t is)
+
+device_parts : (adapters : ℕ) (before : List Device) (d : Device) → device_fault adapters (before, d) ≡ None → (not (are_openings d.openings) ≡ false) × (address_fault adapters (before, d) ≡ None)
+unfolding device_fault
+device_parts adapters before d none =
+    not_taken (not (are_openings d.openings)) BadOpenings _ (not_taken (nat_le MOST_DEVICES (length before)) TooMany _ none).1
+
+pub small_devices : (t : Topology) → IsConfig t → All (λ (d : Device). d.openings ≤ MOST_OPENINGS) t.devices
+small_devices t is = each_where_none (device_fault (length t.adapters)) (λ (d : Device). d.openings ≤ MOST_OPENINGS)
+    (λ before d none. small_openings d.openings (device_parts (length t.adapters) before d none).0) [] t.devices (device_items t is)
+
+on_adapter : (adapters : ℕ) (before : List Device) (d : Device) → address_fault adapters (before, d) ≡ None → d.bus < adapters
+unfolding address_fault
+on_adapter adapters before d none = not_least adapters d.bus (not_taken (nat_le adapters d.bus) NoAdapter _ none).0
+
+-- each device is on an adapter
+pub devices_on_adapters : (t : Topology) → IsConfig t → All (λ (d : Device). d.bus < length t.adapters) t.devices
+devices_on_adapters t is = each_where_none (device_fault (length t.adapters)) (λ (d : Device). d.bus < length t.adapters)
+    (λ before d none. on_adapter (length t.adapters) before d (device_parts (length t.adapters) before d none).1) [] t.devices (device_items t is)
+
+-- so the adapter of a device is there
+pub bus-there : (c : Topology) (d : ℕ) → IsConfig c → d < length c.devices → device_adapter c d < length c.adapters
+bus-there c d is lt = elim (slice_get_cases c.devices d).1 [
+  | inl w ↦
+      let own : device_adapter c d ≡ (get_or c.devices d w.0).bus = ap (λ o. option_map_or (λ (x : Device). x.bus) o 0) (slice_get-get_or c.devices d w.0 lt) in
+      omega (arith, own, devices_on_adapters c is d w.0 lt)
+  | inr v ↦ absurd (omega (arith, v.0))
+]

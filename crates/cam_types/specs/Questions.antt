@@ -1,0 +1,39 @@
+-- what is asked of a configuration
+use Rattle.std.specs.Prelude.{ℕ, ◌==◌, Bool, false, nat_lt, List, length, slice_get}
+use Rattle.std.specs.List.{range_with_len}
+use Rattle.std.specs.Option.{option_map_or}
+use Rattle.cam_types.specs.Topology.{Topology}
+use Rattle.cam_types.specs.declared.device.Device.{Device}
+
+-- there is a device, an adapter, a lane of that number
+abbrev pub names_device : Topology → ℕ → Bool
+names_device c d = nat_lt d (length c.devices)
+
+abbrev pub names_adapter : Topology → ℕ → Bool
+names_adapter c a = nat_lt a (length c.adapters)
+
+abbrev pub names_lane : Topology → ℕ → Bool
+names_lane c lane = nat_lt lane (length c.lanes)
+
+-- the device is on the adapter
+abbrev pub is_on : Topology → ℕ → ℕ → Bool
+is_on c a d = option_map_or (λ (device : Device). device.bus == a) (slice_get c.devices d) false
+
+-- the adapter of a device, and 0 where there is no such device
+abbrev pub device_adapter : Topology → ℕ → ℕ
+device_adapter c d = option_map_or (λ (device : Device). device.bus) (slice_get c.devices d) 0
+
+-- the adapter of a lane, and 0 where there is no such lane
+abbrev pub lane_adapter : Topology → ℕ → ℕ
+lane_adapter c lane = option_map_or (λ a. a) (slice_get c.lanes lane) 0
+
+-- how many commands a device takes in a round, and an adapter; 0 where there is none
+abbrev pub device_openings : Topology → ℕ → ℕ
+device_openings c d = option_map_or (λ (device : Device). device.openings) (slice_get c.devices d) 0
+
+abbrev pub adapter_openings : Topology → ℕ → ℕ
+adapter_openings c a = option_map_or (λ n. n) (slice_get c.adapters a) 0
+
+-- the numbers of the devices
+abbrev pub devices : Topology → List ℕ
+devices c = range_with_len 0 (length c.devices)

@@ -1,0 +1,68 @@
+//! What is asked of a configuration.
+
+ghost use Rattle.std.specs.Prelude.{◌≡◌, ◌≤◌, slice_get};
+ghost use Rattle.std.specs.Option.{option_map};
+ghost use Rattle.cam_types.specs.declared.device.Device.{Device};
+ghost use Rattle.cam_types.specs.declared.maxima.TheConstants.{MOST_WEIGHT};
+ghost use Rattle.cam_types.specs.Priority.{weight};
+ghost use Rattle.cam_types.specs.Topology.{IsConfig};
+ghost use Rattle.cam_types.specs.Questions.{names_device, names_adapter, names_lane, is_on};
+
+use super::Config;
+use crate::priority::weight_of;
+
+impl Config {
+    /// Whether there is a device of that number.
+    pub fn names_device(&self, device: u32) -> bool
+        ensures { result ≡ names_device self.now device }
+    {
+        (device as usize) < self.devices.len()
+    }
+
+    /// Whether there is an adapter of that number.
+    pub fn names_adapter(&self, adapter: u32) -> bool
+        ensures { result ≡ names_adapter self.now adapter }
+    {
+        (adapter as usize) < self.adapters.len()
+    }
+
+    /// Whether there is a lane of that number.
+    pub fn names_lane(&self, lane: u32) -> bool
+        ensures { result ≡ names_lane self.now lane }
+    {
+        (lane as usize) < self.lanes.len()
+    }
+
+    /// The adapter of a lane, if there is such a lane.
+    pub fn lane_adapter(&self, lane: u32) -> Option<u32>
+        ensures same { result ≡ slice_get self.now.lanes lane }
+        ensures kept { IsConfig self.now }
+    {
+        self.lanes.get(lane as usize).copied()
+    }
+
+    /// The adapter that a device is on, if there is such a device.
+    pub fn device_adapter(&self, device: u32) -> Option<u32>
+        ensures same { result ≡ option_map (λ (device : Device). device.bus) (slice_get self.now.devices device) }
+        ensures kept { IsConfig self.now }
+    {
+        let device = self.devices.get(device as usize)?;
+        Some(u32::from(device.bus))
+    }
+
+    /// Whether the device is on the adapter.
+    pub fn is_on(&self, adapter: u32, device: u32) -> bool
+        ensures { result ≡ is_on self.now adapter device }
+    {
+        self.device_adapter(device) == Some(adapter)
+    }
+
+    /// What a round of waiting costs at a priority.
+    pub fn weight(&self, priority: u32) -> u32
+        ensures same { result ≡ weight priority }
+        ensures some { 1 ≤ result }
+        ensures most { result ≤ MOST_WEIGHT }
+    {
+        weight_of(priority)
+    }
+}

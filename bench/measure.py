@@ -8,18 +8,14 @@ crates = os.path.join(top, "crates")
 
 
 def camxpt():
-    """The program `camxpt`, which is proved and built first where that is due."""
-    subprocess.run([os.path.join(top, "camxpt"), "--version"], stdout=subprocess.DEVNULL, check=True)
-    return os.path.join(crates, "camxpt", "out", "camxpt")
+    """The program `camxpt`."""
+    return built("camxpt")
 
 
 def built(crate):
-    """The program of another crate, which is proved and built first where that is due."""
-    folder = os.path.join(crates, crate)
-    with open(os.path.join(folder, "stdin")) as small:
-        if subprocess.run(["rt", "run"], cwd=folder, stdin=small, capture_output=True).returncode:
-            sys.exit(f"{crate} wasn't built")
-    return os.path.join(folder, "out", crate)
+    """The program of a crate, which is proved and built first if that is due."""
+    subprocess.run([os.path.join(top, "runs", "build"), crate], check=True)
+    return os.path.join(crates, crate, "out", crate)
 
 
 def measured(*words, source=os.devnull, runs=5):

@@ -8,7 +8,7 @@ pub fn command_line<'a>(alloc: Global) -> Result<Command<'a>, AllocError> {
     Command::new(alloc, "camxpt")
         .version("0.1.0")
         .about(
-            "Audits recorded traces of a CAM transport. Without a word it prints the summary of the audit of the trace on standard input.",
+            "Audits recorded traces of a CAM transport. With no arguments it prints the summary of the audit of the trace on standard input.",
         )
         .after_help(
             "Exit status: 0 done, 1 not proved, 2 refused words, 3 refused input, 4 a file, read or write that failed, 5 no memory",
@@ -42,10 +42,10 @@ fn audit<'a>(alloc: Global) -> Result<Command<'a>, AllocError> {
 fn prove<'a>(alloc: Global) -> Result<Command<'a>, AllocError> {
     let trace = Arg::new(alloc, "TRACE")
         .required(true)
-        .help("The recorded trace");
-    let report = Arg::new(alloc, "REPORT")
-        .required(true)
-        .help("A report on it, by audit or by anyone else");
+        .help("The recorded trace; - is standard input");
+    let report = Arg::new(alloc, "REPORT").required(true).help(
+        "A report on it, by audit or by anyone else; - is standard input, unless TRACE is",
+    );
     Command::new(alloc, "prove")
         .about(
             "Says whether the prices of a report prove that its schedule is a best one, whoever made it",
@@ -58,5 +58,5 @@ fn prove<'a>(alloc: Global) -> Result<Command<'a>, AllocError> {
 }
 
 fn trace<'a>(alloc: Global) -> Arg<'a> {
-    Arg::new(alloc, "TRACE").help("The recorded trace; standard input where it is left out")
+    Arg::new(alloc, "TRACE").help("The recorded trace; standard input if it is left out or -")
 }

@@ -2,6 +2,7 @@
 
 use audit_report::AuditFault;
 use price_check::ReportFault;
+use std::alloc::AllocError;
 use std::fmt;
 use std::process::ExitCode;
 use trace_file::TraceFault;
@@ -9,6 +10,10 @@ use trace_file::TraceFault;
 /// Why the program didn't do what its words asked. Its text is the line on standard error, behind the program's name.
 #[derive(Clone, Copy, Debug)]
 pub enum Failure {
+    /// A word of the command line isn't UTF-8.
+    WordNotUtf8,
+    /// Two files are to be read from standard input, which there is once.
+    StandardInputTwice,
     /// A file that can't be opened.
     CannotOpen,
     /// A text that isn't what it has to be, a read or write that failed, or no memory.
@@ -16,10 +21,11 @@ pub enum Failure {
 }
 
 impl Failure {
-    /// The exit status: 3 for an input that is refused, 4 for a file that can't be opened and a read or write that
-    /// failed, 5 where there is no memory left.
+    /// The exit status: 2 for refused words, 3 for an input that is refused, 4 for a file that can't be opened and a
+    /// read or write that failed, 5 where there is no memory left.
     pub fn exit_code(&self) -> ExitCode {
         ExitCode::from(match self {
+            Failure::WordNotUtf8 | Failure::StandardInputTwice => 2,
             Failure::CannotOpen => 4,
             Failure::Audit(AuditFault::Trace(fault)) => trace_status(fault),
             Failure::Audit(AuditFault::Unsent(_)) => 3,
@@ -49,6 +55,10 @@ fn report_status(fault: &ReportFault) -> u8 {
 impl fmt::Display for Failure {
     fn fmt<W: fmt::Write>(&self, f: &mut fmt::Formatter<W>) -> fmt::Result {
         match self {
+            Failure::WordNotUtf8 => f.write_str("a word of the command line isn't UTF-8"),
+            Failure::StandardInputTwice => {
+                f.write_str("only one of TRACE and REPORT can be standard input")
+            }
             Failure::CannotOpen => f.write_str("cannot open"),
             Failure::Audit(fault) => fault.fmt(f),
         }
@@ -58,5 +68,11 @@ impl fmt::Display for Failure {
 impl From<AuditFault> for Failure {
     fn from(fault: AuditFault) -> Failure {
         Failure::Audit(fault)
+    }
+}
+
+impl From<AllocError> for Failure {
+    fn from(_error: AllocError) -> Failure {
+        Failure::Audit(AuditFault::OutOfMemory)
     }
 }

@@ -8,6 +8,7 @@ mod failure;
 mod program;
 mod prove;
 mod trace_run;
+mod words;
 
 fn main(rt: HostRuntime) -> ExitCode {
     program::run(&rt)

@@ -4,38 +4,45 @@ use crate::command_line::command_line;
 use crate::failure::Failure;
 use crate::prove::prove;
 use crate::trace_run::TraceRun;
+use crate::words::words;
 use audit_report::AuditFault;
 use clap::ArgMatches;
 use clap::error::ErrorKind;
-use std::env;
 use std::process::ExitCode;
 use std::rt::Runtime;
 
 /// Does what the words of the command line ask, and says on standard error why it didn't.
 pub fn run<R: Runtime + AllocGlobal>(rt: &R) -> ExitCode {
-    let Ok(words) = env::args(rt) else {
-        return fail(rt, Failure::Audit(AuditFault::OutOfMemory));
-    };
-    let Ok(words) = words.collect(rt.alloc()) else {
-        return fail(rt, Failure::Audit(AuditFault::OutOfMemory));
-    };
-    let words: Vec<String> = words;
-    let Ok(command) = command_line(rt.alloc()) else {
-        return fail(rt, Failure::Audit(AuditFault::OutOfMemory));
-    };
+    match read_and_obey(rt) {
+        Ok(status) => status,
+        Err(failure) => {
+            let _ = rt.eprintln(format_args!("camxpt: {failure}"));
+            failure.exit_code()
+        }
+    }
+}
+
+fn read_and_obey<R: Runtime + AllocGlobal>(rt: &R) -> Result<ExitCode, Failure> {
+    let words = words(rt)?;
+    let command = command_line(rt.alloc())?;
     match command.try_get_matches_from(words.as_slice()) {
-        Ok(matches) => match obey(rt, &matches) {
-            Ok(status) => status,
-            Err(failure) => fail(rt, failure),
-        },
-        Err(error) if error.kind() == ErrorKind::OutOfMemory => fail(
-            rt,
-            Failure::Audit(AuditFault::OutOfMemory),
-        ),
-        Err(error) => match error.print(rt) {
-            Ok(()) => ExitCode::from(if error.use_stderr() { 2 } else { 0 }),
-            Err(_) => fail(rt, Failure::Audit(AuditFault::WriteFailed)),
-        },
+        Ok(matches) => obey(rt, &matches),
+        Err(error) if error.kind() == ErrorKind::OutOfMemory => {
+            Err(Failure::Audit(AuditFault::OutOfMemory))
+        }
+        Err(error) => print(rt, &error),
+    }
+}
+
+// Prints help or the version, or why the words are refused: then the status is 2, whether or not this can be printed.
+fn print<R: Runtime>(rt: &R, error: &clap::Error) -> Result<ExitCode, Failure> {
+    let printed = error.print(rt);
+    if error.use_stderr() {
+        Ok(ExitCode::from(2))
+    } else if printed.is_ok() {
+        Ok(ExitCode::SUCCESS)
+    } else {
+        Err(Failure::Audit(AuditFault::WriteFailed))
     }
 }
 
@@ -61,9 +68,4 @@ fn obey<R: Runtime + AllocGlobal>(rt: &R, matches: &ArgMatches<'_>) -> Result<Ex
         _ => TraceRun::Summary.over(rt, None)?,
     }
     Ok(ExitCode::SUCCESS)
-}
-
-fn fail<R: Runtime>(rt: &R, failure: Failure) -> ExitCode {
-    let _ = rt.eprintln(format_args!("camxpt: {failure}"));
-    failure.exit_code()
 }

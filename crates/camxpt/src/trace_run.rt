@@ -1,9 +1,9 @@
 //! Checks or audits the trace in a file or on standard input.
 
 use crate::failure::Failure;
+use crate::words::{STANDARD_INPUT, open};
 use audit_report::{run_audit, run_check};
 use cam_types::Watched;
-use std::fs::File;
 use std::io;
 use std::io::Read;
 use std::rt::Files;
@@ -20,18 +20,15 @@ pub enum TraceRun {
 }
 
 impl TraceRun {
-    /// Reads the trace in the file of this name, or on standard input without one.
+    /// Reads the trace in the file of this name, or on standard input if there is none or it is `-`.
     pub fn over<R: Files + Input + Print + AllocGlobal>(
         self,
         rt: &R,
         trace: Option<&str>,
     ) -> Result<(), Failure> {
         match trace {
-            Some(name) => match File::open(rt, name) {
-                Ok(file) => self.over_reader(rt, file),
-                Err(_) => Err(Failure::CannotOpen),
-            },
-            None => self.over_reader(rt, rt.reader()),
+            Some(name) if name != STANDARD_INPUT => self.over_reader(rt, open(rt, name)?),
+            _ => self.over_reader(rt, rt.reader()),
         }
     }
 

@@ -53,7 +53,7 @@ pub(crate) fn next_command(state: &Stays, lane: u32) -> Result<u32, Idle>
 {
     let adapter = lane_adapter(config(state), lane);
     match adapters(state).next(adapter) {
-        Some(next_command) => Ok(next_command.ccb),
+        Some(next) => Ok(next.ccb),
         None => Err(idle(state, adapter)),
     }
 }

@@ -91,7 +91,7 @@ pub(crate) fn is_other_next(state: &Stays, adapter: u32, ccb: u32) -> bool
     ensures { result ≡ is_other_next state.now.config state.now.events adapter ccb }
 {
     match adapters(state).next(adapter) {
-        Some(next_command) => next_command.ccb != ccb,
+        Some(next) => next.ccb != ccb,
         None => false,
     }
 }

@@ -25,6 +25,6 @@ pub returns-in-Some-clause-ok : goal.returns-in-Some-clause-ok
 returns-in-Some-clause-ok c =
     let t = c.args.state.now in
     let at = c.lane_adapter-adapter.ensures.same ∙ ap (λ (g : Topology). lane_adapter g c.args.lane) c.config.ensures in
-    turn_free t c.args.lane c.in-Some.next_command c.requires
+    turn_free t c.args.lane c.in-Some.next c.requires
     (sym c.in-Some.is ∙ c.next.ensures ∙ ap (λ (x : Transport). option_map next_of (next x.config x.events c.lane_adapter-adapter.result)) c.adapters.ensures
     ∙ ap (λ a. option_map next_of (next t.config t.events a)) at)

@@ -6,7 +6,7 @@ use Rattle.std.proofs.lemmas.Bool.{and_parts, leb-true, eqb-true}
 use Rattle.cam_types.specs.Topology.{Topology}
 use Rattle.event_log.specs.Counts.{sendings, sending_of, caller_count}
 use Rattle.event_log.specs.declared.event.Event.{Event}
-use Rattle.event_log.specs.declared.event.Event.TheVariants.{Submit, Send, Done, Requeue, Finish, FreezeDev, ReleaseDev, FreezeSim, ReleaseSim, Adjust, Tick}
+use Rattle.event_log.specs.declared.event.Event.TheVariants.{Send, FreezeDev, ReleaseDev}
 use Rattle.event_log.specs.declared.sending.Sending.{Sending}
 use Rattle.event_log.proofs.TallyLaws.{Tally, device_tally, device_change, with_change, tallied, device_tally-push}
 use Rattle.cam_types.specs.Questions.{names_device}

@@ -10,7 +10,7 @@ use Rattle.event_log.specs.Counts.{alive}
 use Rattle.cam_types.specs.Topology.{Topology}
 use Rattle.event_log.specs.Event.{is_some_and}
 use Rattle.event_log.specs.declared.event.Event.{Event}
-use Rattle.event_log.specs.declared.event.Event.TheVariants.{Submit, Send, Done, Requeue, Finish, FreezeDev, ReleaseDev, FreezeSim, ReleaseSim, Adjust, Tick}
+use Rattle.event_log.specs.declared.event.Event.TheVariants.{Submit, Send, ReleaseSim, Adjust, Tick}
 use Rattle.cam_types.specs.Questions.{names_lane, lane_adapter}
 use Rattle.cam_event.specs.Legal.{Rules, is_legal_event, is_allowed, has_ccb, names_ccb, is_next}
 use Rattle.cam_event.specs.Refusals.{device_of, are_ccbs_full, causes, first_cause, refusal}

@@ -9,7 +9,7 @@ use Rattle.cam_types.specs.Topology.{Topology}
 use Rattle.event_log.specs.Counts.{round, has_in_flight, is_recovering, wants_requeue}
 use Rattle.event_log.specs.Stays.{stays_begun, stay_begun}
 use Rattle.event_log.specs.declared.event.Event.{Event}
-use Rattle.event_log.specs.declared.event.Event.TheVariants.{Submit, Send, Done, Requeue, Finish, FreezeDev, ReleaseDev, FreezeSim, ReleaseSim, Adjust, Tick}
+use Rattle.event_log.specs.declared.event.Event.TheVariants.{Submit, Requeue, Tick}
 use Rattle.event_log.specs.declared.stay.Stay.{Stay}
 use Rattle.event_log.proofs.Laws.{round-push, stays_begun-push}
 use Rattle.cam_types.specs.Questions.{names_device}

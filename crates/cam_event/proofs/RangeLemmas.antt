@@ -11,7 +11,7 @@ use Rattle.event_log.specs.Event.{is_some_and}
 use Rattle.event_log.specs.Counts.{submissions, submission}
 use Rattle.event_log.specs.Stays.{stays_begun}
 use Rattle.event_log.specs.declared.event.Event.{Event}
-use Rattle.event_log.specs.declared.event.Event.TheVariants.{Submit, Send, Done, Requeue, Finish, FreezeDev, ReleaseDev, FreezeSim, ReleaseSim, Adjust, Tick}
+use Rattle.event_log.specs.declared.event.Event.TheVariants.{Submit}
 use Rattle.event_log.specs.declared.submission.Submission.{Submission}
 use Rattle.event_log.specs.declared.stay.Stay.{Stay}
 use Rattle.event_log.proofs.Laws.{submissions-push}

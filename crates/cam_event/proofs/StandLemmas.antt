@@ -13,7 +13,7 @@ use Rattle.event_log.specs.Event.{is_send_of, concerns, ccb_of, is_erring, ends,
 use Rattle.event_log.specs.Counts.{commands, submission, submissions, is_in_flight, is_recovering, wants_requeue, wants_finish}
 use Rattle.event_log.specs.Stays.{stays_begun, waiting, stay_begun, has_arrived, has_queued}
 use Rattle.event_log.specs.declared.event.Event.{Event}
-use Rattle.event_log.specs.declared.event.Event.TheVariants.{Submit, Send, Done, Requeue, Finish, FreezeDev, ReleaseDev, FreezeSim, ReleaseSim, Adjust, Tick}
+use Rattle.event_log.specs.declared.event.Event.TheVariants.{Submit, Send, Done, Requeue, Finish}
 use Rattle.event_log.specs.declared.submission.Submission.{Submission}
 use Rattle.event_log.specs.declared.stay.Stay.{Stay}
 use Rattle.event_log.proofs.Laws.{waiting-push}

@@ -13,7 +13,7 @@ use Rattle.event_log.specs.Event.{is_some_and, submission_of}
 use Rattle.event_log.specs.Counts.{submissions, submission, commands}
 use Rattle.event_log.specs.Stays.{stays_begun, stay_begun}
 use Rattle.event_log.specs.declared.event.Event.{Event}
-use Rattle.event_log.specs.declared.event.Event.TheVariants.{Submit, Send, Done, Requeue, Finish, FreezeDev, ReleaseDev, FreezeSim, ReleaseSim, Adjust, Tick}
+use Rattle.event_log.specs.declared.event.Event.TheVariants.{Submit, Requeue}
 use Rattle.event_log.specs.declared.submission.Submission.{Submission}
 use Rattle.event_log.specs.declared.stay.Stay.{Stay}
 use Rattle.cam_event.specs.Laws.{is_stay_of}

@@ -1,18 +1,15 @@
 -- what one event more makes of a CCB's results, requeues and end
-use Rattle.std.proofs.Common.{◌≡◌, ℕ, ◌+◌, ◌≤◌, Bool, true, false, cond, List, [], ◌∷◌, ◌++◌, length, refl, ap, ◌∙◌, arith, Option, Some, append-nil, append_assoc, length-append}
-use Rattle.std.specs.Prelude.{◌&&◌, ◌||◌, not, count_by, option_and_then, option_to_list}
+use Rattle.std.proofs.Common.{◌≡◌, ℕ, ◌+◌, ◌≤◌, Bool, true, false, cond, List, [], ◌∷◌, ◌++◌, refl, ap, ◌∙◌, arith, Option, Some, append-nil, append_assoc}
+use Rattle.std.specs.Prelude.{◌&&◌, ◌||◌, not, count_by, option_and_then}
 use Rattle.std.specs.List.{list_any}
 use Rattle.std.proofs.lemmas.List.Folds.{list_any-append}
 use Rattle.cam_types.specs.Lists.{moments}
 use Rattle.cam_types.proofs.ListLemmas.{moments-push}
 use Rattle.sense_class.specs.Classes.{is_counted, kind_of}
-use Rattle.event_log.specs.Event.{is_some_and, is_done_of, is_requeue_of, outcome_of, ends, submission_of}
-use Rattle.event_log.specs.Counts.{last, last_result, is_counted_requeue, counted_requeues, commands, submissions}
-use Rattle.event_log.specs.Stays.{stays_begun, stay_begun}
+use Rattle.event_log.specs.Event.{is_some_and, is_done_of, is_requeue_of, outcome_of, ends}
+use Rattle.event_log.specs.Counts.{last, last_result, is_counted_requeue, counted_requeues}
 use Rattle.event_log.specs.declared.event.Event.{Event}
-use Rattle.event_log.specs.declared.event.Event.TheVariants.{Submit, Send, Done, Requeue, Finish, FreezeDev, ReleaseDev, FreezeSim, ReleaseSim, Adjust, Tick}
 use Rattle.event_log.proofs.ListFacts.{count_by-push}
-use Rattle.event_log.proofs.Laws.{submissions-push, stays_begun-push}
 use Rattle.event_log.proofs.StateLaws.{last-push}
 
 -- what holds of no events, and behind one event more, holds of all lists

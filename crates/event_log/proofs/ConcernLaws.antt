@@ -4,7 +4,7 @@ use Rattle.std.specs.Prelude.{◌==◌, ◌||◌, not}
 use Rattle.std.proofs.lemmas.Bool.{or_parts, and_left, or_from, ne_eqb}
 use Rattle.event_log.specs.Event.{is_send_of, is_done_of, is_send_or_done_of, is_requeue_of, is_finish_of, concerns, ccb_of, is_erring, ends, submission_of}
 use Rattle.event_log.specs.declared.event.Event.{Event}
-use Rattle.event_log.specs.declared.event.Event.TheVariants.{Submit, Send, Done, Requeue, Finish, FreezeDev, ReleaseDev, FreezeSim, ReleaseSim, Adjust, Tick}
+use Rattle.event_log.specs.declared.event.Event.TheVariants.{Send, Done, Requeue, Finish}
 use Rattle.event_log.specs.declared.submission.Submission.{Submission}
 
 -- an event changes no CCB that it doesn't concern

@@ -1,12 +1,10 @@
 -- facts on lists that std lacks
-use Rattle.std.proofs.Common.{◌≡◌, ℕ, ◌+◌, ◌<◌, ◌≤◌, Bool, true, false, cond, List, [], ◌∷◌, ◌++◌, length, take, refl, sym, ap, ◌∙◌, arith, Option, Some, None, append-nil, zero-add, add-zero, length-append, get_or, zero, suc}
-use Rattle.std.specs.Prelude.{◌&&◌, filter, find, slice_get, count_by, option_to_list, All}
+use Rattle.std.proofs.Common.{◌≡◌, ℕ, ◌+◌, ◌<◌, ◌≤◌, Bool, true, false, cond, List, [], ◌∷◌, ◌++◌, length, refl, sym, ap, ◌∙◌, arith, Option, Some, None, zero-add, add-zero, length-append, zero, suc}
+use Rattle.std.specs.Prelude.{◌&&◌, filter, count_by, option_to_list, All}
 use Rattle.std.specs.List.{filter_map, cons_option, range_with_len}
-use Rattle.std.proofs.lemmas.List.{take_more}
-use Rattle.std.proofs.lemmas.List.Elements.{filter_map-append, filter-append, All-nil, All-cons, All-head, All-tail}
+use Rattle.std.proofs.lemmas.List.Elements.{filter_map-append, All-nil, All-cons, All-head, All-tail}
 use Rattle.std.proofs.lemmas.List.Sums.{sum_by-append, sum_by-cons}
-use Rattle.cam_types.specs.Lists.{moments_after, least_by, better}
-use Rattle.cam_types.proofs.LeastLemmas.{least_by-push}
+use Rattle.cam_types.specs.Lists.{moments_after}
 
 -- a filter takes one more
 filter_map-one : {Y : Type 0} → (o : Option Y) → cons_option o [] ≡ option_to_list o

@@ -8,7 +8,7 @@ use Rattle.event_log.specs.Counts.{sendings, sending_of, freezes_by_send}
 use Rattle.event_log.proofs.Laws.{sendings-push}
 use Rattle.event_log.proofs.ListFacts.{count_by-push}
 use Rattle.event_log.specs.declared.event.Event.{Event}
-use Rattle.event_log.specs.declared.event.Event.TheVariants.{Submit, Send, Done, Requeue, Finish, FreezeDev, ReleaseDev, FreezeSim, ReleaseSim, Adjust, Tick}
+use Rattle.event_log.specs.declared.event.Event.TheVariants.{Send, FreezeDev, ReleaseDev, FreezeSim, ReleaseSim}
 use Rattle.event_log.specs.declared.sending.Sending.{Sending}
 
 -- how many freezes of a device or an adapter callers added and took away

@@ -10,7 +10,7 @@ use Rattle.event_log.specs.Event.{is_send_of, is_requeue_of, submission_of}
 use Rattle.event_log.specs.Counts.{round, commands, ccbs, submission, submissions, is_in_flight}
 use Rattle.event_log.specs.Stays.{stays_begun, stay_begun, waiting, is_unsent}
 use Rattle.event_log.specs.declared.event.Event.{Event}
-use Rattle.event_log.specs.declared.event.Event.TheVariants.{Submit, Send, Done, Requeue, Finish, FreezeDev, ReleaseDev, FreezeSim, ReleaseSim, Adjust, Tick}
+use Rattle.event_log.specs.declared.event.Event.TheVariants.{Submit, Send, Requeue}
 use Rattle.event_log.specs.declared.submission.Submission.{Submission}
 use Rattle.event_log.specs.declared.stay.Stay.{Stay}
 use Rattle.event_log.proofs.Laws.{stays_begun-push, waiting-push, submissions-push}

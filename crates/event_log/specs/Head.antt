@@ -1,12 +1,11 @@
 -- whose turn it is on an adapter, by the events before a place
-use Rattle.std.specs.Prelude.{ℕ, ◌+◌, ◌==◌, Bool, ◌&&◌, if◌then◌else◌, nat_lt, List, [], ◌∷◌, length, filter, Option, None, count_by, find, slice_get, is_some, reverse, option_and_then}
-use Rattle.std.specs.List.{range_with_len, before_last}
+use Rattle.std.specs.Prelude.{ℕ, ◌+◌, ◌==◌, Bool, ◌&&◌, if◌then◌else◌, nat_lt, List, [], ◌∷◌, filter, Option, None, count_by, find, is_some, reverse, option_and_then}
+use Rattle.std.specs.List.{before_last}
 use Rattle.std.specs.Option.{option_map_or}
 use Rattle.cam_types.specs.Lists.{least_by}
 use Rattle.cam_types.specs.Questions.{is_on, device_openings, adapter_openings, devices}
 use Rattle.cam_types.specs.Topology.{Topology}
-use Rattle.cam_types.specs.declared.device.Device.{Device}
-use Rattle.event_log.specs.Event.{is_some_and, is_tick, is_adjust_of, adjusts_to}
+use Rattle.event_log.specs.Event.{is_tick, is_adjust_of, adjusts_to}
 use Rattle.event_log.specs.Counts.{round, last, sendings, goes_to, freeze_count, adapter_freezes}
 use Rattle.event_log.specs.Stays.{first}
 use Rattle.event_log.specs.declared.event.Event.{Event}

@@ -11,7 +11,7 @@ use Rattle.event_log.specs.Counts.{round, commands, submissions, submission, sen
 use Rattle.event_log.specs.Stays.{stays_begun, stay_begun, is_unsent, waiting}
 use Rattle.event_log.specs.Live.{live_round}
 use Rattle.event_log.specs.declared.event.Event.{Event}
-use Rattle.event_log.specs.declared.event.Event.TheVariants.{Submit, Send, Done, Requeue, Finish, FreezeDev, ReleaseDev, FreezeSim, ReleaseSim, Adjust, Tick}
+use Rattle.event_log.specs.declared.event.Event.TheVariants.{Send}
 use Rattle.event_log.specs.declared.submission.Submission.{Submission}
 use Rattle.event_log.specs.declared.stay.Stay.{Stay}
 use Rattle.event_log.specs.declared.sending.Sending.{Sending}

@@ -18,7 +18,7 @@ use Rattle.event_log.specs.Counts.{round, submission, sending_of, sendings, goes
 use Rattle.cam_types.specs.Questions.{is_on, device_openings}
 use Rattle.event_log.specs.Head.{openings as place_openings, openings, goes_now_to, goes_now_to_adapter}
 use Rattle.event_log.specs.declared.event.Event.{Event}
-use Rattle.event_log.specs.declared.event.Event.TheVariants.{Submit, Send, Done, Requeue, Finish, FreezeDev, ReleaseDev, FreezeSim, ReleaseSim, Adjust, Tick}
+use Rattle.event_log.specs.declared.event.Event.TheVariants.{Send}
 use Rattle.event_log.specs.declared.submission.Submission.{Submission}
 use Rattle.event_log.specs.declared.sending.Sending.{Sending}
 use Rattle.event_log.proofs.Laws.{round-push, sendings-push}

@@ -14,7 +14,7 @@ use Rattle.event_log.specs.Counts.{round, last}
 use Rattle.cam_types.specs.Questions.{names_device, device_openings, adapter_openings}
 use Rattle.event_log.specs.Head.{openings}
 use Rattle.event_log.specs.declared.event.Event.{Event}
-use Rattle.event_log.specs.declared.event.Event.TheVariants.{Submit, Send, Done, Requeue, Finish, FreezeDev, ReleaseDev, FreezeSim, ReleaseSim, Adjust, Tick}
+use Rattle.event_log.specs.declared.event.Event.TheVariants.{Adjust}
 use Rattle.event_log.proofs.OpeningLaws.{before_last-push}
 use Rattle.event_log.proofs.StateLaws.{last-push}
 use Rattle.cam_event.specs.Legal.{Rules, is_legal_event, is_legal}

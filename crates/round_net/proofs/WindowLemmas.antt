@@ -1,35 +1,31 @@
 -- each stay was sent within its window
 use Rattle.std.proofs.Common.{◌≡◌, ℕ, ◌+◌, ◌-◌, ◌<◌, ◌≤◌, Bool, true, false, cond, List, [], ◌∷◌, ◌++◌, length, get_or, refl, sym, ap, ◌∙◌, arith, Option, Some, None}
-use Rattle.std.specs.Prelude.{not, ◌==◌, ◌&&◌, filter, find, count_by, option_to_list, All, nat_lt}
+use Rattle.std.specs.Prelude.{◌==◌, filter, find, option_to_list, All, nat_lt}
 use Rattle.std.specs.Option.{option_map, option_map_or, option_or}
 use Rattle.std.proofs.lemmas.Bool.{and_parts, eqb-true, eq-eqb, leb-true}
-use Rattle.std.proofs.lemmas.Bool.Decides.{nat_tests}
 use Rattle.std.proofs.lemmas.Option.{slice_get-get_or}
 use Rattle.std.proofs.lemmas.List.Elements.{All-nil, All-cons, All-head, All-tail, All-append}
 use Rattle.std.proofs.lemmas.List.Folds.{find-append}
-use Rattle.std.proofs.lemmas.List.Sums.{AllPass-from_list_all}
 use Rattle.cam_types.specs.Topology.{Topology}
-use Rattle.event_log.specs.Event.{is_some_and, is_send_of}
-use Rattle.event_log.specs.Counts.{round, commands, submissions, submission, is_recovering}
+use Rattle.event_log.specs.Event.{is_send_of}
+use Rattle.event_log.specs.Counts.{round, commands, submission}
 use Rattle.event_log.specs.Stays.{stays_begun, stay_begun, is_unsent, waiting, has_arrived, has_queued}
 use Rattle.event_log.specs.Live.{send_place, live_round}
 use Rattle.event_log.specs.declared.event.Event.{Event}
-use Rattle.event_log.specs.declared.event.Event.TheVariants.{Submit, Send, Done, Requeue, Finish, FreezeDev, ReleaseDev, FreezeSim, ReleaseSim, Adjust, Tick}
+use Rattle.event_log.specs.declared.event.Event.TheVariants.{Submit, Send, Requeue}
 use Rattle.event_log.specs.declared.submission.Submission.{Submission}
 use Rattle.event_log.specs.declared.stay.Stay.{Stay}
 use Rattle.event_log.proofs.Laws.{is_unsent-push, born_unsent, stays_begun-push, places-stays_begun, place-stay_begun}
 use Rattle.cam_event.specs.Legal.{Rules, is_legal_event, is_legal}
-use Rattle.cam_event.specs.Laws.{is_stay_of}
 use Rattle.cam_event.proofs.LimitLemmas.{legal-induction, round_first}
-use Rattle.cam_event.proofs.StayLemmas.{is_of_its_ccb, of_its_ccb-stays_begun}
 use Rattle.xpt_stays.specs.Records.{follows, next_stay}
 use Rattle.xpt_stays.proofs.LatestLemmas.{AreLatest, latest_step, none_latest}
 use Rattle.round_net.specs.Nets.{last_round}
-use Rattle.round_net.proofs.CountLemmas.{count_by-filter, none-by-count, all_where_one}
+use Rattle.round_net.proofs.CountLemmas.{all_where_one}
 use Rattle.round_net.proofs.PlaceLemmas.{round-grows, round-take}
 use Rattle.xpt_stays.proofs.SentLemmas.{live_round-sent, live_round-sending}
 use Rattle.event_log.proofs.TotalLaws.{is_of}
-use Rattle.cam_event.proofs.StandLemmas.{AreStates, asks-requeue, unsent-most, unsent-recovering, states_step, states_none}
+use Rattle.cam_event.proofs.StandLemmas.{AreStates, unsent-most}
 use Rattle.round_net.proofs.OpeningLemmas.{legal-send}
 
 -- no stay was sent later than in the last round

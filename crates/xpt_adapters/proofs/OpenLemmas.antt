@@ -9,7 +9,6 @@ use Rattle.std.proofs.lemmas.List.Elements.{filter-append}
 use Rattle.std.proofs.lemmas.Option.{slice_get-get_or}
 use Rattle.cam_types.specs.Topology.{Topology}
 use Rattle.cam_types.specs.declared.device.Device.{Device}
-use Rattle.event_log.specs.Event.{is_some_and}
 use Rattle.event_log.specs.Counts.{sendings, adapter_freezes}
 use Rattle.event_log.specs.Stays.{first, queue, waiting, stays_begun}
 use Rattle.cam_types.specs.Questions.{is_on, adapter_openings}

@@ -7,7 +7,6 @@ use Rattle.std.proofs.lemmas.Bool.{eqb-true, false≢true}
 use Rattle.std.proofs.lemmas.Bool.Decides.{nat_tests}
 use Rattle.cam_types.specs.Topology.{Topology}
 use Rattle.cam_types.specs.declared.device.Device.{Device}
-use Rattle.event_log.specs.Event.{is_some_and}
 use Rattle.cam_types.specs.Questions.{is_on, device_adapter, adapter_openings, devices}
 use Rattle.sim_queue.specs.Adapter.{Adapter, prioritized, sent_at}
 use Rattle.sim_queue.specs.declared.row.Row.{Row}

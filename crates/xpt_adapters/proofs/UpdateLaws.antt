@@ -11,7 +11,7 @@ use Rattle.event_log.specs.Stays.{first}
 use Rattle.cam_types.specs.Questions.{names_adapter, is_on, device_adapter, lane_adapter, adapter_openings}
 use Rattle.event_log.specs.Head.{goes_now_to_adapter, adapter_has_opening, last_sent, head, next}
 use Rattle.event_log.specs.declared.event.Event.{Event}
-use Rattle.event_log.specs.declared.event.Event.TheVariants.{Submit, Send, Done, Requeue, Finish, FreezeDev, ReleaseDev, FreezeSim, ReleaseSim, Adjust, Tick}
+use Rattle.event_log.specs.declared.event.Event.TheVariants.{Send, FreezeSim, ReleaseSim, Tick}
 use Rattle.event_log.specs.declared.stay.Stay.{Stay}
 use Rattle.event_log.specs.declared.sending.Sending.{Sending}
 use Rattle.event_log.specs.declared.submission.Submission.{Submission}

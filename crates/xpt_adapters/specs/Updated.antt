@@ -1,9 +1,8 @@
 -- what an event makes of the adapters' queues
-use Rattle.std.specs.Prelude.{◌≡◌, ℕ, ◌+◌, ◌-◌, ◌<◌, ◌≤◌, true, List, length, map, slice_get, is_some}
+use Rattle.std.specs.Prelude.{◌≡◌, ℕ, ◌+◌, ◌-◌, ◌<◌, ◌≤◌, true, List, length, map, is_some}
 use Rattle.std.specs.Option.{option_map_or}
 use Rattle.cam_types.specs.Questions.{device_adapter, lane_adapter}
 use Rattle.cam_types.specs.Topology.{Topology}
-use Rattle.cam_types.specs.declared.device.Device.{Device}
 use Rattle.event_log.specs.declared.event.Event.{Event}
 use Rattle.event_log.specs.declared.event.Event.TheVariants.{Send, FreezeSim, ReleaseSim, Tick}
 use Rattle.sim_queue.specs.Adapter.{Adapter, with_priority, with_send, best_ready}

@@ -17,7 +17,7 @@ use Rattle.event_log.specs.Event.{is_some_and, ccb_of, ends, submission_of}
 use Rattle.event_log.specs.Counts.{submission, submissions, commands, ccbs, alive, is_in_flight, is_recovering, last_result, counted_requeues, retries_of, wants_requeue, wants_finish}
 use Rattle.event_log.specs.Stays.{stays_begun}
 use Rattle.event_log.specs.declared.event.Event.{Event}
-use Rattle.event_log.specs.declared.event.Event.TheVariants.{Submit, Send, Done, Requeue, Finish, FreezeDev, ReleaseDev, FreezeSim, ReleaseSim, Adjust, Tick}
+use Rattle.event_log.specs.declared.event.Event.TheVariants.{Submit}
 use Rattle.event_log.specs.declared.submission.Submission.{Submission}
 use Rattle.event_log.proofs.ConcernLaws.{concerns-none}
 use Rattle.event_log.proofs.TotalLaws.{commands-stays}

@@ -9,7 +9,7 @@ use Rattle.event_log.specs.Event.{is_tick, is_send_of, submission_of}
 use Rattle.event_log.specs.Counts.{round, commands, ccbs, is_in_flight}
 use Rattle.event_log.specs.Stays.{stays_begun, stay_begun, waiting}
 use Rattle.event_log.specs.declared.event.Event.{Event}
-use Rattle.event_log.specs.declared.event.Event.TheVariants.{Submit, Send, Done, Requeue, Finish, FreezeDev, ReleaseDev, FreezeSim, ReleaseSim, Adjust, Tick}
+use Rattle.event_log.specs.declared.event.Event.TheVariants.{Submit, Send, Done, Requeue, Tick}
 use Rattle.event_log.specs.declared.stay.Stay.{Stay}
 use Rattle.event_log.proofs.Laws.{round-push, few_rounds, few_stays, few_commands}
 use Rattle.event_log.proofs.StateLaws.{is_in_flight-push}

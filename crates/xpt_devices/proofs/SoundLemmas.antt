@@ -16,7 +16,7 @@ use Rattle.event_log.specs.Stays.{stays_begun, waiting, queue, first}
 use Rattle.cam_types.specs.Questions.{devices}
 use Rattle.event_log.specs.Head.{openings}
 use Rattle.event_log.specs.declared.event.Event.{Event}
-use Rattle.event_log.specs.declared.event.Event.TheVariants.{Submit, Send, Done, Requeue, Finish, FreezeDev, ReleaseDev, FreezeSim, ReleaseSim, Adjust, Tick}
+use Rattle.event_log.specs.declared.event.Event.TheVariants.{Submit}
 use Rattle.event_log.specs.declared.stay.Stay.{Stay}
 use Rattle.event_log.proofs.QueueLaws.{first-in_order}
 use Rattle.event_log.proofs.Laws.{submissions-push, few_commands}

@@ -1,6 +1,6 @@
 -- the latest stay of each CCB of a legal list: none follows it, and no other is without a send
 use Rattle.std.proofs.Common.{◌≡◌, ◌≢◌, ℕ, ◌+◌, ◌-◌, ◌<◌, ◌≤◌, Bool, true, false, cond, List, [], ◌∷◌, ◌++◌, length, refl, sym, ap, ◌∙◌, arith, Option, Some, None, inl, inr, append-nil, length-append}
-use Rattle.std.specs.Prelude.{not, ◌==◌, ◌&&◌, nat_lt, slice_get, reverse, count_by, option_to_list}
+use Rattle.std.specs.Prelude.{not, ◌==◌, ◌&&◌, slice_get, reverse, count_by, option_to_list}
 use Rattle.std.specs.List.{list_any, position_or_len}
 use Rattle.std.specs.Option.{option_or}
 use Rattle.std.proofs.lemmas.Bool.{and_parts, cases_eq, eq-eqb, ne_eqb, lt-ltb, le-ltb, or_cases}

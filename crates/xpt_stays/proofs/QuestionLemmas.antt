@@ -1,6 +1,6 @@
 -- what is asked of the stays, by their records
 use Rattle.std.proofs.Common.{◌≡◌, ℕ, ◌+◌, ◌<◌, ◌≤◌, ◌*◌, ◌-◌, Bool, true, false, cond, List, [], ◌∷◌, get_or, map, inl, inr, refl, sym, ap, ◌∙◌, arith, Option, Some, None}
-use Rattle.std.specs.Prelude.{◌&&◌, ◌||◌, slice_get, find, sum_by, is_none, unwrap_or, vec_len}
+use Rattle.std.specs.Prelude.{◌&&◌, slice_get, find, sum_by, is_none, unwrap_or, vec_len}
 use Rattle.std.specs.List.{list_any}
 use Rattle.std.specs.Option.{option_map}
 use Rattle.std.proofs.lemmas.List.Sums.{sum_by-cons}

@@ -12,7 +12,7 @@ use Rattle.event_log.specs.Event.{submission_of, is_send_of, is_requeue_of}
 use Rattle.event_log.specs.Counts.{round, commands, ccbs, submissions}
 use Rattle.event_log.specs.Stays.{stays_begun, stay_begun}
 use Rattle.event_log.specs.declared.event.Event.{Event}
-use Rattle.event_log.specs.declared.event.Event.TheVariants.{Submit, Send, Done, Requeue, Finish, FreezeDev, ReleaseDev, FreezeSim, ReleaseSim, Adjust, Tick}
+use Rattle.event_log.specs.declared.event.Event.TheVariants.{Submit, Send, Requeue}
 use Rattle.event_log.specs.declared.stay.Stay.{Stay}
 use Rattle.event_log.proofs.Laws.{few_rounds}
 use Rattle.event_log.proofs.TotalLaws.{commands-stays, submitted_stay}

@@ -1,5 +1,5 @@
 use Rattle.std.proofs.Common.{refl, ap, subst, ◌∙◌}
-use Rattle.cam_types.specs.Topology.{Topology, IsConfig}
+use Rattle.cam_types.specs.Topology.{IsConfig}
 use Rattle.sim_queue.specs.Adapter.{with_priority}
 use Rattle.xpt_adapters.specs.Updated.{with_ready}
 use Rattle.xpt_devices.specs.Updated.{at_place}

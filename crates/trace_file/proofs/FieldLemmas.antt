@@ -4,6 +4,7 @@ use Rattle.std.specs.Prelude.{Option, Some, None, option_map, option_and_then, E
 use Rattle.std.proofs.lemmas.Bool.{eq-eqb, ne_eqb}
 use Rattle.std.proofs.lemmas.List.{append-nil, drop_all, take_more_set}
 use Rattle.std.proofs.Math.Seq.{drop-cons}
+use Rattle.std.proofs.lemmas.Grind.{common_steps}
 use Rattle.csv.specs.Records.{field_at}
 use Rattle.trace_file.specs.Fields.{Row, field_of, unused, hex_byte, bytes_of}
 
@@ -35,14 +36,11 @@ bytes_of-odd (c ∷ d ∷ rest) h = rw (bytes_of-odd rest (λ e. h (omega arith)
 abbrev pub with_front : List ℕ → Option (List ℕ) → Option (List ℕ)
 with_front front rest = option_map (λ bs. front ++ bs) rest
 
-drop_one : (text : List ℕ) (j k : ℕ) → j < length text → k ≡ j + 1 → drop j text ≡ get_or text j 0 ∷ drop k text
-drop_one text j k h e =
-    let next : suc j ≡ k = omega arith in
-    drop-cons text j 0 h ∙ ap (λ (n : ℕ). get_or text j 0 ∷ drop n text) next
-
 two_more : (text : List ℕ) (i : ℕ) → 2 * i + 1 < length text → drop (2 * i) text ≡ get_or text (2 * i) 0 ∷ get_or text (2 * i + 1) 0 ∷ drop (2 * (i + 1)) text
 two_more text i h =
-    drop_one text (2 * i) (2 * i + 1) (omega arith) refl ∙ ap (λ (l : List ℕ). get_or text (2 * i) 0 ∷ l) (drop_one text (2 * i + 1) (2 * (i + 1)) h (omega arith))
+    let a = drop-cons text (2 * i) 0 (omega arith) in
+    let b = drop-cons text (2 * i + 1) 0 h in
+    grind (arith, common_steps, a, b)
 
 regroup : (front : List ℕ) (b : ℕ) (rest : Option (List ℕ)) → with_front front (option_map (λ bs. b ∷ bs) rest) ≡ with_front (front ++ b ∷ []) rest
 regroup front b None = refl

@@ -3,7 +3,7 @@ pub mod FaultLaws
 pub mod FieldLaws
 pub mod FieldLemmas
 pub mod HexLaws
-pub mod HistoryLemmas
+pub mod ListLaws
 pub mod RecordLemmas
 pub mod RowLaws
 pub mod RowsAgain

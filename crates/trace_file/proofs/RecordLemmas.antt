@@ -1,14 +1,14 @@
 -- The records of a text, one after the other.
 use Rattle.std.proofs.Common.{◌≡◌, ◌≢◌, ◌<◌, ◌≤◌, ◌+◌, ℕ, zero, suc, List, [], ◌∷◌, ◌++◌, length, Bool, true, false, cond, refl, sym, ap, ◌∙◌, add-one, arith}
-use Rattle.std.specs.Prelude.{Option, Some, None, Result, Ok, Err, ◌==◌, ◌||◌}
-use Rattle.std.proofs.lemmas.Bool.{false≢true}
-use Rattle.csv.specs.Machine.{Read, ends_at_end, field_after, fields_after, in_field, is_end, next_record, start_field, start_record, step}
-use Rattle.csv.specs.Reading.{Reached, ReadRecord, is_bom, default_config, records, records_from, records_next, source_of, strip_bom}
+use Rattle.std.specs.Prelude.{Option, Some, None, Result, Ok, Err}
+use Rattle.std.proofs.lemmas.Option.{same_Some}
+use Rattle.std.proofs.lemmas.Bool.Decides.{nat_tests}
+use Rattle.csv.specs.Machine.{Read, ends_at_end, field_after, fields_after, is_end, next_record, step}
+use Rattle.csv.specs.Reading.{Reached, ReadRecord, default_config, records, records_from, records_next, source_of, strip_bom}
 use Rattle.csv.specs.declared.reader.Reader.{Reader}
 use Rattle.csv.specs.declared.parser.State.{State}
 use Rattle.csv.specs.declared.parser.State.TheVariants as st
 use Rattle.csv.specs.declared.parser.Action.{Action}
-use Rattle.csv.specs.declared.parser.Action.TheVariants as act
 use Rattle.csv.proofs.ReadFacts.{rows-more}
 use Rattle.trace_file.specs.Fields.{Row}
 use Rattle.trace_file.specs.Steps.{taken}
@@ -19,47 +19,16 @@ use Rattle.trace_file.specs.Steps.{taken}
 abbrev Closes : State × Action → Type 0
 Closes x = is_end x.1 ≡ true → ends_at_end x.0 ≡ false
 
-field_closes : (a b d : Bool) → Closes (cond a (st.StartField, act.EndField) (cond (b || d) (cond b st.AfterCr st.StartRecord, act.EndRecord) (st.InField, act.Copy)))
-field_closes true b d e = absurd cc
-field_closes false true d e = refl
-field_closes false false true e = refl
-field_closes false false false e = absurd cc
-
-in_field_closes : (c : ℕ) → Closes (in_field default_config c)
-in_field_closes c = field_closes (c == 44) (c == 13) (c == 10)
-
-goes_on : (b : Bool) (s : State) (a : Action) (x : State × Action) → is_end a ≡ false → Closes x → Closes (cond b (s, a) x)
-goes_on true s a x none h e = absurd (false≢true (sym none ∙ e))
-goes_on false s a x none h e = h e
-
-never : (s : State) (a : Action) → is_end a ≡ false → Closes (s, a)
-never s a none e = absurd (false≢true (sym none ∙ e))
-
-start_field_closes : (c : ℕ) → Closes (start_field default_config c)
-start_field_closes c = goes_on (c == 34) st.InQuoted act.Skip (in_field default_config c) refl (in_field_closes c)
-
-start_record_closes : (c : ℕ) → Closes (start_record default_config c)
-start_record_closes c = goes_on ((c == 13) || (c == 10)) st.StartRecord act.Skip (start_field default_config c) refl (start_field_closes c)
-
 step_closes : (s : State) (c : ℕ) → Closes (step default_config s c)
-step_closes st.StartRecord c = start_record_closes c
-step_closes st.StartField c = start_field_closes c
-step_closes st.InField c = in_field_closes c
-step_closes st.InQuoted c = goes_on (c == 34) st.AfterQuote act.Skip (st.InQuoted, act.Copy) refl (never st.InQuoted act.Copy refl)
-step_closes st.InEscape c = never st.InQuoted act.Copy refl
-step_closes st.AfterQuote c = goes_on (c == 34) st.InQuoted act.Copy (in_field default_config c) refl (in_field_closes c)
-step_closes st.InComment c = goes_on (c == 10) st.StartRecord act.Skip (st.InComment, act.Skip) refl (never st.InComment act.Skip refl)
-step_closes st.AfterCr c = goes_on (c == 10) st.StartRecord act.Skip (start_record default_config c) refl (start_record_closes c)
+step_closes st.StartRecord c e = grind (arith, nat_tests)
+step_closes _ c e = grind (arith, nat_tests)
 
 -- what stands behind a record
 abbrev Leaves : Read → ℕ → Type 0
 Leaves p n = (ends_at_end p.1 ≡ false) × (length p.2 ≤ n)
 
-some_is : (x p : Read) → ◌≡◌ {A = Option Read} (Some x) (Some p) → x ≡ p
-some_is x p e = cc
-
 at_end : (b : Bool) (fields : List (List ℕ)) (p : Read) (n : ℕ) → cond b (Some (fields, st.StartRecord, [])) None ≡ Some p → Leaves p n
-at_end true fields p n e = rw (← some_is _ _ e) (refl, omega arith)
+at_end true fields p n e = rw (← same_Some _ _ e) (refl, omega arith)
 at_end false fields p n e = absurd cc
 
 behind_byte : (s : State) (fields : List (List ℕ)) (field : List ℕ) (c : ℕ) (rest : List ℕ) (p : Read)
@@ -72,7 +41,7 @@ behind_byte s fields field c rest p more e = by (is_end (step default_config s c
         → cond (is_end (step default_config s c).1) (Some (fields_after (step default_config s c).1 fields field, (step default_config s c).0, rest))
         (next_record default_config (step default_config s c).0 (fields_after (step default_config s c).1 fields field) (field_after (step default_config s c).1 c field) rest) ≡ Some p
         → Leaves p (length rest)
-    by true ends h = rw (← some_is _ _ (rw ends at h)) (step_closes s c ends, omega arith)
+    by true ends h = rw (← same_Some _ _ (rw ends at h)) (step_closes s c ends, omega arith)
     by false ends h = more _ _ _ (rw ends at h)
 
 shorter : (s : State) (fields : List (List ℕ)) (field xs : List ℕ) (p : Read) → next_record default_config s fields field xs ≡ Some p → Leaves p (length xs)
@@ -128,13 +97,8 @@ pub record IsLeft {S E : Type 0} (next : ℕ → S → Row → Result S E) (firs
 
 length-strip_bom : (text : List ℕ) → length (strip_bom text) ≤ length text
 unfolding strip_bom
-length-strip_bom [] = omega arith
-length-strip_bom (a ∷ []) = omega arith
-length-strip_bom (a ∷ b ∷ []) = omega arith
-length-strip_bom (a ∷ b ∷ c ∷ rest) = elim (is_bom a b c) as (λ t. length (cond t rest (a ∷ b ∷ c ∷ rest)) ≤ length (a ∷ b ∷ c ∷ rest)) [
-  | true ↦ omega arith
-  | false ↦ omega arith
-]
+length-strip_bom (a ∷ b ∷ c ∷ rest) = grind (arith, nat_tests)
+length-strip_bom _ = omega arith
 
 pub left_first : {S E : Type 0} (next : ℕ → S → Row → Result S E) (first : S) (text : List ℕ) → IsLeft next first (records default_config (strip_bom text)) 1 first st.StartRecord (strip_bom text) (length text)
 left_first next first text =
@@ -180,8 +144,5 @@ record_more rem a b fields y ec ex r =
 pub took_ok : {S E : Type 0} (r x : Result S E) (s : S) (memory : E) → (r ≢ Err memory → r ≡ x) → r ≡ Ok s → x ≡ Ok s
 took_ok r x s memory h e = sym (h (λ w. cc)) ∙ e
 
-err_is : {S E : Type 0} (x y : E) → ◌≡◌ {A = Result S E} (Err x) (Err y) → x ≡ y
-err_is x y e = cc
-
 pub took_err : {S E : Type 0} (r x : Result S E) (fault memory : E) → (r ≢ Err memory → r ≡ x) → r ≡ Err fault → fault ≢ memory → x ≡ Err fault
-took_err r x fault memory h e other = sym (h (λ w. other (err_is fault memory (sym e ∙ w)))) ∙ e
+took_err r x fault memory h e other = sym (h (λ w. other (let same = sym e ∙ w in cc))) ∙ e

@@ -1,16 +1,17 @@
 -- The records of a script are read as its scenario.
 use Rattle.std.proofs.Common.{◌≡◌, ◌≢◌, ◌≤◌, ◌+◌, ℕ, List, [], ◌∷◌, ◌++◌, length, map, Bool, true, false, cond, refl, sym, ap, ◌∙◌, arith, subst, append_assoc}
-use Rattle.std.specs.Prelude.{Option, Some, None, IfSome, Result, Ok, Err, is_ok, not, unwrap_or, count_by}
+use Rattle.std.specs.Prelude.{Option, Some, None, IfSome, Result, Ok, Err, is_ok, not, unwrap_or}
 use Rattle.std.specs.List.{AllByRecursion, fold}
-use Rattle.std.proofs.lemmas.Bool.{false≢true, lt-ltb, eq-eqb}
-use Rattle.std.proofs.lemmas.List.Sums.{sum_by-append}
+use Rattle.std.proofs.lemmas.Bool.{false≢true, eq-eqb}
+use Rattle.std.proofs.lemmas.List.Sums.{sum_by-cons}
+use Rattle.std.proofs.lemmas.List.Elements.{All-append, All-map, All-nil, recursion_from_All}
+use Rattle.std.proofs.lemmas.Bool.Decides.{nat_tests}
 use Rattle.csv.specs.Records.{field_at}
 use Rattle.cam_types.specs.Bounds.{Bounds, are_within, most_bounds}
 use Rattle.trace_file.specs.declared.script_row.ScriptRow.{ScriptRow}
 use Rattle.trace_file.specs.declared.script_row.ScriptItem.{ScriptItem}
 use Rattle.trace_file.specs.declared.script_stage.ScriptStage.{ScriptStage}
 use Rattle.trace_file.specs.declared.script_stage.ScriptStage.TheVariants as stage
-use Rattle.trace_file.specs.declared.trace_fault.TraceFault.{TraceFault}
 use Rattle.trace_file.specs.declared.trace_stage.TraceStage.{TraceStage}
 use Rattle.trace_file.specs.declared.trace_stage.TraceStage.TheVariants as trace
 use Rattle.trace_file.specs.Fields.{Row, field_of}
@@ -20,15 +21,16 @@ use Rattle.trace_file.specs.Records.{adapter_row, device_row, lane_row}
 use Rattle.trace_file.specs.Scenarios.{Scenario, empty_scenario, is_answer_row, is_answer_word, item_of}
 use Rattle.trace_file.specs.Script.{FitsRow, IsManuscript, Manuscript, answer_rows, limits_rows, put_row, scenario_of, script_records, step_rows}
 use Rattle.trace_file.specs.ScriptReading.{config_step, first_row, has_room, is_config_word, is_configuring, is_limits, limits_step, roomy_word, rows_step, script_ended, script_reading, script_step}
-use Rattle.trace_file.specs.ScriptRows.{limits_row, script_header, script_row}
-use Rattle.trace_file.specs.Steps.{◌>>=◌, taken}
-use Rattle.trace_file.proofs.HistoryLemmas.{is_legal-nil}
+use Rattle.trace_file.specs.ScriptRows.{script_header, script_row}
+use Rattle.trace_file.specs.Steps.{taken}
+use Rattle.trace_file.specs.declared.script_stage.TheConstants.{MOST_ROWS}
 use Rattle.trace_file.proofs.RowLaws.{ok_is, on_ok}
 use Rattle.trace_file.proofs.ScriptLaws.{fold_config, item_added, item_kind, more_answers, more_steps}
 use Rattle.trace_file.proofs.ScriptRowLaws.{limits_again, row_again, row_of, word_of_row}
 use Rattle.trace_file.proofs.ScriptStageLemmas.{configures}
-use Rattle.trace_file.proofs.StageLemmas.{step_behind}
+use Rattle.trace_file.proofs.StageLemmas.{step_behind, is_legal-nil}
 use Rattle.trace_file.proofs.WholeLaws.{at_config, at_lanes, kept, taken_all}
+use Rattle.trace_file.proofs.AgainLaws.{taken_on}
 
 -- ---- rows
 
@@ -36,12 +38,11 @@ put_ok : (r : Result ScriptItem Refusal) → is_ok r ≡ true → (i : ScriptIte
 put_ok (Ok i) e = (i, refl)
 put_ok (Err cause) e = absurd cc
 
-room_for : (b : Bool) (k a : ℕ) → k + cond (not b) 1 0 ≤ 4096 → a + cond b 1 0 ≤ 4096 → has_room b k a ≡ true
-room_for true k a p q = lt-ltb a 4096 (omega arith)
-room_for false k a p q = lt-ltb k 4096 (omega arith)
+room_for : (b : Bool) (k a : ℕ) → k + cond (not b) 1 0 ≤ MOST_ROWS → a + cond b 1 0 ≤ MOST_ROWS → has_room b k a ≡ true
+room_for b k a p q = grind (arith, nat_tests)
 
 -- a row behind others
-row_step_again : (n : ℕ) (s : Scenario) (k a : ℕ) (x : ScriptRow) → FitsRow x → is_ok (item_of s.config x) ≡ true → k + cond (not (is_answer_row x)) 1 0 ≤ 4096 → a + cond (is_answer_row x) 1 0 ≤ 4096
+row_step_again : (n : ℕ) (s : Scenario) (k a : ℕ) (x : ScriptRow) → FitsRow x → is_ok (item_of s.config x) ≡ true → k + cond (not (is_answer_row x)) 1 0 ≤ MOST_ROWS → a + cond (is_answer_row x) 1 0 ≤ MOST_ROWS
     → script_step n (stage.Rows s k a) (script_row x) ≡ Ok (stage.Rows (put_row s x) (more_steps (is_answer_row x) k) (more_answers (is_answer_row x) a))
 unfolding script_step rows_step roomy_word
 row_step_again n s k a x fits ok p q =
@@ -63,11 +64,6 @@ first_row_again n limits t x fits some ok =
     let kind = item_kind (config_of t) x made.0 made.1 in
     rw (is.config, is.word, row_again x fits, some, made.1) (item_added n s 0 0 made.0 ∙ rw kind refl)
 
-count_more : (p : ScriptRow → Bool) (x : ScriptRow) (xs : List ScriptRow) → count_by p (x ∷ xs) ≡ cond (p x) 1 0 + count_by p xs
-count_more p x xs =
-    let parts : count_by p ((x ∷ []) ++ xs) ≡ (0 + cond (p x) 1 0) + count_by p xs = sum_by-append (λ (y : ScriptRow). cond (p y) 1 0) (x ∷ []) xs in
-    parts ∙ (omega arith)
-
 put_config : (s : Scenario) (x : ScriptRow) → (put_row s x).config ≡ s.config
 put_config s x = fold_config s (x ∷ [])
 
@@ -77,13 +73,13 @@ pub record Ends (n : ℕ) (from : ScriptStage) (rows : List Row) (s : Scenario) 
   pub reached : taken script_step n from rows ≡ Ok last
   pub ends : script_ended last ≡ Ok s
 
-rows_again : (n : ℕ) (s : Scenario) (k a : ℕ) (xs : List ScriptRow) → AllByRecursion FitsRow xs → AllByRecursion (λ x. is_ok (item_of s.config x) ≡ true) xs → k + step_rows xs ≤ 4096 → a + answer_rows xs ≤ 4096
+rows_again : (n : ℕ) (s : Scenario) (k a : ℕ) (xs : List ScriptRow) → AllByRecursion FitsRow xs → AllByRecursion (λ x. is_ok (item_of s.config x) ≡ true) xs → k + step_rows xs ≤ MOST_ROWS → a + answer_rows xs ≤ MOST_ROWS
     → Ends n (stage.Rows s k a) (map script_row xs) (fold put_row s xs)
 unfolding script_ended
 rows_again n s k a [] fits ok p q = record { last = stage.Rows s k a; reached = refl; ends = refl }
 rows_again n s k a (x ∷ xs) fits ok p q =
-    let steps = count_more (λ y. not (is_answer_row y)) x xs in
-    let answers = count_more is_answer_row x xs in
+    let steps = sum_by-cons (λ y. cond (not (is_answer_row y)) 1 0) x xs in
+    let answers = sum_by-cons (λ y. cond (is_answer_row y) 1 0) x xs in
     let one = row_step_again n s k a x fits.0 ok.0 (omega arith) (omega arith) in
     let rest = subst (λ (c : Topology). AllByRecursion (λ y. is_ok (item_of c y) ≡ true) xs) (sym (put_config s x)) ok.1 in
     let more = rows_again (n + 1) (put_row s x) (more_steps (is_answer_row x) k) (more_answers (is_answer_row x) a) xs fits.1 rest (omega arith) (omega arith) in
@@ -110,43 +106,29 @@ config_again n limits t u (fields ∷ rows) behind words e =
     let one = config_one n limits t v fields behind words.0 ev in
     rw one.0 (config_again (n + 1) limits v u rows one.1 words.1 r))
 
-all_map : {X : Type 0} (Q : Row → Type 0) (row : X → Row) (xs : List X) → ((x : X) → Q (row x)) → AllByRecursion Q (map row xs)
-all_map Q row [] f = tt
-all_map Q row (x ∷ xs) f = (f x, all_map Q row xs f)
-
-all_append : (Q : Row → Type 0) (rows more : List Row) → AllByRecursion Q rows → AllByRecursion Q more → AllByRecursion Q (rows ++ more)
-all_append Q [] more h k = k
-all_append Q (row ∷ rows) more h k = (h.0, all_append Q rows more h.1 k)
-
 abbrev config_rows : Topology → List Row
 config_rows c = map adapter_row c.adapters ++ (map device_row c.devices ++ (map lane_row c.lanes ++ []))
 
 config_words : (c : Topology) → AllByRecursion IsConfigRow (config_rows c)
 unfolding is_config_word field_at
 config_words c =
-    all_append IsConfigRow (map adapter_row c.adapters) _ (all_map IsConfigRow adapter_row c.adapters (λ o. refl))
-    (all_append IsConfigRow (map device_row c.devices) _ (all_map IsConfigRow device_row c.devices (λ d. refl))
-    (all_append IsConfigRow (map lane_row c.lanes) [] (all_map IsConfigRow lane_row c.lanes (λ l. refl)) tt))
+    recursion_from_All IsConfigRow _
+    (All-append IsConfigRow (map adapter_row c.adapters) _ (All-map IsConfigRow adapter_row c.adapters (λ k d h. refl))
+    (All-append IsConfigRow (map device_row c.devices) _ (All-map IsConfigRow device_row c.devices (λ k d h. refl))
+    (All-append IsConfigRow (map lane_row c.lanes) [] (All-map IsConfigRow lane_row c.lanes (λ k d h. refl)) (All-nil IsConfigRow))))
 
 -- where no limits are given, the configuration begins at once
-no_limits : (o : ℕ) → is_limits (adapter_row o) ≡ false
-unfolding is_limits field_at
-no_limits o = refl
-
 begins : (n : ℕ) (os : List ℕ) (rest : List Row) → (length os ≡ 0 → ⊥)
     → taken script_step n stage.First (map adapter_row os ++ rest) ≡ taken script_step n (stage.Config most_bounds trace.First) (map adapter_row os ++ rest)
-unfolding script_step
+unfolding script_step is_limits field_at
 begins n [] rest some = absurd (some refl)
-begins n (o ∷ os) rest some = rw (no_limits o) refl
-
-limits_one : (n : ℕ) (b : Bounds) → are_within b ≡ true → script_step n stage.First (limits_row b) ≡ Ok (stage.Config b trace.First)
-unfolding script_step limits_step
-limits_one n b h = let k = limits_again b h in rw (k.0, k.1) refl
+begins n (o ∷ os) rest some = refl
 
 from_limits : (n : ℕ) (given : Option Bounds) (os : List ℕ) (rest : List Row) → IfSome given (λ b. are_within b ≡ true) → (length os ≡ 0 → ⊥)
     → (m : ℕ) × (taken script_step n stage.First (limits_rows given ++ (map adapter_row os ++ rest)) ≡ taken script_step m (stage.Config (unwrap_or given most_bounds) trace.First) (map adapter_row os ++ rest))
+unfolding script_step limits_step
 from_limits n None os rest within some = (n, begins n os rest some)
-from_limits n (Some b) os rest within some = (n + 1, rw (limits_one n b within) refl)
+from_limits n (Some b) os rest within some = let k = limits_again b within in (n + 1, rw (k.0, k.1) refl)
 
 -- ---- a whole script
 
@@ -156,34 +138,18 @@ header_one = refl
 
 -- the rows behind a configuration
 rows_of : (n : ℕ) (limits : Bounds) (t : TraceStage) (c : Topology) (xs : List ScriptRow) → lacks_adapters t ≡ false → config_of t ≡ c → AllByRecursion FitsRow xs → AllByRecursion (λ x. is_ok (item_of c x) ≡ true) xs
-    → step_rows xs ≤ 4096 → answer_rows xs ≤ 4096 → Ends n (stage.Config limits t) (map script_row xs) (fold put_row (empty_scenario c limits) xs)
+    → step_rows xs ≤ MOST_ROWS → answer_rows xs ≤ MOST_ROWS → Ends n (stage.Config limits t) (map script_row xs) (fold put_row (empty_scenario c limits) xs)
 unfolding script_ended
 rows_of n limits t c [] some is fits ok p q = record { last = stage.Config limits t; reached = refl; ends = rw (some, is) refl }
 rows_of n limits t c (x ∷ xs) some is fits ok p q =
-    let steps = count_more (λ y. not (is_answer_row y)) x xs in
-    let answers = count_more is_answer_row x xs in
+    let steps = sum_by-cons (λ y. cond (not (is_answer_row y)) 1 0) x xs in
+    let answers = sum_by-cons (λ y. cond (is_answer_row y) 1 0) x xs in
     let fine = subst (λ (y : Topology). is_ok (item_of y x) ≡ true) (sym is) ok.0 in
     let one = rw is at (first_row_again n limits t x fits.0 some fine) in
     let s = put_row (empty_scenario c limits) x in
     let rest = subst (λ (y : Topology). AllByRecursion (λ z. is_ok (item_of y z) ≡ true) xs) (sym (put_config (empty_scenario c limits) x)) ok.1 in
     let more = rows_again (n + 1) s (more_steps (is_answer_row x) 0) (more_answers (is_answer_row x) 0) xs fits.1 rest (omega arith) (omega arith) in
     record { last = more.last; reached = rw one more.reached; ends = more.ends }
-
--- some records, and then others
-taken_on : {S : Type 0} (next : ℕ → S → Row → Result S TraceFault) (n : ℕ) (s t : S) (xs ys : List Row) → taken next n s xs ≡ Ok t → taken next n s (xs ++ ys) ≡ taken next (n + length xs) t ys
-taken_on next n s t [] ys e =
-    let same : s ≡ t = ok_is s t e in
-    let none : n ≡ n + 0 = omega arith in
-    ap (λ (u : _). taken next n u ys) same ∙ ap (λ (m : ℕ). taken next m t ys) none
-taken_on {S = S} next n s t (x ∷ xs) ys e = by (next n s x) refl e (λ v h. taken_on next (n + 1) v t xs ys h)
-  where
-    by : (r : Result S TraceFault) → next n s x ≡ r → (next n s x >>= λ v. taken next (n + 1) v xs) ≡ Ok t
-        → ((v : S) → taken next (n + 1) v xs ≡ Ok t → taken next (n + 1) v (xs ++ ys) ≡ taken next (n + 1 + length xs) t ys)
-        → (next n s x >>= λ v. taken next (n + 1) v (xs ++ ys)) ≡ taken next (n + length (x ∷ xs)) t ys
-    by (Ok v) q h more =
-        let same : n + 1 + length xs ≡ n + length (x ∷ xs) = omega arith in
-        rw q (more v (rw q at h) ∙ ap (λ (m : ℕ). taken next m t ys) same)
-    by (Err f) q h more = absurd (let wrong = rw q at h in cc)
 
 regroup : (a d l x : List Row) → (a ++ (d ++ (l ++ []))) ++ x ≡ a ++ (d ++ (l ++ x))
 regroup a d l x = simp append_assoc

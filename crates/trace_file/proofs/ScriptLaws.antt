@@ -1,16 +1,13 @@
 -- What the stages of a script have read is spelled so.
 use Rattle.std.proofs.Common.{◌≡◌, ◌≤◌, ◌+◌, ℕ, List, [], ◌∷◌, ◌++◌, map, Bool, true, false, cond, refl, sym, ap, ◌∙◌, subst, arith, append_assoc, append-nil}
-use Rattle.std.specs.Prelude.{Option, Some, None, IfSome, Result, Ok, Err, ok_or, codes, is_ok, nat_lt, not, option_and_then, unwrap_or, ⊤, ◌==◌}
-use Rattle.std.specs.List.{AllByRecursion, fold}
-use Rattle.std.proofs.lemmas.Bool.{ltb-true}
+use Rattle.std.specs.Prelude.{Option, Some, None, IfSome, Result, Ok, Err, ok_or, codes, is_ok, not, option_and_then, unwrap_or}
+use Rattle.std.specs.List.{fold}
 use Rattle.std.proofs.lemmas.List.{map-append}
+use Rattle.std.proofs.lemmas.Option.{cond_some}
+use Rattle.std.proofs.lemmas.Bool.Decides.{nat_tests}
+use Rattle.std.proofs.lemmas.List.Sums.{fold_push}
 use Rattle.cam_types.specs.Bounds.{Bounds, are_within, most_bounds}
 use Rattle.cam_types.specs.Whole.{IsWhole}
-use Rattle.cam_types.specs.Topology.{are_openings}
-use Rattle.sense_class.specs.Classes.{status_of}
-use Rattle.cam_types.specs.Questions.{names_adapter, names_lane}
-use Rattle.cam_event.specs.Legal.{is_count}
-use Rattle.cam_event.specs.declared.refusal.Refusal.TheVariants.{NoDevice, NoAdapter, NoLane, BadPriority, BadRetries, BadCount, BadOpenings, BadStatus}
 use Rattle.event_log.proofs.ListFacts.{count_by-push}
 use Rattle.trace_file.specs.declared.script_row.ScriptRow.{ScriptRow}
 use Rattle.trace_file.specs.declared.script_row.ScriptRow.TheVariants as row
@@ -26,46 +23,29 @@ use Rattle.trace_file.specs.Fields.{Row, field_of}
 use Rattle.trace_file.specs.Histories.{NoAdapters, Past, Refusal, Topology}
 use Rattle.trace_file.specs.Reading.{config_of, in_record, is_header, lacks_adapters, past_of, row_step}
 use Rattle.trace_file.specs.Records.{adapter_row, device_row, header, lane_row, records_of}
-use Rattle.trace_file.specs.Scenarios.{Scenario, add_item, device_number, empty_scenario, is_answer_item, is_answer_row, is_answer_word, item_of, refused_if}
+use Rattle.trace_file.specs.Scenarios.{Scenario, add_item, empty_scenario, is_answer_item, is_answer_row, is_answer_word, item_of}
 use Rattle.trace_file.specs.Script.{FitsRow, IsManuscript, Manuscript, WasScript, answer_rows, limits_rows, put_item, put_row, scenario_of, script_records, step_rows}
 use Rattle.trace_file.specs.ScriptReading.{config_step, configured, first_row, has_room, is_config_word, is_configuring, is_limits, item_word, limits_step, roomy_word, rows_step, script_ended, script_reading, script_step, with_item}
 use Rattle.trace_file.specs.ScriptRows.{limits_at, script_header, script_row, script_row_at}
 use Rattle.trace_file.specs.Sound.{IsSound}
 use Rattle.trace_file.specs.Steps.{◌>>=◌, taken}
 use Rattle.trace_file.specs.Text.{records_in}
-use Rattle.trace_file.proofs.RowLaws.{ok_is, on_ok}
+use Rattle.trace_file.specs.declared.script_stage.TheConstants.{MOST_ROWS}
+use Rattle.trace_file.proofs.RowLaws.{ok_is, on_ok, if_ok}
 use Rattle.trace_file.proofs.ScriptRowLaws.{limits_take, row_takes}
 use Rattle.trace_file.proofs.ScriptStageLemmas.{configures}
-use Rattle.trace_file.proofs.StageLaws.{Reads, event_ready, guarded, in_record_ok, named_header, ok_or_ok, reads_behind}
+use Rattle.trace_file.proofs.StageLaws.{Reads, event_ready, guarded, in_record_ok, named_header, reads_behind, taken_keeps}
+use Rattle.trace_file.proofs.FieldLaws.{ok_or_ok}
+use Rattle.trace_file.proofs.HexLaws.{on_some}
+use Rattle.trace_file.proofs.ListLaws.{all_push}
 
 -- ---- items
 
-abbrev KindIs : Bool → Result ScriptItem Refusal → Type 0
-KindIs kind (Ok i) = is_answer_item i ≡ kind
-KindIs kind (Err cause) = ⊤
-
-kind_of : {A : Type 0} (kind : Bool) (r : Result A Refusal) (f : A → Result ScriptItem Refusal) → ((x : A) → KindIs kind (f x)) → KindIs kind (r >>= f)
-kind_of kind (Ok x) f h = h x
-kind_of kind (Err cause) f h = tt
-
-row_kind : (c : Topology) (x : ScriptRow) → KindIs (is_answer_row x) (item_of c x)
-unfolding item_of
-row_kind c (row.Submit driver at priority retries flags) =
-    kind_of false (ok_or (device_number c at) NoDevice) _ (λ d. kind_of false (refused_if (nat_lt 1279 priority) BadPriority) _ (λ u. kind_of false (refused_if (nat_lt 7 retries) BadRetries) _ (λ v. refl)))
-row_kind c (row.Freeze driver at count) = kind_of false (ok_or (device_number c at) NoDevice) _ (λ d. kind_of false (refused_if (not (is_count count)) BadCount) _ (λ u. refl))
-row_kind c (row.Release driver at count) = kind_of false (ok_or (device_number c at) NoDevice) _ (λ d. kind_of false (refused_if (not (is_count count)) BadCount) _ (λ u. refl))
-row_kind c (row.FreezeSim driver sim count) = kind_of false (refused_if (not (names_adapter c sim)) NoAdapter) _ (λ u. kind_of false (refused_if (not (is_count count)) BadCount) _ (λ v. refl))
-row_kind c (row.ReleaseSim driver sim) = kind_of false (refused_if (not (names_adapter c sim)) NoAdapter) _ (λ u. refl)
-row_kind c (row.Adjust driver at openings) = kind_of false (ok_or (device_number c at) NoDevice) _ (λ d. kind_of false (refused_if (not (are_openings openings)) BadOpenings) _ (λ u. refl))
-row_kind c (row.Pause driver round) = refl
-row_kind c (row.Answer lane outcome) = kind_of true (refused_if (not (names_lane c lane)) NoLane) _ (λ u. kind_of true (refused_if (status_of outcome == 0) BadStatus) _ (λ v. refl))
-
 -- a row of a driver adds a step, and an answer an answer
 pub item_kind : (c : Topology) (x : ScriptRow) (i : ScriptItem) → item_of c x ≡ Ok i → is_answer_item i ≡ is_answer_row x
-item_kind c x i e = by (item_of c x) (row_kind c x) e
-  where
-    by : (r : Result ScriptItem Refusal) → KindIs (is_answer_row x) r → r ≡ Ok i → is_answer_item i ≡ is_answer_row x
-    by r h is = rw is at h
+unfolding item_of
+item_kind c (row.Pause driver round) i e = grind arith
+item_kind c _ i e = grind arith
 
 -- so many rows of drivers, and so many answers, with one row more
 abbrev pub more_steps : Bool → ℕ → ℕ
@@ -88,8 +68,7 @@ with_ok n s k a (Err r) t e q = absurd cc
 
 pub put_config : (s : Scenario) (r : Result ScriptItem Refusal) → (put_item s r).config ≡ s.config
 put_config s (Ok (item.Step driver one)) = refl
-put_config s (Ok (item.Answer lane outcome)) = refl
-put_config s (Err cause) = refl
+put_config s _ = refl
 
 pub fold_config : (s : Scenario) (rows : List ScriptRow) → (fold put_row s rows).config ≡ s.config
 fold_config s [] = refl
@@ -99,21 +78,13 @@ pub scenario_config : (m : Manuscript) → (scenario_of m).config ≡ m.config
 unfolding scenario_of
 scenario_config m = fold_config (empty_scenario m.config (unwrap_or m.limits most_bounds)) m.rows
 
-fold_push : (s : Scenario) (rows : List ScriptRow) (x : ScriptRow) → fold put_row s (rows ++ x ∷ []) ≡ put_row (fold put_row s rows) x
-fold_push s [] x = refl
-fold_push s (y ∷ ys) x = fold_push (put_row s y) ys x
-
 scenario_push : (m : Manuscript) (x : ScriptRow) → scenario_of (record m { rows = m.rows ++ x ∷ [] }) ≡ put_row (scenario_of m) x
 unfolding scenario_of
-scenario_push m x = fold_push (empty_scenario m.config (unwrap_or m.limits most_bounds)) m.rows x
+scenario_push m x = fold_push put_row (empty_scenario m.config (unwrap_or m.limits most_bounds)) m.rows x
 
 records_push : (m : Manuscript) (x : ScriptRow) → script_records m ++ script_row x ∷ [] ≡ script_records (record m { rows = m.rows ++ x ∷ [] })
 unfolding script_records
 records_push m x = ap (λ (rs : List Row). script_header ∷ rs) (simp (map-append, append_assoc) refl)
-
-all_push : {X : Type 0} (P : X → Type 0) (xs : List X) (x : X) → AllByRecursion P xs → P x → AllByRecursion P (xs ++ x ∷ [])
-all_push P [] x h p = (p, tt)
-all_push P (y ∷ ys) x h p = (h.0, all_push P ys x h.1 p)
 
 -- ---- what a stage has read
 
@@ -167,11 +138,8 @@ config_row n limits t u fields rows h word e =
 
 no_events : (t : TraceStage) → is_configuring t ≡ true → (past_of t).events ≡ []
 no_events trace.Header e = absurd cc
-no_events trace.First e = refl
-no_events (trace.Adapters c) e = refl
-no_events (trace.Devices c) e = refl
-no_events (trace.Lanes c) e = refl
 no_events (trace.Events p) e = absurd cc
+no_events _ e = refl
 
 config_records : (p : Past) (rows : List Row) → header ∷ rows ≡ records_of p → p.events ≡ [] → rows ≡ map adapter_row p.config.adapters ++ (map device_row p.config.devices ++ (map lane_row p.config.lanes ++ []))
 unfolding records_of
@@ -205,13 +173,8 @@ whole_config limits t rows h some =
 
 -- ---- rows
 
-room_steps : (b : Bool) (k a : ℕ) → has_room b k a ≡ true → k ≤ 4096 → k + cond (not b) 1 0 ≤ 4096
-room_steps true k a h few = omega arith
-room_steps false k a h few = let lt = ltb-true k 4096 h in omega arith
-
-room_answers : (b : Bool) (k a : ℕ) → has_room b k a ≡ true → a ≤ 4096 → a + cond b 1 0 ≤ 4096
-room_answers true k a h few = let lt = ltb-true a 4096 h in omega arith
-room_answers false k a h few = omega arith
+room_more : (b : Bool) (k a : ℕ) → has_room b k a ≡ true → k ≤ MOST_ROWS → a ≤ MOST_ROWS → (more_steps b k ≤ MOST_ROWS) × (more_answers b a ≤ MOST_ROWS)
+room_more b k a h steps answers = (grind (arith, nat_tests), grind (arith, nat_tests))
 
 -- one row more
 push_row : (s : Scenario) (k a : ℕ) (rows : List Row) (fields : Row) (w : ScriptWord) (x : ScriptRow) (i : ScriptItem) → ReadsRows s k a rows
@@ -228,8 +191,7 @@ push_row s k a rows fields w x i h word room said is =
     ap (λ (b : Bool). more_steps b k) kind ∙ ap (λ (j : ℕ). j + cond (not (is_answer_row x)) 1 0) h.steps ∙ sym (count_by-push (λ y. not (is_answer_row y)) m.rows x) in
     let answers : more_answers (is_answer_item i) a ≡ answer_rows (m.rows ++ x ∷ []) =
     ap (λ (b : Bool). more_answers b a) kind ∙ ap (λ (j : ℕ). j + cond (is_answer_row x) 1 0) h.answers ∙ sym (count_by-push is_answer_row m.rows x) in
-    let few_steps = room_steps (is_answer_row x) k a free (subst (λ (j : ℕ). j ≤ 4096) (sym h.steps) h.kept.steps) in
-    let few_answers = room_answers (is_answer_row x) k a free (subst (λ (j : ℕ). j ≤ 4096) (sym h.answers) h.kept.answers) in
+    let few = rw (← kind) at (room_more (is_answer_row x) k a free (rw (← h.steps) at h.kept.steps) (rw (← h.answers) at h.kept.answers)) in
     record {
       made = record m { rows = m.rows ++ x ∷ [] };
       kept = record {
@@ -238,8 +200,8 @@ push_row s k a rows fields w x i h word room said is =
         targets = h.kept.targets;
         fits = all_push FitsRow m.rows x h.kept.fits t.1;
         ruled = all_push (λ y. is_ok (item_of m.config y) ≡ true) m.rows x h.kept.ruled fine;
-        steps = subst (λ (j : ℕ). j ≤ 4096) (ap (λ (b : Bool). more_steps b k) (sym kind) ∙ steps) few_steps;
-        answers = subst (λ (j : ℕ). j ≤ 4096) (ap (λ (b : Bool). more_answers b a) (sym kind) ∙ answers) few_answers;
+        steps = rw steps at few.0;
+        answers = rw answers at few.1;
       };
       spelled = ap (λ (l : List Row). l ++ fields ∷ []) h.spelled ∙ ap (λ (f : Row). script_records m ++ f ∷ []) t.0 ∙ records_push m x;
       value = ap (put_item s) (sym is) ∙ ap (λ (y : Scenario). put_row y x) h.value ∙ sym (scenario_push m x);
@@ -250,14 +212,10 @@ push_row s k a rows fields w x i h word room said is =
 -- ---- a record
 
 roomy : (o : Option ScriptWord) (k a : ℕ) (w : ScriptWord) → option_and_then (λ v. cond (has_room (is_answer_word v) k a) (Some v) None) o ≡ Some w → (o ≡ Some w) × (has_room (is_answer_word w) k a ≡ true)
-roomy None k a w e = absurd cc
-roomy (Some v) k a w e = by (has_room (is_answer_word v) k a) refl e
-  where
-    by : (b : Bool) → has_room (is_answer_word v) k a ≡ b → cond (has_room (is_answer_word v) k a) (Some v) None ≡ Some w → (◌≡◌ {A = Option ScriptWord} (Some v) (Some w)) × (has_room (is_answer_word w) k a ≡ true)
-    by true t h =
-        let same : v ≡ w = (let l = rw t at h in cc) in
-        (ap (λ (y : ScriptWord). Some y) same, ap (λ (y : ScriptWord). has_room (is_answer_word y) k a) (sym same) ∙ t)
-    by false t h = absurd (let wrong = rw t at h in cc)
+roomy o k a w e =
+    on_some o _ w e (λ v ev r.
+    let m = cond_some (has_room (is_answer_word v) k a) v w r in
+    (ev ∙ ap (λ (y : ScriptWord). Some y) m.1, ap (λ (y : ScriptWord). has_room (is_answer_word y) k a) (sym m.1) ∙ m.0))
 
 rows_read : (n : ℕ) (s : Scenario) (k a : ℕ) (t : ScriptStage) (fields : Row) (rows : List Row) → ReadsRows s k a rows → rows_step n s k a fields ≡ Ok t → ReadsScript t (rows ++ fields ∷ [])
 unfolding rows_step roomy_word
@@ -295,16 +253,12 @@ config_read n limits t u fields rows h e = by (is_config_word (field_of fields 0
         subst (λ (y : ScriptStage). ReadsScript y (rows ++ fields ∷ [])) (ok_is _ u s) (config_row n limits t v fields rows h word ev))
     by false word k = first_read n limits t u fields rows h k
 
-header_ok : (b : Bool) (t : ScriptStage) → cond b (Ok stage.First) (Err BadHeader) ≡ Ok t → (b ≡ true) × (stage.First ≡ t)
-header_ok true t e = (refl, ok_is _ t e)
-header_ok false t e = absurd cc
-
 -- a stage that took a record has read it
 step_reads : (n : ℕ) (s t : ScriptStage) (fields : Row) (rows : List Row) → ReadsScript s rows → script_step n s fields ≡ Ok t → ReadsScript t (rows ++ fields ∷ [])
 unfolding script_step script_header limits_step
 step_reads n stage.Header t fields rows h e =
-    let k = header_ok (is_header (codes "camscript1") fields) t e in
-    subst (λ (y : ScriptStage). ReadsScript y (rows ++ fields ∷ [])) k.1 (rw (h, named_header (codes "camscript1") fields k.0) refl)
+    let k = if_ok (is_header (codes "camscript1") fields) _ t BadHeader e in
+    subst (λ (y : ScriptStage). ReadsScript y (rows ++ fields ∷ [])) (ok_is _ t k.1) (rw (h, named_header (codes "camscript1") fields k.0) refl)
 step_reads n stage.First t fields rows h e = by (is_limits fields) refl e
   where
     by : (b : Bool) → is_limits fields ≡ b → cond b (limits_step n fields) (config_step n most_bounds trace.First fields) ≡ Ok t → ReadsScript t (rows ++ fields ∷ [])
@@ -315,12 +269,6 @@ step_reads n stage.First t fields rows h e = by (is_limits fields) refl e
     by false is k = config_read n most_bounds trace.First t fields rows (reads_given None rows tt h) k
 step_reads n (stage.Config limits t') t fields rows h e = config_read n limits t' t fields rows h e
 step_reads n (stage.Rows s k a) t fields rows h e = rows_read n s k a t fields rows h e
-
-taken_reads : (n : ℕ) (s t : ScriptStage) (rows more : List Row) → ReadsScript s rows → taken script_step n s more ≡ Ok t → ReadsScript t (rows ++ more)
-taken_reads n s t rows [] h e = subst (λ (x : ScriptStage). ReadsScript x (rows ++ [])) (ok_is s t e) (subst (λ (l : List Row). ReadsScript s l) (sym (append-nil rows)) h)
-taken_reads n s t rows (fields ∷ more) h e =
-    on_ok (script_step n s fields) (λ u. taken script_step (n + 1) u more) t e (λ u eu r.
-    subst (λ (l : List Row). ReadsScript t l) (append_assoc rows (fields ∷ []) more) (taken_reads (n + 1) u t (rows ++ fields ∷ []) more (step_reads n s u fields rows h eu) r))
 
 -- ---- the end
 
@@ -348,5 +296,5 @@ pub was_script : (before after : Option (List ℕ)) (text : List ℕ) → IsWhol
 unfolding script_reading
 was_script before after text whole s e =
     on_ok (taken script_step 1 stage.Header (records_in text)) script_ended s e (λ t et r.
-    let k = ended_reads t s (records_in text) (taken_reads 1 stage.Header t [] (records_in text) refl et) r in
+    let k = ended_reads t s (records_in text) (taken_keeps script_step ReadsScript step_reads 1 stage.Header t [] (records_in text) refl et) r in
     record { text = text; whole = whole; manuscript = k.made; script = record { bounded = whole.bounded; spelled = k.spelled }; kept = k.kept; value = k.value })

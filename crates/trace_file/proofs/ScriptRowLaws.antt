@@ -1,6 +1,6 @@
 -- A record of a script that is read is spelled so, and what is spelled so is read.
-use Rattle.std.proofs.Common.{◌≡◌, ◌≤◌, ◌+◌, ℕ, subst, List, [], ◌∷◌, length, drop, Bool, true, false, cond, refl, sym, ap, ◌∙◌, arith}
-use Rattle.std.specs.Prelude.{Option, Some, None, Result, Ok, Err, decimal, bytes_eq, nat_le, ◌==◌}
+use Rattle.std.proofs.Common.{◌≡◌, ◌≤◌, ◌+◌, ℕ, subst, List, [], ◌∷◌, length, drop, true, false, cond, refl, sym, ap, ◌∙◌, arith, ◌<◌}
+use Rattle.std.specs.Prelude.{Some, Result, Ok, Err, decimal, bytes_eq, nat_le, ◌==◌, ⊤}
 use Rattle.std.proofs.lemmas.Bool.{and_from, and_parts, eqb-true, le-leb, leb-true}
 use Rattle.csv.specs.Records.{field_at}
 use Rattle.cam_types.specs.Bounds.{Bounds, are_within, is_limit}
@@ -8,6 +8,7 @@ use Rattle.cam_path.specs.Paths.{Fits}
 use Rattle.cam_path.specs.Paths as path
 use Rattle.cam_path.specs.declared.path.CamPath.{CamPath}
 use Rattle.cam_path.proofs.PathLaws.{reading_again, reading_fits, reading_takes}
+use Rattle.cam_types.proofs.LeastLemmas.{find_passes}
 use Rattle.trace_file.specs.declared.script_row.ScriptRow.{ScriptRow}
 use Rattle.trace_file.specs.declared.script_row.ScriptRow.TheVariants as row
 use Rattle.trace_file.specs.declared.script_word.ScriptWord.{ScriptWord}
@@ -20,9 +21,9 @@ use Rattle.trace_file.specs.Script.{FitsRow}
 use Rattle.trace_file.specs.ScriptReading.{is_config_word, is_limits, item_word}
 use Rattle.trace_file.specs.ScriptRows.{adapter_freeze_at, all_words, by_number_at, by_path_at, driver_at, formed_path, limit_at, limits_at, limits_row, path_at, script_row, script_row_at, script_word_of, spelled, submission_at}
 use Rattle.trace_file.specs.Steps.{◌>>=◌}
-use Rattle.trace_file.proofs.FieldLaws.{flags_again, flags_takes, found_passes, number_again, number_takes, same_bytes}
-use Rattle.trace_file.proofs.HexLaws.{byte_at_again, sense_at_again}
-use Rattle.trace_file.proofs.RowLaws.{ok_is, on_ok, outcome_takes, peel, unused_rest}
+use Rattle.trace_file.proofs.FieldLaws.{flags_again, flags_takes, number_again, number_takes, same_bytes}
+use Rattle.trace_file.proofs.HexLaws.{byte_at_again, sense_at_again, guard_some}
+use Rattle.trace_file.proofs.RowLaws.{ok_is, on_ok, outcome_takes, peel, if_ok, next_field, next_number, no_more}
 
 -- ---- fields
 
@@ -56,17 +57,10 @@ ByPath fields r = (drop 1 fields ≡ decimal r.0 ∷ path.spelled r.1 ∷ decima
 by_path_takes : (fields : Row) (x : ℕ × CamPath × ℕ) → length fields ≡ 8 → by_path_at fields ≡ Ok x → ByPath fields x
 unfolding by_path_at
 by_path_takes fields x eight e =
-    on_ok (driver_at fields) _ x e (λ driver e1 r1.
-    on_ok (path_at fields 2) _ x r1 (λ at e2 r2.
-    on_ok (number_at fields 3 most_number) _ x r2 (λ n e3 r3.
-    on_ok (unused_from fields 4) _ x r3 (λ u eu s.
-    let a = driver_takes fields driver e1 in
-    let b = path_takes fields 2 at e2 in
-    let c = number_takes fields 3 most_number n (omega arith) e3 in
-    let t3 = peel fields 3 (decimal n) _ eight (omega arith) c.0 (unused_rest fields 4 4 u eight refl eu) in
-    let t2 = peel fields 2 (path.spelled at) _ eight (omega arith) b.0 t3 in
-    let t1 = peel fields 1 (decimal driver) _ eight (omega arith) a.0 t2 in
-    subst (ByPath fields) (ok_is (driver, at, n) x s) (t1, a.1, b.1, c.1)))))
+    next_field fields 1 (driver_at fields) _ x decimal (λ n. n ≤ 7) eight (omega arith) (driver_takes fields) e (λ driver a t1 r1.
+    next_field fields 2 (path_at fields 2) _ x path.spelled Fits eight (omega arith) (path_takes fields 2) r1 (λ at b t2 r2.
+    next_number fields 3 most_number _ x eight (omega arith) (omega arith) r2 (λ n c t3 r3.
+    no_more fields 4 4 (driver, at, n) x (ByPath fields) eight refl r3 (λ rest. (t1 _ (t2 _ (t3 _ rest)), a, b, c)))))
 
 abbrev ByNumber : Row → ℕ × ℕ → Type 0
 ByNumber fields r = (drop 1 fields ≡ decimal r.0 ∷ decimal r.1 ∷ [] ∷ [] ∷ [] ∷ [] ∷ [] ∷ []) × (r.0 ≤ 7) × (r.1 ≤ most_number)
@@ -74,14 +68,9 @@ ByNumber fields r = (drop 1 fields ≡ decimal r.0 ∷ decimal r.1 ∷ [] ∷ []
 by_number_takes : (fields : Row) (x : ℕ × ℕ) → length fields ≡ 8 → by_number_at fields ≡ Ok x → ByNumber fields x
 unfolding by_number_at
 by_number_takes fields x eight e =
-    on_ok (driver_at fields) _ x e (λ driver e1 r1.
-    on_ok (number_at fields 2 most_number) _ x r1 (λ n e2 r2.
-    on_ok (unused_from fields 3) _ x r2 (λ u eu s.
-    let a = driver_takes fields driver e1 in
-    let b = number_takes fields 2 most_number n (omega arith) e2 in
-    let t2 = peel fields 2 (decimal n) _ eight (omega arith) b.0 (unused_rest fields 3 5 u eight refl eu) in
-    let t1 = peel fields 1 (decimal driver) _ eight (omega arith) a.0 t2 in
-    subst (ByNumber fields) (ok_is (driver, n) x s) (t1, a.1, b.1))))
+    next_field fields 1 (driver_at fields) _ x decimal (λ n. n ≤ 7) eight (omega arith) (driver_takes fields) e (λ driver a t1 r1.
+    next_number fields 2 most_number _ x eight (omega arith) (omega arith) r1 (λ n b t2 r2.
+    no_more fields 3 5 (driver, n) x (ByNumber fields) eight refl r2 (λ rest. (t1 _ (t2 _ rest), a, b))))
 
 -- the record behind its word spells the row
 abbrev Tells : Row → ScriptWord → ScriptRow → Type 0
@@ -90,39 +79,21 @@ Tells fields w x = (spelled w ∷ drop 1 fields ≡ script_row x) × FitsRow x �
 submission_takes : (fields : Row) (x : ScriptRow) → length fields ≡ 8 → submission_at fields ≡ Ok x → Tells fields word.Submit x
 unfolding submission_at
 submission_takes fields x eight e =
-    on_ok (driver_at fields) _ x e (λ driver e1 r1.
-    on_ok (path_at fields 2) _ x r1 (λ at e2 r2.
-    on_ok (number_at fields 3 most_number) _ x r2 (λ priority e3 r3.
-    on_ok (number_at fields 4 most_number) _ x r3 (λ retries e4 r4.
-    on_ok (flags_at fields 5) _ x r4 (λ flags e5 r5.
-    on_ok (unused_from fields 6) _ x r5 (λ u eu s.
-    let a = driver_takes fields driver e1 in
-    let b = path_takes fields 2 at e2 in
-    let c = number_takes fields 3 most_number priority (omega arith) e3 in
-    let d = number_takes fields 4 most_number retries (omega arith) e4 in
-    let t5 = peel fields 5 (flags_text flags) _ eight (omega arith) (flags_takes fields 5 flags e5) (unused_rest fields 6 2 u eight refl eu) in
-    let t4 = peel fields 4 (decimal retries) _ eight (omega arith) d.0 t5 in
-    let t3 = peel fields 3 (decimal priority) _ eight (omega arith) c.0 t4 in
-    let t2 = peel fields 2 (path.spelled at) _ eight (omega arith) b.0 t3 in
-    let t1 = peel fields 1 (decimal driver) _ eight (omega arith) a.0 t2 in
-    let made : Tells fields word.Submit (row.Submit driver at priority retries flags) = (ap (λ (l : Row). spelled word.Submit ∷ l) t1, (a.1, b.1, c.1, d.1), refl) in
-    subst (Tells fields word.Submit) (ok_is _ x s) made))))))
+    next_field fields 1 (driver_at fields) _ x decimal (λ n. n ≤ 7) eight (omega arith) (driver_takes fields) e (λ driver a t1 r1.
+    next_field fields 2 (path_at fields 2) _ x path.spelled Fits eight (omega arith) (path_takes fields 2) r1 (λ at b t2 r2.
+    next_number fields 3 most_number _ x eight (omega arith) (omega arith) r2 (λ priority c t3 r3.
+    next_number fields 4 most_number _ x eight (omega arith) (omega arith) r3 (λ retries d t4 r4.
+    next_field fields 5 (flags_at fields 5) _ x flags_text (λ f. ⊤) eight (omega arith) (λ f ef. (flags_takes fields 5 f ef, tt)) r4 (λ flags k t5 r5.
+    no_more fields 6 2 _ x (Tells fields word.Submit) eight refl r5 (λ rest.
+    (ap (λ (l : Row). spelled word.Submit ∷ l) (t1 _ (t2 _ (t3 _ (t4 _ (t5 _ rest))))), (a, b, c, d), refl)))))))
 
 adapter_freeze_takes : (fields : Row) (x : ScriptRow) → length fields ≡ 8 → adapter_freeze_at fields ≡ Ok x → Tells fields word.FreezeSim x
 unfolding adapter_freeze_at
 adapter_freeze_takes fields x eight e =
-    on_ok (driver_at fields) _ x e (λ driver e1 r1.
-    on_ok (number_at fields 2 most_number) _ x r1 (λ sim e2 r2.
-    on_ok (number_at fields 3 most_number) _ x r2 (λ count e3 r3.
-    on_ok (unused_from fields 4) _ x r3 (λ u eu s.
-    let a = driver_takes fields driver e1 in
-    let b = number_takes fields 2 most_number sim (omega arith) e2 in
-    let c = number_takes fields 3 most_number count (omega arith) e3 in
-    let t3 = peel fields 3 (decimal count) _ eight (omega arith) c.0 (unused_rest fields 4 4 u eight refl eu) in
-    let t2 = peel fields 2 (decimal sim) _ eight (omega arith) b.0 t3 in
-    let t1 = peel fields 1 (decimal driver) _ eight (omega arith) a.0 t2 in
-    let made : Tells fields word.FreezeSim (row.FreezeSim driver sim count) = (ap (λ (l : Row). spelled word.FreezeSim ∷ l) t1, (a.1, b.1, c.1), refl) in
-    subst (Tells fields word.FreezeSim) (ok_is _ x s) made))))
+    next_field fields 1 (driver_at fields) _ x decimal (λ n. n ≤ 7) eight (omega arith) (driver_takes fields) e (λ driver a t1 r1.
+    next_number fields 2 most_number _ x eight (omega arith) (omega arith) r1 (λ sim b t2 r2.
+    next_number fields 3 most_number _ x eight (omega arith) (omega arith) r2 (λ count c t3 r3.
+    no_more fields 4 4 _ x (Tells fields word.FreezeSim) eight refl r3 (λ rest. (ap (λ (l : Row). spelled word.FreezeSim ∷ l) (t1 _ (t2 _ (t3 _ rest))), (a, b, c), refl)))))
 
 tell_path : (fields : Row) (w : ScriptWord) (f : ℕ → CamPath → ℕ → ScriptRow) (x : ScriptRow) → length fields ≡ 8
     → ((driver : ℕ) (at : CamPath) (n : ℕ) → (script_row (f driver at n) ≡ spelled w ∷ decimal driver ∷ path.spelled at ∷ decimal n ∷ [] ∷ [] ∷ [] ∷ [] ∷ []) × (is_answer_row (f driver at n) ≡ is_answer_word w))
@@ -161,15 +132,11 @@ row_tells fields word.Answer x eight e =
     let made : Tells fields word.Answer (row.Answer r.0 r.1) = (ap (λ (l : Row). spelled word.Answer ∷ l) t.0, t.1, refl) in
     subst (Tells fields word.Answer) (ok_is _ x s) made)
 
-word_some : (o : Option ScriptWord) (w : ScriptWord) (b : Bool) → cond b o None ≡ Some w → (b ≡ true) × (o ≡ Some w)
-word_some o w true e = (refl, e)
-word_some o w false e = absurd cc
-
 word_takes : (fields : Row) (w : ScriptWord) → item_word fields ≡ Some w → (length fields ≡ 8) × (field_of fields 0 ≡ spelled w)
 unfolding item_word script_word_of
 word_takes fields w e =
-    let k = word_some (script_word_of (field_of fields 0)) w (length fields == 8) e in
-    (eqb-true _ _ k.0, same_bytes (field_of fields 0) (spelled w) (found_passes (λ v. bytes_eq (field_of fields 0) (spelled v)) all_words w k.1))
+    let k = guard_some (length fields == 8) (script_word_of (field_of fields 0)) w e in
+    (eqb-true _ _ k.0, same_bytes (field_of fields 0) (spelled w) (find_passes (λ v. bytes_eq (field_of fields 0) (spelled v)) all_words w k.1))
 
 -- a row that is read is spelled so
 pub row_takes : (fields : Row) (w : ScriptWord) (x : ScriptRow) → item_word fields ≡ Some w → script_row_at w fields ≡ Ok x
@@ -181,41 +148,31 @@ row_takes fields w x is e =
 
 -- ---- limits
 
-limit_ok : (b : Bool) (n at m : ℕ) → cond b (Ok n) (Err (at + 1)) ≡ Ok m → (b ≡ true) × (n ≡ m)
-limit_ok true n at m e = (refl, cc)
-limit_ok false n at m e = absurd cc
-
 limit_takes : (fields : Row) (at most n : ℕ) → most ≤ most_number → limit_at fields at most ≡ Ok n → (field_of fields at ≡ decimal n) × (is_limit n most ≡ true)
 unfolding limit_at
 limit_takes fields at most n fits e =
     on_ok (number_at fields at most) (λ m. cond (nat_le 1 m) (Ok m) (Err (at + 1))) n e (λ m em r.
-    let k = limit_ok (nat_le 1 m) m at n r in
+    let k = if_ok (nat_le 1 m) (Ok m) n (at + 1) r in
     let t = number_takes fields at most m fits em in
     let made : (field_of fields at ≡ decimal m) × (is_limit m most ≡ true) = (t.0, and_from _ _ k.0 (le-leb m most t.1)) in
-    subst (λ (i : ℕ). (field_of fields at ≡ decimal i) × (is_limit i most ≡ true)) k.1 made)
+    subst (λ (i : ℕ). (field_of fields at ≡ decimal i) × (is_limit i most ≡ true)) (ok_is m n k.1) made)
+
+next_limit : {B Q : Type 0} (fields : Row) (at most : ℕ) (f : ℕ → Result B ℕ) (y : B) → length fields ≡ 8 → at < 8 → most ≤ most_number → (limit_at fields at most >>= f) ≡ Ok y
+    → ((n : ℕ) → is_limit n most ≡ true → ((rest : Row) → drop (at + 1) fields ≡ rest → drop at fields ≡ decimal n ∷ rest) → f n ≡ Ok y → Q) → Q
+next_limit fields at most f y eight h le e k =
+    next_field fields at (limit_at fields at most) f y decimal (λ n. is_limit n most ≡ true) eight h (λ n. limit_takes fields at most n le) e k
 
 pub limits_take : (fields : Row) (b : Bounds) → is_limits fields ≡ true → limits_at fields ≡ Ok b → (fields ≡ limits_row b) × (are_within b ≡ true)
 unfolding limits_at is_limits
 limits_take fields b is e =
     let whole = and_parts _ _ is in
     let eight = eqb-true _ _ whole.0 in
-    on_ok (limit_at fields 1 1024) _ b e (λ ccbs e1 r1.
-    on_ok (limit_at fields 2 128) _ b r1 (λ rounds e2 r2.
-    on_ok (limit_at fields 3 1024) _ b r2 (λ stays e3 r3.
-    on_ok (limit_at fields 4 65535) _ b r3 (λ events e4 r4.
-    on_ok (unused_from fields 5) _ b r4 (λ u eu s.
-    let p = limit_takes fields 1 1024 ccbs (omega arith) e1 in
-    let q = limit_takes fields 2 128 rounds (omega arith) e2 in
-    let r = limit_takes fields 3 1024 stays (omega arith) e3 in
-    let t = limit_takes fields 4 65535 events (omega arith) e4 in
-    let t4 = peel fields 4 (decimal events) _ eight (omega arith) t.0 (unused_rest fields 5 3 u eight refl eu) in
-    let t3 = peel fields 3 (decimal stays) _ eight (omega arith) r.0 t4 in
-    let t2 = peel fields 2 (decimal rounds) _ eight (omega arith) q.0 t3 in
-    let t1 = peel fields 1 (decimal ccbs) _ eight (omega arith) p.0 t2 in
-    let t0 = peel fields 0 _ _ eight (omega arith) (same_bytes _ _ whole.1) t1 in
-    let made : Bounds = record { ccbs = ccbs; rounds = rounds; stays = stays; events = events } in
-    subst (λ (x : Bounds). (fields ≡ limits_row x) × (are_within x ≡ true)) (ok_is made b s)
-    (t0, and_from _ _ (and_from _ _ (and_from _ _ p.1 q.1) r.1) t.1))))))
+    next_limit fields 1 1024 _ b eight (omega arith) (omega arith) e (λ ccbs p t1 r1.
+    next_limit fields 2 128 _ b eight (omega arith) (omega arith) r1 (λ rounds q t2 r2.
+    next_limit fields 3 1024 _ b eight (omega arith) (omega arith) r2 (λ stays r t3 r3.
+    next_limit fields 4 65535 _ b eight (omega arith) (omega arith) r3 (λ events t t4 r4.
+    no_more fields 5 3 _ b (λ x. (fields ≡ limits_row x) × (are_within x ≡ true)) eight refl r4 (λ rest.
+    (peel fields 0 _ _ eight (omega arith) (same_bytes _ _ whole.1) (t1 _ (t2 _ (t3 _ (t4 _ rest)))), and_from _ _ (and_from _ _ (and_from _ _ p q) r) t))))))
 
 limit_again : (fields : Row) (at most n : ℕ) → most ≤ most_number → is_limit n most ≡ true → field_of fields at ≡ decimal n → limit_at fields at most ≡ Ok n
 unfolding limit_at
@@ -284,10 +241,4 @@ pub record IsRowOf (x : ScriptRow) : Type 0 where
 pub row_of : (x : ScriptRow) → IsRowOf x
 unfolding item_word script_word_of is_config_word is_limits field_at
 row_of (row.Submit driver at priority retries flags) = record { word = refl; config = refl; limits = refl; kind = refl }
-row_of (row.Freeze driver at count) = record { word = refl; config = refl; limits = refl; kind = refl }
-row_of (row.Release driver at count) = record { word = refl; config = refl; limits = refl; kind = refl }
-row_of (row.FreezeSim driver sim count) = record { word = refl; config = refl; limits = refl; kind = refl }
-row_of (row.ReleaseSim driver sim) = record { word = refl; config = refl; limits = refl; kind = refl }
-row_of (row.Adjust driver at openings) = record { word = refl; config = refl; limits = refl; kind = refl }
-row_of (row.Pause driver round) = record { word = refl; config = refl; limits = refl; kind = refl }
-row_of (row.Answer lane outcome) = record { word = refl; config = refl; limits = refl; kind = refl }
+row_of _ = record { word = refl; config = refl; limits = refl; kind = refl }

@@ -1,14 +1,16 @@
 -- What a record does to the configuration in the making, and to the history.
-use Rattle.std.proofs.Common.{◌≡◌, ◌≢◌, ◌<◌, ◌≤◌, ℕ, List, [], ◌∷◌, ◌++◌, length, Bool, true, false, cond, min, refl, sym, ap, ◌∙◌, arith, length-append, inl, inr}
-use Rattle.std.specs.Prelude.{Option, Some, None, Result, Ok, Err, MatchOption, IsOkUnless, nat_le, not}
-use Rattle.std.proofs.lemmas.Bool.{cases_lt, leb-false, le-leb, ne_eqb, and_from, false_from_ne_true}
-use Rattle.cam_types.specs.Topology.{IsDraft, address_fault, are_openings}
-use Rattle.cam_types.specs.declared.config_fault.ConfigFault.TheVariants.{TooMany, BadOpenings, NoAdapter}
+use Rattle.std.proofs.Common.{◌≡◌, ◌≢◌, ◌<◌, ◌≤◌, ℕ, List, [], ◌∷◌, ◌++◌, length, Bool, true, false, cond, min, refl, sym, ap, ◌∙◌, arith, length-append}
+use Rattle.std.specs.Prelude.{Option, Some, None, Result, Ok, Err, MatchOption, IsOkUnless}
+use Rattle.std.proofs.lemmas.Bool.{leb-false, ne_eqb, and_parts, leb-true, ltb-false, not-false}
+use Rattle.std.proofs.lemmas.Bool.Decides.{nat_tests}
+use Rattle.cam_types.specs.Topology.{IsDraft, address_fault}
 use Rattle.cam_types.specs.declared.config.ConfigError.{ConfigError}
 use Rattle.cam_types.specs.declared.config.ConfigError.TheVariants as error
 use Rattle.cam_types.proofs.ListLemmas.{first_answer-push}
 use Rattle.cam_types.proofs.TopologyLemmas.{config_fault-draft}
-use Rattle.trace_file.specs.Histories.{Topology, Device, Event, Past, ConfigFault, adapter_fault, device_fault, lane_fault, config_fault, is_legal_event}
+use Rattle.cam_event.specs.Legal.{history_rules, is_legal as legal_by}
+use Rattle.cam_event.proofs.LawLemmas.{legal-push}
+use Rattle.trace_file.specs.Histories.{Topology, Device, Event, Past, ConfigFault, adapter_fault, device_fault, lane_fault, config_fault, is_legal_event, is_legal}
 use Rattle.trace_file.specs.declared.device_row.DeviceRow.{DeviceRow}
 use Rattle.trace_file.specs.declared.trace_fault.TraceFault.TheVariants.{BadConfig}
 use Rattle.trace_file.specs.declared.trace_stage.TraceStage.{TraceStage}
@@ -20,7 +22,6 @@ use Rattle.trace_file.specs.Steps.{◌>>=◌}
 use Rattle.trace_file.specs.Reading.{unless_fault, in_record, add_event, add_row, row_step, step}
 use Rattle.trace_file.specs.Rows.{device_of, clamped, event_at}
 use Rattle.trace_file.specs.Sound.{IsBegun, IsKept, IsSound}
-use Rattle.trace_file.proofs.HistoryLemmas.{is_legal-nil, is_legal-push}
 
 -- an item that was added breaks no rule
 pub none_where_ok : {U : Type 0} (o : Option ConfigFault) (r : Result U ConfigError) (u : U) → MatchOption o (IsOkUnless r error.OutOfMemory) (λ f. r ≡ Err (error.Fault f)) → r ≡ Ok u → o ≡ None
@@ -68,27 +69,22 @@ clamped_small d h =
 -- a bus above 255 names no adapter, whichever it is
 pub clamped_fault : (n : ℕ) (before : List Device) (d : DeviceRow) → n ≤ 4 → device_fault n (before, clamped d) ≡ device_fault n (before, device_of d)
 unfolding device_fault address_fault
-clamped_fault n before d few =
-    elim (cases_lt 255 d.bus) [
-      | inl large ↦ rw (le-leb n (min d.bus 255) (omega arith), le-leb n d.bus (omega arith)) refl
-      | inr small ↦ ap (λ (x : Device). device_fault n (before, x)) (clamped_small d small)
-    ]
+clamped_fault n before d few = grind (arith, nat_tests)
 
-named : (a b : Bool) (x y z : ConfigFault) → cond a (Some x) (cond b (Some y) (Some z)) ≡ None → ⊥
-named true b x y z e = cc
-named false true x y z e = cc
-named false false x y z e = cc
-
-pub bus_below : (n : ℕ) (before : List Device) (d : Device) → device_fault n (before, d) ≡ None → d.bus < n
+-- what the rules of the configuration say of a device's numbers
+pub device_small : (n : ℕ) (before : List Device) (d : Device) → device_fault n (before, d) ≡ None → (d.bus < n) × (d.lun ≤ 16383) × (d.openings ≤ 255)
 unfolding device_fault address_fault
-bus_below n before d none =
-    leb-false n d.bus (false_from_ne_true (nat_le n d.bus)
-    (λ t. named (nat_le 16 (length before)) (not (are_openings d.openings)) TooMany BadOpenings NoAdapter (rw t at none)))
+device_small n before d e =
+    let a = cond_none _ _ _ e in
+    let b = cond_none _ _ _ a.1 in
+    let c = cond_none _ _ _ b.1 in
+    let l = cond_none _ _ _ c.1 in
+    (leb-false _ _ c.0, ltb-false _ _ l.0, leb-true _ _ (and_parts _ _ (not-false _ b.0)).1)
 
 -- a device that breaks no rule is the one that the record spells
 pub clamped_same : (n : ℕ) (before : List Device) (d : DeviceRow) → n ≤ 4 → device_fault n (before, clamped d) ≡ None → clamped d ≡ device_of d
 clamped_same n before d few none =
-    let below = bus_below n before (clamped d) none in
+    let small = device_small n before (clamped d) none in
     clamped_small d (omega arith)
 
 pub sound_device : (t t' : Topology) (d : Device) → IsBegun t → t.lanes ≡ [] → device_fault (length t.adapters) (t.devices, d) ≡ None
@@ -146,13 +142,17 @@ sound_lane t t' adapter begun none e =
 pub config_whole : (t : Topology) → IsBegun t → config_fault t ≡ None
 config_whole t begun = config_fault-draft t begun.draft (ne_eqb _ _ (λ e. omega arith))
 
+pub is_legal-nil : (c : Topology) → is_legal c [] ≡ true
+unfolding legal_by
+is_legal-nil c = refl
+
 pub kept_empty : (t : Topology) → IsBegun t → IsKept (record { config = t; events = [] })
 kept_empty t begun = record { config = config_whole t begun; legal = is_legal-nil t }
 
 pub sound_event : (p p' : Past) (e : Event) → IsKept p → is_legal_event p.config (p.events, e) ≡ true → p' ≡ record p { events = p.events ++ e ∷ [] } → IsSound (stage.Events p')
 unfolding IsSound
 sound_event p p' e kept legal is =
-    rw is record { config = kept.config; legal = is_legal-push p.config p.events e ∙ and_from _ _ kept.legal legal }
+    rw is record { config = kept.config; legal = legal-push history_rules p.config p.events e kept.legal legal }
 
 -- ---- a record
 
@@ -166,8 +166,4 @@ add_row_event n s _ row a b c = refl
 pub step_behind : (n : ℕ) (s : TraceStage) (row : Row) → s ≢ stage.Header → step n s row ≡ row_step n s row
 unfolding step
 step_behind n stage.Header row h = absurd (h refl)
-step_behind n stage.First row h = refl
-step_behind n (stage.Adapters t) row h = refl
-step_behind n (stage.Devices t) row h = refl
-step_behind n (stage.Lanes t) row h = refl
-step_behind n (stage.Events p) row h = refl
+step_behind n _ row h = refl

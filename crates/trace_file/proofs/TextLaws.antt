@@ -1,15 +1,16 @@
 -- The text of a history's records is a trace of the history.
-use Rattle.std.proofs.Common.{◌≡◌, ◌<◌, ◌≤◌, ◌+◌, ◌*◌, ℕ, List, [], ◌∷◌, ◌++◌, length, map, Bool, true, false, cond, refl, sym, ap, ◌∙◌, subst, arith, append-nil, append_assoc, length-append, suc}
+use Rattle.std.proofs.Common.{◌≡◌, ◌<◌, ◌≤◌, ◌+◌, ◌*◌, ℕ, List, [], ◌∷◌, ◌++◌, length, map, Bool, cond, refl, sym, ap, ◌∙◌, subst, arith, append-nil, append_assoc, length-append, suc}
 use Rattle.std.specs.Prelude.{None, Some, decimal, count_by, nat_le, ◌==◌, codes, if◌then◌else◌}
-use Rattle.std.specs.List.{AllByRecursion, flat_map}
-use Rattle.std.proofs.lemmas.Bool.{leb-false, eqb-true}
+use Rattle.std.specs.List.{AllByRecursion, flat_map, All}
+use Rattle.std.proofs.lemmas.Bool.{leb-false}
 use Rattle.std.proofs.lemmas.Bool.Decides.{nat_tests}
 use Rattle.std.proofs.lemmas.Fmt.{length-decimal-le}
 use Rattle.std.proofs.lemmas.List.{length-map}
-use Rattle.std.proofs.lemmas.List.Sums.{sum_by-append}
+use Rattle.std.proofs.lemmas.List.Sums.{sum_by-cons}
+use Rattle.std.proofs.lemmas.List.Elements.{All-append, All-cons, All-from_recursion, All-map, All-nil, All-weaker, recursion_from_All}
 use Rattle.csv.specs.Machine.{next_record}
 use Rattle.csv.specs.Reading.{default_config, records, strip_bom}
-use Rattle.csv.specs.Writing.{default_writer, escaped, field_text, fields_text, is_blank, needs_quotes, quoted, read_back, row_text}
+use Rattle.csv.specs.Writing.{default_writer, escaped, field_text, fields_text, is_blank, read_back, row_text}
 use Rattle.csv.specs.declared.parser.State.TheVariants as st
 use Rattle.csv.proofs.RoundTrip.{read-write}
 use Rattle.event_log.specs.declared.event.Event.TheVariants as event
@@ -22,32 +23,20 @@ use Rattle.trace_file.specs.Trace.{FitsEvent, IsHistory, IsTrace}
 use Rattle.trace_file.specs.Writing.{text_of, trace_text}
 use Rattle.cam_types.proofs.TopologyLemmas.{few_devices}
 use Rattle.event_log.proofs.ListFacts.{count_by-push}
-use Rattle.trace_file.proofs.AgainLaws.{Along}
+use Rattle.trace_file.proofs.AgainLaws.{Along, along_both}
 use Rattle.trace_file.proofs.HexLaws.{length-hex}
 use Rattle.trace_file.proofs.RecordLemmas.{first_left, none_left}
-use Rattle.trace_file.proofs.StageLemmas.{cond_none}
-use Rattle.trace_file.proofs.WholeLaws.{adapter_small, device_small, few_along, kept, lane_small}
+use Rattle.trace_file.proofs.StageLemmas.{cond_none, device_small}
+use Rattle.trace_file.proofs.WholeLaws.{GoodDevice, adapter_small, kept, lane_small}
 
 -- ---- records that are written are read again
 
-text_of-more : (row : Row) (rows : List Row) → text_of (row ∷ rows) ≡ row_text default_writer row ++ text_of rows
-unfolding text_of
-text_of-more row rows = refl
-
-no_record : next_record default_config st.StartRecord [] [] [] ≡ None
-unfolding next_record
-no_record = refl
-
-no_text : text_of [] ≡ []
-unfolding text_of
-no_text = refl
-
 pub records_again : (rows : List Row) → AllByRecursion (λ (row : Row). read_back row ≡ row) rows → records default_config (text_of rows) ≡ rows
-records_again [] h = ap (records default_config) no_text ∙ none_left st.StartRecord [] no_record
+unfolding text_of next_record
+records_again [] h = none_left st.StartRecord [] refl
 records_again (row ∷ rows) h =
     let text = row_text default_writer row ++ text_of rows in
-    ap (records default_config) (text_of-more row rows)
-    ∙ first_left st.StartRecord text (read_back row, st.StartRecord, text_of rows) refl (read-write row (text_of rows))
+    first_left st.StartRecord text (read_back row, st.StartRecord, text_of rows) refl (read-write row (text_of rows))
     ∙ ap (λ (r : Row). r ∷ records default_config (text_of rows)) h.0
     ∙ ap (λ (rs : List Row). row ∷ rs) (records_again rows h.1)
 
@@ -56,21 +45,10 @@ records_again (row ∷ rows) h =
 escaped-le : (field : List ℕ) → length (escaped default_writer field) ≤ 2 * length field
 unfolding escaped
 escaped-le [] = omega arith
-escaped-le (b ∷ rest) = by (b == 34) (escaped default_writer rest) (escaped-le rest)
-  where
-    by : (t : Bool) (more : List ℕ) → length more ≤ 2 * length rest → length (cond t (34 ∷ b ∷ more) (b ∷ more)) ≤ 2 * length (b ∷ rest)
-    by true more h = omega arith
-    by false more h = omega arith
+escaped-le (b ∷ rest) = grind (arith, nat_tests, escaped-le rest)
 
 field-le : (field : List ℕ) → length (field_text default_writer field) ≤ 2 * length field + 2
-field-le field = by (needs_quotes default_writer field)
-  where
-    by : (t : Bool) → length (cond t (quoted default_writer field) field) ≤ 2 * length field + 2
-    by true =
-        let short = escaped-le field in
-        let size = length-append (escaped default_writer field) (34 ∷ []) in
-        omega arith
-    by false = omega arith
+field-le field = grind (arith, escaped-le field, length-append (escaped default_writer field) (34 ∷ []))
 
 -- the bytes of a record's fields
 abbrev size : Row → ℕ
@@ -92,8 +70,7 @@ with_end one more end n k m a b c =
     omega arith
 
 end-le : (blank : Bool) → length {A = ℕ} ((if blank then 34 ∷ 34 ∷ [] else []) ++ 10 ∷ []) ≤ 3
-end-le true = omega arith
-end-le false = omega arith
+end-le blank = grind arith
 
 row-le : (field : List ℕ) (rest : Row) → length (row_text default_writer (field ∷ rest)) ≤ 2 * size (field ∷ rest) + 3 * length (field ∷ rest) + 2
 row-le field rest =
@@ -119,10 +96,7 @@ two_numbers : (w : List ℕ) (m n : ℕ) → length w ≤ 8 → m ≤ most_numbe
 two_numbers w m n h a b = let x = ten m a in let y = ten n b in eight w (decimal m) (decimal n) [] [] [] [] [] (omega arith)
 
 short_flags : (a b : Bool) → length (flags_word a b) ≤ 7
-short_flags false false = omega arith
-short_flags true false = omega arith
-short_flags false true = omega arith
-short_flags true true = omega arith
+short_flags a b = grind arith
 
 short_event : (e : Event) → FitsEvent e → IsShort (event_row e)
 short_event (event.Submit driver device priority retries flags) h =
@@ -156,10 +130,6 @@ short_device d a b c o =
 
 -- ---- how many records a configuration has
 
-along_to : {X : Type 0} (P : List X → X → Type 0) (Q : X → Type 0) (before xs : List X) → ((b : List X) (x : X) → P b x → Q x) → Along P before xs → AllByRecursion Q xs
-along_to P Q before [] f h = tt
-along_to P Q before (x ∷ xs) f h = (f before x h.0, along_to P Q (before ++ x ∷ []) xs f h.1)
-
 -- so many lanes are on this adapter
 abbrev on : ℕ → List ℕ → ℕ
 on k lanes = count_by (λ a. a == k) lanes
@@ -168,40 +138,32 @@ lane_room : (n : ℕ) (before : List ℕ) (a : ℕ) → lane_fault n (before, a)
 unfolding lane_fault
 lane_room n before a e = leb-false _ _ (cond_none (nat_le 4 (on a before)) TooMany (cond (nat_le n a) (Some NoAdapter) None) e).0
 
+one_more : (f : ℕ → ℕ) (a k more : ℕ) → f a < 4 → f k ≤ 4 → more ≡ f k + cond (a == k) 1 0 → more ≤ 4
+one_more f a k more room few e = grind (arith, nat_tests)
+
 few_on : (n k : ℕ) (before lanes : List ℕ) → Along (λ b a. lane_fault n (b, a) ≡ None) before lanes → on k before ≤ 4 → on k (before ++ lanes) ≤ 4
 few_on n k before [] h few = subst (λ (l : List ℕ). on k l ≤ 4) (sym (append-nil before)) few
 few_on n k before (a ∷ lanes) h few =
-    let more = count_by-push (λ b. b == k) before a in
-    let one : on k (before ++ a ∷ []) ≤ 4 = by (a == k) refl more in
+    let one = one_more (λ i. on i before) a k (on k (before ++ a ∷ [])) (lane_room n before a h.0) few (count_by-push (λ b. b == k) before a) in
     subst (λ (l : List ℕ). on k l ≤ 4) (append_assoc before (a ∷ []) lanes) (few_on n k (before ++ a ∷ []) lanes h.1 one)
-  where
-    by : (t : Bool) → (a == k) ≡ t → on k (before ++ a ∷ []) ≡ on k before + cond (a == k) 1 0 → on k (before ++ a ∷ []) ≤ 4
-    by true is e =
-        let room = lane_room n before a h.0 in
-        let same : on a before ≡ on k before = ap (λ (i : ℕ). on i before) (eqb-true a k is) in
-        let count = rw is at e in
-        omega arith
-    by false is e = let count = rw is at e in omega arith
 
 more_on : (k a : ℕ) (lanes : List ℕ) → on k (a ∷ lanes) ≡ cond (a == k) 1 0 + on k lanes
-more_on k a lanes =
-    let parts : on k ((a ∷ []) ++ lanes) ≡ (0 + cond (a == k) 1 0) + on k lanes = sum_by-append (λ (b : ℕ). cond (b == k) 1 0) (a ∷ []) lanes in
-    parts ∙ (omega arith)
+more_on k a lanes = sum_by-cons (λ (b : ℕ). cond (b == k) 1 0) a lanes
 
 one_of : (a : ℕ) → a < 4 → cond (a == 0) 1 0 + (cond (a == 1) 1 0 + (cond (a == 2) 1 0 + cond (a == 3) 1 0)) ≡ 1
 one_of a h = grind (arith, nat_tests)
 
-each_counted : (lanes : List ℕ) → AllByRecursion (λ a. a < 4) lanes → length lanes ≤ on 0 lanes + (on 1 lanes + (on 2 lanes + on 3 lanes))
-each_counted [] h = omega arith
-each_counted (a ∷ lanes) h =
-    let more = each_counted lanes h.1 in
-    let one = one_of a h.0 in
+each_counted : (n : ℕ) (before lanes : List ℕ) → n ≤ 4 → Along (λ b a. lane_fault n (b, a) ≡ None) before lanes → length lanes ≤ on 0 lanes + (on 1 lanes + (on 2 lanes + on 3 lanes))
+each_counted n before [] few h = omega arith
+each_counted n before (a ∷ lanes) few h =
+    let more = each_counted n (before ++ a ∷ []) lanes few h.1 in
+    let here = lane_small n before a h.0 in
+    let one = one_of a (omega arith) in
     rw (more_on 0 a lanes, more_on 1 a lanes, more_on 2 a lanes, more_on 3 a lanes) (omega arith)
 
 few_lanes : (n : ℕ) (lanes : List ℕ) → n ≤ 4 → Along (λ b a. lane_fault n (b, a) ≡ None) [] lanes → length lanes ≤ 16
 few_lanes n lanes few h =
-    let below = along_to (λ b a. lane_fault n (b, a) ≡ None) (λ a. a < 4) [] lanes (λ b a e. let s = lane_small n b a e in omega arith) h in
-    let all = each_counted lanes below in
+    let all = each_counted n [] lanes few h in
     let a = few_on n 0 [] lanes h (omega arith) in
     let b = few_on n 1 [] lanes h (omega arith) in
     let c = few_on n 2 [] lanes h (omega arith) in
@@ -209,18 +171,6 @@ few_lanes n lanes few h =
     omega arith
 
 -- ---- a whole history
-
-all_map : {X : Type 0} (P : X → Type 0) (Q : Row → Type 0) (row : X → Row) (xs : List X) → ((x : X) → P x → Q (row x)) → AllByRecursion P xs → AllByRecursion Q (map row xs)
-all_map P Q row [] f h = tt
-all_map P Q row (x ∷ xs) f h = (f x h.0, all_map P Q row xs f h.1)
-
-all_append : (Q : Row → Type 0) (rows more : List Row) → AllByRecursion Q rows → AllByRecursion Q more → AllByRecursion Q (rows ++ more)
-all_append Q [] more h k = k
-all_append Q (row ∷ rows) more h k = (h.0, all_append Q rows more h.1 k)
-
-both_of : {X : Type 0} (P Q R : X → Type 0) (xs : List X) → ((x : X) → P x → Q x → R x) → AllByRecursion P xs → AllByRecursion Q xs → AllByRecursion R xs
-both_of P Q R [] f h k = tt
-both_of P Q R (x ∷ xs) f h k = (f x h.0 k.0, both_of P Q R xs f h.1 k.1)
 
 -- a record that is written whole, in few bytes
 abbrev IsGood : Row → Type 0
@@ -231,16 +181,11 @@ good_event e h = (whole e, short_event e h)
   where
     whole : (e : Event) → read_back (event_row e) ≡ event_row e
     whole (event.Submit driver device priority retries flags) = refl
-    whole (event.Send lane ccb) = refl
-    whole (event.Done ccb outcome) = refl
-    whole (event.Requeue ccb) = refl
-    whole (event.Finish ccb) = refl
-    whole (event.FreezeDev device count) = refl
-    whole (event.ReleaseDev device count) = refl
-    whole (event.FreezeSim sim count) = refl
-    whole (event.ReleaseSim sim) = refl
-    whole (event.Adjust device openings) = refl
-    whole event.Tick = refl
+    whole _ = refl
+
+along_good : {X : Type 0} (P : List X → X → Type 0) (row : X → Row) (before xs : List X) → ((b : List X) (x : X) → P b x → IsGood (row x)) → Along P before xs → All IsGood (map row xs)
+along_good P row before [] f h = All-nil IsGood
+along_good P row before (x ∷ xs) f h = All-cons IsGood (row x) (map row xs) (f before x h.0) (along_good P row (before ++ x ∷ []) xs f h.1)
 
 good_header : IsGood header
 unfolding header
@@ -256,44 +201,34 @@ text-le (row ∷ rows) h =
     omega arith
 
 -- a history's records: each is good, and they aren't many
-good_records : (past : Past) → IsHistory past → length past.events ≤ 65535 → AllByRecursion IsGood (records_of past) × (length (records_of past) ≤ 65572)
+good_records : (past : Past) → IsHistory past → length past.events ≤ 65535 → All IsGood (records_of past) × (length (records_of past) ≤ 65572)
 unfolding records_of
 good_records past h few =
     let t = past.config in
     let n = length t.adapters in
     let k = kept t.adapters t.devices t.lanes h.config in
-    let four : n ≤ 4 = omega (arith, few_along [] t.adapters (omega arith) k.adapters) in
-    let openings = along_to (λ b o. adapter_fault (b, o) ≡ None) (λ o. o ≤ most_number) [] t.adapters (λ b o e. let s = adapter_small b o e in omega arith) k.adapters in
-    let addresses = along_to (λ b d. device_fault n (b, d) ≡ None) (λ (d : Device). (d.bus < n) × (d.lun ≤ 16383) × (d.openings ≤ 255)) [] t.devices (λ b d e. device_small n b d e) k.devices in
-    let buses = along_to (λ b a. lane_fault n (b, a) ≡ None) (λ a. a ≤ most_number) [] t.lanes (λ b a e. let s = lane_small n b a e in omega arith) k.lanes in
-    let devices = both_of (λ (d : Device). (d.bus < n) × (d.lun ≤ 16383) × (d.openings ≤ 255)) (λ (d : Device). d.target ≤ 65535) (λ (d : Device). IsGood (device_row d)) t.devices
-    (λ d p q. (refl, short_device d (omega arith) (omega arith) (omega arith) (omega arith))) addresses h.targets in
-    let good_adapters = all_map (λ o. o ≤ most_number) IsGood adapter_row t.adapters (λ o e. (refl, one_number (codes "sim") o (omega arith) e)) openings in
-    let good_devices = all_map (λ (d : Device). IsGood (device_row d)) IsGood device_row t.devices (λ d e. e) devices in
-    let good_lanes = all_map (λ a. a ≤ most_number) IsGood lane_row t.lanes (λ a e. (refl, one_number (codes "lane") a (omega arith) e)) buses in
-    let good_events = all_map FitsEvent IsGood event_row past.events good_event h.events in
+    let openings = along_good (λ b o. adapter_fault (b, o) ≡ None) adapter_row [] t.adapters (λ b o e. let s = adapter_small b o e in (refl, one_number (codes "sim") o (omega arith) (omega arith))) k.adapters in
+    let devices = along_good (GoodDevice t.adapters) device_row [] t.devices (λ b d p. let s = device_small n b d p.0 in let few = k.few in (refl, short_device d (omega arith) (omega (arith, p.1)) (omega arith) (omega arith)))
+    (along_both (λ b d. device_fault n (b, d) ≡ None) (λ (d : Device). d.target ≤ 65535) [] t.devices k.devices h.targets) in
+    let buses = along_good (λ b a. lane_fault n (b, a) ≡ None) lane_row [] t.lanes (λ b a e. let s = lane_small n b a e in let few = k.few in (refl, one_number (codes "lane") a (omega arith) (omega arith))) k.lanes in
+    let events = All-map IsGood event_row past.events (All-weaker FitsEvent (λ e. IsGood (event_row e)) good_event past.events (All-from_recursion FitsEvent past.events h.events)) in
     let lanes = map lane_row t.lanes ++ map event_row past.events in
     let rest = map device_row t.devices ++ lanes in
     let sixteen = few_devices t (record { kept = h.config }) in
-    let lane_count = few_lanes n t.lanes four k.lanes in
+    let lane_count = few_lanes n t.lanes k.few k.lanes in
     let size_a = length-append (map adapter_row t.adapters) rest in
     let size_d = length-append (map device_row t.devices) lanes in
     let size_l = length-append (map lane_row t.lanes) (map event_row past.events) in
     let a = length-map t.adapters adapter_row in
     let d = length-map t.devices device_row in
     let l = length-map t.lanes lane_row in
-    let e = length-map past.events event_row in (
-      (
-        good_header,
-        all_append IsGood (map adapter_row t.adapters) rest good_adapters
-            (all_append IsGood (map device_row t.devices) lanes good_devices (all_append IsGood (map lane_row t.lanes) (map event_row past.events) good_lanes good_events)),
-      ),
+    let e = length-map past.events event_row in
+    let four = k.few in (
+      All-cons IsGood header _ good_header
+          (All-append IsGood (map adapter_row t.adapters) rest openings
+          (All-append IsGood (map device_row t.devices) lanes devices (All-append IsGood (map lane_row t.lanes) (map event_row past.events) buses events))),
       omega arith,
     )
-
-all_to : (P Q : Row → Type 0) (rows : List Row) → ((row : Row) → P row → Q row) → AllByRecursion P rows → AllByRecursion Q rows
-all_to P Q [] f h = tt
-all_to P Q (row ∷ rows) f h = (f row h.0, all_to P Q rows f h.1)
 
 -- the text begins with the header's word, and so with no byte order mark
 no_mark : (past : Past) → strip_bom (trace_text past) ≡ trace_text past
@@ -305,8 +240,8 @@ pub is_trace : (past : Past) → IsHistory past → length past.events ≤ 65535
 unfolding trace_text
 is_trace past h few =
     let g = good_records past h few in
-    let short = text-le (records_of past) g.0 in
+    let short = text-le (records_of past) (recursion_from_All IsGood (records_of past) g.0) in
     record {
       bounded = omega arith;
-      spelled = ap (records default_config) (no_mark past) ∙ records_again (records_of past) (all_to IsGood (λ row. read_back row ≡ row) (records_of past) (λ row p. p.0) g.0);
+      spelled = ap (records default_config) (no_mark past) ∙ records_again (records_of past) (recursion_from_All _ (records_of past) (All-weaker IsGood (λ row. read_back row ≡ row) (λ row p. p.0) (records_of past) g.0));
     }

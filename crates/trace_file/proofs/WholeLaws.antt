@@ -1,15 +1,17 @@
 -- The records of a whole history are read as that history.
-use Rattle.std.proofs.Common.{◌≡◌, ◌≢◌, ◌<◌, ◌≤◌, ◌+◌, ℕ, List, [], ◌∷◌, ◌++◌, length, map, true, false, cond, refl, sym, ap, ◌∙◌, arith, length-append}
-use Rattle.std.specs.Prelude.{Option, Some, None, Result, Ok, is_none, not, nat_lt, nat_le, ◌==◌, count_by}
-use Rattle.std.specs.List.{AllByRecursion, list_any}
+use Rattle.std.proofs.Common.{◌≡◌, ◌≢◌, ◌<◌, ◌≤◌, ℕ, List, [], ◌∷◌, ◌++◌, length, map, true, false, refl, sym, ap, ◌∙◌, arith}
+use Rattle.std.specs.Prelude.{None, Result, Ok, ◌==◌}
+use Rattle.std.specs.List.{AllByRecursion}
 use Rattle.std.specs.Option.{option_or}
-use Rattle.std.proofs.lemmas.Bool.{and_parts, leb-true, leb-false, ltb-false, not-false}
+use Rattle.std.proofs.lemmas.Bool.{and_parts, leb-true, leb-false, not-false}
 use Rattle.csv.specs.Records.{field_at}
 use Rattle.cam_types.specs.Lists.{first_answer, moments}
-use Rattle.cam_types.specs.Topology.{address_fault, are_openings, is_same_address, item_fault}
-use Rattle.cam_types.specs.declared.config_fault.ConfigFault.TheVariants.{NoAdapters, TooMany, BadOpenings, NoAdapter, BadAddress, DoubleDevice}
-use Rattle.trace_file.proofs.HistoryLemmas.{is_legal-moments, legal_is_unrefused}
-use Rattle.trace_file.specs.Histories.{Topology, Device, Event, Past, Refusal, adapter_fault, device_fault, lane_fault, refusal, config_fault, is_legal, is_legal_event}
+use Rattle.cam_types.specs.Topology.{item_fault}
+use Rattle.cam_types.specs.declared.config_fault.ConfigFault.TheVariants.{NoAdapters}
+use Rattle.cam_types.proofs.ListLemmas.{few_where_none, or_left, or_right}
+use Rattle.cam_event.specs.Legal.{history_rules, is_legal as legal_by}
+use Rattle.cam_event.proofs.LegalLemmas.{none-legal}
+use Rattle.trace_file.specs.Histories.{Topology, Device, Event, Past, adapter_fault, device_fault, lane_fault, refusal, config_fault, is_legal, is_legal_event}
 use Rattle.trace_file.specs.declared.trace_fault.TraceFault.{TraceFault}
 use Rattle.trace_file.specs.declared.trace_stage.TraceStage.{TraceStage}
 use Rattle.trace_file.specs.declared.trace_stage.TraceStage.TheVariants as stage
@@ -17,44 +19,18 @@ use Rattle.trace_file.specs.Reading.{add_adapter, add_device, add_event, add_lan
 use Rattle.trace_file.specs.Records.{adapter_row, device_row, event_row, header, lane_row, records_of}
 use Rattle.trace_file.specs.Steps.{taken}
 use Rattle.trace_file.specs.Trace.{FitsEvent, IsHistory}
-use Rattle.trace_file.proofs.AgainLaws.{Along, along_all, along_both, neither, none_along, true_along, then_taken, run, adapter_step, lane_step, device_step, event_step}
-use Rattle.trace_file.proofs.StageLemmas.{cond_none, few_adapters}
+use Rattle.trace_file.proofs.AgainLaws.{Along, along_both, none_along, true_along, then_taken, run, adapter_step, lane_step, device_step, event_step}
+use Rattle.trace_file.proofs.StageLemmas.{cond_none, few_adapters, device_small}
 
 -- ---- what the rules of the configuration say of its numbers
 
 pub adapter_small : (before : List ℕ) (o : ℕ) → adapter_fault (before, o) ≡ None → o ≤ 255
 unfolding adapter_fault
-adapter_small before o e =
-    let a = cond_none (nat_le 4 (length before)) TooMany (cond (not (are_openings o)) (Some BadOpenings) None) e in
-    let b = cond_none (not (are_openings o)) BadOpenings None a.1 in
-    leb-true _ _ (and_parts _ _ (not-false _ b.0)).1
-
-pub few_along : (before xs : List ℕ) → length before ≤ 4 → Along (λ b x. adapter_fault (b, x) ≡ None) before xs → length before + length xs ≤ 4
-few_along before [] few h = omega arith
-few_along before (x ∷ xs) few h =
-    let one = few_adapters before x h.0 in
-    let size = length-append before (x ∷ []) in
-    let rest = few_along (before ++ x ∷ []) xs (omega arith) h.1 in
-    omega arith
+adapter_small before o e = leb-true _ _ (and_parts _ _ (not-false _ (cond_none _ _ _ (cond_none _ _ _ e).1).0)).1
 
 pub lane_small : (n : ℕ) (before : List ℕ) (a : ℕ) → lane_fault n (before, a) ≡ None → a < n
 unfolding lane_fault
-lane_small n before a e =
-    let x = cond_none (nat_le 4 (count_by (λ b. b == a) before)) TooMany (cond (nat_le n a) (Some NoAdapter) None) e in
-    let y = cond_none (nat_le n a) NoAdapter None x.1 in
-    leb-false _ _ y.0
-
-pub device_small : (n : ℕ) (before : List Device) (d : Device) → device_fault n (before, d) ≡ None → (d.bus < n) × (d.lun ≤ 16383) × (d.openings ≤ 255)
-unfolding device_fault address_fault
-device_small n before d e =
-    let same = list_any (is_same_address d) before in
-    let last = cond same (Some DoubleDevice) None in
-    let address = cond (nat_lt 16383 d.lun) (Some BadAddress) last in
-    let a = cond_none (nat_le 16 (length before)) TooMany (cond (not (are_openings d.openings)) (Some BadOpenings) (cond (nat_le n d.bus) (Some NoAdapter) address)) e in
-    let b = cond_none (not (are_openings d.openings)) BadOpenings (cond (nat_le n d.bus) (Some NoAdapter) address) a.1 in
-    let c = cond_none (nat_le n d.bus) NoAdapter address b.1 in
-    let l = cond_none (nat_lt 16383 d.lun) BadAddress last c.1 in
-    (leb-false _ _ c.0, ltb-false _ _ l.0, leb-true _ _ (and_parts _ _ (not-false _ b.0)).1)
+lane_small n before a e = leb-false _ _ (cond_none _ _ _ (cond_none _ _ _ e).1).0
 
 -- ---- the stages that the records of a configuration and its events lead through
 
@@ -83,7 +59,7 @@ one_adapter n [] o e = adapter_step n stage.First o (λ k. cc) refl (let s = ada
 one_adapter n (b ∷ bs) o e =
     adapter_step n (at_adapters (b ∷ bs)) o (λ k. cc) refl (let s = adapter_small (b ∷ bs) o e in omega arith) ∙ rw e refl
 
-abbrev GoodDevice : List ℕ → List Device → Device → Type 0
+abbrev pub GoodDevice : List ℕ → List Device → Device → Type 0
 GoodDevice as' before d = (device_fault (length as') (before, d) ≡ None) × (d.target ≤ 65535)
 
 one_device : (as' : List ℕ) → length as' ≤ 4 → (n : ℕ) (before : List Device) (d : Device) → GoodDevice as' before d
@@ -121,13 +97,6 @@ at_config as' ds (l ∷ ls) = ((λ k. cc), refl, refl, refl)
 abbrev GoodEvent : Topology → List Event → Event → Type 0
 GoodEvent c before e = (is_legal_event c (before, e) ≡ true) × FitsEvent e
 
-unrefused : (c : Topology) (before : List Event) (e : Event) → is_legal_event c (before, e) ≡ true → refusal c before e ≡ None
-unrefused c before e h = by (refusal c before e) (sym (legal_is_unrefused c before e) ∙ h)
-  where
-    by : (o : Option Refusal) → is_none o ≡ true → o ≡ None
-    by None k = refl
-    by (Some r) k = absurd cc
-
 add_first : (n : ℕ) (s : TraceStage) (p : Past) (e : Event) → lacks_adapters s ≡ false → past_of s ≡ p → refusal p.config p.events e ≡ None
     → add_event n s e ≡ Ok (stage.Events (record p { events = p.events ++ e ∷ [] }))
 unfolding add_event
@@ -137,9 +106,9 @@ pub one_event : (as' : List ℕ) (ds : List Device) (ls : List ℕ) (n : ℕ) (b
     → step n (at_events as' ds ls before) (event_row e) ≡ Ok (at_events as' ds ls (before ++ e ∷ []))
 one_event as' ds ls n [] e h =
     let k = at_config as' ds ls in
-    event_step n (at_lanes as' ds ls) e k.0 h.1 ∙ add_first n (at_lanes as' ds ls) _ e k.1 k.2 (unrefused (config as' ds ls) [] e h.0)
+    event_step n (at_lanes as' ds ls) e k.0 h.1 ∙ add_first n (at_lanes as' ds ls) _ e k.1 k.2 (none-legal history_rules (config as' ds ls) [] e h.0)
 one_event as' ds ls n (b ∷ bs) e h =
-    event_step n (at_events as' ds ls (b ∷ bs)) e (λ k. cc) h.1 ∙ add_first n (at_events as' ds ls (b ∷ bs)) _ e refl refl (unrefused (config as' ds ls) (b ∷ bs) e h.0)
+    event_step n (at_events as' ds ls (b ∷ bs)) e (λ k. cc) h.1 ∙ add_first n (at_events as' ds ls (b ∷ bs)) _ e refl refl (none-legal history_rules (config as' ds ls) (b ∷ bs) e h.0)
 
 -- ---- a whole history
 
@@ -154,6 +123,7 @@ begun (a ∷ as') e = refl
 
 pub record Kept (as' : List ℕ) (ds : List Device) (ls : List ℕ) : Type 0 where
   pub some : (length as' == 0) ≡ false
+  pub few : length as' ≤ 4
   pub adapters : Along (λ b x. adapter_fault (b, x) ≡ None) [] as'
   pub devices : Along (λ b x. device_fault (length as') (b, x) ≡ None) [] ds
   pub lanes : Along (λ b x. lane_fault (length as') (b, x) ≡ None) [] ls
@@ -166,25 +136,30 @@ kept as' ds ls e =
     let d = first_answer (device_fault n) (moments ds) in
     let l = first_answer (lane_fault n) (moments ls) in
     let c = cond_none (length as' == 0) NoAdapters (option_or a (option_or d l)) e in
-    let x = neither a (option_or d l) c.1 in
-    let y = neither d l x.1 in
-    record { some = c.0; adapters = none_along adapter_fault [] as' x.0; devices = none_along (device_fault n) [] ds y.0; lanes = none_along (lane_fault n) [] ls y.1 }
+    let rest = or_right a (option_or d l) c.1 in
+    record {
+      some = c.0;
+      few = few_where_none adapter_fault 4 few_adapters as' (or_left a (option_or d l) c.1);
+      adapters = none_along adapter_fault [] as' (or_left a (option_or d l) c.1);
+      devices = none_along (device_fault n) [] ds (or_left d l rest);
+      lanes = none_along (lane_fault n) [] ls (or_right d l rest);
+    }
 
 legal_along : (c : Topology) (es : List Event) → is_legal c es ≡ true → Along (λ b x. is_legal_event c (b, x) ≡ true) [] es
-legal_along c es e = true_along (is_legal_event c) [] es (sym (is_legal-moments c es) ∙ e)
+unfolding legal_by
+legal_along c es e = true_along (is_legal_event c) [] es e
 
 pub taken_all : (as' : List ℕ) (ds : List Device) (ls : List ℕ) (es : List Event) → Kept as' ds ls → AllByRecursion (λ (d : Device). d.target ≤ 65535) ds
     → is_legal (config as' ds ls) es ≡ true → AllByRecursion FitsEvent es
     → (n : ℕ) → taken step n stage.First (map adapter_row as' ++ (map device_row ds ++ (map lane_row ls ++ map event_row es))) ≡ Ok (at_events as' ds ls es)
 taken_all as' ds ls es k targets legal fits n =
-    let few : length as' ≤ 4 = omega (arith, few_along [] as' (omega arith) k.adapters) in
     let c = config as' ds ls in
-    let good_devices = along_both (λ b x. device_fault (length as') (b, x) ≡ None) (λ b (x : Device). x.target ≤ 65535) (GoodDevice as') [] ds (λ b x p q. (p, q)) k.devices (along_all (λ (x : Device). x.target ≤ 65535) [] ds targets) in
-    let good_events = along_both (λ b x. is_legal_event c (b, x) ≡ true) (λ b x. FitsEvent x) (GoodEvent c) [] es (λ b x p q. (p, q)) (legal_along c es legal) (along_all FitsEvent [] es fits) in
+    let good_devices = along_both (λ b x. device_fault (length as') (b, x) ≡ None) (λ (x : Device). x.target ≤ 65535) [] ds k.devices targets in
+    let good_events = along_both (λ b x. is_legal_event c (b, x) ≡ true) FitsEvent [] es (legal_along c es legal) fits in
     let final = at_events as' ds ls es in
     then_taken step n stage.First (at_adapters as') final (map adapter_row as') _ (run adapter_row at_adapters (λ b x. adapter_fault (b, x) ≡ None) one_adapter [] as' n k.adapters) (λ n1.
-    rw (begun as' k.some) (then_taken step n1 (at_devices as' []) (at_devices as' ds) final (map device_row ds) _ (run device_row (at_devices as') (GoodDevice as') (one_device as' few) [] ds n1 good_devices) (λ n2.
-    then_taken step n2 (at_lanes as' ds []) (at_lanes as' ds ls) final (map lane_row ls) _ (run lane_row (at_lanes as' ds) (λ b x. lane_fault (length as') (b, x) ≡ None) (one_lane as' ds few) [] ls n2 k.lanes) (λ n3.
+    rw (begun as' k.some) (then_taken step n1 (at_devices as' []) (at_devices as' ds) final (map device_row ds) _ (run device_row (at_devices as') (GoodDevice as') (one_device as' k.few) [] ds n1 good_devices) (λ n2.
+    then_taken step n2 (at_lanes as' ds []) (at_lanes as' ds ls) final (map lane_row ls) _ (run lane_row (at_lanes as' ds) (λ b x. lane_fault (length as') (b, x) ≡ None) (one_lane as' ds k.few) [] ls n2 k.lanes) (λ n3.
     run event_row (at_events as' ds ls) (GoodEvent c) (one_event as' ds ls) [] es n3 good_events))))
 
 header_again : step 1 stage.Header header ≡ Ok stage.First

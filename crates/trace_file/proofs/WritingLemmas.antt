@@ -1,6 +1,6 @@
 -- Records that are written one after the other.
-use Rattle.std.proofs.Common.{◌≡◌, ◌<◌, ◌+◌, ◌*◌, ◌/◌, ◌%◌, ℕ, List, [], ◌∷◌, ◌++◌, length, take, map, get_or, set, refl, sym, ap, ◌∙◌, subst, arith, append-nil, append_assoc, length-set, Fits, w8, suc, zero}
-use Rattle.std.specs.Prelude.{Option, Some, None}
+use Rattle.std.proofs.Common.{◌≡◌, ◌<◌, ◌+◌, ◌*◌, ◌/◌, ◌%◌, ℕ, List, [], ◌∷◌, ◌++◌, length, take, map, get_or, set, refl, sym, ap, ◌∙◌, subst, arith, append_assoc, length-set, Fits, w8, suc}
+use Rattle.std.specs.Prelude.{Option}
 use Rattle.std.specs.Char.{digit_char}
 use Rattle.std.specs.Io.KnownBytes.{Appends}
 use Rattle.std.specs.List.{AllByRecursion}
@@ -9,33 +9,24 @@ use Rattle.std.proofs.lemmas.List.{map-append, take_more, take_more_set}
 use Rattle.std.proofs.lemmas.List.Concat.{flat_map-append}
 use Rattle.csv.specs.Writing.{default_writer, row_text, text_written}
 use Rattle.csv.specs.declared.writer.Writer.{Writer}
+use Rattle.csv.proofs.WriteFacts.{appends-none}
 use Rattle.trace_file.specs.Fields.{Row}
 use Rattle.trace_file.specs.Records.{hex}
 use Rattle.trace_file.specs.Writing.{IsBetween, Wrote, text_of}
-
-Appends-none : (known : Option (List ℕ)) → Appends known known []
-Appends-none None = tt
-Appends-none (Some bytes) = sym (append-nil bytes)
-
-text_of-append : (rows more : List Row) → text_of (rows ++ more) ≡ text_of rows ++ text_of more
-unfolding text_of
-text_of-append rows more = flat_map-append (row_text default_writer) rows more
-
-text_of-none : text_of [] ≡ []
-unfolding text_of
-text_of-none = refl
+use Rattle.trace_file.proofs.ListLaws.{all_push}
 
 -- no record was written yet
 pub wrote_none : {W : Type 0} (contents : W → Option (List ℕ)) (writer : Writer W) → IsBetween writer → Wrote contents writer writer []
-wrote_none contents writer between =
-    record { between = between; text = subst (Appends _ _) (sym text_of-none) (Appends-none (text_written contents writer)) }
+unfolding text_of
+wrote_none contents writer between = record { between = between; text = appends-none (text_written contents writer) }
 
 -- some records, and then some more
 pub wrote_both : {W : Type 0} (contents : W → Option (List ℕ)) (a b c : Writer W) (rows more : List Row) → Wrote contents a b rows → Wrote contents b c more → Wrote contents a c (rows ++ more)
+unfolding text_of
 wrote_both contents a b c rows more one other =
     record {
       between = other.between;
-      text = subst (Appends _ _) (sym (text_of-append rows more))
+      text = subst (Appends _ _) (sym (flat_map-append (row_text default_writer) rows more))
           (Appends-trans (text_written contents a) (text_written contents b) (text_written contents c) (text_of rows) (text_of more) one.text other.text);
     }
 
@@ -46,21 +37,6 @@ wrote_more contents a b c row items i x h is one other =
     let more : map row (take (i + 1) items) ≡ map row (take i items) ++ row x ∷ [] =
     ap (map row) (take_more items i x h ∙ ap (λ (y : _). take i items ++ y ∷ []) is) ∙ map-append row (take i items) (x ∷ []) in
     subst (Wrote contents a c) (sym more) (wrote_both contents a b c (map row (take i items)) (row x ∷ []) one other)
-
--- an item is what it is whatever stands for no item
-pub same_item : {X : Type 0} (items : List X) (i : ℕ) (d : X) → i < length items → get_or items i (get_or items i d) ≡ get_or items i d
-same_item [] i d h = absurd (omega arith)
-same_item (y ∷ ys) zero d h = refl
-same_item (y ∷ ys) (suc i) d h = other ys i d (get_or ys i d) (omega arith)
-  where
-    other : {X : Type 0} (items : List X) (i : ℕ) (d e : X) → i < length items → get_or items i e ≡ get_or items i d
-    other [] i d e h = absurd (omega arith)
-    other (y ∷ ys) zero d e h = refl
-    other (y ∷ ys) (suc i) d e h = other ys i d e (omega arith)
-
-all_push : {X : Type 0} (P : X → Type 0) (xs : List X) (x : X) → AllByRecursion P xs → P x → AllByRecursion P (xs ++ x ∷ [])
-all_push P [] x h p = (p, tt)
-all_push P (y ∷ ys) x h p = (h.0, all_push P ys x h.1 p)
 
 -- one item more has the property
 pub all_more : {X : Type 0} (P : X → Type 0) (items : List X) (i : ℕ) (x : X) → i < length items → get_or items i x ≡ x → AllByRecursion P (take i items) → P x → AllByRecursion P (take (i + 1) items)

@@ -32,10 +32,8 @@ hex_byte high low = option_and_then (λ h. option_map (λ l. 16 * h + l) (hex_va
 
 -- the one byte that a field spells
 unfoldable pub byte_of : List ℕ → Option ℕ
-byte_of [] = None
-byte_of (high ∷ []) = None
 byte_of (high ∷ low ∷ []) = hex_byte high low
-byte_of (high ∷ low ∷ more ∷ rest) = None
+byte_of _ = None
 
 -- the bytes that a field spells, each by two digits
 unfoldable pub bytes_of : List ℕ → Option (List ℕ)

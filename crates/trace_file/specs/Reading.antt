@@ -53,12 +53,11 @@ placed s row =
 
 -- what is configured and what happened so far
 abbrev pub past_of : TraceStage → Past
-past_of stage.Header = record { config = record { adapters = []; devices = []; lanes = [] }; events = [] }
-past_of stage.First = record { config = record { adapters = []; devices = []; lanes = [] }; events = [] }
 past_of (stage.Adapters t) = record { config = t; events = [] }
 past_of (stage.Devices t) = record { config = t; events = [] }
 past_of (stage.Lanes t) = record { config = t; events = [] }
 past_of (stage.Events p) = p
+past_of _ = record { config = record { adapters = []; devices = []; lanes = [] }; events = [] }
 
 abbrev pub config_of : TraceStage → Topology
 config_of s = (past_of s).config
@@ -67,10 +66,7 @@ config_of s = (past_of s).config
 abbrev pub lacks_adapters : TraceStage → Bool
 lacks_adapters stage.Header = true
 lacks_adapters stage.First = true
-lacks_adapters (stage.Adapters t) = false
-lacks_adapters (stage.Devices t) = false
-lacks_adapters (stage.Lanes t) = false
-lacks_adapters (stage.Events p) = false
+lacks_adapters _ = false
 
 -- the next stage, unless the record breaks a rule of the configuration
 abbrev pub unless_fault : ℕ → Option ConfigFault → TraceStage → Result TraceStage TraceFault
@@ -127,20 +123,13 @@ row_step n s row = do
 -- the record of this number
 unfoldable pub step : ℕ → TraceStage → Row → Result TraceStage TraceFault
 step n stage.Header row = if is_header (codes "camtrace1") row then Ok stage.First else Err BadHeader
-step n stage.First row = row_step n stage.First row
-step n (stage.Adapters t) row = row_step n (stage.Adapters t) row
-step n (stage.Devices t) row = row_step n (stage.Devices t) row
-step n (stage.Lanes t) row = row_step n (stage.Lanes t) row
-step n (stage.Events p) row = row_step n (stage.Events p) row
+step n s row = row_step n s row
 
 -- the end of the records
 unfoldable pub ended : TraceStage → Result Past TraceFault
 ended stage.Header = Err BadHeader
 ended stage.First = Err (BadConfig 2 NoAdapters)
-ended (stage.Adapters t) = Ok (record { config = t; events = [] })
-ended (stage.Devices t) = Ok (record { config = t; events = [] })
-ended (stage.Lanes t) = Ok (record { config = t; events = [] })
-ended (stage.Events p) = Ok p
+ended s = Ok (past_of s)
 
 -- the history of these records, or the first fault
 unfoldable pub reading : List Row → Result Past TraceFault

@@ -74,9 +74,7 @@ event_at word.FreezeSim row = two_numbers row >>= λ p. Ok (event.FreezeSim p.0 
 event_at word.ReleaseSim row = one_number row >>= λ sim. Ok (event.ReleaseSim sim)
 event_at word.Adjust row = two_numbers row >>= λ p. Ok (event.Adjust p.0 p.1)
 event_at word.Tick row = tick_at row
-event_at word.Sim row = Err 1
-event_at word.Dev row = Err 1
-event_at word.Lane row = Err 1
+event_at _ row = Err 1
 
 -- the device that a record spells
 abbrev pub device_of : DeviceRow → Device

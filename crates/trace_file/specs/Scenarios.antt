@@ -1,6 +1,6 @@
 -- What a script asks for: its limits, its configuration, the steps of its drivers, and the answers of its lanes.
-use Rattle.std.specs.Prelude.{◌≡◌, ℕ, ◌==◌, ◌&&◌, Bool, true, false, not, nat_lt, nat_le, ⊤, List, [], ◌∷◌, ◌++◌, length, set, get_or, replicate, Option, Result, Ok, Err, ok_or}
-use Rattle.std.specs.List.{AllByRecursion, position}
+use Rattle.std.specs.Prelude.{◌≡◌, ℕ, ◌≤◌, ◌==◌, ◌&&◌, Bool, true, false, not, nat_lt, nat_le, ⊤, List, [], ◌∷◌, ◌++◌, length, set, get_or, replicate, Option, Result, Ok, Err, ok_or}
+use Rattle.std.specs.List.{AllByRecursion, position, sum_by}
 use Rattle.cam_types.specs.Bounds.{Bounds}
 use Rattle.cam_types.specs.Topology.{are_openings}
 use Rattle.cam_types.specs.declared.maxima.TheConstants.{MOST_PRIORITY, MOST_RETRIES}
@@ -20,6 +20,7 @@ use Rattle.trace_file.specs.declared.step.Step.{Step}
 use Rattle.trace_file.specs.declared.step.Step.TheVariants as step
 use Rattle.trace_file.specs.Histories.{Device, Outcome, Refusal, Topology}
 use Rattle.trace_file.specs.Steps.{◌>>=◌}
+use Rattle.trace_file.specs.declared.script_stage.TheConstants.{MOST_ROWS}
 
 -- the configuration and the limits, eight lists of steps by the driver's number, and a list of outcomes for each lane
 pub record Scenario : Type 0 where
@@ -133,9 +134,11 @@ abbrev pub is_ruled_item : Topology → ScriptItem → Bool
 is_ruled_item c (item.Step driver one) = nat_le driver 7 && is_ruled c driver one
 is_ruled_item c (item.Answer lane outcome) = names_lane c lane && is_answer outcome
 
--- the rules that each row of a script keeps
+-- the rules that each row of a script keeps, and how many steps and answers it may have in all
 pub record IsScenario (s : Scenario) : Type 0 where
   pub eight : length s.drivers ≡ 8
   pub lanes : length s.answers ≡ length s.config.lanes
   pub ruled : (driver : ℕ) → AllByRecursion (λ one. is_ruled s.config driver one ≡ true) (get_or s.drivers driver [])
   pub answered : (lane : ℕ) → AllByRecursion (λ outcome. is_answer outcome ≡ true) (get_or s.answers lane [])
+  pub few_steps : sum_by length s.drivers ≤ MOST_ROWS
+  pub few_answers : sum_by length s.answers ≤ MOST_ROWS

@@ -1,8 +1,8 @@
 -- Texts of scripts, and what a reader of scripts answers.
-use Rattle.std.specs.Prelude.{◌≡◌, ℕ, ◌≤◌, Bool, true, not, ⊤, List, [], ◌∷◌, ◌++◌, length, map, count_by, Option, Some, None, IfSome, unwrap_or, Result, Ok, Err, is_ok, if◌then◌else◌, ◌==◌}
+use Rattle.std.specs.Prelude.{◌≡◌, ℕ, ◌≤◌, Bool, true, not, List, [], ◌∷◌, ◌++◌, length, map, count_by, Option, Some, None, IfSome, unwrap_or, Result, Ok, Err, is_ok, if◌then◌else◌, ◌==◌}
 use Rattle.std.specs.List.{AllByRecursion, flat_map, fold}
 use Rattle.cam_types.specs.Bounds.{Bounds, are_within, most_bounds}
-use Rattle.cam_types.specs.Whole.{IsWhole, IsTooLong}
+use Rattle.cam_types.specs.Whole.{IsWhole}
 use Rattle.cam_types.specs.declared.maxima.TheConstants.{MOST_BYTES}
 use Rattle.cam_path.specs.Paths.{Fits}
 use Rattle.trace_file.specs.declared.script_row.ScriptRow.{ScriptRow}
@@ -12,16 +12,16 @@ use Rattle.trace_file.specs.declared.script_row.ScriptItem.TheVariants as item
 use Rattle.trace_file.specs.declared.step.Step.{Step}
 use Rattle.trace_file.specs.declared.script_stage.ScriptStage.TheVariants as stage
 use Rattle.trace_file.specs.declared.trace_fault.TraceFault.{TraceFault}
-use Rattle.trace_file.specs.declared.trace_fault.TraceFault.TheVariants as fault
 use Rattle.trace_file.specs.Fields.{Row}
 use Rattle.trace_file.specs.Histories.{Device, Outcome, Refusal, Topology, config_fault}
 use Rattle.trace_file.specs.Records.{adapter_row, device_row, lane_row}
 use Rattle.trace_file.specs.Rows.{most_number}
 use Rattle.trace_file.specs.Scenarios.{Scenario, add_item, empty_scenario, is_answer_row, item_of}
-use Rattle.trace_file.specs.ScriptReading.{most_rows, script_ended, script_step}
+use Rattle.trace_file.specs.ScriptReading.{script_ended, script_step}
 use Rattle.trace_file.specs.ScriptRows.{limits_row, script_header, script_row}
 use Rattle.trace_file.specs.Text.{records_in}
-use Rattle.trace_file.specs.Trace.{FitsOutcome, IsFirstFault}
+use Rattle.trace_file.specs.Trace.{FitsOutcome, ExplainsBy}
+use Rattle.trace_file.specs.declared.script_stage.TheConstants.{MOST_ROWS}
 
 -- what the records of a script say: limits, if they are given, a configuration, and rows
 pub record Manuscript : Type 0 where
@@ -53,13 +53,11 @@ scenario_of m = fold put_row (empty_scenario m.config (unwrap_or m.limits most_b
 -- what a row says to this driver, and to this lane
 abbrev pub step_said : ℕ → Result ScriptItem Refusal → List Step
 step_said driver (Ok (item.Step by one)) = if by == driver then one ∷ [] else []
-step_said driver (Ok (item.Answer lane outcome)) = []
-step_said driver (Err cause) = []
+step_said driver _ = []
 
 abbrev pub answer_said : ℕ → Result ScriptItem Refusal → List Outcome
-answer_said lane (Ok (item.Step by one)) = []
 answer_said lane (Ok (item.Answer by outcome)) = if by == lane then outcome ∷ [] else []
-answer_said lane (Err cause) = []
+answer_said lane _ = []
 
 -- a driver's rows in order, and a lane's answers in order
 unfoldable pub steps_of : Topology → ℕ → List ScriptRow → List Step
@@ -94,8 +92,8 @@ pub record IsManuscript (m : Manuscript) : Type 0 where
   pub targets : AllByRecursion (λ (d : Device). d.target ≤ 65535) m.config.devices
   pub fits : AllByRecursion FitsRow m.rows
   pub ruled : AllByRecursion (λ said. is_ok (item_of m.config said) ≡ true) m.rows
-  pub steps : step_rows m.rows ≤ most_rows
-  pub answers : answer_rows m.rows ≤ most_rows
+  pub steps : step_rows m.rows ≤ MOST_ROWS
+  pub answers : answer_rows m.rows ≤ MOST_ROWS
 
 -- the text's records are these
 pub record IsScript (text : List ℕ) (m : Manuscript) : Type 0 where
@@ -111,19 +109,6 @@ pub record WasScript (before after : Option (List ℕ)) (s : Scenario) : Type 0 
   pub kept : IsManuscript manuscript
   pub value : s ≡ scenario_of manuscript
 
--- what was read to its end was no script, for this fault
-pub record WasFaultyScript (before after : Option (List ℕ)) (e : TraceFault) : Type 0 where
-  pub text : List ℕ
-  pub whole : IsWhole before after text
-  pub first : IsFirstFault script_step script_ended stage.Header (records_in text) e
-
--- why no script was read, where a reader's note says at last whether a call failed
+-- why no script was read
 abbrev pub ExplainsScript : Option (List ℕ) → Option (List ℕ) → Bool → TraceFault → Type 0
-ExplainsScript before after failed fault.TooLong = IsTooLong before after
-ExplainsScript before after failed fault.ReadFailed = failed ≡ true
-ExplainsScript before after failed fault.OutOfMemory = ⊤
-ExplainsScript before after failed fault.BadHeader = WasFaultyScript before after fault.BadHeader
-ExplainsScript before after failed (fault.BadRecord n) = WasFaultyScript before after (fault.BadRecord n)
-ExplainsScript before after failed (fault.BadField n k) = WasFaultyScript before after (fault.BadField n k)
-ExplainsScript before after failed (fault.BadConfig n c) = WasFaultyScript before after (fault.BadConfig n c)
-ExplainsScript before after failed (fault.Illegal n r) = WasFaultyScript before after (fault.Illegal n r)
+ExplainsScript before after failed e = ExplainsBy script_step script_ended stage.Header before after failed e

@@ -16,19 +16,13 @@ use Rattle.trace_file.specs.Reading.{config_of, in_record, is_header, lacks_adap
 use Rattle.trace_file.specs.Scenarios.{Scenario, add_item, empty_scenario, is_answer_word, item_of}
 use Rattle.trace_file.specs.ScriptRows.{limits_at, script_row_at, script_word_of}
 use Rattle.trace_file.specs.Steps.{◌>>=◌, taken}
-
--- the most rows of drivers, and the most answers
-abbrev pub most_rows : ℕ
-most_rows = 4096
+use Rattle.trace_file.specs.declared.script_stage.TheConstants.{MOST_ROWS}
 
 -- a configuration is in the making, or an adapter is due
 abbrev pub is_configuring : TraceStage → Bool
 is_configuring trace.Header = false
-is_configuring trace.First = true
-is_configuring (trace.Adapters t) = true
-is_configuring (trace.Devices t) = true
-is_configuring (trace.Lanes t) = true
 is_configuring (trace.Events p) = false
+is_configuring _ = true
 
 -- the configuration, unless no adapter has come
 abbrev pub configured : ℕ → TraceStage → Result Topology TraceFault
@@ -47,8 +41,8 @@ item_word row = if length row == 8 then script_word_of (field_of row 0) else Non
 
 -- one answer more, or one row of a driver more, may come behind so many of each
 abbrev pub has_room : Bool → ℕ → ℕ → Bool
-has_room true steps answers = nat_lt answers most_rows
-has_room false steps answers = nat_lt steps most_rows
+has_room true steps answers = nat_lt answers MOST_ROWS
+has_room false steps answers = nat_lt steps MOST_ROWS
 
 -- a word for which there is room
 unfoldable pub roomy_word : ℕ → ℕ → Row → Option ScriptWord

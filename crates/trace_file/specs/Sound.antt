@@ -1,10 +1,11 @@
 -- What each stage of reading keeps.
 use Rattle.std.specs.Prelude.{◌≡◌, ◌<◌, ◌≤◌, ⊤, true, [], length, None}
+use Rattle.std.specs.List.{sum_by}
 use Rattle.cam_types.specs.Topology.{IsDraft}
 use Rattle.trace_file.specs.Histories.{Topology, Past, config_fault, is_legal}
 use Rattle.trace_file.specs.declared.script_stage.ScriptStage.{ScriptStage}
 use Rattle.trace_file.specs.declared.script_stage.ScriptStage.TheVariants as script
-use Rattle.trace_file.specs.ScriptReading.{is_configuring, most_rows}
+use Rattle.trace_file.specs.ScriptReading.{is_configuring}
 use Rattle.trace_file.specs.declared.trace_stage.TraceStage.{TraceStage}
 use Rattle.trace_file.specs.declared.trace_stage.TraceStage.TheVariants as stage
 
@@ -21,16 +22,15 @@ pub record IsKept (p : Past) : Type 0 where
 
 -- what holds at a stage
 unfoldable pub IsSound : TraceStage → Type 0
-IsSound stage.Header = ⊤
-IsSound stage.First = ⊤
 IsSound (stage.Adapters t) = IsBegun t × (t.devices ≡ []) × (t.lanes ≡ [])
 IsSound (stage.Devices t) = IsBegun t × (t.lanes ≡ [])
 IsSound (stage.Lanes t) = IsBegun t
 IsSound (stage.Events p) = IsKept p
+IsSound _ = ⊤
 
--- what holds at a stage of a script
+-- what holds at a stage of a script, which counts the steps of all drivers and the answers of all lanes
 unfoldable pub IsSoundScript : ScriptStage → Type 0
 IsSoundScript script.Header = ⊤
 IsSoundScript script.First = ⊤
 IsSoundScript (script.Config limits t) = IsSound t × (is_configuring t ≡ true)
-IsSoundScript (script.Rows s steps answers) = (steps ≤ most_rows) × (answers ≤ most_rows)
+IsSoundScript (script.Rows s steps answers) = (steps ≡ sum_by length s.drivers) × (answers ≡ sum_by length s.answers)

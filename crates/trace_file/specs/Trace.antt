@@ -69,19 +69,19 @@ pub record IsFirstFault {S V : Type 0} (next : ℕ → S → Row → Result S Tr
   pub good : taken next 1 first before ≡ Ok reached
   pub fails : FailsAt next end (1 + length before) reached rest e
 
--- what was read to its end was no trace, for this fault
-pub record WasFaulty (before after : Option (List ℕ)) (e : TraceFault) : Type 0 where
+-- what was read to its end has this fault first, where its records are taken from this stage on
+pub record WasFaulty {S V : Type 0} (next : ℕ → S → Row → Result S TraceFault) (end : S → Result V TraceFault) (first : S) (before after : Option (List ℕ)) (e : TraceFault) : Type 0 where
   pub text : List ℕ
   pub whole : IsWhole before after text
-  pub first : IsFirstFault step ended stage.Header (records_in text) e
+  pub fault : IsFirstFault next end first (records_in text) e
 
--- why no history was read, where a reader's note says at last whether a call failed
+-- why a reader that takes records so has read nothing, where its note says at last whether a call failed
+abbrev pub ExplainsBy : {S V : Type 0} → (ℕ → S → Row → Result S TraceFault) → (S → Result V TraceFault) → S → Option (List ℕ) → Option (List ℕ) → Bool → TraceFault → Type 0
+ExplainsBy next end first before after failed fault.TooLong = IsTooLong before after
+ExplainsBy next end first before after failed fault.ReadFailed = failed ≡ true
+ExplainsBy next end first before after failed fault.OutOfMemory = ⊤
+ExplainsBy next end first before after failed e = WasFaulty next end first before after e
+
+-- why no history was read
 abbrev pub Explains : Option (List ℕ) → Option (List ℕ) → Bool → TraceFault → Type 0
-Explains before after failed fault.TooLong = IsTooLong before after
-Explains before after failed fault.ReadFailed = failed ≡ true
-Explains before after failed fault.OutOfMemory = ⊤
-Explains before after failed fault.BadHeader = WasFaulty before after fault.BadHeader
-Explains before after failed (fault.BadRecord n) = WasFaulty before after (fault.BadRecord n)
-Explains before after failed (fault.BadField n k) = WasFaulty before after (fault.BadField n k)
-Explains before after failed (fault.BadConfig n c) = WasFaulty before after (fault.BadConfig n c)
-Explains before after failed (fault.Illegal n r) = WasFaulty before after (fault.Illegal n r)
+Explains before after failed e = ExplainsBy step ended stage.Header before after failed e

@@ -1,9 +1,11 @@
 //! What a script asks of a run.
 
 ghost use Rattle.std.specs.Prelude.{◌≡◌, ◌<◌, ◌≤◌, [], length, map, replicate, IfOk, IsTrue};
+ghost use Rattle.std.specs.List.{sum_by};
 ghost use Rattle.trace_file.specs.Scenarios.{Scenario, add_item, empty_scenario, is_answer, is_ruled, push_at};
 ghost use Rattle.cam_types.specs.Questions.{names_lane};
 ghost use Rattle.trace_file.specs.declared.script_row.ScriptItem.TheVariants as item;
+ghost use Rattle.trace_file.specs.declared.script_stage.TheConstants.{MOST_ROWS};
 
 use crate::step::Step;
 use cam_types::{Config, Limits, Outcome};
@@ -63,8 +65,8 @@ impl Script {
         self.limits
     }
 
-    /// The steps of each of the 8 drivers, in order. What a step calls for names devices, adapters and numbers that are
-    /// there and in their ranges.
+    /// The steps of each of the 8 drivers, in order, and at most 4,096 in all. What a step calls for names devices, adapters
+    /// and numbers that are there and in their ranges.
     pub fn drivers(&self) -> &[Vec<Step>]
         ensures same { map (λ steps. steps.items) result.now ≡ self.now.drivers }
         ensures kept { IsScenario self.now }
@@ -72,7 +74,7 @@ impl Script {
         &self.drivers
     }
 
-    /// What each lane answers, in order, to the commands that it serves. No answer has status 00.
+    /// What each lane answers, in order, to the commands that it serves: at most 4,096 outcomes in all. None has status 00.
     pub fn answers(&self) -> &[Vec<Outcome>]
         ensures same { map (λ outcomes. outcomes.items) result.now ≡ self.now.answers }
         ensures kept { IsScenario self.now }
@@ -84,6 +86,7 @@ impl Script {
     pub(crate) fn with_step(self, driver: u8, step: Step) -> Result<Script, AllocError>
         requires driver { driver ≤ 7 }
         requires ruled { IsTrue (is_ruled self.config driver step) }
+        requires room { sum_by length self.drivers < MOST_ROWS }
         ensures { IfOk result (λ s. s ≡ add_item self (item.Step driver step)) }
     {
         let Script {
@@ -104,6 +107,7 @@ impl Script {
     pub(crate) fn with_answer(self, lane: u32, outcome: Outcome) -> Result<Script, AllocError>
         requires lane { IsTrue (names_lane self.config lane) }
         requires status { IsTrue (is_answer outcome) }
+        requires room { sum_by length self.answers < MOST_ROWS }
         ensures { IfOk result (λ s. s ≡ add_item self (item.Answer lane outcome)) }
     {
         let Script {

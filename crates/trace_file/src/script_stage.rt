@@ -122,7 +122,7 @@ fn take_config(
     Ok(ScriptStage::Config(limits, stage))
 }
 
-#[tactic(auto, unfolding(crate::specs::ScriptReading::first_row))]
+#[tactic(auto, unfolding(crate::specs::ScriptReading::first_row, crate::specs::Sound::IsSoundScript))]
 fn take_first(
     alloc: Global,
     number: u32,
@@ -154,7 +154,7 @@ fn take_item(
     answers: u32,
     row: &ByteRecord,
 ) -> Result<ScriptStage, TraceFault>
-    requires { (steps ≤ MOST_ROWS) × (answers ≤ MOST_ROWS) }
+    requires { IsSoundScript (ScriptStage.Rows script steps answers) }
     ensures value { result ≢ Err TraceFault.OutOfMemory → result ≡ rows_step number script steps answers (fields_of row.now) }
     ensures sound { IfOk result (λ s. IsSoundScript s) }
 {
@@ -174,7 +174,7 @@ fn with_row(
     said: ScriptRow,
 ) -> Result<ScriptStage, TraceFault>
     requires driver { IsTrue (names_driver said) }
-    requires few { (steps ≤ MOST_ROWS) × (answers ≤ MOST_ROWS) }
+    requires counted { IsSoundScript (ScriptStage.Rows script steps answers) }
     requires room { IsTrue (has_room (is_answer_row said) steps answers) }
     ensures value { result ≢ Err TraceFault.OutOfMemory → result ≡ with_item number script steps answers (item_of script.config said) }
     ensures sound { IfOk result (λ s. IsSoundScript s) }

@@ -11,15 +11,10 @@ use std::marker::Model;
 use xpt_stays::StayRecord;
 
 /// The events of one configuration so far, each legal at its place. Nothing grows after `new`.
+#[derive(Drop)]
 pub struct History {
-    xpt: Xpt,
-}
-
-// By hand, so that to its owners a history that ends is one call and not each of its fields.
-impl Drop for History {
-    fn drop(self) {
-        let History { xpt: _ } = self;
-    }
+    // In a box, so that a history is moved by its address: a reader of traces moves its own at each record.
+    xpt: Box<Xpt>,
 }
 
 impl Model for History {
@@ -28,9 +23,9 @@ impl Model for History {
 
     ghost Value = { Past };
 
-    ghost view = { λ h. record { config = h.xpt.config; events = h.xpt.events } };
+    ghost view = { λ h. record { config = h.xpt.value.config; events = h.xpt.value.events } };
 
-    ghost invariant = { λ h. IsHistory h.xpt };
+    ghost invariant = { λ h. IsHistory h.xpt.value };
 }
 
 impl History {
@@ -47,8 +42,9 @@ impl History {
     pub fn new(alloc: Global, config: Config) -> Result<History, AllocError>
         ensures { IfOk result (λ h. h ≡ record { config = config; events = [] }) }
     {
+        let xpt = Xpt::by(alloc, config, Rules::of_history())?;
         Ok(History {
-            xpt: Xpt::by(alloc, config, Rules::of_history())?,
+            xpt: Box::new(alloc, xpt)?,
         })
     }
 

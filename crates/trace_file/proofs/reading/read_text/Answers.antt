@@ -3,12 +3,13 @@ use Rattle.std.specs.Prelude.{Err}
 use Rattle.std.proofs.lemmas.Result.{err_from_is_err_and}
 use Rattle.trace_file.specs.declared.trace_fault.TraceFault.{TraceFault}
 use Rattle.trace_file.specs.Reading.{reading}
-use Rattle.trace_file.proofs.FaultLaws.{sound_header}
+use Rattle.trace_file.specs.Sound.{IsSound}
 use Rattle.trace_file.proofs.RecordLemmas.{took_err, took_ok}
 use Rattle.trace_file.proofs.reading.read_text.Goals as goal
 
 pub take_records-requires-clause-sound : goal.take_records-requires-clause-sound
-take_records-requires-clause-sound c = sound_header
+unfolding IsSound
+take_records-requires-clause-sound c = tt
 
 pub returns-in_err-take_records : goal.returns-in_err-take_records
 unfolding reading

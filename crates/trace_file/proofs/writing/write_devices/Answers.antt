@@ -1,7 +1,8 @@
 use Rattle.std.proofs.Common.{◌≤◌, arith}
+use Rattle.std.proofs.lemmas.List.{get_or_default}
 use Rattle.trace_file.specs.Histories.{Device}
 use Rattle.trace_file.specs.Records.{device_row}
-use Rattle.trace_file.proofs.WritingLemmas.{all_more, same_item, wrote_more, wrote_none}
+use Rattle.trace_file.proofs.WritingLemmas.{all_more, wrote_more, wrote_none}
 use Rattle.trace_file.proofs.writing.write_devices.Goals as goal
 
 pub loop-device-init : goal.loop-device-init
@@ -12,6 +13,6 @@ loop-device-preserved g c =
     let devices = c.args.devices.now in
     let i = c.loop-device.device-index in
     let kept = c.loop-device.invariant in (
-      wrote_more g.W.Write.contents c.args.writer.now c.loop-device.writer c.write_device.new.writer device_row devices i _ (omega arith) (same_item devices i _ (omega arith)) kept.0 c.in_ok-write_device.ensures.rows,
-      all_more (λ (d : Device). d.target ≤ 65535) devices i _ (omega arith) (same_item devices i _ (omega arith)) kept.1 c.write_device.ensures.fits,
+      wrote_more g.W.Write.contents c.args.writer.now c.loop-device.writer c.write_device.new.writer device_row devices i _ (omega arith) (get_or_default devices i _ _ (omega arith)) kept.0 c.in_ok-write_device.ensures.rows,
+      all_more (λ (d : Device). d.target ≤ 65535) devices i _ (omega arith) (get_or_default devices i _ _ (omega arith)) kept.1 c.write_device.ensures.fits,
     )

@@ -1,7 +1,8 @@
 use Rattle.std.proofs.Common.{ℕ, ◌∷◌, [], arith, get_or}
 use Rattle.std.specs.Prelude.{decimal}
+use Rattle.std.proofs.lemmas.List.{get_or_default}
 use Rattle.trace_file.specs.Records.{padded}
-use Rattle.trace_file.proofs.WritingLemmas.{same_item, wrote_more, wrote_none}
+use Rattle.trace_file.proofs.WritingLemmas.{wrote_more, wrote_none}
 use Rattle.trace_file.proofs.writing.write_numbers.Goals as goal
 
 pub loop-number-init : goal.loop-number-init
@@ -12,4 +13,4 @@ loop-number-preserved g c =
     let numbers = c.args.numbers.now in
     let i = c.loop-number.number-index in
     let word = c.args.word.now in
-    wrote_more g.W.Write.contents c.args.writer.now c.loop-number.writer c.write_one.new.writer (λ (n : ℕ). padded (word ∷ decimal n ∷ [])) numbers i (get_or numbers i 0) (omega arith) (same_item numbers i 0 (omega arith)) c.loop-number.invariant c.in_ok-write_one.ensures
+    wrote_more g.W.Write.contents c.args.writer.now c.loop-number.writer c.write_one.new.writer (λ (n : ℕ). padded (word ∷ decimal n ∷ [])) numbers i (get_or numbers i 0) (omega arith) (get_or_default numbers i (get_or numbers i 0) 0 (omega arith)) c.loop-number.invariant c.in_ok-write_one.ensures

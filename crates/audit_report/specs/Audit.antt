@@ -20,8 +20,8 @@ audit_text summary past net live claim =
     if summary then summary_text past.events live claim.best claim.excess else report_text past net live claim
 
 -- The history is complete. Each of its sends stands where its device and adapter were free, and its live schedule is
--- admissible at the live cost that stands in the text. The text has a schedule that is admissible at the cost that stands there, and prices that prove by themselves
--- that no admissible schedule costs less. It isn't longer than a report may be.
+-- admissible at the live cost that stands in the text. The text has a schedule that is admissible at the cost that stands
+-- there, and prices that prove by themselves that no admissible schedule costs less. It isn't longer than a report may be.
 pub record IsAudit (summary : Bool) (past : Past) (text : List ℕ) : Type 0 where
   pub live : ℕ
   pub claim : Claim

@@ -1,0 +1,13 @@
+pub mod CaseLemmas
+pub mod DriverLemmas
+pub mod FullLemmas
+pub mod KeepLemmas
+pub mod LaneCount
+pub mod LaneFacts
+pub mod LeftLemmas
+pub mod ListFacts
+pub mod OpenLemmas
+pub mod PortLemmas
+pub mod RunLemmas
+pub mod StepLemmas
+pub mod TurnLemmas

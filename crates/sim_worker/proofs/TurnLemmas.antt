@@ -1,0 +1,131 @@
+-- what a turn finds
+use Rattle.std.proofs.Common.{◌≡◌, ℕ, zero, suc, ◌<◌, ◌≤◌, Bool, true, false, List, [], ◌∷◌, length, get_or, refl, sym, ap, ◌∙◌, subst, arith, Option, Some, None, Vec, Global, map}
+use Rattle.std.proofs.lemmas.List.{get_or-map}
+use Rattle.std.specs.Prelude.{slice_get}
+use Rattle.cam_types.specs.Topology.{Topology}
+use Rattle.event_log.specs.declared.event.Event.{Event}
+use Rattle.cam_event.specs.Legal.{Rules}
+use Rattle.cam_event.specs.declared.refusal.Refusal.{Refusal}
+use Rattle.cam_event.proofs.LegalLemmas.{legal-none}
+use Rattle.cam_event.proofs.LawLemmas.{allowed-legal_event}
+use Rattle.trace_file.specs.declared.step.Step.{Step}
+use Rattle.trace_file.specs.declared.step.Step.TheVariants as step
+use Rattle.xpt_devices.specs.Transport.{Transport}
+use Rattle.xpt_state.specs.Calls.{refused}
+use Rattle.std.specs.Prelude.{Result, Ok, Err, is_err, MatchResult, IfSome}
+use Rattle.std.specs.Option.{option_map}
+use Rattle.std.specs.Prelude.{not, sum_by, cond}
+use Rattle.std.proofs.lemmas.Bool.{and_from, and_parts}
+use Rattle.std.proofs.lemmas.List.Sums.{sum_by-cons}
+use Rattle.cam_types.specs.Bounds.{Bounds}
+use Rattle.sense_class.specs.Classes.{asks_requeue}
+use Rattle.event_log.specs.Event.{is_some_and}
+use Rattle.xpt_state.specs.declared.look.Case.{Case}
+use Rattle.sim_worker.specs.declared.work.Driver.{Driver}
+use Rattle.sim_worker.proofs.LaneFacts.{is_lane_event}
+use Rattle.event_log.specs.Counts.{is_in_flight}
+use Rattle.event_log.specs.declared.event.Event.TheVariants.{Done, Requeue, Finish}
+use Rattle.cam_event.proofs.WithinLemmas.{short-legal}
+use Rattle.cam_event.proofs.StandLemmas.{in_flight_held, states-legal}
+use Rattle.trace_file.specs.Scenarios.{Scenario, is_answer}
+use Rattle.sim_worker.specs.Runs.{sender, is_submit_by, is_in_time}
+use Rattle.sim_worker.specs.Work.{Work, IsWork, call_of, is_driver_able, is_lane_able, decision_of}
+use Rattle.sim_worker.specs.declared.work.Hand.{Hand}
+use Rattle.sim_worker.specs.declared.work.Lane.{Lane}
+use Rattle.sim_worker.proofs.FullLemmas.{allowed_at_limit}
+use Rattle.sim_worker.proofs.ListFacts.{some_is}
+
+pub get_is : {X : Type 0} → (xs : List X) (i : ℕ) (x : X) → i < length xs → x ≡ get_or xs i x → slice_get xs i ≡ Some x
+get_is [] i x lt is = absurd (omega arith)
+get_is (y ∷ ys) zero x lt is = ap (λ z. Some z) (sym is)
+get_is (y ∷ ys) (suc i) x lt is = get_is ys i x (omega arith) is
+
+pub get_or_is : {X : Type 0} → (xs : List X) (i : ℕ) (x d : X) → slice_get xs i ≡ Some x → get_or xs i d ≡ x
+get_or_is [] i x d h = absurd (cc)
+get_or_is (y ∷ ys) zero x d h = cc
+get_or_is (y ∷ ys) (suc i) x d h = get_or_is ys i x d h
+
+pub get_there : {X : Type 0} → (xs : List X) (i : ℕ) → i < length xs → (x : X) × (slice_get xs i ≡ Some x)
+get_there [] i lt = absurd (omega arith)
+get_there (y ∷ ys) zero lt = (y, refl)
+get_there (y ∷ ys) (suc i) lt = get_there ys i (omega arith)
+
+-- an event that isn't refused has room
+pub room_for : (t : Transport) (e : Event) → refused t e ≡ None → length t.events < t.rules.events
+room_for t e none = (allowed-legal_event t.rules t.config t.events e (legal-none t.rules t.config t.events e none)).0
+
+-- the step behind a call
+pub call_is : (o : Option Step) (e : Event) → call_of o ≡ Some e → o ≡ Some (step.Act e)
+call_is None e h = absurd (cc)
+call_is (Some (step.Pause n)) e h = absurd (cc)
+call_is (Some (step.Act x)) e h = ap (λ v. Some (step.Act v)) cc
+
+-- a result's cases
+pub err_case : {A E : Type 0} → (P : A → Type 0) (Q : E → Type 0) (r : Result A E) → is_err r ≡ true → MatchResult r P Q → (e : E) × Q e
+err_case P Q (Ok x) h m = absurd (cc)
+err_case P Q (Err e) h m = (e, m)
+
+pub ok_case : {A E : Type 0} → (P : A → Type 0) (Q : E → Type 0) (r : Result A E) → is_err r ≡ false → MatchResult r P Q → (x : A) × P x
+ok_case P Q (Ok x) h m = (x, m)
+ok_case P Q (Err e) h m = absurd (cc)
+
+-- a full history has as many events as the script allows
+pub at_limit : (w : Work) → IsWork w → w.transport.rules.events ≤ length w.transport.events → length w.transport.events ≡ w.script.limits.events
+at_limit w h full = omega (arith, full, short-legal w.transport.rules w.transport.config w.transport.events h.legal, ap (λ (r : Rules). r.events) h.rules)
+
+-- ---- completions
+
+pub lane_with : (ls : List Lane) (lane : ℕ) (hand : Hand) → option_map (λ (w : Lane). w.hand) (slice_get ls lane) ≡ Some (Some hand) → (w : Lane) × (slice_get ls lane ≡ Some w) × (w.hand ≡ Some hand)
+lane_with ls lane hand h = elim (slice_get ls lane) as (λ o. slice_get ls lane ≡ o → option_map (λ (w : Lane). w.hand) o ≡ Some (Some hand) → (w : Lane) × (slice_get ls lane ≡ Some w) × (w.hand ≡ Some hand)) [
+  | None ↦ λ is has. absurd (cc)
+  | Some w ↦ λ is has. (w, is, some_is w.hand (Some hand) has)
+] refl h
+
+pub done_full : (w : Work) (lane : ℕ) (x : Lane) (hand : Hand) (why : Refusal) → IsWork w → slice_get w.lanes lane ≡ Some x → x.hand ≡ Some hand → refused w.transport (Done hand.ccb hand.outcome) ≡ Some why → length w.transport.events ≡ w.script.limits.events
+done_full w lane x hand why h here holds refusal_is =
+    let at = h.lanes lane x here in
+    let flies : IfSome (Some hand) (λ (v : Hand). (is_in_flight w.transport.events v.ccb ≡ true) × (sender w.transport.events v.ccb ≡ Some lane)) = subst (λ o. IfSome o (λ (v : Hand). (is_in_flight w.transport.events v.ccb ≡ true) × (sender w.transport.events v.ccb ≡ Some lane))) holds at.hand in
+    let fine : IfSome (Some hand) (λ (v : Hand). is_answer v.outcome ≡ true) = subst (λ o. IfSome o (λ (v : Hand). is_answer v.outcome ≡ true)) holds at.answer in
+    let named = in_flight_held w.transport.events hand.ccb ((states-legal w.transport.rules w.transport.config w.transport.events h.legal).placed hand.ccb) flies.0 in
+    at_limit w h (allowed_at_limit w.transport.rules w.transport.config w.transport.events (Done hand.ccb hand.outcome) why (and_from _ _ (and_from _ _ named.0 fine) flies.0) refusal_is)
+
+-- the list behind a list of vectors
+pub steps_at : (all : List (Vec Step Global)) (drivers : List (List Step)) (d : ℕ) (v : Vec Step Global) → map (λ (l : Vec Step Global). l.items) all ≡ drivers → d < length all → v ≡ get_or all d v → v.items ≡ get_or drivers d []
+steps_at all drivers d v same lt is = sym (ap (λ (ls : List (List Step)). get_or ls d []) (sym same) ∙ get_or-map (λ (l : Vec Step Global). l.items) all d v [] lt ∙ ap (λ (l : Vec Step Global). l.items) (sym is))
+
+-- ---- calls of drivers
+
+not_true : (b : Bool) → not b ≡ true → b ≡ false
+not_true true h = absurd (cc)
+not_true false h = refl
+
+pub able_driver : (s : Scenario) (ds : List Driver) (d : ℕ) → is_some_and (is_driver_able s d) (slice_get ds d) ≡ true → (w : Driver) × (slice_get ds d ≡ Some w) × (w.refused ≡ false)
+able_driver s ds d h = elim (slice_get ds d) as (λ o. slice_get ds d ≡ o → is_some_and (is_driver_able s d) o ≡ true → (w : Driver) × (slice_get ds d ≡ Some w) × (w.refused ≡ false)) [
+  | None ↦ λ is able. absurd (cc)
+  | Some w ↦ λ is able. (w, is, not_true w.refused (and_parts (not w.refused) _ able).0)
+] refl h
+
+pub few_at : (ls : List (List Step)) (d : ℕ) → length (get_or ls d []) ≤ sum_by (λ (l : List Step). length l) ls
+few_at [] d = omega arith
+few_at (l ∷ ls) zero = omega (arith, sum_by-cons (λ (x : List Step). length x) l ls)
+few_at (l ∷ ls) (suc d) = omega (arith, sum_by-cons (λ (x : List Step). length x) l ls, few_at ls d)
+
+-- ---- decisions
+
+-- a decision is neither a lane's event nor a submit nor a tick
+pub decision_apart : (case : Case) → is_lane_event (decision_of case) ≡ false
+decision_apart case = elim (asks_requeue case.class) as (λ b. is_lane_event (cond b (Requeue case.ccb) (Finish case.ccb)) ≡ false) [ true ↦ refl | false ↦ refl ]
+
+pub decision_no_submit : (case : Case) (d : ℕ) → is_submit_by d (decision_of case) ≡ false
+decision_no_submit case d = elim (asks_requeue case.class) as (λ b. is_submit_by d (cond b (Requeue case.ccb) (Finish case.ccb)) ≡ false) [ true ↦ refl | false ↦ refl ]
+
+pub decision_in_time : (c : Topology) (limits : Bounds) (es : List Event) (case : Case) → is_in_time c limits (es, decision_of case) ≡ true
+decision_in_time c limits es case = elim (asks_requeue case.class) as (λ b. is_in_time c limits (es, cond b (Requeue case.ccb) (Finish case.ccb)) ≡ true) [ true ↦ refl | false ↦ refl ]
+
+-- ---- lanes
+
+pub able_lane : (t : Transport) (ls : List Lane) (lane : ℕ) → is_some_and (is_lane_able t lane) (slice_get ls lane) ≡ true → (w : Lane) × (slice_get ls lane ≡ Some w) × (is_lane_able t lane w ≡ true)
+able_lane t ls lane h = elim (slice_get ls lane) as (λ o. slice_get ls lane ≡ o → is_some_and (is_lane_able t lane) o ≡ true → (w : Lane) × (slice_get ls lane ≡ Some w) × (is_lane_able t lane w ≡ true)) [
+  | None ↦ λ is able. absurd (cc)
+  | Some w ↦ λ is able. (w, is, able)
+] refl h

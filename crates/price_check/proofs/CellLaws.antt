@@ -35,10 +35,10 @@ NoneBefore front k rest = (j : ℕ) → j < k → IsApart (front j) rest
 abbrev pub AreApart : (ℕ → List ℕ) → ℕ → Type 0
 AreApart front n = (j k : ℕ) (x y : List ℕ) → j < n → k < n → front j ++ x ≡ front k ++ y → j ≡ k
 
-begins : (whose : List ℕ) (r v : ℕ) (rest : List ℕ) → (v == 0) ≡ false → price_line whose r v ++ rest ≡ price_front whose r ++ (decimal v ++ (codes "\n" ++ rest))
+pub begins : (whose : List ℕ) (r v : ℕ) (rest : List ℕ) → (v == 0) ≡ false → price_line whose r v ++ rest ≡ price_front whose r ++ (decimal v ++ (codes "\n" ++ rest))
 begins whose r v rest some = rw some (sym (regroup whose (number_text r) (codes " ") (decimal v) (codes "\n") rest))
 
-nothing : (whose : List ℕ) (r v : ℕ) (rest : List ℕ) → (v == 0) ≡ true → price_line whose r v ++ rest ≡ rest
+pub nothing : (whose : List ℕ) (r v : ℕ) (rest : List ℕ) → (v == 0) ≡ true → price_line whose r v ++ rest ≡ rest
 nothing whose r v rest none = rw none refl
 
 pub cells_join : (whose : ℕ → List ℕ) (rounds n : ℕ) (vs : List ℕ) → AreApart (front_of whose rounds) n → Joins (form_of whose rounds) (NoneBefore (front_of whose rounds)) n vs
@@ -73,7 +73,7 @@ dev_whose devices rounds k = codes "price dev " ++ path_text devices (k / rounds
 abbrev pub sim_whose : ℕ → ℕ → List ℕ
 sim_whose rounds k = codes "price sim" ++ number_text (k / rounds)
 
-dev_reads : (devices : List Device) (rounds : ℕ) (text : List ℕ) (k at : ℕ) (device : Device) → slice_get devices (k / rounds) ≡ Some device
+pub dev_reads : (devices : List Device) (rounds : ℕ) (text : List ℕ) (k at : ℕ) (device : Device) → slice_get devices (k / rounds) ≡ Some device
     → dev_price_at devices rounds text k at ≡ price_at (skip (front_of (dev_whose devices rounds) rounds k) text at) text at
 unfolding dev_price_at path_text
 dev_reads devices rounds text k at device is = rw is (ap (λ (f : Option ℕ). price_at f text at) (dev_front-skip device (k % rounds + 1) text at))
@@ -93,7 +93,7 @@ dev_takes devices rounds text k at said e = by (slice_get devices (k / rounds)) 
         let same : none ≡ said = cc in
         subst (λ (q : ℕ × ℕ). (drop at text ≡ form_of (dev_whose devices rounds) rounds k q.0 ++ drop q.1 text) × (q.0 ≤ MOST_PRICE)) same (refl, omega arith)
 
-sim_reads : (rounds : ℕ) (text : List ℕ) (k at : ℕ) → sim_price_at rounds text k at ≡ price_at (skip (front_of (sim_whose rounds) rounds k) text at) text at
+pub sim_reads : (rounds : ℕ) (text : List ℕ) (k at : ℕ) → sim_price_at rounds text k at ≡ price_at (skip (front_of (sim_whose rounds) rounds k) text at) text at
 unfolding sim_price_at
 sim_reads rounds text k at = ap (λ (f : Option ℕ). price_at f text at) (sim_front-skip (k / rounds) (k % rounds + 1) text at)
 
@@ -119,7 +119,7 @@ same_cell rounds j k row round =
     let product : rounds * (j / rounds) ≡ rounds * (k / rounds) = ap (λ (q : ℕ). rounds * q) row in
     omega arith
 
-row_within : (rows rounds k : ℕ) → 1 ≤ rounds → k < rows * rounds → k / rounds < rows
+pub row_within : (rows rounds k : ℕ) → 1 ≤ rounds → k < rows * rounds → k / rounds < rows
 row_within rows rounds k some lt = (div-lt_iff_lt-mul some).1 lt
 
 few_round : (rounds k : ℕ) → 1 ≤ rounds → rounds ≤ 128 → k % rounds + 1 < 2 ^ 64

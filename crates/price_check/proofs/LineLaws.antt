@@ -63,12 +63,12 @@ unfolding stay_line name_text
 parted net s v name rest is = rw is (regroup (codes "stay") (number_text name.ccb) (number_text name.attempt) (number_text ((instance_of_rows net).arrival s)) (number_text (live_of_rows net s))
     (codes " ") (decimal v) (number_text ((instance_of_rows net).weight s)) (codes "\n") rest)
 
-own_named : (net : NetRows) (s : ℕ) (text : List ℕ) (at : ℕ) (name : StayName) → slice_get (names_of_rows net) s ≡ Some name
+pub own_named : (net : NetRows) (s : ℕ) (text : List ℕ) (at : ℕ) (name : StayName) → slice_get (names_of_rows net) s ≡ Some name
     → own_stay net s text at ≡ framed (stay_front name ((instance_of_rows net).arrival s) (live_of_rows net s)) (stay_back ((instance_of_rows net).weight s)) 65535 text at
 unfolding own_stay
 own_named net s text at name is = rw is (named_stay-framed name ((instance_of_rows net).arrival s) (live_of_rows net s) ((instance_of_rows net).weight s) text at)
 
-no_name : (net : NetRows) (s : ℕ) (text : List ℕ) (at : ℕ) → slice_get (names_of_rows net) s ≡ None → own_stay net s text at ≡ None
+pub no_name : (net : NetRows) (s : ℕ) (text : List ℕ) (at : ℕ) → slice_get (names_of_rows net) s ≡ None → own_stay net s text at ≡ None
 unfolding own_stay
 no_name net s text at is = rw is refl
 
@@ -86,7 +86,7 @@ stay_takes net text s at said e = by (slice_get (names_of_rows net) s) refl
         (a.0 ∙ parted net s said.0 name (drop said.1 text) is, a.1)
     by None is = let none = no_name net s text at is in absurd (cc)
 
-named : (net : NetRows) (s : ℕ) → s < (instance_of_rows net).stays → (name : StayName) × (slice_get (names_of_rows net) s ≡ Some name)
+pub named : (net : NetRows) (s : ℕ) → s < (instance_of_rows net).stays → (name : StayName) × (slice_get (names_of_rows net) s ≡ Some name)
 unfolding instance_of_rows names_of_rows
 named net s lt =
     let size = length-map net.stays (λ (row : StayRow). row.stay) in

@@ -1,6 +1,6 @@
 -- what a reader of reports answers
 use Rattle.std.proofs.Common.{◌≡◌, ◌≢◌, ◌≤◌, ◌+◌, ◌-◌, ◌*◌, ◌/◌, ℕ, zero, suc, List, ◌++◌, length, get_or, Bool, true, false, cond, refl, sym, ap, ◌∙◌, subst, arith, append_assoc, append-nil, length-append, inl, inr}
-use Rattle.std.specs.Prelude.{◌==◌, ◌&&◌, ◌⊎◌, ⊤, nat_le, Option, Some, None, Result, Ok, Err, ok_or, codes, slice_index, slice_get, sum_by, is_some, IfOk, IfErr, IfSome, OnOk}
+use Rattle.std.specs.Prelude.{◌==◌, ◌&&◌, ◌⊎◌, ⊤, nat_le, Option, Some, None, Result, Ok, Err, ok_or, codes, slice_index, slice_get, sum_by, is_some, IfOk, IfSome}
 use Rattle.std.specs.List.{AllByRecursion}
 use Rattle.std.specs.Option.{option_map_or}
 use Rattle.std.proofs.lemmas.Bool.{eq-eqb, ne_eqb}
@@ -26,7 +26,7 @@ use Rattle.price_check.specs.Pieces.{skip, line_of}
 use Rattle.price_check.specs.Report.{texts_below, summary_text, plan_text, stay_line, dev_line, sim_line}
 use Rattle.price_check.specs.Forms.{known_line, stated_line, own_stay, any_stay}
 use Rattle.price_check.specs.Reading.{closed, due, stops, ended, summary_at, stay_at, is_large, valued, price_at, dev_price_at, sim_price_at, series, reading}
-use Rattle.price_check.specs.Claims.{IsClaim, IsReport, WasReport, WasFaulty, Explains, report_text}
+use Rattle.price_check.specs.Claims.{IsClaim, IsReport, WasReport, report_text}
 use Rattle.price_check.specs.declared.claim.Claim.{Claim}
 use Rattle.price_check.specs.declared.report_fault.ReportFault.{ReportFault}
 use Rattle.price_check.specs.declared.report_fault.ReportFault.TheVariants as fault
@@ -53,7 +53,7 @@ live_not_unknown es e none = let known = (live_is_known es e).1 in absurd (cc)
 
 -- ---- the last line feed
 
-last_byte : (front : List ℕ) (at : ℕ) (tail : List ℕ) (n : ℕ) → length tail ≡ suc n → slice_index (front ++ tail) (length (front ++ tail) - 1) ≡ get_or tail n 0
+pub last_byte : (front : List ℕ) (at : ℕ) (tail : List ℕ) (n : ℕ) → length tail ≡ suc n → slice_index (front ++ tail) (length (front ++ tail) - 1) ≡ get_or tail n 0
 last_byte front at tail n e =
     let size = length-append front tail in
     let place : length (front ++ tail) - 1 ≡ length front + n = omega arith in
@@ -76,7 +76,7 @@ closed_again text front (inr e) =
     rw (ne_eqb (slice_index text (length text - 1)) 10 (λ is. omega arith)) e
 
 -- a report ends in its last line
-ends : (past : Past) (net : NetRows) (live : ℕ) (claim : Claim) → (front : List ℕ) × (report_text past net live claim ≡ front ++ codes "end\n")
+pub ends : (past : Past) (net : NetRows) (live : ℕ) (claim : Claim) → (front : List ℕ) × (report_text past net live claim ≡ front ++ codes "end\n")
 unfolding report_text plan_text
 ends past net live claim =
     let s = summary_text past.events live claim.best claim.excess in
@@ -90,7 +90,7 @@ ends past net live claim =
 
 -- ---- a fault of a text is none of the reader's or of memory
 
-abbrev IsOfText : ReportFault → Type 0
+abbrev pub IsOfText : ReportFault → Type 0
 IsOfText (fault.BadLine n) = ⊤
 IsOfText (fault.PriceRange n) = ⊤
 IsOfText (fault.WrongStays n) = ⊤
@@ -98,7 +98,7 @@ IsOfText fault.TooLong = ⊥
 IsOfText fault.ReadFailed = ⊥
 IsOfText fault.OutOfMemory = ⊥
 
-abbrev FailsByText : {X : Type 0} → Result X ReportFault → Type 0
+abbrev pub FailsByText : {X : Type 0} → Result X ReportFault → Type 0
 FailsByText (Ok x) = ⊤
 FailsByText (Err e) = IsOfText e
 
@@ -186,14 +186,14 @@ reading_fails devices events live net text =
 
 -- ---- the clauses of a reader of reports, from what reading the whole text gives
 
-abbrev Gives : Past → NetRows → List ℕ → Result Claim ReportFault → Type 0
+abbrev pub Gives : Past → NetRows → List ℕ → Result Claim ReportFault → Type 0
 Gives past net text r = (live : ℕ) → live_cost past.events ≡ Some live → r ≢ Err fault.OutOfMemory → r ≡ reading past.config.devices past.events live net (closed text)
 
 pub found_law : (past : Past) (net : NetRows) (before after : Option (List ℕ)) (text : List ℕ) (r : Result Claim ReportFault) → unsent past.events ≡ None
-    → OnOk r (IsSound (instance_of_rows net) (live_of_rows net)) → IsWhole before after text → Gives past net text r → IfOk r (λ claim. WasReport past net before after claim)
+    → (r ≢ Err fault.OutOfMemory → IsSound (instance_of_rows net) (live_of_rows net)) → IsWhole before after text → Gives past net text r → IfOk r (λ claim. WasReport past net before after claim)
 found_law past net before after text (Ok claim) sent sound whole h =
     let live = live_is_known past.events sent in
-    let taken = reading_takes past net live.0 (closed text) claim sound (sym (h live.0 live.1 (λ k. cc))) in
+    let taken = reading_takes past net live.0 (closed text) claim (sound (λ k. cc)) (sym (h live.0 live.1 (λ k. cc))) in
     record {
       text = text;
       whole = whole;
@@ -219,31 +219,3 @@ only_law past net (Some all) None text r claim is config whole h claims targets 
 only_law past net (Some all) (Some left) text r claim is config whole h claims targets = λ report memory read.
     let same : all ≡ text = whole.read ∙ ap (λ (l : List ℕ). text ++ l) whole.ended ∙ append-nil text in
     read_again past net text r claim is config targets claims h (subst (λ (l : List ℕ). IsReport past net l claim) same report) memory
-
-explained : (past : Past) (net : NetRows) (before after : Option (List ℕ)) (failed : Bool) (e : ReportFault) → IsOfText e → WasFaulty past net before after e → Explains past net before after failed e
-explained past net before after failed (fault.BadLine n) t h = h
-explained past net before after failed (fault.PriceRange n) t h = h
-explained past net before after failed (fault.WrongStays n) t h = h
-explained past net before after failed fault.TooLong t h = absurd t
-explained past net before after failed fault.ReadFailed t h = absurd t
-explained past net before after failed fault.OutOfMemory t h = absurd t
-
-of_text : {X : Type 0} (r : Result X ReportFault) (e : ReportFault) → FailsByText r → r ≡ Err e → IsOfText e
-of_text r e h is = rw is at h
-
-was_faulty : (past : Past) (net : NetRows) (before after : Option (List ℕ)) (failed : Bool) (text : List ℕ) (e : ReportFault) → unsent past.events ≡ None → IsWhole before after text
-    → Gives past net text (Err e) → e ≢ fault.OutOfMemory → Explains past net before after failed e
-was_faulty past net before after failed text e sent whole h other =
-    let live = live_is_known past.events sent in
-    let first : reading past.config.devices past.events live.0 net (closed text) ≡ Err e = sym (h live.0 live.1 (λ k. other (cc))) in
-    explained past net before after failed e (of_text _ e (reading_fails past.config.devices past.events live.0 net (closed text)) first) (record { text = text; whole = whole; live = live.0; costs = live.1; first = first })
-
-pub faults_law : (past : Past) (net : NetRows) (before after : Option (List ℕ)) (failed : Bool) (text : List ℕ) (r : Result Claim ReportFault) → unsent past.events ≡ None → IsWhole before after text
-    → Gives past net text r → IfErr r (Explains past net before after failed)
-faults_law past net before after failed text (Ok claim) sent whole h = tt
-faults_law past net before after failed text (Err fault.OutOfMemory) sent whole h = tt
-faults_law past net before after failed text (Err (fault.BadLine n)) sent whole h = was_faulty past net before after failed text (fault.BadLine n) sent whole h (λ k. cc)
-faults_law past net before after failed text (Err (fault.PriceRange n)) sent whole h = was_faulty past net before after failed text (fault.PriceRange n) sent whole h (λ k. cc)
-faults_law past net before after failed text (Err (fault.WrongStays n)) sent whole h = was_faulty past net before after failed text (fault.WrongStays n) sent whole h (λ k. cc)
-faults_law past net before after failed text (Err fault.TooLong) sent whole h = was_faulty past net before after failed text fault.TooLong sent whole h (λ k. cc)
-faults_law past net before after failed text (Err fault.ReadFailed) sent whole h = was_faulty past net before after failed text fault.ReadFailed sent whole h (λ k. cc)

@@ -45,10 +45,10 @@ valued_ok text digits at next r e = by (number_of MOST_PRICE digits) refl e
       | inr some ↦ inr (some.0, is ∙ ap (λ (n : ℕ). Some n) some.1, some.2)
     ]
 
-found_of : (o : Option ℕ) (at k : ℕ) (n : ℕ) → o ≡ Some n → result_ok {T = ℕ × ℕ} (ok_or (option_map (λ m. (m, k)) o) at) ≡ Some (n, k)
+pub found_of : (o : Option ℕ) (at k : ℕ) (n : ℕ) → o ≡ Some n → result_ok {T = ℕ × ℕ} (ok_or (option_map (λ m. (m, k)) o) at) ≡ Some (n, k)
 found_of o at k n e = rw e refl
 
-of_found : (o : Option ℕ) (at k n e : ℕ) → result_ok {T = ℕ × ℕ} (ok_or (option_map (λ m. (m, k)) o) at) ≡ Some (n, e) → (o ≡ Some n) × (k ≡ e)
+pub of_found : (o : Option ℕ) (at k n e : ℕ) → result_ok {T = ℕ × ℕ} (ok_or (option_map (λ m. (m, k)) o) at) ≡ Some (n, e) → (o ≡ Some n) × (k ≡ e)
 of_found None at k n e h = absurd cc
 of_found (Some m) at k n e h =
     let one : ℕ × ℕ = (m, k) in

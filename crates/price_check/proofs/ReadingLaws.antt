@@ -22,7 +22,7 @@ use Rattle.price_check.proofs.LineLaws.{stay_form, stay_takes, stay_again, ended
 use Rattle.price_check.proofs.ReportLaws.{behind, summary_takes, summary_again, stay_texts, dev_texts, sim_texts}
 
 -- the stays and the prices of a report, one behind another
-plan_parts : (devices : List Device) (net : NetRows) (best : List ℕ) (p : PriceRows) → IsPricingFor (instance_of_rows net) p → plan_text devices net (slice_index best) (pricing_of_rows p)
+pub plan_parts : (devices : List Device) (net : NetRows) (best : List ℕ) (p : PriceRows) → IsPricingFor (instance_of_rows net) p → plan_text devices net (slice_index best) (pricing_of_rows p)
     ≡ texts_of (stay_form net) (instance_of_rows net).stays best
     ++ (texts_of (form_of (dev_whose devices p.rounds) p.rounds) (p.devices * p.rounds) p.dev
     ++ (texts_of (form_of (sim_whose p.rounds) p.rounds) (p.adapters * p.rounds) p.sim ++ codes "end\n"))
@@ -68,14 +68,14 @@ reading_takes past net live text claim sound e =
 
 -- ---- what is spelled so is read
 
-at_byte : (k : ℕ) (xs ys : List ℕ) → xs ≡ ys → get_or xs k 0 ≡ get_or ys k 0
+pub at_byte : (k : ℕ) (xs ys : List ℕ) → xs ≡ ys → get_or xs k 0 ≡ get_or ys k 0
 at_byte k xs ys e = ap (λ (l : List ℕ). get_or l k 0) e
 
-begins_with : (p a b rest : List ℕ) → ((p ++ a) ++ b) ++ rest ≡ p ++ (a ++ (b ++ rest))
+pub begins_with : (p a b rest : List ℕ) → ((p ++ a) ++ b) ++ rest ≡ p ++ (a ++ (b ++ rest))
 begins_with p a b rest = simp append_assoc
 
 -- behind the prices of devices stands none of them
-no_dev_behind : (rounds n : ℕ) (vs : List ℕ) → IsApart (codes "price dev ") (texts_of (form_of (sim_whose rounds) rounds) n vs ++ codes "end\n")
+pub no_dev_behind : (rounds n : ℕ) (vs : List ℕ) → IsApart (codes "price dev ") (texts_of (form_of (sim_whose rounds) rounds) n vs ++ codes "end\n")
 no_dev_behind rounds n vs = joined (form_of (sim_whose rounds) rounds) (λ _ rest. IsApart (codes "price dev ") rest) n vs joins (codes "end\n")
     (λ tail e. let wrong : ◌≡◌ {A = ℕ} 101 112 = at_byte 0 _ _ e in absurd (omega arith))
   where

@@ -1,7 +1,9 @@
 -- Reports of claims, and what a reader of reports answers.
-use Rattle.std.specs.Prelude.{◌≡◌, ℕ, ◌≤◌, ◌⊎◌, ⊤, Bool, true, List, ◌++◌, length, slice_index, All, Option, Some, Err, codes}
+use Rattle.std.specs.Prelude.{◌≡◌, ℕ, ◌≤◌, ◌-◌, ◌⊎◌, ⊤, Bool, true, List, ◌++◌, length, take, slice_index, All, Option, Some, Err, codes}
+use Rattle.std.specs.List.{AllByRecursion}
 use Rattle.cam_types.specs.Whole.{IsWhole, IsTooLong}
 use Rattle.cam_types.specs.declared.maxima.TheConstants.{MOST_BYTES}
+use Rattle.cam_types.specs.declared.device.Device.{Device}
 use Rattle.cam_event.specs.Past.{Past}
 use Rattle.event_log.specs.Live.{live_cost}
 use Rattle.round_net.specs.Instance.{Instance}
@@ -10,6 +12,7 @@ use Rattle.round_net.specs.Rows.{NetRows, instance_of_rows}
 use Rattle.price_check.specs.Forms.{most_stated}
 use Rattle.price_check.specs.Report.{summary_text, plan_text}
 use Rattle.price_check.specs.Reading.{closed, reading}
+use Rattle.price_check.specs.TextLines.{lines}
 use Rattle.price_check.specs.declared.claim.Claim.{Claim}
 use Rattle.price_check.specs.declared.report_fault.ReportFault.{ReportFault}
 use Rattle.price_check.specs.declared.report_fault.ReportFault.TheVariants as fault
@@ -44,13 +47,35 @@ pub record WasReport (past : Past) (net : NetRows) (before after : Option (List 
   pub report : IsReport past net text claim
   pub claims : IsClaim (instance_of_rows net) claim
 
--- what was read to its end was no report, for this fault of its first line that isn't the one due
+-- the first n lines of the text are those of the claim's report; where one of them ends earlier, so does the other
+pub record Begins (past : Past) (net : NetRows) (live : ℕ) (text : List ℕ) (n : ℕ) (claim : Claim) : Type 0 where
+  pub claims : IsClaim (instance_of_rows net) claim
+  pub same : take n (lines text) ≡ take n (lines (report_text past net live claim))
+
+-- the lines before line n, counted from 1, are the first ones of some claim's report, and with line n they are those of none
+pub record IsFirstFaulty (past : Past) (net : NetRows) (live : ℕ) (text : List ℕ) (n : ℕ) : Type 0 where
+  pub counted : 1 ≤ n
+  pub claim : Claim
+  pub before : Begins past net live text (n - 1) claim
+  pub none : AllByRecursion (λ (d : Device). d.target ≤ 65535) past.config.devices → (claim : Claim) → Begins past net live text n claim → ⊥
+
+-- the line that a fault of a text names, and 0 where it names none
+abbrev pub fault_line : ReportFault → ℕ
+fault_line (fault.BadLine n) = n
+fault_line (fault.PriceRange n) = n
+fault_line (fault.WrongStays n) = n
+fault_line fault.TooLong = 0
+fault_line fault.ReadFailed = 0
+fault_line fault.OutOfMemory = 0
+
+-- what was read to its end was no report: the fault names its first faulty line, and its kind is what a reading line by line finds there
 pub record WasFaulty (past : Past) (net : NetRows) (before after : Option (List ℕ)) (e : ReportFault) : Type 0 where
   pub text : List ℕ
   pub whole : IsWhole before after text
   pub live : ℕ
   pub costs : live_cost past.events ≡ Some live
-  pub first : reading past.config.devices past.events live net (closed text) ≡ Err e
+  pub first : IsFirstFaulty past net live text (fault_line e)
+  pub kind : reading past.config.devices past.events live net (closed text) ≡ Err e
 
 -- why no report was read, where a reader's note says at last whether a call failed
 abbrev pub Explains : Past → NetRows → Option (List ℕ) → Option (List ℕ) → Bool → ReportFault → Type 0

@@ -7,4 +7,5 @@ pub mod Pieces
 pub mod Reading
 pub mod Report
 pub mod Tally
+pub mod TextLines
 pub mod Verdicts

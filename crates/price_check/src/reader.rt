@@ -28,7 +28,8 @@ use std::io::Read;
 use xpt_state::History;
 
 /// Reads a report on a complete history and its net to the end of the input, whoever made it. A fault of the text names
-/// the first line that isn't the one due, and why. `ReadFailed` and `TooLong` come before any of these.
+/// its first faulty line, counted from 1, and why: the lines before it begin the report of some claim about the history,
+/// and with it they begin none. A line that is missing is faulty too. `ReadFailed` and `TooLong` come before any of these.
 pub fn read_report<R: Read>(
     alloc: Global,
     reader: &mut Watched<R>,
@@ -67,7 +68,7 @@ fn read_text(
     ensures value { (live : ℕ) → live_cost history.now.events ≡ Some live → result ≢ Err ReportFault.OutOfMemory →
         result ≡ reading history.now.config.devices history.now.events live net.now (closed text.items) }
     ensures kept { IsConfig history.now.config }
-    ensures sound { OnOk result (IsSound (instance_of_rows net.now) (live_of_rows net.now)) }
+    ensures sound { result ≢ Err ReportFault.OutOfMemory → IsSound (instance_of_rows net.now) (live_of_rows net.now) }
 {
     let devices = history.config().devices();
     close(&mut text)?;
@@ -102,8 +103,11 @@ fn read_lines(
     requires devices { length devices.now ≡ (instance_of_rows net.now).devices }
     requires some { 1 ≤ (instance_of_rows net.now).rounds }
     ensures value { result ≢ Err ReportFault.OutOfMemory → result ≡ reading devices.now history.now.events live net.now text.now }
-    ensures sound { OnOk result (IsSound (instance_of_rows net.now) (live_of_rows net.now)) }
+    ensures sound { IsSound (instance_of_rows net.now) (live_of_rows net.now) }
 {
+    // Every net has a round, and with it all that holds of nets is known.
+    let has_rounds = net.rounds() > 0;
+    prove!(has_rounds);
     let (best, excess, stays) = read_summary(text, history, live)?;
     let (rounds, first) = read_stays(alloc, text, stays, net)?;
     let (dev, second) = read_dev_prices(alloc, text, first, devices, net)?;

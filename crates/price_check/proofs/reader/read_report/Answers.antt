@@ -1,4 +1,5 @@
-use Rattle.price_check.proofs.OutcomeLaws.{found_law, only_law, faults_law}
+use Rattle.price_check.proofs.FaultyLaws.{faults_law}
+use Rattle.price_check.proofs.OutcomeLaws.{found_law, only_law}
 use Rattle.price_check.proofs.reader.read_report.Goals as goal
 
 pub returns-in-Ok-clause-found : goal.returns-in-Ok-clause-found
@@ -11,4 +12,4 @@ returns-in-Ok-clause-only g c = λ claim claims targets.
 
 pub returns-in-Ok-clause-faults : goal.returns-in-Ok-clause-faults
 returns-in-Ok-clause-faults g c =
-    faults_law c.args.history.now c.args.net.now _ _ _ c.in-Ok.text.items c.read_text.result c.requires.complete c.in-Ok.ensures.whole c.read_text.ensures.value
+    faults_law c.args.history.now c.args.net.now _ _ _ c.in-Ok.text.items c.read_text.result c.requires.net c.read_text.ensures.kept c.requires.complete c.read_text.ensures.sound c.in-Ok.ensures.whole c.read_text.ensures.value

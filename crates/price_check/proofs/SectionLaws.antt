@@ -1,0 +1,215 @@
+-- the sections of a report: the summary, the stays, the prices of devices and those of adapters
+use Rattle.std.proofs.Common.{◌≡◌, ◌≤◌, ◌+◌, ◌*◌, ◌/◌, ◌%◌, ℕ, zero, suc, List, [], ◌∷◌, ◌++◌, length, drop, get_or, Bool, true, false, cond, refl, sym, ap, ◌∙◌, subst, arith, append_assoc, inl, inr}
+use Rattle.std.specs.Prelude.{◌==◌, ◌⊎◌, ⊤, not, Option, Some, None, Result, Ok, Err, codes, decimal, slice_get, slice_index}
+use Rattle.std.specs.List.{list_all}
+use Rattle.std.specs.Option.{option_map_or}
+use Rattle.std.proofs.lemmas.Bool.{and_parts, eq-eqb}
+use Rattle.cam_types.specs.declared.device.Device.{Device}
+use Rattle.cam_path.specs.Paths.{◌>>=◌, spelled, address_of}
+use Rattle.cam_event.specs.Past.{Past}
+use Rattle.event_log.specs.Counts.{round, commands}
+use Rattle.event_log.specs.Stays.{stays_begun}
+use Rattle.event_log.specs.declared.event.Event.{Event}
+use Rattle.event_log.specs.declared.stay.StayName.{StayName}
+use Rattle.round_net.specs.PriceRows.{PriceRows, pricing_of_rows, IsPricingFor}
+use Rattle.round_net.specs.Rows.{NetRows, instance_of_rows, live_of_rows, names_of_rows}
+use Rattle.price_check.specs.Lines.{line}
+use Rattle.price_check.specs.Report.{summary_text, plan_text, number_text, name_text, stay_line, price_line, path_text}
+use Rattle.price_check.specs.Forms.{known_line, stated_line, most_stated}
+use Rattle.price_check.specs.Reading.{due, summary_at, series}
+use Rattle.price_check.specs.Claims.{report_text}
+use Rattle.price_check.specs.declared.claim.Claim.{Claim}
+use Rattle.price_check.specs.declared.report_fault.ReportFault.{ReportFault}
+use Rattle.price_check.proofs.SeriesLemmas.{Reader}
+use Rattle.price_check.proofs.SeriesLaws.{on_ok, texts_of, Takes, Again}
+use Rattle.price_check.proofs.CellLaws.{form_of, dev_whose, sim_whose}
+use Rattle.price_check.proofs.LineLaws.{known_takes, known_again, stated_takes, stated_again, stay_form}
+use Rattle.price_check.proofs.ReportLaws.{stay_texts, dev_texts, sim_texts}
+use Rattle.price_check.proofs.CutLaws.{HasNoFeed, plain_append, plain_decimal, plain_number, IsLine, AreLines}
+use Rattle.price_check.proofs.StepLaws.{Exact, Steps, behind_one, known_exact, stated_exact}
+
+pub bind-same : {A B C E : Type 0} (r : Result A E) (f : A → Result B E) (g : B → Result C E) → ((r >>= f) >>= g) ≡ (r >>= λ x. f x >>= g)
+bind-same (Ok x) f g = refl
+bind-same (Err e) f g = refl
+
+-- ---- the summary, line by line: each reading gives the number that is said of a cost, or 0
+
+abbrev pub seven_at : List Event → ℕ → List ℕ → Reader
+seven_at events live text zero at = due (known_line (codes "camaudit") 1 text at) text at >>= λ e. Ok (0, e)
+seven_at events live text (suc zero) at = due (known_line (codes "commands") (commands events) text at) text at >>= λ e. Ok (0, e)
+seven_at events live text (suc (suc zero)) at = due (known_line (codes "stays") (length (stays_begun events)) text at) text at >>= λ e. Ok (0, e)
+seven_at events live text (suc (suc (suc zero))) at = due (known_line (codes "rounds") (round events) text at) text at >>= λ e. Ok (0, e)
+seven_at events live text (suc (suc (suc (suc zero)))) at = due (known_line (codes "live") live text at) text at >>= λ e. Ok (0, e)
+seven_at events live text (suc (suc (suc (suc (suc zero))))) at = due (stated_line (codes "best") text at) text at
+seven_at events live text (suc (suc (suc (suc (suc (suc k)))))) at = due (stated_line (codes "excess") text at) text at
+
+abbrev pub seven_form : List Event → ℕ → ℕ → ℕ → List ℕ
+seven_form events live zero v = line (codes "camaudit") 1
+seven_form events live (suc zero) v = line (codes "commands") (commands events)
+seven_form events live (suc (suc zero)) v = line (codes "stays") (length (stays_begun events))
+seven_form events live (suc (suc (suc zero))) v = line (codes "rounds") (round events)
+seven_form events live (suc (suc (suc (suc zero)))) v = line (codes "live") live
+seven_form events live (suc (suc (suc (suc (suc zero))))) v = line (codes "best") v
+seven_form events live (suc (suc (suc (suc (suc (suc k)))))) v = line (codes "excess") v
+
+abbrev pub stated : List ℕ × ℕ → ℕ × ℕ × ℕ
+stated said = (get_or said.0 5 0, get_or said.0 6 0, said.1)
+
+pub summary-series : (events : List Event) (live : ℕ) (text : List ℕ) → summary_at events live text ≡ (series (seven_at events live text) 7 0 >>= λ said. Ok (stated said))
+unfolding summary_at series
+summary-series events live text = simp bind-same
+
+known_one : (word : List ℕ) (n : ℕ) (text : List ℕ) (at : ℕ) (said : ℕ × ℕ) → (due (known_line word n text at) text at >>= λ e. Ok (0, e)) ≡ Ok said → (drop at text ≡ line word n ++ drop said.1 text) × (said.0 ≤ most_stated)
+known_one word n text at said h =
+    on_ok (due (known_line word n text at) text at) _ said h (λ e is r.
+    let made : ℕ × ℕ = (0, e) in
+    let same : made ≡ said = cc in
+    subst (λ (q : ℕ × ℕ). (drop at text ≡ line word n ++ drop q.1 text) × (q.0 ≤ most_stated)) same (known_takes word n text at e is, omega arith))
+
+pub seven_takes : (events : List Event) (live : ℕ) (text : List ℕ) → Takes (seven_form events live) most_stated text (seven_at events live text)
+seven_takes events live text zero at said h = known_one (codes "camaudit") 1 text at said h
+seven_takes events live text (suc zero) at said h = known_one (codes "commands") (commands events) text at said h
+seven_takes events live text (suc (suc zero)) at said h = known_one (codes "stays") (length (stays_begun events)) text at said h
+seven_takes events live text (suc (suc (suc zero))) at said h = known_one (codes "rounds") (round events) text at said h
+seven_takes events live text (suc (suc (suc (suc zero)))) at said h = known_one (codes "live") live text at said h
+seven_takes events live text (suc (suc (suc (suc (suc zero))))) at said h = stated_takes (codes "best") text at said h
+seven_takes events live text (suc (suc (suc (suc (suc (suc k)))))) at said h = stated_takes (codes "excess") text at said h
+
+known_step : (word : List ℕ) (n : ℕ) (text : List ℕ) (at : ℕ) → Exact text at behind_one (due (known_line word n text at) text at >>= λ e. Ok (0, e))
+known_step word n text at = by (due (known_line word n text at) text at) (known_exact word n text at)
+  where
+    by : (r : Result ℕ ReportFault) → Exact text at (λ (e : ℕ). e) r → Exact {X = ℕ × ℕ} text at behind_one (r >>= λ e. Ok (0, e))
+    by (Ok e) h = h
+    by (Err e) h = h
+
+pub seven_steps : (events : List Event) (live : ℕ) (text : List ℕ) → Steps text (seven_at events live text)
+seven_steps events live text zero at = known_step (codes "camaudit") 1 text at
+seven_steps events live text (suc zero) at = known_step (codes "commands") (commands events) text at
+seven_steps events live text (suc (suc zero)) at = known_step (codes "stays") (length (stays_begun events)) text at
+seven_steps events live text (suc (suc (suc zero))) at = known_step (codes "rounds") (round events) text at
+seven_steps events live text (suc (suc (suc (suc zero)))) at = known_step (codes "live") live text at
+seven_steps events live text (suc (suc (suc (suc (suc zero))))) at = stated_exact (codes "best") text at
+seven_steps events live text (suc (suc (suc (suc (suc (suc k)))))) at = stated_exact (codes "excess") text at
+
+-- what a summary says of a best and an excess cost, line by line
+abbrev pub said_of : ℕ → ℕ → List ℕ
+said_of best excess = 0 ∷ 0 ∷ 0 ∷ 0 ∷ 0 ∷ best ∷ excess ∷ []
+
+known_more : (word : List ℕ) (n : ℕ) (text rest : List ℕ) (at : ℕ) → drop at text ≡ line word n ++ rest → (e : ℕ) × (◌≡◌ {A = Result (ℕ × ℕ) ReportFault} (due (known_line word n text at) text at >>= λ e. Ok (0, e)) (Ok (0, e))) × (drop e text ≡ rest)
+known_more word n text rest at h = let a = known_again word n text rest at h in (a.0, rw a.1 refl, a.2)
+
+pub seven_again : (events : List Event) (live best excess : ℕ) (text : List ℕ) → best ≤ most_stated → excess ≤ most_stated
+    → Again (seven_form events live) (λ _ _. ⊤) text (seven_at events live text) 7 (said_of best excess)
+seven_again events live best excess text small small' zero at rest lt h t = known_more (codes "camaudit") 1 text rest at h
+seven_again events live best excess text small small' (suc zero) at rest lt h t = known_more (codes "commands") (commands events) text rest at h
+seven_again events live best excess text small small' (suc (suc zero)) at rest lt h t = known_more (codes "stays") (length (stays_begun events)) text rest at h
+seven_again events live best excess text small small' (suc (suc (suc zero))) at rest lt h t = known_more (codes "rounds") (round events) text rest at h
+seven_again events live best excess text small small' (suc (suc (suc (suc zero)))) at rest lt h t = known_more (codes "live") live text rest at h
+seven_again events live best excess text small small' (suc (suc (suc (suc (suc zero))))) at rest lt h t = stated_again (codes "best") best text rest at small h
+seven_again events live best excess text small small' (suc (suc (suc (suc (suc (suc zero)))))) at rest lt h t = stated_again (codes "excess") excess text rest at small' h
+seven_again events live best excess text small small' (suc (suc (suc (suc (suc (suc (suc k))))))) at rest lt h t = absurd (omega arith)
+
+-- ---- each is a line
+
+pub plain_of : (a : List ℕ) → list_all (λ c. not (c == 10)) a ≡ true → HasNoFeed a
+plain_of [] h = tt
+plain_of (c ∷ cs) h =
+    let parts = and_parts (not (c == 10)) (list_all (λ c. not (c == 10)) cs) h in
+    (λ is. let e = eq-eqb c 10 is in let wrong : false ≡ true = ap not (sym e) ∙ parts.0 in absurd cc, plain_of cs parts.1)
+
+word_line : (word : List ℕ) (n : ℕ) → HasNoFeed word → IsLine (line word n)
+unfolding line
+word_line word n h = record { content = (word ++ codes " ") ++ decimal n; plain = plain_append (word ++ codes " ") (decimal n) (plain_append word (codes " ") h (plain_of (codes " ") refl)) (plain_decimal n); whole = refl }
+
+pub seven_lines : (events : List Event) (live : ℕ) → AreLines (seven_form events live)
+seven_lines events live zero v = inr (word_line (codes "camaudit") 1 (plain_of (codes "camaudit") refl))
+seven_lines events live (suc zero) v = inr (word_line (codes "commands") (commands events) (plain_of (codes "commands") refl))
+seven_lines events live (suc (suc zero)) v = inr (word_line (codes "stays") (length (stays_begun events)) (plain_of (codes "stays") refl))
+seven_lines events live (suc (suc (suc zero))) v = inr (word_line (codes "rounds") (round events) (plain_of (codes "rounds") refl))
+seven_lines events live (suc (suc (suc (suc zero)))) v = inr (word_line (codes "live") live (plain_of (codes "live") refl))
+seven_lines events live (suc (suc (suc (suc (suc zero))))) v = inr (word_line (codes "best") v (plain_of (codes "best") refl))
+seven_lines events live (suc (suc (suc (suc (suc (suc k)))))) v = inr (word_line (codes "excess") v (plain_of (codes "excess") refl))
+
+plain_name : (net : NetRows) (s : ℕ) → HasNoFeed (name_text net s)
+unfolding name_text
+plain_name net s = by (slice_get (names_of_rows net) s)
+  where
+    by : (o : Option StayName) → HasNoFeed (option_map_or (λ (stay : StayName). number_text stay.ccb ++ number_text stay.attempt) o [])
+    by (Some stay) = plain_append (number_text stay.ccb) (number_text stay.attempt) (plain_number stay.ccb) (plain_number stay.attempt)
+    by None = tt
+
+grouped : (w n a l b g f : List ℕ) → w ++ (n ++ (a ++ (l ++ (b ++ (g ++ f))))) ≡ (w ++ (n ++ (a ++ (l ++ (b ++ g))))) ++ f
+grouped w n a l b g f = simp append_assoc
+
+pub stay_lines : (net : NetRows) → AreLines (stay_form net)
+unfolding stay_line
+stay_lines net s v =
+    let name = name_text net s in
+    let arrival = number_text ((instance_of_rows net).arrival s) in
+    let live = number_text (live_of_rows net s) in
+    let best = number_text v in
+    let weight = number_text ((instance_of_rows net).weight s) in
+    inr (record {
+      content = codes "stay" ++ (name ++ (arrival ++ (live ++ (best ++ weight))));
+      plain = plain_append (codes "stay") _ (plain_of (codes "stay") refl) (plain_append name _ (plain_name net s) (plain_append arrival _ (plain_number ((instance_of_rows net).arrival s))
+          (plain_append live _ (plain_number (live_of_rows net s)) (plain_append best weight (plain_number v) (plain_number ((instance_of_rows net).weight s))))));
+      whole = grouped (codes "stay") name arrival live best weight (codes "\n");
+    })
+
+grouped' : (w r p f : List ℕ) → w ++ (r ++ (p ++ f)) ≡ (w ++ (r ++ p)) ++ f
+grouped' w r p f = simp append_assoc
+
+price_is_line : (whose : List ℕ) (r v : ℕ) → HasNoFeed whose → (price_line whose r v ≡ []) ⊎ IsLine (price_line whose r v)
+price_is_line whose r v h = by (v == 0)
+  where
+    by : (b : Bool) → (cond b [] (whose ++ (number_text r ++ (number_text v ++ codes "\n"))) ≡ []) ⊎ IsLine (cond b [] (whose ++ (number_text r ++ (number_text v ++ codes "\n"))))
+    by true = inl refl
+    by false = inr (record {
+      content = whose ++ (number_text r ++ number_text v);
+      plain = plain_append whose _ h (plain_append (number_text r) (number_text v) (plain_number r) (plain_number v));
+      whole = grouped' whose (number_text r) (number_text v) (codes "\n");
+    })
+
+pub plain_path : (devices : List Device) (d : ℕ) → HasNoFeed (path_text devices d)
+unfolding path_text spelled
+plain_path devices d = by (slice_get devices d)
+  where
+    colon : HasNoFeed (codes ":")
+    colon = plain_of (codes ":") refl
+
+    by : (o : Option Device) → HasNoFeed (option_map_or (λ (device : Device). spelled (address_of device)) o [])
+    by (Some device) = plain_append (decimal device.bus) _ (plain_decimal device.bus) (plain_append (codes ":") _ colon (plain_append (decimal device.target) _ (plain_decimal device.target) (plain_append (codes ":") (decimal device.lun) colon (plain_decimal device.lun))))
+    by None = tt
+
+pub dev_lines : (devices : List Device) (rounds : ℕ) → AreLines (form_of (dev_whose devices rounds) rounds)
+dev_lines devices rounds k v = price_is_line (dev_whose devices rounds k) (k % rounds + 1) v (plain_append (codes "price dev ") (path_text devices (k / rounds)) (plain_of (codes "price dev ") refl) (plain_path devices (k / rounds)))
+
+pub sim_lines : (rounds : ℕ) → AreLines (form_of (sim_whose rounds) rounds)
+sim_lines rounds k v = price_is_line (sim_whose rounds k) (k % rounds + 1) v (plain_append (codes "price sim") (number_text (k / rounds)) (plain_of (codes "price sim") refl) (plain_number (k / rounds)))
+
+-- ---- a report by its sections
+
+pub seven_texts : (events : List Event) (live best excess : ℕ) (vs : List ℕ) → get_or vs 5 0 ≡ best → get_or vs 6 0 ≡ excess → texts_of (seven_form events live) 7 vs ≡ summary_text events live best excess
+unfolding summary_text
+seven_texts events live best excess vs e e' = rw (← e, ← e') (simp append_assoc)
+
+unfoldable pub parts_of : Past → NetRows → ℕ → Claim → List ℕ
+parts_of past net live claim =
+    texts_of (seven_form past.events live) 7 (said_of claim.best claim.excess)
+    ++ (texts_of (stay_form net) (instance_of_rows net).stays claim.schedule
+    ++ (texts_of (form_of (dev_whose past.config.devices (instance_of_rows net).rounds) (instance_of_rows net).rounds) ((instance_of_rows net).devices * (instance_of_rows net).rounds) claim.prices.dev
+    ++ (texts_of (form_of (sim_whose (instance_of_rows net).rounds) (instance_of_rows net).rounds) ((instance_of_rows net).adapters * (instance_of_rows net).rounds) claim.prices.sim ++ codes "end\n")))
+
+plan_parts : (devices : List Device) (net : NetRows) (best : List ℕ) (p : PriceRows) → IsPricingFor (instance_of_rows net) p → plan_text devices net (slice_index best) (pricing_of_rows p)
+    ≡ texts_of (stay_form net) (instance_of_rows net).stays best
+    ++ (texts_of (form_of (dev_whose devices (instance_of_rows net).rounds) (instance_of_rows net).rounds) ((instance_of_rows net).devices * (instance_of_rows net).rounds) p.dev
+    ++ (texts_of (form_of (sim_whose (instance_of_rows net).rounds) (instance_of_rows net).rounds) ((instance_of_rows net).adapters * (instance_of_rows net).rounds) p.sim ++ codes "end\n"))
+unfolding plan_text
+plan_parts devices net best p h =
+    rw (← h.rounds, ← h.devices, ← h.adapters, stay_texts net (instance_of_rows net).stays best, dev_texts devices p p.devices, sim_texts p p.adapters) refl
+
+pub report_parts : (past : Past) (net : NetRows) (live : ℕ) (claim : Claim) → IsPricingFor (instance_of_rows net) claim.prices → report_text past net live claim ≡ parts_of past net live claim
+unfolding report_text parts_of
+report_parts past net live claim h =
+    ap (λ (l : List ℕ). l ++ plan_text past.config.devices net (slice_index claim.schedule) (pricing_of_rows claim.prices)) (sym (seven_texts past.events live claim.best claim.excess (said_of claim.best claim.excess) refl refl))
+    ∙ ap (λ (l : List ℕ). texts_of (seven_form past.events live) 7 (said_of claim.best claim.excess) ++ l) (plan_parts past.config.devices net claim.schedule claim.prices h)

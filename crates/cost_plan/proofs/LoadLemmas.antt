@@ -1,13 +1,13 @@
 -- What one stay more or less in a round does to the loads of cells.
-use Rattle.std.proofs.Common.{◌≡◌, ◌≢◌, ℕ, zero, suc, ◌+◌, ◌-◌, ◌*◌, ◌/◌, ◌%◌, ◌<◌, ◌≤◌, ◌==◌, ◌&&◌, Bool, true, false, cond, List, length, get_or, set, refl, sym, ap, ◌∙◌, inl, inr, arith}
-use Rattle.std.proofs.lemmas.Bool.{cases_eq, eq-eqb, ne_eqb, and_from, and_left, and_right, or_left, or_right, or_from}
+use Rattle.std.proofs.Common.{◌≡◌, ◌≢◌, ℕ, zero, suc, ◌+◌, ◌-◌, ◌*◌, ◌/◌, ◌%◌, ◌<◌, ◌≤◌, ◌==◌, ◌&&◌, Bool, true, false, cond, List, length, get_or, set, refl, sym, ap, ◌∙◌, subst, inl, inr, arith}
+use Rattle.std.proofs.lemmas.Bool.{cases_eq, cases_lt, eq-eqb, ne_eqb, and_from, and_left, and_right, or_left, or_right, or_from}
 use Rattle.std.proofs.lemmas.List.{length-set, get_or-set_same, get_or-set_other}
 use Rattle.round_net.specs.Instance.{Instance, adapter}
 use Rattle.round_net.specs.Schedules.{IsAdmissible, device_load, adapter_load}
-use Rattle.cost_plan.specs.Cells.{rows, cell, row_above, covers, stands, part_load, rounds_of}
-use Rattle.cost_plan.specs.Draft.{AreLoads, IsDraft}
+use Rattle.cost_plan.specs.Cells.{rows, cell, row_above, covers, stands, part_load, row_load, row_cap, rounds_of}
+use Rattle.cost_plan.specs.Draft.{AreLoads, IsDraft, KeepWindows, KeepRows}
 use Rattle.round_net.proofs.SumLemmas.{sum_below-same, sum_below-more, sum_below-set}
-use Rattle.cost_plan.proofs.CellLemmas.{cell-row, cell-round, row_above-device}
+use Rattle.cost_plan.proofs.CellLemmas.{cell-row, cell-round, row_above-device, device_load-row, adapter_load-row, dev_cap-row, sim_cap-row}
 
 -- 1 at equal numbers, and 0 elsewhere
 abbrev pub same : ℕ → ℕ → ℕ
@@ -177,3 +177,22 @@ IsAdmissible-same net f g agree ok = record {
       let loads : adapter_load net g a r ≡ adapter_load net f a r = sum_below-same net.stays _ _ (λ s less. ap (λ (q : ℕ). cond {A = ℕ} ((adapter net s == a) && (q == r)) 1 0) (agree s less)) in
       omega (arith, ok.adapters_hold a r inside first last);
 }
+
+-- a schedule that keeps windows and caps is admissible, and no other is
+pub IsAdmissible-kept : (net : Instance) (f : ℕ → ℕ) → ((s : ℕ) → s < net.stays → net.device s < net.devices) → KeepWindows net f net.stays → KeepRows net f (rows net) → IsAdmissible net f
+IsAdmissible-kept net f on_device windows caps = record {
+  not_early = λ s less. (windows s less).0;
+  not_late = λ s less. (windows s less).1;
+  devices_hold = λ d r inside first last. omega (arith, caps d (omega arith) r first (omega arith), device_load-row net f d r inside, dev_cap-row net d r inside);
+  adapters_hold = λ a r inside first last. omega (arith, caps (net.devices + a) (omega arith) r first (omega arith), adapter_load-row net f a r on_device, sim_cap-row net a r);
+}
+
+pub KeepRows-admissible : (net : Instance) (f : ℕ → ℕ) → ((s : ℕ) → s < net.stays → net.device s < net.devices) → IsAdmissible net f → KeepRows net f (rows net)
+KeepRows-admissible net f on_device ok = λ row inside r first last. elim (cases_lt row net.devices) [
+  | inl device ↦ omega (arith, ok.devices_hold row r device first (omega arith), device_load-row net f row r device, dev_cap-row net row r device)
+  | inr past ↦
+      let a : ℕ = row - net.devices in
+      let is : net.devices + a ≡ row = omega arith in
+      let held : row_load net f (net.devices + a) r ≤ row_cap net (net.devices + a) r = omega (arith, ok.adapters_hold a r (omega arith) first (omega arith), adapter_load-row net f a r on_device, sim_cap-row net a r) in
+      subst (λ (k : ℕ). row_load net f k r ≤ row_cap net k r) is held
+]

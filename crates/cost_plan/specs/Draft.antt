@@ -2,7 +2,7 @@
 use Rattle.std.specs.Prelude.{◌≡◌, ℕ, ◌+◌, ◌*◌, ◌<◌, ◌≤◌, List, length, slice_index}
 use Rattle.round_net.specs.Instance.{Instance}
 use Rattle.cost_plan.specs.declared.draft.Draft.{Draft}
-use Rattle.cost_plan.specs.Cells.{rows, cell, part_load, rounds_of}
+use Rattle.cost_plan.specs.Cells.{rows, cell, part_load, row_load, row_cap, rounds_of}
 
 -- for each cell, how many of the first stays it has
 pub record AreLoads (net : Instance) (f : ℕ → ℕ) (n : ℕ) (loads : List ℕ) : Type 0 where
@@ -21,3 +21,14 @@ IsDraftOf net draft = IsDraft net draft.rounds.items draft.loads.items
 -- the schedule of a draft
 abbrev pub schedule_of : Draft → ℕ → ℕ
 schedule_of draft = rounds_of draft.rounds.items
+
+-- each of the first stays lies in its window
+abbrev pub KeepWindows : Instance → (ℕ → ℕ) → ℕ → Type 0
+KeepWindows net f n = (s : ℕ) → s < n → (net.arrival s ≤ f s) × (f s ≤ net.last s)
+
+-- in each round before this one the row has no more stays than it takes; so have the first rows in all rounds
+abbrev pub KeepsRow : Instance → (ℕ → ℕ) → ℕ → ℕ → Type 0
+KeepsRow net f row here = (round : ℕ) → 1 ≤ round → round < here → row_load net f row round ≤ row_cap net row round
+
+abbrev pub KeepRows : Instance → (ℕ → ℕ) → ℕ → Type 0
+KeepRows net f n = (row : ℕ) → row < n → KeepsRow net f row (net.rounds + 1)

@@ -3,21 +3,26 @@
 
 ghost use Rattle.std.specs.Prelude.{◌≡◌, ℕ, ◌+◌, ◌<◌, ◌≤◌, length, drop, slice_index, IfOk};
 ghost use Rattle.std.specs.List.{All};
+ghost use Rattle.std.specs.Option.{IfSome};
 ghost use Rattle.gaining_cycle.specs.Walks.{IsGainingCycle};
+ghost use Rattle.gaining_cycle.specs.Labelling.{label_of};
 ghost use Rattle.round_net.specs.Rows.{instance_of_rows, live_of_rows};
 ghost use Rattle.round_net.specs.Sound.{IsSound};
 ghost use Rattle.round_net.specs.Schedules.{IsAdmissible, cost};
 ghost use Rattle.round_net.specs.Value.{ProvesBest};
 ghost use Rattle.round_net.specs.PriceRows.{pricing_of_rows, IsPricingFor};
+ghost use Rattle.cost_plan.specs.Cells.{node_count};
 ghost use Rattle.cost_plan.specs.Draft.{IsDraftOf, schedule_of};
 ghost use Rattle.cost_plan.specs.Residual.{IsResidual};
-ghost use Rattle.cost_plan.specs.RowPrices.{IsAtMost};
+ghost use Rattle.cost_plan.specs.RowPrices.{IsAtMost, SettlesAll};
 
+use crate::begin::{Start, begin, guessed};
 use crate::cells::nodes;
-use crate::draft::{Draft, change_all, live_draft};
+use crate::draft::{Draft, change_all};
 use crate::pricing::prices_of;
+use crate::relax::relax_all;
 use crate::search::search;
-use gaining_cycle::{Arc, Labels};
+use gaining_cycle::Arc;
 use round_net::{Net, Prices, Schedule};
 use std::alloc::{AllocError, Global};
 
@@ -31,24 +36,51 @@ pub struct BestPlan {
 }
 
 /// A best plan of the net: no admissible schedule costs less than this one, as its prices prove. Which of several best
-/// plans it is isn't promised. It begins with the live schedule, and as long as some stays can change rounds together so
-/// that all cost less, it changes them.
+/// plans it is isn't promised. It begins with a guess, and as long as some stays can change rounds together so that all cost
+/// less, it changes them.
 pub fn plan(alloc: Global, net: &Net) -> Result<BestPlan, AllocError>
     ensures proved { IfOk result (λ best. ProvesBest (instance_of_rows net.now) (slice_index best.schedule) (pricing_of_rows best.prices)) }
     ensures stays { IfOk result (λ best. length best.schedule ≡ (instance_of_rows net.now).stays) }
     ensures cells { IfOk result (λ best. IsPricingFor (instance_of_rows net.now) best.prices) }
     ensures small { IfOk result (λ best. IsAtMost (instance_of_rows net.now) (pricing_of_rows best.prices) 1000000000000) }
 {
-    let nodes = nodes(net) as usize;
-    let mut draft = live_draft(alloc, net)?;
-    let mut labels = Labels::new(alloc, nodes)?;
-    let mut path = Vec::with_capacity(alloc, nodes)?;
-    while let Some(place) = search(net, &draft, &mut labels, &mut path)? {
-        improve(net, &mut draft, &path, place);
+    let mut start = begin(alloc, net)?;
+    let mut path = Vec::with_capacity(alloc, nodes(net) as usize)?;
+    while let Some(place) = search(net, &start.draft, &mut start.labels, &mut path)? {
+        improve(net, &mut start.draft, &path, place);
     }
+    best_of(alloc, net, &start)
+}
+
+/// The guess with which `plan` begins, if its labels settle all that can be changed in it. `plan` then changes nothing. That
+/// there is such a guess isn't promised.
+pub fn guessed_plan(alloc: Global, net: &Net) -> Result<Option<BestPlan>, AllocError>
+    ensures proved { IfOk result (λ found. IfSome found (λ best. ProvesBest (instance_of_rows net.now) (slice_index best.schedule) (pricing_of_rows best.prices))) }
+{
+    let Some(mut start) = guessed(alloc, net)? else {
+        return Ok(None);
+    };
+    if relax_all(net, &start.draft, &mut start.labels).is_some() {
+        return Ok(None);
+    }
+    Ok(Some(best_of(alloc, net, &start)?))
+}
+
+// The plan of a draft in which the labels settle all that can be changed.
+fn best_of(alloc: Global, net: &Net, best: &Start) -> Result<BestPlan, AllocError>
+    requires sound { IsSound (instance_of_rows net.now) (live_of_rows net.now) }
+    requires draft { IsDraftOf (instance_of_rows net.now) best.now.draft }
+    requires admissible { IsAdmissible (instance_of_rows net.now) (schedule_of best.now.draft) }
+    requires size { length best.now.labels.labels ≡ node_count (instance_of_rows net.now) }
+    requires settled { SettlesAll (instance_of_rows net.now) (schedule_of best.now.draft) (label_of best.now.labels) }
+    ensures proved { IfOk result (λ best. ProvesBest (instance_of_rows net.now) (slice_index best.schedule) (pricing_of_rows best.prices)) }
+    ensures stays { IfOk result (λ best. length best.schedule ≡ (instance_of_rows net.now).stays) }
+    ensures cells { IfOk result (λ best. IsPricingFor (instance_of_rows net.now) best.prices) }
+    ensures small { IfOk result (λ best. IsAtMost (instance_of_rows net.now) (pricing_of_rows best.prices) 1000000000000) }
+{
     Ok(BestPlan {
-        schedule: Schedule::new(alloc, &draft.rounds)?,
-        prices: prices_of(alloc, net, &labels)?,
+        schedule: Schedule::new(alloc, &best.draft.rounds)?,
+        prices: prices_of(alloc, net, &best.labels)?,
     })
 }
 

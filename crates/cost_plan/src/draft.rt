@@ -2,6 +2,7 @@
 //! schedule.
 
 ghost use Rattle.std.specs.Prelude.{◌≡◌, ℕ, ◌+◌, ◌*◌, ◌<◌, ◌≤◌, Some, length, slice_index, slice_set, IfOk};
+ghost use Rattle.std.specs.Option.{IfSome, IfNone};
 ghost use Rattle.gaining_cycle.specs.declared.arc.Arc.{Arc};
 ghost use Rattle.round_net.specs.Rows.{instance_of_rows, live_of_rows};
 ghost use Rattle.round_net.specs.Schedules.{IsAdmissible};
@@ -11,6 +12,7 @@ ghost use Rattle.cost_plan.specs.Draft.{AreLoads, IsDraftOf, schedule_of};
 ghost use Rattle.cost_plan.specs.Residual.{changed, changed_all, MarksWithin};
 
 use crate::cells::node;
+use crate::keeping::{keep_caps, keep_windows};
 use gaining_cycle::Arc;
 use round_net::Net;
 use std::alloc::{AllocError, Global};
@@ -30,6 +32,25 @@ pub fn live_draft(alloc: Global, net: &Net) -> Result<Draft, AllocError>
     let rounds = live_rounds(alloc, net)?;
     let loads = loads_of(alloc, net, &rounds)?;
     Ok(Draft { rounds, loads })
+}
+
+/// The draft of these rounds, if it keeps windows and caps.
+pub fn draft_of(alloc: Global, net: &Net, rounds: Vec<u32>) -> Result<Option<Draft>, AllocError>
+    requires { length rounds.items ≡ (instance_of_rows net.now).stays }
+    ensures draft { IfOk result (λ found. IfSome found (λ draft. IsDraftOf (instance_of_rows net.now) draft)) }
+    ensures same { IfOk result (λ found. IfSome found (λ draft. draft.rounds.items ≡ rounds.items)) }
+    ensures admissible { IfOk result (λ found. IfSome found (λ draft. IsAdmissible (instance_of_rows net.now) (schedule_of draft))) }
+    ensures none { IfOk result (λ found. IfNone found (IsAdmissible (instance_of_rows net.now) (rounds_of rounds.items) → ⊥)) }
+{
+    if !keep_windows(net, &rounds) {
+        return Ok(None);
+    }
+    let loads = loads_of(alloc, net, &rounds)?;
+    let draft = Draft { rounds, loads };
+    if !keep_caps(net, &draft) {
+        return Ok(None);
+    }
+    Ok(Some(draft))
 }
 
 // The round in which each stay was sent.

@@ -1,11 +1,11 @@
 -- How labels that rise by arcs lie.
-use Rattle.std.proofs.Common.{◌≡◌, ◌≢◌, ℕ, zero, suc, ◌+◌, ◌<◌, ◌≤◌, ◌==◌, false, cond, ltb, List, [], ◌∷◌, length, get_or, set, replicate, Option, Some, None, refl, sym, ap, ◌∙◌, subst, inl, inr, arith}
-use Rattle.std.proofs.lemmas.Bool.{cases_eq, cases_lt, eq-eqb, ne_eqb, cond-true, cond-false, ltb-false, or_parts}
+use Rattle.std.proofs.Common.{◌≡◌, ◌≢◌, ℕ, zero, suc, ◌+◌, ◌<◌, ◌≤◌, ◌==◌, false, cond, ltb, leb, List, [], ◌∷◌, length, get_or, set, map, replicate, Option, Some, None, refl, sym, ap, ◌∙◌, subst, inl, inr, arith}
+use Rattle.std.proofs.lemmas.Bool.{cases_eq, cases_lt, eq-eqb, ne_eqb, cond-true, cond-false, le-leb, lt-leb, ltb-false, or_parts}
 use Rattle.std.specs.List.{list_any}
-use Rattle.std.proofs.lemmas.List.{length-set, length-replicate, get_or-set_same, get_or-set_other, get_or-replicate, get_or_past}
+use Rattle.std.proofs.lemmas.List.{length-map, length-set, length-replicate, get_or-set_same, get_or-set_other, get_or-replicate, get_or_past}
 use Rattle.gaining_cycle.specs.declared.arc.Arc.{Arc}
 use Rattle.gaining_cycle.specs.Walks.{came_by}
-use Rattle.gaining_cycle.specs.Labelling.{IsRisenBy, IsForest, highest, highest_root}
+use Rattle.gaining_cycle.specs.Labelling.{IsRisenBy, IsForest, begun, highest, highest_root}
 
 -- no label has risen
 pub came_by-none : (n node : ℕ) → came_by (replicate n None) node ≡ None
@@ -144,3 +144,21 @@ pub IsForest-low : (labels : List ℕ) (preds : List (Option Arc)) (n : ℕ) →
 IsForest-low labels preds n same few none nones =
     subst (λ (ps : List (Option Arc)). IsForest labels ps) (sym nones)
     (IsForest-unrisen labels n same few (λ node. low-from_list_any labels node none))
+
+-- labels as they begin to rise
+begun-le : (label : ℕ) → begun label ≤ highest_root
+begun-le label = elim (cases_lt highest_root label) [
+  | inl high ↦ omega (arith, cond-false (leb label highest_root) label highest_root (lt-leb label highest_root high))
+  | inr low ↦ omega (arith, cond-true (leb label highest_root) label highest_root (le-leb label highest_root low))
+]
+
+begun-low : (labels : List ℕ) (node : ℕ) → get_or (map begun labels) node 0 ≤ highest_root
+begun-low [] node = omega arith
+begun-low (y ∷ labels) zero = begun-le y
+begun-low (y ∷ labels) (suc node) = begun-low labels node
+
+pub IsForest-given : (given labels : List ℕ) (preds : List (Option Arc)) → length given ≤ 1048576 → labels ≡ map begun given → preds ≡ replicate (length given) None → IsForest labels preds
+IsForest-given given labels preds few begins nones =
+    subst (λ (ps : List (Option Arc)). IsForest labels ps) (sym nones)
+    (subst (λ (ls : List ℕ). IsForest ls (replicate (length given) None)) (sym begins)
+    (IsForest-unrisen (map begun given) (length given) (sym (length-map given begun)) few (begun-low given)))

@@ -31,6 +31,10 @@ highest = 1000000000000
 abbrev pub highest_root : ℕ
 highest_root = 500000000000
 
+-- a label where it begins to rise
+abbrev pub begun : ℕ → ℕ
+begun label = if nat_le label highest_root then label else highest_root
+
 -- The most that a label is where walks back from it end, none of them in a circle.
 abbrev pub limit : Labelling → ℕ
 limit l = highest_root + 4096 * length l.labels

@@ -1,8 +1,8 @@
 //! How labels begin.
 
-ghost use Rattle.std.specs.Prelude.{◌≡◌, nat_lt, length, replicate, None, IfOk};
+ghost use Rattle.std.specs.Prelude.{◌≡◌, nat_lt, length, map, replicate, None, IfOk};
 ghost use Rattle.std.specs.List.{list_any};
-ghost use Rattle.gaining_cycle.specs.Labelling.{highest_root};
+ghost use Rattle.gaining_cycle.specs.Labelling.{begun, highest_root};
 
 use crate::arc::Arc;
 use std::alloc::{AllocError, Global};
@@ -19,6 +19,28 @@ pub fn unrisen(alloc: Global, nodes: usize) -> Result<Vec<Option<Arc>>, AllocErr
         preds.push(None)?;
     }
     Ok(preds)
+}
+
+/// Each label, or the most that a label is where the labels begin to rise, if that is less.
+pub fn cut(alloc: Global, labels: &[u64]) -> Result<Vec<u64>, AllocError>
+    ensures { IfOk result (λ v. v.items ≡ map begun labels.now) }
+{
+    let mut cut = Vec::with_capacity(alloc, labels.len())?;
+    for label in labels {
+        cut.push(begin(*label))?;
+    }
+    Ok(cut)
+}
+
+// A label, or the most that a label is where the labels begin to rise, if that is less.
+fn begin(label: u64) -> u64
+    ensures { result ≡ begun label }
+{
+    if label <= HIGHEST_ROOT {
+        label
+    } else {
+        HIGHEST_ROOT
+    }
 }
 
 /// Takes the arc of each node away.

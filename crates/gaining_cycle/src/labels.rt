@@ -1,14 +1,14 @@
 //! Labels that rise by arcs. Proved: an arc that raises nothing is settled; a walk back along the arcs by which labels rose
 //! ends at a limit, or closes and then gains.
 
-ghost use Rattle.std.specs.Prelude.{◌≡◌, ℕ, ◌+◌, ◌*◌, ◌<◌, ◌≤◌, nat_lt, if◌then◌else◌, length, drop, replicate, None, IfOk};
+ghost use Rattle.std.specs.Prelude.{◌≡◌, ℕ, ◌+◌, ◌*◌, ◌<◌, ◌≤◌, nat_lt, if◌then◌else◌, length, drop, map, replicate, None, IfOk};
 ghost use Rattle.std.specs.List.{list_any};
 ghost use Rattle.std.specs.Option.{IfSome, IfNone};
 ghost use Rattle.gaining_cycle.specs.Walks.{IsGainingCycle, AllCameBy};
-ghost use Rattle.gaining_cycle.specs.Labelling.{label_of, limit, relaxed, raised, highest_root};
+ghost use Rattle.gaining_cycle.specs.Labelling.{label_of, limit, relaxed, raised, begun, highest_root};
 
 use crate::arc::Arc;
-use crate::begin::{any_high, forget, lower, unrisen};
+use crate::begin::{any_high, cut, forget, lower, unrisen};
 use crate::walk::walk_back;
 use std::alloc::{AllocError, Global};
 use std::marker::Model;
@@ -43,6 +43,19 @@ impl Labels {
     {
         Ok(Labels {
             labels: vec![in alloc; 0; nodes]?,
+            preds: unrisen(alloc, nodes)?,
+            places: vec![in alloc; 0; nodes]?,
+        })
+    }
+
+    /// These labels, which have not risen, for at most 1,048,576 nodes. A label above 500,000,000,000 begins there.
+    pub fn start(alloc: Global, labels: &[u64]) -> Result<Labels, AllocError>
+        requires { length labels.now ≤ 1048576 }
+        ensures { IfOk result (λ l. l ≡ record { labels = map begun labels.now; preds = replicate (length labels.now) None }) }
+    {
+        let nodes = labels.len();
+        Ok(Labels {
+            labels: cut(alloc, labels)?,
             preds: unrisen(alloc, nodes)?,
             places: vec![in alloc; 0; nodes]?,
         })

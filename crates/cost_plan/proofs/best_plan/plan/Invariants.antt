@@ -9,10 +9,10 @@ abbrev pub invariant-loop-path : goal.invariant-loop-path
 invariant-loop-path l =
     let net = instance_of_rows l.net in
     record {
-      draft : IsDraftOf net l.draft;
-      admissible : IsAdmissible net (schedule_of l.draft);
-      size : length l.labels.labels ≡ node_count net;
+      draft : IsDraftOf net l.start.draft;
+      admissible : IsAdmissible net (schedule_of l.start.draft);
+      size : length l.start.labels.labels ≡ node_count net;
     }
 
 abbrev pub decreases-loop-path : goal.decreases-loop-path
-decreases-loop-path l = cost (instance_of_rows l.net) (schedule_of l.draft)
+decreases-loop-path l = cost (instance_of_rows l.net) (schedule_of l.start.draft)

@@ -1,0 +1,20 @@
+use Rattle.std.proofs.Common.{ℕ, ◌∙◌, List, sym, subst}
+use Rattle.gaining_cycle.specs.Labelling.{label_of}
+use Rattle.round_net.specs.Rows.{instance_of_rows, live_of_rows}
+use Rattle.round_net.specs.Value.{ProvesBest}
+use Rattle.round_net.specs.PriceRows.{pricing_of_rows}
+use Rattle.cost_plan.specs.Cells.{rounds_of}
+use Rattle.cost_plan.specs.Draft.{schedule_of}
+use Rattle.cost_plan.proofs.PriceLemmas.{ProvesBest-from_labels}
+use Rattle.cost_plan.proofs.PricedLemmas.{ProvesBest-priced}
+use Rattle.cost_plan.proofs.best_plan.best_of.Goals as goal
+
+pub returns-clause-proved : goal.returns-clause-proved
+returns-clause-proved c =
+    let net = instance_of_rows c.args.net.now in
+    let live = live_of_rows c.args.net.now in
+    let f = schedule_of c.args.best.now.draft in
+    let label = label_of c.args.best.now.labels in
+    let proof = ProvesBest-priced net live f label (pricing_of_rows c.in_ok-prices_of.field-0) c.requires.sound c.in_ok-prices_of.ensures.devices c.in_ok-prices_of.ensures.adapters
+    (ProvesBest-from_labels net live f label c.requires.sound c.requires.admissible c.requires.settled) in
+    subst (λ (rounds : List ℕ). ProvesBest net (rounds_of rounds) (pricing_of_rows c.in_ok-prices_of.field-0)) (sym (c.in_ok-new.ensures ∙ c.deref.ensures.value)) proof

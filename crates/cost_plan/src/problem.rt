@@ -1,0 +1,77 @@
+//! A net as the search for a guess takes it. What a guess says is looked at before it is used: proved is only how many stays,
+//! rows and rounds there are.
+
+ghost use Rattle.std.specs.Prelude.{◌≡◌, ◌<◌, length, IfOk};
+ghost use Rattle.round_net.specs.Rows.{instance_of_rows, live_of_rows};
+ghost use Rattle.round_net.specs.Sound.{IsSound};
+ghost use Rattle.cost_plan.specs.Cells.{rows};
+
+use crate::cells::cap;
+use round_net::Net;
+use std::alloc::{AllocError, Global};
+use waiting_network::{Problem, Stay};
+
+/// What there is to plan: a row for each device and then each adapter, an adapter's above those of its devices.
+pub fn problem_of(alloc: Global, net: &Net) -> Result<Problem, AllocError>
+    ensures rounds { IfOk result (λ problem. problem.rounds ≡ (instance_of_rows net.now).rounds) }
+    ensures rows { IfOk result (λ problem. length problem.above.items ≡ rows (instance_of_rows net.now)) }
+    ensures stays { IfOk result (λ problem. length problem.stays.items ≡ (instance_of_rows net.now).stays) }
+    ensures sound { IsSound (instance_of_rows net.now) (live_of_rows net.now) }
+{
+    Ok(Problem {
+        rounds: net.rounds(),
+        above: rows_above(alloc, net)?,
+        caps: caps(alloc, net)?,
+        stays: stays(alloc, net)?,
+    })
+}
+
+// The row above each.
+fn rows_above(alloc: Global, net: &Net) -> Result<Vec<u32>, AllocError>
+    ensures { IfOk result (λ above. length above.items ≡ rows (instance_of_rows net.now)) }
+{
+    let mut above = Vec::new(alloc);
+    for device in 0..net.devices() {
+        above.push(net.devices() + net.adapter_of(device))?;
+    }
+    for _adapter in 0..net.adapters() {
+        above.push(net.devices() + net.adapters())?;
+    }
+    Ok(above)
+}
+
+// How many stays each cell takes, and none in a round 0.
+fn caps(alloc: Global, net: &Net) -> Result<Vec<u32>, AllocError> {
+    let mut caps = Vec::new(alloc);
+    for row in 0..net.devices() + net.adapters() {
+        caps.push(0)?;
+        add_caps(net, &mut caps, row)?;
+    }
+    Ok(caps)
+}
+
+// Adds how many stays the cells of a row take.
+fn add_caps(net: &Net, caps: &mut Vec<u32>, row: u32) -> Result<(), AllocError>
+    requires { row < rows (instance_of_rows net.now) }
+{
+    for round in 1..net.rounds() + 1 {
+        caps.push(cap(net, row, round))?;
+    }
+    Ok(())
+}
+
+// The stays.
+fn stays(alloc: Global, net: &Net) -> Result<Vec<Stay>, AllocError>
+    ensures { IfOk result (λ stays. length stays.items ≡ (instance_of_rows net.now).stays) }
+{
+    let mut stays = Vec::new(alloc);
+    for stay in 0..net.stays() {
+        stays.push(Stay {
+            row: net.device(stay),
+            arrival: net.arrival(stay),
+            last: net.last(stay),
+            weight: net.weight(stay),
+        })?;
+    }
+    Ok(stays)
+}

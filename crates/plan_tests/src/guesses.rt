@@ -1,0 +1,66 @@
+//! The guesses with which plans begin.
+
+use crate::made::{Shape, history};
+use cost_plan::guessed_plan;
+use round_net::Net;
+use std::test::Fail;
+
+const LOOSE: Shape = Shape {
+    devices: 16,
+    dev_openings: 4,
+    sim_openings: 16,
+    commands: 1024,
+    requeues: 0,
+    rounds: 64,
+    idle: 30,
+    frozen: 0,
+};
+
+const SHAPES: [Shape; 6] = [
+    LOOSE,
+    Shape {
+        dev_openings: 1,
+        sim_openings: 3,
+        idle: 10,
+        ..LOOSE
+    },
+    Shape {
+        dev_openings: 1,
+        sim_openings: 3,
+        idle: 10,
+        frozen: 10,
+        ..LOOSE
+    },
+    Shape {
+        dev_openings: 1,
+        sim_openings: 3,
+        commands: 768,
+        requeues: 256,
+        idle: 10,
+        ..LOOSE
+    },
+    Shape {
+        devices: 1,
+        dev_openings: 9,
+        rounds: 1,
+        idle: 3,
+        ..LOOSE
+    },
+    Shape {
+        dev_openings: 1,
+        rounds: 1,
+        idle: 10,
+        ..LOOSE
+    },
+];
+
+#[test]
+fn a_guess_at_the_limits_is_best(rt: HostRuntime) -> Result<(), Fail> {
+    for shape in SHAPES {
+        let history = history(rt.alloc(), shape)?;
+        let net = Net::of(rt.alloc(), &history)?;
+        assert_eq!(rt; net.stays(), 1024, "{shape:?}");
+        assert!(rt; guessed_plan(rt.alloc(), &net)?.is_some(), "{shape:?}");
+    }
+    Ok(())
+}

@@ -1,0 +1,7 @@
+//! Tests of plans at the limits. They stand here so that no crate is proved twice for its tests.
+#![tactic(auto)]
+
+#[cfg(test)]
+mod guesses;
+#[cfg(test)]
+mod made;

@@ -1,0 +1,86 @@
+//! The cells of a problem as nodes of a network, with the root behind them.
+
+ghost use Rattle.std.specs.Prelude.{◌≡◌, ◌+◌, ◌*◌, length, IfOk};
+
+use crate::network::{Network, Node};
+use crate::problem::Problem;
+use crate::stop::Stop;
+use std::alloc::Global;
+
+impl Problem {
+    /// The node of a cell.
+    pub fn cell(&self, row: u32, round: u32) -> u32 {
+        row.saturating_mul(self.rounds.saturating_add(1))
+            .saturating_add(round)
+    }
+
+    // How many rows there are.
+    fn rows(&self) -> u32 {
+        u32::try_from(self.above.len()).unwrap_or(u32::MAX)
+    }
+
+    // The row above a row, if there is one.
+    fn row_above(&self, row: u32) -> Option<u32> {
+        let above = self.above.get(row as usize).copied()?;
+        if above < self.rows() {
+            Some(above)
+        } else {
+            None
+        }
+    }
+
+    // How many stays a cell takes, and 0 where the cells above it take none.
+    fn cap(&self, row: u32, round: u32) -> u32 {
+        let mut here = row;
+        for _ in 0..self.rows() {
+            let Some(above) = self.row_above(here) else {
+                break;
+            };
+            here = above;
+            if self.own_cap(here, round) == 0 {
+                return 0;
+            }
+        }
+        self.own_cap(row, round)
+    }
+
+    fn own_cap(&self, row: u32, round: u32) -> u32 {
+        self.caps
+            .get(self.cell(row, round) as usize)
+            .copied()
+            .unwrap_or(0)
+    }
+
+    /// The node of the root, which is how many cells there are.
+    pub fn root(&self) -> Result<u32, Stop>
+        ensures { IfOk result (λ root. root ≡ length self.now.above.items * (self.now.rounds + 1)) }
+    {
+        let each = self.rounds.checked_add(1).ok_or(Stop::GivenUp)?;
+        let Ok(rows) = u32::try_from(self.above.len()) else {
+            return Err(Stop::GivenUp);
+        };
+        rows.checked_mul(each).ok_or(Stop::GivenUp)
+    }
+
+    /// The network of the cells and the root, where no stay is sent.
+    pub fn network(&self, alloc: Global, root: u32) -> Result<Network, Stop> {
+        let mut network = Network::new(alloc, root);
+        for row in 0..self.rows() {
+            self.add_cells(&mut network, row)?;
+        }
+        network.push(Node::new(root, u32::MAX, 0))?;
+        Ok(network)
+    }
+
+    // Adds the cells of a row.
+    fn add_cells(&self, network: &mut Network, row: u32) -> Result<(), Stop> {
+        for round in 0..self.rounds.saturating_add(1) {
+            let above = match self.row_above(row) {
+                Some(above) => self.cell(above, round),
+                None => network.root(),
+            };
+            network.push(Node::new(above, self.cap(row, round), 0))?;
+        }
+        Ok(())
+    }
+}

@@ -1,0 +1,41 @@
+//! The guess. Proved: it has a round for each stay and a label for each cell and the root.
+
+ghost use Rattle.std.specs.Prelude.{◌≡◌, ◌+◌, ◌*◌, length, IfOk};
+ghost use Rattle.std.specs.Option.{IfSome};
+
+use crate::answer::{labels, rounds};
+use crate::placing::{place_all, turns};
+use crate::problem::{Guess, Problem};
+use crate::rows::Rows;
+use crate::search::Search;
+use crate::stop::Stop;
+use std::alloc::{AllocError, Global};
+
+/// A guess at a best plan, or none where the problem has what the search isn't made for. It places one stay after another so
+/// that those placed so far are sent as cheaply as they can be.
+pub fn guess(alloc: Global, problem: &Problem) -> Result<Option<Guess>, AllocError>
+    ensures rounds { IfOk result (λ found. IfSome found (λ guess. length guess.rounds.items ≡ length problem.now.stays.items)) }
+    ensures labels { IfOk result (λ found. IfSome found (λ guess. length guess.labels.items ≡ length problem.now.above.items * (problem.now.rounds + 1) + 1)) }
+{
+    match search(alloc, problem) {
+        Ok(guess) => Ok(Some(guess)),
+        Err(Stop::GivenUp) => Ok(None),
+        Err(Stop::OutOfMemory) => Err(AllocError),
+    }
+}
+
+// The guess, or why there is none.
+fn search(alloc: Global, problem: &Problem) -> Result<Guess, Stop>
+    ensures rounds { IfOk result (λ guess. length guess.rounds.items ≡ length problem.now.stays.items) }
+    ensures labels { IfOk result (λ guess. length guess.labels.items ≡ length problem.now.above.items * (problem.now.rounds + 1) + 1) }
+{
+    let root = problem.root()?;
+    let mut network = problem.network(alloc, root)?;
+    let mut rows = Rows::of(alloc, problem, &mut network)?;
+    let turns = turns(alloc, problem)?;
+    let mut search = Search::new(alloc, network.len())?;
+    place_all(&mut network, &mut search, problem, &rows, &turns)?;
+    let labels = labels(alloc, &network, root)?;
+    let rounds = rounds(alloc, &mut network, &mut rows, &turns)?;
+    Ok(Guess { rounds, labels })
+}

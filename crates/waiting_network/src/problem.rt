@@ -1,0 +1,38 @@
+//! What there is to plan, and a guess at a best plan of it.
+
+/// A stay that needs a round.
+#[derive(Clone, Copy)]
+pub struct Stay {
+    /// The row in whose cells it may stand.
+    pub row: u32,
+    /// The first round that it may have, from 1.
+    pub arrival: u32,
+    /// The last one.
+    pub last: u32,
+    /// What each round of its waiting costs, at least 1.
+    pub weight: u32,
+}
+
+/// Rows of cells with a cell for each round, and stays. A stay in a cell also stands in the cell of the row above, in that of
+/// the row above it, and so on.
+#[derive(Drop)]
+pub struct Problem {
+    /// How many rounds there are.
+    pub rounds: u32,
+    /// The row above each row. Where a number is past all rows, there is none.
+    pub above: Vec<u32>,
+    /// How many stays each cell takes, row by row. Each row begins with a place for a round 0, which takes none.
+    pub caps: Vec<u32>,
+    /// The stays.
+    pub stays: Vec<Stay>,
+}
+
+/// A guess at a best plan.
+#[derive(Drop)]
+pub struct Guess {
+    /// A round for each stay.
+    pub rounds: Vec<u32>,
+    /// A label for each cell, row by row, each row with a place for round 0 before, and at the end one for the root above
+    /// all rows. They are meant to show that the rounds are best.
+    pub labels: Vec<u64>,
+}

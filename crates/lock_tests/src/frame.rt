@@ -1,0 +1,37 @@
+//! A transport of one adapter, one device and one lane, each of one opening.
+
+ghost use Rattle.std.specs.Prelude.{◌≡◌, [], IfOk};
+
+use cam_types::{Config, Device, Flags, Limits, Outcome, SenseBytes};
+use std::alloc::Global;
+use std::test::Fail;
+use xpt_state::Xpt;
+
+/// Neither flag.
+pub const PLAIN: Flags = Flags {
+    qfreeze: false,
+    qfrzdis: false,
+};
+
+/// The transport without events.
+pub fn frame(alloc: Global, limits: Limits) -> Result<Xpt, Fail>
+    ensures { IfOk result (λ x. x.events ≡ []) }
+{
+    let device = Device {
+        bus: 0,
+        target: 1,
+        lun: 0,
+        openings: 1,
+    };
+    let config = Config::new(alloc, &[1], &[device], &[0])?;
+    Ok(Xpt::open(alloc, config, limits)?)
+}
+
+/// A result of that status, with SCSI status 00 and without sense.
+pub fn outcome(status: u8) -> Outcome {
+    Outcome {
+        status,
+        scsi: 0,
+        sense: SenseBytes::first(&[]),
+    }
+}

@@ -1,0 +1,20 @@
+-- where there was no memory, any history will do
+use Rattle.std.proofs.Common.{◌≡◌, List, [], Result, Ok, Err, refl, sym, subst}
+use Rattle.std.specs.Prelude.{IsErrAnd}
+use Rattle.cam_event.specs.Legal.{is_legal}
+use Rattle.cam_event.specs.Past.{Past}
+use Rattle.xpt_lock.specs.Gathers.{IsPast, IsGathered, IsFault, due_of}
+use Rattle.xpt_lock.specs.Seats.{Held}
+use Rattle.xpt_lock.specs.declared.fault.GatherFault.{GatherFault}
+use Rattle.xpt_lock.specs.declared.fault.GatherFault.TheVariants.{OutOfMemory}
+
+abbrev empty : Past
+empty = record { config = record { adapters = []; devices = []; lanes = [] }; events = [] }
+
+empty_legal : IsPast empty
+unfolding is_legal
+empty_legal = refl
+
+pub gathered_nothing : (seats : List Held) (result : Result Past GatherFault) → IsErrAnd result (λ e. e ≡ OutOfMemory) → IsGathered seats result
+gathered_nothing seats (Err fault) is = subst (λ (f : GatherFault). (h : Past) × IsPast h × IsFault (due_of h) seats f) (sym is) (empty, empty_legal, tt)
+gathered_nothing seats (Ok h) is = absurd is

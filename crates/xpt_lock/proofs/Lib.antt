@@ -1,0 +1,5 @@
+pub mod SeatLemmas
+pub mod ReplayLemmas
+pub mod GatherLemmas
+pub mod SameLemmas
+pub mod ConsistentLemmas

@@ -1,0 +1,5 @@
+use Rattle.std.specs.Prelude.{◌≡◌, ℕ, ◌<◌, true, Some, slice_get}
+use Rattle.xpt_lock.proofs.compare.first_unnamed.Given as goal
+
+abbrev pub invariant-loop-place : goal.invariant-loop-place
+invariant-loop-place l = (j : ℕ) → j < l.place → slice_get l.named j ≡ Some true

@@ -1,0 +1,62 @@
+-- the definitions at one history: a driver submits a CCB, and a lane sends it and completes it
+use Rattle.std.specs.Prelude.{◌≡◌, true, false, List, [], ◌∷◌}
+use Rattle.std.proofs.Common.{refl}
+use Rattle.cam_types.specs.Topology.{Topology}
+use Rattle.cam_types.specs.declared.outcome.Outcome.{Outcome}
+use Rattle.event_log.specs.declared.event.Event.{Event}
+use Rattle.event_log.specs.declared.event.Event.TheVariants.{Submit, Send, Done, Tick}
+use Rattle.event_log.specs.Counts.{submissions, round}
+use Rattle.sense_class.specs.declared.class.Class.TheVariants.{Complete}
+use Rattle.xpt_state.specs.declared.reply.Reply.TheVariants as replies
+use Rattle.xpt_lock.specs.Receipts.{receipts_of, all_receipts, naming, is_rising, marks}
+use Rattle.xpt_lock.specs.Seats.{Held}
+use Rattle.xpt_lock.specs.declared.receipt.Receipt.{Receipt}
+use Rattle.xpt_lock.specs.declared.seat.SeatName.TheVariants as names
+
+-- one adapter, one device and one lane, each of one opening
+abbrev frame : Topology
+frame = record { adapters = 1 ∷ []; devices = record { bus = 0; target = 1; lun = 0; openings = 1 } ∷ []; lanes = 0 ∷ [] }
+
+abbrev submit : Event
+submit = Submit 0 0 1152 4 (record { qfreeze = false; qfrzdis = false })
+
+abbrev good : Outcome
+good = record { status = 1; scsi = 0; sense = [] }
+
+abbrev submitted : Receipt
+submitted = record { at = 0; event = submit; reply = replies.Ccb 0 }
+
+abbrev sent : Receipt
+sent = record {
+  at = 1;
+  event = Send 0 0;
+  reply = replies.Command (record { ccb = 0; attempt = 0; driver = 0; device = 0; priority = 1152 });
+}
+
+abbrev completed : Receipt
+completed = record { at = 2; event = Done 0 good; reply = replies.Done (record { class = Complete; value = 1 }) }
+
+-- what one thread would get for the submit and a tick
+abbrev ticked : Receipt
+ticked = record { at = 1; event = Tick; reply = replies.Round 2 }
+
+two_receipts : receipts_of frame (submit ∷ Tick ∷ []) ≡ submitted ∷ ticked ∷ []
+unfolding submissions round
+two_receipts = refl
+
+-- the two seats, the lane's first: each place is named once, and the lane's places rise
+abbrev seats : List Held
+seats = record { name = names.Lane 0; receipts = sent ∷ completed ∷ [] } ∷ record { name = names.Driver 0; receipts = submitted ∷ [] } ∷ []
+
+each_once : marks 3 (all_receipts seats) ≡ true ∷ true ∷ true ∷ []
+each_once = refl
+
+one_of_the_send : naming 1 (all_receipts seats) ≡ 1
+one_of_the_send = refl
+
+lanes_places_rise : is_rising (sent ∷ completed ∷ []) ≡ true
+lanes_places_rise = refl
+
+-- turned round they don't
+turned_places_fall : is_rising (completed ∷ sent ∷ []) ≡ false
+turned_places_fall = refl

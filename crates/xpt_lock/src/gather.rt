@@ -1,0 +1,28 @@
+//! One history of what all seats did.
+
+ghost use Rattle.xpt_lock.specs.Gathers.{IsGathered};
+
+use crate::compare::compare;
+use crate::fault::GatherFault;
+use crate::replay::replay;
+use crate::seat::Seat;
+use crate::shared::SharedXpt;
+use std::alloc::Global;
+use std::sync::ledger::Ledger;
+use xpt_state::History;
+
+impl<L: Ledger> SharedXpt<L> {
+    /// The history of all that the seats did: legal, and such that one thread that makes its calls in order gets the seats'
+    /// receipts, each once and each seat's in its order.
+    ///
+    /// A seat that is missing leaves places that no receipt names, and a seat of another transport has receipts that don't
+    /// fit. After a fault the transport and the seats are gone.
+    pub fn gather(self, alloc: Global, seats: Vec<Seat<L>>) -> Result<History, GatherFault>
+        ensures { IsGathered seats.items result }
+    {
+        let history = self.into_xpt().into_history(alloc)?;
+        let due = replay(alloc, &history)?;
+        compare(alloc, &due, &seats)?;
+        Ok(history)
+    }
+}

@@ -1,0 +1,268 @@
+//! The transport under its lock, and the calls of seats.
+
+ghost use Rattle.std.specs.Prelude.{◌≡◌, ◌≢◌, [], IfOk, MatchResult};
+ghost use Rattle.event_log.specs.declared.event.Event.TheVariants as Event;
+ghost use Rattle.xpt_lock.specs.Calls.{IsCall, IsTurn, IsReply};
+ghost use Rattle.xpt_state.specs.Replies.{nothing};
+ghost use Rattle.xpt_state.specs.declared.reply.Reply.TheVariants as replies;
+
+use crate::fault::{SeatsFull, SharedFault};
+use crate::kept::Kept;
+use crate::moment::Moment;
+use crate::seat::{Seat, SeatName};
+use cam_event::Event;
+use cam_types::{Flags, Outcome};
+use std::alloc::Global;
+use std::sync::ledger::{Blank, Ledger};
+use std::sync::{Condvar, Mutex, Wait};
+use xpt_state::{Case, Done, Look, Reply, Sent, Xpt};
+
+/// A transport that threads share.
+#[derive(Drop)]
+pub struct SharedXpt<L: Ledger> {
+    kept: Mutex<Kept<L>>,
+    changed: Condvar,
+}
+
+impl<L: Ledger> SharedXpt<L> {
+    /// Shares a transport to which nothing has happened. The ledger has a part for each of 64 seats, and one more.
+    pub fn new(xpt: Xpt, blank: Blank) -> SharedXpt<L>
+        requires empty { xpt.events ≡ [] }
+        requires name { blank.name ≡ L.name }
+        requires parts { (blank.parts ≡ L.parts) × (blank.parts ≡ 65) }
+    {
+        SharedXpt {
+            kept: Mutex::new(Kept::new(xpt, blank)),
+            changed: Condvar::new(),
+        }
+    }
+
+    /// A seat of that name without receipts, or `SeatsFull` after 64 seats. It takes no memory yet.
+    pub fn seat<R: Wait>(&self, rt: &R, alloc: Global, name: SeatName) -> Result<Seat<L>, SeatsFull>
+        ensures { IfOk result (λ s. s ≡ record { name = name; receipts = [] }) }
+    {
+        self.kept.lock(rt).seat(alloc, name)
+    }
+
+    // The transport, without its lock.
+    pub(crate) fn into_xpt(self) -> Xpt {
+        let SharedXpt { kept, changed: _ } = self;
+        kept.into_inner().into_xpt()
+    }
+
+    // Takes an event of any kind but a send.
+    fn take<R: Wait>(&self, rt: &R, seat: &mut Seat<L>, event: Event) -> Result<Reply, SharedFault>
+        ensures call { IsCall (λ reply. reply) event seat.old seat.new result }
+        ensures reply { IfOk result (λ reply. IsReply event reply) }
+    {
+        let Seat {
+            name: _,
+            receipts,
+            share,
+        } = seat;
+        receipts.reserve(1)?;
+        let receipt = self.kept.lock(rt).take(event, share)?;
+        let reply = receipt.reply;
+        receipts.push_reserved(receipt);
+        self.changed.notify_all();
+        Ok(reply)
+    }
+
+    /// Submits a CCB: `Xpt::submit`, with its answer and its refusals.
+    pub fn submit<R: Wait>(
+        &self,
+        rt: &R,
+        seat: &mut Seat<L>,
+        driver: u8,
+        device: u32,
+        priority: u32,
+        retries: u32,
+        flags: Flags,
+    ) -> Result<u32, SharedFault>
+        ensures { IsCall replies.Ccb (Event.Submit driver device priority retries flags) seat.old seat.new result }
+    {
+        let event = Event::Submit {
+            driver,
+            device,
+            priority,
+            retries,
+            flags,
+        };
+        let Reply::Ccb(number) = self.take(rt, seat, event)? else {
+            unreachable!()
+        };
+        Ok(number)
+    }
+
+    /// Sends the lane's next command: `Xpt::send_next`, with its answer and its refusals. An idle lane leaves no receipt.
+    pub fn send_next<R: Wait>(
+        &self,
+        rt: &R,
+        seat: &mut Seat<L>,
+        lane: u32,
+    ) -> Result<Sent, SharedFault>
+        ensures { MatchResult result (λ sent. IsTurn lane seat.old seat.new sent) (λ _. seat.new ≡ seat.old) }
+    {
+        let Seat {
+            name: _,
+            receipts,
+            share,
+        } = seat;
+        receipts.reserve(1)?;
+        let (sent, receipt) = self.kept.lock(rt).send_next(lane, share)?;
+        if let Some(receipt) = receipt {
+            receipts.push_reserved(receipt);
+            self.changed.notify_all();
+        }
+        Ok(sent)
+    }
+
+    /// The CCB's command has completed with this result: `Xpt::done`, with its answer and its refusals.
+    pub fn done<R: Wait>(
+        &self,
+        rt: &R,
+        seat: &mut Seat<L>,
+        ccb: u32,
+        outcome: Outcome,
+    ) -> Result<Done, SharedFault>
+        ensures { IsCall replies.Done (Event.Done ccb outcome) seat.old seat.new result }
+    {
+        let Reply::Done(done) = self.take(rt, seat, Event::Done { ccb, outcome })? else {
+            unreachable!()
+        };
+        Ok(done)
+    }
+
+    /// Puts a CCB that failed back into its queue: `Xpt::requeue`, with its refusals.
+    pub fn requeue<R: Wait>(&self, rt: &R, seat: &mut Seat<L>, ccb: u32) -> Result<(), SharedFault>
+        ensures { IsCall nothing (Event.Requeue ccb) seat.old seat.new result }
+    {
+        self.take(rt, seat, Event::Requeue { ccb })?;
+        Ok(())
+    }
+
+    /// Gives a CCB that failed back to its driver: `Xpt::finish`, with its refusals.
+    pub fn finish<R: Wait>(&self, rt: &R, seat: &mut Seat<L>, ccb: u32) -> Result<(), SharedFault>
+        ensures { IsCall nothing (Event.Finish ccb) seat.old seat.new result }
+    {
+        self.take(rt, seat, Event::Finish { ccb })?;
+        Ok(())
+    }
+
+    /// Freezes a device so many times: `Xpt::freeze_dev`, with its refusals.
+    pub fn freeze_dev<R: Wait>(
+        &self,
+        rt: &R,
+        seat: &mut Seat<L>,
+        device: u32,
+        count: u32,
+    ) -> Result<(), SharedFault>
+        ensures { IsCall nothing (Event.FreezeDev device count) seat.old seat.new result }
+    {
+        self.take(rt, seat, Event::FreezeDev { device, count })?;
+        Ok(())
+    }
+
+    /// Takes so many freezes of a device away: `Xpt::release_dev`, with its refusals.
+    pub fn release_dev<R: Wait>(
+        &self,
+        rt: &R,
+        seat: &mut Seat<L>,
+        device: u32,
+        count: u32,
+    ) -> Result<(), SharedFault>
+        ensures { IsCall nothing (Event.ReleaseDev device count) seat.old seat.new result }
+    {
+        self.take(rt, seat, Event::ReleaseDev { device, count })?;
+        Ok(())
+    }
+
+    /// Freezes an adapter so many times: `Xpt::freeze_sim`, with its refusals.
+    pub fn freeze_sim<R: Wait>(
+        &self,
+        rt: &R,
+        seat: &mut Seat<L>,
+        sim: u32,
+        count: u32,
+    ) -> Result<(), SharedFault>
+        ensures { IsCall nothing (Event.FreezeSim sim count) seat.old seat.new result }
+    {
+        self.take(rt, seat, Event::FreezeSim { sim, count })?;
+        Ok(())
+    }
+
+    /// Takes one freeze of an adapter away: `Xpt::release_sim`, with its refusals.
+    pub fn release_sim<R: Wait>(
+        &self,
+        rt: &R,
+        seat: &mut Seat<L>,
+        sim: u32,
+    ) -> Result<(), SharedFault>
+        ensures { IsCall nothing (Event.ReleaseSim sim) seat.old seat.new result }
+    {
+        self.take(rt, seat, Event::ReleaseSim { sim })?;
+        Ok(())
+    }
+
+    /// Gives a device so many openings from the next round on: `Xpt::adjust`, with its refusals.
+    pub fn adjust<R: Wait>(
+        &self,
+        rt: &R,
+        seat: &mut Seat<L>,
+        device: u32,
+        openings: u32,
+    ) -> Result<(), SharedFault>
+        ensures { IsCall nothing (Event.Adjust device openings) seat.old seat.new result }
+    {
+        self.take(rt, seat, Event::Adjust { device, openings })?;
+        Ok(())
+    }
+
+    /// Opens the next round, which is the answer: `Xpt::tick`, with its refusals.
+    pub fn tick<R: Wait>(&self, rt: &R, seat: &mut Seat<L>) -> Result<u32, SharedFault>
+        ensures { IsCall replies.Round Event.Tick seat.old seat.new result }
+    {
+        let Reply::Round(round) = self.take(rt, seat, Event::Tick)? else {
+            unreachable!()
+        };
+        Ok(round)
+    }
+
+    /// Of the CCBs that wait for a decision on their error, the one that completed first: `Xpt::next_case`.
+    pub fn next_case<R: Wait>(&self, rt: &R) -> Option<Case> {
+        self.kept.lock(rt).next_case()
+    }
+
+    /// What there is to see, all in counts: `Xpt::look`.
+    pub fn look<R: Wait>(&self, rt: &R) -> Look {
+        self.kept.lock(rt).look()
+    }
+
+    /// The moment that it is. A worker takes it before it looks for something to do, and finds nothing.
+    pub fn moment<R: Wait>(&self, rt: &R) -> Moment {
+        self.kept.lock(rt).moment()
+    }
+
+    /// Sleeps until it is another moment than the one that was seen, which is the answer: until an event happened or
+    /// `wake` was called since then. If that is so already, it returns at once.
+    pub fn wait_past<R: Wait>(&self, rt: &R, seen: Moment) -> Moment
+        ensures { result ≢ seen }
+    {
+        let mut kept = self.kept.lock(rt);
+        for _ in rt.forever() {
+            let now = kept.moment();
+            if now != seen {
+                return now;
+            }
+            kept = self.changed.wait(rt, kept);
+        }
+        unreachable!()
+    }
+
+    /// Makes it another moment, so that whoever sleeps looks again, as where a worker rests or all are to stop. The transport
+    /// stays as it is.
+    pub fn wake<R: Wait>(&self, rt: &R) {
+        self.kept.lock(rt).wake();
+        self.changed.notify_all();
+    }
+}

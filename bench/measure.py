@@ -18,11 +18,11 @@ def built(crate):
     return os.path.join(crates, crate, "out", crate)
 
 
-def measured(*words, source=os.devnull, runs=5):
-    """The least processor time of the runs in seconds, and what the last wrote."""
+def measured(*words, source=os.devnull, runs=5, errors=None):
+    """The least processor time of the runs in seconds, and what the last wrote. Standard error goes to `errors`."""
     least = float("inf")
     for _ in range(runs):
-        with open(source) as text, subprocess.Popen(words, stdin=text, stdout=subprocess.PIPE, text=True) as child:
+        with open(source) as text, subprocess.Popen(words, stdin=text, stdout=subprocess.PIPE, stderr=errors, text=True) as child:
             written = child.stdout.read()
             _, status, used = os.wait4(child.pid, 0)
             child.returncode = os.waitstatus_to_exitcode(status)
@@ -36,4 +36,4 @@ def peak(*words, source=os.devnull):
     """The peak memory of a run in MB. GNU time says it, since what Python is told of a child is at least its own memory."""
     with open(source) as text:
         told = subprocess.run(["/usr/bin/time", "-f", "%M", *words], stdin=text, capture_output=True, text=True, check=True)
-    return int(told.stderr) / 1024
+    return int(told.stderr.split()[-1]) / 1024

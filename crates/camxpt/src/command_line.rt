@@ -1,6 +1,6 @@
 //! The command line: its subcommands, their arguments and the help.
 
-use clap::{Arg, ArgAction, Command};
+use clap::{Arg, ArgAction, Command, value_parser};
 use std::alloc::{AllocError, Global};
 
 /// The words that the program takes.
@@ -8,14 +8,15 @@ pub fn command_line<'a>(alloc: Global) -> Result<Command<'a>, AllocError> {
     Command::new(alloc, "camxpt")
         .version("0.1.0")
         .about(
-            "Audits recorded traces of a CAM transport. With no arguments it prints the summary of the audit of the trace on standard input.",
+            "Audits recorded traces of a CAM transport, and runs scripts that record them. With no arguments it prints the summary of the audit of the trace on standard input.",
         )
         .after_help(
             "Exit status: 0 done, 1 not proved, 2 refused words, 3 refused input, 4 a file, read or write that failed, 5 no memory",
         )
         .subcommand(check(alloc)?)?
         .subcommand(audit(alloc)?)?
-        .subcommand(prove(alloc)?)
+        .subcommand(prove(alloc)?)?
+        .subcommand(sim(alloc)?)
 }
 
 fn check<'a>(alloc: Global) -> Result<Command<'a>, AllocError> {
@@ -55,6 +56,23 @@ fn prove<'a>(alloc: Global) -> Result<Command<'a>, AllocError> {
         )
         .arg(trace)?
         .arg(report)
+}
+
+fn sim<'a>(alloc: Global) -> Result<Command<'a>, AllocError> {
+    let script = Arg::new(alloc, "SCRIPT").required(true).help(
+        "What the drivers do and the lanes answer; - is standard input",
+    );
+    let seed = Arg::new(alloc, "SEED")
+        .required(true)
+        .value_parser(value_parser!(u64))
+        .help("Picks whose turn it is: the same seed gives the same trace");
+    Command::new(alloc, "sim")
+        .about(
+            "Runs a script on one thread and prints the trace, and on standard error how the run ended",
+        )
+        .after_help("Example: camxpt sim examples/script-timeout-requeued.csv 1")
+        .arg(script)?
+        .arg(seed)
 }
 
 fn trace<'a>(alloc: Global) -> Arg<'a> {

@@ -5,7 +5,7 @@ use price_check::ReportFault;
 use std::alloc::AllocError;
 use std::fmt;
 use std::process::ExitCode;
-use trace_file::TraceFault;
+use trace_file::{TraceFault, WriteFault};
 
 /// Why the program didn't do what its words asked. Its text is the line on standard error, behind the program's name.
 #[derive(Clone, Copy, Debug)]
@@ -68,6 +68,21 @@ impl fmt::Display for Failure {
 impl From<AuditFault> for Failure {
     fn from(fault: AuditFault) -> Failure {
         Failure::Audit(fault)
+    }
+}
+
+impl From<TraceFault> for Failure {
+    fn from(fault: TraceFault) -> Failure {
+        Failure::Audit(AuditFault::Trace(fault))
+    }
+}
+
+impl From<WriteFault> for Failure {
+    fn from(fault: WriteFault) -> Failure {
+        Failure::Audit(match fault {
+            WriteFault::WriteFailed => AuditFault::WriteFailed,
+            WriteFault::OutOfMemory => AuditFault::OutOfMemory,
+        })
     }
 }
 

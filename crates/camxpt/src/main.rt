@@ -1,4 +1,4 @@
-//! Audits recorded traces of a CAM transport.
+//! Audits recorded traces of a CAM transport, and runs scripts that record them.
 #![tactic(auto)]
 
 use std::process::ExitCode;
@@ -7,6 +7,7 @@ mod command_line;
 mod failure;
 mod program;
 mod prove;
+mod sim;
 mod trace_run;
 mod words;
 

@@ -3,6 +3,7 @@
 use crate::command_line::command_line;
 use crate::failure::Failure;
 use crate::prove::prove;
+use crate::sim::sim;
 use crate::trace_run::TraceRun;
 use crate::words::words;
 use audit_report::AuditFault;
@@ -64,6 +65,12 @@ fn obey<R: Runtime + AllocGlobal>(rt: &R, matches: &ArgMatches<'_>) -> Result<Ex
             if !prove(rt, trace, report)? {
                 return Ok(ExitCode::FAILURE);
             }
+        }
+        Some(("sim", words)) => {
+            let script = words.get_str("SCRIPT").unwrap_or("");
+            let seed = words.get_one("SEED").unwrap_or(0);
+            let ending = sim(rt, script, seed)?;
+            let _ = rt.eprintln(format_args!("ending {ending}"));
         }
         _ => TraceRun::Summary.over(rt, None)?,
     }

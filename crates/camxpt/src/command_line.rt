@@ -11,12 +11,13 @@ pub fn command_line<'a>(alloc: Global) -> Result<Command<'a>, AllocError> {
             "Audits recorded traces of a CAM transport, and runs scripts that record them. With no arguments it prints the summary of the audit of the trace on standard input.",
         )
         .after_help(
-            "Exit status: 0 done, 1 not proved, 2 refused words, 3 refused input, 4 a file, read or write that failed, 5 no memory",
+            "Exit status: 0 done, 1 not proved, 2 refused words, 3 refused input, 4 a file, read or write that failed, 5 no memory, 6 no thread, or threads that did what the script doesn't allow",
         )
         .subcommand(check(alloc)?)?
         .subcommand(audit(alloc)?)?
         .subcommand(prove(alloc)?)?
-        .subcommand(sim(alloc)?)
+        .subcommand(sim(alloc)?)?
+        .subcommand(run(alloc)?)
 }
 
 fn check<'a>(alloc: Global) -> Result<Command<'a>, AllocError> {
@@ -59,9 +60,6 @@ fn prove<'a>(alloc: Global) -> Result<Command<'a>, AllocError> {
 }
 
 fn sim<'a>(alloc: Global) -> Result<Command<'a>, AllocError> {
-    let script = Arg::new(alloc, "SCRIPT").required(true).help(
-        "What the drivers do and the lanes answer; - is standard input",
-    );
     let seed = Arg::new(alloc, "SEED")
         .required(true)
         .value_parser(value_parser!(u64))
@@ -71,8 +69,23 @@ fn sim<'a>(alloc: Global) -> Result<Command<'a>, AllocError> {
             "Runs a script on one thread and prints the trace, and on standard error how the run ended",
         )
         .after_help("Example: camxpt sim examples/script-timeout-requeued.csv 1")
-        .arg(script)?
+        .arg(script(alloc))?
         .arg(seed)
+}
+
+fn run<'a>(alloc: Global) -> Result<Command<'a>, AllocError> {
+    Command::new(alloc, "run")
+        .about(
+            "Runs a script with a thread for each actor and prints the trace, and on standard error how the run ended",
+        )
+        .after_help("Example: camxpt run examples/script-timeout-requeued.csv")
+        .arg(script(alloc))
+}
+
+fn script<'a>(alloc: Global) -> Arg<'a> {
+    Arg::new(alloc, "SCRIPT").required(true).help(
+        "What the drivers do and the lanes answer; - is standard input",
+    )
 }
 
 fn trace<'a>(alloc: Global) -> Arg<'a> {

@@ -2,6 +2,7 @@
 
 use audit_report::AuditFault;
 use price_check::ReportFault;
+use sim_worker::LiveFault;
 use std::alloc::AllocError;
 use std::fmt;
 use std::process::ExitCode;
@@ -18,11 +19,14 @@ pub enum Failure {
     CannotOpen,
     /// A text that isn't what it has to be, a read or write that failed, or no memory.
     Audit(AuditFault),
+    /// A run on many threads that gave nothing.
+    Live(LiveFault),
 }
 
 impl Failure {
     /// The exit status: 2 for refused words, 3 for an input that is refused, 4 for a file that can't be opened and a
-    /// read or write that failed, 5 where there is no memory left.
+    /// read or write that failed, 5 where there is no memory left, 6 where threads couldn't be started or what they did
+    /// isn't a run of the script.
     pub fn exit_code(&self) -> ExitCode {
         ExitCode::from(match self {
             Failure::WordNotUtf8 | Failure::StandardInputTwice => 2,
@@ -31,7 +35,8 @@ impl Failure {
             Failure::Audit(AuditFault::Unsent(_)) => 3,
             Failure::Audit(AuditFault::Report(fault)) => report_status(fault),
             Failure::Audit(AuditFault::WriteFailed) => 4,
-            Failure::Audit(AuditFault::OutOfMemory) => 5,
+            Failure::Audit(AuditFault::OutOfMemory) | Failure::Live(LiveFault::OutOfMemory) => 5,
+            Failure::Live(_) => 6,
         })
     }
 }
@@ -61,6 +66,7 @@ impl fmt::Display for Failure {
             }
             Failure::CannotOpen => f.write_str("cannot open"),
             Failure::Audit(fault) => fault.fmt(f),
+            Failure::Live(fault) => fault.fmt(f),
         }
     }
 }
@@ -68,6 +74,12 @@ impl fmt::Display for Failure {
 impl From<AuditFault> for Failure {
     fn from(fault: AuditFault) -> Failure {
         Failure::Audit(fault)
+    }
+}
+
+impl From<LiveFault> for Failure {
+    fn from(fault: LiveFault) -> Failure {
+        Failure::Live(fault)
     }
 }
 

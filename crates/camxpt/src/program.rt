@@ -3,7 +3,7 @@
 use crate::command_line::command_line;
 use crate::failure::Failure;
 use crate::prove::prove;
-use crate::sim::sim;
+use crate::sim::{live, sim};
 use crate::trace_run::TraceRun;
 use crate::words::words;
 use audit_report::AuditFault;
@@ -11,9 +11,11 @@ use clap::ArgMatches;
 use clap::error::ErrorKind;
 use std::process::ExitCode;
 use std::rt::Runtime;
+use std::sync::Wait;
+use std::thread::Threads;
 
 /// Does what the words of the command line ask, and says on standard error why it didn't.
-pub fn run<R: Runtime + AllocGlobal>(rt: &R) -> ExitCode {
+pub fn run<R: Runtime + AllocGlobal + Threads + Wait + Sync>(rt: &R) -> ExitCode {
     match read_and_obey(rt) {
         Ok(status) => status,
         Err(failure) => {
@@ -23,7 +25,9 @@ pub fn run<R: Runtime + AllocGlobal>(rt: &R) -> ExitCode {
     }
 }
 
-fn read_and_obey<R: Runtime + AllocGlobal>(rt: &R) -> Result<ExitCode, Failure> {
+fn read_and_obey<R: Runtime + AllocGlobal + Threads + Wait + Sync>(
+    rt: &R,
+) -> Result<ExitCode, Failure> {
     let words = words(rt)?;
     let command = command_line(rt.alloc())?;
     match command.try_get_matches_from(words.as_slice()) {
@@ -48,7 +52,10 @@ fn print<R: Runtime>(rt: &R, error: &clap::Error) -> Result<ExitCode, Failure> {
 }
 
 // The exit status where nothing failed: 1 for a report that isn't proved, else 0.
-fn obey<R: Runtime + AllocGlobal>(rt: &R, matches: &ArgMatches<'_>) -> Result<ExitCode, Failure> {
+fn obey<R: Runtime + AllocGlobal + Threads + Wait + Sync>(
+    rt: &R,
+    matches: &ArgMatches<'_>,
+) -> Result<ExitCode, Failure> {
     match matches.subcommand() {
         Some(("check", words)) => TraceRun::Check.over(rt, words.get_str("TRACE"))?,
         Some(("audit", words)) => {
@@ -70,6 +77,10 @@ fn obey<R: Runtime + AllocGlobal>(rt: &R, matches: &ArgMatches<'_>) -> Result<Ex
             let script = words.get_str("SCRIPT").unwrap_or("");
             let seed = words.get_one("SEED").unwrap_or(0);
             let ending = sim(rt, script, seed)?;
+            let _ = rt.eprintln(format_args!("ending {ending}"));
+        }
+        Some(("run", words)) => {
+            let ending = live(rt, words.get_str("SCRIPT").unwrap_or(""))?;
             let _ = rt.eprintln(format_args!("ending {ending}"));
         }
         _ => TraceRun::Summary.over(rt, None)?,

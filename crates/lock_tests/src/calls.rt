@@ -2,7 +2,7 @@
 
 ghost use Rattle.std.specs.Prelude.{◌≡◌};
 
-use crate::frame::{PLAIN, frame, outcome};
+use crate::frame::{PLAIN, outcome, shared};
 use cam_types::Limits;
 use sense_class::Class;
 use std::alloc::Global;
@@ -18,59 +18,99 @@ const BUSY: u8 = 0x05;
 
 const FAILED: u8 = 0x04;
 
-// The calls of drivers on devices and adapters, and the waits.
-fn freezes<L: Ledger, R: Wait + Abort>(rt: &R, alloc: Global, blank: Blank) -> Result<(), Fail>
+// The calls of drivers on devices and adapters. Answers how many events were gathered.
+fn freezes<L: Ledger, R: Wait>(rt: &R, alloc: Global, blank: Blank) -> Result<usize, Fail>
     requires name { blank.name ≡ L.name }
     requires parts { (blank.parts ≡ L.parts) × (blank.parts ≡ 65) }
 {
-    let shared: SharedXpt<L> = SharedXpt::new(frame(alloc, Limits::most())?, blank);
+    let shared: SharedXpt<L> = shared(alloc, Limits::most(), blank)?;
     let mut seat = shared.seat(rt, alloc, SeatName::Driver(7))?;
-    let start = shared.moment(rt);
-    shared.freeze_dev(rt, &mut seat, 0, 2)?;
-    shared.release_dev(rt, &mut seat, 0, 2)?;
-    shared.freeze_sim(rt, &mut seat, 0, 1)?;
-    shared.release_sim(rt, &mut seat, 0)?;
-    shared.adjust(rt, &mut seat, 0, 1)?;
-    let here = shared.wait_past(rt, start);
-    assert_eq!(rt; here.length, 5);
-    shared.wake(rt);
-    assert!(rt; shared.wait_past(rt, here) != here);
-    assert_eq!(rt; gathered(alloc, shared, seat)?, 5);
+    freezes_both(rt, &shared, &mut seat)?;
+    gathered(alloc, shared, seat)
+}
+
+fn freezes_both<L: Ledger, R: Wait>(
+    rt: &R,
+    shared: &SharedXpt<L>,
+    seat: &mut Seat<L>,
+) -> Result<(), Fail> {
+    shared.freeze_dev(rt, seat, 0, 2)?;
+    shared.release_dev(rt, seat, 0, 2)?;
+    shared.freeze_sim(rt, seat, 0, 1)?;
+    shared.release_sim(rt, seat, 0)?;
+    shared.adjust(rt, seat, 0, 1)?;
     Ok(())
 }
 
-fn call_freezes<R: Wait + Abort>(rt: &R, alloc: Global) -> Result<(), Fail> {
+fn call_freezes<R: Wait>(rt: &R, alloc: Global) -> Result<usize, Fail> {
     freezes::<Brand, R>(rt, alloc, Blank::new(65))
 }
 
 #[test]
 fn freezes_and_adjusts_leave_receipts(rt: HostRuntime) -> Result<(), Fail> {
-    call_freezes(&rt, rt.alloc())
+    assert_eq!(&rt; call_freezes(&rt, rt.alloc())?, 5);
+    Ok(())
 }
 
-// A CCB that fails twice: it is requeued, and then it is finished.
-fn recovers<L: Ledger, R: Wait + Abort>(rt: &R, alloc: Global, blank: Blank) -> Result<(), Fail>
+// A CCB that fails twice: it is requeued, and then it is finished. Answers how many events were gathered.
+fn recovers<L: Ledger, R: Wait + Abort>(rt: &R, alloc: Global, blank: Blank) -> Result<usize, Fail>
     requires name { blank.name ≡ L.name }
     requires parts { (blank.parts ≡ L.parts) × (blank.parts ≡ 65) }
 {
-    let shared: SharedXpt<L> = SharedXpt::new(frame(alloc, Limits::most())?, blank);
+    let shared: SharedXpt<L> = shared(alloc, Limits::most(), blank)?;
     let mut seat = shared.seat(rt, alloc, SeatName::Recovery)?;
-    let number = shared.submit(rt, &mut seat, 3, 0, 896, 1, PLAIN)?;
-    shared.send_next(rt, &mut seat, 0)?;
-    shared.done(rt, &mut seat, number, outcome(BUSY))?;
+    fails_twice(rt, &shared, &mut seat)?;
+    gathered(alloc, shared, seat)
+}
+
+fn fails_twice<L: Ledger, R: Wait + Abort>(
+    rt: &R,
+    shared: &SharedXpt<L>,
+    seat: &mut Seat<L>,
+) -> Result<(), Fail> {
+    requeues(rt, shared, seat)?;
+    finishes(rt, shared, seat)?;
+    assert_eq!(rt; replies(seat), [0, 1, 2, 0, 3, 1, 2, 0]);
+    Ok(())
+}
+
+fn requeues<L: Ledger, R: Wait + Abort>(
+    rt: &R,
+    shared: &SharedXpt<L>,
+    seat: &mut Seat<L>,
+) -> Result<(), Fail> {
+    let number = shared.submit(rt, seat, 3, 0, 896, 1, PLAIN)?;
+    fails(rt, shared, seat, BUSY)?;
     let case = Case {
         ccb: 0,
         class: Class::CountedRequeue,
     };
     assert_eq!(rt; shared.next_case(rt), Some(case));
-    shared.requeue(rt, &mut seat, number)?;
-    assert_eq!(rt; shared.tick(rt, &mut seat)?, 2);
-    shared.send_next(rt, &mut seat, 0)?;
-    shared.done(rt, &mut seat, number, outcome(FAILED))?;
-    shared.finish(rt, &mut seat, number)?;
+    shared.requeue(rt, seat, number)?;
+    assert_eq!(rt; shared.tick(rt, seat)?, 2);
+    Ok(())
+}
+
+fn finishes<L: Ledger, R: Wait + Abort>(
+    rt: &R,
+    shared: &SharedXpt<L>,
+    seat: &mut Seat<L>,
+) -> Result<(), Fail> {
+    fails(rt, shared, seat, FAILED)?;
+    shared.finish(rt, seat, 0)?;
     assert_eq!(rt; shared.look(rt).length, 8);
-    assert_eq!(rt; replies(&seat), [0, 1, 2, 0, 3, 1, 2, 0]);
-    assert_eq!(rt; gathered(alloc, shared, seat)?, 8);
+    Ok(())
+}
+
+// CCB 0 is sent and comes back with this status.
+fn fails<L: Ledger, R: Wait>(
+    rt: &R,
+    shared: &SharedXpt<L>,
+    seat: &mut Seat<L>,
+    status: u8,
+) -> Result<(), Fail> {
+    shared.send_next(rt, seat, 0)?;
+    shared.done(rt, seat, 0, outcome(status))?;
     Ok(())
 }
 
@@ -94,13 +134,14 @@ fn kind_of(reply: &Reply) -> u8 {
     }
 }
 
-fn call_recovers<R: Wait + Abort>(rt: &R, alloc: Global) -> Result<(), Fail> {
+fn call_recovers<R: Wait + Abort>(rt: &R, alloc: Global) -> Result<usize, Fail> {
     recovers::<Brand, R>(rt, alloc, Blank::new(65))
 }
 
 #[test]
 fn failed_commands_leave_receipts(rt: HostRuntime) -> Result<(), Fail> {
-    call_recovers(&rt, rt.alloc())
+    assert_eq!(&rt; call_recovers(&rt, rt.alloc())?, 8);
+    Ok(())
 }
 
 // How many events the one seat makes.

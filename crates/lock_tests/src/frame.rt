@@ -4,7 +4,9 @@ ghost use Rattle.std.specs.Prelude.{◌≡◌, [], IfOk};
 
 use cam_types::{Config, Device, Flags, Limits, Outcome, SenseBytes};
 use std::alloc::Global;
+use std::sync::ledger::{Blank, Ledger};
 use std::test::Fail;
+use xpt_lock::SharedXpt;
 use xpt_state::Xpt;
 
 /// Neither flag.
@@ -13,8 +15,15 @@ pub const PLAIN: Flags = Flags {
     qfrzdis: false,
 };
 
-/// The transport without events.
-pub fn frame(alloc: Global, limits: Limits) -> Result<Xpt, Fail>
+/// The transport without events, under a lock.
+pub fn shared<L: Ledger>(alloc: Global, limits: Limits, blank: Blank) -> Result<SharedXpt<L>, Fail>
+    requires name { blank.name ≡ L.name }
+    requires parts { (blank.parts ≡ L.parts) × (blank.parts ≡ 65) }
+{
+    Ok(SharedXpt::new(frame(alloc, limits)?, blank))
+}
+
+fn frame(alloc: Global, limits: Limits) -> Result<Xpt, Fail>
     ensures { IfOk result (λ x. x.events ≡ []) }
 {
     let device = Device {

@@ -2,7 +2,7 @@
 
 ghost use Rattle.std.specs.Prelude.{◌≡◌};
 
-use crate::frame::{PLAIN, frame};
+use crate::frame::{PLAIN, outcome, shared};
 use cam_types::Limits;
 use std::alloc::Global;
 use std::marker::Brand;
@@ -11,7 +11,7 @@ use std::sync::Wait;
 use std::sync::ledger::{Blank, Ledger};
 use std::test::Fail;
 use std::thread::{Threads, join};
-use xpt_lock::{Moment, Seat, SeatName, SharedXpt};
+use xpt_lock::{Bell, Seat, SeatName, SharedXpt};
 use xpt_state::Reply;
 
 // Submits 100 CCBs and gives the seat back.
@@ -38,11 +38,11 @@ fn two_drivers<L: Ledger + Send + Sync, R: Threads + Wait + Abort + Sync>(
     rt: &R,
     alloc: Global,
     blank: Blank,
-) -> Result<(), Fail>
+) -> Result<usize, Fail>
     requires name { blank.name ≡ L.name }
     requires parts { (blank.parts ≡ L.parts) × (blank.parts ≡ 65) }
 {
-    let shared: SharedXpt<L> = SharedXpt::new(frame(alloc, Limits::most())?, blank);
+    let shared: SharedXpt<L> = shared(alloc, Limits::most(), blank)?;
     let one = shared.seat(rt, alloc, SeatName::Driver(0))?;
     let other = shared.seat(rt, alloc, SeatName::Driver(1))?;
     let board = &shared;
@@ -51,64 +51,95 @@ fn two_drivers<L: Ledger + Send + Sync, R: Threads + Wait + Abort + Sync>(
         move || submits(rt, board, one),
         move || submits(rt, board, other),
     );
-    let mut times = [0; 200];
-    note(&one, &mut times);
-    note(&other, &mut times);
-    for count in times.iter() {
-        assert_eq!(rt; *count, 1);
-    }
+    is_each_once(rt, &one, &other);
+    gathered(alloc, shared, one, other)
+}
+
+// How many events the two seats made.
+fn gathered<L: Ledger>(
+    alloc: Global,
+    shared: SharedXpt<L>,
+    one: Seat<L>,
+    other: Seat<L>,
+) -> Result<usize, Fail> {
     let mut seats = Vec::new(alloc);
     let _ = seats.push(one);
     let _ = seats.push(other);
-    assert_eq!(rt; shared.gather(alloc, seats)?.events().len(), 200);
-    Ok(())
+    Ok(shared.gather(alloc, seats)?.events().len())
 }
 
-fn drivers<R: Threads + Wait + Abort + Sync>(rt: &R, alloc: Global) -> Result<(), Fail> {
+// Each of the numbers 0 to 199 was answered once.
+fn is_each_once<L: Ledger, R: Abort>(rt: &R, one: &Seat<L>, other: &Seat<L>) {
+    let mut times = [0; 200];
+    note(one, &mut times);
+    note(other, &mut times);
+    for count in times.iter() {
+        assert_eq!(rt; *count, 1);
+    }
+}
+
+fn drivers<R: Threads + Wait + Abort + Sync>(rt: &R, alloc: Global) -> Result<usize, Fail> {
     two_drivers::<Brand, R>(rt, alloc, Blank::new(65))
 }
 
 #[test]
 fn two_threads_get_each_number_once(rt: HostRuntime) -> Result<(), Fail> {
-    drivers(&rt, rt.alloc())
+    assert_eq!(&rt; drivers(&rt, rt.alloc())?, 200);
+    Ok(())
 }
 
-fn sleeps<L: Ledger, R: Wait>(rt: &R, shared: &SharedXpt<L>, seen: Moment) -> Moment {
-    shared.wait_past(rt, seen)
-}
-
-fn ticks<L: Ledger, R: Wait>(rt: &R, shared: &SharedXpt<L>, seat: Seat<L>) {
+// Makes the event that rings the bell of rounds, of work or of cases, or rings that of rest.
+fn rings<L: Ledger, R: Wait>(rt: &R, shared: &SharedXpt<L>, seat: Seat<L>, bell: Bell) {
     let mut seat = seat;
-    let _ = shared.tick(rt, &mut seat);
+    match bell {
+        Bell::Round => {
+            let _ = shared.tick(rt, &mut seat);
+        }
+        Bell::Work => {
+            let _ = shared.submit(rt, &mut seat, 0, 0, 1152, 4, PLAIN);
+        }
+        Bell::Case => fails(rt, shared, &mut seat),
+        Bell::Rest => shared.ring(rt, Bell::Rest),
+    }
 }
 
-// A thread sleeps until another's tick.
+// A command that comes back busy.
+fn fails<L: Ledger, R: Wait>(rt: &R, shared: &SharedXpt<L>, seat: &mut Seat<L>) {
+    let _ = shared.submit(rt, seat, 0, 0, 1152, 4, PLAIN);
+    let _ = shared.send_next(rt, seat, 0);
+    let _ = shared.done(rt, seat, 0, outcome(0x05));
+}
+
+// A thread sleeps at the bell until another rings it. Answers how often the bell rang when it woke.
 fn sleeper<L: Ledger + Send + Sync, R: Threads + Wait + Abort + Sync>(
     rt: &R,
     alloc: Global,
     blank: Blank,
-) -> Result<(), Fail>
+    bell: Bell,
+) -> Result<u64, Fail>
     requires name { blank.name ≡ L.name }
     requires parts { (blank.parts ≡ L.parts) × (blank.parts ≡ 65) }
 {
-    let shared: SharedXpt<L> = SharedXpt::new(frame(alloc, Limits::most())?, blank);
+    let shared: SharedXpt<L> = shared(alloc, Limits::most(), blank)?;
     let seat = shared.seat(rt, alloc, SeatName::Keeper)?;
-    let seen = shared.moment(rt);
+    let seen = shared.moment(rt, bell);
     let board = &shared;
     let (woken, _) = join(
         rt,
-        move || sleeps(rt, board, seen),
-        move || ticks(rt, board, seat),
+        move || board.wait_past(rt, bell, seen),
+        move || rings(rt, board, seat, bell),
     );
-    assert_eq!(rt; woken.length, 1);
-    Ok(())
+    Ok(woken.rings)
 }
 
-fn sleep<R: Threads + Wait + Abort + Sync>(rt: &R, alloc: Global) -> Result<(), Fail> {
-    sleeper::<Brand, R>(rt, alloc, Blank::new(65))
+fn sleep<R: Threads + Wait + Abort + Sync>(rt: &R, alloc: Global, bell: Bell) -> Result<u64, Fail> {
+    sleeper::<Brand, R>(rt, alloc, Blank::new(65), bell)
 }
 
 #[test]
-fn a_tick_wakes_who_sleeps(rt: HostRuntime) -> Result<(), Fail> {
-    sleep(&rt, rt.alloc())
+fn each_bell_wakes_who_sleeps(rt: HostRuntime) -> Result<(), Fail> {
+    for bell in [Bell::Round, Bell::Work, Bell::Case, Bell::Rest] {
+        assert_eq!(&rt; sleep(&rt, rt.alloc(), bell)?, 1);
+    }
+    Ok(())
 }

@@ -42,8 +42,9 @@ use Rattle.xpt_state.specs.declared.look.Case.{Case}
 use Rattle.xpt_state.proofs.IdleLemmas.{idle_is_no_next, is_some-next_head}
 use Rattle.xpt_state.proofs.SendLemmas.{lane_named}
 use Rattle.event_log.proofs.QueueLaws.{test_le}
-use Rattle.sim_worker.specs.Work.{decision_of, is_for_stays, is_full, is_held_up}
-use Rattle.sim_worker.proofs.ListFacts.{some_is}
+use Rattle.sim_worker.specs.Work.{decision_of, is_full}
+use Rattle.run_rules.specs.Held.{is_for_stays, is_held_up}
+use Rattle.run_rules.proofs.ListFacts.{some_is}
 use Rattle.sim_worker.proofs.FullLemmas.{false_true}
 
 -- a CCB that is sent wasn't in flight

@@ -16,10 +16,10 @@ use Rattle.cam_event.proofs.TestLemmas.{list_all-weaker}
 use Rattle.trace_file.specs.Scenarios.{Scenario, is_ruled}
 use Rattle.trace_file.specs.declared.step.Step.{Step}
 use Rattle.trace_file.specs.declared.step.Step.TheVariants as step
-use Rattle.sim_worker.specs.Runs.{is_submit_by, submits, submit_asked, submits_asked, is_over}
+use Rattle.run_rules.specs.Runs.{is_submit_by, submits, submit_asked, submits_asked, is_over}
 use Rattle.sim_worker.specs.Work.{HasDone, AreDriversAt, steps_of}
 use Rattle.sim_worker.specs.declared.work.Driver.{Driver}
-use Rattle.sim_worker.proofs.ListFacts.{get_in_set, take_one}
+use Rattle.run_rules.proofs.ListFacts.{get_in_set, take_one}
 
 -- a pause that is over stays so
 over_later : (now later : ℕ) → now ≤ later → (one : Step) → is_over now one ≡ true → is_over later one ≡ true

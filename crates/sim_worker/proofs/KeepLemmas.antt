@@ -11,24 +11,23 @@ use Rattle.event_log.specs.Event.{is_some_and}
 use Rattle.event_log.specs.Counts.{round, ccbs, has_in_flight, is_in_flight}
 use Rattle.event_log.specs.Head.{head}
 use Rattle.event_log.specs.Stays.{stays_begun}
-use Rattle.event_log.specs.declared.event.Event.{Event}
 use Rattle.event_log.specs.declared.event.Event.TheVariants.{Requeue}
 use Rattle.cam_event.specs.Legal.{Rules}
-use Rattle.cam_event.specs.Refusals.{are_stays_full, first_cause, refusal}
-use Rattle.cam_event.specs.declared.refusal.Refusal.TheVariants as refusals
 use Rattle.trace_file.specs.declared.step.Step.{Step}
 use Rattle.xpt_state.specs.Calls.{refused}
 use Rattle.xpt_state.specs.Looks.{next_case, has_head}
-use Rattle.sim_worker.specs.Endings.{IsDrained}
-use Rattle.sim_worker.specs.Runs.{submits, submit_asked, submits_asked, is_over, are_lanes_idle, is_stuck, may_recovery_rest, may_tick, IsPrefix}
-use Rattle.sim_worker.specs.Work.{Work, IsWork, IsAtEnd, actor_at, is_able, is_for_stays, is_held_up, steps_of}
+use Rattle.run_rules.specs.Endings.{IsDrained}
+use Rattle.run_rules.specs.Runs.{submits, submit_asked, submits_asked, is_over, are_lanes_idle, is_stuck, may_recovery_rest, may_tick, IsPrefix}
+use Rattle.sim_worker.specs.Work.{Work, IsWork, IsAtEnd, actor_at, is_able, steps_of}
+use Rattle.run_rules.specs.Held.{is_for_stays, is_held_up}
 use Rattle.sim_worker.specs.declared.actor.Actor.TheVariants as actors
 use Rattle.sim_worker.specs.declared.work.Hand.{Hand}
 use Rattle.sim_worker.specs.declared.work.Lane.{Lane}
 use Rattle.sim_worker.proofs.CaseLemmas.{none_recovers}
 use Rattle.sim_worker.proofs.FullLemmas.{false_true}
-use Rattle.sim_worker.proofs.ListFacts.{any_some, none_any, take_and_drop, take_whole, there_is}
-use Rattle.sim_worker.proofs.TurnLemmas.{get_there}
+use Rattle.sim_worker.proofs.ListFacts.{any_some, none_any, take_and_drop}
+use Rattle.run_rules.proofs.RestLemmas.{stays_full}
+use Rattle.run_rules.proofs.ListFacts.{get_there, take_whole, there_is}
 
 abbrev pub AllRest : Work → Type 0
 AllRest w = (i : ℕ) → i < 9 + length w.lanes → is_able w (actor_at (length w.lanes) i) ≡ false
@@ -76,19 +75,6 @@ lanes_idle w h rest = ap not (none_any (λ a. is_some (head w.transport.config w
     let lane = get_there w.lanes k (omega (arith, there_is w.transport.config.lanes k a at, size)) in
     let none = (lane_rests w rest k lane.0 lane.1).1 in
     sym (ap (is_some_and (λ b. is_some (head w.transport.config w.transport.events b))) at) ∙ ap (has_head w.transport.config w.transport.events) (sym (h.lanes k lane.0 lane.1).number) ∙ none))
-
--- StaysFull is answered where as many stays began as may
-stays_at : (f n s r q : Bool) (k : ℕ) → is_for_stays (first_cause ((f, refusals.HistoryFull k) ∷ (n, refusals.NoCcb) ∷ (s, refusals.StaysFull) ∷ (r, refusals.NotRecovering) ∷ (q, refusals.WrongDecision) ∷ [])) ≡ true → s ≡ true
-stays_at f n true r q k h = refl
-stays_at true n false r q k h = absurd (false_true h)
-stays_at false true false r q k h = absurd (false_true h)
-stays_at false false false true q k h = absurd (false_true h)
-stays_at false false false false true k h = absurd (false_true h)
-stays_at false false false false false k h = absurd (false_true h)
-
-stays_full : (rules : Rules) (c : Topology) (es : List Event) (ccb : ℕ) → is_for_stays (refusal rules c es (Requeue ccb)) ≡ true → are_stays_full rules es ≡ true
-unfolding refusal
-stays_full rules c es ccb h = stays_at _ _ (are_stays_full rules es) _ _ (length es) h
 
 not_both : (marked held : Bool) → (not marked || not held) ≡ false → held ≡ true
 not_both true true h = refl
@@ -140,7 +126,9 @@ drained w h rest end = record {
         ap (list_all (is_over (round w.transport.events))) (sym (take_whole (steps_of w.script d) x.0.done (end.rows d x.0 x.1))) ∙ (h.drivers d x.0 x.1).pauses
     | false ↦ λ ge. ap (list_all (is_over (round w.transport.events))) (no_steps w.script.drivers d (omega (arith, ltb-false d 8 ge, h.scenario.eight)))
   ] refl;
-  sent = end.sent;
-  landed = landed w h rest;
-  decided = none_recovers w.transport.rules w.transport.config w.transport.events h.legal end.cases;
+  quiet = record {
+    sent = end.sent;
+    landed = landed w h rest;
+    decided = none_recovers w.transport.rules w.transport.config w.transport.events h.legal end.cases;
+  };
 }

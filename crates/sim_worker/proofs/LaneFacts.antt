@@ -15,15 +15,16 @@ use Rattle.event_log.proofs.ListFacts.{filter_map-push}
 use Rattle.event_log.proofs.StateLaws.{last-push, is_in_flight-push}
 use Rattle.std.proofs.lemmas.List.{map-append}
 use Rattle.trace_file.specs.Scenarios.{Scenario, is_answer}
-use Rattle.sim_worker.specs.declared.served.Served.{Served}
+use Rattle.run_rules.specs.declared.served.Served.{Served}
 use Rattle.event_log.proofs.ShareLaws.{same_number, flies-send}
 use Rattle.sim_worker.specs.Ports.{PortState, answer_at, first_answers, outcomes}
 use Rattle.sim_worker.proofs.PortLemmas.{given-push}
-use Rattle.sim_worker.specs.Runs.{lane_of, sender, outcome_by, outcomes_by}
+use Rattle.run_rules.specs.Runs.{lane_of, sender, outcome_by, outcomes_by}
 use Rattle.sim_worker.specs.Work.{HasServed, AreLanesAt, IsInHand, AreInHand, outcome_in_hand}
 use Rattle.sim_worker.specs.declared.work.Hand.{Hand}
 use Rattle.sim_worker.specs.declared.work.Lane.{Lane}
-use Rattle.sim_worker.proofs.ListFacts.{get_in_set, set_at, set_beside}
+use Rattle.sim_worker.proofs.ListFacts.{set_at}
+use Rattle.run_rules.proofs.ListFacts.{get_in_set, set_beside}
 
 sender_cases : (e : Event) (t : Bool) (o : Option Event) → option_and_then lane_of (cond t (Some e) o) ≡ cond t (lane_of e) (option_and_then lane_of o)
 sender_cases e true o = refl

@@ -2,7 +2,6 @@ pub mod CaseLemmas
 pub mod DriverLemmas
 pub mod FullLemmas
 pub mod KeepLemmas
-pub mod LaneCount
 pub mod LaneFacts
 pub mod LeftLemmas
 pub mod ListFacts

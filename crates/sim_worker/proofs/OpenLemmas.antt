@@ -7,12 +7,12 @@ use Rattle.cam_event.specs.Legal.{Rules, rules_of, is_legal}
 use Rattle.trace_file.specs.Scenarios.{Scenario, IsScenario}
 use Rattle.xpt_devices.specs.Transport.{Transport}
 use Rattle.sim_worker.specs.Ports.{first_answers, outcomes}
-use Rattle.sim_worker.specs.Runs.{outcomes_by}
+use Rattle.run_rules.specs.Runs.{outcomes_by}
 use Rattle.sim_worker.specs.Work.{IsWork, AreFresh, HasDone, steps_of}
 use Rattle.sim_worker.specs.declared.work.Driver.{Driver}
 use Rattle.sim_worker.specs.declared.work.Lane.{Lane}
 use Rattle.sim_worker.proofs.FullLemmas.{false_true}
-use Rattle.sim_worker.proofs.ListFacts.{get_pushed, some_is}
+use Rattle.run_rules.proofs.ListFacts.{get_pushed, some_is}
 
 in_replicate : (n d : ℕ) (x w : Driver) → slice_get (replicate n x) d ≡ Some w → w ≡ x
 in_replicate zero d x w h = absurd (cc)

@@ -2,14 +2,11 @@
 use Rattle.std.proofs.Common.{◌≡◌, ℕ, ◌+◌, Bool, true, false, List, [], ◌∷◌, ◌++◌, length, set, map, refl, sym, ap, ◌∙◌, subst, arith, Some, None, zero, suc, inl, inr}
 use Rattle.std.specs.Prelude.{slice_get, ◌==◌, IfSome}
 use Rattle.std.specs.Option.{option_map}
-use Rattle.std.specs.List.{list_all, AllByRecursion}
-use Rattle.std.proofs.lemmas.Bool.{and_from, eqb-true, eq-eqb}
+use Rattle.std.specs.List.{AllByRecursion}
+use Rattle.std.proofs.lemmas.Bool.{eqb-true, eq-eqb}
 use Rattle.std.proofs.lemmas.List.{length-set}
-use Rattle.std.proofs.lemmas.List.Folds.{list_all-append}
 use Rattle.cam_types.specs.Bounds.{Bounds}
-use Rattle.cam_types.specs.Lists.{moments}
 use Rattle.cam_types.specs.Topology.{Topology}
-use Rattle.cam_types.proofs.ListLemmas.{moments-push}
 use Rattle.event_log.specs.Counts.{is_in_flight}
 use Rattle.event_log.specs.declared.event.Event.{Event}
 use Rattle.event_log.specs.declared.event.Event.TheVariants.{Send, Done, Tick}
@@ -21,20 +18,18 @@ use Rattle.cam_event.proofs.LawLemmas.{legal-push}
 use Rattle.cam_event.proofs.LegalLemmas.{legal-none}
 use Rattle.xpt_state.specs.Steps.{IsTaken}
 use Rattle.sim_worker.specs.Ports.{answer_at, first_answers, outcomes}
-use Rattle.sim_worker.specs.Runs.{outcomes_by, is_in_time, are_ticks_in_time, is_submit_by, may_tick}
+use Rattle.run_rules.specs.Runs.{outcomes_by, is_in_time, is_submit_by, may_tick}
 use Rattle.sim_worker.specs.Work.{IsWork, HasDone, HasServed, AreLanesAt, AreInHand, IsInHand, outcome_in_hand, steps_of}
 use Rattle.sim_worker.specs.declared.work.Driver.{Driver}
 use Rattle.sim_worker.specs.declared.work.Hand.{Hand}
 use Rattle.sim_worker.specs.declared.work.Lane.{Lane}
-use Rattle.sim_worker.specs.declared.served.Served.{Served}
-use Rattle.sim_worker.proofs.ListFacts.{some_is, get_in_set, map_at, set_at, set_beside}
+use Rattle.run_rules.specs.declared.served.Served.{Served}
+use Rattle.sim_worker.proofs.ListFacts.{map_at, set_at}
+use Rattle.run_rules.proofs.PassLemmas.{ticks-push}
+use Rattle.run_rules.proofs.ListFacts.{get_in_set, set_beside, some_is, there_is}
 use Rattle.sim_worker.proofs.FullLemmas.{false_true}
-use Rattle.sim_worker.proofs.ListFacts.{there_is}
 use Rattle.sim_worker.proofs.DriverLemmas.{drivers-call, drivers-other, drivers-set, strangers-call, strangers-other}
 use Rattle.sim_worker.proofs.LaneFacts.{in_hand, is_lane_event, lanes-other, flights-other, lanes-done, flights-done, lanes-send, flights-send}
-
-pub ticks-push : (c : Topology) (limits : Bounds) (es : List Event) (e : Event) → is_in_time c limits (es, e) ≡ true → are_ticks_in_time c limits es ≡ true → are_ticks_in_time c limits (es ++ e ∷ []) ≡ true
-ticks-push c limits es e here h = ap (list_all (is_in_time c limits)) (moments-push es e) ∙ list_all-append (is_in_time c limits) (moments es) ((es, e) ∷ []) ∙ and_from _ _ h (and_from _ _ here refl)
 
 -- what a driver may ask for is its own, and no tick
 ruled_apart : (c : Topology) (d : ℕ) (e : Event) → is_ruled c d (step.Act e) ≡ true → is_lane_event e ≡ false

@@ -28,27 +28,17 @@ use Rattle.event_log.specs.declared.event.Event.TheVariants.{Done, Requeue, Fini
 use Rattle.cam_event.proofs.WithinLemmas.{short-legal}
 use Rattle.cam_event.proofs.StandLemmas.{in_flight_held, states-legal}
 use Rattle.trace_file.specs.Scenarios.{Scenario, is_answer}
-use Rattle.sim_worker.specs.Runs.{sender, is_submit_by, is_in_time}
+use Rattle.run_rules.specs.Runs.{sender, is_submit_by, is_in_time}
 use Rattle.sim_worker.specs.Work.{Work, IsWork, call_of, is_driver_able, is_lane_able, decision_of}
 use Rattle.sim_worker.specs.declared.work.Hand.{Hand}
 use Rattle.sim_worker.specs.declared.work.Lane.{Lane}
 use Rattle.sim_worker.proofs.FullLemmas.{allowed_at_limit}
-use Rattle.sim_worker.proofs.ListFacts.{some_is}
-
-pub get_is : {X : Type 0} → (xs : List X) (i : ℕ) (x : X) → i < length xs → x ≡ get_or xs i x → slice_get xs i ≡ Some x
-get_is [] i x lt is = absurd (omega arith)
-get_is (y ∷ ys) zero x lt is = ap (λ z. Some z) (sym is)
-get_is (y ∷ ys) (suc i) x lt is = get_is ys i x (omega arith) is
+use Rattle.run_rules.proofs.ListFacts.{some_is}
 
 pub get_or_is : {X : Type 0} → (xs : List X) (i : ℕ) (x d : X) → slice_get xs i ≡ Some x → get_or xs i d ≡ x
 get_or_is [] i x d h = absurd (cc)
 get_or_is (y ∷ ys) zero x d h = cc
 get_or_is (y ∷ ys) (suc i) x d h = get_or_is ys i x d h
-
-pub get_there : {X : Type 0} → (xs : List X) (i : ℕ) → i < length xs → (x : X) × (slice_get xs i ≡ Some x)
-get_there [] i lt = absurd (omega arith)
-get_there (y ∷ ys) zero lt = (y, refl)
-get_there (y ∷ ys) (suc i) lt = get_there ys i (omega arith)
 
 -- an event that isn't refused has room
 pub room_for : (t : Transport) (e : Event) → refused t e ≡ None → length t.events < t.rules.events

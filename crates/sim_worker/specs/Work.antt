@@ -15,12 +15,13 @@ use Rattle.xpt_state.specs.Looks.{next_case, has_head}
 use Rattle.xpt_state.specs.declared.look.Case.{Case}
 use Rattle.sense_class.specs.Classes.{asks_requeue}
 use Rattle.cam_event.specs.declared.refusal.Refusal.{Refusal}
-use Rattle.cam_event.specs.declared.refusal.Refusal.TheVariants.{HistoryFull, StaysFull}
+use Rattle.cam_event.specs.declared.refusal.Refusal.TheVariants.{HistoryFull}
 use Rattle.event_log.specs.declared.event.Event.TheVariants.{Requeue, Finish}
 use Rattle.event_log.specs.Stays.{waiting}
 use Rattle.xpt_state.specs.Calls.{refused}
 use Rattle.sim_worker.specs.Ports.{first_answers, outcomes}
-use Rattle.sim_worker.specs.Runs.{submits, submits_asked, is_over, sender, outcomes_by, are_ticks_in_time}
+use Rattle.run_rules.specs.Held.{is_held_up}
+use Rattle.run_rules.specs.Runs.{submits, submits_asked, is_over, sender, outcomes_by, are_ticks_in_time}
 use Rattle.sim_worker.specs.declared.actor.Actor.{Actor}
 use Rattle.sim_worker.specs.declared.actor.Actor.TheVariants as actor
 use Rattle.sim_worker.specs.declared.work.Driver.{Driver}
@@ -106,14 +107,6 @@ is_driver_able s d w = not w.refused && is_some (call_of (slice_get (steps_of s 
 -- the lane has a command in hand, or could send one
 abbrev pub is_lane_able : Transport → ℕ → Lane → Bool
 is_lane_able t lane w = is_some w.hand || has_head t.config t.events w.number
-
-abbrev pub is_for_stays : Option Refusal → Bool
-is_for_stays (Some StaysFull) = true
-is_for_stays _ = false
-
--- the case asks for a requeue, which is refused since as many stays began as may
-abbrev pub is_held_up : Transport → Case → Bool
-is_held_up t case = asks_requeue case.class && is_for_stays (refused t (Requeue case.ccb))
 
 -- a CCB waits for a decision, and none was refused in this round, or it could be made now
 abbrev pub is_recovery_able : Work → Bool

@@ -1,12 +1,11 @@
 //! The port of a script's lane: it answers what the script says.
 
-ghost use Rattle.std.specs.Prelude.{◌≡◌, ◌<◌, ◌-◌, ℕ, [], ◌∷◌, ◌++◌, length, get_or, map, IfOk, IsTrue, vec_capacity};
+ghost use Rattle.std.specs.Prelude.{◌≡◌, All, ◌<◌, ◌-◌, ℕ, [], ◌∷◌, ◌++◌, length, get_or, map, IfOk, IsTrue, vec_capacity};
 ghost use Rattle.trace_file.specs.Scenarios.{is_answer};
 ghost use Rattle.sim_worker.specs.Ports.{answer_at};
 
-use crate::port::Port;
-use crate::served::Served;
 use cam_types::{Command, Outcome};
+use run_rules::{Port, Served};
 use sense_class::CAM_REQ_CMP;
 use std::alloc::{AllocError, Global};
 use std::marker::Model;
@@ -46,6 +45,22 @@ impl ScriptPort {
             answers,
             served: Vec::new(alloc),
         })
+    }
+
+    /// A port for each of the script's lanes, in order. None has served anything.
+    pub fn for_lanes(alloc: Global, script: &Script) -> Result<Vec<ScriptPort>, AllocError>
+        ensures answers { IfOk result (λ ports. map (λ p. p.answers) ports.items ≡ script.now.answers) }
+        ensures count { IfOk result (λ ports. length ports.items ≡ length script.now.config.lanes) }
+        ensures fresh { IfOk result (λ ports. All (λ p. p.served ≡ []) ports.items) }
+    {
+        let count = script.config().lanes().len();
+        // There is a list of answers for each lane.
+        let _answers = script.answers();
+        let mut ports = Vec::with_capacity(alloc, count)?;
+        for lane in 0..count {
+            ports.push(ScriptPort::new(alloc, script, lane as u32)?)?;
+        }
+        Ok(ports)
     }
 
     // What the lane answers next.

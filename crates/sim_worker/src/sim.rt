@@ -2,25 +2,24 @@
 
 ghost use Rattle.std.specs.Prelude.{◌≡◌, ℕ, List, map, replicate, ◌<◌, ◌≤◌, ◌+◌, ◌++◌, [], ◌∷◌, true, false, not, length, get_or, slice_get, take, All, IfOk, IfNone, IfSome, Some, None, IsTrue};
 ghost use Rattle.std.specs.List.{list_all};
-ghost use Rattle.sim_worker.specs.Endings.{IsEnding};
+ghost use Rattle.run_rules.specs.Endings.{IsEnding};
 ghost use Rattle.sim_worker.specs.SimRuns.{IsSimRun};
 ghost use Rattle.std.specs.Option.{option_map};
 ghost use Rattle.event_log.specs.Counts.{round};
-ghost use Rattle.sim_worker.specs.Work.{Work, AreFresh, HasDone, IsAtEnd, IsToSend, actor_at, call_of, decision_of, is_able, is_full, is_held_up, left, steps_of};
+ghost use Rattle.sim_worker.specs.Work.{Work, AreFresh, HasDone, IsAtEnd, IsToSend, actor_at, call_of, decision_of, is_able, is_full, left, steps_of};
 ghost use Rattle.sim_worker.specs.declared.actor.Actor.TheVariants as actors;
 ghost use Rattle.sim_worker.specs.declared.work.Lane.{Lane};
 ghost use Rattle.sim_worker.specs.declared.work.Driver.{Driver};
 ghost use Rattle.event_log.specs.declared.event.Event.{Event};
 
 use crate::actor::Actor;
-use crate::ending::Ending;
-use crate::port::Port;
 use crate::script_port::ScriptPort;
 use crate::seeded::SimRun;
 use crate::work::{Driver, Hand, Lane};
 use cam_event::{Event, Refusal};
 use rand_core::Rng;
 use rand_pcg::Lcg64Xsh32;
+use run_rules::{Ending, Port};
 use std::alloc::{AllocError, Global};
 use std::marker::Model;
 use trace_file::{DRIVERS, Script, Step};
@@ -29,12 +28,12 @@ use xpt_state::{Case, Sent, Xpt};
 /// A run of a script on one thread, and how far it is.
 #[derive(Drop)]
 pub(crate) struct Sim<'s> {
-    script: &'s Script,
-    xpt: Xpt,
-    drivers: Vec<Driver>,
-    lanes: Vec<Lane>,
-    // Whether recovery's decision was refused in this round.
-    refused: bool,
+    pub(crate) script: &'s Script,
+    pub(crate) xpt: Xpt,
+    pub(crate) drivers: Vec<Driver>,
+    pub(crate) lanes: Vec<Lane>,
+    /// Whether recovery's decision was refused in this round.
+    pub(crate) refused: bool,
 }
 
 impl<'s> Model for Sim<'s> {
@@ -66,23 +65,6 @@ impl<'s> Sim<'s> {
         })
     }
 
-    // Passes the pauses that are over, and lists who is able to act: drivers by number, lanes by number, recovery.
-    fn list_able(&mut self, able: &mut Vec<Actor>) -> Result<(), AllocError>
-        ensures same { (self.new.script ≡ self.old.script) × (left self.new ≡ left self.old) }
-        ensures able { All (λ a. is_able self.new a ≡ true) able.new.items }
-        ensures none { IfOk result (λ _. able.new.items ≡ [] → (i : ℕ) → i < 9 + length self.new.lanes → is_able self.new (actor_at (length self.new.lanes) i) ≡ false) }
-    {
-        self.pass_pauses();
-        able.clear();
-        for i in 0..DRIVERS + self.lanes.len() + 1 {
-            let actor = self.actor_at(i);
-            if self.is_able(actor) {
-                able.push(actor)?;
-            }
-        }
-        Ok(())
-    }
-
     /// One turn: the next word of the generator picks who acts, of those who are able; the round keeper does, if no one
     /// is. An ending, if the run is over.
     pub(crate) fn turn(
@@ -100,97 +82,6 @@ impl<'s> Sim<'s> {
         }
         let place = random.next_u32() as usize % able.len();
         self.act(able[place])
-    }
-
-    // Passes, for each driver, the pauses that stand next and are over.
-    fn pass_pauses(&mut self)
-        ensures same { (self.new.script ≡ self.old.script) × (left self.new ≡ left self.old) }
-        ensures lanes { length self.new.lanes ≡ length self.old.lanes }
-    {
-        let round = self.xpt.look().round;
-        for d in 0..DRIVERS {
-            self.pass_pauses_of(d, round);
-        }
-    }
-
-    fn pass_pauses_of(&mut self, d: usize, now: u32)
-        requires number { d < 8 }
-        requires now { now ≡ round self.old.transport.events }
-        ensures same { (self.new.script ≡ self.old.script) × (left self.new ≡ left self.old) × (self.new.transport ≡ self.old.transport) }
-        ensures lanes { length self.new.lanes ≡ length self.old.lanes }
-    {
-        let done = behind_pauses(&self.script.drivers()[d], self.drivers[d].done, now);
-        self.drivers[d].done = done;
-    }
-
-    // The actor of this place in their order.
-    fn actor_at(&self, i: usize) -> Actor
-        ensures { result ≡ actor_at (length self.now.lanes) i }
-    {
-        if i < DRIVERS {
-            Actor::Driver(i)
-        } else if i < DRIVERS + self.lanes.len() {
-            Actor::Lane(i - DRIVERS)
-        } else {
-            Actor::Recovery
-        }
-    }
-
-    // Whether the actor could act now.
-    fn is_able(&self, actor: Actor) -> bool
-        ensures { result ≡ is_able self.now actor }
-    {
-        match actor {
-            Actor::Driver(d) => self.is_driver_able(d),
-            Actor::Lane(lane) => self.is_lane_able(lane),
-            Actor::Recovery => self.is_recovery_able(),
-        }
-    }
-
-    fn is_driver_able(&self, d: usize) -> bool
-        ensures { result ≡ is_able self.now (actors.Driver d) }
-    {
-        match self.drivers.get(d) {
-            Some(driver) => !driver.refused && self.next_call(d, driver.done).is_some(),
-            None => false,
-        }
-    }
-
-    // The event that the driver's row of this place calls for.
-    fn next_call(&self, d: usize, done: usize) -> Option<Event>
-        requires { d < 8 }
-        ensures { result ≡ call_of (slice_get (steps_of self.now.script d) done) }
-    {
-        match self.script.drivers()[d].get(done) {
-            Some(Step::Act(event)) => Some(*event),
-            _ => None,
-        }
-    }
-
-    fn is_lane_able(&self, lane: usize) -> bool
-        ensures { result ≡ is_able self.now (actors.Lane lane) }
-    {
-        match self.lanes.get(lane) {
-            Some(worker) => worker.hand.is_some() || self.xpt.has_head(worker.number),
-            None => false,
-        }
-    }
-
-    fn is_recovery_able(&self) -> bool
-        ensures { result ≡ is_able self.now actors.Recovery }
-    {
-        match self.xpt.next_case() {
-            Some(case) => !self.refused || !self.is_held_up(case),
-            None => false,
-        }
-    }
-
-    // Whether the case asks for a requeue, which is refused since as many stays began as may.
-    fn is_held_up(&self, case: Case) -> bool
-        ensures { result ≡ is_held_up self.now.transport case }
-    {
-        let requeue = Event::Requeue { ccb: case.ccb };
-        case.class.asks_requeue() && self.xpt.refusal(&requeue) == Some(Refusal::StaysFull)
     }
 
     // One call of an actor that is able. An ending, if the history is full.
@@ -360,20 +251,6 @@ fn renew(drivers: &mut [Driver])
     for driver in drivers {
         driver.refused = false;
     }
-}
-
-// Behind the pauses that stand from a place of the steps on and are over.
-fn behind_pauses(steps: &[Step], from: usize, now: u32) -> usize
-    ensures { (d : ℕ) → (events : List Event) → now ≡ round events → HasDone steps.now d events from → HasDone steps.now d events result }
-{
-    let mut done = from;
-    while let Some(Step::Pause(round)) = steps.get(done) {
-        if now < *round {
-            break;
-        }
-        done += 1;
-    }
-    done
 }
 
 // Whether the refusal says that the history is full.

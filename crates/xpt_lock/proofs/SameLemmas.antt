@@ -90,7 +90,7 @@ command_from a b e f g h i =
     let whole : made a.ccb a.attempt a.driver a.device a.priority ≡ made b.ccb b.attempt b.driver b.device b.priority = rw (e, f, g, h, i) refl in
     whole
 
-same_command : (a b : Command) → commands.ghosts.eq a b ≡ true → a ≡ b
+pub same_command : (a b : Command) → commands.ghosts.eq a b ≡ true → a ≡ b
 same_command a b h =
     let p = and_parts (a.ccb == b.ccb) ((a.attempt == b.attempt) && ((a.driver == b.driver) && ((a.device == b.device) && (a.priority == b.priority)))) h in
     let q = and_parts (a.attempt == b.attempt) ((a.driver == b.driver) && ((a.device == b.device) && (a.priority == b.priority))) p.1 in

@@ -1,15 +1,21 @@
 -- what the calls of a seat leave there
-use Rattle.std.specs.Prelude.{◌≡◌, ℕ, [], ◌∷◌, ◌++◌, Option, Some, None, Result, MatchResult}
+use Rattle.std.specs.Prelude.{◌≡◌, ℕ, [], ◌∷◌, ◌++◌, Option, Some, None, Result, Ok, Err, MatchResult, IsTrue}
+use Rattle.cam_event.specs.Legal.{is_legal}
+use Rattle.cam_event.specs.declared.refusal.Refusal.{Refusal}
 use Rattle.event_log.specs.declared.event.Event.{Event}
 use Rattle.event_log.specs.declared.event.Event.TheVariants.{Send}
 use Rattle.xpt_devices.specs.Transport.{Transport}
-use Rattle.xpt_state.specs.Replies.{reply_of}
+use Rattle.xpt_state.specs.Looks.{look, next_case}
+use Rattle.xpt_state.specs.Steps.{IsStep, IsLaneStep}
+use Rattle.xpt_state.specs.declared.look.Case.{Case}
+use Rattle.xpt_state.specs.declared.look.Look.{Look}
 use Rattle.xpt_state.specs.declared.reply.Reply.{Reply}
 use Rattle.xpt_state.specs.declared.reply.Reply.TheVariants as replies
 use Rattle.xpt_state.specs.declared.reply.Sent.{Sent}
 use Rattle.xpt_state.specs.declared.reply.Sent.TheVariants as sents
 use Rattle.xpt_lock.specs.Seats.{Held}
 use Rattle.xpt_lock.specs.declared.fault.SharedFault.{SharedFault}
+use Rattle.xpt_lock.specs.declared.fault.SharedFault.TheVariants.{OutOfMemory, Refused}
 use Rattle.xpt_lock.specs.declared.receipt.Receipt.{Receipt}
 
 -- one receipt more, for this event and with this reply, at some place
@@ -31,6 +37,39 @@ abbrev pub IsTurn : ℕ → Held → Held → Sent → Type 0
 IsTurn lane old new (sents.Command command) = HasGained (Send lane command.ccb) (replies.Command command) old new
 IsTurn lane old new (sents.Idle why) = new ≡ old
 
--- some transport answers this to the event
-abbrev pub IsReply : Event → Reply → Type 0
-IsReply event reply = (t : Transport) × (reply ≡ reply_of t.config t.events event)
+-- the transport's events are legal by its rules
+abbrev pub IsSound : Transport → Type 0
+IsSound t = IsTrue (is_legal t.rules t.config t.events)
+
+-- A sound transport answers so to the event: as a call of one thread does, with that call's refusals.
+abbrev pub HasStep : {A : Type 0} → (A → Reply) → Event → Result A Refusal → Type 0
+HasStep as_reply event answer = (old : Transport) × (new : Transport) × IsSound old × IsStep as_reply old event new answer
+
+-- A sound transport answers so to a lane that asks for its next command.
+abbrev pub HasLaneStep : ℕ → Result Sent Refusal → Type 0
+HasLaneStep lane answer = (old : Transport) × (new : Transport) × IsSound old × IsLaneStep old lane new answer
+
+-- why an event fails: there is no memory, or a sound transport refuses the event for this cause
+abbrev pub IsWhy : Event → SharedFault → Type 0
+IsWhy event OutOfMemory = Unit {0}
+IsWhy event (Refused why) = HasStep (λ (r : Reply). r) event (Err why)
+
+-- what a sound transport answers to the event, or why it fails
+abbrev pub IsAnswer : {A : Type 0} → (A → Reply) → Event → Result A SharedFault → Type 0
+IsAnswer as_reply event result = MatchResult result (λ given. HasStep as_reply event (Ok given)) (λ fault. IsWhy event fault)
+
+-- the same of a lane that asks for its next command
+abbrev pub IsLaneWhy : ℕ → SharedFault → Type 0
+IsLaneWhy lane OutOfMemory = Unit {0}
+IsLaneWhy lane (Refused why) = HasLaneStep lane (Err why)
+
+abbrev pub IsLaneAnswer : ℕ → Result Sent SharedFault → Type 0
+IsLaneAnswer lane result = MatchResult result (λ sent. HasLaneStep lane (Ok sent)) (λ fault. IsLaneWhy lane fault)
+
+-- there is this to see of a sound transport
+abbrev pub IsLook : Look → Type 0
+IsLook seen = (t : Transport) × IsSound t × (seen ≡ look t.config t.events)
+
+-- this is the case that stands first in a sound transport
+abbrev pub IsNextCase : Option Case → Type 0
+IsNextCase case = (t : Transport) × IsSound t × (case ≡ next_case t.events)

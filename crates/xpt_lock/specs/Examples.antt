@@ -1,11 +1,15 @@
 -- the definitions at one history: a driver submits a CCB, and a lane sends it and completes it
-use Rattle.std.specs.Prelude.{◌≡◌, true, false, List, [], ◌∷◌}
+use Rattle.std.specs.Prelude.{◌≡◌, true, false, List, [], ◌∷◌, map, Some, slice_get}
 use Rattle.std.proofs.Common.{refl}
 use Rattle.cam_types.specs.Topology.{Topology}
 use Rattle.cam_types.specs.declared.outcome.Outcome.{Outcome}
 use Rattle.event_log.specs.declared.event.Event.{Event}
 use Rattle.event_log.specs.declared.event.Event.TheVariants.{Submit, Send, Done, Tick}
-use Rattle.event_log.specs.Counts.{submissions, round}
+use Rattle.event_log.specs.Counts.{submissions, round, sendings, caller_count, error_count, adapter_freezes, counted_requeues, is_recovering}
+use Rattle.event_log.specs.Head.{openings, has_opening, adapter_has_opening, is_ready, last_sent, head, next}
+use Rattle.event_log.specs.Stays.{stays_begun, waiting, has_queued, queue, first}
+use Rattle.sense_class.specs.Classes.{kind_of, scsi_kind, sense_kind}
+use Rattle.sense_class.specs.Sense.{read_sense, fixed_sense, descriptor_sense}
 use Rattle.sense_class.specs.declared.class.Class.TheVariants.{Complete}
 use Rattle.xpt_state.specs.declared.reply.Reply.TheVariants as replies
 use Rattle.xpt_lock.specs.Receipts.{receipts_of, all_receipts, naming, is_rising, marks}
@@ -36,6 +40,10 @@ sent = record {
 abbrev completed : Receipt
 completed = record { at = 2; event = Done 0 good; reply = replies.Done (record { class = Complete; value = 1 }) }
 
+-- the two seats, the lane's first
+abbrev seats : List Held
+seats = record { name = names.Lane 0; receipts = sent ∷ completed ∷ [] } ∷ record { name = names.Driver 0; receipts = submitted ∷ [] } ∷ []
+
 -- what one thread would get for the submit and a tick
 abbrev ticked : Receipt
 ticked = record { at = 1; event = Tick; reply = replies.Round 2 }
@@ -44,10 +52,19 @@ two_receipts : receipts_of frame (submit ∷ Tick ∷ []) ≡ submitted ∷ tick
 unfolding submissions round
 two_receipts = refl
 
--- the two seats, the lane's first: each place is named once, and the lane's places rise
-abbrev seats : List Held
-seats = record { name = names.Lane 0; receipts = sent ∷ completed ∷ [] } ∷ record { name = names.Driver 0; receipts = submitted ∷ [] } ∷ []
+-- what it would get for the three events: the CCB's number, the command whose turn it is, and what the completion comes to
+abbrev due : List Receipt
+due = submitted ∷ sent ∷ completed ∷ []
 
+three_receipts : receipts_of frame (submit ∷ Send 0 0 ∷ Done 0 good ∷ []) ≡ due
+unfolding submissions round stays_begun waiting has_queued queue first openings has_opening adapter_has_opening is_ready last_sent head next sendings caller_count error_count adapter_freezes counted_requeues is_recovering kind_of scsi_kind sense_kind read_sense fixed_sense descriptor_sense
+three_receipts = refl
+
+-- each receipt fits: it stands in the history at the place that it names
+each_fits : map (λ (r : Receipt). slice_get due r.at) (all_receipts seats) ≡ map Some (all_receipts seats)
+each_fits = refl
+
+-- each place is named once, and the lane's places rise
 each_once : marks 3 (all_receipts seats) ≡ true ∷ true ∷ true ∷ []
 each_once = refl
 

@@ -2,12 +2,14 @@
 //! history in which they all did it.
 #![tactic(auto)]
 
+pub use bell::Bell;
 pub use fault::{GatherFault, SeatsFull, SharedFault};
 pub use moment::Moment;
 pub use receipt::Receipt;
 pub use seat::{Seat, SeatName};
 pub use shared::SharedXpt;
 
+mod bell;
 mod compare;
 mod fault;
 mod gather;
@@ -15,5 +17,7 @@ mod kept;
 mod moment;
 mod receipt;
 mod replay;
+mod rings;
 mod seat;
 mod shared;
+mod sleepers;

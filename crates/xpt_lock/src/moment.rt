@@ -1,10 +1,8 @@
-//! Moments, by which a worker that sleeps knows that something happened.
+//! Moments, by which a worker that sleeps knows that a bell rang.
 
-/// A moment of a shared transport: another one comes with each event and with each `wake`.
+/// A moment at a bell of a shared transport: another one comes with each ring.
 #[derive(Clone, Copy, Debug, PartialEq, Eq, Hash)]
 pub struct Moment {
-    /// The events so far.
-    pub length: u32,
-    // How often `wake` was called, again from 0 where 64 bits don't hold it.
-    pub(crate) wakes: u64,
+    /// How often the bell rang so far, again from 0 where 64 bits don't hold it.
+    pub rings: u64,
 }

@@ -2,26 +2,28 @@
 
 ghost use Rattle.std.specs.Prelude.{◌≡◌, ◌≢◌, [], IfOk, MatchResult};
 ghost use Rattle.event_log.specs.declared.event.Event.TheVariants as Event;
-ghost use Rattle.xpt_lock.specs.Calls.{IsCall, IsTurn, IsReply};
+ghost use Rattle.xpt_lock.specs.Calls.{IsCall, IsTurn, IsAnswer, IsLaneAnswer, IsLook, IsNextCase};
 ghost use Rattle.xpt_state.specs.Replies.{nothing};
 ghost use Rattle.xpt_state.specs.declared.reply.Reply.TheVariants as replies;
 
+use crate::bell::Bell;
 use crate::fault::{SeatsFull, SharedFault};
 use crate::kept::Kept;
 use crate::moment::Moment;
 use crate::seat::{Seat, SeatName};
+use crate::sleepers::Sleepers;
 use cam_event::Event;
 use cam_types::{Flags, Outcome};
 use std::alloc::Global;
 use std::sync::ledger::{Blank, Ledger};
-use std::sync::{Condvar, Mutex, Wait};
+use std::sync::{Mutex, Wait};
 use xpt_state::{Case, Done, Look, Reply, Sent, Xpt};
 
 /// A transport that threads share.
 #[derive(Drop)]
 pub struct SharedXpt<L: Ledger> {
     kept: Mutex<Kept<L>>,
-    changed: Condvar,
+    sleepers: Sleepers,
 }
 
 impl<L: Ledger> SharedXpt<L> {
@@ -33,7 +35,7 @@ impl<L: Ledger> SharedXpt<L> {
     {
         SharedXpt {
             kept: Mutex::new(Kept::new(xpt, blank)),
-            changed: Condvar::new(),
+            sleepers: Sleepers::none(),
         }
     }
 
@@ -46,14 +48,14 @@ impl<L: Ledger> SharedXpt<L> {
 
     // The transport, without its lock.
     pub(crate) fn into_xpt(self) -> Xpt {
-        let SharedXpt { kept, changed: _ } = self;
+        let SharedXpt { kept, sleepers: _ } = self;
         kept.into_inner().into_xpt()
     }
 
     // Takes an event of any kind but a send.
     fn take<R: Wait>(&self, rt: &R, seat: &mut Seat<L>, event: Event) -> Result<Reply, SharedFault>
         ensures call { IsCall (λ reply. reply) event seat.old seat.new result }
-        ensures reply { IfOk result (λ reply. IsReply event reply) }
+        ensures answer { IsAnswer (λ reply. reply) event result }
     {
         let Seat {
             name: _,
@@ -64,7 +66,7 @@ impl<L: Ledger> SharedXpt<L> {
         let receipt = self.kept.lock(rt).take(event, share)?;
         let reply = receipt.reply;
         receipts.push_reserved(receipt);
-        self.changed.notify_all();
+        self.sleepers.wake(&event, &reply);
         Ok(reply)
     }
 
@@ -79,7 +81,8 @@ impl<L: Ledger> SharedXpt<L> {
         retries: u32,
         flags: Flags,
     ) -> Result<u32, SharedFault>
-        ensures { IsCall replies.Ccb (Event.Submit driver device priority retries flags) seat.old seat.new result }
+        ensures call { IsCall replies.Ccb (Event.Submit driver device priority retries flags) seat.old seat.new result }
+        ensures answer { IsAnswer replies.Ccb (Event.Submit driver device priority retries flags) result }
     {
         let event = Event::Submit {
             driver,
@@ -101,7 +104,8 @@ impl<L: Ledger> SharedXpt<L> {
         seat: &mut Seat<L>,
         lane: u32,
     ) -> Result<Sent, SharedFault>
-        ensures { MatchResult result (λ sent. IsTurn lane seat.old seat.new sent) (λ _. seat.new ≡ seat.old) }
+        ensures turn { MatchResult result (λ sent. IsTurn lane seat.old seat.new sent) (λ _. seat.new ≡ seat.old) }
+        ensures answer { IsLaneAnswer lane result }
     {
         let Seat {
             name: _,
@@ -112,7 +116,6 @@ impl<L: Ledger> SharedXpt<L> {
         let (sent, receipt) = self.kept.lock(rt).send_next(lane, share)?;
         if let Some(receipt) = receipt {
             receipts.push_reserved(receipt);
-            self.changed.notify_all();
         }
         Ok(sent)
     }
@@ -125,7 +128,8 @@ impl<L: Ledger> SharedXpt<L> {
         ccb: u32,
         outcome: Outcome,
     ) -> Result<Done, SharedFault>
-        ensures { IsCall replies.Done (Event.Done ccb outcome) seat.old seat.new result }
+        ensures call { IsCall replies.Done (Event.Done ccb outcome) seat.old seat.new result }
+        ensures answer { IsAnswer replies.Done (Event.Done ccb outcome) result }
     {
         let Reply::Done(done) = self.take(rt, seat, Event::Done { ccb, outcome })? else {
             unreachable!()
@@ -135,7 +139,8 @@ impl<L: Ledger> SharedXpt<L> {
 
     /// Puts a CCB that failed back into its queue: `Xpt::requeue`, with its refusals.
     pub fn requeue<R: Wait>(&self, rt: &R, seat: &mut Seat<L>, ccb: u32) -> Result<(), SharedFault>
-        ensures { IsCall nothing (Event.Requeue ccb) seat.old seat.new result }
+        ensures call { IsCall nothing (Event.Requeue ccb) seat.old seat.new result }
+        ensures answer { IsAnswer nothing (Event.Requeue ccb) result }
     {
         self.take(rt, seat, Event::Requeue { ccb })?;
         Ok(())
@@ -143,7 +148,8 @@ impl<L: Ledger> SharedXpt<L> {
 
     /// Gives a CCB that failed back to its driver: `Xpt::finish`, with its refusals.
     pub fn finish<R: Wait>(&self, rt: &R, seat: &mut Seat<L>, ccb: u32) -> Result<(), SharedFault>
-        ensures { IsCall nothing (Event.Finish ccb) seat.old seat.new result }
+        ensures call { IsCall nothing (Event.Finish ccb) seat.old seat.new result }
+        ensures answer { IsAnswer nothing (Event.Finish ccb) result }
     {
         self.take(rt, seat, Event::Finish { ccb })?;
         Ok(())
@@ -157,7 +163,8 @@ impl<L: Ledger> SharedXpt<L> {
         device: u32,
         count: u32,
     ) -> Result<(), SharedFault>
-        ensures { IsCall nothing (Event.FreezeDev device count) seat.old seat.new result }
+        ensures call { IsCall nothing (Event.FreezeDev device count) seat.old seat.new result }
+        ensures answer { IsAnswer nothing (Event.FreezeDev device count) result }
     {
         self.take(rt, seat, Event::FreezeDev { device, count })?;
         Ok(())
@@ -171,7 +178,8 @@ impl<L: Ledger> SharedXpt<L> {
         device: u32,
         count: u32,
     ) -> Result<(), SharedFault>
-        ensures { IsCall nothing (Event.ReleaseDev device count) seat.old seat.new result }
+        ensures call { IsCall nothing (Event.ReleaseDev device count) seat.old seat.new result }
+        ensures answer { IsAnswer nothing (Event.ReleaseDev device count) result }
     {
         self.take(rt, seat, Event::ReleaseDev { device, count })?;
         Ok(())
@@ -185,7 +193,8 @@ impl<L: Ledger> SharedXpt<L> {
         sim: u32,
         count: u32,
     ) -> Result<(), SharedFault>
-        ensures { IsCall nothing (Event.FreezeSim sim count) seat.old seat.new result }
+        ensures call { IsCall nothing (Event.FreezeSim sim count) seat.old seat.new result }
+        ensures answer { IsAnswer nothing (Event.FreezeSim sim count) result }
     {
         self.take(rt, seat, Event::FreezeSim { sim, count })?;
         Ok(())
@@ -198,7 +207,8 @@ impl<L: Ledger> SharedXpt<L> {
         seat: &mut Seat<L>,
         sim: u32,
     ) -> Result<(), SharedFault>
-        ensures { IsCall nothing (Event.ReleaseSim sim) seat.old seat.new result }
+        ensures call { IsCall nothing (Event.ReleaseSim sim) seat.old seat.new result }
+        ensures answer { IsAnswer nothing (Event.ReleaseSim sim) result }
     {
         self.take(rt, seat, Event::ReleaseSim { sim })?;
         Ok(())
@@ -212,7 +222,8 @@ impl<L: Ledger> SharedXpt<L> {
         device: u32,
         openings: u32,
     ) -> Result<(), SharedFault>
-        ensures { IsCall nothing (Event.Adjust device openings) seat.old seat.new result }
+        ensures call { IsCall nothing (Event.Adjust device openings) seat.old seat.new result }
+        ensures answer { IsAnswer nothing (Event.Adjust device openings) result }
     {
         self.take(rt, seat, Event::Adjust { device, openings })?;
         Ok(())
@@ -220,7 +231,8 @@ impl<L: Ledger> SharedXpt<L> {
 
     /// Opens the next round, which is the answer: `Xpt::tick`, with its refusals.
     pub fn tick<R: Wait>(&self, rt: &R, seat: &mut Seat<L>) -> Result<u32, SharedFault>
-        ensures { IsCall replies.Round Event.Tick seat.old seat.new result }
+        ensures call { IsCall replies.Round Event.Tick seat.old seat.new result }
+        ensures answer { IsAnswer replies.Round Event.Tick result }
     {
         let Reply::Round(round) = self.take(rt, seat, Event::Tick)? else {
             unreachable!()
@@ -229,40 +241,44 @@ impl<L: Ledger> SharedXpt<L> {
     }
 
     /// Of the CCBs that wait for a decision on their error, the one that completed first: `Xpt::next_case`.
-    pub fn next_case<R: Wait>(&self, rt: &R) -> Option<Case> {
+    pub fn next_case<R: Wait>(&self, rt: &R) -> Option<Case>
+        ensures { IsNextCase result }
+    {
         self.kept.lock(rt).next_case()
     }
 
     /// What there is to see, all in counts: `Xpt::look`.
-    pub fn look<R: Wait>(&self, rt: &R) -> Look {
+    pub fn look<R: Wait>(&self, rt: &R) -> Look
+        ensures { IsLook result }
+    {
         self.kept.lock(rt).look()
     }
 
-    /// The moment that it is. A worker takes it before it looks for something to do, and finds nothing.
-    pub fn moment<R: Wait>(&self, rt: &R) -> Moment {
-        self.kept.lock(rt).moment()
+    /// The moment that it is at the bell. A worker takes it before it looks for something to do, and finds nothing.
+    pub fn moment<R: Wait>(&self, rt: &R, bell: Bell) -> Moment {
+        self.kept.lock(rt).moment(bell)
     }
 
-    /// Sleeps until it is another moment than the one that was seen, which is the answer: until an event happened or
-    /// `wake` was called since then. If that is so already, it returns at once.
-    pub fn wait_past<R: Wait>(&self, rt: &R, seen: Moment) -> Moment
+    /// Sleeps until it is another moment at the bell than the one that was seen there, which is the answer: until the bell rang
+    /// since then. If it did so already, it returns at once.
+    pub fn wait_past<R: Wait>(&self, rt: &R, bell: Bell, seen: Moment) -> Moment
         ensures { result ≢ seen }
     {
         let mut kept = self.kept.lock(rt);
         for _ in rt.forever() {
-            let now = kept.moment();
+            let now = kept.moment(bell);
             if now != seen {
                 return now;
             }
-            kept = self.changed.wait(rt, kept);
+            kept = self.sleepers.at(bell).wait(rt, kept);
         }
         unreachable!()
     }
 
-    /// Makes it another moment, so that whoever sleeps looks again, as where a worker rests or all are to stop. The transport
+    /// Rings the bell, so that whoever sleeps at it looks again, as where a worker rests or all are to stop. The transport
     /// stays as it is.
-    pub fn wake<R: Wait>(&self, rt: &R) {
-        self.kept.lock(rt).wake();
-        self.changed.notify_all();
+    pub fn ring<R: Wait>(&self, rt: &R, bell: Bell) {
+        self.kept.lock(rt).ring(bell);
+        self.sleepers.at(bell).notify_all();
     }
 }

@@ -6,8 +6,8 @@ use Rattle.sim_worker.specs.Work.{Work}
 use Rattle.sim_worker.specs.declared.work.Lane.{Lane}
 use Rattle.sim_worker.proofs.StepLemmas.{done_step}
 use Rattle.sim_worker.proofs.LeftLemmas.{left-event}
-use Rattle.sim_worker.proofs.TurnLemmas.{get_is, room_for, lane_with, done_full, err_case, ok_case}
-use Rattle.sim_worker.proofs.ListFacts.{some_is, there_is}
+use Rattle.sim_worker.proofs.TurnLemmas.{room_for, lane_with, done_full, err_case, ok_case}
+use Rattle.run_rules.proofs.ListFacts.{get_is, some_is, there_is}
 use Rattle.sim_worker.proofs.sim.Sim.complete.Goals as goal
 
 pub returns-then-is_err-clause-ending : goal.returns-then-is_err-clause-ending

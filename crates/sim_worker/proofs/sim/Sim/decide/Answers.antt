@@ -4,9 +4,10 @@ use Rattle.xpt_state.specs.declared.look.Case.{Case}
 use Rattle.xpt_state.specs.Looks.{next_case}
 use Rattle.event_log.specs.Event.{is_some_and}
 use Rattle.xpt_state.specs.Calls.{refused}
-use Rattle.sim_worker.specs.Runs.{is_in_time, is_submit_by}
+use Rattle.run_rules.specs.Runs.{is_in_time, is_submit_by}
 use Rattle.sim_worker.proofs.LaneFacts.{is_lane_event}
-use Rattle.sim_worker.specs.Work.{Work, is_able, is_held_up}
+use Rattle.sim_worker.specs.Work.{Work, is_able}
+use Rattle.run_rules.specs.Held.{is_held_up}
 use Rattle.sim_worker.specs.declared.actor.Actor.TheVariants as actors
 use Rattle.sim_worker.proofs.CaseLemmas.{decision_held, free_before}
 use Rattle.sim_worker.proofs.FullLemmas.{full_at_limit, full_is, says_full}

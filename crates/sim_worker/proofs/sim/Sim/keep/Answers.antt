@@ -3,8 +3,8 @@ use Rattle.cam_event.specs.Legal.{Rules}
 use Rattle.event_log.specs.Counts.{round}
 use Rattle.event_log.specs.declared.event.Event.TheVariants.{Tick}
 use Rattle.cam_event.proofs.LimitLemmas.{round-legal}
-use Rattle.sim_worker.specs.Endings.{IsDrained}
-use Rattle.sim_worker.specs.Runs.{may_tick}
+use Rattle.run_rules.specs.Endings.{IsDrained}
+use Rattle.run_rules.specs.Runs.{may_tick}
 use Rattle.sim_worker.specs.Work.{Work, IsAtEnd}
 use Rattle.sim_worker.specs.declared.work.Driver.{Driver}
 use Rattle.sim_worker.proofs.FullLemmas.{full_at_limit, full_is, last_round, says_full}

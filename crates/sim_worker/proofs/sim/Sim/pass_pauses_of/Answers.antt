@@ -5,7 +5,8 @@ use Rattle.sim_worker.specs.Work.{Work, HasDone, steps_of}
 use Rattle.event_log.specs.Counts.{round}
 use Rattle.sim_worker.proofs.StepLemmas.{driver_step}
 use Rattle.sim_worker.proofs.LeftLemmas.{left-same, same_fresh}
-use Rattle.sim_worker.proofs.TurnLemmas.{get_is, steps_at}
+use Rattle.sim_worker.proofs.TurnLemmas.{steps_at}
+use Rattle.run_rules.proofs.ListFacts.{get_is}
 use Rattle.sim_worker.proofs.sim.Sim.pass_pauses_of.Goals as goal
 
 pub invariant_of-self : goal.invariant_of-self

@@ -10,9 +10,9 @@ use Rattle.sim_worker.specs.Work.{Work}
 use Rattle.sim_worker.specs.declared.work.Lane.{Lane}
 use Rattle.sim_worker.proofs.CaseLemmas.{lane_full, never_idle, send_grounded}
 use Rattle.sim_worker.proofs.LeftLemmas.{left-event}
-use Rattle.sim_worker.proofs.ListFacts.{some_is, there_is}
+use Rattle.run_rules.proofs.ListFacts.{get_is, some_is, there_is}
 use Rattle.sim_worker.proofs.StepLemmas.{send_step}
-use Rattle.sim_worker.proofs.TurnLemmas.{at_limit, get_is, room_for}
+use Rattle.sim_worker.proofs.TurnLemmas.{at_limit, room_for}
 use Rattle.sim_worker.proofs.sim.Sim.send.Goals as goal
 
 pub returns-in_default-clause-ending : goal.returns-in_default-clause-ending

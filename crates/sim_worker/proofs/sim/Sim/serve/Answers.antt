@@ -4,10 +4,11 @@ use Rattle.xpt_state.specs.Looks.{has_head}
 use Rattle.sim_worker.specs.Work.{Work, is_able, left}
 use Rattle.sim_worker.specs.declared.actor.Actor.TheVariants as actors
 use Rattle.sim_worker.specs.declared.work.Lane.{Lane}
-use Rattle.sim_worker.proofs.ListFacts.{set_at, some_is, there_is}
+use Rattle.sim_worker.proofs.ListFacts.{set_at}
+use Rattle.run_rules.proofs.ListFacts.{get_is, some_is, there_is}
 use Rattle.sim_worker.proofs.LeftLemmas.{left-same}
 use Rattle.sim_worker.proofs.StepLemmas.{port_step}
-use Rattle.sim_worker.proofs.TurnLemmas.{able_lane, get_is}
+use Rattle.sim_worker.proofs.TurnLemmas.{able_lane}
 use Rattle.sim_worker.proofs.sim.Sim.serve.Goals as goal
 
 pub invariant_of-self : goal.invariant_of-self

@@ -1,0 +1,8 @@
+pub mod ListFacts
+pub mod WalkLemmas
+pub mod RestLemmas
+pub mod PassLemmas
+pub mod LaneCount
+pub mod NameLemmas
+pub mod ConfigLemmas
+pub mod LaneLemmas

@@ -1,0 +1,6 @@
+pub mod Runs
+pub mod Endings
+pub mod Logs
+pub mod LiveRuns
+pub mod Walks
+pub mod Held

@@ -1,0 +1,13 @@
+//! Tests of runs of scripts on many threads.
+#![tactic(auto)]
+
+#[cfg(test)]
+mod answers;
+#[cfg(test)]
+mod endings;
+#[cfg(test)]
+mod meeting;
+#[cfg(test)]
+mod scripts;
+#[cfg(test)]
+mod small_scripts;

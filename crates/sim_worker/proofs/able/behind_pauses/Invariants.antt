@@ -1,0 +1,11 @@
+use Rattle.std.proofs.Common.{◌≡◌, ℕ, ◌-◌, List, length}
+use Rattle.event_log.specs.Counts.{round}
+use Rattle.event_log.specs.declared.event.Event.{Event}
+use Rattle.sim_worker.specs.Work.{HasDone}
+use Rattle.sim_worker.proofs.able.behind_pauses.Given as goal
+
+abbrev pub invariant-loop-round : goal.invariant-loop-round
+invariant-loop-round l = (d : ℕ) → (events : List Event) → l.now ≡ round events → HasDone l.steps d events l.from → HasDone l.steps d events l.done
+
+abbrev pub decreases-loop-round : goal.decreases-loop-round
+decreases-loop-round l = length l.steps - l.done

@@ -1,0 +1,65 @@
+//! Bells: what a worker may sleep for.
+
+ghost use Rattle.std.specs.Prelude.{◌≡◌};
+ghost use Rattle.xpt_lock.specs.Bells.{gives_work, is_failure, rings};
+
+use cam_event::Event;
+use sense_class::Class;
+use xpt_state::Reply;
+
+/// What a worker may sleep for.
+#[derive(Clone, Copy, Debug, PartialEq, Eq, Hash)]
+pub enum Bell {
+    /// Rings with each tick.
+    Round,
+    /// Rings with each event after which an adapter may have something to send that it hadn't: a submit, a requeue, a
+    /// finish, a release of a device or of an adapter, and a tick.
+    Work,
+    /// Rings with each completion whose class isn't `Complete`.
+    Case,
+    /// Rings with no event, only where `SharedXpt::ring` is called.
+    Rest,
+}
+
+impl Bell {
+    // Whether it rings with the event, which was answered by this reply.
+    pub(crate) fn rings(self, event: &Event, reply: &Reply) -> bool
+        ensures { result ≡ rings event.now reply.now self }
+    {
+        match self {
+            Bell::Round => event.is_tick(),
+            Bell::Work => gives_work(event),
+            Bell::Case => is_failure(reply),
+            Bell::Rest => false,
+        }
+    }
+}
+
+// Whether an adapter may have something to send after the event that it hadn't before.
+fn gives_work(event: &Event) -> bool
+    ensures { result ≡ gives_work event.now }
+{
+    match *event {
+        Event::Submit { .. }
+        | Event::Requeue { .. }
+        | Event::Finish { .. }
+        | Event::ReleaseDev { .. }
+        | Event::ReleaseSim { .. }
+        | Event::Tick => true,
+        Event::Send { .. }
+        | Event::Done { .. }
+        | Event::FreezeDev { .. }
+        | Event::FreezeSim { .. }
+        | Event::Adjust { .. } => false,
+    }
+}
+
+// Whether it is the reply to a completion whose class isn't `Complete`.
+fn is_failure(reply: &Reply) -> bool
+    ensures { result ≡ is_failure reply.now }
+{
+    match reply {
+        Reply::Done(done) => !matches!(done.class, Class::Complete),
+        _ => false,
+    }
+}

@@ -1,5 +1,5 @@
 -- how a run over a trace ends
-use Rattle.std.specs.Prelude.{◌≡◌, ℕ, Bool, true, List, Option, Some, Result, Ok, Err}
+use Rattle.std.specs.Prelude.{◌≡◌, ℕ, Bool, true, List, Option, Some, Result, Ok, Err, ⊤}
 use Rattle.std.specs.Io.KnownBytes.{Appends}
 use Rattle.cam_types.specs.Whole.{AppendsFront}
 use Rattle.cam_event.specs.Past.{Past}
@@ -14,6 +14,14 @@ pub record WasUnsent (before after : Option (List ℕ)) (s : StayName) : Type 0 
   pub past : Past
   pub trace : WasTrace before after past
   pub first : unsent past.events ≡ Some s
+
+-- why a trace gave no net to plan
+abbrev pub WhyNoNet : Option (List ℕ) → Option (List ℕ) → Bool → AuditFault → Type 0
+WhyNoNet before after failed (Trace fault) = Explains before after failed fault
+WhyNoNet before after failed (Unsent s) = WasUnsent before after s
+WhyNoNet before after failed (Report fault) = ⊥
+WhyNoNet before after failed WriteFailed = ⊥
+WhyNoNet before after failed OutOfMemory = ⊤
 
 -- which texts are right for a history is what the run is for
 module _ (IsRight : Past → List ℕ → Type 0) where

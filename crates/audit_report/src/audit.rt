@@ -1,6 +1,6 @@
 //! The audit of a trace: the report on it, or the report's first seven lines.
 
-ghost use Rattle.std.specs.Prelude.{◌≡◌, ◌≢◌, ◌+◌, ◌≤◌, true, false, if◌then◌else◌, None, Err, [], ◌++◌, length, slice_index, IfOk, OnOk};
+ghost use Rattle.std.specs.Prelude.{◌≡◌, ◌≢◌, ℕ, ◌+◌, ◌≤◌, Bool, true, false, if◌then◌else◌, Option, None, Err, List, [], ◌++◌, length, slice_index, IfOk, IfErr, OnOk};
 ghost use Rattle.cam_types.specs.Watched.{device_of, has_failed, is_flushed};
 ghost use Rattle.event_log.specs.Stays.{unsent};
 ghost use Rattle.round_net.specs.Rows.{instance_of_rows};
@@ -10,7 +10,8 @@ ghost use Rattle.round_net.specs.Nets.{net_of};
 ghost use Rattle.cam_event.specs.Legal.{history_rules, is_legal};
 ghost use Rattle.price_check.specs.Report.{plan_text};
 ghost use Rattle.audit_report.specs.Audit.{IsAudit};
-ghost use Rattle.audit_report.specs.Runs.{Ended};
+ghost use Rattle.trace_file.specs.Trace.{WasTrace};
+ghost use Rattle.audit_report.specs.Runs.{Ended, WhyNoNet};
 
 use crate::audit_fault::AuditFault;
 use crate::costs::Costs;
@@ -40,17 +41,56 @@ pub fn run_audit<R: Read, W: Write>(
     ensures trace_calm { result ≢ Err (AuditFault.Trace TraceFault.ReadFailed) → has_failed trace.new ≡ false }
     ensures out_calm { result ≢ Err AuditFault.WriteFailed → has_failed out.new ≡ false }
 {
+    let (history, net) = read_net(alloc, trace)?;
+    let best = plan(alloc, &net)?;
+    write_audit(alloc, &history, &net, &best, out, summary)
+}
+
+/// Reads a trace to its end, and makes the net of its history.
+pub fn read_net<R: Read>(
+    alloc: Global,
+    trace: &mut Watched<R>,
+) -> Result<(History, Net), AuditFault>
+    requires { has_failed trace.old ≡ false }
+    ensures trace { IfOk result (λ read. WasTrace (R.remaining (device_of trace.old)) (R.remaining (device_of trace.new)) read.0) }
+    ensures net { IfOk result (λ read. read.1 ≡ net_of read.0.config read.0.events) }
+    ensures complete { IfOk result (λ read. unsent read.0.events ≡ None) }
+    ensures faults { IfErr result (WhyNoNet (R.remaining (device_of trace.old)) (R.remaining (device_of trace.new)) (has_failed trace.new)) }
+    ensures calm { result ≢ Err (AuditFault.Trace TraceFault.ReadFailed) → has_failed trace.new ≡ false }
+{
     let history = match read_trace(alloc, trace) {
         Ok(history) => history,
         Err(fault) => return Err(AuditFault::Trace(fault)),
     };
-    let net = match Net::of(alloc, &history) {
-        Ok(net) => net,
-        Err(NetFault::Unsent(stay)) => return Err(AuditFault::Unsent(stay)),
-        Err(NetFault::OutOfMemory) => return Err(AuditFault::OutOfMemory),
-    };
-    let best = plan(alloc, &net)?;
-    let text = audit_text(alloc, &history, &net, &best, summary)?;
+    match Net::of(alloc, &history) {
+        Ok(net) => Ok((history, net)),
+        Err(NetFault::Unsent(stay)) => Err(AuditFault::Unsent(stay)),
+        Err(NetFault::OutOfMemory) => Err(AuditFault::OutOfMemory),
+    }
+}
+
+/// Writes the report on a history with a best plan of its net, or its summary alone.
+pub fn write_audit<W: Write>(
+    alloc: Global,
+    history: &History,
+    net: &Net,
+    best: &BestPlan,
+    out: &mut Watched<W>,
+    summary: bool,
+) -> Result<(), AuditFault>
+    requires calm { has_failed out.old ≡ false }
+    requires net { net.now ≡ net_of history.now.config history.now.events }
+    requires complete { unsent history.now.events ≡ None }
+    requires legal { is_legal history_rules history.now.config history.now.events ≡ true }
+    requires proved { ProvesBest (instance_of_rows net.now) (slice_index best.now.schedule) (pricing_of_rows best.now.prices) }
+    requires stays { length best.now.schedule ≡ (instance_of_rows net.now).stays }
+    requires cells { IsPricingFor (instance_of_rows net.now) best.now.prices }
+    ensures ended { (before after : Option (List ℕ)) (failed : Bool) → WasTrace before after history.now → Ended (IsAudit summary) before after failed (W.contents (device_of out.old)) (W.contents (device_of out.new)) (has_failed out.new) result }
+    ensures flushed { OnOk result (is_flushed out.new ≡ true) }
+    ensures calm { result ≢ Err AuditFault.WriteFailed → has_failed out.new ≡ false }
+    ensures faults { IfErr result (λ fault. fault ≢ AuditFault.Trace TraceFault.ReadFailed) }
+{
+    let text = audit_text(alloc, history, net, best, summary)?;
     match write_whole(out, &text) {
         Ok(()) => Ok(()),
         Err(_) => Err(AuditFault::WriteFailed),

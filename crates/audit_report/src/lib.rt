@@ -2,11 +2,13 @@
 #![tactic(auto)]
 
 pub use audit::run_audit;
+pub use audit_at_once::run_audit_with;
 pub use audit_fault::AuditFault;
 pub use check::run_check;
 pub use prove::run_prove;
 
 mod audit;
+mod audit_at_once;
 mod audit_fault;
 mod check;
 mod costs;

@@ -2,11 +2,13 @@
 
 use crate::failure::Failure;
 use crate::words::{STANDARD_INPUT, open};
-use audit_report::{run_audit, run_check};
+use audit_report::{run_audit_with, run_check};
 use cam_types::Watched;
+use cost_plan::OpenGate;
 use std::io;
 use std::io::Read;
 use std::rt::Files;
+use std::thread::Threads;
 
 /// What is done with a trace.
 #[derive(Clone, Copy)]
@@ -21,7 +23,7 @@ pub enum TraceRun {
 
 impl TraceRun {
     /// Reads the trace in the file of this name, or on standard input if there is none or it is `-`.
-    pub fn over<R: Files + Input + Print + AllocGlobal>(
+    pub fn over<R: Files + Input + Print + AllocGlobal + Threads + Sync>(
         self,
         rt: &R,
         trace: Option<&str>,
@@ -32,7 +34,7 @@ impl TraceRun {
         }
     }
 
-    fn over_reader<R: Print + AllocGlobal>(
+    fn over_reader<R: Print + AllocGlobal + Threads + Sync>(
         self,
         rt: &R,
         reader: impl Read + Drop,
@@ -42,8 +44,8 @@ impl TraceRun {
         let mut out = Watched::new(io::writer(rt));
         match self {
             TraceRun::Check => run_check(alloc, &mut trace, &mut out)?,
-            TraceRun::Audit => run_audit(alloc, &mut trace, &mut out, false)?,
-            TraceRun::Summary => run_audit(alloc, &mut trace, &mut out, true)?,
+            TraceRun::Audit => run_audit_with(rt, alloc, &mut trace, &mut out, false, &OpenGate)?,
+            TraceRun::Summary => run_audit_with(rt, alloc, &mut trace, &mut out, true, &OpenGate)?,
         }
         Ok(())
     }

@@ -9,3 +9,4 @@ pub mod LoadLemmas
 pub mod SearchLemmas
 pub mod PricedLemmas
 pub mod NodeLemmas
+pub mod PartLemmas

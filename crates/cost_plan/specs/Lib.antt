@@ -3,3 +3,4 @@ pub mod Residual
 pub mod RowPrices
 pub mod Draft
 pub mod Raising
+pub mod Parts

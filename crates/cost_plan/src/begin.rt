@@ -11,7 +11,7 @@ ghost use Rattle.cost_plan.specs.Draft.{IsDraftOf, schedule_of};
 
 use crate::cells::nodes;
 use crate::draft::{Draft, draft_of, live_draft};
-use crate::problem::problem_of;
+use crate::problem::{all_stays, problem_of};
 use gaining_cycle::Labels;
 use round_net::Net;
 use std::alloc::{AllocError, Global};
@@ -30,9 +30,18 @@ pub fn begin(alloc: Global, net: &Net) -> Result<Start, AllocError>
     ensures admissible { IfOk result (λ start. IsAdmissible (instance_of_rows net.now) (schedule_of start.draft)) }
     ensures size { IfOk result (λ start. length start.labels.labels ≡ node_count (instance_of_rows net.now)) }
 {
-    if let Some(start) = guessed(alloc, net)? {
-        return Ok(start);
+    match guessed(alloc, net)? {
+        Some(start) => Ok(start),
+        None => live(alloc, net),
     }
+}
+
+/// The live schedule with labels 0.
+pub fn live(alloc: Global, net: &Net) -> Result<Start, AllocError>
+    ensures draft { IfOk result (λ start. IsDraftOf (instance_of_rows net.now) start.draft) }
+    ensures admissible { IfOk result (λ start. IsAdmissible (instance_of_rows net.now) (schedule_of start.draft)) }
+    ensures size { IfOk result (λ start. length start.labels.labels ≡ node_count (instance_of_rows net.now)) }
+{
     Ok(Start {
         draft: live_draft(alloc, net)?,
         labels: Labels::new(alloc, nodes(net) as usize)?,
@@ -46,7 +55,8 @@ pub fn guessed(alloc: Global, net: &Net) -> Result<Option<Start>, AllocError>
     ensures size { IfOk result (λ found. IfSome found (λ start. length start.labels.labels ≡ node_count (instance_of_rows net.now))) }
     ensures sound { IsSound (instance_of_rows net.now) (live_of_rows net.now) }
 {
-    let Some(found) = guess(alloc, &problem_of(alloc, net)?)? else {
+    let problem = problem_of(alloc, net, all_stays(alloc, net)?)?;
+    let Some(found) = guess(alloc, &problem)? else {
         return Ok(None);
     };
     let labels = Labels::start(alloc, &found.labels)?;

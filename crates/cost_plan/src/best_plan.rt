@@ -16,15 +16,18 @@ ghost use Rattle.cost_plan.specs.Draft.{IsDraftOf, schedule_of};
 ghost use Rattle.cost_plan.specs.Residual.{IsResidual};
 ghost use Rattle.cost_plan.specs.RowPrices.{IsAtMost, SettlesAll};
 
-use crate::begin::{Start, begin, guessed};
+use crate::begin::{Start, begin, guessed, live};
 use crate::cells::nodes;
 use crate::draft::{Draft, change_all};
+use crate::gate::Gate;
+use crate::parts::guessed_at_once;
 use crate::pricing::prices_of;
 use crate::relax::relax_all;
 use crate::search::search;
 use gaining_cycle::Arc;
 use round_net::{Net, Prices, Schedule};
 use std::alloc::{AllocError, Global};
+use std::thread::Threads;
 
 /// A schedule of least cost, and prices that prove it.
 #[derive(Debug, Drop)]
@@ -44,7 +47,40 @@ pub fn plan(alloc: Global, net: &Net) -> Result<BestPlan, AllocError>
     ensures cells { IfOk result (λ best. IsPricingFor (instance_of_rows net.now) best.prices) }
     ensures small { IfOk result (λ best. IsAtMost (instance_of_rows net.now) (pricing_of_rows best.prices) 1000000000000) }
 {
-    let mut start = begin(alloc, net)?;
+    settled(alloc, net, begin(alloc, net)?)
+}
+
+/// A best plan of the net, as `plan` makes it. But the guess is made for each adapter that has a stay by itself, and for all
+/// of them at once: for one by the caller's thread, and for each other one by a thread of its own. The thread that begins an
+/// adapter's part tells the gate so first. Where no thread can be started, the one that would have started it makes the part.
+pub fn plan_with<G: Gate + Sync, R: Threads + Sync>(
+    rt: &R,
+    alloc: Global,
+    net: &Net,
+    gate: &G,
+) -> Result<BestPlan, AllocError>
+    ensures proved { IfOk result (λ best. ProvesBest (instance_of_rows net.now) (slice_index best.schedule) (pricing_of_rows best.prices)) }
+    ensures stays { IfOk result (λ best. length best.schedule ≡ (instance_of_rows net.now).stays) }
+    ensures cells { IfOk result (λ best. IsPricingFor (instance_of_rows net.now) best.prices) }
+    ensures small { IfOk result (λ best. IsAtMost (instance_of_rows net.now) (pricing_of_rows best.prices) 1000000000000) }
+{
+    match guessed_at_once(rt, alloc, net, gate)? {
+        Some(start) => settled(alloc, net, start),
+        None => settled(alloc, net, live(alloc, net)?),
+    }
+}
+
+// The best plan that comes of a draft with labels.
+fn settled(alloc: Global, net: &Net, begun: Start) -> Result<BestPlan, AllocError>
+    requires draft { IsDraftOf (instance_of_rows net.now) begun.draft }
+    requires admissible { IsAdmissible (instance_of_rows net.now) (schedule_of begun.draft) }
+    requires size { length begun.labels.labels ≡ node_count (instance_of_rows net.now) }
+    ensures proved { IfOk result (λ best. ProvesBest (instance_of_rows net.now) (slice_index best.schedule) (pricing_of_rows best.prices)) }
+    ensures stays { IfOk result (λ best. length best.schedule ≡ (instance_of_rows net.now).stays) }
+    ensures cells { IfOk result (λ best. IsPricingFor (instance_of_rows net.now) best.prices) }
+    ensures small { IfOk result (λ best. IsAtMost (instance_of_rows net.now) (pricing_of_rows best.prices) 1000000000000) }
+{
+    let mut start = begun;
     let mut path = Vec::with_capacity(alloc, nodes(net) as usize)?;
     while let Some(place) = search(net, &start.draft, &mut start.labels, &mut path)? {
         improve(net, &mut start.draft, &path, place);
@@ -57,9 +93,36 @@ pub fn plan(alloc: Global, net: &Net) -> Result<BestPlan, AllocError>
 pub fn guessed_plan(alloc: Global, net: &Net) -> Result<Option<BestPlan>, AllocError>
     ensures proved { IfOk result (λ found. IfSome found (λ best. ProvesBest (instance_of_rows net.now) (slice_index best.schedule) (pricing_of_rows best.prices))) }
 {
-    let Some(mut start) = guessed(alloc, net)? else {
-        return Ok(None);
-    };
+    match guessed(alloc, net)? {
+        Some(start) => unchanged(alloc, net, start),
+        None => Ok(None),
+    }
+}
+
+/// The same of the guess with which `plan_with` begins.
+pub fn guessed_plan_with<G: Gate + Sync, R: Threads + Sync>(
+    rt: &R,
+    alloc: Global,
+    net: &Net,
+    gate: &G,
+) -> Result<Option<BestPlan>, AllocError>
+    ensures proved { IfOk result (λ found. IfSome found (λ best. ProvesBest (instance_of_rows net.now) (slice_index best.schedule) (pricing_of_rows best.prices))) }
+{
+    match guessed_at_once(rt, alloc, net, gate)? {
+        Some(start) => unchanged(alloc, net, start),
+        None => Ok(None),
+    }
+}
+
+// The plan of a draft with labels, if these settle all that can be changed in it.
+fn unchanged(alloc: Global, net: &Net, begun: Start) -> Result<Option<BestPlan>, AllocError>
+    requires sound { IsSound (instance_of_rows net.now) (live_of_rows net.now) }
+    requires draft { IsDraftOf (instance_of_rows net.now) begun.draft }
+    requires admissible { IsAdmissible (instance_of_rows net.now) (schedule_of begun.draft) }
+    requires size { length begun.labels.labels ≡ node_count (instance_of_rows net.now) }
+    ensures proved { IfOk result (λ found. IfSome found (λ best. ProvesBest (instance_of_rows net.now) (slice_index best.schedule) (pricing_of_rows best.prices))) }
+{
+    let mut start = begun;
     if relax_all(net, &start.draft, &mut start.labels).is_some() {
         return Ok(None);
     }

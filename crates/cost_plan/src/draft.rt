@@ -53,8 +53,8 @@ pub fn draft_of(alloc: Global, net: &Net, rounds: Vec<u32>) -> Result<Option<Dra
     Ok(Some(draft))
 }
 
-// The round in which each stay was sent.
-fn live_rounds(alloc: Global, net: &Net) -> Result<Vec<u32>, AllocError>
+/// The round in which each stay was sent.
+pub fn live_rounds(alloc: Global, net: &Net) -> Result<Vec<u32>, AllocError>
     ensures len { IfOk result (λ rounds. length rounds.items ≡ (instance_of_rows net.now).stays) }
     ensures live { IfOk result (λ rounds. (s : ℕ) → s < (instance_of_rows net.now).stays → slice_index rounds.items s ≡ live_of_rows net.now s) }
     ensures sound { IsSound (instance_of_rows net.now) (live_of_rows net.now) }

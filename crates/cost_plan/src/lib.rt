@@ -1,14 +1,18 @@
 //! A schedule of least cost for a net, with prices that prove it.
 #![tactic(auto)]
 
-pub use best_plan::{BestPlan, guessed_plan, plan};
+pub use best_plan::{BestPlan, guessed_plan, guessed_plan_with, plan, plan_with};
+pub use gate::{Gate, OpenGate};
 
 mod arcs;
 mod begin;
 mod best_plan;
 mod cells;
 mod draft;
+mod gate;
 mod keeping;
+mod part;
+mod parts;
 mod pricing;
 mod problem;
 mod relax;

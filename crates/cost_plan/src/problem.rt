@@ -11,18 +11,19 @@ use round_net::Net;
 use std::alloc::{AllocError, Global};
 use waiting_network::{Problem, Stay};
 
-/// What there is to plan: a row for each device and then each adapter, an adapter's above those of its devices.
-pub fn problem_of(alloc: Global, net: &Net) -> Result<Problem, AllocError>
+/// What there is to plan of these stays: a row for each device and then each adapter, an adapter's above those of its
+/// devices.
+pub fn problem_of(alloc: Global, net: &Net, stays: Vec<Stay>) -> Result<Problem, AllocError>
     ensures rounds { IfOk result (λ problem. problem.rounds ≡ (instance_of_rows net.now).rounds) }
     ensures rows { IfOk result (λ problem. length problem.above.items ≡ rows (instance_of_rows net.now)) }
-    ensures stays { IfOk result (λ problem. length problem.stays.items ≡ (instance_of_rows net.now).stays) }
+    ensures stays { IfOk result (λ problem. problem.stays.items ≡ stays.items) }
     ensures sound { IsSound (instance_of_rows net.now) (live_of_rows net.now) }
 {
     Ok(Problem {
         rounds: net.rounds(),
         above: rows_above(alloc, net)?,
         caps: caps(alloc, net)?,
-        stays: stays(alloc, net)?,
+        stays,
     })
 }
 
@@ -60,18 +61,37 @@ fn add_caps(net: &Net, caps: &mut Vec<u32>, row: u32) -> Result<(), AllocError>
     Ok(())
 }
 
-// The stays.
-fn stays(alloc: Global, net: &Net) -> Result<Vec<Stay>, AllocError>
-    ensures { IfOk result (λ stays. length stays.items ≡ (instance_of_rows net.now).stays) }
+/// All stays.
+pub fn all_stays(alloc: Global, net: &Net) -> Result<Vec<Stay>, AllocError>
+    ensures len { IfOk result (λ stays. length stays.items ≡ (instance_of_rows net.now).stays) }
+    ensures sound { IsSound (instance_of_rows net.now) (live_of_rows net.now) }
 {
     let mut stays = Vec::new(alloc);
     for stay in 0..net.stays() {
-        stays.push(Stay {
-            row: net.device(stay),
-            arrival: net.arrival(stay),
-            last: net.last(stay),
-            weight: net.weight(stay),
-        })?;
+        stays.push(stay_of(net, stay))?;
     }
     Ok(stays)
+}
+
+/// The stays of an adapter.
+pub fn stays_of(alloc: Global, net: &Net, adapter: u32) -> Result<Vec<Stay>, AllocError> {
+    let mut stays = Vec::new(alloc);
+    for stay in 0..net.stays() {
+        if net.adapter(stay) == adapter {
+            stays.push(stay_of(net, stay))?;
+        }
+    }
+    Ok(stays)
+}
+
+// A stay.
+fn stay_of(net: &Net, stay: u32) -> Stay
+    requires { stay < (instance_of_rows net.now).stays }
+{
+    Stay {
+        row: net.device(stay),
+        arrival: net.arrival(stay),
+        last: net.last(stay),
+        weight: net.weight(stay),
+    }
 }

@@ -1,12 +1,12 @@
-//! Times a best plan alone, on the net of the trace on standard input.
+//! Times a best plan, on the net of the trace on standard input: made alone, and with its adapters planned at once.
 #![tactic(auto)]
 
 use cam_types::Watched;
-use cost_plan::{guessed_plan, plan};
+use cost_plan::{OpenGate, guessed_plan, plan, plan_with};
 use round_net::Net;
 use std::io;
 use std::process::ExitCode;
-use std::time::{CpuClock, Duration};
+use std::time::{CpuClock, Duration, Instant};
 use trace_file::read_trace;
 
 const PLANS: u32 = 20;
@@ -15,14 +15,22 @@ fn main(rt: HostRuntime) -> io::Result<ExitCode> {
     let Some(net) = read_net(rt) else {
         return refused(rt, "no net");
     };
-    let mut least = Duration::MAX;
+    let mut used = Duration::MAX;
+    let mut alone = Duration::MAX;
+    let mut at_once = Duration::MAX;
     let mut total = 0;
     for _ in 0..PLANS {
-        let start = rt.process_cpu_time()?;
+        let (start, began) = (rt.process_cpu_time()?, Instant::now(&rt)?);
         let Ok(best) = plan(rt.alloc(), &net) else {
             return refused(rt, "no plan");
         };
-        least = least.min(rt.process_cpu_time()?.saturating_sub(start));
+        alone = alone.min(began.elapsed(&rt)?);
+        used = used.min(rt.process_cpu_time()?.saturating_sub(start));
+        let began = Instant::now(&rt)?;
+        if plan_with(&rt, rt.alloc(), &net, &OpenGate).is_err() {
+            return refused(rt, "no plan");
+        }
+        at_once = at_once.min(began.elapsed(&rt)?);
         total = best.schedule.len();
     }
     let Ok(guessed) = guessed_plan(rt.alloc(), &net) else {
@@ -38,7 +46,7 @@ fn main(rt: HostRuntime) -> io::Result<ExitCode> {
         net.stays(),
         net.cells()
     )?;
-    eprintln!(rt; "plan {least:?}")?;
+    eprintln!(rt; "plan {used:?} alone {alone:?} at once {at_once:?}")?;
     Ok(ExitCode::SUCCESS)
 }
 

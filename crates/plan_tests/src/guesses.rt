@@ -1,7 +1,7 @@
 //! The guesses with which plans begin.
 
 use crate::made::{Shape, history};
-use cost_plan::guessed_plan;
+use cost_plan::{OpenGate, guessed_plan, guessed_plan_with};
 use round_net::Net;
 use std::test::Fail;
 
@@ -61,6 +61,8 @@ fn a_guess_at_the_limits_is_best(rt: HostRuntime) -> Result<(), Fail> {
         let net = Net::of(rt.alloc(), &history)?;
         assert_eq!(rt; net.stays(), 1024, "{shape:?}");
         assert!(rt; guessed_plan(rt.alloc(), &net)?.is_some(), "{shape:?}");
+        let at_once = guessed_plan_with(&rt, rt.alloc(), &net, &OpenGate)?;
+        assert!(rt; at_once.is_some(), "{shape:?}");
     }
     Ok(())
 }

@@ -5,3 +5,7 @@
 mod guesses;
 #[cfg(test)]
 mod made;
+#[cfg(test)]
+mod search;
+#[cfg(test)]
+mod small;

@@ -28,15 +28,15 @@ pub(crate) struct Shape {
     pub(crate) frozen: u32,
 }
 
-// Numbers that look like chance.
+/// Numbers that look like chance.
 #[derive(Drop)]
-struct Dice {
-    seed: u32,
+pub(crate) struct Dice {
+    pub(crate) seed: u32,
 }
 
 impl Dice {
-    // A number below so many, and 0 of none.
-    fn below(&mut self, sides: u32) -> u32 {
+    /// A number below so many, and 0 of none.
+    pub(crate) fn below(&mut self, sides: u32) -> u32 {
         self.seed = self
             .seed
             .wrapping_mul(1_664_525)
@@ -146,8 +146,8 @@ fn send(
     Ok(())
 }
 
-// A unit attention: the device was reset.
-fn attention() -> Outcome {
+/// A unit attention: the device was reset.
+pub(crate) fn attention() -> Outcome {
     Outcome {
         status: 0x0c,
         scsi: 0x02,

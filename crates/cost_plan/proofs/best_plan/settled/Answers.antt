@@ -4,7 +4,7 @@ use Rattle.gaining_cycle.specs.declared.arc.Arc.{Arc}
 use Rattle.round_net.specs.Rows.{instance_of_rows}
 use Rattle.cost_plan.specs.Draft.{schedule_of}
 use Rattle.cost_plan.specs.Residual.{IsResidual}
-use Rattle.cost_plan.proofs.best_plan.plan.Goals as goal
+use Rattle.cost_plan.proofs.best_plan.settled.Goals as goal
 
 pub improve-requires-clause-residual : goal.improve-requires-clause-residual
 improve-requires-clause-residual c =

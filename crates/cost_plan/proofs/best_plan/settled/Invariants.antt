@@ -3,7 +3,7 @@ use Rattle.round_net.specs.Rows.{instance_of_rows}
 use Rattle.round_net.specs.Schedules.{IsAdmissible, cost}
 use Rattle.cost_plan.specs.Cells.{node_count}
 use Rattle.cost_plan.specs.Draft.{IsDraftOf, schedule_of}
-use Rattle.cost_plan.proofs.best_plan.plan.Given as goal
+use Rattle.cost_plan.proofs.best_plan.settled.Given as goal
 
 abbrev pub invariant-loop-path : goal.invariant-loop-path
 invariant-loop-path l =

@@ -1,0 +1,93 @@
+//! The part of a plan that is one adapter's: stays of different adapters share no cap. Proved: once a part is put in, the
+//! adapter's stays have its rounds, in order, and all others keep theirs.
+
+ghost use Rattle.std.specs.Prelude.{◌≡◌, ℕ, ◌<◌, length, slice_index};
+ghost use Rattle.round_net.specs.Rows.{instance_of_rows};
+ghost use Rattle.cost_plan.specs.Cells.{rows, node_count};
+ghost use Rattle.cost_plan.specs.Parts.{IsPutIn};
+
+use crate::cells::node;
+use crate::problem::{problem_of, stays_of};
+use round_net::Net;
+use std::alloc::{AllocError, Global};
+use waiting_network::{Guess, guess};
+
+/// A guess at a best plan of an adapter's stays.
+#[derive(Drop)]
+pub struct Part {
+    /// The adapter.
+    pub adapter: u32,
+    /// A round for each of its stays, and a label for each cell of the net, of which only those of the adapter and of its
+    /// devices are meant.
+    pub guess: Guess,
+}
+
+/// A guess at a best plan of the adapter's stays, if there is one.
+pub fn part_of(alloc: Global, net: &Net, adapter: u32) -> Result<Option<Part>, AllocError> {
+    let problem = problem_of(alloc, net, stays_of(alloc, net, adapter)?)?;
+    Ok(guess(alloc, &problem)?.map(|guess| Part { adapter, guess }))
+}
+
+/// Gives the stays of a part's adapter their rounds, in order.
+pub fn put_rounds(net: &Net, rounds: &mut [u32], part: &Part)
+    requires { length rounds.old ≡ (instance_of_rows net.now).stays }
+    ensures size { length rounds.new ≡ length rounds.old }
+    ensures put { let net = instance_of_rows net.now in IsPutIn net part.now.adapter net.stays part.now.guess.rounds.items rounds.old rounds.new }
+{
+    let mut next = 0usize;
+    for stay in 0..net.stays() {
+        if net.adapter(stay) == part.adapter {
+            put_round(rounds, stay, &part.guess.rounds, next);
+            next += 1;
+        }
+    }
+}
+
+// Gives a stay a round of a part, if there is that one.
+fn put_round(rounds: &mut [u32], stay: u32, part: &[u32], place: usize)
+    requires { stay < length rounds.old }
+    ensures size { length rounds.new ≡ length rounds.old }
+    ensures own { place < length part.now → slice_index rounds.new stay ≡ slice_index part.now place }
+    ensures others { (s : ℕ) → (s ≡ stay → ⊥) → slice_index rounds.new s ≡ slice_index rounds.old s }
+{
+    if let Some(round) = part.get(place) {
+        rounds[stay as usize] = *round;
+    }
+}
+
+/// Gives the cells of a part's adapter, and of its devices, their labels.
+pub fn put_labels(net: &Net, labels: &mut [u64], part: &Part)
+    requires { length labels.old ≡ node_count (instance_of_rows net.now) }
+    ensures { length labels.new ≡ length labels.old }
+{
+    for row in 0..net.devices() + net.adapters() {
+        if adapter_of_row(net, row) == part.adapter {
+            put_row(net, labels, row, &part.guess.labels);
+        }
+    }
+}
+
+// The adapter of a row.
+fn adapter_of_row(net: &Net, row: u32) -> u32
+    requires { row < rows (instance_of_rows net.now) }
+{
+    if row < net.devices() {
+        net.adapter_of(row)
+    } else {
+        row - net.devices()
+    }
+}
+
+// Gives the cells of a row their labels.
+fn put_row(net: &Net, labels: &mut [u64], row: u32, from: &[u64])
+    requires row { row < rows (instance_of_rows net.now) }
+    requires size { length labels.old ≡ node_count (instance_of_rows net.now) }
+    ensures { length labels.new ≡ length labels.old }
+{
+    for round in 0..net.rounds() + 1 {
+        let cell = node(net, row, round) as usize;
+        if let Some(label) = from.get(cell) {
+            labels[cell] = *label;
+        }
+    }
+}

@@ -1,0 +1,108 @@
+//! The guess of a plan, made for all adapters at once. Proved: if there is one, its draft is admissible, and it has a label for
+//! each node.
+
+ghost use Rattle.std.specs.Prelude.{◌≡◌, length, IfOk};
+ghost use Rattle.std.specs.Option.{IfSome};
+ghost use Rattle.round_net.specs.Rows.{instance_of_rows, live_of_rows};
+ghost use Rattle.round_net.specs.Sound.{IsSound};
+ghost use Rattle.round_net.specs.Schedules.{IsAdmissible};
+ghost use Rattle.cost_plan.specs.Cells.{node_count};
+ghost use Rattle.cost_plan.specs.Draft.{IsDraftOf, schedule_of};
+
+use crate::begin::Start;
+use crate::cells::nodes;
+use crate::draft::{draft_of, live_rounds};
+use crate::gate::Gate;
+use crate::part::{Part, part_of, put_labels, put_rounds};
+use gaining_cycle::Labels;
+use round_net::Net;
+use std::alloc::{AllocError, Global};
+use std::thread::{Threads, map_indices};
+
+/// The guesses for all adapters that have a stay, made at once and put together, if that keeps windows and caps. One is made
+/// by the caller's thread, and each other one by a thread of its own. Where no thread can be started, the one that would have
+/// started it makes the guess.
+pub fn guessed_at_once<G: Gate + Sync, R: Threads + Sync>(
+    rt: &R,
+    alloc: Global,
+    net: &Net,
+    gate: &G,
+) -> Result<Option<Start>, AllocError>
+    ensures draft { IfOk result (λ found. IfSome found (λ start. IsDraftOf (instance_of_rows net.now) start.draft)) }
+    ensures admissible { IfOk result (λ found. IfSome found (λ start. IsAdmissible (instance_of_rows net.now) (schedule_of start.draft))) }
+    ensures size { IfOk result (λ found. IfSome found (λ start. length start.labels.labels ≡ node_count (instance_of_rows net.now))) }
+    ensures sound { IsSound (instance_of_rows net.now) (live_of_rows net.now) }
+{
+    let busy = busy_adapters(alloc, net)?;
+    let parts = map_indices(
+        rt,
+        alloc,
+        busy.len(),
+        &|place| { part_behind(alloc, net, gate, busy[place]) },
+    )?;
+    put_together(alloc, net, parts)
+}
+
+// The guess that the parts make together, if it keeps windows and caps. Stays in none of them keep their live rounds.
+fn put_together(
+    alloc: Global,
+    net: &Net,
+    parts: Vec<Result<Option<Part>, AllocError>>,
+) -> Result<Option<Start>, AllocError>
+    ensures draft { IfOk result (λ found. IfSome found (λ start. IsDraftOf (instance_of_rows net.now) start.draft)) }
+    ensures admissible { IfOk result (λ found. IfSome found (λ start. IsAdmissible (instance_of_rows net.now) (schedule_of start.draft))) }
+    ensures size { IfOk result (λ found. IfSome found (λ start. length start.labels.labels ≡ node_count (instance_of_rows net.now))) }
+{
+    let mut rounds = live_rounds(alloc, net)?;
+    let mut labels = vec![in alloc; 0u64; nodes(net) as usize]?;
+    for part in parts {
+        put(net, &mut rounds, &mut labels, part?);
+    }
+    let labels = Labels::start(alloc, &labels)?;
+    let Some(draft) = draft_of(alloc, net, rounds)? else {
+        return Ok(None);
+    };
+    Ok(Some(Start { draft, labels }))
+}
+
+// Puts a part in, if there is one.
+fn put(net: &Net, rounds: &mut [u32], labels: &mut [u64], part: Option<Part>)
+    requires rounds { length rounds.old ≡ (instance_of_rows net.now).stays }
+    requires labels { length labels.old ≡ node_count (instance_of_rows net.now) }
+    ensures rounds { length rounds.new ≡ length rounds.old }
+    ensures labels { length labels.new ≡ length labels.old }
+{
+    if let Some(part) = part {
+        put_rounds(net, rounds, &part);
+        put_labels(net, labels, &part);
+    }
+}
+
+// Tells the gate, and makes the adapter's part.
+fn part_behind<G: Gate>(
+    alloc: Global,
+    net: &Net,
+    gate: &G,
+    adapter: u32,
+) -> Result<Option<Part>, AllocError> {
+    gate.begun(adapter);
+    part_of(alloc, net, adapter)
+}
+
+// The adapters that have a stay.
+fn busy_adapters(alloc: Global, net: &Net) -> Result<Vec<u32>, AllocError>
+    ensures { IsSound (instance_of_rows net.now) (live_of_rows net.now) }
+{
+    let mut busy = Vec::new(alloc);
+    for adapter in 0..net.adapters() {
+        if has_stay(net, adapter) {
+            busy.push(adapter)?;
+        }
+    }
+    Ok(busy)
+}
+
+// Whether an adapter has a stay.
+fn has_stay(net: &Net, adapter: u32) -> bool {
+    (0..net.stays()).any(|stay| net.adapter(stay) == adapter)
+}

@@ -6,7 +6,7 @@
 #include <stdlib.h>
 #include <unistd.h>
 
-static long requests;
+static _Atomic long requests;
 
 static int is_refused(void) {
     const char *number = getenv("REFUSE");
@@ -31,7 +31,7 @@ static ssize_t put(int file, const void *bytes, size_t size) {
 // It requests no memory itself, as dprintf does.
 static ssize_t say(void) {
     char line[24];
-    return put(2, line, (size_t)snprintf(line, sizeof line, "%ld\n", requests));
+    return put(2, line, (size_t)snprintf(line, sizeof line, "%ld\n", (long)requests));
 }
 
 ssize_t write(int file, const void *bytes, size_t size) {
@@ -41,4 +41,12 @@ ssize_t write(int file, const void *bytes, size_t size) {
 
 __attribute__((destructor)) static void say_last(void) {
     if (getenv("COUNT")) say();
+}
+
+// A program that may start threads ends by this call.
+__attribute__((noreturn)) void _exit(int status) {
+    void (*real)(int) = dlsym(RTLD_NEXT, "_exit");
+    say_last();
+    real(status);
+    __builtin_unreachable();
 }

@@ -1,5 +1,5 @@
 -- what a lane's log says, a send and a completion at a time
-use Rattle.std.proofs.Common.{◌≡◌, ℕ, ◌+◌, ◌*◌, ◌≤◌, Bool, true, false, List, [], ◌∷◌, ◌++◌, length, map, refl, sym, ap, ◌∙◌, subst, arith, Some, append-nil, append_assoc}
+use Rattle.std.proofs.Common.{◌≡◌, ℕ, ◌+◌, ◌*◌, ◌≤◌, true, false, List, [], ◌∷◌, ◌++◌, length, map, refl, sym, ap, ◌∙◌, subst, arith, Some, append-nil, append_assoc}
 use Rattle.std.specs.Prelude.{take, slice_get, option_to_list}
 use Rattle.std.specs.List.{filter_map, flat_map}
 use Rattle.std.proofs.lemmas.List.{map-append}
@@ -46,19 +46,6 @@ pairs_more lane log served k a b one at_a at_b at_one sent done h =
 
 pub no_pairs : (lane : ℕ) → ArePairs lane [] []
 no_pairs lane = record { events = refl; commands = refl }
-
--- a log of as many pairs as there are items
-pub whole_log : (lane n : ℕ) (full : Bool) (log : List Receipt) (served : List Served) → length log ≤ n * 2 → length served ≤ n → ArePairs lane (take (n * 2) log) (take n served) → IsLaneLog lane full log served
-whole_log lane n full log served few items h =
-    let logs = take_whole log (n * 2) few in
-    let all = take_whole served n items in
-    record {
-      lacking = [];
-      events = append-nil (events_of log) ∙ ap events_of (sym logs) ∙ h.events ∙ ap (flat_map (calls_for lane)) all;
-      few = omega arith;
-      whole = λ _. refl;
-      commands = ap (filter_map command_of) (sym logs) ∙ h.commands ∙ ap (map (λ (one : Served). one.command)) all;
-    }
 
 -- a log of a send more
 pub half_log : (lane n : ℕ) (log : List Receipt) (served : List Served) (a : Receipt) (one : Served) → slice_get log (n * 2) ≡ Some a → slice_get served n ≡ Some one → length log ≤ n * 2 + 1 → length served ≤ n + 1 → IsSent lane a one →

@@ -166,14 +166,6 @@ walk_refused s t steps log w row b moves known of h = record {
   refused = λ is e there. refused_here s t e of (known is e there);
 }
 
-pub walk_marked : (s : Scenario) (before : List Event) (steps : List Step) (log : List Receipt) (w : Walk) (row : ℕ) → row ≡ w.row → w.refused ≡ true → IsWalk s steps log before w → IsWalk s steps log before (record { row = row; made = w.made; refused = true })
-walk_marked s before steps log w row same marked h = record {
-  within = h.within;
-  split = h.split;
-  stands = subst (StandsAt steps (made_before (length before) log) (round before)) (sym same) h.stands;
-  refused = λ is e there. h.refused marked e (ap (slice_get steps) (sym same) ∙ there);
-}
-
 one_longer : (before : List Event) (e : Event) → length (before ++ e ∷ []) ≡ length before + 1
 one_longer before e = length-append before (e ∷ [])
 

@@ -2,7 +2,7 @@
 #![tactic(auto)]
 
 use audit_report::{AuditFault, run_audit, run_check};
-use cam_types::Watched;
+use text_io::Watched;
 use std::fs::File;
 use std::io;
 use std::io::Read;

@@ -6,11 +6,11 @@ use Rattle.std.proofs.lemmas.List.Elements.{All-from_get_or}
 use Rattle.cam_types.specs.Topology.{Topology}
 use Rattle.cam_types.specs.declared.maxima.TheConstants.{MOST_BYTES}
 use Rattle.cam_types.specs.declared.device.Device.{Device}
-use Rattle.event_log.specs.Stays.{unsent}
-use Rattle.event_log.specs.Live.{live_cost}
-use Rattle.event_log.specs.declared.event.Event.{Event}
-use Rattle.event_log.specs.declared.stay.StayName.{StayName}
-use Rattle.event_log.proofs.LiveLemmas.{live_cost_sent}
+use Rattle.cam_event.specs.Stays.{unsent}
+use Rattle.cam_event.specs.Live.{live_cost}
+use Rattle.cam_event.specs.declared.event.Event.{Event}
+use Rattle.cam_event.specs.declared.stay.StayName.{StayName}
+use Rattle.cam_event.proofs.LiveLemmas.{live_cost_sent}
 use Rattle.cam_event.specs.Past.{Past}
 use Rattle.cam_event.specs.Legal.{history_rules, is_legal}
 use Rattle.cam_event.proofs.LawLemmas.{sends_stand_free}

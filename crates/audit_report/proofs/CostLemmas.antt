@@ -4,10 +4,10 @@ use Rattle.std.specs.Prelude.{sum_by}
 use Rattle.std.proofs.lemmas.List.Sums.{sum_by-cons}
 use Rattle.std.proofs.lemmas.Nat.{mul-le}
 use Rattle.cam_types.specs.Topology.{Topology}
-use Rattle.event_log.specs.Stays.{stays_begun}
-use Rattle.event_log.specs.Live.{live_part}
-use Rattle.event_log.specs.declared.event.Event.{Event}
-use Rattle.event_log.specs.declared.stay.Stay.{Stay}
+use Rattle.cam_event.specs.Stays.{stays_begun}
+use Rattle.cam_event.specs.Live.{live_part}
+use Rattle.cam_event.specs.declared.event.Event.{Event}
+use Rattle.cam_event.specs.declared.stay.Stay.{Stay}
 use Rattle.round_net.specs.Sums.{sum_below}
 use Rattle.round_net.specs.Rows.{of_stay, instance_of_rows, live_of_rows}
 use Rattle.round_net.specs.Schedules.{IsAdmissible, cost}

@@ -1,10 +1,10 @@
 -- a report that an audit of the trace wrote is proved
 use Rattle.std.proofs.Common.{◌≡◌, ℕ, true, false, List, refl, sym, ap, subst, ◌∙◌, Option, Some, None, inl}
 use Rattle.std.specs.Prelude.{◌≢◌, is_some, Result, Ok, Err, IfSome, MatchOption, IsOkUnless, IsErrAnd, Bool}
-use Rattle.event_log.specs.Live.{live_cost}
-use Rattle.event_log.specs.Stays.{unsent}
-use Rattle.event_log.specs.declared.stay.StayName.{StayName}
-use Rattle.event_log.proofs.LiveLemmas.{live_cost_unsent}
+use Rattle.cam_event.specs.Live.{live_cost}
+use Rattle.cam_event.specs.Stays.{unsent}
+use Rattle.cam_event.specs.declared.stay.StayName.{StayName}
+use Rattle.cam_event.proofs.LiveLemmas.{live_cost_unsent}
 use Rattle.cam_event.specs.Past.{Past}
 use Rattle.round_net.specs.Rows.{NetRows, instance_of_rows}
 use Rattle.round_net.specs.Nets.{net_of}

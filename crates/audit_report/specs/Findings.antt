@@ -1,6 +1,6 @@
 -- what comes of a claim about a history, and the line that says so
 use Rattle.std.specs.Prelude.{◌≡◌, ◌≢◌, ℕ, ◌-◌, ◌++◌, Bool, true, false, List, slice_index, codes, decimal}
-use Rattle.event_log.specs.declared.stay.StayName.{StayName}
+use Rattle.cam_event.specs.declared.stay.StayName.{StayName}
 use Rattle.cam_event.specs.Past.{Past}
 use Rattle.round_net.specs.Schedules.{cost}
 use Rattle.round_net.specs.Value.{ProvesBest}

@@ -1,10 +1,10 @@
 -- how a run over a trace ends
 use Rattle.std.specs.Prelude.{◌≡◌, ℕ, Bool, true, List, Option, Some, Result, Ok, Err, ⊤}
 use Rattle.std.specs.Io.KnownBytes.{Appends}
-use Rattle.cam_types.specs.Whole.{AppendsFront}
+use Rattle.text_io.specs.Whole.{AppendsFront}
 use Rattle.cam_event.specs.Past.{Past}
-use Rattle.event_log.specs.Stays.{unsent}
-use Rattle.event_log.specs.declared.stay.StayName.{StayName}
+use Rattle.cam_event.specs.Stays.{unsent}
+use Rattle.cam_event.specs.declared.stay.StayName.{StayName}
 use Rattle.trace_file.specs.Trace.{WasTrace, Explains}
 use Rattle.audit_report.specs.declared.audit_fault.AuditFault.{AuditFault}
 use Rattle.audit_report.specs.declared.audit_fault.AuditFault.TheVariants.{Trace, Unsent, Report, WriteFailed, OutOfMemory}

@@ -1,8 +1,8 @@
 //! The audit of a trace: the report on it, or the report's first seven lines.
 
 ghost use Rattle.std.specs.Prelude.{◌≡◌, ◌≢◌, ℕ, ◌+◌, ◌≤◌, Bool, true, false, if◌then◌else◌, Option, None, Err, List, [], ◌++◌, length, slice_index, IfOk, IfErr, OnOk};
-ghost use Rattle.cam_types.specs.Watched.{device_of, has_failed, is_flushed};
-ghost use Rattle.event_log.specs.Stays.{unsent};
+ghost use Rattle.text_io.specs.Watched.{device_of, has_failed, is_flushed};
+ghost use Rattle.cam_event.specs.Stays.{unsent};
 ghost use Rattle.round_net.specs.Rows.{instance_of_rows};
 ghost use Rattle.round_net.specs.PriceRows.{pricing_of_rows, IsPricingFor};
 ghost use Rattle.round_net.specs.Value.{ProvesBest};
@@ -16,7 +16,7 @@ ghost use Rattle.audit_report.specs.Runs.{Ended, WhyNoNet};
 use crate::audit_fault::AuditFault;
 use crate::costs::Costs;
 use crate::report::{push_plan, push_summary};
-use cam_types::{Watched, write_whole};
+use text_io::{Watched, write_whole};
 use cost_plan::{BestPlan, plan};
 use round_net::{Net, NetFault};
 use std::alloc::{AllocError, Global};

@@ -1,13 +1,13 @@
 //! The audit of a trace, its adapters planned at once.
 
 ghost use Rattle.std.specs.Prelude.{◌≡◌, ◌≢◌, true, false, Err, OnOk};
-ghost use Rattle.cam_types.specs.Watched.{device_of, has_failed, is_flushed};
+ghost use Rattle.text_io.specs.Watched.{device_of, has_failed, is_flushed};
 ghost use Rattle.audit_report.specs.Audit.{IsAudit};
 ghost use Rattle.audit_report.specs.Runs.{Ended};
 
 use crate::audit::{read_net, write_audit};
 use crate::audit_fault::AuditFault;
-use cam_types::Watched;
+use text_io::Watched;
 use cost_plan::{Gate, plan_with};
 use std::alloc::Global;
 use std::io::{Read, Write};

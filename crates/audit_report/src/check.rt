@@ -1,15 +1,15 @@
 //! The check of a trace: its counts, and what its live schedule cost.
 
 ghost use Rattle.std.specs.Prelude.{◌≡◌, ◌≢◌, Some, true, false, Ok, Err, IfOk, OnOk};
-ghost use Rattle.cam_types.specs.Watched.{device_of, has_failed, is_flushed};
+ghost use Rattle.text_io.specs.Watched.{device_of, has_failed, is_flushed};
 ghost use Rattle.cam_event.specs.Past.{Past};
-ghost use Rattle.event_log.specs.Live.{live_cost};
+ghost use Rattle.cam_event.specs.Live.{live_cost};
 ghost use Rattle.audit_report.specs.Check.{check_text, IsCheck};
 ghost use Rattle.audit_report.specs.Runs.{Ended};
 
 use crate::audit_fault::AuditFault;
 use crate::text::push_line;
-use cam_types::{Watched, write_whole};
+use text_io::{Watched, write_whole};
 use std::alloc::{AllocError, Global};
 use std::io::{Read, Write};
 use trace_file::{TraceFault, read_trace};

@@ -1,8 +1,8 @@
 //! What the live schedule cost, what a best one costs, and the excess.
 
 ghost use Rattle.std.specs.Prelude.{◌≡◌, ◌-◌, ◌^◌, ◌≤◌, None, Some, length, slice_index};
-ghost use Rattle.event_log.specs.Live.{live_cost};
-ghost use Rattle.event_log.specs.Stays.{unsent};
+ghost use Rattle.cam_event.specs.Live.{live_cost};
+ghost use Rattle.cam_event.specs.Stays.{unsent};
 ghost use Rattle.round_net.specs.Rows.{instance_of_rows, live_of_rows};
 ghost use Rattle.round_net.specs.Nets.{net_of};
 ghost use Rattle.round_net.specs.Schedules.{IsAdmissible, cost};
@@ -12,7 +12,7 @@ use round_net::{Net, Schedule, cost};
 use xpt_state::History;
 
 /// What waiting cost, in weighted rounds.
-#[derive(Clone, Copy, Debug, PartialEq, Eq)]
+#[derive(Clone, Copy)]
 pub struct Costs {
     /// By the live schedule.
     pub live: u64,

@@ -1,7 +1,7 @@
 //! What comes of a claim about a history, and the line that says so.
 
 ghost use Rattle.std.specs.Prelude.{◌≡◌, ◌≢◌, ◌++◌, None, length, slice_index, codes, IfOk, OnOk};
-ghost use Rattle.event_log.specs.Stays.{unsent};
+ghost use Rattle.cam_event.specs.Stays.{unsent};
 ghost use Rattle.round_net.specs.Rows.{instance_of_rows};
 ghost use Rattle.round_net.specs.PriceRows.{IsPricingFor};
 ghost use Rattle.round_net.specs.Nets.{net_of};
@@ -18,7 +18,7 @@ use std::alloc::{AllocError, Global};
 use xpt_state::History;
 
 /// What comes of a claim that somebody made about a history.
-#[derive(Clone, Copy, Debug, PartialEq, Eq)]
+#[derive(Clone, Copy)]
 pub enum Finding {
     /// The prices prove that the schedule is a best one, and the numbers beside it are right.
     Proved,

@@ -1,7 +1,7 @@
 //! Whether a report on a trace is proved, whoever made it.
 
 ghost use Rattle.std.specs.Prelude.{◌≡◌, ◌≢◌, ℕ, true, false, Err, List, IfSome, OnOk};
-ghost use Rattle.cam_types.specs.Watched.{device_of, has_failed, is_flushed};
+ghost use Rattle.text_io.specs.Watched.{device_of, has_failed, is_flushed};
 ghost use Rattle.cam_event.specs.Past.{Past};
 ghost use Rattle.trace_file.specs.Trace.{IsTrace, IsHistory};
 ghost use Rattle.audit_report.specs.Audit.{IsAudit};
@@ -9,7 +9,7 @@ ghost use Rattle.audit_report.specs.Prove.{Proving, IsProvedOrFailed};
 
 use crate::audit_fault::AuditFault;
 use crate::finding::Finding;
-use cam_types::{Watched, write_whole};
+use text_io::{Watched, write_whole};
 use price_check::{ReportFault, read_report};
 use round_net::{Net, NetFault};
 use std::alloc::Global;

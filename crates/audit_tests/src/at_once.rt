@@ -2,7 +2,7 @@
 
 use crate::texts::{FROZEN, TWO_ADAPTERS};
 use audit_report::{run_audit, run_audit_with};
-use cam_types::Watched;
+use text_io::Watched;
 use cost_plan::{Gate, OpenGate, plan_with};
 use round_net::{Net, cost};
 use std::alloc::Global;

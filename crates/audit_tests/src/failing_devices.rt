@@ -3,7 +3,7 @@
 use crate::fakes::{Pieces, Taker};
 use crate::texts::{FROZEN, ONE_COMMAND};
 use audit_report::{AuditFault, run_check};
-use cam_types::Watched;
+use text_io::Watched;
 use std::alloc::Global;
 use std::test::Fail;
 use trace_file::TraceFault;

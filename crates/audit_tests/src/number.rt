@@ -1,6 +1,6 @@
 //! Numbers.
 
-use cam_types::read_number;
+use text_io::read_number;
 
 #[test]
 fn numbers_have_one_spelling(rt: HostRuntime) {

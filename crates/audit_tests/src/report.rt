@@ -1,7 +1,7 @@
 //! Reports of any maker, read.
 
 use crate::histories::frozen_history;
-use cam_types::Watched;
+use text_io::Watched;
 use price_check::{Claim, ReportFault, Verdict, check, read_report};
 use round_net::Net;
 use std::alloc::Global;

@@ -2,7 +2,8 @@
 
 use crate::fakes::Pieces;
 use cam_event::Event;
-use cam_types::{Limits, Outcome, SenseBytes, Watched};
+use cam_types::{Limits, Outcome, SenseBytes};
+use text_io::Watched;
 use std::alloc::Global;
 use std::test::Fail;
 use test_events::{PLAIN, adjust, freeze, freeze_sim, release, release_sim};

@@ -3,7 +3,8 @@
 use crate::fakes::{Many, Pieces};
 use crate::texts::{FROZEN, ONE_COMMAND};
 use cam_event::Event;
-use cam_types::{Flags, Outcome, SenseBytes, Watched};
+use cam_types::{Flags, Outcome, SenseBytes};
+use text_io::Watched;
 use std::alloc::Global;
 use std::test::Fail;
 use test_events::{

@@ -1,7 +1,8 @@
 //! Whole texts, read and written.
 
 use crate::fakes::{Many, Pieces, Taker};
-use cam_types::{MOST_BYTES, Watched, WholeFault, read_whole, write_whole};
+use cam_types::MOST_BYTES;
+use text_io::{Watched, WholeFault, read_whole, write_whole};
 use std::test::Fail;
 
 #[test]

@@ -2,7 +2,7 @@
 
 use crate::fakes::Taker;
 use crate::texts::{FROZEN, ONE_COMMAND};
-use cam_types::Watched;
+use text_io::Watched;
 use std::alloc::Global;
 use std::test::Fail;
 use trace_file::{WriteFault, read_trace, write_trace};

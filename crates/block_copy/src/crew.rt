@@ -3,7 +3,7 @@
 use crate::blocks::{BLOCKS, Blocks};
 use crate::fault::Fault;
 use cam_types::{Flags, Outcome};
-use sense_class::Class;
+use cam_event::Class;
 use std::alloc::{AllocError, Global};
 use std::sync::Wait;
 use std::sync::ledger::Ledger;

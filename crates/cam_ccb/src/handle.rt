@@ -3,7 +3,7 @@
 /// Names one value of a table: the slot that holds it, and the count of the values taken in before it.
 ///
 /// The number makes it stale for good once its value is given back.
-#[derive(Clone, Copy, Debug, PartialEq, Eq, Hash)]
+#[derive(Clone, Copy, Debug, PartialEq, Eq)]
 pub struct Handle {
     /// Where the value lies.
     pub slot: usize,

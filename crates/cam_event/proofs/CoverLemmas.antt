@@ -4,11 +4,11 @@ use Rattle.std.specs.Prelude.{◌==◌, ◌&&◌, nat_le, option_and_then}
 use Rattle.std.specs.Option.{option_map_or}
 use Rattle.std.proofs.lemmas.Bool.{and_parts, leb-true, eqb-true}
 use Rattle.cam_types.specs.Topology.{Topology}
-use Rattle.event_log.specs.Counts.{sendings, sending_of, caller_count}
-use Rattle.event_log.specs.declared.event.Event.{Event}
-use Rattle.event_log.specs.declared.event.Event.TheVariants.{Send, FreezeDev, ReleaseDev}
-use Rattle.event_log.specs.declared.sending.Sending.{Sending}
-use Rattle.event_log.proofs.TallyLaws.{Tally, device_tally, device_change, with_change, tallied, device_tally-push}
+use Rattle.cam_event.specs.Counts.{sendings, sending_of, caller_count}
+use Rattle.cam_event.specs.declared.event.Event.{Event}
+use Rattle.cam_event.specs.declared.event.Event.TheVariants.{Send, FreezeDev, ReleaseDev}
+use Rattle.cam_event.specs.declared.sending.Sending.{Sending}
+use Rattle.cam_event.proofs.TallyLaws.{Tally, device_tally, device_change, with_change, tallied, device_tally-push}
 use Rattle.cam_types.specs.Questions.{names_device}
 use Rattle.cam_event.specs.Legal.{Rules, is_count, is_legal_event, is_legal}
 use Rattle.cam_event.proofs.LawLemmas.{allowed-legal_event}

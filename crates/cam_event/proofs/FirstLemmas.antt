@@ -6,16 +6,16 @@ use Rattle.std.proofs.lemmas.Bool.Decides.{nat_tests}
 use Rattle.std.proofs.lemmas.List.Sums.{sum_by-cons}
 use Rattle.cam_types.specs.Lists.{is_less}
 use Rattle.cam_types.specs.Topology.{Topology}
-use Rattle.event_log.specs.Event.{is_some_and}
-use Rattle.event_log.specs.Counts.{round}
-use Rattle.event_log.specs.Stays.{waiting, is_at, queue, queue_key, first}
-use Rattle.event_log.specs.Head.{is_ready, head, next}
-use Rattle.event_log.specs.Sorted.{insert_by, sorted_by}
-use Rattle.event_log.specs.declared.event.Event.{Event}
-use Rattle.event_log.specs.declared.event.Event.TheVariants.{Send}
-use Rattle.event_log.specs.declared.stay.Stay.{Stay}
-use Rattle.event_log.proofs.QueueLaws.{in_order, is_later, later, in_order-send, first-in_order, later-push}
-use Rattle.event_log.proofs.TotalLaws.{is_of, not_of, unsent_count}
+use Rattle.cam_event.specs.Event.{is_some_and}
+use Rattle.cam_event.specs.Counts.{round}
+use Rattle.cam_event.specs.Stays.{waiting, is_at, queue, queue_key, first}
+use Rattle.cam_event.specs.Head.{is_ready, head, next}
+use Rattle.cam_event.specs.Sorted.{insert_by, sorted_by}
+use Rattle.cam_event.specs.declared.event.Event.{Event}
+use Rattle.cam_event.specs.declared.event.Event.TheVariants.{Send}
+use Rattle.cam_event.specs.declared.stay.Stay.{Stay}
+use Rattle.cam_event.proofs.QueueLaws.{in_order, is_later, later, in_order-send, first-in_order, later-push}
+use Rattle.cam_event.proofs.TotalLaws.{is_of, not_of, unsent_count}
 use Rattle.cam_event.specs.Legal.{is_next}
 use Rattle.cam_event.specs.Refusals.{device_of}
 use Rattle.cam_event.proofs.NextLemmas.{head_stands, queued-first, device-of_its_ccb}

@@ -8,15 +8,15 @@ use Rattle.std.proofs.lemmas.List.Folds.{list_all-append}
 use Rattle.cam_types.specs.Lists.{moments}
 use Rattle.cam_types.specs.Topology.{Topology}
 use Rattle.cam_types.proofs.ListLemmas.{moments-push}
-use Rattle.sense_class.specs.Classes.{kind_of, is_counted, class_of, asks_requeue}
-use Rattle.sense_class.specs.declared.class.Kind.{Kind}
-use Rattle.sense_class.specs.declared.class.Kind.TheVariants.{Good, Free, Counted, Recovered, Other}
-use Rattle.sense_class.specs.declared.class.Class.TheVariants.{CountedRequeue, Fail}
-use Rattle.sense_class.specs.declared.class.Why.TheVariants as whys
-use Rattle.event_log.specs.Event.{is_some_and}
-use Rattle.event_log.specs.Counts.{last_result, is_counted_requeue, counted_requeues, retries_of, wants_requeue, is_recovering, round, has_in_flight}
-use Rattle.event_log.specs.declared.event.Event.{Event}
-use Rattle.event_log.specs.declared.event.Event.TheVariants.{Submit, Send, Done, Requeue, Finish, FreezeDev, ReleaseDev, FreezeSim, ReleaseSim, Adjust, Tick}
+use Rattle.cam_event.specs.Classes.{kind_of, is_counted, class_of, asks_requeue}
+use Rattle.cam_event.specs.declared.class.Kind.{Kind}
+use Rattle.cam_event.specs.declared.class.Kind.TheVariants.{Good, Free, Counted, Recovered, Other}
+use Rattle.cam_event.specs.declared.class.Class.TheVariants.{CountedRequeue, Fail}
+use Rattle.cam_event.specs.declared.class.Why.TheVariants as whys
+use Rattle.cam_event.specs.Event.{is_some_and}
+use Rattle.cam_event.specs.Counts.{last_result, is_counted_requeue, counted_requeues, retries_of, wants_requeue, is_recovering, round, has_in_flight}
+use Rattle.cam_event.specs.declared.event.Event.{Event}
+use Rattle.cam_event.specs.declared.event.Event.TheVariants.{Submit, Send, Done, Requeue, Finish, FreezeDev, ReleaseDev, FreezeSim, ReleaseSim, Adjust, Tick}
 use Rattle.cam_types.specs.Questions.{names_device, names_lane}
 use Rattle.cam_event.specs.Legal.{Rules, history_rules, IsWithinHistory, names_ccb, has_ccb, has_stay, is_next, is_allowed, is_legal_event, is_legal}
 use Rattle.cam_types.specs.declared.flags.Flags.{Flags}

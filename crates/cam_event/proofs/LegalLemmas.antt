@@ -6,11 +6,11 @@ use Rattle.std.specs.Option.{option_map_or}
 use Rattle.std.proofs.lemmas.Bool.Decides.{nat_tests}
 use Rattle.std.proofs.Math.Bool.{not-not, and-true, and_assoc}
 use Rattle.cam_types.specs.declared.flags.Flags.{Flags}
-use Rattle.event_log.specs.Counts.{alive}
+use Rattle.cam_event.specs.Counts.{alive}
 use Rattle.cam_types.specs.Topology.{Topology}
-use Rattle.event_log.specs.Event.{is_some_and}
-use Rattle.event_log.specs.declared.event.Event.{Event}
-use Rattle.event_log.specs.declared.event.Event.TheVariants.{Submit, Send, ReleaseSim, Adjust, Tick}
+use Rattle.cam_event.specs.Event.{is_some_and}
+use Rattle.cam_event.specs.declared.event.Event.{Event}
+use Rattle.cam_event.specs.declared.event.Event.TheVariants.{Submit, Send, ReleaseSim, Adjust, Tick}
 use Rattle.cam_types.specs.Questions.{names_lane, lane_adapter}
 use Rattle.cam_event.specs.Legal.{Rules, is_legal_event, is_allowed, has_ccb, names_ccb, is_next}
 use Rattle.cam_event.specs.Refusals.{device_of, are_ccbs_full, causes, first_cause, refusal}

@@ -1,3 +1,16 @@
+pub mod CcbLaws
+pub mod ConcernLaws
+pub mod PushLaws
+pub mod OpeningLaws
+pub mod ListFacts
+pub mod LiveLemmas
+pub mod QueueLaws
+pub mod ShareLaws
+pub mod SortedLemmas
+pub mod StateLaws
+pub mod TallyLaws
+pub mod TotalLaws
+pub mod TurnLaws
 pub mod LeastLemmas
 pub mod TestLemmas
 pub mod StayLemmas

@@ -6,12 +6,12 @@ use Rattle.std.proofs.lemmas.Bool.{and_parts, and_from, ltb-true}
 use Rattle.std.proofs.lemmas.List.{take-append-drop, drop_more}
 use Rattle.cam_types.specs.Lists.{moments_after}
 use Rattle.cam_types.specs.Topology.{Topology}
-use Rattle.event_log.specs.Counts.{round, has_in_flight, is_recovering, wants_requeue}
-use Rattle.event_log.specs.Stays.{stays_begun, stay_begun}
-use Rattle.event_log.specs.declared.event.Event.{Event}
-use Rattle.event_log.specs.declared.event.Event.TheVariants.{Submit, Requeue, Tick}
-use Rattle.event_log.specs.declared.stay.Stay.{Stay}
-use Rattle.event_log.proofs.Laws.{round-push, stays_begun-push}
+use Rattle.cam_event.specs.Counts.{round, has_in_flight, is_recovering, wants_requeue}
+use Rattle.cam_event.specs.Stays.{stays_begun, stay_begun}
+use Rattle.cam_event.specs.declared.event.Event.{Event}
+use Rattle.cam_event.specs.declared.event.Event.TheVariants.{Submit, Requeue, Tick}
+use Rattle.cam_event.specs.declared.stay.Stay.{Stay}
+use Rattle.cam_event.proofs.PushLaws.{round-push, stays_begun-push}
 use Rattle.cam_types.specs.Questions.{names_device}
 use Rattle.cam_event.specs.Legal.{Rules, history_rules, names_ccb, has_ccb, has_stay, is_legal_event, is_legal}
 use Rattle.cam_types.specs.declared.flags.Flags.{Flags}

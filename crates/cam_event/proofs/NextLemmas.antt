@@ -10,14 +10,14 @@ use Rattle.std.proofs.lemmas.Option.{slice_get_within}
 use Rattle.cam_types.specs.Lists.{least_by}
 use Rattle.cam_types.specs.Topology.{Topology}
 use Rattle.cam_types.specs.declared.device.Device.{Device}
-use Rattle.event_log.specs.Event.{is_some_and}
-use Rattle.event_log.specs.Counts.{submission, freeze_count, adapter_freezes}
-use Rattle.event_log.specs.Stays.{stays_begun, waiting, is_unsent, has_arrived, has_queued, queue, queue_key, first}
+use Rattle.cam_event.specs.Event.{is_some_and}
+use Rattle.cam_event.specs.Counts.{submission, freeze_count, adapter_freezes}
+use Rattle.cam_event.specs.Stays.{stays_begun, waiting, is_unsent, has_arrived, has_queued, queue, queue_key, first}
 use Rattle.cam_types.specs.Questions.{is_on, devices}
-use Rattle.event_log.specs.Head.{has_opening, adapter_has_opening, is_ready, turn_key, head, next}
-use Rattle.event_log.specs.declared.event.Event.{Event}
-use Rattle.event_log.specs.declared.submission.Submission.{Submission}
-use Rattle.event_log.specs.declared.stay.Stay.{Stay}
+use Rattle.cam_event.specs.Head.{has_opening, adapter_has_opening, is_ready, turn_key, head, next}
+use Rattle.cam_event.specs.declared.event.Event.{Event}
+use Rattle.cam_event.specs.declared.submission.Submission.{Submission}
+use Rattle.cam_event.specs.declared.stay.Stay.{Stay}
 use Rattle.cam_event.specs.Laws.{is_stay_of}
 use Rattle.cam_event.specs.Refusals.{device_of}
 use Rattle.cam_event.proofs.TestLemmas.{IsIn, in_found, in_filter, passes-all, list_any-with, list_all-filter, list_all-filtered}

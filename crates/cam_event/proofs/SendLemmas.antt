@@ -5,13 +5,13 @@ use Rattle.std.specs.Option.{option_map_or}
 use Rattle.std.proofs.lemmas.Bool.{and_parts, and_from, eqb-true, ltb-true, not-true, not-false, not_from_false, not_from_true}
 use Rattle.std.proofs.lemmas.Option.{slice_get-get_or}
 use Rattle.cam_types.specs.Topology.{Topology}
-use Rattle.event_log.specs.Event.{is_some_and}
-use Rattle.event_log.specs.Counts.{freeze_count, adapter_freezes}
-use Rattle.event_log.specs.Stays.{has_queued}
+use Rattle.cam_event.specs.Event.{is_some_and}
+use Rattle.cam_event.specs.Counts.{freeze_count, adapter_freezes}
+use Rattle.cam_event.specs.Stays.{has_queued}
 use Rattle.cam_types.specs.Questions.{names_lane, is_on, lane_adapter}
-use Rattle.event_log.specs.Head.{has_opening, adapter_has_opening, next}
-use Rattle.event_log.specs.declared.event.Event.{Event}
-use Rattle.event_log.specs.declared.stay.Stay.{Stay}
+use Rattle.cam_event.specs.Head.{has_opening, adapter_has_opening, next}
+use Rattle.cam_event.specs.declared.event.Event.{Event}
+use Rattle.cam_event.specs.declared.stay.Stay.{Stay}
 use Rattle.cam_event.specs.Legal.{is_next}
 use Rattle.cam_event.specs.Refusals.{device_of, have_openings, is_other_next}
 use Rattle.cam_event.proofs.TestLemmas.{same_tests}

@@ -8,20 +8,20 @@ use Rattle.std.proofs.lemmas.List.Sums.{sum_by-cons, sum_by-append}
 use Rattle.std.proofs.Math.Bool.{and-true}
 use Rattle.cam_types.specs.Topology.{Topology}
 use Rattle.cam_types.specs.declared.outcome.Outcome.{Outcome}
-use Rattle.sense_class.specs.Classes.{status_of}
-use Rattle.event_log.specs.Event.{is_send_of, concerns, ccb_of, is_erring, ends, submission_of}
-use Rattle.event_log.specs.Counts.{commands, submission, submissions, is_in_flight, is_recovering, wants_requeue, wants_finish}
-use Rattle.event_log.specs.Stays.{stays_begun, waiting, stay_begun, has_arrived, has_queued}
-use Rattle.event_log.specs.declared.event.Event.{Event}
-use Rattle.event_log.specs.declared.event.Event.TheVariants.{Submit, Send, Done, Requeue, Finish}
-use Rattle.event_log.specs.declared.submission.Submission.{Submission}
-use Rattle.event_log.specs.declared.stay.Stay.{Stay}
-use Rattle.event_log.proofs.Laws.{waiting-push}
-use Rattle.event_log.proofs.ListFacts.{count_by-kept, count_by-dropped}
-use Rattle.event_log.proofs.ConcernLaws.{apart, concerns-none, concerns-other, submit_concerns_none}
-use Rattle.event_log.proofs.StateLaws.{is_in_flight-push, is_recovering-push}
-use Rattle.event_log.proofs.CcbLaws.{not_ended-push}
-use Rattle.event_log.proofs.TotalLaws.{unsent_count, commands-submit, commands-none}
+use Rattle.cam_event.specs.Classes.{status_of}
+use Rattle.cam_event.specs.Event.{is_send_of, concerns, ccb_of, is_erring, ends, submission_of}
+use Rattle.cam_event.specs.Counts.{commands, submission, submissions, is_in_flight, is_recovering, wants_requeue, wants_finish}
+use Rattle.cam_event.specs.Stays.{stays_begun, waiting, stay_begun, has_arrived, has_queued}
+use Rattle.cam_event.specs.declared.event.Event.{Event}
+use Rattle.cam_event.specs.declared.event.Event.TheVariants.{Submit, Send, Done, Requeue, Finish}
+use Rattle.cam_event.specs.declared.submission.Submission.{Submission}
+use Rattle.cam_event.specs.declared.stay.Stay.{Stay}
+use Rattle.cam_event.proofs.PushLaws.{waiting-push}
+use Rattle.cam_event.proofs.ListFacts.{count_by-kept, count_by-dropped}
+use Rattle.cam_event.proofs.ConcernLaws.{apart, concerns-none, concerns-other, submit_concerns_none}
+use Rattle.cam_event.proofs.StateLaws.{is_in_flight-push, is_recovering-push}
+use Rattle.cam_event.proofs.CcbLaws.{not_ended-push}
+use Rattle.cam_event.proofs.TotalLaws.{unsent_count, commands-submit, commands-none}
 use Rattle.cam_types.specs.Questions.{names_lane}
 use Rattle.cam_event.specs.Legal.{Rules, names_ccb, has_stay, is_next, is_legal_event, is_legal}
 use Rattle.cam_event.proofs.LawLemmas.{allowed-legal_event}

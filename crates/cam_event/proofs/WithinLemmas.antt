@@ -7,14 +7,14 @@ use Rattle.std.proofs.lemmas.Bool.{and_parts, ltb-true}
 use Rattle.std.proofs.lemmas.List.Sums.{sum_by-cons}
 use Rattle.cam_types.specs.Topology.{Topology}
 use Rattle.cam_types.specs.declared.maxima.TheConstants.{MOST_PRIORITY, MOST_RETRIES}
-use Rattle.event_log.specs.Event.{ends, submission_of}
-use Rattle.event_log.specs.Counts.{commands, submissions, ccbs, alive}
-use Rattle.event_log.specs.declared.event.Event.{Event}
-use Rattle.event_log.specs.declared.event.Event.TheVariants.{Submit}
-use Rattle.event_log.specs.declared.submission.Submission.{Submission}
-use Rattle.event_log.proofs.CcbLaws.{not_ended-push}
-use Rattle.event_log.proofs.ListFacts.{range_with_len-push, count_by-push}
-use Rattle.event_log.proofs.TotalLaws.{commands-submit, commands-none}
+use Rattle.cam_event.specs.Event.{ends, submission_of}
+use Rattle.cam_event.specs.Counts.{commands, submissions, ccbs, alive}
+use Rattle.cam_event.specs.declared.event.Event.{Event}
+use Rattle.cam_event.specs.declared.event.Event.TheVariants.{Submit}
+use Rattle.cam_event.specs.declared.submission.Submission.{Submission}
+use Rattle.cam_event.proofs.CcbLaws.{not_ended-push}
+use Rattle.cam_event.proofs.ListFacts.{range_with_len-push, count_by-push}
+use Rattle.cam_event.proofs.TotalLaws.{commands-submit, commands-none}
 use Rattle.cam_event.specs.Laws.{IsWithinRules}
 use Rattle.cam_types.specs.Questions.{names_device}
 use Rattle.cam_event.specs.Legal.{Rules, has_ccb, has_stay, is_legal_event, is_legal}

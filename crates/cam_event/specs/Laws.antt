@@ -4,18 +4,18 @@ use Rattle.std.specs.List.{list_all}
 use Rattle.std.specs.Option.{option_map}
 use Rattle.cam_types.specs.Lists.{moments}
 use Rattle.cam_types.specs.Topology.{Topology}
-use Rattle.sense_class.specs.Classes.{classify}
-use Rattle.sense_class.specs.declared.class.Class as class
-use Rattle.sense_class.specs.declared.class.Class.TheVariants.{CountedRequeue}
-use Rattle.event_log.specs.Event.{is_some_and, is_requeue_of}
-use Rattle.event_log.specs.Stays.{stays_begun}
-use Rattle.event_log.specs.Counts.{round, submission, alive, last_result, is_counted_requeue, counted_requeues, retries_of, freeze_count, adapter_freezes}
+use Rattle.cam_event.specs.Classes.{classify}
+use Rattle.cam_event.specs.declared.class.Class as class
+use Rattle.cam_event.specs.declared.class.Class.TheVariants.{CountedRequeue}
+use Rattle.cam_event.specs.Event.{is_some_and, is_requeue_of}
+use Rattle.cam_event.specs.Stays.{stays_begun}
+use Rattle.cam_event.specs.Counts.{round, submission, alive, last_result, is_counted_requeue, counted_requeues, retries_of, freeze_count, adapter_freezes}
 use Rattle.cam_types.specs.Questions.{names_device, names_lane, is_on, lane_adapter}
 use Rattle.cam_types.specs.declared.maxima.TheConstants.{MOST_PRIORITY, MOST_RETRIES}
-use Rattle.event_log.specs.declared.submission.Submission.{Submission}
-use Rattle.event_log.specs.declared.stay.Stay.{Stay}
-use Rattle.event_log.specs.declared.event.Event.{Event}
-use Rattle.event_log.specs.declared.event.Event.TheVariants.{Send}
+use Rattle.cam_event.specs.declared.submission.Submission.{Submission}
+use Rattle.cam_event.specs.declared.stay.Stay.{Stay}
+use Rattle.cam_event.specs.declared.event.Event.{Event}
+use Rattle.cam_event.specs.declared.event.Event.TheVariants.{Send}
 use Rattle.cam_event.specs.Legal.{Rules, history_rules, IsWithinHistory, names_ccb, is_legal_event, is_legal}
 use Rattle.cam_event.specs.Refusals.{device_of, have_openings, refusal}
 

@@ -1,3 +1,11 @@
+pub mod Classes
+pub mod Sense
+pub mod Event
+pub mod Counts
+pub mod Stays
+pub mod Head
+pub mod Live
+pub mod Sorted
 pub mod Legal
 pub mod Refusals
 pub mod Laws

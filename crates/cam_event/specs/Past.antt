@@ -1,7 +1,7 @@
 -- a history as its callers see it
 use Rattle.std.specs.Prelude.{List}
 use Rattle.cam_types.specs.Topology.{Topology}
-use Rattle.event_log.specs.declared.event.Event.{Event}
+use Rattle.cam_event.specs.declared.event.Event.{Event}
 
 -- a configuration, and the events so far
 pub record Past : Type 0 where

@@ -5,16 +5,16 @@ use Rattle.cam_types.specs.Lists.{first_answer}
 use Rattle.cam_types.specs.Topology.{Topology, are_openings}
 use Rattle.cam_types.specs.declared.outcome.Outcome.{Outcome}
 use Rattle.cam_types.specs.declared.maxima.TheConstants.{MOST_PRIORITY, MOST_RETRIES, MOST_FREEZES}
-use Rattle.sense_class.specs.Classes.{status_of}
-use Rattle.event_log.specs.Event.{is_some_and}
-use Rattle.event_log.specs.Counts.{round, submission, alive, is_in_flight, has_in_flight, is_recovering, wants_requeue, wants_finish, caller_count, freeze_count, adapter_freezes}
-use Rattle.event_log.specs.Stays.{stays_begun, has_queued}
+use Rattle.cam_event.specs.Classes.{status_of}
+use Rattle.cam_event.specs.Event.{is_some_and}
+use Rattle.cam_event.specs.Counts.{round, submission, alive, is_in_flight, has_in_flight, is_recovering, wants_requeue, wants_finish, caller_count, freeze_count, adapter_freezes}
+use Rattle.cam_event.specs.Stays.{stays_begun, has_queued}
 use Rattle.cam_types.specs.Questions.{names_device, names_adapter, names_lane, is_on, lane_adapter}
-use Rattle.event_log.specs.Head.{has_opening, adapter_has_opening, next}
-use Rattle.event_log.specs.declared.event.Event.{Event}
-use Rattle.event_log.specs.declared.event.Event.TheVariants.{Submit, Send, Done, Requeue, Finish, FreezeDev, ReleaseDev, FreezeSim, ReleaseSim, Adjust, Tick}
-use Rattle.event_log.specs.declared.submission.Submission.{Submission}
-use Rattle.event_log.specs.declared.stay.Stay.{Stay}
+use Rattle.cam_event.specs.Head.{has_opening, adapter_has_opening, next}
+use Rattle.cam_event.specs.declared.event.Event.{Event}
+use Rattle.cam_event.specs.declared.event.Event.TheVariants.{Submit, Send, Done, Requeue, Finish, FreezeDev, ReleaseDev, FreezeSim, ReleaseSim, Adjust, Tick}
+use Rattle.cam_event.specs.declared.submission.Submission.{Submission}
+use Rattle.cam_event.specs.declared.stay.Stay.{Stay}
 use Rattle.cam_event.specs.Legal.{Rules, names_ccb, is_count}
 use Rattle.cam_event.specs.declared.refusal.Refusal.{Refusal}
 use Rattle.cam_event.specs.declared.refusal.Refusal.TheVariants.{HistoryFull, NoDevice, NoAdapter, NoLane, NoCcb, BadPriority, BadRetries, BadCount, BadOpenings, BadStatus, CcbFull, StaysFull, NotQueued, WrongLane, DeviceFrozen, AdapterFrozen, NoOpening, NotHead, NotInFlight, NotRecovering, WrongDecision, FreezeOverflow, ReleaseTooMany, InFlight, RoundsFull}

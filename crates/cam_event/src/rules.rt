@@ -5,7 +5,7 @@ use std::marker::Model;
 
 /// How far events may go: how many CCBs may be alive at once, if they are counted, and how many rounds, stays and events
 /// there may be.
-#[derive(Clone, Copy, Debug, PartialEq, Eq, Hash)]
+#[derive(Clone, Copy, Debug, PartialEq, Eq)]
 pub struct Rules {
     ccbs: Option<u32>,
     rounds: u32,

@@ -11,7 +11,7 @@ use std::alloc::AllocError;
 use thiserror::Error;
 
 /// The address of a device. Paths are ordered by bus, then target, then lun.
-#[derive(Clone, Copy, Debug, PartialEq, Eq, Hash, PartialOrd, Ord)]
+#[derive(Clone, Copy, Debug, PartialEq, Eq, PartialOrd, Ord)]
 pub struct CamPath {
     /// The number of the adapter.
     pub bus: u8,
@@ -23,7 +23,7 @@ pub struct CamPath {
 
 /// A text that is no path, by the offset of its first fault: where the first number begins that is empty, has a leading
 /// zero or is too large, or where a `:` or the end is due and isn't there.
-#[derive(Clone, Copy, Debug, PartialEq, Eq, Hash, Error)]
+#[derive(Clone, Copy, Debug, PartialEq, Eq, Error)]
 #[error("no path: byte {0}")]
 pub struct BadPath(pub usize);
 

@@ -1,10 +1,7 @@
 pub mod Bounds
 pub mod Lists
 pub mod Made
-pub mod Number
 pub mod Priority
 pub mod Questions
 pub mod SenseBytes
 pub mod Topology
-pub mod Watched
-pub mod Whole

@@ -1,7 +1,7 @@
 //! What an adapter gets to serve.
 
 /// A command on its way to a device.
-#[derive(Clone, Copy, Debug, PartialEq, Eq, Hash)]
+#[derive(Clone, Copy, Debug, PartialEq, Eq)]
 pub struct Command {
     /// The number of its CCB: how many were submitted before it.
     pub ccb: u32,

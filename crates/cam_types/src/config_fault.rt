@@ -3,7 +3,7 @@
 use thiserror::Error;
 
 /// The rule that a configuration breaks.
-#[derive(Clone, Copy, Debug, PartialEq, Eq, Hash, Error)]
+#[derive(Clone, Copy, Debug, PartialEq, Eq, Error)]
 pub enum ConfigFault {
     /// There is no adapter.
     #[error("NoAdapters")]

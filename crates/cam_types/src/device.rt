@@ -1,7 +1,7 @@
 //! A device's address and openings.
 
 /// A device, by its address and how many commands it takes at once.
-#[derive(Clone, Copy, Debug, PartialEq, Eq, Hash)]
+#[derive(Clone, Copy, Debug, PartialEq, Eq)]
 pub struct Device {
     /// The number of its adapter.
     pub bus: u8,

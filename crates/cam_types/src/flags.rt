@@ -3,7 +3,7 @@
 ghost use Rattle.std.specs.Prelude.{◌≡◌, false};
 
 /// What a CCB asks of the freezes of its device's queue, in the words of FreeBSD's `cam.h`.
-#[derive(Clone, Copy, Debug, PartialEq, Eq, Hash, Default)]
+#[derive(Clone, Copy, Debug, PartialEq, Eq, Default)]
 pub struct Flags {
     /// CAM_DEV_QFREEZE: each of its sends adds one to the freezes of its device by callers.
     pub qfreeze: bool,

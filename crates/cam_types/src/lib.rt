@@ -12,12 +12,9 @@ pub use maxima::{
     MOST_LUN, MOST_OPENINGS, MOST_PRIORITY, MOST_RETRIES, MOST_ROUNDS, MOST_SENSE, MOST_STAYS,
     MOST_WEIGHT, maxima_are_these,
 };
-pub use number::read_number;
 pub use outcome::Outcome;
 pub use priority::{BadPriority, Priority};
 pub use sense_bytes::SenseBytes;
-pub use watched::Watched;
-pub use whole::{WholeFault, WriteFailed, read_whole, write_whole};
 
 mod command;
 mod config;
@@ -26,9 +23,6 @@ mod device;
 mod flags;
 mod limits;
 mod maxima;
-mod number;
 mod outcome;
 mod priority;
 mod sense_bytes;
-mod watched;
-mod whole;

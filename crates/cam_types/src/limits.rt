@@ -8,7 +8,7 @@ use std::marker::Model;
 use thiserror::Error;
 
 /// How far a transport goes: the CCBs alive at once, the rounds, the stays and the events.
-#[derive(Clone, Copy, Debug, PartialEq, Eq, Hash)]
+#[derive(Clone, Copy, Debug, PartialEq, Eq)]
 pub struct Limits {
     ccbs: u32,
     rounds: u32,
@@ -29,7 +29,7 @@ impl Model for Limits {
 }
 
 /// A limit that is 0, or more than the most that this project supports.
-#[derive(Clone, Copy, Debug, PartialEq, Eq, Hash, Error)]
+#[derive(Clone, Copy, Debug, PartialEq, Eq, Error)]
 #[error("a limit is out of its range")]
 pub struct BadLimit;
 

@@ -5,7 +5,7 @@ ghost use Rattle.std.specs.Prelude.{◌≡◌, []};
 use crate::sense_bytes::SenseBytes;
 
 /// What an adapter says of a command that it has served.
-#[derive(Clone, Copy, Debug, PartialEq, Eq, Hash)]
+#[derive(Clone, Copy, Debug, PartialEq, Eq)]
 pub struct Outcome {
     /// The CAM status in its lower six bits, and flags above them, which are kept and not read.
     pub status: u8,

@@ -9,7 +9,7 @@ use std::marker::Model;
 use thiserror::Error;
 
 /// How urgent a CCB is, from 0 to 1279: the smaller number is the more urgent, as in FreeBSD's `cam.h`.
-#[derive(Clone, Copy, Debug, PartialEq, Eq, Hash, PartialOrd, Ord)]
+#[derive(Clone, Copy, Debug, PartialEq, Eq, PartialOrd, Ord)]
 pub struct Priority {
     number: u32,
 }
@@ -25,7 +25,7 @@ impl Model for Priority {
 }
 
 /// A number above 1279, which is no priority.
-#[derive(Clone, Copy, Debug, PartialEq, Eq, Hash, Error)]
+#[derive(Clone, Copy, Debug, PartialEq, Eq, Error)]
 #[error("no priority is {0}: the least urgent is 1279")]
 pub struct BadPriority(pub u32);
 

@@ -7,7 +7,7 @@ use crate::maxima::MOST_SENSE;
 use std::marker::Model;
 
 /// The first 18 bytes of some sense data, or all of it where it is shorter.
-#[derive(Clone, Copy, Debug, PartialEq, Eq, Hash)]
+#[derive(Clone, Copy, Debug, PartialEq, Eq)]
 pub struct SenseBytes {
     bytes: [u8; 18],
     len: usize,

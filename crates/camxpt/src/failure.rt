@@ -2,7 +2,7 @@
 
 use audit_report::AuditFault;
 use price_check::ReportFault;
-use sim_worker::LiveFault;
+use run_rules::LiveFault;
 use std::alloc::AllocError;
 use std::fmt;
 use std::process::ExitCode;

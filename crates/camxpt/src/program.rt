@@ -14,9 +14,10 @@ use std::rt::Runtime;
 use std::sync::Wait;
 use std::thread::Threads;
 
-/// Does what the words of the command line ask, and says on standard error why it didn't.
-pub fn run<R: Runtime + AllocGlobal + Threads + Wait + Sync>(rt: &R) -> ExitCode {
-    match read_and_obey(rt) {
+/// Does what the words of the command line ask, and says on standard error why it didn't. If that is a terminal, a long run
+/// shows there how far it is.
+pub fn run<R: Runtime + AllocGlobal + Threads + Wait + Sync>(rt: &R, on_terminal: bool) -> ExitCode {
+    match read_and_obey(rt, on_terminal) {
         Ok(status) => status,
         Err(failure) => {
             let _ = rt.eprintln(format_args!("camxpt: {failure}"));
@@ -27,11 +28,12 @@ pub fn run<R: Runtime + AllocGlobal + Threads + Wait + Sync>(rt: &R) -> ExitCode
 
 fn read_and_obey<R: Runtime + AllocGlobal + Threads + Wait + Sync>(
     rt: &R,
+    on_terminal: bool,
 ) -> Result<ExitCode, Failure> {
     let words = words(rt)?;
     let command = command_line(rt.alloc())?;
     match command.try_get_matches_from(words.as_slice()) {
-        Ok(matches) => obey(rt, &matches),
+        Ok(matches) => obey(rt, &matches, on_terminal),
         Err(error) if error.kind() == ErrorKind::OutOfMemory => {
             Err(Failure::Audit(AuditFault::OutOfMemory))
         }
@@ -55,6 +57,7 @@ fn print<R: Runtime>(rt: &R, error: &clap::Error) -> Result<ExitCode, Failure> {
 fn obey<R: Runtime + AllocGlobal + Threads + Wait + Sync>(
     rt: &R,
     matches: &ArgMatches<'_>,
+    on_terminal: bool,
 ) -> Result<ExitCode, Failure> {
     match matches.subcommand() {
         Some(("check", words)) => TraceRun::Check.over(rt, words.get_str("TRACE"))?,
@@ -80,7 +83,8 @@ fn obey<R: Runtime + AllocGlobal + Threads + Wait + Sync>(
             let _ = rt.eprintln(format_args!("ending {ending}"));
         }
         Some(("run", words)) => {
-            let ending = live(rt, words.get_str("SCRIPT").unwrap_or(""))?;
+            let script = words.get_str("SCRIPT").unwrap_or("");
+            let ending = live(rt, script, on_terminal)?;
             let _ = rt.eprintln(format_args!("ending {ending}"));
         }
         _ => TraceRun::Summary.over(rt, None)?,

@@ -3,7 +3,7 @@
 use crate::failure::Failure;
 use crate::words::{STANDARD_INPUT, open};
 use audit_report::run_prove;
-use cam_types::Watched;
+use text_io::Watched;
 use std::io;
 use std::io::Read;
 use std::rt::Files;

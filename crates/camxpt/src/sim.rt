@@ -2,11 +2,14 @@
 
 use crate::failure::Failure;
 use crate::words::{STANDARD_INPUT, open};
-use cam_types::Watched;
-use sim_worker::{Ending, ScriptPort, run_live, sim_run};
+use text_io::Watched;
+use crate::progress::ProgressLine;
+use live_worker::run_live;
+use run_rules::Ending;
+use sim_worker::{ScriptPort, sim_run};
 use std::io;
 use std::io::Read;
-use std::rt::Files;
+use std::rt::{Files, Runtime};
 use std::sync::Wait;
 use std::thread::Threads;
 use trace_file::{read_script, write_trace};
@@ -37,26 +40,32 @@ fn sim_over<R: Print + AllocGlobal>(
     Ok(run.ending)
 }
 
-/// Does the same with a thread for each driver that has a row, each lane, recovery and the round keeper.
-pub fn live<R: Files + Input + Print + AllocGlobal + Threads + Wait + Sync>(
+/// Does the same with a thread for each driver that has a row, each lane, recovery and the round keeper. If standard error is a
+/// terminal, a run of more than a second shows there how far it is.
+pub fn live<R: Runtime + AllocGlobal + Threads + Wait + Sync>(
     rt: &R,
     script: &str,
+    on_terminal: bool,
 ) -> Result<Ending, Failure> {
     if script == STANDARD_INPUT {
-        live_over(rt, rt.reader())
+        live_over(rt, rt.reader(), on_terminal)
     } else {
-        live_over(rt, open(rt, script)?)
+        live_over(rt, open(rt, script)?, on_terminal)
     }
 }
 
-fn live_over<R: Print + AllocGlobal + Threads + Wait + Sync>(
+fn live_over<R: Runtime + AllocGlobal + Threads + Wait + Sync>(
     rt: &R,
     reader: impl Read + Drop,
+    on_terminal: bool,
 ) -> Result<Ending, Failure> {
     let alloc = rt.alloc();
     let script = read_script(alloc, &mut Watched::new(reader))?;
     let ports = ScriptPort::for_lanes(alloc, &script)?;
-    let run = run_live(rt, alloc, &script, ports)?;
+    let line = ProgressLine::new(rt, on_terminal);
+    let run = run_live(rt, alloc, &script, ports, &line);
+    line.clear();
+    let run = run?;
     write_trace(alloc, &run.history, &mut Watched::new(io::writer(rt)))?;
     Ok(run.ending)
 }

@@ -3,7 +3,7 @@
 use crate::failure::Failure;
 use crate::words::{STANDARD_INPUT, open};
 use audit_report::{run_audit_with, run_check};
-use cam_types::Watched;
+use text_io::Watched;
 use cost_plan::OpenGate;
 use std::io;
 use std::io::Read;

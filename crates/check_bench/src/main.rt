@@ -1,7 +1,7 @@
 //! Times the check of a best schedule and its prices alone, on the net of the trace on standard input.
 #![tactic(auto)]
 
-use cam_types::Watched;
+use text_io::Watched;
 use cost_plan::plan;
 use price_check::{Verdict, check};
 use round_net::Net;

@@ -2,7 +2,7 @@
 //! costs alone.
 #![tactic(auto)]
 
-use cam_types::{Watched, read_whole};
+use text_io::{Watched, read_whole};
 use csv::ReaderBuilder;
 use std::alloc::Global;
 use std::io;

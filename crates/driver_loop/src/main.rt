@@ -5,8 +5,9 @@
 
 use crate::fault::Fault;
 use crate::lines::Lines;
-use cam_types::{Config, Device, Flags, Limits, Outcome, Watched};
-use sense_class::{CAM_BUSY, CAM_REQ_CMP, Class};
+use cam_types::{Config, Device, Flags, Limits, Outcome};
+use text_io::Watched;
+use cam_event::{CAM_BUSY, CAM_REQ_CMP, Class};
 use std::alloc::Global;
 use std::process::ExitCode;
 use std::rt::Runtime;

@@ -4,7 +4,7 @@ ghost use Rattle.std.specs.Prelude.{◌≡◌};
 
 use crate::frame::{PLAIN, outcome, shared};
 use cam_types::Limits;
-use sense_class::Class;
+use cam_event::Class;
 use std::alloc::Global;
 use std::marker::Brand;
 use std::process::Abort;

@@ -1,7 +1,7 @@
 //! Times a best plan, on the net of the trace on standard input: made alone, and with its adapters planned at once.
 #![tactic(auto)]
 
-use cam_types::Watched;
+use text_io::Watched;
 use cost_plan::{OpenGate, guessed_plan, plan, plan_with};
 use round_net::Net;
 use std::io;

@@ -3,7 +3,7 @@ use Rattle.std.proofs.Common.{◌≡◌, ℕ, List, ◌++◌, refl, sym, ◌∙�
 use Rattle.std.specs.Prelude.{Option, Some, None, decimal, codes}
 use Rattle.cam_types.specs.declared.device.Device.{Device}
 use Rattle.cam_path.specs.Paths.{address_of, spelled}
-use Rattle.event_log.specs.declared.stay.StayName.{StayName}
+use Rattle.cam_event.specs.declared.stay.StayName.{StayName}
 use Rattle.price_check.specs.Pieces.{◌>>=◌, skip, skip_number, found_number}
 use Rattle.price_check.specs.Lines.{line}
 use Rattle.price_check.specs.Report.{number_text}

@@ -4,7 +4,7 @@ use Rattle.std.specs.Prelude.{⊤, Option, Some, None, ok_or, Result, Ok, Err, d
 use Rattle.std.proofs.lemmas.Bool.{leb-true, le-leb}
 use Rattle.std.proofs.lemmas.List.{drop_all, length-drop, length-map}
 use Rattle.std.proofs.lemmas.Option.{slice_get_cases}
-use Rattle.event_log.specs.declared.stay.StayName.{StayName}
+use Rattle.cam_event.specs.declared.stay.StayName.{StayName}
 use Rattle.round_net.specs.Rows.{NetRows, instance_of_rows, live_of_rows, names_of_rows}
 use Rattle.round_net.specs.declared.stay_row.StayRow.{StayRow}
 use Rattle.price_check.specs.Pieces.{skip, line_of}

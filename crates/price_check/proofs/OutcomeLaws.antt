@@ -6,17 +6,17 @@ use Rattle.std.specs.Option.{option_map_or}
 use Rattle.std.proofs.lemmas.Bool.{eq-eqb, ne_eqb}
 use Rattle.std.proofs.lemmas.List.{append_cancel_right, get_or-append-add, length-map}
 use Rattle.cam_types.specs.Topology.{Topology, IsConfig}
-use Rattle.cam_types.specs.Whole.{IsWhole}
-use Rattle.cam_types.specs.Number.{number_of}
+use Rattle.text_io.specs.Whole.{IsWhole}
+use Rattle.text_io.specs.Number.{number_of}
 use Rattle.cam_types.specs.declared.device.Device.{Device}
 use Rattle.cam_path.specs.Paths.{◌>>=◌, digits_at}
 use Rattle.cam_event.specs.Past.{Past}
-use Rattle.event_log.specs.Counts.{round, commands}
-use Rattle.event_log.specs.Live.{live_cost, live_part}
-use Rattle.event_log.specs.Stays.{stays_begun, unsent}
-use Rattle.event_log.specs.declared.event.Event.{Event}
-use Rattle.event_log.specs.declared.stay.StayName.{StayName}
-use Rattle.event_log.proofs.LiveLemmas.{live_cost_sent}
+use Rattle.cam_event.specs.Counts.{round, commands}
+use Rattle.cam_event.specs.Live.{live_cost, live_part}
+use Rattle.cam_event.specs.Stays.{stays_begun, unsent}
+use Rattle.cam_event.specs.declared.event.Event.{Event}
+use Rattle.cam_event.specs.declared.stay.StayName.{StayName}
+use Rattle.cam_event.proofs.LiveLemmas.{live_cost_sent}
 use Rattle.round_net.specs.Nets.{net_of}
 use Rattle.round_net.specs.PriceRows.{pricing_of_rows}
 use Rattle.round_net.specs.Rows.{NetRows, instance_of_rows, live_of_rows}

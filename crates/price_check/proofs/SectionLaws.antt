@@ -7,10 +7,10 @@ use Rattle.std.proofs.lemmas.Bool.{and_parts, eq-eqb}
 use Rattle.cam_types.specs.declared.device.Device.{Device}
 use Rattle.cam_path.specs.Paths.{◌>>=◌, spelled, address_of}
 use Rattle.cam_event.specs.Past.{Past}
-use Rattle.event_log.specs.Counts.{round, commands}
-use Rattle.event_log.specs.Stays.{stays_begun}
-use Rattle.event_log.specs.declared.event.Event.{Event}
-use Rattle.event_log.specs.declared.stay.StayName.{StayName}
+use Rattle.cam_event.specs.Counts.{round, commands}
+use Rattle.cam_event.specs.Stays.{stays_begun}
+use Rattle.cam_event.specs.declared.event.Event.{Event}
+use Rattle.cam_event.specs.declared.stay.StayName.{StayName}
 use Rattle.round_net.specs.PriceRows.{PriceRows, pricing_of_rows, IsPricingFor}
 use Rattle.round_net.specs.Rows.{NetRows, instance_of_rows, live_of_rows, names_of_rows}
 use Rattle.price_check.specs.Lines.{line}

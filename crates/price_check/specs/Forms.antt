@@ -1,7 +1,7 @@
 -- the forms of a report's lines: where one stands at an offset, what it says and the offset behind it
 use Rattle.std.specs.Prelude.{ℕ, List, Option, Some, codes, decimal, option_and_then, slice_get}
 use Rattle.cam_types.specs.declared.device.Device.{Device}
-use Rattle.event_log.specs.declared.stay.StayName.{StayName}
+use Rattle.cam_event.specs.declared.stay.StayName.{StayName}
 use Rattle.round_net.specs.Rows.{NetRows, instance_of_rows, live_of_rows, names_of_rows}
 use Rattle.price_check.specs.Pieces.{◌>>=◌, skip, skip_number, found_number}
 

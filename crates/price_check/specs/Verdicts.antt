@@ -1,6 +1,6 @@
 -- what a checker answers
 use Rattle.std.specs.Prelude.{◌≡◌, ℕ, ◌+◌, ◌<◌, ◌≤◌, List, Some, slice_get}
-use Rattle.event_log.specs.declared.stay.StayName.{StayName}
+use Rattle.cam_event.specs.declared.stay.StayName.{StayName}
 use Rattle.round_net.specs.Instance.{Instance}
 use Rattle.round_net.specs.Schedules.{IsAdmissible, cost}
 use Rattle.round_net.specs.Value.{Pricing, paid, offered, ProvesBest}

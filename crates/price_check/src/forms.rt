@@ -6,7 +6,7 @@ ghost use Rattle.price_check.specs.Forms.{known_line, stated_line, named_stay, o
 
 use crate::pieces::{number_at, skip, skip_digits, skip_number};
 use cam_types::Device;
-use event_log::StayName;
+use cam_event::StayName;
 use round_net::Net;
 
 /// The most that may be said of a cost: 18 digits.

@@ -8,7 +8,8 @@ ghost use Rattle.round_net.specs.declared.price_range.TheConstants.{MOST_PRICE};
 use crate::forms::{dev_front, sim_front};
 use crate::pieces::{digits_from, line_of, skip};
 use crate::report_fault::ReportFault;
-use cam_types::{Device, read_number};
+use cam_types::Device;
+use text_io::read_number;
 use round_net::{MOST_PRICE, Net};
 use std::alloc::Global;
 

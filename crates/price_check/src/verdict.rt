@@ -1,9 +1,9 @@
 //! What the check of a schedule and its prices answers.
 
-use event_log::StayName;
+use cam_event::StayName;
 
 /// What is wrong with a stay's place in a schedule.
-#[derive(Clone, Copy, Debug, PartialEq, Eq, Hash)]
+#[derive(Clone, Copy, Debug, PartialEq, Eq)]
 pub enum Cause {
     /// It lies before its arrival.
     Early,
@@ -16,7 +16,7 @@ pub enum Cause {
 }
 
 /// What a schedule and prices come to.
-#[derive(Clone, Copy, Debug, PartialEq, Eq, Hash)]
+#[derive(Clone, Copy, Debug, PartialEq, Eq)]
 pub enum Verdict {
     /// No admissible schedule costs less, as the prices prove.
     Proved,

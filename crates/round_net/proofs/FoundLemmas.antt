@@ -5,13 +5,13 @@ use Rattle.std.specs.Option.{option_map, option_map_or}
 use Rattle.std.proofs.lemmas.List.{take_all}
 use Rattle.cam_types.specs.Topology.{Topology}
 use Rattle.cam_types.specs.declared.device.Device.{Device}
-use Rattle.event_log.specs.Event.{is_send_of}
-use Rattle.event_log.specs.Counts.{round}
+use Rattle.cam_event.specs.Event.{is_send_of}
+use Rattle.cam_event.specs.Counts.{round}
 use Rattle.cam_types.specs.Questions.{adapter_openings}
-use Rattle.event_log.specs.Stays.{stays_begun, is_unsent}
-use Rattle.event_log.specs.Live.{send_place, live_round}
-use Rattle.event_log.specs.declared.event.Event.{Event}
-use Rattle.event_log.specs.declared.stay.Stay.{Stay}
+use Rattle.cam_event.specs.Stays.{stays_begun, is_unsent}
+use Rattle.cam_event.specs.Live.{send_place, live_round}
+use Rattle.cam_event.specs.declared.event.Event.{Event}
+use Rattle.cam_event.specs.declared.stay.Stay.{Stay}
 use Rattle.cam_event.proofs.LimitLemmas.{round_first}
 use Rattle.xpt_stays.specs.Records.{next_stay, record_of, records}
 use Rattle.round_net.specs.Rows.{NetRows, cell}

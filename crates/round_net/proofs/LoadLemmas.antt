@@ -6,23 +6,23 @@ use Rattle.std.proofs.lemmas.Option.{slice_get-get_or}
 use Rattle.std.proofs.lemmas.List.Sums.{AllPass-from_list_all}
 use Rattle.std.proofs.Math.Bool.{and-false}
 use Rattle.cam_types.specs.Topology.{Topology}
-use Rattle.event_log.specs.Event.{is_some_and, is_send_of}
-use Rattle.event_log.specs.Counts.{round, commands, submissions, submission, sendings, sending_of}
-use Rattle.event_log.specs.Stays.{stays_begun, stay_begun, is_unsent, waiting}
-use Rattle.event_log.specs.Live.{live_round}
-use Rattle.event_log.specs.declared.event.Event.{Event}
-use Rattle.event_log.specs.declared.event.Event.TheVariants.{Send}
-use Rattle.event_log.specs.declared.submission.Submission.{Submission}
-use Rattle.event_log.specs.declared.stay.Stay.{Stay}
-use Rattle.event_log.specs.declared.sending.Sending.{Sending}
-use Rattle.event_log.proofs.Laws.{is_unsent-push, born_unsent, stays_begun-push, sendings-push, places-stays_begun, place-stay_begun}
+use Rattle.cam_event.specs.Event.{is_some_and, is_send_of}
+use Rattle.cam_event.specs.Counts.{round, commands, submissions, submission, sendings, sending_of}
+use Rattle.cam_event.specs.Stays.{stays_begun, stay_begun, is_unsent, waiting}
+use Rattle.cam_event.specs.Live.{live_round}
+use Rattle.cam_event.specs.declared.event.Event.{Event}
+use Rattle.cam_event.specs.declared.event.Event.TheVariants.{Send}
+use Rattle.cam_event.specs.declared.submission.Submission.{Submission}
+use Rattle.cam_event.specs.declared.stay.Stay.{Stay}
+use Rattle.cam_event.specs.declared.sending.Sending.{Sending}
+use Rattle.cam_event.proofs.PushLaws.{is_unsent-push, born_unsent, stays_begun-push, sendings-push, places-stays_begun, place-stay_begun}
 use Rattle.cam_event.specs.Legal.{Rules, is_legal_event, is_legal}
 use Rattle.cam_event.specs.Laws.{is_stay_of}
 use Rattle.cam_event.proofs.LimitLemmas.{legal-induction}
 use Rattle.cam_event.proofs.StayLemmas.{is_of_its_ccb, of_its_ccb-stays_begun}
 use Rattle.round_net.proofs.CountLemmas.{count_by-append, count_by-same, count_by-none, count_by-either, count_by-weaker, count_by-filter}
 use Rattle.xpt_stays.proofs.SentLemmas.{live_round-sent, live_round-sending}
-use Rattle.event_log.proofs.TotalLaws.{is_of, unsent_count}
+use Rattle.cam_event.proofs.TotalLaws.{is_of, unsent_count}
 use Rattle.cam_event.proofs.StandLemmas.{AreStates, asks-send, unsent-most, states_step, states_none}
 
 -- the stay was sent in the round, to a device that the test takes

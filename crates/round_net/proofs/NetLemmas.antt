@@ -12,14 +12,14 @@ use Rattle.cam_types.specs.Priority.{weight}
 use Rattle.cam_types.specs.declared.device.Device.{Device}
 use Rattle.cam_types.specs.declared.maxima.TheConstants.{MOST_OPENINGS}
 use Rattle.cam_types.proofs.TopologyLemmas.{few_devices}
-use Rattle.event_log.specs.Event.{is_some_and}
-use Rattle.event_log.specs.Counts.{round, submission}
-use Rattle.event_log.specs.Stays.{stays_begun, is_unsent, unsent, name_of}
-use Rattle.event_log.specs.Live.{live_round}
+use Rattle.cam_event.specs.Event.{is_some_and}
+use Rattle.cam_event.specs.Counts.{round, submission}
+use Rattle.cam_event.specs.Stays.{stays_begun, is_unsent, unsent, name_of}
+use Rattle.cam_event.specs.Live.{live_round}
 use Rattle.cam_types.specs.Questions.{names_device, is_on}
-use Rattle.event_log.specs.declared.event.Event.{Event}
-use Rattle.event_log.specs.declared.submission.Submission.{Submission}
-use Rattle.event_log.specs.declared.stay.Stay.{Stay}
+use Rattle.cam_event.specs.declared.event.Event.{Event}
+use Rattle.cam_event.specs.declared.submission.Submission.{Submission}
+use Rattle.cam_event.specs.declared.stay.Stay.{Stay}
 use Rattle.cam_event.specs.Legal.{history_rules, is_legal}
 use Rattle.cam_event.specs.Laws.{is_in_range, is_stay_of, is_stay_in_range}
 use Rattle.cam_event.proofs.RangeLemmas.{stays_in_range}

@@ -5,12 +5,12 @@ use Rattle.std.specs.Option.{option_map_or}
 use Rattle.std.proofs.lemmas.Bool.{and_parts, eqb-true, ltb-true}
 use Rattle.cam_types.specs.Topology.{Topology}
 use Rattle.cam_types.specs.declared.device.Device.{Device}
-use Rattle.event_log.specs.Counts.{round, submission, sendings, sending_of}
+use Rattle.cam_event.specs.Counts.{round, submission, sendings, sending_of}
 use Rattle.cam_types.specs.Questions.{names_lane, is_on, lane_adapter, adapter_openings}
-use Rattle.event_log.specs.Head.{openings, goes_now_to, goes_now_to_adapter, has_opening, adapter_has_opening}
-use Rattle.event_log.specs.declared.event.Event.{Event}
-use Rattle.event_log.specs.declared.event.Event.TheVariants.{Send}
-use Rattle.event_log.specs.declared.submission.Submission.{Submission}
+use Rattle.cam_event.specs.Head.{openings, goes_now_to, goes_now_to_adapter, has_opening, adapter_has_opening}
+use Rattle.cam_event.specs.declared.event.Event.{Event}
+use Rattle.cam_event.specs.declared.event.Event.TheVariants.{Send}
+use Rattle.cam_event.specs.declared.submission.Submission.{Submission}
 use Rattle.cam_event.specs.Legal.{Rules, is_next, is_legal_event, is_legal, names_ccb}
 use Rattle.cam_event.specs.Refusals.{device_of}
 use Rattle.cam_event.proofs.SendLemmas.{IsSend, send_from_next}

@@ -13,17 +13,17 @@ use Rattle.std.proofs.Math.Bool.{and-false}
 use Rattle.cam_types.specs.Lists.{moments}
 use Rattle.cam_types.specs.Topology.{Topology}
 use Rattle.cam_types.proofs.ListLemmas.{moments-push}
-use Rattle.event_log.specs.Event.{is_tick, is_adjust_of, adjusts_to}
-use Rattle.event_log.specs.Counts.{round, submission, sending_of, sendings, goes_to, freeze_count, adapter_freezes, last}
+use Rattle.cam_event.specs.Event.{is_tick, is_adjust_of, adjusts_to}
+use Rattle.cam_event.specs.Counts.{round, submission, sending_of, sendings, goes_to, freeze_count, adapter_freezes, last}
 use Rattle.cam_types.specs.Questions.{is_on, device_openings}
-use Rattle.event_log.specs.Head.{openings as place_openings, openings, goes_now_to, goes_now_to_adapter}
-use Rattle.event_log.specs.declared.event.Event.{Event}
-use Rattle.event_log.specs.declared.event.Event.TheVariants.{Send}
-use Rattle.event_log.specs.declared.submission.Submission.{Submission}
-use Rattle.event_log.specs.declared.sending.Sending.{Sending}
-use Rattle.event_log.proofs.Laws.{round-push, sendings-push}
+use Rattle.cam_event.specs.Head.{openings as place_openings, openings, goes_now_to, goes_now_to_adapter}
+use Rattle.cam_event.specs.declared.event.Event.{Event}
+use Rattle.cam_event.specs.declared.event.Event.TheVariants.{Send}
+use Rattle.cam_event.specs.declared.submission.Submission.{Submission}
+use Rattle.cam_event.specs.declared.sending.Sending.{Sending}
+use Rattle.cam_event.proofs.PushLaws.{round-push, sendings-push}
 use Rattle.round_net.proofs.CountLemmas.{count_by-append}
-use Rattle.event_log.proofs.OpeningLaws.{before_last-push}
+use Rattle.cam_event.proofs.OpeningLaws.{before_last-push}
 use Rattle.round_net.specs.Rows.{cell}
 use Rattle.round_net.specs.Caps.{fronts, places, is_device_free, is_adapter_free, openings_in, sends_to, sends_by}
 use Rattle.round_net.specs.Marks.{Marks, Sets, IsNoted}

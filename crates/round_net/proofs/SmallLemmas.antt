@@ -9,14 +9,14 @@ use Rattle.cam_types.specs.Topology.{Topology, IsConfig, are_openings}
 use Rattle.cam_types.specs.Priority.{weight, run_level}
 use Rattle.cam_types.specs.declared.device.Device.{Device}
 use Rattle.cam_types.specs.declared.maxima.TheConstants.{MOST_OPENINGS}
-use Rattle.event_log.specs.Event.{is_tick, is_adjust_of, adjusts_to}
-use Rattle.event_log.specs.Counts.{round, last}
+use Rattle.cam_event.specs.Event.{is_tick, is_adjust_of, adjusts_to}
+use Rattle.cam_event.specs.Counts.{round, last}
 use Rattle.cam_types.specs.Questions.{names_device, device_openings, adapter_openings}
-use Rattle.event_log.specs.Head.{openings}
-use Rattle.event_log.specs.declared.event.Event.{Event}
-use Rattle.event_log.specs.declared.event.Event.TheVariants.{Adjust}
-use Rattle.event_log.proofs.OpeningLaws.{before_last-push}
-use Rattle.event_log.proofs.StateLaws.{last-push}
+use Rattle.cam_event.specs.Head.{openings}
+use Rattle.cam_event.specs.declared.event.Event.{Event}
+use Rattle.cam_event.specs.declared.event.Event.TheVariants.{Adjust}
+use Rattle.cam_event.proofs.OpeningLaws.{before_last-push}
+use Rattle.cam_event.proofs.StateLaws.{last-push}
 use Rattle.cam_event.specs.Legal.{Rules, is_legal_event, is_legal}
 use Rattle.cam_event.proofs.LawLemmas.{allowed-legal_event}
 use Rattle.cam_event.proofs.LimitLemmas.{legal-induction}

@@ -7,15 +7,15 @@ use Rattle.std.proofs.lemmas.Option.{slice_get-get_or}
 use Rattle.std.proofs.lemmas.List.Elements.{All-nil, All-cons, All-head, All-tail, All-append}
 use Rattle.std.proofs.lemmas.List.Folds.{find-append}
 use Rattle.cam_types.specs.Topology.{Topology}
-use Rattle.event_log.specs.Event.{is_send_of}
-use Rattle.event_log.specs.Counts.{round, commands, submission}
-use Rattle.event_log.specs.Stays.{stays_begun, stay_begun, is_unsent, waiting, has_arrived, has_queued}
-use Rattle.event_log.specs.Live.{send_place, live_round}
-use Rattle.event_log.specs.declared.event.Event.{Event}
-use Rattle.event_log.specs.declared.event.Event.TheVariants.{Submit, Send, Requeue}
-use Rattle.event_log.specs.declared.submission.Submission.{Submission}
-use Rattle.event_log.specs.declared.stay.Stay.{Stay}
-use Rattle.event_log.proofs.Laws.{is_unsent-push, born_unsent, stays_begun-push, places-stays_begun, place-stay_begun}
+use Rattle.cam_event.specs.Event.{is_send_of}
+use Rattle.cam_event.specs.Counts.{round, commands, submission}
+use Rattle.cam_event.specs.Stays.{stays_begun, stay_begun, is_unsent, waiting, has_arrived, has_queued}
+use Rattle.cam_event.specs.Live.{send_place, live_round}
+use Rattle.cam_event.specs.declared.event.Event.{Event}
+use Rattle.cam_event.specs.declared.event.Event.TheVariants.{Submit, Send, Requeue}
+use Rattle.cam_event.specs.declared.submission.Submission.{Submission}
+use Rattle.cam_event.specs.declared.stay.Stay.{Stay}
+use Rattle.cam_event.proofs.PushLaws.{is_unsent-push, born_unsent, stays_begun-push, places-stays_begun, place-stay_begun}
 use Rattle.cam_event.specs.Legal.{Rules, is_legal_event, is_legal}
 use Rattle.cam_event.proofs.LimitLemmas.{legal-induction, round_first}
 use Rattle.xpt_stays.specs.Records.{follows, next_stay}
@@ -24,7 +24,7 @@ use Rattle.round_net.specs.Nets.{last_round}
 use Rattle.round_net.proofs.CountLemmas.{all_where_one}
 use Rattle.round_net.proofs.PlaceLemmas.{round-grows, round-take}
 use Rattle.xpt_stays.proofs.SentLemmas.{live_round-sent, live_round-sending}
-use Rattle.event_log.proofs.TotalLaws.{is_of}
+use Rattle.cam_event.proofs.TotalLaws.{is_of}
 use Rattle.cam_event.proofs.StandLemmas.{AreStates, unsent-most}
 use Rattle.round_net.proofs.OpeningLemmas.{legal-send}
 

@@ -4,11 +4,11 @@ use Rattle.std.specs.List.{list_all}
 use Rattle.std.specs.Option.{option_map_or}
 use Rattle.cam_types.specs.Lists.{moments}
 use Rattle.cam_types.specs.Topology.{Topology}
-use Rattle.event_log.specs.Counts.{round, sendings, goes_to, freeze_count, adapter_freezes}
+use Rattle.cam_event.specs.Counts.{round, sendings, goes_to, freeze_count, adapter_freezes}
 use Rattle.cam_types.specs.Questions.{is_on, adapter_openings}
-use Rattle.event_log.specs.Head.{openings}
-use Rattle.event_log.specs.declared.event.Event.{Event}
-use Rattle.event_log.specs.declared.sending.Sending.{Sending}
+use Rattle.cam_event.specs.Head.{openings}
+use Rattle.cam_event.specs.declared.event.Event.{Event}
+use Rattle.cam_event.specs.declared.sending.Sending.{Sending}
 
 -- the places of a history, from the first to the last, each by the events before it
 abbrev pub fronts : List Event → List (List Event)

@@ -5,11 +5,11 @@ use Rattle.std.specs.Option.{option_map_or}
 use Rattle.cam_types.specs.Priority.{weight}
 use Rattle.cam_types.specs.Topology.{Topology}
 use Rattle.cam_types.specs.declared.device.Device.{Device}
-use Rattle.event_log.specs.Counts.{round}
-use Rattle.event_log.specs.Stays.{stays_begun, name_of}
-use Rattle.event_log.specs.Live.{live_round}
-use Rattle.event_log.specs.declared.event.Event.{Event}
-use Rattle.event_log.specs.declared.stay.Stay.{Stay}
+use Rattle.cam_event.specs.Counts.{round}
+use Rattle.cam_event.specs.Stays.{stays_begun, name_of}
+use Rattle.cam_event.specs.Live.{live_round}
+use Rattle.cam_event.specs.declared.event.Event.{Event}
+use Rattle.cam_event.specs.declared.stay.Stay.{Stay}
 use Rattle.xpt_stays.specs.Records.{next_stay}
 use Rattle.xpt_stays.specs.declared.stay_record.StayRecord.{StayRecord}
 use Rattle.round_net.specs.Instance.{Instance}

@@ -1,7 +1,7 @@
 -- a net as flat rows, and what it holds
 use Rattle.std.specs.Prelude.{ℕ, ◌+◌, ◌-◌, ◌*◌, List, length, map, slice_get, slice_index}
 use Rattle.std.specs.Option.{option_map_or}
-use Rattle.event_log.specs.declared.stay.StayName.{StayName}
+use Rattle.cam_event.specs.declared.stay.StayName.{StayName}
 use Rattle.round_net.specs.Instance.{Instance}
 use Rattle.round_net.specs.declared.stay_row.StayRow.{StayRow}
 

@@ -2,8 +2,8 @@
 
 ghost use Rattle.std.specs.Prelude.{◌≡◌, ◌<◌, ◌≤◌, ◌*◌, ◌||◌, not, ◌==◌, false, length, slice_set, slice_index_or, count_by};
 ghost use Rattle.cam_types.specs.declared.maxima.TheConstants.{MOST_ROUNDS};
-ghost use Rattle.event_log.specs.Counts.{round, sendings, freeze_count, adapter_freezes};
-ghost use Rattle.event_log.specs.Head.{openings, goes_now_to, goes_now_to_adapter};
+ghost use Rattle.cam_event.specs.Counts.{round, sendings, freeze_count, adapter_freezes};
+ghost use Rattle.cam_event.specs.Head.{openings, goes_now_to, goes_now_to_adapter};
 ghost use Rattle.round_net.specs.Marks.{Marks, Sets};
 
 use crate::flat::cell;

@@ -6,7 +6,7 @@ use crate::net_fault::NetFault;
 use crate::stay_row::StayRow;
 use crate::stay_rows::{adapters_of, stay_rows};
 use crate::walk::walk_through;
-use event_log::StayName;
+use cam_event::StayName;
 use std::alloc::Global;
 use std::marker::Model;
 use xpt_state::History;
@@ -43,7 +43,7 @@ impl Net {
     ghost use Rattle.round_net.specs.Rows.{instance_of_rows, live_of_rows, names_of_rows};
     ghost use Rattle.round_net.specs.Sound.{IsSound};
     ghost use Rattle.std.specs.Prelude.{IfOk, MatchOption, IsOkUnless};
-    ghost use Rattle.event_log.specs.Stays.{unsent};
+    ghost use Rattle.cam_event.specs.Stays.{unsent};
     ghost use Rattle.round_net.specs.Nets.{net_of, instance_of, live_of};
     ghost use Rattle.round_net.specs.Schedules.{IsAdmissible};
 

@@ -3,12 +3,12 @@
 ghost use Rattle.std.specs.Prelude.{◌≡◌};
 ghost use Rattle.round_net.specs.declared.net_fault.NetFault.TheVariants.{OutOfMemory};
 
-use event_log::StayName;
+use cam_event::StayName;
 use std::alloc::AllocError;
 use thiserror::Error;
 
 /// Why no net was made of a history.
-#[derive(Clone, Copy, Debug, PartialEq, Eq, Hash, Error)]
+#[derive(Clone, Copy, Debug, PartialEq, Eq, Error)]
 pub enum NetFault {
     /// The history isn't complete: this is the first of its stays, by birth, that has no send.
     #[error("unsent ccb {} try {}", .0.ccb, .0.attempt)]

@@ -6,6 +6,6 @@ use thiserror::Error;
 pub const MOST_PRICE: u64 = 1_000_000_000_000;
 
 /// A price above the most.
-#[derive(Clone, Copy, Debug, PartialEq, Eq, Hash, Error)]
+#[derive(Clone, Copy, Debug, PartialEq, Eq, Error)]
 #[error("price range")]
 pub struct PriceRange;

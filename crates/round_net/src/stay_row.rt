@@ -1,9 +1,9 @@
 //! What a net knows of one stay.
 
-use event_log::StayName;
+use cam_event::StayName;
 
 /// A stay, with its window and weight, and where it was sent.
-#[derive(Clone, Copy, Debug, PartialEq, Eq)]
+#[derive(Clone, Copy, Debug)]
 pub struct StayRow {
     /// Its CCB and try.
     pub stay: StayName,

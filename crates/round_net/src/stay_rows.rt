@@ -6,7 +6,7 @@ ghost use Rattle.round_net.specs.Nets.{row_of};
 
 use crate::stay_row::StayRow;
 use cam_types::{Config, Device};
-use event_log::StayName;
+use cam_event::StayName;
 use std::alloc::{AllocError, Global};
 use xpt_state::StayRecord;
 

@@ -3,8 +3,8 @@
 ghost use Rattle.std.specs.Prelude.{◌≡◌, ℕ, ◌≤◌, not, ◌==◌, true, false, [], length, slice_index, slice_index_or, count_by, IsTrue, IfOk, OnOk};
 ghost use Rattle.cam_types.specs.declared.maxima.TheConstants.{MOST_ROUNDS};
 ghost use Rattle.cam_event.specs.Legal.{history_rules, is_legal};
-ghost use Rattle.event_log.specs.Counts.{round, sendings, freeze_count, adapter_freezes};
-ghost use Rattle.event_log.specs.Head.{openings, goes_now_to, goes_now_to_adapter};
+ghost use Rattle.cam_event.specs.Counts.{round, sendings, freeze_count, adapter_freezes};
+ghost use Rattle.cam_event.specs.Head.{openings, goes_now_to, goes_now_to_adapter};
 ghost use Rattle.round_net.specs.Marks.{Marks, Sets, IsNoted, HasCells};
 
 use crate::marks::{
@@ -12,7 +12,7 @@ use crate::marks::{
 };
 use cam_event::Rules;
 use cam_types::Config;
-use event_log::Event;
+use cam_event::Event;
 use std::alloc::{AllocError, Global};
 use xpt_adapters::Adapters;
 

@@ -9,8 +9,8 @@ use Rattle.cam_types.specs.declared.config_fault.ConfigFault.TheVariants.{NoAdap
 use Rattle.cam_types.specs.declared.maxima.TheConstants.{MOST_LANES}
 use Rattle.cam_types.proofs.ListLemmas.{moments-push, first_answer-append, or_left, or_right}
 use Rattle.cam_types.proofs.ConfigLemmas.{few_adapters}
-use Rattle.event_log.proofs.QueueLaws.{test_le}
-use Rattle.event_log.proofs.ListFacts.{count_by-push}
+use Rattle.cam_event.proofs.QueueLaws.{test_le}
+use Rattle.cam_event.proofs.ListFacts.{count_by-push}
 
 -- what holds of no numbers, and behind one more, holds of all lists
 from_front : (P : List ℕ → Type 0) → ((xs : List ℕ) (x : ℕ) → P xs → P (xs ++ x ∷ [])) → (front back : List ℕ) → P front → P (front ++ back)

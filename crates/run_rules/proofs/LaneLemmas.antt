@@ -4,8 +4,8 @@ use Rattle.std.specs.Prelude.{take, slice_get, option_to_list}
 use Rattle.std.specs.List.{filter_map, flat_map}
 use Rattle.std.proofs.lemmas.List.{map-append}
 use Rattle.std.proofs.lemmas.List.Concat.{flat_map-append}
-use Rattle.event_log.specs.declared.event.Event.TheVariants.{Send, Done}
-use Rattle.event_log.proofs.ListFacts.{filter_map-push}
+use Rattle.cam_event.specs.declared.event.Event.TheVariants.{Send, Done}
+use Rattle.cam_event.proofs.ListFacts.{filter_map-push}
 use Rattle.xpt_lock.specs.declared.receipt.Receipt.{Receipt}
 use Rattle.run_rules.specs.Logs.{IsLaneLog, calls_for, command_of, events_of}
 use Rattle.run_rules.specs.Walks.{ArePairs, IsDone, IsSent}

@@ -1,9 +1,10 @@
 -- facts on lists that std lacks
-use Rattle.std.proofs.Common.{◌≡◌, ◌≢◌, ℕ, zero, suc, ◌+◌, ◌<◌, ◌≤◌, Bool, true, List, [], ◌∷◌, ◌++◌, length, set, get_or, refl, sym, ap, ◌∙◌, arith, Some, inl, inr}
+use Rattle.std.proofs.Common.{◌≡◌, ◌≢◌, ℕ, zero, suc, ◌+◌, ◌<◌, ◌≤◌, Bool, true, List, [], ◌∷◌, ◌++◌, length, set, get_or, refl, sym, ap, ◌∙◌, arith, Some, inl, inr, Vec, Global, map}
 use Rattle.std.specs.Prelude.{◌⊎◌, take, slice_get}
 use Rattle.std.specs.List.{list_all}
 use Rattle.std.proofs.lemmas.Bool.{and_from, and_parts}
 use Rattle.std.proofs.lemmas.List.Folds.{list_all-append}
+use Rattle.std.proofs.lemmas.List.{get_or-map}
 
 pub some_is : {X : Type 0} → (y x : X) → Some y ≡ Some x → y ≡ x
 some_is y x e = cc
@@ -91,3 +92,7 @@ set_beside (x ∷ xs) zero zero y ne = absurd (ne refl)
 set_beside (x ∷ xs) zero (suc k) y ne = refl
 set_beside (x ∷ xs) (suc i) zero y ne = refl
 set_beside (x ∷ xs) (suc i) (suc k) y ne = set_beside xs i k y (λ e. ne (ap (λ n. suc n) e))
+
+-- the list behind one of a list of vectors
+pub list_at : {X : Type 0} → (all : List (Vec X Global)) (lists : List (List X)) (n : ℕ) (v : Vec X Global) → map (λ (l : Vec X Global). l.items) all ≡ lists → n < length all → v ≡ get_or all n v → v.items ≡ get_or lists n []
+list_at {X} all lists n v same lt is = sym (ap (λ (ls : List (List X)). get_or ls n []) (sym same) ∙ get_or-map (λ (l : Vec X Global). l.items) all n v [] lt ∙ ap (λ (l : Vec X Global). l.items) (sym is))

@@ -4,7 +4,7 @@ use Rattle.std.specs.Prelude.{filter}
 use Rattle.std.specs.List.{range_with_len}
 use Rattle.std.proofs.lemmas.List.{map-append}
 use Rattle.std.proofs.lemmas.List.Elements.{filter-append}
-use Rattle.event_log.proofs.ListFacts.{range_with_len-push}
+use Rattle.cam_event.proofs.ListFacts.{range_with_len-push}
 use Rattle.trace_file.specs.Scenarios.{Scenario}
 use Rattle.xpt_lock.specs.declared.seat.SeatName.{SeatName}
 use Rattle.xpt_lock.specs.declared.seat.SeatName.TheVariants.{Driver, Lane}

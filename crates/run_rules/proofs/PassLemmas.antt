@@ -9,9 +9,9 @@ use Rattle.cam_types.proofs.ListLemmas.{moments-push}
 use Rattle.cam_types.specs.Bounds.{Bounds}
 use Rattle.cam_types.specs.Lists.{moments}
 use Rattle.cam_types.specs.Topology.{Topology}
-use Rattle.event_log.specs.Event.{is_tick}
-use Rattle.event_log.specs.declared.event.Event.{Event}
-use Rattle.event_log.specs.declared.event.Event.TheVariants.{Tick}
+use Rattle.cam_event.specs.Event.{is_tick}
+use Rattle.cam_event.specs.declared.event.Event.{Event}
+use Rattle.cam_event.specs.declared.event.Event.TheVariants.{Tick}
 use Rattle.trace_file.specs.Scenarios.{Scenario}
 use Rattle.xpt_devices.specs.Transport.{Transport}
 use Rattle.xpt_lock.specs.Receipts.{AreInterleaved, is_rising}

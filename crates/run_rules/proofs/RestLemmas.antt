@@ -6,11 +6,11 @@ use Rattle.std.specs.Option.{option_map_or}
 use Rattle.std.proofs.lemmas.Bool.{and_from, and_parts}
 use Rattle.std.proofs.lemmas.List.Sums.{sum_by-cons}
 use Rattle.cam_types.specs.Topology.{Topology}
-use Rattle.sense_class.specs.Classes.{asks_requeue}
-use Rattle.event_log.specs.Counts.{ccbs, is_in_flight, has_in_flight, is_recovering}
-use Rattle.event_log.specs.Stays.{stays_begun, waiting}
-use Rattle.event_log.specs.declared.event.Event.{Event}
-use Rattle.event_log.specs.declared.event.Event.TheVariants.{Requeue}
+use Rattle.cam_event.specs.Classes.{asks_requeue}
+use Rattle.cam_event.specs.Counts.{ccbs, is_in_flight, has_in_flight, is_recovering}
+use Rattle.cam_event.specs.Stays.{stays_begun, waiting}
+use Rattle.cam_event.specs.declared.event.Event.{Event}
+use Rattle.cam_event.specs.declared.event.Event.TheVariants.{Requeue}
 use Rattle.cam_event.specs.Legal.{Rules}
 use Rattle.cam_event.specs.Refusals.{first_cause, refusal, are_stays_full}
 use Rattle.cam_event.specs.declared.refusal.Refusal.TheVariants as refusals

@@ -5,12 +5,12 @@ use Rattle.std.specs.List.{list_all}
 use Rattle.std.proofs.lemmas.Bool.{and_from, and_parts, lt-ltb, ltb-true}
 use Rattle.std.proofs.lemmas.List.Folds.{list_all-append}
 use Rattle.std.proofs.lemmas.List.{map-append}
-use Rattle.event_log.specs.Counts.{round}
-use Rattle.event_log.specs.declared.event.Event.{Event}
-use Rattle.event_log.specs.declared.event.Event.TheVariants.{Tick}
-use Rattle.event_log.proofs.ListFacts.{filter_map-push}
-use Rattle.event_log.proofs.QueueLaws.{le_test, test_le}
-use Rattle.event_log.proofs.TurnLaws.{round-more}
+use Rattle.cam_event.specs.Counts.{round}
+use Rattle.cam_event.specs.declared.event.Event.{Event}
+use Rattle.cam_event.specs.declared.event.Event.TheVariants.{Tick}
+use Rattle.cam_event.proofs.ListFacts.{filter_map-push}
+use Rattle.cam_event.proofs.QueueLaws.{le_test, test_le}
+use Rattle.cam_event.proofs.TurnLaws.{round-more}
 use Rattle.cam_event.proofs.TestLemmas.{list_all-weaker}
 use Rattle.cam_event.specs.Legal.{rules_of}
 use Rattle.trace_file.specs.Scenarios.{Scenario}
@@ -27,8 +27,8 @@ use Rattle.cam_event.specs.Legal.{Rules}
 use Rattle.cam_event.specs.Refusals.{refusal}
 use Rattle.cam_types.specs.Topology.{Topology}
 use Rattle.xpt_state.specs.Calls.{refused}
-use Rattle.event_log.specs.Event.{is_tick}
-use Rattle.event_log.proofs.QueueLaws.{round-still}
+use Rattle.cam_event.specs.Event.{is_tick}
+use Rattle.cam_event.proofs.QueueLaws.{round-still}
 use Rattle.std.proofs.lemmas.List.{length-append}
 use Rattle.run_rules.specs.Logs.{is_of_rules, HasDoneAll}
 use Rattle.xpt_lock.specs.declared.seat.SeatName.TheVariants as names

@@ -1,9 +1,9 @@
 -- what each ending of a run says of its events
 use Rattle.std.specs.Prelude.{◌≡◌, ℕ, true, false, List, [], length, get_or}
 use Rattle.std.specs.List.{list_all, list_any}
-use Rattle.event_log.specs.Counts.{round, ccbs, has_in_flight, is_recovering}
-use Rattle.event_log.specs.Stays.{waiting}
-use Rattle.event_log.specs.declared.event.Event.{Event}
+use Rattle.cam_event.specs.Counts.{round, ccbs, has_in_flight, is_recovering}
+use Rattle.cam_event.specs.Stays.{waiting}
+use Rattle.cam_event.specs.declared.event.Event.{Event}
 use Rattle.trace_file.specs.Scenarios.{Scenario}
 use Rattle.run_rules.specs.Runs.{submits, submits_asked, is_over, may_tick}
 use Rattle.run_rules.specs.declared.ending.Ending.{Ending}

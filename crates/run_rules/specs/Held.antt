@@ -1,7 +1,7 @@
 -- a decision that the limit of stays holds up
 use Rattle.std.specs.Prelude.{Bool, true, false, ◌&&◌, Option, Some}
-use Rattle.sense_class.specs.Classes.{asks_requeue}
-use Rattle.event_log.specs.declared.event.Event.TheVariants.{Requeue}
+use Rattle.cam_event.specs.Classes.{asks_requeue}
+use Rattle.cam_event.specs.declared.event.Event.TheVariants.{Requeue}
 use Rattle.cam_event.specs.declared.refusal.Refusal.{Refusal}
 use Rattle.cam_event.specs.declared.refusal.Refusal.TheVariants.{StaysFull}
 use Rattle.xpt_devices.specs.Transport.{Transport}

@@ -2,8 +2,8 @@
 use Rattle.std.specs.Prelude.{◌≡◌, ℕ, Bool, true, false, List, [], ◌∷◌, ◌++◌, length, map, filter, get_or, slice_get, Some, IsTrue}
 use Rattle.std.specs.List.{list_all, range_with_len}
 use Rattle.cam_event.specs.Past.{Past}
-use Rattle.event_log.specs.Counts.{round}
-use Rattle.event_log.specs.declared.event.Event.{Event}
+use Rattle.cam_event.specs.Counts.{round}
+use Rattle.cam_event.specs.declared.event.Event.{Event}
 use Rattle.trace_file.specs.Scenarios.{Scenario}
 use Rattle.trace_file.specs.declared.step.Step.{Step}
 use Rattle.xpt_lock.specs.Gathers.{IsPast, due_of}

@@ -1,10 +1,10 @@
 -- what the logs of a run on many threads say of what each actor did
 use Rattle.std.specs.Prelude.{◌≡◌, ℕ, ◌<◌, ◌≤◌, Bool, true, false, nat_lt, List, [], ◌∷◌, ◌++◌, length, take, map, filter, slice_get, Option, Some, None}
 use Rattle.std.specs.List.{list_all, filter_map, flat_map}
-use Rattle.event_log.specs.Event.{is_tick}
-use Rattle.event_log.specs.Counts.{round}
-use Rattle.event_log.specs.declared.event.Event.{Event}
-use Rattle.event_log.specs.declared.event.Event.TheVariants.{Send, Done, Requeue, Finish, Tick}
+use Rattle.cam_event.specs.Event.{is_tick}
+use Rattle.cam_event.specs.Counts.{round}
+use Rattle.cam_event.specs.declared.event.Event.{Event}
+use Rattle.cam_event.specs.declared.event.Event.TheVariants.{Send, Done, Requeue, Finish, Tick}
 use Rattle.cam_event.specs.Legal.{rules_of}
 use Rattle.cam_event.specs.Refusals.{refusal}
 use Rattle.cam_event.specs.declared.refusal.Refusal.{Refusal}

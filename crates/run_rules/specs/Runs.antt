@@ -6,13 +6,13 @@ use Rattle.cam_types.specs.Bounds.{Bounds}
 use Rattle.cam_types.specs.Lists.{moments}
 use Rattle.cam_types.specs.Topology.{Topology}
 use Rattle.cam_types.specs.declared.outcome.Outcome.{Outcome}
-use Rattle.sense_class.specs.Classes.{asks_requeue}
-use Rattle.event_log.specs.Event.{is_some_and, is_send_of}
-use Rattle.event_log.specs.Counts.{last}
-use Rattle.event_log.specs.Head.{head}
-use Rattle.event_log.specs.Stays.{stays_begun}
-use Rattle.event_log.specs.declared.event.Event.{Event}
-use Rattle.event_log.specs.declared.event.Event.TheVariants.{Submit, Send, Done, Tick}
+use Rattle.cam_event.specs.Classes.{asks_requeue}
+use Rattle.cam_event.specs.Event.{is_some_and, is_send_of}
+use Rattle.cam_event.specs.Counts.{last}
+use Rattle.cam_event.specs.Head.{head}
+use Rattle.cam_event.specs.Stays.{stays_begun}
+use Rattle.cam_event.specs.declared.event.Event.{Event}
+use Rattle.cam_event.specs.declared.event.Event.TheVariants.{Submit, Send, Done, Tick}
 use Rattle.trace_file.specs.declared.step.Step.{Step}
 use Rattle.trace_file.specs.declared.step.Step.TheVariants as step
 use Rattle.xpt_state.specs.Looks.{next_case}

@@ -1,10 +1,10 @@
 -- how far a driver is behind some of a run's events
 use Rattle.std.specs.Prelude.{◌≡◌, ◌↔◌, ℕ, ◌<◌, ◌≤◌, true, List, length, map, slice_get, Some, None}
 use Rattle.std.specs.List.{filter_map, flat_map}
-use Rattle.event_log.specs.declared.event.Event.TheVariants.{Send, Done}
+use Rattle.cam_event.specs.declared.event.Event.TheVariants.{Send, Done}
 use Rattle.run_rules.specs.declared.served.Served.{Served}
-use Rattle.event_log.specs.Counts.{round}
-use Rattle.event_log.specs.declared.event.Event.{Event}
+use Rattle.cam_event.specs.Counts.{round}
+use Rattle.cam_event.specs.declared.event.Event.{Event}
 use Rattle.cam_event.specs.Legal.{rules_of}
 use Rattle.trace_file.specs.Scenarios.{Scenario}
 use Rattle.trace_file.specs.declared.step.Step.{Step}

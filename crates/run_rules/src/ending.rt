@@ -3,7 +3,7 @@
 use std::fmt;
 
 /// How a run ended.
-#[derive(Clone, Copy, Debug, PartialEq, Eq, Hash)]
+#[derive(Clone, Copy, Debug, PartialEq, Eq)]
 pub enum Ending {
     /// Each driver has done its rows, each command was sent, and none is in flight or waits for a decision.
     Drained,

@@ -8,7 +8,7 @@ use thiserror::Error;
 use xpt_lock::Receipt;
 
 /// Why a run on many threads gave nothing.
-#[derive(Clone, Copy, Debug, PartialEq, Eq, Hash, Error)]
+#[derive(Clone, Copy, Debug, PartialEq, Eq, Error)]
 pub enum LiveFault {
     /// A receipt that doesn't fit the history, the script or what its port served; or the last event's, if the run as a whole
     /// isn't one of the script.

@@ -6,7 +6,7 @@ ghost use Rattle.xpt_lock.specs.Gathers.{IsPast, due_of};
 ghost use Rattle.xpt_lock.specs.Receipts.{AreInterleaved};
 ghost use Rattle.xpt_lock.specs.Seats.{Held};
 ghost use Rattle.xpt_lock.specs.declared.seat.SeatName.TheVariants as seats;
-ghost use Rattle.event_log.specs.declared.event.Event.{Event};
+ghost use Rattle.cam_event.specs.declared.event.Event.{Event};
 ghost use Rattle.trace_file.specs.Scenarios.{Scenario};
 ghost use Rattle.run_rules.specs.LiveRuns.{EachDriver, EachLog, IsLiveRun, IsLog, is_full, rows};
 ghost use Rattle.run_rules.specs.Logs.{IsDriverLog, is_decision, is_opening};

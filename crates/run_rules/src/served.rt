@@ -3,7 +3,7 @@
 use cam_types::{Command, Outcome};
 
 /// A command that a port has served, and how it came out.
-#[derive(Clone, Copy, Debug, PartialEq, Eq, Hash)]
+#[derive(Clone, Copy, Debug, PartialEq, Eq)]
 pub struct Served {
     /// The command.
     pub command: Command,

@@ -1,8 +1,8 @@
 //! How far a driver is, event by event.
 
 ghost use Rattle.std.specs.Prelude.{◌≡◌, ◌≢◌, ◌+◌, ◌++◌, [], ◌∷◌, List, true, length, slice_get, Some, IfSome, IfNone};
-ghost use Rattle.event_log.specs.Counts.{round};
-ghost use Rattle.event_log.specs.declared.event.Event.{Event};
+ghost use Rattle.cam_event.specs.Counts.{round};
+ghost use Rattle.cam_event.specs.declared.event.Event.{Event};
 ghost use Rattle.trace_file.specs.Scenarios.{Scenario};
 ghost use Rattle.trace_file.specs.declared.step.Step.TheVariants as steps;
 ghost use Rattle.xpt_lock.specs.Receipts.{is_rising};
@@ -18,7 +18,7 @@ use xpt_lock::Receipt;
 use xpt_state::Xpt;
 
 /// How far a driver is behind some of a run's events.
-#[derive(Clone, Copy, Debug, PartialEq, Eq)]
+#[derive(Clone, Copy)]
 pub(crate) struct Walk {
     /// The row at which it stands.
     pub(crate) row: usize,

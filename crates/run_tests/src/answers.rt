@@ -4,8 +4,10 @@ ghost use Rattle.std.specs.Prelude.{◌≡◌, ◌<◌, ◌-◌, [], ◌∷◌, 
 ghost use Rattle.trace_file.specs.Scenarios.{is_answer};
 
 use crate::scripts::script;
-use cam_types::{Command, Outcome, SenseBytes, Watched};
-use sim_worker::{Port, Served, run_live};
+use cam_types::{Command, Outcome, SenseBytes};
+use text_io::Watched;
+use live_worker::{Untold, run_live};
+use run_rules::{Port, Served};
 use std::alloc::{AllocError, Global};
 use std::test::Fail;
 use trace_file::{read_trace, write_trace};
@@ -112,7 +114,7 @@ fn runs_end_by_each_answer(rt: HostRuntime) -> Result<(), Fail> {
         let mut ports = Vec::new(alloc);
         ports.push(Answering::new(alloc, next))?;
         assert_eq!(rt; script.config().lanes().len(), ports.len());
-        let run = run_live(&rt, alloc, &script, ports)?;
+        let run = run_live(&rt, alloc, &script, ports, &Untold)?;
         for port in &run.ports {
             assert!(rt; next < port.next, "{next}: none given");
             next = port.next;

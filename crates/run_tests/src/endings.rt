@@ -2,7 +2,8 @@
 
 use crate::scripts::{live, script};
 use cam_event::Event;
-use sim_worker::{Ending, sim_run};
+use run_rules::Ending;
+use sim_worker::sim_run;
 use std::alloc::Global;
 use std::process::Abort;
 use std::sync::Wait;

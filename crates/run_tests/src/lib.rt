@@ -11,3 +11,5 @@ mod meeting;
 mod scripts;
 #[cfg(test)]
 mod small_scripts;
+#[cfg(test)]
+mod telling;

@@ -5,7 +5,8 @@ ghost use Rattle.trace_file.specs.Scenarios.{is_answer};
 
 use crate::scripts::script;
 use cam_types::{Command, Outcome};
-use sim_worker::{Ending, Port, Served, run_live};
+use live_worker::{Untold, run_live};
+use run_rules::{Ending, Port, Served};
 use std::alloc::{AllocError, Global};
 use std::sync::atomic::{AtomicBool, Ordering};
 use std::test::Fail;
@@ -96,7 +97,7 @@ fn two_lanes_serve_at_the_same_time(rt: HostRuntime) -> Result<(), Fail> {
     ports.push(Meeting::new(alloc, &one, &other))?;
     ports.push(Meeting::new(alloc, &other, &one))?;
     assert_eq!(rt; script.config().lanes().len(), ports.len());
-    let run = run_live(&rt, alloc, &script, ports)?;
+    let run = run_live(&rt, alloc, &script, ports, &Untold)?;
     assert_eq!(rt; run.ending, Ending::Drained);
     for port in &run.ports {
         assert_eq!(rt; port.served.len(), 1);

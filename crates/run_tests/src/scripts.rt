@@ -1,7 +1,8 @@
 //! Scripts, and runs of them.
 
-use cam_types::Watched;
-use sim_worker::{LiveRun, ScriptPort, run_live};
+use text_io::Watched;
+use live_worker::{LiveRun, Untold, run_live};
+use sim_worker::ScriptPort;
 use std::alloc::Global;
 use std::sync::Wait;
 use std::test::Fail;
@@ -21,5 +22,5 @@ pub(crate) fn live<R: Threads + Wait + Sync>(
     script: &Script,
 ) -> Result<LiveRun<ScriptPort>, Fail> {
     let ports = ScriptPort::for_lanes(alloc, script)?;
-    Ok(run_live(rt, alloc, script, ports)?)
+    Ok(run_live(rt, alloc, script, ports, &Untold)?)
 }

@@ -2,7 +2,7 @@
 //! `trace` it reads a trace from there and writes it again.
 #![tactic(auto)]
 
-use cam_types::Watched;
+use text_io::Watched;
 use std::fs::File;
 use std::io::Read;
 use std::rt::{Files, Runtime};

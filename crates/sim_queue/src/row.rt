@@ -3,7 +3,7 @@
 use cam_types::Priority;
 
 /// What an adapter knows of one of its devices.
-#[derive(Clone, Copy, Debug)]
+#[derive(Clone, Copy)]
 pub struct Row {
     /// The device's number.
     pub device: u32,

@@ -5,12 +5,12 @@ use Rattle.std.specs.List.{list_all}
 use Rattle.std.proofs.lemmas.Bool.{and_from, ne_eqb, eqb-true}
 use Rattle.std.proofs.lemmas.List.Elements.{filter-append}
 use Rattle.std.proofs.lemmas.List.Folds.{list_all-append}
-use Rattle.event_log.specs.Counts.{round}
-use Rattle.event_log.specs.declared.event.Event.{Event}
-use Rattle.event_log.specs.declared.event.Event.TheVariants.{Submit, Send, Done, Requeue, Finish, FreezeDev, ReleaseDev, FreezeSim, ReleaseSim, Adjust, Tick}
-use Rattle.event_log.proofs.ListFacts.{filter_map-push}
-use Rattle.event_log.proofs.QueueLaws.{le_test, test_le}
-use Rattle.event_log.proofs.TurnLaws.{round-more}
+use Rattle.cam_event.specs.Counts.{round}
+use Rattle.cam_event.specs.declared.event.Event.{Event}
+use Rattle.cam_event.specs.declared.event.Event.TheVariants.{Submit, Send, Done, Requeue, Finish, FreezeDev, ReleaseDev, FreezeSim, ReleaseSim, Adjust, Tick}
+use Rattle.cam_event.proofs.ListFacts.{filter_map-push}
+use Rattle.cam_event.proofs.QueueLaws.{le_test, test_le}
+use Rattle.cam_event.proofs.TurnLaws.{round-more}
 use Rattle.cam_types.specs.Topology.{Topology}
 use Rattle.cam_event.proofs.TestLemmas.{list_all-weaker}
 use Rattle.trace_file.specs.Scenarios.{Scenario, is_ruled}

@@ -6,12 +6,12 @@ use Rattle.std.specs.List.{list_any, list_all}
 use Rattle.std.proofs.lemmas.Bool.{and_parts, and_from, lt-ltb, ltb-true, ltb-false}
 use Rattle.std.proofs.lemmas.List.Elements.{filter_map-append}
 use Rattle.cam_types.specs.Topology.{Topology}
-use Rattle.sense_class.specs.Classes.{asks_requeue}
-use Rattle.event_log.specs.Event.{is_some_and}
-use Rattle.event_log.specs.Counts.{round, ccbs, has_in_flight, is_in_flight}
-use Rattle.event_log.specs.Head.{head}
-use Rattle.event_log.specs.Stays.{stays_begun}
-use Rattle.event_log.specs.declared.event.Event.TheVariants.{Requeue}
+use Rattle.cam_event.specs.Classes.{asks_requeue}
+use Rattle.cam_event.specs.Event.{is_some_and}
+use Rattle.cam_event.specs.Counts.{round, ccbs, has_in_flight, is_in_flight}
+use Rattle.cam_event.specs.Head.{head}
+use Rattle.cam_event.specs.Stays.{stays_begun}
+use Rattle.cam_event.specs.declared.event.Event.TheVariants.{Requeue}
 use Rattle.cam_event.specs.Legal.{Rules}
 use Rattle.trace_file.specs.declared.step.Step.{Step}
 use Rattle.xpt_state.specs.Calls.{refused}

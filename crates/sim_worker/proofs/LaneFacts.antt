@@ -7,16 +7,16 @@ use Rattle.std.proofs.lemmas.Bool.{eq-eqb, ne_eqb, eqb-true}
 use Rattle.cam_types.proofs.ListLemmas.{moments-push}
 use Rattle.cam_types.specs.Lists.{moments}
 use Rattle.cam_types.specs.declared.outcome.Outcome.{Outcome}
-use Rattle.event_log.specs.Event.{is_some_and, is_send_of, is_done_of, is_send_or_done_of}
-use Rattle.event_log.specs.Counts.{last, is_in_flight}
-use Rattle.event_log.specs.declared.event.Event.{Event}
-use Rattle.event_log.specs.declared.event.Event.TheVariants.{Send, Done}
-use Rattle.event_log.proofs.ListFacts.{filter_map-push}
-use Rattle.event_log.proofs.StateLaws.{last-push, is_in_flight-push}
+use Rattle.cam_event.specs.Event.{is_some_and, is_send_of, is_done_of, is_send_or_done_of}
+use Rattle.cam_event.specs.Counts.{last, is_in_flight}
+use Rattle.cam_event.specs.declared.event.Event.{Event}
+use Rattle.cam_event.specs.declared.event.Event.TheVariants.{Send, Done}
+use Rattle.cam_event.proofs.ListFacts.{filter_map-push}
+use Rattle.cam_event.proofs.StateLaws.{last-push, is_in_flight-push}
 use Rattle.std.proofs.lemmas.List.{map-append}
 use Rattle.trace_file.specs.Scenarios.{Scenario, is_answer}
 use Rattle.run_rules.specs.declared.served.Served.{Served}
-use Rattle.event_log.proofs.ShareLaws.{same_number, flies-send}
+use Rattle.cam_event.proofs.ShareLaws.{same_number, flies-send}
 use Rattle.sim_worker.specs.Ports.{PortState, answer_at, first_answers, outcomes}
 use Rattle.sim_worker.proofs.PortLemmas.{given-push}
 use Rattle.run_rules.specs.Runs.{lane_of, sender, outcome_by, outcomes_by}

@@ -2,7 +2,7 @@
 use Rattle.std.proofs.Common.{◌≡◌, ℕ, zero, suc, ◌+◌, ◌<◌, ◌≤◌, Bool, true, false, List, [], ◌∷◌, length, set, sym, ap, ◌∙◌, subst, arith, Some, length-append}
 use Rattle.std.specs.Prelude.{slice_get}
 use Rattle.std.proofs.lemmas.List.Sums.{sum_by-cons}
-use Rattle.event_log.specs.declared.event.Event.{Event}
+use Rattle.cam_event.specs.declared.event.Event.{Event}
 use Rattle.trace_file.specs.Scenarios.{Scenario}
 use Rattle.xpt_devices.specs.Transport.{Transport}
 use Rattle.xpt_state.specs.Steps.{IsTaken}

@@ -1,7 +1,7 @@
 -- a run on one thread before its first turn
 use Rattle.std.proofs.Common.{◌≡◌, ℕ, zero, suc, ◌≤◌, true, false, List, [], ◌∷◌, ◌++◌, length, get_or, replicate, inl, inr, refl, sym, ap, ◌∙◌, subst, arith, Some, None}
 use Rattle.std.specs.Prelude.{slice_get}
-use Rattle.event_log.specs.Counts.{is_in_flight}
+use Rattle.cam_event.specs.Counts.{is_in_flight}
 use Rattle.cam_types.specs.Topology.{Topology}
 use Rattle.cam_event.specs.Legal.{Rules, rules_of, is_legal}
 use Rattle.trace_file.specs.Scenarios.{Scenario, IsScenario}

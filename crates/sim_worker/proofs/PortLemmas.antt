@@ -3,7 +3,7 @@ use Rattle.std.proofs.Common.{◌≡◌, ℕ, ◌+◌, true, List, [], ◌∷◌
 use Rattle.std.proofs.lemmas.List.{map-append}
 use Rattle.std.specs.List.{AllByRecursion, range_with_len}
 use Rattle.cam_types.specs.declared.outcome.Outcome.{Outcome}
-use Rattle.event_log.proofs.ListFacts.{range_with_len-push}
+use Rattle.cam_event.proofs.ListFacts.{range_with_len-push}
 use Rattle.trace_file.specs.Scenarios.{is_answer}
 use Rattle.sim_worker.specs.Ports.{answer_at, first_answers, outcomes, IsPort}
 use Rattle.run_rules.specs.declared.served.Served.{Served}

@@ -7,9 +7,9 @@ use Rattle.std.proofs.lemmas.Bool.{eqb-true, eq-eqb}
 use Rattle.std.proofs.lemmas.List.{length-set}
 use Rattle.cam_types.specs.Bounds.{Bounds}
 use Rattle.cam_types.specs.Topology.{Topology}
-use Rattle.event_log.specs.Counts.{is_in_flight}
-use Rattle.event_log.specs.declared.event.Event.{Event}
-use Rattle.event_log.specs.declared.event.Event.TheVariants.{Send, Done, Tick}
+use Rattle.cam_event.specs.Counts.{is_in_flight}
+use Rattle.cam_event.specs.declared.event.Event.{Event}
+use Rattle.cam_event.specs.declared.event.Event.TheVariants.{Send, Done, Tick}
 use Rattle.trace_file.specs.Scenarios.{Scenario, is_ruled, is_answer}
 use Rattle.trace_file.specs.declared.step.Step.TheVariants as step
 use Rattle.xpt_devices.specs.Transport.{Transport}

@@ -3,7 +3,7 @@ use Rattle.std.proofs.Common.{◌≡◌, ℕ, zero, suc, ◌<◌, ◌≤◌, Boo
 use Rattle.std.proofs.lemmas.List.{get_or-map}
 use Rattle.std.specs.Prelude.{slice_get}
 use Rattle.cam_types.specs.Topology.{Topology}
-use Rattle.event_log.specs.declared.event.Event.{Event}
+use Rattle.cam_event.specs.declared.event.Event.{Event}
 use Rattle.cam_event.specs.Legal.{Rules}
 use Rattle.cam_event.specs.declared.refusal.Refusal.{Refusal}
 use Rattle.cam_event.proofs.LegalLemmas.{legal-none}
@@ -18,13 +18,13 @@ use Rattle.std.specs.Prelude.{not, sum_by, cond}
 use Rattle.std.proofs.lemmas.Bool.{and_from, and_parts}
 use Rattle.std.proofs.lemmas.List.Sums.{sum_by-cons}
 use Rattle.cam_types.specs.Bounds.{Bounds}
-use Rattle.sense_class.specs.Classes.{asks_requeue}
-use Rattle.event_log.specs.Event.{is_some_and}
+use Rattle.cam_event.specs.Classes.{asks_requeue}
+use Rattle.cam_event.specs.Event.{is_some_and}
 use Rattle.xpt_state.specs.declared.look.Case.{Case}
 use Rattle.sim_worker.specs.declared.work.Driver.{Driver}
 use Rattle.sim_worker.proofs.LaneFacts.{is_lane_event}
-use Rattle.event_log.specs.Counts.{is_in_flight}
-use Rattle.event_log.specs.declared.event.Event.TheVariants.{Done, Requeue, Finish}
+use Rattle.cam_event.specs.Counts.{is_in_flight}
+use Rattle.cam_event.specs.declared.event.Event.TheVariants.{Done, Requeue, Finish}
 use Rattle.cam_event.proofs.WithinLemmas.{short-legal}
 use Rattle.cam_event.proofs.StandLemmas.{in_flight_held, states-legal}
 use Rattle.trace_file.specs.Scenarios.{Scenario, is_answer}
@@ -78,10 +78,6 @@ done_full w lane x hand why h here holds refusal_is =
     let fine : IfSome (Some hand) (λ (v : Hand). is_answer v.outcome ≡ true) = subst (λ o. IfSome o (λ (v : Hand). is_answer v.outcome ≡ true)) holds at.answer in
     let named = in_flight_held w.transport.events hand.ccb ((states-legal w.transport.rules w.transport.config w.transport.events h.legal).placed hand.ccb) flies.0 in
     at_limit w h (allowed_at_limit w.transport.rules w.transport.config w.transport.events (Done hand.ccb hand.outcome) why (and_from _ _ (and_from _ _ named.0 fine) flies.0) refusal_is)
-
--- the list behind a list of vectors
-pub steps_at : (all : List (Vec Step Global)) (drivers : List (List Step)) (d : ℕ) (v : Vec Step Global) → map (λ (l : Vec Step Global). l.items) all ≡ drivers → d < length all → v ≡ get_or all d v → v.items ≡ get_or drivers d []
-steps_at all drivers d v same lt is = sym (ap (λ (ls : List (List Step)). get_or ls d []) (sym same) ∙ get_or-map (λ (l : Vec Step Global). l.items) all d v [] lt ∙ ap (λ (l : Vec Step Global). l.items) (sym is))
 
 -- ---- calls of drivers
 

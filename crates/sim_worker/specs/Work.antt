@@ -4,20 +4,20 @@ use Rattle.std.specs.List.{list_all}
 use Rattle.std.specs.Option.{option_map}
 use Rattle.cam_types.specs.declared.outcome.Outcome.{Outcome}
 use Rattle.cam_event.specs.Legal.{rules_of, is_legal}
-use Rattle.event_log.specs.Event.{is_some_and}
-use Rattle.event_log.specs.Counts.{round, is_in_flight}
-use Rattle.event_log.specs.declared.event.Event.{Event}
+use Rattle.cam_event.specs.Event.{is_some_and}
+use Rattle.cam_event.specs.Counts.{round, is_in_flight}
+use Rattle.cam_event.specs.declared.event.Event.{Event}
 use Rattle.trace_file.specs.Scenarios.{Scenario, IsScenario, is_answer}
 use Rattle.trace_file.specs.declared.step.Step.{Step}
 use Rattle.trace_file.specs.declared.step.Step.TheVariants as step
 use Rattle.xpt_devices.specs.Transport.{Transport}
 use Rattle.xpt_state.specs.Looks.{next_case, has_head}
 use Rattle.xpt_state.specs.declared.look.Case.{Case}
-use Rattle.sense_class.specs.Classes.{asks_requeue}
+use Rattle.cam_event.specs.Classes.{asks_requeue}
 use Rattle.cam_event.specs.declared.refusal.Refusal.{Refusal}
 use Rattle.cam_event.specs.declared.refusal.Refusal.TheVariants.{HistoryFull}
-use Rattle.event_log.specs.declared.event.Event.TheVariants.{Requeue, Finish}
-use Rattle.event_log.specs.Stays.{waiting}
+use Rattle.cam_event.specs.declared.event.Event.TheVariants.{Requeue, Finish}
+use Rattle.cam_event.specs.Stays.{waiting}
 use Rattle.xpt_state.specs.Calls.{refused}
 use Rattle.sim_worker.specs.Ports.{first_answers, outcomes}
 use Rattle.run_rules.specs.Held.{is_held_up}

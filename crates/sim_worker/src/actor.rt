@@ -1,7 +1,7 @@
 //! Who acts in a run besides the round keeper.
 
 /// One that acts in a run: a driver, a lane or recovery.
-#[derive(Clone, Copy, Debug, PartialEq, Eq)]
+#[derive(Clone, Copy)]
 pub(crate) enum Actor {
     /// The driver of this number.
     Driver(usize),

@@ -6,7 +6,7 @@ ghost use Rattle.sim_worker.specs.Ports.{answer_at};
 
 use cam_types::{Command, Outcome};
 use run_rules::{Port, Served};
-use sense_class::CAM_REQ_CMP;
+use cam_event::CAM_REQ_CMP;
 use std::alloc::{AllocError, Global};
 use std::marker::Model;
 use trace_file::Script;

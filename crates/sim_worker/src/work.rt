@@ -4,7 +4,7 @@ use crate::script_port::ScriptPort;
 use cam_types::Outcome;
 
 /// How far a driver is.
-#[derive(Clone, Copy, Debug, PartialEq, Eq)]
+#[derive(Clone, Copy)]
 pub(crate) struct Driver {
     /// How many of its rows it has done.
     pub(crate) done: usize,
@@ -13,14 +13,14 @@ pub(crate) struct Driver {
 }
 
 /// A command that a lane has served, and that has not completed.
-#[derive(Clone, Copy, Debug, PartialEq, Eq)]
+#[derive(Clone, Copy)]
 pub(crate) struct Hand {
     pub(crate) ccb: u32,
     pub(crate) outcome: Outcome,
 }
 
 /// A lane: its number, its port, and what it has in hand.
-#[derive(Debug, Drop)]
+#[derive(Drop)]
 pub(crate) struct Lane {
     pub(crate) number: u32,
     pub(crate) port: ScriptPort,

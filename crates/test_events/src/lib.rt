@@ -2,7 +2,7 @@
 #![tactic(auto)]
 
 use cam_types::{Device, Flags, Outcome, SenseBytes};
-use event_log::Event;
+use cam_event::Event;
 
 /// Neither flag.
 pub const PLAIN: Flags = Flags {

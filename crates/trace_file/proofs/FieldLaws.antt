@@ -2,8 +2,8 @@
 use Rattle.std.proofs.Common.{◌≡◌, ◌≤◌, ◌+◌, ℕ, List, [], ◌∷◌, Bool, true, false, refl, ap, ◌∙◌, arith, rules}
 use Rattle.std.specs.Prelude.{Option, Some, None, Ok, ok_or, find, bytes_eq, decimal, IfSome}
 use Rattle.std.proofs.lemmas.Slice.Eq.{bytes_eq-Decides}
-use Rattle.cam_types.specs.Number.{number_of}
-use Rattle.cam_types.proofs.NumberLemmas.{number_of-spelled, number_of-decimal, number_of-within}
+use Rattle.text_io.specs.Number.{number_of}
+use Rattle.text_io.proofs.NumberLemmas.{number_of-spelled, number_of-decimal, number_of-within}
 use Rattle.cam_types.proofs.LeastLemmas.{find_passes}
 use Rattle.trace_file.specs.Histories.{Flags}
 use Rattle.trace_file.specs.declared.word.Word.{Word}

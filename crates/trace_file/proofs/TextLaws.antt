@@ -13,7 +13,7 @@ use Rattle.csv.specs.Reading.{default_config, records, strip_bom}
 use Rattle.csv.specs.Writing.{default_writer, escaped, field_text, fields_text, is_blank, read_back, row_text}
 use Rattle.csv.specs.declared.parser.State.TheVariants as st
 use Rattle.csv.proofs.RoundTrip.{read-write}
-use Rattle.event_log.specs.declared.event.Event.TheVariants as event
+use Rattle.cam_event.specs.declared.event.Event.TheVariants as event
 use Rattle.cam_types.specs.declared.config_fault.ConfigFault.TheVariants.{TooMany, NoAdapter}
 use Rattle.trace_file.specs.Fields.{Row, flags_text, flags_word}
 use Rattle.trace_file.specs.Histories.{Device, Event, Past, adapter_fault, device_fault, lane_fault}
@@ -22,7 +22,7 @@ use Rattle.trace_file.specs.Rows.{most_number}
 use Rattle.trace_file.specs.Trace.{FitsEvent, IsHistory, IsTrace}
 use Rattle.trace_file.specs.Writing.{text_of, trace_text}
 use Rattle.cam_types.proofs.TopologyLemmas.{few_devices}
-use Rattle.event_log.proofs.ListFacts.{count_by-push}
+use Rattle.cam_event.proofs.ListFacts.{count_by-push}
 use Rattle.trace_file.proofs.AgainLaws.{Along, along_both}
 use Rattle.trace_file.proofs.HexLaws.{length-hex}
 use Rattle.trace_file.proofs.RecordLemmas.{first_left, none_left}

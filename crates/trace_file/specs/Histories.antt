@@ -9,7 +9,7 @@ pub use Rattle.cam_types.specs.declared.flags.Flags.{Flags}
 pub use Rattle.cam_types.specs.declared.outcome.Outcome.{Outcome}
 pub use Rattle.cam_types.specs.declared.config_fault.ConfigFault.{ConfigFault}
 pub use Rattle.cam_types.specs.declared.config_fault.ConfigFault.TheVariants.{NoAdapters}
-pub use Rattle.event_log.specs.declared.event.Event.{Event}
+pub use Rattle.cam_event.specs.declared.event.Event.{Event}
 pub use Rattle.cam_event.specs.Past.{Past}
 pub use Rattle.cam_event.specs.declared.refusal.Refusal.{Refusal}
 

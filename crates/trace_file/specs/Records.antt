@@ -1,7 +1,7 @@
 -- The records of a history.
 use Rattle.std.specs.Prelude.{ℕ, ◌-◌, ◌/◌, ◌%◌, List, [], ◌∷◌, ◌++◌, length, map, replicate, codes, decimal}
 use Rattle.std.specs.Char.{digit_char}
-use Rattle.event_log.specs.declared.event.Event.TheVariants as event
+use Rattle.cam_event.specs.declared.event.Event.TheVariants as event
 use Rattle.trace_file.specs.declared.word.Word.TheVariants as word
 use Rattle.trace_file.specs.Histories.{Device, Event, Past}
 use Rattle.trace_file.specs.Fields.{Row, flags_text}

@@ -1,7 +1,7 @@
 -- What the records of a trace say: their words' fields, in order.
 use Rattle.std.specs.Prelude.{ℕ, min, Result, Ok, Err}
 use Rattle.trace_file.specs.Histories.{Device, Event, Outcome}
-use Rattle.event_log.specs.declared.event.Event.TheVariants as event
+use Rattle.cam_event.specs.declared.event.Event.TheVariants as event
 use Rattle.trace_file.specs.declared.device_row.DeviceRow.{DeviceRow}
 use Rattle.trace_file.specs.declared.word.Word.{Word}
 use Rattle.trace_file.specs.declared.word.Word.TheVariants as word

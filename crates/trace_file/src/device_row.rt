@@ -6,7 +6,7 @@ ghost use Rattle.trace_file.specs.Rows.{clamped};
 use cam_types::Device;
 
 /// A device as a record spells it. Its bus may be any number.
-#[derive(Clone, Copy, Debug, PartialEq, Eq)]
+#[derive(Clone, Copy)]
 pub(crate) struct DeviceRow {
     pub(crate) bus: u32,
     pub(crate) target: u16,

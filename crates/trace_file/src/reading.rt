@@ -2,7 +2,7 @@
 
 ghost use Rattle.std.specs.Prelude.{◌≡◌, ◌≢◌, ◌≤◌, false, length, Ok, Err, IfOk, IfErr, IfSome};
 ghost use Rattle.cam_types.specs.declared.maxima.TheConstants.{MOST_BYTES};
-ghost use Rattle.cam_types.specs.Watched.{device_of, has_failed};
+ghost use Rattle.text_io.specs.Watched.{device_of, has_failed};
 ghost use Rattle.trace_file.specs.Histories.{Past};
 ghost use Rattle.trace_file.specs.Reading.{reading};
 ghost use Rattle.trace_file.specs.Records.{records_of};
@@ -12,7 +12,7 @@ ghost use Rattle.trace_file.specs.Trace.{IsTrace, IsHistory, WasTrace, Explains}
 use crate::records::take_records;
 use crate::trace_fault::TraceFault;
 use crate::trace_stage::TraceStage;
-use cam_types::{Watched, WholeFault, read_whole};
+use text_io::{Watched, WholeFault, read_whole};
 use std::alloc::Global;
 use std::io::Read;
 use xpt_state::History;

@@ -1,7 +1,7 @@
 //! The static causes that refuse a script's record.
 
 ghost use Rattle.std.specs.Prelude.{◌≡◌, ◌<◌, length, IfOk, IfSome, IsTrue};
-ghost use Rattle.sense_class.specs.Classes.{status_of};
+ghost use Rattle.cam_event.specs.Classes.{status_of};
 ghost use Rattle.cam_types.specs.Questions.{names_device};
 ghost use Rattle.trace_file.specs.Scenarios.{device_number, is_answer_item, is_answer_row, is_at, is_ruled_item, item_of, names_driver, refused_if};
 

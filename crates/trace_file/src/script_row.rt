@@ -5,7 +5,7 @@ use cam_path::CamPath;
 use cam_types::{Flags, Outcome};
 
 /// What a record of a script says behind the configuration, by its fields alone.
-#[derive(Clone, Copy, Debug, PartialEq, Eq)]
+#[derive(Clone, Copy)]
 pub(crate) enum ScriptRow {
     Submit {
         driver: u8,
@@ -49,7 +49,7 @@ pub(crate) enum ScriptRow {
 }
 
 /// What a row adds to a script.
-#[derive(Clone, Copy, Debug, PartialEq, Eq)]
+#[derive(Clone, Copy)]
 pub(crate) enum ScriptItem {
     /// A step of this driver.
     Step(u8, Step),

@@ -3,7 +3,7 @@
 use crate::fields::is_text;
 
 /// What the first field of a script's record names, behind the configuration.
-#[derive(Clone, Copy, Debug, PartialEq, Eq)]
+#[derive(Clone, Copy)]
 pub(crate) enum ScriptWord {
     Submit,
     Freeze,

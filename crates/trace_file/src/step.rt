@@ -1,9 +1,9 @@
 //! One step of a driver's script.
 
-use event_log::Event;
+use cam_event::Event;
 
 /// What a driver does next.
-#[derive(Clone, Copy, Debug, PartialEq, Eq, Hash)]
+#[derive(Clone, Copy, Debug, PartialEq, Eq)]
 pub enum Step {
     /// It calls for this event: a submit, a freeze, a release or an adjustment.
     Act(Event),

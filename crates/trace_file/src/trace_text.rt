@@ -1,8 +1,8 @@
 //! Writes the trace of a history.
 
 ghost use Rattle.std.specs.Prelude.{◌≡◌, ◌≢◌, false, true, Err, OnOk, IfOk};
-ghost use Rattle.cam_types.specs.Watched.{device_of, has_failed, is_flushed};
-ghost use Rattle.cam_types.specs.Whole.{AppendsFront};
+ghost use Rattle.text_io.specs.Watched.{device_of, has_failed, is_flushed};
+ghost use Rattle.text_io.specs.Whole.{AppendsFront};
 ghost use Rattle.std.specs.Io.KnownBytes.{Appends};
 ghost use Rattle.trace_file.specs.Trace.{IsHistory, IsTrace};
 ghost use Rattle.trace_file.specs.Writing.{trace_text};
@@ -10,7 +10,7 @@ ghost use Rattle.trace_file.specs.Writing.{trace_text};
 use crate::row_writer::write_row;
 use crate::write_fault::WriteFault;
 use crate::writing::{write_devices, write_events, write_numbers};
-use cam_types::{Watched, write_whole};
+use text_io::{Watched, write_whole};
 use csv::WriterBuilder;
 use std::alloc::{AllocError, Global};
 use std::io::Write;

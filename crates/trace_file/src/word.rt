@@ -3,7 +3,7 @@
 use crate::fields::is_text;
 
 /// What the first field of a trace's record names.
-#[derive(Clone, Copy, Debug, PartialEq, Eq)]
+#[derive(Clone, Copy)]
 pub(crate) enum Word {
     Sim,
     Dev,

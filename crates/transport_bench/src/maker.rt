@@ -3,7 +3,7 @@
 use crate::answer::Answer;
 use crate::call::Call;
 use cam_types::Outcome;
-use sense_class::Class;
+use cam_event::Class;
 use xpt_state::{Sent, Xpt};
 
 /// Makes the call on the transport.

@@ -5,7 +5,7 @@ ghost use Rattle.cam_event.specs.Legal.{history_rules};
 
 use cam_event::{Event, Rules};
 use cam_types::Config;
-use sense_class::{Class, Why};
+use cam_event::{Class, Why};
 use std::alloc::Global;
 use std::process::Abort;
 use std::test::Fail;

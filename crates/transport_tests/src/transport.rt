@@ -3,7 +3,7 @@
 use crate::both::{Both, Due};
 use cam_event::{Event, Refusal, Rules};
 use cam_types::{Command, Flags, Limits, Outcome, SenseBytes};
-use sense_class::{Class, Why};
+use cam_event::{Class, Why};
 use std::alloc::Global;
 use std::test::Fail;
 use test_events::{

@@ -1,7 +1,7 @@
 -- a transport behind one event more, and its adapters' queues
 use Rattle.std.proofs.Common.{◌≡◌, ◌-◌, ◌<◌, ◌≤◌, true, List, [], ◌∷◌, ◌++◌, length, sym, ap, subst, ◌∙◌, arith, length-append}
 use Rattle.cam_types.specs.Topology.{Topology}
-use Rattle.event_log.specs.declared.event.Event.{Event}
+use Rattle.cam_event.specs.declared.event.Event.{Event}
 use Rattle.cam_event.specs.Legal.{is_legal_event, is_legal}
 use Rattle.cam_event.proofs.LimitLemmas.{legal-front}
 use Rattle.sim_queue.specs.Adapter.{Adapter}

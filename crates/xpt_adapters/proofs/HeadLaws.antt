@@ -6,13 +6,13 @@ use Rattle.std.specs.Option.{option_map, option_map_or}
 use Rattle.std.proofs.lemmas.List.Elements.{All-nil, All-cons, All-head, All-tail, All-weaker}
 use Rattle.cam_types.specs.Lists.{is_less, least_by}
 use Rattle.cam_types.specs.Topology.{Topology}
-use Rattle.event_log.specs.Counts.{freeze_count, adapter_freezes}
-use Rattle.event_log.specs.Stays.{first}
+use Rattle.cam_event.specs.Counts.{freeze_count, adapter_freezes}
+use Rattle.cam_event.specs.Stays.{first}
 use Rattle.cam_types.specs.Questions.{is_on, devices}
-use Rattle.event_log.specs.Head.{is_ready, has_opening, adapter_has_opening, turn_key, may_send, head}
-use Rattle.event_log.specs.declared.event.Event.{Event}
-use Rattle.event_log.specs.declared.stay.Stay.{Stay}
-use Rattle.event_log.proofs.ListFacts.{filter-both, filter-same}
+use Rattle.cam_event.specs.Head.{is_ready, has_opening, adapter_has_opening, turn_key, may_send, head}
+use Rattle.cam_event.specs.declared.event.Event.{Event}
+use Rattle.cam_event.specs.declared.stay.Stay.{Stay}
+use Rattle.cam_event.proofs.ListFacts.{filter-both, filter-same}
 use Rattle.sim_queue.specs.Adapter as sim
 use Rattle.sim_queue.specs.declared.row.Row.{Row}
 use Rattle.xpt_devices.specs.Ready.{ready_priority}

@@ -3,10 +3,10 @@ use Rattle.std.proofs.Common.{◌≡◌, ℕ, List, refl, ap, ◌∙◌, Option,
 use Rattle.std.specs.Prelude.{option_and_then}
 use Rattle.std.specs.Option.{option_map}
 use Rattle.cam_types.specs.Topology.{Topology}
-use Rattle.event_log.specs.Stays.{first}
-use Rattle.event_log.specs.Head.{head, next}
-use Rattle.event_log.specs.declared.event.Event.{Event}
-use Rattle.event_log.specs.declared.stay.Stay.{Stay}
+use Rattle.cam_event.specs.Stays.{first}
+use Rattle.cam_event.specs.Head.{head, next}
+use Rattle.cam_event.specs.declared.event.Event.{Event}
+use Rattle.cam_event.specs.declared.stay.Stay.{Stay}
 use Rattle.cam_event.proofs.NextLemmas.{queued-first}
 use Rattle.dev_queue.specs.declared.waiting.Waiting.{Waiting}
 use Rattle.xpt_devices.specs.Device.{entry}

@@ -9,12 +9,12 @@ use Rattle.std.proofs.lemmas.List.Elements.{filter-append}
 use Rattle.std.proofs.lemmas.Option.{slice_get-get_or}
 use Rattle.cam_types.specs.Topology.{Topology}
 use Rattle.cam_types.specs.declared.device.Device.{Device}
-use Rattle.event_log.specs.Counts.{sendings, adapter_freezes}
-use Rattle.event_log.specs.Stays.{first, queue, waiting, stays_begun}
+use Rattle.cam_event.specs.Counts.{sendings, adapter_freezes}
+use Rattle.cam_event.specs.Stays.{first, queue, waiting, stays_begun}
 use Rattle.cam_types.specs.Questions.{is_on, adapter_openings}
-use Rattle.event_log.specs.Head.{is_ready, last_sent}
-use Rattle.event_log.proofs.ListFacts.{range_with_len-push}
-use Rattle.event_log.proofs.StateLaws.{map-range_same}
+use Rattle.cam_event.specs.Head.{is_ready, last_sent}
+use Rattle.cam_event.proofs.ListFacts.{range_with_len-push}
+use Rattle.cam_event.proofs.StateLaws.{map-range_same}
 use Rattle.sim_queue.specs.Adapter.{Adapter, new_row}
 use Rattle.xpt_adapters.specs.Known.{known, nothing, devices_on, adapter_of, adapters_of}
 use Rattle.xpt_adapters.proofs.RowLemmas.{adapter, known-same}

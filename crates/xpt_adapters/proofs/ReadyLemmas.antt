@@ -11,8 +11,8 @@ use Rattle.std.proofs.lemmas.List.FromFn.{length-range_with_len, get_or-range_wi
 use Rattle.cam_types.specs.Topology.{Topology, IsConfig}
 use Rattle.cam_types.specs.declared.device.Device.{Device}
 use Rattle.cam_types.specs.Questions.{is_on, device_adapter, adapter_openings, devices}
-use Rattle.event_log.specs.declared.event.Event.{Event}
-use Rattle.event_log.proofs.StateLaws.{map-range_same}
+use Rattle.cam_event.specs.declared.event.Event.{Event}
+use Rattle.cam_event.proofs.StateLaws.{map-range_same}
 use Rattle.sim_queue.specs.Adapter.{Adapter, is_named}
 use Rattle.sim_queue.specs.declared.row.Row.{Row}
 use Rattle.xpt_devices.specs.Ready.{ready_priority}

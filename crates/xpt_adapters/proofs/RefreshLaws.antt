@@ -5,13 +5,13 @@ use Rattle.std.specs.Option.{option_map, option_map_or}
 use Rattle.std.proofs.lemmas.Bool.{and_parts, eqb-true, eqb-false, ltb-true}
 use Rattle.cam_types.specs.Topology.{Topology}
 use Rattle.cam_types.specs.declared.maxima.TheConstants.{MOST_PRIORITY, MOST_RETRIES, MOST_FREEZES}
-use Rattle.event_log.specs.Event.{is_tick}
-use Rattle.event_log.specs.Counts.{commands, submission, caller_count}
+use Rattle.cam_event.specs.Event.{is_tick}
+use Rattle.cam_event.specs.Counts.{commands, submission, caller_count}
 use Rattle.cam_types.specs.Questions.{names_device, device_adapter, adapter_openings}
-use Rattle.event_log.specs.declared.event.Event.{Event}
-use Rattle.event_log.specs.declared.event.Event.TheVariants.{Submit, Send, Done, Requeue, Finish, FreezeDev, ReleaseDev, FreezeSim, ReleaseSim, Adjust, Tick}
-use Rattle.event_log.specs.declared.submission.Submission.{Submission}
-use Rattle.event_log.proofs.StateLaws.{map-range_same}
+use Rattle.cam_event.specs.declared.event.Event.{Event}
+use Rattle.cam_event.specs.declared.event.Event.TheVariants.{Submit, Send, Done, Requeue, Finish, FreezeDev, ReleaseDev, FreezeSim, ReleaseSim, Adjust, Tick}
+use Rattle.cam_event.specs.declared.submission.Submission.{Submission}
+use Rattle.cam_event.proofs.StateLaws.{map-range_same}
 use Rattle.cam_event.specs.Legal.{Rules, is_count, is_legal_event, is_legal}
 use Rattle.cam_event.proofs.LawLemmas.{allowed-legal_event}
 use Rattle.cam_event.proofs.RangeLemmas.{range_submit}
@@ -22,9 +22,9 @@ use Rattle.xpt_devices.specs.Ready.{ready_priority}
 use Rattle.dev_queue.specs.Device as dev
 use Rattle.dev_queue.specs.Device.{Device}
 use Rattle.dev_queue.specs.declared.waiting.Waiting.{Waiting}
-use Rattle.event_log.specs.Stays.{first}
-use Rattle.event_log.specs.Head.{is_ready}
-use Rattle.event_log.specs.declared.stay.Stay.{Stay}
+use Rattle.cam_event.specs.Stays.{first}
+use Rattle.cam_event.specs.Head.{is_ready}
+use Rattle.cam_event.specs.declared.stay.Stay.{Stay}
 use Rattle.xpt_devices.specs.Device.{device_state, entry}
 use Rattle.xpt_devices.specs.Updated.{with_openings}
 use Rattle.xpt_devices.proofs.DeviceLaws.{state-adjust}

@@ -5,19 +5,19 @@ use Rattle.std.specs.Option.{option_map, option_map_or}
 use Rattle.std.proofs.lemmas.Bool.{and_parts, eqb-true, ltb-true, leb-true}
 use Rattle.std.proofs.lemmas.Option.{slice_get_within}
 use Rattle.cam_types.specs.Topology.{Topology}
-use Rattle.event_log.specs.Event.{is_some_and, is_tick}
-use Rattle.event_log.specs.Counts.{round, submission, sendings, sending_of, goes_to, adapter_freezes}
-use Rattle.event_log.specs.Stays.{first}
+use Rattle.cam_event.specs.Event.{is_some_and, is_tick}
+use Rattle.cam_event.specs.Counts.{round, submission, sendings, sending_of, goes_to, adapter_freezes}
+use Rattle.cam_event.specs.Stays.{first}
 use Rattle.cam_types.specs.Questions.{names_adapter, is_on, device_adapter, lane_adapter, adapter_openings}
-use Rattle.event_log.specs.Head.{goes_now_to_adapter, adapter_has_opening, last_sent, head, next}
-use Rattle.event_log.specs.declared.event.Event.{Event}
-use Rattle.event_log.specs.declared.event.Event.TheVariants.{Send, FreezeSim, ReleaseSim, Tick}
-use Rattle.event_log.specs.declared.stay.Stay.{Stay}
-use Rattle.event_log.specs.declared.sending.Sending.{Sending}
-use Rattle.event_log.specs.declared.submission.Submission.{Submission}
-use Rattle.event_log.proofs.StateLaws.{map-range_same}
-use Rattle.event_log.proofs.TallyLaws.{Tally, sim_tally, sim_change, tallied, sim_tally-push}
-use Rattle.event_log.proofs.TurnLaws.{last_sent-push, sends_now-push, sends_now-tick}
+use Rattle.cam_event.specs.Head.{goes_now_to_adapter, adapter_has_opening, last_sent, head, next}
+use Rattle.cam_event.specs.declared.event.Event.{Event}
+use Rattle.cam_event.specs.declared.event.Event.TheVariants.{Send, FreezeSim, ReleaseSim, Tick}
+use Rattle.cam_event.specs.declared.stay.Stay.{Stay}
+use Rattle.cam_event.specs.declared.sending.Sending.{Sending}
+use Rattle.cam_event.specs.declared.submission.Submission.{Submission}
+use Rattle.cam_event.proofs.StateLaws.{map-range_same}
+use Rattle.cam_event.proofs.TallyLaws.{Tally, sim_tally, sim_change, tallied, sim_tally-push}
+use Rattle.cam_event.proofs.TurnLaws.{last_sent-push, sends_now-push, sends_now-tick}
 use Rattle.cam_event.specs.Legal.{Rules, is_count, is_next, is_legal_event, is_legal}
 use Rattle.cam_event.specs.Refusals.{device_of}
 use Rattle.cam_types.specs.declared.maxima.TheConstants.{MOST_FREEZES}

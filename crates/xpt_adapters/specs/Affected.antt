@@ -1,10 +1,10 @@
 -- the devices whose readiness an event may change
 use Rattle.std.specs.Prelude.{ℕ, List}
 use Rattle.std.specs.Option.{option_map_or}
-use Rattle.event_log.specs.Counts.{submission}
-use Rattle.event_log.specs.declared.event.Event.{Event}
-use Rattle.event_log.specs.declared.event.Event.TheVariants.{Submit, Send, Done, Requeue, Finish, FreezeDev, ReleaseDev, FreezeSim, ReleaseSim, Adjust, Tick}
-use Rattle.event_log.specs.declared.submission.Submission.{Submission}
+use Rattle.cam_event.specs.Counts.{submission}
+use Rattle.cam_event.specs.declared.event.Event.{Event}
+use Rattle.cam_event.specs.declared.event.Event.TheVariants.{Submit, Send, Done, Requeue, Finish, FreezeDev, ReleaseDev, FreezeSim, ReleaseSim, Adjust, Tick}
+use Rattle.cam_event.specs.declared.submission.Submission.{Submission}
 use Rattle.xpt_adapters.specs.declared.affected.Affected.{Affected}
 use Rattle.xpt_adapters.specs.declared.affected.Affected.TheVariants.{Nothing, One, All}
 

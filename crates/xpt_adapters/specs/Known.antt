@@ -2,10 +2,10 @@
 use Rattle.std.specs.Prelude.{ℕ, ◌==◌, if◌then◌else◌, List, length, map, filter, Option, None, count_by}
 use Rattle.std.specs.List.{range_with_len}
 use Rattle.cam_types.specs.Topology.{Topology}
-use Rattle.event_log.specs.Counts.{sendings, adapter_freezes}
+use Rattle.cam_event.specs.Counts.{sendings, adapter_freezes}
 use Rattle.cam_types.specs.Questions.{is_on, adapter_openings, devices}
-use Rattle.event_log.specs.Head.{goes_now_to_adapter, last_sent}
-use Rattle.event_log.specs.declared.event.Event.{Event}
+use Rattle.cam_event.specs.Head.{goes_now_to_adapter, last_sent}
+use Rattle.cam_event.specs.declared.event.Event.{Event}
 use Rattle.sim_queue.specs.Adapter.{Adapter}
 use Rattle.sim_queue.specs.declared.row.Row.{Row}
 use Rattle.xpt_devices.specs.Ready.{ready_priority}

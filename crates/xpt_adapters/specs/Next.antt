@@ -1,5 +1,5 @@
 -- whose turn it is
-use Rattle.event_log.specs.declared.stay.Stay.{Stay}
+use Rattle.cam_event.specs.declared.stay.Stay.{Stay}
 use Rattle.xpt_adapters.specs.declared.next.Next.{Next}
 
 -- a stay as the one that is next

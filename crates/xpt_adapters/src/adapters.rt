@@ -11,7 +11,7 @@ use crate::refresh::refresh;
 use crate::update::update;
 use cam_event::Rules;
 use cam_types::Config;
-use event_log::Event;
+use cam_event::Event;
 use sim_queue::SimQueue;
 use std::alloc::{AllocError, Global};
 use std::marker::Model;
@@ -37,8 +37,8 @@ impl Model for Adapters {
 }
 
 impl Adapters {
-    ghost use Rattle.event_log.specs.Counts.{sendings, adapter_freezes};
-    ghost use Rattle.event_log.specs.Head.{goes_now_to_adapter, adapter_has_opening, next};
+    ghost use Rattle.cam_event.specs.Counts.{sendings, adapter_freezes};
+    ghost use Rattle.cam_event.specs.Head.{goes_now_to_adapter, adapter_has_opening, next};
     ghost use Rattle.cam_event.specs.Legal.{is_legal_event};
     ghost use Rattle.xpt_adapters.specs.Known.{known, adapter_of};
     ghost use Rattle.xpt_adapters.specs.Next.{next_of};
@@ -120,7 +120,7 @@ impl Adapters {
     }
 
     /// Whether the adapter has an opening left in this round.
-    #[tactic(auto, unfolding(crate::specs::Known::known, event_log::specs::Head::adapter_has_opening))]
+    #[tactic(auto, unfolding(crate::specs::Known::known, cam_event::specs::Head::adapter_has_opening))]
     pub fn has_opening(&self, adapter: u32) -> bool
         requires { adapter < length self.now.config.adapters }
         ensures { result ≡ adapter_has_opening self.now.config self.now.events adapter }

@@ -2,7 +2,7 @@
 ghost use Rattle.std.specs.Prelude.{◌≡◌};
 ghost use Rattle.xpt_adapters.specs.Affected.{affected_by, affected_ccb};
 
-use event_log::Event;
+use cam_event::Event;
 use xpt_devices::Devices;
 
 /// The devices whose readiness an event may change.

@@ -5,7 +5,7 @@ ghost use Rattle.xpt_adapters.specs.Updated.{with_turn, with_freezes, less_freez
 ghost use Rattle.xpt_devices.specs.Updated.{at_place, HasAt};
 
 use cam_types::Config;
-use event_log::Event;
+use cam_event::Event;
 use sim_queue::SimQueue;
 
 /// Updates the adapters' queues by an event at this place, over the adapters of this configuration.

@@ -11,15 +11,15 @@ use Rattle.std.proofs.lemmas.List.Folds.{list_any-append}
 use Rattle.std.proofs.lemmas.List.Sums.{sum_by-append, sum_by-cons}
 use Rattle.cam_types.specs.Lists.{moments}
 use Rattle.cam_types.proofs.ListLemmas.{moments-push}
-use Rattle.event_log.specs.Event.{concerns, ccb_of, is_erring}
-use Rattle.event_log.specs.Counts.{is_recovering}
-use Rattle.event_log.specs.declared.event.Event.{Event}
-use Rattle.event_log.specs.declared.event.Event.TheVariants.{Submit, Send, Done, Requeue, Finish, FreezeDev, ReleaseDev, FreezeSim, ReleaseSim, Adjust, Tick}
-use Rattle.event_log.proofs.Laws.{not_both}
-use Rattle.event_log.proofs.ListFacts.{count_by-kept, count_by-dropped, filter_map-push, filter-same, filter-both, filter-all, All-filter_map-moments}
-use Rattle.event_log.proofs.StateLaws.{is_recovering-push}
-use Rattle.event_log.proofs.CcbLaws.{event-induction}
-use Rattle.event_log.proofs.TotalLaws.{commands-stays}
+use Rattle.cam_event.specs.Event.{concerns, ccb_of, is_erring}
+use Rattle.cam_event.specs.Counts.{is_recovering}
+use Rattle.cam_event.specs.declared.event.Event.{Event}
+use Rattle.cam_event.specs.declared.event.Event.TheVariants.{Submit, Send, Done, Requeue, Finish, FreezeDev, ReleaseDev, FreezeSim, ReleaseSim, Adjust, Tick}
+use Rattle.cam_event.proofs.PushLaws.{not_both}
+use Rattle.cam_event.proofs.ListFacts.{count_by-kept, count_by-dropped, filter_map-push, filter-same, filter-both, filter-all, All-filter_map-moments}
+use Rattle.cam_event.proofs.StateLaws.{is_recovering-push}
+use Rattle.cam_event.proofs.CcbLaws.{event-induction}
+use Rattle.cam_event.proofs.TotalLaws.{commands-stays}
 use Rattle.cam_types.specs.Topology.{Topology}
 use Rattle.cam_types.specs.declared.outcome.Outcome.{Outcome}
 use Rattle.cam_event.specs.Legal.{Rules, is_legal_event, is_legal}
@@ -30,7 +30,7 @@ use Rattle.xpt_ccbs.proofs.RingLemmas.{lacks-times, kept-all}
 use Rattle.xpt_ccbs.specs.Cases.{Failure, failure_of, failures, is_undecided, failed_ccb, cases}
 use Rattle.xpt_ccbs.specs.Order.{times, other_cases, decided, CanDecide, CaseOrder}
 use Rattle.xpt_ccbs.proofs.ListFacts.{filter-map, map-option_to_list}
-use Rattle.event_log.proofs.ConcernLaws.{concerns-none}
+use Rattle.cam_event.proofs.ConcernLaws.{concerns-none}
 
 pub failures-push : (es : List Event) (e : Event) → failures (es ++ e ∷ []) ≡ failures es ++ option_to_list (failure_of (es, e))
 unfolding failures

@@ -11,16 +11,16 @@ use Rattle.std.proofs.lemmas.List.Sums.{count_by-le-length}
 use Rattle.cam_types.specs.Topology.{Topology}
 use Rattle.cam_types.specs.declared.outcome.Outcome.{Outcome}
 use Rattle.cam_types.specs.declared.maxima.TheConstants.{MOST_PRIORITY, MOST_RETRIES}
-use Rattle.sense_class.specs.Classes.{classify, asks_requeue, asks_finish}
-use Rattle.sense_class.specs.declared.class.Class as class
-use Rattle.event_log.specs.Event.{is_some_and, ccb_of, ends, submission_of}
-use Rattle.event_log.specs.Counts.{submission, submissions, commands, ccbs, alive, is_in_flight, is_recovering, last_result, counted_requeues, retries_of, wants_requeue, wants_finish}
-use Rattle.event_log.specs.Stays.{stays_begun}
-use Rattle.event_log.specs.declared.event.Event.{Event}
-use Rattle.event_log.specs.declared.event.Event.TheVariants.{Submit}
-use Rattle.event_log.specs.declared.submission.Submission.{Submission}
-use Rattle.event_log.proofs.ConcernLaws.{concerns-none}
-use Rattle.event_log.proofs.TotalLaws.{commands-stays}
+use Rattle.cam_event.specs.Classes.{classify, asks_requeue, asks_finish}
+use Rattle.cam_event.specs.declared.class.Class as class
+use Rattle.cam_event.specs.Event.{is_some_and, ccb_of, ends, submission_of}
+use Rattle.cam_event.specs.Counts.{submission, submissions, commands, ccbs, alive, is_in_flight, is_recovering, last_result, counted_requeues, retries_of, wants_requeue, wants_finish}
+use Rattle.cam_event.specs.Stays.{stays_begun}
+use Rattle.cam_event.specs.declared.event.Event.{Event}
+use Rattle.cam_event.specs.declared.event.Event.TheVariants.{Submit}
+use Rattle.cam_event.specs.declared.submission.Submission.{Submission}
+use Rattle.cam_event.proofs.ConcernLaws.{concerns-none}
+use Rattle.cam_event.proofs.TotalLaws.{commands-stays}
 use Rattle.cam_types.specs.Questions.{names_device}
 use Rattle.cam_event.specs.Legal.{Rules, IsWithinHistory, most_alive, has_ccb, has_stay, is_legal_event, is_legal}
 use Rattle.cam_event.specs.Laws.{last_class}

@@ -12,14 +12,14 @@ use Rattle.std.proofs.lemmas.List.Quantifiers.{all_pairs_push}
 use Rattle.std.proofs.lemmas.List.Sums.{sum_by-cons}
 use Rattle.cam_types.specs.Topology.{Topology}
 use Rattle.cam_types.specs.declared.outcome.Outcome.{Outcome}
-use Rattle.sense_class.specs.Classes.{classify, asks_requeue, asks_finish}
-use Rattle.sense_class.specs.declared.class.Class as class
-use Rattle.event_log.specs.Event.{is_some_and, concerns, ccb_of, is_erring}
-use Rattle.event_log.specs.Counts.{ccbs, commands, is_recovering, last_result, counted_requeues, retries_of, wants_requeue, wants_finish}
-use Rattle.event_log.specs.declared.event.Event.{Event}
-use Rattle.event_log.specs.declared.event.Event.TheVariants.{Done, Requeue, Finish}
-use Rattle.event_log.proofs.CcbLaws.{event-induction, last_result-push, counted_requeues-push, not_ended-push}
-use Rattle.event_log.proofs.StateLaws.{is_recovering-push}
+use Rattle.cam_event.specs.Classes.{classify, asks_requeue, asks_finish}
+use Rattle.cam_event.specs.declared.class.Class as class
+use Rattle.cam_event.specs.Event.{is_some_and, concerns, ccb_of, is_erring}
+use Rattle.cam_event.specs.Counts.{ccbs, commands, is_recovering, last_result, counted_requeues, retries_of, wants_requeue, wants_finish}
+use Rattle.cam_event.specs.declared.event.Event.{Event}
+use Rattle.cam_event.specs.declared.event.Event.TheVariants.{Done, Requeue, Finish}
+use Rattle.cam_event.proofs.CcbLaws.{event-induction, last_result-push, counted_requeues-push, not_ended-push}
+use Rattle.cam_event.proofs.StateLaws.{is_recovering-push}
 use Rattle.cam_event.specs.Legal.{Rules, names_ccb, is_legal_event, is_legal}
 use Rattle.cam_event.specs.Laws.{last_class}
 use Rattle.cam_event.specs.Refusals.{refusal, first_cause, are_stays_full}

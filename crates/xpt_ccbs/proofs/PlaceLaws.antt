@@ -1,9 +1,9 @@
 -- what is known of each CCB of legal events, and where it stands: in a queue, in flight, behind an error, or nowhere
 use Rattle.std.proofs.Common.{◌≡◌, ℕ, ◌≤◌, true, List, [], ◌∷◌, ◌++◌, refl, ◌∙◌, arith}
 use Rattle.cam_types.specs.Topology.{Topology}
-use Rattle.event_log.specs.Counts.{commands, submissions, is_in_flight, is_recovering, last_result, counted_requeues}
-use Rattle.event_log.specs.declared.event.Event.{Event}
-use Rattle.event_log.specs.declared.submission.Submission.{Submission}
+use Rattle.cam_event.specs.Counts.{commands, submissions, is_in_flight, is_recovering, last_result, counted_requeues}
+use Rattle.cam_event.specs.declared.event.Event.{Event}
+use Rattle.cam_event.specs.declared.submission.Submission.{Submission}
 use Rattle.cam_event.specs.Legal.{Rules, is_legal_event, is_legal}
 use Rattle.cam_event.proofs.LimitLemmas.{legal-induction}
 use Rattle.cam_event.proofs.StandLemmas.{AreStates, concerns-past, commands-grow, states_step, states_none}

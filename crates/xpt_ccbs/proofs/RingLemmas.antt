@@ -8,7 +8,7 @@ use Rattle.std.proofs.lemmas.List.{get_or-set_same, get_or-set_other}
 use Rattle.std.proofs.lemmas.List.Elements.{All-push, All-from_recursion, recursion_from_All}
 use Rattle.std.proofs.lemmas.List.FromFn.{length-range_with_len}
 use Rattle.std.proofs.lemmas.List.Sums.{sum_by-cons, sum_by-append}
-use Rattle.event_log.proofs.ListFacts.{count_by-push}
+use Rattle.cam_event.proofs.ListFacts.{count_by-push}
 use Rattle.xpt_ccbs.proofs.ListFacts.{length-by_number, sum_by-ones}
 use Rattle.xpt_ccbs.specs.Order.{CaseOrder, times, other_cases, follow, Links, IsRing}
 

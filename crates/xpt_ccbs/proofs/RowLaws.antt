@@ -9,15 +9,15 @@ use Rattle.std.proofs.lemmas.List.Elements.{All-from_get_or}
 use Rattle.std.proofs.lemmas.List.FromFn.{length-map-range_with_len, get_or-map-range_with_len}
 use Rattle.std.proofs.lemmas.List.Sums.{count_by-le-length}
 use Rattle.cam_types.specs.declared.outcome.Outcome.{Outcome}
-use Rattle.event_log.specs.Event.{is_send_of, is_done_of, is_send_or_done_of, is_requeue_of, concerns, ccb_of, outcome_of, is_erring, ends, submission_of}
-use Rattle.event_log.specs.Counts.{submission, submissions, commands, ccbs}
-use Rattle.event_log.specs.declared.event.Event.{Event}
-use Rattle.event_log.specs.declared.submission.Submission.{Submission}
-use Rattle.event_log.proofs.Laws.{submissions-push}
-use Rattle.event_log.proofs.StateLaws.{is_in_flight-push, is_recovering-push}
-use Rattle.event_log.proofs.CcbLaws.{last_result-push, counted_requeues-push, requeues-push, not_ended-push, few_counted}
-use Rattle.event_log.proofs.ConcernLaws.{apart, concerns-other, concerns-none, submit_concerns_none}
-use Rattle.event_log.proofs.TotalLaws.{commands-submit, commands-none}
+use Rattle.cam_event.specs.Event.{is_send_of, is_done_of, is_send_or_done_of, is_requeue_of, concerns, ccb_of, outcome_of, is_erring, ends, submission_of}
+use Rattle.cam_event.specs.Counts.{submission, submissions, commands, ccbs}
+use Rattle.cam_event.specs.declared.event.Event.{Event}
+use Rattle.cam_event.specs.declared.submission.Submission.{Submission}
+use Rattle.cam_event.proofs.PushLaws.{submissions-push}
+use Rattle.cam_event.proofs.StateLaws.{is_in_flight-push, is_recovering-push}
+use Rattle.cam_event.proofs.CcbLaws.{last_result-push, counted_requeues-push, requeues-push, not_ended-push, few_counted}
+use Rattle.cam_event.proofs.ConcernLaws.{apart, concerns-other, concerns-none, submit_concerns_none}
+use Rattle.cam_event.proofs.TotalLaws.{commands-submit, commands-none}
 use Rattle.xpt_ccbs.specs.declared.ccb.Ccb.{Ccb}
 use Rattle.xpt_ccbs.specs.Ccbs.{is_alive, ccb_by, alive_ccb, rows}
 use Rattle.xpt_ccbs.specs.Change.{fresh, counts, next_ccb, next_row, updated_at, IsSmall}

@@ -9,7 +9,7 @@ use Rattle.std.proofs.lemmas.List.Elements.{All-get_or}
 use Rattle.std.proofs.lemmas.List.Sums.{sum_by-set, sum_by_push, sum_by_more_le, count_by-le-length}
 use Rattle.cam_ccb.specs.declared.handle.Handle.{Handle}
 use Rattle.cam_ccb.specs.Table.{Table, find, held_count, Updates}
-use Rattle.event_log.specs.declared.event.Event.{Event}
+use Rattle.cam_event.specs.declared.event.Event.{Event}
 use Rattle.xpt_ccbs.specs.declared.ccb.Ccb.{Ccb}
 use Rattle.xpt_ccbs.specs.Change.{next_row, updated_at, IsSmall}
 use Rattle.xpt_ccbs.specs.Rows.{rows_in, is_row_in_flight, IsTable}

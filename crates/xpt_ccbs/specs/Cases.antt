@@ -2,9 +2,9 @@
 use Rattle.std.specs.Prelude.{ℕ, ◌+◌, Bool, not, List, length, map, filter, drop, Option, Some, None, if◌then◌else◌}
 use Rattle.std.specs.List.{list_any, filter_map}
 use Rattle.cam_types.specs.Lists.{moments}
-use Rattle.event_log.specs.Event.{concerns, is_erring}
-use Rattle.event_log.specs.declared.event.Event.{Event}
-use Rattle.event_log.specs.declared.event.Event.TheVariants.{Done}
+use Rattle.cam_event.specs.Event.{concerns, is_erring}
+use Rattle.cam_event.specs.declared.event.Event.{Event}
+use Rattle.cam_event.specs.declared.event.Event.TheVariants.{Done}
 
 -- a completion that erred: its CCB and its place
 pub record Failure : Type 0 where

@@ -2,10 +2,10 @@
 use Rattle.std.specs.Prelude.{ℕ, Bool, not, List, map, Option, None, count_by, if◌then◌else◌}
 use Rattle.std.specs.List.{list_any}
 use Rattle.std.specs.Option.{option_map}
-use Rattle.event_log.specs.Event.{ends, is_requeue_of}
-use Rattle.event_log.specs.Counts.{submission, ccbs, is_in_flight, is_recovering, last_result, counted_requeues}
-use Rattle.event_log.specs.declared.event.Event.{Event}
-use Rattle.event_log.specs.declared.submission.Submission.{Submission}
+use Rattle.cam_event.specs.Event.{ends, is_requeue_of}
+use Rattle.cam_event.specs.Counts.{submission, ccbs, is_in_flight, is_recovering, last_result, counted_requeues}
+use Rattle.cam_event.specs.declared.event.Event.{Event}
+use Rattle.cam_event.specs.declared.submission.Submission.{Submission}
 use Rattle.xpt_ccbs.specs.declared.ccb.Ccb.{Ccb}
 
 -- no event ended the CCB

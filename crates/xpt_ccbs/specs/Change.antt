@@ -1,11 +1,11 @@
 -- what an event makes of a row
 use Rattle.std.specs.Prelude.{ℕ, ◌+◌, ◌-◌, ◌^◌, ◌<◌, Bool, false, ◌&&◌, List, Option, Some, None, if◌then◌else◌, slice_get, slice_set}
 use Rattle.std.specs.Option.{option_map, option_map_or}
-use Rattle.sense_class.specs.Classes.{kind_of, is_counted, classify}
-use Rattle.sense_class.specs.declared.class.Class as class
-use Rattle.event_log.specs.Event.{is_some_and, is_send_of, is_done_of, is_send_or_done_of, is_requeue_of, concerns, outcome_of, is_erring, ends}
-use Rattle.event_log.specs.declared.event.Event.{Event}
-use Rattle.event_log.specs.declared.submission.Submission.{Submission}
+use Rattle.cam_event.specs.Classes.{kind_of, is_counted, classify}
+use Rattle.cam_event.specs.declared.class.Class as class
+use Rattle.cam_event.specs.Event.{is_some_and, is_send_of, is_done_of, is_send_or_done_of, is_requeue_of, concerns, outcome_of, is_erring, ends}
+use Rattle.cam_event.specs.declared.event.Event.{Event}
+use Rattle.cam_event.specs.declared.submission.Submission.{Submission}
 use Rattle.xpt_ccbs.specs.declared.ccb.Ccb.{Ccb}
 
 -- a CCB that was submitted just now

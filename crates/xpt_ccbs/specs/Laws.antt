@@ -4,11 +4,11 @@ use Rattle.std.specs.List.{list_any}
 use Rattle.std.specs.Option.{option_map_or}
 use Rattle.cam_types.specs.Topology.{Topology}
 use Rattle.cam_types.specs.declared.outcome.Outcome.{Outcome}
-use Rattle.sense_class.specs.Classes.{classify, asks_requeue, asks_finish}
-use Rattle.event_log.specs.Event.{is_some_and, is_erring}
-use Rattle.event_log.specs.Counts.{ccbs, is_recovering, counted_requeues, retries_of}
-use Rattle.event_log.specs.declared.event.Event.{Event}
-use Rattle.event_log.specs.declared.event.Event.TheVariants.{Done, Requeue, Finish}
+use Rattle.cam_event.specs.Classes.{classify, asks_requeue, asks_finish}
+use Rattle.cam_event.specs.Event.{is_some_and, is_erring}
+use Rattle.cam_event.specs.Counts.{ccbs, is_recovering, counted_requeues, retries_of}
+use Rattle.cam_event.specs.declared.event.Event.{Event}
+use Rattle.cam_event.specs.declared.event.Event.TheVariants.{Done, Requeue, Finish}
 use Rattle.cam_event.specs.Legal.{Rules, is_legal_event, is_legal}
 use Rattle.cam_event.specs.Laws.{last_class}
 use Rattle.cam_event.specs.Refusals.{refusal}

@@ -1,8 +1,8 @@
 -- the CCBs that wait for a decision, in a ring
 use Rattle.std.specs.Prelude.{◌≡◌, ℕ, ◌+◌, ◌<◌, ◌≤◌, ◌==◌, zero, suc, not, if◌then◌else◌, List, [], ◌∷◌, ◌++◌, length, filter, count_by, All, get_or}
-use Rattle.event_log.specs.Event.{is_erring}
-use Rattle.event_log.specs.declared.event.Event.{Event}
-use Rattle.event_log.specs.declared.event.Event.TheVariants.{Done, Requeue, Finish}
+use Rattle.cam_event.specs.Event.{is_erring}
+use Rattle.cam_event.specs.declared.event.Event.{Event}
+use Rattle.cam_event.specs.declared.event.Event.TheVariants.{Done, Requeue, Finish}
 
 -- the CCBs in order, and how many CCBs there may be
 pub record CaseOrder : Type 0 where

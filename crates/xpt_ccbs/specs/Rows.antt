@@ -3,8 +3,8 @@ use Rattle.std.specs.Prelude.{◌≡◌, ℕ, ◌^◌, ◌<◌, ◌≤◌, Bool,
 use Rattle.std.specs.Option.{option_map_or}
 use Rattle.cam_ccb.specs.declared.handle.Handle.{Handle}
 use Rattle.cam_ccb.specs.Table.{Table, find, held_count}
-use Rattle.event_log.specs.Event.{is_some_and, ccb_of, submission_of}
-use Rattle.event_log.specs.declared.event.Event.{Event}
+use Rattle.cam_event.specs.Event.{is_some_and, ccb_of, submission_of}
+use Rattle.cam_event.specs.declared.event.Event.{Event}
 use Rattle.xpt_ccbs.specs.declared.ccb.Ccb.{Ccb}
 use Rattle.xpt_ccbs.specs.Change.{fresh, updated_at, IsSmall}
 

@@ -2,7 +2,7 @@
 
 ghost use Rattle.std.specs.Prelude.{◌≡◌, ◌<◌, length, slice_set};
 
-use event_log::Event;
+use cam_event::Event;
 use std::alloc::{AllocError, Global};
 use std::marker::Model;
 

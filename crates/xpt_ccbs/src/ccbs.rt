@@ -5,8 +5,8 @@ use crate::ccb::Ccb;
 use crate::rows::Rows;
 use cam_event::Rules;
 use cam_types::Config;
-use event_log::Event;
-use sense_class::Class;
+use cam_event::Event;
+use cam_event::Class;
 use std::alloc::{AllocError, Global};
 use std::marker::Model;
 use xpt_adapters::Adapters;
@@ -37,7 +37,7 @@ impl Ccbs {
     ghost use Rattle.std.specs.Option.{option_copied};
     ghost use Rattle.cam_event.specs.Legal.{is_legal_event};
     ghost use Rattle.cam_event.specs.Laws.{last_class};
-    ghost use Rattle.event_log.specs.Counts.{ccbs, alive, is_in_flight, is_recovering, wants_requeue, wants_finish};
+    ghost use Rattle.cam_event.specs.Counts.{ccbs, alive, is_in_flight, is_recovering, wants_requeue, wants_finish};
     ghost use Rattle.xpt_ccbs.specs.Ccbs.{is_alive, alive_ccb};
     ghost use Rattle.xpt_ccbs.specs.Cases.{cases};
 

@@ -2,13 +2,13 @@
 
 ghost use Rattle.std.specs.Prelude.{◌≡◌, ◌+◌, ◌-◌, ◌^◌, ◌<◌, ◌≤◌, slice_get, cond, is_some, IsSome};
 ghost use Rattle.cam_ccb.specs.Table.{find, held_count, Updates};
-ghost use Rattle.event_log.specs.Event.{ends};
+ghost use Rattle.cam_event.specs.Event.{ends};
 ghost use Rattle.xpt_ccbs.specs.Change.{fresh, next_row, IsSmall};
 ghost use Rattle.xpt_ccbs.specs.Rows.{is_row_in_flight};
 
 use crate::ccb::Ccb;
 use cam_ccb::{CcbTable, Handle};
-use event_log::{Event, Submission};
+use cam_event::{Event, Submission};
 
 /// What is known of the CCB behind the event; nothing more where the event ends it.
 pub fn next_row(row: Option<Ccb>, ccb: u32, event: &Event) -> Option<Ccb>

@@ -3,7 +3,7 @@
 use crate::ccb::Ccb;
 use crate::parts::{flight, handle_at, next_row, put, take};
 use cam_ccb::{CcbTable, Handle};
-use event_log::{Event, Submission};
+use cam_event::{Event, Submission};
 use std::alloc::{AllocError, Global};
 use std::marker::Model;
 

@@ -5,17 +5,17 @@ use Rattle.std.specs.Option.{option_map}
 use Rattle.std.proofs.lemmas.List.FromFn.{length-range_with_len}
 use Rattle.std.proofs.lemmas.List.Sums.{count_by-le-length}
 use Rattle.cam_types.specs.Topology.{Topology}
-use Rattle.event_log.specs.Event.{is_tick, is_send_of, submission_of}
-use Rattle.event_log.specs.Counts.{round, commands, ccbs, is_in_flight}
-use Rattle.event_log.specs.Stays.{stays_begun, stay_begun, waiting}
-use Rattle.event_log.specs.declared.event.Event.{Event}
-use Rattle.event_log.specs.declared.event.Event.TheVariants.{Submit, Send, Done, Requeue, Tick}
-use Rattle.event_log.specs.declared.stay.Stay.{Stay}
-use Rattle.event_log.proofs.Laws.{round-push, few_rounds, few_stays, few_commands}
-use Rattle.event_log.proofs.StateLaws.{is_in_flight-push}
+use Rattle.cam_event.specs.Event.{is_tick, is_send_of, submission_of}
+use Rattle.cam_event.specs.Counts.{round, commands, ccbs, is_in_flight}
+use Rattle.cam_event.specs.Stays.{stays_begun, stay_begun, waiting}
+use Rattle.cam_event.specs.declared.event.Event.{Event}
+use Rattle.cam_event.specs.declared.event.Event.TheVariants.{Submit, Send, Done, Requeue, Tick}
+use Rattle.cam_event.specs.declared.stay.Stay.{Stay}
+use Rattle.cam_event.proofs.PushLaws.{round-push, few_rounds, few_stays, few_commands}
+use Rattle.cam_event.proofs.StateLaws.{is_in_flight-push}
 use Rattle.cam_event.specs.Legal.{Rules, is_legal_event, is_legal}
-use Rattle.event_log.proofs.ShareLaws.{some-range, flying-other, flies-send, lands-done}
-use Rattle.event_log.proofs.TotalLaws.{submitted_stay, requeued_stay, flying, flying-same, flying-at, flying-submit, begun-none, begun-one, waiting-none, waiting-one, waiting-send, some_waits, few_waiting}
+use Rattle.cam_event.proofs.ShareLaws.{some-range, flying-other, flies-send, lands-done}
+use Rattle.cam_event.proofs.TotalLaws.{submitted_stay, requeued_stay, flying, flying-same, flying-at, flying-submit, begun-none, begun-one, waiting-none, waiting-one, waiting-send, some_waits, few_waiting}
 use Rattle.cam_event.proofs.StandLemmas.{AreStates, states-legal, asks-send, asks-done, asks-requeue, new-states, IsWaiting}
 use Rattle.cam_event.proofs.FirstLemmas.{first-legal, stands}
 use Rattle.xpt_devices.specs.Counted.{counts_of, counted, CanCount, AreFew}

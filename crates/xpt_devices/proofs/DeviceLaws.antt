@@ -6,22 +6,22 @@ use Rattle.std.specs.Option.{option_map, option_map_or}
 use Rattle.cam_types.specs.Topology.{Topology}
 use Rattle.cam_types.specs.declared.flags.Flags.{Flags}
 use Rattle.cam_types.specs.declared.outcome.Outcome.{Outcome}
-use Rattle.event_log.specs.Event.{is_some_and, is_tick, is_send_of, is_erring, submission_of}
-use Rattle.event_log.specs.Counts.{round, commands, ccbs, submission, is_in_flight, is_recovering, sending_of, goes_to, caller_count, error_count}
-use Rattle.event_log.specs.Stays.{stay_begun}
-use Rattle.event_log.specs.Head.{openings}
-use Rattle.event_log.specs.declared.event.Event.{Event}
-use Rattle.event_log.specs.declared.event.Event.TheVariants.{Submit, Send, Done, Requeue, Finish, FreezeDev, ReleaseDev, FreezeSim, ReleaseSim, Adjust, Tick}
-use Rattle.event_log.specs.declared.submission.Submission.{Submission}
-use Rattle.event_log.specs.declared.stay.Stay.{Stay}
-use Rattle.event_log.specs.declared.sending.Sending.{Sending}
-use Rattle.event_log.proofs.StateLaws.{is_in_flight-push, is_recovering-push}
-use Rattle.event_log.proofs.QueueLaws.{later-tick}
+use Rattle.cam_event.specs.Event.{is_some_and, is_tick, is_send_of, is_erring, submission_of}
+use Rattle.cam_event.specs.Counts.{round, commands, ccbs, submission, is_in_flight, is_recovering, sending_of, goes_to, caller_count, error_count}
+use Rattle.cam_event.specs.Stays.{stay_begun}
+use Rattle.cam_event.specs.Head.{openings}
+use Rattle.cam_event.specs.declared.event.Event.{Event}
+use Rattle.cam_event.specs.declared.event.Event.TheVariants.{Submit, Send, Done, Requeue, Finish, FreezeDev, ReleaseDev, FreezeSim, ReleaseSim, Adjust, Tick}
+use Rattle.cam_event.specs.declared.submission.Submission.{Submission}
+use Rattle.cam_event.specs.declared.stay.Stay.{Stay}
+use Rattle.cam_event.specs.declared.sending.Sending.{Sending}
+use Rattle.cam_event.proofs.StateLaws.{is_in_flight-push, is_recovering-push}
+use Rattle.cam_event.proofs.QueueLaws.{later-tick}
 use Rattle.cam_event.specs.Refusals.{device_of}
 use Rattle.dev_queue.specs.Device.{Device, enter}
 use Rattle.dev_queue.specs.declared.waiting.Waiting.{Waiting}
-use Rattle.event_log.proofs.ShareLaws.{error_count-share, share-same, share-submit, share-gain, share-lose, flying-other, recovering-other, same_number, flies-send, lands-done}
-use Rattle.event_log.proofs.TotalLaws.{submitted_stay, requeued_stay}
+use Rattle.cam_event.proofs.ShareLaws.{error_count-share, share-same, share-submit, share-gain, share-lose, flying-other, recovering-other, same_number, flies-send, lands-done}
+use Rattle.cam_event.proofs.TotalLaws.{submitted_stay, requeued_stay}
 use Rattle.cam_event.proofs.StandLemmas.{AreStates, new-states, flying-states}
 use Rattle.cam_event.proofs.FirstLemmas.{IsFirst, stands, in_order-first, in_order-elsewhere, later-send}
 use Rattle.xpt_devices.specs.Device.{entry, in_order, later, next_openings, is_in_flight_at, device_state}

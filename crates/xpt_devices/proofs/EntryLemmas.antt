@@ -5,9 +5,9 @@ use Rattle.std.specs.List.{list_all}
 use Rattle.std.proofs.lemmas.Bool.{and_parts, and_from}
 use Rattle.std.proofs.lemmas.Bool.Decides.{nat_tests}
 use Rattle.cam_types.specs.Lists.{is_less}
-use Rattle.event_log.specs.Stays.{queue_key, earlier_key}
-use Rattle.event_log.specs.Sorted.{insert_by, sorted_by}
-use Rattle.event_log.specs.declared.stay.Stay.{Stay}
+use Rattle.cam_event.specs.Stays.{queue_key, earlier_key}
+use Rattle.cam_event.specs.Sorted.{insert_by, sorted_by}
+use Rattle.cam_event.specs.declared.stay.Stay.{Stay}
 use Rattle.dev_queue.specs.Device.{enter, enter_all}
 use Rattle.dev_queue.specs.declared.waiting.Waiting.{Waiting}
 use Rattle.xpt_devices.specs.Device.{entry}

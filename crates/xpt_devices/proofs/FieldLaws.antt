@@ -4,19 +4,19 @@ use Rattle.std.specs.Prelude.{◌==◌, count_by, option_to_list}
 use Rattle.std.specs.List.{before_last}
 use Rattle.std.specs.Option.{option_map_or}
 use Rattle.cam_types.specs.Topology.{Topology}
-use Rattle.event_log.specs.Event.{is_some_and, is_tick, is_adjust_of, adjusts_to}
-use Rattle.event_log.specs.Counts.{last, sendings, sending_of, goes_to}
-use Rattle.event_log.specs.Stays.{stays_begun, stay_begun}
+use Rattle.cam_event.specs.Event.{is_some_and, is_tick, is_adjust_of, adjusts_to}
+use Rattle.cam_event.specs.Counts.{last, sendings, sending_of, goes_to}
+use Rattle.cam_event.specs.Stays.{stays_begun, stay_begun}
 use Rattle.cam_types.specs.Questions.{device_openings}
-use Rattle.event_log.specs.Head.{openings, goes_now_to}
-use Rattle.event_log.specs.declared.event.Event.{Event}
-use Rattle.event_log.specs.declared.event.Event.TheVariants.{Tick}
-use Rattle.event_log.specs.declared.stay.Stay.{Stay}
-use Rattle.event_log.proofs.Laws.{stays_begun-push}
-use Rattle.event_log.proofs.ListFacts.{count_by-push}
-use Rattle.event_log.proofs.StateLaws.{last-push}
-use Rattle.event_log.proofs.OpeningLaws.{before_last-push}
-use Rattle.event_log.proofs.TurnLaws.{sends_now-push, sends_now-tick}
+use Rattle.cam_event.specs.Head.{openings, goes_now_to}
+use Rattle.cam_event.specs.declared.event.Event.{Event}
+use Rattle.cam_event.specs.declared.event.Event.TheVariants.{Tick}
+use Rattle.cam_event.specs.declared.stay.Stay.{Stay}
+use Rattle.cam_event.proofs.PushLaws.{stays_begun-push}
+use Rattle.cam_event.proofs.ListFacts.{count_by-push}
+use Rattle.cam_event.proofs.StateLaws.{last-push}
+use Rattle.cam_event.proofs.OpeningLaws.{before_last-push}
+use Rattle.cam_event.proofs.TurnLaws.{sends_now-push, sends_now-tick}
 use Rattle.xpt_devices.specs.Device.{next_openings}
 
 -- the stays of a device so far

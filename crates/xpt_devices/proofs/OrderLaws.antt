@@ -9,22 +9,22 @@ use Rattle.std.proofs.lemmas.Bool.Decides.{nat_tests}
 use Rattle.std.proofs.lemmas.List.{map-append}
 use Rattle.std.proofs.lemmas.List.Elements.{All-head, All-tail}
 use Rattle.cam_types.specs.Lists.{moments, moments_after}
-use Rattle.event_log.specs.Event.{is_tick, is_send_of}
-use Rattle.event_log.specs.Counts.{round, submission}
-use Rattle.event_log.specs.Stays.{stays_begun, waiting, stay_begun, is_unsent, is_at, queue, queue_key}
-use Rattle.event_log.specs.Sorted.{sorted_by}
-use Rattle.event_log.specs.declared.event.Event.{Event}
-use Rattle.event_log.specs.declared.event.Event.TheVariants.{Submit, Send, Done, Requeue, Finish, FreezeDev, ReleaseDev, FreezeSim, ReleaseSim, Adjust, Tick}
-use Rattle.event_log.specs.declared.submission.Submission.{Submission}
-use Rattle.event_log.specs.declared.stay.Stay.{Stay}
-use Rattle.event_log.proofs.Laws.{places-stays_begun, place-stay_begun}
-use Rattle.event_log.proofs.ListFacts.{filter-all}
-use Rattle.event_log.proofs.TurnLaws.{round-more}
-use Rattle.event_log.proofs.SortedLemmas.{sorted_by-push}
-use Rattle.event_log.proofs.QueueLaws.{queue-push, later-push, in_order-tick, arrived-waiting, begun_from, kept_stay, le_test, test_le}
+use Rattle.cam_event.specs.Event.{is_tick, is_send_of}
+use Rattle.cam_event.specs.Counts.{round, submission}
+use Rattle.cam_event.specs.Stays.{stays_begun, waiting, stay_begun, is_unsent, is_at, queue, queue_key}
+use Rattle.cam_event.specs.Sorted.{sorted_by}
+use Rattle.cam_event.specs.declared.event.Event.{Event}
+use Rattle.cam_event.specs.declared.event.Event.TheVariants.{Submit, Send, Done, Requeue, Finish, FreezeDev, ReleaseDev, FreezeSim, ReleaseSim, Adjust, Tick}
+use Rattle.cam_event.specs.declared.submission.Submission.{Submission}
+use Rattle.cam_event.specs.declared.stay.Stay.{Stay}
+use Rattle.cam_event.proofs.PushLaws.{places-stays_begun, place-stay_begun}
+use Rattle.cam_event.proofs.ListFacts.{filter-all}
+use Rattle.cam_event.proofs.TurnLaws.{round-more}
+use Rattle.cam_event.proofs.SortedLemmas.{sorted_by-push}
+use Rattle.cam_event.proofs.QueueLaws.{queue-push, later-push, in_order-tick, arrived-waiting, begun_from, kept_stay, le_test, test_le}
 use Rattle.cam_event.proofs.TestLemmas.{list_all-filter, list_all-filtered, list_all-weaker}
 use Rattle.dev_queue.specs.Device.{enter, enter_all}
-use Rattle.event_log.proofs.TotalLaws.{submitted_stay, requeued_stay}
+use Rattle.cam_event.proofs.TotalLaws.{submitted_stay, requeued_stay}
 use Rattle.xpt_devices.specs.Device.{entry, in_order, is_later, later}
 use Rattle.xpt_devices.proofs.EntryLemmas.{is_behind, all_behind, are_behind, all-sorted, entry-insert, entry-fold}
 

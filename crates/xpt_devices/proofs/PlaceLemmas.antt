@@ -9,8 +9,8 @@ use Rattle.std.proofs.lemmas.List.{length-map}
 use Rattle.std.proofs.lemmas.List.Elements.{All-nil, All-cons}
 use Rattle.std.proofs.lemmas.List.FromFn.{length-range_with_len}
 use Rattle.std.proofs.lemmas.Option.{slice_get_read}
-use Rattle.event_log.proofs.ShareLaws.{same_number}
-use Rattle.event_log.proofs.StateLaws.{map-range_same, map-range_but, slice_get-range, slice_get-range_past}
+use Rattle.cam_event.proofs.ShareLaws.{same_number}
+use Rattle.cam_event.proofs.StateLaws.{map-range_same, map-range_but, slice_get-range, slice_get-range_past}
 use Rattle.xpt_devices.specs.Updated.{at_place, HasAt}
 
 -- a function over a range that changes at one place

@@ -9,18 +9,18 @@ use Rattle.std.proofs.lemmas.Option.{slice_get_cases}
 use Rattle.std.proofs.lemmas.Bool.{or_parts}
 use Rattle.cam_types.specs.Lists.{is_less}
 use Rattle.cam_types.specs.Topology.{Topology}
-use Rattle.event_log.specs.Event.{is_some_and}
-use Rattle.event_log.specs.Counts.{round, commands, ccbs, submission, submissions, is_in_flight, freeze_count, has_in_flight}
-use Rattle.event_log.specs.Stays.{stays_begun, waiting, is_at, queue, queue_key, first}
-use Rattle.event_log.specs.Sorted.{insert_by}
-use Rattle.event_log.specs.Head.{is_ready, has_opening, openings}
-use Rattle.event_log.specs.declared.event.Event.{Event}
-use Rattle.event_log.specs.declared.submission.Submission.{Submission}
-use Rattle.event_log.specs.declared.stay.Stay.{Stay}
-use Rattle.event_log.proofs.QueueLaws.{first-in_order}
+use Rattle.cam_event.specs.Event.{is_some_and}
+use Rattle.cam_event.specs.Counts.{round, commands, ccbs, submission, submissions, is_in_flight, freeze_count, has_in_flight}
+use Rattle.cam_event.specs.Stays.{stays_begun, waiting, is_at, queue, queue_key, first}
+use Rattle.cam_event.specs.Sorted.{insert_by}
+use Rattle.cam_event.specs.Head.{is_ready, has_opening, openings}
+use Rattle.cam_event.specs.declared.event.Event.{Event}
+use Rattle.cam_event.specs.declared.submission.Submission.{Submission}
+use Rattle.cam_event.specs.declared.stay.Stay.{Stay}
+use Rattle.cam_event.proofs.QueueLaws.{first-in_order}
 use Rattle.dev_queue.specs.Device.{Device, held_count}
 use Rattle.dev_queue.specs.Device as dev
-use Rattle.event_log.proofs.TotalLaws.{few_waiting}
+use Rattle.cam_event.proofs.TotalLaws.{few_waiting}
 use Rattle.xpt_devices.specs.Device.{entry, in_order, is_later, later, device_state}
 use Rattle.xpt_devices.proofs.FieldLaws.{is_stay_at, sent_now}
 

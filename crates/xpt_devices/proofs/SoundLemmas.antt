@@ -10,24 +10,24 @@ use Rattle.std.proofs.lemmas.List.Sums.{sum_by-cons}
 use Rattle.std.proofs.lemmas.Bool.Decides.{nat_tests}
 use Rattle.cam_types.specs.Topology.{Topology}
 use Rattle.cam_types.specs.declared.device.Device as config
-use Rattle.event_log.specs.Event.{submission_of}
-use Rattle.event_log.specs.Counts.{submissions, ccbs, sendings, is_in_flight, has_in_flight, caller_count, error_count}
-use Rattle.event_log.specs.Stays.{stays_begun, waiting, queue, first}
+use Rattle.cam_event.specs.Event.{submission_of}
+use Rattle.cam_event.specs.Counts.{submissions, ccbs, sendings, is_in_flight, has_in_flight, caller_count, error_count}
+use Rattle.cam_event.specs.Stays.{stays_begun, waiting, queue, first}
 use Rattle.cam_types.specs.Questions.{devices}
-use Rattle.event_log.specs.Head.{openings}
-use Rattle.event_log.specs.declared.event.Event.{Event}
-use Rattle.event_log.specs.declared.event.Event.TheVariants.{Submit}
-use Rattle.event_log.specs.declared.stay.Stay.{Stay}
-use Rattle.event_log.proofs.QueueLaws.{first-in_order}
-use Rattle.event_log.proofs.Laws.{submissions-push, few_commands}
-use Rattle.event_log.proofs.StateLaws.{slice_get-range}
+use Rattle.cam_event.specs.Head.{openings}
+use Rattle.cam_event.specs.declared.event.Event.{Event}
+use Rattle.cam_event.specs.declared.event.Event.TheVariants.{Submit}
+use Rattle.cam_event.specs.declared.stay.Stay.{Stay}
+use Rattle.cam_event.proofs.QueueLaws.{first-in_order}
+use Rattle.cam_event.proofs.PushLaws.{submissions-push, few_commands}
+use Rattle.cam_event.proofs.StateLaws.{slice_get-range}
 use Rattle.cam_event.specs.Legal.{Rules, IsWithinHistory, is_legal_event, is_legal}
 use Rattle.cam_event.proofs.LawLemmas.{allowed-legal_event, legal-push}
 use Rattle.cam_event.proofs.LimitLemmas.{room_submit}
 use Rattle.cam_event.proofs.WithinLemmas.{short-legal}
 use Rattle.dev_queue.specs.Device.{Device}
 use Rattle.dev_queue.specs.declared.waiting.Waiting.{Waiting}
-use Rattle.event_log.proofs.TotalLaws.{commands-stays}
+use Rattle.cam_event.proofs.TotalLaws.{commands-stays}
 use Rattle.xpt_devices.specs.Device.{entry, in_order, device_state, new_device}
 use Rattle.xpt_devices.specs.Updated.{updated, CanUpdate}
 use Rattle.xpt_devices.specs.Counted.{counts_of, counted, CanCount, AreFew}

@@ -5,16 +5,16 @@ use Rattle.std.specs.Option.{option_map_or}
 use Rattle.std.proofs.lemmas.Bool.{and_parts, and_from, eq-eqb, ltb-true, leb-true, not-true}
 use Rattle.cam_types.specs.Topology.{Topology, are_openings}
 use Rattle.cam_types.specs.declared.maxima.TheConstants.{MOST_PRIORITY, MOST_RETRIES, MOST_FREEZES}
-use Rattle.event_log.specs.Event.{is_some_and, is_erring}
-use Rattle.event_log.specs.Counts.{round, commands, submission, submissions, is_in_flight, is_recovering, has_in_flight, caller_count}
+use Rattle.cam_event.specs.Event.{is_some_and, is_erring}
+use Rattle.cam_event.specs.Counts.{round, commands, submission, submissions, is_in_flight, is_recovering, has_in_flight, caller_count}
 use Rattle.cam_types.specs.Questions.{names_device, devices}
-use Rattle.event_log.specs.Head.{is_ready}
-use Rattle.event_log.specs.Stays.{stays_begun}
-use Rattle.event_log.specs.declared.event.Event.{Event}
-use Rattle.event_log.specs.declared.event.Event.TheVariants.{Submit, Send, Done, Requeue, Finish, FreezeDev, ReleaseDev, FreezeSim, ReleaseSim, Adjust, Tick}
-use Rattle.event_log.specs.declared.submission.Submission.{Submission}
-use Rattle.event_log.specs.declared.stay.Stay.{Stay}
-use Rattle.event_log.proofs.Laws.{few_commands}
+use Rattle.cam_event.specs.Head.{is_ready}
+use Rattle.cam_event.specs.Stays.{stays_begun}
+use Rattle.cam_event.specs.declared.event.Event.{Event}
+use Rattle.cam_event.specs.declared.event.Event.TheVariants.{Submit, Send, Done, Requeue, Finish, FreezeDev, ReleaseDev, FreezeSim, ReleaseSim, Adjust, Tick}
+use Rattle.cam_event.specs.declared.submission.Submission.{Submission}
+use Rattle.cam_event.specs.declared.stay.Stay.{Stay}
+use Rattle.cam_event.proofs.PushLaws.{few_commands}
 use Rattle.cam_event.specs.Legal.{Rules, IsWithinHistory, is_count, is_legal_event, is_legal}
 use Rattle.cam_event.specs.Laws.{is_in_range}
 use Rattle.cam_event.specs.Refusals.{device_of}
@@ -23,7 +23,7 @@ use Rattle.cam_event.proofs.LimitLemmas.{room_submit, room_requeue}
 use Rattle.cam_event.proofs.RangeLemmas.{range_submit, submissions_in_range, passes-slice_get}
 use Rattle.dev_queue.specs.Device.{Device, held_count}
 use Rattle.dev_queue.specs.Device as dev
-use Rattle.event_log.proofs.ShareLaws.{error_count-share, some-share}
+use Rattle.cam_event.proofs.ShareLaws.{error_count-share, some-share}
 use Rattle.cam_event.proofs.StandLemmas.{AreStates, states-legal, asks-send, asks-done, asks-requeue, asks-finish}
 use Rattle.cam_event.proofs.FirstLemmas.{IsFirst, first-legal}
 use Rattle.xpt_devices.specs.Device.{device_state}

@@ -1,9 +1,9 @@
 -- what is counted of all devices together
 use Rattle.std.specs.Prelude.{◌+◌, ◌-◌, ◌<◌, ◌≤◌, List, length, count_by}
-use Rattle.event_log.specs.Counts.{round, ccbs, is_in_flight}
-use Rattle.event_log.specs.Stays.{stays_begun, waiting}
-use Rattle.event_log.specs.declared.event.Event.{Event}
-use Rattle.event_log.specs.declared.event.Event.TheVariants.{Submit, Send, Done, Requeue, Tick}
+use Rattle.cam_event.specs.Counts.{round, ccbs, is_in_flight}
+use Rattle.cam_event.specs.Stays.{stays_begun, waiting}
+use Rattle.cam_event.specs.declared.event.Event.{Event}
+use Rattle.cam_event.specs.declared.event.Event.TheVariants.{Submit, Send, Done, Requeue, Tick}
 use Rattle.xpt_devices.specs.declared.counts.Counts.{Counts}
 
 -- the round, the stays so far, those without a send, and the CCBs in flight

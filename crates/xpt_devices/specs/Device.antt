@@ -5,15 +5,15 @@ use Rattle.cam_types.specs.Topology.{Topology}
 use Rattle.cam_types.specs.declared.device.Device as config
 use Rattle.dev_queue.specs.Device.{Device}
 use Rattle.dev_queue.specs.declared.waiting.Waiting.{Waiting}
-use Rattle.event_log.specs.Event.{is_some_and, is_adjust_of, adjusts_to}
-use Rattle.event_log.specs.Counts.{round, ccbs, submission, last, is_in_flight, sendings, caller_count, error_count}
-use Rattle.event_log.specs.Stays.{stays_begun, waiting, queue, queue_key}
-use Rattle.event_log.specs.Sorted.{sorted_by}
+use Rattle.cam_event.specs.Event.{is_some_and, is_adjust_of, adjusts_to}
+use Rattle.cam_event.specs.Counts.{round, ccbs, submission, last, is_in_flight, sendings, caller_count, error_count}
+use Rattle.cam_event.specs.Stays.{stays_begun, waiting, queue, queue_key}
+use Rattle.cam_event.specs.Sorted.{sorted_by}
 use Rattle.cam_types.specs.Questions.{device_openings}
-use Rattle.event_log.specs.Head.{openings, goes_now_to}
-use Rattle.event_log.specs.declared.event.Event.{Event}
-use Rattle.event_log.specs.declared.submission.Submission.{Submission}
-use Rattle.event_log.specs.declared.stay.Stay.{Stay}
+use Rattle.cam_event.specs.Head.{openings, goes_now_to}
+use Rattle.cam_event.specs.declared.event.Event.{Event}
+use Rattle.cam_event.specs.declared.submission.Submission.{Submission}
+use Rattle.cam_event.specs.declared.stay.Stay.{Stay}
 
 -- a stay as it waits at its device
 abbrev pub entry : Stay → Waiting

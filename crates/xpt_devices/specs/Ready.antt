@@ -2,10 +2,10 @@
 use Rattle.std.specs.Prelude.{ℕ, if◌then◌else◌, List, Option, None}
 use Rattle.std.specs.Option.{option_map}
 use Rattle.cam_types.specs.Topology.{Topology}
-use Rattle.event_log.specs.Stays.{first}
-use Rattle.event_log.specs.Head.{is_ready}
-use Rattle.event_log.specs.declared.event.Event.{Event}
-use Rattle.event_log.specs.declared.stay.Stay.{Stay}
+use Rattle.cam_event.specs.Stays.{first}
+use Rattle.cam_event.specs.Head.{is_ready}
+use Rattle.cam_event.specs.declared.event.Event.{Event}
+use Rattle.cam_event.specs.declared.stay.Stay.{Stay}
 
 -- the priority of the device's first stay, where the device is ready
 abbrev pub ready_priority : Topology → List Event → ℕ → Option ℕ

@@ -1,6 +1,6 @@
 -- the parts that hold a transport's devices
 use Rattle.std.specs.Prelude.{◌≡◌, ◌≤◌, map, IsTrue, vec_capacity}
-use Rattle.event_log.specs.Counts.{submissions}
+use Rattle.cam_event.specs.Counts.{submissions}
 use Rattle.cam_types.specs.Questions.{devices}
 use Rattle.cam_event.specs.Legal.{IsWithinHistory, is_legal}
 use Rattle.xpt_devices.specs.Device.{device_state}

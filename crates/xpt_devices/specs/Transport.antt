@@ -2,7 +2,7 @@
 use Rattle.std.specs.Prelude.{List}
 use Rattle.cam_types.specs.Topology.{Topology}
 use Rattle.cam_event.specs.Legal.{Rules}
-use Rattle.event_log.specs.declared.event.Event.{Event}
+use Rattle.cam_event.specs.declared.event.Event.{Event}
 
 -- a configuration, how far the events may go, and the events so far
 pub record Transport : Type 0 where

@@ -4,10 +4,10 @@ use Rattle.std.specs.Option.{option_map_or}
 use Rattle.cam_types.specs.declared.maxima.TheConstants.{MOST_PRIORITY}
 use Rattle.dev_queue.specs.Device.{Device, enter, enter_all, held_count, is_ready}
 use Rattle.dev_queue.specs.declared.waiting.Waiting.{Waiting}
-use Rattle.event_log.specs.Event.{is_erring}
-use Rattle.event_log.specs.declared.event.Event.{Event}
-use Rattle.event_log.specs.declared.event.Event.TheVariants.{Submit, Send, Done, Requeue, Finish, FreezeDev, ReleaseDev, Adjust, Tick}
-use Rattle.event_log.specs.declared.submission.Submission.{Submission}
+use Rattle.cam_event.specs.Event.{is_erring}
+use Rattle.cam_event.specs.declared.event.Event.{Event}
+use Rattle.cam_event.specs.declared.event.Event.TheVariants.{Submit, Send, Done, Requeue, Finish, FreezeDev, ReleaseDev, Adjust, Tick}
+use Rattle.cam_event.specs.declared.submission.Submission.{Submission}
 
 -- the list, of which the element of this number changes
 abbrev pub at_place : {X : Type 0} → ℕ → (X → X) → List X → List X

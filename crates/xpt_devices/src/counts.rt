@@ -1,6 +1,6 @@
 //! What is counted of all devices together.
 
-use event_log::Event;
+use cam_event::Event;
 
 /// What is counted of all devices together.
 #[derive(Clone, Copy)]
@@ -20,7 +20,7 @@ impl Counts {
     ghost use Rattle.xpt_devices.specs.Counted.{counts_of, counted, CanCount, AreFew};
 
     /// Before any event.
-    #[tactic(auto, unfolding(crate::specs::Counted::counts_of, event_log::specs::Counts::round, event_log::specs::Stays::stays_begun, event_log::specs::Stays::waiting, event_log::specs::Counts::submissions))]
+    #[tactic(auto, unfolding(crate::specs::Counted::counts_of, cam_event::specs::Counts::round, cam_event::specs::Stays::stays_begun, cam_event::specs::Stays::waiting, cam_event::specs::Counts::submissions))]
     pub(crate) fn none() -> Counts
         ensures { result ≡ counts_of [] }
     {

@@ -1,7 +1,7 @@
 //! The devices of a transport: how they open, and how an event is put behind the others.
 
 ghost use Rattle.std.specs.Prelude.{◌≡◌, ◌<◌, ◌≤◌, [], ◌∷◌, ◌++◌, length, IsTrue, IfOk, IfSome, option_to_list, vec_len, vec_capacity};
-ghost use Rattle.event_log.specs.Event.{submission_of};
+ghost use Rattle.cam_event.specs.Event.{submission_of};
 
 mod questions;
 
@@ -11,7 +11,7 @@ use crate::update::update;
 use cam_event::Rules;
 use cam_types::Config;
 use dev_queue::DevQueue;
-use event_log::{Event, Submission};
+use cam_event::{Event, Submission};
 use std::alloc::{AllocError, Global};
 use std::marker::Model;
 

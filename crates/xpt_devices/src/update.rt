@@ -2,12 +2,12 @@
 ghost use Rattle.std.specs.Prelude.{◌≡◌, ◌+◌, ◌<◌, ◌≤◌, ◌&&◌, ◌^◌, true, not, length, All, map};
 ghost use Rattle.cam_types.specs.declared.maxima.TheConstants.{MOST_PRIORITY};
 ghost use Rattle.dev_queue.specs.Device.{is_ready};
-ghost use Rattle.event_log.specs.Event.{is_erring};
+ghost use Rattle.cam_event.specs.Event.{is_erring};
 ghost use Rattle.xpt_devices.specs.Updated.{at_place, with_stay, with_send, with_done, with_requeue, with_finish, with_freezes, less_freezes, with_openings, in_next_round, updated, CanUpdate, HasAt, HasRoom, HasError};
 
 use cam_types::Priority;
 use dev_queue::DevQueue;
-use event_log::{Event, Submission};
+use cam_event::{Event, Submission};
 
 /// Updates the devices' queues by an event, behind these submissions.
 pub(crate) fn update(queues: &mut Vec<DevQueue>, submissions: &[Submission], event: &Event)

@@ -4,7 +4,7 @@ use Rattle.std.specs.Prelude.{not, ◌&&◌, nat_lt, nat_le, IsOk, slice_index_o
 use Rattle.std.specs.List.{list_any}
 use Rattle.std.proofs.lemmas.Bool.{and_parts, and_from, ltb-true, lt-ltb}
 use Rattle.std.proofs.lemmas.List.{take_more, map_push, length-map}
-use Rattle.event_log.proofs.ListFacts.{length-moments_after}
+use Rattle.cam_event.proofs.ListFacts.{length-moments_after}
 use Rattle.std.proofs.lemmas.List.FromFn.{length-range_with_len}
 use Rattle.std.proofs.lemmas.List.Sums.{count_by-le-length}
 use Rattle.cam_types.proofs.ListLemmas.{moments-push}
@@ -13,12 +13,12 @@ use Rattle.cam_types.specs.Lists.{moments}
 use Rattle.cam_types.specs.Questions.{names_device}
 use Rattle.cam_types.specs.Topology.{Topology}
 use Rattle.cam_types.specs.declared.maxima.TheConstants.{MOST_CCBS, MOST_STAYS, MOST_PRIORITY, MOST_RETRIES}
-use Rattle.event_log.specs.Event.{ends}
-use Rattle.event_log.specs.Counts.{commands, ccbs, alive}
-use Rattle.event_log.specs.Stays.{stays_begun}
-use Rattle.event_log.proofs.TotalLaws.{commands-stays}
-use Rattle.event_log.specs.declared.event.Event.{Event}
-use Rattle.event_log.specs.declared.event.Event.TheVariants.{Submit}
+use Rattle.cam_event.specs.Event.{ends}
+use Rattle.cam_event.specs.Counts.{commands, ccbs, alive}
+use Rattle.cam_event.specs.Stays.{stays_begun}
+use Rattle.cam_event.proofs.TotalLaws.{commands-stays}
+use Rattle.cam_event.specs.declared.event.Event.{Event}
+use Rattle.cam_event.specs.declared.event.Event.TheVariants.{Submit}
 use Rattle.cam_event.specs.Legal.{Rules, rules_of, history_rules, has_ccb, has_stay, is_allowed, is_legal, is_legal_event}
 use Rattle.cam_event.specs.declared.refusal.Refusal.{Refusal}
 use Rattle.cam_event.proofs.LegalLemmas.{none-legal}

@@ -1,7 +1,7 @@
 -- what a seat gains
 use Rattle.std.proofs.Common.{◌≡◌, ℕ, List, [], ◌∷◌, ◌++◌, Option, refl, ap, append-nil}
 use Rattle.std.specs.Option.{option_to_list}
-use Rattle.event_log.specs.declared.event.Event.{Event}
+use Rattle.cam_event.specs.declared.event.Event.{Event}
 use Rattle.xpt_state.specs.declared.reply.Sent.{Sent}
 use Rattle.xpt_state.specs.declared.reply.Sent.TheVariants as sents
 use Rattle.xpt_lock.specs.Calls.{HasGained, IsTurn, sent_receipt}

@@ -2,8 +2,8 @@
 use Rattle.std.specs.Prelude.{◌≡◌, ℕ, [], ◌∷◌, ◌++◌, Option, Some, None, Result, Ok, Err, MatchResult, IsTrue}
 use Rattle.cam_event.specs.Legal.{is_legal}
 use Rattle.cam_event.specs.declared.refusal.Refusal.{Refusal}
-use Rattle.event_log.specs.declared.event.Event.{Event}
-use Rattle.event_log.specs.declared.event.Event.TheVariants.{Send}
+use Rattle.cam_event.specs.declared.event.Event.{Event}
+use Rattle.cam_event.specs.declared.event.Event.TheVariants.{Send}
 use Rattle.xpt_devices.specs.Transport.{Transport}
 use Rattle.xpt_state.specs.Looks.{look, next_case}
 use Rattle.xpt_state.specs.Steps.{IsStep, IsLaneStep}

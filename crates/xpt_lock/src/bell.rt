@@ -4,11 +4,11 @@ ghost use Rattle.std.specs.Prelude.{◌≡◌};
 ghost use Rattle.xpt_lock.specs.Bells.{gives_work, is_failure, rings};
 
 use cam_event::Event;
-use sense_class::Class;
+use cam_event::Class;
 use xpt_state::Reply;
 
 /// What a worker may sleep for.
-#[derive(Clone, Copy, Debug, PartialEq, Eq, Hash)]
+#[derive(Clone, Copy, Debug, PartialEq, Eq)]
 pub enum Bell {
     /// Rings with each tick.
     Round,

@@ -10,12 +10,12 @@ use std::alloc::AllocError;
 use thiserror::Error;
 
 /// There are 64 seats already.
-#[derive(Clone, Copy, Debug, PartialEq, Eq, Hash, Error)]
+#[derive(Clone, Copy, Debug, PartialEq, Eq, Error)]
 #[error("no seat is left")]
 pub struct SeatsFull;
 
 /// Why a call of a seat made no event.
-#[derive(Clone, Copy, Debug, PartialEq, Eq, Hash, Error)]
+#[derive(Clone, Copy, Debug, PartialEq, Eq, Error)]
 pub enum SharedFault {
     /// There is no memory for one more receipt. The transport wasn't asked.
     #[error("out of memory")]
@@ -42,7 +42,7 @@ impl From<Refusal> for SharedFault {
 }
 
 /// Why no history was gathered.
-#[derive(Clone, Copy, Debug, PartialEq, Eq, Hash, Error)]
+#[derive(Clone, Copy, Debug, PartialEq, Eq, Error)]
 pub enum GatherFault {
     /// The first receipt, by seat and then by its order, whose place doesn't hold its event, or doesn't rise within its seat,
     /// or was named before, or whose reply isn't what the transport answers to that event there.

@@ -1,7 +1,7 @@
 //! Moments, by which a worker that sleeps knows that a bell rang.
 
 /// A moment at a bell of a shared transport: another one comes with each ring.
-#[derive(Clone, Copy, Debug, PartialEq, Eq, Hash)]
+#[derive(Clone, Copy, Debug, PartialEq, Eq)]
 pub struct Moment {
     /// How often the bell rang so far, again from 0 where 64 bits don't hold it.
     pub rings: u64,

@@ -7,7 +7,7 @@ use cam_event::Event;
 use xpt_state::{Reply, Sent};
 
 /// What a call of a seat came to.
-#[derive(Clone, Copy, Debug, PartialEq, Eq, Hash)]
+#[derive(Clone, Copy, Debug, PartialEq, Eq)]
 pub struct Receipt {
     /// The event's place in the history, from 0.
     pub at: u32,

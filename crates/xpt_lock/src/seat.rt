@@ -8,7 +8,7 @@ use std::marker::Model;
 use std::sync::ledger::{Ledger, Share};
 
 /// Who sits in a seat.
-#[derive(Clone, Copy, Debug, PartialEq, Eq, Hash)]
+#[derive(Clone, Copy, Debug, PartialEq, Eq)]
 pub enum SeatName {
     /// The driver of this number.
     Driver(u8),

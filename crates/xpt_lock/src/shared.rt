@@ -1,7 +1,7 @@
 //! The transport under its lock, and the calls of seats.
 
 ghost use Rattle.std.specs.Prelude.{◌≡◌, ◌≢◌, [], IfOk, MatchResult};
-ghost use Rattle.event_log.specs.declared.event.Event.TheVariants as Event;
+ghost use Rattle.cam_event.specs.declared.event.Event.TheVariants as Event;
 ghost use Rattle.xpt_lock.specs.Calls.{IsCall, IsTurn, IsAnswer, IsLaneAnswer, IsLook, IsNextCase};
 ghost use Rattle.xpt_state.specs.Replies.{nothing};
 ghost use Rattle.xpt_state.specs.declared.reply.Reply.TheVariants as replies;
@@ -16,8 +16,13 @@ use cam_event::Event;
 use cam_types::{Flags, Outcome};
 use std::alloc::Global;
 use std::sync::ledger::{Blank, Ledger};
-use std::sync::{Mutex, Wait};
+use std::sync::{Mutex, MutexGuard, Wait};
+use std::thread::yield_now;
 use xpt_state::{Case, Done, Look, Reply, Sent, Xpt};
+
+// How often a thread tries for the lock, and lets others run between, before it sleeps for it. A call holds the lock for less
+// time than a sleep and a wake take.
+const TRIES: u32 = 32;
 
 /// A transport that threads share.
 #[derive(Drop)]
@@ -43,7 +48,18 @@ impl<L: Ledger> SharedXpt<L> {
     pub fn seat<R: Wait>(&self, rt: &R, alloc: Global, name: SeatName) -> Result<Seat<L>, SeatsFull>
         ensures { IfOk result (λ s. s ≡ record { name = name; receipts = [] }) }
     {
-        self.kept.lock(rt).seat(alloc, name)
+        self.lock(rt).seat(alloc, name)
+    }
+
+    // The transport under its lock.
+    fn lock<R: Wait>(&self, rt: &R) -> MutexGuard<'_, Kept<L>> {
+        for _ in 0..TRIES {
+            if let Some(kept) = self.kept.try_lock() {
+                return kept;
+            }
+            yield_now();
+        }
+        self.kept.lock(rt)
     }
 
     // The transport, without its lock.
@@ -63,7 +79,7 @@ impl<L: Ledger> SharedXpt<L> {
             share,
         } = seat;
         receipts.reserve(1)?;
-        let receipt = self.kept.lock(rt).take(event, share)?;
+        let receipt = self.lock(rt).take(event, share)?;
         let reply = receipt.reply;
         receipts.push_reserved(receipt);
         self.sleepers.wake(&event, &reply);
@@ -113,7 +129,7 @@ impl<L: Ledger> SharedXpt<L> {
             share,
         } = seat;
         receipts.reserve(1)?;
-        let (sent, receipt) = self.kept.lock(rt).send_next(lane, share)?;
+        let (sent, receipt) = self.lock(rt).send_next(lane, share)?;
         if let Some(receipt) = receipt {
             receipts.push_reserved(receipt);
         }
@@ -244,19 +260,19 @@ impl<L: Ledger> SharedXpt<L> {
     pub fn next_case<R: Wait>(&self, rt: &R) -> Option<Case>
         ensures { IsNextCase result }
     {
-        self.kept.lock(rt).next_case()
+        self.lock(rt).next_case()
     }
 
     /// What there is to see, all in counts: `Xpt::look`.
     pub fn look<R: Wait>(&self, rt: &R) -> Look
         ensures { IsLook result }
     {
-        self.kept.lock(rt).look()
+        self.lock(rt).look()
     }
 
     /// The moment that it is at the bell. A worker takes it before it looks for something to do, and finds nothing.
     pub fn moment<R: Wait>(&self, rt: &R, bell: Bell) -> Moment {
-        self.kept.lock(rt).moment(bell)
+        self.lock(rt).moment(bell)
     }
 
     /// Sleeps until it is another moment at the bell than the one that was seen there, which is the answer: until the bell rang
@@ -264,7 +280,7 @@ impl<L: Ledger> SharedXpt<L> {
     pub fn wait_past<R: Wait>(&self, rt: &R, bell: Bell, seen: Moment) -> Moment
         ensures { result ≢ seen }
     {
-        let mut kept = self.kept.lock(rt);
+        let mut kept = self.lock(rt);
         for _ in rt.forever() {
             let now = kept.moment(bell);
             if now != seen {
@@ -278,7 +294,7 @@ impl<L: Ledger> SharedXpt<L> {
     /// Rings the bell, so that whoever sleeps at it looks again, as where a worker rests or all are to stop. The transport
     /// stays as it is.
     pub fn ring<R: Wait>(&self, rt: &R, bell: Bell) {
-        self.kept.lock(rt).ring(bell);
+        self.lock(rt).ring(bell);
         self.sleepers.at(bell).notify_all();
     }
 }

@@ -5,13 +5,13 @@ use Rattle.std.specs.List.{list_any, list_all}
 use Rattle.std.proofs.lemmas.Bool.{and_from, eq-eqb, eqb-true, or_cases}
 use Rattle.std.proofs.lemmas.List.Sums.{sum_by-cons}
 use Rattle.cam_types.specs.Topology.{Topology}
-use Rattle.event_log.specs.Event.{is_requeue_of}
-use Rattle.event_log.specs.Counts.{commands}
-use Rattle.event_log.specs.Head.{head, next}
-use Rattle.event_log.specs.Stays.{stays_begun, is_unsent, waiting, has_arrived, queue, first}
-use Rattle.event_log.specs.declared.event.Event.{Event}
-use Rattle.event_log.specs.declared.stay.Stay.{Stay}
-use Rattle.event_log.proofs.TotalLaws.{unsent_count}
+use Rattle.cam_event.specs.Event.{is_requeue_of}
+use Rattle.cam_event.specs.Counts.{commands}
+use Rattle.cam_event.specs.Head.{head, next}
+use Rattle.cam_event.specs.Stays.{stays_begun, is_unsent, waiting, has_arrived, queue, first}
+use Rattle.cam_event.specs.declared.event.Event.{Event}
+use Rattle.cam_event.specs.declared.stay.Stay.{Stay}
+use Rattle.cam_event.proofs.TotalLaws.{unsent_count}
 use Rattle.cam_event.specs.Legal.{Rules, is_legal}
 use Rattle.cam_event.proofs.TestLemmas.{IsIn, in_found, in_filter, passes-all}
 use Rattle.xpt_ccbs.specs.Ccbs.{is_alive}

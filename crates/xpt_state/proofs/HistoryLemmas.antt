@@ -3,7 +3,7 @@ use Rattle.std.proofs.Common.{◌≡◌, ℕ, ◌+◌, ◌<◌, ◌≤◌, true,
 use Rattle.std.specs.Prelude.{MatchOption, MatchResult, OnOk, IsOk, IsTrue, slice_index_or}
 use Rattle.std.proofs.lemmas.List.{take_more, take_all}
 use Rattle.cam_types.specs.Topology.{Topology}
-use Rattle.event_log.specs.declared.event.Event.{Event}
+use Rattle.cam_event.specs.declared.event.Event.{Event}
 use Rattle.cam_event.specs.Past.{Past}
 use Rattle.cam_event.specs.Legal.{history_rules, is_legal, is_legal_event}
 use Rattle.cam_event.specs.declared.refusal.Refusal.{Refusal}

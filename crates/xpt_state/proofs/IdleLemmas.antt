@@ -6,11 +6,11 @@ use Rattle.cam_types.specs.Lists.{first_answer, least_by}
 use Rattle.cam_types.specs.Topology.{Topology}
 use Rattle.std.proofs.lemmas.Bool.{and_parts, and_from}
 use Rattle.std.proofs.Math.Bool.{not-not}
-use Rattle.event_log.specs.Counts.{freeze_count, adapter_freezes}
-use Rattle.event_log.specs.Stays.{first}
+use Rattle.cam_event.specs.Counts.{freeze_count, adapter_freezes}
+use Rattle.cam_event.specs.Stays.{first}
 use Rattle.cam_types.specs.Questions.{is_on, devices}
-use Rattle.event_log.specs.Head.{has_opening, adapter_has_opening, is_ready, may_send, turn_key, head, next}
-use Rattle.event_log.specs.declared.event.Event.{Event}
+use Rattle.cam_event.specs.Head.{has_opening, adapter_has_opening, is_ready, may_send, turn_key, head, next}
+use Rattle.cam_event.specs.declared.event.Event.{Event}
 use Rattle.cam_event.proofs.LeastLemmas.{is_some-least_by-filter}
 use Rattle.cam_event.proofs.TestLemmas.{same_tests, list_any-weaker}
 use Rattle.cam_event.proofs.NextLemmas.{is_some-next}

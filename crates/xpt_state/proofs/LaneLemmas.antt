@@ -3,11 +3,11 @@ use Rattle.std.proofs.Common.{◌≡◌, ℕ, ◌<◌, Bool, true, false, List, 
 use Rattle.std.specs.Prelude.{not, nat_le, is_none}
 use Rattle.std.proofs.lemmas.Bool.{leb-false}
 use Rattle.cam_types.specs.Topology.{Topology}
-use Rattle.event_log.specs.Head.{next}
-use Rattle.event_log.specs.Stays.{has_queued}
-use Rattle.event_log.specs.declared.event.Event.{Event}
-use Rattle.event_log.specs.declared.event.Event.TheVariants.{Send}
-use Rattle.event_log.specs.declared.stay.Stay.{Stay}
+use Rattle.cam_event.specs.Head.{next}
+use Rattle.cam_event.specs.Stays.{has_queued}
+use Rattle.cam_event.specs.declared.event.Event.{Event}
+use Rattle.cam_event.specs.declared.event.Event.TheVariants.{Send}
+use Rattle.cam_event.specs.declared.stay.Stay.{Stay}
 use Rattle.cam_types.specs.Questions.{names_lane, lane_adapter}
 use Rattle.cam_event.specs.Legal.{Rules, names_ccb}
 use Rattle.cam_event.specs.Refusals.{device_of, turn_causes, first_cause, refusal}

@@ -10,12 +10,12 @@ use Rattle.cam_types.specs.Topology.{Topology, IsConfig, lane_fault, device_faul
 use Rattle.cam_types.specs.declared.config_fault.ConfigFault.{ConfigFault}
 use Rattle.cam_types.specs.declared.config_fault.ConfigFault.TheVariants.{NoAdapters, TooMany, NoAdapter}
 use Rattle.cam_types.specs.declared.maxima.TheConstants.{MOST_LANES}
-use Rattle.event_log.specs.Counts.{adapter_freezes}
+use Rattle.cam_event.specs.Counts.{adapter_freezes}
 use Rattle.cam_types.specs.Questions.{names_lane, lane_adapter, devices}
-use Rattle.event_log.specs.Head.{adapter_has_opening, head, may_send, next}
-use Rattle.event_log.specs.declared.event.Event.{Event}
-use Rattle.event_log.specs.declared.event.Event.TheVariants.{Send}
-use Rattle.event_log.specs.declared.stay.Stay.{Stay}
+use Rattle.cam_event.specs.Head.{adapter_has_opening, head, may_send, next}
+use Rattle.cam_event.specs.declared.event.Event.{Event}
+use Rattle.cam_event.specs.declared.event.Event.TheVariants.{Send}
+use Rattle.cam_event.specs.declared.stay.Stay.{Stay}
 use Rattle.cam_event.specs.declared.refusal.Refusal.TheVariants.{HistoryFull}
 use Rattle.xpt_adapters.specs.Next.{next_of}
 use Rattle.xpt_adapters.specs.declared.next.Next.{Next}

@@ -7,14 +7,14 @@ use Rattle.std.proofs.lemmas.Option.{slice_get-get_or}
 use Rattle.cam_types.specs.Topology.{Topology}
 use Rattle.cam_types.specs.declared.command.Command.{Command}
 use Rattle.cam_types.specs.declared.outcome.Outcome.{Outcome}
-use Rattle.sense_class.specs.Classes.{status_of}
-use Rattle.event_log.specs.Event.{is_some_and}
-use Rattle.event_log.specs.Counts.{submission, submissions, commands, is_in_flight, is_recovering}
-use Rattle.event_log.specs.Head.{next}
-use Rattle.event_log.specs.declared.event.Event.{Event}
-use Rattle.event_log.specs.declared.event.Event.TheVariants.{Send, Done}
-use Rattle.event_log.specs.declared.stay.Stay.{Stay}
-use Rattle.event_log.specs.declared.submission.Submission.{Submission}
+use Rattle.cam_event.specs.Classes.{status_of}
+use Rattle.cam_event.specs.Event.{is_some_and}
+use Rattle.cam_event.specs.Counts.{submission, submissions, commands, is_in_flight, is_recovering}
+use Rattle.cam_event.specs.Head.{next}
+use Rattle.cam_event.specs.declared.event.Event.{Event}
+use Rattle.cam_event.specs.declared.event.Event.TheVariants.{Send, Done}
+use Rattle.cam_event.specs.declared.stay.Stay.{Stay}
+use Rattle.cam_event.specs.declared.submission.Submission.{Submission}
 use Rattle.cam_event.specs.Laws.{last_class, is_stay_of}
 use Rattle.cam_event.specs.Legal.{Rules, names_ccb, is_legal, is_legal_event}
 use Rattle.cam_types.specs.Questions.{lane_adapter}

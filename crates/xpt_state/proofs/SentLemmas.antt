@@ -3,12 +3,12 @@ use Rattle.std.proofs.Common.{◌≡◌, ℕ, true, List, Option, Some, None, Re
 use Rattle.std.specs.Prelude.{not, is_some, option_and_then}
 use Rattle.std.specs.Option.{option_map, option_map_or}
 use Rattle.cam_types.specs.declared.command.Command.{Command}
-use Rattle.event_log.specs.Counts.{submission}
-use Rattle.event_log.specs.Head.{next}
-use Rattle.event_log.specs.declared.event.Event.{Event}
-use Rattle.event_log.specs.declared.event.Event.TheVariants.{Send}
-use Rattle.event_log.specs.declared.stay.Stay.{Stay}
-use Rattle.event_log.specs.declared.submission.Submission.{Submission}
+use Rattle.cam_event.specs.Counts.{submission}
+use Rattle.cam_event.specs.Head.{next}
+use Rattle.cam_event.specs.declared.event.Event.{Event}
+use Rattle.cam_event.specs.declared.event.Event.TheVariants.{Send}
+use Rattle.cam_event.specs.declared.stay.Stay.{Stay}
+use Rattle.cam_event.specs.declared.submission.Submission.{Submission}
 use Rattle.cam_types.specs.Questions.{lane_adapter}
 use Rattle.cam_event.specs.declared.refusal.Refusal.{Refusal}
 use Rattle.cam_event.proofs.LegalLemmas.{legal-none}

@@ -3,8 +3,8 @@ use Rattle.std.proofs.Common.{◌≡◌, ℕ, true, Option, Some, None, ap}
 use Rattle.std.specs.Option.{option_map_or}
 use Rattle.cam_types.specs.declared.command.Command.{Command}
 use Rattle.cam_types.specs.declared.outcome.Outcome.{Outcome}
-use Rattle.event_log.specs.declared.event.Event.{Event}
-use Rattle.event_log.specs.declared.event.Event.TheVariants.{Send, Done}
+use Rattle.cam_event.specs.declared.event.Event.{Event}
+use Rattle.cam_event.specs.declared.event.Event.TheVariants.{Send, Done}
 use Rattle.cam_event.specs.Legal.{is_legal, is_legal_event}
 use Rattle.cam_event.proofs.LegalLemmas.{legal-none}
 use Rattle.xpt_ccbs.specs.Ccbs.{alive_ccb}

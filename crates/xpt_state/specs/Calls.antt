@@ -1,6 +1,6 @@
 -- why a transport refuses an event, and what it is behind one
 use Rattle.std.specs.Prelude.{ℕ, [], ◌∷◌, ◌++◌, Option}
-use Rattle.event_log.specs.declared.event.Event.{Event}
+use Rattle.cam_event.specs.declared.event.Event.{Event}
 use Rattle.cam_event.specs.Refusals.{refusal}
 use Rattle.cam_event.specs.declared.refusal.Refusal.{Refusal}
 use Rattle.xpt_devices.specs.Transport.{Transport}

@@ -4,15 +4,15 @@ use Rattle.std.specs.Option.{option_map, option_map_or}
 use Rattle.cam_types.specs.Topology.{Topology}
 use Rattle.cam_types.specs.declared.command.Command.{Command}
 use Rattle.cam_types.specs.declared.outcome.Outcome.{Outcome}
-use Rattle.sense_class.specs.Classes.{status_of, classify}
-use Rattle.sense_class.specs.Sense.{read_sense}
-use Rattle.event_log.specs.Event.{is_some_and, is_erring}
-use Rattle.event_log.specs.Counts.{round, commands, submission, counted_requeues, retries_of}
-use Rattle.event_log.specs.Head.{next}
-use Rattle.event_log.specs.declared.event.Event.{Event}
-use Rattle.event_log.specs.declared.event.Event.TheVariants.{Submit, Send, Done, Tick}
-use Rattle.event_log.specs.declared.stay.Stay.{Stay}
-use Rattle.event_log.specs.declared.submission.Submission.{Submission}
+use Rattle.cam_event.specs.Classes.{status_of, classify}
+use Rattle.cam_event.specs.Sense.{read_sense}
+use Rattle.cam_event.specs.Event.{is_some_and, is_erring}
+use Rattle.cam_event.specs.Counts.{round, commands, submission, counted_requeues, retries_of}
+use Rattle.cam_event.specs.Head.{next}
+use Rattle.cam_event.specs.declared.event.Event.{Event}
+use Rattle.cam_event.specs.declared.event.Event.TheVariants.{Submit, Send, Done, Tick}
+use Rattle.cam_event.specs.declared.stay.Stay.{Stay}
+use Rattle.cam_event.specs.declared.submission.Submission.{Submission}
 use Rattle.cam_types.specs.Questions.{lane_adapter}
 use Rattle.xpt_state.specs.declared.done.Done as done
 use Rattle.xpt_state.specs.declared.reply.Reply.{Reply}

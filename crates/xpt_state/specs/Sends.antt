@@ -1,7 +1,7 @@
 -- why a lane that asks for the next command is refused
 use Rattle.std.specs.Prelude.{ℕ, not, nat_le, List, [], ◌∷◌, length, Option}
 use Rattle.cam_types.specs.Topology.{Topology}
-use Rattle.event_log.specs.declared.event.Event.{Event}
+use Rattle.cam_event.specs.declared.event.Event.{Event}
 use Rattle.cam_types.specs.Questions.{names_lane}
 use Rattle.cam_event.specs.Legal.{Rules}
 use Rattle.cam_event.specs.Refusals.{first_cause}

@@ -2,8 +2,8 @@
 use Rattle.std.specs.Prelude.{◌≡◌, ℕ, Some, None, MatchResult, Result}
 use Rattle.cam_types.specs.Questions.{lane_adapter}
 use Rattle.cam_event.specs.declared.refusal.Refusal.{Refusal}
-use Rattle.event_log.specs.declared.event.Event.{Event}
-use Rattle.event_log.specs.declared.event.Event.TheVariants.{Send}
+use Rattle.cam_event.specs.declared.event.Event.{Event}
+use Rattle.cam_event.specs.declared.event.Event.TheVariants.{Send}
 use Rattle.xpt_devices.specs.Transport.{Transport}
 use Rattle.xpt_state.specs.declared.reply.Reply.{Reply}
 use Rattle.xpt_state.specs.declared.reply.Sent.{Sent}

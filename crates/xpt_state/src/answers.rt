@@ -3,8 +3,8 @@
 ghost use Rattle.std.specs.Prelude.{◌≡◌, ◌<◌, length, None, Some, IsTrue, IfOk, IfErr, count_by, is_some};
 ghost use Rattle.std.specs.List.{list_any, range_with_len};
 ghost use Rattle.cam_event.specs.Legal.{is_legal};
-ghost use Rattle.event_log.specs.Head.{next, head};
-ghost use Rattle.event_log.specs.declared.event.Event.TheVariants as events;
+ghost use Rattle.cam_event.specs.Head.{next, head};
+ghost use Rattle.cam_event.specs.declared.event.Event.TheVariants as events;
 ghost use Rattle.xpt_state.specs.Calls.{refused, lane_refused};
 ghost use Rattle.cam_types.specs.Questions.{lane_adapter};
 ghost use Rattle.xpt_state.specs.Idle.{idle, has_stay_on};
@@ -17,7 +17,7 @@ use crate::idle::Idle;
 use crate::look::Case;
 use crate::questions::{adapters, config, devices, has_head, lane_adapter};
 use cam_types::{Command, Outcome};
-use sense_class::Class;
+use cam_event::Class;
 use xpt_stays::Stays;
 
 /// What a completion comes to that isn't refused.

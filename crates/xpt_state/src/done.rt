@@ -5,11 +5,11 @@ ghost use Rattle.xpt_state.specs.Replies.{has_sense, value_of};
 ghost use Rattle.xpt_state.specs.Rows.{done_by};
 
 use cam_types::Outcome;
-use sense_class::{Class, classify, read_sense};
+use cam_event::{Class, classify, read_sense};
 use xpt_ccbs::Ccb;
 
 /// What a completion comes to.
-#[derive(Clone, Copy, Debug, PartialEq, Eq, Hash)]
+#[derive(Clone, Copy, Debug, PartialEq, Eq)]
 pub struct Done {
     /// The class of the result.
     pub class: Class,

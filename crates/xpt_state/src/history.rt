@@ -30,9 +30,9 @@ impl Model for History {
 
 impl History {
     ghost use Rattle.cam_types.specs.declared.maxima.TheConstants.{MOST_ROUNDS, MOST_STAYS, MOST_EVENTS};
-    ghost use Rattle.event_log.specs.Counts.{round, commands};
-    ghost use Rattle.event_log.specs.Stays.{stays_begun, unsent};
-    ghost use Rattle.event_log.specs.Live.{live_cost};
+    ghost use Rattle.cam_event.specs.Counts.{round, commands};
+    ghost use Rattle.cam_event.specs.Stays.{stays_begun, unsent};
+    ghost use Rattle.cam_event.specs.Live.{live_cost};
     ghost use Rattle.cam_event.specs.Legal.{history_rules, is_legal, is_legal_event};
     ghost use Rattle.cam_event.specs.Refusals.{refusal};
     ghost use Rattle.xpt_stays.specs.Records.{records};

@@ -6,7 +6,7 @@ ghost use Rattle.xpt_state.specs.Idle.{idle_by};
 use thiserror::Error;
 
 /// Why a lane has nothing to send: the first of these that holds.
-#[derive(Clone, Copy, Debug, PartialEq, Eq, Hash, Error)]
+#[derive(Clone, Copy, Debug, PartialEq, Eq, Error)]
 pub enum Idle {
     /// No stay is queued at a device of the lane's adapter.
     #[error("Empty")]

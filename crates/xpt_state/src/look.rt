@@ -1,9 +1,9 @@
 //! What there is to see of a transport: its next case, and counts.
 
-use sense_class::Class;
+use cam_event::Class;
 
 /// A CCB that waits for a decision on its error.
-#[derive(Clone, Copy, Debug, PartialEq, Eq, Hash)]
+#[derive(Clone, Copy, Debug, PartialEq, Eq)]
 pub struct Case {
     /// The number of the CCB.
     pub ccb: u32,
@@ -12,7 +12,7 @@ pub struct Case {
 }
 
 /// What there is to see of a transport, all in counts.
-#[derive(Clone, Copy, Debug, PartialEq, Eq, Hash)]
+#[derive(Clone, Copy, Debug, PartialEq, Eq)]
 pub struct Look {
     /// The events so far.
     pub length: u32,

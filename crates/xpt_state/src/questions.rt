@@ -1,8 +1,8 @@
 //! What refusals and answers ask of a transport's state.
 
 ghost use Rattle.std.specs.Prelude.{◌≡◌, ◌<◌, true, length, is_some, IsTrue};
-ghost use Rattle.event_log.specs.Head.{head};
-ghost use Rattle.event_log.specs.Counts.{is_recovering, wants_requeue, wants_finish};
+ghost use Rattle.cam_event.specs.Head.{head};
+ghost use Rattle.cam_event.specs.Counts.{is_recovering, wants_requeue, wants_finish};
 ghost use Rattle.cam_event.specs.Legal.{names_ccb, is_legal};
 ghost use Rattle.cam_types.specs.Questions.{lane_adapter};
 ghost use Rattle.cam_event.specs.Refusals.{device_of, are_ccbs_full, are_stays_full, have_openings, is_other_next};

@@ -5,7 +5,7 @@ use crate::idle::Idle;
 use cam_types::Command;
 
 /// What a lane gets that asks for the next command.
-#[derive(Clone, Copy, Debug, PartialEq, Eq, Hash)]
+#[derive(Clone, Copy, Debug, PartialEq, Eq)]
 pub enum Sent {
     /// The command that was sent.
     Command(Command),
@@ -14,7 +14,7 @@ pub enum Sent {
 }
 
 /// What a transport answers to an event.
-#[derive(Clone, Copy, Debug, PartialEq, Eq, Hash)]
+#[derive(Clone, Copy, Debug, PartialEq, Eq)]
 pub enum Reply {
     /// The number of the CCB that was submitted.
     Ccb(u32),

@@ -9,17 +9,17 @@ use Rattle.std.proofs.lemmas.List.Folds.{find-append}
 use Rattle.std.proofs.lemmas.List.Sums.{sum_by-cons}
 use Rattle.std.proofs.Math.Bool.{and-false}
 use Rattle.cam_types.specs.Topology.{Topology}
-use Rattle.event_log.specs.Event.{is_send_of, is_requeue_of, submission_of}
+use Rattle.cam_event.specs.Event.{is_send_of, is_requeue_of, submission_of}
 use Rattle.cam_types.specs.declared.flags.Flags.{Flags}
-use Rattle.event_log.specs.Counts.{commands, submission, submissions, is_recovering}
-use Rattle.event_log.specs.Stays.{stays_begun, stay_begun, is_unsent, waiting}
-use Rattle.event_log.specs.declared.event.Event.{Event}
-use Rattle.event_log.specs.declared.event.Event.TheVariants.{Submit, Send, Done, Requeue, Finish, FreezeDev, ReleaseDev, FreezeSim, ReleaseSim, Adjust, Tick}
-use Rattle.event_log.specs.declared.stay.Stay.{Stay}
-use Rattle.event_log.specs.declared.submission.Submission.{Submission}
-use Rattle.event_log.proofs.Laws.{stays_begun-push, place-stay_begun, places-stays_begun, is_unsent-push}
-use Rattle.event_log.proofs.CcbLaws.{requeues-push}
-use Rattle.event_log.proofs.TotalLaws.{unsent_count, submitted_stay, requeued_stay, commands-submit, commands-none}
+use Rattle.cam_event.specs.Counts.{commands, submission, submissions, is_recovering}
+use Rattle.cam_event.specs.Stays.{stays_begun, stay_begun, is_unsent, waiting}
+use Rattle.cam_event.specs.declared.event.Event.{Event}
+use Rattle.cam_event.specs.declared.event.Event.TheVariants.{Submit, Send, Done, Requeue, Finish, FreezeDev, ReleaseDev, FreezeSim, ReleaseSim, Adjust, Tick}
+use Rattle.cam_event.specs.declared.stay.Stay.{Stay}
+use Rattle.cam_event.specs.declared.submission.Submission.{Submission}
+use Rattle.cam_event.proofs.PushLaws.{stays_begun-push, place-stay_begun, places-stays_begun, is_unsent-push}
+use Rattle.cam_event.proofs.CcbLaws.{requeues-push}
+use Rattle.cam_event.proofs.TotalLaws.{unsent_count, submitted_stay, requeued_stay, commands-submit, commands-none}
 use Rattle.cam_event.specs.Legal.{Rules, is_legal_event, is_legal}
 use Rattle.cam_event.proofs.LimitLemmas.{legal-induction}
 use Rattle.cam_event.proofs.StandLemmas.{AreStates, asks-requeue, commands-grow, waiting-states, states_step, states_none}

@@ -7,14 +7,14 @@ use Rattle.std.proofs.lemmas.List.Sums.{sum_by-cons}
 use Rattle.std.proofs.lemmas.Option.{slice_get_within, slice_get_cases, get_or_from_slice_get}
 use Rattle.std.proofs.lemmas.Bool.{cases_lt, or_parts}
 use Rattle.cam_types.specs.Priority.{weight}
-use Rattle.event_log.specs.Counts.{round, commands}
-use Rattle.event_log.specs.Event.{is_some_and}
-use Rattle.event_log.specs.Stays.{stays_begun, name_of, unsent, has_arrived, has_queued}
-use Rattle.event_log.specs.Stays as stays
-use Rattle.event_log.specs.Live.{live_part, live_cost, live_round}
-use Rattle.event_log.specs.declared.event.Event.{Event}
-use Rattle.event_log.specs.declared.stay.Stay.{Stay}
-use Rattle.event_log.specs.declared.stay.StayName.{StayName}
+use Rattle.cam_event.specs.Counts.{round, commands}
+use Rattle.cam_event.specs.Event.{is_some_and}
+use Rattle.cam_event.specs.Stays.{stays_begun, name_of, unsent, has_arrived, has_queued}
+use Rattle.cam_event.specs.Stays as stays
+use Rattle.cam_event.specs.Live.{live_part, live_cost, live_round}
+use Rattle.cam_event.specs.declared.event.Event.{Event}
+use Rattle.cam_event.specs.declared.stay.Stay.{Stay}
+use Rattle.cam_event.specs.declared.stay.StayName.{StayName}
 use Rattle.xpt_devices.specs.Transport.{Transport}
 use Rattle.xpt_stays.specs.StayRecord.{is_unsent, is_queued, waiting_cost}
 use Rattle.xpt_stays.specs.Latest.{latest_stay}

@@ -9,17 +9,17 @@ use Rattle.std.proofs.lemmas.List.Sums.{AllPass-from_list_all}
 use Rattle.std.proofs.Math.Bool.{and-false}
 use Rattle.cam_types.specs.Topology.{Topology}
 use Rattle.cam_types.specs.declared.flags.Flags.{Flags}
-use Rattle.event_log.specs.Event.{is_some_and, is_send_of, submission_of}
-use Rattle.event_log.specs.Counts.{round, commands, submission, ccbs}
-use Rattle.event_log.specs.Stays.{stays_begun, stay_begun, is_unsent, waiting, has_arrived, has_queued}
-use Rattle.event_log.specs.declared.event.Event.{Event}
-use Rattle.event_log.specs.declared.event.Event.TheVariants.{Submit, Send, Requeue}
-use Rattle.event_log.specs.declared.stay.Stay.{Stay}
-use Rattle.event_log.specs.declared.submission.Submission.{Submission}
-use Rattle.event_log.proofs.Laws.{place-stay_begun, born_unsent}
-use Rattle.event_log.proofs.ListFacts.{range_with_len-push}
-use Rattle.event_log.proofs.StateLaws.{map-range_same, map-range_but}
-use Rattle.event_log.proofs.TotalLaws.{submitted_stay, requeued_stay, commands-submit, commands-none}
+use Rattle.cam_event.specs.Event.{is_some_and, is_send_of, submission_of}
+use Rattle.cam_event.specs.Counts.{round, commands, submission, ccbs}
+use Rattle.cam_event.specs.Stays.{stays_begun, stay_begun, is_unsent, waiting, has_arrived, has_queued}
+use Rattle.cam_event.specs.declared.event.Event.{Event}
+use Rattle.cam_event.specs.declared.event.Event.TheVariants.{Submit, Send, Requeue}
+use Rattle.cam_event.specs.declared.stay.Stay.{Stay}
+use Rattle.cam_event.specs.declared.submission.Submission.{Submission}
+use Rattle.cam_event.proofs.PushLaws.{place-stay_begun, born_unsent}
+use Rattle.cam_event.proofs.ListFacts.{range_with_len-push}
+use Rattle.cam_event.proofs.StateLaws.{map-range_same, map-range_but}
+use Rattle.cam_event.proofs.TotalLaws.{submitted_stay, requeued_stay, commands-submit, commands-none}
 use Rattle.cam_event.specs.Laws.{is_stay_of}
 use Rattle.cam_event.specs.Legal.{Rules, is_legal_event, is_legal}
 use Rattle.cam_event.proofs.SendLemmas.{send_from_next}

@@ -6,13 +6,13 @@ use Rattle.std.proofs.lemmas.Bool.{eq-eqb, ne_eqb}
 use Rattle.std.proofs.lemmas.List.{drop-append-le, take-append-le}
 use Rattle.std.proofs.lemmas.List.Folds.{prefix_len-append}
 use Rattle.std.proofs.Math.Seq.{take-append_seam}
-use Rattle.event_log.specs.Event.{is_send_of}
-use Rattle.event_log.specs.Counts.{round}
-use Rattle.event_log.specs.Stays.{is_unsent}
-use Rattle.event_log.specs.Live.{send_place, live_round}
-use Rattle.event_log.specs.declared.event.Event.{Event}
-use Rattle.event_log.specs.declared.stay.Stay.{Stay}
-use Rattle.event_log.proofs.Laws.{is_unsent-push}
+use Rattle.cam_event.specs.Event.{is_send_of}
+use Rattle.cam_event.specs.Counts.{round}
+use Rattle.cam_event.specs.Stays.{is_unsent}
+use Rattle.cam_event.specs.Live.{send_place, live_round}
+use Rattle.cam_event.specs.declared.event.Event.{Event}
+use Rattle.cam_event.specs.declared.stay.Stay.{Stay}
+use Rattle.cam_event.proofs.PushLaws.{is_unsent-push}
 use Rattle.xpt_stays.specs.Records.{sent_round}
 
 -- where some element passes, the first that does is within the list, and where none does it isn't

@@ -8,14 +8,14 @@ use Rattle.std.proofs.lemmas.Option.{slice_get_within, slice_get-map}
 use Rattle.std.proofs.lemmas.List.Sums.{count_by-le-length}
 use Rattle.cam_types.specs.Topology.{Topology}
 use Rattle.cam_types.specs.declared.flags.Flags.{Flags}
-use Rattle.event_log.specs.Event.{submission_of, is_send_of, is_requeue_of}
-use Rattle.event_log.specs.Counts.{round, commands, ccbs, submissions}
-use Rattle.event_log.specs.Stays.{stays_begun, stay_begun}
-use Rattle.event_log.specs.declared.event.Event.{Event}
-use Rattle.event_log.specs.declared.event.Event.TheVariants.{Submit, Send, Requeue}
-use Rattle.event_log.specs.declared.stay.Stay.{Stay}
-use Rattle.event_log.proofs.Laws.{few_rounds}
-use Rattle.event_log.proofs.TotalLaws.{commands-stays, submitted_stay}
+use Rattle.cam_event.specs.Event.{submission_of, is_send_of, is_requeue_of}
+use Rattle.cam_event.specs.Counts.{round, commands, ccbs, submissions}
+use Rattle.cam_event.specs.Stays.{stays_begun, stay_begun}
+use Rattle.cam_event.specs.declared.event.Event.{Event}
+use Rattle.cam_event.specs.declared.event.Event.TheVariants.{Submit, Send, Requeue}
+use Rattle.cam_event.specs.declared.stay.Stay.{Stay}
+use Rattle.cam_event.proofs.PushLaws.{few_rounds}
+use Rattle.cam_event.proofs.TotalLaws.{commands-stays, submitted_stay}
 use Rattle.cam_event.specs.Legal.{Rules, IsWithinHistory, is_legal_event, is_legal}
 use Rattle.cam_event.proofs.LawLemmas.{legal-push}
 use Rattle.cam_event.proofs.LimitLemmas.{room_submit, room_requeue, stays-legal}

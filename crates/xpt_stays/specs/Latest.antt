@@ -1,10 +1,10 @@
 -- the latest stay of each CCB
 use Rattle.std.specs.Prelude.{ℕ, ◌-◌, ◌==◌, Bool, List, length, map, find, reverse, Option}
 use Rattle.std.specs.List.{position_or_len}
-use Rattle.event_log.specs.Counts.{ccbs}
-use Rattle.event_log.specs.Stays.{stays_begun}
-use Rattle.event_log.specs.declared.event.Event.{Event}
-use Rattle.event_log.specs.declared.stay.Stay.{Stay}
+use Rattle.cam_event.specs.Counts.{ccbs}
+use Rattle.cam_event.specs.Stays.{stays_begun}
+use Rattle.cam_event.specs.declared.event.Event.{Event}
+use Rattle.cam_event.specs.declared.stay.Stay.{Stay}
 
 abbrev pub is_of : ℕ → Stay → Bool
 is_of ccb p = p.ccb == ccb

@@ -1,10 +1,10 @@
 -- stays with their sends and with the stays that follow them
 use Rattle.std.specs.Prelude.{ℕ, ◌==◌, Bool, ◌&&◌, nat_lt, if◌then◌else◌, List, map, find, Option, Some, None}
 use Rattle.std.specs.Option.{option_map}
-use Rattle.event_log.specs.Stays.{stays_begun, is_unsent}
-use Rattle.event_log.specs.Live.{live_round}
-use Rattle.event_log.specs.declared.event.Event.{Event}
-use Rattle.event_log.specs.declared.stay.Stay.{Stay}
+use Rattle.cam_event.specs.Stays.{stays_begun, is_unsent}
+use Rattle.cam_event.specs.Live.{live_round}
+use Rattle.cam_event.specs.declared.event.Event.{Event}
+use Rattle.cam_event.specs.declared.stay.Stay.{Stay}
 use Rattle.xpt_stays.specs.declared.stay_record.StayRecord.{StayRecord}
 
 -- a later stay of the same CCB

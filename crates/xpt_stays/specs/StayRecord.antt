@@ -1,7 +1,7 @@
 -- what a stay's record says, and what it becomes
 use Rattle.std.specs.Prelude.{ℕ, ◌+◌, ◌-◌, ◌*◌, Bool, true, ◌&&◌, nat_le, Some, None, is_none, unwrap_or}
 use Rattle.cam_types.specs.Priority.{weight}
-use Rattle.event_log.specs.declared.stay.Stay.{Stay}
+use Rattle.cam_event.specs.declared.stay.Stay.{Stay}
 use Rattle.xpt_stays.specs.declared.stay_record.StayRecord.{StayRecord}
 
 -- it has no send

@@ -1,6 +1,6 @@
 //! A stay with its send and the stay that follows it.
 
-use event_log::Stay;
+use cam_event::Stay;
 
 /// A stay, its send, and the stay that follows it.
 #[derive(Clone, Copy, Debug, PartialEq, Eq)]

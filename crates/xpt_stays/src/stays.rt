@@ -10,7 +10,7 @@ use crate::stay_record::StayRecord;
 use crate::update::update;
 use cam_event::Rules;
 use cam_types::Config;
-use event_log::{Event, StayName};
+use cam_event::{Event, StayName};
 use std::alloc::{AllocError, Global};
 use std::marker::Model;
 use xpt_ccbs::Ccbs;
@@ -36,8 +36,8 @@ impl Model for Stays {
 }
 
 impl Stays {
-    ghost use Rattle.event_log.specs.Stays.{has_queued, unsent};
-    ghost use Rattle.event_log.specs.Live.{live_cost};
+    ghost use Rattle.cam_event.specs.Stays.{has_queued, unsent};
+    ghost use Rattle.cam_event.specs.Live.{live_cost};
     ghost use Rattle.cam_event.specs.Legal.{history_rules, is_legal, is_legal_event};
     ghost use Rattle.xpt_stays.specs.Latest.{latest_stay};
     ghost use Rattle.xpt_stays.specs.Records.{record_of, records};

@@ -6,7 +6,7 @@ ghost use Rattle.xpt_stays.specs.StayRecord.{sent_in, followed_in, requeued_in};
 ghost use Rattle.xpt_stays.specs.Sound.{IsStays};
 
 use crate::stay_record::StayRecord;
-use event_log::{Event, Stay};
+use cam_event::{Event, Stay};
 use xpt_adapters::Adapters;
 
 /// Keeps what a legal event makes of the stays, behind the events of these adapters.

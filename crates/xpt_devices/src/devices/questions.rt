@@ -8,12 +8,12 @@ use super::Devices;
 use cam_event::Rules;
 use cam_types::{Config, Priority};
 use dev_queue::{DevQueue, Waiting};
-use event_log::{Event, Submission};
+use cam_event::{Event, Submission};
 
 impl Devices {
-    ghost use Rattle.event_log.specs.Counts.{round, commands, submission, sendings, caller_count, freeze_count, has_in_flight};
-    ghost use Rattle.event_log.specs.Stays.{stays_begun, waiting, first};
-    ghost use Rattle.event_log.specs.Head.{openings, goes_now_to, is_ready, has_opening};
+    ghost use Rattle.cam_event.specs.Counts.{round, commands, submission, sendings, caller_count, freeze_count, has_in_flight};
+    ghost use Rattle.cam_event.specs.Stays.{stays_begun, waiting, first};
+    ghost use Rattle.cam_event.specs.Head.{openings, goes_now_to, is_ready, has_opening};
     ghost use Rattle.cam_event.specs.Legal.{is_legal};
     ghost use Rattle.xpt_devices.specs.Device.{entry, device_state};
     ghost use Rattle.xpt_devices.specs.Ready.{ready_priority};
@@ -158,7 +158,7 @@ impl Devices {
     }
 
     /// Whether the device has an opening left in this round.
-    #[tactic(auto, unfolding(crate::specs::Device::device_state, event_log::specs::Head::has_opening))]
+    #[tactic(auto, unfolding(crate::specs::Device::device_state, cam_event::specs::Head::has_opening))]
     pub fn has_opening(&self, device: u32) -> bool
         requires { device < length self.now.config.devices }
         ensures { result ≡ has_opening self.now.config self.now.events device }

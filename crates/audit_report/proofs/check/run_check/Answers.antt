@@ -1,9 +1,9 @@
 use Rattle.std.proofs.Common.{◌≡◌, ap, sym, Option, None, false}
 use Rattle.std.specs.Prelude.{is_some}
-use Rattle.event_log.specs.Live.{live_cost}
-use Rattle.event_log.specs.Stays.{unsent}
-use Rattle.event_log.specs.declared.stay.StayName.{StayName}
-use Rattle.event_log.proofs.LiveLemmas.{live_cost_sent}
+use Rattle.cam_event.specs.Live.{live_cost}
+use Rattle.cam_event.specs.Stays.{unsent}
+use Rattle.cam_event.specs.declared.stay.StayName.{StayName}
+use Rattle.cam_event.proofs.LiveLemmas.{live_cost_sent}
 use Rattle.audit_report.proofs.check.run_check.Goals as goal
 
 -- where each stay has a send there is a cost

@@ -1,6 +1,6 @@
 use Rattle.std.proofs.Common.{◌≡◌, ◌<◌, ◌≤◌, length, ap, ◌∙◌, arith}
 use Rattle.std.specs.Prelude.{not, ◌==◌}
-use Rattle.event_log.specs.Counts.{round, adapter_freezes}
+use Rattle.cam_event.specs.Counts.{round, adapter_freezes}
 use Rattle.cam_types.specs.Topology.{Topology}
 use Rattle.cam_types.specs.declared.maxima.TheConstants.{MOST_ADAPTERS}
 use Rattle.cam_event.proofs.LimitLemmas.{round_first}

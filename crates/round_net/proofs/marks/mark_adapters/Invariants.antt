@@ -1,6 +1,6 @@
 use Rattle.std.proofs.Common.{length}
 use Rattle.std.specs.Prelude.{not, ◌==◌, ◌&&◌, nat_lt}
-use Rattle.event_log.specs.Counts.{round, adapter_freezes}
+use Rattle.cam_event.specs.Counts.{round, adapter_freezes}
 use Rattle.round_net.specs.Marks.{Marks}
 use Rattle.round_net.proofs.marks.mark_adapters.Given as goal
 

@@ -1,6 +1,6 @@
 use Rattle.std.proofs.Common.{◌≡◌, ◌<◌, length, ap, ◌∙◌, arith}
 use Rattle.std.specs.Prelude.{not, ◌==◌}
-use Rattle.event_log.specs.Counts.{round, freeze_count}
+use Rattle.cam_event.specs.Counts.{round, freeze_count}
 use Rattle.cam_types.specs.Topology.{Topology}
 use Rattle.cam_event.proofs.LimitLemmas.{round_first}
 use Rattle.xpt_devices.specs.Transport.{Transport}

@@ -1,6 +1,6 @@
 use Rattle.std.proofs.Common.{length}
 use Rattle.std.specs.Prelude.{not, ◌==◌, ◌&&◌, nat_lt}
-use Rattle.event_log.specs.Counts.{round, freeze_count}
+use Rattle.cam_event.specs.Counts.{round, freeze_count}
 use Rattle.round_net.specs.Marks.{Marks}
 use Rattle.round_net.proofs.marks.mark_devices.Given as goal
 

@@ -1,7 +1,7 @@
 use Rattle.std.proofs.Common.{length}
 use Rattle.std.specs.Prelude.{count_by}
-use Rattle.event_log.specs.Counts.{round, sendings}
-use Rattle.event_log.specs.Head.{goes_now_to_adapter}
+use Rattle.cam_event.specs.Counts.{round, sendings}
+use Rattle.cam_event.specs.Head.{goes_now_to_adapter}
 use Rattle.round_net.proofs.MarkLemmas.{SetsBelow}
 use Rattle.round_net.proofs.marks.note_adapter_sends.Given as goal
 

@@ -1,7 +1,7 @@
 use Rattle.std.proofs.Common.{◌≡◌, ◌<◌, length, refl, ap, ◌∙◌, arith}
 use Rattle.std.specs.Prelude.{count_by}
-use Rattle.event_log.specs.Counts.{round, sendings}
-use Rattle.event_log.specs.Head.{goes_now_to}
+use Rattle.cam_event.specs.Counts.{round, sendings}
+use Rattle.cam_event.specs.Head.{goes_now_to}
 use Rattle.cam_types.specs.Topology.{Topology}
 use Rattle.cam_event.proofs.LimitLemmas.{round_first}
 use Rattle.xpt_devices.specs.Transport.{Transport}

@@ -1,6 +1,6 @@
 use Rattle.std.proofs.Common.{◌≡◌, ◌<◌, length, refl, ap, ◌∙◌, arith}
-use Rattle.event_log.specs.Counts.{round}
-use Rattle.event_log.specs.Head.{openings}
+use Rattle.cam_event.specs.Counts.{round}
+use Rattle.cam_event.specs.Head.{openings}
 use Rattle.cam_types.specs.Topology.{Topology}
 use Rattle.cam_event.proofs.LimitLemmas.{round_first}
 use Rattle.xpt_devices.specs.Transport.{Transport}

@@ -1,6 +1,6 @@
 use Rattle.std.proofs.Common.{length}
-use Rattle.event_log.specs.Counts.{round}
-use Rattle.event_log.specs.Head.{openings}
+use Rattle.cam_event.specs.Counts.{round}
+use Rattle.cam_event.specs.Head.{openings}
 use Rattle.round_net.proofs.MarkLemmas.{SetsBelow}
 use Rattle.round_net.proofs.marks.note_openings.Given as goal
 

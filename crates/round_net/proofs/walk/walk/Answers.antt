@@ -1,7 +1,7 @@
 use Rattle.std.proofs.Common.{◌≡◌, ◌+◌, ◌≤◌, true, List, [], ◌∷◌, ◌++◌, take, refl, sym, ap, subst, ◌∙◌, arith}
 use Rattle.std.proofs.lemmas.List.{take_more}
-use Rattle.event_log.specs.Counts.{round}
-use Rattle.event_log.specs.declared.event.Event.{Event}
+use Rattle.cam_event.specs.Counts.{round}
+use Rattle.cam_event.specs.declared.event.Event.{Event}
 use Rattle.cam_event.specs.Legal.{history_rules, is_legal_event}
 use Rattle.cam_event.proofs.LimitLemmas.{legal-at}
 use Rattle.xpt_devices.specs.Transport.{Transport}

@@ -1,6 +1,6 @@
 use Rattle.std.proofs.Common.{◌≡◌, ℕ, ◌<◌, List, map, Some}
 use Rattle.std.specs.Prelude.{slice_get}
-use Rattle.event_log.specs.declared.event.Event.{Event}
+use Rattle.cam_event.specs.declared.event.Event.{Event}
 use Rattle.trace_file.specs.Scenarios.{Scenario}
 use Rattle.xpt_lock.specs.Seats.{Held}
 use Rattle.run_rules.specs.LiveRuns.{EachDriver, IsLog, rows}

@@ -1,6 +1,6 @@
 use Rattle.std.proofs.Common.{◌∙◌, ap, sym, refl, Some}
 use Rattle.std.proofs.lemmas.Bool.{ltb-true}
-use Rattle.event_log.specs.declared.event.Event.{Event}
+use Rattle.cam_event.specs.declared.event.Event.{Event}
 use Rattle.trace_file.specs.declared.step.Step.TheVariants as steps
 use Rattle.run_rules.proofs.ListFacts.{get_is}
 use Rattle.run_rules.proofs.walk.behind_call.Goals as goal

@@ -1,5 +1,5 @@
 use Rattle.std.proofs.Common.{◌-◌, List, length}
-use Rattle.event_log.specs.declared.event.Event.{Event}
+use Rattle.cam_event.specs.declared.event.Event.{Event}
 use Rattle.run_rules.specs.Logs.{StandsAt}
 use Rattle.run_rules.proofs.walk.behind_pauses.Given as goal
 

@@ -1,7 +1,7 @@
 use Rattle.std.proofs.Common.{◌≡◌, true, sym, subst, ap, ◌∙◌}
 use Rattle.std.specs.Prelude.{List}
 use Rattle.cam_types.specs.Topology.{Topology}
-use Rattle.event_log.specs.declared.event.Event.{Event}
+use Rattle.cam_event.specs.declared.event.Event.{Event}
 use Rattle.cam_event.specs.Legal.{Rules, history_rules, is_legal_event}
 use Rattle.transport_tests.proofs.adapters.append.Goals as goal
 

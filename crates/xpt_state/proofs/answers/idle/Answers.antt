@@ -1,7 +1,7 @@
 use Rattle.std.proofs.Common.{Some, ap, sym, ◌∙◌}
 use Rattle.std.specs.Prelude.{not, ◌==◌}
-use Rattle.event_log.specs.Counts.{adapter_freezes}
-use Rattle.event_log.specs.Head.{adapter_has_opening}
+use Rattle.cam_event.specs.Counts.{adapter_freezes}
+use Rattle.cam_event.specs.Head.{adapter_has_opening}
 use Rattle.xpt_devices.specs.Transport.{Transport}
 use Rattle.xpt_state.proofs.IdleLemmas.{idle_found}
 use Rattle.xpt_state.proofs.answers.idle.Goals as goal

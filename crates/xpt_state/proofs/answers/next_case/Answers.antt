@@ -1,6 +1,6 @@
 use Rattle.std.proofs.Common.{◌∙◌, ap, sym, subst, cond, None, option_and_then, slice_get}
 use Rattle.std.specs.Prelude.{IfSome, IsTrue}
-use Rattle.event_log.specs.Counts.{is_recovering}
+use Rattle.cam_event.specs.Counts.{is_recovering}
 use Rattle.cam_event.specs.Laws.{last_class}
 use Rattle.xpt_ccbs.specs.Cases.{cases}
 use Rattle.xpt_ccbs.specs.Ccbs.{is_alive}

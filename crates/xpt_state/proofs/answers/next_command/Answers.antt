@@ -1,7 +1,7 @@
 use Rattle.std.proofs.Common.{length, ap, sym, subst, ◌<◌, ◌∙◌}
 use Rattle.std.specs.Option.{option_map}
 use Rattle.cam_types.specs.Topology.{Topology, IsConfig}
-use Rattle.event_log.specs.Head.{next}
+use Rattle.cam_event.specs.Head.{next}
 use Rattle.cam_types.specs.Questions.{lane_adapter}
 use Rattle.xpt_adapters.specs.Next.{next_of}
 use Rattle.xpt_devices.specs.Transport.{Transport}

@@ -3,7 +3,7 @@ use Rattle.std.specs.Prelude.{is_some}
 use Rattle.std.specs.Option.{option_map}
 use Rattle.std.proofs.lemmas.Bool.{le-ltb}
 use Rattle.cam_types.specs.Topology.{Topology}
-use Rattle.event_log.specs.Head.{next}
+use Rattle.cam_event.specs.Head.{next}
 use Rattle.xpt_adapters.specs.Next.{next_of}
 use Rattle.xpt_devices.specs.Transport.{Transport}
 use Rattle.xpt_state.proofs.NextLemmas.{head_where_next, no_head}

@@ -1,6 +1,6 @@
 use Rattle.std.proofs.Common.{ap, ◌∙◌}
 use Rattle.std.specs.Prelude.{◌&&◌}
-use Rattle.event_log.specs.Counts.{wants_finish}
+use Rattle.cam_event.specs.Counts.{wants_finish}
 use Rattle.xpt_ccbs.specs.Ccbs.{is_alive}
 use Rattle.xpt_devices.specs.Transport.{Transport}
 use Rattle.xpt_state.proofs.RowLaws.{recovering_lives}

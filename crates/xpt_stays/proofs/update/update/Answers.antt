@@ -1,5 +1,5 @@
 use Rattle.std.proofs.Common.{◌++◌, ◌∷◌, [], arith, ap, ◌∙◌, refl, length, set}
-use Rattle.event_log.specs.Counts.{round}
+use Rattle.cam_event.specs.Counts.{round}
 use Rattle.xpt_devices.specs.Transport.{Transport}
 use Rattle.xpt_stays.proofs.SoundLemmas.{sent-ccb, requeued-ccb, submitted-few, requeued-few, room-records, room-latest, len-latest, held-place, held-within, few-records, few-latest, few-rounds, few-attempts, sound-submit, sound-send, sound-requeue, sound-quiet}
 use Rattle.xpt_stays.proofs.update.update.Goals as goal

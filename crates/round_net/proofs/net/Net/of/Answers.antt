@@ -1,9 +1,9 @@
 use Rattle.std.proofs.Common.{◌≡◌, ◌*◌, ◌≤◌, length, map, refl, sym, ap, ◌∙◌, arith, None}
 use Rattle.cam_types.specs.Topology.{IsConfig}
 use Rattle.cam_types.specs.declared.maxima.TheConstants.{MOST_ADAPTERS}
-use Rattle.event_log.specs.Counts.{round}
+use Rattle.cam_event.specs.Counts.{round}
 use Rattle.cam_types.specs.Questions.{adapter_openings}
-use Rattle.event_log.specs.Stays.{unsent}
+use Rattle.cam_event.specs.Stays.{unsent}
 use Rattle.xpt_stays.specs.Records.{records}
 use Rattle.round_net.specs.Nets.{row_of}
 use Rattle.cam_types.proofs.ConfigLemmas.{few_adapters}

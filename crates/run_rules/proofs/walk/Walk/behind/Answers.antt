@@ -1,7 +1,7 @@
 use Rattle.std.proofs.Common.{◌≡◌, ◌∙◌, ◌++◌, ◌∷◌, [], List, Option, None, Some, length, ap, true, false, Bool}
 use Rattle.std.specs.Prelude.{IfSome, slice_get}
-use Rattle.event_log.specs.Event.{is_tick}
-use Rattle.event_log.specs.declared.event.Event.{Event}
+use Rattle.cam_event.specs.Event.{is_tick}
+use Rattle.cam_event.specs.declared.event.Event.{Event}
 use Rattle.trace_file.specs.Scenarios.{Scenario}
 use Rattle.trace_file.specs.declared.step.Step.{Step}
 use Rattle.xpt_lock.specs.declared.receipt.Receipt.{Receipt}

@@ -1,7 +1,7 @@
 use Rattle.std.proofs.Common.{◌∙◌, refl, sym, ap, length, arith}
 use Rattle.std.specs.Option.{option_map}
 use Rattle.std.specs.Prelude.{slice_get}
-use Rattle.event_log.specs.declared.event.Event.TheVariants.{Done}
+use Rattle.cam_event.specs.declared.event.Event.TheVariants.{Done}
 use Rattle.sim_worker.specs.Work.{Work}
 use Rattle.sim_worker.specs.declared.work.Lane.{Lane}
 use Rattle.sim_worker.proofs.StepLemmas.{done_step}

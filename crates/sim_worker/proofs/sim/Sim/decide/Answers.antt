@@ -2,7 +2,7 @@ use Rattle.std.proofs.Common.{◌≡◌, ◌∙◌, sym, ap, length, Some, true}
 use Rattle.std.specs.Prelude.{not, ◌||◌}
 use Rattle.xpt_state.specs.declared.look.Case.{Case}
 use Rattle.xpt_state.specs.Looks.{next_case}
-use Rattle.event_log.specs.Event.{is_some_and}
+use Rattle.cam_event.specs.Event.{is_some_and}
 use Rattle.xpt_state.specs.Calls.{refused}
 use Rattle.run_rules.specs.Runs.{is_in_time, is_submit_by}
 use Rattle.sim_worker.proofs.LaneFacts.{is_lane_event}

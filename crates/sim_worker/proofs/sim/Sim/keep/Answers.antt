@@ -1,7 +1,7 @@
 use Rattle.std.proofs.Common.{◌≡◌, ◌∙◌, sym, ap, subst, List, length, map, false, arith}
 use Rattle.cam_event.specs.Legal.{Rules}
-use Rattle.event_log.specs.Counts.{round}
-use Rattle.event_log.specs.declared.event.Event.TheVariants.{Tick}
+use Rattle.cam_event.specs.Counts.{round}
+use Rattle.cam_event.specs.declared.event.Event.TheVariants.{Tick}
 use Rattle.cam_event.proofs.LimitLemmas.{round-legal}
 use Rattle.run_rules.specs.Endings.{IsDrained}
 use Rattle.run_rules.specs.Runs.{may_tick}

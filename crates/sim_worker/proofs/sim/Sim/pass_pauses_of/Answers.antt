@@ -2,10 +2,10 @@ use Rattle.std.proofs.Common.{◌≡◌, ◌<◌, ◌∙◌, refl, sym, ap, subs
 use Rattle.std.proofs.lemmas.List.{length-map}
 use Rattle.trace_file.specs.declared.step.Step.{Step}
 use Rattle.sim_worker.specs.Work.{Work, HasDone, steps_of}
-use Rattle.event_log.specs.Counts.{round}
+use Rattle.cam_event.specs.Counts.{round}
 use Rattle.sim_worker.proofs.StepLemmas.{driver_step}
 use Rattle.sim_worker.proofs.LeftLemmas.{left-same, same_fresh}
-use Rattle.sim_worker.proofs.TurnLemmas.{steps_at}
+use Rattle.run_rules.proofs.ListFacts.{list_at}
 use Rattle.run_rules.proofs.ListFacts.{get_is}
 use Rattle.sim_worker.proofs.sim.Sim.pass_pauses_of.Goals as goal
 
@@ -14,7 +14,7 @@ invariant_of-self c =
     let within : c.args.d < length c.self.inside.drivers.items = omega (arith, c.requires.number, c.self.invariant.eight) in
     let here = get_is c.self.inside.drivers.items c.args.d c.index.result.now within c.index.ensures in
     let now = c.requires.now ∙ sym (ap (λ (w : Work). round w.transport.events) c.self.view_is) in
-    let steps : c.deref.result.now ≡ steps_of c.self.inside.script.now c.args.d = c.deref.ensures.value ∙ steps_at c.drivers.result.now c.self.inside.script.now.drivers c.args.d c.index-drivers-d.result c.drivers.ensures.same (omega (arith, c.requires.number, ap (λ (ls : List (List Step)). length ls) c.drivers.ensures.same, length-map c.drivers.result.now (λ (l : Vec Step Global). l.items), c.drivers.ensures.kept.eight)) c.index-drivers-d.is in
+    let steps : c.deref.result.now ≡ steps_of c.self.inside.script.now c.args.d = c.deref.ensures.value ∙ list_at c.drivers.result.now c.self.inside.script.now.drivers c.args.d c.index-drivers-d.result c.drivers.ensures.same (omega (arith, c.requires.number, ap (λ (ls : List (List Step)). length ls) c.drivers.ensures.same, length-map c.drivers.result.now (λ (l : Vec Step Global). l.items), c.drivers.ensures.kept.eight)) c.index-drivers-d.is in
     driver_step c.self.inside.script.now c.self.inside.xpt c.self.inside.drivers.items c.self.inside.lanes.items c.self.inside.refused c.self.inside.refused c.args.d _
     (subst (λ v. HasDone v c.args.d c.self.inside.xpt.events c.behind_pauses-done.result) steps (c.behind_pauses-done.ensures c.args.d c.self.inside.xpt.events now
     (subst (λ v. HasDone v c.args.d c.self.inside.xpt.events c.index.result.now.done) (sym steps) (c.self.invariant.drivers c.args.d c.index.result.now here))))

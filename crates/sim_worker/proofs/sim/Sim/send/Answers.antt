@@ -1,6 +1,6 @@
 use Rattle.std.proofs.Common.{◌<◌, ◌∙◌, refl, sym, ap, subst, length, arith}
 use Rattle.std.specs.Prelude.{slice_get}
-use Rattle.event_log.specs.declared.event.Event.TheVariants.{Send}
+use Rattle.cam_event.specs.declared.event.Event.TheVariants.{Send}
 use Rattle.cam_types.specs.Questions.{lane_adapter}
 use Rattle.xpt_state.specs.Calls.{lane_refused}
 use Rattle.xpt_state.specs.Idle.{idle}

@@ -1,6 +1,6 @@
 use Rattle.std.proofs.Common.{◌<◌, length, ap, sym, subst, ◌∙◌, Some}
 use Rattle.std.specs.Option.{option_map}
-use Rattle.event_log.specs.Stays.{first}
+use Rattle.cam_event.specs.Stays.{first}
 use Rattle.xpt_devices.specs.Device.{entry}
 use Rattle.cam_event.proofs.NextLemmas.{head_stands}
 use Rattle.sim_queue.specs.Adapter.{best_ready}

@@ -1,5 +1,5 @@
 use Rattle.std.proofs.Common.{◌≡◌, true, refl, ap, sym, subst, ◌∙◌}
-use Rattle.event_log.specs.declared.event.Event.{Event}
+use Rattle.cam_event.specs.declared.event.Event.{Event}
 use Rattle.cam_event.specs.Legal.{is_legal_event}
 use Rattle.xpt_devices.specs.Updated.{CanUpdate, updated}
 use Rattle.xpt_devices.specs.Transport.{Transport}

@@ -1,6 +1,6 @@
 use Rattle.std.proofs.Common.{ap, ◌∙◌}
 use Rattle.std.specs.Prelude.{not, ◌==◌}
-use Rattle.event_log.specs.Counts.{has_in_flight}
+use Rattle.cam_event.specs.Counts.{has_in_flight}
 use Rattle.xpt_devices.specs.Transport.{Transport}
 use Rattle.xpt_devices.specs.declared.counts.Counts.{Counts}
 use Rattle.xpt_devices.proofs.SoundLemmas.{flying-counts}

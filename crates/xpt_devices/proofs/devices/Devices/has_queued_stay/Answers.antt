@@ -1,6 +1,6 @@
 use Rattle.std.proofs.Common.{ap, ◌∙◌}
 use Rattle.std.specs.Prelude.{is_some}
-use Rattle.event_log.specs.Stays.{first}
+use Rattle.cam_event.specs.Stays.{first}
 use Rattle.xpt_devices.proofs.SoundLemmas.{some_entry}
 use Rattle.xpt_devices.proofs.devices.Devices.has_queued_stay.Goals as goal
 

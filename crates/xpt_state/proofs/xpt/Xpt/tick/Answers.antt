@@ -1,7 +1,7 @@
 use Rattle.std.proofs.Common.{ap, ◌∙◌}
-use Rattle.event_log.specs.Counts.{round}
-use Rattle.event_log.specs.declared.event.Event.TheVariants.{Tick}
-use Rattle.event_log.proofs.Laws.{round-push}
+use Rattle.cam_event.specs.Counts.{round}
+use Rattle.cam_event.specs.declared.event.Event.TheVariants.{Tick}
+use Rattle.cam_event.proofs.PushLaws.{round-push}
 use Rattle.xpt_devices.specs.Transport.{Transport}
 use Rattle.xpt_state.specs.declared.reply.Reply.TheVariants as replies
 use Rattle.xpt_state.proofs.xpt.Xpt.tick.Goals as goal

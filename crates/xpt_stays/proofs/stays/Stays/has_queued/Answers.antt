@@ -1,5 +1,5 @@
 use Rattle.std.proofs.Common.{ap, ◌∙◌}
-use Rattle.event_log.specs.Counts.{round}
+use Rattle.cam_event.specs.Counts.{round}
 use Rattle.xpt_devices.specs.Transport.{Transport}
 use Rattle.xpt_stays.specs.StayRecord.{is_queued}
 use Rattle.xpt_stays.proofs.QuestionLemmas.{queued-by}

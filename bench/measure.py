@@ -1,5 +1,6 @@
 """Builds and measures the programs of the benches."""
 import os
+import re
 import subprocess
 import sys
 
@@ -37,3 +38,9 @@ def peak(*words, source=os.devnull):
     with open(source) as text:
         told = subprocess.run(["/usr/bin/time", "-f", "%M", *words], stdin=text, capture_output=True, text=True, check=True)
     return int(told.stderr.split()[-1]) / 1024
+
+
+def milliseconds(name, text):
+    """How many milliseconds stand behind a name in a text, as a program prints a duration."""
+    number, unit = re.search(rf"\b{name} ([\d.]+)(ns|µs|ms|s)\b", text).groups()
+    return float(number) * {"ns": 1e-6, "µs": 1e-3, "ms": 1, "s": 1e3}[unit]

@@ -1,68 +1,103 @@
-"""Traces for the benches: a transport of four adapters with sixteen devices that leaves some of its openings unused."""
+"""Traces for the benches: a transport of four adapters, most of them with sixteen devices and some openings unused."""
 import random
+import typing
 
 ADAPTERS, DEVICES = 4, 16
+# Sense data of a unit attention: the device was reset.
+ATTENTION = "700006000000000a000000002900"
 
 
-def fill(rows, count, choose, stopped, coming, openings):
+def fill(rows, count, choose, stopped, coming, shape):
     """So many records more: freezes of the stopped devices with their releases behind them, and adjusts to the openings or one
     more, which hold from the next round on."""
     while count:
         if count >= 2 * len(stopped) + 2:
             rows += [f"{word},{d},2,,,,," for word in ("freeze", "release") for d in stopped]
             count -= 2 * len(stopped)
-        d = choose.randrange(DEVICES)
-        coming[d] = openings + choose.randrange(2)
+        d = choose.randrange(shape.devices)
+        coming[d] = shape.device_openings + choose.randrange(2)
         rows.append(f"adjust,{d},{coming[d]},,,,,")
         count -= 1
 
 
+class Shape(typing.NamedTuple):
+    """What a trace is like: its devices and their openings, the openings of each adapter, the part of its rounds in which
+    commands come, how many of its stays begin with a requeue, and how often an adapter idles and a device is frozen."""
+    devices: int = DEVICES
+    device_openings: int = 1
+    adapter_openings: int = 3
+    within: float = 1 / 2
+    requeued: float = 0
+    idle: float = 0.1
+    frozen: float = 0
+
+
+SHAPES = {
+    "loose": Shape(device_openings=4, adapter_openings=16, idle=0.3),
+    "tight": Shape(),
+    "frozen": Shape(frozen=0.1),
+    "a quarter requeued": Shape(requeued=1 / 4),
+    "at once on one device": Shape(devices=1, device_openings=9, adapter_openings=16, within=0, idle=0.03),
+    "at once on 16 devices": Shape(adapter_openings=16, within=0),
+    "overloaded": Shape(within=1 / 4, idle=0),
+}
+
+
 def trace(kind, stays, rounds, seed=1, events=0):
-    """A legal trace in which each command is sent, filled up to so many events, and how many it has. `loose` has four
-    openings a device and sixteen an adapter, `tight` one and three, `frozen` those of `tight` with a tenth of the devices
-    frozen in each round. Where it is filled up, a device may have one opening more, and two are frozen and released at times
-    in each round."""
+    """A legal trace of a kind or a shape in which each command is sent, filled up to so many events, and how many it has. Where
+    it is filled up, a device may have one opening more, and two are frozen and released at times in each round."""
     choose, choose_more = random.Random(seed), random.Random(seed)
-    device_openings, adapter_openings = (4, 16) if kind == "loose" else (1, 3)
-    coming = [device_openings] * DEVICES
+    shape = SHAPES.get(kind, kind)
+    coming = [shape.device_openings] * shape.devices
     rows = ["camtrace1,a,b,c,d,e,f,g"]
-    rows += [f"sim,{adapter_openings},,,,,,"] * ADAPTERS
-    rows += [f"dev,{d % ADAPTERS},{d},0,{device_openings},,," for d in range(DEVICES)]
+    rows += [f"sim,{shape.adapter_openings},,,,,,"] * ADAPTERS
+    rows += [f"dev,{d % ADAPTERS},{d},0,{shape.device_openings},,," for d in range(shape.devices)]
     rows += [f"lane,{a},,,,,," for a in range(ADAPTERS)]
     head = len(rows)
-    arrivals = sorted(choose.randint(1, max(1, rounds // 2)) for _ in range(stays))
-    queues = [[] for _ in range(DEVICES)]
-    last = [-1] * DEVICES
+    failures = round(stays * shape.requeued)
+    commands = stays - failures
+    arrivals = sorted(choose.randint(1, max(1, int(rounds * shape.within))) for _ in range(commands))
+    queues, requeued = [[] for _ in range(shape.devices)], []
+    last = [-1] * shape.devices
     submitted = 0
     for r in range(1, rounds + 1):
-        openings, stopped = coming[:], choose_more.sample(range(DEVICES), 2)
-        frozen = [d for d in range(DEVICES) if kind == "frozen" and choose.random() < 0.1]
+        openings, stopped = coming[:], choose_more.sample(range(shape.devices), min(2, shape.devices))
+        frozen = [d for d in range(shape.devices) if shape.frozen and choose.random() < shape.frozen]
         for d in frozen:
             rows.append(f"freeze,{d},1,,,,,")
-        while submitted < stays and arrivals[submitted] == r:
-            d, priority = choose.randrange(DEVICES), choose.randrange(1280)
+        for d, stay in requeued:
+            queues[d].append(stay)
+        requeued = []
+        while submitted < commands and arrivals[submitted] == r:
+            d, priority = choose.randrange(shape.devices), choose.randrange(1280)
             rows.append(f"submit,0,{d},{priority},4,none,,")
-            queues[d].append((priority, submitted))
+            queues[d].append((priority, len(rows), submitted, 0))
             submitted += 1
         for a in range(ADAPTERS):
-            fill(rows, events // rounds // 8, choose_more, stopped, coming, device_openings)
-            used = [0] * DEVICES
-            for _ in range(adapter_openings):
-                ready = [d for d in range(a, DEVICES, ADAPTERS) if queues[d] and d not in frozen and used[d] < openings[d]]
-                if not ready or (r < rounds * 3 // 4 and choose.random() < (0.3 if kind == "loose" else 0.1)):
+            fill(rows, events // rounds // 8, choose_more, stopped, coming, shape)
+            used = [0] * shape.devices
+            for _ in range(shape.adapter_openings):
+                ready = [d for d in range(a, shape.devices, ADAPTERS) if queues[d] and d not in frozen and used[d] < openings[d]]
+                if not ready or (r < rounds * 3 // 4 and choose.random() < shape.idle):
                     break
                 d = min(ready, key=lambda d: (min(queues[d])[0], last[d], d))
                 first = min(queues[d])
                 queues[d].remove(first)
                 used[d] += 1
-                rows.append(f"send,{a},{first[1]},,,,,")
+                priority, _, ccb, attempt = first
+                rows.append(f"send,{a},{ccb},,,,,")
                 last[d] = len(rows)
-                rows.append(f"done,{first[1]},01,00,,,,")
+                if failures and not attempt and r < rounds * 3 // 4 and choose.random() < 1 / 2:
+                    failures -= 1
+                    rows += [f"done,{ccb},0c,02,{ATTENTION},,,", f"requeue,{ccb},,,,,,"]
+                    requeued.append((d, (priority, len(rows), ccb, 1)))
+                else:
+                    rows.append(f"done,{ccb},01,00,,,,")
         for d in frozen:
             rows.append(f"release,{d},1,,,,,")
-        fill(rows, max(0, events * r // rounds - (len(rows) - head) - (r < rounds)), choose_more, stopped, coming, device_openings)
+        fill(rows, max(0, events * r // rounds - (len(rows) - head) - (r < rounds)), choose_more, stopped, coming, shape)
         if r < rounds:
             rows.append("tick,,,,,,,")
-    if any(queues):
-        raise ValueError(f"{sum(map(len, queues))} commands weren't sent")
+    if any(queues) or requeued or failures:
+        raise ValueError(f"{sum(map(len, queues))} commands weren't sent, {failures} didn't fail")
     return len(rows) - head, "\n".join(rows) + "\n"

@@ -2,11 +2,11 @@
 #![tactic(auto)]
 
 use audit_report::{AuditFault, run_audit, run_check};
-use text_io::Watched;
 use std::fs::File;
 use std::io;
 use std::io::Read;
 use std::rt::Files;
+use text_io::Watched;
 
 /// The traces, each named for what it shows.
 const TRACES: [&str; 36] = [

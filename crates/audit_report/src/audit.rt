@@ -16,11 +16,11 @@ ghost use Rattle.audit_report.specs.Runs.{Ended, WhyNoNet};
 use crate::audit_fault::AuditFault;
 use crate::costs::Costs;
 use crate::report::{push_plan, push_summary};
-use text_io::{Watched, write_whole};
 use cost_plan::{BestPlan, plan};
 use round_net::{Net, NetFault};
 use std::alloc::{AllocError, Global};
 use std::io::{Read, Write};
+use text_io::{Watched, write_whole};
 use trace_file::{TraceFault, read_trace};
 use xpt_state::History;
 

@@ -7,11 +7,11 @@ ghost use Rattle.audit_report.specs.Runs.{Ended};
 
 use crate::audit::{read_net, write_audit};
 use crate::audit_fault::AuditFault;
-use text_io::Watched;
 use cost_plan::{Gate, plan_with};
 use std::alloc::Global;
 use std::io::{Read, Write};
 use std::thread::Threads;
+use text_io::Watched;
 use trace_file::TraceFault;
 
 /// As `run_audit`, but that the adapters are planned at once, by threads that tell the gate of each, as `plan_with` does.

@@ -9,9 +9,9 @@ ghost use Rattle.audit_report.specs.Runs.{Ended};
 
 use crate::audit_fault::AuditFault;
 use crate::text::push_line;
-use text_io::{Watched, write_whole};
 use std::alloc::{AllocError, Global};
 use std::io::{Read, Write};
+use text_io::{Watched, write_whole};
 use trace_file::{TraceFault, read_trace};
 use xpt_state::History;
 

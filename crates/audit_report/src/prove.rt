@@ -9,11 +9,11 @@ ghost use Rattle.audit_report.specs.Prove.{Proving, IsProvedOrFailed};
 
 use crate::audit_fault::AuditFault;
 use crate::finding::Finding;
-use text_io::{Watched, write_whole};
 use price_check::{ReportFault, read_report};
 use round_net::{Net, NetFault};
 use std::alloc::Global;
 use std::io::{Read, Write};
+use text_io::{Watched, write_whole};
 use trace_file::{TraceFault, read_trace};
 
 /// Reads a trace and a report on it, whoever made it, and writes one line: whether the report's prices prove that its

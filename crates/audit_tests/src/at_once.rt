@@ -2,13 +2,13 @@
 
 use crate::texts::{FROZEN, TWO_ADAPTERS};
 use audit_report::{run_audit, run_audit_with};
-use text_io::Watched;
 use cost_plan::{Gate, OpenGate, plan_with};
 use round_net::{Net, cost};
 use std::alloc::Global;
 use std::sync::atomic::{AtomicBool, Ordering};
 use std::test::Fail;
 use std::thread::yield_now;
+use text_io::Watched;
 use trace_file::read_trace;
 
 const TURNS: u32 = 1_000_000;

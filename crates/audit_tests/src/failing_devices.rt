@@ -3,9 +3,9 @@
 use crate::fakes::{Pieces, Taker};
 use crate::texts::{FROZEN, ONE_COMMAND};
 use audit_report::{AuditFault, run_check};
-use text_io::Watched;
 use std::alloc::Global;
 use std::test::Fail;
+use text_io::Watched;
 use trace_file::TraceFault;
 
 const LINES: &[u8] = b"camcheck 1\ncommands 1\nstays 1\nrounds 1\nlive 0\n";

@@ -1,13 +1,13 @@
 //! Reports of any maker, read.
 
 use crate::histories::frozen_history;
-use text_io::Watched;
 use price_check::{Claim, ReportFault, Verdict, check, read_report};
 use round_net::Net;
 use std::alloc::Global;
 use std::io;
 use std::io::Read;
 use std::test::Fail;
+use text_io::Watched;
 
 const SUMMARY: &str = "camaudit 1\ncommands 2\nstays 2\nrounds 5\nlive 4\nbest 2\nexcess 2\n";
 

@@ -3,10 +3,10 @@
 use crate::fakes::Pieces;
 use cam_event::Event;
 use cam_types::{Limits, Outcome, SenseBytes};
-use text_io::Watched;
 use std::alloc::Global;
 use std::test::Fail;
 use test_events::{PLAIN, adjust, freeze, freeze_sim, release, release_sim};
+use text_io::Watched;
 use trace_file::{Script, Step, TraceFault, read_script};
 
 // A header, an adapter, a device and a lane.

@@ -4,13 +4,13 @@ use crate::fakes::{Many, Pieces};
 use crate::texts::{FROZEN, ONE_COMMAND};
 use cam_event::Event;
 use cam_types::{Flags, Outcome, SenseBytes};
-use text_io::Watched;
 use std::alloc::Global;
 use std::test::Fail;
 use test_events::{
     PLAIN, adjust, device, done, finish, freeze, freeze_sim, release, release_sim, requeue, send,
     submit,
 };
+use text_io::Watched;
 use trace_file::{TraceFault, read_trace};
 use xpt_state::History;
 

@@ -2,8 +2,8 @@
 
 use crate::fakes::{Many, Pieces, Taker};
 use cam_types::MOST_BYTES;
-use text_io::{Watched, WholeFault, read_whole, write_whole};
 use std::test::Fail;
+use text_io::{Watched, WholeFault, read_whole, write_whole};
 
 #[test]
 fn reads_to_the_end_or_to_the_first_error(rt: HostRuntime) -> Result<(), Fail> {

@@ -2,9 +2,9 @@
 
 use crate::fakes::Taker;
 use crate::texts::{FROZEN, ONE_COMMAND};
-use text_io::Watched;
 use std::alloc::Global;
 use std::test::Fail;
+use text_io::Watched;
 use trace_file::{WriteFault, read_trace, write_trace};
 
 // Every kind of row, and numbers of some digits.

@@ -2,8 +2,8 @@
 
 use crate::blocks::{BLOCKS, Blocks};
 use crate::fault::Fault;
-use cam_types::{Flags, Outcome};
 use cam_event::Class;
+use cam_types::{Flags, Outcome};
 use std::alloc::{AllocError, Global};
 use std::sync::Wait;
 use std::sync::ledger::Ledger;

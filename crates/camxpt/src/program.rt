@@ -16,7 +16,10 @@ use std::thread::Threads;
 
 /// Does what the words of the command line ask, and says on standard error why it didn't. If that is a terminal, a long run
 /// shows there how far it is.
-pub fn run<R: Runtime + AllocGlobal + Threads + Wait + Sync>(rt: &R, on_terminal: bool) -> ExitCode {
+pub fn run<R: Runtime + AllocGlobal + Threads + Wait + Sync>(
+    rt: &R,
+    on_terminal: bool,
+) -> ExitCode {
     match read_and_obey(rt, on_terminal) {
         Ok(status) => status,
         Err(failure) => {

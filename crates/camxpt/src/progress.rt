@@ -7,6 +7,7 @@ use xpt_state::Look;
 
 // How many milliseconds a run is old when it is first shown, and how many lie between two lines at least.
 const FIRST: u64 = 1_000;
+
 const BETWEEN: u64 = 100;
 
 /// A line on standard error that says how far a run is, if that is a terminal and the run takes more than a second.
@@ -43,7 +44,8 @@ impl<'a, R: Clock + Eprint> ProgressLine<'a, R> {
 
     // The milliseconds since the run began, if a line is due.
     fn due(&self) -> Option<u64> {
-        let elapsed = self.start?.elapsed(self.rt).ok()?.as_millis() as u64;
+        let elapsed = self.start?.elapsed(self.rt).ok()?;
+        let elapsed = u64::try_from(elapsed.as_millis()).ok()?;
         (self.due.load(Ordering::Relaxed) <= elapsed).then_some(elapsed)
     }
 }
@@ -53,7 +55,8 @@ impl<R: Clock + Eprint> Progress for ProgressLine<'_, R> {
         let Some(elapsed) = self.due() else {
             return;
         };
-        self.due.store(elapsed.saturating_add(BETWEEN), Ordering::Relaxed);
+        self.due
+            .store(elapsed.saturating_add(BETWEEN), Ordering::Relaxed);
         let left = u64::from(look.waiting) + u64::from(look.in_flight) + u64::from(look.cases);
         let _ = self.rt.eprint(format_args!(
             "\r\u{1b}[Kcamxpt: round {}, {} events, {left} CCBs left",

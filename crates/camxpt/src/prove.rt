@@ -3,10 +3,10 @@
 use crate::failure::Failure;
 use crate::words::{STANDARD_INPUT, open};
 use audit_report::run_prove;
-use text_io::Watched;
 use std::io;
 use std::io::Read;
 use std::rt::Files;
+use text_io::Watched;
 
 /// Reads the trace and the report in the files of these names, and says whether the report's prices prove its schedule.
 /// One of the two may be standard input. Both files are opened before one is read.

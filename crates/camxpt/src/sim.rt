@@ -1,9 +1,8 @@
 //! Runs a script, on one thread or on many, and writes the trace of the run.
 
 use crate::failure::Failure;
-use crate::words::{STANDARD_INPUT, open};
-use text_io::Watched;
 use crate::progress::ProgressLine;
+use crate::words::{STANDARD_INPUT, open};
 use live_worker::run_live;
 use run_rules::Ending;
 use sim_worker::{ScriptPort, sim_run};
@@ -12,6 +11,7 @@ use std::io::Read;
 use std::rt::{Files, Runtime};
 use std::sync::Wait;
 use std::thread::Threads;
+use text_io::Watched;
 use trace_file::{read_script, write_trace};
 
 /// Reads the script in the file of this name, or on standard input if it is `-`, runs it by the seed, writes the trace to

@@ -3,12 +3,12 @@
 use crate::failure::Failure;
 use crate::words::{STANDARD_INPUT, open};
 use audit_report::{run_audit_with, run_check};
-use text_io::Watched;
 use cost_plan::OpenGate;
 use std::io;
 use std::io::Read;
 use std::rt::Files;
 use std::thread::Threads;
+use text_io::Watched;
 
 /// What is done with a trace.
 #[derive(Clone, Copy)]

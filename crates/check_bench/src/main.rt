@@ -1,13 +1,13 @@
 //! Times the check of a best schedule and its prices alone, on the net of the trace on standard input.
 #![tactic(auto)]
 
-use text_io::Watched;
 use cost_plan::plan;
 use price_check::{Verdict, check};
 use round_net::Net;
 use std::io;
 use std::process::ExitCode;
 use std::time::{CpuClock, Duration};
+use text_io::Watched;
 use trace_file::read_trace;
 
 const CHECKS: u32 = 100;

@@ -2,11 +2,11 @@
 //! costs alone.
 #![tactic(auto)]
 
-use text_io::{Watched, read_whole};
 use csv::ReaderBuilder;
 use std::alloc::Global;
 use std::io;
 use std::process::ExitCode;
+use text_io::{Watched, read_whole};
 
 fn main(rt: HostRuntime) -> io::Result<ExitCode> {
     let mut input = Watched::new(rt.reader());

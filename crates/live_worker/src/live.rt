@@ -65,7 +65,12 @@ pub fn run_live<P: Port + Send + Drop, W: Progress + Sync, R: Threads + Wait + S
 }
 
 // The run by a ledger.
-fn run_by<L: Ledger + Send + Sync, P: Port + Send + Drop, W: Progress + Sync, R: Threads + Wait + Sync>(
+fn run_by<
+    L: Ledger + Send + Sync,
+    P: Port + Send + Drop,
+    W: Progress + Sync,
+    R: Threads + Wait + Sync,
+>(
     rt: &R,
     alloc: Global,
     script: &Script,
@@ -139,7 +144,12 @@ fn seat<L: Ledger, R: Wait>(
 }
 
 // The workers after their work, each on a thread of its own. If one can't be started, those that were stop, and are joined.
-fn all_work<L: Ledger + Send + Sync, P: Port + Send + Drop, W: Progress + Sync, R: Threads + Wait + Sync>(
+fn all_work<
+    L: Ledger + Send + Sync,
+    P: Port + Send + Drop,
+    W: Progress + Sync,
+    R: Threads + Wait + Sync,
+>(
     rt: &R,
     alloc: Global,
     script: &Script,

@@ -3,8 +3,8 @@
 ghost use Rattle.std.specs.Prelude.{◌≡◌};
 
 use crate::frame::{PLAIN, outcome, shared};
-use cam_types::Limits;
 use cam_event::Class;
+use cam_types::Limits;
 use std::alloc::Global;
 use std::marker::Brand;
 use std::process::Abort;

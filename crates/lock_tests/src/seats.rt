@@ -3,9 +3,8 @@
 ghost use Rattle.std.specs.Prelude.{◌≡◌};
 
 use crate::frame::{PLAIN, outcome, shared};
-use cam_event::{Event, Refusal};
+use cam_event::{Class, Event, Refusal};
 use cam_types::{Command, Limits};
-use cam_event::Class;
 use std::alloc::Global;
 use std::marker::Brand;
 use std::process::Abort;

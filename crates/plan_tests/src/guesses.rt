@@ -16,7 +16,9 @@ const LOOSE: Shape = Shape {
     frozen: 0,
 };
 
-const SHAPES: [Shape; 6] = [
+// Nets that are loose, tight, frozen in part, and with a quarter of the stays requeued; of stays that come at once, on one
+// device and on sixteen; and overloaded.
+const SHAPES: [Shape; 7] = [
     LOOSE,
     Shape {
         dev_openings: 1,
@@ -50,6 +52,13 @@ const SHAPES: [Shape; 6] = [
         dev_openings: 1,
         rounds: 1,
         idle: 10,
+        ..LOOSE
+    },
+    Shape {
+        dev_openings: 1,
+        sim_openings: 3,
+        rounds: 32,
+        idle: 0,
         ..LOOSE
     },
 ];

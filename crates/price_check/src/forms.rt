@@ -5,8 +5,8 @@ ghost use Rattle.round_net.specs.Rows.{instance_of_rows};
 ghost use Rattle.price_check.specs.Forms.{known_line, stated_line, named_stay, own_stay, small_number, any_stay, dev_front, sim_front};
 
 use crate::pieces::{number_at, skip, skip_digits, skip_number};
-use cam_types::Device;
 use cam_event::StayName;
+use cam_types::Device;
 use round_net::Net;
 
 /// The most that may be said of a cost: 18 digits.

@@ -22,10 +22,10 @@ use crate::report_fault::ReportFault;
 use crate::stay_lines::read_stays;
 use crate::summary::read_summary;
 use cam_types::Device;
-use text_io::{Watched, WholeFault, read_whole};
 use round_net::{Net, Prices, Schedule};
 use std::alloc::{AllocError, Global};
 use std::io::Read;
+use text_io::{Watched, WholeFault, read_whole};
 use xpt_state::History;
 
 /// Reads a report on a complete history and its net to the end of the input, whoever made it. A fault of the text names

@@ -5,8 +5,8 @@ ghost use Rattle.cam_types.specs.declared.device.Device.{Device};
 ghost use Rattle.round_net.specs.Nets.{row_of};
 
 use crate::stay_row::StayRow;
-use cam_types::{Config, Device};
 use cam_event::StayName;
+use cam_types::{Config, Device};
 use std::alloc::{AllocError, Global};
 use xpt_state::StayRecord;
 

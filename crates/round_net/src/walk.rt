@@ -10,9 +10,8 @@ ghost use Rattle.round_net.specs.Marks.{Marks, Sets, IsNoted, HasCells};
 use crate::marks::{
     mark_adapters, mark_devices, note_adapter_sends, note_device_sends, note_openings,
 };
-use cam_event::Rules;
+use cam_event::{Event, Rules};
 use cam_types::Config;
-use cam_event::Event;
 use std::alloc::{AllocError, Global};
 use xpt_adapters::Adapters;
 

@@ -5,11 +5,11 @@ ghost use Rattle.trace_file.specs.Scenarios.{is_answer};
 
 use crate::scripts::script;
 use cam_types::{Command, Outcome, SenseBytes};
-use text_io::Watched;
 use live_worker::{Untold, run_live};
 use run_rules::{Port, Served};
 use std::alloc::{AllocError, Global};
 use std::test::Fail;
+use text_io::Watched;
 use trace_file::{read_trace, write_trace};
 
 // How many answers there are: 252 statuses, each under 5 SCSI statuses and with 5 kinds of sense data.

@@ -1,12 +1,12 @@
 //! Scripts, and runs of them.
 
-use text_io::Watched;
 use live_worker::{LiveRun, Untold, run_live};
 use sim_worker::ScriptPort;
 use std::alloc::Global;
 use std::sync::Wait;
 use std::test::Fail;
 use std::thread::Threads;
+use text_io::Watched;
 use trace_file::{Script, read_script};
 
 /// The script that the rows ask for behind a header.

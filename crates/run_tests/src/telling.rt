@@ -21,7 +21,8 @@ struct Told {
 
 impl Progress for Told {
     fn show(&self, look: Look) {
-        self.rounds.fetch_or(1 << (look.round % 32), Ordering::SeqCst);
+        self.rounds
+            .fetch_or(1 << (look.round % 32), Ordering::SeqCst);
         self.events.fetch_max(look.length, Ordering::SeqCst);
     }
 }

@@ -2,11 +2,11 @@
 //! `trace` it reads a trace from there and writes it again.
 #![tactic(auto)]
 
-use text_io::Watched;
 use std::fs::File;
 use std::io::Read;
 use std::rt::{Files, Runtime};
 use std::{env, io};
+use text_io::Watched;
 use trace_file::{Script, read_script, read_trace, write_trace};
 
 const SCRIPTS: [&str; 4] = [

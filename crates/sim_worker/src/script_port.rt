@@ -4,9 +4,9 @@ ghost use Rattle.std.specs.Prelude.{◌≡◌, All, ◌<◌, ◌-◌, ℕ, [], �
 ghost use Rattle.trace_file.specs.Scenarios.{is_answer};
 ghost use Rattle.sim_worker.specs.Ports.{answer_at};
 
+use cam_event::CAM_REQ_CMP;
 use cam_types::{Command, Outcome};
 use run_rules::{Port, Served};
-use cam_event::CAM_REQ_CMP;
 use std::alloc::{AllocError, Global};
 use std::marker::Model;
 use trace_file::Script;

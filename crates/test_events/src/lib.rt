@@ -1,8 +1,8 @@
 //! What tests are made of: devices, flags, outcomes and events.
 #![tactic(auto)]
 
-use cam_types::{Device, Flags, Outcome, SenseBytes};
 use cam_event::Event;
+use cam_types::{Device, Flags, Outcome, SenseBytes};
 
 /// Neither flag.
 pub const PLAIN: Flags = Flags {

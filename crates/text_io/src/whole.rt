@@ -5,8 +5,8 @@ ghost use Rattle.std.specs.Io.KnownBytes.{Appends};
 ghost use Rattle.text_io.specs.Watched.{device_of, has_failed, is_flushed};
 ghost use Rattle.text_io.specs.Whole.{IsWhole, IsTooLong, AppendsFront};
 
-use cam_types::MOST_BYTES;
 use crate::watched::Watched;
+use cam_types::MOST_BYTES;
 use std::alloc::Global;
 use std::io::{Read, Write};
 use thiserror::Error;

@@ -11,9 +11,9 @@ use crate::records::take_records;
 use crate::script::Script;
 use crate::script_stage::ScriptStage;
 use crate::trace_fault::TraceFault;
-use text_io::{Watched, WholeFault, read_whole};
 use std::alloc::Global;
 use std::io::Read;
+use text_io::{Watched, WholeFault, read_whole};
 
 /// Reads a script to the end of the input. A fault of the text names the first record that fails, and the first test
 /// that it fails: of its length, word, place and number; of its fields; of the configuration's rules; of the static

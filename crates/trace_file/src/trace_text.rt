@@ -10,10 +10,10 @@ ghost use Rattle.trace_file.specs.Writing.{trace_text};
 use crate::row_writer::write_row;
 use crate::write_fault::WriteFault;
 use crate::writing::{write_devices, write_events, write_numbers};
-use text_io::{Watched, write_whole};
 use csv::WriterBuilder;
 use std::alloc::{AllocError, Global};
 use std::io::Write;
+use text_io::{Watched, write_whole};
 use xpt_state::History;
 
 /// Writes the trace of a history and flushes it: its records by CSV's defaults, with a line feed behind each. The text

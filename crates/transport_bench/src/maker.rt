@@ -2,8 +2,8 @@
 
 use crate::answer::Answer;
 use crate::call::Call;
-use cam_types::Outcome;
 use cam_event::Class;
+use cam_types::Outcome;
 use xpt_state::{Sent, Xpt};
 
 /// Makes the call on the transport.

@@ -3,9 +3,8 @@
 ghost use Rattle.std.specs.Prelude.{◌≡◌, IfOk};
 ghost use Rattle.cam_event.specs.Legal.{history_rules};
 
-use cam_event::{Event, Rules};
+use cam_event::{Class, Event, Rules, Why};
 use cam_types::Config;
-use cam_event::{Class, Why};
 use std::alloc::Global;
 use std::process::Abort;
 use std::test::Fail;

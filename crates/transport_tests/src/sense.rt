@@ -1,7 +1,7 @@
 //! Sense data, and the classes of results.
 
-use cam_types::{Outcome, SenseBytes};
 use cam_event::{Class, Sense, Why, classify, kind_of, read_sense};
+use cam_types::{Outcome, SenseBytes};
 use test_events::outcome;
 
 #[test]

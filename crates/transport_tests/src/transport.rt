@@ -1,9 +1,8 @@
 //! A transport's calls in short runs, with the same events on a history.
 
 use crate::both::{Both, Due};
-use cam_event::{Event, Refusal, Rules};
+use cam_event::{Class, Event, Refusal, Rules, Why};
 use cam_types::{Command, Flags, Limits, Outcome, SenseBytes};
-use cam_event::{Class, Why};
 use std::alloc::Global;
 use std::test::Fail;
 use test_events::{

@@ -3,8 +3,7 @@
 ghost use Rattle.std.specs.Prelude.{◌≡◌, ◌+◌, length, IfOk};
 
 use crate::network::Network;
-use crate::placing::Turn;
-use crate::rows::Rows;
+use crate::problem::Problem;
 use crate::stop::Stop;
 use std::alloc::Global;
 
@@ -25,21 +24,16 @@ pub fn labels(alloc: Global, network: &Network, root: u32) -> Result<Vec<u64>, S
     Ok(labels)
 }
 
-/// The round of each stay: of the stays of a row, those that arrive first are sent first.
-pub fn rounds(
-    alloc: Global,
-    network: &mut Network,
-    rows: &mut Rows,
-    turns: &[Turn],
-) -> Result<Vec<u32>, Stop>
-    ensures { IfOk result (λ rounds. length rounds.items ≡ length turns.now) }
+/// The round of each stay.
+pub fn rounds(alloc: Global, network: &Network, problem: &Problem) -> Result<Vec<u32>, Stop>
+    ensures { IfOk result (λ rounds. length rounds.items ≡ length problem.now.stays.items) }
 {
-    let mut rounds = vec![in alloc; 0u32; turns.len()]?;
-    for turn in turns {
-        let round = rows.take_round(network, turn.stay)?;
-        if let Some(place) = rounds.get_mut(turn.stay as usize) {
-            *place = round;
-        }
+    let mut rounds = Vec::with_capacity(alloc, problem.stays.len())?;
+    let mut number = 0u32;
+    for stay in problem.stays.iter() {
+        let cell = network.node(network.stay_node(number))?.above;
+        rounds.push(cell.saturating_sub(problem.cell(stay.row, 0)))?;
+        number = number.saturating_add(1);
     }
     Ok(rounds)
 }

@@ -6,11 +6,18 @@ use std::alloc::Global;
 /// The most that a distance is, which is far above what nets within the limits need.
 const MOST_DISTANCE: u32 = 1_000_000;
 
+// A node, and the entry behind it in its bucket.
+#[derive(Clone, Copy)]
+struct Entry {
+    node: u32,
+    next: Option<u32>,
+}
+
 /// Nodes by distance.
 #[derive(Drop)]
 pub struct Buckets {
-    alloc: Global,
-    nodes: Vec<Vec<u32>>,
+    heads: Vec<Option<u32>>,
+    entries: Vec<Entry>,
     first: u32,
     last: u32,
 }
@@ -19,8 +26,8 @@ impl Buckets {
     /// No nodes.
     pub fn new(alloc: Global) -> Buckets {
         Buckets {
-            alloc,
-            nodes: Vec::new(alloc),
+            heads: Vec::new(alloc),
+            entries: Vec::new(alloc),
             first: 0,
             last: 0,
         }
@@ -29,10 +36,11 @@ impl Buckets {
     /// Takes all nodes out.
     pub fn clear(&mut self) {
         for distance in self.first..self.last.saturating_add(1) {
-            if let Some(bucket) = self.nodes.get_mut(distance as usize) {
-                bucket.clear();
+            if let Some(head) = self.heads.get_mut(distance as usize) {
+                *head = None;
             }
         }
+        self.entries.clear();
         self.first = 0;
         self.last = 0;
     }
@@ -42,11 +50,13 @@ impl Buckets {
         if distance > MOST_DISTANCE {
             return Err(Stop::GivenUp);
         }
-        for _ in self.nodes.len()..distance as usize + 1 {
-            self.nodes.push(Vec::new(self.alloc))?;
+        for _ in self.heads.len()..distance as usize + 1 {
+            self.heads.push(None)?;
         }
-        if let Some(bucket) = self.nodes.get_mut(distance as usize) {
-            bucket.push(node)?;
+        let number = u32::try_from(self.entries.len()).ok().ok_or(Stop::GivenUp)?;
+        if let Some(head) = self.heads.get_mut(distance as usize) {
+            self.entries.push(Entry { node, next: *head })?;
+            *head = Some(number);
         }
         self.last = self.last.max(distance);
         Ok(())
@@ -55,9 +65,12 @@ impl Buckets {
     /// Takes out a node of least distance. No node is put in afterwards that is nearer.
     pub fn pop(&mut self) -> Option<(u32, u32)> {
         for distance in self.first..self.last.saturating_add(1) {
-            if let Some(node) = self.nodes.get_mut(distance as usize)?.pop() {
+            let head = self.heads.get_mut(distance as usize)?;
+            if let Some(number) = *head {
+                let entry = self.entries.get(number as usize).copied()?;
+                *head = entry.next;
                 self.first = distance;
-                return Some((node, distance));
+                return Some((entry.node, distance));
             }
         }
         None

@@ -7,6 +7,9 @@ use crate::problem::Problem;
 use crate::stop::Stop;
 use std::alloc::Global;
 
+/// The label of a cell that takes no stay: no way leads through it.
+const CLOSED: u32 = 1_000_000_000;
+
 impl Problem {
     /// The node of a cell.
     pub fn cell(&self, row: u32, round: u32) -> u32 {
@@ -62,13 +65,16 @@ impl Problem {
         rows.checked_mul(each).ok_or(Stop::GivenUp)
     }
 
-    /// The network of the cells and the root, where no stay is sent.
+    /// The network of the cells, the root and the stays, where no stay stands in a cell.
     pub fn network(&self, alloc: Global, root: u32) -> Result<Network, Stop> {
         let mut network = Network::new(alloc, root);
         for row in 0..self.rows() {
             self.add_cells(&mut network, row)?;
         }
         network.push(Node::new(root, u32::MAX, 0))?;
+        for _stay in self.stays.iter() {
+            network.push(Node::new(root, 1, 0))?;
+        }
         Ok(network)
     }
 
@@ -79,7 +85,9 @@ impl Problem {
                 Some(above) => self.cell(above, round),
                 None => network.root(),
             };
-            network.push(Node::new(above, self.cap(row, round), 0))?;
+            let cap = self.cap(row, round);
+            let label = if cap == 0 { CLOSED } else { 0 };
+            network.push(Node::new(above, cap, label))?;
         }
         Ok(())
     }

@@ -6,7 +6,6 @@ ghost use Rattle.std.specs.Option.{IfSome};
 use crate::answer::{labels, rounds};
 use crate::placing::{place_all, turns};
 use crate::problem::{Guess, Problem};
-use crate::rows::Rows;
 use crate::search::Search;
 use crate::stop::Stop;
 use std::alloc::{AllocError, Global};
@@ -31,11 +30,10 @@ fn search(alloc: Global, problem: &Problem) -> Result<Guess, Stop>
 {
     let root = problem.root()?;
     let mut network = problem.network(alloc, root)?;
-    let mut rows = Rows::of(alloc, problem, &mut network)?;
+    let mut search = Search::new(alloc, problem, root)?;
     let turns = turns(alloc, problem)?;
-    let mut search = Search::new(alloc, network.len())?;
-    place_all(&mut network, &mut search, problem, &rows, &turns)?;
+    place_all(&mut network, &mut search, problem, &turns)?;
     let labels = labels(alloc, &network, root)?;
-    let rounds = rounds(alloc, &mut network, &mut rows, &turns)?;
+    let rounds = rounds(alloc, &network, problem)?;
     Ok(Guess { rounds, labels })
 }

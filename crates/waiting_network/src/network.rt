@@ -1,10 +1,10 @@
-//! The network: nodes that stays come through on their way to the root.
+//! The network: cells, the root behind them, and stays, which stand in cells.
 
 use crate::senders::Senders;
 use crate::stop::Stop;
 use std::alloc::Global;
 
-/// A node. Stays go on from it to the node above it, or to the next node, where they wait a round.
+/// A node. What comes into a cell goes on to the node above it; a stay goes on to the cell in which it stands.
 #[derive(Clone, Copy)]
 pub struct Node {
     /// The node above.
@@ -13,24 +13,18 @@ pub struct Node {
     pub cap: u32,
     /// How many do.
     pub count: u32,
-    /// What it costs a stay to go on to the next node, and 0 where it can't.
-    pub wait: u32,
-    /// How many stays go on to the next node.
-    pub waiting: u32,
     /// What the cheapest way from here to the root costs one stay more, at least.
     pub label: u32,
 }
 
 impl Node {
     /// A node that leads to another, with room for so many stays.
-    pub fn new(above: u32, cap: u32, wait: u32) -> Node {
+    pub fn new(above: u32, cap: u32, label: u32) -> Node {
         Node {
             above,
             cap,
             count: 0,
-            wait,
-            waiting: 0,
-            label: 0,
+            label,
         }
     }
 
@@ -40,7 +34,7 @@ impl Node {
     }
 }
 
-/// The nodes, and which of them send stays to which.
+/// The nodes, and which of them send stays to which: first the cells, then the root, then a node for each stay.
 #[derive(Drop)]
 pub struct Network {
     nodes: Vec<Node>,
@@ -58,12 +52,11 @@ impl Network {
         }
     }
 
-    /// Adds a node, and answers its number.
-    pub fn push(&mut self, node: Node) -> Result<u32, Stop> {
-        let number = self.len();
+    /// Adds a node.
+    pub fn push(&mut self, node: Node) -> Result<(), Stop> {
         self.nodes.push(node)?;
         self.senders.push()?;
-        Ok(number)
+        Ok(())
     }
 
     /// How many nodes there are.
@@ -74,6 +67,16 @@ impl Network {
     /// The number of the root.
     pub fn root(&self) -> u32 {
         self.root
+    }
+
+    /// The node of a stay.
+    pub fn stay_node(&self, stay: u32) -> u32 {
+        self.root.saturating_add(1).saturating_add(stay)
+    }
+
+    /// The stay of a node, if it is one of a stay.
+    pub fn stay_of(&self, number: u32) -> Option<u32> {
+        number.checked_sub(self.root)?.checked_sub(1)
     }
 
     /// A node.
@@ -116,7 +119,7 @@ impl Network {
     /// Sends one stay more from a node to the node above.
     pub fn send(&mut self, number: u32) -> Result<(), Stop> {
         let node = self.node(number)?;
-        if node.count == 0 {
+        if node.count == 0 && node.above != self.root {
             self.senders.add(number, node.above);
         }
         self.set(
@@ -132,7 +135,7 @@ impl Network {
     /// Sends one stay less from a node to the node above.
     pub fn take_back(&mut self, number: u32) -> Result<(), Stop> {
         let node = self.node(number)?;
-        if node.count == 1 {
+        if node.count == 1 && node.above != self.root {
             self.senders.remove(number, node.above);
         }
         self.set(
@@ -145,33 +148,21 @@ impl Network {
         Ok(())
     }
 
-    /// Lets one stay more wait at a node.
-    pub fn wait(&mut self, number: u32) -> Result<(), Stop> {
+    /// Puts the stay of a node into a cell, and answers the cell in which it stood, if it stood in one.
+    pub fn put(&mut self, number: u32, cell: u32) -> Result<Option<u32>, Stop> {
         let node = self.node(number)?;
-        self.set(
-            number,
-            Node {
-                waiting: node.waiting.checked_add(1).ok_or(Stop::GivenUp)?,
-                ..node
-            },
-        );
-        Ok(())
+        let was = if node.count > 0 {
+            self.take_back(number)?;
+            Some(node.above)
+        } else {
+            None
+        };
+        self.set(number, Node::new(cell, 1, 0));
+        self.send(number)?;
+        Ok(was)
     }
 
-    /// Lets one stay less wait at a node.
-    pub fn hasten(&mut self, number: u32) -> Result<(), Stop> {
-        let node = self.node(number)?;
-        self.set(
-            number,
-            Node {
-                waiting: node.waiting.checked_sub(1).ok_or(Stop::GivenUp)?,
-                ..node
-            },
-        );
-        Ok(())
-    }
-
-    /// Sends a stay from a node up to the root.
+    /// Sends one stay more from a cell up to the root.
     pub fn send_up(&mut self, start: u32) -> Result<(), Stop> {
         let mut number = start;
         for _ in 0..self.len() {
@@ -184,7 +175,7 @@ impl Network {
         Ok(())
     }
 
-    /// Whether one stay more may go on from a node up to the root.
+    /// Whether one stay more may go on from a cell up to the root.
     pub fn has_room(&self, start: u32) -> Result<bool, Stop> {
         let mut number = start;
         for _ in 0..self.len() {
@@ -193,22 +184,6 @@ impl Network {
             }
             let node = self.node(number)?;
             if !node.has_room() {
-                return Ok(false);
-            }
-            number = node.above;
-        }
-        Ok(true)
-    }
-
-    /// Whether one stay more may go on from a node up to the root, and no label says that another would pay for it.
-    pub fn is_free(&self, start: u32) -> Result<bool, Stop> {
-        let mut number = start;
-        for _ in 0..self.len() {
-            if number == self.root {
-                break;
-            }
-            let node = self.node(number)?;
-            if !node.has_room() || node.label > 0 {
                 return Ok(false);
             }
             number = node.above;

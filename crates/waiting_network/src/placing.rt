@@ -1,13 +1,13 @@
 //! Places stays one after another, each on a way to the root that makes all together cheapest.
 
-ghost use Rattle.std.specs.Prelude.{◌≡◌, length, IfOk};
-
 use crate::network::Network;
-use crate::problem::Problem;
-use crate::rows::Rows;
+use crate::problem::{Problem, Stay};
 use crate::search::Search;
 use crate::stop::Stop;
 use std::alloc::Global;
+
+/// The most that a way is looked for where no room is left.
+const FAR: u32 = 500_000_000;
 
 /// A stay in the order in which stays are placed from the last one on: heavy stays first, and of equal ones those that
 /// arrive late.
@@ -20,9 +20,7 @@ pub struct Turn {
 }
 
 /// The stays in order: light ones first, and of equal ones those that arrive early.
-pub fn turns(alloc: Global, problem: &Problem) -> Result<Vec<Turn>, Stop>
-    ensures { IfOk result (λ turns. length turns.items ≡ length problem.now.stays.items) }
-{
+pub fn turns(alloc: Global, problem: &Problem) -> Result<Vec<Turn>, Stop> {
     let mut turns = Vec::with_capacity(alloc, problem.stays.len())?;
     let mut number = 0u32;
     for stay in problem.stays.iter() {
@@ -42,11 +40,10 @@ pub fn place_all(
     network: &mut Network,
     search: &mut Search,
     problem: &Problem,
-    rows: &Rows,
     turns: &[Turn],
 ) -> Result<(), Stop> {
     for turn in turns.iter().rev() {
-        place(network, search, problem, rows, turn.stay)?;
+        place(network, search, problem, turn.stay)?;
     }
     Ok(())
 }
@@ -56,76 +53,79 @@ fn place(
     network: &mut Network,
     search: &mut Search,
     problem: &Problem,
-    rows: &Rows,
     number: u32,
 ) -> Result<(), Stop> {
-    let stay = problem
-        .stays
-        .get(number as usize)
-        .copied()
-        .ok_or(Stop::GivenUp)?;
-    let start = rows.node(number, stay.arrival)?;
-    if network.is_free(start)? {
-        return network.send_up(start);
-    }
-    let waits = stay.last.saturating_sub(stay.arrival);
-    let direct = first_room(network, start, waits)?;
+    let stay = problem.stay(number)?;
+    let label = least_label(network, problem, &stay)?;
+    let direct = first_room(network, problem, &stay)?;
     let bound = match direct {
-        Some(waits) => stay
-            .weight
-            .saturating_mul(waits)
-            .saturating_sub(network.node(start)?.label),
-        None => u32::MAX,
+        Some(round) => waiting(&stay, round).saturating_sub(label),
+        None => FAR,
     };
-    let shorter = search.run(network, start, bound)?;
-    search.raise_labels(network)?;
-    match direct {
-        _ if shorter => send_along(network, search),
-        Some(waits) => send_waiting(network, start, waits),
-        None => Err(Stop::GivenUp),
+    if bound > 0 {
+        let shorter = search.run(network, problem, number, label, bound)?;
+        search.raise_labels(network)?;
+        if shorter {
+            return send_along(network, search);
+        }
     }
+    let cell = problem.cell(stay.row, direct.ok_or(Stop::GivenUp)?);
+    network.put(network.stay_node(number), cell)?;
+    network.send_up(cell)
 }
 
-// How many rounds a stay waits from a node on for the first with room, of so many at most.
-fn first_room(network: &Network, start: u32, most: u32) -> Result<Option<u32>, Stop> {
-    for waits in 0..most.saturating_add(1) {
-        if network.has_room(start.saturating_add(waits))? {
-            return Ok(Some(waits));
+// What a stay's waiting up to a round costs.
+fn waiting(stay: &Stay, round: u32) -> u32 {
+    stay.weight
+        .saturating_mul(round.saturating_sub(stay.arrival))
+}
+
+// What the cheapest way to the root costs a stay that isn't placed, at least.
+fn least_label(network: &Network, problem: &Problem, stay: &Stay) -> Result<u32, Stop> {
+    let mut least = u32::MAX;
+    for round in stay.arrival..stay.last.saturating_add(1) {
+        let waits = waiting(stay, round);
+        if waits >= least {
+            break;
+        }
+        let label = network.node(problem.cell(stay.row, round))?.label;
+        least = least.min(waits.saturating_add(label));
+    }
+    Ok(least)
+}
+
+// The first round of a stay's window with room, if there is one.
+fn first_room(network: &Network, problem: &Problem, stay: &Stay) -> Result<Option<u32>, Stop> {
+    for round in stay.arrival..stay.last.saturating_add(1) {
+        if network.has_room(problem.cell(stay.row, round))? {
+            return Ok(Some(round));
         }
     }
     Ok(None)
 }
 
-// Lets a stay wait so many rounds, and sends it.
-fn send_waiting(network: &mut Network, start: u32, waits: u32) -> Result<(), Stop> {
-    for waited in 0..waits {
-        network.wait(start.saturating_add(waited))?;
-    }
-    network.send_up(start.saturating_add(waits))
-}
-
-// Changes what is sent and what waits along the way that a search found.
+// Changes what is sent along the way that a search found.
 fn send_along(network: &mut Network, search: &Search) -> Result<(), Stop> {
     let mut to = network.root();
     for _ in 0..network.len() {
-        let Some(from) = search.came_from(to) else {
+        let from = search.came_from(to).ok_or(Stop::GivenUp)?;
+        if network.stay_of(from).is_none() {
+            step(network, from, to)?;
+            to = from;
+        } else if let Some(cell) = network.put(from, to)? {
+            to = cell;
+        } else {
             return Ok(());
-        };
-        step(network, from, to)?;
-        to = from;
+        }
     }
     Err(Stop::GivenUp)
 }
 
-// Makes one step of a way.
+// Makes a step between a cell and the node above it.
 fn step(network: &mut Network, from: u32, to: u32) -> Result<(), Stop> {
     if network.node(from)?.above == to {
         network.send(from)
-    } else if network.node(to)?.above == from {
-        network.take_back(to)
-    } else if from < to {
-        network.wait(from)
     } else {
-        network.hasten(to)
+        network.take_back(to)
     }
 }

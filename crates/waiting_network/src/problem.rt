@@ -1,5 +1,7 @@
 //! What there is to plan, and a guess at a best plan of it.
 
+use crate::stop::Stop;
+
 /// A stay that needs a round.
 #[derive(Clone, Copy)]
 pub struct Stay {
@@ -25,6 +27,16 @@ pub struct Problem {
     pub caps: Vec<u32>,
     /// The stays.
     pub stays: Vec<Stay>,
+}
+
+impl Problem {
+    /// A stay.
+    pub fn stay(&self, number: u32) -> Result<Stay, Stop> {
+        self.stays
+            .get(number as usize)
+            .copied()
+            .ok_or(Stop::GivenUp)
+    }
 }
 
 /// A guess at a best plan.

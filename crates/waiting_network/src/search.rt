@@ -1,7 +1,9 @@
-//! The search for a cheapest way from a node to the root, by distances from which the labels are taken off.
+//! The search for a cheapest way from a stay to the root, by distances from which the labels are taken off.
 
 use crate::buckets::Buckets;
-use crate::network::{Network, Node};
+use crate::groups::Groups;
+use crate::network::Network;
+use crate::problem::{Problem, Stay};
 use crate::stop::Stop;
 use std::alloc::Global;
 
@@ -13,13 +15,11 @@ const TURNS: u32 = 64;
 struct Mark {
     distance: u32,
     from: Option<u32>,
-    settled: bool,
 }
 
 const UNREACHED: Mark = Mark {
     distance: u32::MAX,
     from: None,
-    settled: false,
 };
 
 /// A search, whose memory serves one after another.
@@ -28,12 +28,14 @@ pub struct Search {
     marks: Vec<Mark>,
     reached: Vec<u32>,
     queue: Buckets,
+    groups: Groups,
     best: u32,
 }
 
 impl Search {
-    /// A search in a network with so many nodes.
-    pub fn new(alloc: Global, nodes: u32) -> Result<Search, Stop> {
+    /// A search among the cells of a problem, of which there are as many as the root's number.
+    pub fn new(alloc: Global, problem: &Problem, root: u32) -> Result<Search, Stop> {
+        let nodes = root.checked_add(1).ok_or(Stop::GivenUp)?;
         let mut marks = Vec::with_capacity(alloc, nodes as usize)?;
         for _ in 0..nodes {
             marks.push(UNREACHED)?;
@@ -42,58 +44,65 @@ impl Search {
             marks,
             reached: Vec::new(alloc),
             queue: Buckets::new(alloc),
+            groups: Groups::of(alloc, problem)?,
             best: u32::MAX,
         })
     }
 
-    /// Looks for a way to the root that is shorter than the bound, and says whether there is one.
-    pub fn run(&mut self, network: &Network, start: u32, bound: u32) -> Result<bool, Stop> {
+    /// Looks for a way for a stay to the root that is shorter than the bound, and says whether there is one. From its label,
+    /// which is given, distances are counted.
+    pub fn run(
+        &mut self,
+        network: &Network,
+        problem: &Problem,
+        number: u32,
+        label: u32,
+        bound: u32,
+    ) -> Result<bool, Stop> {
         self.forget();
         self.best = bound;
-        self.reach(network, start, 0, None)?;
+        let stay = problem.stay(number)?;
+        let start = before(-i64::from(label), &stay, stay.arrival);
+        self.look_along(network, problem, number, start)?;
         for _ in 0..network.len().saturating_mul(TURNS) {
-            let Some((number, distance)) = self.queue.pop() else {
+            let Some((cell, distance)) = self.queue.pop() else {
                 return Ok(self.best < bound);
             };
             if distance >= self.best {
                 return Ok(self.best < bound);
             }
-            if self.settle(number, distance) {
-                self.look_from(network, number, distance)?;
+            if self.mark(cell)?.distance == distance {
+                self.look_from(network, problem, cell, distance)?;
             }
         }
         Err(Stop::GivenUp)
     }
 
-    /// How far the way to the root is, and the bound where none is shorter.
-    pub fn best(&self) -> u32 {
-        self.best
-    }
-
-    /// How a node was reached by the way that was found, and none where that begins.
+    /// How a node was reached by the way that was found, and none where it wasn't.
     pub fn came_from(&self, number: u32) -> Option<u32> {
         self.marks.get(number as usize)?.from
     }
 
-    /// Raises the label of each node that is nearer than the root by how much nearer it is.
+    /// Raises the label of each cell that is nearer than the root by how much nearer it is.
     pub fn raise_labels(&self, network: &mut Network) -> Result<(), Stop> {
-        for number in self.reached.iter().copied() {
-            let mark = self.mark(number)?;
-            if mark.settled && mark.distance < self.best {
-                network.raise(number, self.best - mark.distance)?;
+        for cell in self.reached.iter().copied() {
+            let distance = self.mark(cell)?.distance;
+            if distance < self.best {
+                network.raise(cell, self.best - distance)?;
             }
         }
         Ok(())
     }
 
     fn forget(&mut self) {
-        for number in self.reached.iter().copied() {
-            if let Some(mark) = self.marks.get_mut(number as usize) {
+        for cell in self.reached.iter().copied() {
+            if let Some(mark) = self.marks.get_mut(cell as usize) {
                 *mark = UNREACHED;
             }
         }
         self.reached.clear();
         self.queue.clear();
+        self.groups.begin();
     }
 
     fn mark(&self, number: u32) -> Result<Mark, Stop> {
@@ -103,40 +112,31 @@ impl Search {
             .ok_or(Stop::GivenUp)
     }
 
-    // Settles a node, unless it is settled already or was reached by a shorter way.
-    fn settle(&mut self, number: u32, distance: u32) -> bool {
-        let Some(mark) = self.marks.get_mut(number as usize) else {
-            return false;
-        };
-        if mark.settled || mark.distance != distance {
-            return false;
-        }
-        mark.settled = true;
-        true
-    }
-
     // Reaches a node by a way, if that is the shortest so far.
     fn reach(
         &mut self,
         network: &Network,
         number: u32,
-        distance: u32,
-        from: Option<u32>,
+        distance: i64,
+        from: u32,
     ) -> Result<(), Stop> {
-        let mark = self.mark(number)?;
-        if distance >= mark.distance || distance >= self.best {
+        if distance >= i64::from(self.best) {
             return Ok(());
         }
+        let Some(mark) = self.marks.get_mut(number as usize) else {
+            return Err(Stop::GivenUp);
+        };
+        if distance >= i64::from(mark.distance) {
+            return Ok(());
+        }
+        let distance = u32::try_from(distance).ok().ok_or(Stop::GivenUp)?;
         if mark.distance == u32::MAX {
             self.reached.push(number)?;
         }
-        if let Some(place) = self.marks.get_mut(number as usize) {
-            *place = Mark {
-                distance,
-                from,
-                settled: false,
-            };
-        }
+        *mark = Mark {
+            distance,
+            from: Some(from),
+        };
         if number == network.root() {
             self.best = distance;
             return Ok(());
@@ -144,86 +144,79 @@ impl Search {
         self.queue.push(number, distance)
     }
 
-    // Reaches the nodes to which a settled one leads.
-    fn look_from(&mut self, network: &Network, number: u32, distance: u32) -> Result<(), Stop> {
-        let node = network.node(number)?;
-        let far = Far {
-            number,
-            distance,
-            label: node.label,
-        };
-        self.look_up(network, far, node)?;
-        self.look_on(network, far, node)?;
-        self.look_back(network, far)?;
-        self.look_down(network, far)
-    }
-
-    // One stay more goes on to the node above, if that has an opening at all.
-    fn look_up(&mut self, network: &Network, far: Far, node: Node) -> Result<(), Stop> {
-        if !node.has_room() {
-            return Ok(());
+    // Reaches the nodes to which a cell leads: the one above if it has room, the cells below that send it stays, which could
+    // send one less, and those to which its stays could move.
+    fn look_from(
+        &mut self,
+        network: &Network,
+        problem: &Problem,
+        cell: u32,
+        distance: u32,
+    ) -> Result<(), Stop> {
+        let node = network.node(cell)?;
+        let key = i64::from(distance) - i64::from(node.label);
+        if node.has_room() {
+            let label = network.node(node.above)?.label;
+            self.reach(network, node.above, key + i64::from(label), cell)?;
         }
-        let above = network.node(node.above)?;
-        if above.cap == 0 {
-            return Ok(());
-        }
-        let distance = far.to(above.label, 0, 0);
-        self.reach(network, node.above, distance, Some(far.number))
-    }
-
-    // One stay more waits a round.
-    fn look_on(&mut self, network: &Network, far: Far, node: Node) -> Result<(), Stop> {
-        if node.wait == 0 {
-            return Ok(());
-        }
-        let next = far.number.saturating_add(1);
-        let distance = far.to(network.node(next)?.label, node.wait, 0);
-        self.reach(network, next, distance, Some(far.number))
-    }
-
-    // One stay less waits a round.
-    fn look_back(&mut self, network: &Network, far: Far) -> Result<(), Stop> {
-        let Some(previous) = far.number.checked_sub(1) else {
-            return Ok(());
-        };
-        let node = network.node(previous)?;
-        if node.waiting == 0 {
-            return Ok(());
-        }
-        let distance = far.to(node.label, 0, node.wait);
-        self.reach(network, previous, distance, Some(far.number))
-    }
-
-    // One stay less comes from a node below.
-    fn look_down(&mut self, network: &Network, far: Far) -> Result<(), Stop> {
-        let mut sender = network.first_sender(far.number);
+        let mut sender = network.first_sender(cell);
         for _ in 0..network.len() {
-            let Some(number) = sender else {
+            let Some(from) = sender else {
                 return Ok(());
             };
-            let distance = far.to(network.node(number)?.label, 0, 0);
-            self.reach(network, number, distance, Some(far.number))?;
-            sender = network.next_sender(number);
+            match network.stay_of(from) {
+                Some(number) => self.look_at(network, problem, number, cell, key)?,
+                None => {
+                    let label = network.node(from)?.label;
+                    self.reach(network, from, key + i64::from(label), cell)?;
+                }
+            }
+            sender = network.next_sender(from);
         }
         Err(Stop::GivenUp)
     }
-}
 
-// A settled node.
-#[derive(Clone, Copy)]
-struct Far {
-    number: u32,
-    distance: u32,
-    label: u32,
-}
-
-impl Far {
-    // The distance of a node to which it leads at this cost, or with this gain.
-    fn to(&self, label: u32, cost: u32, gain: u32) -> u32 {
-        self.distance
-            .saturating_add(cost)
-            .saturating_add(label)
-            .saturating_sub(self.label)
-            .saturating_sub(gain)
+    // Reaches the cells to which a stay in a cell could move.
+    fn look_at(
+        &mut self,
+        network: &Network,
+        problem: &Problem,
+        number: u32,
+        cell: u32,
+        key: i64,
+    ) -> Result<(), Stop> {
+        let stay = problem.stay(number)?;
+        let round = cell.saturating_sub(problem.cell(stay.row, 0));
+        self.look_along(network, problem, number, before(key, &stay, round))
     }
+
+    // Reaches the cells of a stay's window, by how far they would be in a round 0 with labels 0.
+    fn look_along(
+        &mut self,
+        network: &Network,
+        problem: &Problem,
+        number: u32,
+        key: i64,
+    ) -> Result<(), Stop> {
+        let stay = problem.stay(number)?;
+        let last = self.groups.last_to_look(number, &stay, key)?;
+        let from = network.stay_node(number);
+        for round in stay.arrival..last.saturating_add(1) {
+            let waits = i64::from(stay.weight).saturating_mul(i64::from(round));
+            let ahead = key.saturating_add(waits);
+            if ahead >= i64::from(self.best) {
+                break;
+            }
+            let cell = problem.cell(stay.row, round);
+            let label = network.node(cell)?.label;
+            self.reach(network, cell, ahead.saturating_add(i64::from(label)), from)?;
+        }
+        Ok(())
+    }
+}
+
+// A distance less what a stay's waiting up to a round costs.
+fn before(distance: i64, stay: &Stay, round: u32) -> i64 {
+    let waits = i64::from(stay.weight).saturating_mul(i64::from(round));
+    distance.saturating_sub(waits)
 }

@@ -4,8 +4,8 @@ ghost use Rattle.sim_queue.specs.Adapter.{best_ready};
 ghost use Rattle.xpt_adapters.specs.Updated.{with_turn, with_freezes, less_freeze, in_next_round, updated, CanUpdate};
 ghost use Rattle.xpt_devices.specs.Updated.{at_place, HasAt};
 
-use cam_types::Config;
 use cam_event::Event;
+use cam_types::Config;
 use sim_queue::SimQueue;
 
 /// Updates the adapters' queues by an event at this place, over the adapters of this configuration.

@@ -1,8 +1,7 @@
 //! What is known of one CCB that is alive.
 
+use cam_event::{Class, Event, Submission, classify, kind_of};
 use cam_types::Outcome;
-use cam_event::{Event, Submission};
-use cam_event::{Class, classify, kind_of};
 
 /// What is known of a CCB that is alive.
 #[derive(Clone, Copy, Debug, PartialEq, Eq)]

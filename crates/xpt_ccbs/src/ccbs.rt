@@ -3,10 +3,8 @@
 use crate::case_list::CaseList;
 use crate::ccb::Ccb;
 use crate::rows::Rows;
-use cam_event::Rules;
+use cam_event::{Class, Event, Rules};
 use cam_types::Config;
-use cam_event::Event;
-use cam_event::Class;
 use std::alloc::{AllocError, Global};
 use std::marker::Model;
 use xpt_adapters::Adapters;

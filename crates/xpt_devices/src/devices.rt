@@ -8,10 +8,9 @@ mod questions;
 use crate::counts::Counts;
 use crate::open::open_queues;
 use crate::update::update;
-use cam_event::Rules;
+use cam_event::{Event, Rules, Submission};
 use cam_types::Config;
 use dev_queue::DevQueue;
-use cam_event::{Event, Submission};
 use std::alloc::{AllocError, Global};
 use std::marker::Model;
 

@@ -5,9 +5,9 @@ ghost use Rattle.dev_queue.specs.Device.{is_ready};
 ghost use Rattle.cam_event.specs.Event.{is_erring};
 ghost use Rattle.xpt_devices.specs.Updated.{at_place, with_stay, with_send, with_done, with_requeue, with_finish, with_freezes, less_freezes, with_openings, in_next_round, updated, CanUpdate, HasAt, HasRoom, HasError};
 
+use cam_event::{Event, Submission};
 use cam_types::Priority;
 use dev_queue::DevQueue;
-use cam_event::{Event, Submission};
 
 /// Updates the devices' queues by an event, behind these submissions.
 pub(crate) fn update(queues: &mut Vec<DevQueue>, submissions: &[Submission], event: &Event)

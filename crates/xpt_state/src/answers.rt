@@ -16,8 +16,8 @@ use crate::done::Done;
 use crate::idle::Idle;
 use crate::look::Case;
 use crate::questions::{adapters, config, devices, has_head, lane_adapter};
-use cam_types::{Command, Outcome};
 use cam_event::Class;
+use cam_types::{Command, Outcome};
 use xpt_stays::Stays;
 
 /// What a completion comes to that isn't refused.

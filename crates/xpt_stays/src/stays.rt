@@ -8,9 +8,8 @@ ghost use Rattle.xpt_stays.specs.StayRecord.{is_unsent, waiting_cost};
 
 use crate::stay_record::StayRecord;
 use crate::update::update;
-use cam_event::Rules;
+use cam_event::{Event, Rules, StayName};
 use cam_types::Config;
-use cam_event::{Event, StayName};
 use std::alloc::{AllocError, Global};
 use std::marker::Model;
 use xpt_ccbs::Ccbs;

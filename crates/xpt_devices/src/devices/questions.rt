@@ -5,10 +5,9 @@ ghost use Rattle.std.specs.Option.{option_map};
 ghost use Rattle.cam_types.specs.declared.maxima.TheConstants.{MOST_EVENTS, MOST_FREEZES};
 
 use super::Devices;
-use cam_event::Rules;
+use cam_event::{Event, Rules, Submission};
 use cam_types::{Config, Priority};
 use dev_queue::{DevQueue, Waiting};
-use cam_event::{Event, Submission};
 
 impl Devices {
     ghost use Rattle.cam_event.specs.Counts.{round, commands, submission, sendings, caller_count, freeze_count, has_in_flight};

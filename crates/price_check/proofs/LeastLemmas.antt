@@ -100,3 +100,34 @@ any_in_range f p from (suc n) r le lt passes = elim (cases_lt from r) [
 
 pub least-le_at : (f : ℕ → ℕ) (p : ℕ → Bool) (from n r : ℕ) → from ≤ r → r < from + n → p r ≡ true → least (map f (filter p (range_with_len from n))) ≤ f r
 least-le_at f p from n r le lt passes = least-le (map f (filter p (range_with_len from n))) (f r) (any_in_range f p from n r le lt passes)
+
+-- a number that is at most each of them, if there is one
+abbrev IsBelow : ℕ → List ℕ → Type 0
+IsBelow k [] = 0 ≤ 0
+IsBelow k (x ∷ xs) = k ≤ least (x ∷ xs)
+
+lesser_above : (k x l : ℕ) → k ≤ x → k ≤ l → k ≤ lesser x l
+unfolding lesser
+lesser_above k x l le le' = grind (arith, nat_tests)
+
+below-cons : (k x : ℕ) (xs : List ℕ) → k ≤ x → IsBelow k xs → IsBelow k (x ∷ xs)
+unfolding lesser
+below-cons k x [] le below = le
+below-cons k x (y ∷ ys) le below = lesser_above k x (least (y ∷ ys)) le below
+
+below-range : (f : ℕ → ℕ) (p : ℕ → Bool) (k from n : ℕ) → ((r : ℕ) → from ≤ r → r < from + n → p r ≡ true → k ≤ f r) → IsBelow k (map f (filter p (range_with_len from n)))
+below-range f p k from zero each = omega arith
+below-range f p k from (suc n) each =
+    let rest : IsBelow k (map f (filter p (range_with_len (from + 1) n))) = below-range f p k (from + 1) n (λ r le lt passes. each r (omega arith) (omega arith) passes) in
+    elim (p from) as (λ b. p from ≡ b → IsBelow k (map f (cond b (from ∷ filter p (range_with_len (from + 1) n)) (filter p (range_with_len (from + 1) n))))) [
+      | true ↦ λ e. below-cons k (f from) (map f (filter p (range_with_len (from + 1) n))) (each from (omega arith) (omega arith) e) rest
+      | false ↦ λ e. rest
+    ] refl
+
+below-some : (k y : ℕ) (xs : List ℕ) → IsBelow k xs → list_any (λ x. x == y) xs ≡ true → k ≤ least xs
+below-some k y [] below e = absurd cc
+below-some k y (x ∷ xs) below e = below
+
+pub le-least : (f : ℕ → ℕ) (p : ℕ → Bool) (k from n : ℕ) → ((r : ℕ) → from ≤ r → r < from + n → p r ≡ true → k ≤ f r) → (t : ℕ) → from ≤ t → t < from + n → p t ≡ true → k ≤ least (map f (filter p (range_with_len from n)))
+le-least f p k from n each t le lt passes =
+    below-some k (f t) (map f (filter p (range_with_len from n))) (below-range f p k from n each) (any_in_range f p from n t le lt passes)

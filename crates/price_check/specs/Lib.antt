@@ -6,6 +6,7 @@ pub mod Lines
 pub mod Pieces
 pub mod Reading
 pub mod Report
+pub mod Rests
 pub mod Tally
 pub mod TextLines
 pub mod Verdicts

@@ -7,7 +7,8 @@ ghost use Rattle.round_net.specs.Value.{ProvesBest};
 ghost use Rattle.price_check.specs.Verdicts.{Means, IsBest};
 
 use crate::faults::first_fault;
-use crate::value::{offered, paid};
+use crate::payments::paid;
+use crate::value::offered;
 use crate::verdict::Verdict;
 use round_net::{Net, Prices, Schedule, cost};
 
@@ -32,7 +33,7 @@ pub fn check(net: &Net, schedule: &Schedule, prices: &Prices, counts: &mut [u32]
     let Some(cost) = cost(net, schedule) else {
         unreachable!()
     };
-    let gap = u128::from(cost) + offered(net, prices) - paid(net, prices);
+    let gap = u128::from(cost) + offered(net, prices) - paid(net, prices, counts);
     if gap == 0 {
         Verdict::Proved
     } else {

@@ -5,7 +5,7 @@ use Rattle.round_net.specs.Rows.{instance_of_rows}
 use Rattle.round_net.specs.PriceRows.{pricing_of_rows}
 use Rattle.round_net.specs.Value.{priced, is_open}
 use Rattle.price_check.proofs.LeastLemmas.{least_of}
-use Rattle.price_check.proofs.value.cheapest.Given as goal
+use Rattle.price_check.proofs.payments.cheapest_within.Given as goal
 
 abbrev pub invariant-loop-round : goal.invariant-loop-round
 invariant-loop-round l =

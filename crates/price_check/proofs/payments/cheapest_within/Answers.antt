@@ -4,7 +4,7 @@ use Rattle.round_net.specs.Rows.{instance_of_rows}
 use Rattle.round_net.specs.PriceRows.{pricing_of_rows}
 use Rattle.round_net.specs.Value.{priced, is_open, allowed}
 use Rattle.price_check.proofs.LeastLemmas.{least_of-next, unwrap_or-least_of}
-use Rattle.price_check.proofs.value.cheapest.Goals as goal
+use Rattle.price_check.proofs.payments.cheapest_within.Goals as goal
 
 pub loop-round-preserved : goal.loop-round-preserved
 loop-round-preserved c =

@@ -1,15 +1,15 @@
-use Rattle.std.proofs.Common.{◌≡◌, ◌≤◌, ◌*◌, ◌^◌}
-use Rattle.std.specs.Prelude.{map}
+use Rattle.std.proofs.Common.{◌≡◌, ◌≤◌, ◌*◌, ◌^◌, cond}
+use Rattle.std.specs.Prelude.{◌==◌, map}
 use Rattle.round_net.specs.Sums.{sum_below, least}
 use Rattle.round_net.specs.Rows.{instance_of_rows}
 use Rattle.round_net.specs.PriceRows.{pricing_of_rows}
 use Rattle.round_net.specs.Value.{priced, allowed}
-use Rattle.price_check.proofs.value.paid.Given as goal
+use Rattle.price_check.proofs.payments.paid_by.Given as goal
 
 abbrev pub invariant-loop-stay : goal.invariant-loop-stay
 invariant-loop-stay l =
     let net = instance_of_rows l.net in
     record {
-      so_far : l.total ≡ sum_below l.stay (λ s. least (map (priced net (pricing_of_rows l.prices) s) (allowed net s)));
+      so_far : l.total ≡ sum_below l.stay (λ s. cond (net.weight s == l.weight) (least (map (priced net (pricing_of_rows l.prices) s) (allowed net s))) 0);
       short : l.total ≤ 2 ^ 64 * l.stay;
     }

@@ -1,0 +1,88 @@
+//! Which round of the rest of all rounds is cheapest, for stays of one weight on each device.
+
+ghost use Rattle.std.specs.Prelude.{◌≡◌, ℕ, ◌+◌, ◌-◌, ◌*◌, ◌<◌, ◌≤◌, length, slice_index, slice_set};
+ghost use Rattle.round_net.specs.Rows.{instance_of_rows, cell};
+ghost use Rattle.round_net.specs.PriceRows.{pricing_of_rows, IsPricingFor};
+ghost use Rattle.price_check.specs.Rests.{takes, pays, IsCheapest, AreCheapest};
+
+use round_net::{Net, Prices, cell};
+
+/// Whether both the device and its adapter take commands in the round.
+pub fn takes(net: &Net, device: u32, round: u32) -> bool
+    requires device { device < (instance_of_rows net.now).devices }
+    requires first { 1 ≤ round }
+    requires last { round ≤ (instance_of_rows net.now).rounds }
+    ensures { result ≡ takes (instance_of_rows net.now) device round }
+{
+    net.dev_cap(device, round) > 0 && net.sim_cap(net.adapter_of(device), round) > 0
+}
+
+// What a stay of the device and weight would pay in the round, if it had waited from a round 0 on.
+#[tactic(auto, using(crate::proofs::RestLemmas::waiting_fits))]
+fn pays(net: &Net, prices: &Prices, weight: u32, device: u32, round: u32) -> u64
+    requires size { IsPricingFor (instance_of_rows net.now) prices.now }
+    requires weight { weight ≤ 16 }
+    requires few { (instance_of_rows net.now).rounds ≤ 128 }
+    requires device { device < (instance_of_rows net.now).devices }
+    requires first { 1 ≤ round }
+    requires last { round ≤ (instance_of_rows net.now).rounds }
+    ensures { result ≡ pays (instance_of_rows net.now) (pricing_of_rows prices.now) weight device round }
+{
+    let waiting = u64::from(weight * round);
+    waiting + prices.dev(device, round) + prices.sim(net.adapter_of(device), round)
+}
+
+// The cheapest round from this one on, where `next` is that from the next one on.
+#[tactic(auto, using(crate::proofs::RestLemmas::cheapest_closed, crate::proofs::RestLemmas::cheapest_here, crate::proofs::RestLemmas::cheapest_later))]
+fn cheaper_of(net: &Net, prices: &Prices, weight: u32, device: u32, round: u32, next: u32) -> u32
+    requires size { IsPricingFor (instance_of_rows net.now) prices.now }
+    requires weight { weight ≤ 16 }
+    requires few { (instance_of_rows net.now).rounds ≤ 128 }
+    requires device { device < (instance_of_rows net.now).devices }
+    requires first { 1 ≤ round }
+    requires last { round ≤ (instance_of_rows net.now).rounds }
+    requires next { IsCheapest (instance_of_rows net.now) (pricing_of_rows prices.now) weight device (round + 1) next }
+    ensures { IsCheapest (instance_of_rows net.now) (pricing_of_rows prices.now) weight device round result }
+{
+    if !takes(net, device, round) {
+        return next;
+    }
+    if next == 0
+        || pays(net, prices, weight, device, round) <= pays(net, prices, weight, device, next)
+    {
+        round
+    } else {
+        next
+    }
+}
+
+// Notes for each round of a device which one from there on is cheapest. What is noted of devices before stays.
+#[tactic(auto, using(crate::proofs::RestLemmas::cheapest_none, crate::proofs::RestLemmas::noted_none, crate::proofs::RestLemmas::noted_all, crate::proofs::RestLemmas::noted_step))]
+fn note_device(net: &Net, prices: &Prices, weight: u32, device: u32, rests: &mut [u32])
+    requires size { IsPricingFor (instance_of_rows net.now) prices.now }
+    requires weight { weight ≤ 16 }
+    requires device { device < (instance_of_rows net.now).devices }
+    requires cells { (instance_of_rows net.now).devices * (instance_of_rows net.now).rounds ≤ length rests.old }
+    requires before { AreCheapest (instance_of_rows net.now) (pricing_of_rows prices.now) weight device rests.old }
+    ensures noted { AreCheapest (instance_of_rows net.now) (pricing_of_rows prices.now) weight (device + 1) rests.new }
+{
+    let rounds = net.rounds();
+    let mut next = 0;
+    for passed in 0..rounds {
+        let round = rounds - passed;
+        next = cheaper_of(net, prices, weight, device, round, next);
+        rests[cell(rounds, device, round)] = next;
+    }
+}
+
+/// Notes for each round of each device which one from there on is cheapest for stays of the weight.
+pub fn note_devices(net: &Net, prices: &Prices, weight: u32, rests: &mut [u32])
+    requires size { IsPricingFor (instance_of_rows net.now) prices.now }
+    requires weight { weight ≤ 16 }
+    requires cells { (instance_of_rows net.now).devices * (instance_of_rows net.now).rounds ≤ length rests.old }
+    ensures noted { AreCheapest (instance_of_rows net.now) (pricing_of_rows prices.now) weight (instance_of_rows net.now).devices rests.new }
+{
+    for device in 0..net.devices() {
+        note_device(net, prices, weight, device, rests);
+    }
+}

@@ -15,6 +15,7 @@ pub fn command_line<'a>(alloc: Global) -> Result<Command<'a>, AllocError> {
         )
         .subcommand(check(alloc)?)?
         .subcommand(audit(alloc)?)?
+        .subcommand(explain(alloc)?)?
         .subcommand(prove(alloc)?)?
         .subcommand(sim(alloc)?)?
         .subcommand(run(alloc)?)
@@ -38,6 +39,19 @@ fn audit<'a>(alloc: Global) -> Result<Command<'a>, AllocError> {
         )
         .after_help("Example: camxpt audit examples/frozen-device.csv")
         .arg(summary)?
+        .arg(trace(alloc))
+}
+
+fn explain<'a>(alloc: Global) -> Result<Command<'a>, AllocError> {
+    let top = Arg::new(alloc, "top")
+        .long("top")
+        .value_name("N")
+        .value_parser(value_parser!(usize))
+        .help("Lists at most so many stays; 10 if it is left out");
+    Command::new(alloc, "explain")
+        .about("Says where the commands of a trace waited, and why")
+        .after_help("Example: camxpt explain examples/frozen-device.csv")
+        .arg(top)?
         .arg(trace(alloc))
 }
 

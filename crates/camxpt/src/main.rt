@@ -5,6 +5,7 @@ use std::io::IsTerminal;
 use std::process::ExitCode;
 
 mod command_line;
+mod explain;
 mod failure;
 mod program;
 mod progress;

@@ -1,6 +1,7 @@
 //! Runs the subcommand that the command line asks for.
 
 use crate::command_line::command_line;
+use crate::explain::explain;
 use crate::failure::Failure;
 use crate::prove::prove;
 use crate::sim::{live, sim};
@@ -13,6 +14,9 @@ use std::process::ExitCode;
 use std::rt::Runtime;
 use std::sync::Wait;
 use std::thread::Threads;
+
+/// How many stays are listed where no number is given.
+const TOP: usize = 10;
 
 /// Does what the words of the command line ask, and says on standard error why it didn't. If that is a terminal, a long run
 /// shows there how far it is.
@@ -78,6 +82,10 @@ fn obey<R: Runtime + AllocGlobal + Threads + Wait + Sync>(
             if !prove(rt, trace, report)? {
                 return Ok(ExitCode::FAILURE);
             }
+        }
+        Some(("explain", words)) => {
+            let top = words.get_one("top").unwrap_or(TOP);
+            explain(rt, words.get_str("TRACE"), top)?;
         }
         Some(("sim", words)) => {
             let script = words.get_str("SCRIPT").unwrap_or("");

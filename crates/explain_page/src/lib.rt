@@ -1,0 +1,9 @@
+//! The page for people that says where the commands of a history waited, and why.
+#![tactic(auto)]
+
+pub use layout::page;
+
+mod layout;
+mod stays;
+mod tables;
+mod words;

@@ -1,0 +1,93 @@
+//! The stays that cost most.
+
+use crate::words::{cause_name, path_name};
+use cam_types::Config;
+use std::alloc::{AllocError, Global};
+use wait_causes::{ExplainedStay, Explanation, Wait};
+
+/// The places of the stays that waited, by what their waiting cost, most first; of equal ones the earlier born.
+pub(crate) fn by_cost(alloc: Global, stays: &[ExplainedStay]) -> Result<Vec<usize>, AllocError> {
+    let mut keys = Vec::with_capacity(alloc, stays.len())?;
+    for (place, stay) in stays.iter().enumerate() {
+        let cost = cost_of(stay);
+        if cost > 0 {
+            keys.push((u64::MAX - cost, place))?;
+        }
+    }
+    keys.sort_unstable();
+    let mut places = Vec::with_capacity(alloc, keys.len())?;
+    for (_, place) in &keys {
+        places.push(*place)?;
+    }
+    Ok(places)
+}
+
+/// The weighted rounds that a stay waited.
+pub(crate) fn cost_of(stay: &ExplainedStay) -> u64 {
+    u64::from(stay.weight) * u64::from(stay.live.saturating_sub(stay.arrival))
+}
+
+/// Puts at most so many of the stays at these places behind the text, with the causes of their rounds.
+pub(crate) fn push_stays(
+    alloc: Global,
+    text: &mut String,
+    config: &Config,
+    explanation: &Explanation,
+    places: &[usize],
+    top: usize,
+) -> Result<(), AllocError> {
+    if places.is_empty() || top == 0 {
+        return Ok(());
+    }
+    let stays = explanation.stays();
+    writeln!(text, "\nThe stays whose waiting cost most:\n")?;
+    writeln!(
+        text,
+        "  CCB try  path         priority arrival  sent  best      cost  waited"
+    )?;
+    for place in places.iter().take(top) {
+        let Some(stay) = stays.get(*place) else {
+            continue;
+        };
+        let path = path_name(alloc, config, stay.device)?;
+        write!(text, "{:>5} {:>3}  {path:<12} ", stay.ccb, stay.attempt)?;
+        write!(
+            text,
+            "{:>8} {:>7} {:>5} ",
+            stay.priority, stay.arrival, stay.live
+        )?;
+        write!(text, "{:>5} {:>9}  ", stay.best, cost_of(stay))?;
+        let mut is_first = true;
+        for wait in &waits_at(alloc, explanation, *place)? {
+            if !is_first {
+                write!(text, ", ")?;
+            }
+            is_first = false;
+            push_rounds(text, wait.first, wait.last)?;
+            write!(text, " {}", cause_name(wait.cause))?;
+        }
+        writeln!(text)?;
+    }
+    Ok(())
+}
+
+// The waits of the stay at a place, if there is one.
+fn waits_at(
+    alloc: Global,
+    explanation: &Explanation,
+    place: usize,
+) -> Result<Vec<Wait>, AllocError> {
+    match u32::try_from(place) {
+        Ok(stay) if place < explanation.stays().len() => explanation.waits(alloc, stay),
+        _ => Ok(Vec::new(alloc)),
+    }
+}
+
+/// Puts a range of rounds behind the text.
+pub(crate) fn push_rounds(text: &mut String, first: u32, last: u32) -> Result<(), AllocError> {
+    if first == last {
+        write!(text, "{first}")
+    } else {
+        write!(text, "{first}-{last}")
+    }
+}

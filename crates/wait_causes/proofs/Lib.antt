@@ -1,0 +1,5 @@
+pub mod CauseLemmas
+pub mod WaitLemmas
+pub mod StayLemmas
+pub mod PartLemmas
+pub mod TableLemmas

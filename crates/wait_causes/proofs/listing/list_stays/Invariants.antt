@@ -1,0 +1,7 @@
+use Rattle.std.proofs.Common.{◌≡◌, map, take}
+use Rattle.std.specs.Prelude.{zip}
+use Rattle.wait_causes.specs.Stays.{row_by}
+use Rattle.wait_causes.proofs.listing.list_stays.Given as goal
+
+abbrev pub invariant-loop-stay : goal.invariant-loop-stay
+invariant-loop-stay l = l.rows.items ≡ map (row_by l.end.config l.end.events l.causes) (take l.stay (zip l.records l.best))

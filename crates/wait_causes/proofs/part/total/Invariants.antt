@@ -1,0 +1,10 @@
+use Rattle.std.proofs.Common.{◌≡◌, ◌*◌, ◌≤◌, take}
+use Rattle.std.specs.Prelude.{sum_by}
+use Rattle.wait_causes.specs.Parts.{measure}
+use Rattle.wait_causes.proofs.part.total.Given as goal
+
+abbrev pub invariant-loop-stay : goal.invariant-loop-stay
+invariant-loop-stay l = record {
+  same : l.total ≡ sum_by (measure l.of) (take l.stay-index l.stays);
+  small : l.total ≤ 281474976710656 * l.stay-index;
+}

@@ -1,0 +1,10 @@
+-- an explanation as its callers see it
+use Rattle.std.specs.Prelude.{ℕ, List}
+use Rattle.cam_types.specs.Topology.{Topology}
+use Rattle.cam_event.specs.declared.event.Event.{Event}
+
+-- a history, and the round of each of its stays in another schedule
+pub record Explained : Type 0 where
+  pub config : Topology
+  pub events : List Event
+  pub best : List ℕ

@@ -1,0 +1,99 @@
+-- the stays of a history, each with the causes of its waiting, beside another schedule
+use Rattle.std.specs.Prelude.{ℕ, ◌+◌, ◌-◌, Bool, true, false, List, map, zip, length, count_by, unwrap_or}
+use Rattle.std.specs.List.{range_with_len}
+use Rattle.std.specs.Option.{option_map_or}
+use Rattle.cam_types.specs.Topology.{Topology}
+use Rattle.cam_types.specs.Questions.{device_adapter}
+use Rattle.cam_types.specs.Priority.{weight, run_level}
+use Rattle.cam_event.specs.Counts.{round, submission}
+use Rattle.cam_event.specs.Stays.{stays_begun}
+use Rattle.cam_event.specs.Live.{live_round}
+use Rattle.cam_event.specs.declared.event.Event.{Event}
+use Rattle.cam_event.specs.declared.stay.Stay.{Stay}
+use Rattle.cam_event.specs.declared.submission.Submission.{Submission}
+use Rattle.xpt_stays.specs.declared.stay_record.StayRecord.{StayRecord}
+use Rattle.wait_causes.specs.Causes.{waited_causes, cause_in}
+use Rattle.wait_causes.specs.declared.cause.Cause.{Cause}
+use Rattle.wait_causes.specs.declared.cause.Cause.TheVariants.{Error, Caller, AdapterFrozen, DeviceFull, AdapterFull, NotAsked}
+use Rattle.wait_causes.specs.declared.explained_stay.CauseRounds.{CauseRounds}
+use Rattle.wait_causes.specs.declared.explained_stay.ExplainedStay.{ExplainedStay}
+
+-- two causes are the same
+abbrev pub is_cause : Cause → Cause → Bool
+is_cause Error Error = true
+is_cause Caller Caller = true
+is_cause AdapterFrozen AdapterFrozen = true
+is_cause DeviceFull DeviceFull = true
+is_cause AdapterFull AdapterFull = true
+is_cause NotAsked NotAsked = true
+is_cause _ _ = false
+
+-- how many of some rounds have each cause
+abbrev pub rounds_by : List Cause → CauseRounds
+rounds_by causes = record {
+  error = count_by (is_cause Error) causes;
+  caller = count_by (is_cause Caller) causes;
+  adapter_frozen = count_by (is_cause AdapterFrozen) causes;
+  device_full = count_by (is_cause DeviceFull) causes;
+  adapter_full = count_by (is_cause AdapterFull) causes;
+  not_asked = count_by (is_cause NotAsked) causes;
+}
+
+-- all of them together
+abbrev pub all_rounds : CauseRounds → ℕ
+all_rounds n = n.error + n.caller + n.adapter_frozen + n.device_full + n.adapter_full + n.not_asked
+
+-- a stay, and the round in which the other schedule sends it
+unfoldable pub explained_stay : Topology → List Event → Stay → ℕ → ExplainedStay
+explained_stay c events p best = record {
+  ccb = p.ccb;
+  attempt = p.attempt;
+  driver = option_map_or (λ (s : Submission). s.driver) (submission events p.ccb) 0;
+  device = p.device;
+  adapter = device_adapter c p.device;
+  priority = p.priority;
+  level = run_level p.priority;
+  weight = weight p.priority;
+  arrival = p.arrival;
+  live = live_round events p;
+  best = best;
+  rounds = rounds_by (waited_causes c events p);
+}
+
+-- all stays in order of birth, each beside its round of that schedule
+unfoldable pub explained_stays : Topology → List Event → List ℕ → List ExplainedStay
+explained_stays c events best =
+    map (λ (m : Stay × ℕ). explained_stay c events m.0 m.1) (zip (stays_begun events) best)
+
+-- no rounds, and one more of a cause
+abbrev pub no_rounds : CauseRounds
+no_rounds = record { error = 0; caller = 0; adapter_frozen = 0; device_full = 0; adapter_full = 0; not_asked = 0 }
+
+abbrev pub with_round : CauseRounds → Cause → CauseRounds
+with_round n Error = record n { error = n.error + 1 }
+with_round n Caller = record n { caller = n.caller + 1 }
+with_round n AdapterFrozen = record n { adapter_frozen = n.adapter_frozen + 1 }
+with_round n DeviceFull = record n { device_full = n.device_full + 1 }
+with_round n AdapterFull = record n { adapter_full = n.adapter_full + 1 }
+with_round n NotAsked = record n { not_asked = n.not_asked + 1 }
+
+-- the round of a send by the record of the stay, and the last round where it has none
+abbrev pub sent_in : List Event → StayRecord → ℕ
+sent_in events r = unwrap_or r.sent (round events)
+
+-- the same stay by its record and the causes of all devices in each round
+unfoldable pub row_by : Topology → List Event → List Cause → StayRecord × ℕ → ExplainedStay
+row_by c events causes (r, best) = record {
+  ccb = r.stay.ccb;
+  attempt = r.stay.attempt;
+  driver = option_map_or (λ (s : Submission). s.driver) (submission events r.stay.ccb) 0;
+  device = r.stay.device;
+  adapter = device_adapter c r.stay.device;
+  priority = r.stay.priority;
+  level = run_level r.stay.priority;
+  weight = weight r.stay.priority;
+  arrival = r.stay.arrival;
+  live = sent_in events r;
+  best = best;
+  rounds = rounds_by (map (cause_in causes (length c.devices) r.stay.device) (range_with_len r.stay.arrival (sent_in events r - r.stay.arrival)));
+}

@@ -1,0 +1,31 @@
+-- the stays of a history by adapter, device, driver or run level
+use Rattle.std.specs.Prelude.{ℕ, ◌==◌, if◌then◌else◌, List, [], ◌∷◌, filter, flat_map, length}
+use Rattle.std.specs.List.{range_with_len}
+use Rattle.wait_causes.specs.Parts.{part_of}
+use Rattle.wait_causes.specs.declared.explained_stay.ExplainedStay.{ExplainedStay}
+use Rattle.wait_causes.specs.declared.table.Grouping.{Grouping}
+use Rattle.wait_causes.specs.declared.table.Grouping.TheVariants.{Adapter, Device, Driver, Level}
+use Rattle.wait_causes.specs.declared.table.Row as table
+
+-- the number by which a stay is grouped
+abbrev pub number : Grouping → ExplainedStay → ℕ
+number Adapter s = s.adapter
+number Device s = s.device
+number Driver s = s.driver
+number Level s = s.level
+
+-- the stays of a number
+abbrev pub stays_of : Grouping → List ExplainedStay → ℕ → List ExplainedStay
+stays_of by stays n = filter (λ s. number by s == n) stays
+
+-- the row of some stays, if there are some
+unfoldable pub row_for : ℕ → List ExplainedStay → List table.Row
+row_for n part = if length part == 0 then [] else record { number = n; part = part_of part } ∷ []
+
+-- the row of a number, if it has a stay
+abbrev pub row_of : Grouping → List ExplainedStay → ℕ → List table.Row
+row_of by stays n = row_for n (stays_of by stays n)
+
+-- the rows in ascending order: a driver's number is below 256, and so are all the others
+unfoldable pub table_of : Grouping → List ExplainedStay → List table.Row
+table_of by stays = flat_map (row_of by stays) (range_with_len 0 256)

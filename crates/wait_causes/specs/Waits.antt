@@ -1,0 +1,39 @@
+-- the waits of a stay: runs of rounds with one cause
+use Rattle.std.specs.Prelude.{◌≡◌, ℕ, ◌+◌, ◌-◌, Bool, true, not, ◌&&◌, List, [], ◌∷◌, ◌++◌, map, flat_map, nat_le}
+use Rattle.std.specs.List.{range_with_len, list_all}
+use Rattle.cam_types.specs.Topology.{Topology}
+use Rattle.cam_event.specs.declared.event.Event.{Event}
+use Rattle.cam_event.specs.declared.stay.Stay.{Stay}
+use Rattle.wait_causes.specs.Causes.{round_cause, waited_rounds}
+use Rattle.wait_causes.specs.Stays.{is_cause}
+use Rattle.wait_causes.specs.declared.cause.Cause.{Cause}
+use Rattle.wait_causes.specs.declared.wait.Wait.{Wait}
+
+-- a round with its cause
+abbrev pub beside : (ℕ → Cause) → ℕ → ℕ × Cause
+beside cause r = (r, cause r)
+
+-- the rounds of a wait, each with its cause
+abbrev pub rounds_of : Wait → List (ℕ × Cause)
+rounds_of w = map (beside (λ r. w.cause)) (range_with_len w.first (w.last + 1 - w.first))
+
+-- no cause stands beside itself
+abbrev pub are_apart : List Cause → Bool
+are_apart [] = true
+are_apart (x ∷ []) = true
+are_apart (x ∷ y ∷ ys) = not (is_cause x y) && are_apart (y ∷ ys)
+
+-- Round by round, the waits are these rounds, each with its cause. Each wait has a round, and none goes on in the next.
+pub record AreWaits (cause : ℕ → Cause) (rounds : List ℕ) (waits : List Wait) : Type 0 where
+  pub written_out : flat_map rounds_of waits ≡ map (beside cause) rounds
+  pub each_some : list_all (λ (w : Wait). nat_le w.first w.last) waits ≡ true
+  pub apart : are_apart (map (λ (w : Wait). w.cause) waits) ≡ true
+
+-- the waits of a stay
+abbrev pub AreWaitsOf : Topology → List Event → Stay → List Wait → Type 0
+AreWaitsOf c events p waits = AreWaits (round_cause c events p.device) (waited_rounds events p) waits
+
+-- with one wait more they are those of so many rounds from the first on, and that one ends with them
+pub record AreBegun (cause : ℕ → Cause) (first n : ℕ) (waits : List Wait) (wait : Wait) : Type 0 where
+  pub are : AreWaits cause (range_with_len first n) (waits ++ wait ∷ [])
+  pub ends : wait.last + 1 ≡ first + n

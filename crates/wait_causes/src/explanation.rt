@@ -1,0 +1,105 @@
+//! Where the stays of a history waited, and why.
+
+use crate::cause::Cause;
+use crate::explained_stay::ExplainedStay;
+use crate::listing::list_stays;
+use crate::part::{Part, part_of};
+use crate::replay::replay;
+use crate::table::{Grouping, Row, table_of};
+use crate::wait::{Wait, waits_in};
+use cam_event::Event;
+use cam_types::Config;
+use round_net::Schedule;
+use std::alloc::{AllocError, Global};
+use std::marker::Model;
+use xpt_state::History;
+
+/// Where the stays of a history waited, and why, beside another schedule.
+#[derive(Drop)]
+pub struct Explanation {
+    config: Config,
+    events: Vec<Event>,
+    causes: Vec<Cause>,
+    stays: Vec<ExplainedStay>,
+}
+
+impl Model for Explanation {
+    ghost use Rattle.std.specs.Prelude.{map};
+    ghost use Rattle.wait_causes.specs.declared.explained_stay.ExplainedStay.{ExplainedStay as Listed};
+    ghost use Rattle.wait_causes.specs.Explained.{Explained};
+    ghost use Rattle.wait_causes.specs.Sound.{IsExplained};
+
+    ghost Value = { Explained };
+
+    ghost view = { λ x. record { config = x.config; events = x.events.items; best = map (λ (s : Listed). s.best) x.stays.items } };
+
+    ghost invariant = { λ x. IsExplained x.config x.events.items (map (λ (s : Listed). s.best) x.stays.items) x.causes.items x.stays.items };
+}
+
+impl Explanation {
+    ghost use Rattle.std.specs.Prelude.{◌≡◌, ◌<◌, length, slice_get, Some, IfOk, IfSome};
+    ghost use Rattle.cam_event.specs.Live.{live_cost};
+    ghost use Rattle.cam_event.specs.Stays.{stays_begun};
+    ghost use Rattle.cam_event.specs.declared.stay.Stay.{Stay};
+    ghost use Rattle.wait_causes.specs.Stays.{explained_stays};
+    ghost use Rattle.wait_causes.specs.Parts.{part_of, all_costs};
+    ghost use Rattle.wait_causes.specs.Tables.{table_of};
+    ghost use Rattle.wait_causes.specs.Waits.{AreWaitsOf};
+
+    /// Explains the history beside a schedule of its stays.
+    pub fn of(alloc: Global, history: &History, best: &Schedule) -> Result<Explanation, AllocError>
+        requires { length best.now ≡ length (stays_begun history.now.events) }
+        ensures { IfOk result (λ x. x ≡ record { config = history.now.config; events = history.now.events; best = best.now }) }
+    {
+        let (end, causes) = replay(alloc, history.config(), history.events())?;
+        let stays = list_stays(alloc, &end, &causes, history.stays(), best)?;
+        let (config, events) = end.into_parts();
+        Ok(Explanation {
+            config,
+            events,
+            causes,
+            stays,
+        })
+    }
+
+    /// All stays, in order of birth.
+    pub fn stays(&self) -> &[ExplainedStay]
+        ensures same { result.now ≡ explained_stays self.now.config self.now.events self.now.best }
+        ensures all { length result.now ≡ length (stays_begun self.now.events) }
+    {
+        &self.stays
+    }
+
+    /// The waits of the stay of this number, in order.
+    pub fn waits(&self, alloc: Global, stay: u32) -> Result<Vec<Wait>, AllocError>
+        requires { stay < length (stays_begun self.now.events) }
+        ensures { (p : Stay) → slice_get (stays_begun self.now.events) stay ≡ Some p → IfOk result (λ waits. AreWaitsOf self.now.config self.now.events p waits.items) }
+    {
+        let kept = self.stays[stay as usize];
+        waits_in(
+            alloc,
+            &self.causes,
+            self.config.devices().len() as u32,
+            kept.device,
+            kept.arrival,
+            kept.live,
+        )
+    }
+
+    /// What all stays waited, and what that cost: the costs by cause add up to `live`, which is the cost of the live
+    /// schedule if each stay was sent.
+    pub fn whole(&self) -> Part
+        ensures part { result ≡ part_of (explained_stays self.now.config self.now.events self.now.best) }
+        ensures add_up { all_costs result.costs ≡ result.live }
+        ensures live { IfSome (live_cost self.now.events) (λ cost. result.live ≡ cost) }
+    {
+        part_of(&self.stays)
+    }
+
+    /// A row for each adapter, device, driver or run level that has a stay, by number.
+    pub fn table(&self, alloc: Global, by: Grouping) -> Result<Vec<Row>, AllocError>
+        ensures { IfOk result (λ rows. rows.items ≡ table_of by (explained_stays self.now.config self.now.events self.now.best)) }
+    {
+        table_of(alloc, &self.stays, by)
+    }
+}

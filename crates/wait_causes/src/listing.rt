@@ -1,0 +1,101 @@
+//! The stays of a history, each with the causes of its waiting.
+
+ghost use Rattle.std.specs.Prelude.{◌≡◌, ◌≤◌, ◌-◌, map, length, zip, IfOk};
+ghost use Rattle.std.specs.List.{range_with_len};
+ghost use Rattle.cam_types.specs.declared.maxima.TheConstants.{MOST_STAYS};
+ghost use Rattle.std.specs.Option.{option_map_or};
+ghost use Rattle.cam_types.specs.Questions.{device_adapter};
+ghost use Rattle.cam_event.specs.Counts.{submission};
+ghost use Rattle.cam_event.specs.declared.submission.Submission.{Submission};
+ghost use Rattle.wait_causes.specs.Causes.{cause_in};
+ghost use Rattle.wait_causes.specs.Stays.{rounds_by, row_by};
+
+use crate::cause::Cause;
+use crate::explained_stay::{CauseRounds, ExplainedStay};
+use crate::replay::cause_in;
+use cam_types::Config;
+use round_net::Schedule;
+use std::alloc::{AllocError, Global};
+use xpt_adapters::Adapters;
+use xpt_devices::Devices;
+use xpt_state::StayRecord;
+
+/// The stays of these records, each beside its round of the schedule. The adapters are those behind all events.
+pub(crate) fn list_stays(
+    alloc: Global,
+    end: &Adapters,
+    causes: &[Cause],
+    records: &[StayRecord],
+    best: &Schedule,
+) -> Result<Vec<ExplainedStay>, AllocError>
+    requires same { length best.now ≡ length records.now }
+    requires few { length records.now ≤ MOST_STAYS }
+    ensures { IfOk result (λ rows. rows.items ≡ map (row_by end.now.config end.now.events causes.now) (zip records.now best.now)) }
+{
+    let mut rows = Vec::new(alloc);
+    for (stay, kept) in records.iter().enumerate() {
+        rows.push(explain(end, causes, kept, best.round(stay as u32)))?;
+    }
+    Ok(rows)
+}
+
+// The stay of this record, sent in this round by the schedule.
+fn explain(end: &Adapters, causes: &[Cause], kept: &StayRecord, best: u32) -> ExplainedStay
+    ensures { result ≡ row_by end.now.config end.now.events causes.now (kept.now, best) }
+{
+    let devices = end.devices();
+    let config = devices.config();
+    let stay = &kept.stay;
+    let live = kept.sent.unwrap_or(devices.round());
+    ExplainedStay {
+        ccb: stay.ccb,
+        attempt: stay.attempt,
+        driver: driver_of(devices, stay.ccb),
+        device: stay.device,
+        adapter: adapter_of(config, stay.device),
+        priority: stay.priority,
+        level: stay.priority >> 8,
+        weight: config.weight(stay.priority) as u16,
+        arrival: stay.arrival,
+        live,
+        best,
+        rounds: rounds_by(
+            causes,
+            config.devices().len() as u32,
+            stay.device,
+            stay.arrival,
+            live,
+        ),
+    }
+}
+
+// The driver of the CCB, and 0 where there is no such CCB.
+fn driver_of(devices: &Devices, ccb: u32) -> u8
+    ensures { result ≡ option_map_or (λ (s : Submission). s.driver) (submission devices.now.events ccb) 0 }
+{
+    match devices.submission(ccb) {
+        Some(submission) => submission.driver,
+        None => 0,
+    }
+}
+
+// The adapter of the device, and 0 where there is no such device.
+fn adapter_of(config: &Config, device: u32) -> u32
+    ensures { result ≡ device_adapter config.now device }
+{
+    match config.device_adapter(device) {
+        Some(adapter) => adapter,
+        None => 0,
+    }
+}
+
+// For how many of the rounds from the arrival to the one before the send the stays of the device waited for each cause.
+fn rounds_by(causes: &[Cause], devices: u32, device: u32, arrival: u32, live: u32) -> CauseRounds
+    ensures { result ≡ rounds_by (map (cause_in causes.now devices device) (range_with_len arrival (live - arrival))) }
+{
+    let mut rounds = CauseRounds::none();
+    for more in 0..live.saturating_sub(arrival) {
+        rounds.add(cause_in(causes, devices, device, arrival + more));
+    }
+    rounds
+}

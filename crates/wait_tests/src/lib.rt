@@ -1,0 +1,8 @@
+//! Tests of why commands waited, by public calls on histories whose numbers were worked by hand. They stand here so that
+//! no crate is proved twice for its tests.
+#![tactic(auto)]
+
+#[cfg(test)]
+mod histories;
+#[cfg(test)]
+mod waits;

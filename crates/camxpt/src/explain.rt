@@ -33,7 +33,7 @@ fn explain_over<R: Print + AllocGlobal + Threads + Sync>(
     let alloc = rt.alloc();
     let (history, net) = read_net(alloc, &mut Watched::new(reader))?;
     let best = plan_with(rt, alloc, &net, &OpenGate)?;
-    let explanation = Explanation::of(alloc, &history, &best.schedule)?;
+    let explanation = Explanation::of_net(alloc, &history, &net, &best.schedule)?;
     let text = page(alloc, history.config(), &explanation, top)?;
     match write_whole(&mut Watched::new(io::writer(rt)), text.as_bytes()) {
         Ok(()) => Ok(()),

@@ -3,3 +3,4 @@ pub mod WaitLemmas
 pub mod StayLemmas
 pub mod PartLemmas
 pub mod TableLemmas
+pub mod NetLemmas

@@ -9,7 +9,7 @@ use crate::table::{Grouping, Row, table_of};
 use crate::wait::{Wait, waits_in};
 use cam_event::Event;
 use cam_types::Config;
-use round_net::Schedule;
+use round_net::{Net, Schedule};
 use std::alloc::{AllocError, Global};
 use std::marker::Model;
 use xpt_state::History;
@@ -41,6 +41,8 @@ impl Explanation {
     ghost use Rattle.cam_event.specs.Live.{live_cost};
     ghost use Rattle.cam_event.specs.Stays.{stays_begun};
     ghost use Rattle.cam_event.specs.declared.stay.Stay.{Stay};
+    ghost use Rattle.round_net.specs.Nets.{net_of};
+    ghost use Rattle.round_net.specs.Rows.{instance_of_rows};
     ghost use Rattle.wait_causes.specs.Stays.{explained_stays};
     ghost use Rattle.wait_causes.specs.Parts.{part_of, all_costs};
     ghost use Rattle.wait_causes.specs.Tables.{table_of};
@@ -60,6 +62,20 @@ impl Explanation {
             causes,
             stays,
         })
+    }
+
+    /// Explains the history beside a schedule of its net.
+    pub fn of_net(
+        alloc: Global,
+        history: &History,
+        net: &Net,
+        best: &Schedule,
+    ) -> Result<Explanation, AllocError>
+        requires net { net.now ≡ net_of history.now.config history.now.events }
+        requires stays { length best.now ≡ (instance_of_rows net.now).stays }
+        ensures { IfOk result (λ x. x ≡ record { config = history.now.config; events = history.now.events; best = best.now }) }
+    {
+        Explanation::of(alloc, history, best)
     }
 
     /// All stays, in order of birth.

@@ -69,12 +69,8 @@ fn obey<R: Runtime + AllocGlobal + Threads + Wait + Sync>(
     match matches.subcommand() {
         Some(("check", words)) => TraceRun::Check.over(rt, words.get_str("TRACE"))?,
         Some(("audit", words)) => {
-            let run = if words.get_flag("summary") {
-                TraceRun::Summary
-            } else {
-                TraceRun::Audit
-            };
-            run.over(rt, words.get_str("TRACE"))?;
+            let summary = words.get_flag("summary");
+            TraceRun::Audit { summary }.over(rt, words.get_str("TRACE"))?;
         }
         Some(("prove", words)) => {
             let trace = words.get_str("TRACE").unwrap_or("");
@@ -98,7 +94,7 @@ fn obey<R: Runtime + AllocGlobal + Threads + Wait + Sync>(
             let ending = live(rt, script, on_terminal)?;
             let _ = rt.eprintln(format_args!("ending {ending}"));
         }
-        _ => TraceRun::Summary.over(rt, None)?,
+        _ => TraceRun::Audit { summary: true }.over(rt, None)?,
     }
     Ok(ExitCode::SUCCESS)
 }

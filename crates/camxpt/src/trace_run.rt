@@ -15,10 +15,11 @@ use text_io::Watched;
 pub enum TraceRun {
     /// It is checked.
     Check,
-    /// It is audited, with the whole report.
-    Audit,
-    /// It is audited, with the report's summary.
-    Summary,
+    /// It is audited.
+    Audit {
+        /// Whether the report's summary is wanted alone.
+        summary: bool,
+    },
 }
 
 impl TraceRun {
@@ -44,8 +45,9 @@ impl TraceRun {
         let mut out = Watched::new(io::writer(rt));
         match self {
             TraceRun::Check => run_check(alloc, &mut trace, &mut out)?,
-            TraceRun::Audit => run_audit_with(rt, alloc, &mut trace, &mut out, false, &OpenGate)?,
-            TraceRun::Summary => run_audit_with(rt, alloc, &mut trace, &mut out, true, &OpenGate)?,
+            TraceRun::Audit { summary } => {
+                run_audit_with(rt, alloc, &mut trace, &mut out, summary, &OpenGate)?
+            }
         }
         Ok(())
     }

@@ -10,7 +10,7 @@ use std::marker::Model;
 #[derive(Clone, Copy, Debug, PartialEq, Eq)]
 pub struct SenseBytes {
     bytes: [u8; 18],
-    len: usize,
+    len: u8,
 }
 
 impl Model for SenseBytes {
@@ -37,7 +37,10 @@ impl SenseBytes {
         let mut kept = [0; 18];
         let len = bytes.len().min(MOST_SENSE);
         kept[..len].copy_from_slice(&bytes[..len]);
-        SenseBytes { bytes: kept, len }
+        SenseBytes {
+            bytes: kept,
+            len: len as u8,
+        }
     }
 
     /// The bytes that are kept.
@@ -45,6 +48,6 @@ impl SenseBytes {
         ensures same { result.now ≡ self.now }
         ensures most { length result.now ≤ MOST_SENSE }
     {
-        &self.bytes[..self.len]
+        &self.bytes[..usize::from(self.len)]
     }
 }

@@ -1,5 +1,5 @@
-// Solves the net on standard input, as plan_bench prints it, by the network simplex of LEMON (lemon.cs.elte.hu). The graph has
-// a node for each stay, for each round of each device and adapter, and a root. An arc leads from a stay to each round of its
+// Solves the net on standard input, as `audit_bench net` prints it, by the network simplex of LEMON (lemon.cs.elte.hu). The
+// graph has a node for each stay, for each round of each device and adapter, and a root. An arc leads from a stay to each round of its
 // device in which it could be sent, at what its waiting costs; one from there to the adapter's round, and one from there to the
 // root, for as many stays as the device and the adapter take. Prints the least cost, and the least processor time
 // in milliseconds in which a solver was made over the graph and run.

@@ -5,10 +5,11 @@ ghost use Rattle.round_net.specs.Rows.{instance_of_rows};
 
 use round_net::Net;
 use std::io;
+use std::process::ExitCode;
 
 /// Prints how many stays, devices, adapters and rounds there are; the adapter of each device; of each stay its device, first
 /// round, last round and weight; and how many stays each device, and then each adapter, takes in each round.
-pub fn print_net(rt: HostRuntime, net: &Net) -> io::Result<()> {
+pub fn print_net<R: Print>(rt: &R, net: &Net) -> io::Result<ExitCode> {
     println!(rt;
         "{} {} {} {}",
         net.stays(),
@@ -33,10 +34,10 @@ pub fn print_net(rt: HostRuntime, net: &Net) -> io::Result<()> {
     for adapter in 0..net.adapters() {
         print_adapter(rt, net, adapter)?;
     }
-    Ok(())
+    Ok(ExitCode::SUCCESS)
 }
 
-fn print_device(rt: HostRuntime, net: &Net, device: u32) -> io::Result<()>
+fn print_device<R: Print>(rt: &R, net: &Net, device: u32) -> io::Result<()>
     requires { device < (instance_of_rows net.now).devices }
 {
     for round in 1..net.rounds() + 1 {
@@ -45,7 +46,7 @@ fn print_device(rt: HostRuntime, net: &Net, device: u32) -> io::Result<()>
     Ok(())
 }
 
-fn print_adapter(rt: HostRuntime, net: &Net, adapter: u32) -> io::Result<()>
+fn print_adapter<R: Print>(rt: &R, net: &Net, adapter: u32) -> io::Result<()>
     requires { adapter < (instance_of_rows net.now).adapters }
 {
     for round in 1..net.rounds() + 1 {

@@ -1,22 +1,22 @@
-//! Times the check of a best schedule and its prices alone, on the net of the trace on standard input.
-#![tactic(auto)]
+//! The check of a best schedule and its prices alone.
 
+use crate::refused;
 use cost_plan::plan;
 use price_check::{Verdict, check};
 use round_net::Net;
 use std::io;
 use std::process::ExitCode;
 use std::time::{CpuClock, Duration};
-use text_io::Watched;
-use trace_file::read_trace;
 
+// The least time of so many checks counts.
 const CHECKS: u32 = 100;
 
-fn main(rt: HostRuntime) -> io::Result<ExitCode> {
-    let Some(net) = read_net(rt) else {
-        return refused(rt, "no net");
-    };
-    let Ok(best) = plan(rt.alloc(), &net) else {
+/// Prints that a best plan of the net is proved, and how long the check of that took.
+pub fn time_checks<R: AllocGlobal + CpuClock + Print + Eprint>(
+    rt: &R,
+    net: &Net,
+) -> io::Result<ExitCode> {
+    let Ok(best) = plan(rt.alloc(), net) else {
         return refused(rt, "no plan");
     };
     let Ok(mut counts) = vec![in rt.alloc(); 0u32; net.cells()] else {
@@ -25,7 +25,7 @@ fn main(rt: HostRuntime) -> io::Result<ExitCode> {
     let mut least = Duration::MAX;
     for _ in 0..CHECKS {
         let start = rt.process_cpu_time()?;
-        let verdict = check(&net, &best.schedule, &best.prices, &mut counts);
+        let verdict = check(net, &best.schedule, &best.prices, &mut counts);
         least = least.min(rt.process_cpu_time()?.saturating_sub(start));
         if verdict != Verdict::Proved {
             return refused(rt, "not proved");
@@ -34,15 +34,4 @@ fn main(rt: HostRuntime) -> io::Result<ExitCode> {
     println!(rt; "stays {} cells {} proved", net.stays(), net.cells())?;
     eprintln!(rt; "check {least:?}")?;
     Ok(ExitCode::SUCCESS)
-}
-
-fn read_net(rt: HostRuntime) -> Option<Net> {
-    let mut input = Watched::new(rt.reader());
-    let history = read_trace(rt.alloc(), &mut input).ok()?;
-    Net::of(rt.alloc(), &history).ok()
-}
-
-fn refused(rt: HostRuntime, why: &str) -> io::Result<ExitCode> {
-    eprintln!(rt; "check_bench: {why}")?;
-    Ok(ExitCode::FAILURE)
 }

@@ -1,41 +1,19 @@
-//! Times a best plan, on the net of the trace on standard input: made alone, and with its adapters planned at once. With the
-//! word `net` it prints that net instead.
-#![tactic(auto)]
+//! A best plan alone.
 
+use crate::refused;
 use cost_plan::{OpenGate, guessed_plan, plan, plan_with};
-use net_text::print_net;
 use round_net::{Net, cost};
+use std::io;
 use std::process::ExitCode;
 use std::thread::Threads;
 use std::time::{Clock, CpuClock, Duration, Instant};
-use std::{env, io};
-use text_io::Watched;
-use trace_file::read_trace;
 
-mod net_text;
-
+// The least times of so many plans count.
 const PLANS: u32 = 20;
 
-fn main(rt: HostRuntime) -> io::Result<ExitCode> {
-    let Some(net) = read_net(rt) else {
-        return refused(&rt, "no net");
-    };
-    if has_word(rt) {
-        print_net(rt, &net)?;
-        return Ok(ExitCode::SUCCESS);
-    }
-    time(&rt, &net)
-}
-
-// Whether there is a word behind the program's name.
-fn has_word(rt: HostRuntime) -> bool {
-    let Ok(words) = env::args(&rt) else {
-        return false;
-    };
-    words.count() > 1
-}
-
-fn time<R: Threads + CpuClock + Clock + AllocGlobal + Print + Eprint + Sync>(
+/// Prints what a best plan of the net costs and whether the guess was best already, and the least processor time of a plan,
+/// and the least by the clock of one made alone and of one whose adapters are planned at once.
+pub fn time_plans<R: Threads + CpuClock + Clock + AllocGlobal + Print + Eprint + Sync>(
     rt: &R,
     net: &Net,
 ) -> io::Result<ExitCode> {
@@ -69,15 +47,4 @@ fn time<R: Threads + CpuClock + Clock + AllocGlobal + Print + Eprint + Sync>(
     println!(rt; "stays {stays} cells {cells} cost {total} {found}")?;
     eprintln!(rt; "plan {used:?} alone {alone:?} at once {at_once:?}")?;
     Ok(ExitCode::SUCCESS)
-}
-
-fn read_net(rt: HostRuntime) -> Option<Net> {
-    let mut input = Watched::new(rt.reader());
-    let history = read_trace(rt.alloc(), &mut input).ok()?;
-    Net::of(rt.alloc(), &history).ok()
-}
-
-fn refused<R: Eprint>(rt: &R, why: &str) -> io::Result<ExitCode> {
-    eprintln!(rt; "plan_bench: {why}")?;
-    Ok(ExitCode::FAILURE)
 }

@@ -6,6 +6,7 @@ use run_rules::LiveFault;
 use std::alloc::AllocError;
 use std::fmt;
 use std::process::ExitCode;
+use text_io::WholeFault;
 use trace_file::{TraceFault, WriteFault};
 
 /// Why the program didn't do what its words asked. Its text is the line on standard error, behind the program's name.
@@ -15,6 +16,8 @@ pub enum Failure {
     WordNotUtf8,
     /// Two files are to be read from standard input, which there is once.
     StandardInputTwice,
+    /// No words are completed for a shell of this name.
+    NoShell,
     /// A file that can't be opened.
     CannotOpen,
     /// A text that isn't what it has to be, a read or write that failed, or no memory.
@@ -29,7 +32,7 @@ impl Failure {
     /// isn't a run of the script.
     pub fn exit_code(&self) -> ExitCode {
         ExitCode::from(match self {
-            Failure::WordNotUtf8 | Failure::StandardInputTwice => 2,
+            Failure::WordNotUtf8 | Failure::StandardInputTwice | Failure::NoShell => 2,
             Failure::CannotOpen => 4,
             Failure::Audit(AuditFault::Trace(fault)) => trace_status(fault),
             Failure::Audit(AuditFault::Unsent(_)) => 3,
@@ -64,6 +67,7 @@ impl fmt::Display for Failure {
             Failure::StandardInputTwice => {
                 f.write_str("only one of TRACE and REPORT can be standard input")
             }
+            Failure::NoShell => f.write_str("only bash, zsh and fish complete words"),
             Failure::CannotOpen => f.write_str("cannot open"),
             Failure::Audit(fault) => fault.fmt(f),
             Failure::Live(fault) => fault.fmt(f),
@@ -94,6 +98,16 @@ impl From<WriteFault> for Failure {
         Failure::Audit(match fault {
             WriteFault::WriteFailed => AuditFault::WriteFailed,
             WriteFault::OutOfMemory => AuditFault::OutOfMemory,
+        })
+    }
+}
+
+impl From<WholeFault> for Failure {
+    fn from(fault: WholeFault) -> Failure {
+        Failure::from(match fault {
+            WholeFault::TooLong => TraceFault::TooLong,
+            WholeFault::ReadFailed => TraceFault::ReadFailed,
+            WholeFault::OutOfMemory => TraceFault::OutOfMemory,
         })
     }
 }

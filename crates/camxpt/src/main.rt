@@ -1,16 +1,17 @@
-//! Audits recorded traces of a CAM transport, and runs scripts that record them.
+//! Audits recorded traces of a CAM transport, explains and draws them, and runs scripts that record them.
 #![tactic(auto)]
 
 use std::io::IsTerminal;
 use std::process::ExitCode;
 
-mod command_line;
-mod explain;
 mod failure;
+mod note;
+mod output;
 mod program;
 mod progress;
-mod prove;
-mod sim;
+mod proof_run;
+mod script_run;
+mod source;
 mod trace_run;
 mod words;
 

@@ -1,21 +1,24 @@
 //! Runs the subcommand that the command line asks for.
 
-use crate::command_line::command_line;
-use crate::explain::explain;
 use crate::failure::Failure;
-use crate::prove::prove;
-use crate::sim::{live, sim};
+use crate::note::{Named, note_on};
+use crate::output::print;
+use crate::proof_run::prove;
+use crate::script_run::ScriptRun;
+use crate::source::{STANDARD_INPUT, Source, read};
 use crate::trace_run::TraceRun;
 use crate::words::words;
-use audit_report::AuditFault;
+use audit_report::{AuditFault, read_net};
 use clap::ArgMatches;
 use clap::error::ErrorKind;
+use command_line::{Shell, command};
 use std::process::ExitCode;
 use std::rt::Runtime;
 use std::sync::Wait;
 use std::thread::Threads;
+use text_io::{Watched, WholeFault};
 
-/// How many stays are listed where no number is given.
+/// How many stays and freezes are listed where no number is given.
 const TOP: usize = 10;
 
 /// Does what the words of the command line ask, and says on standard error why it didn't. If that is a terminal, a long run
@@ -26,11 +29,31 @@ pub fn run<R: Runtime + AllocGlobal + Threads + Wait + Sync>(
 ) -> ExitCode {
     match read_and_obey(rt, on_terminal) {
         Ok(status) => status,
-        Err(failure) => {
-            let _ = rt.eprintln(format_args!("camxpt: {failure}"));
-            failure.exit_code()
+        Err(failure) => tell(rt, &failure),
+    }
+}
+
+// Says why the program failed. Answers the status that says so.
+fn tell<R: Runtime>(rt: &R, failure: &Failure) -> ExitCode {
+    let _ = rt.eprintln(format_args!("camxpt: {failure}"));
+    failure.exit_code()
+}
+
+// Says why an input was refused, and behind that line where it stands and what stands there, if that is asked for.
+fn tell_on<R: Runtime + AllocGlobal>(
+    rt: &R,
+    failure: &Failure,
+    is_verbose: bool,
+    input: &Named<'_>,
+    report: Option<&Named<'_>>,
+) -> ExitCode {
+    let status = tell(rt, failure);
+    if is_verbose {
+        if let Ok(note) = note_on(rt.alloc(), failure, input, report) {
+            let _ = rt.eprint(&note);
         }
     }
+    status
 }
 
 fn read_and_obey<R: Runtime + AllocGlobal + Threads + Wait + Sync>(
@@ -38,18 +61,18 @@ fn read_and_obey<R: Runtime + AllocGlobal + Threads + Wait + Sync>(
     on_terminal: bool,
 ) -> Result<ExitCode, Failure> {
     let words = words(rt)?;
-    let command = command_line(rt.alloc())?;
+    let command = command(rt.alloc())?;
     match command.try_get_matches_from(words.as_slice()) {
         Ok(matches) => obey(rt, &matches, on_terminal),
         Err(error) if error.kind() == ErrorKind::OutOfMemory => {
             Err(Failure::Audit(AuditFault::OutOfMemory))
         }
-        Err(error) => print(rt, &error),
+        Err(error) => show(rt, &error),
     }
 }
 
 // Prints help or the version, or why the words are refused: then the status is 2, whether or not this can be printed.
-fn print<R: Runtime>(rt: &R, error: &clap::Error) -> Result<ExitCode, Failure> {
+fn show<R: Runtime>(rt: &R, error: &clap::Error) -> Result<ExitCode, Failure> {
     let printed = error.print(rt);
     if error.use_stderr() {
         Ok(ExitCode::from(2))
@@ -60,41 +83,118 @@ fn print<R: Runtime>(rt: &R, error: &clap::Error) -> Result<ExitCode, Failure> {
     }
 }
 
-// The exit status where nothing failed: 1 for a report that isn't proved, else 0.
+// The exit status of the subcommand.
 fn obey<R: Runtime + AllocGlobal + Threads + Wait + Sync>(
     rt: &R,
     matches: &ArgMatches<'_>,
     on_terminal: bool,
 ) -> Result<ExitCode, Failure> {
     match matches.subcommand() {
-        Some(("check", words)) => TraceRun::Check.over(rt, words.get_str("TRACE"))?,
+        Some(("check", words)) => over_trace(rt, words, TraceRun::Check),
         Some(("audit", words)) => {
             let summary = words.get_flag("summary");
-            TraceRun::Audit { summary }.over(rt, words.get_str("TRACE"))?;
-        }
-        Some(("prove", words)) => {
-            let trace = words.get_str("TRACE").unwrap_or("");
-            let report = words.get_str("REPORT").unwrap_or("");
-            if !prove(rt, trace, report)? {
-                return Ok(ExitCode::FAILURE);
-            }
+            over_trace(rt, words, TraceRun::Audit { summary })
         }
         Some(("explain", words)) => {
             let top = words.get_one("top").unwrap_or(TOP);
-            explain(rt, words.get_str("TRACE"), top)?;
+            over_trace(rt, words, TraceRun::Explain { top })
         }
+        Some(("draw", words)) => over_trace(rt, words, TraceRun::Draw),
+        Some(("prove", words)) => over_report(rt, words),
         Some(("sim", words)) => {
-            let script = words.get_str("SCRIPT").unwrap_or("");
             let seed = words.get_one("SEED").unwrap_or(0);
-            let ending = sim(rt, script, seed)?;
-            let _ = rt.eprintln(format_args!("ending {ending}"));
+            over_script(rt, words, ScriptRun::Sim { seed })
         }
-        Some(("run", words)) => {
-            let script = words.get_str("SCRIPT").unwrap_or("");
-            let ending = live(rt, script, on_terminal)?;
-            let _ = rt.eprintln(format_args!("ending {ending}"));
-        }
-        _ => TraceRun::Audit { summary: true }.over(rt, None)?,
+        Some(("run", words)) => over_script(rt, words, ScriptRun::Live { on_terminal }),
+        Some(("completions", words)) => complete(rt, words.get_str("SHELL").unwrap_or("")),
+        _ => over_input(rt),
     }
+}
+
+// Prints the summary of the audit of the trace on standard input.
+fn over_input<R: Runtime + AllocGlobal + Threads + Sync>(rt: &R) -> Result<ExitCode, Failure> {
+    let trace = read(rt, STANDARD_INPUT)?;
+    TraceRun::Audit { summary: true }.over(rt, &trace, false)?;
+    Ok(ExitCode::SUCCESS)
+}
+
+fn over_trace<R: Runtime + AllocGlobal + Threads + Sync>(
+    rt: &R,
+    words: &ArgMatches<'_>,
+    run: TraceRun,
+) -> Result<ExitCode, Failure> {
+    let trace = read(rt, words.get_str("TRACE").unwrap_or(STANDARD_INPUT))?;
+    let as_json = words.get_flag("json");
+    match run.over(rt, &trace, as_json) {
+        Ok(()) => Ok(ExitCode::SUCCESS),
+        Err(failure) => Ok(tell_on(rt, &failure, words.get_flag("verbose"), &trace, None)),
+    }
+}
+
+// The status is 1 for a report that isn't proved.
+fn over_report<R: Runtime + AllocGlobal + Threads + Sync>(
+    rt: &R,
+    words: &ArgMatches<'_>,
+) -> Result<ExitCode, Failure> {
+    let trace = words.get_str("TRACE").unwrap_or("");
+    let report = words.get_str("REPORT").unwrap_or("");
+    if trace == STANDARD_INPUT && report == STANDARD_INPUT {
+        return Err(Failure::StandardInputTwice);
+    }
+    // Both files are opened before one is read.
+    let (source, behind) = (Source::open(rt, trace)?, Source::open(rt, report)?);
+    let trace = Named {
+        name: trace,
+        text: source.read(rt)?,
+    };
+    let report = match behind.read(rt) {
+        Ok(text) => Named { name: report, text },
+        Err(fault) => return refuse(rt, words, &trace, fault),
+    };
+    let answer = prove(rt, &trace, &report, words.get_flag("json"));
+    match answer {
+        Ok(true) => Ok(ExitCode::SUCCESS),
+        Ok(false) => Ok(ExitCode::FAILURE),
+        Err(failure) => {
+            let is_verbose = words.get_flag("verbose");
+            Ok(tell_on(rt, &failure, is_verbose, &trace, Some(&report)))
+        }
+    }
+}
+
+// A report that wasn't read is told only if nothing is wrong with the trace.
+fn refuse<R: Runtime + AllocGlobal>(
+    rt: &R,
+    words: &ArgMatches<'_>,
+    trace: &Named<'_>,
+    fault: WholeFault,
+) -> Result<ExitCode, Failure> {
+    let failure = match read_net(rt.alloc(), &mut Watched::new(trace.text.as_slice())) {
+        Ok(_) => Failure::from(fault),
+        Err(fault) => Failure::from(fault),
+    };
+    Ok(tell_on(rt, &failure, words.get_flag("verbose"), trace, None))
+}
+
+fn over_script<R: Runtime + AllocGlobal + Threads + Wait + Sync>(
+    rt: &R,
+    words: &ArgMatches<'_>,
+    run: ScriptRun,
+) -> Result<ExitCode, Failure> {
+    let script = read(rt, words.get_str("SCRIPT").unwrap_or(""))?;
+    match run.over(rt, &script) {
+        Ok(ending) => {
+            let _ = rt.eprintln(format_args!("ending {ending}"));
+            Ok(ExitCode::SUCCESS)
+        }
+        Err(failure) => Ok(tell_on(rt, &failure, words.get_flag("verbose"), &script, None)),
+    }
+}
+
+fn complete<R: Runtime>(rt: &R, name: &str) -> Result<ExitCode, Failure> {
+    let Some(shell) = Shell::named(name) else {
+        return Err(Failure::NoShell);
+    };
+    print(rt, shell.completion())?;
     Ok(ExitCode::SUCCESS)
 }

@@ -1,14 +1,17 @@
-//! Checks or audits the trace in a file or on standard input.
+//! Checks, audits, explains or draws a trace.
 
 use crate::failure::Failure;
-use crate::words::{STANDARD_INPUT, open};
-use audit_report::{run_audit_with, run_check};
-use cost_plan::OpenGate;
+use crate::note::Named;
+use crate::output::print;
+use audit_report::{read_net, run_audit_with, run_check};
+use cost_plan::{OpenGate, plan_with};
+use draw_page::page as drawing;
+use explain_page::page;
+use json_lines::{audit_json, check_json, explain_json};
 use std::io;
-use std::io::Read;
-use std::rt::Files;
 use std::thread::Threads;
 use text_io::Watched;
+use wait_causes::Explanation;
 
 /// What is done with a trace.
 #[derive(Clone, Copy)]
@@ -20,35 +23,67 @@ pub enum TraceRun {
         /// Whether the report's summary is wanted alone.
         summary: bool,
     },
+    /// It is explained.
+    Explain {
+        /// How many stays and freezes are listed at most.
+        top: usize,
+    },
+    /// It is drawn.
+    Draw,
 }
 
 impl TraceRun {
-    /// Reads the trace in the file of this name, or on standard input if there is none or it is `-`.
-    pub fn over<R: Files + Input + Print + AllocGlobal + Threads + Sync>(
+    /// Prints what comes of the trace, as one line of JSON if that is asked for.
+    pub fn over<R: Print + AllocGlobal + Threads + Sync>(
         self,
         rt: &R,
-        trace: Option<&str>,
+        trace: &Named<'_>,
+        as_json: bool,
     ) -> Result<(), Failure> {
-        match trace {
-            Some(name) if name != STANDARD_INPUT => self.over_reader(rt, open(rt, name)?),
-            _ => self.over_reader(rt, rt.reader()),
+        let alloc = rt.alloc();
+        let mut text = Watched::new(trace.text.as_slice());
+        let mut out = Watched::new(io::writer(rt));
+        match self {
+            TraceRun::Check if !as_json => Ok(run_check(alloc, &mut text, &mut out)?),
+            TraceRun::Audit { summary } if !as_json => Ok(run_audit_with(
+                rt, alloc, &mut text, &mut out, summary, &OpenGate,
+            )?),
+            _ => print(rt, &self.text_on(rt, trace, as_json)?),
         }
     }
 
-    fn over_reader<R: Print + AllocGlobal + Threads + Sync>(
+    // What is printed of the trace where it is none of a report's lines.
+    fn text_on<R: AllocGlobal + Threads + Sync>(
         self,
         rt: &R,
-        reader: impl Read + Drop,
-    ) -> Result<(), Failure> {
+        trace: &Named<'_>,
+        as_json: bool,
+    ) -> Result<String, Failure> {
         let alloc = rt.alloc();
-        let mut trace = Watched::new(reader);
-        let mut out = Watched::new(io::writer(rt));
-        match self {
-            TraceRun::Check => run_check(alloc, &mut trace, &mut out)?,
-            TraceRun::Audit { summary } => {
-                run_audit_with(rt, alloc, &mut trace, &mut out, summary, &OpenGate)?
-            }
+        let (history, net) = read_net(alloc, &mut Watched::new(trace.text.as_slice()))?;
+        if let TraceRun::Check = self {
+            return closed(check_json(alloc, trace.name, &history)?);
         }
-        Ok(())
+        let best = plan_with(rt, alloc, &net, &OpenGate)?;
+        if let TraceRun::Audit { summary } = self {
+            let (schedule, prices) = (&best.schedule, &best.prices);
+            return closed(audit_json(
+                alloc, trace.name, &history, &net, schedule, prices, summary,
+            )?);
+        }
+        let explanation = Explanation::of_net(alloc, &history, &net, &best.schedule)?;
+        match self {
+            TraceRun::Explain { top } if !as_json => {
+                Ok(page(alloc, history.config(), &explanation, top)?)
+            }
+            TraceRun::Draw => Ok(drawing(alloc, trace.name, history.config(), &net, &explanation)?),
+            _ => closed(explain_json(alloc, trace.name, &history, &explanation)?),
+        }
     }
+}
+
+// The line with its line feed.
+fn closed(mut line: String) -> Result<String, Failure> {
+    line.push('\n')?;
+    Ok(line)
 }

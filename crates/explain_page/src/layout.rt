@@ -1,15 +1,18 @@
 //! The page: what the waiting cost and why, and the stays that cost most.
 
-use crate::stays::{by_cost, cost_of, push_stays};
+use crate::causes::by_cause;
+use crate::freezes::push_freezes;
+use crate::order::most_first;
+use crate::stays::{cost_of, push_stays};
 use crate::tables::push_tables;
-use crate::words::{by_cause, cause_name};
+use crate::worst::{push_worst_device, push_worst_freeze, push_worst_stay};
 use cam_types::Config;
 use std::alloc::{AllocError, Global};
-use wait_causes::{ExplainedStay, Explanation};
+use wait_causes::{ExplainedStay, Explanation, Freeze};
 
-/// The page on an explanation: what the waiting cost beside the other schedule, the stay that cost most, the cost by cause,
-/// tables by adapter, device, driver and run level, and at most `top` of the stays that cost most, with the causes of their
-/// rounds. All costs are weighted rounds.
+/// The page on an explanation: what the waiting cost beside the other schedule, the stay, the device and the freeze that cost
+/// most, the cost by cause, tables by adapter, device, driver and run level, and at most `top` of the freezes and of the stays
+/// that cost most, these with the causes of their rounds. All costs are weighted rounds.
 pub fn page(
     alloc: Global,
     config: &Config,
@@ -28,31 +31,38 @@ pub fn page(
     }
     writeln!(&mut text, "{:<13} {:>9}", "excess", whole.excess())?;
     let stays = explanation.stays();
-    let order = by_cost(alloc, stays)?;
-    if let Some(place) = order.first() {
-        if let Some(stay) = stays.get(*place) {
-            push_worst(&mut text, stay)?;
-        }
+    let freezes = explanation.freezes(alloc)?;
+    let worst_stays = most_first(alloc, &costs_of_stays(alloc, stays)?)?;
+    let worst_freezes = most_first(alloc, &costs_of_freezes(alloc, &freezes)?)?;
+    if let Some(stay) = worst_stays.first().and_then(|place| stays.get(*place)) {
+        push_worst_stay(&mut text, stay)?;
+        push_worst_device(alloc, &mut text, config, explanation)?;
+    }
+    if let Some(freeze) = worst_freezes.first().and_then(|place| freezes.get(*place)) {
+        push_worst_freeze(alloc, &mut text, config, freeze)?;
     }
     writeln!(&mut text, "\nWhat the waiting cost, by cause:\n")?;
     for (cause, cost) in &by_cause(&whole.costs) {
-        writeln!(&mut text, "  {:<18} {cost:>9}", cause_name(*cause))?;
+        writeln!(&mut text, "  {:<18} {cost:>9}", cause.name())?;
     }
     push_tables(alloc, &mut text, config, explanation)?;
-    push_stays(alloc, &mut text, config, explanation, &order, top)?;
+    push_freezes(alloc, &mut text, config, &freezes, &worst_freezes, top)?;
+    push_stays(alloc, &mut text, config, explanation, &worst_stays, top)?;
     Ok(text)
 }
 
-// A sentence on the stay that cost most.
-fn push_worst(text: &mut String, stay: &ExplainedStay) -> Result<(), AllocError> {
-    writeln!(
-        text,
-        "\nCCB {} (try {}) cost most: {}, from round {} to its send in round {}; the best schedule sends it in round {}.",
-        stay.ccb,
-        stay.attempt,
-        cost_of(stay),
-        stay.arrival,
-        stay.live,
-        stay.best
-    )
+fn costs_of_stays(alloc: Global, stays: &[ExplainedStay]) -> Result<Vec<u64>, AllocError> {
+    let mut costs = Vec::with_capacity(alloc, stays.len())?;
+    for stay in stays {
+        costs.push(cost_of(stay))?;
+    }
+    Ok(costs)
+}
+
+fn costs_of_freezes(alloc: Global, freezes: &[Freeze]) -> Result<Vec<u64>, AllocError> {
+    let mut costs = Vec::with_capacity(alloc, freezes.len())?;
+    for freeze in freezes {
+        costs.push(freeze.cost)?;
+    }
+    Ok(costs)
 }

@@ -3,7 +3,10 @@
 
 pub use layout::page;
 
+mod causes;
+mod freezes;
 mod layout;
+mod order;
 mod stays;
 mod tables;
-mod words;
+mod worst;

@@ -1,26 +1,9 @@
 //! The stays that cost most.
 
-use crate::words::{cause_name, path_name};
+use cam_path::path_name;
 use cam_types::Config;
 use std::alloc::{AllocError, Global};
 use wait_causes::{ExplainedStay, Explanation, Wait};
-
-/// The places of the stays that waited, by what their waiting cost, most first; of equal ones the earlier born.
-pub(crate) fn by_cost(alloc: Global, stays: &[ExplainedStay]) -> Result<Vec<usize>, AllocError> {
-    let mut keys = Vec::with_capacity(alloc, stays.len())?;
-    for (place, stay) in stays.iter().enumerate() {
-        let cost = cost_of(stay);
-        if cost > 0 {
-            keys.push((u64::MAX - cost, place))?;
-        }
-    }
-    keys.sort_unstable();
-    let mut places = Vec::with_capacity(alloc, keys.len())?;
-    for (_, place) in &keys {
-        places.push(*place)?;
-    }
-    Ok(places)
-}
 
 /// The weighted rounds that a stay waited.
 pub(crate) fn cost_of(stay: &ExplainedStay) -> u64 {
@@ -64,7 +47,7 @@ pub(crate) fn push_stays(
             }
             is_first = false;
             push_rounds(text, wait.first, wait.last)?;
-            write!(text, " {}", cause_name(wait.cause))?;
+            write!(text, " {}", wait.cause.name())?;
         }
         writeln!(text)?;
     }

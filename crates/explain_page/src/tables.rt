@@ -1,6 +1,6 @@
 //! The tables of the page: what adapters, devices, drivers and run levels waited.
 
-use crate::words::path_name;
+use cam_path::path_name;
 use cam_types::Config;
 use std::alloc::{AllocError, Global};
 use wait_causes::{Explanation, Grouping, Part};

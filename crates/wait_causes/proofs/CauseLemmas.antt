@@ -66,7 +66,7 @@ pub cause_table-none : (c : Topology) → cause_table c [] ≡ []
 unfolding cause_table round_ends
 cause_table-none c = refl
 
-row_or_none : {X Y : Type 0} (f : Y → List X) (y : Y) (b : Bool) → flat_map f (cond b (y ∷ []) []) ≡ cond b (f y) []
+pub row_or_none : {X Y : Type 0} (f : Y → List X) (y : Y) (b : Bool) → flat_map f (cond b (y ∷ []) []) ≡ cond b (f y) []
 row_or_none f y true = append-nil (f y)
 row_or_none f y false = refl
 
@@ -78,7 +78,7 @@ cause_table-push c es e =
     ∙ ap (λ xs. cause_table c es ++ xs) (row_or_none (λ before. map (cause_at c before) (devices c)) es (is_tick e))
 
 -- a place in rows of one length
-row_at : {X Y : Type 0} (g : Y → ℕ → X) (n : ℕ) (ys : List Y) (k d : ℕ) (x : X) → d < n → get_or (flat_map (λ y. map (g y) (range_with_len 0 n)) ys) (k * n + d) x ≡ option_map_or (λ y. g y d) (slice_get ys k) x
+pub row_at : {X Y : Type 0} (g : Y → ℕ → X) (n : ℕ) (ys : List Y) (k d : ℕ) (x : X) → d < n → get_or (flat_map (λ y. map (g y) (range_with_len 0 n)) ys) (k * n + d) x ≡ option_map_or (λ y. g y d) (slice_get ys k) x
 row_at g n [] k d x lt = refl
 row_at g n (y ∷ ys) zero d x lt =
     let here : d < length (map (g y) (range_with_len 0 n)) = rw (length-map-range_with_len (g y) 0 n) lt in

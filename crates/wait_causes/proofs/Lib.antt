@@ -4,3 +4,7 @@ pub mod StayLemmas
 pub mod PartLemmas
 pub mod TableLemmas
 pub mod NetLemmas
+pub mod FreezeLemmas
+pub mod FrozenLemmas
+pub mod CostLemmas
+pub mod SumLemmas

@@ -5,3 +5,6 @@ pub mod Waits
 pub mod Sound
 pub mod Parts
 pub mod Tables
+pub mod Freezes
+pub mod Frozen
+pub mod FreezeLaws

@@ -2,6 +2,9 @@
 
 use crate::cause::Cause;
 use crate::explained_stay::ExplainedStay;
+use crate::freeze::Freeze;
+use crate::freeze_list::push_freezes;
+use crate::frozen::frozen_in;
 use crate::listing::list_stays;
 use crate::part::{Part, part_of};
 use crate::replay::replay;
@@ -46,6 +49,7 @@ impl Explanation {
     ghost use Rattle.wait_causes.specs.Stays.{explained_stays};
     ghost use Rattle.wait_causes.specs.Parts.{part_of, all_costs};
     ghost use Rattle.wait_causes.specs.Tables.{table_of};
+    ghost use Rattle.wait_causes.specs.Freezes.{freezes};
     ghost use Rattle.wait_causes.specs.Waits.{AreWaitsOf};
 
     /// Explains the history beside a schedule of its stays.
@@ -117,5 +121,39 @@ impl Explanation {
         ensures { IfOk result (λ rows. rows.items ≡ table_of by (explained_stays self.now.config self.now.events self.now.best)) }
     {
         table_of(alloc, &self.stays, by)
+    }
+
+    /// The freezes: those by errors, then those by callers, then those of adapters, each by number and then by first round.
+    pub fn freezes(&self, alloc: Global) -> Result<Vec<Freeze>, AllocError>
+        ensures { IfOk result (λ rows. rows.items ≡ freezes self.now.config self.now.events (explained_stays self.now.config self.now.events self.now.best)) }
+    {
+        let (errors, callers, adapters) = frozen_in(alloc, &self.config, &self.events)?;
+        let devices = self.config.devices().len() as u32;
+        let mut rows = Vec::new(alloc);
+        push_freezes(
+            alloc,
+            &mut rows,
+            &errors,
+            devices,
+            &self.causes,
+            &self.stays,
+        )?;
+        push_freezes(
+            alloc,
+            &mut rows,
+            &callers,
+            devices,
+            &self.causes,
+            &self.stays,
+        )?;
+        push_freezes(
+            alloc,
+            &mut rows,
+            &adapters,
+            devices,
+            &self.causes,
+            &self.stays,
+        )?;
+        Ok(rows)
     }
 }

@@ -90,8 +90,8 @@ fn push_part(rows: &mut Vec<Row>, number: u32, part: &[ExplainedStay]) -> Result
     Ok(())
 }
 
-// The stays of this number.
-fn stays_of(
+/// The stays of this number.
+pub(crate) fn stays_of(
     alloc: Global,
     stays: &[ExplainedStay],
     by: Grouping,

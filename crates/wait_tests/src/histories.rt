@@ -6,7 +6,7 @@ use round_net::Schedule;
 use std::alloc::Global;
 use std::test::Fail;
 use test_events::device;
-use wait_causes::{Explanation, Part, Wait};
+use wait_causes::{Explanation, Freeze, Part, Wait};
 use xpt_state::History;
 
 /// A history of one adapter and so many devices on it, each of the same openings.
@@ -51,4 +51,14 @@ pub(crate) fn whole(alloc: Global, history: &History, best: &[u32]) -> Result<Op
     }
     let explanation = Explanation::of(alloc, history, &schedule)?;
     Ok(Some(explanation.whole()))
+}
+
+/// The freezes of a history; none if the schedule isn't one of this history.
+pub(crate) fn freezes(alloc: Global, history: &History, best: &[u32]) -> Result<Vec<Freeze>, Fail> {
+    let schedule = Schedule::new(alloc, best)?;
+    if schedule.len() != history.stay_count() as usize {
+        return Ok(Vec::new(alloc));
+    }
+    let explanation = Explanation::of(alloc, history, &schedule)?;
+    Ok(explanation.freezes(alloc)?)
 }

@@ -3,6 +3,8 @@
 #![tactic(auto)]
 
 #[cfg(test)]
+mod freezes;
+#[cfg(test)]
 mod histories;
 #[cfg(test)]
 mod waits;

@@ -1,10 +1,10 @@
-//! The command line: its subcommands, their arguments and the help.
+//! The subcommands, their arguments and the help.
 
 use clap::{Arg, ArgAction, Command, value_parser};
 use std::alloc::{AllocError, Global};
 
 /// The words that the program takes.
-pub fn command_line<'a>(alloc: Global) -> Result<Command<'a>, AllocError> {
+pub fn command<'a>(alloc: Global) -> Result<Command<'a>, AllocError> {
     Command::new(alloc, "camxpt")
         .version("0.1.0")
         .about(
@@ -16,15 +16,19 @@ pub fn command_line<'a>(alloc: Global) -> Result<Command<'a>, AllocError> {
         .subcommand(check(alloc)?)?
         .subcommand(audit(alloc)?)?
         .subcommand(explain(alloc)?)?
+        .subcommand(draw(alloc)?)?
         .subcommand(prove(alloc)?)?
         .subcommand(sim(alloc)?)?
-        .subcommand(run(alloc)?)
+        .subcommand(run(alloc)?)?
+        .subcommand(completions(alloc)?)
 }
 
 fn check<'a>(alloc: Global) -> Result<Command<'a>, AllocError> {
     Command::new(alloc, "check")
         .about("Tests a trace and prints its counts and what its waiting cost")
         .after_help("Example: camxpt check examples/frozen-device.csv")
+        .arg(json(alloc))?
+        .arg(verbose(alloc))?
         .arg(trace(alloc))
 }
 
@@ -39,6 +43,8 @@ fn audit<'a>(alloc: Global) -> Result<Command<'a>, AllocError> {
         )
         .after_help("Example: camxpt audit examples/frozen-device.csv")
         .arg(summary)?
+        .arg(json(alloc))?
+        .arg(verbose(alloc))?
         .arg(trace(alloc))
 }
 
@@ -47,11 +53,21 @@ fn explain<'a>(alloc: Global) -> Result<Command<'a>, AllocError> {
         .long("top")
         .value_name("N")
         .value_parser(value_parser!(usize))
-        .help("Lists at most so many stays; 10 if it is left out");
+        .help("Lists at most so many stays, and as many freezes; 10 if it is left out");
     Command::new(alloc, "explain")
         .about("Says where the commands of a trace waited, and why")
         .after_help("Example: camxpt explain examples/frozen-device.csv")
         .arg(top)?
+        .arg(json(alloc))?
+        .arg(verbose(alloc))?
+        .arg(trace(alloc))
+}
+
+fn draw<'a>(alloc: Global) -> Result<Command<'a>, AllocError> {
+    Command::new(alloc, "draw")
+        .about("Draws where the commands of a trace waited, as a page for a browser")
+        .after_help("Example: camxpt draw examples/frozen-device.csv > page.html")
+        .arg(verbose(alloc))?
         .arg(trace(alloc))
 }
 
@@ -69,6 +85,8 @@ fn prove<'a>(alloc: Global) -> Result<Command<'a>, AllocError> {
         .after_help(
             "Example: camxpt prove examples/frozen-device.csv examples/frozen-device.report",
         )
+        .arg(json(alloc))?
+        .arg(verbose(alloc))?
         .arg(trace)?
         .arg(report)
 }
@@ -83,6 +101,7 @@ fn sim<'a>(alloc: Global) -> Result<Command<'a>, AllocError> {
             "Runs a script on one thread and prints the trace, and on standard error how the run ended",
         )
         .after_help("Example: camxpt sim examples/script-timeout-requeued.csv 1")
+        .arg(verbose(alloc))?
         .arg(script(alloc))?
         .arg(seed)
 }
@@ -93,7 +112,32 @@ fn run<'a>(alloc: Global) -> Result<Command<'a>, AllocError> {
             "Runs a script with a thread for each actor and prints the trace, and on standard error how the run ended",
         )
         .after_help("Example: camxpt run examples/script-timeout-requeued.csv")
+        .arg(verbose(alloc))?
         .arg(script(alloc))
+}
+
+fn completions<'a>(alloc: Global) -> Result<Command<'a>, AllocError> {
+    let shell = Arg::new(alloc, "SHELL")
+        .required(true)
+        .help("bash, zsh or fish");
+    Command::new(alloc, "completions")
+        .about("Prints the script by which a shell completes these words")
+        .after_help("Example: camxpt completions bash")
+        .arg(shell)
+}
+
+fn json<'a>(alloc: Global) -> Arg<'a> {
+    Arg::new(alloc, "json")
+        .long("json")
+        .action(ArgAction::SetTrue)
+        .help("Prints one line of JSON")
+}
+
+fn verbose<'a>(alloc: Global) -> Arg<'a> {
+    Arg::new(alloc, "verbose")
+        .long("verbose")
+        .action(ArgAction::SetTrue)
+        .help("Says behind a fault where it stands and what stands there")
 }
 
 fn script<'a>(alloc: Global) -> Arg<'a> {

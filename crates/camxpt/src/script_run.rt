@@ -1,0 +1,57 @@
+//! Runs a script, on one thread or on many, and writes the trace of the run.
+
+use crate::failure::Failure;
+use crate::note::Named;
+use crate::progress::ProgressLine;
+use live_worker::run_live;
+use run_rules::Ending;
+use sim_worker::{ScriptPort, sim_run};
+use std::io;
+use std::rt::Runtime;
+use std::sync::Wait;
+use std::thread::Threads;
+use text_io::Watched;
+use trace_file::{read_script, write_trace};
+
+/// How a script is run.
+#[derive(Clone, Copy)]
+pub enum ScriptRun {
+    /// On one thread, by a seed.
+    Sim {
+        /// The seed that picks whose turn it is.
+        seed: u64,
+    },
+    /// With a thread for each driver that has a row, each lane, recovery and the round keeper.
+    Live {
+        /// Whether standard error is a terminal: then a run of more than a second shows there how far it is.
+        on_terminal: bool,
+    },
+}
+
+impl ScriptRun {
+    /// Runs the script, writes the trace to standard output and answers how the run ended.
+    pub fn over<R: Runtime + AllocGlobal + Threads + Wait + Sync>(
+        self,
+        rt: &R,
+        script: &Named<'_>,
+    ) -> Result<Ending, Failure> {
+        let alloc = rt.alloc();
+        let script = read_script(alloc, &mut Watched::new(script.text.as_slice()))?;
+        let (history, ending) = match self {
+            ScriptRun::Sim { seed } => {
+                let run = sim_run(alloc, &script, seed)?;
+                (run.history, run.ending)
+            }
+            ScriptRun::Live { on_terminal } => {
+                let ports = ScriptPort::for_lanes(alloc, &script)?;
+                let line = ProgressLine::new(rt, on_terminal);
+                let run = run_live(rt, alloc, &script, ports, &line);
+                line.clear();
+                let run = run?;
+                (run.history, run.ending)
+            }
+        };
+        write_trace(alloc, &history, &mut Watched::new(io::writer(rt)))?;
+        Ok(ending)
+    }
+}

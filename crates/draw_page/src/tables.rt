@@ -1,0 +1,164 @@
+//! The tables below the drawing.
+
+use crate::words::{freeze_words, push_number, push_parts, push_words};
+use cam_path::path_name;
+use cam_types::Config;
+use std::alloc::{AllocError, Global};
+use wait_causes::{Explanation, Freeze, FreezeKind, Grouping, Part, Row};
+
+// What stands above the columns of a part.
+const COLUMNS: &str = "</th><th scope='col'>stays</th><th scope='col'>waited</th>\
+<th scope='col'>p50</th><th scope='col'>p90</th><th scope='col'>max</th>\
+<th scope='col'>live</th><th scope='col'>best</th><th scope='col'>excess</th>\
+<th scope='col'>held by an error</th><th scope='col'>frozen by a caller</th>\
+<th scope='col'>adapter frozen</th><th scope='col'>device full</th>\
+<th scope='col'>adapter full</th><th scope='col'>not asked</th></tr></thead><tbody>\n";
+
+/// Puts the tables by adapter, device, driver and run level behind the text.
+pub(crate) fn push_tables(
+    alloc: Global,
+    text: &mut String,
+    config: &Config,
+    explanation: &Explanation,
+) -> Result<(), AllocError> {
+    for (by, id, name) in &[
+        (Grouping::Adapter, "adapters", "adapter"),
+        (Grouping::Device, "devices", "device"),
+        (Grouping::Driver, "drivers", "driver"),
+        (Grouping::Level, "levels", "run level"),
+    ] {
+        push_words(
+            text,
+            &[
+                "<div class='table'><table id='",
+                id,
+                "'><caption>By ",
+                name,
+                "</caption><thead><tr><th scope='col'>",
+                name,
+                COLUMNS,
+            ],
+        )?;
+        let rows = explanation.table(alloc, *by)?;
+        push_rows(alloc, text, config, &rows, *by == Grouping::Device)?;
+        text.push_str("</tbody></table></div>\n")?;
+    }
+    Ok(())
+}
+
+// Puts rows behind the text, with the paths of devices.
+fn push_rows(
+    alloc: Global,
+    text: &mut String,
+    config: &Config,
+    rows: &[Row],
+    are_devices: bool,
+) -> Result<(), AllocError> {
+    for row in rows {
+        text.push_str("<tr><th scope='row'>")?;
+        if are_devices {
+            text.push_str(&path_name(alloc, config, row.number)?)?;
+        } else {
+            push_number(text, u64::from(row.number))?;
+        }
+        push_part(text, &row.part)?;
+    }
+    Ok(())
+}
+
+// Puts the cells of a part behind the text, and the end of its row.
+fn push_part(text: &mut String, part: &Part) -> Result<(), AllocError> {
+    let costs = &part.costs;
+    push_parts(
+        text,
+        &[
+            ("</th><td>", u64::from(part.stays)),
+            ("</td><td>", part.waited),
+            ("</td><td>", u64::from(part.p50)),
+            ("</td><td>", u64::from(part.p90)),
+            ("</td><td>", u64::from(part.max)),
+            ("</td><td>", part.live),
+            ("</td><td>", part.best),
+        ],
+        "</td><td>",
+    )?;
+    push_excess(text, part)?;
+    push_parts(
+        text,
+        &[
+            ("</td><td>", costs.error),
+            ("</td><td>", costs.caller),
+            ("</td><td>", costs.adapter_frozen),
+            ("</td><td>", costs.device_full),
+            ("</td><td>", costs.adapter_full),
+            ("</td><td>", costs.not_asked),
+        ],
+        "</td></tr>\n",
+    )
+}
+
+/// Puts the excess of a part behind the text.
+pub(crate) fn push_excess(text: &mut String, part: &Part) -> Result<(), AllocError> {
+    if part.live < part.best {
+        push_parts(text, &[("-", part.best.saturating_sub(part.live))], "")
+    } else {
+        push_number(text, part.live.saturating_sub(part.best))
+    }
+}
+
+/// Puts the table of freezes behind the text, if there are some.
+pub(crate) fn push_freezes(
+    alloc: Global,
+    text: &mut String,
+    config: &Config,
+    freezes: &[Freeze],
+) -> Result<(), AllocError> {
+    if freezes.is_empty() {
+        return Ok(());
+    }
+    text.push_str(
+        "<div class='table'><table id='freezes'><caption>Freezes</caption><thead><tr>\
+<th scope='col'>of</th><th scope='col' class='words'>kind</th><th scope='col'>first</th><th scope='col'>last</th>\
+<th scope='col'>cost</th></tr></thead><tbody>\n",
+    )?;
+    for freeze in freezes {
+        push_freeze(alloc, text, config, freeze)?;
+    }
+    text.push_str("</tbody></table></div>\n")
+}
+
+// Puts the row of a freeze behind the text.
+fn push_freeze(
+    alloc: Global,
+    text: &mut String,
+    config: &Config,
+    freeze: &Freeze,
+) -> Result<(), AllocError> {
+    text.push_str("<tr><th scope='row'>")?;
+    push_frozen(alloc, text, config, freeze)?;
+    let (words, _) = freeze_words(freeze.kind);
+    push_words(text, &["</th><td class='words'>", words])?;
+    push_parts(
+        text,
+        &[
+            ("</td><td>", u64::from(freeze.first)),
+            ("</td><td>", u64::from(freeze.last)),
+            ("</td><td>", freeze.cost),
+        ],
+        "</td></tr>\n",
+    )
+}
+
+// Puts the device or the adapter that was frozen behind the text.
+fn push_frozen(
+    alloc: Global,
+    text: &mut String,
+    config: &Config,
+    freeze: &Freeze,
+) -> Result<(), AllocError> {
+    if freeze.kind == FreezeKind::Adapter {
+        return push_parts(text, &[("adapter ", u64::from(freeze.number))], "");
+    }
+    let path = path_name(alloc, config, freeze.number)?;
+    push_words(text, &["device ", path.as_str()])
+}

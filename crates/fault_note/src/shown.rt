@@ -1,0 +1,43 @@
+//! A line of a text as it is shown.
+
+use std::alloc::{AllocError, Global};
+
+// How many bytes of a line are shown.
+const MOST_SHOWN: usize = 200;
+
+/// Puts the name of a file, a line's number and the line's text behind the note: at most 200 bytes, and a `?` for each that
+/// isn't a printable character of ASCII.
+pub(crate) fn push_line(
+    alloc: Global,
+    note: &mut String,
+    name: &str,
+    number: u64,
+    line: &[u8],
+) -> Result<(), AllocError> {
+    let shown = shown(alloc, line)?;
+    writeln!(note, "  {name}, line {number}: {shown}")
+}
+
+fn shown(alloc: Global, line: &[u8]) -> Result<String, AllocError> {
+    let mut shown = String::new(alloc);
+    for byte in line.iter().take(MOST_SHOWN) {
+        shown.push(character(*byte))?;
+    }
+    Ok(shown)
+}
+
+fn character(byte: u8) -> char {
+    if byte == b' ' || byte.is_ascii_graphic() {
+        char::from(byte)
+    } else {
+        '?'
+    }
+}
+
+/// The text up to the first end of a line.
+pub(crate) fn first_line(text: &[u8]) -> &[u8] {
+    match text.split(|byte| matches!(*byte, b'\n' | b'\r')).next() {
+        Some(line) => line,
+        None => text,
+    }
+}

@@ -1,0 +1,60 @@
+//! The object of an explanation.
+
+ghost use Rattle.std.specs.Prelude.{◌≡◌, string_bytes, IfOk};
+ghost use Rattle.json.specs.Lex.{tokens};
+ghost use Rattle.json.specs.Print.{print};
+
+use crate::counts::Counts;
+use crate::freezes::{ListedFreeze, freeze_list};
+use crate::line::line;
+use crate::parts::{Causes, TableRow, rows};
+use crate::stays::{ListedStay, stay_list};
+use serde::Serialize;
+use std::alloc::{AllocError, Global};
+use wait_causes::{Explanation, Grouping};
+use xpt_state::History;
+
+#[derive(Drop, Serialize)]
+struct Explained<'a> {
+    #[serde(flatten)]
+    counts: Counts<'a>,
+    live: u64,
+    best: u64,
+    excess: i128,
+    causes: Causes,
+    adapters: Vec<TableRow>,
+    devices: Vec<TableRow>,
+    drivers: Vec<TableRow>,
+    levels: Vec<TableRow>,
+    freezes: Vec<ListedFreeze>,
+    list: Vec<ListedStay>,
+}
+
+/// A line without its line feed: the counts of the history, what its live schedule and the other one cost in weighted
+/// rounds, the difference, and the live cost by cause; the tables by adapter, device, driver and run level; the freezes; and
+/// all stays in order of birth, each with its waits. Any text may be the trace's name.
+pub fn explain_json(
+    alloc: Global,
+    trace: &str,
+    history: &History,
+    explanation: &Explanation,
+) -> Result<String, AllocError>
+    ensures { IfOk result (λ s. string_bytes s ≡ print (tokens (string_bytes s))) }
+{
+    let whole = explanation.whole();
+    let config = history.config();
+    let explained = Explained {
+        counts: Counts::of(trace, history),
+        live: whole.live,
+        best: whole.best,
+        excess: whole.excess(),
+        causes: Causes::of(&whole.costs),
+        adapters: rows(alloc, config, explanation, Grouping::Adapter)?,
+        devices: rows(alloc, config, explanation, Grouping::Device)?,
+        drivers: rows(alloc, config, explanation, Grouping::Driver)?,
+        levels: rows(alloc, config, explanation, Grouping::Level)?,
+        freezes: freeze_list(alloc, explanation)?,
+        list: stay_list(alloc, explanation)?,
+    };
+    line(alloc, &explained)
+}

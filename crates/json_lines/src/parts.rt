@@ -1,0 +1,86 @@
+//! What some stays waited, and what that cost.
+
+use cam_path::path_name;
+use cam_types::Config;
+use serde::Serialize;
+use std::alloc::{AllocError, Global};
+use wait_causes::{CauseCosts, Explanation, Grouping, Part, Row};
+
+/// Weighted rounds by cause.
+#[derive(Clone, Copy, Drop, Serialize)]
+pub(crate) struct Causes {
+    error: u64,
+    caller: u64,
+    adapter_frozen: u64,
+    device_full: u64,
+    adapter_full: u64,
+    not_asked: u64,
+}
+
+impl Causes {
+    /// Those of these costs.
+    pub(crate) fn of(costs: &CauseCosts) -> Causes {
+        Causes {
+            error: costs.error,
+            caller: costs.caller,
+            adapter_frozen: costs.adapter_frozen,
+            device_full: costs.device_full,
+            adapter_full: costs.adapter_full,
+            not_asked: costs.not_asked,
+        }
+    }
+}
+
+/// A row of a table; a device has its path too.
+#[derive(Drop, Serialize)]
+pub(crate) struct TableRow {
+    number: u32,
+    #[serde(skip_serializing_if = "Option::is_none")]
+    path: Option<String>,
+    stays: u32,
+    waited: u64,
+    p50: u32,
+    p90: u32,
+    max: u32,
+    live: u64,
+    best: u64,
+    excess: i128,
+    causes: Causes,
+}
+
+/// The rows of a table, by number.
+pub(crate) fn rows(
+    alloc: Global,
+    config: &Config,
+    explanation: &Explanation,
+    by: Grouping,
+) -> Result<Vec<TableRow>, AllocError> {
+    let table = explanation.table(alloc, by)?;
+    let mut rows = Vec::with_capacity(alloc, table.len())?;
+    for row in &table {
+        let path = match by {
+            Grouping::Device => Some(path_name(alloc, config, row.number)?),
+            _ => None,
+        };
+        rows.push(row_of(row, path))?;
+    }
+    Ok(rows)
+}
+
+// The row with this path.
+fn row_of(row: &Row, path: Option<String>) -> TableRow {
+    let part: &Part = &row.part;
+    TableRow {
+        number: row.number,
+        path,
+        stays: part.stays,
+        waited: part.waited,
+        p50: part.p50,
+        p90: part.p90,
+        max: part.max,
+        live: part.live,
+        best: part.best,
+        excess: part.excess(),
+        causes: Causes::of(&part.costs),
+    }
+}

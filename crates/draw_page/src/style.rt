@@ -23,8 +23,9 @@ dd{margin:0;font-size:20px;font-variant-numeric:tabular-nums}
 .rows{width:max-content;min-width:100%}
 .row{display:flex;border-top:1px solid var(--line)}
 .label{position:sticky;left:0;z-index:1;width:96px;flex:none;padding:2px 8px;box-sizing:border-box;
-background:var(--head);border-right:1px solid var(--line);font-size:12px;overflow:hidden;white-space:nowrap}
-.label span{display:block;color:var(--soft);font-size:11px;line-height:1.2}
+background:var(--head);border-right:1px solid var(--line);font-size:12px;overflow:clip;white-space:nowrap}
+.label b,.label span{display:block;position:sticky;top:24px}
+.label span{top:41px;color:var(--soft);font-size:11px;line-height:14px}.label span+span{top:55px}
 .ruler{position:sticky;top:0;z-index:2;background:var(--head);border-top:0}
 .adapter{background:var(--head);align-items:center}
 .row svg{display:block;flex:none}

@@ -24,11 +24,23 @@ pub(crate) fn place_of(alloc: Global, text: &[u8], record: u32) -> Option<Place>
         left = left.saturating_sub(1);
         if left == 0 {
             let position = row.position()?;
-            return Some(Place {
-                line: position.line(),
-                byte: usize::try_from(position.byte()).ok()?,
-            });
+            let byte = usize::try_from(position.byte()).ok()?;
+            return Some(behind_breaks(text, byte, position.line()));
         }
     }
     None
+}
+
+// The first place from this byte of this line on where no line breaks: empty lines are no records.
+fn behind_breaks(text: &[u8], byte: usize, line: u64) -> Place {
+    let mut place = Place { line, byte };
+    for next in text.get(byte..).unwrap_or(&[]) {
+        match next {
+            b'\n' => place.line = place.line.saturating_add(1),
+            b'\r' => {}
+            _ => return place,
+        }
+        place.byte = place.byte.saturating_add(1);
+    }
+    place
 }

@@ -2,29 +2,11 @@
 
 use crate::scale::Scale;
 use crate::words::{letter, push_number, push_parts, push_words};
-use std::alloc::{AllocError, Global};
-use wait_causes::{Cause, ExplainedStay, Explanation, Wait};
+use std::alloc::AllocError;
+use wait_causes::{Cause, ExplainedStay, Wait};
 
 /// How many of a stay's waits are told in words; a bar shows them all.
 const TOLD: usize = 8;
-
-/// The weighted rounds that a stay waited.
-pub(crate) fn cost_of(stay: &ExplainedStay) -> u64 {
-    u64::from(stay.weight).saturating_mul(u64::from(stay.live.saturating_sub(stay.arrival)))
-}
-
-/// The waits of the stay at a place; none if there is no such stay.
-pub(crate) fn waits_at(
-    alloc: Global,
-    explanation: &Explanation,
-    place: u32,
-) -> Result<Vec<Wait>, AllocError> {
-    if (place as usize) < explanation.stays().len() {
-        explanation.waits(alloc, place)
-    } else {
-        Ok(Vec::new(alloc))
-    }
-}
 
 /// Puts the waits behind the text, each with its rounds and cause.
 pub(crate) fn push_waits(text: &mut String, waits: &[Wait]) -> Result<(), AllocError> {
@@ -96,7 +78,7 @@ fn push_hover(text: &mut String, stay: &ExplainedStay, waits: &[Wait]) -> Result
             (": arrives ", u64::from(stay.arrival)),
             (", sent ", u64::from(stay.live)),
             (", best ", u64::from(stay.best)),
-            (", cost ", cost_of(stay)),
+            (", cost ", stay.cost()),
         ],
         "\n",
     )?;

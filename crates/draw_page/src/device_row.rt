@@ -1,7 +1,7 @@
 //! The row of a device: bands, bars and openings; and that of an adapter.
 
 use crate::bands::push_bands;
-use crate::bars::{cost_of, push_bar, waits_at};
+use crate::bars::push_bar;
 use crate::lanes::{Lanes, lanes_of};
 use crate::openings::{Owner, STRIP, push_strip};
 use crate::scale::Scale;
@@ -155,7 +155,7 @@ fn cost_on(stays: &[ExplainedStay], device: u32) -> u64 {
     let mut cost = 0u64;
     for stay in stays {
         if stay.device == device {
-            cost = cost.saturating_add(cost_of(stay));
+            cost = cost.saturating_add(stay.cost());
         }
     }
     cost
@@ -175,7 +175,7 @@ fn push_bars(
     )?;
     for (place, lane) in &lanes.stays {
         if let Some(stay) = scene.explanation.stays().get(*place as usize) {
-            let waits = waits_at(alloc, scene.explanation, *place)?;
+            let waits = scene.explanation.waits(alloc, *place as usize)?;
             push_bar(text, &scene.scale, stay, &waits, *lane)?;
         }
     }

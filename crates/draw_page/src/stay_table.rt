@@ -1,6 +1,6 @@
 //! The table of stays.
 
-use crate::bars::{cost_of, push_waits, waits_at};
+use crate::bars::push_waits;
 use crate::words::{push_parts, push_words};
 use cam_path::path_name;
 use cam_types::Config;
@@ -21,13 +21,11 @@ pub(crate) fn push_stay_table(
 <th scope='col'>arrival</th><th scope='col'>sent</th><th scope='col'>best</th>\
 <th scope='col'>cost</th><th scope='col' class='words'>waited</th></tr></thead><tbody>\n",
     )?;
-    let mut place = 0u32;
-    for stay in explanation.stays() {
+    for (place, stay) in explanation.stays().iter().enumerate() {
         let path = path_name(alloc, config, stay.device)?;
         push_stay(text, stay, &path)?;
-        push_waits(text, &waits_at(alloc, explanation, place)?)?;
+        push_waits(text, &explanation.waits(alloc, place)?)?;
         text.push_str("</td></tr>\n")?;
-        place = place.saturating_add(1);
     }
     text.push_str("</tbody></table></div>\n")
 }
@@ -55,7 +53,7 @@ fn push_stay(text: &mut String, stay: &ExplainedStay, path: &str) -> Result<(), 
             ("</td><td>", u64::from(stay.arrival)),
             ("</td><td>", u64::from(stay.live)),
             ("</td><td>", u64::from(stay.best)),
-            ("</td><td>", cost_of(stay)),
+            ("</td><td>", stay.cost()),
         ],
         "</td><td class='words'>",
     )

@@ -3,7 +3,7 @@
 use crate::causes::by_cause;
 use crate::freezes::push_freezes;
 use crate::order::most_first;
-use crate::stays::{cost_of, push_stays};
+use crate::stays::push_stays;
 use crate::tables::push_tables;
 use crate::worst::{push_worst_device, push_worst_freeze, push_worst_stay};
 use cam_types::Config;
@@ -54,7 +54,7 @@ pub fn page(
 fn costs_of_stays(alloc: Global, stays: &[ExplainedStay]) -> Result<Vec<u64>, AllocError> {
     let mut costs = Vec::with_capacity(alloc, stays.len())?;
     for stay in stays {
-        costs.push(cost_of(stay))?;
+        costs.push(stay.cost())?;
     }
     Ok(costs)
 }

@@ -3,12 +3,7 @@
 use cam_path::path_name;
 use cam_types::Config;
 use std::alloc::{AllocError, Global};
-use wait_causes::{ExplainedStay, Explanation, Wait};
-
-/// The weighted rounds that a stay waited.
-pub(crate) fn cost_of(stay: &ExplainedStay) -> u64 {
-    u64::from(stay.weight) * u64::from(stay.live.saturating_sub(stay.arrival))
-}
+use wait_causes::Explanation;
 
 /// Puts at most so many of the stays at these places behind the text, with the causes of their rounds.
 pub(crate) fn push_stays(
@@ -39,9 +34,9 @@ pub(crate) fn push_stays(
             "{:>8} {:>7} {:>5} ",
             stay.priority, stay.arrival, stay.live
         )?;
-        write!(text, "{:>5} {:>9}  ", stay.best, cost_of(stay))?;
+        write!(text, "{:>5} {:>9}  ", stay.best, stay.cost())?;
         let mut is_first = true;
-        for wait in &waits_at(alloc, explanation, *place)? {
+        for wait in &explanation.waits(alloc, *place)? {
             if !is_first {
                 write!(text, ", ")?;
             }
@@ -52,18 +47,6 @@ pub(crate) fn push_stays(
         writeln!(text)?;
     }
     Ok(())
-}
-
-// The waits of the stay at a place, if there is one.
-fn waits_at(
-    alloc: Global,
-    explanation: &Explanation,
-    place: usize,
-) -> Result<Vec<Wait>, AllocError> {
-    match u32::try_from(place) {
-        Ok(stay) if place < explanation.stays().len() => explanation.waits(alloc, stay),
-        _ => Ok(Vec::new(alloc)),
-    }
 }
 
 /// Puts a range of rounds behind the text.

@@ -2,7 +2,7 @@
 
 use crate::freezes::{frozen_by, frozen_name};
 use crate::order::most_first;
-use crate::stays::{cost_of, push_rounds};
+use crate::stays::push_rounds;
 use cam_path::path_name;
 use cam_types::Config;
 use std::alloc::{AllocError, Global};
@@ -15,7 +15,7 @@ pub(crate) fn push_worst_stay(text: &mut String, stay: &ExplainedStay) -> Result
         "\nCCB {} (try {}) cost most: {}, from round {} to its send in round {}; the best schedule sends it in round {}.",
         stay.ccb,
         stay.attempt,
-        cost_of(stay),
+        stay.cost(),
         stay.arrival,
         stay.live,
         stay.best

@@ -35,8 +35,9 @@ pub(crate) fn stay_list(
 ) -> Result<Vec<ListedStay>, AllocError> {
     let stays = explanation.stays();
     let mut list = Vec::with_capacity(alloc, stays.len())?;
-    for (number, stay) in stays.iter().enumerate() {
-        list.push(listed(stay, waits_at(alloc, explanation, number)?))?;
+    for (place, stay) in stays.iter().enumerate() {
+        let waits = wait_list(alloc, &explanation.waits(alloc, place)?)?;
+        list.push(listed(stay, waits))?;
     }
     Ok(list)
 }
@@ -54,20 +55,6 @@ fn listed(stay: &ExplainedStay, waits: Vec<ListedWait>) -> ListedStay {
         live: stay.live,
         best: stay.best,
         waits,
-    }
-}
-
-// The waits of the stay at a place, if there is one.
-fn waits_at(
-    alloc: Global,
-    explanation: &Explanation,
-    place: usize,
-) -> Result<Vec<ListedWait>, AllocError> {
-    match u32::try_from(place) {
-        Ok(stay) if place < explanation.stays().len() => {
-            wait_list(alloc, &explanation.waits(alloc, stay)?)
-        }
-        _ => Ok(Vec::new(alloc)),
     }
 }
 

@@ -8,3 +8,4 @@ pub mod FreezeLemmas
 pub mod FrozenLemmas
 pub mod CostLemmas
 pub mod SumLemmas
+pub mod RowLemmas

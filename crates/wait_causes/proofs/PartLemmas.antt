@@ -1,6 +1,6 @@
 -- sums over stays
 use mathlib.Core.Path.{Path}
-use Rattle.std.proofs.Common.{◌≡◌, ℕ, zero, suc, ◌+◌, ◌-◌, ◌*◌, ◌^◌, ◌<◌, ◌≤◌, Bool, true, false, cond, List, [], ◌∷◌, ◌++◌, map, length, refl, sym, ap, ◌∙◌, arith, Some}
+use Rattle.std.proofs.Common.{◌≡◌, ℕ, zero, suc, ◌+◌, ◌-◌, ◌*◌, ◌/◌, ◌^◌, ◌<◌, ◌≤◌, Bool, true, false, cond, List, [], ◌∷◌, ◌++◌, map, length, refl, sym, ap, ◌∙◌, arith, Some}
 use Rattle.std.specs.Prelude.{zip, filter, find, flat_map, sum_by, count_by, nat_le, unwrap_or, is_some, IfSome, All}
 use Rattle.std.specs.List.{range_with_len}
 use Rattle.std.proofs.Math.Nat.{mul-add}
@@ -12,6 +12,7 @@ use Rattle.std.proofs.lemmas.Grind.{flat_map-append}
 use Rattle.std.proofs.lemmas.List.{append-nil, length-map}
 use Rattle.std.proofs.lemmas.Nat.{mul-le}
 use Rattle.std.proofs.lemmas.List.Sums.{sum_by-cons}
+use Rattle.round_net.proofs.CountLemmas.{count_by-weaker}
 use Rattle.cam_event.proofs.ListFacts.{range_with_len-push}
 use Rattle.cam_types.specs.Topology.{Topology}
 use Rattle.cam_event.specs.Live.{live_round, live_part, live_cost}
@@ -60,28 +61,79 @@ find_next test r n m e fails =
     let next : r + 1 ≡ suc r = omega arith in
     rw (here, rest, next) (rw fails refl)
 
-pub rank_here : (percent : ℕ) (xs : List ExplainedStay) (r few : ℕ) → r < MOST_ROUNDS → percent * length xs ≤ 100 * few → few ≡ count_by (λ s. nat_le (waited s) r) xs →
-    find (is_enough percent xs) (range_with_len r (MOST_ROUNDS - r)) ≡ find (is_enough percent xs) (range_with_len 0 MOST_ROUNDS) → r ≡ nearest_rank percent xs
-unfolding nearest_rank
-rank_here percent xs r few lt enough is left =
-    let passes : is_enough percent xs r ≡ true = ap (λ n. nat_le (percent * length xs) (100 * n)) (sym is) ∙ le-leb (percent * length xs) (100 * few) enough in
-    let found = find_here (is_enough percent xs) r MOST_ROUNDS (MOST_ROUNDS - (r + 1)) (omega arith) passes in
-    ap (λ o. unwrap_or o 0) (sym found ∙ left)
+-- what isn't enough is no more where fewer rounds are
+short_before : (percent : ℕ) (xs : List ExplainedStay) (r s : ℕ) → r ≤ s → is_enough percent xs s ≡ false → is_enough percent xs r ≡ false
+short_before percent xs r s le short =
+    let fewer = count_by-weaker (λ x. nat_le (waited x) r) (λ x. nat_le (waited x) s) xs (λ k d lt e. grind (arith, nat_tests)) in
+    grind (arith, nat_tests)
 
-pub rank_next : (percent : ℕ) (xs : List ExplainedStay) (r few : ℕ) → r < MOST_ROUNDS → 100 * few < percent * length xs → few ≡ count_by (λ s. nat_le (waited s) r) xs →
-    find (is_enough percent xs) (range_with_len r (MOST_ROUNDS - r)) ≡ find (is_enough percent xs) (range_with_len 0 MOST_ROUNDS) →
-    find (is_enough percent xs) (range_with_len (r + 1) (MOST_ROUNDS - (r + 1))) ≡ find (is_enough percent xs) (range_with_len 0 MOST_ROUNDS)
-rank_next percent xs r few lt short is left =
+find_skip : (test : ℕ → Bool) (a k n : ℕ) → a + k ≤ n → ((r : ℕ) → r < a + k → test r ≡ false) → find test (range_with_len a (n - a)) ≡ find test (range_with_len (a + k) (n - (a + k)))
+find_skip test a zero n le short =
+    let same : a + 0 ≡ a = omega arith in
+    ap (λ b. find test (range_with_len b (n - b))) (sym same)
+find_skip test a (suc k) n le short =
+    let same : a + 1 + k ≡ a + suc k = omega arith in
+    find_next test a n (n - (a + 1)) (omega (arith, le)) (short a (omega arith))
+    ∙ find_skip test (a + 1) k n (omega (arith, le)) (λ r lt. short r (omega (arith, lt)))
+    ∙ ap (λ b. find test (range_with_len b (n - b))) same
+
+-- the least number that is enough lies between two
+pub record IsSought (percent : ℕ) (xs : List ExplainedStay) (low high : ℕ) : Type 0 where
+  pub order : low ≤ high
+  pub most : high ≤ MOST_ROUNDS
+  pub short : (r : ℕ) → r < low → is_enough percent xs r ≡ false
+  pub enough : high < MOST_ROUNDS → is_enough percent xs high ≡ true
+
+pub sought_first : (percent : ℕ) (xs : List ExplainedStay) → IsSought percent xs 0 MOST_ROUNDS
+sought_first percent xs = record {
+  order = omega arith;
+  most = omega arith;
+  short = λ r lt. absurd (omega (arith, lt));
+  enough = λ lt. absurd (omega (arith, lt));
+}
+
+pub middle_lies : (low high : ℕ) → low < high → (low ≤ low + (high - low) / 2) × (low + (high - low) / 2 < high)
+middle_lies low high lt = (omega arith, omega arith)
+
+pub sought_below : (percent : ℕ) (xs : List ExplainedStay) (low high middle few : ℕ) → low ≤ middle → middle < high → percent * length xs ≤ 100 * few → few ≡ count_by (λ s. nat_le (waited s) middle) xs →
+    IsSought percent xs low high → IsSought percent xs low middle
+sought_below percent xs low high middle few from to enough is kept = record {
+  order = from;
+  most = omega (arith, to, kept.most);
+  short = kept.short;
+  enough = λ lt. ap (λ n. nat_le (percent * length xs) (100 * n)) (sym is) ∙ le-leb (percent * length xs) (100 * few) enough;
+}
+
+pub sought_above : (percent : ℕ) (xs : List ExplainedStay) (low high middle few : ℕ) → low ≤ middle → middle < high → 100 * few < percent * length xs → few ≡ count_by (λ s. nat_le (waited s) middle) xs →
+    IsSought percent xs low high → IsSought percent xs (middle + 1) high
+sought_above percent xs low high middle few from to less is kept =
     let short_of : nat_le (percent * length xs) (100 * few) ≡ false = grind (arith, nat_tests) in
-    let fails : is_enough percent xs r ≡ false = ap (λ n. nat_le (percent * length xs) (100 * n)) (sym is) ∙ short_of in
-    sym (find_next (is_enough percent xs) r MOST_ROUNDS (MOST_ROUNDS - (r + 1)) (omega arith) fails) ∙ left
+    let fails : is_enough percent xs middle ≡ false = ap (λ n. nat_le (percent * length xs) (100 * n)) (sym is) ∙ short_of in
+    record {
+      order = omega (arith, to);
+      most = kept.most;
+      short = λ r lt. short_before percent xs r middle (omega (arith, lt)) fails;
+      enough = kept.enough;
+    }
 
-pub rank_none : (percent : ℕ) (xs : List ExplainedStay) (r : ℕ) → MOST_ROUNDS ≤ r →
-    find (is_enough percent xs) (range_with_len r (MOST_ROUNDS - r)) ≡ find (is_enough percent xs) (range_with_len 0 MOST_ROUNDS) → 0 ≡ nearest_rank percent xs
+sought_left : (percent : ℕ) (xs : List ExplainedStay) (low high : ℕ) → IsSought percent xs low high → find (is_enough percent xs) (range_with_len 0 MOST_ROUNDS) ≡ find (is_enough percent xs) (range_with_len low (MOST_ROUNDS - low))
+sought_left percent xs low high kept =
+    let plain : 0 + low ≡ low = omega arith in
+    find_skip (is_enough percent xs) 0 low MOST_ROUNDS (omega (arith, kept.order, kept.most)) (λ r lt. kept.short r (omega (arith, lt)))
+    ∙ ap (λ b. find (is_enough percent xs) (range_with_len b (MOST_ROUNDS - b))) plain
+
+pub sought_found : (percent : ℕ) (xs : List ExplainedStay) (low high : ℕ) → high ≤ low → low < MOST_ROUNDS → IsSought percent xs low high → low ≡ nearest_rank percent xs
 unfolding nearest_rank
-rank_none percent xs r le left =
-    let over : MOST_ROUNDS - r ≡ 0 = omega arith in
-    ap (λ o. unwrap_or o 0) (sym (ap (λ n. find (is_enough percent xs) (range_with_len r n)) over) ∙ left)
+sought_found percent xs low high over lt kept =
+    let same : high ≡ low = omega (arith, over, kept.order) in
+    let passes : is_enough percent xs low ≡ true = ap (is_enough percent xs) (sym same) ∙ kept.enough (omega (arith, same, lt)) in
+    ap (λ o. unwrap_or o 0) (sym (sought_left percent xs low high kept ∙ find_here (is_enough percent xs) low MOST_ROUNDS (MOST_ROUNDS - (low + 1)) (omega (arith, lt)) passes))
+
+pub sought_none : (percent : ℕ) (xs : List ExplainedStay) (low high : ℕ) → MOST_ROUNDS ≤ low → IsSought percent xs low high → 0 ≡ nearest_rank percent xs
+unfolding nearest_rank
+sought_none percent xs low high le kept =
+    let over : MOST_ROUNDS - low ≡ 0 = omega (arith, le) in
+    ap (λ o. unwrap_or o 0) (sym (sought_left percent xs low high kept ∙ ap (λ n. find (is_enough percent xs) (range_with_len low n)) over))
 
 -- a part by its numbers
 pub part_found : (xs : List ExplainedStay) (w p50 p90 max live best error caller adapter_frozen device_full adapter_full not_asked : ℕ) →

@@ -1,10 +1,10 @@
 -- the rows of a table
-use Rattle.std.proofs.Common.{◌≡◌, ℕ, ◌≤◌, true, false, List, [], ◌∷◌, ◌++◌, length, refl, sym, ap, ◌∙◌, arith}
+use Rattle.std.proofs.Common.{◌≡◌, ℕ, ◌+◌, ◌≤◌, true, false, List, [], ◌∷◌, ◌++◌, length, refl, sym, ap, ◌∙◌, arith}
 use Rattle.std.specs.Prelude.{◌==◌, flat_map}
 use Rattle.std.specs.List.{range_with_len}
 use Rattle.std.proofs.lemmas.List.{append-nil}
 use Rattle.wait_causes.specs.Parts.{part_of}
-use Rattle.wait_causes.specs.Tables.{number, stays_of, row_for, row_of, table_of}
+use Rattle.wait_causes.specs.Tables.{number, stays_of, row_for, row_of, greatest, table_of}
 use Rattle.wait_causes.specs.declared.part.Part.{Part}
 use Rattle.wait_causes.proofs.PartLemmas.{no_longer}
 use Rattle.wait_causes.specs.declared.explained_stay.ExplainedStay.{ExplainedStay}
@@ -24,6 +24,6 @@ row_some part n rows new p is some push = push ∙ rw (some, is) refl
 pub few_of : (by : Grouping) (stays : List ExplainedStay) (n most : ℕ) → length stays ≤ most → length (stays_of by stays n) ≤ most
 few_of by stays n most few = omega (arith, no_longer (λ s. number by s == n) stays)
 
-pub table_end : (by : Grouping) (stays : List ExplainedStay) (rows : List table.Row) (n : ℕ) → rows ≡ flat_map (row_of by stays) (range_with_len 0 n) → n ≡ 256 → rows ≡ table_of by stays
+pub table_end : (by : Grouping) (stays : List ExplainedStay) (rows : List table.Row) (n : ℕ) → rows ≡ flat_map (row_of by stays) (range_with_len 0 n) → n ≡ greatest by stays + 1 → rows ≡ table_of by stays
 unfolding table_of
 table_end by stays rows n is at = is ∙ ap (λ k. flat_map (row_of by stays) (range_with_len 0 k)) at

@@ -5,6 +5,7 @@ pub mod Waits
 pub mod Sound
 pub mod Parts
 pub mod Tables
+pub mod TableLaws
 pub mod Freezes
 pub mod Frozen
 pub mod FreezeLaws

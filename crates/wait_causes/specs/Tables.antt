@@ -1,5 +1,5 @@
 -- the stays of a history by adapter, device, driver or run level
-use Rattle.std.specs.Prelude.{ℕ, ◌==◌, if◌then◌else◌, List, [], ◌∷◌, filter, flat_map, length}
+use Rattle.std.specs.Prelude.{ℕ, ◌+◌, ◌==◌, max, if◌then◌else◌, List, [], ◌∷◌, filter, flat_map, fold, length}
 use Rattle.std.specs.List.{range_with_len}
 use Rattle.wait_causes.specs.Parts.{part_of}
 use Rattle.wait_causes.specs.declared.explained_stay.ExplainedStay.{ExplainedStay}
@@ -26,6 +26,10 @@ row_for n part = if length part == 0 then [] else record { number = n; part = pa
 abbrev pub row_of : Grouping → List ExplainedStay → ℕ → List table.Row
 row_of by stays n = row_for n (stays_of by stays n)
 
--- the rows in ascending order: a driver's number is below 256, and so are all the others
+-- the greatest number of some stays, and 0 of none
+unfoldable pub greatest : Grouping → List ExplainedStay → ℕ
+greatest by stays = fold (λ n s. max n (number by s)) 0 stays
+
+-- the rows in ascending order
 unfoldable pub table_of : Grouping → List ExplainedStay → List table.Row
-table_of by stays = flat_map (row_of by stays) (range_with_len 0 256)
+table_of by stays = flat_map (row_of by stays) (range_with_len 0 (greatest by stays + 1))

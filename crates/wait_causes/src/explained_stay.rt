@@ -1,6 +1,8 @@
 //! A stay with the causes of its waiting.
 
-ghost use Rattle.std.specs.Prelude.{◌≡◌, ◌+◌, ◌<◌, ◌^◌};
+ghost use Rattle.std.specs.Prelude.{◌≡◌, ◌+◌, ◌<◌, ◌≤◌, ◌^◌};
+ghost use Rattle.wait_causes.specs.Parts.{waited, measure};
+ghost use Rattle.wait_causes.specs.declared.part.Measure.TheVariants.{Live};
 ghost use Rattle.wait_causes.specs.Stays.{with_round, all_rounds, no_rounds};
 
 use crate::cause::Cause;
@@ -80,4 +82,22 @@ pub struct ExplainedStay {
     pub best: u32,
     /// How many rounds it waited for each cause, `live - arrival` together.
     pub rounds: CauseRounds,
+}
+
+impl ExplainedStay {
+    /// The rounds that it waited.
+    pub(crate) fn waited(&self) -> u32
+        ensures { result ≡ waited self.now }
+    {
+        self.live.saturating_sub(self.arrival)
+    }
+
+    /// The weighted rounds that it waited.
+    #[tactic(auto, using(crate::proofs::PartLemmas::weight_fits))]
+    pub fn cost(&self) -> u64
+        ensures same { result ≡ measure Live self.now }
+        ensures small { result ≤ 281474976710656 }
+    {
+        u64::from(self.weight) * u64::from(self.waited())
+    }
 }

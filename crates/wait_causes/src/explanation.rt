@@ -40,7 +40,7 @@ impl Model for Explanation {
 }
 
 impl Explanation {
-    ghost use Rattle.std.specs.Prelude.{◌≡◌, ◌<◌, length, slice_get, Some, IfOk, IfSome};
+    ghost use Rattle.std.specs.Prelude.{◌≡◌, ◌≤◌, [], length, slice_get, Some, IfOk, IfSome};
     ghost use Rattle.cam_event.specs.Live.{live_cost};
     ghost use Rattle.cam_event.specs.Stays.{stays_begun};
     ghost use Rattle.cam_event.specs.declared.stay.Stay.{Stay};
@@ -90,12 +90,14 @@ impl Explanation {
         &self.stays
     }
 
-    /// The waits of the stay of this number, in order.
-    pub fn waits(&self, alloc: Global, stay: u32) -> Result<Vec<Wait>, AllocError>
-        requires { stay < length (stays_begun self.now.events) }
-        ensures { (p : Stay) → slice_get (stays_begun self.now.events) stay ≡ Some p → IfOk result (λ waits. AreWaitsOf self.now.config self.now.events p waits.items) }
+    /// The waits of the stay at this place of `stays`, in order; none if no stay is there.
+    pub fn waits(&self, alloc: Global, place: usize) -> Result<Vec<Wait>, AllocError>
+        ensures waits { (p : Stay) → slice_get (stays_begun self.now.events) place ≡ Some p → IfOk result (λ waits. AreWaitsOf self.now.config self.now.events p waits.items) }
+        ensures none { length (stays_begun self.now.events) ≤ place → IfOk result (λ waits. waits.items ≡ []) }
     {
-        let kept = self.stays[stay as usize];
+        let Some(kept) = self.stays.get(place) else {
+            return Ok(Vec::new(alloc));
+        };
         waits_in(
             alloc,
             &self.causes,

@@ -1,8 +1,15 @@
-//! What holds of the freezes of a history.
+//! What adds up in an explanation.
 
 ghost use Rattle.wait_causes.specs.FreezeLaws.{FreezesAddUp};
+ghost use Rattle.wait_causes.specs.TableLaws.{RowsAddUp};
 
 /// What the freezes of a kind cost adds up to what all stays waited for its cause.
 pub fn freezes_add_up()
     ensures { FreezesAddUp }
+{}
+
+/// The rows of each table have together as many stays as the whole, as many rounds and weighted rounds, and of each cause as
+/// much.
+pub fn rows_add_up()
+    ensures { RowsAddUp }
 {}

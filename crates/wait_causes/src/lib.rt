@@ -6,7 +6,7 @@ pub use cause::Cause;
 pub use explained_stay::{CauseRounds, ExplainedStay};
 pub use explanation::Explanation;
 pub use freeze::{Freeze, FreezeKind};
-pub use laws::freezes_add_up;
+pub use laws::{freezes_add_up, rows_add_up};
 pub use part::{CauseCosts, Part};
 pub use table::{Grouping, Row};
 pub use wait::Wait;

@@ -73,21 +73,14 @@ impl Measure {
         ensures small { result ≤ 281474976710656 }
     {
         match self {
-            Measure::Waited => u64::from(waited(stay)),
-            Measure::Live => u64::from(stay.weight) * u64::from(waited(stay)),
+            Measure::Waited => u64::from(stay.waited()),
+            Measure::Live => stay.cost(),
             Measure::Best => u64::from(stay.weight)
                 * u64::from(stay.best.saturating_sub(stay.arrival)),
             Measure::Cost(cause) => u64::from(stay.weight)
                 * u64::from(rounds_for(&stay.rounds, cause)),
         }
     }
-}
-
-// The rounds that a stay waited.
-fn waited(stay: &ExplainedStay) -> u32
-    ensures { result ≡ waited stay.now }
-{
-    stay.live.saturating_sub(stay.arrival)
 }
 
 // The rounds of this cause.
@@ -146,12 +139,18 @@ fn nearest_rank(stays: &[ExplainedStay], percent: usize) -> u32
     requires percent { percent ≤ 100 }
     ensures { result ≡ nearest_rank percent stays.now }
 {
-    for rounds in 0..MOST_ROUNDS {
-        if percent * stays.len() <= 100 * within(stays, rounds) {
-            return rounds;
+    // No number below `low` is enough, and `high` is, unless it is beyond all.
+    let mut low = 0;
+    let mut high = MOST_ROUNDS;
+    while low < high {
+        let middle = low + (high - low) / 2;
+        if percent * stays.len() <= 100 * within(stays, middle) {
+            high = middle;
+        } else {
+            low = middle + 1;
         }
     }
-    0
+    if low < MOST_ROUNDS { low } else { 0 }
 }
 
 // How many of the stays waited no more rounds than this.
@@ -159,5 +158,5 @@ fn within(stays: &[ExplainedStay], rounds: u32) -> usize
     ensures same { result ≡ count_by (λ s. nat_le (waited s) rounds) stays.now }
     ensures few { result ≤ length stays.now }
 {
-    stays.iter().filter(|stay| waited(stay) <= rounds).count()
+    stays.iter().filter(|stay| stay.waited() <= rounds).count()
 }

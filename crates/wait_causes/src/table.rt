@@ -2,7 +2,7 @@
 
 ghost use Rattle.std.specs.Prelude.{◌≡◌, ◌≤◌, ◌++◌, length, IfOk};
 ghost use Rattle.cam_types.specs.declared.maxima.TheConstants.{MOST_STAYS};
-ghost use Rattle.wait_causes.specs.Tables.{number, stays_of, row_for, row_of, table_of};
+ghost use Rattle.wait_causes.specs.Tables.{number, stays_of, row_for, row_of, greatest, table_of};
 
 use crate::explained_stay::ExplainedStay;
 use crate::part::{Part, part_of};
@@ -54,10 +54,24 @@ pub(crate) fn table_of(
     ensures { IfOk result (λ rows. rows.items ≡ table_of by stays.now) }
 {
     let mut rows = Vec::new(alloc);
-    for number in 0..256 {
+    let greatest = greatest(stays, by);
+    for number in 0..greatest {
         push_row(alloc, &mut rows, stays, by, number)?;
     }
+    push_row(alloc, &mut rows, stays, by, greatest)?;
     Ok(rows)
+}
+
+// The greatest number of these stays, and 0 of none.
+#[tactic(auto, unfolding(crate::specs::Tables::greatest))]
+fn greatest(stays: &[ExplainedStay], by: Grouping) -> u32
+    ensures { result ≡ greatest by stays.now }
+{
+    let mut most = 0;
+    for stay in stays {
+        most = most.max(by.number(stay));
+    }
+    most
 }
 
 // Puts the row of this number behind the others, if it has a stay.
@@ -101,7 +115,7 @@ pub(crate) fn stays_of(
 {
     stays
         .iter()
-        .copied()
         .filter(|stay| by.number(stay) == number)
+        .copied()
         .collect(alloc)
 }

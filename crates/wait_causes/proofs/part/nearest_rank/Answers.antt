@@ -1,11 +1,16 @@
-use Rattle.wait_causes.proofs.PartLemmas.{rank_here, rank_next, rank_none}
+use Rattle.std.proofs.Common.{◌+◌, ◌-◌, ◌/◌}
+use Rattle.wait_causes.proofs.PartLemmas.{middle_lies, sought_above, sought_found, sought_none}
 use Rattle.wait_causes.proofs.part.nearest_rank.Goals as goal
 
-pub returns-then-percent-stays : goal.returns-then-percent-stays
-returns-then-percent-stays c = rank_here c.args.percent c.args.stays.now c.loop-rounds.rounds c.within.result c.loop-rounds-test.true c.if-percent-stays.true c.within.ensures.same c.loop-rounds.invariant
+pub loop-low-preserved : goal.loop-low-preserved
+loop-low-preserved c =
+    let low = c.loop-low.low in
+    let high = c.loop-low.high in
+    let lies = middle_lies low high c.loop-low-test.true in
+    sought_above c.args.percent c.args.stays.now low high (low + (high - low) / 2) c.within.result lies.0 lies.1 c.if-percent-stays.false c.within.ensures.same c.loop-low.invariant
 
-pub loop-rounds-preserved : goal.loop-rounds-preserved
-loop-rounds-preserved c = rank_next c.args.percent c.args.stays.now c.loop-rounds.rounds c.within.result c.loop-rounds-test.true c.if-percent-stays.false c.within.ensures.same c.loop-rounds.invariant
+pub returns-then-low-lt-MOST_ROUNDS : goal.returns-then-low-lt-MOST_ROUNDS
+returns-then-low-lt-MOST_ROUNDS c = sought_found c.args.percent c.args.stays.now c.loop-low.low c.loop-low.high c.loop-low-test.false c.if-low-lt-MOST_ROUNDS.true c.loop-low.invariant
 
-pub returns : goal.returns
-returns c = rank_none c.args.percent c.args.stays.now c.loop-rounds.rounds c.loop-rounds-test.false c.loop-rounds.invariant
+pub returns-else-low-lt-MOST_ROUNDS : goal.returns-else-low-lt-MOST_ROUNDS
+returns-else-low-lt-MOST_ROUNDS c = sought_none c.args.percent c.args.stays.now c.loop-low.low c.loop-low.high c.if-low-lt-MOST_ROUNDS.false c.loop-low.invariant

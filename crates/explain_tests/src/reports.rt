@@ -22,7 +22,7 @@ fn a_check_has_five_members(rt: HostRuntime) -> Result<(), Fail> {
         check_json(alloc, "frozen.csv", &frozen(alloc)?)?.as_str(),
         r#"{"trace":"frozen.csv","commands":2,"stays":2,"rounds":5,"live":4}"#
     );
-    let incomplete = history(alloc, 1, &[submit(0, 1152, 4, PLAIN)])?;
+    let incomplete = history(alloc, 1, 1, &[submit(0, 1152, 4, PLAIN)])?;
     assert_eq!(rt;
         check_json(alloc, "incomplete.csv", &incomplete)?.as_str(),
         r#"{"trace":"incomplete.csv","commands":1,"stays":1,"rounds":1,"live":null}"#
@@ -33,7 +33,7 @@ fn a_check_has_five_members(rt: HostRuntime) -> Result<(), Fail> {
 #[test]
 fn a_name_is_escaped(rt: HostRuntime) -> Result<(), Fail> {
     let alloc = rt.alloc();
-    let empty = history(alloc, 1, &[])?;
+    let empty = history(alloc, 1, 1, &[])?;
     assert_eq!(rt;
         check_json(alloc, "a \"b\" \\ \u{1}\n é", &empty)?.as_str(),
         r#"{"trace":"a \"b\" \\ \u0001\n é","commands":0,"stays":0,"rounds":1,"live":0}"#

@@ -1,0 +1,29 @@
+-- the rows of a table and the whole
+use Rattle.std.specs.Prelude.{◌≡◌, ℕ, List, sum_by}
+use Rattle.wait_causes.specs.Parts.{part_of}
+use Rattle.wait_causes.specs.Tables.{table_of}
+use Rattle.wait_causes.specs.declared.cause.Cause.TheVariants.{Error, Caller, AdapterFrozen, DeviceFull, AdapterFull, NotAsked}
+use Rattle.wait_causes.specs.declared.explained_stay.ExplainedStay.{ExplainedStay}
+use Rattle.wait_causes.specs.declared.part.Measure.{Measure}
+use Rattle.wait_causes.specs.declared.part.Measure.TheVariants.{Waited, Live, Best, Cost}
+use Rattle.wait_causes.specs.declared.part.Part.{Part}
+use Rattle.wait_causes.specs.declared.table.Grouping.{Grouping}
+use Rattle.wait_causes.specs.declared.table.Row as table
+
+-- what a part has of a measure
+abbrev pub amount : Measure → Part → ℕ
+amount Waited p = p.waited
+amount Live p = p.live
+amount Best p = p.best
+amount (Cost Error) p = p.costs.error
+amount (Cost Caller) p = p.costs.caller
+amount (Cost AdapterFrozen) p = p.costs.adapter_frozen
+amount (Cost DeviceFull) p = p.costs.device_full
+amount (Cost AdapterFull) p = p.costs.adapter_full
+amount (Cost NotAsked) p = p.costs.not_asked
+
+-- in every table the rows have all stays, and of each measure they have together what the whole has
+abbrev pub RowsAddUp : Type 0
+RowsAddUp = (by : Grouping) (stays : List ExplainedStay) →
+    (sum_by (λ (row : table.Row). row.part.stays) (table_of by stays) ≡ (part_of stays).stays)
+    × ((of : Measure) → sum_by (λ (row : table.Row). amount of row.part) (table_of by stays) ≡ amount of (part_of stays))

@@ -1,5 +1,5 @@
-//! Tests of what is read, written, planned and audited, by public calls. They stand here so that no crate is proved twice
-//! for its tests.
+//! Tests of what is read, written, planned and audited, by public calls, and of plans at the limits. They stand here so that
+//! no crate is proved twice for its tests.
 #![tactic(auto)]
 
 #[cfg(test)]
@@ -13,7 +13,11 @@ mod failing_devices;
 #[cfg(test)]
 mod fakes;
 #[cfg(test)]
+mod guesses;
+#[cfg(test)]
 mod histories;
+#[cfg(test)]
+mod made;
 #[cfg(test)]
 mod net;
 #[cfg(test)]
@@ -26,6 +30,10 @@ mod plan;
 mod report;
 #[cfg(test)]
 mod script;
+#[cfg(test)]
+mod search;
+#[cfg(test)]
+mod small;
 #[cfg(test)]
 mod texts;
 #[cfg(test)]

@@ -1,11 +1,9 @@
-//! Tells what the scripts in `data/` ask for. With the word `script` it reads one from standard input instead, and with
-//! `trace` it reads a trace from there and writes it again.
-#![tactic(auto)]
+//! What scripts ask for, and traces written again.
 
 use std::fs::File;
+use std::io;
 use std::io::Read;
-use std::rt::{Files, Runtime};
-use std::{env, io};
+use std::rt::Files;
 use text_io::Watched;
 use trace_file::{Script, read_script, read_trace, write_trace};
 
@@ -16,20 +14,8 @@ const SCRIPTS: [&str; 4] = [
     "script-freeze-released-later",
 ];
 
-fn main(rt: HostRuntime) -> io::Result<()> {
-    let words: Vec<String> = env::args(&rt)?.collect(rt.alloc())?;
-    let word = match words.get(1) {
-        Some(word) => word.as_str(),
-        None => "",
-    };
-    match word {
-        "script" => show(&rt, rt.reader()),
-        "trace" => write_again(&rt, rt.reader()),
-        _ => show_all(&rt),
-    }
-}
-
-fn show_all<R: Runtime + AllocGlobal>(rt: &R) -> io::Result<()> {
+/// Prints what each script asks for.
+pub fn show_scripts<R: Files + Print + AllocGlobal>(rt: &R) -> io::Result<()> {
     for name in SCRIPTS {
         println!(rt; "== {name}")?;
         let path = format!(in rt.alloc(); "{name}.csv")?;
@@ -38,8 +24,8 @@ fn show_all<R: Runtime + AllocGlobal>(rt: &R) -> io::Result<()> {
     Ok(())
 }
 
-// What a script asks for, or why it is none.
-fn show<R: Print + AllocGlobal>(rt: &R, script: impl Read + Drop) -> io::Result<()> {
+/// Prints what a script asks for, or why it is none.
+pub fn show<R: Print + AllocGlobal>(rt: &R, script: impl Read + Drop) -> io::Result<()> {
     match read_script(rt.alloc(), &mut Watched::new(script)) {
         Ok(script) => tell(rt, &script),
         Err(fault) => rt.println(fault),
@@ -66,8 +52,8 @@ fn tell<R: Print>(rt: &R, script: &Script) -> io::Result<()> {
     Ok(())
 }
 
-// The trace in its plain form, or why it is none or wasn't written.
-fn write_again<R: Print + AllocGlobal>(rt: &R, trace: impl Read + Drop) -> io::Result<()> {
+/// Prints a trace in its plain form, or why it is none or wasn't written.
+pub fn write_again<R: Print + AllocGlobal>(rt: &R, trace: impl Read + Drop) -> io::Result<()> {
     let history = match read_trace(rt.alloc(), &mut Watched::new(trace)) {
         Ok(history) => history,
         Err(fault) => return rt.println(fault),

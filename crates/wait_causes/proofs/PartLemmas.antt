@@ -4,7 +4,6 @@ use Rattle.std.proofs.Common.{◌≡◌, ℕ, zero, suc, ◌+◌, ◌-◌, ◌*�
 use Rattle.std.specs.Prelude.{zip, filter, find, flat_map, sum_by, count_by, nat_le, unwrap_or, is_some, IfSome, All}
 use Rattle.std.specs.List.{range_with_len}
 use Rattle.std.proofs.Math.Nat.{mul-add}
-use Rattle.std.proofs.lemmas.Bool.{le-leb}
 use Rattle.std.proofs.lemmas.Bool.Decides.{nat_tests}
 use Rattle.cam_types.specs.declared.maxima.TheConstants.{MOST_ROUNDS, MOST_STAYS}
 use Rattle.wait_causes.specs.declared.part.Part.{Part}
@@ -84,25 +83,8 @@ pub record IsSought (percent : ℕ) (xs : List ExplainedStay) (low high : ℕ) :
   pub short : (r : ℕ) → r < low → is_enough percent xs r ≡ false
   pub enough : high < MOST_ROUNDS → is_enough percent xs high ≡ true
 
-pub sought_first : (percent : ℕ) (xs : List ExplainedStay) → IsSought percent xs 0 MOST_ROUNDS
-sought_first percent xs = record {
-  order = omega arith;
-  most = omega arith;
-  short = λ r lt. absurd (omega (arith, lt));
-  enough = λ lt. absurd (omega (arith, lt));
-}
-
 pub middle_lies : (low high : ℕ) → low < high → (low ≤ low + (high - low) / 2) × (low + (high - low) / 2 < high)
 middle_lies low high lt = (omega arith, omega arith)
-
-pub sought_below : (percent : ℕ) (xs : List ExplainedStay) (low high middle few : ℕ) → low ≤ middle → middle < high → percent * length xs ≤ 100 * few → few ≡ count_by (λ s. nat_le (waited s) middle) xs →
-    IsSought percent xs low high → IsSought percent xs low middle
-sought_below percent xs low high middle few from to enough is kept = record {
-  order = from;
-  most = omega (arith, to, kept.most);
-  short = kept.short;
-  enough = λ lt. ap (λ n. nat_le (percent * length xs) (100 * n)) (sym is) ∙ le-leb (percent * length xs) (100 * few) enough;
-}
 
 pub sought_above : (percent : ℕ) (xs : List ExplainedStay) (low high middle few : ℕ) → low ≤ middle → middle < high → 100 * few < percent * length xs → few ≡ count_by (λ s. nat_le (waited s) middle) xs →
     IsSought percent xs low high → IsSought percent xs (middle + 1) high

@@ -1,8 +1,8 @@
-"""Traces for the benches: a transport of four adapters, most of them with sixteen devices and some openings unused."""
+"""Traces for the benches: a transport of eight adapters, most of them with 32 devices and some openings unused."""
 import random
 import typing
 
-ADAPTERS, DEVICES = 4, 16
+ADAPTERS, DEVICES = 8, 32
 # Sense data of a unit attention: the device was reset.
 ATTENTION = "700006000000000a000000002900"
 
@@ -25,7 +25,7 @@ class Shape(typing.NamedTuple):
     commands come, how many of its stays begin with a requeue, and how often an adapter idles and a device is frozen."""
     devices: int = DEVICES
     device_openings: int = 1
-    adapter_openings: int = 3
+    adapter_openings: int = 2
     within: float = 1 / 2
     requeued: float = 0
     idle: float = 0.1
@@ -37,8 +37,8 @@ SHAPES = {
     "tight": Shape(),
     "frozen": Shape(frozen=0.1),
     "a quarter requeued": Shape(requeued=1 / 4),
-    "at once on one device": Shape(devices=1, device_openings=9, adapter_openings=16, within=0, idle=0.03),
-    "at once on 16 devices": Shape(adapter_openings=16, within=0),
+    "at once on one device": Shape(devices=1, device_openings=9, adapter_openings=16, within=0, idle=0.01),
+    "at once on 32 devices": Shape(adapter_openings=16, within=0),
     "overloaded": Shape(within=1 / 4, idle=0),
 }
 
@@ -74,7 +74,7 @@ def trace(kind, stays, rounds, seed=1, events=0):
             queues[d].append((priority, len(rows), submitted, 0))
             submitted += 1
         for a in range(ADAPTERS):
-            fill(rows, events // rounds // 8, choose_more, stopped, coming, shape)
+            fill(rows, events // rounds // (2 * ADAPTERS), choose_more, stopped, coming, shape)
             used = [0] * shape.devices
             for _ in range(shape.adapter_openings):
                 ready = [d for d in range(a, shape.devices, ADAPTERS) if queues[d] and d not in frozen and used[d] < openings[d]]

@@ -12,7 +12,7 @@ import subprocess
 top = os.path.dirname(os.path.dirname(os.path.abspath(__file__)))
 program = os.path.join(top, "camxpt")
 
-MOST_ROUNDS = 128
+MOST_ROUNDS = 512
 EVENTS = "submit", "done", "requeue", "finish", "freeze", "release", "sfreeze", "srelease", "adjust", "tick"
 FLAGS = "none", "none", "none", "none", "qfreeze", "qfrzdis", "both"
 # What lanes answer: a good command, a timeout, a busy device, a requeue, an error that isn't tried again, and check

@@ -1,10 +1,10 @@
 -- what is written of a history with a best plan of its net
-use Rattle.std.proofs.Common.{◌≡◌, ℕ, ◌-◌, ◌<◌, ◌≤◌, Bool, true, false, List, [], ◌++◌, length, refl, sym, ap, subst, ◌∙◌, arith, append-nil, Option, Some, None}
+use Rattle.std.proofs.Common.{◌≡◌, ℕ, ◌*◌, ◌-◌, ◌<◌, ◌≤◌, Bool, true, false, List, [], ◌++◌, length, refl, sym, ap, subst, ◌∙◌, arith, append-nil, Option, Some, None}
 use Rattle.std.specs.Prelude.{is_some, slice_index, if◌then◌else◌, All}
 use Rattle.std.proofs.lemmas.List.{length-map}
 use Rattle.std.proofs.lemmas.List.Elements.{All-from_get_or}
 use Rattle.cam_types.specs.Topology.{Topology}
-use Rattle.cam_types.specs.declared.maxima.TheConstants.{MOST_BYTES}
+use Rattle.cam_types.specs.declared.maxima.TheConstants.{MOST_BYTES, MOST_STAYS, MOST_ROUNDS, MOST_WEIGHT}
 use Rattle.cam_types.specs.declared.device.Device.{Device}
 use Rattle.cam_event.specs.Stays.{unsent}
 use Rattle.cam_event.specs.Live.{live_cost}
@@ -40,14 +40,14 @@ pub devices_of_net : (c : Topology) (es : List Event) (n : NetRows) → n ≡ ne
 devices_of_net c es n e = devices_of c es ∙ ap (λ k. (instance_of_rows k).devices) (sym e)
 
 -- where each stay was sent the live schedule has a cost, that of the net
-live_known : (c : Topology) (es : List Event) → unsent es ≡ None → live_cost es ≡ Some (cost (instance_of c es) (live_of c es))
+live_known : (c : Topology) (es : List Event) → unsent es ≡ None → live_cost c es ≡ Some (cost (instance_of c es) (live_of c es))
 live_known c es e =
-    live_cost_sent es (ap (λ (o : Option StayName). is_some o) e) ∙ ap (λ n. Some n) (sym (cost-live c es))
+    live_cost_sent c es (ap (λ (o : Option StayName). is_some o) e) ∙ ap (λ n. Some n) (sym (cost-live c es))
 
-pub live_is_known : (c : Topology) (es : List Event) → unsent es ≡ None → live_cost es ≡ None → ⊥
+pub live_is_known : (c : Topology) (es : List Event) → unsent es ≡ None → live_cost c es ≡ None → ⊥
 live_is_known c es e n = let known = live_known c es e in absurd (cc)
 
-pub live_is : (c : Topology) (es : List Event) (n : NetRows) (live : ℕ) → n ≡ net_of c es → unsent es ≡ None → live_cost es ≡ Some live → live ≡ cost (instance_of_rows n) (live_of_rows n)
+pub live_is : (c : Topology) (es : List Event) (n : NetRows) (live : ℕ) → n ≡ net_of c es → unsent es ≡ None → live_cost c es ≡ Some live → live ≡ cost (instance_of_rows n) (live_of_rows n)
 live_is c es n live e sent is =
     let known = live_known c es sent in
     let there : live ≡ cost (instance_of c es) (live_of c es) = cc in
@@ -65,7 +65,7 @@ pub record IsBestClaim (summary : Bool) (past : Past) (text : List ℕ) (n : Net
   pub cells : IsPricingFor (instance_of_rows n) claim.prices
   pub priced : IsPriced claim.prices
   pub proved : ProvesBest (instance_of_rows n) (slice_index claim.schedule) (pricing_of_rows claim.prices)
-  pub small : live ≤ 2097152
+  pub small : live ≤ MOST_STAYS * (MOST_WEIGHT * MOST_ROUNDS)
   pub lived : live ≡ cost (instance_of_rows n) (live_of_rows n)
   pub best : claim.best ≡ cost (instance_of_rows n) (slice_index claim.schedule)
   pub excess : claim.excess ≡ live - claim.best
@@ -87,7 +87,7 @@ text_cases true past n live claim = append-nil (summary_text past.events live cl
 text_cases false past n live claim = refl
 
 audited : (summary : Bool) (past : Past) (text : List ℕ) (live : ℕ) (claim : Claim) → IsBestClaim summary past text (net_of past.config past.events) live claim →
-    is_legal history_rules past.config past.events ≡ true → live_cost past.events ≡ Some live → length text ≤ MOST_BYTES → IsAudit summary past text
+    is_legal history_rules past.config past.events ≡ true → live_cost past.config past.events ≡ Some live → length text ≤ MOST_BYTES → IsAudit summary past text
 audited summary past text live claim b legal is short =
     let net = instance_of past.config past.events in
     let least : (other : ℕ → ℕ) → IsAdmissible net other → cost net (slice_index claim.schedule) ≤ cost net other =
@@ -119,7 +119,7 @@ audited summary past text live claim b legal is short =
     }
 
 pub is_audit : (summary : Bool) (past : Past) (text : List ℕ) (n : NetRows) (live : ℕ) (claim : Claim) → n ≡ net_of past.config past.events →
-    IsBestClaim summary past text n live claim → is_legal history_rules past.config past.events ≡ true → live_cost past.events ≡ Some live →
+    IsBestClaim summary past text n live claim → is_legal history_rules past.config past.events ≡ true → live_cost past.config past.events ≡ Some live →
     length text ≤ MOST_BYTES → IsAudit summary past text
 is_audit summary past text n live claim e b legal is short =
     audited summary past text live claim (subst (λ k. IsBestClaim summary past text k live claim) e b) legal is short

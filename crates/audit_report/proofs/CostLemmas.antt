@@ -4,6 +4,7 @@ use Rattle.std.specs.Prelude.{sum_by}
 use Rattle.std.proofs.lemmas.List.Sums.{sum_by-cons}
 use Rattle.std.proofs.lemmas.Nat.{mul-le}
 use Rattle.cam_types.specs.Topology.{Topology}
+use Rattle.cam_types.specs.declared.maxima.TheConstants.{MOST_STAYS, MOST_ROUNDS, MOST_WEIGHT}
 use Rattle.cam_event.specs.Stays.{stays_begun}
 use Rattle.cam_event.specs.Live.{live_part}
 use Rattle.cam_event.specs.declared.event.Event.{Event}
@@ -33,19 +34,19 @@ sum_by-map : {X Y : Type 0} (f : X → Y) (g : Y → ℕ) (xs : List X) → sum_
 sum_by-map f g [] = refl
 sum_by-map f g (x ∷ xs) = sum_by-cons g (f x) (map f xs) ∙ ap (λ n. g (f x) + n) (sum_by-map f g xs) ∙ sym (sum_by-cons (λ y. g (f y)) x xs)
 
-same_parts : (es : List Event) (ps : List Stay) → sum_by (λ p. row_cost (stay_row es p)) ps ≡ sum_by (live_part es) ps
+same_parts : (c : Topology) (es : List Event) (ps : List Stay) → sum_by (λ p. row_cost (stay_row c es p)) ps ≡ sum_by (live_part c es) ps
 unfolding stay_row live_part
-same_parts es ps = refl
+same_parts c es ps = refl
 
 -- the net's live schedule costs what the history's stays waited
-pub cost-live : (c : Topology) (es : List Event) → cost (instance_of c es) (live_of c es) ≡ sum_by (live_part es) (stays_begun es)
+pub cost-live : (c : Topology) (es : List Event) → cost (instance_of c es) (live_of c es) ≡ sum_by (live_part c es) (stays_begun es)
 unfolding instance_of_rows live_of_rows net_of
-cost-live c es = rows_sum (map (stay_row es) (stays_begun es)) ∙ sum_by-map (stay_row es) row_cost (stays_begun es) ∙ same_parts es (stays_begun es)
+cost-live c es = rows_sum (map (stay_row c es) (stays_begun es)) ∙ sum_by-map (stay_row c es) row_cost (stays_begun es) ∙ same_parts c es (stays_begun es)
 
--- an admissible schedule costs at most what 1,024 stays of weight 16 would that wait for 128 rounds
-pub cost-most : (net : Instance) (live f : ℕ → ℕ) → IsSound net live → IsAdmissible net f → cost net f ≤ 2097152
+-- an admissible schedule costs at most what all stays would that there may be, at the largest weight, if they waited for all rounds
+pub cost-most : (net : Instance) (live f : ℕ → ℕ) → IsSound net live → IsAdmissible net f → cost net f ≤ MOST_STAYS * (MOST_WEIGHT * MOST_ROUNDS)
 cost-most net live f sound fits =
-    let each : sum_below net.stays (λ s. net.weight s * (f s - net.arrival s)) ≤ net.stays * 2048 =
-    sum_below-most net.stays 2048 _ (λ s lt. mul-le (net.weight s) (f s - net.arrival s) 16 128 (sound.small_weight s lt)
+    let each : sum_below net.stays (λ s. net.weight s * (f s - net.arrival s)) ≤ net.stays * (MOST_WEIGHT * MOST_ROUNDS) =
+    sum_below-most net.stays (MOST_WEIGHT * MOST_ROUNDS) _ (λ s lt. mul-le (net.weight s) (f s - net.arrival s) MOST_WEIGHT MOST_ROUNDS (sound.small_weight s lt)
     (omega (arith, fits.not_late s lt, sound.to_last s lt, sound.few_rounds))) in
     omega (arith, each, sound.few_stays)

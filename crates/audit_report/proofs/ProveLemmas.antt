@@ -1,6 +1,7 @@
 -- a report that an audit of the trace wrote is proved
 use Rattle.std.proofs.Common.{◌≡◌, ℕ, true, false, List, refl, sym, ap, subst, ◌∙◌, Option, Some, None, inl}
 use Rattle.std.specs.Prelude.{◌≢◌, is_some, Result, Ok, Err, IfSome, MatchOption, IsOkUnless, IsErrAnd, Bool}
+use Rattle.cam_types.specs.Topology.{Topology}
 use Rattle.cam_event.specs.Live.{live_cost}
 use Rattle.cam_event.specs.Stays.{unsent}
 use Rattle.cam_event.specs.declared.stay.StayName.{StayName}
@@ -44,12 +45,12 @@ trace_again P r all past history result e trace is only =
     cc
 
 -- an audited history is complete
-sent_cases : (es : List _) (o : Option StayName) (live : ℕ) → unsent es ≡ o → live_cost es ≡ Some live → o ≡ None
-sent_cases es None live e is = refl
-sent_cases es (Some s) live e is = let none : live_cost es ≡ None = live_cost_unsent es (ap (λ (p : Option StayName). is_some p) e) in absurd (cc)
+sent_cases : (c : Topology) (es : List _) (o : Option StayName) (live : ℕ) → unsent es ≡ o → live_cost c es ≡ Some live → o ≡ None
+sent_cases c es None live e is = refl
+sent_cases c es (Some s) live e is = let none : live_cost c es ≡ None = live_cost_unsent c es (ap (λ (p : Option StayName). is_some p) e) in absurd (cc)
 
 pub audited_sent : (past : Past) (text : List ℕ) → IsAudit false past text → unsent past.events ≡ None
-audited_sent past text a = sent_cases past.events (unsent past.events) a.live refl a.costs
+audited_sent past text a = sent_cases past.config past.events (unsent past.events) a.live refl a.costs
 
 unsent_refuted : (o : Option StayName) (result : Result NetRows NetFault) (stay : StayName) → o ≡ None →
     MatchOption o (IsOkUnless result net_fault.OutOfMemory) (λ s. result ≡ Err (net_fault.Unsent s)) → result ≡ Err (net_fault.Unsent stay) → ⊥

@@ -25,7 +25,7 @@ audit_text summary past net live claim =
 pub record IsAudit (summary : Bool) (past : Past) (text : List ℕ) : Type 0 where
   pub live : ℕ
   pub claim : Claim
-  pub costs : live_cost past.events ≡ Some live
+  pub costs : live_cost past.config past.events ≡ Some live
   pub free : IsTrue (list_all (stands_free past.config) (moments past.events))
   pub admissible : IsAdmissible (instance_of past.config past.events) (live_of past.config past.events)
   pub lived : live ≡ cost (instance_of past.config past.events) (live_of past.config past.events)

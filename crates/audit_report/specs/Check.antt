@@ -19,5 +19,5 @@ check_text events cost =
 -- the history is complete, and these are its five lines
 pub record IsCheck (past : Past) (text : List ℕ) : Type 0 where
   pub cost : ℕ
-  pub costs : live_cost past.events ≡ Some cost
+  pub costs : live_cost past.config past.events ≡ Some cost
   pub lines : text ≡ check_text past.events cost

@@ -1,12 +1,13 @@
 //! What the live schedule cost, what a best one costs, and the excess.
 
-ghost use Rattle.std.specs.Prelude.{◌≡◌, ◌-◌, ◌^◌, ◌≤◌, None, Some, length, slice_index};
+ghost use Rattle.std.specs.Prelude.{◌≡◌, ◌-◌, ◌*◌, ◌^◌, ◌≤◌, None, Some, length, slice_index};
 ghost use Rattle.cam_event.specs.Live.{live_cost};
 ghost use Rattle.cam_event.specs.Stays.{unsent};
 ghost use Rattle.round_net.specs.Rows.{instance_of_rows, live_of_rows};
 ghost use Rattle.round_net.specs.Nets.{net_of};
 ghost use Rattle.round_net.specs.Schedules.{IsAdmissible, cost};
 ghost use Rattle.price_check.specs.Verdicts.{IsBest};
+ghost use Rattle.cam_types.specs.declared.maxima.TheConstants.{MOST_STAYS, MOST_ROUNDS, MOST_WEIGHT};
 
 use round_net::{Net, Schedule, cost};
 use xpt_state::History;
@@ -30,11 +31,11 @@ impl Costs {
         requires stays { length schedule.now ≡ (instance_of_rows net.now).stays }
         requires admissible { IsAdmissible (instance_of_rows net.now) (slice_index schedule.now) }
         requires best { IsBest (instance_of_rows net.now) (slice_index schedule.now) }
-        ensures known { live_cost history.now.events ≡ Some result.live }
+        ensures known { live_cost history.now.config history.now.events ≡ Some result.live }
         ensures live { result.live ≡ cost (instance_of_rows net.now) (live_of_rows net.now) }
         ensures best { result.best ≡ cost (instance_of_rows net.now) (slice_index schedule.now) }
         ensures excess { result.excess ≡ result.live - result.best }
-        ensures small { result.live ≤ 2097152 }
+        ensures small { result.live ≤ MOST_STAYS * (MOST_WEIGHT * MOST_ROUNDS) }
     {
         let Some(live) = history.live_cost() else {
             unreachable!()

@@ -1,9 +1,10 @@
 //! The text of a report: its first seven lines, its stays and its prices.
 
-ghost use Rattle.std.specs.Prelude.{◌≡◌, ◌+◌, ◌-◌, ◌<◌, ◌≤◌, ◌++◌, length, slice_index, codes, OnOk, IfOk};
+ghost use Rattle.std.specs.Prelude.{◌≡◌, ◌+◌, ◌-◌, ◌*◌, ◌<◌, ◌≤◌, ◌++◌, length, slice_index, codes, OnOk, IfOk};
 ghost use Rattle.round_net.specs.Rows.{instance_of_rows};
 ghost use Rattle.round_net.specs.PriceRows.{pricing_of_rows, IsPricingFor};
 ghost use Rattle.price_check.specs.Report.{summary_text, number_text, texts_below, name_text, stay_line, path_text, price_line, dev_line, sim_line, plan_text};
+ghost use Rattle.cam_types.specs.declared.maxima.TheConstants.{MOST_STAYS, MOST_ROUNDS, MOST_DEVICES, MOST_ADAPTERS};
 
 use crate::costs::Costs;
 use crate::text::{push_line, push_name, push_number};
@@ -43,7 +44,7 @@ pub fn push_plan(
     requires prices { IsPricingFor (instance_of_rows net.now) prices.now }
     requires devices { length devices.now ≡ (instance_of_rows net.now).devices }
     ensures text { OnOk result (text.new.items ≡ text.old.items ++ plan_text devices.now net.now (slice_index schedule.now) (pricing_of_rows prices.now)) }
-    ensures short { OnOk result (length text.new.items ≤ length text.old.items + 1000000) }
+    ensures short { OnOk result (length text.new.items ≤ length text.old.items + (260 * MOST_STAYS + 156 * MOST_ROUNDS * (MOST_DEVICES + MOST_ADAPTERS) + 4)) }
 {
     push_stays(text, net, schedule)?;
     push_dev_prices(text, devices, net, prices)?;
@@ -55,7 +56,7 @@ pub fn push_plan(
 fn push_stays(text: &mut Vec<u8>, net: &Net, schedule: &Schedule) -> Result<(), AllocError>
     requires { length schedule.now ≡ (instance_of_rows net.now).stays }
     ensures text { OnOk result (text.new.items ≡ text.old.items ++ texts_below (instance_of_rows net.now).stays (stay_line net.now (slice_index schedule.now))) }
-    ensures short { OnOk result (length text.new.items ≤ length text.old.items + 270000) }
+    ensures short { OnOk result (length text.new.items ≤ length text.old.items + 260 * MOST_STAYS) }
 {
     for stay in 0..net.stays() {
         push_stay(text, net, schedule, stay)?;
@@ -95,7 +96,7 @@ fn push_dev_prices(
     requires prices { IsPricingFor (instance_of_rows net.now) prices.now }
     requires devices { length devices.now ≡ (instance_of_rows net.now).devices }
     ensures text { OnOk result (text.new.items ≡ text.old.items ++ texts_below (instance_of_rows net.now).devices (λ d. texts_below (instance_of_rows net.now).rounds (λ r. dev_line devices.now (pricing_of_rows prices.now) d (r + 1)))) }
-    ensures short { OnOk result (length text.new.items ≤ length text.old.items + 320000) }
+    ensures short { OnOk result (length text.new.items ≤ length text.old.items + 156 * MOST_ROUNDS * MOST_DEVICES) }
 {
     for device in 0..net.devices() {
         push_dev_rounds(text, devices, net, prices, device)?;
@@ -115,7 +116,7 @@ fn push_dev_rounds(
     requires devices { length devices.now ≡ (instance_of_rows net.now).devices }
     requires device { device < (instance_of_rows net.now).devices }
     ensures text { OnOk result (text.new.items ≡ text.old.items ++ texts_below (instance_of_rows net.now).rounds (λ r. dev_line devices.now (pricing_of_rows prices.now) device (r + 1))) }
-    ensures short { OnOk result (length text.new.items ≤ length text.old.items + 20000) }
+    ensures short { OnOk result (length text.new.items ≤ length text.old.items + 156 * MOST_ROUNDS) }
 {
     for round in 0..net.rounds() {
         push_dev_price(text, devices, prices, device, round + 1)?;
@@ -163,7 +164,7 @@ fn push_path(text: &mut Vec<u8>, devices: &[Device], device: u32) -> Result<(), 
 fn push_sim_prices(text: &mut Vec<u8>, net: &Net, prices: &Prices) -> Result<(), AllocError>
     requires { IsPricingFor (instance_of_rows net.now) prices.now }
     ensures text { OnOk result (text.new.items ≡ text.old.items ++ texts_below (instance_of_rows net.now).adapters (λ a. texts_below (instance_of_rows net.now).rounds (λ r. sim_line (pricing_of_rows prices.now) a (r + 1)))) }
-    ensures short { OnOk result (length text.new.items ≤ length text.old.items + 80000) }
+    ensures short { OnOk result (length text.new.items ≤ length text.old.items + 156 * MOST_ROUNDS * MOST_ADAPTERS) }
 {
     for adapter in 0..net.adapters() {
         push_sim_rounds(text, net, prices, adapter)?;
@@ -181,7 +182,7 @@ fn push_sim_rounds(
     requires prices { IsPricingFor (instance_of_rows net.now) prices.now }
     requires adapter { adapter < (instance_of_rows net.now).adapters }
     ensures text { OnOk result (text.new.items ≡ text.old.items ++ texts_below (instance_of_rows net.now).rounds (λ r. sim_line (pricing_of_rows prices.now) adapter (r + 1))) }
-    ensures short { OnOk result (length text.new.items ≤ length text.old.items + 20000) }
+    ensures short { OnOk result (length text.new.items ≤ length text.old.items + 156 * MOST_ROUNDS) }
 {
     for round in 0..net.rounds() {
         push_sim_price(text, prices, adapter, round + 1)?;

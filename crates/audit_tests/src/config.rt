@@ -12,6 +12,9 @@ fn a_configuration_gives_back_its_items(rt: HostRuntime) -> Result<(), Fail> {
     assert_eq!(rt; copy.adapters(), [4, 8].as_slice());
     assert_eq!(rt; copy.devices(), devices.as_slice());
     assert_eq!(rt; copy.lanes(), [0, 1, 1].as_slice());
+    for (priority, weight) in [(0, 16), (256, 8), (512, 4), (768, 2), (1024, 1), (1279, 1)] {
+        assert_eq!(rt; config.weight(priority), weight);
+    }
     Ok(())
 }
 
@@ -20,7 +23,7 @@ fn the_first_rule_that_is_broken_is_named(rt: HostRuntime) {
     let twice = [device(0, 1, 2), device(0, 1, 2)];
     let cases: [(&[u32], &[Device], &[u32], ConfigFault); 5] = [
         (&[], &[], &[], ConfigFault::NoAdapters),
-        (&[1, 1, 1, 1, 1], &[], &[], ConfigFault::TooMany),
+        (&[1; 9], &[], &[], ConfigFault::TooMany),
         (&[256], &twice, &[], ConfigFault::BadOpenings),
         (&[1], &twice, &[1], ConfigFault::DoubleDevice),
         (&[1], &[], &[1], ConfigFault::NoAdapter),
@@ -45,13 +48,10 @@ fn limits_and_priorities_within_their_ranges(rt: HostRuntime) -> Result<(), Fail
         ),
         (1, 128, 2, 65535)
     );
-    assert!(rt; Limits::new(1, 129, 2, 3).is_err());
-    assert_eq!(rt; Limits::most().stays(), 1024);
+    assert!(rt; Limits::new(1, 513, 2, 3).is_err());
+    assert_eq!(rt; Limits::most().stays(), 4096);
     let urgent = Priority::new(128)?;
-    assert_eq!(rt;
-        (urgent.number(), urgent.run_level(), urgent.weight()),
-        (128, 0, 16)
-    );
+    assert_eq!(rt; (urgent.number(), urgent.run_level()), (128, 0));
     assert!(rt; Priority::new(1280).is_err());
     Ok(())
 }

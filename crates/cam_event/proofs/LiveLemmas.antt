@@ -3,6 +3,7 @@ use Rattle.std.proofs.Common.{◌≡◌, Bool, true, false, cond, List, [], ◌�
 use Rattle.std.specs.Prelude.{find, sum_by, is_some, ◌||◌}
 use Rattle.std.specs.List.{list_any}
 use Rattle.std.specs.Option.{option_map}
+use Rattle.cam_types.specs.Topology.{Topology}
 use Rattle.cam_event.specs.Stays.{stays_begun, is_unsent, name_of, unsent}
 use Rattle.cam_event.specs.Live.{live_part, live_cost}
 use Rattle.cam_event.specs.declared.event.Event.{Event}
@@ -19,10 +20,10 @@ pub any_unsent : (es : List Event) → list_any (is_unsent es) (stays_begun es) 
 unfolding unsent
 any_unsent es = sym (is_some-find name_of (is_unsent es) (stays_begun es))
 
-pub live_cost_unsent : (es : List Event) → is_some (unsent es) ≡ true → live_cost es ≡ None
+pub live_cost_unsent : (c : Topology) (es : List Event) → is_some (unsent es) ≡ true → live_cost c es ≡ None
 unfolding live_cost
-live_cost_unsent es e = rw (any_unsent es, e) refl
+live_cost_unsent c es e = rw (any_unsent es, e) refl
 
-pub live_cost_sent : (es : List Event) → is_some (unsent es) ≡ false → live_cost es ≡ Some (sum_by (live_part es) (stays_begun es))
+pub live_cost_sent : (c : Topology) (es : List Event) → is_some (unsent es) ≡ false → live_cost c es ≡ Some (sum_by (live_part c es) (stays_begun es))
 unfolding live_cost
-live_cost_sent es e = rw (any_unsent es, e) refl
+live_cost_sent c es e = rw (any_unsent es, e) refl

@@ -1,7 +1,8 @@
 -- the live schedule, where each stay was sent, and what it cost
 use Rattle.std.specs.Prelude.{ℕ, ◌+◌, ◌-◌, ◌*◌, if◌then◌else◌, List, take, drop, Option, Some, None, sum_by}
 use Rattle.std.specs.List.{list_any, position_or_len}
-use Rattle.cam_types.specs.Priority.{weight}
+use Rattle.cam_types.specs.Topology.{Topology}
+use Rattle.cam_types.specs.Questions.{weight}
 use Rattle.cam_event.specs.Event.{is_send_of}
 use Rattle.cam_event.specs.Counts.{round}
 use Rattle.cam_event.specs.Stays.{stays_begun, is_unsent}
@@ -16,11 +17,11 @@ send_place events p = p.place + 1 + position_or_len (is_send_of p.ccb) (drop (p.
 abbrev pub live_round : List Event → Stay → ℕ
 live_round events p = round (take (send_place events p) events)
 
--- what its waiting cost
-unfoldable pub live_part : List Event → Stay → ℕ
-live_part events p = weight p.priority * (live_round events p - p.arrival)
+-- what its waiting cost in this configuration
+unfoldable pub live_part : Topology → List Event → Stay → ℕ
+live_part c events p = weight c p.priority * (live_round events p - p.arrival)
 
 -- the cost of the live schedule, where each stay was sent
-unfoldable pub live_cost : List Event → Option ℕ
-live_cost events =
-    if list_any (is_unsent events) (stays_begun events) then None else Some (sum_by (live_part events) (stays_begun events))
+unfoldable pub live_cost : Topology → List Event → Option ℕ
+live_cost c events =
+    if list_any (is_unsent events) (stays_begun events) then None else Some (sum_by (live_part c events) (stays_begun events))

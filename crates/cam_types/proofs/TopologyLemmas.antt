@@ -22,7 +22,7 @@ draft_device a ds ds' ls x d none e = rw e (record { adapters = d.adapters; devi
 pub draft_lane : (a : List ℕ) (ds : List Device) (ls ls' : List ℕ) (x : ℕ) → IsDraft (record { adapters = a; devices = ds; lanes = ls }) → lane_fault (length a) (ls, x) ≡ None → ls' ≡ ls ++ x ∷ [] → IsDraft (record { adapters = a; devices = ds; lanes = ls' })
 draft_lane a ds ls ls' x d none e = rw e (record { adapters = d.adapters; devices = d.devices; lanes = first_answer-push (lane_fault (length a)) ls x d.lanes none })
 
--- a device behind 16 others is one too many
+-- a device behind the most is one too many
 not_first : {F : Type 0} → (b : Bool) (x : F) (o : Option F) → cond b (Some x) o ≡ None → (b ≡ false) × (o ≡ None)
 not_first true x o e = absurd (cc)
 not_first false x o e = (refl, e)
@@ -34,7 +34,7 @@ device_room : (adapters : ℕ) (before : List Device) (x : Device) → device_fa
 unfolding device_fault
 device_room adapters before x none = below_most (length before) (not_first (nat_le MOST_DEVICES (length before)) TooMany _ none).0
 
--- a configuration has at most 16 devices
+-- a configuration has few devices
 pub few_devices : (t : Topology) → IsConfig t → length t.devices ≤ MOST_DEVICES
 unfolding item_fault
 few_devices t is =

@@ -12,7 +12,3 @@ level_weight level =
     else if level == 2 then 4
     else if level == 3 then 2
     else 1
-
--- what a round of waiting costs at a priority
-abbrev pub weight : ℕ → ℕ
-weight priority = level_weight (run_level priority)

@@ -2,6 +2,7 @@
 use Rattle.std.specs.Prelude.{ℕ, ◌==◌, Bool, false, nat_lt, List, length, slice_get}
 use Rattle.std.specs.List.{range_with_len}
 use Rattle.std.specs.Option.{option_map_or}
+use Rattle.cam_types.specs.Priority.{run_level, level_weight}
 use Rattle.cam_types.specs.Topology.{Topology}
 use Rattle.cam_types.specs.declared.device.Device.{Device}
 
@@ -37,3 +38,7 @@ adapter_openings c a = option_map_or (λ n. n) (slice_get c.adapters a) 0
 -- the numbers of the devices
 abbrev pub devices : Topology → List ℕ
 devices c = range_with_len 0 (length c.devices)
+
+-- what a round of waiting costs at a priority
+abbrev pub weight : Topology → ℕ → ℕ
+weight c priority = level_weight (run_level priority)

@@ -8,7 +8,7 @@ pub enum ConfigFault {
     /// There is no adapter.
     #[error("NoAdapters")]
     NoAdapters,
-    /// There are 4 adapters, 16 devices or 4 lanes of the adapter before it.
+    /// There are 8 adapters, 32 devices or 4 lanes of the adapter before it.
     #[error("TooMany")]
     TooMany,
     /// The openings are 0 or more than 255.

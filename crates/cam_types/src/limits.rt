@@ -37,7 +37,7 @@ impl Limits {
     ghost use Rattle.std.specs.Prelude.{◌≡◌, ◌↔◌, ℕ, ◌≤◌, IsOk, IfOk, IsTrue};
     ghost use Rattle.cam_types.specs.Bounds.{Bounds, IsWithin, most_bounds, are_within};
 
-    /// Limits of 1 to 1,024 CCBs alive at once, 1 to 128 rounds, 1 to 1,024 stays and 1 to 65,535 events.
+    /// Limits of 1 to 1,024 CCBs alive at once, 1 to 512 rounds, 1 to 4,096 stays and 1 to 65,535 events.
     pub fn new(ccbs: u32, rounds: u32, stays: u32, events: u32) -> Result<Limits, BadLimit>
         ensures within { IsOk result ↔ IsTrue (are_within (record { ccbs = ccbs; rounds = rounds; stays = stays; events = events })) }
         ensures value { IfOk result (λ l. l ≡ record { ccbs = ccbs; rounds = rounds; stays = stays; events = events }) }

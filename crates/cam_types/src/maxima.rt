@@ -6,15 +6,15 @@ ghost use Rattle.cam_types.specs.declared.maxima.TheConstants.{MOST_CCBS, MOST_R
 /// The most CCBs that may be alive at once.
 pub const MOST_CCBS: u32 = 1024;
 /// The most rounds of a history.
-pub const MOST_ROUNDS: u32 = 128;
+pub const MOST_ROUNDS: u32 = 512;
 /// The most stays of a history.
-pub const MOST_STAYS: u32 = 1024;
+pub const MOST_STAYS: u32 = 4096;
 /// The most events of a history.
 pub const MOST_EVENTS: u32 = 65535;
 /// The most adapters of a configuration.
-pub const MOST_ADAPTERS: usize = 4;
+pub const MOST_ADAPTERS: usize = 8;
 /// The most devices of a configuration.
-pub const MOST_DEVICES: usize = 16;
+pub const MOST_DEVICES: usize = 32;
 /// The most lanes of an adapter.
 pub const MOST_LANES: usize = 4;
 /// The most openings of an adapter or a device.
@@ -36,8 +36,8 @@ pub const MOST_BYTES: usize = 16_777_216;
 
 /// Each of them is this number.
 pub fn maxima_are_these()
-    ensures history { (MOST_CCBS ≡ 1024) × (MOST_ROUNDS ≡ 128) × (MOST_STAYS ≡ 1024) × (MOST_EVENTS ≡ 65535) }
-    ensures configuration { (MOST_ADAPTERS ≡ 4) × (MOST_DEVICES ≡ 16) × (MOST_LANES ≡ 4) × (MOST_OPENINGS ≡ 255) × (MOST_LUN ≡ 16383) }
+    ensures history { (MOST_CCBS ≡ 1024) × (MOST_ROUNDS ≡ 512) × (MOST_STAYS ≡ 4096) × (MOST_EVENTS ≡ 65535) }
+    ensures configuration { (MOST_ADAPTERS ≡ 8) × (MOST_DEVICES ≡ 32) × (MOST_LANES ≡ 4) × (MOST_OPENINGS ≡ 255) × (MOST_LUN ≡ 16383) }
     ensures commands { (MOST_PRIORITY ≡ 1279) × (MOST_WEIGHT ≡ 16) × (MOST_RETRIES ≡ 7) × (MOST_FREEZES ≡ 65535) × (MOST_SENSE ≡ 18) }
     ensures text { MOST_BYTES ≡ 16777216 }
 {}

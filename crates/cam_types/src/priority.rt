@@ -1,10 +1,10 @@
-//! Priorities, their run levels and their weights.
+//! Priorities and their run levels.
 
 ghost use Rattle.std.specs.Prelude.{◌≡◌, ℕ, ◌<◌, ◌≤◌, MatchResult};
-ghost use Rattle.cam_types.specs.Priority.{run_level, weight};
-ghost use Rattle.cam_types.specs.declared.maxima.TheConstants.{MOST_PRIORITY, MOST_WEIGHT};
+ghost use Rattle.cam_types.specs.Priority.{run_level};
+ghost use Rattle.cam_types.specs.declared.maxima.TheConstants.{MOST_PRIORITY};
 
-use crate::maxima::{MOST_PRIORITY, MOST_WEIGHT};
+use crate::maxima::MOST_PRIORITY;
 use std::marker::Model;
 use thiserror::Error;
 
@@ -54,27 +54,5 @@ impl Priority {
         ensures { result ≡ run_level self }
     {
         self.number >> 8
-    }
-
-    /// What a round of waiting costs at its run level: 16, 8, 4, 2 or 1. The weights are a rule of this project.
-    pub fn weight(self) -> u32
-        ensures { result ≡ weight self }
-    {
-        weight_of(self.number)
-    }
-}
-
-/// What a round of waiting costs at the priority of this number, where a number above 1279 weighs as much as the least
-/// urgent priority.
-pub fn weight_of(priority: u32) -> u32
-    ensures same { result ≡ weight priority }
-    ensures most { result ≤ MOST_WEIGHT }
-{
-    match priority >> 8 {
-        0 => MOST_WEIGHT,
-        1 => 8,
-        2 => 4,
-        3 => 2,
-        _ => 1,
     }
 }

@@ -2,6 +2,9 @@
 use Rattle.std.proofs.Common.{◌≡◌, ℕ, ◌+◌, ◌*◌, ◌<◌, ◌≤◌, ap, ◌∙◌, inl, inr, arith}
 use Rattle.std.proofs.lemmas.Bool.{cases_lt}
 use Rattle.std.proofs.lemmas.Nat.{mul-add-lt, mul-le}
+use Rattle.cam_types.specs.declared.maxima.TheConstants.{MOST_ADAPTERS, MOST_DEVICES, MOST_ROUNDS, MOST_WEIGHT}
+use Rattle.gaining_cycle.specs.declared.labels.TheConstants.{MOST_NODES}
+use Rattle.gaining_cycle.specs.declared.arc.TheConstants.{MOST_UP}
 use Rattle.round_net.specs.Instance.{Instance, adapter}
 use Rattle.round_net.specs.Sound.{IsSound}
 use Rattle.cost_plan.specs.Cells.{rows, cell, above, node_count}
@@ -28,15 +31,15 @@ above-lt-node_count net live row r sound inside last = elim (cases_lt row net.de
 ]
 
 -- there are few nodes
-pub node_count-le : (net : Instance) (live : ℕ → ℕ) → IsSound net live → node_count net ≤ 4096
+pub node_count-le : (net : Instance) (live : ℕ → ℕ) → IsSound net live → node_count net ≤ MOST_NODES
 node_count-le net live sound =
-    let product : rows net * (net.rounds + 1) ≤ 20 * 129 = mul-le (rows net) (net.rounds + 1) 20 129 (omega (arith, sound.few_devices, sound.few_adapters)) (omega (arith, sound.few_rounds)) in
+    let product : rows net * (net.rounds + 1) ≤ (MOST_DEVICES + MOST_ADAPTERS) * (MOST_ROUNDS + 1) = mul-le (rows net) (net.rounds + 1) (MOST_DEVICES + MOST_ADAPTERS) (MOST_ROUNDS + 1) (omega (arith, sound.few_devices, sound.few_adapters)) (omega (arith, sound.few_rounds)) in
     omega arith
 
 -- what a stay gains by leaving a round is little
-pub up-le : (net : Instance) (live : ℕ → ℕ) (stay round : ℕ) → IsSound net live → stay < net.stays → round ≤ net.rounds → net.weight stay * round ≤ 4096
+pub up-le : (net : Instance) (live : ℕ → ℕ) (stay round : ℕ) → IsSound net live → stay < net.stays → round ≤ net.rounds → net.weight stay * round ≤ MOST_UP
 up-le net live stay round sound within last =
-    let product : net.weight stay * round ≤ 16 * 128 = mul-le (net.weight stay) round 16 128 (sound.small_weight stay within) (omega (arith, sound.few_rounds)) in
+    let product : net.weight stay * round ≤ MOST_WEIGHT * MOST_ROUNDS = mul-le (net.weight stay) round MOST_WEIGHT MOST_ROUNDS (sound.small_weight stay within) (omega (arith, sound.few_rounds)) in
     omega arith
 
 -- the two cells of a stay lie within the rows

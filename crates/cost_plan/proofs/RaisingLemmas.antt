@@ -3,6 +3,8 @@ use Rattle.std.proofs.Common.{◌≡◌, ℕ, ◌+◌, ◌*◌, ◌<◌, ◌≤�
 use Rattle.std.specs.Option.{option_or}
 use Rattle.std.proofs.lemmas.Bool.{cases_eq, cases_lt, leb-true, leb-false, cond-true, cond-false}
 use Rattle.std.proofs.lemmas.List.{length-set, get_or-set_same, get_or-set_other, set_past}
+use Rattle.gaining_cycle.specs.declared.labels.TheConstants.{MOST_NODES}
+use Rattle.gaining_cycle.specs.declared.arc.TheConstants.{MOST_UP}
 use Rattle.gaining_cycle.specs.declared.arc.Arc.{Arc}
 use Rattle.gaining_cycle.specs.Walks.{came_by}
 use Rattle.gaining_cycle.specs.Labelling.{Labelling, highest, settles, needed, relaxed, raised, IsSettled}
@@ -103,7 +105,7 @@ Raises-up net f l arc heads unsettled residual =
       ];
     }
 
-Raises-past : (net : Instance) (f : ℕ → ℕ) (l : Labelling) (arc : Arc) → arc.tail < length l.labels → arc.up ≤ 4096 → length l.labels ≤ 1048576 → nat_le (needed l arc) highest ≡ false → Raises net f l l (Some arc.tail)
+Raises-past : (net : Instance) (f : ℕ → ℕ) (l : Labelling) (arc : Arc) → arc.tail < length l.labels → arc.up ≤ MOST_UP → length l.labels ≤ MOST_NODES → nat_le (needed l arc) highest ≡ false → Raises net f l l (Some arc.tail)
 Raises-past net f l arc tails steep few past =
     let over = leb-false _ _ past in
     record {
@@ -115,7 +117,7 @@ Raises-past net f l arc tails steep few past =
       came = λ node by came. inl came;
     }
 
-pub Raises-relaxed : (net : Instance) (f : ℕ → ℕ) (l : Labelling) (arc : Arc) → arc.tail < length l.labels → arc.head < length l.labels → arc.up ≤ 4096 → length l.labels ≤ 1048576 → IsResidual net f arc → Raises net f l (relaxed l arc) (raised l arc)
+pub Raises-relaxed : (net : Instance) (f : ℕ → ℕ) (l : Labelling) (arc : Arc) → arc.tail < length l.labels → arc.head < length l.labels → arc.up ≤ MOST_UP → length l.labels ≤ MOST_NODES → IsResidual net f arc → Raises net f l (relaxed l arc) (raised l arc)
 Raises-relaxed net f l arc tails heads steep few residual =
     let P : Labelling → Option ℕ → Type 0 = λ m o. Raises net f l m o in
     let go = elim (settles l arc) as (λ b. settles l arc ≡ b → Raises net f l (relaxed l arc) (raised l arc)) [
@@ -133,7 +135,7 @@ Raises-relaxed net f l arc tails heads steep few residual =
     go refl
 
 -- the same of what `relax` answers
-pub Raises-by : (net : Instance) (f : ℕ → ℕ) (l new : Labelling) (found : Option ℕ) (arc : Arc) (n : ℕ) → new ≡ relaxed l arc → found ≡ raised l arc → length l.labels ≡ n → n ≤ 4096 → arc.tail < n → arc.head < n → arc.up ≤ 4096 → IsResidual net f arc → Raises net f l new found
+pub Raises-by : (net : Instance) (f : ℕ → ℕ) (l new : Labelling) (found : Option ℕ) (arc : Arc) (n : ℕ) → new ≡ relaxed l arc → found ≡ raised l arc → length l.labels ≡ n → n ≤ MOST_NODES → arc.tail < n → arc.head < n → arc.up ≤ MOST_UP → IsResidual net f arc → Raises net f l new found
 Raises-by net f l new found arc n is node size few tails heads steep residual =
     subst (λ (m : Labelling). Raises net f l m found) (sym is)
     (subst (λ (o : Option ℕ). Raises net f l (relaxed l arc) o) (sym node)

@@ -2,6 +2,7 @@
 use Rattle.std.proofs.Common.{◌≡◌, ℕ, zero, suc, ◌+◌, ◌-◌, ◌*◌, ◌<◌, ◌≤◌, List, [], ◌∷◌, length, get_or, replicate, Option, Some, None, sym, ap, ◌∙◌, inl, inr, arith}
 use Rattle.std.specs.List.{All, sum_by}
 use Rattle.std.proofs.lemmas.List.Sums.{sum_by-cons}
+use Rattle.gaining_cycle.specs.declared.arc.TheConstants.{MOST_UP}
 use Rattle.gaining_cycle.specs.declared.arc.Arc.{Arc}
 use Rattle.gaining_cycle.specs.Walks.{came_by, AllCameBy}
 use Rattle.gaining_cycle.specs.Labelling.{Labelling, label_of, limit}
@@ -43,7 +44,7 @@ room-lt most (x ∷ old) (y ∷ new) (suc node) size rises inside up low =
 -- a node that rose and is within the limit leaves less room
 pub room-falls : (net : Instance) (f : ℕ → ℕ) (old new : Labelling) (found : Option ℕ) (node : ℕ) → Raises net f old new found → found ≡ Some node → label_of new node ≤ limit new → room new < room old
 room-falls net f old new found node r is low =
-    let same : limit new ≡ limit old = ap (λ (n : ℕ). 500000000000 + 4096 * n) r.size in
+    let same : limit new ≡ limit old = ap (λ (n : ℕ). 500000000000 + MOST_UP * n) r.size in
     let below : label_of new node ≤ limit old = omega arith in
     let rooms : room new ≡ room_below (limit old) new.labels = ap (λ (m : ℕ). room_below m new.labels) same in
     elim (r.rose node is) [

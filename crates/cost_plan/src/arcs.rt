@@ -6,6 +6,8 @@ ghost use Rattle.round_net.specs.Sound.{IsSound};
 ghost use Rattle.cost_plan.specs.Cells.{rows, row_load, node_count};
 ghost use Rattle.cost_plan.specs.Draft.{IsDraftOf, schedule_of};
 ghost use Rattle.cost_plan.specs.Residual.{move_arc, take_arc, give_arc};
+ghost use Rattle.gaining_cycle.specs.declared.arc.TheConstants.{MOST_UP};
+ghost use Rattle.gaining_cycle.specs.declared.labels.TheConstants.{MOST_NODES};
 
 use crate::cells::{node, node_above};
 use crate::draft::Draft;
@@ -30,7 +32,7 @@ pub fn taking(net: &Net, row: u32, round: u32) -> Arc
     ensures tail { result.tail < node_count (instance_of_rows net.now) }
     ensures head { result.head < node_count (instance_of_rows net.now) }
     ensures up { result.up ≡ 0 }
-    ensures few { node_count (instance_of_rows net.now) ≤ 4096 }
+    ensures few { node_count (instance_of_rows net.now) ≤ MOST_NODES }
 {
     Arc {
         tail: node(net, row, round),
@@ -49,7 +51,7 @@ pub fn giving(net: &Net, row: u32, round: u32) -> Arc
     ensures tail { result.tail < node_count (instance_of_rows net.now) }
     ensures head { result.head < node_count (instance_of_rows net.now) }
     ensures up { result.up ≡ 0 }
-    ensures few { node_count (instance_of_rows net.now) ≤ 4096 }
+    ensures few { node_count (instance_of_rows net.now) ≤ MOST_NODES }
 {
     let arc = taking(net, row, round);
     Arc {
@@ -69,7 +71,7 @@ pub fn moving(net: &Net, draft: &Draft, stay: u32, round: u32) -> Arc
     ensures same { result ≡ move_arc (instance_of_rows net.now) (schedule_of draft.now) stay round }
     ensures tail { result.tail < node_count (instance_of_rows net.now) }
     ensures head { result.head < node_count (instance_of_rows net.now) }
-    ensures up { result.up ≤ 4096 }
+    ensures up { result.up ≤ MOST_UP }
     ensures sound { IsSound (instance_of_rows net.now) (live_of_rows net.now) }
 {
     let device = net.device(stay);

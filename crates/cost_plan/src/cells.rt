@@ -5,6 +5,7 @@ ghost use Rattle.std.specs.Prelude.{◌≡◌, ◌+◌, ◌<◌, ◌≤◌};
 ghost use Rattle.round_net.specs.Rows.{instance_of_rows, live_of_rows};
 ghost use Rattle.round_net.specs.Sound.{IsSound};
 ghost use Rattle.cost_plan.specs.Cells.{rows, cell, above, row_cap, node_count};
+ghost use Rattle.gaining_cycle.specs.declared.labels.TheConstants.{MOST_NODES};
 
 use round_net::Net;
 
@@ -13,7 +14,7 @@ pub fn node(net: &Net, row: u32, round: u32) -> u32
     requires row { row ≤ rows (instance_of_rows net.now) }
     requires round { round ≤ (instance_of_rows net.now).rounds }
     ensures same { result ≡ cell (instance_of_rows net.now) row round }
-    ensures small { result ≤ 4096 }
+    ensures small { result ≤ MOST_NODES }
     ensures sound { IsSound (instance_of_rows net.now) (live_of_rows net.now) }
 {
     row * (net.rounds() + 1) + round
@@ -50,7 +51,7 @@ pub fn cap(net: &Net, row: u32, round: u32) -> u32
 /// How many nodes there are: the cells and the root.
 pub fn nodes(net: &Net) -> u32
     ensures same { result ≡ node_count (instance_of_rows net.now) }
-    ensures small { result ≤ 4096 }
+    ensures small { result ≤ MOST_NODES }
     ensures sound { IsSound (instance_of_rows net.now) (live_of_rows net.now) }
 {
     (net.devices() + net.adapters()) * (net.rounds() + 1) + 1

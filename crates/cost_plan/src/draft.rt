@@ -10,6 +10,7 @@ ghost use Rattle.round_net.specs.Sound.{IsSound};
 ghost use Rattle.cost_plan.specs.Cells.{rows, cell, stands, rounds_of};
 ghost use Rattle.cost_plan.specs.Draft.{AreLoads, IsDraftOf, schedule_of};
 ghost use Rattle.cost_plan.specs.Residual.{changed, changed_all, MarksWithin};
+ghost use Rattle.cam_types.specs.declared.maxima.TheConstants.{MOST_STAYS};
 
 use crate::cells::node;
 use crate::keeping::{keep_caps, keep_windows};
@@ -85,7 +86,7 @@ fn add(net: &Net, loads: &mut Vec<u32>, stay: u32, round: u32)
     requires stay { stay < (instance_of_rows net.now).stays }
     requires round { round ≤ (instance_of_rows net.now).rounds }
     requires size { length loads.old.items ≡ rows (instance_of_rows net.now) * ((instance_of_rows net.now).rounds + 1) }
-    requires room { (row r : ℕ) → row < rows (instance_of_rows net.now) → r ≤ (instance_of_rows net.now).rounds → slice_index loads.old.items (cell (instance_of_rows net.now) row r) ≤ 1024 }
+    requires room { (row r : ℕ) → row < rows (instance_of_rows net.now) → r ≤ (instance_of_rows net.now).rounds → slice_index loads.old.items (cell (instance_of_rows net.now) row r) ≤ MOST_STAYS }
     ensures size { length loads.new.items ≡ length loads.old.items }
     ensures counts { (row r : ℕ) → row < rows (instance_of_rows net.now) → r ≤ (instance_of_rows net.now).rounds →
         slice_index loads.new.items (cell (instance_of_rows net.now) row r) ≡ slice_index loads.old.items (cell (instance_of_rows net.now) row r) + stands (instance_of_rows net.now) row r stay round }
@@ -105,7 +106,7 @@ fn remove(net: &Net, loads: &mut Vec<u32>, stay: u32, round: u32)
     ensures size { length loads.new.items ≡ length loads.old.items }
     ensures counts { (row r : ℕ) → row < rows (instance_of_rows net.now) → r ≤ (instance_of_rows net.now).rounds →
         slice_index loads.old.items (cell (instance_of_rows net.now) row r) ≡ slice_index loads.new.items (cell (instance_of_rows net.now) row r) + stands (instance_of_rows net.now) row r stay round }
-    ensures few { (instance_of_rows net.now).stays ≤ 1024 }
+    ensures few { (instance_of_rows net.now).stays ≤ MOST_STAYS }
 {
     let device = node(net, net.device(stay), round);
     let adapter = node(net, net.devices() + net.adapter(stay), round);

@@ -4,6 +4,7 @@ use Rattle.std.specs.Option.{IfSome, IfNone}
 use Rattle.std.specs.List.{All, sum_by}
 use Rattle.std.proofs.lemmas.List.Sums.{sum_by-cons}
 use Rattle.std.proofs.lemmas.List.Elements.{All-head, All-tail}
+use Rattle.gaining_cycle.specs.declared.arc.TheConstants.{MOST_UP}
 use Rattle.gaining_cycle.specs.declared.arc.Arc.{Arc}
 use Rattle.gaining_cycle.specs.Walks.{LeadsBack, AllCameBy, IsLoop, IsGainingCycle, EndsAtRoot}
 use Rattle.gaining_cycle.specs.Labelling.{IsRisenBy, IsForest, highest_root}
@@ -57,7 +58,7 @@ IsGainingCycle-from_loop labels preds arcs f loop = record {
 }
 
 -- each arc of a walk back lowers the label by no more than it gains
-climb : (labels : List ℕ) (rank : ℕ → ℕ) (from : ℕ) (arcs : List Arc) (to : ℕ) → LeadsBack from arcs to → All (λ arc. IsRisenBy labels rank arc.head arc) arcs → get_or labels from 0 ≤ get_or labels to 0 + 4096 * length arcs
+climb : (labels : List ℕ) (rank : ℕ → ℕ) (from : ℕ) (arcs : List Arc) (to : ℕ) → LeadsBack from arcs to → All (λ arc. IsRisenBy labels rank arc.head arc) arcs → get_or labels from 0 ≤ get_or labels to 0 + MOST_UP * length arcs
 climb labels rank from [] to leads risen = let e = ap (λ (v : ℕ). get_or labels v 0) leads in omega arith
 climb labels rank from (arc ∷ arcs) to leads risen =
     let P : Arc → Type 0 = λ a. IsRisenBy labels rank a.head a in
@@ -67,7 +68,7 @@ climb labels rank from (arc ∷ arcs) to leads risen =
     omega (arith, first.slack, first.steep, rest, e)
 
 -- a walk that ends
-pub label-le-limit : (labels : List ℕ) (preds : List (Option Arc)) (start : ℕ) (arcs : List Arc) → IsForest labels preds → EndsAtRoot preds start arcs → get_or labels start 0 ≤ highest_root + 4096 * length labels
+pub label-le-limit : (labels : List ℕ) (preds : List (Option Arc)) (start : ℕ) (arcs : List Arc) → IsForest labels preds → EndsAtRoot preds start arcs → get_or labels start 0 ≤ highest_root + MOST_UP * length labels
 label-le-limit labels preds start arcs f ends =
     let up = climb labels f.rank start arcs ends.root ends.leads (risen_all labels preds arcs f ends.came) in
     omega (arith, up, f.roots ends.root ends.risen, ends.short, f.lengths)
@@ -83,7 +84,7 @@ came-from_found preds (Ok (Some k)) path found = found.came
 came-from_found preds (Ok None) path found = found
 came-from_found preds (Err e) path found = found
 
-pub ends-from_found : (labels : List ℕ) (preds : List (Option Arc)) (start : ℕ) {E : Type 0} (r : Result (Option ℕ) E) (path : List Arc) → IsForest labels preds → IfOk r (λ found. IfNone found (EndsAtRoot preds start path)) → IfOk r (λ found. IfNone found (get_or labels start 0 ≤ highest_root + 4096 * length labels))
+pub ends-from_found : (labels : List ℕ) (preds : List (Option Arc)) (start : ℕ) {E : Type 0} (r : Result (Option ℕ) E) (path : List Arc) → IsForest labels preds → IfOk r (λ found. IfNone found (EndsAtRoot preds start path)) → IfOk r (λ found. IfNone found (get_or labels start 0 ≤ highest_root + MOST_UP * length labels))
 ends-from_found labels preds start (Ok (Some k)) path f found = found
 ends-from_found labels preds start (Ok None) path f found = label-le-limit labels preds start path f found
 ends-from_found labels preds start (Err e) path f found = found

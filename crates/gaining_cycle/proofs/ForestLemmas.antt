@@ -1,4 +1,6 @@
 -- How labels that rise by arcs lie.
+use Rattle.gaining_cycle.specs.declared.arc.TheConstants.{MOST_UP}
+use Rattle.gaining_cycle.specs.declared.labels.TheConstants.{MOST_NODES}
 use Rattle.std.proofs.Common.{◌≡◌, ◌≢◌, ℕ, zero, suc, ◌+◌, ◌<◌, ◌≤◌, ◌==◌, false, cond, ltb, leb, List, [], ◌∷◌, length, get_or, set, map, replicate, Option, Some, None, refl, sym, ap, ◌∙◌, subst, inl, inr, arith}
 use Rattle.std.proofs.lemmas.Bool.{cases_eq, cases_lt, eq-eqb, ne_eqb, cond-true, cond-false, le-leb, lt-leb, ltb-false, or_parts}
 use Rattle.std.specs.List.{list_any}
@@ -14,7 +16,7 @@ came_by-none n node = elim (cases_lt node n) [
   | inr past ↦ get_or_past (replicate n None) node None (omega (arith, length-replicate n (let o : Option Arc = None in o)))
 ]
 
-pub IsForest-unrisen : (labels : List ℕ) (n : ℕ) → n ≡ length labels → n ≤ 1048576 → ((node : ℕ) → get_or labels node 0 ≤ highest_root) → IsForest labels (replicate n None)
+pub IsForest-unrisen : (labels : List ℕ) (n : ℕ) → n ≡ length labels → n ≤ MOST_NODES → ((node : ℕ) → get_or labels node 0 ≤ highest_root) → IsForest labels (replicate n None)
 IsForest-unrisen labels n same few low = record {
   rank = λ node. 0;
   lengths = length-replicate n None ∙ same;
@@ -29,7 +31,7 @@ abbrev rank_after : (ℕ → ℕ) → Arc → ℕ → ℕ
 rank_after rank arc node = cond (node == arc.head) (rank arc.tail + 1) (rank node)
 
 -- the head has risen by the arc
-head_risen : (labels : List ℕ) (rank : ℕ → ℕ) (arc : Arc) (label : ℕ) → arc.tail < length labels → arc.head < length labels → arc.up ≤ 4096 → get_or labels arc.head 0 + arc.down < get_or labels arc.tail 0 + arc.up → label + arc.down ≡ get_or labels arc.tail 0 + arc.up → IsRisenBy (set labels arc.head label) (rank_after rank arc) arc.head arc
+head_risen : (labels : List ℕ) (rank : ℕ → ℕ) (arc : Arc) (label : ℕ) → arc.tail < length labels → arc.head < length labels → arc.up ≤ MOST_UP → get_or labels arc.head 0 + arc.down < get_or labels arc.tail 0 + arc.up → label + arc.down ≡ get_or labels arc.tail 0 + arc.up → IsRisenBy (set labels arc.head label) (rank_after rank arc) arc.head arc
 head_risen labels rank arc label tails heads steep unsettled rises =
     let longer = length-set labels arc.head label in
     let here : get_or (set labels arc.head label) arc.head 0 ≡ label = get_or-set_same labels arc.head label 0 heads in
@@ -87,7 +89,7 @@ other_risen labels rank arc label node by heads apart rises r =
     ]
 
 -- an arc raises its head
-pub IsForest-raised : (labels : List ℕ) (preds : List (Option Arc)) (arc : Arc) (label : ℕ) → arc.tail < length labels → arc.head < length labels → arc.up ≤ 4096 → get_or labels arc.head 0 + arc.down < get_or labels arc.tail 0 + arc.up → label + arc.down ≡ get_or labels arc.tail 0 + arc.up → label ≤ highest → IsForest labels preds → IsForest (set labels arc.head label) (set preds arc.head (Some arc))
+pub IsForest-raised : (labels : List ℕ) (preds : List (Option Arc)) (arc : Arc) (label : ℕ) → arc.tail < length labels → arc.head < length labels → arc.up ≤ MOST_UP → get_or labels arc.head 0 + arc.down < get_or labels arc.tail 0 + arc.up → label + arc.down ≡ get_or labels arc.tail 0 + arc.up → label ≤ highest → IsForest labels preds → IsForest (set labels arc.head label) (set preds arc.head (Some arc))
 IsForest-raised labels preds arc label tails heads steep unsettled rises most f =
     let longer = length-set labels arc.head label in
     let preds_inside : arc.head < length preds = omega (arith, f.lengths) in
@@ -128,7 +130,7 @@ zero-low n node = elim (cases_lt node n) [
   | inr past ↦ omega (arith, get_or_past {X = ℕ} (replicate n 0) node 0 (omega (arith, length-replicate {A = ℕ} n 0)))
 ]
 
-pub IsForest-begun : (labels : List ℕ) (preds : List (Option Arc)) (n : ℕ) → n ≤ 1048576 → labels ≡ replicate n 0 → preds ≡ replicate n None → IsForest labels preds
+pub IsForest-begun : (labels : List ℕ) (preds : List (Option Arc)) (n : ℕ) → n ≤ MOST_NODES → labels ≡ replicate n 0 → preds ≡ replicate n None → IsForest labels preds
 IsForest-begun labels preds n few zeros nones =
     subst (λ (ps : List (Option Arc)). IsForest labels ps) (sym nones)
     (subst (λ (ls : List ℕ). IsForest ls (replicate n None)) (sym zeros)
@@ -140,7 +142,7 @@ low-from_list_any [] node none = omega arith
 low-from_list_any (y ∷ labels) zero none = ltb-false highest_root y (or_parts (ltb highest_root y) (list_any (λ y. ltb highest_root y) labels) none).0
 low-from_list_any (y ∷ labels) (suc node) none = low-from_list_any labels node (or_parts (ltb highest_root y) (list_any (λ y. ltb highest_root y) labels) none).1
 
-pub IsForest-low : (labels : List ℕ) (preds : List (Option Arc)) (n : ℕ) → n ≡ length labels → n ≤ 1048576 → list_any (λ y. ltb highest_root y) labels ≡ false → preds ≡ replicate n None → IsForest labels preds
+pub IsForest-low : (labels : List ℕ) (preds : List (Option Arc)) (n : ℕ) → n ≡ length labels → n ≤ MOST_NODES → list_any (λ y. ltb highest_root y) labels ≡ false → preds ≡ replicate n None → IsForest labels preds
 IsForest-low labels preds n same few none nones =
     subst (λ (ps : List (Option Arc)). IsForest labels ps) (sym nones)
     (IsForest-unrisen labels n same few (λ node. low-from_list_any labels node none))
@@ -157,7 +159,7 @@ begun-low [] node = omega arith
 begun-low (y ∷ labels) zero = begun-le y
 begun-low (y ∷ labels) (suc node) = begun-low labels node
 
-pub IsForest-given : (given labels : List ℕ) (preds : List (Option Arc)) → length given ≤ 1048576 → labels ≡ map begun given → preds ≡ replicate (length given) None → IsForest labels preds
+pub IsForest-given : (given labels : List ℕ) (preds : List (Option Arc)) → length given ≤ MOST_NODES → labels ≡ map begun given → preds ≡ replicate (length given) None → IsForest labels preds
 IsForest-given given labels preds few begins nones =
     subst (λ (ps : List (Option Arc)). IsForest labels ps) (sym nones)
     (subst (λ (ls : List ℕ). IsForest ls (replicate (length given) None)) (sym begins)

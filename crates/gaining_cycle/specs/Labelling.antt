@@ -1,6 +1,8 @@
 -- labels on the nodes of a graph
 use Rattle.std.specs.Prelude.{◌≡◌, ℕ, ◌+◌, ◌-◌, ◌*◌, ◌<◌, ◌≤◌, nat_le, Bool, if◌then◌else◌, List, Option, Some, None, length, slice_index, slice_set, ◌⊎◌}
 use Rattle.gaining_cycle.specs.declared.arc.Arc.{Arc}
+use Rattle.gaining_cycle.specs.declared.arc.TheConstants.{MOST_UP}
+use Rattle.gaining_cycle.specs.declared.labels.TheConstants.{MOST_NODES}
 use Rattle.gaining_cycle.specs.Walks.{came_by}
 
 -- a label for each node, and the arc by which it last rose
@@ -37,7 +39,7 @@ begun label = if nat_le label highest_root then label else highest_root
 
 -- The most that a label is where walks back from it end, none of them in a circle.
 abbrev pub limit : Labelling → ℕ
-limit l = highest_root + 4096 * length l.labels
+limit l = highest_root + MOST_UP * length l.labels
 
 -- the labels, once an arc that they don't settle has raised its head
 unfoldable pub relaxed : Labelling → Arc → Labelling
@@ -52,7 +54,7 @@ raised l arc = if settles l arc then None else (if nat_le (needed l arc) highest
 pub record IsRisenBy (labels : List ℕ) (rank : ℕ → ℕ) (node : ℕ) (arc : Arc) : Type 0 where
   pub heads : arc.head ≡ node
   pub tails : arc.tail < length labels
-  pub steep : arc.up ≤ 4096
+  pub steep : arc.up ≤ MOST_UP
   pub slack : slice_index labels node + arc.down ≤ slice_index labels arc.tail + arc.up
   pub later : (slice_index labels node + arc.down < slice_index labels arc.tail + arc.up) ⊎ (rank arc.tail < rank node)
 
@@ -60,7 +62,7 @@ pub record IsRisenBy (labels : List ℕ) (rank : ℕ → ℕ) (node : ℕ) (arc 
 pub record IsForest (labels : List ℕ) (preds : List (Option Arc)) : Type 0 where
   pub rank : ℕ → ℕ
   pub lengths : length preds ≡ length labels
-  pub few : length labels ≤ 1048576
+  pub few : length labels ≤ MOST_NODES
   pub risen : (node : ℕ) (arc : Arc) → came_by preds node ≡ Some arc → IsRisenBy labels rank node arc
   pub roots : (node : ℕ) → came_by preds node ≡ None → slice_index labels node ≤ highest_root
   pub below : (node : ℕ) → slice_index labels node ≤ highest

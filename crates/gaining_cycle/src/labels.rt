@@ -5,6 +5,8 @@ ghost use Rattle.std.specs.Prelude.{◌≡◌, ℕ, ◌+◌, ◌*◌, ◌<◌, �
 ghost use Rattle.std.specs.List.{list_any};
 ghost use Rattle.std.specs.Option.{IfSome, IfNone};
 ghost use Rattle.gaining_cycle.specs.Walks.{IsGainingCycle, AllCameBy};
+ghost use Rattle.gaining_cycle.specs.declared.arc.TheConstants.{MOST_UP};
+ghost use Rattle.gaining_cycle.specs.declared.labels.TheConstants.{MOST_NODES};
 ghost use Rattle.gaining_cycle.specs.Labelling.{label_of, limit, relaxed, raised, begun, highest_root};
 
 use crate::arc::Arc;
@@ -13,6 +15,8 @@ use crate::walk::walk_back;
 use std::alloc::{AllocError, Global};
 use std::marker::Model;
 
+/// The most nodes that may have labels.
+pub const MOST_NODES: usize = 524_288;
 /// The most that a label rises to.
 const HIGHEST: u64 = 1_000_000_000_000;
 
@@ -36,9 +40,9 @@ impl Model for Labels {
 }
 
 impl Labels {
-    /// Labels 0, which have not risen, for at most 1,048,576 nodes.
+    /// Labels 0, which have not risen, for at most `MOST_NODES` nodes.
     pub fn new(alloc: Global, nodes: usize) -> Result<Labels, AllocError>
-        requires { nodes ≤ 1048576 }
+        requires { nodes ≤ MOST_NODES }
         ensures { IfOk result (λ l. l ≡ record { labels = replicate nodes 0; preds = replicate nodes None }) }
     {
         Ok(Labels {
@@ -48,9 +52,9 @@ impl Labels {
         })
     }
 
-    /// These labels, which have not risen, for at most 1,048,576 nodes. A label above 500,000,000,000 begins there.
+    /// These labels, which have not risen, for at most `MOST_NODES` nodes. A label above 500,000,000,000 begins there.
     pub fn start(alloc: Global, labels: &[u64]) -> Result<Labels, AllocError>
-        requires { length labels.now ≤ 1048576 }
+        requires { length labels.now ≤ MOST_NODES }
         ensures { IfOk result (λ l. l ≡ record { labels = map begun labels.now; preds = replicate (length labels.now) None }) }
     {
         let nodes = labels.len();
@@ -75,7 +79,7 @@ impl Labels {
     pub fn relax(&mut self, arc: Arc) -> Option<u32>
         requires tail { arc.tail < length self.old.labels }
         requires head { arc.head < length self.old.labels }
-        requires up { arc.up ≤ 4096 }
+        requires up { arc.up ≤ MOST_UP }
         ensures labels { self.new ≡ relaxed self.old arc }
         ensures node { result ≡ raised self.old arc }
         ensures size { length self.new.labels ≡ length self.old.labels }

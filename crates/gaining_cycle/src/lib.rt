@@ -2,8 +2,8 @@
 //! walk on which more is gained than lost.
 #![tactic(auto)]
 
-pub use arc::Arc;
-pub use labels::Labels;
+pub use arc::{Arc, MOST_UP};
+pub use labels::{Labels, MOST_NODES};
 
 mod arc;
 mod begin;

@@ -12,7 +12,7 @@
 //! or stopped the run, which rings each bell behind the stop word, and each worker reads that word behind its moment.
 //!
 //! So someone always acts, and only so often: a call makes one of at most 65,535 events or is refused, a row or a decision is
-//! refused at most once in each of at most 128 rounds, and a lane that sends nothing sleeps until there is work.
+//! refused at most once in each of at most 512 rounds, and a lane that sends nothing sleeps until there is work.
 
 ghost use Rattle.std.specs.Prelude.{◌≡◌, [], length, map, All, IfOk, ◌<◌};
 ghost use Rattle.run_rules.specs.LiveRuns.{IsLiveRun};

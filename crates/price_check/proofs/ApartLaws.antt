@@ -12,6 +12,8 @@ use Rattle.std.proofs.lemmas.List.{length_push}
 use Rattle.cam_types.specs.Lists.{moments_after, moments, first_answer}
 use Rattle.cam_types.specs.Topology.{Topology, adapter_fault, device_fault, address_fault, config_fault, item_fault, is_same_address, are_openings}
 use Rattle.cam_types.specs.declared.device.Device.{Device}
+use Rattle.cam_types.specs.declared.maxima.TheConstants.{MOST_DEVICES}
+use Rattle.cam_types.proofs.ConfigLemmas.{few_adapters}
 use Rattle.cam_path.specs.declared.path.CamPath.{CamPath}
 use Rattle.cam_path.specs.Paths.{Fits, spelled, address_of}
 use Rattle.cam_path.proofs.PathLaws.{reading_again}
@@ -100,23 +102,12 @@ cond_none false x rest e = (refl, e)
 pub device_rules : (n : ℕ) (before : List Device) (d : Device) → device_fault n (before, d) ≡ None → (d.bus < n) × (d.lun ≤ 16383) × (list_any (is_same_address d) before ≡ false)
 unfolding device_fault address_fault
 device_rules n before d e =
-    let a = (cond_none (nat_le 16 (length before)) _ _ e).1 in
+    let a = (cond_none (nat_le MOST_DEVICES (length before)) _ _ e).1 in
     let b = (cond_none (not (are_openings d.openings)) _ _ a).1 in
     let c = cond_none (nat_le n d.bus) _ _ b in
     let l = cond_none (nat_lt 16383 d.lun) _ _ c.1 in
     let s = cond_none (list_any (is_same_address d) before) _ _ l.1 in
     (leb-false _ _ c.0, ltb-false _ _ l.0, s.0)
-
--- an adapter's rules bound the number of adapters
-few_adapters : (before xs : List ℕ) → first_answer adapter_fault (moments_after before xs) ≡ None → length before ≤ 4 → length before + length xs ≤ 4
-unfolding adapter_fault
-few_adapters before [] e le = omega arith
-few_adapters before (x ∷ xs) e le =
-    let parts = none_first (adapter_fault (before, x)) (first_answer adapter_fault (moments_after (before ++ x ∷ []) xs)) e in
-    let few : length before < 4 = leb-false 4 (length before) (cond_none (nat_le 4 (length before)) _ _ parts.0).0 in
-    let size = length_push before x in
-    let rest = few_adapters (before ++ x ∷ []) xs parts.1 (omega arith) in
-    omega arith
 
 -- a configuration within its rules, whose targets fit, names its devices
 pub named_devices : (t : Topology) → config_fault t ≡ None → AllByRecursion (λ (d : Device). d.target ≤ 65535) t.devices → AreNamed t.devices
@@ -125,7 +116,7 @@ named_devices t kept targets =
     let adapters = length t.adapters in
     let items = none_first (first_answer adapter_fault (moments t.adapters)) _ (cond_none (length t.adapters == 0) _ _ kept).1 in
     let devices = none_first (first_answer (device_fault adapters) (moments t.devices)) _ items.1 in
-    let few = few_adapters [] t.adapters items.0 in
+    let few = few_adapters t (record { kept = kept }) in
     let rules : (j : ℕ) (d : Device) → slice_get t.devices j ≡ Some d → (d.bus < adapters) × (d.lun ≤ 16383) × (list_any (is_same_address d) (take j t.devices) ≡ false) =
     λ j d is. device_rules adapters (take j t.devices) d (at_moment (device_fault adapters) [] t.devices devices.0 j d is) in
     let before : (i j : ℕ) (one other : Device) → slice_get t.devices i ≡ Some one → slice_get t.devices j ≡ Some other → address_of one ≡ address_of other → i < j → ⊥ =

@@ -8,6 +8,7 @@ use Rattle.std.proofs.lemmas.Fmt.{decimal_injective}
 use Rattle.std.proofs.lemmas.Option.{slice_get_cases}
 use Rattle.std.proofs.Math.Nat.{div-add-mod, div-lt_iff_lt-mul, mod-lt}
 use Rattle.cam_types.specs.declared.device.Device.{Device}
+use Rattle.cam_types.specs.declared.maxima.TheConstants.{MOST_ROUNDS, MOST_ADAPTERS}
 use Rattle.cam_path.specs.Paths.{spelled, address_of}
 use Rattle.round_net.specs.declared.price_range.TheConstants.{MOST_PRICE}
 use Rattle.price_check.specs.Pieces.{skip}
@@ -122,10 +123,10 @@ same_cell rounds j k row round =
 pub row_within : (rows rounds k : ℕ) → 1 ≤ rounds → k < rows * rounds → k / rounds < rows
 row_within rows rounds k some lt = (div-lt_iff_lt-mul some).1 lt
 
-few_round : (rounds k : ℕ) → 1 ≤ rounds → rounds ≤ 128 → k % rounds + 1 < 2 ^ 64
+few_round : (rounds k : ℕ) → 1 ≤ rounds → rounds ≤ MOST_ROUNDS → k % rounds + 1 < 2 ^ 64
 few_round rounds k some few = let lt : k % rounds < rounds = mod-lt k some in omega arith
 
-pub dev_apart : (devices : List Device) (rounds : ℕ) → AreNamed devices → 1 ≤ rounds → rounds ≤ 128 → AreApart (front_of (dev_whose devices rounds) rounds) (length devices * rounds)
+pub dev_apart : (devices : List Device) (rounds : ℕ) → AreNamed devices → 1 ≤ rounds → rounds ≤ MOST_ROUNDS → AreApart (front_of (dev_whose devices rounds) rounds) (length devices * rounds)
 unfolding path_text
 dev_apart devices rounds named some few j k x y jlt klt e = by (found (j / rounds) (row_within (length devices) rounds j some jlt)) (found (k / rounds) (row_within (length devices) rounds k some klt))
   where
@@ -147,7 +148,7 @@ dev_apart devices rounds named some few j k x y jlt klt e = by (found (j / round
         (named.apart (j / rounds) (k / rounds) one.0 other.0 one.1 other.1 (spelled_injective (address_of one.0) (address_of other.0) fits fits' words.0))
         (decimal_injective (j % rounds + 1) (k % rounds + 1) (few_round rounds j some few) (few_round rounds k some few) words.1)
 
-pub sim_apart : (adapters rounds : ℕ) → adapters ≤ 4 → 1 ≤ rounds → rounds ≤ 128 → AreApart (front_of (sim_whose rounds) rounds) (adapters * rounds)
+pub sim_apart : (adapters rounds : ℕ) → adapters ≤ MOST_ADAPTERS → 1 ≤ rounds → rounds ≤ MOST_ROUNDS → AreApart (front_of (sim_whose rounds) rounds) (adapters * rounds)
 sim_apart adapters rounds few' some few j k x y jlt klt e =
     let row = row_within adapters rounds j some jlt in
     let row' = row_within adapters rounds k some klt in

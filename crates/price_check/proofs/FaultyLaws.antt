@@ -219,7 +219,7 @@ of_text r e h is = rw is at h
 was_faulty : (past : Past) (net : NetRows) (before after : Option (List ℕ)) (failed : Bool) (text : List ℕ) (e : ReportFault) → net ≡ net_of past.config past.events → IsConfig past.config
     → unsent past.events ≡ None → IsSound (instance_of_rows net) (live_of_rows net) → IsWhole before after text → Gives past net text (Err e) → e ≢ fault.OutOfMemory → Explains past net before after failed e
 was_faulty past net before after failed text e is config sent sound whole h other =
-    let live = live_is_known past.events sent in
+    let live = live_is_known past.config past.events sent in
     let first : reading past.config.devices past.events live.0 net (closed text) ≡ Err e = sym (h live.0 live.1 (λ k. other (cc))) in
     explained past net before after failed e (of_text _ e (reading_fails past.config.devices past.events live.0 net (closed text)) first) (record {
       text = text;

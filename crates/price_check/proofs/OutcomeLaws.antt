@@ -45,11 +45,11 @@ unfolding instance_of_rows net_of
 devices_of c es n e = rw e (sym (length-map c.devices (λ (device : Device). device.bus)))
 
 -- where each stay was sent the live schedule has a cost
-pub live_is_known : (es : List Event) → unsent es ≡ None → (live : ℕ) × (live_cost es ≡ Some live)
-live_is_known es e = (sum_by (live_part es) (stays_begun es), live_cost_sent es (ap (λ (o : Option StayName). is_some o) e))
+pub live_is_known : (c : Topology) (es : List Event) → unsent es ≡ None → (live : ℕ) × (live_cost c es ≡ Some live)
+live_is_known c es e = (sum_by (live_part c es) (stays_begun es), live_cost_sent c es (ap (λ (o : Option StayName). is_some o) e))
 
-pub live_not_unknown : (es : List Event) → unsent es ≡ None → live_cost es ≡ None → ⊥
-live_not_unknown es e none = let known = (live_is_known es e).1 in absurd (cc)
+pub live_not_unknown : (c : Topology) (es : List Event) → unsent es ≡ None → live_cost c es ≡ None → ⊥
+live_not_unknown c es e none = let known = (live_is_known c es e).1 in absurd (cc)
 
 -- ---- the last line feed
 
@@ -187,12 +187,12 @@ reading_fails devices events live net text =
 -- ---- the clauses of a reader of reports, from what reading the whole text gives
 
 abbrev pub Gives : Past → NetRows → List ℕ → Result Claim ReportFault → Type 0
-Gives past net text r = (live : ℕ) → live_cost past.events ≡ Some live → r ≢ Err fault.OutOfMemory → r ≡ reading past.config.devices past.events live net (closed text)
+Gives past net text r = (live : ℕ) → live_cost past.config past.events ≡ Some live → r ≢ Err fault.OutOfMemory → r ≡ reading past.config.devices past.events live net (closed text)
 
 pub found_law : (past : Past) (net : NetRows) (before after : Option (List ℕ)) (text : List ℕ) (r : Result Claim ReportFault) → unsent past.events ≡ None
     → (r ≢ Err fault.OutOfMemory → IsSound (instance_of_rows net) (live_of_rows net)) → IsWhole before after text → Gives past net text r → IfOk r (λ claim. WasReport past net before after claim)
 found_law past net before after text (Ok claim) sent sound whole h =
-    let live = live_is_known past.events sent in
+    let live = live_is_known past.config past.events sent in
     let taken = reading_takes past net live.0 (closed text) claim (sound (λ k. cc)) (sym (h live.0 live.1 (λ k. cc))) in
     record {
       text = text;

@@ -4,6 +4,7 @@ use Rattle.std.specs.Prelude.{⊤, Ok, codes}
 use Rattle.std.proofs.lemmas.List.Elements.{All-get_or}
 use Rattle.std.proofs.lemmas.Option.{slice_get_cases}
 use Rattle.cam_types.specs.declared.device.Device.{Device}
+use Rattle.cam_types.specs.declared.maxima.TheConstants.{MOST_ROUNDS, MOST_ADAPTERS}
 use Rattle.cam_path.specs.Paths.{◌>>=◌}
 use Rattle.cam_event.specs.Past.{Past}
 use Rattle.round_net.specs.Rows.{NetRows, instance_of_rows}
@@ -30,7 +31,7 @@ pub record Known (past : Past) (net : NetRows) (claim : Claim) : Type 0 where
   pub some : 1 ≤ (instance_of_rows net).rounds
   pub claims : IsClaim (instance_of_rows net) claim
 
-few : (past : Past) (net : NetRows) (claim : Claim) → Known past net claim → (instance_of_rows net).rounds ≤ 128
+few : (past : Past) (net : NetRows) (claim : Claim) → Known past net claim → (instance_of_rows net).rounds ≤ MOST_ROUNDS
 few past net claim h = let same = h.claims.pricing.rounds in let less = h.claims.priced.few_rounds in omega arith
 
 dev_size : (past : Past) (net : NetRows) (claim : Claim) → Known past net claim → length claim.prices.dev ≡ dev_cells net
@@ -56,7 +57,7 @@ dev_alone past net claim h =
 
 pub sim_alone : (past : Past) (net : NetRows) (claim : Claim) → Known past net claim → AreApart (front_of (sim_whose (instance_of_rows net).rounds) (instance_of_rows net).rounds) (sim_cells net)
 sim_alone past net claim h =
-    let few' : (instance_of_rows net).adapters ≤ 4 = let same = h.claims.pricing.adapters in let less = h.claims.priced.few_adapters in omega arith in
+    let few' : (instance_of_rows net).adapters ≤ MOST_ADAPTERS = let same = h.claims.pricing.adapters in let less = h.claims.priced.few_adapters in omega arith in
     sim_apart (instance_of_rows net).adapters (instance_of_rows net).rounds few' h.some (few past net claim h)
 
 -- ---- section by section, from the last one on

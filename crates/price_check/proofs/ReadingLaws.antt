@@ -4,6 +4,7 @@ use Rattle.std.specs.Prelude.{◌==◌, ⊤, Result, Ok, codes, slice_index}
 use Rattle.std.proofs.lemmas.List.{take_all}
 use Rattle.std.proofs.lemmas.List.Elements.{All-get_or}
 use Rattle.cam_types.specs.declared.device.Device.{Device}
+use Rattle.cam_types.specs.declared.maxima.TheConstants.{MOST_ROUNDS, MOST_ADAPTERS}
 use Rattle.cam_event.specs.Past.{Past}
 use Rattle.round_net.specs.PriceRows.{PriceRows, pricing_of_rows, IsPricingFor}
 use Rattle.round_net.specs.Rows.{NetRows, instance_of_rows, live_of_rows}
@@ -95,8 +96,8 @@ reading_again past net live text claim named size some claims e =
     let p = claim.prices in
     let h = claims.pricing in
     let some' : 1 ≤ p.rounds = rw h.rounds some in
-    let few : p.rounds ≤ 128 = claims.priced.few_rounds in
-    let few' : p.adapters ≤ 4 = claims.priced.few_adapters in
+    let few : p.rounds ≤ MOST_ROUNDS = claims.priced.few_rounds in
+    let few' : p.adapters ≤ MOST_ADAPTERS = claims.priced.few_adapters in
     let size' : length devices ≡ p.devices = size ∙ sym h.devices in
     let dev_size : length p.dev ≡ length devices * p.rounds = rw size' claims.priced.dev_cells in
     let dev_front = front_of (dev_whose devices p.rounds) p.rounds in

@@ -6,6 +6,7 @@ use Rattle.std.proofs.lemmas.Bool.{cases_lt, cases_eq}
 use Rattle.std.proofs.lemmas.Nat.{mul-le}
 use Rattle.std.proofs.lemmas.Bool.Decides.{nat_tests}
 use Rattle.std.proofs.lemmas.List.{get_or-set_same, get_or-set_other}
+use Rattle.cam_types.specs.declared.maxima.TheConstants.{MOST_ROUNDS, MOST_WEIGHT}
 use Rattle.round_net.specs.Sums.{sum_below, least}
 use Rattle.round_net.specs.Instance.{Instance}
 use Rattle.round_net.specs.Rows.{cell}
@@ -209,5 +210,5 @@ pub rest-at : (net : Instance) (p : Pricing) (s at : ℕ) (rests : List ℕ) →
 rest-at net p s at rests noted within first window to_end is = rw is (noted.each (net.device s) (net.arrival s) within first (omega arith))
 
 -- few rounds at a small weight are no large number
-pub waiting_fits : (w r rounds : ℕ) → w ≤ 16 → r ≤ rounds → rounds ≤ 128 → w * r ≤ 2048
-waiting_fits w r rounds small within few = let h : w * r ≤ 16 * 128 = mul-le w r 16 128 small (omega arith) in omega arith
+pub waiting_fits : (w r rounds : ℕ) → w ≤ MOST_WEIGHT → r ≤ rounds → rounds ≤ MOST_ROUNDS → w * r ≤ MOST_WEIGHT * MOST_ROUNDS
+waiting_fits w r rounds small within few = mul-le w r MOST_WEIGHT MOST_ROUNDS small (omega arith)

@@ -37,7 +37,7 @@ report_text past net live claim =
 pub record IsReport (past : Past) (net : NetRows) (text : List ℕ) (claim : Claim) : Type 0 where
   pub bounded : length text ≤ MOST_BYTES
   pub live : ℕ
-  pub costs : live_cost past.events ≡ Some live
+  pub costs : live_cost past.config past.events ≡ Some live
   pub spelled : (text ≡ report_text past net live claim) ⊎ (text ++ codes "\n" ≡ report_text past net live claim)
 
 -- what was read to its end was a report of the claim
@@ -73,7 +73,7 @@ pub record WasFaulty (past : Past) (net : NetRows) (before after : Option (List 
   pub text : List ℕ
   pub whole : IsWhole before after text
   pub live : ℕ
-  pub costs : live_cost past.events ≡ Some live
+  pub costs : live_cost past.config past.events ≡ Some live
   pub first : IsFirstFaulty past net live text (fault_line e)
   pub kind : reading past.config.devices past.events live net (closed text) ≡ Err e
 

@@ -1,5 +1,6 @@
 -- which round of the rest of all rounds is cheapest for stays of one device and one weight
 use Rattle.std.specs.Prelude.{◌≡◌, ℕ, ◌+◌, ◌*◌, ◌<◌, ◌≤◌, Bool, true, false, ◌&&◌, nat_lt, List, slice_index}
+use Rattle.cam_types.specs.declared.maxima.TheConstants.{MOST_WEIGHT}
 use Rattle.round_net.specs.Instance.{Instance}
 use Rattle.round_net.specs.Rows.{cell}
 use Rattle.round_net.specs.Value.{Pricing}
@@ -27,7 +28,7 @@ pub record AreCheapest (net : Instance) (p : Pricing) (w devices : ℕ) (rests :
 
 -- the least weight above a number, of the first so many stays; 0 if there is none
 pub record IsNextWeight (net : Instance) (above n next : ℕ) : Type 0 where
-  pub most : next ≤ 16
+  pub most : next ≤ MOST_WEIGHT
   pub above_it : 0 < next → above < next
   pub none : next ≡ 0 → (s : ℕ) → s < n → net.weight s ≤ above
   pub least : 0 < next → (s : ℕ) → s < n → above < net.weight s → next ≤ net.weight s

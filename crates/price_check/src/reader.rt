@@ -66,7 +66,7 @@ fn read_text(
     requires bounded { length text.items ≤ MOST_BYTES }
     requires complete { unsent history.now.events ≡ None }
     requires net { net.now ≡ net_of history.now.config history.now.events }
-    ensures value { (live : ℕ) → live_cost history.now.events ≡ Some live → result ≢ Err ReportFault.OutOfMemory →
+    ensures value { (live : ℕ) → live_cost history.now.config history.now.events ≡ Some live → result ≢ Err ReportFault.OutOfMemory →
         result ≡ reading history.now.config.devices history.now.events live net.now (closed text.items) }
     ensures kept { IsConfig history.now.config }
     ensures sound { result ≢ Err ReportFault.OutOfMemory → IsSound (instance_of_rows net.now) (live_of_rows net.now) }

@@ -4,6 +4,7 @@ ghost use Rattle.std.specs.Prelude.{◌≡◌, ℕ, ◌+◌, ◌-◌, ◌*◌, �
 ghost use Rattle.round_net.specs.Rows.{instance_of_rows, cell};
 ghost use Rattle.round_net.specs.PriceRows.{pricing_of_rows, IsPricingFor};
 ghost use Rattle.price_check.specs.Rests.{takes, pays, IsCheapest, AreCheapest};
+ghost use Rattle.cam_types.specs.declared.maxima.TheConstants.{MOST_ROUNDS, MOST_WEIGHT};
 
 use round_net::{Net, Prices, cell};
 
@@ -21,8 +22,8 @@ pub fn takes(net: &Net, device: u32, round: u32) -> bool
 #[tactic(auto, using(crate::proofs::RestLemmas::waiting_fits))]
 fn pays(net: &Net, prices: &Prices, weight: u32, device: u32, round: u32) -> u64
     requires size { IsPricingFor (instance_of_rows net.now) prices.now }
-    requires weight { weight ≤ 16 }
-    requires few { (instance_of_rows net.now).rounds ≤ 128 }
+    requires weight { weight ≤ MOST_WEIGHT }
+    requires few { (instance_of_rows net.now).rounds ≤ MOST_ROUNDS }
     requires device { device < (instance_of_rows net.now).devices }
     requires first { 1 ≤ round }
     requires last { round ≤ (instance_of_rows net.now).rounds }
@@ -36,8 +37,8 @@ fn pays(net: &Net, prices: &Prices, weight: u32, device: u32, round: u32) -> u64
 #[tactic(auto, using(crate::proofs::RestLemmas::cheapest_closed, crate::proofs::RestLemmas::cheapest_here, crate::proofs::RestLemmas::cheapest_later))]
 fn cheaper_of(net: &Net, prices: &Prices, weight: u32, device: u32, round: u32, next: u32) -> u32
     requires size { IsPricingFor (instance_of_rows net.now) prices.now }
-    requires weight { weight ≤ 16 }
-    requires few { (instance_of_rows net.now).rounds ≤ 128 }
+    requires weight { weight ≤ MOST_WEIGHT }
+    requires few { (instance_of_rows net.now).rounds ≤ MOST_ROUNDS }
     requires device { device < (instance_of_rows net.now).devices }
     requires first { 1 ≤ round }
     requires last { round ≤ (instance_of_rows net.now).rounds }
@@ -60,7 +61,7 @@ fn cheaper_of(net: &Net, prices: &Prices, weight: u32, device: u32, round: u32, 
 #[tactic(auto, using(crate::proofs::RestLemmas::cheapest_none, crate::proofs::RestLemmas::noted_none, crate::proofs::RestLemmas::noted_all, crate::proofs::RestLemmas::noted_step))]
 fn note_device(net: &Net, prices: &Prices, weight: u32, device: u32, rests: &mut [u32])
     requires size { IsPricingFor (instance_of_rows net.now) prices.now }
-    requires weight { weight ≤ 16 }
+    requires weight { weight ≤ MOST_WEIGHT }
     requires device { device < (instance_of_rows net.now).devices }
     requires cells { (instance_of_rows net.now).devices * (instance_of_rows net.now).rounds ≤ length rests.old }
     requires before { AreCheapest (instance_of_rows net.now) (pricing_of_rows prices.now) weight device rests.old }
@@ -78,7 +79,7 @@ fn note_device(net: &Net, prices: &Prices, weight: u32, device: u32, rests: &mut
 /// Notes for each round of each device which one from there on is cheapest for stays of the weight.
 pub fn note_devices(net: &Net, prices: &Prices, weight: u32, rests: &mut [u32])
     requires size { IsPricingFor (instance_of_rows net.now) prices.now }
-    requires weight { weight ≤ 16 }
+    requires weight { weight ≤ MOST_WEIGHT }
     requires cells { (instance_of_rows net.now).devices * (instance_of_rows net.now).rounds ≤ length rests.old }
     ensures noted { AreCheapest (instance_of_rows net.now) (pricing_of_rows prices.now) weight (instance_of_rows net.now).devices rests.new }
 {

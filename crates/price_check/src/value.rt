@@ -37,7 +37,7 @@ fn by_device(net: &Net, prices: &Prices, device: u32) -> u128
     requires device { device < (instance_of_rows net.now).devices }
     ensures same { let n = instance_of_rows net.now in let p = pricing_of_rows prices.now in
         result ≡ sum_to n.rounds (λ r. n.dev_cap device r * p.dev device r) }
-    ensures short { result ≤ 2 ^ 56 }
+    ensures short { result ≤ 2 ^ 57 }
 {
     let mut total = 0;
     for passed in 0..net.rounds() {
@@ -65,7 +65,7 @@ fn by_adapter(net: &Net, prices: &Prices, adapter: u32) -> u128
     requires adapter { adapter < (instance_of_rows net.now).adapters }
     ensures same { let n = instance_of_rows net.now in let p = pricing_of_rows prices.now in
         result ≡ sum_to n.rounds (λ r. n.sim_cap adapter r * p.sim adapter r) }
-    ensures short { result ≤ 2 ^ 56 }
+    ensures short { result ≤ 2 ^ 57 }
 {
     let mut total = 0;
     for passed in 0..net.rounds() {

@@ -1,6 +1,7 @@
 -- where rounds stand in flat lists
 use Rattle.std.proofs.Common.{◌≡◌, ℕ, ◌+◌, ◌-◌, ◌*◌, ◌/◌, ◌^◌, ◌<◌, ◌≤◌, arith, length, List, ap, sym, ◌∙◌}
 use Rattle.std.proofs.lemmas.Nat.{mul-add-lt, mul-le, div-mul-add}
+use Rattle.cam_types.specs.declared.maxima.TheConstants.{MOST_ROUNDS}
 use Rattle.round_net.specs.Rows.{cell}
 
 -- a round of a row stands within the rows
@@ -15,11 +16,10 @@ pub cell_in : (xs : List ℕ) (rounds rows row r : ℕ) → length xs ≡ rows *
 cell_in xs rounds rows row r all within first last = omega (arith, cell_within rounds rows row r within first last)
 
 -- few rounds of a row make no large number
-pub product_fits : (row rounds : ℕ) → row < 2 ^ 32 → rounds ≤ 128 → row * rounds ≤ 2 ^ 39
+pub product_fits : (row rounds : ℕ) → row < 2 ^ 32 → rounds ≤ MOST_ROUNDS → row * rounds ≤ 2 ^ 32 * MOST_ROUNDS
 product_fits row rounds lt few =
     let le : row ≤ 2 ^ 32 = omega arith in
-    let h : row * rounds ≤ 2 ^ 32 * 128 = mul-le row rounds (2 ^ 32) 128 le few in
-    omega arith
+    mul-le row rounds (2 ^ 32) MOST_ROUNDS le few
 
 -- two rounds that stand at one place are of one row, and equal
 pub cell-injective : (rounds row r other q : ℕ) → 1 ≤ r → r ≤ rounds → 1 ≤ q → q ≤ rounds → cell rounds row r ≡ cell rounds other q → (row ≡ other) × (r ≡ q)

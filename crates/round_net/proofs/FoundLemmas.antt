@@ -39,9 +39,9 @@ last_cases : (o : Option Stay) (n : ℕ) → option_map_or (λ arrival. arrival 
 last_cases None n = refl
 last_cases (Some q) n = refl
 
-row_of-record : (es : List Event) (p : Stay) → row_of (round es) (record_of es p) ≡ stay_row es p
+row_of-record : (c : Topology) (es : List Event) (p : Stay) → row_of c (round es) (record_of es p) ≡ stay_row c es p
 unfolding stay_row last_round
-row_of-record es p = rw (live_cases es p (is_unsent es p) refl, last_cases (next_stay (stays_begun es) p) (round es)) refl
+row_of-record c es p = rw (live_cases es p (is_unsent es p) refl, last_cases (next_stay (stays_begun es) p) (round es)) refl
 
 map-map : {X Y Z : Type 0} (g : Y → Z) (f : X → Y) (xs : List X) → map g (map f xs) ≡ map (λ x. g (f x)) xs
 map-map g f [] = refl
@@ -51,9 +51,9 @@ map-same : {X Y : Type 0} (f g : X → Y) → ((x : X) → f x ≡ g x) → (xs 
 map-same f g h [] = refl
 map-same f g h (x ∷ xs) = rw (h x, map-same f g h xs) refl
 
-pub rows_of_records : (es : List Event) → map (row_of (round es)) (records es) ≡ map (stay_row es) (stays_begun es)
+pub rows_of_records : (c : Topology) (es : List Event) → map (row_of c (round es)) (records es) ≡ map (stay_row c es) (stays_begun es)
 unfolding records
-rows_of_records es = map-map (row_of (round es)) (record_of es) (stays_begun es) ∙ map-same (λ p. row_of (round es) (record_of es p)) (stay_row es) (row_of-record es) (stays_begun es)
+rows_of_records c es = map-map (row_of c (round es)) (record_of es) (stays_begun es) ∙ map-same (λ p. row_of c (round es) (record_of es p)) (stay_row c es) (row_of-record c es) (stays_begun es)
 
 -- caps by what was noted
 flipped : {X : Type 0} (b : Bool) (x y : X) → cond (not b) x y ≡ cond b y x
@@ -79,12 +79,12 @@ sim_caps_found c es rounds dev sim openings sends sim_sends sim_openings caps so
 
 -- all parts of the net
 pub net_found : (c : Topology) (es : List Event) (rounds adapters : ℕ) (adapter_of : List ℕ) (rows : List StayRow) (dev sim : List Bool) (openings sends sim_sends sim_openings dev_caps sim_caps : List ℕ) →
-    rounds ≡ round es → adapters ≡ length c.adapters → adapter_of ≡ map (λ (device : Device). device.bus) c.devices → rows ≡ map (row_of rounds) (records es) →
+    rounds ≡ round es → adapters ≡ length c.adapters → adapter_of ≡ map (λ (device : Device). device.bus) c.devices → rows ≡ map (row_of c rounds) (records es) →
     IsNoted c es rounds dev sim openings sends sim_sends → HasCells c rounds dev sim openings sends sim_sends → sim_openings ≡ table (length c.adapters) rounds (λ a r. adapter_openings c a) →
     AreCaps dev sends openings dev_caps → AreCaps sim sim_sends sim_openings sim_caps →
     ◌≡◌ {A = NetRows} (record { rounds = rounds; adapters = adapters; adapter_of = adapter_of; stays = rows; dev_caps = dev_caps; sim_caps = sim_caps }) (net_of c es)
 net_found c es rounds adapters adapter_of rows dev sim openings sends sim_sends sim_openings dev_caps sim_caps r a d s noted cells there are sim_are =
     let some : 1 ≤ rounds = rw r (round_first es) in
-    net_of_parts c es rounds adapters adapter_of rows dev_caps sim_caps r a d (s ∙ ap (λ n. map (row_of n) (records es)) r ∙ rows_of_records es)
+    net_of_parts c es rounds adapters adapter_of rows dev_caps sim_caps r a d (s ∙ ap (λ n. map (row_of c n) (records es)) r ∙ rows_of_records c es)
     (dev_caps_found c es rounds dev sim openings sends sim_sends dev_caps some noted cells are ∙ ap (λ n. table (length c.devices) n (dev_cap c es)) r)
     (sim_caps_found c es rounds dev sim openings sends sim_sends sim_openings sim_caps some noted cells there sim_are ∙ ap (λ n. table (length c.adapters) n (sim_cap c es)) r)

@@ -8,7 +8,6 @@ use Rattle.std.proofs.lemmas.List.{length-map, take_all}
 use Rattle.std.proofs.lemmas.List.Elements.{All-nil, All-cons}
 use Rattle.std.proofs.lemmas.List.Sums.{sum_by_more, AllPass-from_list_all}
 use Rattle.cam_types.specs.Topology.{Topology, IsConfig}
-use Rattle.cam_types.specs.Priority.{weight}
 use Rattle.cam_types.specs.declared.device.Device.{Device}
 use Rattle.cam_types.specs.declared.maxima.TheConstants.{MOST_OPENINGS}
 use Rattle.cam_types.proofs.TopologyLemmas.{few_devices}
@@ -16,7 +15,7 @@ use Rattle.cam_event.specs.Event.{is_some_and}
 use Rattle.cam_event.specs.Counts.{round, submission}
 use Rattle.cam_event.specs.Stays.{stays_begun, is_unsent, unsent, name_of}
 use Rattle.cam_event.specs.Live.{live_round}
-use Rattle.cam_types.specs.Questions.{names_device, is_on}
+use Rattle.cam_types.specs.Questions.{names_device, is_on, weight}
 use Rattle.cam_event.specs.declared.event.Event.{Event}
 use Rattle.cam_event.specs.declared.submission.Submission.{Submission}
 use Rattle.cam_event.specs.declared.stay.Stay.{Stay}
@@ -88,32 +87,32 @@ count_list test t (x ∷ xs) h =
     count_front test t (x ∷ xs) x (length (x ∷ xs)) each (omega arith) ∙ ap (count_by test) (take_all (length (x ∷ xs)) (x ∷ xs) (omega arith))
 
 -- what stands in a stay's row
-part_of_stay : (part : StayRow → ℕ) (es : List Event) (s : ℕ) (p : Stay) → slice_get (stays_begun es) s ≡ Some p → of_stay part (map (stay_row es) (stays_begun es)) s ≡ part (stay_row es p)
-part_of_stay part es s p e = ap (λ o. option_map_or part o 0) (mapped (stay_row es) (stays_begun es) s p e)
+part_of_stay : (part : StayRow → ℕ) (c : Topology) (es : List Event) (s : ℕ) (p : Stay) → slice_get (stays_begun es) s ≡ Some p → of_stay part (map (stay_row c es) (stays_begun es)) s ≡ part (stay_row c es p)
+part_of_stay part c es s p e = ap (λ o. option_map_or part o 0) (mapped (stay_row c es) (stays_begun es) s p e)
 
 device_at : (c : Topology) (es : List Event) (s : ℕ) (p : Stay) → slice_get (stays_begun es) s ≡ Some p → (instance_of c es).device s ≡ p.device
 unfolding instance_of_rows net_of stay_row
-device_at c es s p e = part_of_stay (λ (row : StayRow). row.device) es s p e
+device_at c es s p e = part_of_stay (λ (row : StayRow). row.device) c es s p e
 
 arrival_at : (c : Topology) (es : List Event) (s : ℕ) (p : Stay) → slice_get (stays_begun es) s ≡ Some p → (instance_of c es).arrival s ≡ p.arrival
 unfolding instance_of_rows net_of stay_row
-arrival_at c es s p e = part_of_stay (λ (row : StayRow). row.arrival) es s p e
+arrival_at c es s p e = part_of_stay (λ (row : StayRow). row.arrival) c es s p e
 
 last_at : (c : Topology) (es : List Event) (s : ℕ) (p : Stay) → slice_get (stays_begun es) s ≡ Some p → (instance_of c es).last s ≡ last_round es p
 unfolding instance_of_rows net_of stay_row
-last_at c es s p e = part_of_stay (λ (row : StayRow). row.last) es s p e
+last_at c es s p e = part_of_stay (λ (row : StayRow). row.last) c es s p e
 
-weight_at : (c : Topology) (es : List Event) (s : ℕ) (p : Stay) → slice_get (stays_begun es) s ≡ Some p → (instance_of c es).weight s ≡ weight p.priority
+weight_at : (c : Topology) (es : List Event) (s : ℕ) (p : Stay) → slice_get (stays_begun es) s ≡ Some p → (instance_of c es).weight s ≡ weight c p.priority
 unfolding instance_of_rows net_of stay_row
-weight_at c es s p e = part_of_stay (λ (row : StayRow). row.weight) es s p e
+weight_at c es s p e = part_of_stay (λ (row : StayRow). row.weight) c es s p e
 
 live_at : (c : Topology) (es : List Event) (s : ℕ) (p : Stay) → slice_get (stays_begun es) s ≡ Some p → live_of c es s ≡ live_round es p
 unfolding live_of_rows net_of stay_row
-live_at c es s p e = part_of_stay (λ (row : StayRow). row.live) es s p e
+live_at c es s p e = part_of_stay (λ (row : StayRow). row.live) c es s p e
 
 stays_of_net : (c : Topology) (es : List Event) → (instance_of c es).stays ≡ length (stays_begun es)
 unfolding instance_of_rows net_of
-stays_of_net c es = length-map (stays_begun es) (stay_row es)
+stays_of_net c es = length-map (stays_begun es) (stay_row c es)
 
 devices_of_net : (c : Topology) (es : List Event) → (instance_of c es).devices ≡ length c.devices
 unfolding instance_of_rows net_of
@@ -251,8 +250,8 @@ net_sound c es config legal complete = record {
   to_last = λ s lt.
       let stay = stay_of_net c es s lt in
       rw (last_at c es s stay.0 stay.1, rounds_of_net c es) (last_round-le es stay.0 (λ k d within. ((windows-legal history_rules c es legal).each k d within).soon));
-  some_weight = λ s lt. let stay = stay_of_net c es s lt in rw (weight_at c es s stay.0 stay.1) (weight_small stay.0.priority).0;
-  small_weight = λ s lt. let stay = stay_of_net c es s lt in rw (weight_at c es s stay.0 stay.1) (weight_small stay.0.priority).1;
+  some_weight = λ s lt. let stay = stay_of_net c es s lt in rw (weight_at c es s stay.0 stay.1) (weight_small c stay.0.priority).0;
+  small_weight = λ s lt. let stay = stay_of_net c es s lt in rw (weight_at c es s stay.0 stay.1) (weight_small c stay.0.priority).1;
   small_dev_cap = small_dev_caps c es config legal;
   small_sim_cap = small_sim_caps c es config legal;
   live_admissible = live_admissible c es legal complete;
@@ -268,7 +267,7 @@ net_is_net c es config legal complete = record {
 
 -- rows that have each part of it are the net
 pub net_of_parts : (c : Topology) (es : List Event) (rounds adapters : ℕ) (adapter_of : List ℕ) (stays : List StayRow) (dev_caps sim_caps : List ℕ) →
-    rounds ≡ round es → adapters ≡ length c.adapters → adapter_of ≡ map (λ (device : Device). device.bus) c.devices → stays ≡ map (stay_row es) (stays_begun es) →
+    rounds ≡ round es → adapters ≡ length c.adapters → adapter_of ≡ map (λ (device : Device). device.bus) c.devices → stays ≡ map (stay_row c es) (stays_begun es) →
     dev_caps ≡ table (length c.devices) (round es) (dev_cap c es) → sim_caps ≡ table (length c.adapters) (round es) (sim_cap c es) →
     ◌≡◌ {A = NetRows} (record { rounds = rounds; adapters = adapters; adapter_of = adapter_of; stays = stays; dev_caps = dev_caps; sim_caps = sim_caps }) (net_of c es)
 unfolding net_of

@@ -6,12 +6,12 @@ use Rattle.std.specs.Option.{option_map_or}
 use Rattle.std.proofs.lemmas.Bool.{and_parts, leb-true}
 use Rattle.std.proofs.lemmas.Option.{slice_get_within, get_or_from_slice_get}
 use Rattle.cam_types.specs.Topology.{Topology, IsConfig, are_openings}
-use Rattle.cam_types.specs.Priority.{weight, run_level}
+use Rattle.cam_types.specs.Priority.{run_level}
 use Rattle.cam_types.specs.declared.device.Device.{Device}
-use Rattle.cam_types.specs.declared.maxima.TheConstants.{MOST_OPENINGS}
+use Rattle.cam_types.specs.declared.maxima.TheConstants.{MOST_OPENINGS, MOST_WEIGHT}
 use Rattle.cam_event.specs.Event.{is_tick, is_adjust_of, adjusts_to}
 use Rattle.cam_event.specs.Counts.{round, last}
-use Rattle.cam_types.specs.Questions.{names_device, device_openings, adapter_openings}
+use Rattle.cam_types.specs.Questions.{names_device, device_openings, adapter_openings, weight}
 use Rattle.cam_event.specs.Head.{openings}
 use Rattle.cam_event.specs.declared.event.Event.{Event}
 use Rattle.cam_event.specs.declared.event.Event.TheVariants.{Adjust}
@@ -112,6 +112,6 @@ level_small false false true d = (omega arith, omega arith)
 level_small false false false true = (omega arith, omega arith)
 level_small false false false false = (omega arith, omega arith)
 
--- a weight is between 1 and 16
-pub weight_small : (priority : ℕ) → (1 ≤ weight priority) × (weight priority ≤ 16)
-weight_small priority = level_small (run_level priority == 0) (run_level priority == 1) (run_level priority == 2) (run_level priority == 3)
+-- a weight is at least 1, and not above the largest
+pub weight_small : (c : Topology) (priority : ℕ) → (1 ≤ weight c priority) × (weight c priority ≤ MOST_WEIGHT)
+weight_small c priority = level_small (run_level priority == 0) (run_level priority == 1) (run_level priority == 2) (run_level priority == 3)

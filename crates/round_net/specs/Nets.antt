@@ -2,9 +2,9 @@
 use Rattle.std.specs.Prelude.{ℕ, ◌+◌, ◌-◌, ◌*◌, ◌/◌, ◌%◌, List, length, map, unwrap_or}
 use Rattle.std.specs.List.{range_with_len}
 use Rattle.std.specs.Option.{option_map_or}
-use Rattle.cam_types.specs.Priority.{weight}
 use Rattle.cam_types.specs.Topology.{Topology}
 use Rattle.cam_types.specs.declared.device.Device.{Device}
+use Rattle.cam_types.specs.Questions.{weight}
 use Rattle.cam_event.specs.Counts.{round}
 use Rattle.cam_event.specs.Stays.{stays_begun, name_of}
 use Rattle.cam_event.specs.Live.{live_round}
@@ -22,24 +22,24 @@ unfoldable pub last_round : List Event → Stay → ℕ
 last_round events p = option_map_or (λ (q : Stay). q.arrival - 1) (next_stay (stays_begun events) p) (round events)
 
 -- a stay with its window and weight, and where it was sent
-unfoldable pub stay_row : List Event → Stay → StayRow
-stay_row events p = record {
+unfoldable pub stay_row : Topology → List Event → Stay → StayRow
+stay_row c events p = record {
   stay = name_of p;
   device = p.device;
   arrival = p.arrival;
   last = last_round events p;
-  weight = weight p.priority;
+  weight = weight c p.priority;
   live = live_round events p;
 }
 
 -- the same by the record of the stay, in a history of so many rounds
-abbrev pub row_of : ℕ → StayRecord → StayRow
-row_of rounds r = record {
+abbrev pub row_of : Topology → ℕ → StayRecord → StayRow
+row_of c rounds r = record {
   stay = name_of r.stay;
   device = r.stay.device;
   arrival = r.stay.arrival;
   last = option_map_or (λ arrival. arrival - 1) r.next_arrival rounds;
-  weight = weight r.stay.priority;
+  weight = weight c r.stay.priority;
   live = unwrap_or r.sent rounds;
 }
 
@@ -57,7 +57,7 @@ net_of c events = record {
   rounds = round events;
   adapters = length c.adapters;
   adapter_of = map (λ (device : Device). device.bus) c.devices;
-  stays = map (stay_row events) (stays_begun events);
+  stays = map (stay_row c events) (stays_begun events);
   dev_caps = table (length c.devices) (round events) (dev_cap c events);
   sim_caps = table (length c.adapters) (round events) (sim_cap c events);
 }

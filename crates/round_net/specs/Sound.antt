@@ -1,6 +1,6 @@
 -- what holds of every net
 use Rattle.std.specs.Prelude.{◌≡◌, ℕ, ◌*◌, ◌<◌, ◌≤◌, length}
-use Rattle.cam_types.specs.declared.maxima.TheConstants.{MOST_ROUNDS, MOST_STAYS, MOST_DEVICES, MOST_ADAPTERS, MOST_OPENINGS}
+use Rattle.cam_types.specs.declared.maxima.TheConstants.{MOST_ROUNDS, MOST_STAYS, MOST_DEVICES, MOST_ADAPTERS, MOST_OPENINGS, MOST_WEIGHT}
 use Rattle.round_net.specs.Instance.{Instance}
 use Rattle.round_net.specs.Schedules.{IsAdmissible}
 use Rattle.round_net.specs.Rows.{NetRows, instance_of_rows, live_of_rows}
@@ -17,7 +17,7 @@ pub record IsSound (net : Instance) (live : ℕ → ℕ) : Type 0 where
   pub from_first : (s : ℕ) → s < net.stays → 1 ≤ net.arrival s
   pub to_last : (s : ℕ) → s < net.stays → net.last s ≤ net.rounds
   pub some_weight : (s : ℕ) → s < net.stays → 1 ≤ net.weight s
-  pub small_weight : (s : ℕ) → s < net.stays → net.weight s ≤ 16
+  pub small_weight : (s : ℕ) → s < net.stays → net.weight s ≤ MOST_WEIGHT
   pub small_dev_cap : (d r : ℕ) → net.dev_cap d r ≤ MOST_OPENINGS
   pub small_sim_cap : (a r : ℕ) → net.sim_cap a r ≤ MOST_OPENINGS
   pub live_admissible : IsAdmissible net live

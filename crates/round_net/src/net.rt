@@ -79,7 +79,7 @@ impl Net {
         })
     }
 
-    /// How many rounds there are, at most 128.
+    /// How many rounds there are, at most `MOST_ROUNDS`.
     #[tactic(auto, unfolding(crate::specs::Rows::instance_of_rows))]
     pub fn rounds(&self) -> u32
         ensures same { result ≡ (instance_of_rows self.now).rounds }

@@ -17,7 +17,7 @@ pub fn stay_rows(
     records: &[StayRecord],
     rounds: u32,
 ) -> Result<Vec<StayRow>, AllocError>
-    ensures { IfOk result (λ rows. rows.items ≡ map (row_of rounds) records.now) }
+    ensures { IfOk result (λ rows. rows.items ≡ map (row_of config.now rounds) records.now) }
 {
     let mut rows = Vec::new(alloc);
     for record in records {
@@ -29,7 +29,7 @@ pub fn stay_rows(
 // The last round of a stay is the one before its CCB's next stay arrives, or else the last of all; a stay without a send
 // counts as sent in the last.
 fn stay_row(config: &Config, kept: &StayRecord, rounds: u32) -> StayRow
-    ensures { result ≡ row_of rounds kept.now }
+    ensures { result ≡ row_of config.now rounds kept.now }
 {
     let stay = &kept.stay;
     StayRow {

@@ -15,7 +15,7 @@ pub fn cost(net: &Net, schedule: &Schedule) -> Option<u64>
     ensures waits { MatchOption result
         (IsEarly (instance_of_rows net.now) (slice_index schedule.now))
         (λ c. IsNowhereEarly (instance_of_rows net.now) (slice_index schedule.now) × (c ≡ cost (instance_of_rows net.now) (slice_index schedule.now))) }
-    ensures small { IfSome result (λ c. c ≤ 2 ^ 46) }
+    ensures small { IfSome result (λ c. c ≤ 2 ^ 54) }
     ensures sound { IsSound (instance_of_rows net.now) (live_of_rows net.now) }
 {
     let mut total = 0;
@@ -31,7 +31,7 @@ fn waiting(net: &Net, schedule: &Schedule, stay: u32) -> Option<u64>
     requires stay { stay < (instance_of_rows net.now).stays }
     ensures same { let n = instance_of_rows net.now in let r = slice_index schedule.now stay in
         MatchOption result (r < n.arrival stay) (λ c. (n.arrival stay ≤ r) × (c ≡ n.weight stay * (r - n.arrival stay))) }
-    ensures short { IfSome result (λ c. c ≤ 2 ^ 36) }
+    ensures short { IfSome result (λ c. c ≤ 2 ^ 42) }
 {
     let waited = schedule.round(stay).checked_sub(net.arrival(stay))?;
     Some(u64::from(net.weight(stay)) * u64::from(waited))

@@ -2,7 +2,6 @@ pub mod ListFacts
 pub mod WalkLemmas
 pub mod RestLemmas
 pub mod PassLemmas
-pub mod LaneCount
 pub mod NameLemmas
 pub mod ConfigLemmas
 pub mod LaneLemmas

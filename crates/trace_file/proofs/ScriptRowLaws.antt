@@ -9,6 +9,7 @@ use Rattle.cam_path.specs.Paths as path
 use Rattle.cam_path.specs.declared.path.CamPath.{CamPath}
 use Rattle.cam_path.proofs.PathLaws.{reading_again, reading_fits, reading_takes}
 use Rattle.cam_types.proofs.LeastLemmas.{find_passes}
+use Rattle.cam_types.specs.declared.maxima.TheConstants.{MOST_CCBS, MOST_ROUNDS, MOST_STAYS, MOST_EVENTS}
 use Rattle.trace_file.specs.declared.script_row.ScriptRow.{ScriptRow}
 use Rattle.trace_file.specs.declared.script_row.ScriptRow.TheVariants as row
 use Rattle.trace_file.specs.declared.script_word.ScriptWord.{ScriptWord}
@@ -167,10 +168,10 @@ unfolding limits_at is_limits
 limits_take fields b is e =
     let whole = and_parts _ _ is in
     let eight = eqb-true _ _ whole.0 in
-    next_limit fields 1 1024 _ b eight (omega arith) (omega arith) e (λ ccbs p t1 r1.
-    next_limit fields 2 128 _ b eight (omega arith) (omega arith) r1 (λ rounds q t2 r2.
-    next_limit fields 3 1024 _ b eight (omega arith) (omega arith) r2 (λ stays r t3 r3.
-    next_limit fields 4 65535 _ b eight (omega arith) (omega arith) r3 (λ events t t4 r4.
+    next_limit fields 1 MOST_CCBS _ b eight (omega arith) (omega arith) e (λ ccbs p t1 r1.
+    next_limit fields 2 MOST_ROUNDS _ b eight (omega arith) (omega arith) r1 (λ rounds q t2 r2.
+    next_limit fields 3 MOST_STAYS _ b eight (omega arith) (omega arith) r2 (λ stays r t3 r3.
+    next_limit fields 4 MOST_EVENTS _ b eight (omega arith) (omega arith) r3 (λ events t t4 r4.
     no_more fields 5 3 _ b (λ x. (fields ≡ limits_row x) × (are_within x ≡ true)) eight refl r4 (λ rest.
     (peel fields 0 _ _ eight (omega arith) (same_bytes _ _ whole.1) (t1 _ (t2 _ (t3 _ (t4 _ rest)))), and_from _ _ (and_from _ _ (and_from _ _ p q) r) t))))))
 
@@ -187,7 +188,7 @@ limits_again b h =
     let x = and_parts _ _ h in
     let y = and_parts _ _ x.0 in
     let z = and_parts _ _ y.0 in
-    (refl, rw (limit_again fields 1 1024 b.ccbs (omega arith) z.0 refl, limit_again fields 2 128 b.rounds (omega arith) z.1 refl, limit_again fields 3 1024 b.stays (omega arith) y.1 refl, limit_again fields 4 65535 b.events (omega arith) x.1 refl) refl)
+    (refl, rw (limit_again fields 1 MOST_CCBS b.ccbs (omega arith) z.0 refl, limit_again fields 2 MOST_ROUNDS b.rounds (omega arith) z.1 refl, limit_again fields 3 MOST_STAYS b.stays (omega arith) y.1 refl, limit_again fields 4 MOST_EVENTS b.events (omega arith) x.1 refl) refl)
 
 -- ---- what is spelled so is read
 

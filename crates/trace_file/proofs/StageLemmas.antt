@@ -8,6 +8,7 @@ use Rattle.cam_types.specs.declared.config.ConfigError.{ConfigError}
 use Rattle.cam_types.specs.declared.config.ConfigError.TheVariants as error
 use Rattle.cam_types.proofs.ListLemmas.{first_answer-push}
 use Rattle.cam_types.proofs.TopologyLemmas.{config_fault-draft}
+use Rattle.cam_types.specs.declared.maxima.TheConstants.{MOST_ADAPTERS}
 use Rattle.cam_event.specs.Legal.{history_rules, is_legal as legal_by}
 use Rattle.cam_event.proofs.LawLemmas.{legal-push}
 use Rattle.trace_file.specs.Histories.{Topology, Device, Event, Past, ConfigFault, adapter_fault, device_fault, lane_fault, config_fault, is_legal_event, is_legal}
@@ -33,7 +34,7 @@ pub cond_none : {X : Type 0} (b : Bool) (x : X) (rest : Option X) → cond b (So
 cond_none true x rest e = absurd cc
 cond_none false x rest e = (refl, e)
 
-pub few_adapters : (adapters : List ℕ) (openings : ℕ) → adapter_fault (adapters, openings) ≡ None → length adapters < 4
+pub few_adapters : (adapters : List ℕ) (openings : ℕ) → adapter_fault (adapters, openings) ≡ None → length adapters < MOST_ADAPTERS
 unfolding adapter_fault
 few_adapters adapters openings none = leb-false _ _ (cond_none _ _ _ none).0
 
@@ -67,7 +68,7 @@ clamped_small d h =
     ap (λ (b : ℕ). let x : Device = record { bus = b; target = d.target; lun = d.lun; openings = d.openings } in x) same
 
 -- a bus above 255 names no adapter, whichever it is
-pub clamped_fault : (n : ℕ) (before : List Device) (d : DeviceRow) → n ≤ 4 → device_fault n (before, clamped d) ≡ device_fault n (before, device_of d)
+pub clamped_fault : (n : ℕ) (before : List Device) (d : DeviceRow) → n ≤ MOST_ADAPTERS → device_fault n (before, clamped d) ≡ device_fault n (before, device_of d)
 unfolding device_fault address_fault
 clamped_fault n before d few = grind (arith, nat_tests)
 
@@ -82,7 +83,7 @@ device_small n before d e =
     (leb-false _ _ c.0, ltb-false _ _ l.0, leb-true _ _ (and_parts _ _ (not-false _ b.0)).1)
 
 -- a device that breaks no rule is the one that the record spells
-pub clamped_same : (n : ℕ) (before : List Device) (d : DeviceRow) → n ≤ 4 → device_fault n (before, clamped d) ≡ None → clamped d ≡ device_of d
+pub clamped_same : (n : ℕ) (before : List Device) (d : DeviceRow) → n ≤ MOST_ADAPTERS → device_fault n (before, clamped d) ≡ None → clamped d ≡ device_of d
 clamped_same n before d few none =
     let small = device_small n before (clamped d) none in
     clamped_small d (omega arith)

@@ -22,7 +22,8 @@ use Rattle.trace_file.specs.Rows.{most_number}
 use Rattle.trace_file.specs.Trace.{FitsEvent, IsHistory, IsTrace}
 use Rattle.trace_file.specs.Writing.{text_of, trace_text}
 use Rattle.cam_types.proofs.TopologyLemmas.{few_devices}
-use Rattle.cam_event.proofs.ListFacts.{count_by-push}
+use Rattle.cam_types.specs.declared.maxima.TheConstants.{MOST_ADAPTERS, MOST_DEVICES, MOST_LANES, MOST_EVENTS}
+use Rattle.cam_event.proofs.LaneCount.{few_lanes}
 use Rattle.trace_file.proofs.AgainLaws.{Along, along_both}
 use Rattle.trace_file.proofs.HexLaws.{length-hex}
 use Rattle.trace_file.proofs.RecordLemmas.{first_left, none_left}
@@ -128,48 +129,6 @@ short_device d a b c o =
     let w = ten d.openings o in
     eight (codes "dev") (decimal d.bus) (decimal d.target) (decimal d.lun) (decimal d.openings) [] [] [] (omega arith)
 
--- ---- how many records a configuration has
-
--- so many lanes are on this adapter
-abbrev on : ℕ → List ℕ → ℕ
-on k lanes = count_by (λ a. a == k) lanes
-
-lane_room : (n : ℕ) (before : List ℕ) (a : ℕ) → lane_fault n (before, a) ≡ None → on a before < 4
-unfolding lane_fault
-lane_room n before a e = leb-false _ _ (cond_none (nat_le 4 (on a before)) TooMany (cond (nat_le n a) (Some NoAdapter) None) e).0
-
-one_more : (f : ℕ → ℕ) (a k more : ℕ) → f a < 4 → f k ≤ 4 → more ≡ f k + cond (a == k) 1 0 → more ≤ 4
-one_more f a k more room few e = grind (arith, nat_tests)
-
-few_on : (n k : ℕ) (before lanes : List ℕ) → Along (λ b a. lane_fault n (b, a) ≡ None) before lanes → on k before ≤ 4 → on k (before ++ lanes) ≤ 4
-few_on n k before [] h few = subst (λ (l : List ℕ). on k l ≤ 4) (sym (append-nil before)) few
-few_on n k before (a ∷ lanes) h few =
-    let one = one_more (λ i. on i before) a k (on k (before ++ a ∷ [])) (lane_room n before a h.0) few (count_by-push (λ b. b == k) before a) in
-    subst (λ (l : List ℕ). on k l ≤ 4) (append_assoc before (a ∷ []) lanes) (few_on n k (before ++ a ∷ []) lanes h.1 one)
-
-more_on : (k a : ℕ) (lanes : List ℕ) → on k (a ∷ lanes) ≡ cond (a == k) 1 0 + on k lanes
-more_on k a lanes = sum_by-cons (λ (b : ℕ). cond (b == k) 1 0) a lanes
-
-one_of : (a : ℕ) → a < 4 → cond (a == 0) 1 0 + (cond (a == 1) 1 0 + (cond (a == 2) 1 0 + cond (a == 3) 1 0)) ≡ 1
-one_of a h = grind (arith, nat_tests)
-
-each_counted : (n : ℕ) (before lanes : List ℕ) → n ≤ 4 → Along (λ b a. lane_fault n (b, a) ≡ None) before lanes → length lanes ≤ on 0 lanes + (on 1 lanes + (on 2 lanes + on 3 lanes))
-each_counted n before [] few h = omega arith
-each_counted n before (a ∷ lanes) few h =
-    let more = each_counted n (before ++ a ∷ []) lanes few h.1 in
-    let here = lane_small n before a h.0 in
-    let one = one_of a (omega arith) in
-    rw (more_on 0 a lanes, more_on 1 a lanes, more_on 2 a lanes, more_on 3 a lanes) (omega arith)
-
-few_lanes : (n : ℕ) (lanes : List ℕ) → n ≤ 4 → Along (λ b a. lane_fault n (b, a) ≡ None) [] lanes → length lanes ≤ 16
-few_lanes n lanes few h =
-    let all = each_counted n [] lanes few h in
-    let a = few_on n 0 [] lanes h (omega arith) in
-    let b = few_on n 1 [] lanes h (omega arith) in
-    let c = few_on n 2 [] lanes h (omega arith) in
-    let d = few_on n 3 [] lanes h (omega arith) in
-    omega arith
-
 -- ---- a whole history
 
 -- a record that is written whole, in few bytes
@@ -201,7 +160,7 @@ text-le (row ∷ rows) h =
     omega arith
 
 -- a history's records: each is good, and they aren't many
-good_records : (past : Past) → IsHistory past → length past.events ≤ 65535 → All IsGood (records_of past) × (length (records_of past) ≤ 65572)
+good_records : (past : Past) → IsHistory past → length past.events ≤ MOST_EVENTS → All IsGood (records_of past) × (length (records_of past) ≤ MOST_EVENTS + (1 + MOST_ADAPTERS + MOST_DEVICES + MOST_ADAPTERS * MOST_LANES))
 unfolding records_of
 good_records past h few =
     let t = past.config in
@@ -214,8 +173,8 @@ good_records past h few =
     let events = All-map IsGood event_row past.events (All-weaker FitsEvent (λ e. IsGood (event_row e)) good_event past.events (All-from_recursion FitsEvent past.events h.events)) in
     let lanes = map lane_row t.lanes ++ map event_row past.events in
     let rest = map device_row t.devices ++ lanes in
-    let sixteen = few_devices t (record { kept = h.config }) in
-    let lane_count = few_lanes n t.lanes k.few k.lanes in
+    let device_count = few_devices t (record { kept = h.config }) in
+    let lane_count = few_lanes t (record { kept = h.config }) in
     let size_a = length-append (map adapter_row t.adapters) rest in
     let size_d = length-append (map device_row t.devices) lanes in
     let size_l = length-append (map lane_row t.lanes) (map event_row past.events) in
@@ -223,7 +182,7 @@ good_records past h few =
     let d = length-map t.devices device_row in
     let l = length-map t.lanes lane_row in
     let e = length-map past.events event_row in
-    let four = k.few in (
+    let adapter_count = k.few in (
       All-cons IsGood header _ good_header
           (All-append IsGood (map adapter_row t.adapters) rest openings
           (All-append IsGood (map device_row t.devices) lanes devices (All-append IsGood (map lane_row t.lanes) (map event_row past.events) buses events))),

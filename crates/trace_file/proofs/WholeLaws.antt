@@ -9,6 +9,7 @@ use Rattle.cam_types.specs.Lists.{first_answer, moments}
 use Rattle.cam_types.specs.Topology.{item_fault}
 use Rattle.cam_types.specs.declared.config_fault.ConfigFault.TheVariants.{NoAdapters}
 use Rattle.cam_types.proofs.ListLemmas.{few_where_none, or_left, or_right}
+use Rattle.cam_types.specs.declared.maxima.TheConstants.{MOST_ADAPTERS}
 use Rattle.cam_event.specs.Legal.{history_rules, is_legal as legal_by}
 use Rattle.cam_event.proofs.LegalLemmas.{none-legal}
 use Rattle.trace_file.specs.Histories.{Topology, Device, Event, Past, adapter_fault, device_fault, lane_fault, refusal, config_fault, is_legal, is_legal_event}
@@ -62,7 +63,7 @@ one_adapter n (b ∷ bs) o e =
 abbrev pub GoodDevice : List ℕ → List Device → Device → Type 0
 GoodDevice as' before d = (device_fault (length as') (before, d) ≡ None) × (d.target ≤ 65535)
 
-one_device : (as' : List ℕ) → length as' ≤ 4 → (n : ℕ) (before : List Device) (d : Device) → GoodDevice as' before d
+one_device : (as' : List ℕ) → length as' ≤ MOST_ADAPTERS → (n : ℕ) (before : List Device) (d : Device) → GoodDevice as' before d
     → step n (at_devices as' before) (device_row d) ≡ Ok (at_devices as' (before ++ d ∷ []))
 unfolding add_device stands
 one_device as' few n [] d h =
@@ -72,7 +73,7 @@ one_device as' few n (b ∷ bs) d h =
     let s = device_small (length as') (b ∷ bs) d h.0 in
     device_step n (at_devices as' (b ∷ bs)) d (λ k. cc) refl (omega arith) h.1 s.1 (omega arith) ∙ rw h.0 refl
 
-one_lane : (as' : List ℕ) (ds : List Device) → length as' ≤ 4 → (n : ℕ) (before : List ℕ) (a : ℕ) → lane_fault (length as') (before, a) ≡ None
+one_lane : (as' : List ℕ) (ds : List Device) → length as' ≤ MOST_ADAPTERS → (n : ℕ) (before : List ℕ) (a : ℕ) → lane_fault (length as') (before, a) ≡ None
     → step n (at_lanes as' ds before) (lane_row a) ≡ Ok (at_lanes as' ds (before ++ a ∷ []))
 unfolding add_lane stands
 one_lane as' [] few n [] a e =
@@ -123,7 +124,7 @@ begun (a ∷ as') e = refl
 
 pub record Kept (as' : List ℕ) (ds : List Device) (ls : List ℕ) : Type 0 where
   pub some : (length as' == 0) ≡ false
-  pub few : length as' ≤ 4
+  pub few : length as' ≤ MOST_ADAPTERS
   pub adapters : Along (λ b x. adapter_fault (b, x) ≡ None) [] as'
   pub devices : Along (λ b x. device_fault (length as') (b, x) ≡ None) [] ds
   pub lanes : Along (λ b x. lane_fault (length as') (b, x) ≡ None) [] ls
@@ -139,7 +140,7 @@ kept as' ds ls e =
     let rest = or_right a (option_or d l) c.1 in
     record {
       some = c.0;
-      few = few_where_none adapter_fault 4 few_adapters as' (or_left a (option_or d l) c.1);
+      few = few_where_none adapter_fault MOST_ADAPTERS few_adapters as' (or_left a (option_or d l) c.1);
       adapters = none_along adapter_fault [] as' (or_left a (option_or d l) c.1);
       devices = none_along (device_fault n) [] ds (or_left d l rest);
       lanes = none_along (lane_fault n) [] ls (or_right d l rest);

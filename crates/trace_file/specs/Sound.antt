@@ -2,6 +2,7 @@
 use Rattle.std.specs.Prelude.{◌≡◌, ◌<◌, ◌≤◌, ⊤, true, [], length, None}
 use Rattle.std.specs.List.{sum_by}
 use Rattle.cam_types.specs.Topology.{IsDraft}
+use Rattle.cam_types.specs.declared.maxima.TheConstants.{MOST_ADAPTERS}
 use Rattle.trace_file.specs.Histories.{Topology, Past, config_fault, is_legal}
 use Rattle.trace_file.specs.declared.script_stage.ScriptStage.{ScriptStage}
 use Rattle.trace_file.specs.declared.script_stage.ScriptStage.TheVariants as script
@@ -13,7 +14,7 @@ use Rattle.trace_file.specs.declared.trace_stage.TraceStage.TheVariants as stage
 pub record IsBegun (t : Topology) : Type 0 where
   pub draft : IsDraft t
   pub some : 0 < length t.adapters
-  pub few : length t.adapters ≤ 4
+  pub few : length t.adapters ≤ MOST_ADAPTERS
 
 -- a configuration within its rules, and legal events
 pub record IsKept (p : Past) : Type 0 where

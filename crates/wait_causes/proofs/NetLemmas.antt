@@ -9,4 +9,4 @@ use Rattle.round_net.specs.Rows.{instance_of_rows}
 
 pub all_stays : (c : Topology) (events : List Event) → (instance_of_rows (net_of c events)).stays ≡ length (stays_begun events)
 unfolding instance_of_rows net_of
-all_stays c events = length-map (stays_begun events) (stay_row events)
+all_stays c events = length-map (stays_begun events) (stay_row c events)

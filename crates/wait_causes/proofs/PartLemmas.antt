@@ -184,21 +184,21 @@ pub part_adds_up : (c : Topology) (es : List Event) (best : List ℕ) → all_co
 unfolding part_of
 part_adds_up c es best = costs_add_up c es best
 
-lives : (c : Topology) (es : List Event) (ps : List Stay) (bs : List ℕ) → length bs ≡ length ps → sum_by (measure Live) (map (λ (m : Stay × ℕ). explained_stay c es m.0 m.1) (zip ps bs)) ≡ sum_by (live_part es) ps
+lives : (c : Topology) (es : List Event) (ps : List Stay) (bs : List ℕ) → length bs ≡ length ps → sum_by (measure Live) (map (λ (m : Stay × ℕ). explained_stay c es m.0 m.1) (zip ps bs)) ≡ sum_by (live_part c es) ps
 unfolding explained_stay live_part
 lives c es [] bs same = refl
 lives c es (p ∷ ps) [] same = absurd (omega arith)
 lives c es (p ∷ ps) (b ∷ bs) same =
     sum_by-cons (measure Live) (explained_stay c es p b) (map (λ (m : Stay × ℕ). explained_stay c es m.0 m.1) (zip ps bs))
-    ∙ ap (λ n. live_part es p + n) (lives c es ps bs (omega arith))
-    ∙ sym (sum_by-cons (live_part es) p ps)
+    ∙ ap (λ n. live_part c es p + n) (lives c es ps bs (omega arith))
+    ∙ sym (sum_by-cons (live_part c es) p ps)
 
 -- what all stays cost is the cost of the live schedule, where each stay was sent
-pub part_is_live : (c : Topology) (es : List Event) (best : List ℕ) → length best ≡ length (stays_begun es) → IfSome (live_cost es) (λ cost. (part_of (explained_stays c es best)).live ≡ cost)
+pub part_is_live : (c : Topology) (es : List Event) (best : List ℕ) → length best ≡ length (stays_begun es) → IfSome (live_cost c es) (λ cost. (part_of (explained_stays c es best)).live ≡ cost)
 unfolding part_of explained_stays
-part_is_live c es best same = elim (is_some (unsent es)) as (λ b. is_some (unsent es) ≡ b → IfSome (live_cost es) (λ cost. (part_of (explained_stays c es best)).live ≡ cost)) [
-  | true ↦ λ e. rw (live_cost_unsent es e) tt
-  | false ↦ λ e. rw (live_cost_sent es e) (lives c es (stays_begun es) best same)
+part_is_live c es best same = elim (is_some (unsent es)) as (λ b. is_some (unsent es) ≡ b → IfSome (live_cost c es) (λ cost. (part_of (explained_stays c es best)).live ≡ cost)) [
+  | true ↦ λ e. rw (live_cost_unsent c es e) tt
+  | false ↦ λ e. rw (live_cost_sent c es e) (lives c es (stays_begun es) best same)
 ] refl
 
 -- there are no more stays than a history may have

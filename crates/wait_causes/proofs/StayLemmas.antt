@@ -11,8 +11,8 @@ use Rattle.std.proofs.lemmas.Option.{get_or_from_slice_get, slice_get_within}
 use Rattle.std.proofs.lemmas.List.Sums.{AllPass-from_list_all}
 use Rattle.std.proofs.lemmas.List.Elements.{All-weaker}
 use Rattle.cam_types.specs.Topology.{Topology}
-use Rattle.cam_types.specs.Questions.{names_device, device_adapter}
-use Rattle.cam_types.specs.Priority.{weight, run_level}
+use Rattle.cam_types.specs.Questions.{names_device, device_adapter, weight}
+use Rattle.cam_types.specs.Priority.{run_level}
 use Rattle.cam_event.specs.Legal.{Rules, history_rules, is_legal}
 use Rattle.cam_event.specs.Laws.{is_in_range, is_stay_of, is_stay_in_range}
 use Rattle.cam_event.proofs.RangeLemmas.{stays_in_range}
@@ -84,7 +84,7 @@ live_round-unsent es p unsent =
 
 -- a row by its parts
 pub row_of_parts : (c : Topology) (es : List Event) (causes : List Cause) (r : StayRecord) (best driver adapter w live : ℕ) (rounds : CauseRounds) →
-    driver ≡ option_map_or (λ (s : Submission). s.driver) (submission es r.stay.ccb) 0 → adapter ≡ device_adapter c r.stay.device → w ≡ weight r.stay.priority → live ≡ sent_in es r →
+    driver ≡ option_map_or (λ (s : Submission). s.driver) (submission es r.stay.ccb) 0 → adapter ≡ device_adapter c r.stay.device → w ≡ weight c r.stay.priority → live ≡ sent_in es r →
     rounds ≡ rounds_by (map (cause_in causes (length c.devices) r.stay.device) (range_with_len r.stay.arrival (live - r.stay.arrival))) →
     Path ExplainedStay (record {
       ccb = r.stay.ccb;

@@ -3,8 +3,8 @@ use Rattle.std.specs.Prelude.{ℕ, ◌+◌, ◌-◌, Bool, true, false, List, ma
 use Rattle.std.specs.List.{range_with_len}
 use Rattle.std.specs.Option.{option_map_or}
 use Rattle.cam_types.specs.Topology.{Topology}
-use Rattle.cam_types.specs.Questions.{device_adapter}
-use Rattle.cam_types.specs.Priority.{weight, run_level}
+use Rattle.cam_types.specs.Questions.{device_adapter, weight}
+use Rattle.cam_types.specs.Priority.{run_level}
 use Rattle.cam_event.specs.Counts.{round, submission}
 use Rattle.cam_event.specs.Stays.{stays_begun}
 use Rattle.cam_event.specs.Live.{live_round}
@@ -53,7 +53,7 @@ explained_stay c events p best = record {
   adapter = device_adapter c p.device;
   priority = p.priority;
   level = run_level p.priority;
-  weight = weight p.priority;
+  weight = weight c p.priority;
   arrival = p.arrival;
   live = live_round events p;
   best = best;
@@ -91,7 +91,7 @@ row_by c events causes (r, best) = record {
   adapter = device_adapter c r.stay.device;
   priority = r.stay.priority;
   level = run_level r.stay.priority;
-  weight = weight r.stay.priority;
+  weight = weight c r.stay.priority;
   arrival = r.stay.arrival;
   live = sent_in events r;
   best = best;

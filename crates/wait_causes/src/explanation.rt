@@ -113,7 +113,7 @@ impl Explanation {
     pub fn whole(&self) -> Part
         ensures part { result ≡ part_of (explained_stays self.now.config self.now.events self.now.best) }
         ensures add_up { all_costs result.costs ≡ result.live }
-        ensures live { IfSome (live_cost self.now.events) (λ cost. result.live ≡ cost) }
+        ensures live { IfSome (live_cost self.now.config self.now.events) (λ cost. result.live ≡ cost) }
     {
         part_of(&self.stays)
     }

@@ -1,25 +1,13 @@
--- a transport of the largest limits takes each event of a history, and so gets the receipts of one thread
+-- a transport by the rules of histories takes each event of a history, and so gets the receipts of one thread
 use Rattle.std.proofs.Common.{◌≡◌, ℕ, ◌+◌, ◌<◌, ◌≤◌, true, List, [], ◌∷◌, ◌++◌, length, take, map, Some, None, Result, Ok, Err, refl, sym, ap, subst, ◌∙◌, arith, length-take}
-use Rattle.std.specs.Prelude.{not, ◌&&◌, nat_lt, nat_le, IsOk, slice_index_or}
-use Rattle.std.specs.List.{list_any}
-use Rattle.std.proofs.lemmas.Bool.{and_parts, and_from, ltb-true, lt-ltb}
+use Rattle.std.specs.Prelude.{IsOk, slice_index_or}
 use Rattle.std.proofs.lemmas.List.{take_more, map_push, length-map}
 use Rattle.cam_event.proofs.ListFacts.{length-moments_after}
-use Rattle.std.proofs.lemmas.List.FromFn.{length-range_with_len}
-use Rattle.std.proofs.lemmas.List.Sums.{count_by-le-length}
 use Rattle.cam_types.proofs.ListLemmas.{moments-push}
-use Rattle.cam_types.specs.Bounds.{most_bounds}
 use Rattle.cam_types.specs.Lists.{moments}
-use Rattle.cam_types.specs.Questions.{names_device}
 use Rattle.cam_types.specs.Topology.{Topology}
-use Rattle.cam_types.specs.declared.maxima.TheConstants.{MOST_CCBS, MOST_STAYS, MOST_PRIORITY, MOST_RETRIES}
-use Rattle.cam_event.specs.Event.{ends}
-use Rattle.cam_event.specs.Counts.{commands, ccbs, alive}
-use Rattle.cam_event.specs.Stays.{stays_begun}
-use Rattle.cam_event.proofs.TotalLaws.{commands-stays}
 use Rattle.cam_event.specs.declared.event.Event.{Event}
-use Rattle.cam_event.specs.declared.event.Event.TheVariants.{Submit}
-use Rattle.cam_event.specs.Legal.{Rules, rules_of, history_rules, has_ccb, has_stay, is_allowed, is_legal, is_legal_event}
+use Rattle.cam_event.specs.Legal.{history_rules, is_legal, is_legal_event}
 use Rattle.cam_event.specs.declared.refusal.Refusal.{Refusal}
 use Rattle.cam_event.proofs.LegalLemmas.{none-legal}
 use Rattle.cam_event.proofs.LimitLemmas.{legal-at}
@@ -31,35 +19,9 @@ use Rattle.xpt_state.specs.declared.reply.Reply.{Reply}
 use Rattle.xpt_lock.specs.Receipts.{receipts_of}
 use Rattle.xpt_lock.specs.declared.receipt.Receipt.{Receipt}
 
-abbrev most_rules : Rules
-most_rules = rules_of most_bounds
-
--- no more CCBs are alive than stays have begun
-few_alive : (es : List Event) → alive es ≤ length (stays_begun es)
-unfolding alive
-few_alive es = omega (arith, count_by-le-length (λ ccb. not (list_any (ends ccb) es)) (ccbs es), length-range_with_len 0 (commands es), commands-stays es)
-
--- so where one more stay may begin, one more CCB may be alive
-room_alive : (es : List Event) → has_stay history_rules es ≡ true → nat_lt (alive es) MOST_CCBS ≡ true
-room_alive es has = lt-ltb _ _ (omega (arith, few_alive es, ltb-true (length (stays_begun es)) MOST_STAYS has))
-
--- what a history allows, the largest limits allow
-allowed_most : (c : Topology) (es : List Event) (e : Event) → is_allowed history_rules c es e ≡ true → is_allowed most_rules c es e ≡ true
-allowed_most c es (Submit driver device priority retries flags) h =
-    let named = names_device c device && nat_le priority MOST_PRIORITY && nat_le retries MOST_RETRIES in
-    let one = and_parts (named && has_ccb history_rules es) (has_stay history_rules es) h in
-    and_from _ _ (and_from _ _ (and_parts named true one.0).0 (room_alive es one.1)) one.1
-allowed_most c es _ h = h
-
-legal_most : (c : Topology) (es : List Event) (e : Event) → is_legal_event history_rules c (es, e) ≡ true → is_legal_event most_rules c (es, e) ≡ true
-unfolding is_legal_event
-legal_most c es e h =
-    let parts = and_parts (nat_lt (length es) history_rules.events) (is_allowed history_rules c es e) h in
-    and_from _ _ parts.0 (allowed_most c es e parts.1)
-
 -- the transport behind the first i events
 abbrev pub at_place : Topology → List Event → ℕ → Transport
-at_place c all i = record { config = c; rules = rules_of most_bounds; events = take i all }
+at_place c all i = record { config = c; rules = history_rules; events = take i all }
 
 -- it takes the next one
 pub takes_next : (c : Topology) (all : List Event) (i : ℕ) (old new : Transport) (e : Event) (r : Result Reply Refusal) → is_legal history_rules c all ≡ true → old ≡ at_place c all i → i < length all → e ≡ slice_index_or all i e →
@@ -67,7 +29,7 @@ pub takes_next : (c : Topology) (all : List Event) (i : ℕ) (old new : Transpor
 takes_next c all i old new e (Ok reply) legal so_far lt item step = refl
 takes_next c all i old new e (Err why) legal so_far lt item step =
     let here : is_legal_event history_rules c (take i all, e) ≡ true = ap (λ (x : Event). is_legal_event history_rules c (take i all, x)) item ∙ legal-at history_rules c all i e lt legal in
-    let free : refused (at_place c all i) e ≡ None = none-legal most_rules c (take i all) e (legal_most c (take i all) e here) in
+    let free : refused (at_place c all i) e ≡ None = none-legal history_rules c (take i all) e here in
     let why_not : refused (at_place c all i) e ≡ Some why = subst (λ (t : Transport). refused t e ≡ Some why) so_far step.0 in
     absurd (differ (sym free ∙ why_not))
   where

@@ -5,7 +5,7 @@ ghost use Rattle.cam_types.specs.declared.maxima.TheConstants.{MOST_EVENTS};
 ghost use Rattle.xpt_lock.specs.Receipts.{receipts_of};
 
 use crate::receipt::Receipt;
-use cam_types::Limits;
+use cam_event::Rules;
 use std::alloc::{AllocError, Global};
 use xpt_state::{History, Xpt};
 
@@ -14,7 +14,8 @@ pub(crate) fn replay(alloc: Global, history: &History) -> Result<Vec<Receipt>, A
     ensures same { IfOk result (λ v. v.items ≡ receipts_of history.now.config history.now.events) }
     ensures few { IfOk result (λ v. length v.items ≤ MOST_EVENTS) }
 {
-    let mut xpt = Xpt::open(alloc, history.config().copy(alloc)?, Limits::most())?;
+    let config = history.config().copy(alloc)?;
+    let mut xpt = Xpt::by(alloc, config, Rules::of_history())?;
     let mut receipts = Vec::new(alloc);
     let events = history.events();
     for event in events {

@@ -77,7 +77,7 @@ impl History {
         self.xpt.events()
     }
 
-    /// The last round so far, from 1 to 128.
+    /// The last round so far, from 1 to 512.
     #[tactic(auto, using(cam_event::proofs::LimitLemmas::round_first, cam_event::proofs::LimitLemmas::round_most))]
     pub fn round(&self) -> u32
         ensures same { result ≡ round self.now.events }
@@ -94,7 +94,7 @@ impl History {
         devices(self.xpt.state()).commands()
     }
 
-    /// How many stays began, at most 1,024.
+    /// How many stays began, at most 4,096.
     #[tactic(auto, using(cam_event::proofs::LimitLemmas::stays_most))]
     pub fn stay_count(&self) -> u32
         ensures same { result ≡ length (stays_begun self.now.events) }
@@ -119,7 +119,7 @@ impl History {
 
     /// What the waiting of all stays cost, in rounds by weight, where each of them was sent.
     pub fn live_cost(&self) -> Option<u64>
-        ensures { result ≡ live_cost self.now.events }
+        ensures { result ≡ live_cost self.now.config self.now.events }
     {
         self.xpt.state().live_cost()
     }

@@ -60,9 +60,10 @@ impl Xpt {
         Xpt::by(alloc, config, Rules::of(limits))
     }
 
-    // A transport to which nothing has happened, with memory for all that the rules let happen.
+    /// The same by rules instead of limits. By those of a history it takes the events of every history, however many CCBs
+    /// are alive.
     #[tactic(auto, unfolding(cam_event::specs::Legal::is_legal))]
-    pub(crate) fn by(alloc: Global, config: Config, rules: Rules) -> Result<Xpt, AllocError>
+    pub fn by(alloc: Global, config: Config, rules: Rules) -> Result<Xpt, AllocError>
         ensures { IfOk result (λ x. x ≡ record { config = config; rules = rules; events = [] }) }
     {
         Ok(Xpt {

@@ -6,7 +6,8 @@ use Rattle.std.specs.Option.{option_map}
 use Rattle.std.proofs.lemmas.List.Sums.{sum_by-cons}
 use Rattle.std.proofs.lemmas.Option.{slice_get_within, slice_get_cases, get_or_from_slice_get}
 use Rattle.std.proofs.lemmas.Bool.{cases_lt, or_parts}
-use Rattle.cam_types.specs.Priority.{weight}
+use Rattle.cam_types.specs.Topology.{Topology}
+use Rattle.cam_types.specs.Questions.{weight}
 use Rattle.cam_event.specs.Counts.{round, commands}
 use Rattle.cam_event.specs.Event.{is_some_and}
 use Rattle.cam_event.specs.Stays.{stays_begun, name_of, unsent, has_arrived, has_queued}
@@ -56,27 +57,27 @@ module _ (es : List Event) where
   any-map (p ∷ ps) = rw (unsent-of es p, any-map ps) refl
 
   -- where each was sent, records cost what the live schedule did
-  cost_cases : (p : Stay) (n : ℕ) (b : Bool) → b ≡ false → weight p.priority * (unwrap_or (cond b None (Some n)) 0 - p.arrival) ≡ weight p.priority * (n - p.arrival)
-  cost_cases p n true is = absurd (cc)
-  cost_cases p n false is = refl
+  cost_cases : (c : Topology) (p : Stay) (n : ℕ) (b : Bool) → b ≡ false → weight c p.priority * (unwrap_or (cond b None (Some n)) 0 - p.arrival) ≡ weight c p.priority * (n - p.arrival)
+  cost_cases c p n true is = absurd (cc)
+  cost_cases c p n false is = refl
 
-  sum-map : (ps : List Stay) → list_any (stays.is_unsent es) ps ≡ false → sum_by waiting_cost (map (record_of es) ps) ≡ sum_by (live_part es) ps
+  sum-map : (c : Topology) (ps : List Stay) → list_any (stays.is_unsent es) ps ≡ false → sum_by (waiting_cost c) (map (record_of es) ps) ≡ sum_by (live_part c es) ps
   unfolding live_part
-  sum-map [] h = refl
-  sum-map (p ∷ ps) h =
+  sum-map c [] h = refl
+  sum-map c (p ∷ ps) h =
       let parts = or_parts (stays.is_unsent es p) (list_any (stays.is_unsent es) ps) h in
-      sum_by-cons waiting_cost (record_of es p) (map (record_of es) ps)
-      ∙ ap (λ n. n + sum_by waiting_cost (map (record_of es) ps)) (cost_cases p (live_round es p) (stays.is_unsent es p) parts.0)
-      ∙ ap (λ n. live_part es p + n) (sum-map ps parts.1) ∙ sym (sum_by-cons (live_part es) p ps)
+      sum_by-cons (waiting_cost c) (record_of es p) (map (record_of es) ps)
+      ∙ ap (λ n. n + sum_by (waiting_cost c) (map (record_of es) ps)) (cost_cases c p (live_round es p) (stays.is_unsent es p) parts.0)
+      ∙ ap (λ n. live_part c es p + n) (sum-map c ps parts.1) ∙ sym (sum_by-cons (live_part c es) p ps)
 
-  all_sent : (t : Bool) → list_any (stays.is_unsent es) (stays_begun es) ≡ t →
-      cond t None (Some (sum_by waiting_cost (map (record_of es) (stays_begun es)))) ≡ cond t None (Some (sum_by (live_part es) (stays_begun es)))
-  all_sent true h = refl
-  all_sent false h = ap Some (sum-map (stays_begun es) h)
+  all_sent : (c : Topology) (t : Bool) → list_any (stays.is_unsent es) (stays_begun es) ≡ t →
+      cond t None (Some (sum_by (waiting_cost c) (map (record_of es) (stays_begun es)))) ≡ cond t None (Some (sum_by (live_part c es) (stays_begun es)))
+  all_sent c true h = refl
+  all_sent c false h = ap Some (sum-map c (stays_begun es) h)
 
-  pub cost-records : cond (list_any is_unsent (records es)) None (Some (sum_by waiting_cost (records es))) ≡ live_cost es
+  pub cost-records : (c : Topology) → cond (list_any is_unsent (records es)) None (Some (sum_by (waiting_cost c) (records es))) ≡ live_cost c es
   unfolding records live_cost
-  cost-records = rw (any-map (stays_begun es)) (all_sent (list_any (stays.is_unsent es) (stays_begun es)) refl)
+  cost-records c = rw (any-map (stays_begun es)) (all_sent c (list_any (stays.is_unsent es) (stays_begun es)) refl)
 
 -- what is read of a CCB's latest stay, behind a transport's events
 module _ (i : Inside) (is : IsStays i) (t : Transport) (view : i.ccbs ≡ t) where
@@ -139,6 +140,6 @@ module _ (i : Inside) (is : IsStays i) (t : Transport) (view : i.ccbs ≡ t) whe
   found-none h =
       ap (option_map (λ (x : StayRecord). name_of x.stay)) (sym h ∙ ap (find is_unsent) is.records) ∙ find-records i.ccbs.events ∙ ap (λ (x : Transport). unsent x.events) view
 
-  pub cost-by : (rs : List StayRecord) → rs ≡ i.records.items → cond (list_any is_unsent rs) None (Some (sum_by waiting_cost rs)) ≡ live_cost t.events
+  pub cost-by : (rs : List StayRecord) → rs ≡ i.records.items → cond (list_any is_unsent rs) None (Some (sum_by (waiting_cost t.config) rs)) ≡ live_cost t.config t.events
   cost-by rs same =
-      ap (λ ys. cond (list_any is_unsent ys) None (Some (sum_by waiting_cost ys))) (same ∙ is.records) ∙ cost-records i.ccbs.events ∙ ap (λ (x : Transport). live_cost x.events) view
+      ap (λ ys. cond (list_any is_unsent ys) None (Some (sum_by (waiting_cost t.config) ys))) (same ∙ is.records) ∙ cost-records i.ccbs.events t.config ∙ ap (λ (x : Transport). live_cost t.config x.events) view

@@ -8,6 +8,7 @@ use Rattle.std.proofs.lemmas.Option.{slice_get_within, slice_get-map}
 use Rattle.std.proofs.lemmas.List.Sums.{count_by-le-length}
 use Rattle.cam_types.specs.Topology.{Topology}
 use Rattle.cam_types.specs.declared.flags.Flags.{Flags}
+use Rattle.cam_types.specs.declared.maxima.TheConstants.{MOST_STAYS}
 use Rattle.cam_event.specs.Event.{submission_of, is_send_of, is_requeue_of}
 use Rattle.cam_event.specs.Counts.{round, commands, ccbs, submissions}
 use Rattle.cam_event.specs.Stays.{stays_begun, stay_begun}
@@ -106,10 +107,10 @@ module _ (i : Inside) (is : IsStays i) where
   pub short : length i.ccbs.events ≤ 65535
   short = omega (arith, short-legal i.ccbs.rules i.ccbs.config i.ccbs.events is.legal, is.within.events)
 
-  pub few-records : vec_len i.records ≤ 1024
+  pub few-records : vec_len i.records ≤ MOST_STAYS
   few-records = omega (arith, len-records, stays-legal i.ccbs.rules i.ccbs.config i.ccbs.events is.legal, is.within.stays)
 
-  pub few-latest : vec_len i.latest ≤ 1024
+  pub few-latest : vec_len i.latest ≤ MOST_STAYS
   few-latest = omega (arith, len-latest, len-records, few-records, commands-stays i.ccbs.events)
 
   pub few-rounds : round i.ccbs.events ≤ 65536

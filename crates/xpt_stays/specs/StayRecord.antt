@@ -1,6 +1,7 @@
 -- what a stay's record says, and what it becomes
 use Rattle.std.specs.Prelude.{ℕ, ◌+◌, ◌-◌, ◌*◌, Bool, true, ◌&&◌, nat_le, Some, None, is_none, unwrap_or}
-use Rattle.cam_types.specs.Priority.{weight}
+use Rattle.cam_types.specs.Topology.{Topology}
+use Rattle.cam_types.specs.Questions.{weight}
 use Rattle.cam_event.specs.declared.stay.Stay.{Stay}
 use Rattle.xpt_stays.specs.declared.stay_record.StayRecord.{StayRecord}
 
@@ -12,9 +13,9 @@ is_unsent r = is_none r.sent
 abbrev pub is_queued : ℕ → StayRecord → Bool
 is_queued round r = is_unsent r && nat_le r.stay.arrival round
 
--- what its waiting from its arrival to its send cost
-abbrev pub waiting_cost : StayRecord → ℕ
-waiting_cost r = weight r.stay.priority * (unwrap_or r.sent 0 - r.stay.arrival)
+-- what its waiting from its arrival to its send cost in this configuration
+abbrev pub waiting_cost : Topology → StayRecord → ℕ
+waiting_cost c r = weight c r.stay.priority * (unwrap_or r.sent 0 - r.stay.arrival)
 
 -- a stay begins
 abbrev pub begun : Stay → StayRecord

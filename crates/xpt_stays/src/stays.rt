@@ -125,7 +125,7 @@ impl Stays {
     /// The cost of the live schedule, in weighted rounds: what each stay's waiting from its arrival to the round of its
     /// send cost. None if a stay has no send. It takes time that grows with the number of stays.
     pub fn live_cost(&self) -> Option<u64>
-        ensures { result ≡ live_cost self.now.events }
+        ensures { result ≡ live_cost self.now.config self.now.events }
     {
         live_sum(self.ccbs.adapters().devices().config(), &self.records)
     }
@@ -148,7 +148,7 @@ fn first_unsent(records: &[StayRecord]) -> Option<StayRecord>
 // What the waiting of all stays cost, if each of them was sent.
 fn live_sum(config: &Config, records: &[StayRecord]) -> Option<u64>
     requires { length records.now ≤ MOST_STAYS }
-    ensures { result ≡ (if list_any is_unsent records.now then None else Some (sum_by waiting_cost records.now)) }
+    ensures { result ≡ (if list_any is_unsent records.now then None else Some (sum_by (waiting_cost config.now) records.now)) }
 {
     let mut total = 0;
     for record in records {

@@ -4,12 +4,12 @@ ghost use Rattle.std.specs.Prelude.{◌≡◌, ◌≤◌, slice_get};
 ghost use Rattle.std.specs.Option.{option_map};
 ghost use Rattle.cam_types.specs.declared.device.Device.{Device};
 ghost use Rattle.cam_types.specs.declared.maxima.TheConstants.{MOST_WEIGHT};
-ghost use Rattle.cam_types.specs.Priority.{weight};
+ghost use Rattle.cam_types.specs.Priority.{run_level, level_weight};
 ghost use Rattle.cam_types.specs.Topology.{IsConfig};
-ghost use Rattle.cam_types.specs.Questions.{names_device, names_adapter, names_lane, is_on};
+ghost use Rattle.cam_types.specs.Questions.{names_device, names_adapter, names_lane, is_on, weight};
 
 use super::Config;
-use crate::priority::weight_of;
+use crate::maxima::MOST_WEIGHT;
 
 impl Config {
     /// Whether there is a device of that number.
@@ -57,12 +57,19 @@ impl Config {
         self.device_adapter(device) == Some(adapter)
     }
 
-    /// What a round of waiting costs at a priority.
+    /// What a round of waiting costs at a priority: 16, 8, 4, 2 or 1 from run level HOST to NORMAL. The weights are a rule of
+    /// this project.
     pub fn weight(&self, priority: u32) -> u32
-        ensures same { result ≡ weight priority }
+        ensures same { result ≡ weight self.now priority }
         ensures some { 1 ≤ result }
         ensures most { result ≤ MOST_WEIGHT }
     {
-        weight_of(priority)
+        match priority >> 8 {
+            0 => MOST_WEIGHT,
+            1 => 8,
+            2 => 4,
+            3 => 2,
+            _ => 1,
+        }
     }
 }

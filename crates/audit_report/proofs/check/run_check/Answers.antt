@@ -10,6 +10,6 @@ use Rattle.audit_report.proofs.check.run_check.Goals as goal
 pub unreachable-requires : goal.unreachable-requires
 unreachable-requires g c =
     let sent : is_some (unsent c.in-Ok.history.events) ≡ false = ap (λ (o : Option StayName). is_some o) (sym c.in_default.ensures) in
-    let some = live_cost_sent c.in-Ok.history.events sent in
-    let none : None ≡ live_cost c.in-Ok.history.events = c.in_default-live_cost.ensures in
+    let some = live_cost_sent c.in-Ok.history.config c.in-Ok.history.events sent in
+    let none : None ≡ live_cost c.in-Ok.history.config c.in-Ok.history.events = c.in_default-live_cost.ensures in
     cc

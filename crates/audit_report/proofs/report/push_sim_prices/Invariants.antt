@@ -1,4 +1,5 @@
 use Rattle.std.proofs.Common.{length, ◌≡◌, ◌+◌, ◌++◌, ◌*◌, ◌≤◌}
+use Rattle.cam_types.specs.declared.maxima.TheConstants.{MOST_ROUNDS}
 use Rattle.round_net.specs.Rows.{instance_of_rows}
 use Rattle.round_net.specs.PriceRows.{pricing_of_rows}
 use Rattle.price_check.specs.Report.{texts_below, sim_line}
@@ -8,4 +9,4 @@ abbrev pub invariant-loop-adapter : goal.invariant-loop-adapter
 invariant-loop-adapter l =
     (l.text.items ≡ l.initial.text.items
     ++ texts_below l.adapter (λ a. texts_below (instance_of_rows l.net).rounds (λ r. sim_line (pricing_of_rows l.prices) a (r + 1))))
-    × (length l.text.items ≤ length l.initial.text.items + 20000 * l.adapter)
+    × (length l.text.items ≤ length l.initial.text.items + 156 * MOST_ROUNDS * l.adapter)

@@ -1,5 +1,6 @@
 use Rattle.std.proofs.Common.{ℕ, ◌≡◌, ◌<◌, ◌≤◌, ◌*◌, sym, subst, arith, length, get_or}
 use Rattle.std.proofs.lemmas.List.{get_or_read}
+use Rattle.gaining_cycle.specs.declared.arc.TheConstants.{MOST_UP}
 use Rattle.round_net.specs.Rows.{instance_of_rows, live_of_rows}
 use Rattle.cost_plan.specs.Draft.{schedule_of}
 use Rattle.cost_plan.proofs.NodeLemmas.{up-le}
@@ -12,4 +13,4 @@ returns-clause-up c =
     let inside : c.args.stay < length rounds = omega (arith, c.requires.draft.long) in
     let now : c.index-now.result.now ≡ get_or rounds c.args.stay 0 = get_or_read rounds _ _ inside c.index-now.ensures 0 in
     let few = up-le net (live_of_rows c.args.net.now) c.args.stay (schedule_of c.args.draft.now c.args.stay) c.node.ensures.sound c.requires.stay (c.requires.draft.within c.args.stay c.requires.stay) in
-    subst (λ (w : ℕ). w * c.index-now.result.now ≤ 4096) (sym c.weight-weight.ensures.same) (subst (λ (r : ℕ). net.weight c.args.stay * r ≤ 4096) (sym now) few)
+    subst (λ (w : ℕ). w * c.index-now.result.now ≤ MOST_UP) (sym c.weight-weight.ensures.same) (subst (λ (r : ℕ). net.weight c.args.stay * r ≤ MOST_UP) (sym now) few)

@@ -1,5 +1,6 @@
 use Rattle.std.proofs.Common.{ℕ, ◌≡◌, ◌+◌, ◌*◌, ◌<◌, ◌≤◌, ◌∙◌, Option, length, ap, sym, subst, arith, inl}
 use Rattle.std.proofs.lemmas.Nat.{mul-le}
+use Rattle.cam_types.specs.declared.maxima.TheConstants.{MOST_ROUNDS, MOST_WEIGHT}
 use Rattle.gaining_cycle.specs.declared.arc.Arc.{Arc}
 use Rattle.round_net.specs.Rows.{instance_of_rows, live_of_rows}
 use Rattle.cost_plan.specs.Cells.{node_count}
@@ -19,7 +20,7 @@ overflow_add-arc c =
 
 pub overflow_mul-arc : goal.overflow_mul-arc
 overflow_mul-arc c =
-    let product : c.weight-weight.result * c.loop-round.round ≤ 16 * 128 = mul-le c.weight-weight.result c.loop-round.round 16 128 c.weight-weight.ensures.most (omega (arith, c.loop-round-test.true, c.last-round-end.ensures.most)) in
+    let product : c.weight-weight.result * c.loop-round.round ≤ MOST_WEIGHT * MOST_ROUNDS = mul-le c.weight-weight.result c.loop-round.round MOST_WEIGHT MOST_ROUNDS c.weight-weight.ensures.most (omega (arith, c.loop-round-test.true, c.last-round-end.ensures.most)) in
     omega arith
 
 pub relax-requires-clause-head : goal.relax-requires-clause-head

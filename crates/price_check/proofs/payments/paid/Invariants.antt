@@ -1,5 +1,6 @@
 use Rattle.std.proofs.Common.{◌≡◌, ◌-◌, ◌≤◌, ◌*◌, ◌^◌}
 use Rattle.std.specs.Prelude.{map}
+use Rattle.cam_types.specs.declared.maxima.TheConstants.{MOST_WEIGHT}
 use Rattle.round_net.specs.Sums.{least}
 use Rattle.round_net.specs.Rows.{instance_of_rows}
 use Rattle.round_net.specs.PriceRows.{pricing_of_rows}
@@ -14,9 +15,9 @@ invariant-loop-next l =
     record {
       so_far : l.total ≡ up_to net (λ s. least (map (priced net (pricing_of_rows l.prices) s) (allowed net s))) l.weight;
       short : l.total ≤ 2 ^ 80 * l.weight;
-      few : l.weight ≤ 16;
+      few : l.weight ≤ MOST_WEIGHT;
       next : IsNextWeight net l.weight net.stays l.next;
     }
 
 abbrev pub decreases-loop-next : goal.decreases-loop-next
-decreases-loop-next l = 16 - l.weight
+decreases-loop-next l = MOST_WEIGHT - l.weight

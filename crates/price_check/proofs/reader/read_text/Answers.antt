@@ -3,7 +3,7 @@ use Rattle.price_check.proofs.OutcomeLaws.{some_rounds, devices_of, live_not_unk
 use Rattle.price_check.proofs.reader.read_text.Goals as goal
 
 pub unreachable-requires : goal.unreachable-requires
-unreachable-requires c = live_not_unknown c.args.history.now.events c.requires.complete (sym c.live_cost.ensures ∙ c.in_default.is)
+unreachable-requires c = live_not_unknown c.args.history.now.config c.args.history.now.events c.requires.complete (sym c.live_cost.ensures ∙ c.in_default.is)
 
 pub read_lines-requires-clause-devices : goal.read_lines-requires-clause-devices
 read_lines-requires-clause-devices c =

@@ -10,5 +10,5 @@ invariant-loop-adapter l =
     let prices = pricing_of_rows l.prices in
     record {
       so_far : l.total ≡ sum_below l.adapter (λ x. sum_to net.rounds (λ r. net.sim_cap x r * prices.sim x r));
-      short : l.total ≤ 2 ^ 56 * l.adapter;
+      short : l.total ≤ 2 ^ 57 * l.adapter;
     }

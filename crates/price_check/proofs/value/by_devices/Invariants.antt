@@ -10,5 +10,5 @@ invariant-loop-device l =
     let prices = pricing_of_rows l.prices in
     record {
       so_far : l.total ≡ sum_below l.device (λ x. sum_to net.rounds (λ r. net.dev_cap x r * prices.dev x r));
-      short : l.total ≤ 2 ^ 56 * l.device;
+      short : l.total ≤ 2 ^ 57 * l.device;
     }

@@ -1,6 +1,6 @@
 use Rattle.std.proofs.Common.{◌≡◌, ◌*◌, ◌/◌, ◌<◌, ◌≤◌, length, sym, ap, ◌∙◌, arith}
 use Rattle.std.proofs.lemmas.Nat.{mul-le}
-use Rattle.cam_types.specs.declared.maxima.TheConstants.{MOST_ADAPTERS}
+use Rattle.cam_types.specs.declared.maxima.TheConstants.{MOST_ADAPTERS, MOST_ROUNDS}
 use Rattle.cam_types.specs.Questions.{adapter_openings}
 use Rattle.round_net.specs.Nets.{cells}
 use Rattle.cam_types.proofs.ConfigLemmas.{few_adapters}
@@ -23,7 +23,7 @@ returns c =
 pub overflow_mul-at-end : goal.overflow_mul-at-end
 overflow_mul-at-end c =
     let few : length c.adapters.result.now ≤ MOST_ADAPTERS = rw c.adapters.ensures.same (few_adapters c.args.config.now c.adapters.ensures.kept) in
-    let small = mul-le (length c.adapters.result.now) c.args.rounds 4 128 few c.requires.few in
+    let small = mul-le (length c.adapters.result.now) c.args.rounds MOST_ADAPTERS MOST_ROUNDS few c.requires.few in
     omega arith
 
 pub overflow_cast-at : goal.overflow_cast-at

@@ -12,5 +12,5 @@ invariant-loop-stay l =
     record {
       so_far : l.total ≡ sum_below l.stay (λ s. net.weight s * (f s - net.arrival s));
       not_early : (s : ℕ) → s < l.stay → net.arrival s ≤ f s;
-      short : l.total ≤ 2 ^ 36 * l.stay;
+      short : l.total ≤ 2 ^ 42 * l.stay;
     }

@@ -1,7 +1,7 @@
 use Rattle.std.proofs.Common.{◌≡◌, ◌*◌, ◌≤◌, length, refl, ap, subst, arith, ◌∙◌}
 use Rattle.std.proofs.lemmas.Nat.{mul-le}
 use Rattle.cam_types.specs.Topology.{Topology}
-use Rattle.cam_types.specs.declared.maxima.TheConstants.{MOST_ADAPTERS}
+use Rattle.cam_types.specs.declared.maxima.TheConstants.{MOST_ADAPTERS, MOST_ROUNDS}
 use Rattle.xpt_devices.specs.Transport.{Transport}
 use Rattle.round_net.specs.Marks.{IsNoted}
 use Rattle.cam_types.proofs.ConfigLemmas.{few_adapters}
@@ -11,7 +11,7 @@ use Rattle.round_net.proofs.walk.walk_through.Goals as goal
 pub overflow_mul-sim_cells : goal.overflow_mul-sim_cells
 overflow_mul-sim_cells c =
     let few : length c.adapters.result.now ≤ MOST_ADAPTERS = rw c.adapters.ensures.same (few_adapters c.args.config.now c.adapters.ensures.kept) in
-    let small = mul-le (length c.adapters.result.now) c.args.rounds 4 128 few c.requires.few in
+    let small = mul-le (length c.adapters.result.now) c.args.rounds MOST_ADAPTERS MOST_ROUNDS few c.requires.few in
     omega arith
 
 pub returns-clause-noted : goal.returns-clause-noted

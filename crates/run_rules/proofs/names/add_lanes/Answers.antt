@@ -1,5 +1,5 @@
 use Rattle.std.proofs.Common.{ℕ, List, length, ap, arith}
-use Rattle.run_rules.proofs.LaneCount.{few_lanes}
+use Rattle.cam_event.proofs.LaneCount.{few_lanes}
 use Rattle.run_rules.proofs.NameLemmas.{one_lane_more}
 use Rattle.run_rules.proofs.names.add_lanes.Goals as goal
 

@@ -7,6 +7,6 @@ use Rattle.xpt_stays.proofs.stays.live_sum.Given as goal
 abbrev pub invariant-loop-record : goal.invariant-loop-record
 invariant-loop-record l = record {
   sent : list_any is_unsent (take l.record-index l.records) ≡ false;
-  so_far : l.total ≡ sum_by waiting_cost (take l.record-index l.records);
-  short : l.total ≤ 2 ^ 36 * l.record-index;
+  so_far : l.total ≡ sum_by (waiting_cost l.config) (take l.record-index l.records);
+  short : l.total ≤ 2 ^ 42 * l.record-index;
 }

@@ -34,7 +34,7 @@ invariant_of-result c =
     c.in_ok-notes.notes.dev_frozen.items c.in_ok-notes.notes.sim_frozen.items c.in_ok-notes.notes.dev_openings.items c.in_ok-notes.notes.dev_sends.items c.in_ok-notes.notes.sim_sends.items
     c.in_ok-openings.openings.items c.in_ok-caps.field-0.items c.in_ok-caps-2.field-0.items
     (c.round-rounds.ensures.same ∙ ap round (sym events)) (ap length c.adapters.ensures.same) (c.in_ok-adapters_of.ensures ∙ rw c.devices.ensures.same refl)
-    (c.in_ok-stay_rows.ensures ∙ ap (map (row_of c.round-rounds.result)) (c.stays.ensures ∙ ap records (sym events)))
+    (c.in_ok-stay_rows.ensures ∙ ap (map (row_of c.config-config.result.now c.round-rounds.result)) (c.stays.ensures ∙ ap records (sym events)))
     c.in_ok-notes.ensures.noted c.in_ok-notes.ensures.cells c.in_ok-openings.ensures
     (rw (c.deref.ensures.value, c.deref-2.ensures.value, c.deref-3.ensures.value) at c.in_ok-caps.ensures)
     (rw (c.deref-4.ensures.value, c.deref-5.ensures.value, c.deref-6.ensures.value) at c.in_ok-caps-2.ensures)
@@ -52,7 +52,7 @@ returns-clause-net c =
     c.in_ok-notes.notes.dev_frozen.items c.in_ok-notes.notes.sim_frozen.items c.in_ok-notes.notes.dev_openings.items c.in_ok-notes.notes.dev_sends.items c.in_ok-notes.notes.sim_sends.items
     c.in_ok-openings.openings.items c.in_ok-caps.field-0.items c.in_ok-caps-2.field-0.items
     (c.round-rounds.ensures.same ∙ ap round (sym events)) (ap length c.adapters.ensures.same) (c.in_ok-adapters_of.ensures ∙ rw c.devices.ensures.same refl)
-    (c.in_ok-stay_rows.ensures ∙ ap (map (row_of c.round-rounds.result)) (c.stays.ensures ∙ ap records (sym events)))
+    (c.in_ok-stay_rows.ensures ∙ ap (map (row_of c.config-config.result.now c.round-rounds.result)) (c.stays.ensures ∙ ap records (sym events)))
     c.in_ok-notes.ensures.noted c.in_ok-notes.ensures.cells c.in_ok-openings.ensures
     (rw (c.deref.ensures.value, c.deref-2.ensures.value, c.deref-3.ensures.value) at c.in_ok-caps.ensures)
     (rw (c.deref-4.ensures.value, c.deref-5.ensures.value, c.deref-6.ensures.value) at c.in_ok-caps-2.ensures)

@@ -5,7 +5,7 @@ use Rattle.std.proofs.lemmas.List.Elements.{All-push}
 use Rattle.cam_types.specs.Topology.{Topology}
 use Rattle.cam_types.specs.declared.outcome.Outcome.{Outcome}
 use Rattle.sim_worker.specs.declared.script_port.ScriptPort.{ScriptPort}
-use Rattle.run_rules.proofs.LaneCount.{few_lanes}
+use Rattle.cam_event.proofs.LaneCount.{few_lanes}
 use Rattle.sim_worker.proofs.script_port.ScriptPort.for_lanes.Goals as goal
 
 pub overflow_cast-lane : goal.overflow_cast-lane

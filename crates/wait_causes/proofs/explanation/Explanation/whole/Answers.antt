@@ -30,6 +30,6 @@ pub returns-clause-live : goal.returns-clause-live
 returns-clause-live c =
     let x = c.self.inside in
     let best : List ℕ = map (λ (s : ExplainedStay). s.best) x.stays.items in
-    let here = subst (λ (p : Part). IfSome (live_cost x.events.items) (λ cost. p.live ≡ cost)) (sym (c.part_of.ensures ∙ ap part_of (c.deref.ensures.value ∙ c.self.invariant.rows)))
+    let here = subst (λ (p : Part). IfSome (live_cost x.config x.events.items) (λ cost. p.live ≡ cost)) (sym (c.part_of.ensures ∙ ap part_of (c.deref.ensures.value ∙ c.self.invariant.rows)))
     (part_is_live x.config x.events.items best c.self.invariant.all) in
-    subst (λ (e : Explained). IfSome (live_cost e.events) (λ cost. c.part_of.result.live ≡ cost)) c.self.view_is here
+    subst (λ (e : Explained). IfSome (live_cost e.config e.events) (λ cost. c.part_of.result.live ≡ cost)) c.self.view_is here

@@ -6,7 +6,7 @@ use Rattle.cam_types.specs.Lists.{moments, first_answer}
 use Rattle.cam_types.specs.Topology.{Topology, IsConfig, item_fault, lane_fault}
 use Rattle.cam_types.specs.declared.config_fault.ConfigFault.{ConfigFault}
 use Rattle.cam_types.specs.declared.config_fault.ConfigFault.TheVariants.{NoAdapters, TooMany, NoAdapter}
-use Rattle.cam_types.specs.declared.maxima.TheConstants.{MOST_LANES}
+use Rattle.cam_types.specs.declared.maxima.TheConstants.{MOST_ADAPTERS, MOST_LANES}
 use Rattle.cam_types.proofs.ListLemmas.{moments-push, first_answer-append, or_left, or_right}
 use Rattle.cam_types.proofs.ConfigLemmas.{few_adapters}
 use Rattle.cam_event.proofs.QueueLaws.{test_le}
@@ -57,15 +57,15 @@ total_one (suc n) xs x lt = elim (x == n) as (λ b. (x == n) ≡ b → total n (
 ] refl
 
 pub record AreFew (n : ℕ) (xs : List ℕ) : Type 0 where
-  pub each : (a : ℕ) → count_by (λ x. x == a) xs ≤ 4
+  pub each : (a : ℕ) → count_by (λ x. x == a) xs ≤ MOST_LANES
   pub all : length xs ≡ total n xs
 
 -- a lane that breaks no rule
-lane_fits : (n : ℕ) (xs : List ℕ) (x : ℕ) → lane_fault n (xs, x) ≡ None → (count_by (λ a. a == x) xs < 4) × (x < n)
+lane_fits : (n : ℕ) (xs : List ℕ) (x : ℕ) → lane_fault n (xs, x) ≡ None → (count_by (λ a. a == x) xs < MOST_LANES) × (x < n)
 unfolding lane_fault
-lane_fits n xs x h = elim (nat_le MOST_LANES (count_by (λ a. a == x) xs)) as (λ b. nat_le MOST_LANES (count_by (λ a. a == x) xs) ≡ b → cond b (Some TooMany) (cond (nat_le n x) (Some NoAdapter) None) ≡ None → (count_by (λ a. a == x) xs < 4) × (x < n)) [
+lane_fits n xs x h = elim (nat_le MOST_LANES (count_by (λ a. a == x) xs)) as (λ b. nat_le MOST_LANES (count_by (λ a. a == x) xs) ≡ b → cond b (Some TooMany) (cond (nat_le n x) (Some NoAdapter) None) ≡ None → (count_by (λ a. a == x) xs < MOST_LANES) × (x < n)) [
   | true ↦ λ is k. absurd (cc)
-  | false ↦ λ few k. elim (nat_le n x) as (λ b. nat_le n x ≡ b → cond b (Some NoAdapter) None ≡ None → (count_by (λ a. a == x) xs < 4) × (x < n)) [
+  | false ↦ λ few k. elim (nat_le n x) as (λ b. nat_le n x ≡ b → cond b (Some NoAdapter) None ≡ None → (count_by (λ a. a == x) xs < MOST_LANES) × (x < n)) [
     | true ↦ λ is j. absurd (cc)
     | false ↦ λ there j. (leb-false MOST_LANES (count_by (λ a. a == x) xs) few, leb-false n x there)
   ] refl k
@@ -77,7 +77,7 @@ few_more n xs x h none =
     let before = h (or_left _ _ parts) in
     let fits = lane_fits n xs x (or_left _ _ (or_right _ _ parts)) in
     record {
-      each = λ a. elim (x == a) as (λ b. (x == a) ≡ b → count_by (λ y. y == a) (xs ++ x ∷ []) ≤ 4) [
+      each = λ a. elim (x == a) as (λ b. (x == a) ≡ b → count_by (λ y. y == a) (xs ++ x ∷ []) ≤ MOST_LANES) [
         | true ↦ λ same.
             let at = eqb-true x a same in
             let here : count_by (λ y. y == a) xs ≡ count_by (λ y. y == x) xs = ap (λ k. count_by (λ y. y == k) xs) (sym at) in
@@ -94,7 +94,7 @@ few_none : (n : ℕ) → total n [] ≡ 0
 few_none zero = refl
 few_none (suc n) = omega (arith, few_none n)
 
-total_most : (n : ℕ) (xs : List ℕ) → ((a : ℕ) → count_by (λ x. x == a) xs ≤ 4) → total n xs ≤ n * 4
+total_most : (n : ℕ) (xs : List ℕ) → ((a : ℕ) → count_by (λ x. x == a) xs ≤ MOST_LANES) → total n xs ≤ n * MOST_LANES
 total_most zero xs h = omega arith
 total_most (suc n) xs h = omega (arith, h n, total_most n xs h)
 
@@ -106,7 +106,7 @@ lane_items : (t : Topology) → IsConfig t → first_answer (lane_fault (length 
 unfolding item_fault
 lane_items t h = or_right _ _ (or_right _ _ (fault_of (length t.adapters == 0) (item_fault t) h.kept))
 
-pub few_lanes : (c : Topology) → IsConfig c → length c.lanes ≤ 16
+pub few_lanes : (c : Topology) → IsConfig c → length c.lanes ≤ MOST_ADAPTERS * MOST_LANES
 few_lanes c h =
     let none = lane_items c h in
     let n = length c.adapters in

@@ -64,7 +64,7 @@ const SHAPES: [Shape; 7] = [
 ];
 
 #[test]
-fn a_guess_at_the_limits_is_best(rt: HostRuntime) -> Result<(), Fail> {
+fn a_guess_of_1024_stays_is_best(rt: HostRuntime) -> Result<(), Fail> {
     for shape in SHAPES {
         let history = history(rt.alloc(), shape)?;
         let net = Net::of(rt.alloc(), &history)?;

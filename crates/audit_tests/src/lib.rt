@@ -1,4 +1,4 @@
-//! Tests of what is read, written, planned and audited, by public calls, and of plans at the limits. They stand here so that
+//! Tests of what is read, written, planned and audited, by public calls, and of plans of many stays. They stand here so that
 //! no crate is proved twice for its tests.
 #![tactic(auto)]
 

@@ -1,4 +1,4 @@
-//! Histories at the limits, made by a transport.
+//! Histories of many stays, made by a transport.
 
 use cam_types::{Config, Device, Flags, Limits, Outcome, SenseBytes};
 use std::alloc::Global;

@@ -8,7 +8,6 @@ use Rattle.std.specs.Str.Parse.{digits_value}
 use Rattle.std.proofs.lemmas.Bool.{and_parts, leb-true, leb-false, ltb-false, eq-eqb, cases_lt, or_parts}
 use Rattle.std.proofs.lemmas.Fmt.{digits_decimal}
 use Rattle.std.proofs.lemmas.Str.Parse.{IsNumeralModel, numerals_by_value}
-use Rattle.std.proofs.lemmas.List.{length_push}
 use Rattle.cam_types.specs.Lists.{moments_after, moments, first_answer}
 use Rattle.cam_types.specs.Topology.{Topology, adapter_fault, device_fault, address_fault, config_fault, item_fault, is_same_address, are_openings}
 use Rattle.cam_types.specs.declared.device.Device.{Device}

@@ -1,12 +1,10 @@
 -- The text of a history's records is a trace of the history.
-use Rattle.std.proofs.Common.{◌≡◌, ◌<◌, ◌≤◌, ◌+◌, ◌*◌, ℕ, List, [], ◌∷◌, ◌++◌, length, map, Bool, cond, refl, sym, ap, ◌∙◌, subst, arith, append-nil, append_assoc, length-append, suc}
-use Rattle.std.specs.Prelude.{None, Some, decimal, count_by, nat_le, ◌==◌, codes, if◌then◌else◌}
+use Rattle.std.proofs.Common.{◌≡◌, ◌≤◌, ◌+◌, ◌*◌, ℕ, List, [], ◌∷◌, ◌++◌, length, map, Bool, refl, ap, ◌∙◌, arith, length-append, suc}
+use Rattle.std.specs.Prelude.{None, decimal, codes}
 use Rattle.std.specs.List.{AllByRecursion, flat_map, All}
-use Rattle.std.proofs.lemmas.Bool.{leb-false}
 use Rattle.std.proofs.lemmas.Bool.Decides.{nat_tests}
 use Rattle.std.proofs.lemmas.Fmt.{length-decimal-le}
 use Rattle.std.proofs.lemmas.List.{length-map}
-use Rattle.std.proofs.lemmas.List.Sums.{sum_by-cons}
 use Rattle.std.proofs.lemmas.List.Elements.{All-append, All-cons, All-from_recursion, All-map, All-nil, All-weaker, recursion_from_All}
 use Rattle.csv.specs.Machine.{next_record}
 use Rattle.csv.specs.Reading.{default_config, records, strip_bom}
@@ -14,7 +12,6 @@ use Rattle.csv.specs.Writing.{default_writer, escaped, field_text, fields_text, 
 use Rattle.csv.specs.declared.parser.State.TheVariants as st
 use Rattle.csv.proofs.RoundTrip.{read-write}
 use Rattle.cam_event.specs.declared.event.Event.TheVariants as event
-use Rattle.cam_types.specs.declared.config_fault.ConfigFault.TheVariants.{TooMany, NoAdapter}
 use Rattle.trace_file.specs.Fields.{Row, flags_text, flags_word}
 use Rattle.trace_file.specs.Histories.{Device, Event, Past, adapter_fault, device_fault, lane_fault}
 use Rattle.trace_file.specs.Records.{adapter_row, device_row, event_row, header, hex, lane_row, records_of}
@@ -27,7 +24,7 @@ use Rattle.cam_event.proofs.LaneCount.{few_lanes}
 use Rattle.trace_file.proofs.AgainLaws.{Along, along_both}
 use Rattle.trace_file.proofs.HexLaws.{length-hex}
 use Rattle.trace_file.proofs.RecordLemmas.{first_left, none_left}
-use Rattle.trace_file.proofs.StageLemmas.{cond_none, device_small}
+use Rattle.trace_file.proofs.StageLemmas.{device_small}
 use Rattle.trace_file.proofs.WholeLaws.{GoodDevice, adapter_small, kept, lane_small}
 
 -- ---- records that are written are read again

@@ -4,7 +4,6 @@ ghost use Rattle.std.specs.Prelude.{◌≡◌, ◌≤◌, slice_get};
 ghost use Rattle.std.specs.Option.{option_map};
 ghost use Rattle.cam_types.specs.declared.device.Device.{Device};
 ghost use Rattle.cam_types.specs.declared.maxima.TheConstants.{MOST_WEIGHT};
-ghost use Rattle.cam_types.specs.Priority.{run_level, level_weight};
 ghost use Rattle.cam_types.specs.Topology.{IsConfig};
 ghost use Rattle.cam_types.specs.Questions.{names_device, names_adapter, names_lane, is_on, weight};
 

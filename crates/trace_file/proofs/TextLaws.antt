@@ -1,6 +1,6 @@
 -- The text of a history's records is a trace of the history.
 use Rattle.std.proofs.Common.{◌≡◌, ◌≤◌, ◌+◌, ◌*◌, ℕ, List, [], ◌∷◌, ◌++◌, length, map, Bool, refl, ap, ◌∙◌, arith, length-append, suc}
-use Rattle.std.specs.Prelude.{None, decimal, codes}
+use Rattle.std.specs.Prelude.{None, decimal, codes, if◌then◌else◌}
 use Rattle.std.specs.List.{AllByRecursion, flat_map, All}
 use Rattle.std.proofs.lemmas.Bool.Decides.{nat_tests}
 use Rattle.std.proofs.lemmas.Fmt.{length-decimal-le}

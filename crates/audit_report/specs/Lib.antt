@@ -1,5 +1,6 @@
-pub mod Runs
-pub mod Check
 pub mod Audit
+pub mod Check
 pub mod Findings
+pub mod Migration
 pub mod Prove
+pub mod Runs

@@ -5,6 +5,7 @@ pub use audit::{read_net, run_audit};
 pub use audit_at_once::run_audit_with;
 pub use audit_fault::AuditFault;
 pub use check::run_check;
+pub use migrate::run_migrate;
 pub use prove::run_prove;
 
 mod audit;
@@ -13,6 +14,7 @@ mod audit_fault;
 mod check;
 mod costs;
 mod finding;
+mod migrate;
 mod prove;
 mod report;
 mod text;

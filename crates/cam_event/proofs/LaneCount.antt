@@ -3,12 +3,11 @@ use Rattle.std.proofs.Common.{◌≡◌, ℕ, zero, suc, ◌+◌, ◌*◌, ◌<�
 use Rattle.std.specs.Prelude.{◌==◌, nat_le, count_by}
 use Rattle.std.proofs.lemmas.Bool.{eqb-true, eq-eqb, ne_eqb, leb-false}
 use Rattle.cam_types.specs.Lists.{moments, first_answer}
-use Rattle.cam_types.specs.Topology.{Topology, IsConfig, item_fault, lane_fault}
-use Rattle.cam_types.specs.declared.config_fault.ConfigFault.{ConfigFault}
-use Rattle.cam_types.specs.declared.config_fault.ConfigFault.TheVariants.{NoAdapters, TooMany, NoAdapter}
+use Rattle.cam_types.specs.Topology.{Topology, IsConfig, lane_fault}
+use Rattle.cam_types.specs.declared.config_fault.ConfigFault.TheVariants.{TooMany, NoAdapter}
 use Rattle.cam_types.specs.declared.maxima.TheConstants.{MOST_ADAPTERS, MOST_LANES}
 use Rattle.cam_types.proofs.ListLemmas.{moments-push, first_answer-append, or_left, or_right}
-use Rattle.cam_types.proofs.ConfigLemmas.{few_adapters}
+use Rattle.cam_types.proofs.ConfigLemmas.{few_adapters, lane_items}
 use Rattle.cam_event.proofs.QueueLaws.{test_le}
 use Rattle.cam_event.proofs.ListFacts.{count_by-push}
 
@@ -97,14 +96,6 @@ few_none (suc n) = omega (arith, few_none n)
 total_most : (n : ℕ) (xs : List ℕ) → ((a : ℕ) → count_by (λ x. x == a) xs ≤ MOST_LANES) → total n xs ≤ n * MOST_LANES
 total_most zero xs h = omega arith
 total_most (suc n) xs h = omega (arith, h n, total_most n xs h)
-
-fault_of : (none : Bool) (o : Option ConfigFault) → cond none (Some NoAdapters) o ≡ None → o ≡ None
-fault_of true o h = absurd (cc)
-fault_of false o h = h
-
-lane_items : (t : Topology) → IsConfig t → first_answer (lane_fault (length t.adapters)) (moments t.lanes) ≡ None
-unfolding item_fault
-lane_items t h = or_right _ _ (or_right _ _ (fault_of (length t.adapters == 0) (item_fault t) h.kept))
 
 pub few_lanes : (c : Topology) → IsConfig c → length c.lanes ≤ MOST_ADAPTERS * MOST_LANES
 few_lanes c h =

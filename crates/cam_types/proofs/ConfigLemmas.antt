@@ -1,17 +1,21 @@
 -- what the rules of a configuration say of its items
 use Rattle.std.proofs.Common.{◌≡◌, ℕ, ◌<◌, ◌≤◌, Bool, true, false, cond, List, [], ◌∷◌, ◌++◌, length, get_or, refl, ap, arith, Option, Some, None, inl, inr}
-use Rattle.std.specs.Prelude.{not, ◌==◌, nat_le, All}
+use Rattle.std.specs.Prelude.{not, ◌==◌, nat_le, find, All}
 use Rattle.std.specs.Option.{option_map_or}
 use Rattle.std.proofs.lemmas.Bool.Decides.{nat_tests}
 use Rattle.std.proofs.lemmas.Option.{slice_get_cases, slice_get-get_or}
 use Rattle.std.proofs.lemmas.List.Elements.{All-nil, All-cons}
-use Rattle.cam_types.specs.Lists.{moments_after, first_answer}
-use Rattle.cam_types.specs.Questions.{device_adapter}
-use Rattle.cam_types.specs.Topology.{Topology, IsConfig, are_openings, adapter_fault, address_fault, device_fault, item_fault}
-use Rattle.cam_types.specs.declared.config_fault.ConfigFault.TheVariants.{NoAdapters, TooMany, BadOpenings, NoAdapter}
-use Rattle.cam_types.specs.declared.maxima.TheConstants.{MOST_ADAPTERS, MOST_DEVICES, MOST_OPENINGS}
+use Rattle.cam_types.specs.Lists.{moments, moments_after, first_answer}
+use Rattle.cam_types.specs.Questions.{device_adapter, weight}
+use Rattle.cam_types.specs.Topology.{Topology, IsConfig, are_openings, adapter_fault, address_fault, device_fault, lane_fault, lack, item_fault}
+use Rattle.cam_types.specs.Weights.{reaches_last, weight_fault, weight_in}
+use Rattle.cam_types.specs.declared.config_fault.ConfigFault.{ConfigFault}
+use Rattle.cam_types.specs.declared.weight_row.WeightRow.{WeightRow}
+use Rattle.cam_types.specs.declared.config_fault.ConfigFault.TheVariants.{NoAdapters, TooMany, BadOpenings, NoAdapter, BadWeight}
+use Rattle.cam_types.specs.declared.maxima.TheConstants.{MOST_ADAPTERS, MOST_DEVICES, MOST_OPENINGS, MOST_WEIGHT, MOST_WEIGHT_ROWS}
 use Rattle.cam_types.specs.declared.device.Device.{Device}
 use Rattle.cam_types.proofs.ListLemmas.{few_where_none, or_left, or_right}
+use Rattle.cam_types.proofs.TopologyLemmas.{few_rows}
 
 not_taken : {F : Type 0} → (b : Bool) (x : F) (o : Option F) → cond b (Some x) o ≡ None → (b ≡ false) × (o ≡ None)
 not_taken true x o e = absurd cc
@@ -29,16 +33,41 @@ each_where_none f P h before [] none = All-nil P
 each_where_none f P h before (x ∷ xs) none =
     All-cons P x xs (h before x (or_left (f (before, x)) _ none)) (each_where_none f P h (before ++ x ∷ []) xs (or_right (f (before, x)) _ none))
 
-items : (t : Topology) → IsConfig t → item_fault t ≡ None
-items t is = (not_taken (length t.adapters == 0) NoAdapters _ is.kept).1
+-- no weight's row, nothing that is lacking, and no adapter, device or lane breaks a rule
+pub weight_items : (t : Topology) → IsConfig t → first_answer weight_fault (moments t.weights) ≡ None
+weight_items t is = or_left _ _ is.kept
 
-adapter_items : (t : Topology) → IsConfig t → first_answer adapter_fault (moments_after [] t.adapters) ≡ None
+pub few_weights : (t : Topology) → IsConfig t → length t.weights ≤ MOST_WEIGHT_ROWS
+few_weights t is = few_rows t.weights (weight_items t is)
+
+pub lacks_nothing : (t : Topology) → IsConfig t → lack t.weights t.adapters ≡ None
+lacks_nothing t is = or_left _ _ (or_right _ _ is.kept)
+
+pub items : (t : Topology) → IsConfig t → item_fault t.adapters t.devices t.lanes ≡ None
+items t is = or_right _ _ (or_right _ _ is.kept)
+
+-- so the table reaches the last priority, and there is an adapter
+pub reaches : (t : Topology) → IsConfig t → reaches_last t.weights ≡ true
+reaches t is = by (reaches_last t.weights) _ (lacks_nothing t is)
+  where
+    by : (b : Bool) (o : Option ConfigFault) → cond (not b) (Some BadWeight) o ≡ None → b ≡ true
+    by true o e = refl
+    by false o e = absurd cc
+
+pub some_adapter : (t : Topology) → IsConfig t → (length t.adapters == 0) ≡ false
+some_adapter t is = (not_taken (length t.adapters == 0) NoAdapters None (not_taken (not (reaches_last t.weights)) BadWeight _ (lacks_nothing t is)).1).0
+
+pub adapter_items : (t : Topology) → IsConfig t → first_answer adapter_fault (moments_after [] t.adapters) ≡ None
 unfolding item_fault
 adapter_items t is = or_left _ _ (items t is)
 
-device_items : (t : Topology) → IsConfig t → first_answer (device_fault (length t.adapters)) (moments_after [] t.devices) ≡ None
+pub device_items : (t : Topology) → IsConfig t → first_answer (device_fault (length t.adapters)) (moments_after [] t.devices) ≡ None
 unfolding item_fault
 device_items t is = or_left _ _ (or_right _ _ (items t is))
+
+pub lane_items : (t : Topology) → IsConfig t → first_answer (lane_fault (length t.adapters)) (moments t.lanes) ≡ None
+unfolding item_fault
+lane_items t is = or_right _ _ (or_right _ _ (items t is))
 
 adapter_room : (before : List ℕ) (n : ℕ) → adapter_fault (before, n) ≡ None → length before < MOST_ADAPTERS
 unfolding adapter_fault
@@ -55,6 +84,13 @@ adapter_openings_small before n none =
 -- no adapter, and no device, has too many openings
 pub small_adapters : (t : Topology) → IsConfig t → All (λ n. n ≤ MOST_OPENINGS) t.adapters
 small_adapters t is = each_where_none adapter_fault (λ n. n ≤ MOST_OPENINGS) adapter_openings_small [] t.adapters (adapter_items t is)
+
+device_room : (adapters : ℕ) (before : List Device) (d : Device) → device_fault adapters (before, d) ≡ None → length before < MOST_DEVICES
+unfolding device_fault
+device_room adapters before d none = not_least MOST_DEVICES (length before) (not_taken (nat_le MOST_DEVICES (length before)) TooMany _ none).0
+
+pub few_devices : (t : Topology) → IsConfig t → length t.devices ≤ MOST_DEVICES
+few_devices t is = few_where_none (device_fault (length t.adapters)) MOST_DEVICES (device_room (length t.adapters)) t.devices (device_items t is)
 
 device_parts : (adapters : ℕ) (before : List Device) (d : Device) → device_fault adapters (before, d) ≡ None → (not (are_openings d.openings) ≡ false) × (address_fault adapters (before, d) ≡ None)
 unfolding device_fault
@@ -82,3 +118,25 @@ bus-there c d is lt = elim (slice_get_cases c.devices d).1 [
       omega (arith, own, devices_on_adapters c is d w.0 lt)
   | inr v ↦ absurd (omega (arith, v.0))
 ]
+
+-- ---- weights
+
+abbrev IsSmall : ℕ → Type 0
+IsSmall n = (1 ≤ n) × (n ≤ MOST_WEIGHT)
+
+small_row : (before : List WeightRow) (row : WeightRow) → weight_fault (before, row) ≡ None → IsSmall row.weight
+unfolding weight_fault
+small_row before row none = grind (arith, nat_tests)
+
+small_weight : (rows before : List WeightRow) (priority : ℕ) → first_answer weight_fault (moments_after before rows) ≡ None → IsSmall (weight_in rows priority)
+small_weight [] before priority none = (omega arith, omega arith)
+small_weight (row ∷ rows) before priority none = by (nat_le priority row.last) (small_row before row (or_left _ _ none)) (small_weight rows (before ++ row ∷ []) priority (or_right _ _ none))
+  where
+    by : (b : Bool) → IsSmall row.weight → IsSmall (weight_in rows priority)
+        → IsSmall (option_map_or (λ (r : WeightRow). r.weight) (cond b (Some row) (find (λ (r : WeightRow). nat_le priority r.last) rows)) 1)
+    by true here rest = here
+    by false here rest = rest
+
+-- what a round of waiting costs is at least 1, and not above the largest weight
+pub weight_small : (c : Topology) (priority : ℕ) → IsConfig c → IsSmall (weight c priority)
+weight_small c priority is = small_weight c.weights [] priority (weight_items c is)

@@ -2,3 +2,4 @@ pub mod ConfigLemmas
 pub mod LeastLemmas
 pub mod ListLemmas
 pub mod TopologyLemmas
+pub mod WeightLemmas

@@ -1,6 +1,8 @@
-use Rattle.std.proofs.Common.{◌≡◌, ℕ, ◌+◌, ◌<◌, ◌≤◌, List, [], ◌∷◌, ◌++◌, length, refl, ap, ◌∙◌, arith, append_assoc, append-nil, length-append}
+use Rattle.std.proofs.Common.{◌≡◌, Bool, true, ℕ, ◌+◌, ◌<◌, ◌≤◌, List, [], ◌∷◌, ◌++◌, length, refl, ap, ◌∙◌, arith, append_assoc, append-nil, length-append}
 use Rattle.std.specs.Prelude.{Option, Some, None}
 use Rattle.std.specs.Option.{option_or}
+use Rattle.std.proofs.lemmas.Bool.{and_parts}
+use lib.Pointwise.{pointwise}
 use Rattle.cam_types.specs.Lists.{moments, moments_after, first_answer}
 
 -- one element more is one moment more
@@ -44,3 +46,12 @@ few_after f n h before (x ∷ xs) le none =
 pub few_where_none : {X F : Type 0} → (f : List X × X → Option F) (n : ℕ) → ((before : List X) (x : X) → f (before, x) ≡ None → length before < n) →
     (xs : List X) → first_answer f (moments xs) ≡ None → length xs ≤ n
 few_where_none f n h xs none = omega (arith, few_after f n h [] xs (omega arith) none)
+
+-- lists that are equal place by place are equal
+pub same_lists : {X : Type 0} → (e : X → X → Bool) (xs ys : List X) → ((x y : X) → e x y ≡ true → x ≡ y) → pointwise e xs ys ≡ true → xs ≡ ys
+same_lists e [] [] decides h = refl
+same_lists e [] (y ∷ ys) decides h = absurd cc
+same_lists e (x ∷ xs) [] decides h = absurd cc
+same_lists e (x ∷ xs) (y ∷ ys) decides h =
+    let parts = and_parts (e x y) (pointwise e xs ys) h in
+    ap (λ z. z ∷ xs) (decides x y parts.0) ∙ ap (λ zs. y ∷ zs) (same_lists e xs ys decides parts.1)

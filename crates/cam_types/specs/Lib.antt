@@ -5,3 +5,4 @@ pub mod Priority
 pub mod Questions
 pub mod SenseBytes
 pub mod Topology
+pub mod Weights

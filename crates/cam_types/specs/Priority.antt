@@ -4,7 +4,7 @@ use Rattle.std.specs.Prelude.{ℕ, ◌/◌, ◌==◌, if◌then◌else◌}
 abbrev pub run_level : ℕ → ℕ
 run_level priority = priority / 256
 
--- what a round of waiting costs at a run level
+-- what a round of waiting costs at a run level by the standard table
 abbrev pub level_weight : ℕ → ℕ
 level_weight level =
     if level == 0 then 16

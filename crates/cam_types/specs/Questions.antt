@@ -2,8 +2,8 @@
 use Rattle.std.specs.Prelude.{ℕ, ◌==◌, Bool, false, nat_lt, List, length, slice_get}
 use Rattle.std.specs.List.{range_with_len}
 use Rattle.std.specs.Option.{option_map_or}
-use Rattle.cam_types.specs.Priority.{run_level, level_weight}
 use Rattle.cam_types.specs.Topology.{Topology}
+use Rattle.cam_types.specs.Weights.{weight_in}
 use Rattle.cam_types.specs.declared.device.Device.{Device}
 
 -- there is a device, an adapter, a lane of that number
@@ -41,4 +41,4 @@ devices c = range_with_len 0 (length c.devices)
 
 -- what a round of waiting costs at a priority
 abbrev pub weight : Topology → ℕ → ℕ
-weight c priority = level_weight (run_level priority)
+weight c priority = weight_in c.weights priority

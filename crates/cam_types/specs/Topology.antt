@@ -2,13 +2,16 @@ use Rattle.std.specs.Prelude.{◌≡◌, ℕ, ◌==◌, Bool, nat_lt, nat_le, no
 use Rattle.std.specs.List.{list_any}
 use Rattle.std.specs.Option.{option_or}
 use Rattle.cam_types.specs.Lists.{moments, first_answer}
+use Rattle.cam_types.specs.Weights.{weight_fault, reaches_last}
 use Rattle.cam_types.specs.declared.device.Device.{Device}
+use Rattle.cam_types.specs.declared.weight_row.WeightRow.{WeightRow}
 use Rattle.cam_types.specs.declared.config_fault.ConfigFault.{ConfigFault}
-use Rattle.cam_types.specs.declared.config_fault.ConfigFault.TheVariants.{NoAdapters, TooMany, BadOpenings, NoAdapter, BadAddress, DoubleDevice}
+use Rattle.cam_types.specs.declared.config_fault.ConfigFault.TheVariants.{NoAdapters, TooMany, BadOpenings, NoAdapter, BadAddress, DoubleDevice, BadWeight}
 use Rattle.cam_types.specs.declared.maxima.TheConstants.{MOST_ADAPTERS, MOST_DEVICES, MOST_LANES, MOST_OPENINGS, MOST_LUN}
 
--- what there is: each adapter's openings, the devices, and each lane's adapter
+-- what there is: the table of weights, each adapter's openings, the devices, and each lane's adapter
 pub record Topology : Type 0 where
+  pub weights : List WeightRow
   pub adapters : List ℕ
   pub devices : List Device
   pub lanes : List ℕ
@@ -49,18 +52,29 @@ lane_fault adapters m =
     else None
 
 -- the first rule that is broken by some adapter, device or lane, in this order
-unfoldable pub item_fault : Topology → Option ConfigFault
-item_fault t =
-    option_or (first_answer adapter_fault (moments t.adapters))
-    (option_or (first_answer (device_fault (length t.adapters)) (moments t.devices))
-    (first_answer (lane_fault (length t.adapters)) (moments t.lanes)))
+unfoldable pub item_fault : List ℕ → List Device → List ℕ → Option ConfigFault
+item_fault adapters devices lanes =
+    option_or (first_answer adapter_fault (moments adapters))
+    (option_or (first_answer (device_fault (length adapters)) (moments devices))
+    (first_answer (lane_fault (length adapters)) (moments lanes)))
 
--- the first rule that is broken: no adapter, or that of the first adapter, device or lane that breaks one
+-- what is lacking for a configuration: weights up to the last priority, or an adapter
+abbrev pub lack : List WeightRow → List ℕ → Option ConfigFault
+lack weights adapters =
+    if not (reaches_last weights) then Some BadWeight
+    else if length adapters == 0 then Some NoAdapters
+    else None
+
+-- the first rule that is broken: that of the first weight's row that breaks one, what is lacking, or that of the first adapter,
+-- device or lane that breaks one
 abbrev pub config_fault : Topology → Option ConfigFault
-config_fault t = if length t.adapters == 0 then Some NoAdapters else item_fault t
+config_fault t =
+    option_or (first_answer weight_fault (moments t.weights))
+    (option_or (lack t.weights t.adapters) (item_fault t.adapters t.devices t.lanes))
 
--- no adapter, device or lane breaks a rule; there may be none of them
+-- no weight's row, adapter, device or lane breaks a rule; there may be none of them
 pub record IsDraft (t : Topology) : Type 0 where
+  pub weights : first_answer weight_fault (moments t.weights) ≡ None
   pub adapters : first_answer adapter_fault (moments t.adapters) ≡ None
   pub devices : first_answer (device_fault (length t.adapters)) (moments t.devices) ≡ None
   pub lanes : first_answer (lane_fault (length t.adapters)) (moments t.lanes) ≡ None

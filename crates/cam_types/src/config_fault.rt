@@ -23,4 +23,7 @@ pub enum ConfigFault {
     /// A device before it has the same bus, target and logical unit.
     #[error("DoubleDevice")]
     DoubleDevice,
+    /// A row of the table of weights breaks a rule, or no row reaches priority 1279.
+    #[error("BadWeight")]
+    BadWeight,
 }

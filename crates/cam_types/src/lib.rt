@@ -10,11 +10,12 @@ pub use limits::{BadLimit, Limits};
 pub use maxima::{
     MOST_ADAPTERS, MOST_BYTES, MOST_CCBS, MOST_DEVICES, MOST_EVENTS, MOST_FREEZES, MOST_LANES,
     MOST_LUN, MOST_OPENINGS, MOST_PRIORITY, MOST_RETRIES, MOST_ROUNDS, MOST_SENSE, MOST_STAYS,
-    MOST_WEIGHT, maxima_are_these,
+    MOST_WEIGHT, MOST_WEIGHT_ROWS, maxima_are_these,
 };
 pub use outcome::Outcome;
 pub use priority::{BadPriority, Priority};
 pub use sense_bytes::SenseBytes;
+pub use weight_row::{WeightRow, standard_weights, standard_weights_go_by_run_level};
 
 mod command;
 mod config;
@@ -26,3 +27,4 @@ mod maxima;
 mod outcome;
 mod priority;
 mod sense_bytes;
+mod weight_row;

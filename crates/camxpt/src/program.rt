@@ -100,6 +100,7 @@ fn obey<R: Runtime + AllocGlobal + Threads + Wait + Sync>(
             over_trace(rt, words, TraceRun::Explain { top })
         }
         Some(("draw", words)) => over_trace(rt, words, TraceRun::Draw),
+        Some(("migrate", words)) => over_trace(rt, words, TraceRun::Migrate),
         Some(("prove", words)) => over_report(rt, words),
         Some(("sim", words)) => {
             let seed = words.get_one("SEED").unwrap_or(0);

@@ -1,9 +1,9 @@
-//! Checks, audits, explains or draws a trace.
+//! Checks, audits, explains, draws or migrates a trace.
 
 use crate::failure::Failure;
 use crate::note::Named;
 use crate::output::print;
-use audit_report::{read_net, run_audit_with, run_check};
+use audit_report::{read_net, run_audit_with, run_check, run_migrate};
 use cost_plan::{OpenGate, plan_with};
 use draw_page::page as drawing;
 use explain_page::page;
@@ -30,6 +30,8 @@ pub enum TraceRun {
     },
     /// It is drawn.
     Draw,
+    /// It is written in the newest version.
+    Migrate,
 }
 
 impl TraceRun {
@@ -45,6 +47,7 @@ impl TraceRun {
         let mut out = Watched::new(io::writer(rt));
         match self {
             TraceRun::Check if !as_json => Ok(run_check(alloc, &mut text, &mut out)?),
+            TraceRun::Migrate => Ok(run_migrate(alloc, &mut text, &mut out)?),
             TraceRun::Audit { summary } if !as_json => Ok(run_audit_with(
                 rt, alloc, &mut text, &mut out, summary, &OpenGate,
             )?),

@@ -5,13 +5,13 @@ pub(crate) const BASH: &str = "_camxpt() {\n\
 \x20   local word=${COMP_WORDS[COMP_CWORD]} command=${COMP_WORDS[1]}\n\
 \x20   local words=\n\
 \x20   if [ \"$COMP_CWORD\" -eq 1 ]; then\n\
-\x20       words=\"check audit explain draw prove sim run completions --help --version\"\n\
+\x20       words=\"check audit explain draw prove sim run migrate completions --help --version\"\n\
 \x20   else\n\
 \x20       case $command in\n\
 \x20           check | prove) words=\"--json --verbose --help\" ;;\n\
 \x20           audit) words=\"--summary --json --verbose --help\" ;;\n\
 \x20           explain) words=\"--top --json --verbose --help\" ;;\n\
-\x20           draw | sim | run) words=\"--verbose --help\" ;;\n\
+\x20           draw | sim | run | migrate) words=\"--verbose --help\" ;;\n\
 \x20           completions) words=\"bash zsh fish --help\" ;;\n\
 \x20       esac\n\
 \x20   fi\n\
@@ -26,14 +26,14 @@ complete -o filenames -F _camxpt camxpt\n";
 pub(crate) const ZSH: &str = "#compdef camxpt\n\
 _camxpt() {\n\
 \x20   if (( CURRENT == 2 )); then\n\
-\x20       compadd -- check audit explain draw prove sim run completions --help --version\n\
+\x20       compadd -- check audit explain draw prove sim run migrate completions --help --version\n\
 \x20       return\n\
 \x20   fi\n\
 \x20   case $words[2] in\n\
 \x20       check|prove) compadd -- --json --verbose --help ;;\n\
 \x20       audit) compadd -- --summary --json --verbose --help ;;\n\
 \x20       explain) compadd -- --top --json --verbose --help ;;\n\
-\x20       draw|sim|run) compadd -- --verbose --help ;;\n\
+\x20       draw|sim|run|migrate) compadd -- --verbose --help ;;\n\
 \x20       completions) compadd -- bash zsh fish --help; return ;;\n\
 \x20   esac\n\
 \x20   _files\n\
@@ -42,11 +42,11 @@ compdef _camxpt camxpt\n";
 
 /// The script for fish.
 pub(crate) const FISH: &str =
-    "complete -c camxpt -n __fish_use_subcommand -f -a \"check audit explain draw prove sim run completions\"\n\
+    "complete -c camxpt -n __fish_use_subcommand -f -a \"check audit explain draw prove sim run migrate completions\"\n\
 complete -c camxpt -n __fish_use_subcommand -l version\n\
 complete -c camxpt -l help\n\
 complete -c camxpt -n \"__fish_seen_subcommand_from check audit explain prove\" -l json\n\
-complete -c camxpt -n \"__fish_seen_subcommand_from check audit explain draw prove sim run\" -l verbose\n\
+complete -c camxpt -n \"__fish_seen_subcommand_from check audit explain draw prove sim run migrate\" -l verbose\n\
 complete -c camxpt -n \"__fish_seen_subcommand_from audit\" -l summary\n\
 complete -c camxpt -n \"__fish_seen_subcommand_from explain\" -l top -x\n\
 complete -c camxpt -n \"__fish_seen_subcommand_from completions\" -f -a \"bash zsh fish\"\n";

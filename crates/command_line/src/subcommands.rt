@@ -20,6 +20,7 @@ pub fn command<'a>(alloc: Global) -> Result<Command<'a>, AllocError> {
         .subcommand(prove(alloc)?)?
         .subcommand(sim(alloc)?)?
         .subcommand(run(alloc)?)?
+        .subcommand(migrate(alloc)?)?
         .subcommand(completions(alloc)?)
 }
 
@@ -114,6 +115,14 @@ fn run<'a>(alloc: Global) -> Result<Command<'a>, AllocError> {
         .after_help("Example: camxpt run examples/script-timeout-requeued.csv")
         .arg(verbose(alloc))?
         .arg(script(alloc))
+}
+
+fn migrate<'a>(alloc: Global) -> Result<Command<'a>, AllocError> {
+    Command::new(alloc, "migrate")
+        .about("Prints a trace of any version in version 2, which has a table of weights")
+        .after_help("Example: camxpt migrate examples/frozen-device.csv")
+        .arg(verbose(alloc))?
+        .arg(trace(alloc))
 }
 
 fn completions<'a>(alloc: Global) -> Result<Command<'a>, AllocError> {

@@ -7,6 +7,7 @@ use crate::scale::Scale;
 use crate::stay_table::push_stay_table;
 use crate::style::{HEAD, STYLE};
 use crate::tables::{push_excess, push_freezes, push_tables};
+use crate::weights::push_weights;
 use crate::words::{push_escaped, push_parts};
 use cam_types::Config;
 use round_net::Net;
@@ -35,6 +36,7 @@ pub fn page(
     let mut text = String::new(alloc);
     push_head(&mut text, title)?;
     push_totals(&mut text, &whole, net.rounds())?;
+    push_weights(&mut text, config)?;
     push_legend(&mut text, &whole)?;
     push_drawing(alloc, &mut text, &scene)?;
     push_tables(alloc, &mut text, config, explanation)?;

@@ -15,4 +15,5 @@ mod scale;
 mod stay_table;
 mod style;
 mod tables;
+mod weights;
 mod words;

@@ -5,12 +5,13 @@ use crate::freezes::push_freezes;
 use crate::order::most_first;
 use crate::stays::push_stays;
 use crate::tables::push_tables;
+use crate::weights::push_weights;
 use crate::worst::{push_worst_device, push_worst_freeze, push_worst_stay};
 use cam_types::Config;
 use std::alloc::{AllocError, Global};
 use wait_causes::{ExplainedStay, Explanation, Freeze};
 
-/// The page on an explanation: what the waiting cost beside the other schedule, the stay, the device and the freeze that cost
+/// The page on an explanation: what the waiting cost beside the other schedule, the weights if they aren't the standard ones, the stay, the device and the freeze that cost
 /// most, the cost by cause, tables by adapter, device, driver and run level, and at most `top` of the freezes and of the stays
 /// that cost most, these with the causes of their rounds. All costs are weighted rounds.
 pub fn page(
@@ -30,6 +31,7 @@ pub fn page(
         writeln!(&mut text, "{name:<13} {number:>9}")?;
     }
     writeln!(&mut text, "{:<13} {:>9}", "excess", whole.excess())?;
+    push_weights(&mut text, config)?;
     let stays = explanation.stays();
     let freezes = explanation.freezes(alloc)?;
     let worst_stays = most_first(alloc, &costs_of_stays(alloc, stays)?)?;

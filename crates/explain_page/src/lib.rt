@@ -9,4 +9,5 @@ mod layout;
 mod order;
 mod stays;
 mod tables;
+mod weights;
 mod worst;

@@ -58,7 +58,7 @@ pub fn audit_json(
     let live = history.live_cost();
     let best = cost(net, schedule);
     let mut audited = Audited {
-        counts: Counts::of(trace, history),
+        counts: Counts::of(alloc, trace, history)?,
         live,
         best,
         excess: excess(live, best),

@@ -23,7 +23,7 @@ pub fn check_json(alloc: Global, trace: &str, history: &History) -> Result<Strin
     ensures { IfOk result (λ s. string_bytes s ≡ print (tokens (string_bytes s))) }
 {
     let checked = Checked {
-        counts: Counts::of(trace, history),
+        counts: Counts::of(alloc, trace, history)?,
         live: history.live_cost(),
     };
     line(alloc, &checked)

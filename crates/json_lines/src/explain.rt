@@ -44,7 +44,7 @@ pub fn explain_json(
     let whole = explanation.whole();
     let config = history.config();
     let explained = Explained {
-        counts: Counts::of(trace, history),
+        counts: Counts::of(alloc, trace, history)?,
         live: whole.live,
         best: whole.best,
         excess: whole.excess(),

@@ -8,11 +8,11 @@ use Rattle.std.specs.Str.Parse.{digits_value}
 use Rattle.std.proofs.lemmas.Bool.{and_parts, leb-true, leb-false, ltb-false, eq-eqb, cases_lt, or_parts}
 use Rattle.std.proofs.lemmas.Fmt.{digits_decimal}
 use Rattle.std.proofs.lemmas.Str.Parse.{IsNumeralModel, numerals_by_value}
-use Rattle.cam_types.specs.Lists.{moments_after, moments, first_answer}
-use Rattle.cam_types.specs.Topology.{Topology, adapter_fault, device_fault, address_fault, config_fault, item_fault, is_same_address, are_openings}
+use Rattle.cam_types.specs.Lists.{moments_after, first_answer}
+use Rattle.cam_types.specs.Topology.{Topology, IsConfig, device_fault, address_fault, config_fault, is_same_address, are_openings}
 use Rattle.cam_types.specs.declared.device.Device.{Device}
 use Rattle.cam_types.specs.declared.maxima.TheConstants.{MOST_DEVICES}
-use Rattle.cam_types.proofs.ConfigLemmas.{few_adapters}
+use Rattle.cam_types.proofs.ConfigLemmas.{device_items, few_adapters}
 use Rattle.cam_path.specs.declared.path.CamPath.{CamPath}
 use Rattle.cam_path.specs.Paths.{Fits, spelled, address_of}
 use Rattle.cam_path.proofs.PathLaws.{reading_again}
@@ -110,14 +110,13 @@ device_rules n before d e =
 
 -- a configuration within its rules, whose targets fit, names its devices
 pub named_devices : (t : Topology) → config_fault t ≡ None → AllByRecursion (λ (d : Device). d.target ≤ 65535) t.devices → AreNamed t.devices
-unfolding item_fault
 named_devices t kept targets =
     let adapters = length t.adapters in
-    let items = none_first (first_answer adapter_fault (moments t.adapters)) _ (cond_none (length t.adapters == 0) _ _ kept).1 in
-    let devices = none_first (first_answer (device_fault adapters) (moments t.devices)) _ items.1 in
-    let few = few_adapters t (record { kept = kept }) in
+    let is : IsConfig t = record { kept = kept } in
+    let devices = device_items t is in
+    let few = few_adapters t is in
     let rules : (j : ℕ) (d : Device) → slice_get t.devices j ≡ Some d → (d.bus < adapters) × (d.lun ≤ 16383) × (list_any (is_same_address d) (take j t.devices) ≡ false) =
-    λ j d is. device_rules adapters (take j t.devices) d (at_moment (device_fault adapters) [] t.devices devices.0 j d is) in
+    λ j d is. device_rules adapters (take j t.devices) d (at_moment (device_fault adapters) [] t.devices devices j d is) in
     let before : (i j : ℕ) (one other : Device) → slice_get t.devices i ≡ Some one → slice_get t.devices j ≡ Some other → address_of one ≡ address_of other → i < j → ⊥ =
     λ i j one other is is' same lt.
     let no : is_same_address other one ≡ false = not_any (is_same_address other) t.devices i j one lt (rules j other is').2 is in

@@ -166,7 +166,7 @@ next_weight-same net above s next so_far dearer = record {
   ];
 }
 
-pub next_weight-this : (net : Instance) (above s next : ℕ) → IsNextWeight net above s next → above < net.weight s → net.weight s ≤ 16 → (0 < next → net.weight s < next) → IsNextWeight net above (s + 1) (net.weight s)
+pub next_weight-this : (net : Instance) (above s next : ℕ) → IsNextWeight net above s next → above < net.weight s → net.weight s ≤ MOST_WEIGHT → (0 < next → net.weight s < next) → IsNextWeight net above (s + 1) (net.weight s)
 next_weight-this net above s next so_far over most cheaper = record {
   most = most;
   above_it = λ some. over;

@@ -10,7 +10,6 @@ use Rattle.std.proofs.lemmas.List.Sums.{sum_by_more, AllPass-from_list_all}
 use Rattle.cam_types.specs.Topology.{Topology, IsConfig}
 use Rattle.cam_types.specs.declared.device.Device.{Device}
 use Rattle.cam_types.specs.declared.maxima.TheConstants.{MOST_OPENINGS}
-use Rattle.cam_types.proofs.TopologyLemmas.{few_devices}
 use Rattle.cam_event.specs.Event.{is_some_and}
 use Rattle.cam_event.specs.Counts.{round, submission}
 use Rattle.cam_event.specs.Stays.{stays_begun, is_unsent, unsent, name_of}
@@ -31,10 +30,10 @@ use Rattle.round_net.specs.Sound.{IsSound, IsNet}
 use Rattle.round_net.specs.Caps.{sends_to, sends_by, dev_cap, sim_cap}
 use Rattle.round_net.specs.Nets.{last_round, stay_row, table, net_of, instance_of, live_of}
 use Rattle.round_net.specs.declared.stay_row.StayRow.{StayRow}
-use Rattle.cam_types.proofs.ConfigLemmas.{few_adapters, devices_on_adapters}
+use Rattle.cam_types.proofs.ConfigLemmas.{few_adapters, devices_on_adapters, few_devices, weight_small}
 use Rattle.round_net.proofs.LoadLemmas.{covered-legal, sent-complete}
 use Rattle.round_net.proofs.OpeningLemmas.{sends_to-cap, sends_by-cap}
-use Rattle.round_net.proofs.SmallLemmas.{small_dev_cap, small_sim_cap, weight_small}
+use Rattle.round_net.proofs.SmallLemmas.{small_dev_cap, small_sim_cap}
 use Rattle.round_net.proofs.TableLemmas.{cell-table, All-table, length-cells}
 use Rattle.round_net.proofs.WindowLemmas.{IsInWindow, windows-legal, last_round-le}
 
@@ -250,8 +249,8 @@ net_sound c es config legal complete = record {
   to_last = λ s lt.
       let stay = stay_of_net c es s lt in
       rw (last_at c es s stay.0 stay.1, rounds_of_net c es) (last_round-le es stay.0 (λ k d within. ((windows-legal history_rules c es legal).each k d within).soon));
-  some_weight = λ s lt. let stay = stay_of_net c es s lt in rw (weight_at c es s stay.0 stay.1) (weight_small c stay.0.priority).0;
-  small_weight = λ s lt. let stay = stay_of_net c es s lt in rw (weight_at c es s stay.0 stay.1) (weight_small c stay.0.priority).1;
+  some_weight = λ s lt. let stay = stay_of_net c es s lt in rw (weight_at c es s stay.0 stay.1) (weight_small c stay.0.priority config).0;
+  small_weight = λ s lt. let stay = stay_of_net c es s lt in rw (weight_at c es s stay.0 stay.1) (weight_small c stay.0.priority config).1;
   small_dev_cap = small_dev_caps c es config legal;
   small_sim_cap = small_sim_caps c es config legal;
   live_admissible = live_admissible c es legal complete;

@@ -6,9 +6,8 @@ use Rattle.std.specs.Option.{option_map_or}
 use Rattle.std.proofs.lemmas.Bool.{and_parts, leb-true}
 use Rattle.std.proofs.lemmas.Option.{slice_get_within, get_or_from_slice_get}
 use Rattle.cam_types.specs.Topology.{Topology, IsConfig, are_openings}
-use Rattle.cam_types.specs.Priority.{run_level}
 use Rattle.cam_types.specs.declared.device.Device.{Device}
-use Rattle.cam_types.specs.declared.maxima.TheConstants.{MOST_OPENINGS, MOST_WEIGHT}
+use Rattle.cam_types.specs.declared.maxima.TheConstants.{MOST_OPENINGS}
 use Rattle.cam_event.specs.Event.{is_tick, is_adjust_of, adjusts_to}
 use Rattle.cam_event.specs.Counts.{round, last}
 use Rattle.cam_types.specs.Questions.{names_device, device_openings, adapter_openings, weight}
@@ -104,14 +103,3 @@ small_sim_cap rules c es a r config legal =
     let few = small_adapter_openings c a config in
     let le = sends_by-openings rules c es a r legal in
     elim (is_adapter_free es a r) as (λ b. cond b (adapter_openings c a) (sends_by c es a r) ≤ MOST_OPENINGS) [ true ↦ few | false ↦ omega arith ]
-
-level_small : (a b c d : Bool) → (1 ≤ (if a then 16 else if b then 8 else if c then 4 else if d then 2 else 1)) × ((if a then 16 else if b then 8 else if c then 4 else if d then 2 else 1) ≤ 16)
-level_small true b c d = (omega arith, omega arith)
-level_small false true c d = (omega arith, omega arith)
-level_small false false true d = (omega arith, omega arith)
-level_small false false false true = (omega arith, omega arith)
-level_small false false false false = (omega arith, omega arith)
-
--- a weight is at least 1, and not above the largest
-pub weight_small : (c : Topology) (priority : ℕ) → (1 ≤ weight c priority) × (weight c priority ≤ MOST_WEIGHT)
-weight_small c priority = level_small (run_level priority == 0) (run_level priority == 1) (run_level priority == 2) (run_level priority == 3)

@@ -38,7 +38,7 @@ impl Model for Net {
 
 impl Net {
     ghost use Rattle.std.specs.Prelude.{◌≡◌, ◌+◌, ◌*◌, ◌<◌, ◌≤◌, Some, length, slice_get};
-    ghost use Rattle.cam_types.specs.declared.maxima.TheConstants.{MOST_ROUNDS, MOST_OPENINGS};
+    ghost use Rattle.cam_types.specs.declared.maxima.TheConstants.{MOST_ROUNDS, MOST_OPENINGS, MOST_WEIGHT};
     ghost use Rattle.round_net.specs.Instance.{adapter};
     ghost use Rattle.round_net.specs.Rows.{instance_of_rows, live_of_rows, names_of_rows};
     ghost use Rattle.round_net.specs.Sound.{IsSound};
@@ -192,13 +192,13 @@ impl Net {
         self.row(stay).last
     }
 
-    /// What each round of the stay's waiting costs: 16, 8, 4, 2 or 1.
+    /// What each round of the stay's waiting costs, by its priority.
     #[tactic(auto, unfolding(crate::specs::Rows::instance_of_rows))]
     pub fn weight(&self, stay: u32) -> u32
         requires { stay < (instance_of_rows self.now).stays }
         ensures same { result ≡ (instance_of_rows self.now).weight stay }
         ensures some { 1 ≤ result }
-        ensures most { result ≤ 16 }
+        ensures most { result ≤ MOST_WEIGHT }
     {
         self.row(stay).weight
     }

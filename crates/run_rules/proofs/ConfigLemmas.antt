@@ -1,22 +1,15 @@
 -- equal configurations
-use Rattle.std.proofs.Common.{◌≡◌, ℕ, Bool, true, false, List, [], ◌∷◌, refl, ap, ◌∙◌}
+use Rattle.std.proofs.Common.{◌≡◌, ℕ, true, List, refl}
 use Rattle.std.specs.Prelude.{◌==◌, ◌&&◌, nat_eq}
 use Rattle.std.proofs.lemmas.Bool.{and_parts, eqb-true}
 use lib.Pointwise.{pointwise}
 use Rattle.cam_types.specs.Topology.{Topology}
 use Rattle.cam_types.specs.declared.device.Device.{Device}
+use Rattle.cam_types.specs.declared.weight_row.WeightRow.{WeightRow}
 use Rattle.cam_types.specs.contracts.device.DevicePartialEq.TheImpl as devices
-
-no : false ≡ true → ⊥
-no e = cc
-
-pub same_lists : {X : Type 0} → (e : X → X → Bool) (xs ys : List X) → ((x y : X) → e x y ≡ true → x ≡ y) → pointwise e xs ys ≡ true → xs ≡ ys
-same_lists e [] [] decides h = refl
-same_lists e [] (y ∷ ys) decides h = absurd (no h)
-same_lists e (x ∷ xs) [] decides h = absurd (no h)
-same_lists e (x ∷ xs) (y ∷ ys) decides h =
-    let parts = and_parts (e x y) (pointwise e xs ys) h in
-    ap (λ z. z ∷ xs) (decides x y parts.0) ∙ ap (λ zs. y ∷ zs) (same_lists e xs ys decides parts.1)
+use Rattle.cam_types.specs.contracts.weight_row.WeightRowPartialEq.TheImpl as rows
+use Rattle.cam_types.proofs.ListLemmas.{same_lists}
+use Rattle.cam_types.proofs.WeightLemmas.{same_row}
 
 device_from : (a b : Device) → a.bus ≡ b.bus → a.target ≡ b.target → a.lun ≡ b.lun → a.openings ≡ b.openings → a ≡ b
 device_from a b e f g h =
@@ -34,8 +27,11 @@ same_device a b h =
 pub same_numbers : (xs ys : List ℕ) → pointwise nat_eq xs ys ≡ true → xs ≡ ys
 same_numbers xs ys h = same_lists nat_eq xs ys (λ x y e. eqb-true x y e) h
 
-pub same_config : (a b : Topology) → a.adapters ≡ b.adapters → a.devices ≡ b.devices → a.lanes ≡ b.lanes → b ≡ a
-same_config a b e f g =
-    let made : List ℕ → List Device → List ℕ → Topology = λ x y z. record { adapters = x; devices = y; lanes = z } in
-    let whole : made b.adapters b.devices b.lanes ≡ made a.adapters a.devices a.lanes = rw (e, f, g) refl in
+pub same_rows : (xs ys : List WeightRow) → pointwise rows.ghosts.eq xs ys ≡ true → xs ≡ ys
+same_rows xs ys h = same_lists rows.ghosts.eq xs ys same_row h
+
+pub same_config : (a b : Topology) → a.weights ≡ b.weights → a.adapters ≡ b.adapters → a.devices ≡ b.devices → a.lanes ≡ b.lanes → b ≡ a
+same_config a b w e f g =
+    let made : List WeightRow → List ℕ → List Device → List ℕ → Topology = λ v x y z. record { weights = v; adapters = x; devices = y; lanes = z } in
+    let whole : made b.weights b.adapters b.devices b.lanes ≡ made a.weights a.adapters a.devices a.lanes = rw (w, e, f, g) refl in
     whole

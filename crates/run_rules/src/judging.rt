@@ -77,10 +77,13 @@ fn mismatch(logs: &[SeatLog], place: usize) -> LiveFault {
 fn is_config(one: &Config, other: &Config) -> bool
     ensures { result ≡ true → other.now ≡ one.now }
 {
-    if one.adapters() != other.adapters() || one.lanes() != other.lanes() {
+    if one.weights() != other.weights() || one.adapters() != other.adapters() {
         return false;
     }
-    one.devices() == other.devices()
+    if one.devices() != other.devices() {
+        return false;
+    }
+    one.lanes() == other.lanes()
 }
 
 // Whether each log but a driver's is what its actor may do: what its port served, decisions, or ticks.

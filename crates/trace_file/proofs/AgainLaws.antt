@@ -1,8 +1,8 @@
 -- The records of a history are read as that history.
-use Rattle.std.proofs.Common.{◌≡◌, ◌≢◌, ◌≤◌, ◌+◌, ℕ, List, [], ◌∷◌, ◌++◌, length, map, Bool, true, false, refl, sym, ap, ◌∙◌, append_assoc, append-nil, arith}
+use Rattle.std.proofs.Common.{◌≡◌, ◌≢◌, ◌<◌, ◌≤◌, ◌+◌, ℕ, List, [], ◌∷◌, ◌++◌, length, map, Bool, true, refl, sym, ap, ◌∙◌, append_assoc, append-nil, arith}
 use Rattle.std.specs.Prelude.{Option, None, Result, Ok, ⊤}
 use Rattle.std.specs.List.{AllByRecursion, list_all}
-use Rattle.std.proofs.lemmas.Bool.{and_parts, false≢true}
+use Rattle.std.proofs.lemmas.Bool.{and_parts}
 use Rattle.csv.specs.Records.{field_at}
 use Rattle.cam_types.specs.Lists.{first_answer, moments_after}
 use Rattle.cam_event.specs.declared.event.Event.TheVariants as event
@@ -15,14 +15,15 @@ use Rattle.trace_file.specs.declared.trace_stage.TraceStage.TheVariants as stage
 use Rattle.trace_file.specs.declared.word.Word.{Word}
 use Rattle.trace_file.specs.declared.word.Word.TheVariants as word
 use Rattle.trace_file.specs.Fields.{Row, field_of}
-use Rattle.trace_file.specs.Reading.{add_adapter, add_device, add_event, add_lane, add_row, is_dev, is_lane, is_sim, placed, row_step, stands, step}
-use Rattle.trace_file.specs.Records.{adapter_row, device_row, event_row, lane_row}
+use Rattle.trace_file.specs.Reading.{add_weight, add_adapter, add_device, add_event, add_lane, add_row, placed, row_step, stands, step}
+use Rattle.trace_file.specs.Histories.{WeightRow}
+use Rattle.trace_file.specs.Records.{weight_row, adapter_row, device_row, event_row, lane_row}
 use Rattle.trace_file.specs.Rows.{most_number}
 use Rattle.trace_file.specs.Steps.{taken}
 use Rattle.trace_file.specs.Trace.{FitsEvent}
-use Rattle.trace_file.specs.Words.{spelled}
+use Rattle.trace_file.specs.Words.{spelled, word_rank}
 use Rattle.trace_file.proofs.FieldLaws.{word_again}
-use Rattle.trace_file.proofs.RowsAgain.{device_again, event_again, one_again, word_for}
+use Rattle.trace_file.proofs.RowsAgain.{device_again, event_again, one_again, two_again, word_for}
 use Rattle.trace_file.proofs.StageLemmas.{step_behind, add_row_event}
 use Rattle.trace_file.proofs.RowLaws.{ok_is, on_ok}
 
@@ -72,6 +73,11 @@ row_again : (n : ℕ) (s : TraceStage) (row : Row) (w : Word) → s ≢ stage.He
 unfolding row_step placed
 row_again n s row w behind eight is place = step_behind n s row behind ∙ rw (eight, is, word_again w, place) refl
 
+pub weight_step : (n : ℕ) (s : TraceStage) (w : WeightRow) → s ≢ stage.Header → stands s word.Weight ≡ true → w.last ≤ most_number → w.weight ≤ most_number → step n s (weight_row w) ≡ add_weight n s w
+unfolding add_row field_at
+weight_step n s w behind place a b =
+    row_again n s (weight_row w) word.Weight behind refl refl place ∙ rw (two_again (spelled word.Weight) w.last w.weight a b) refl
+
 pub adapter_step : (n : ℕ) (s : TraceStage) (o : ℕ) → s ≢ stage.Header → stands s word.Sim ≡ true → o ≤ most_number → step n s (adapter_row o) ≡ add_adapter n s o
 unfolding add_row field_at
 adapter_step n s o behind place fits =
@@ -91,23 +97,21 @@ unfolding add_row field_at
 device_step n s d behind place a b c o =
     row_again n s (device_row d) word.Dev behind refl refl place ∙ rw (device_again (row_for d) a b c o) refl
 
-event_word : (e : Event) → (length (event_row e) ≡ 8) × (field_of (event_row e) 0 ≡ spelled (word_for e)) × (is_sim (word_for e) ≡ false) × (is_dev (word_for e) ≡ false) × (is_lane (word_for e) ≡ false)
+event_word : (e : Event) → (length (event_row e) ≡ 8) × (field_of (event_row e) 0 ≡ spelled (word_for e)) × (word_rank (word_for e) ≡ 4)
 unfolding field_at
-event_word (event.Submit driver device priority retries flags) = (refl, refl, refl, refl, refl)
-event_word _ = (refl, refl, refl, refl, refl)
+event_word (event.Submit driver device priority retries flags) = (refl, refl, refl)
+event_word _ = (refl, refl, refl)
 
-event_stands : (s : TraceStage) (w : Word) → s ≢ stage.Header → is_sim w ≡ false → is_dev w ≡ false → is_lane w ≡ false → stands s w ≡ true
+event_stands : (s : TraceStage) (w : Word) → s ≢ stage.Header → word_rank w ≡ 4 → stands s w ≡ true
 unfolding stands
-event_stands stage.Header w h a b c = absurd (h refl)
-event_stands (stage.Devices t) w h a b c = rw a refl
-event_stands (stage.Lanes t) w h a b c = rw (a, b) refl
-event_stands (stage.Events p) w h a b c = rw (a, b, c) refl
-event_stands _ w h a b c = refl
+event_stands stage.Header w h last = absurd (h refl)
+event_stands _ w h last = rw last refl
 
 pub event_step : (n : ℕ) (s : TraceStage) (e : Event) → s ≢ stage.Header → FitsEvent e → step n s (event_row e) ≡ add_event n s e
 event_step n s e behind fits =
     let k = event_word e in
     let w = word_for e in
-    row_again n s (event_row e) w behind k.0 k.1 (event_stands s w behind k.2 k.3 k.4)
-    ∙ add_row_event n s w (event_row e) (λ e. false≢true (sym k.2 ∙ ap is_sim e)) (λ e. false≢true (sym k.3 ∙ ap is_dev e)) (λ e. false≢true (sym k.4 ∙ ap is_lane e))
+    let other : (v : Word) → word_rank v < 4 → w ≢ v = (λ v less same. let rank : word_rank v ≡ 4 = sym (ap word_rank same) ∙ k.2 in omega arith) in
+    row_again n s (event_row e) w behind k.0 k.1 (event_stands s w behind k.2)
+    ∙ add_row_event n s w (event_row e) (other word.Weight (omega arith)) (other word.Sim (omega arith)) (other word.Dev (omega arith)) (other word.Lane (omega arith))
     ∙ rw (event_again e fits) refl

@@ -1,9 +1,9 @@
 -- The first record that fails, and its fault.
 use Rattle.std.proofs.Common.{◌≡◌, ◌≢◌, ◌+◌, ℕ, List, [], ◌∷◌, ◌++◌, length, Bool, true, false, cond, refl, sym, ap, ◌∙◌, subst, arith, add-zero}
-use Rattle.std.specs.Prelude.{Option, Some, None, Result, Ok, Err, ok_or, ⊤, codes, IfSome, IfOk, IfErr}
+use Rattle.std.specs.Prelude.{Option, Some, None, Result, Ok, Err, ok_or, ⊤, IfSome, IfOk, IfErr}
 use Rattle.std.proofs.lemmas.List.{append-nil}
 use Rattle.text_io.specs.Whole.{IsWhole}
-use Rattle.trace_file.specs.Histories.{ConfigFault, NoAdapters, Past, Refusal}
+use Rattle.trace_file.specs.Histories.{ConfigFault, BadWeight, Past, Refusal}
 use Rattle.trace_file.specs.declared.trace_fault.TraceFault.{TraceFault}
 use Rattle.trace_file.specs.declared.trace_fault.TraceFault.TheVariants as fault
 use Rattle.trace_file.specs.declared.trace_stage.TraceStage.{TraceStage}
@@ -11,13 +11,15 @@ use Rattle.trace_file.specs.declared.trace_stage.TraceStage.TheVariants as stage
 use Rattle.trace_file.specs.declared.word.Word.{Word}
 use Rattle.trace_file.specs.declared.word.Word.TheVariants as word
 use Rattle.trace_file.specs.Fields.{Row}
-use Rattle.trace_file.specs.Reading.{add_adapter, add_device, add_event, add_lane, add_row, ended, in_record, is_header, lacks_adapters, placed, reading, row_step, step, unless_fault, unless_refused}
-use Rattle.trace_file.specs.Rows.{device_at, event_at, one_number}
+use Rattle.trace_file.specs.Reading.{add_weight, lacking, lacks_weights, add_adapter, add_device, add_event, add_lane, add_row, ended, in_record, is_header, lacks_adapters, placed, reading, row_step, step, unless_fault, unless_refused}
+use Rattle.trace_file.specs.Records.{name_of}
+use Rattle.trace_file.specs.declared.version.Version.TheVariants as version
+use Rattle.trace_file.specs.Rows.{device_at, event_at, one_number, two_numbers}
 use Rattle.trace_file.specs.Sound.{IsSound}
 use Rattle.trace_file.specs.Steps.{◌>>=◌, taken}
 use Rattle.trace_file.specs.Text.{records_in}
 use Rattle.trace_file.specs.Trace.{FailsAt, IsFirstFault, WasTrace, ExplainsBy}
-use Rattle.trace_file.proofs.StageLaws.{Reads, ended_reads, step_reads, taken_keeps}
+use Rattle.trace_file.proofs.StageLaws.{ReadsBy, ended_reads, step_reads, taken_keeps}
 use Rattle.trace_file.proofs.RowLaws.{on_ok}
 
 -- a fault of the text, and not of the reader or of memory
@@ -57,11 +59,12 @@ by_test true r s h k = h
 by_test false r s h k = k
 
 pub row_fails : (n : ℕ) (s : TraceStage) (w : Word) (row : Row) → FailsByText (add_row n s w row)
-unfolding add_row add_adapter add_device add_lane add_event
-row_fails n s word.Sim row = bound (in_record n (one_number row)) _ (by_field n (one_number row)) (λ o. by_config n _ _)
-row_fails n s word.Dev row = bound (in_record n (device_at row)) _ (by_field n (device_at row)) (λ d. by_test (lacks_adapters s) (Err (fault.BadConfig n NoAdapters)) _ tt (by_config n _ _))
-row_fails n s word.Lane row = bound (in_record n (one_number row)) _ (by_field n (one_number row)) (λ a. by_test (lacks_adapters s) (Err (fault.BadConfig n NoAdapters)) _ tt (by_config n _ _))
-row_fails n s w row = bound (in_record n (event_at w row)) _ (by_field n (event_at w row)) (λ e. by_test (lacks_adapters s) (Err (fault.BadConfig n NoAdapters)) _ tt (by_refusal n _ _))
+unfolding add_row add_weight add_adapter add_device add_lane add_event
+row_fails n s word.Weight row = bound (in_record n (two_numbers row)) _ (by_field n (two_numbers row)) (λ m. by_config n _ _)
+row_fails n s word.Sim row = bound (in_record n (one_number row)) _ (by_field n (one_number row)) (λ o. by_test (lacks_weights s) (Err (fault.BadConfig n BadWeight)) _ tt (by_config n _ _))
+row_fails n s word.Dev row = bound (in_record n (device_at row)) _ (by_field n (device_at row)) (λ d. by_test (lacks_adapters s) (Err (fault.BadConfig n (lacking s))) _ tt (by_config n _ _))
+row_fails n s word.Lane row = bound (in_record n (one_number row)) _ (by_field n (one_number row)) (λ a. by_test (lacks_adapters s) (Err (fault.BadConfig n (lacking s))) _ tt (by_config n _ _))
+row_fails n s w row = bound (in_record n (event_at w row)) _ (by_field n (event_at w row)) (λ e. by_test (lacks_adapters s) (Err (fault.BadConfig n (lacking s))) _ tt (by_refusal n _ _))
 
 pub behind_fails : (n : ℕ) (s : TraceStage) (row : Row) → FailsByText (row_step n s row)
 unfolding row_step
@@ -69,7 +72,7 @@ behind_fails n s row = bound (ok_or (placed s row) (fault.BadRecord n)) _ (by_wo
 
 step_fails : (n : ℕ) (s : TraceStage) (row : Row) → FailsByText (step n s row)
 unfolding step
-step_fails n stage.Header row = by_test (is_header (codes "camtrace1") row) (Ok stage.First) (Err fault.BadHeader) tt tt
+step_fails n stage.Header row = by_test (is_header (name_of version.One) row) (Ok stage.First) _ tt (by_test (is_header (name_of version.Two) row) (Ok _) (Err fault.BadHeader) tt tt)
 step_fails n s row = behind_fails n s row
 
 end_fails : (s : TraceStage) → FailsByText (ended s)
@@ -156,6 +159,7 @@ pub was_trace : (before after : Option (List ℕ)) (text : List ℕ) → IsWhole
 unfolding reading IsSound
 was_trace before after text whole past e =
     on_ok (taken step 1 stage.Header (records_in text)) ended past e (λ t et r.
-    let start : Reads stage.Header [] = record { spelled = refl; sound = tt; targets = tt; events = tt } in
-    let k = ended_reads t past (records_in text) (taken_keeps step Reads step_reads 1 stage.Header t [] (records_in text) start et) r in
-    record { text = text; whole = whole; trace = record { bounded = whole.bounded; spelled = k.0 }; history = k.1 })
+    let start : ReadsBy stage.Header [] = record { version = version.One; reads = record { spelled = refl; held = refl; sound = tt; targets = tt; events = tt } } in
+    let h = taken_keeps step ReadsBy step_reads 1 stage.Header t [] (records_in text) start et in
+    let k = ended_reads h.version t past (records_in text) h.reads r in
+    record { text = text; whole = whole; trace = record { bounded = whole.bounded; version = h.version; held = k.1; spelled = k.0 }; history = k.2 })

@@ -10,7 +10,8 @@ use Rattle.trace_file.specs.declared.word.Word.{Word}
 use Rattle.trace_file.specs.declared.word.Word.TheVariants as word
 use Rattle.trace_file.specs.Steps.{◌>>=◌}
 use Rattle.trace_file.specs.Fields.{Row, field_of, number_at, byte_at, sense_at, flags_at, flags_text, unused, unused_from}
-use Rattle.trace_file.specs.Records.{hex, adapter_row, device_row, lane_row, event_row}
+use Rattle.cam_types.specs.Weights.{row_to}
+use Rattle.trace_file.specs.Records.{hex, weight_row, adapter_row, device_row, lane_row, event_row}
 use Rattle.trace_file.specs.Rows.{most_number, one_number, two_numbers, device_at, submit_at, outcome_at, tick_at, event_at, device_of}
 use Rattle.trace_file.specs.Trace.{FitsEvent, FitsOutcome}
 use Rattle.trace_file.specs.Words.{spelled}
@@ -172,6 +173,9 @@ with_word row w eight e = peel row 0 (spelled w) (drop 1 row) eight (omega arith
 
 pub event_takes : (row : Row) (w : Word) (x : Event) → length row ≡ 8 → field_of row 0 ≡ spelled w → event_at w row ≡ Ok x → (row ≡ event_row x) × FitsEvent x
 event_takes row w x eight is e = let t = event_tells row w x eight e in (with_word row w eight is ∙ t.0, t.1)
+
+pub weight_takes : (row : Row) (m : ℕ × ℕ) → length row ≡ 8 → field_of row 0 ≡ spelled word.Weight → two_numbers row ≡ Ok m → row ≡ weight_row (row_to m.0 m.1)
+weight_takes row m eight is e = with_word row word.Weight eight is ∙ ap (λ (l : Row). spelled word.Weight ∷ l) (two_take row m eight e).0
 
 pub adapter_takes : (row : Row) (n : ℕ) → length row ≡ 8 → field_of row 0 ≡ spelled word.Sim → one_number row ≡ Ok n → row ≡ adapter_row n
 adapter_takes row n eight is e = with_word row word.Sim eight is ∙ ap (λ (l : Row). spelled word.Sim ∷ l) (one_takes row n eight e).0

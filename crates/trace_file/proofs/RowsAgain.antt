@@ -19,7 +19,7 @@ pub one_again : (w : List ℕ) (n : ℕ) → n ≤ most_number → one_number (p
 unfolding one_number unused_from field_at
 one_again w n h = rw (number_again (padded (w ∷ decimal n ∷ [])) 1 most_number n (omega arith) h refl) refl
 
-two_again : (w : List ℕ) (m n : ℕ) → m ≤ most_number → n ≤ most_number → two_numbers (padded (w ∷ decimal m ∷ decimal n ∷ [])) ≡ Ok (m, n)
+pub two_again : (w : List ℕ) (m n : ℕ) → m ≤ most_number → n ≤ most_number → two_numbers (padded (w ∷ decimal m ∷ decimal n ∷ [])) ≡ Ok (m, n)
 unfolding two_numbers unused_from field_at
 two_again w m n h k =
     let row = padded (w ∷ decimal m ∷ decimal n ∷ []) in

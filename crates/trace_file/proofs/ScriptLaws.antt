@@ -22,6 +22,8 @@ use Rattle.trace_file.specs.declared.trace_stage.TraceStage.TheVariants as trace
 use Rattle.trace_file.specs.Fields.{Row, field_of}
 use Rattle.trace_file.specs.Histories.{NoAdapters, Past, Refusal, Topology}
 use Rattle.trace_file.specs.Reading.{config_of, in_record, is_header, lacks_adapters, past_of, row_step}
+use Rattle.cam_types.proofs.WeightLemmas.{standard_is}
+use Rattle.trace_file.specs.declared.version.Version.TheVariants as version
 use Rattle.trace_file.specs.Records.{adapter_row, device_row, header, lane_row, records_of}
 use Rattle.trace_file.specs.Scenarios.{Scenario, add_item, empty_scenario, is_answer_item, is_answer_row, is_answer_word, item_of}
 use Rattle.trace_file.specs.Script.{FitsRow, IsManuscript, Manuscript, WasScript, answer_rows, limits_rows, put_item, put_row, scenario_of, script_records, step_rows}
@@ -94,7 +96,7 @@ pub record ReadsConfig (bounds : Bounds) (t : TraceStage) (rows : List Row) : Ty
   pub limits : bounds ≡ unwrap_or given most_bounds
   pub within : IfSome given (λ b. are_within b ≡ true)
   pub trace : List Row
-  pub reads : Reads t (header ∷ trace)
+  pub reads : Reads version.One t (header version.One ∷ trace)
   pub configuring : is_configuring t ≡ true
   pub parts : rows ≡ script_header ∷ (limits_rows given ++ trace)
 
@@ -115,9 +117,9 @@ ReadsScript (stage.Rows s steps answers) rows = ReadsRows s steps answers rows
 
 -- ---- the configuration
 
-first_reads : Reads trace.First (header ∷ [])
+first_reads : Reads version.One trace.First (header version.One ∷ [])
 unfolding records_of IsSound
-first_reads = record { spelled = refl; sound = tt; targets = tt; events = tt }
+first_reads = record { spelled = refl; held = refl; sound = tt; targets = tt; events = tt }
 
 reads_given : (given : Option Bounds) (rows : List Row) → IfSome given (λ b. are_within b ≡ true) → rows ≡ script_header ∷ limits_rows given → ReadsConfig (unwrap_or given most_bounds) trace.First rows
 reads_given given rows within e =
@@ -131,7 +133,7 @@ config_row n limits t u fields rows h word e =
       limits = h.limits;
       within = h.within;
       trace = h.trace ++ fields ∷ [];
-      reads = reads_behind n t u fields (header ∷ h.trace) h.reads e;
+      reads = reads_behind version.One n t u fields (header version.One ∷ h.trace) h.reads e;
       configuring = configures n t u fields word e;
       parts = ap (λ (l : List Row). l ++ fields ∷ []) h.parts ∙ ap (λ (l : List Row). script_header ∷ l) (append_assoc (limits_rows h.given) h.trace (fields ∷ []));
     }
@@ -141,7 +143,7 @@ no_events trace.Header e = absurd cc
 no_events (trace.Events p) e = absurd cc
 no_events _ e = refl
 
-config_records : (p : Past) (rows : List Row) → header ∷ rows ≡ records_of p → p.events ≡ [] → rows ≡ map adapter_row p.config.adapters ++ (map device_row p.config.devices ++ (map lane_row p.config.lanes ++ []))
+config_records : (p : Past) (rows : List Row) → header version.One ∷ rows ≡ records_of version.One p → p.events ≡ [] → rows ≡ map adapter_row p.config.adapters ++ (map device_row p.config.devices ++ (map lane_row p.config.lanes ++ []))
 unfolding records_of
 config_records p rows e none =
     let is = rw none at e in
@@ -152,13 +154,14 @@ whole_config : (limits : Bounds) (t : TraceStage) (rows : List Row) → ReadsCon
 unfolding script_records scenario_of
 whole_config limits t rows h some =
     let c = config_of t in
-    let ready = event_ready t h.reads.sound some in
+    let ready = event_ready version.One t h.reads.sound h.reads.held some in
     let behind = config_records (past_of t) h.trace (h.reads.spelled ∙ ready.0) (no_events t h.configuring) in
     record {
       made = record { limits = h.given; config = c; rows = [] };
       kept = record {
         limits = h.within;
-        config = ready.1.config;
+        config = ready.2.config;
+        weights = standard_is c.weights ready.1;
         targets = h.reads.targets;
         fits = tt;
         ruled = tt;
@@ -197,6 +200,7 @@ push_row s k a rows fields w x i h word room said is =
       kept = record {
         limits = h.kept.limits;
         config = h.kept.config;
+        weights = h.kept.weights;
         targets = h.kept.targets;
         fits = all_push FitsRow m.rows x h.kept.fits t.1;
         ruled = all_push (λ y. is_ok (item_of m.config y) ≡ true) m.rows x h.kept.ruled fine;

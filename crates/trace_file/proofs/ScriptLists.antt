@@ -1,12 +1,14 @@
 -- Lists of lists, one of which grows at its end.
 use Rattle.std.proofs.Common.{◌≡◌, ◌<◌, ◌≤◌, ◌+◌, ℕ, List, [], ◌∷◌, ◌++◌, length, map, get_or, set, refl, sym, ap, ◌∙◌, arith, length-set, inl, inr, true, ◌==◌, cond, append-nil, subst}
 use Rattle.std.specs.List.{AllByRecursion, sum_by}
-use Rattle.std.proofs.lemmas.Bool.{cases_Bool, eqb-true}
+use Rattle.std.proofs.lemmas.Bool.{cases_Bool, eqb-true, ltb-true}
 use Rattle.std.proofs.lemmas.List.{map-set, get_or-map}
 use Rattle.std.proofs.lemmas.Bool.Decides.{nat_tests}
 use Rattle.std.proofs.lemmas.Grind.{common_steps}
 use Rattle.trace_file.specs.declared.step.Step.{Step}
-use Rattle.trace_file.specs.Scenarios.{IsScenario, Scenario, is_ruled, push_at}
+use Rattle.cam_types.specs.Questions.{names_lane}
+use Rattle.trace_file.specs.Histories.{Outcome}
+use Rattle.trace_file.specs.Scenarios.{IsScenario, Scenario, is_answer, is_ruled, push_at}
 use Rattle.trace_file.specs.declared.script_stage.TheConstants.{MOST_ROWS}
 use Rattle.trace_file.proofs.ListLaws.{all_push}
 
@@ -48,4 +50,19 @@ ruled_step s driver one h there ruled room =
       answered = h.answered;
       few_steps = omega arith;
       few_answers = h.few_answers;
+    }
+
+-- and so does a lane's answer more
+pub ruled_answer : (s : Scenario) (lane : ℕ) (outcome : Outcome) → IsScenario s → names_lane s.config lane ≡ true → is_answer outcome ≡ true → sum_by length s.answers < MOST_ROWS → IsScenario (record s { answers = push_at s.answers lane outcome })
+ruled_answer s lane outcome h named good room =
+    let there : lane < length s.config.lanes = ltb-true _ _ named in
+    let lanes = h.lanes in
+    let more = sum_pushed s.answers lane outcome (omega arith) in
+    record {
+      eight = h.eight;
+      lanes = length-pushed s.answers lane outcome ∙ h.lanes;
+      ruled = h.ruled;
+      answered = all_pushed (λ l o. is_answer o ≡ true) s.answers lane outcome (omega arith) h.answered good;
+      few_steps = h.few_steps;
+      few_answers = omega arith;
     }

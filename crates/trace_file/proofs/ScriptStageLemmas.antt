@@ -1,5 +1,5 @@
 -- A record of the configuration leaves a configuration in the making.
-use Rattle.std.proofs.Common.{◌≡◌, ℕ, true, false, refl, sym, ap, ◌∙◌}
+use Rattle.std.proofs.Common.{◌≡◌, ℕ, true, sym, ap, ◌∙◌}
 use Rattle.std.specs.Prelude.{Ok, ok_or}
 use Rattle.std.proofs.lemmas.Bool.{false≢true}
 use Rattle.trace_file.specs.declared.trace_fault.TraceFault.TheVariants.{BadRecord}
@@ -7,7 +7,7 @@ use Rattle.trace_file.specs.declared.trace_stage.TraceStage.{TraceStage}
 use Rattle.trace_file.specs.declared.word.Word.{Word}
 use Rattle.trace_file.specs.declared.word.Word.TheVariants as word
 use Rattle.trace_file.specs.Fields.{Row, field_of}
-use Rattle.trace_file.specs.Reading.{add_adapter, add_device, add_lane, add_row, in_record, is_dev, is_lane, is_sim, lacks_adapters, placed, row_step}
+use Rattle.trace_file.specs.Reading.{add_adapter, add_device, add_lane, add_row, in_record, lacks_adapters, lacks_weights, placed, row_step}
 use Rattle.trace_file.specs.Rows.{device_at, one_number}
 use Rattle.trace_file.specs.ScriptReading.{is_config_word, is_configuring}
 use Rattle.trace_file.specs.Words.{spelled}
@@ -15,20 +15,12 @@ use Rattle.trace_file.proofs.RowLaws.{on_ok}
 use Rattle.trace_file.proofs.StageLaws.{guarded, no_fault, placed_some}
 use Rattle.trace_file.proofs.FieldLaws.{ok_or_ok}
 
--- a word of events is none of the configuration
-event_word : (w : Word) → is_sim w ≡ false → is_dev w ≡ false → is_lane w ≡ false → is_config_word (spelled w) ≡ false
-unfolding is_config_word
-event_word word.Sim a b c = absurd cc
-event_word word.Dev a b c = absurd cc
-event_word word.Lane a b c = absurd cc
-event_word _ a b c = refl
-
 row_configures : (n : ℕ) (s t : TraceStage) (w : Word) (row : Row) → field_of row 0 ≡ spelled w → is_config_word (field_of row 0) ≡ true → add_row n s w row ≡ Ok t → is_configuring t ≡ true
-unfolding add_row add_adapter add_device add_lane
-row_configures n s t word.Sim row is h e = on_ok (in_record n (one_number row)) _ t e (λ o eo r. let k = no_fault n _ _ t r in ap is_configuring (sym k.1))
+unfolding add_row add_adapter add_device add_lane is_config_word
+row_configures n s t word.Sim row is h e = on_ok (in_record n (one_number row)) _ t e (λ o eo r. let k = no_fault n _ _ t (guarded (lacks_weights s) _ _ t r).1 in ap is_configuring (sym k.1))
 row_configures n s t word.Dev row is h e = on_ok (in_record n (device_at row)) _ t e (λ d ed r. let k = no_fault n _ _ t (guarded (lacks_adapters s) _ _ t r).1 in ap is_configuring (sym k.1))
 row_configures n s t word.Lane row is h e = on_ok (in_record n (one_number row)) _ t e (λ a ea r. let k = no_fault n _ _ t (guarded (lacks_adapters s) _ _ t r).1 in ap is_configuring (sym k.1))
-row_configures n s t w row is h e = absurd (false≢true (sym (ap is_config_word is ∙ event_word w refl refl refl) ∙ h))
+row_configures n s t w row is h e = absurd (false≢true (sym (ap is_config_word is) ∙ h))
 
 pub configures : (n : ℕ) (s t : TraceStage) (row : Row) → is_config_word (field_of row 0) ≡ true → row_step n s row ≡ Ok t → is_configuring t ≡ true
 unfolding row_step

@@ -2,7 +2,7 @@
 use Rattle.std.proofs.Common.{◌≡◌, ◌≤◌, ◌+◌, ℕ, List, [], ◌∷◌, ◌++◌, length, drop, map, Bool, true, false, cond, refl, sym, ap, ◌∙◌, subst, arith, append_assoc, append-nil, rules, tests}
 use Rattle.std.specs.Prelude.{Option, Some, None, Result, Ok, Err, ok_or, codes, ◌==◌}
 use Rattle.std.specs.List.{AllByRecursion}
-use Rattle.std.proofs.lemmas.Bool.{eqb-true}
+use Rattle.std.proofs.lemmas.Bool.{eqb-true, not-false}
 use Rattle.std.proofs.lemmas.List.{map-append, nil_from_length, length-drop}
 use Rattle.std.proofs.lemmas.Option.{cond_some}
 use Rattle.std.proofs.lemmas.Slice.Eq.{bytes_eq-Decides}
@@ -10,7 +10,7 @@ use Rattle.std.proofs.lemmas.Bool.Decides.{nat_tests}
 use Rattle.cam_types.specs.Topology.{IsDraft}
 use Rattle.cam_event.specs.Legal.{history_rules}
 use Rattle.cam_event.proofs.LegalLemmas.{legal-none}
-use Rattle.trace_file.specs.Histories.{Topology, Device, Event, Past, ConfigFault, Refusal}
+use Rattle.trace_file.specs.Histories.{Topology, WeightRow, reaches_last, Device, Event, Past, ConfigFault, Refusal}
 use Rattle.trace_file.specs.declared.device_row.DeviceRow.{DeviceRow}
 use Rattle.trace_file.specs.declared.trace_fault.TraceFault.{TraceFault}
 use Rattle.trace_file.specs.declared.trace_fault.TraceFault.TheVariants.{BadHeader, BadRecord}
@@ -19,90 +19,146 @@ use Rattle.trace_file.specs.declared.trace_stage.TraceStage.TheVariants as stage
 use Rattle.trace_file.specs.declared.word.Word.{Word}
 use Rattle.trace_file.specs.declared.word.Word.TheVariants as word
 use Rattle.trace_file.specs.Fields.{Row, field_of}
-use Rattle.trace_file.specs.Reading.{add_adapter, add_device, add_event, add_lane, add_row, config_of, ended, has_letters, in_record, is_header, lacks_adapters, past_of, placed, row_step, stands, step, unless_fault, unless_refused}
-use Rattle.trace_file.specs.Records.{adapter_row, device_row, event_row, header, lane_row, records_of}
-use Rattle.trace_file.specs.Rows.{device_at, device_of, event_at, one_number}
+use Rattle.trace_file.specs.Reading.{add_weight, add_adapter, add_device, add_event, add_lane, add_row, config_of, ended, has_letters, in_record, is_header, lacks_adapters, lacks_weights, past_of, placed, row_step, stands, step, unless_fault, unless_refused}
+use Rattle.trace_file.specs.Records.{weight_row, weight_rows, adapter_row, device_row, event_row, header, holds, lane_row, name_of, records_of}
+use Rattle.trace_file.specs.Rows.{device_at, device_of, event_at, one_number, two_numbers}
+use Rattle.trace_file.specs.declared.version.Version.{Version}
+use Rattle.trace_file.specs.declared.version.Version.TheVariants as version
+use Rattle.cam_types.specs.Weights.{are_standard, row_to}
 use Rattle.trace_file.specs.Sound.{IsBegun, IsKept, IsSound}
 use Rattle.trace_file.specs.Steps.{◌>>=◌, taken}
 use Rattle.trace_file.specs.Trace.{FitsEvent, IsHistory}
 use Rattle.trace_file.specs.Words.{spelled, word_of}
 use Rattle.trace_file.proofs.FieldLaws.{word_spelled, ok_or_ok}
-use Rattle.trace_file.proofs.RowLaws.{adapter_takes, device_row_takes, event_takes, lane_takes, ok_is, on_ok, peel, if_ok}
-use Rattle.trace_file.proofs.StageLemmas.{kept_empty, sound_adapter, sound_device, sound_event, sound_lane}
+use Rattle.trace_file.proofs.RowLaws.{weight_takes, adapter_takes, device_row_takes, event_takes, lane_takes, ok_is, on_ok, peel}
+use Rattle.trace_file.proofs.StageLemmas.{kept_empty, sound_weight, sound_adapter, sound_device, sound_event, sound_lane}
+use Rattle.cam_types.proofs.TopologyLemmas.{standard_draft}
 use Rattle.trace_file.proofs.HexLaws.{guard_some, on_some}
 use Rattle.trace_file.proofs.ListLaws.{all_push}
 
 -- ---- the records of a history with one item more
 
-pub push_adapter : (t : Topology) (o : ℕ) → t.devices ≡ [] → t.lanes ≡ []
-    → records_of (record { config = t; events = [] }) ++ adapter_row o ∷ [] ≡ records_of (record { config = record t { adapters = t.adapters ++ o ∷ [] }; events = [] })
-unfolding records_of
-push_adapter t o devices lanes =
-    rw (devices, lanes) (ap (λ (rs : List Row). header ∷ rs) (simp (append-nil, map-append) (ap (λ (l : List Row). l ++ adapter_row o ∷ []) (append-nil (map adapter_row t.adapters)))))
+weights_more : (w : List Row) (r : Row) → (w ++ []) ++ r ∷ [] ≡ (w ++ r ∷ []) ++ []
+weights_more w r = rw (append-nil w, append-nil (w ++ r ∷ [])) refl
 
-pub push_device : (t : Topology) (d : Device) → t.lanes ≡ []
-    → records_of (record { config = t; events = [] }) ++ device_row d ∷ [] ≡ records_of (record { config = record t { devices = t.devices ++ d ∷ [] }; events = [] })
-unfolding records_of
-push_device t d lanes = rw lanes (ap (λ (rs : List Row). header ∷ rs) (simp (append-nil, map-append) (append_assoc (map adapter_row t.adapters) (map device_row t.devices) (device_row d ∷ []))))
+adapters_more : (w a : List Row) (r : Row) → (w ++ (a ++ [])) ++ r ∷ [] ≡ w ++ ((a ++ r ∷ []) ++ [])
+adapters_more w a r = rw (append-nil a, append-nil (a ++ r ∷ [])) (append_assoc w a (r ∷ []))
 
-pub push_lane : (t : Topology) (a : ℕ)
-    → records_of (record { config = t; events = [] }) ++ lane_row a ∷ [] ≡ records_of (record { config = record t { lanes = t.lanes ++ a ∷ [] }; events = [] })
-unfolding records_of
-push_lane t a = ap (λ (rs : List Row). header ∷ rs) (simp (append-nil, map-append, append_assoc) refl)
+devices_more : (w a d : List Row) (r : Row) → (w ++ (a ++ (d ++ []))) ++ r ∷ [] ≡ w ++ (a ++ ((d ++ r ∷ []) ++ []))
+devices_more w a d r = rw (append-nil d, append-nil (d ++ r ∷ [])) (append_assoc w (a ++ d) (r ∷ []) ∙ ap (λ (l : List Row). w ++ l) (append_assoc a d (r ∷ [])))
 
-pub push_event : (p : Past) (e : Event) → records_of p ++ event_row e ∷ [] ≡ records_of (record p { events = p.events ++ e ∷ [] })
+pub push_weight : (t : Topology) (w : WeightRow) → t.adapters ≡ [] → t.devices ≡ [] → t.lanes ≡ []
+    → records_of version.Two (record { config = t; events = [] }) ++ weight_row w ∷ [] ≡ records_of version.Two (record { config = record t { weights = t.weights ++ w ∷ [] }; events = [] })
 unfolding records_of
-push_event p e = ap (λ (rs : List Row). header ∷ rs) (simp (map-append, append_assoc) refl)
+push_weight t w adapters devices lanes =
+    rw (adapters, devices, lanes) (ap (λ (rs : List Row). header version.Two ∷ rs)
+    (weights_more (map weight_row t.weights) (weight_row w) ∙ ap (λ (l : List Row). l ++ []) (sym (map-append weight_row t.weights (w ∷ [])))))
+
+pub push_adapter : (v : Version) (t : Topology) (o : ℕ) → t.devices ≡ [] → t.lanes ≡ []
+    → records_of v (record { config = t; events = [] }) ++ adapter_row o ∷ [] ≡ records_of v (record { config = record t { adapters = t.adapters ++ o ∷ [] }; events = [] })
+unfolding records_of
+push_adapter v t o devices lanes =
+    let ws = weight_rows v t.weights in
+    rw (devices, lanes) (ap (λ (rs : List Row). header v ∷ rs)
+    (adapters_more ws (map adapter_row t.adapters) (adapter_row o) ∙ ap (λ (l : List Row). ws ++ (l ++ [])) (sym (map-append adapter_row t.adapters (o ∷ [])))))
+
+pub push_device : (v : Version) (t : Topology) (d : Device) → t.lanes ≡ []
+    → records_of v (record { config = t; events = [] }) ++ device_row d ∷ [] ≡ records_of v (record { config = record t { devices = t.devices ++ d ∷ [] }; events = [] })
+unfolding records_of
+push_device v t d lanes =
+    let ws = weight_rows v t.weights in
+    let as' = map adapter_row t.adapters in
+    rw lanes (ap (λ (rs : List Row). header v ∷ rs)
+    (devices_more ws as' (map device_row t.devices) (device_row d) ∙ ap (λ (l : List Row). ws ++ (as' ++ (l ++ []))) (sym (map-append device_row t.devices (d ∷ [])))))
+
+pub push_lane : (v : Version) (t : Topology) (a : ℕ)
+    → records_of v (record { config = t; events = [] }) ++ lane_row a ∷ [] ≡ records_of v (record { config = record t { lanes = t.lanes ++ a ∷ [] }; events = [] })
+unfolding records_of
+push_lane v t a = ap (λ (rs : List Row). header v ∷ rs) (simp (append-nil, map-append, append_assoc) refl)
+
+pub push_event : (v : Version) (p : Past) (e : Event) → records_of v p ++ event_row e ∷ [] ≡ records_of v (record p { events = p.events ++ e ∷ [] })
+unfolding records_of
+push_event v p e = ap (λ (rs : List Row). header v ∷ rs) (simp (map-append, append_assoc) refl)
 
 -- ---- what a stage has read
 
 -- the records that a stage has read
-abbrev pub rows_at : TraceStage → List Row
-rows_at stage.Header = []
-rows_at stage.First = records_of (past_of stage.First)
-rows_at (stage.Adapters t) = records_of (record { config = t; events = [] })
-rows_at (stage.Devices t) = records_of (record { config = t; events = [] })
-rows_at (stage.Lanes t) = records_of (record { config = t; events = [] })
-rows_at (stage.Events p) = records_of p
+abbrev pub rows_at : Version → TraceStage → List Row
+rows_at v stage.Header = []
+rows_at v s = records_of v (past_of s)
 
-pub record Reads (s : TraceStage) (rows : List Row) : Type 0 where
-  pub spelled : rows ≡ rows_at s
+-- a stage comes about in this version
+abbrev pub is_in : TraceStage → Version → Bool
+is_in stage.Header v = true
+is_in stage.First version.One = true
+is_in stage.First version.Two = false
+is_in (stage.Weights t) version.One = false
+is_in (stage.Weights t) version.Two = true
+is_in (stage.Adapters t) v = holds v t
+is_in (stage.Devices t) v = holds v t
+is_in (stage.Lanes t) v = holds v t
+is_in (stage.Events p) v = holds v p.config
+
+-- whether a version holds a configuration goes by its weights
+holds_same : (v : Version) (a b : Topology) → a.weights ≡ b.weights → holds v a ≡ true → holds v b ≡ true
+holds_same version.One a b e h = subst (λ (ws : List WeightRow). are_standard ws ≡ true) e h
+holds_same version.Two a b e h = refl
+
+pub record Reads (v : Version) (s : TraceStage) (rows : List Row) : Type 0 where
+  pub spelled : rows ≡ rows_at v s
+  pub held : is_in s v ≡ true
   pub sound : IsSound s
   pub targets : AllByRecursion (λ (d : Device). d.target ≤ 65535) (config_of s).devices
   pub events : AllByRecursion FitsEvent (past_of s).events
 
 -- a stage has read a configuration and no event
-abbrev Ready : TraceStage → Type 0
-Ready s = rows_at s ≡ records_of (record { config = config_of s; events = [] })
+abbrev Ready : Version → TraceStage → Type 0
+Ready v s = (rows_at v s ≡ records_of v (record { config = config_of s; events = [] })) × (holds v (config_of s) ≡ true)
 
-adapter_ready : (s : TraceStage) → IsSound s → stands s word.Sim ≡ true → Ready s × IsDraft (config_of s) × ((config_of s).devices ≡ []) × ((config_of s).lanes ≡ [])
+weight_ready : (v : Version) (s : TraceStage) → IsSound s → is_in s v ≡ true → stands s word.Weight ≡ true → Ready v s × (v ≡ version.Two) × IsSound (stage.Weights (config_of s))
+unfolding stands
+weight_ready version.Two (stage.Weights t) h i e = ((refl, refl), refl, h)
+weight_ready version.One (stage.Weights t) h i e = absurd cc
+weight_ready v _ h i e = absurd cc
+
+adapter_ready : (v : Version) (s : TraceStage) → IsSound s → is_in s v ≡ true → stands s word.Sim ≡ true → Ready v s × IsDraft (config_of s) × ((config_of s).devices ≡ []) × ((config_of s).lanes ≡ [])
 unfolding IsSound stands
-adapter_ready stage.First h e = (refl, record { adapters = refl; devices = refl; lanes = refl }, refl, refl)
-adapter_ready (stage.Adapters t) h e = (refl, h.0.draft, h.1, h.2)
-adapter_ready _ h e = absurd cc
+adapter_ready version.One stage.First h i e = ((refl, refl), standard_draft, refl, refl)
+adapter_ready version.Two stage.First h i e = absurd cc
+adapter_ready version.Two (stage.Weights t) h i e = ((refl, refl), h.0, h.2, h.3)
+adapter_ready version.One (stage.Weights t) h i e = absurd cc
+adapter_ready v (stage.Adapters t) h i e = ((refl, i), h.0.draft, h.1, h.2)
+adapter_ready v _ h i e = absurd cc
 
-device_ready : (s : TraceStage) → IsSound s → stands s word.Dev ≡ true → lacks_adapters s ≡ false → Ready s × IsBegun (config_of s) × ((config_of s).lanes ≡ [])
+device_ready : (v : Version) (s : TraceStage) → IsSound s → is_in s v ≡ true → stands s word.Dev ≡ true → lacks_adapters s ≡ false → Ready v s × IsBegun (config_of s) × ((config_of s).lanes ≡ [])
 unfolding IsSound stands
-device_ready (stage.Adapters t) h e l = (refl, h.0, h.2)
-device_ready (stage.Devices t) h e l = (refl, h.0, h.1)
-device_ready _ h e l = absurd cc
+device_ready v (stage.Adapters t) h i e l = ((refl, i), h.0, h.2)
+device_ready v (stage.Devices t) h i e l = ((refl, i), h.0, h.1)
+device_ready v _ h i e l = absurd cc
 
-lane_ready : (s : TraceStage) → IsSound s → stands s word.Lane ≡ true → lacks_adapters s ≡ false → Ready s × IsBegun (config_of s)
+lane_ready : (v : Version) (s : TraceStage) → IsSound s → is_in s v ≡ true → stands s word.Lane ≡ true → lacks_adapters s ≡ false → Ready v s × IsBegun (config_of s)
 unfolding IsSound stands
-lane_ready (stage.Adapters t) h e l = (refl, h.0)
-lane_ready (stage.Devices t) h e l = (refl, h.0)
-lane_ready (stage.Lanes t) h e l = (refl, h)
-lane_ready _ h e l = absurd cc
+lane_ready v (stage.Adapters t) h i e l = ((refl, i), h.0)
+lane_ready v (stage.Devices t) h i e l = ((refl, i), h.0)
+lane_ready v (stage.Lanes t) h i e l = ((refl, i), h)
+lane_ready v _ h i e l = absurd cc
 
-pub event_ready : (s : TraceStage) → IsSound s → lacks_adapters s ≡ false → (rows_at s ≡ records_of (past_of s)) × IsKept (past_of s)
+pub event_ready : (v : Version) (s : TraceStage) → IsSound s → is_in s v ≡ true → lacks_adapters s ≡ false → (rows_at v s ≡ records_of v (past_of s)) × (holds v (config_of s) ≡ true) × IsKept (past_of s)
 unfolding IsSound
-event_ready (stage.Adapters t) h l = (refl, kept_empty t h.0)
-event_ready (stage.Devices t) h l = (refl, kept_empty t h.0)
-event_ready (stage.Lanes t) h l = (refl, kept_empty t h)
-event_ready (stage.Events p) h l = (refl, h)
-event_ready _ h l = absurd cc
+event_ready v (stage.Adapters t) h i l = (refl, i, kept_empty t h.0)
+event_ready v (stage.Devices t) h i l = (refl, i, kept_empty t h.0)
+event_ready v (stage.Lanes t) h i l = (refl, i, kept_empty t h)
+event_ready v (stage.Events p) h i l = (refl, i, h)
+event_ready v _ h i l = absurd cc
 
 -- ---- one item more
+
+sound_items : (t : Topology) → IsSound (stage.Weights t) → (t.adapters ≡ []) × (t.devices ≡ []) × (t.lanes ≡ [])
+unfolding IsSound
+sound_items t h = (h.1, h.2, h.3)
+
+reached : (s : TraceStage) → lacks_weights s ≡ false → reaches_last (config_of s).weights ≡ true
+reached s e = not-false _ e
 
 pub no_fault : (n : ℕ) (o : Option ConfigFault) (s t : TraceStage) → unless_fault n o s ≡ Ok t → (o ≡ None) × (s ≡ t)
 no_fault n None s t e = (refl, ok_is s t e)
@@ -121,49 +177,60 @@ in_record_ok n (Ok y) x e = cc
 in_record_ok n (Err k) x e = absurd cc
 
 -- a stage with one record more
-reads_next : (s next t : TraceStage) (row : Row) (rows : List Row) → Reads s rows → next ≡ t → rows_at s ++ row ∷ [] ≡ rows_at next → IsSound next
-    → AllByRecursion (λ (d : Device). d.target ≤ 65535) (config_of next).devices → AllByRecursion FitsEvent (past_of next).events → Reads t (rows ++ row ∷ [])
-reads_next s next t row rows h same spelled sound targets events =
-    let made : Reads next (rows ++ row ∷ []) = record { spelled = ap (λ (l : List Row). l ++ row ∷ []) h.spelled ∙ spelled; sound = sound; targets = targets; events = events } in
-    subst (λ (x : TraceStage). Reads x (rows ++ row ∷ [])) same made
+reads_next : (v : Version) (s next t : TraceStage) (row : Row) (rows : List Row) → Reads v s rows → next ≡ t → rows_at v s ++ row ∷ [] ≡ rows_at v next → is_in next v ≡ true → IsSound next
+    → AllByRecursion (λ (d : Device). d.target ≤ 65535) (config_of next).devices → AllByRecursion FitsEvent (past_of next).events → Reads v t (rows ++ row ∷ [])
+reads_next v s next t row rows h same spelled held sound targets events =
+    let made : Reads v next (rows ++ row ∷ []) = record { spelled = ap (λ (l : List Row). l ++ row ∷ []) h.spelled ∙ spelled; held = held; sound = sound; targets = targets; events = events } in
+    subst (λ (x : TraceStage). Reads v x (rows ++ row ∷ [])) same made
 
-reads_adapter : (n : ℕ) (s t : TraceStage) (o : ℕ) (rows : List Row) → Reads s rows → stands s word.Sim ≡ true → add_adapter n s o ≡ Ok t → Reads t (rows ++ adapter_row o ∷ [])
-unfolding add_adapter
-reads_adapter n s t o rows h place e =
+reads_weight : (v : Version) (n : ℕ) (s t : TraceStage) (w : WeightRow) (rows : List Row) → Reads v s rows → stands s word.Weight ≡ true → add_weight n s w ≡ Ok t → Reads v t (rows ++ weight_row w ∷ [])
+unfolding add_weight
+reads_weight version.One n s t w rows h place e = let r = weight_ready version.One s h.sound h.held place in absurd (let wrong = r.1 in cc)
+reads_weight version.Two n s t w rows h place e =
     let c = config_of s in
-    let r = adapter_ready s h.sound place in
+    let r = weight_ready version.Two s h.sound h.held place in
+    let items = sound_items c r.2 in
     let k = no_fault n _ _ t e in
-    reads_next s _ t (adapter_row o) rows h k.1 (ap (λ (l : List Row). l ++ adapter_row o ∷ []) r.0 ∙ push_adapter c o r.2 r.3) (sound_adapter c _ o r.1 r.2 r.3 k.0 refl) h.targets tt
+    reads_next version.Two s _ t (weight_row w) rows h k.1 (ap (λ (l : List Row). l ++ weight_row w ∷ []) r.0.0 ∙ push_weight c w items.0 items.1 items.2) refl (sound_weight c _ w r.2 k.0 refl) h.targets tt
 
-reads_device : (n : ℕ) (s t : TraceStage) (d : DeviceRow) (rows : List Row) → Reads s rows → stands s word.Dev ≡ true → d.target ≤ 65535 → add_device n s d ≡ Ok t
-    → Reads t (rows ++ device_row (device_of d) ∷ [])
+reads_adapter : (v : Version) (n : ℕ) (s t : TraceStage) (o : ℕ) (rows : List Row) → Reads v s rows → stands s word.Sim ≡ true → add_adapter n s o ≡ Ok t → Reads v t (rows ++ adapter_row o ∷ [])
+unfolding add_adapter
+reads_adapter v n s t o rows h place e =
+    let c = config_of s in
+    let r = adapter_ready v s h.sound h.held place in
+    let g = guarded (lacks_weights s) _ _ t e in
+    let k = no_fault n _ _ t g.1 in
+    reads_next v s _ t (adapter_row o) rows h k.1 (ap (λ (l : List Row). l ++ adapter_row o ∷ []) r.0.0 ∙ push_adapter v c o r.2 r.3) (holds_same v c _ refl r.0.1) (sound_adapter c _ o r.1 (reached s g.0) r.2 r.3 k.0 refl) h.targets tt
+
+reads_device : (v : Version) (n : ℕ) (s t : TraceStage) (d : DeviceRow) (rows : List Row) → Reads v s rows → stands s word.Dev ≡ true → d.target ≤ 65535 → add_device n s d ≡ Ok t
+    → Reads v t (rows ++ device_row (device_of d) ∷ [])
 unfolding add_device
-reads_device n s t d rows h place fits e =
+reads_device v n s t d rows h place fits e =
     let c = config_of s in
     let x = device_of d in
     let g = guarded (lacks_adapters s) _ _ t e in
     let k = no_fault n _ _ t g.1 in
-    let r = device_ready s h.sound place g.0 in
-    reads_next s _ t (device_row x) rows h k.1 (ap (λ (l : List Row). l ++ device_row x ∷ []) r.0 ∙ push_device c x r.2) (sound_device c _ x r.1 r.2 k.0 refl)
+    let r = device_ready v s h.sound h.held place g.0 in
+    reads_next v s _ t (device_row x) rows h k.1 (ap (λ (l : List Row). l ++ device_row x ∷ []) r.0.0 ∙ push_device v c x r.2) (holds_same v c _ refl r.0.1) (sound_device c _ x r.1 r.2 k.0 refl)
     (all_push (λ (y : Device). y.target ≤ 65535) c.devices x h.targets fits) tt
 
-reads_lane : (n : ℕ) (s t : TraceStage) (a : ℕ) (rows : List Row) → Reads s rows → stands s word.Lane ≡ true → add_lane n s a ≡ Ok t → Reads t (rows ++ lane_row a ∷ [])
+reads_lane : (v : Version) (n : ℕ) (s t : TraceStage) (a : ℕ) (rows : List Row) → Reads v s rows → stands s word.Lane ≡ true → add_lane n s a ≡ Ok t → Reads v t (rows ++ lane_row a ∷ [])
 unfolding add_lane
-reads_lane n s t a rows h place e =
+reads_lane v n s t a rows h place e =
     let c = config_of s in
     let g = guarded (lacks_adapters s) _ _ t e in
     let k = no_fault n _ _ t g.1 in
-    let r = lane_ready s h.sound place g.0 in
-    reads_next s _ t (lane_row a) rows h k.1 (ap (λ (l : List Row). l ++ lane_row a ∷ []) r.0 ∙ push_lane c a) (sound_lane c _ a r.1 k.0 refl) h.targets tt
+    let r = lane_ready v s h.sound h.held place g.0 in
+    reads_next v s _ t (lane_row a) rows h k.1 (ap (λ (l : List Row). l ++ lane_row a ∷ []) r.0.0 ∙ push_lane v c a) (holds_same v c _ refl r.0.1) (sound_lane c _ a r.1 k.0 refl) h.targets tt
 
-reads_event : (n : ℕ) (s t : TraceStage) (x : Event) (rows : List Row) → Reads s rows → FitsEvent x → add_event n s x ≡ Ok t → Reads t (rows ++ event_row x ∷ [])
+reads_event : (v : Version) (n : ℕ) (s t : TraceStage) (x : Event) (rows : List Row) → Reads v s rows → FitsEvent x → add_event n s x ≡ Ok t → Reads v t (rows ++ event_row x ∷ [])
 unfolding add_event
-reads_event n s t x rows h fits e =
+reads_event v n s t x rows h fits e =
     let p = past_of s in
     let g = guarded (lacks_adapters s) _ _ t e in
     let k = no_refusal n _ _ t g.1 in
-    let r = event_ready s h.sound g.0 in
-    reads_next s _ t (event_row x) rows h k.1 (ap (λ (l : List Row). l ++ event_row x ∷ []) r.0 ∙ push_event p x) (sound_event p _ x r.1 (legal-none history_rules p.config p.events x k.0) refl) h.targets
+    let r = event_ready v s h.sound h.held g.0 in
+    reads_next v s _ t (event_row x) rows h k.1 (ap (λ (l : List Row). l ++ event_row x ∷ []) r.0 ∙ push_event v p x) r.1 (sound_event p _ x r.2 (legal-none history_rules p.config p.events x k.0) refl) h.targets
     (all_push FitsEvent p.events x h.events fits)
 
 -- ---- a record
@@ -199,42 +266,63 @@ placed_some s row w h =
     let m = cond_some (stands s v) v w k in
     record { eight = eqb-true _ _ g.0; word = word_spelled _ w (ev ∙ ap (λ (x : Word). Some x) m.1); place = ap (stands s) (sym m.1) ∙ m.0 })
 
-reads_other : (n : ℕ) (s t : TraceStage) (w : Word) (row : Row) (rows : List Row) → Reads s rows → IsPlaced s row w → (in_record n (event_at w row) >>= add_event n s) ≡ Ok t → Reads t (rows ++ row ∷ [])
-reads_other n s t w row rows h p e =
+reads_other : (v : Version) (n : ℕ) (s t : TraceStage) (w : Word) (row : Row) (rows : List Row) → Reads v s rows → IsPlaced s row w → (in_record n (event_at w row) >>= add_event n s) ≡ Ok t → Reads v t (rows ++ row ∷ [])
+reads_other v n s t w row rows h p e =
     on_ok (in_record n (event_at w row)) (add_event n s) t e (λ x ex r.
     let k = event_takes row w x p.eight p.word (in_record_ok n (event_at w row) x ex) in
-    subst (λ (l : Row). Reads t (rows ++ l ∷ [])) (sym k.0) (reads_event n s t x rows h k.1 r))
+    subst (λ (l : Row). Reads v t (rows ++ l ∷ [])) (sym k.0) (reads_event v n s t x rows h k.1 r))
 
-reads_row : (n : ℕ) (s t : TraceStage) (w : Word) (row : Row) (rows : List Row) → Reads s rows → IsPlaced s row w → add_row n s w row ≡ Ok t → Reads t (rows ++ row ∷ [])
+reads_row : (v : Version) (n : ℕ) (s t : TraceStage) (w : Word) (row : Row) (rows : List Row) → Reads v s rows → IsPlaced s row w → add_row n s w row ≡ Ok t → Reads v t (rows ++ row ∷ [])
 unfolding add_row
-reads_row n s t word.Sim row rows h p e =
+reads_row v n s t word.Weight row rows h p e =
+    on_ok (in_record n (two_numbers row)) (λ m. add_weight n s (row_to m.0 m.1)) t e (λ m em r.
+    let k = weight_takes row m p.eight p.word (in_record_ok n (two_numbers row) m em) in
+    subst (λ (l : Row). Reads v t (rows ++ l ∷ [])) (sym k) (reads_weight v n s t (row_to m.0 m.1) rows h p.place r))
+reads_row v n s t word.Sim row rows h p e =
     on_ok (in_record n (one_number row)) (add_adapter n s) t e (λ o eo r.
     let k = adapter_takes row o p.eight p.word (in_record_ok n (one_number row) o eo) in
-    subst (λ (l : Row). Reads t (rows ++ l ∷ [])) (sym k) (reads_adapter n s t o rows h p.place r))
-reads_row n s t word.Dev row rows h p e =
+    subst (λ (l : Row). Reads v t (rows ++ l ∷ [])) (sym k) (reads_adapter v n s t o rows h p.place r))
+reads_row v n s t word.Dev row rows h p e =
     on_ok (in_record n (device_at row)) (add_device n s) t e (λ d ed r.
     let k = device_row_takes row d p.eight p.word (in_record_ok n (device_at row) d ed) in
-    subst (λ (l : Row). Reads t (rows ++ l ∷ [])) (sym k.0) (reads_device n s t d rows h p.place k.1 r))
-reads_row n s t word.Lane row rows h p e =
+    subst (λ (l : Row). Reads v t (rows ++ l ∷ [])) (sym k.0) (reads_device v n s t d rows h p.place k.1 r))
+reads_row v n s t word.Lane row rows h p e =
     on_ok (in_record n (one_number row)) (add_lane n s) t e (λ a ea r.
     let k = lane_takes row a p.eight p.word (in_record_ok n (one_number row) a ea) in
-    subst (λ (l : Row). Reads t (rows ++ l ∷ [])) (sym k) (reads_lane n s t a rows h p.place r))
-reads_row n s t w row rows h p e = reads_other n s t w row rows h p e
+    subst (λ (l : Row). Reads v t (rows ++ l ∷ [])) (sym k) (reads_lane v n s t a rows h p.place r))
+reads_row v n s t w row rows h p e = reads_other v n s t w row rows h p e
 
-pub reads_behind : (n : ℕ) (s t : TraceStage) (row : Row) (rows : List Row) → Reads s rows → row_step n s row ≡ Ok t → Reads t (rows ++ row ∷ [])
+pub reads_behind : (v : Version) (n : ℕ) (s t : TraceStage) (row : Row) (rows : List Row) → Reads v s rows → row_step n s row ≡ Ok t → Reads v t (rows ++ row ∷ [])
 unfolding row_step
-reads_behind n s t row rows h e =
+reads_behind v n s t row rows h e =
     on_ok (ok_or (placed s row) (BadRecord n)) (λ w. add_row n s w row) t e (λ w ew r.
-    reads_row n s t w row rows h (placed_some s row w (ok_or_ok (placed s row) (BadRecord n) w ew)) r)
+    reads_row v n s t w row rows h (placed_some s row w (ok_or_ok (placed s row) (BadRecord n) w ew)) r)
+
+-- a stage has read these records, in some version
+pub record ReadsBy (s : TraceStage) (rows : List Row) : Type 0 where
+  pub version : Version
+  pub reads : Reads version s rows
+
+header_reads : (v : Version) (s t : TraceStage) (row : Row) (rows : List Row) → rows ≡ [] → is_header (name_of v) row ≡ true → rows_at v s ≡ header v ∷ [] → is_in s v ≡ true → IsSound s
+    → ((config_of s).devices ≡ []) × ((past_of s).events ≡ []) → s ≡ t → ReadsBy t (rows ++ row ∷ [])
+unfolding header
+header_reads v s t row rows none named spelled held sound empty same =
+    let made : Reads v s (rows ++ row ∷ []) = record { spelled = rw (none, named_header (name_of v) row named) (sym spelled); held = held; sound = sound; targets = rw empty.0 tt; events = rw empty.1 tt } in
+    subst (λ (x : TraceStage). ReadsBy x (rows ++ row ∷ [])) same (record { version = v; reads = made })
 
 -- a stage that took a record has read it
-pub step_reads : (n : ℕ) (s t : TraceStage) (row : Row) (rows : List Row) → Reads s rows → step n s row ≡ Ok t → Reads t (rows ++ row ∷ [])
-unfolding step IsSound records_of header
-step_reads n stage.Header t row rows h e =
-    let k = if_ok (is_header (codes "camtrace1") row) _ t BadHeader e in
-    let made : Reads stage.First (rows ++ row ∷ []) = record { spelled = rw (h.spelled, named_header (codes "camtrace1") row k.0) refl; sound = tt; targets = tt; events = tt } in
-    subst (λ (x : TraceStage). Reads x (rows ++ row ∷ [])) (ok_is _ t k.1) made
-step_reads n s t row rows h e = reads_behind n s t row rows h e
+pub step_reads : (n : ℕ) (s t : TraceStage) (row : Row) (rows : List Row) → ReadsBy s rows → step n s row ≡ Ok t → ReadsBy t (rows ++ row ∷ [])
+unfolding step IsSound records_of
+step_reads n stage.Header t row rows h e = by (is_header (name_of version.One) row) (is_header (name_of version.Two) row) refl refl e
+  where
+    by : (one two : Bool) → is_header (name_of version.One) row ≡ one → is_header (name_of version.Two) row ≡ two
+        → cond one (Ok stage.First) (cond two (Ok (stage.Weights (record { weights = []; adapters = []; devices = []; lanes = [] }))) (Err BadHeader)) ≡ Ok t → ReadsBy t (rows ++ row ∷ [])
+    by true two is other k = header_reads version.One stage.First t row rows h.reads.spelled is refl refl tt (refl, refl) (ok_is _ t k)
+    by false true is other k =
+        header_reads version.Two (stage.Weights (record { weights = []; adapters = []; devices = []; lanes = [] })) t row rows h.reads.spelled other refl refl
+        (record { weights = refl; adapters = refl; devices = refl; lanes = refl }, refl, refl, refl) (refl, refl) (ok_is _ t k)
+    by false false is other k = absurd cc
+step_reads n s t row rows h e = record { version = h.version; reads = reads_behind h.version n s t row rows h.reads e }
 
 -- what each record keeps of what was read, many records keep
 pub taken_keeps : {S : Type 0} (next : ℕ → S → Row → Result S TraceFault) (P : S → List Row → Type 0)
@@ -250,11 +338,13 @@ ended_ok : (s : TraceStage) (past : Past) → ended s ≡ Ok past → (lacks_ada
 unfolding ended
 ended_ok stage.Header past e = absurd cc
 ended_ok stage.First past e = absurd cc
+ended_ok (stage.Weights t) past e = absurd cc
 ended_ok _ past e = (refl, ok_is _ past e)
 
 -- what was read to the end of the records is spelled by them
-pub ended_reads : (s : TraceStage) (past : Past) (rows : List Row) → Reads s rows → ended s ≡ Ok past → (rows ≡ records_of past) × IsHistory past
-ended_reads s past rows h e =
+pub ended_reads : (v : Version) (s : TraceStage) (past : Past) (rows : List Row) → Reads v s rows → ended s ≡ Ok past → (rows ≡ records_of v past) × (holds v past.config ≡ true) × IsHistory past
+ended_reads v s past rows h e =
     let end = ended_ok s past e in
-    let r = event_ready s h.sound end.0 in
-    subst (λ (p : Past). (rows ≡ records_of p) × IsHistory p) end.1 (h.spelled ∙ r.0, record { config = r.1.config; legal = r.1.legal; targets = h.targets; events = h.events })
+    let r = event_ready v s h.sound h.held end.0 in
+    subst (λ (p : Past). (rows ≡ records_of v p) × (holds v p.config ≡ true) × IsHistory p) end.1
+    (h.spelled ∙ r.0, r.1, record { config = r.2.config; legal = r.2.legal; targets = h.targets; events = h.events })

@@ -1,17 +1,16 @@
 -- What a record does to the configuration in the making, and to the history.
 use Rattle.std.proofs.Common.{◌≡◌, ◌≢◌, ◌<◌, ◌≤◌, ℕ, List, [], ◌∷◌, ◌++◌, length, Bool, true, false, cond, min, refl, sym, ap, ◌∙◌, arith, length-append}
-use Rattle.std.specs.Prelude.{Option, Some, None, Result, Ok, Err, MatchOption, IsOkUnless}
+use Rattle.std.specs.Prelude.{◌==◌, Option, Some, None, Result, Ok, Err, MatchOption, IsOkUnless}
 use Rattle.std.proofs.lemmas.Bool.{leb-false, ne_eqb, and_parts, leb-true, ltb-false, not-false}
 use Rattle.std.proofs.lemmas.Bool.Decides.{nat_tests}
 use Rattle.cam_types.specs.Topology.{IsDraft, address_fault}
 use Rattle.cam_types.specs.declared.config.ConfigError.{ConfigError}
 use Rattle.cam_types.specs.declared.config.ConfigError.TheVariants as error
-use Rattle.cam_types.proofs.ListLemmas.{first_answer-push}
-use Rattle.cam_types.proofs.TopologyLemmas.{config_fault-draft}
+use Rattle.cam_types.proofs.TopologyLemmas.{config_fault-draft, draft_weight, draft_adapter, draft_device, draft_lane}
 use Rattle.cam_types.specs.declared.maxima.TheConstants.{MOST_ADAPTERS}
 use Rattle.cam_event.specs.Legal.{history_rules, is_legal as legal_by}
 use Rattle.cam_event.proofs.LawLemmas.{legal-push}
-use Rattle.trace_file.specs.Histories.{Topology, Device, Event, Past, ConfigFault, adapter_fault, device_fault, lane_fault, config_fault, is_legal_event, is_legal}
+use Rattle.trace_file.specs.Histories.{Topology, WeightRow, reaches_last, weight_fault, Device, Event, Past, ConfigFault, adapter_fault, device_fault, lane_fault, config_fault, is_legal_event, is_legal}
 use Rattle.trace_file.specs.declared.device_row.DeviceRow.{DeviceRow}
 use Rattle.trace_file.specs.declared.trace_fault.TraceFault.TheVariants.{BadConfig}
 use Rattle.trace_file.specs.declared.trace_stage.TraceStage.{TraceStage}
@@ -38,21 +37,25 @@ pub few_adapters : (adapters : List ℕ) (openings : ℕ) → adapter_fault (ada
 unfolding adapter_fault
 few_adapters adapters openings none = leb-false _ _ (cond_none _ _ _ none).0
 
+-- ---- weights
+
+pub sound_weight : (t t' : Topology) (w : WeightRow) → IsSound (stage.Weights t) → weight_fault (t.weights, w) ≡ None
+    → t' ≡ record t { weights = t.weights ++ w ∷ [] } → IsSound (stage.Weights t')
+unfolding IsSound
+sound_weight t t' w h none e = rw e (draft_weight t (t.weights ++ w ∷ []) w h.0 none refl, h.1, h.2, h.3)
+
 -- ---- adapters
 
-pub sound_adapter : (t t' : Topology) (openings : ℕ) → IsDraft t → t.devices ≡ [] → t.lanes ≡ [] → adapter_fault (t.adapters, openings) ≡ None
+pub sound_adapter : (t t' : Topology) (openings : ℕ) → IsDraft t → reaches_last t.weights ≡ true → t.devices ≡ [] → t.lanes ≡ [] → adapter_fault (t.adapters, openings) ≡ None
     → t' ≡ record t { adapters = t.adapters ++ openings ∷ [] } → IsSound (stage.Adapters t')
 unfolding IsSound
-sound_adapter t t' openings d devices lanes none e =
+sound_adapter t t' openings d reaches devices lanes none e =
     let few = few_adapters t.adapters openings none in
     let size = length-append t.adapters (openings ∷ []) in
     rw e (
       record {
-        draft = record {
-          adapters = first_answer-push adapter_fault t.adapters openings d.adapters none;
-          devices = rw devices refl;
-          lanes = rw lanes refl;
-        };
+        draft = draft_adapter t (t.adapters ++ openings ∷ []) openings d devices lanes none refl;
+        reaches = reaches;
         some = omega arith;
         few = omega arith;
       },
@@ -94,11 +97,8 @@ unfolding IsSound
 sound_device t t' d begun lanes none e =
     rw e (
       record {
-        draft = record {
-          adapters = begun.draft.adapters;
-          devices = first_answer-push (device_fault (length t.adapters)) t.devices d begun.draft.devices none;
-          lanes = begun.draft.lanes;
-        };
+        draft = draft_device t (t.devices ++ d ∷ []) d begun.draft none refl;
+        reaches = begun.reaches;
         some = begun.some;
         few = begun.few;
       },
@@ -129,11 +129,8 @@ pub sound_lane : (t t' : Topology) (adapter : ℕ) → IsBegun t → lane_fault 
 unfolding IsSound
 sound_lane t t' adapter begun none e =
     rw e record {
-      draft = record {
-        adapters = begun.draft.adapters;
-        devices = begun.draft.devices;
-        lanes = first_answer-push (lane_fault (length t.adapters)) t.lanes adapter begun.draft.lanes none;
-      };
+      draft = draft_lane t (t.lanes ++ adapter ∷ []) adapter begun.draft none refl;
+      reaches = begun.reaches;
       some = begun.some;
       few = begun.few;
     }
@@ -141,7 +138,9 @@ sound_lane t t' adapter begun none e =
 -- ---- events
 
 pub config_whole : (t : Topology) → IsBegun t → config_fault t ≡ None
-config_whole t begun = config_fault-draft t begun.draft (ne_eqb _ _ (λ e. omega arith))
+config_whole t begun =
+    let some : (length t.adapters == 0) ≡ false = ne_eqb _ _ (λ e. omega arith) in
+    config_fault-draft t begun.draft ∙ rw (begun.reaches, some) refl
 
 pub is_legal-nil : (c : Topology) → is_legal c [] ≡ true
 unfolding legal_by
@@ -157,12 +156,13 @@ sound_event p p' e kept legal is =
 
 -- ---- a record
 
-pub add_row_event : (n : ℕ) (s : TraceStage) (w : Word) (row : Row) → w ≢ word.Sim → w ≢ word.Dev → w ≢ word.Lane → add_row n s w row ≡ (in_record n (event_at w row) >>= add_event n s)
+pub add_row_event : (n : ℕ) (s : TraceStage) (w : Word) (row : Row) → w ≢ word.Weight → w ≢ word.Sim → w ≢ word.Dev → w ≢ word.Lane → add_row n s w row ≡ (in_record n (event_at w row) >>= add_event n s)
 unfolding add_row
-add_row_event n s word.Sim row a b c = absurd (a refl)
-add_row_event n s word.Dev row a b c = absurd (b refl)
-add_row_event n s word.Lane row a b c = absurd (c refl)
-add_row_event n s _ row a b c = refl
+add_row_event n s word.Weight row o a b c = absurd (o refl)
+add_row_event n s word.Sim row o a b c = absurd (a refl)
+add_row_event n s word.Dev row o a b c = absurd (b refl)
+add_row_event n s word.Lane row o a b c = absurd (c refl)
+add_row_event n s _ row o a b c = refl
 
 pub step_behind : (n : ℕ) (s : TraceStage) (row : Row) → s ≢ stage.Header → step n s row ≡ row_step n s row
 unfolding step

@@ -1,5 +1,5 @@
 -- The text of a history's records is a trace of the history.
-use Rattle.std.proofs.Common.{◌≡◌, ◌≤◌, ◌+◌, ◌*◌, ℕ, List, [], ◌∷◌, ◌++◌, length, map, Bool, refl, ap, ◌∙◌, arith, length-append, suc}
+use Rattle.std.proofs.Common.{◌≡◌, ◌≤◌, ◌+◌, ◌*◌, ℕ, List, [], ◌∷◌, ◌++◌, length, map, Bool, true, refl, ap, ◌∙◌, arith, length-append, suc}
 use Rattle.std.specs.Prelude.{None, decimal, codes, if◌then◌else◌}
 use Rattle.std.specs.List.{AllByRecursion, flat_map, All}
 use Rattle.std.proofs.lemmas.Bool.Decides.{nat_tests}
@@ -13,19 +13,21 @@ use Rattle.csv.specs.declared.parser.State.TheVariants as st
 use Rattle.csv.proofs.RoundTrip.{read-write}
 use Rattle.cam_event.specs.declared.event.Event.TheVariants as event
 use Rattle.trace_file.specs.Fields.{Row, flags_text, flags_word}
-use Rattle.trace_file.specs.Histories.{Device, Event, Past, adapter_fault, device_fault, lane_fault}
-use Rattle.trace_file.specs.Records.{adapter_row, device_row, event_row, header, hex, lane_row, records_of}
+use Rattle.trace_file.specs.Histories.{WeightRow, weight_fault, Device, Event, Past, adapter_fault, device_fault, lane_fault}
+use Rattle.trace_file.specs.Records.{weight_row, weight_rows, adapter_row, device_row, event_row, header, hex, holds, lane_row, records_of}
+use Rattle.trace_file.specs.declared.version.Version.{Version}
+use Rattle.trace_file.specs.declared.version.Version.TheVariants as version
 use Rattle.trace_file.specs.Rows.{most_number}
 use Rattle.trace_file.specs.Trace.{FitsEvent, IsHistory, IsTrace}
-use Rattle.trace_file.specs.Writing.{text_of, trace_text}
-use Rattle.cam_types.proofs.TopologyLemmas.{few_devices}
-use Rattle.cam_types.specs.declared.maxima.TheConstants.{MOST_ADAPTERS, MOST_DEVICES, MOST_LANES, MOST_EVENTS}
+use Rattle.trace_file.specs.Writing.{text_of, text_in}
+use Rattle.cam_types.proofs.ConfigLemmas.{few_devices, few_weights}
+use Rattle.cam_types.specs.declared.maxima.TheConstants.{MOST_ADAPTERS, MOST_DEVICES, MOST_LANES, MOST_EVENTS, MOST_WEIGHT_ROWS}
 use Rattle.cam_event.proofs.LaneCount.{few_lanes}
 use Rattle.trace_file.proofs.AgainLaws.{Along, along_both}
 use Rattle.trace_file.proofs.HexLaws.{length-hex}
 use Rattle.trace_file.proofs.RecordLemmas.{first_left, none_left}
 use Rattle.trace_file.proofs.StageLemmas.{device_small}
-use Rattle.trace_file.proofs.WholeLaws.{GoodDevice, adapter_small, kept, lane_small}
+use Rattle.trace_file.proofs.WholeLaws.{GoodDevice, adapter_small, kept, lane_small, weight_numbers}
 
 -- ---- records that are written are read again
 
@@ -143,9 +145,21 @@ along_good : {X : Type 0} (P : List X → X → Type 0) (row : X → Row) (befor
 along_good P row before [] f h = All-nil IsGood
 along_good P row before (x ∷ xs) f h = All-cons IsGood (row x) (map row xs) (f before x h.0) (along_good P row (before ++ x ∷ []) xs f h.1)
 
-good_header : IsGood header
+good_header : (v : Version) → IsGood (header v)
 unfolding header
-good_header = (refl, eight (codes "camtrace1") (codes "a") (codes "b") (codes "c") (codes "d") (codes "e") (codes "f") (codes "g") (omega arith))
+good_header version.One = (refl, eight (codes "camtrace1") (codes "a") (codes "b") (codes "c") (codes "d") (codes "e") (codes "f") (codes "g") (omega arith))
+good_header version.Two = (refl, eight (codes "camtrace2") (codes "a") (codes "b") (codes "c") (codes "d") (codes "e") (codes "f") (codes "g") (omega arith))
+
+good_weight : (before : List WeightRow) (w : WeightRow) → weight_fault (before, w) ≡ None → IsGood (weight_row w)
+good_weight before w e = let s = weight_numbers before w e in (refl, two_numbers (codes "weight") w.last w.weight (omega arith) (omega arith) (omega arith))
+
+-- the records of the weights: each is good, and they aren't many
+good_weights : (v : Version) (weights : List WeightRow) → Along (λ b w. weight_fault (b, w) ≡ None) [] weights → length weights ≤ MOST_WEIGHT_ROWS
+    → All IsGood (weight_rows v weights) × (length (weight_rows v weights) ≤ MOST_WEIGHT_ROWS)
+good_weights version.One weights h few = (All-nil IsGood, omega arith)
+good_weights version.Two weights h few =
+    let size = length-map weights weight_row in
+    (along_good (λ b w. weight_fault (b, w) ≡ None) weight_row [] weights good_weight h, omega arith)
 
 text-le : (rows : List Row) → AllByRecursion IsGood rows → length (text_of rows) ≤ 135 * length rows
 unfolding text_of
@@ -157,12 +171,14 @@ text-le (row ∷ rows) h =
     omega arith
 
 -- a history's records: each is good, and they aren't many
-good_records : (past : Past) → IsHistory past → length past.events ≤ MOST_EVENTS → All IsGood (records_of past) × (length (records_of past) ≤ MOST_EVENTS + (1 + MOST_ADAPTERS + MOST_DEVICES + MOST_ADAPTERS * MOST_LANES))
+good_records : (v : Version) (past : Past) → IsHistory past → length past.events ≤ MOST_EVENTS
+    → All IsGood (records_of v past) × (length (records_of v past) ≤ MOST_EVENTS + (1 + MOST_WEIGHT_ROWS + MOST_ADAPTERS + MOST_DEVICES + MOST_ADAPTERS * MOST_LANES))
 unfolding records_of
-good_records past h few =
+good_records v past h few =
     let t = past.config in
     let n = length t.adapters in
-    let k = kept t.adapters t.devices t.lanes h.config in
+    let k = kept t.weights t.adapters t.devices t.lanes h.config in
+    let weights = good_weights v t.weights k.weights (few_weights t (record { kept = h.config })) in
     let openings = along_good (λ b o. adapter_fault (b, o) ≡ None) adapter_row [] t.adapters (λ b o e. let s = adapter_small b o e in (refl, one_number (codes "sim") o (omega arith) (omega arith))) k.adapters in
     let devices = along_good (GoodDevice t.adapters) device_row [] t.devices (λ b d p. let s = device_small n b d p.0 in let few = k.few in (refl, short_device d (omega arith) (omega (arith, p.1)) (omega arith) (omega arith)))
     (along_both (λ b d. device_fault n (b, d) ≡ None) (λ (d : Device). d.target ≤ 65535) [] t.devices k.devices h.targets) in
@@ -170,6 +186,8 @@ good_records past h few =
     let events = All-map IsGood event_row past.events (All-weaker FitsEvent (λ e. IsGood (event_row e)) good_event past.events (All-from_recursion FitsEvent past.events h.events)) in
     let lanes = map lane_row t.lanes ++ map event_row past.events in
     let rest = map device_row t.devices ++ lanes in
+    let all = map adapter_row t.adapters ++ rest in
+    let size_w = length-append (weight_rows v t.weights) all in
     let device_count = few_devices t (record { kept = h.config }) in
     let lane_count = few_lanes t (record { kept = h.config }) in
     let size_a = length-append (map adapter_row t.adapters) rest in
@@ -180,24 +198,29 @@ good_records past h few =
     let l = length-map t.lanes lane_row in
     let e = length-map past.events event_row in
     let adapter_count = k.few in (
-      All-cons IsGood header _ good_header
+      All-cons IsGood (header v) _ (good_header v)
+          (All-append IsGood (weight_rows v t.weights) all weights.0
           (All-append IsGood (map adapter_row t.adapters) rest openings
-          (All-append IsGood (map device_row t.devices) lanes devices (All-append IsGood (map lane_row t.lanes) (map event_row past.events) buses events))),
+          (All-append IsGood (map device_row t.devices) lanes devices (All-append IsGood (map lane_row t.lanes) (map event_row past.events) buses events)))),
       omega arith,
     )
 
 -- the text begins with the header's word, and so with no byte order mark
-no_mark : (past : Past) → strip_bom (trace_text past) ≡ trace_text past
-unfolding strip_bom trace_text text_of records_of header fields_text escaped is_blank
-no_mark past = refl
+no_mark : (v : Version) (past : Past) → strip_bom (text_in v past) ≡ text_in v past
+unfolding strip_bom text_in text_of records_of header fields_text escaped is_blank
+no_mark version.One past = refl
+no_mark version.Two past = refl
 
--- the text of a history is a trace of it
-pub is_trace : (past : Past) → IsHistory past → length past.events ≤ 65535 → IsTrace (trace_text past) past
-unfolding trace_text
-is_trace past h few =
-    let g = good_records past h few in
-    let short = text-le (records_of past) (recursion_from_All IsGood (records_of past) g.0) in
+-- the text of a history in a version that holds it is a trace of it
+pub is_trace : (v : Version) (past : Past) → holds v past.config ≡ true → IsHistory past → length past.events ≤ 65535 → IsTrace (text_in v past) past
+unfolding text_in
+is_trace v past held h few =
+    let rows = records_of v past in
+    let g = good_records v past h few in
+    let short = text-le rows (recursion_from_All IsGood rows g.0) in
     record {
       bounded = omega arith;
-      spelled = ap (records default_config) (no_mark past) ∙ records_again (records_of past) (recursion_from_All _ (records_of past) (All-weaker IsGood (λ row. read_back row ≡ row) (λ row p. p.0) (records_of past) g.0));
+      version = v;
+      held = held;
+      spelled = ap (records default_config) (no_mark v past) ∙ records_again rows (recursion_from_All _ rows (All-weaker IsGood (λ row. read_back row ≡ row) (λ row p. p.0) rows g.0));
     }

@@ -1,27 +1,30 @@
 -- The records of a whole history are read as that history.
-use Rattle.std.proofs.Common.{◌≡◌, ◌≢◌, ◌<◌, ◌≤◌, ℕ, List, [], ◌∷◌, ◌++◌, length, map, true, false, refl, sym, ap, ◌∙◌, arith}
+use Rattle.std.proofs.Common.{◌≡◌, ◌≢◌, ◌<◌, ◌≤◌, ℕ, List, [], ◌∷◌, ◌++◌, length, map, Bool, true, false, refl, sym, ap, ◌∙◌, subst, arith}
 use Rattle.std.specs.Prelude.{None, Result, Ok, ◌==◌}
 use Rattle.std.specs.List.{AllByRecursion}
-use Rattle.std.specs.Option.{option_or}
 use Rattle.std.proofs.lemmas.Bool.{and_parts, leb-true, leb-false, not-false}
+use Rattle.std.proofs.lemmas.Bool.Decides.{nat_tests}
 use Rattle.csv.specs.Records.{field_at}
-use Rattle.cam_types.specs.Lists.{first_answer, moments}
-use Rattle.cam_types.specs.Topology.{item_fault}
-use Rattle.cam_types.specs.declared.config_fault.ConfigFault.TheVariants.{NoAdapters}
-use Rattle.cam_types.proofs.ListLemmas.{few_where_none, or_left, or_right}
+use Rattle.cam_types.specs.Topology.{IsConfig}
+use Rattle.cam_types.proofs.ConfigLemmas.{adapter_items, device_items, few_adapters, lane_items, reaches, some_adapter, weight_items}
+use Rattle.cam_types.proofs.WeightLemmas.{standard_is}
 use Rattle.cam_types.specs.declared.maxima.TheConstants.{MOST_ADAPTERS}
 use Rattle.cam_event.specs.Legal.{history_rules, is_legal as legal_by}
 use Rattle.cam_event.proofs.LegalLemmas.{none-legal}
-use Rattle.trace_file.specs.Histories.{Topology, Device, Event, Past, adapter_fault, device_fault, lane_fault, refusal, config_fault, is_legal, is_legal_event}
+use Rattle.trace_file.specs.Histories.{Topology, WeightRow, weight_fault, reaches_last, standard_weights, Device, Event, Past, adapter_fault, device_fault, lane_fault, refusal, config_fault, is_legal, is_legal_event}
 use Rattle.trace_file.specs.declared.trace_fault.TraceFault.{TraceFault}
 use Rattle.trace_file.specs.declared.trace_stage.TraceStage.{TraceStage}
 use Rattle.trace_file.specs.declared.trace_stage.TraceStage.TheVariants as stage
-use Rattle.trace_file.specs.Reading.{add_adapter, add_device, add_event, add_lane, ended, has_letters, is_header, lacks_adapters, past_of, reading, stands, step}
-use Rattle.trace_file.specs.Records.{adapter_row, device_row, event_row, header, lane_row, records_of}
+use Rattle.trace_file.specs.Reading.{add_weight, add_adapter, add_device, add_event, add_lane, config_of, ended, has_letters, is_header, lacks_adapters, past_of, reading, stands, step}
+use Rattle.trace_file.specs.Records.{weight_row, adapter_row, device_row, event_row, header, holds, lane_row, name_of, records_of}
+use Rattle.trace_file.specs.Fields.{Row}
+use Rattle.trace_file.specs.declared.version.Version.{Version}
+use Rattle.trace_file.specs.declared.version.Version.TheVariants as version
+use Rattle.trace_file.specs.declared.word.Word.TheVariants as word
 use Rattle.trace_file.specs.Steps.{taken}
 use Rattle.trace_file.specs.Trace.{FitsEvent, IsHistory}
-use Rattle.trace_file.proofs.AgainLaws.{Along, along_both, none_along, true_along, then_taken, run, adapter_step, lane_step, device_step, event_step}
-use Rattle.trace_file.proofs.StageLemmas.{cond_none, few_adapters, device_small}
+use Rattle.trace_file.proofs.AgainLaws.{Along, along_both, none_along, true_along, then_taken, run, weight_step, adapter_step, lane_step, device_step, event_step}
+use Rattle.trace_file.proofs.StageLemmas.{cond_none, device_small}
 
 -- ---- what the rules of the configuration say of its numbers
 
@@ -33,67 +36,92 @@ pub lane_small : (n : ℕ) (before : List ℕ) (a : ℕ) → lane_fault n (befor
 unfolding lane_fault
 lane_small n before a e = leb-false _ _ (cond_none _ _ _ (cond_none _ _ _ e).1).0
 
+pub weight_numbers : (before : List WeightRow) (w : WeightRow) → weight_fault (before, w) ≡ None → (w.last ≤ 1279) × (w.weight ≤ 1000)
+unfolding weight_fault
+weight_numbers before w e = (grind (arith, nat_tests), grind (arith, nat_tests))
+
 -- ---- the stages that the records of a configuration and its events lead through
 
-abbrev pub config : List ℕ → List Device → List ℕ → Topology
-config as' ds ls = record { adapters = as'; devices = ds; lanes = ls }
+abbrev pub config : List WeightRow → List ℕ → List Device → List ℕ → Topology
+config ws as' ds ls = record { weights = ws; adapters = as'; devices = ds; lanes = ls }
 
-abbrev pub at_adapters : List ℕ → TraceStage
-at_adapters [] = stage.First
-at_adapters (o ∷ os) = stage.Adapters (config (o ∷ os) [] [])
+-- a stage with these weights, behind which an adapter may come
+pub record IsBase (ws : List WeightRow) (base : TraceStage) : Type 0 where
+  pub behind : base ≢ stage.Header
+  pub place : stands base word.Sim ≡ true
+  pub reaches : reaches_last ws ≡ true
+  pub is : config_of base ≡ config ws [] [] []
 
-abbrev pub at_devices : List ℕ → List Device → TraceStage
-at_devices as' [] = stage.Adapters (config as' [] [])
-at_devices as' (d ∷ ds) = stage.Devices (config as' (d ∷ ds) [])
+abbrev pub at_weights : List WeightRow → TraceStage
+at_weights ws = stage.Weights (config ws [] [] [])
 
-abbrev pub at_lanes : List ℕ → List Device → List ℕ → TraceStage
-at_lanes as' ds [] = at_devices as' ds
-at_lanes as' ds (l ∷ ls) = stage.Lanes (config as' ds (l ∷ ls))
+abbrev pub at_adapters : List WeightRow → TraceStage → List ℕ → TraceStage
+at_adapters ws base [] = base
+at_adapters ws base (o ∷ os) = stage.Adapters (config ws (o ∷ os) [] [])
 
-abbrev pub at_events : List ℕ → List Device → List ℕ → List Event → TraceStage
-at_events as' ds ls [] = at_lanes as' ds ls
-at_events as' ds ls (e ∷ es) = stage.Events (record { config = config as' ds ls; events = e ∷ es })
+abbrev pub at_devices : List WeightRow → List ℕ → List Device → TraceStage
+at_devices ws as' [] = stage.Adapters (config ws as' [] [])
+at_devices ws as' (d ∷ ds) = stage.Devices (config ws as' (d ∷ ds) [])
 
-one_adapter : (n : ℕ) (before : List ℕ) (o : ℕ) → adapter_fault (before, o) ≡ None → step n (at_adapters before) (adapter_row o) ≡ Ok (at_adapters (before ++ o ∷ []))
+abbrev pub at_lanes : List WeightRow → List ℕ → List Device → List ℕ → TraceStage
+at_lanes ws as' ds [] = at_devices ws as' ds
+at_lanes ws as' ds (l ∷ ls) = stage.Lanes (config ws as' ds (l ∷ ls))
+
+abbrev pub at_events : List WeightRow → List ℕ → List Device → List ℕ → List Event → TraceStage
+at_events ws as' ds ls [] = at_lanes ws as' ds ls
+at_events ws as' ds ls (e ∷ es) = stage.Events (record { config = config ws as' ds ls; events = e ∷ es })
+
+one_weight : (n : ℕ) (before : List WeightRow) (w : WeightRow) → weight_fault (before, w) ≡ None → step n (at_weights before) (weight_row w) ≡ Ok (at_weights (before ++ w ∷ []))
+unfolding add_weight stands
+one_weight n before w e =
+    let s = weight_numbers before w e in
+    weight_step n (at_weights before) w (λ k. cc) refl (omega arith) (omega arith) ∙ rw e refl
+
+first_adapter : (ws : List WeightRow) (base : TraceStage) (n o : ℕ) → IsBase ws base → adapter_fault ([], o) ≡ None → add_adapter n base o ≡ Ok (stage.Adapters (config ws (o ∷ []) [] []))
+unfolding add_adapter
+first_adapter ws base n o h e = rw (h.is, h.reaches, e) refl
+
+one_adapter : (ws : List WeightRow) (base : TraceStage) → IsBase ws base → (n : ℕ) (before : List ℕ) (o : ℕ) → adapter_fault (before, o) ≡ None
+    → step n (at_adapters ws base before) (adapter_row o) ≡ Ok (at_adapters ws base (before ++ o ∷ []))
 unfolding add_adapter stands
-one_adapter n [] o e = adapter_step n stage.First o (λ k. cc) refl (let s = adapter_small [] o e in omega arith) ∙ rw e refl
-one_adapter n (b ∷ bs) o e =
-    adapter_step n (at_adapters (b ∷ bs)) o (λ k. cc) refl (let s = adapter_small (b ∷ bs) o e in omega arith) ∙ rw e refl
+one_adapter ws base h n [] o e = adapter_step n base o h.behind h.place (let s = adapter_small [] o e in omega arith) ∙ first_adapter ws base n o h e
+one_adapter ws base h n (b ∷ bs) o e =
+    adapter_step n (at_adapters ws base (b ∷ bs)) o (λ k. cc) refl (let s = adapter_small (b ∷ bs) o e in omega arith) ∙ rw (h.reaches, e) refl
 
 abbrev pub GoodDevice : List ℕ → List Device → Device → Type 0
 GoodDevice as' before d = (device_fault (length as') (before, d) ≡ None) × (d.target ≤ 65535)
 
-one_device : (as' : List ℕ) → length as' ≤ MOST_ADAPTERS → (n : ℕ) (before : List Device) (d : Device) → GoodDevice as' before d
-    → step n (at_devices as' before) (device_row d) ≡ Ok (at_devices as' (before ++ d ∷ []))
+one_device : (ws : List WeightRow) (as' : List ℕ) → length as' ≤ MOST_ADAPTERS → (n : ℕ) (before : List Device) (d : Device) → GoodDevice as' before d
+    → step n (at_devices ws as' before) (device_row d) ≡ Ok (at_devices ws as' (before ++ d ∷ []))
 unfolding add_device stands
-one_device as' few n [] d h =
+one_device ws as' few n [] d h =
     let s = device_small (length as') [] d h.0 in
-    device_step n (at_devices as' []) d (λ k. cc) refl (omega arith) h.1 s.1 (omega arith) ∙ rw h.0 refl
-one_device as' few n (b ∷ bs) d h =
+    device_step n (at_devices ws as' []) d (λ k. cc) refl (omega arith) h.1 s.1 (omega arith) ∙ rw h.0 refl
+one_device ws as' few n (b ∷ bs) d h =
     let s = device_small (length as') (b ∷ bs) d h.0 in
-    device_step n (at_devices as' (b ∷ bs)) d (λ k. cc) refl (omega arith) h.1 s.1 (omega arith) ∙ rw h.0 refl
+    device_step n (at_devices ws as' (b ∷ bs)) d (λ k. cc) refl (omega arith) h.1 s.1 (omega arith) ∙ rw h.0 refl
 
-one_lane : (as' : List ℕ) (ds : List Device) → length as' ≤ MOST_ADAPTERS → (n : ℕ) (before : List ℕ) (a : ℕ) → lane_fault (length as') (before, a) ≡ None
-    → step n (at_lanes as' ds before) (lane_row a) ≡ Ok (at_lanes as' ds (before ++ a ∷ []))
+one_lane : (ws : List WeightRow) (as' : List ℕ) (ds : List Device) → length as' ≤ MOST_ADAPTERS → (n : ℕ) (before : List ℕ) (a : ℕ) → lane_fault (length as') (before, a) ≡ None
+    → step n (at_lanes ws as' ds before) (lane_row a) ≡ Ok (at_lanes ws as' ds (before ++ a ∷ []))
 unfolding add_lane stands
-one_lane as' [] few n [] a e =
+one_lane ws as' [] few n [] a e =
     let s = lane_small (length as') [] a e in
-    lane_step n (at_lanes as' [] []) a (λ k. cc) refl (omega arith) ∙ rw e refl
-one_lane as' (d ∷ ds) few n [] a e =
+    lane_step n (at_lanes ws as' [] []) a (λ k. cc) refl (omega arith) ∙ rw e refl
+one_lane ws as' (d ∷ ds) few n [] a e =
     let s = lane_small (length as') [] a e in
-    lane_step n (at_lanes as' (d ∷ ds) []) a (λ k. cc) refl (omega arith) ∙ rw e refl
-one_lane as' ds few n (b ∷ bs) a e =
+    lane_step n (at_lanes ws as' (d ∷ ds) []) a (λ k. cc) refl (omega arith) ∙ rw e refl
+one_lane ws as' ds few n (b ∷ bs) a e =
     let s = lane_small (length as') (b ∷ bs) a e in
-    lane_step n (at_lanes as' ds (b ∷ bs)) a (λ k. cc) refl (omega arith) ∙ rw e refl
+    lane_step n (at_lanes ws as' ds (b ∷ bs)) a (λ k. cc) refl (omega arith) ∙ rw e refl
 
 -- a stage with a configuration
-pub at_config : (as' : List ℕ) (ds : List Device) (ls : List ℕ)
-    → (at_lanes as' ds ls ≢ stage.Header) × (lacks_adapters (at_lanes as' ds ls) ≡ false) × (past_of (at_lanes as' ds ls) ≡ record { config = config as' ds ls; events = [] })
-    × (ended (at_lanes as' ds ls) ≡ Ok (record { config = config as' ds ls; events = [] }))
+pub at_config : (ws : List WeightRow) (as' : List ℕ) (ds : List Device) (ls : List ℕ)
+    → (at_lanes ws as' ds ls ≢ stage.Header) × (lacks_adapters (at_lanes ws as' ds ls) ≡ false) × (past_of (at_lanes ws as' ds ls) ≡ record { config = config ws as' ds ls; events = [] })
+    × (ended (at_lanes ws as' ds ls) ≡ Ok (record { config = config ws as' ds ls; events = [] }))
 unfolding ended
-at_config as' [] [] = ((λ k. cc), refl, refl, refl)
-at_config as' (d ∷ ds) [] = ((λ k. cc), refl, refl, refl)
-at_config as' ds (l ∷ ls) = ((λ k. cc), refl, refl, refl)
+at_config ws as' [] [] = ((λ k. cc), refl, refl, refl)
+at_config ws as' (d ∷ ds) [] = ((λ k. cc), refl, refl, refl)
+at_config ws as' ds (l ∷ ls) = ((λ k. cc), refl, refl, refl)
 
 abbrev GoodEvent : Topology → List Event → Event → Type 0
 GoodEvent c before e = (is_legal_event c (before, e) ≡ true) × FitsEvent e
@@ -103,81 +131,121 @@ add_first : (n : ℕ) (s : TraceStage) (p : Past) (e : Event) → lacks_adapters
 unfolding add_event
 add_first n s p e some is none = rw (some, is, none) refl
 
-pub one_event : (as' : List ℕ) (ds : List Device) (ls : List ℕ) (n : ℕ) (before : List Event) (e : Event) → GoodEvent (config as' ds ls) before e
-    → step n (at_events as' ds ls before) (event_row e) ≡ Ok (at_events as' ds ls (before ++ e ∷ []))
-one_event as' ds ls n [] e h =
-    let k = at_config as' ds ls in
-    event_step n (at_lanes as' ds ls) e k.0 h.1 ∙ add_first n (at_lanes as' ds ls) _ e k.1 k.2 (none-legal history_rules (config as' ds ls) [] e h.0)
-one_event as' ds ls n (b ∷ bs) e h =
-    event_step n (at_events as' ds ls (b ∷ bs)) e (λ k. cc) h.1 ∙ add_first n (at_events as' ds ls (b ∷ bs)) _ e refl refl (none-legal history_rules (config as' ds ls) (b ∷ bs) e h.0)
+pub one_event : (ws : List WeightRow) (as' : List ℕ) (ds : List Device) (ls : List ℕ) (n : ℕ) (before : List Event) (e : Event) → GoodEvent (config ws as' ds ls) before e
+    → step n (at_events ws as' ds ls before) (event_row e) ≡ Ok (at_events ws as' ds ls (before ++ e ∷ []))
+one_event ws as' ds ls n [] e h =
+    let k = at_config ws as' ds ls in
+    event_step n (at_lanes ws as' ds ls) e k.0 h.1 ∙ add_first n (at_lanes ws as' ds ls) _ e k.1 k.2 (none-legal history_rules (config ws as' ds ls) [] e h.0)
+one_event ws as' ds ls n (b ∷ bs) e h =
+    event_step n (at_events ws as' ds ls (b ∷ bs)) e (λ k. cc) h.1 ∙ add_first n (at_events ws as' ds ls (b ∷ bs)) _ e refl refl (none-legal history_rules (config ws as' ds ls) (b ∷ bs) e h.0)
 
 -- ---- a whole history
 
-at_end : (as' : List ℕ) (ds : List Device) (ls : List ℕ) (es : List Event) → ended (at_events as' ds ls es) ≡ Ok (record { config = config as' ds ls; events = es })
+at_end : (ws : List WeightRow) (as' : List ℕ) (ds : List Device) (ls : List ℕ) (es : List Event) → ended (at_events ws as' ds ls es) ≡ Ok (record { config = config ws as' ds ls; events = es })
 unfolding ended
-at_end as' ds ls [] = (at_config as' ds ls).3
-at_end as' ds ls (e ∷ es) = refl
+at_end ws as' ds ls [] = (at_config ws as' ds ls).3
+at_end ws as' ds ls (e ∷ es) = refl
 
-pub begun : (as' : List ℕ) → (length as' == 0) ≡ false → at_adapters as' ≡ at_devices as' []
-begun [] e = absurd cc
-begun (a ∷ as') e = refl
+pub begun : (ws : List WeightRow) (base : TraceStage) (as' : List ℕ) → (length as' == 0) ≡ false → at_adapters ws base as' ≡ at_devices ws as' []
+begun ws base [] e = absurd cc
+begun ws base (a ∷ as') e = refl
 
-pub record Kept (as' : List ℕ) (ds : List Device) (ls : List ℕ) : Type 0 where
+pub record Kept (ws : List WeightRow) (as' : List ℕ) (ds : List Device) (ls : List ℕ) : Type 0 where
+  pub reaches : reaches_last ws ≡ true
   pub some : (length as' == 0) ≡ false
   pub few : length as' ≤ MOST_ADAPTERS
+  pub weights : Along (λ b x. weight_fault (b, x) ≡ None) [] ws
   pub adapters : Along (λ b x. adapter_fault (b, x) ≡ None) [] as'
   pub devices : Along (λ b x. device_fault (length as') (b, x) ≡ None) [] ds
   pub lanes : Along (λ b x. lane_fault (length as') (b, x) ≡ None) [] ls
 
-pub kept : (as' : List ℕ) (ds : List Device) (ls : List ℕ) → config_fault (config as' ds ls) ≡ None → Kept as' ds ls
-unfolding item_fault
-kept as' ds ls e =
+pub kept : (ws : List WeightRow) (as' : List ℕ) (ds : List Device) (ls : List ℕ) → config_fault (config ws as' ds ls) ≡ None → Kept ws as' ds ls
+kept ws as' ds ls e =
     let n = length as' in
-    let a = first_answer adapter_fault (moments as') in
-    let d = first_answer (device_fault n) (moments ds) in
-    let l = first_answer (lane_fault n) (moments ls) in
-    let c = cond_none (length as' == 0) NoAdapters (option_or a (option_or d l)) e in
-    let rest = or_right a (option_or d l) c.1 in
+    let t = config ws as' ds ls in
+    let is : IsConfig t = record { kept = e } in
     record {
-      some = c.0;
-      few = few_where_none adapter_fault MOST_ADAPTERS few_adapters as' (or_left a (option_or d l) c.1);
-      adapters = none_along adapter_fault [] as' (or_left a (option_or d l) c.1);
-      devices = none_along (device_fault n) [] ds (or_left d l rest);
-      lanes = none_along (lane_fault n) [] ls (or_right d l rest);
+      reaches = reaches t is;
+      some = some_adapter t is;
+      few = few_adapters t is;
+      weights = none_along weight_fault [] ws (weight_items t is);
+      adapters = none_along adapter_fault [] as' (adapter_items t is);
+      devices = none_along (device_fault n) [] ds (device_items t is);
+      lanes = none_along (lane_fault n) [] ls (lane_items t is);
     }
 
 legal_along : (c : Topology) (es : List Event) → is_legal c es ≡ true → Along (λ b x. is_legal_event c (b, x) ≡ true) [] es
 unfolding legal_by
 legal_along c es e = true_along (is_legal_event c) [] es e
 
-pub taken_all : (as' : List ℕ) (ds : List Device) (ls : List ℕ) (es : List Event) → Kept as' ds ls → AllByRecursion (λ (d : Device). d.target ≤ 65535) ds
-    → is_legal (config as' ds ls) es ≡ true → AllByRecursion FitsEvent es
-    → (n : ℕ) → taken step n stage.First (map adapter_row as' ++ (map device_row ds ++ (map lane_row ls ++ map event_row es))) ≡ Ok (at_events as' ds ls es)
-taken_all as' ds ls es k targets legal fits n =
-    let c = config as' ds ls in
+-- the records of adapters, devices, lanes and events, behind those of the weights
+pub taken_all : (ws : List WeightRow) (base : TraceStage) (as' : List ℕ) (ds : List Device) (ls : List ℕ) (es : List Event) → IsBase ws base → Kept ws as' ds ls → AllByRecursion (λ (d : Device). d.target ≤ 65535) ds
+    → is_legal (config ws as' ds ls) es ≡ true → AllByRecursion FitsEvent es
+    → (n : ℕ) → taken step n base (map adapter_row as' ++ (map device_row ds ++ (map lane_row ls ++ map event_row es))) ≡ Ok (at_events ws as' ds ls es)
+taken_all ws base as' ds ls es h k targets legal fits n =
+    let c = config ws as' ds ls in
     let good_devices = along_both (λ b x. device_fault (length as') (b, x) ≡ None) (λ (x : Device). x.target ≤ 65535) [] ds k.devices targets in
     let good_events = along_both (λ b x. is_legal_event c (b, x) ≡ true) FitsEvent [] es (legal_along c es legal) fits in
-    let final = at_events as' ds ls es in
-    then_taken step n stage.First (at_adapters as') final (map adapter_row as') _ (run adapter_row at_adapters (λ b x. adapter_fault (b, x) ≡ None) one_adapter [] as' n k.adapters) (λ n1.
-    rw (begun as' k.some) (then_taken step n1 (at_devices as' []) (at_devices as' ds) final (map device_row ds) _ (run device_row (at_devices as') (GoodDevice as') (one_device as' k.few) [] ds n1 good_devices) (λ n2.
-    then_taken step n2 (at_lanes as' ds []) (at_lanes as' ds ls) final (map lane_row ls) _ (run lane_row (at_lanes as' ds) (λ b x. lane_fault (length as') (b, x) ≡ None) (one_lane as' ds k.few) [] ls n2 k.lanes) (λ n3.
-    run event_row (at_events as' ds ls) (GoodEvent c) (one_event as' ds ls) [] es n3 good_events))))
+    let final = at_events ws as' ds ls es in
+    then_taken step n base (at_adapters ws base as') final (map adapter_row as') _ (run adapter_row (at_adapters ws base) (λ b x. adapter_fault (b, x) ≡ None) (one_adapter ws base h) [] as' n k.adapters) (λ n1.
+    rw (begun ws base as' k.some) (then_taken step n1 (at_devices ws as' []) (at_devices ws as' ds) final (map device_row ds) _ (run device_row (at_devices ws as') (GoodDevice as') (one_device ws as' k.few) [] ds n1 good_devices) (λ n2.
+    then_taken step n2 (at_lanes ws as' ds []) (at_lanes ws as' ds ls) final (map lane_row ls) _ (run lane_row (at_lanes ws as' ds) (λ b x. lane_fault (length as') (b, x) ≡ None) (one_lane ws as' ds k.few) [] ls n2 k.lanes) (λ n3.
+    run event_row (at_events ws as' ds ls) (GoodEvent c) (one_event ws as' ds ls) [] es n3 good_events))))
 
-header_again : step 1 stage.Header header ≡ Ok stage.First
+-- behind the header of version 1 stand the standard weights
+pub first_base : IsBase standard_weights stage.First
+unfolding stands
+first_base = record { behind = (λ k. cc); place = refl; reaches = refl; is = refl }
+
+weights_base : (ws : List WeightRow) → reaches_last ws ≡ true → IsBase ws (at_weights ws)
+unfolding stands
+weights_base ws h = record { behind = (λ k. cc); place = refl; reaches = h; is = refl }
+
+header_one : step 1 stage.Header (header version.One) ≡ Ok stage.First
 unfolding step is_header has_letters header field_at
-header_again = refl
+header_one = refl
+
+header_two : step 1 stage.Header (header version.Two) ≡ Ok (at_weights [])
+unfolding step is_header has_letters header field_at
+header_two = refl
 
 -- what is spelled so is read
-pub reading_again : (past : Past) → IsHistory past → reading (records_of past) ≡ Ok past
+by_standard : (past : Past) → IsHistory past → past.config.weights ≡ standard_weights → reading (records_of version.One past) ≡ Ok past
 unfolding reading records_of
-reading_again past h =
+by_standard past h standard =
     let t = past.config in
-    let k = kept t.adapters t.devices t.lanes h.config in
-    let all = taken_all t.adapters t.devices t.lanes past.events k h.targets h.legal h.events 2 in
-    rw (header_again, all) (at_end t.adapters t.devices t.lanes past.events)
+    let same : config standard_weights t.adapters t.devices t.lanes ≡ t = ap (λ (ws : List WeightRow). config ws t.adapters t.devices t.lanes) (sym standard) in
+    let k = kept standard_weights t.adapters t.devices t.lanes (subst (λ (c : Topology). config_fault c ≡ None) (sym same) h.config) in
+    let all = taken_all standard_weights stage.First t.adapters t.devices t.lanes past.events first_base k h.targets (subst (λ (c : Topology). is_legal c past.events ≡ true) (sym same) h.legal) h.events 2 in
+    rw (header_one, all) (at_end standard_weights t.adapters t.devices t.lanes past.events ∙ ap (λ (c : Topology). Ok (record { config = c; events = past.events })) same)
+
+by_table : (past : Past) → IsHistory past → reading (records_of version.Two past) ≡ Ok past
+unfolding reading records_of
+by_table past h =
+    let t = past.config in
+    let ws = t.weights in
+    let k = kept ws t.adapters t.devices t.lanes h.config in
+    let rest = map adapter_row t.adapters ++ (map device_row t.devices ++ (map lane_row t.lanes ++ map event_row past.events)) in
+    let all = then_taken step 2 (at_weights []) (at_weights ws) (at_events ws t.adapters t.devices t.lanes past.events) (map weight_row ws) rest
+    (run weight_row at_weights (λ b x. weight_fault (b, x) ≡ None) one_weight [] ws 2 k.weights)
+    (taken_all ws (at_weights ws) t.adapters t.devices t.lanes past.events (weights_base ws k.reaches) k h.targets h.legal h.events) in
+    rw (header_two, all) (at_end ws t.adapters t.devices t.lanes past.events)
+
+pub reading_again : (v : Version) (past : Past) → IsHistory past → holds v past.config ≡ true → reading (records_of v past) ≡ Ok past
+reading_again version.One past h held = by_standard past h (standard_is past.config.weights held)
+reading_again version.Two past h held = by_table past h
 
 -- two histories have no list of records in common
-pub one_past : (one other : Past) → IsHistory one → IsHistory other → records_of one ≡ records_of other → one ≡ other
-one_past one other h k e =
-    let same : ◌≡◌ {A = Result Past TraceFault} (Ok one) (Ok other) = sym (reading_again one h) ∙ ap reading e ∙ reading_again other k in
+pub one_past : (v w : Version) (one other : Past) → IsHistory one → IsHistory other → holds v one.config ≡ true → holds w other.config ≡ true → records_of v one ≡ records_of w other → one ≡ other
+one_past v w one other h k in_v in_w e =
+    let same : ◌≡◌ {A = Result Past TraceFault} (Ok one) (Ok other) = sym (reading_again v one h in_v) ∙ ap reading e ∙ reading_again w other k in_w in
     cc
+
+-- and two versions have none
+begins_one : List Row → Bool
+begins_one [] = false
+begins_one (row ∷ rows) = is_header (name_of version.One) row
+
+pub no_common : (one other : Past) → records_of version.One one ≢ records_of version.Two other
+unfolding begins_one records_of header is_header has_letters field_at
+no_common one other e = absurd (let wrong : true ≡ false = ap begins_one e in cc)

@@ -4,11 +4,14 @@ use Rattle.cam_event.specs.Legal as legal
 use Rattle.cam_event.specs.Refusals as refusals
 pub use Rattle.cam_types.specs.Topology.{Topology, config_fault}
 unfoldable pub use Rattle.cam_types.specs.Topology.{adapter_fault, device_fault, lane_fault}
+unfoldable pub use Rattle.cam_types.specs.Weights.{weight_fault}
+pub use Rattle.cam_types.specs.Weights.{reaches_last, standard_weights}
+pub use Rattle.cam_types.specs.declared.weight_row.WeightRow.{WeightRow}
 pub use Rattle.cam_types.specs.declared.device.Device.{Device}
 pub use Rattle.cam_types.specs.declared.flags.Flags.{Flags}
 pub use Rattle.cam_types.specs.declared.outcome.Outcome.{Outcome}
 pub use Rattle.cam_types.specs.declared.config_fault.ConfigFault.{ConfigFault}
-pub use Rattle.cam_types.specs.declared.config_fault.ConfigFault.TheVariants.{NoAdapters}
+pub use Rattle.cam_types.specs.declared.config_fault.ConfigFault.TheVariants.{NoAdapters, BadWeight}
 pub use Rattle.cam_event.specs.declared.event.Event.{Event}
 pub use Rattle.cam_event.specs.Past.{Past}
 pub use Rattle.cam_event.specs.declared.refusal.Refusal.{Refusal}

@@ -1,17 +1,20 @@
 -- How a list of records is read as a history: record by record, each by the stage that it finds.
-use Rattle.std.specs.Prelude.{ℕ, ◌==◌, Bool, true, false, not, ◌&&◌, if◌then◌else◌, List, [], ◌∷◌, ◌++◌, length, Option, Some, None, option_and_then, ok_or, Result, Ok, Err, codes, bytes_eq}
-use Rattle.trace_file.specs.Histories.{Topology, Past, Event, ConfigFault, NoAdapters, adapter_fault, device_fault, lane_fault, Refusal, refusal}
+use Rattle.std.specs.Prelude.{ℕ, ◌+◌, ◌==◌, Bool, true, false, not, nat_le, ◌&&◌, if◌then◌else◌, List, [], ◌∷◌, ◌++◌, length, Option, Some, None, option_and_then, ok_or, Result, Ok, Err, codes, bytes_eq}
+use Rattle.trace_file.specs.Histories.{Topology, Past, Event, WeightRow, ConfigFault, NoAdapters, BadWeight, weight_fault, reaches_last, standard_weights, adapter_fault, device_fault, lane_fault, Refusal, refusal}
+use Rattle.cam_types.specs.Weights.{row_to}
 use Rattle.trace_file.specs.declared.device_row.DeviceRow.{DeviceRow}
 use Rattle.trace_file.specs.declared.trace_fault.TraceFault.{TraceFault}
 use Rattle.trace_file.specs.declared.trace_fault.TraceFault.TheVariants.{BadHeader, BadRecord, BadField, BadConfig, Illegal}
 use Rattle.trace_file.specs.declared.trace_stage.TraceStage.{TraceStage}
 use Rattle.trace_file.specs.declared.trace_stage.TraceStage.TheVariants as stage
+use Rattle.trace_file.specs.declared.version.Version.TheVariants as version
+use Rattle.trace_file.specs.Records.{name_of}
 use Rattle.trace_file.specs.declared.word.Word.{Word}
 use Rattle.trace_file.specs.declared.word.Word.TheVariants as word
 use Rattle.trace_file.specs.Steps.{◌>>=◌, taken}
 use Rattle.trace_file.specs.Fields.{Row, field_of}
-use Rattle.trace_file.specs.Words.{word_of}
-use Rattle.trace_file.specs.Rows.{one_number, device_at, device_of, event_at}
+use Rattle.trace_file.specs.Words.{word_of, word_rank}
+use Rattle.trace_file.specs.Rows.{one_number, two_numbers, device_at, device_of, event_at}
 
 -- the fields of the header that name the columns
 unfoldable pub has_letters : Row → Bool
@@ -24,27 +27,19 @@ has_letters row =
 unfoldable pub is_header : List ℕ → Row → Bool
 is_header name row = (length row == 8) && bytes_eq (field_of row 0) name && has_letters row
 
--- the configuration's words
-abbrev pub is_sim : Word → Bool
-is_sim word.Sim = true
-is_sim _ = false
+-- the rank of the words that may come next, and of those behind them
+abbrev pub stage_rank : TraceStage → ℕ
+stage_rank (stage.Weights t) = 0
+stage_rank (stage.Devices t) = 2
+stage_rank (stage.Lanes t) = 3
+stage_rank (stage.Events p) = 4
+stage_rank _ = 1
 
-abbrev pub is_dev : Word → Bool
-is_dev word.Dev = true
-is_dev _ = false
-
-abbrev pub is_lane : Word → Bool
-is_lane word.Lane = true
-is_lane _ = false
-
--- Rows of adapters, devices, lanes and events stand in this order. The first may have any word.
+-- Rows of weights, adapters, devices, lanes and events stand in this order, of weights only in version 2. The first may have
+-- any word behind these.
 unfoldable pub stands : TraceStage → Word → Bool
 stands stage.Header w = false
-stands stage.First w = true
-stands (stage.Adapters t) w = true
-stands (stage.Devices t) w = not (is_sim w)
-stands (stage.Lanes t) w = not (is_sim w) && not (is_dev w)
-stands (stage.Events p) w = not (is_sim w) && not (is_dev w) && not (is_lane w)
+stands s w = nat_le (stage_rank s) (word_rank w)
 
 -- the word of a record of eight fields, where it stands in its place
 unfoldable pub placed : TraceStage → Row → Option Word
@@ -53,11 +48,12 @@ placed s row =
 
 -- what is configured and what happened so far
 abbrev pub past_of : TraceStage → Past
+past_of (stage.Weights t) = record { config = t; events = [] }
 past_of (stage.Adapters t) = record { config = t; events = [] }
 past_of (stage.Devices t) = record { config = t; events = [] }
 past_of (stage.Lanes t) = record { config = t; events = [] }
 past_of (stage.Events p) = p
-past_of _ = record { config = record { adapters = []; devices = []; lanes = [] }; events = [] }
+past_of _ = record { config = record { weights = standard_weights; adapters = []; devices = []; lanes = [] }; events = [] }
 
 abbrev pub config_of : TraceStage → Topology
 config_of s = (past_of s).config
@@ -66,7 +62,16 @@ config_of s = (past_of s).config
 abbrev pub lacks_adapters : TraceStage → Bool
 lacks_adapters stage.Header = true
 lacks_adapters stage.First = true
+lacks_adapters (stage.Weights t) = true
 lacks_adapters _ = false
+
+-- the weights don't reach the last priority
+abbrev pub lacks_weights : TraceStage → Bool
+lacks_weights s = not (reaches_last (config_of s).weights)
+
+-- what is lacking where no adapter has come
+abbrev pub lacking : TraceStage → ConfigFault
+lacking s = if lacks_weights s then BadWeight else NoAdapters
 
 -- the next stage, unless the record breaks a rule of the configuration
 abbrev pub unless_fault : ℕ → Option ConfigFault → TraceStage → Result TraceStage TraceFault
@@ -84,31 +89,38 @@ in_record n (Ok x) = Ok x
 in_record n (Err field) = Err (BadField n field)
 
 -- one item more of the configuration, or one event more
+unfoldable pub add_weight : ℕ → TraceStage → WeightRow → Result TraceStage TraceFault
+add_weight n s w =
+    let t = config_of s in
+    unless_fault n (weight_fault (t.weights, w)) (stage.Weights (record t { weights = t.weights ++ w ∷ [] }))
+
 unfoldable pub add_adapter : ℕ → TraceStage → ℕ → Result TraceStage TraceFault
 add_adapter n s openings =
     let t = config_of s in
-    unless_fault n (adapter_fault (t.adapters, openings)) (stage.Adapters (record t { adapters = t.adapters ++ openings ∷ [] }))
+    if lacks_weights s then Err (BadConfig n BadWeight)
+    else unless_fault n (adapter_fault (t.adapters, openings)) (stage.Adapters (record t { adapters = t.adapters ++ openings ∷ [] }))
 
 unfoldable pub add_device : ℕ → TraceStage → DeviceRow → Result TraceStage TraceFault
 add_device n s d =
     let t = config_of s in
-    if lacks_adapters s then Err (BadConfig n NoAdapters)
+    if lacks_adapters s then Err (BadConfig n (lacking s))
     else unless_fault n (device_fault (length t.adapters) (t.devices, device_of d)) (stage.Devices (record t { devices = t.devices ++ device_of d ∷ [] }))
 
 unfoldable pub add_lane : ℕ → TraceStage → ℕ → Result TraceStage TraceFault
 add_lane n s adapter =
     let t = config_of s in
-    if lacks_adapters s then Err (BadConfig n NoAdapters)
+    if lacks_adapters s then Err (BadConfig n (lacking s))
     else unless_fault n (lane_fault (length t.adapters) (t.lanes, adapter)) (stage.Lanes (record t { lanes = t.lanes ++ adapter ∷ [] }))
 
 unfoldable pub add_event : ℕ → TraceStage → Event → Result TraceStage TraceFault
 add_event n s e =
     let p = past_of s in
-    if lacks_adapters s then Err (BadConfig n NoAdapters)
+    if lacks_adapters s then Err (BadConfig n (lacking s))
     else unless_refused n (refusal p.config p.events e) (stage.Events (record p { events = p.events ++ e ∷ [] }))
 
 -- a record of this word
 unfoldable pub add_row : ℕ → TraceStage → Word → Row → Result TraceStage TraceFault
+add_row n s word.Weight row = in_record n (two_numbers row) >>= λ p. add_weight n s (row_to p.0 p.1)
 add_row n s word.Sim row = in_record n (one_number row) >>= add_adapter n s
 add_row n s word.Dev row = in_record n (device_at row) >>= add_device n s
 add_row n s word.Lane row = in_record n (one_number row) >>= add_lane n s
@@ -122,13 +134,17 @@ row_step n s row = do
 
 -- the record of this number
 unfoldable pub step : ℕ → TraceStage → Row → Result TraceStage TraceFault
-step n stage.Header row = if is_header (codes "camtrace1") row then Ok stage.First else Err BadHeader
+step n stage.Header row =
+    if is_header (name_of version.One) row then Ok stage.First
+    else if is_header (name_of version.Two) row then Ok (stage.Weights (record { weights = []; adapters = []; devices = []; lanes = [] }))
+    else Err BadHeader
 step n s row = row_step n s row
 
 -- the end of the records
 unfoldable pub ended : TraceStage → Result Past TraceFault
 ended stage.Header = Err BadHeader
 ended stage.First = Err (BadConfig 2 NoAdapters)
+ended (stage.Weights t) = Err (BadConfig (2 + length t.weights) (lacking (stage.Weights t)))
 ended s = Ok (past_of s)
 
 -- the history of these records, or the first fault

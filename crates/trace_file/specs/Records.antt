@@ -1,9 +1,12 @@
 -- The records of a history.
-use Rattle.std.specs.Prelude.{ℕ, ◌-◌, ◌/◌, ◌%◌, List, [], ◌∷◌, ◌++◌, length, map, replicate, codes, decimal}
+use Rattle.std.specs.Prelude.{ℕ, ◌-◌, ◌/◌, ◌%◌, Bool, true, if◌then◌else◌, List, [], ◌∷◌, ◌++◌, length, map, replicate, codes, decimal}
 use Rattle.std.specs.Char.{digit_char}
 use Rattle.cam_event.specs.declared.event.Event.TheVariants as event
 use Rattle.trace_file.specs.declared.word.Word.TheVariants as word
-use Rattle.trace_file.specs.Histories.{Device, Event, Past}
+use Rattle.cam_types.specs.Weights.{are_standard}
+use Rattle.trace_file.specs.Histories.{Device, Event, Past, Topology, WeightRow}
+use Rattle.trace_file.specs.declared.version.Version.{Version}
+use Rattle.trace_file.specs.declared.version.Version.TheVariants as version
 use Rattle.trace_file.specs.Fields.{Row, flags_text}
 use Rattle.trace_file.specs.Words.{spelled}
 
@@ -16,8 +19,21 @@ abbrev pub hex : List ℕ → List ℕ
 hex [] = []
 hex (b ∷ bs) = digit_char (b / 16) ∷ digit_char (b % 16) ∷ hex bs
 
-unfoldable pub header : Row
-header = codes "camtrace1" ∷ codes "a" ∷ codes "b" ∷ codes "c" ∷ codes "d" ∷ codes "e" ∷ codes "f" ∷ codes "g" ∷ []
+-- the word that a trace of a version begins with
+abbrev pub name_of : Version → List ℕ
+name_of version.One = codes "camtrace1"
+name_of version.Two = codes "camtrace2"
+
+unfoldable pub header : Version → Row
+header v = name_of v ∷ codes "a" ∷ codes "b" ∷ codes "c" ∷ codes "d" ∷ codes "e" ∷ codes "f" ∷ codes "g" ∷ []
+
+abbrev pub weight_row : WeightRow → Row
+weight_row w = padded (spelled word.Weight ∷ decimal w.last ∷ decimal w.weight ∷ [])
+
+-- version 1 has the standard weights, and no record of them
+abbrev pub weight_rows : Version → List WeightRow → List Row
+weight_rows version.One weights = []
+weight_rows version.Two weights = map weight_row weights
 
 abbrev pub adapter_row : ℕ → Row
 adapter_row openings = padded (spelled word.Sim ∷ decimal openings ∷ [])
@@ -43,7 +59,17 @@ event_row (event.ReleaseSim sim) = padded (spelled word.ReleaseSim ∷ decimal s
 event_row (event.Adjust device openings) = padded (spelled word.Adjust ∷ decimal device ∷ decimal openings ∷ [])
 event_row event.Tick = padded (spelled word.Tick ∷ [])
 
--- the header, one record for each adapter, device and lane, and one for each event
-unfoldable pub records_of : Past → List Row
-records_of past =
-    header ∷ (map adapter_row past.config.adapters ++ (map device_row past.config.devices ++ (map lane_row past.config.lanes ++ map event_row past.events)))
+-- in a version: the header, the records of the weights, one for each adapter, device and lane, and one for each event
+unfoldable pub records_of : Version → Past → List Row
+records_of v past =
+    header v ∷ (weight_rows v past.config.weights
+    ++ (map adapter_row past.config.adapters ++ (map device_row past.config.devices ++ (map lane_row past.config.lanes ++ map event_row past.events))))
+
+-- a version can hold a configuration
+abbrev pub holds : Version → Topology → Bool
+holds version.One c = are_standard c.weights
+holds version.Two c = true
+
+-- the least version that holds a configuration
+abbrev pub least_version : Topology → Version
+least_version c = if holds version.One c then version.One else version.Two

@@ -18,9 +18,10 @@ use Rattle.trace_file.specs.ScriptRows.{limits_at, script_row_at, script_word_of
 use Rattle.trace_file.specs.Steps.{◌>>=◌, taken}
 use Rattle.trace_file.specs.declared.script_stage.TheConstants.{MOST_ROWS}
 
--- a configuration is in the making, or an adapter is due
+-- a configuration with the standard weights is in the making, or an adapter is due
 abbrev pub is_configuring : TraceStage → Bool
 is_configuring trace.Header = false
+is_configuring (trace.Weights t) = false
 is_configuring (trace.Events p) = false
 is_configuring _ = true
 

@@ -3,7 +3,7 @@ use Rattle.std.specs.Prelude.{◌≡◌, ◌<◌, ◌≤◌, ⊤, true, [], leng
 use Rattle.std.specs.List.{sum_by}
 use Rattle.cam_types.specs.Topology.{IsDraft}
 use Rattle.cam_types.specs.declared.maxima.TheConstants.{MOST_ADAPTERS}
-use Rattle.trace_file.specs.Histories.{Topology, Past, config_fault, is_legal}
+use Rattle.trace_file.specs.Histories.{Topology, Past, config_fault, is_legal, reaches_last}
 use Rattle.trace_file.specs.declared.script_stage.ScriptStage.{ScriptStage}
 use Rattle.trace_file.specs.declared.script_stage.ScriptStage.TheVariants as script
 use Rattle.trace_file.specs.ScriptReading.{is_configuring}
@@ -13,6 +13,7 @@ use Rattle.trace_file.specs.declared.trace_stage.TraceStage.TheVariants as stage
 -- a configuration in the making that has an adapter
 pub record IsBegun (t : Topology) : Type 0 where
   pub draft : IsDraft t
+  pub reaches : reaches_last t.weights ≡ true
   pub some : 0 < length t.adapters
   pub few : length t.adapters ≤ MOST_ADAPTERS
 
@@ -23,6 +24,7 @@ pub record IsKept (p : Past) : Type 0 where
 
 -- what holds at a stage
 unfoldable pub IsSound : TraceStage → Type 0
+IsSound (stage.Weights t) = IsDraft t × (t.adapters ≡ []) × (t.devices ≡ []) × (t.lanes ≡ [])
 IsSound (stage.Adapters t) = IsBegun t × (t.devices ≡ []) × (t.lanes ≡ [])
 IsSound (stage.Devices t) = IsBegun t × (t.lanes ≡ [])
 IsSound (stage.Lanes t) = IsBegun t

@@ -10,15 +10,18 @@ use Rattle.trace_file.specs.declared.trace_fault.TraceFault.TheVariants as fault
 use Rattle.trace_file.specs.declared.trace_stage.TraceStage.TheVariants as stage
 use Rattle.trace_file.specs.Fields.{Row}
 use Rattle.trace_file.specs.Reading.{ended, step}
-use Rattle.trace_file.specs.Records.{records_of}
+use Rattle.trace_file.specs.Records.{holds, records_of}
+use Rattle.trace_file.specs.declared.version.Version.{Version}
 use Rattle.trace_file.specs.Rows.{most_number}
 use Rattle.trace_file.specs.Steps.{◌>>=◌, taken}
 use Rattle.trace_file.specs.Text.{records_in}
 
--- the text's records are those of the history
+-- the text's records are those of the history, in a version that can hold it
 pub record IsTrace (text : List ℕ) (past : Past) : Type 0 where
   pub bounded : length text ≤ MOST_BYTES
-  pub spelled : records_in text ≡ records_of past
+  pub version : Version
+  pub held : holds version past.config ≡ true
+  pub spelled : records_in text ≡ records_of version past
 
 -- a number and an outcome fit their fields
 abbrev pub FitsOutcome : ℕ → Outcome → Type 0

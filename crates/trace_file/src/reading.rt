@@ -1,11 +1,12 @@
 //! Reads a trace.
 
-ghost use Rattle.std.specs.Prelude.{◌≡◌, ◌≢◌, ◌≤◌, false, length, Ok, Err, IfOk, IfErr, IfSome};
+ghost use Rattle.std.specs.Prelude.{◌≡◌, ◌≢◌, ◌≤◌, false, true, length, Ok, Err, IfOk, IfErr, IfSome};
 ghost use Rattle.cam_types.specs.declared.maxima.TheConstants.{MOST_BYTES};
 ghost use Rattle.text_io.specs.Watched.{device_of, has_failed};
 ghost use Rattle.trace_file.specs.Histories.{Past};
 ghost use Rattle.trace_file.specs.Reading.{reading};
-ghost use Rattle.trace_file.specs.Records.{records_of};
+ghost use Rattle.trace_file.specs.Records.{holds, records_of};
+ghost use Rattle.trace_file.specs.declared.version.Version.{Version};
 ghost use Rattle.trace_file.specs.Text.{records_in};
 ghost use Rattle.trace_file.specs.Trace.{IsTrace, IsHistory, WasTrace, Explains};
 
@@ -15,6 +16,7 @@ use crate::trace_stage::TraceStage;
 use std::alloc::Global;
 use std::io::Read;
 use text_io::{Watched, WholeFault, read_whole};
+use crate::version::Version;
 use xpt_state::History;
 
 /// Reads a trace to the end of the input. A fault of the text names the first record that fails, and the first test
@@ -45,7 +47,9 @@ fn read_text(alloc: Global, text: &[u8]) -> Result<History, TraceFault>
     take_records(alloc, text, TraceStage::Header)?.finish(alloc)
 }
 
-/// No list of records is that of two histories.
+/// No list of records is that of two histories, in whichever versions, and none is of two versions. So a history that both
+/// versions hold has exactly two lists of records.
 pub fn one_history()
-    ensures { (one other : Past) → IsHistory one → IsHistory other → records_of one ≡ records_of other → one ≡ other }
+    ensures one { (v w : Version) (one other : Past) → IsHistory one → IsHistory other → holds v one.config ≡ true → holds w other.config ≡ true → records_of v one ≡ records_of w other → one ≡ other }
+    ensures versions { (one other : Past) → records_of Version.One one ≢ records_of Version.Two other }
 {}

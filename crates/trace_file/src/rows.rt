@@ -98,7 +98,7 @@ pub(crate) fn event_at(word: Word, row: &ByteRecord) -> Result<Event, u32>
             Ok(Event::Adjust { device, openings })
         }
         Word::Tick => tick_at(row),
-        Word::Sim | Word::Dev | Word::Lane => Err(1),
+        Word::Weight | Word::Sim | Word::Dev | Word::Lane => Err(1),
     }
 }
 

@@ -1,17 +1,18 @@
 //! What a trace has said so far, record by record.
 
-ghost use Rattle.std.specs.Prelude.{◌≡◌, ◌≢◌, length, [], ◌∷◌, ◌++◌, Ok, Err, IfOk, IfSome, IsTrue, None};
+ghost use Rattle.std.specs.Prelude.{◌≡◌, ◌≢◌, true, length, [], ◌∷◌, ◌++◌, Ok, Err, IfOk, IfErr, IfSome, IsTrue, None};
 ghost use Rattle.csv.specs.Records.{fields_of};
 
 use crate::device_row::DeviceRow;
 use crate::fields::field;
 use crate::header::is_header;
-use crate::rows::{device_at, event_at, one_number};
+use crate::rows::{device_at, event_at, one_number, two_numbers};
 use crate::stage::Stage;
 use crate::trace_fault::TraceFault;
+use crate::version::Version;
 use crate::word::Word;
 use cam_event::Event;
-use cam_types::{Config, ConfigDraft, ConfigError, ConfigFault};
+use cam_types::{Config, ConfigDraft, ConfigError, ConfigFault, WeightRow};
 use csv::ByteRecord;
 use std::alloc::Global;
 use xpt_state::History;
@@ -21,8 +22,10 @@ use xpt_state::History;
 pub(crate) enum TraceStage {
     /// Nothing: the header is due.
     Header,
-    /// The header: an adapter is due.
+    /// The header of version 1, which has the standard weights: an adapter is due.
     First,
+    /// The header of version 2, and rows of weights.
+    Weights(ConfigDraft),
     /// Adapters.
     Adapters(ConfigDraft),
     /// Adapters and devices.
@@ -34,7 +37,7 @@ pub(crate) enum TraceStage {
 }
 
 impl TraceStage {
-    ghost use Rattle.trace_file.specs.Reading.{stands, placed, add_adapter, add_device, add_lane, add_event, add_row, row_step, step, ended};
+    ghost use Rattle.trace_file.specs.Reading.{stage_rank, stands, placed, add_weight, add_adapter, add_device, add_lane, add_event, add_row, row_step, step, ended};
     ghost use Rattle.trace_file.specs.ScriptReading.{configured, is_configuring};
     ghost use Rattle.trace_file.specs.Sound.{IsSound};
 
@@ -45,10 +48,20 @@ impl TraceStage {
     {
         match self {
             TraceStage::Header => false,
-            TraceStage::First | TraceStage::Adapters(_) => true,
-            TraceStage::Devices(_) => !matches!(word, Word::Sim),
-            TraceStage::Lanes(_) => !matches!(word, Word::Sim | Word::Dev),
-            TraceStage::Events(_) => !matches!(word, Word::Sim | Word::Dev | Word::Lane),
+            stage => stage.rank() <= word.rank(),
+        }
+    }
+
+    // The rank of the words that may come next, and of those behind them.
+    fn rank(&self) -> u32
+        ensures { result ≡ stage_rank self.now }
+    {
+        match self {
+            TraceStage::Weights(_) => 0,
+            TraceStage::Header | TraceStage::First | TraceStage::Adapters(_) => 1,
+            TraceStage::Devices(_) => 2,
+            TraceStage::Lanes(_) => 3,
+            TraceStage::Events(_) => 4,
         }
     }
 
@@ -66,6 +79,20 @@ impl TraceStage {
         if self.stands(word) { Some(word) } else { None }
     }
 
+    /// One row of weights more, or the rule that it breaks.
+    #[tactic(auto, unfolding(crate::specs::Reading::add_weight, crate::specs::Reading::stands, crate::specs::Sound::IsSound))]
+    fn add_weight(self, number: u32, row: WeightRow) -> Result<TraceStage, TraceFault>
+        requires sound { IsSound self }
+        requires place { IsTrue (stands self Word.Weight) }
+        ensures value { result ≢ Err TraceFault.OutOfMemory → result ≡ add_weight number self row }
+        ensures sound { IfOk result (λ s. IsSound s) }
+    {
+        match self {
+            TraceStage::Weights(draft) => with_weight(draft, number, row),
+            _ => unreachable!(),
+        }
+    }
+
     /// One adapter more, or the rule that it breaks.
     #[tactic(auto, unfolding(crate::specs::Reading::add_adapter, crate::specs::Reading::stands, crate::specs::Sound::IsSound))]
     fn add_adapter(
@@ -80,7 +107,14 @@ impl TraceStage {
         ensures sound { IfOk result (λ s. IsSound s) }
     {
         match self {
-            TraceStage::First => with_adapter(ConfigDraft::new(alloc), number, openings),
+            TraceStage::First => with_adapter(standard(alloc)?, number, openings),
+            TraceStage::Weights(draft) => {
+                if draft.reaches_last() {
+                    with_adapter(draft, number, openings)
+                } else {
+                    Err(TraceFault::BadConfig(number, ConfigFault::BadWeight))
+                }
+            }
             TraceStage::Adapters(draft) => with_adapter(draft, number, openings),
             _ => unreachable!(),
         }
@@ -96,6 +130,7 @@ impl TraceStage {
     {
         match self {
             TraceStage::First => Err(TraceFault::BadConfig(number, ConfigFault::NoAdapters)),
+            TraceStage::Weights(draft) => Err(TraceFault::BadConfig(number, lacking(&draft))),
             TraceStage::Adapters(draft) => with_device(draft, number, device),
             TraceStage::Devices(draft) => with_device(draft, number, device),
             _ => unreachable!(),
@@ -112,6 +147,7 @@ impl TraceStage {
     {
         match self {
             TraceStage::First => Err(TraceFault::BadConfig(number, ConfigFault::NoAdapters)),
+            TraceStage::Weights(draft) => Err(TraceFault::BadConfig(number, lacking(&draft))),
             TraceStage::Adapters(draft) => with_lane(draft, number, adapter),
             TraceStage::Devices(draft) => with_lane(draft, number, adapter),
             TraceStage::Lanes(draft) => with_lane(draft, number, adapter),
@@ -131,6 +167,7 @@ impl TraceStage {
                 number,
                 ConfigFault::NoAdapters,
             )),
+            TraceStage::Weights(draft) => Err(TraceFault::BadConfig(number, lacking(&draft))),
             TraceStage::Adapters(draft) => with_event(without_events(alloc, draft)?, number, event),
             TraceStage::Devices(draft) => with_event(without_events(alloc, draft)?, number, event),
             TraceStage::Lanes(draft) => with_event(without_events(alloc, draft)?, number, event),
@@ -170,6 +207,10 @@ impl TraceStage {
             return Err(TraceFault::BadRecord(number));
         };
         match word {
+            Word::Weight => {
+                let (last, weight) = in_record(number, two_numbers(row))?;
+                self.add_weight(number, WeightRow { last, weight })
+            }
             Word::Sim => {
                 let openings = in_record(number, one_number(row))?;
                 self.add_adapter(alloc, number, openings)
@@ -199,6 +240,10 @@ impl TraceStage {
         match self {
             TraceStage::Header => Err(TraceFault::BadHeader),
             TraceStage::First => Err(TraceFault::BadConfig(2, ConfigFault::NoAdapters)),
+            TraceStage::Weights(draft) => {
+                let number = 2 + draft.weight_count();
+                Err(TraceFault::BadConfig(number, lacking(&draft)))
+            }
             TraceStage::Adapters(draft) => without_events(alloc, draft),
             TraceStage::Devices(draft) => without_events(alloc, draft),
             TraceStage::Lanes(draft) => without_events(alloc, draft),
@@ -219,8 +264,10 @@ impl Stage for TraceStage {
     fn take(self, alloc: Global, number: u32, row: &ByteRecord) -> Result<TraceStage, TraceFault> {
         match self {
             TraceStage::Header => {
-                if is_header(b"camtrace1", row) {
+                if is_header(Version::One.name(), row) {
                     Ok(TraceStage::First)
+                } else if is_header(Version::Two.name(), row) {
+                    Ok(TraceStage::Weights(ConfigDraft::new(alloc)))
                 } else {
                     Err(TraceFault::BadHeader)
                 }
@@ -241,10 +288,49 @@ pub(crate) fn in_record<T>(number: u32, read: Result<T, u32>) -> Result<T, Trace
 }
 
 ghost use Rattle.cam_types.specs.Topology.{IsConfig, IsDraft};
-ghost use Rattle.trace_file.specs.Histories.{adapter_fault, device_fault, lane_fault, refusal};
-ghost use Rattle.trace_file.specs.Reading.{in_record, unless_fault, unless_refused};
+ghost use Rattle.trace_file.specs.Histories.{weight_fault, reaches_last, standard_weights, adapter_fault, device_fault, lane_fault, refusal};
+ghost use Rattle.trace_file.specs.Reading.{in_record, lacking, unless_fault, unless_refused};
 ghost use Rattle.trace_file.specs.Rows.{device_of};
 ghost use Rattle.trace_file.specs.Sound.{IsBegun, IsKept, IsSound};
+
+// The standard weights, and nothing else yet.
+fn standard(alloc: Global) -> Result<ConfigDraft, TraceFault>
+    ensures value { IfOk result (λ d. d ≡ record { weights = standard_weights; adapters = []; devices = []; lanes = [] }) }
+    ensures draft { IfOk result (λ d. IsDraft d) }
+    ensures memory { IfErr result (λ e. e ≡ TraceFault.OutOfMemory) }
+{
+    match ConfigDraft::standard(alloc) {
+        Ok(draft) => Ok(draft),
+        Err(_) => Err(TraceFault::OutOfMemory),
+    }
+}
+
+// What is lacking where no adapter has come.
+fn lacking(draft: &ConfigDraft) -> ConfigFault
+    ensures { result ≡ lacking (TraceStage.Weights draft.now) }
+{
+    if draft.reaches_last() {
+        ConfigFault::NoAdapters
+    } else {
+        ConfigFault::BadWeight
+    }
+}
+
+fn with_weight(
+    mut draft: ConfigDraft,
+    number: u32,
+    row: WeightRow,
+) -> Result<TraceStage, TraceFault>
+    requires { IsSound (TraceStage.Weights draft) }
+    ensures value { result ≢ Err TraceFault.OutOfMemory → result ≡ unless_fault number (weight_fault (draft.weights, row)) (TraceStage.Weights (record draft { weights = draft.weights ++ row ∷ [] })) }
+    ensures sound { IfOk result (λ s. IsSound s) }
+{
+    match draft.add_weight(row) {
+        Ok(()) => Ok(TraceStage::Weights(draft)),
+        Err(ConfigError::Fault(fault)) => Err(TraceFault::BadConfig(number, fault)),
+        Err(ConfigError::OutOfMemory) => Err(TraceFault::OutOfMemory),
+    }
+}
 
 fn with_adapter(
     mut draft: ConfigDraft,
@@ -252,6 +338,7 @@ fn with_adapter(
     openings: u32,
 ) -> Result<TraceStage, TraceFault>
     requires draft { IsDraft draft }
+    requires reaches { reaches_last draft.weights ≡ true }
     requires no_device { draft.devices ≡ [] }
     requires no_lane { draft.lanes ≡ [] }
     ensures value { result ≢ Err TraceFault.OutOfMemory → result ≡ unless_fault number (adapter_fault (draft.adapters, openings)) (TraceStage.Adapters (record draft { adapters = draft.adapters ++ openings ∷ [] })) }

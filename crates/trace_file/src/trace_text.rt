@@ -1,23 +1,26 @@
 //! Writes the trace of a history.
 
-ghost use Rattle.std.specs.Prelude.{◌≡◌, ◌≢◌, false, true, Err, OnOk, IfOk};
+ghost use Rattle.std.specs.Prelude.{◌≡◌, ◌≢◌, false, true, ℕ, List, Err, OnOk, IfOk};
 ghost use Rattle.text_io.specs.Watched.{device_of, has_failed, is_flushed};
 ghost use Rattle.text_io.specs.Whole.{AppendsFront};
 ghost use Rattle.std.specs.Io.KnownBytes.{Appends};
+ghost use Rattle.trace_file.specs.Records.{holds};
 ghost use Rattle.trace_file.specs.Trace.{IsHistory, IsTrace};
-ghost use Rattle.trace_file.specs.Writing.{trace_text};
+ghost use Rattle.trace_file.specs.Writing.{text_in, trace_text, migrated_text};
 
 use crate::row_writer::write_row;
+use crate::version::Version;
 use crate::write_fault::WriteFault;
-use crate::writing::{write_devices, write_events, write_numbers};
+use crate::writing::{write_devices, write_events, write_numbers, write_weights};
 use csv::WriterBuilder;
 use std::alloc::{AllocError, Global};
 use std::io::Write;
 use text_io::{Watched, write_whole};
 use xpt_state::History;
 
-/// Writes the trace of a history and flushes it: its records by CSV's defaults, with a line feed behind each. The text
-/// is made whole before anything of it is written.
+/// Writes the trace of a history and flushes it: its records by CSV's defaults, with a line feed behind each, in the least
+/// version that holds the history, which is 1 where the weights are the standard ones. The text is made whole before
+/// anything of it is written.
 pub fn write_trace<W: Write>(
     alloc: Global,
     history: &History,
@@ -34,25 +37,67 @@ pub fn write_trace<W: Write>(
     ensures front { result ≡ Err WriteFault.WriteFailed → AppendsFront (W.contents (device_of writer.old)) (W.contents (device_of writer.new)) (trace_text history.now) }
     ensures untouched { result ≡ Err WriteFault.OutOfMemory → writer.new ≡ writer.old }
 {
-    let text = trace_text(alloc, history)?;
+    write_in(alloc, Version::least(history.config()), history, writer)
+}
+
+/// The same in the newest version, 2, which any history can be written in.
+pub fn migrate_trace<W: Write>(
+    alloc: Global,
+    history: &History,
+    writer: &mut Watched<W>,
+) -> Result<(), WriteFault>
+    requires { has_failed writer.old ≡ false }
+    ensures written { OnOk result (Appends (W.contents (device_of writer.old)) (W.contents (device_of writer.new)) (migrated_text history.now)) }
+    ensures flushed { OnOk result (is_flushed writer.new ≡ true) }
+    ensures trace { result ≢ Err WriteFault.OutOfMemory → IsTrace (migrated_text history.now) history.now }
+    ensures legal { result ≢ Err WriteFault.OutOfMemory → IsHistory history.now }
+    ensures failed { result ≡ Err WriteFault.WriteFailed → has_failed writer.new ≡ true }
+    ensures calm { result ≢ Err WriteFault.WriteFailed → has_failed writer.new ≡ false }
+    ensures front { result ≡ Err WriteFault.WriteFailed → AppendsFront (W.contents (device_of writer.old)) (W.contents (device_of writer.new)) (migrated_text history.now) }
+    ensures untouched { result ≡ Err WriteFault.OutOfMemory → writer.new ≡ writer.old }
+{
+    write_in(alloc, Version::Two, history, writer)
+}
+
+// Writes the trace in a version that holds the history.
+fn write_in<W: Write>(
+    alloc: Global,
+    version: Version,
+    history: &History,
+    writer: &mut Watched<W>,
+) -> Result<(), WriteFault>
+    requires calm { has_failed writer.old ≡ false }
+    requires held { holds version history.now.config ≡ true }
+    ensures written { OnOk result (Appends (W.contents (device_of writer.old)) (W.contents (device_of writer.new)) (text_in version history.now)) }
+    ensures flushed { OnOk result (is_flushed writer.new ≡ true) }
+    ensures trace { result ≢ Err WriteFault.OutOfMemory → IsTrace (text_in version history.now) history.now }
+    ensures legal { result ≢ Err WriteFault.OutOfMemory → IsHistory history.now }
+    ensures failed { result ≡ Err WriteFault.WriteFailed → has_failed writer.new ≡ true }
+    ensures calm { result ≢ Err WriteFault.WriteFailed → has_failed writer.new ≡ false }
+    ensures front { result ≡ Err WriteFault.WriteFailed → AppendsFront (W.contents (device_of writer.old)) (W.contents (device_of writer.new)) (text_in version history.now) }
+    ensures untouched { result ≡ Err WriteFault.OutOfMemory → writer.new ≡ writer.old }
+{
+    let text = text_in(alloc, version, history)?;
     match write_whole(writer, &text) {
         Ok(()) => Ok(()),
         Err(_) => Err(WriteFault::WriteFailed),
     }
 }
 
-// The text of a history's records.
-fn trace_text(alloc: Global, history: &History) -> Result<Vec<u8>, AllocError>
-    ensures text { IfOk result (λ t. t.items ≡ trace_text history.now) }
-    ensures trace { OnOk result (IsTrace (trace_text history.now) history.now) }
+// The text of a history's records in a version.
+fn text_in(alloc: Global, version: Version, history: &History) -> Result<Vec<u8>, AllocError>
+    requires { holds version history.now.config ≡ true }
+    ensures text { IfOk result (λ t. t.items ≡ text_in version history.now) }
+    ensures trace { OnOk result (IsTrace (text_in version history.now) history.now) }
     ensures legal { OnOk result (IsHistory history.now) }
 {
     let mut writer = WriterBuilder::new().from_writer(Vec::new(alloc));
     write_row(
         &mut writer,
-        &[b"camtrace1", b"a", b"b", b"c", b"d", b"e", b"f", b"g"],
+        &[version.name(), b"a", b"b", b"c", b"d", b"e", b"f", b"g"],
     )?;
     let config = history.config();
+    write_weights(&mut writer, version, config.weights())?;
     write_numbers(&mut writer, b"sim", config.adapters())?;
     write_devices(&mut writer, config.devices())?;
     write_numbers(&mut writer, b"lane", config.lanes())?;

@@ -19,11 +19,12 @@ pub(crate) enum Word {
     ReleaseSim,
     Adjust,
     Tick,
+    Weight,
 }
 
 impl Word {
     ghost use Rattle.std.specs.Prelude.{◌≡◌};
-    ghost use Rattle.trace_file.specs.Words.{word_of};
+    ghost use Rattle.trace_file.specs.Words.{word_of, word_rank};
 
     /// The word that a field spells.
     #[tactic(auto, unfolding(crate::specs::Words::word_of))]
@@ -58,9 +59,24 @@ impl Word {
             Word::Adjust
         } else if is_text(field, b"tick") {
             Word::Tick
+        } else if is_text(field, b"weight") {
+            Word::Weight
         } else {
             return None;
         };
         Some(word)
+    }
+
+    /// Where a record of this word stands: rows of weights, adapters, devices, lanes and events come in this order.
+    pub(crate) fn rank(self) -> u32
+        ensures { result ≡ word_rank self }
+    {
+        match self {
+            Word::Weight => 0,
+            Word::Sim => 1,
+            Word::Dev => 2,
+            Word::Lane => 3,
+            _ => 4,
+        }
     }
 }

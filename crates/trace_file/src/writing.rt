@@ -3,15 +3,16 @@
 ghost use Rattle.std.specs.Prelude.{◌≡◌, ◌≤◌, ◌∷◌, [], decimal, map, OnOk};
 ghost use Rattle.std.specs.List.{AllByRecursion};
 ghost use Rattle.trace_file.specs.Histories.{Device};
-ghost use Rattle.trace_file.specs.Records.{padded, device_row, event_row, hex};
+ghost use Rattle.trace_file.specs.Records.{padded, weight_row, weight_rows, device_row, event_row, hex};
 ghost use Rattle.trace_file.specs.Fields.{flags_text};
 ghost use Rattle.trace_file.specs.Trace.{FitsEvent};
 ghost use Rattle.trace_file.specs.Writing.{IsBetween, Wrote};
 
 use crate::hex::hex_text;
 use crate::row_writer::{write_one, write_row, write_two, write_word};
+use crate::version::Version;
 use cam_event::Event;
-use cam_types::{Device, Flags, Outcome};
+use cam_types::{Device, Flags, Outcome, WeightRow};
 use csv::Writer;
 use itoa::Buffer;
 use std::alloc::AllocError;
@@ -28,6 +29,34 @@ pub(crate) fn write_numbers<W: Write + Drop>(
 {
     for number in numbers {
         write_one(writer, word, *number)?;
+    }
+    Ok(())
+}
+
+/// Writes a record for each row of the table of weights, where this version has them.
+pub(crate) fn write_weights<W: Write + Drop>(
+    writer: &mut Writer<W>,
+    version: Version,
+    weights: &[WeightRow],
+) -> Result<(), AllocError>
+    requires { IsBetween writer.old }
+    ensures { OnOk result (Wrote W.contents writer.old writer.new (weight_rows version weights.now)) }
+{
+    match version {
+        Version::One => Ok(()),
+        Version::Two => write_table(writer, weights),
+    }
+}
+
+fn write_table<W: Write + Drop>(
+    writer: &mut Writer<W>,
+    weights: &[WeightRow],
+) -> Result<(), AllocError>
+    requires { IsBetween writer.old }
+    ensures { OnOk result (Wrote W.contents writer.old writer.new (map weight_row weights.now)) }
+{
+    for row in weights {
+        write_two(writer, b"weight", row.last, row.weight)?;
     }
     Ok(())
 }

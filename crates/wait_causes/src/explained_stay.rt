@@ -72,7 +72,7 @@ pub struct ExplainedStay {
     pub priority: u32,
     /// The run level of its priority, 0 to 4.
     pub level: u32,
-    /// What each round of its waiting costs: 16, 8, 4, 2 or 1.
+    /// What each round of its waiting costs, by its priority.
     pub weight: u16,
     /// The round in which it entered its queue, from 1.
     pub arrival: u32,

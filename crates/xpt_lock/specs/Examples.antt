@@ -2,6 +2,7 @@
 use Rattle.std.specs.Prelude.{◌≡◌, true, false, List, [], ◌∷◌, map, Some, slice_get}
 use Rattle.std.proofs.Common.{refl}
 use Rattle.cam_types.specs.Topology.{Topology}
+use Rattle.cam_types.specs.Weights.{standard_weights}
 use Rattle.cam_types.specs.declared.outcome.Outcome.{Outcome}
 use Rattle.cam_event.specs.declared.event.Event.{Event}
 use Rattle.cam_event.specs.declared.event.Event.TheVariants.{Submit, Send, Done, Tick}
@@ -19,7 +20,7 @@ use Rattle.xpt_lock.specs.declared.seat.SeatName.TheVariants as names
 
 -- one adapter, one device and one lane, each of one opening
 abbrev frame : Topology
-frame = record { adapters = 1 ∷ []; devices = record { bus = 0; target = 1; lun = 0; openings = 1 } ∷ []; lanes = 0 ∷ [] }
+frame = record { weights = standard_weights; adapters = 1 ∷ []; devices = record { bus = 0; target = 1; lun = 0; openings = 1 } ∷ []; lanes = 0 ∷ [] }
 
 abbrev submit : Event
 submit = Submit 0 0 1152 4 (record { qfreeze = false; qfrzdis = false })

@@ -5,10 +5,10 @@ use Rattle.std.specs.List.{list_any}
 use Rattle.std.specs.Option.{option_map, option_or}
 use Rattle.std.proofs.lemmas.Bool.{leb-false, le-ltb}
 use Rattle.std.proofs.lemmas.Option.{slice_get_past}
-use Rattle.cam_types.specs.Lists.{moments_after, moments, first_answer}
-use Rattle.cam_types.specs.Topology.{Topology, IsConfig, lane_fault, device_fault, adapter_fault, item_fault}
-use Rattle.cam_types.specs.declared.config_fault.ConfigFault.{ConfigFault}
-use Rattle.cam_types.specs.declared.config_fault.ConfigFault.TheVariants.{NoAdapters, TooMany, NoAdapter}
+use Rattle.cam_types.specs.Lists.{moments_after, first_answer}
+use Rattle.cam_types.proofs.ConfigLemmas.{lane_items}
+use Rattle.cam_types.specs.Topology.{Topology, IsConfig, lane_fault}
+use Rattle.cam_types.specs.declared.config_fault.ConfigFault.TheVariants.{TooMany, NoAdapter}
 use Rattle.cam_types.specs.declared.maxima.TheConstants.{MOST_LANES}
 use Rattle.cam_event.specs.Counts.{adapter_freezes}
 use Rattle.cam_types.specs.Questions.{names_lane, lane_adapter, devices}
@@ -47,18 +47,8 @@ lanes_within n earlier (x ∷ xs) zero a free is =
     rw (← same) (without_fault n earlier x (or_none (lane_fault n (earlier, x)) _ free).0)
 lanes_within n earlier (x ∷ xs) (suc lane) a free is = lanes_within n (earlier ++ x ∷ []) xs lane a (or_none (lane_fault n (earlier, x)) _ free).1 is
 
-kept_cases : (b : Bool) (o : Option ConfigFault) → cond b (Some NoAdapters) o ≡ None → o ≡ None
-kept_cases true o h = absurd (cc)
-kept_cases false o h = h
-
-lanes_free : (c : Topology) → IsConfig c → first_answer (lane_fault (length c.adapters)) (moments c.lanes) ≡ None
-unfolding item_fault
-lanes_free c is =
-    let items = kept_cases (length c.adapters == 0) (item_fault c) is.kept in
-    (or_none (first_answer (device_fault (length c.adapters)) (moments c.devices)) _ (or_none (first_answer adapter_fault (moments c.adapters)) _ items).1).1
-
 pub lane_adapter_within : (c : Topology) (lane : ℕ) → IsConfig c → names_lane c lane ≡ true → lane_adapter c lane < length c.adapters
-lane_adapter_within c lane is there = lanes_within (length c.adapters) [] c.lanes lane (lane_adapter c lane) (lanes_free c is) (lane_named c lane there)
+lane_adapter_within c lane is there = lanes_within (length c.adapters) [] c.lanes lane (lane_adapter c lane) (lane_items c is) (lane_named c lane there)
 
 pub named_lane_within : (c : Topology) (lane a : ℕ) → IsConfig c → a ≡ lane_adapter c lane → names_lane c lane ≡ true → a < length c.adapters
 named_lane_within c lane a is at there = rw at (lane_adapter_within c lane is there)

@@ -5,10 +5,11 @@ ghost use Rattle.std.specs.Option.{option_map};
 ghost use Rattle.cam_types.specs.declared.device.Device.{Device};
 ghost use Rattle.cam_types.specs.declared.maxima.TheConstants.{MOST_WEIGHT};
 ghost use Rattle.cam_types.specs.Topology.{IsConfig};
+ghost use Rattle.cam_types.specs.Weights.{are_standard};
 ghost use Rattle.cam_types.specs.Questions.{names_device, names_adapter, names_lane, is_on, weight};
 
 use super::Config;
-use crate::maxima::MOST_WEIGHT;
+use crate::weight_row::{are_standard, weight_in};
 
 impl Config {
     /// Whether there is a device of that number.
@@ -56,19 +57,20 @@ impl Config {
         self.device_adapter(device) == Some(adapter)
     }
 
-    /// What a round of waiting costs at a priority: 16, 8, 4, 2 or 1 from run level HOST to NORMAL. The weights are a rule of
-    /// this project.
+    /// What a round of waiting costs at a priority: the weight of the first row of the table whose range isn't over before it,
+    /// and 1 behind the last priority.
     pub fn weight(&self, priority: u32) -> u32
         ensures same { result ≡ weight self.now priority }
         ensures some { 1 ≤ result }
         ensures most { result ≤ MOST_WEIGHT }
     {
-        match priority >> 8 {
-            0 => MOST_WEIGHT,
-            1 => 8,
-            2 => 4,
-            3 => 2,
-            _ => 1,
-        }
+        weight_in(&self.weights, priority)
+    }
+
+    /// Whether the table of weights is the standard one.
+    pub fn has_standard_weights(&self) -> bool
+        ensures { result ≡ are_standard self.now.weights }
+    {
+        are_standard(&self.weights)
     }
 }

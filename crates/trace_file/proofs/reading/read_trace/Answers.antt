@@ -11,7 +11,7 @@ returns-in-Ok-clause-found g c = found_law _ _ _ (rw c.deref.ensures.value at c.
 
 pub returns-in-Ok-clause-only : goal.returns-in-Ok-clause-only
 returns-in-Ok-clause-only g c = λ past h.
-    only_law (λ text. IsTrace text past) _ _ _ _ _ past c.in-Ok.ensures.whole (rw c.deref.ensures.value at c.read_text.ensures) (λ is. ap reading is.spelled ∙ reading_again past h)
+    only_law (λ text. IsTrace text past) _ _ _ _ _ past c.in-Ok.ensures.whole (rw c.deref.ensures.value at c.read_text.ensures) (λ is. ap reading is.spelled ∙ reading_again is.version past h is.held)
 
 pub returns-in-Ok-clause-faults : goal.returns-in-Ok-clause-faults
 unfolding reading

@@ -1,4 +1,4 @@
-use Rattle.cam_types.proofs.TopologyLemmas.{few_devices}
+use Rattle.cam_types.proofs.ConfigLemmas.{few_devices}
 use Rattle.cam_types.proofs.config.Config.devices.Goals as goal
 
 pub returns-clause-few : goal.returns-clause-few

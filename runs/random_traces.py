@@ -101,6 +101,13 @@ def slowed(rng, text):
     return "".join(given + late)
 
 
+def weighed(rng, text):
+    """The same history in version 2, with a random table of weights."""
+    lasts = sorted(rng.sample(range(1279), rng.randint(0, 15))) + [1279]
+    rows = [record("weight", last, rng.choice([1, 2, 7, rng.randint(1, 1000), 1000])) for last in lasts]
+    return record("camtrace2", *"abcdefg") + "".join(rows) + text.split("\n", 1)[1]
+
+
 def run(words, text):
     """What the program prints for these words and this input, or None if it refuses them."""
     done = subprocess.run([program, *words], input=text, stdout=subprocess.PIPE, stderr=subprocess.PIPE, text=True)
@@ -108,9 +115,11 @@ def run(words, text):
 
 
 def trace(number):
-    """The trace of this number, or None if its script was refused or its history isn't complete."""
+    """The trace of this number, or None if its script was refused or its history isn't complete. Every second one has weights of
+    its own."""
     rng = random.Random(number)
     given = run(["sim", "-", str(rng.getrandbits(64))], script(rng))
     if given is None:
         return None
-    return next((text for text in (slowed(rng, given), given) if run(["check"], text) is not None), None)
+    text = next((text for text in (slowed(rng, given), given) if run(["check"], text) is not None), None)
+    return weighed(rng, text) if text and number % 2 else text

@@ -1,6 +1,8 @@
 //! Configurations, limits and priorities.
 
-use cam_types::{Config, ConfigError, ConfigFault, Device, Limits, Priority};
+use cam_types::{
+    Config, ConfigError, ConfigFault, Device, Limits, Priority, WeightRow, standard_weights,
+};
 use std::test::Fail;
 use test_events::device;
 
@@ -16,6 +18,43 @@ fn a_configuration_gives_back_its_items(rt: HostRuntime) -> Result<(), Fail> {
         assert_eq!(rt; config.weight(priority), weight);
     }
     Ok(())
+}
+
+fn row(last: u32, weight: u32) -> WeightRow {
+    WeightRow { last, weight }
+}
+
+#[test]
+fn a_table_of_weights_is_kept(rt: HostRuntime) -> Result<(), Fail> {
+    let rows = [row(127, 1000), row(1278, 3), row(1279, 1)];
+    let config = Config::with_weights(rt.alloc(), &rows, &[1], &[], &[])?;
+    assert_eq!(rt; config.weights(), rows.as_slice());
+    assert_eq!(rt; config.copy(rt.alloc())?.weights(), rows.as_slice());
+    assert!(rt; !config.has_standard_weights());
+    for (priority, weight) in [(0, 1000), (127, 1000), (128, 3), (1278, 3), (1279, 1)] {
+        assert_eq!(rt; config.weight(priority), weight);
+    }
+    let standard = Config::with_weights(rt.alloc(), &standard_weights(), &[1], &[], &[])?;
+    assert!(rt; standard.has_standard_weights());
+    Ok(())
+}
+
+#[test]
+fn a_bad_table_of_weights_is_refused(rt: HostRuntime) {
+    let tables: [&[WeightRow]; 6] = [
+        &[],
+        &[row(1278, 1)],
+        &[row(1279, 0)],
+        &[row(1279, 1001)],
+        &[row(1280, 1)],
+        &[row(255, 1), row(255, 1), row(1279, 1)],
+    ];
+    for table in tables {
+        match Config::with_weights(rt.alloc(), table, &[1], &[], &[]) {
+            Ok(_) => assert!(rt; false, "{table:?}"),
+            Err(given) => assert_eq!(rt; given, ConfigError::Fault(ConfigFault::BadWeight)),
+        }
+    }
 }
 
 #[test]

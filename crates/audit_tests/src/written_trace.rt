@@ -5,11 +5,18 @@ use crate::texts::{FROZEN, ONE_COMMAND};
 use std::alloc::Global;
 use std::test::Fail;
 use text_io::Watched;
-use trace_file::{WriteFault, read_trace, write_trace};
+use trace_file::{WriteFault, migrate_trace, read_trace, write_trace};
 
 // Every kind of row, and numbers of some digits.
 const EVERY: &str =
     "camtrace1,a,b,c,d,e,f,g\nsim,2,,,,,,\ndev,0,65535,16383,255,,,\nlane,0,,,,,,\nsubmit,255,0,1152,4,both,,\nsubmit,7,0,128,0,none,,\nsend,0,1,,,,,\ndone,1,0c,02,700006,,,\nfinish,1,,,,,,\nsend,0,0,,,,,\ndone,0,05,00,,,,\nrequeue,0,,,,,,\nrelease,0,1,,,,,\nsfreeze,0,65535,,,,,\nsrelease,0,,,,,,\nadjust,0,1,,,,,\nfreeze,0,3,,,,,\ntick,,,,,,,\n";
+
+// A history of version 2 alone, and one command by the standard table.
+const WEIGHTED: &str =
+    "camtrace2,a,b,c,d,e,f,g\nweight,1023,1,,,,,\nweight,1279,1000,,,,,\nsim,1,,,,,,\ndev,0,1,0,1,,,\nsubmit,0,0,1152,4,none,,\n";
+
+const STANDARD: &str =
+    "camtrace2,a,b,c,d,e,f,g\nweight,255,16,,,,,\nweight,511,8,,,,,\nweight,767,4,,,,,\nweight,1023,2,,,,,\nweight,1279,1,,,,,\nsim,1,,,,,,\ndev,0,1,0,1,,,\nlane,0,,,,,,\nsubmit,0,0,1152,4,none,,\nsend,0,0,,,,,\ndone,0,01,00,,,,\n";
 
 /// What the history of a trace is written as.
 fn again(alloc: Global, text: &str) -> Result<Vec<u8>, Fail> {
@@ -21,13 +28,32 @@ fn again(alloc: Global, text: &str) -> Result<Vec<u8>, Fail> {
 
 #[test]
 fn a_trace_is_written_as_it_was_read(rt: HostRuntime) -> Result<(), Fail> {
-    for text in [ONE_COMMAND, FROZEN, EVERY] {
+    for text in [ONE_COMMAND, FROZEN, EVERY, WEIGHTED] {
         assert_eq!(rt;
             again(rt.alloc(), text)?.as_slice(),
             text.as_bytes(),
             "{text}"
         );
     }
+    Ok(())
+}
+
+#[test]
+fn a_migrated_trace_has_its_weights(rt: HostRuntime) -> Result<(), Fail> {
+    for (text, migrated) in [
+        (ONE_COMMAND, STANDARD),
+        (STANDARD, STANDARD),
+        (WEIGHTED, WEIGHTED),
+    ] {
+        let history = read_trace(rt.alloc(), &mut Watched::new(text.as_bytes()))?;
+        let mut written = Vec::new(rt.alloc());
+        migrate_trace(rt.alloc(), &history, &mut Watched::new(&mut written))?;
+        assert_eq!(rt; written.as_slice(), migrated.as_bytes(), "{text}");
+    }
+    assert_eq!(rt;
+        again(rt.alloc(), STANDARD)?.as_slice(),
+        ONE_COMMAND.as_bytes()
+    );
     Ok(())
 }
 

@@ -1,6 +1,6 @@
 //! Configurations: weights, adapters, devices and lanes that keep the rules.
 
-ghost use Rattle.std.specs.Prelude.{◌≡◌, ℕ, [], ◌∷◌, ◌++◌, ◌==◌, ◌≤◌, length, count_by, IfOk, OnOk, OnErr, MatchOption, IsOkUnless};
+ghost use Rattle.std.specs.Prelude.{◌≡◌, [], ◌∷◌, ◌++◌, ◌==◌, ◌≤◌, length, count_by, IfOk, OnOk, OnErr, MatchOption, IsOkUnless};
 ghost use Rattle.cam_types.specs.Topology.{Topology, are_openings, is_same_address, adapter_fault, address_fault, device_fault, lane_fault, lack, item_fault, config_fault, IsConfig};
 ghost use Rattle.cam_types.specs.Weights.{is_behind, is_weight, reaches_last, standard_weights, weight_fault};
 ghost use Rattle.cam_types.specs.Made.{MadeFrom};

@@ -7,7 +7,7 @@ ghost use Rattle.cost_plan.specs.Cells.{rows, node_count};
 ghost use Rattle.cost_plan.specs.Parts.{IsPutIn};
 
 use crate::cells::node;
-use crate::problem::{problem_of, stays_of};
+use crate::problem::problem_of_adapter;
 use round_net::Net;
 use std::alloc::{AllocError, Global};
 use waiting_network::{Guess, guess};
@@ -17,14 +17,13 @@ use waiting_network::{Guess, guess};
 pub struct Part {
     /// The adapter.
     pub adapter: u32,
-    /// A round for each of its stays, and a label for each cell of the net, of which only those of the adapter and of its
-    /// devices are meant.
+    /// A round for each of its stays, and a label for each cell of its devices, in order, and then of its own.
     pub guess: Guess,
 }
 
 /// A guess at a best plan of the adapter's stays, if there is one.
 pub fn part_of(alloc: Global, net: &Net, adapter: u32) -> Result<Option<Part>, AllocError> {
-    let problem = problem_of(alloc, net, stays_of(alloc, net, adapter)?)?;
+    let problem = problem_of_adapter(alloc, net, adapter)?;
     Ok(guess(alloc, &problem)?.map(|guess| Part { adapter, guess }))
 }
 
@@ -60,10 +59,22 @@ pub fn put_labels(net: &Net, labels: &mut [u64], part: &Part)
     requires { length labels.old ≡ node_count (instance_of_rows net.now) }
     ensures { length labels.new ≡ length labels.old }
 {
+    let mut rest: &[u64] = &part.guess.labels;
     for row in 0..net.devices() + net.adapters() {
         if adapter_of_row(net, row) == part.adapter {
-            put_row(net, labels, row, &part.guess.labels);
+            put_row(net, labels, row, rest);
+            rest = behind_row(net, rest);
         }
+    }
+}
+
+// The labels behind those of a row.
+fn behind_row<'a>(net: &Net, labels: &'a [u64]) -> &'a [u64] {
+    let width = net.rounds() as usize + 1;
+    if width <= labels.len() {
+        &labels[width..]
+    } else {
+        &[]
     }
 }
 
@@ -78,7 +89,7 @@ fn adapter_of_row(net: &Net, row: u32) -> u32
     }
 }
 
-// Gives the cells of a row their labels.
+// Gives the cells of a row their labels, with which the others begin.
 fn put_row(net: &Net, labels: &mut [u64], row: u32, from: &[u64])
     requires row { row < rows (instance_of_rows net.now) }
     requires size { length labels.old ≡ node_count (instance_of_rows net.now) }
@@ -86,7 +97,7 @@ fn put_row(net: &Net, labels: &mut [u64], row: u32, from: &[u64])
 {
     for round in 0..net.rounds() + 1 {
         let cell = node(net, row, round) as usize;
-        if let Some(label) = from.get(cell) {
+        if let Some(label) = from.get(round as usize) {
             labels[cell] = *label;
         }
     }

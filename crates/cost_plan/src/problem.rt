@@ -73,15 +73,69 @@ pub fn all_stays(alloc: Global, net: &Net) -> Result<Vec<Stay>, AllocError>
     Ok(stays)
 }
 
-/// The stays of an adapter.
-pub fn stays_of(alloc: Global, net: &Net, adapter: u32) -> Result<Vec<Stay>, AllocError> {
+/// What there is to plan of an adapter's stays alone: a row for each of its devices, in order, and then its own above them.
+pub fn problem_of_adapter(alloc: Global, net: &Net, adapter: u32) -> Result<Problem, AllocError> {
+    let places = places_of(alloc, net, adapter)?;
+    let (above, caps) = own_rows(alloc, net, adapter)?;
     let mut stays = Vec::new(alloc);
     for stay in 0..net.stays() {
         if net.adapter(stay) == adapter {
-            stays.push(stay_of(net, stay))?;
+            let row = places.get(net.device(stay) as usize).copied().unwrap_or(0);
+            stays.push(Stay {
+                row,
+                ..stay_of(net, stay)
+            })?;
         }
     }
-    Ok(stays)
+    Ok(Problem {
+        rounds: net.rounds(),
+        above,
+        caps,
+        stays,
+    })
+}
+
+// Of each device how many before it are the adapter's, which is its row if it is so too.
+fn places_of(alloc: Global, net: &Net, adapter: u32) -> Result<Vec<u32>, AllocError> {
+    let mut places = Vec::with_capacity(alloc, net.devices() as usize)?;
+    let mut next = 0u32;
+    for device in 0..net.devices() {
+        places.push(next)?;
+        if net.adapter_of(device) == adapter {
+            next = next.saturating_add(1);
+        }
+    }
+    Ok(places)
+}
+
+// The row above each row of the adapter's, and how many stays their cells take.
+fn own_rows(alloc: Global, net: &Net, adapter: u32) -> Result<(Vec<u32>, Vec<u32>), AllocError> {
+    let (mut above, mut caps) = (Vec::new(alloc), Vec::new(alloc));
+    let own = devices_of(net, adapter);
+    for device in 0..net.devices() {
+        if net.adapter_of(device) == adapter {
+            above.push(own)?;
+            caps.push(0)?;
+            add_caps(net, &mut caps, device)?;
+        }
+    }
+    if adapter < net.adapters() {
+        above.push(own.saturating_add(1))?;
+        caps.push(0)?;
+        add_caps(net, &mut caps, net.devices() + adapter)?;
+    }
+    Ok((above, caps))
+}
+
+// How many devices are on the adapter.
+fn devices_of(net: &Net, adapter: u32) -> u32 {
+    let mut count = 0u32;
+    for device in 0..net.devices() {
+        if net.adapter_of(device) == adapter {
+            count = count.saturating_add(1);
+        }
+    }
+    count
 }
 
 // A stay.

@@ -1,6 +1,6 @@
 -- openings and weights are small
-use Rattle.std.proofs.Common.{◌≡◌, ℕ, ◌≤◌, Bool, true, false, cond, List, [], ◌∷◌, ◌++◌, get_or, refl, arith, Some, None}
-use Rattle.std.specs.Prelude.{◌==◌, All, slice_get, nat_lt, nat_le, if◌then◌else◌}
+use Rattle.std.proofs.Common.{◌≡◌, ℕ, ◌≤◌, true, false, cond, List, [], ◌∷◌, ◌++◌, get_or, refl, arith, Some, None}
+use Rattle.std.specs.Prelude.{◌==◌, All, slice_get, nat_lt, nat_le}
 use Rattle.std.specs.List.{before_last}
 use Rattle.std.specs.Option.{option_map_or}
 use Rattle.std.proofs.lemmas.Bool.{and_parts, leb-true}
@@ -10,7 +10,7 @@ use Rattle.cam_types.specs.declared.device.Device.{Device}
 use Rattle.cam_types.specs.declared.maxima.TheConstants.{MOST_OPENINGS}
 use Rattle.cam_event.specs.Event.{is_tick, is_adjust_of, adjusts_to}
 use Rattle.cam_event.specs.Counts.{round, last}
-use Rattle.cam_types.specs.Questions.{names_device, device_openings, adapter_openings, weight}
+use Rattle.cam_types.specs.Questions.{names_device, device_openings, adapter_openings}
 use Rattle.cam_event.specs.Head.{openings}
 use Rattle.cam_event.specs.declared.event.Event.{Event}
 use Rattle.cam_event.specs.declared.event.Event.TheVariants.{Adjust}

@@ -13,10 +13,10 @@ ghost use Rattle.trace_file.specs.Trace.{IsTrace, IsHistory, WasTrace, Explains}
 use crate::records::take_records;
 use crate::trace_fault::TraceFault;
 use crate::trace_stage::TraceStage;
+use crate::version::Version;
 use std::alloc::Global;
 use std::io::Read;
 use text_io::{Watched, WholeFault, read_whole};
-use crate::version::Version;
 use xpt_state::History;
 
 /// Reads a trace to the end of the input. A fault of the text names the first record that fails, and the first test

@@ -1,6 +1,6 @@
 //! Writes the trace of a history.
 
-ghost use Rattle.std.specs.Prelude.{◌≡◌, ◌≢◌, false, true, ℕ, List, Err, OnOk, IfOk};
+ghost use Rattle.std.specs.Prelude.{◌≡◌, ◌≢◌, false, true, Err, OnOk, IfOk};
 ghost use Rattle.text_io.specs.Watched.{device_of, has_failed, is_flushed};
 ghost use Rattle.text_io.specs.Whole.{AppendsFront};
 ghost use Rattle.std.specs.Io.KnownBytes.{Appends};

@@ -1,5 +1,4 @@
 use Rattle.std.proofs.Common.{◌≡◌, ◌∙◌, ap, arith}
-use Rattle.cam_types.specs.Topology.{Topology}
 use Rattle.xpt_devices.specs.Transport.{Transport}
 use Rattle.xpt_stays.proofs.SoundLemmas.{few-records}
 use Rattle.xpt_stays.proofs.QuestionLemmas.{cost-by}

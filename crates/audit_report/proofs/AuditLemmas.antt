@@ -1,11 +1,9 @@
 -- what is written of a history with a best plan of its net
 use Rattle.std.proofs.Common.{◌≡◌, ℕ, ◌*◌, ◌-◌, ◌<◌, ◌≤◌, Bool, true, false, List, [], ◌++◌, length, refl, sym, ap, subst, ◌∙◌, arith, append-nil, Option, Some, None}
 use Rattle.std.specs.Prelude.{is_some, slice_index, if◌then◌else◌, All}
-use Rattle.std.proofs.lemmas.List.{length-map}
 use Rattle.std.proofs.lemmas.List.Elements.{All-from_get_or}
 use Rattle.cam_types.specs.Topology.{Topology}
 use Rattle.cam_types.specs.declared.maxima.TheConstants.{MOST_BYTES, MOST_STAYS, MOST_ROUNDS, MOST_WEIGHT}
-use Rattle.cam_types.specs.declared.device.Device.{Device}
 use Rattle.cam_event.specs.Stays.{unsent}
 use Rattle.cam_event.specs.Live.{live_cost}
 use Rattle.cam_event.specs.declared.event.Event.{Event}
@@ -31,13 +29,6 @@ use Rattle.audit_report.proofs.CostLemmas.{cost-live}
 
 pub nothing_more : (text : List ℕ) → text ≡ text ++ []
 nothing_more text = sym (append-nil text)
-
-devices_of : (c : Topology) (es : List Event) → length c.devices ≡ (instance_of_rows (net_of c es)).devices
-unfolding instance_of_rows net_of
-devices_of c es = sym (length-map c.devices (λ (device : Device). device.bus))
-
-pub devices_of_net : (c : Topology) (es : List Event) (n : NetRows) → n ≡ net_of c es → length c.devices ≡ (instance_of_rows n).devices
-devices_of_net c es n e = devices_of c es ∙ ap (λ k. (instance_of_rows k).devices) (sym e)
 
 -- where each stay was sent the live schedule has a cost, that of the net
 live_known : (c : Topology) (es : List Event) → unsent es ≡ None → live_cost c es ≡ Some (cost (instance_of c es) (live_of c es))

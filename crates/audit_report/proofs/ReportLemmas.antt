@@ -1,10 +1,11 @@
 -- texts put behind one another
-use Rattle.std.proofs.Common.{◌≡◌, ℕ, suc, ◌+◌, ◌≤◌, List, ◌++◌, length, sym, ap, ◌∙◌, arith, append_assoc, append-nil, length-append}
-use Rattle.std.specs.Prelude.{codes, decimal}
+use Rattle.std.proofs.Common.{◌≡◌, ℕ, suc, ◌+◌, ◌-◌, ◌≤◌, List, ◌++◌, length, refl, sym, ap, ◌∙◌, arith, append_assoc, append-nil, length-append, Some, None}
+use Rattle.std.specs.Prelude.{codes, decimal, slice_get}
 use Rattle.std.proofs.lemmas.Fmt.{length-decimal-le}
-use Rattle.cam_path.specs.Paths.{Fits, spelled}
+use Rattle.cam_types.specs.declared.device.Device.{Device}
+use Rattle.cam_path.specs.Paths.{Fits, address_of, spelled}
 use Rattle.cam_path.specs.declared.path.CamPath.{CamPath}
-use Rattle.price_check.specs.Report.{texts_below}
+use Rattle.price_check.specs.Report.{number_text, texts_below, row_text}
 
 pub no_text : (text : ℕ → List ℕ) (before : List ℕ) → before ≡ before ++ texts_below 0 text
 no_text text before = sym (append-nil before)
@@ -29,3 +30,16 @@ length-spelled p fits =
 
 pub path_behind : (p : CamPath) (before text : List ℕ) → Fits p → text ≡ before ++ spelled p → length text ≤ length before + 15
 path_behind p before text fits is = omega (arith, ap length is, length-append before (spelled p), length-spelled p fits)
+
+-- two pieces behind a text
+pub two_pieces : (before first second so_far : List ℕ) → so_far ≡ before ++ first → before ++ (first ++ second) ≡ so_far ++ second
+two_pieces before first second so_far is = sym (append_assoc before first second) ∙ ap (λ t. t ++ second) (sym is)
+
+-- whose opening a row's is
+pub row_text-device : (devices : List Device) (row : ℕ) (device : Device) → slice_get devices row ≡ Some device → row_text devices row ≡ codes "price dev " ++ spelled (address_of device)
+unfolding row_text
+row_text-device devices row device is = rw is refl
+
+pub row_text-adapter : (devices : List Device) (row : ℕ) → slice_get devices row ≡ None → row_text devices row ≡ codes "price sim" ++ number_text (row - length devices)
+unfolding row_text
+row_text-adapter devices row is = rw is refl

@@ -122,7 +122,7 @@ fn audit_text(
 }
 
 // Puts the report behind its summary, where the whole of it is asked for.
-#[tactic(auto, using(crate::proofs::AuditLemmas::devices_of_net, crate::proofs::AuditLemmas::nothing_more))]
+#[tactic(auto, using(crate::proofs::AuditLemmas::nothing_more))]
 fn push_rest(
     text: &mut Vec<u8>,
     history: &History,
@@ -130,7 +130,6 @@ fn push_rest(
     best: &BestPlan,
     summary: bool,
 ) -> Result<(), AllocError>
-    requires net { net.now ≡ net_of history.now.config history.now.events }
     requires stays { length best.now.schedule ≡ (instance_of_rows net.now).stays }
     requires cells { IsPricingFor (instance_of_rows net.now) best.now.prices }
     ensures text { OnOk result (text.new.items ≡ text.old.items ++ (if summary then [] else plan_text history.now.config.devices net.now (slice_index best.now.schedule) (pricing_of_rows best.now.prices))) }

@@ -1,9 +1,11 @@
 //! The text of a report: its first seven lines, its stays and its prices.
 
 ghost use Rattle.std.specs.Prelude.{◌≡◌, ◌+◌, ◌-◌, ◌*◌, ◌<◌, ◌≤◌, ◌++◌, length, slice_index, codes, OnOk, IfOk};
+ghost use Rattle.cam_path.specs.Paths.{address_of, spelled};
+ghost use Rattle.round_net.specs.Instance.{rows};
 ghost use Rattle.round_net.specs.Rows.{instance_of_rows};
 ghost use Rattle.round_net.specs.PriceRows.{pricing_of_rows, IsPricingFor};
-ghost use Rattle.price_check.specs.Report.{summary_text, number_text, texts_below, name_text, stay_line, path_text, price_line, dev_line, sim_line, plan_text};
+ghost use Rattle.price_check.specs.Report.{summary_text, number_text, texts_below, stay_line, row_text, row_line, price_lines, plan_text};
 ghost use Rattle.cam_types.specs.declared.maxima.TheConstants.{MOST_STAYS, MOST_ROUNDS, MOST_DEVICES, MOST_ADAPTERS};
 
 use crate::costs::Costs;
@@ -42,13 +44,11 @@ pub fn push_plan(
 ) -> Result<(), AllocError>
     requires schedule { length schedule.now ≡ (instance_of_rows net.now).stays }
     requires prices { IsPricingFor (instance_of_rows net.now) prices.now }
-    requires devices { length devices.now ≡ (instance_of_rows net.now).devices }
     ensures text { OnOk result (text.new.items ≡ text.old.items ++ plan_text devices.now net.now (slice_index schedule.now) (pricing_of_rows prices.now)) }
     ensures short { OnOk result (length text.new.items ≤ length text.old.items + (260 * MOST_STAYS + 156 * MOST_ROUNDS * (MOST_DEVICES + MOST_ADAPTERS) + 4)) }
 {
     push_stays(text, net, schedule)?;
-    push_dev_prices(text, devices, net, prices)?;
-    push_sim_prices(text, net, prices)?;
+    push_prices(text, devices, net, prices)?;
     text.extend_from_slice(b"end\n")
 }
 
@@ -86,138 +86,92 @@ fn push_stay(
     Ok(())
 }
 
-#[tactic(auto, using(crate::proofs::ReportLemmas::no_text, crate::proofs::ReportLemmas::next_text))]
-fn push_dev_prices(
+// Puts the prices behind the text, by row and round.
+#[tactic(auto, using(crate::proofs::ReportLemmas::no_text, crate::proofs::ReportLemmas::next_text), unfolding(price_check::specs::Report::price_lines))]
+fn push_prices(
     text: &mut Vec<u8>,
     devices: &[Device],
     net: &Net,
     prices: &Prices,
 ) -> Result<(), AllocError>
-    requires prices { IsPricingFor (instance_of_rows net.now) prices.now }
-    requires devices { length devices.now ≡ (instance_of_rows net.now).devices }
-    ensures text { OnOk result (text.new.items ≡ text.old.items ++ texts_below (instance_of_rows net.now).devices (λ d. texts_below (instance_of_rows net.now).rounds (λ r. dev_line devices.now (pricing_of_rows prices.now) d (r + 1)))) }
-    ensures short { OnOk result (length text.new.items ≤ length text.old.items + 156 * MOST_ROUNDS * MOST_DEVICES) }
-{
-    for device in 0..net.devices() {
-        push_dev_rounds(text, devices, net, prices, device)?;
-    }
-    Ok(())
-}
-
-#[tactic(auto, using(crate::proofs::ReportLemmas::no_text, crate::proofs::ReportLemmas::next_text))]
-fn push_dev_rounds(
-    text: &mut Vec<u8>,
-    devices: &[Device],
-    net: &Net,
-    prices: &Prices,
-    device: u32,
-) -> Result<(), AllocError>
-    requires prices { IsPricingFor (instance_of_rows net.now) prices.now }
-    requires devices { length devices.now ≡ (instance_of_rows net.now).devices }
-    requires device { device < (instance_of_rows net.now).devices }
-    ensures text { OnOk result (text.new.items ≡ text.old.items ++ texts_below (instance_of_rows net.now).rounds (λ r. dev_line devices.now (pricing_of_rows prices.now) device (r + 1))) }
-    ensures short { OnOk result (length text.new.items ≤ length text.old.items + 156 * MOST_ROUNDS) }
-{
-    for round in 0..net.rounds() {
-        push_dev_price(text, devices, prices, device, round + 1)?;
-    }
-    Ok(())
-}
-
-#[tactic(auto, unfolding(price_check::specs::Report::dev_line))]
-fn push_dev_price(
-    text: &mut Vec<u8>,
-    devices: &[Device],
-    prices: &Prices,
-    device: u32,
-    round: u32,
-) -> Result<(), AllocError>
-    requires device { device < prices.now.devices }
-    requires named { device < length devices.now }
-    requires first { 1 ≤ round }
-    requires last { round ≤ prices.now.rounds }
-    ensures text { OnOk result (text.new.items ≡ text.old.items ++ dev_line devices.now (pricing_of_rows prices.now) device round) }
-    ensures short { OnOk result (length text.new.items ≤ length text.old.items + 156) }
-{
-    let price = prices.dev(device, round);
-    if price == 0 {
-        return Ok(());
-    }
-    text.extend_from_slice(b"price dev ")?;
-    push_path(text, devices, device)?;
-    push_price(text, round, price)?;
-    Ok(())
-}
-
-// Puts the path of a device behind the text.
-#[tactic(auto, unfolding(price_check::specs::Report::path_text))]
-fn push_path(text: &mut Vec<u8>, devices: &[Device], device: u32) -> Result<(), AllocError>
-    requires { device < length devices.now }
-    ensures text { OnOk result (text.new.items ≡ text.old.items ++ path_text devices.now device) }
-    ensures short { OnOk result (length text.new.items ≤ length text.old.items + 15) }
-{
-    CamPath::of(&devices[device as usize]).write(text)?;
-    Ok(())
-}
-
-#[tactic(auto, using(crate::proofs::ReportLemmas::no_text, crate::proofs::ReportLemmas::next_text))]
-fn push_sim_prices(text: &mut Vec<u8>, net: &Net, prices: &Prices) -> Result<(), AllocError>
     requires { IsPricingFor (instance_of_rows net.now) prices.now }
-    ensures text { OnOk result (text.new.items ≡ text.old.items ++ texts_below (instance_of_rows net.now).adapters (λ a. texts_below (instance_of_rows net.now).rounds (λ r. sim_line (pricing_of_rows prices.now) a (r + 1)))) }
-    ensures short { OnOk result (length text.new.items ≤ length text.old.items + 156 * MOST_ROUNDS * MOST_ADAPTERS) }
+    ensures text { OnOk result (text.new.items ≡ text.old.items ++ price_lines devices.now (instance_of_rows net.now) (pricing_of_rows prices.now)) }
+    ensures short { OnOk result (length text.new.items ≤ length text.old.items + 156 * MOST_ROUNDS * (MOST_DEVICES + MOST_ADAPTERS)) }
 {
-    for adapter in 0..net.adapters() {
-        push_sim_rounds(text, net, prices, adapter)?;
+    for row in 0..net.rows() {
+        push_rounds(text, devices, net, prices, row)?;
     }
     Ok(())
 }
 
+// Puts the prices of a row behind the text.
 #[tactic(auto, using(crate::proofs::ReportLemmas::no_text, crate::proofs::ReportLemmas::next_text))]
-fn push_sim_rounds(
+fn push_rounds(
     text: &mut Vec<u8>,
+    devices: &[Device],
     net: &Net,
     prices: &Prices,
-    adapter: u32,
+    row: u32,
 ) -> Result<(), AllocError>
     requires prices { IsPricingFor (instance_of_rows net.now) prices.now }
-    requires adapter { adapter < (instance_of_rows net.now).adapters }
-    ensures text { OnOk result (text.new.items ≡ text.old.items ++ texts_below (instance_of_rows net.now).rounds (λ r. sim_line (pricing_of_rows prices.now) adapter (r + 1))) }
+    requires row { row < rows (instance_of_rows net.now) }
+    ensures text { OnOk result (text.new.items ≡ text.old.items ++ texts_below (instance_of_rows net.now).rounds (λ r. row_line devices.now (pricing_of_rows prices.now) row (r + 1))) }
     ensures short { OnOk result (length text.new.items ≤ length text.old.items + 156 * MOST_ROUNDS) }
 {
     for round in 0..net.rounds() {
-        push_sim_price(text, prices, adapter, round + 1)?;
+        push_price(text, devices, prices, row, round + 1)?;
     }
     Ok(())
 }
 
-#[tactic(auto, unfolding(price_check::specs::Report::sim_line))]
-fn push_sim_price(
+// Puts the line of a price behind the text, if it isn't 0.
+#[tactic(auto, unfolding(price_check::specs::Report::row_line))]
+fn push_price(
     text: &mut Vec<u8>,
+    devices: &[Device],
     prices: &Prices,
-    adapter: u32,
+    row: u32,
     round: u32,
 ) -> Result<(), AllocError>
-    requires adapter { adapter < prices.now.adapters }
+    requires row { row < prices.now.devices + prices.now.adapters }
     requires first { 1 ≤ round }
     requires last { round ≤ prices.now.rounds }
-    ensures text { OnOk result (text.new.items ≡ text.old.items ++ sim_line (pricing_of_rows prices.now) adapter round) }
+    ensures text { OnOk result (text.new.items ≡ text.old.items ++ row_line devices.now (pricing_of_rows prices.now) row round) }
     ensures short { OnOk result (length text.new.items ≤ length text.old.items + 156) }
 {
-    let price = prices.sim(adapter, round);
+    let price = prices.price(row, round);
     if price == 0 {
         return Ok(());
     }
-    text.extend_from_slice(b"price sim")?;
-    push_number(text, u64::from(adapter))?;
-    push_price(text, round, price)
-}
-
-// Puts the end of a price's line behind the text.
-fn push_price(text: &mut Vec<u8>, round: u32, price: u64) -> Result<(), AllocError>
-    ensures text { OnOk result (text.new.items ≡ text.old.items ++ (number_text round ++ (number_text price ++ codes "\n"))) }
-    ensures short { OnOk result (length text.new.items ≤ length text.old.items + 83) }
-{
+    push_row(text, devices, row)?;
     push_number(text, u64::from(round))?;
     push_number(text, price)?;
     text.extend_from_slice(b"\n")
+}
+
+// Puts whose opening a row's is behind the text: a device's by its path, and behind all devices an adapter's by its number.
+#[tactic(auto, unfolding(price_check::specs::Report::row_text))]
+fn push_row(text: &mut Vec<u8>, devices: &[Device], row: u32) -> Result<(), AllocError>
+    ensures text { OnOk result (text.new.items ≡ text.old.items ++ row_text devices.now row) }
+    ensures short { OnOk result (length text.new.items ≤ length text.old.items + 50) }
+{
+    match devices.get(row as usize) {
+        Some(device) => {
+            text.extend_from_slice(b"price dev ")?;
+            push_path(text, device)
+        }
+        None => {
+            text.extend_from_slice(b"price sim")?;
+            push_number(text, (row as usize).saturating_sub(devices.len()) as u64)
+        }
+    }
+}
+
+// Puts the path of a device behind the text.
+fn push_path(text: &mut Vec<u8>, device: &Device) -> Result<(), AllocError>
+    ensures text { OnOk result (text.new.items ≡ text.old.items ++ spelled (address_of device.now)) }
+    ensures short { OnOk result (length text.new.items ≤ length text.old.items + 15) }
+{
+    CamPath::of(device).write(text)?;
+    Ok(())
 }

@@ -1,17 +1,19 @@
 //! Configurations, limits and priorities.
 
 use cam_types::{
-    Config, ConfigError, ConfigFault, Device, Limits, Priority, WeightRow, standard_weights,
+    Adapter, Config, ConfigError, ConfigFault, Device, Limits, Priority, WeightRow,
+    standard_weights,
 };
 use std::test::Fail;
-use test_events::device;
+use test_events::{device, unlinked};
 
 #[test]
 fn a_configuration_gives_back_its_items(rt: HostRuntime) -> Result<(), Fail> {
     let devices = [device(0, 1, 2), device(1, 1, 2)];
     let config = Config::new(rt.alloc(), &[4, 8], &devices, &[0, 1, 1])?;
     let copy = config.copy(rt.alloc())?;
-    assert_eq!(rt; copy.adapters(), [4, 8].as_slice());
+    assert_eq!(rt; copy.adapters(), [unlinked(4), unlinked(8)].as_slice());
+    assert!(rt; copy.links().is_empty());
     assert_eq!(rt; copy.devices(), devices.as_slice());
     assert_eq!(rt; copy.lanes(), [0, 1, 1].as_slice());
     for (priority, weight) in [(0, 16), (256, 8), (512, 4), (768, 2), (1024, 1), (1279, 1)] {
@@ -73,6 +75,47 @@ fn the_first_rule_that_is_broken_is_named(rt: HostRuntime) {
             Err(given) => assert_eq!(rt; given, ConfigError::Fault(fault)),
         }
     }
+}
+
+// Adapters that name links, of which there may be none so far.
+#[test]
+fn links_are_tested_before_the_adapters(rt: HostRuntime) -> Result<(), Fail> {
+    let none = Config::with_links(
+        rt.alloc(),
+        &standard_weights(),
+        &[],
+        &[unlinked(1)],
+        &[],
+        &[],
+    )?;
+    assert_eq!(rt; none.adapters(), [unlinked(1)].as_slice());
+    assert_eq!(rt;
+        (none.adapter_openings(0), none.adapter_openings(1)),
+        (1, 0)
+    );
+    assert_eq!(rt; (none.adapter_link(0), none.link_openings(0)), (None, 0));
+    let linked = Adapter {
+        openings: 1,
+        link: Some(0),
+    };
+    let bad = Adapter {
+        openings: 0,
+        link: Some(0),
+    };
+    let cases: [(&[u32], &[Adapter], ConfigFault); 5] = [
+        (&[1], &[linked], ConfigFault::TooMany),
+        (&[1], &[], ConfigFault::TooMany),
+        (&[], &[], ConfigFault::NoAdapters),
+        (&[], &[unlinked(1), linked], ConfigFault::NoLink),
+        (&[], &[bad], ConfigFault::BadOpenings),
+    ];
+    for (links, adapters, fault) in cases {
+        match Config::with_links(rt.alloc(), &standard_weights(), links, adapters, &[], &[0]) {
+            Ok(_) => assert!(rt; false, "due {fault}"),
+            Err(given) => assert_eq!(rt; given, ConfigError::Fault(fault)),
+        }
+    }
+    Ok(())
 }
 
 #[test]

@@ -5,7 +5,7 @@ use cam_event::Event;
 use cam_types::{Limits, Outcome, SenseBytes};
 use std::alloc::Global;
 use std::test::Fail;
-use test_events::{PLAIN, adjust, freeze, freeze_sim, release, release_sim};
+use test_events::{PLAIN, adjust, freeze, freeze_sim, release, release_sim, unlinked};
 use text_io::Watched;
 use trace_file::{Script, Step, TraceFault, read_script};
 
@@ -39,7 +39,7 @@ fn submit(driver: u8, device: u32, priority: u32) -> Step {
 fn reads_one_command(rt: HostRuntime) -> Result<(), Fail> {
     let text = format!(in rt.alloc(); "{FRAME}submit,0,0:1:0,1152,4,none,,\n")?;
     let script = read(rt.alloc(), text.as_str())?;
-    assert_eq!(rt; script.config().adapters(), [1].as_slice());
+    assert_eq!(rt; script.config().adapters(), [unlinked(1)].as_slice());
     assert_eq!(rt; script.config().devices().len(), 1);
     assert_eq!(rt; script.config().lanes(), [0].as_slice());
     assert_eq!(rt; script.limits(), Limits::most());

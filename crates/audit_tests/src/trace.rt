@@ -8,7 +8,7 @@ use std::alloc::Global;
 use std::test::Fail;
 use test_events::{
     PLAIN, adjust, device, done, finish, freeze, freeze_sim, release, release_sim, requeue, send,
-    submit,
+    submit, unlinked,
 };
 use text_io::Watched;
 use trace_file::{TraceFault, read_trace};
@@ -39,7 +39,11 @@ fn reads_one_command_however_it_is_quoted(rt: HostRuntime) -> Result<(), Fail> {
         "\u{feff}camtrace1,a,b,c,d,e,f,g\n\"sim\",\"1\",,,,,,\ndev,0,1,0,1,,,\n\nlane,0,,,,,,\nsubmit,0,0,1152,4,\"none\",,\nsend,0,0,,,,,\ndone,0,01,00,\"\",,,\n",
     ] {
         let history = read(rt.alloc(), text)?;
-        assert_eq!(rt; history.config().adapters(), [1].as_slice(), "{text}");
+        assert_eq!(rt;
+            history.config().adapters(),
+            [unlinked(1)].as_slice(),
+            "{text}"
+        );
         assert_eq!(rt;
             history.config().devices(),
             [device(0, 1, 1)].as_slice(),

@@ -43,7 +43,7 @@ free_send rules c before lane ccb h =
     let asked = (allowed-legal_event rules c before (Send lane ccb) h).1 in
     let one = and_parts (names_lane c lane && names_ccb before ccb) (is_next c before lane ccb) asked in
     let s = (send_from_next c before lane ccb one.1).sendable in
-    and_from _ _ one.0 (and_from _ _ (and_from _ _ (and_from _ _ s.on s.device_free) s.adapter_free) (and_from _ _ s.device_opening s.adapter_opening))
+    and_from _ _ one.0 (and_from _ _ (and_from _ _ (and_from _ _ s.on s.device_free) s.adapter_free) (and_from _ _ (and_from _ _ s.device_opening s.adapter_opening) s.link_opening))
 
 free_legal : (rules : Rules) (c : Topology) (m : List Event × Event) → is_legal_event rules c m ≡ true → stands_free c m ≡ true
 free_legal rules c (before, Send lane ccb) h = free_send rules c before lane ccb h

@@ -14,7 +14,7 @@ use Rattle.cam_event.specs.Event.{is_some_and}
 use Rattle.cam_event.specs.Counts.{submission, freeze_count, adapter_freezes}
 use Rattle.cam_event.specs.Stays.{stays_begun, waiting, is_unsent, has_arrived, has_queued, queue, queue_key, first}
 use Rattle.cam_types.specs.Questions.{is_on, devices}
-use Rattle.cam_event.specs.Head.{has_opening, adapter_has_opening, is_ready, turn_key, head, next}
+use Rattle.cam_event.specs.Head.{has_opening, adapter_has_opening, link_has_opening, is_ready, turn_key, turn, head, next}
 use Rattle.cam_event.specs.declared.event.Event.{Event}
 use Rattle.cam_event.specs.declared.submission.Submission.{Submission}
 use Rattle.cam_event.specs.declared.stay.Stay.{Stay}
@@ -69,16 +69,18 @@ is_some-first events ccb h =
     let d = device_of events ccb in
     is_some-least_by-filter queue_key (λ q. (q.device == d) && has_arrived events q) (waiting events) ∙ list_any-with (λ q. (q.ccb == ccb) && has_arrived events q) (is_of_its_ccb events) _ (waiting events) (λ q e own. let parts = and_parts (q.ccb == ccb) (has_arrived events q) e in at_device events ccb q parts own) h (of_its_ccb-waiting events)
 
--- the device whose turn it is is on the adapter and ready, and the adapter is free
+-- the device whose turn it is is on the adapter and ready, and the adapter is free, and so is its link
 pub record IsHead (c : Topology) (events : List Event) (a d : ℕ) : Type 0 where
   pub on : is_on c a d ≡ true
   pub ready : is_ready c events d ≡ true
   pub adapter_free : (adapter_freezes events a == 0) ≡ true
   pub adapter_opening : adapter_has_opening c events a ≡ true
+  pub link_opening : link_has_opening c events a ≡ true
+  pub turn_is : turn c events a ≡ Some d
 
-pub head_stands : (c : Topology) (events : List Event) (a d : ℕ) → head c events a ≡ Some d → IsHead c events a d
-unfolding head
-head_stands c events a d h =
+turn_stands : (c : Topology) (events : List Event) (a d : ℕ) → link_has_opening c events a ≡ true → turn c events a ≡ Some d → IsHead c events a d
+unfolding turn
+turn_stands c events a d way h =
     let takes = λ (n : ℕ). is_on c a n && is_ready c events n in
     let turns = filter takes (devices c) in
     elim ((adapter_freezes events a == 0) && adapter_has_opening c events a) as (λ b. ((adapter_freezes events a == 0) && adapter_has_opening c events a) ≡ b → cond b (least_by (turn_key events) turns) None ≡ Some d → IsHead c events a d) [
@@ -86,22 +88,30 @@ head_stands c events a d h =
           let free = and_parts (adapter_freezes events a == 0) (adapter_has_opening c events a) e in
           let one = in_found _ turns d g in
           let parts = and_parts (is_on c a d) (is_ready c events d) (passes-all d turns takes one.0 (list_all-filter takes (devices c))) in
-          record { on = parts.0; ready = parts.1; adapter_free = free.0; adapter_opening = free.1 }
+          record { on = parts.0; ready = parts.1; adapter_free = free.0; adapter_opening = free.1; link_opening = way; turn_is = h }
       | false ↦ λ e g. absurd cc
     ] refl h
 
--- an adapter that is free has a head where one of its devices is ready
-pub is_some-head : (c : Topology) (events : List Event) (a d : ℕ) → IsHead c events a d → is_some (head c events a) ≡ true
+pub head_stands : (c : Topology) (events : List Event) (a d : ℕ) → head c events a ≡ Some d → IsHead c events a d
 unfolding head
-is_some-head c events a d h =
+head_stands c events a d h = elim (link_has_opening c events a) as (λ b. link_has_opening c events a ≡ b → cond b (turn c events a) None ≡ Some d → IsHead c events a d) [
+  | true ↦ λ way g. turn_stands c events a d way g
+  | false ↦ λ way g. absurd cc
+] refl h
+
+-- an adapter that is free has a head where one of its devices is ready
+pub is_some-head : (c : Topology) (events : List Event) (a d : ℕ) → is_on c a d ≡ true → is_ready c events d ≡ true → (adapter_freezes events a == 0) ≡ true → adapter_has_opening c events a ≡ true
+    → link_has_opening c events a ≡ true → is_some (head c events a) ≡ true
+unfolding head turn
+is_some-head c events a d on ready free left way =
     let takes = λ (n : ℕ). is_on c a n && is_ready c events n in
     let there = elim (slice_get c.devices d) as (λ o. slice_get c.devices d ≡ o → option_map_or (λ (device : Device). device.bus == a) o false ≡ true → d < length c.devices) [
       | None ↦ λ e g. absurd cc
       | Some device ↦ λ e g. slice_get_within c.devices d device e
-    ] refl h.on in
+    ] refl on in
     let at : get_or (devices c) d 0 ≡ d = get_or-range_with_len 0 (length c.devices) d 0 there ∙ zero-add d in
-    let some = list_any_at takes (devices c) d 0 (omega (arith, there, length-range_with_len 0 (length c.devices))) (ap takes at ∙ and_from _ _ h.on h.ready) in
-    rw (and_from _ _ h.adapter_free h.adapter_opening) (is_some-least_by-filter (turn_key events) takes (devices c) ∙ some)
+    let some = list_any_at takes (devices c) d 0 (omega (arith, there, length-range_with_len 0 (length c.devices))) (ap takes at ∙ and_from _ _ on ready) in
+    rw (way, and_from _ _ free left) (is_some-least_by-filter (turn_key events) takes (devices c) ∙ some)
 
 -- what is said of an adapter's next stay
 pub record IsNextStay (c : Topology) (events : List Event) (a : ℕ) (p : Stay) : Type 0 where
@@ -112,6 +122,7 @@ pub record IsNextStay (c : Topology) (events : List Event) (a : ℕ) (p : Stay) 
   pub device_opening : has_opening c events p.device ≡ true
   pub adapter_free : (adapter_freezes events a == 0) ≡ true
   pub adapter_opening : adapter_has_opening c events a ≡ true
+  pub link_opening : link_has_opening c events a ≡ true
 
 pub next_stands : (c : Topology) (events : List Event) (a : ℕ) (p : Stay) → next c events a ≡ Some p → IsNextStay c events a p
 unfolding next is_ready
@@ -131,6 +142,7 @@ next_stands c events a p h =
             device_opening = rw stay.at ready.1;
             adapter_free = turn.adapter_free;
             adapter_opening = turn.adapter_opening;
+            link_opening = turn.link_opening;
           }
     ] refl h
 
@@ -154,6 +166,7 @@ pub record IsSendable (c : Topology) (events : List Event) (a ccb : ℕ) : Type 
   pub device_opening : has_opening c events (device_of events ccb) ≡ true
   pub adapter_free : (adapter_freezes events a == 0) ≡ true
   pub adapter_opening : adapter_has_opening c events a ≡ true
+  pub link_opening : link_has_opening c events a ≡ true
 
 ready_at : (c : Topology) (events : List Event) (a ccb : ℕ) → IsSendable c events a ccb → is_ready c events (device_of events ccb) ≡ true
 unfolding is_ready
@@ -162,9 +175,4 @@ ready_at c events a ccb s = and_from _ _ (and_from _ _ (is_some-first events ccb
 -- then its adapter has a next stay
 pub is_some-next_at : (c : Topology) (events : List Event) (a ccb : ℕ) → IsSendable c events a ccb → is_some (next c events a) ≡ true
 is_some-next_at c events a ccb s =
-    is_some-next c events a (is_some-head c events a (device_of events ccb) (record {
-      on = s.on;
-      ready = ready_at c events a ccb s;
-      adapter_free = s.adapter_free;
-      adapter_opening = s.adapter_opening;
-    }))
+    is_some-next c events a (is_some-head c events a (device_of events ccb) s.on (ready_at c events a ccb s) s.adapter_free s.adapter_opening s.link_opening)

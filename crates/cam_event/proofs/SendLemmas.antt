@@ -9,7 +9,7 @@ use Rattle.cam_event.specs.Event.{is_some_and}
 use Rattle.cam_event.specs.Counts.{freeze_count, adapter_freezes}
 use Rattle.cam_event.specs.Stays.{has_queued}
 use Rattle.cam_types.specs.Questions.{names_lane, is_on, lane_adapter}
-use Rattle.cam_event.specs.Head.{has_opening, adapter_has_opening, next}
+use Rattle.cam_event.specs.Head.{has_opening, adapter_has_opening, link_has_opening, next}
 use Rattle.cam_event.specs.declared.event.Event.{Event}
 use Rattle.cam_event.specs.declared.stay.Stay.{Stay}
 use Rattle.cam_event.specs.Legal.{is_next}
@@ -35,6 +35,7 @@ sendable_next c before a ccb p e same =
       device_opening = rw d s.device_opening;
       adapter_free = s.adapter_free;
       adapter_opening = s.adapter_opening;
+      link_opening = s.link_opening;
     }
 
 -- whose turn it is, on the adapter a
@@ -82,7 +83,7 @@ is_sendable c before d a ccb =
 is_sendable-from : (c : Topology) (before : List Event) (lane ccb : ℕ) → IsSend c before lane ccb → is_sendable c before (device_of before ccb) (lane_adapter c lane) ccb ≡ true
 is_sendable-from c before lane ccb h =
     let s = h.sendable in
-    and_from _ _ s.queued (and_from _ _ s.on (and_from _ _ s.device_free (and_from _ _ s.adapter_free (and_from _ _ (and_from _ _ s.device_opening s.adapter_opening) (not_from_false _ h.turn)))))
+    and_from _ _ s.queued (and_from _ _ s.on (and_from _ _ s.device_free (and_from _ _ s.adapter_free (and_from _ _ (and_from _ _ (and_from _ _ s.device_opening s.adapter_opening) s.link_opening) (not_from_false _ h.turn)))))
 
 from-is_sendable : (c : Topology) (before : List Event) (lane ccb : ℕ) → is_sendable c before (device_of before ccb) (lane_adapter c lane) ccb ≡ true → IsSend c before lane ccb
 from-is_sendable c before lane ccb h =
@@ -93,15 +94,17 @@ from-is_sendable c before lane ccb h =
     let three = and_parts (freeze_count before d == 0) _ two.1 in
     let four = and_parts (adapter_freezes before a == 0) _ three.1 in
     let five = and_parts (have_openings c before d a) (not (is_other_next c before a ccb)) four.1 in
-    let six = and_parts (has_opening c before d) (adapter_has_opening c before a) five.0 in
+    let six = and_parts (has_opening c before d && adapter_has_opening c before a) (link_has_opening c before a) five.0 in
+    let seven = and_parts (has_opening c before d) (adapter_has_opening c before a) six.0 in
     record {
       sendable = record {
         queued = one.0;
         on = two.0;
         device_free = three.0;
-        device_opening = six.0;
+        device_opening = seven.0;
         adapter_free = four.0;
-        adapter_opening = six.1;
+        adapter_opening = seven.1;
+        link_opening = six.1;
       };
       turn = not-true (is_other_next c before a ccb) five.1;
     }

@@ -25,7 +25,7 @@ LegalIsUnrefused =
     (rules : Rules) (c : Topology) (before : List Event) (event : Event)
     → is_legal_event rules c (before, event) ≡ is_none (refusal rules c before event)
 
--- the device is on the adapter, neither is frozen and both have an opening left
+-- the device is on the adapter, neither is frozen, and both have an opening left, as has the link of the adapter, if it is on one
 abbrev pub are_free : Topology → List Event → ℕ → ℕ → Bool
 are_free c before d a =
     is_on c a d && (freeze_count before d == 0) && (adapter_freezes before a == 0) && have_openings c before d a

@@ -10,7 +10,7 @@ use Rattle.cam_event.specs.Event.{is_some_and}
 use Rattle.cam_event.specs.Counts.{round, submission, alive, is_in_flight, has_in_flight, is_recovering, wants_requeue, wants_finish, caller_count, freeze_count, adapter_freezes}
 use Rattle.cam_event.specs.Stays.{stays_begun, has_queued}
 use Rattle.cam_types.specs.Questions.{names_device, names_adapter, names_lane, is_on, lane_adapter}
-use Rattle.cam_event.specs.Head.{has_opening, adapter_has_opening, next}
+use Rattle.cam_event.specs.Head.{has_opening, adapter_has_opening, link_has_opening, next}
 use Rattle.cam_event.specs.declared.event.Event.{Event}
 use Rattle.cam_event.specs.declared.event.Event.TheVariants.{Submit, Send, Done, Requeue, Finish, FreezeDev, ReleaseDev, FreezeSim, ReleaseSim, Adjust, Tick}
 use Rattle.cam_event.specs.declared.submission.Submission.{Submission}
@@ -31,9 +31,9 @@ are_ccbs_full rules before = is_some_and (λ most. nat_le most (alive before)) r
 abbrev pub are_stays_full : Rules → List Event → Bool
 are_stays_full rules before = nat_le rules.stays (length (stays_begun before))
 
--- an opening is left at the device and at the adapter
+-- an opening is left at the device, at the adapter, and at its link
 abbrev pub have_openings : Topology → List Event → ℕ → ℕ → Bool
-have_openings c before d a = has_opening c before d && adapter_has_opening c before a
+have_openings c before d a = has_opening c before d && adapter_has_opening c before a && link_has_opening c before a
 
 -- the adapter's next stay is another CCB's
 abbrev pub is_other_next : Topology → List Event → ℕ → ℕ → Bool

@@ -1,18 +1,19 @@
 -- what the rules of a configuration say of its items
 use Rattle.std.proofs.Common.{◌≡◌, ℕ, ◌<◌, ◌≤◌, Bool, true, false, cond, List, [], ◌∷◌, ◌++◌, length, get_or, refl, ap, arith, Option, Some, None, inl, inr}
 use Rattle.std.specs.Prelude.{not, ◌==◌, nat_le, find, All}
-use Rattle.std.specs.Option.{option_map_or}
+use Rattle.std.specs.Option.{option_or, option_map_or}
 use Rattle.std.proofs.lemmas.Bool.Decides.{nat_tests}
 use Rattle.std.proofs.lemmas.Option.{slice_get_cases, slice_get-get_or}
 use Rattle.std.proofs.lemmas.List.Elements.{All-nil, All-cons}
 use Rattle.cam_types.specs.Lists.{moments, moments_after, first_answer}
 use Rattle.cam_types.specs.Questions.{device_adapter, weight}
-use Rattle.cam_types.specs.Topology.{Topology, IsConfig, are_openings, adapter_fault, address_fault, device_fault, lane_fault, lack, item_fault}
+use Rattle.cam_types.specs.Topology.{Topology, IsConfig, are_openings, openings_fault, names_link, link_fault, adapter_fault, address_fault, device_fault, lane_fault, weight_lack, adapter_lack, unit_fault}
 use Rattle.cam_types.specs.Weights.{reaches_last, weight_fault, weight_in}
 use Rattle.cam_types.specs.declared.config_fault.ConfigFault.{ConfigFault}
 use Rattle.cam_types.specs.declared.weight_row.WeightRow.{WeightRow}
-use Rattle.cam_types.specs.declared.config_fault.ConfigFault.TheVariants.{NoAdapters, TooMany, BadOpenings, NoAdapter, BadWeight}
-use Rattle.cam_types.specs.declared.maxima.TheConstants.{MOST_ADAPTERS, MOST_DEVICES, MOST_OPENINGS, MOST_WEIGHT, MOST_WEIGHT_ROWS}
+use Rattle.cam_types.specs.declared.config_fault.ConfigFault.TheVariants.{NoAdapters, TooMany, BadOpenings, NoAdapter, BadWeight, NoLink}
+use Rattle.cam_types.specs.declared.maxima.TheConstants.{MOST_LINKS, MOST_ADAPTERS, MOST_DEVICES, MOST_OPENINGS, MOST_WEIGHT, MOST_WEIGHT_ROWS}
+use Rattle.cam_types.specs.declared.adapter.Adapter.{Adapter}
 use Rattle.cam_types.specs.declared.device.Device.{Device}
 use Rattle.cam_types.proofs.ListLemmas.{few_where_none, or_left, or_right}
 use Rattle.cam_types.proofs.TopologyLemmas.{few_rows}
@@ -33,57 +34,82 @@ each_where_none f P h before [] none = All-nil P
 each_where_none f P h before (x ∷ xs) none =
     All-cons P x xs (h before x (or_left (f (before, x)) _ none)) (each_where_none f P h (before ++ x ∷ []) xs (or_right (f (before, x)) _ none))
 
--- no weight's row, nothing that is lacking, and no adapter, device or lane breaks a rule
+-- no weight's row, nothing that is lacking, and no link, adapter, device or lane breaks a rule
 pub weight_items : (t : Topology) → IsConfig t → first_answer weight_fault (moments t.weights) ≡ None
 weight_items t is = or_left _ _ is.kept
 
 pub few_weights : (t : Topology) → IsConfig t → length t.weights ≤ MOST_WEIGHT_ROWS
 few_weights t is = few_rows t.weights (weight_items t is)
 
-pub lacks_nothing : (t : Topology) → IsConfig t → lack t.weights t.adapters ≡ None
-lacks_nothing t is = or_left _ _ (or_right _ _ is.kept)
-
-pub items : (t : Topology) → IsConfig t → item_fault t.adapters t.devices t.lanes ≡ None
-items t is = or_right _ _ (or_right _ _ is.kept)
-
 -- so the table reaches the last priority, and there is an adapter
 pub reaches : (t : Topology) → IsConfig t → reaches_last t.weights ≡ true
-reaches t is = by (reaches_last t.weights) _ (lacks_nothing t is)
+reaches t is = by (reaches_last t.weights) (or_left (weight_lack t.weights) _ (or_right _ _ is.kept))
   where
-    by : (b : Bool) (o : Option ConfigFault) → cond (not b) (Some BadWeight) o ≡ None → b ≡ true
-    by true o e = refl
-    by false o e = absurd cc
+    by : (b : Bool) → cond b None (Some BadWeight) ≡ None → b ≡ true
+    by true e = refl
+    by false e = absurd cc
+
+behind_weights : (t : Topology) → IsConfig t → option_or (first_answer link_fault (moments t.links)) (option_or (adapter_lack (length t.adapters)) (option_or (first_answer (adapter_fault (length t.links)) (moments t.adapters)) (unit_fault (length t.adapters) t.devices t.lanes))) ≡ None
+behind_weights t is = or_right (weight_lack t.weights) _ (or_right _ _ is.kept)
+
+pub link_items : (t : Topology) → IsConfig t → first_answer link_fault (moments t.links) ≡ None
+link_items t is = or_left _ _ (behind_weights t is)
 
 pub some_adapter : (t : Topology) → IsConfig t → (length t.adapters == 0) ≡ false
-some_adapter t is = (not_taken (length t.adapters == 0) NoAdapters None (not_taken (not (reaches_last t.weights)) BadWeight _ (lacks_nothing t is)).1).0
+some_adapter t is = (not_taken (length t.adapters == 0) NoAdapters None (or_left (adapter_lack (length t.adapters)) _ (or_right _ _ (behind_weights t is)))).0
 
-pub adapter_items : (t : Topology) → IsConfig t → first_answer adapter_fault (moments_after [] t.adapters) ≡ None
-unfolding item_fault
-adapter_items t is = or_left _ _ (items t is)
+behind_lack : (t : Topology) → IsConfig t → option_or (first_answer (adapter_fault (length t.links)) (moments t.adapters)) (unit_fault (length t.adapters) t.devices t.lanes) ≡ None
+behind_lack t is = or_right (adapter_lack (length t.adapters)) _ (or_right _ _ (behind_weights t is))
+
+pub adapter_items : (t : Topology) → IsConfig t → first_answer (adapter_fault (length t.links)) (moments_after [] t.adapters) ≡ None
+adapter_items t is = or_left _ _ (behind_lack t is)
 
 pub device_items : (t : Topology) → IsConfig t → first_answer (device_fault (length t.adapters)) (moments_after [] t.devices) ≡ None
-unfolding item_fault
-device_items t is = or_left _ _ (or_right _ _ (items t is))
+unfolding unit_fault
+device_items t is = or_left _ _ (or_right _ _ (behind_lack t is))
 
 pub lane_items : (t : Topology) → IsConfig t → first_answer (lane_fault (length t.adapters)) (moments t.lanes) ≡ None
-unfolding item_fault
-lane_items t is = or_right _ _ (or_right _ _ (items t is))
+unfolding unit_fault
+lane_items t is = or_right _ _ (or_right _ _ (behind_lack t is))
 
-adapter_room : (before : List ℕ) (n : ℕ) → adapter_fault (before, n) ≡ None → length before < MOST_ADAPTERS
+-- there is room for an item of so many openings behind those before it, and it hasn't too many
+openings_room : (most before n : ℕ) → openings_fault most before n ≡ None → (before < most) × (n ≤ MOST_OPENINGS)
+openings_room most before n none =
+    let room = not_taken (nat_le most before) TooMany _ none in
+    (not_least most before room.0, small_openings n (not_taken (not (are_openings n)) BadOpenings _ room.1).0)
+
+link_room : (before : List ℕ) (n : ℕ) → link_fault (before, n) ≡ None → (length before < MOST_LINKS) × (n ≤ MOST_OPENINGS)
+unfolding link_fault
+link_room before n none = openings_room MOST_LINKS (length before) n none
+
+pub few_links : (t : Topology) → IsConfig t → length t.links ≤ MOST_LINKS
+few_links t is = few_where_none link_fault MOST_LINKS (λ before n none. (link_room before n none).0) t.links (link_items t is)
+
+adapter_room : (links : ℕ) (before : List Adapter) (x : Adapter) → adapter_fault links (before, x) ≡ None → (length before < MOST_ADAPTERS) × (x.openings ≤ MOST_OPENINGS)
 unfolding adapter_fault
-adapter_room before n none = not_least MOST_ADAPTERS (length before) (not_taken (nat_le MOST_ADAPTERS (length before)) TooMany _ none).0
+adapter_room links before x none = openings_room MOST_ADAPTERS (length before) x.openings (or_left _ _ none)
 
 pub few_adapters : (t : Topology) → IsConfig t → length t.adapters ≤ MOST_ADAPTERS
-few_adapters t is = few_where_none adapter_fault MOST_ADAPTERS adapter_room t.adapters (adapter_items t is)
+few_adapters t is = few_where_none (adapter_fault (length t.links)) MOST_ADAPTERS (λ before x none. (adapter_room (length t.links) before x none).0) t.adapters (adapter_items t is)
 
-adapter_openings_small : (before : List ℕ) (n : ℕ) → adapter_fault (before, n) ≡ None → n ≤ MOST_OPENINGS
+-- no link, no adapter, and no device, has too many openings
+pub small_links : (t : Topology) → IsConfig t → All (λ n. n ≤ MOST_OPENINGS) t.links
+small_links t is = each_where_none link_fault (λ n. n ≤ MOST_OPENINGS) (λ before n none. (link_room before n none).1) [] t.links (link_items t is)
+
+pub small_adapters : (t : Topology) → IsConfig t → All (λ (x : Adapter). x.openings ≤ MOST_OPENINGS) t.adapters
+small_adapters t is = each_where_none (adapter_fault (length t.links)) (λ (x : Adapter). x.openings ≤ MOST_OPENINGS) (λ before x none. (adapter_room (length t.links) before x none).1) [] t.adapters (adapter_items t is)
+
+-- each adapter is on no link, or on one that is there
+link_there : (links : ℕ) (before : List Adapter) (x : Adapter) → adapter_fault links (before, x) ≡ None → names_link links x.link ≡ true
 unfolding adapter_fault
-adapter_openings_small before n none =
-    small_openings n (not_taken (not (are_openings n)) BadOpenings _ (not_taken (nat_le MOST_ADAPTERS (length before)) TooMany _ none).1).0
+link_there links before x none = by (names_link links x.link) (or_right (openings_fault MOST_ADAPTERS (length before) x.openings) _ none)
+  where
+    by : (b : Bool) → cond b None (Some NoLink) ≡ None → b ≡ true
+    by true e = refl
+    by false e = absurd cc
 
--- no adapter, and no device, has too many openings
-pub small_adapters : (t : Topology) → IsConfig t → All (λ n. n ≤ MOST_OPENINGS) t.adapters
-small_adapters t is = each_where_none adapter_fault (λ n. n ≤ MOST_OPENINGS) adapter_openings_small [] t.adapters (adapter_items t is)
+pub adapters_on_links : (t : Topology) → IsConfig t → All (λ (x : Adapter). names_link (length t.links) x.link ≡ true) t.adapters
+adapters_on_links t is = each_where_none (adapter_fault (length t.links)) (λ (x : Adapter). names_link (length t.links) x.link ≡ true) (λ before x none. link_there (length t.links) before x none) [] t.adapters (adapter_items t is)
 
 device_room : (adapters : ℕ) (before : List Device) (d : Device) → device_fault adapters (before, d) ≡ None → length before < MOST_DEVICES
 unfolding device_fault

@@ -1,18 +1,20 @@
-use Rattle.std.specs.Prelude.{◌≡◌, ℕ, ◌==◌, Bool, nat_lt, nat_le, not, ◌&&◌, if◌then◌else◌, List, Option, Some, None, length, count_by}
+use Rattle.std.specs.Prelude.{◌≡◌, ℕ, ◌==◌, Bool, true, nat_lt, nat_le, not, ◌&&◌, if◌then◌else◌, List, Option, Some, None, length, count_by}
 use Rattle.std.specs.List.{list_any}
-use Rattle.std.specs.Option.{option_or}
+use Rattle.std.specs.Option.{option_or, option_map_or}
 use Rattle.cam_types.specs.Lists.{moments, first_answer}
 use Rattle.cam_types.specs.Weights.{weight_fault, reaches_last}
+use Rattle.cam_types.specs.declared.adapter.Adapter.{Adapter}
 use Rattle.cam_types.specs.declared.device.Device.{Device}
 use Rattle.cam_types.specs.declared.weight_row.WeightRow.{WeightRow}
 use Rattle.cam_types.specs.declared.config_fault.ConfigFault.{ConfigFault}
-use Rattle.cam_types.specs.declared.config_fault.ConfigFault.TheVariants.{NoAdapters, TooMany, BadOpenings, NoAdapter, BadAddress, DoubleDevice, BadWeight}
-use Rattle.cam_types.specs.declared.maxima.TheConstants.{MOST_ADAPTERS, MOST_DEVICES, MOST_LANES, MOST_OPENINGS, MOST_LUN}
+use Rattle.cam_types.specs.declared.config_fault.ConfigFault.TheVariants.{NoAdapters, TooMany, BadOpenings, NoAdapter, BadAddress, DoubleDevice, BadWeight, NoLink}
+use Rattle.cam_types.specs.declared.maxima.TheConstants.{MOST_LINKS, MOST_ADAPTERS, MOST_DEVICES, MOST_LANES, MOST_OPENINGS, MOST_LUN}
 
--- what there is: the table of weights, each adapter's openings, the devices, and each lane's adapter
+-- what there is: the table of weights, each link's openings, the adapters, the devices, and each lane's adapter
 pub record Topology : Type 0 where
   pub weights : List WeightRow
-  pub adapters : List ℕ
+  pub links : List ℕ
+  pub adapters : List Adapter
   pub devices : List Device
   pub lanes : List ℕ
 
@@ -22,12 +24,29 @@ are_openings n = nat_lt 0 n && nat_le n MOST_OPENINGS
 abbrev pub is_same_address : Device → Device → Bool
 is_same_address d e = (d.bus == e.bus) && (d.target == e.target) && (d.lun == e.lun)
 
--- the first rule that an adapter breaks, beside those before it
-unfoldable pub adapter_fault : List ℕ × ℕ → Option ConfigFault
-adapter_fault m =
-    if nat_le MOST_ADAPTERS (length m.0) then Some TooMany
-    else if not (are_openings m.1) then Some BadOpenings
+-- an adapter of so many openings that is on no link
+abbrev pub unlinked : ℕ → Adapter
+unlinked openings = record { openings = openings; link = None }
+
+-- an adapter is on no link, or on one of so many
+abbrev pub names_link : ℕ → Option ℕ → Bool
+names_link links link = option_map_or (λ l. nat_lt l links) link true
+
+-- the first rule that an item of so many openings breaks, behind so many others, where there may be so many
+abbrev pub openings_fault : ℕ → ℕ → ℕ → Option ConfigFault
+openings_fault most before openings =
+    if nat_le most before then Some TooMany
+    else if not (are_openings openings) then Some BadOpenings
     else None
+
+-- the first rule that a link breaks, beside those before it
+unfoldable pub link_fault : List ℕ × ℕ → Option ConfigFault
+link_fault m = openings_fault MOST_LINKS (length m.0) m.1
+
+-- the first rule that an adapter breaks, beside those before it, where there are so many links
+unfoldable pub adapter_fault : ℕ → List Adapter × Adapter → Option ConfigFault
+adapter_fault links m =
+    option_or (openings_fault MOST_ADAPTERS (length m.0) m.1.openings) (if names_link links m.1.link then None else Some NoLink)
 
 -- the first rule that a device's address breaks, beside the devices before it, where there are so many adapters
 unfoldable pub address_fault : ℕ → List Device × Device → Option ConfigFault
@@ -51,31 +70,38 @@ lane_fault adapters m =
     else if nat_le adapters m.1 then Some NoAdapter
     else None
 
--- the first rule that is broken by some adapter, device or lane, in this order
-unfoldable pub item_fault : List ℕ → List Device → List ℕ → Option ConfigFault
-item_fault adapters devices lanes =
-    option_or (first_answer adapter_fault (moments adapters))
-    (option_or (first_answer (device_fault (length adapters)) (moments devices))
-    (first_answer (lane_fault (length adapters)) (moments lanes)))
+-- weights that don't go up to the last priority, or no adapter, are lacking for a configuration
+abbrev pub weight_lack : List WeightRow → Option ConfigFault
+weight_lack weights = if reaches_last weights then None else Some BadWeight
 
--- what is lacking for a configuration: weights up to the last priority, or an adapter
-abbrev pub lack : List WeightRow → List ℕ → Option ConfigFault
-lack weights adapters =
-    if not (reaches_last weights) then Some BadWeight
-    else if length adapters == 0 then Some NoAdapters
-    else None
+abbrev pub adapter_lack : ℕ → Option ConfigFault
+adapter_lack adapters = if adapters == 0 then Some NoAdapters else None
 
--- the first rule that is broken: that of the first weight's row that breaks one, what is lacking, or that of the first adapter,
--- device or lane that breaks one
+abbrev pub lack : List WeightRow → ℕ → Option ConfigFault
+lack weights adapters = option_or (weight_lack weights) (adapter_lack adapters)
+
+-- the first rule that is broken by some device or lane, in this order, where there are so many adapters
+unfoldable pub unit_fault : ℕ → List Device → List ℕ → Option ConfigFault
+unit_fault adapters devices lanes =
+    option_or (first_answer (device_fault adapters) (moments devices))
+    (first_answer (lane_fault adapters) (moments lanes))
+
+-- the first rule that is broken, in this order: by a row of the table of weights, by its end, by a link, by there being no
+-- adapter, and by an adapter, a device or a lane
 abbrev pub config_fault : Topology → Option ConfigFault
 config_fault t =
     option_or (first_answer weight_fault (moments t.weights))
-    (option_or (lack t.weights t.adapters) (item_fault t.adapters t.devices t.lanes))
+    (option_or (weight_lack t.weights)
+    (option_or (first_answer link_fault (moments t.links))
+    (option_or (adapter_lack (length t.adapters))
+    (option_or (first_answer (adapter_fault (length t.links)) (moments t.adapters))
+    (unit_fault (length t.adapters) t.devices t.lanes)))))
 
--- no weight's row, adapter, device or lane breaks a rule; there may be none of them
+-- no weight's row, link, adapter, device or lane breaks a rule; there may be none of them
 pub record IsDraft (t : Topology) : Type 0 where
   pub weights : first_answer weight_fault (moments t.weights) ≡ None
-  pub adapters : first_answer adapter_fault (moments t.adapters) ≡ None
+  pub links : first_answer link_fault (moments t.links) ≡ None
+  pub adapters : first_answer (adapter_fault (length t.links)) (moments t.adapters) ≡ None
   pub devices : first_answer (device_fault (length t.adapters)) (moments t.devices) ≡ None
   pub lanes : first_answer (lane_fault (length t.adapters)) (moments t.lanes) ≡ None
 

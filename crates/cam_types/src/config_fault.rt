@@ -8,7 +8,7 @@ pub enum ConfigFault {
     /// There is no adapter.
     #[error("NoAdapters")]
     NoAdapters,
-    /// There are 8 adapters, 32 devices or 4 lanes of the adapter before it.
+    /// There are 4 links, 8 adapters, 32 devices or 4 lanes of the adapter before it.
     #[error("TooMany")]
     TooMany,
     /// The openings are 0 or more than 255.
@@ -26,4 +26,7 @@ pub enum ConfigFault {
     /// A row of the table of weights breaks a rule, or no row reaches priority 1279.
     #[error("BadWeight")]
     BadWeight,
+    /// An adapter names a link that isn't there.
+    #[error("NoLink")]
+    NoLink,
 }

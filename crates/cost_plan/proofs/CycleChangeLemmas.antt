@@ -8,12 +8,12 @@ use Rattle.std.proofs.lemmas.List.Elements.{All-head, All-tail}
 use Rattle.gaining_cycle.specs.declared.arc.Arc.{Arc}
 use Rattle.gaining_cycle.specs.Walks.{IsGainingCycle}
 use Rattle.gaining_cycle.proofs.CycleLemmas.{telescope}
-use Rattle.round_net.specs.Instance.{Instance}
-use Rattle.round_net.specs.Schedules.{IsAdmissible, cost}
+use Rattle.round_net.specs.Instance.{Instance, rows}
+use Rattle.round_net.specs.Schedules.{IsAdmissible, load, cost}
 use Rattle.round_net.specs.Sound.{IsSound}
-use Rattle.cost_plan.specs.Cells.{rows, cell, stands, row_load, row_cap, rounds_of}
+use Rattle.cost_plan.specs.Cells.{cell, stands, rounds_of}
 use Rattle.cost_plan.specs.Residual.{IsResidual, IsMove, put_in, changed, changed_all, move_arc, MarksWithin}
-use Rattle.cost_plan.proofs.CellLemmas.{cell-round, device_load-row, adapter_load-row, dev_cap-row, sim_cap-row}
+use Rattle.cost_plan.proofs.CellLemmas.{cell-round}
 use Rattle.cost_plan.proofs.ChangeLemmas.{left, reached, MarksApart, sum-changed_all, length-changed_all}
 use Rattle.cost_plan.proofs.BalanceLemmas.{inside, IsBalanced, IsBalanced-from_residual}
 
@@ -68,7 +68,7 @@ pub record AreBalanced (net : Instance) (f : ℕ → ℕ) (row round : ℕ) (arc
   pub takes : ℕ
   pub balance : count_by (λ a. inside net row round a.tail) arcs + sum_by (reached net (stands net row round)) arcs ≤ count_by (λ a. inside net row round a.head) arcs + sum_by (left (stands net row round) f) arcs + takes
   pub within : takes ≤ count_by (λ a. a.tail == cell net row round) arcs
-  pub room : 0 < takes → row_load net f row round < row_cap net row round
+  pub room : 0 < takes → load net f row round < net.cap row round
 
 AreBalanced-from_each : (net : Instance) (f : ℕ → ℕ) (row round : ℕ) (arcs : List Arc) → All (IsBalanced net f row round) arcs → AreBalanced net f row round arcs
 AreBalanced-from_each net f row round [] each = record { takes = 0; balance = omega arith; within = omega arith; room = λ h. absurd (omega arith) }
@@ -97,10 +97,10 @@ pub tails-once : (arcs : List Arc) → IsGainingCycle arcs → (node : ℕ) → 
 tails-once arcs cycle node = omega (arith, tails-heads (λ v. v == node) arcs cycle, cycle.once node)
 
 -- no row has more than its cap in a round, where it had no more before
-row_load-changed : (net : Instance) (live : ℕ → ℕ) (rounds : List ℕ) (arcs : List Arc) (row round : ℕ) → IsSound net live → IsAdmissible net (rounds_of rounds) → net.stays ≤ length rounds → All (IsResidual net (rounds_of rounds)) arcs → IsGainingCycle arcs → row < rows net → 1 ≤ round → row_load net (rounds_of rounds) row round ≤ row_cap net row round → row_load net (rounds_of (changed_all net rounds arcs)) row round ≤ row_cap net row round
-row_load-changed net live rounds arcs row round sound ok long residual cycle below first held =
+load-changed : (net : Instance) (live : ℕ → ℕ) (rounds : List ℕ) (arcs : List Arc) (row round : ℕ) → IsSound net live → IsAdmissible net (rounds_of rounds) → net.stays ≤ length rounds → All (IsResidual net (rounds_of rounds)) arcs → IsGainingCycle arcs → row < rows net → load net (rounds_of rounds) row round ≤ net.cap row round → load net (rounds_of (changed_all net rounds arcs)) row round ≤ net.cap row round
+load-changed net live rounds arcs row round sound ok long residual cycle below held =
     let f : ℕ → ℕ = rounds_of rounds in
-    let b = AreBalanced-from_each net f row round arcs (λ k d h. IsBalanced-from_residual net live f row round (get_or arcs k d) sound ok below first (residual k d h)) in
+    let b = AreBalanced-from_each net f row round arcs (λ k d h. IsBalanced-from_residual net live f row round (get_or arcs k d) sound ok below (residual k d h)) in
     let sums = sum-changed_all net net.stays (stands net row round) rounds arcs long (MarksWithin-from_residual net f arcs residual) (MarksApart-from_tails net f arcs residual (tails-once arcs cycle)) in
     let around = tails-heads (inside net row round) arcs cycle in
     let starts = tails-once arcs cycle (cell net row round) in
@@ -194,17 +194,9 @@ cost-changed_all net live rounds arcs sound ok long residual cycle =
 pub IsAdmissible-changed_all : (net : Instance) (live : ℕ → ℕ) (rounds : List ℕ) (arcs : List Arc) → IsSound net live → IsAdmissible net (rounds_of rounds) → net.stays ≤ length rounds → All (IsResidual net (rounds_of rounds)) arcs → IsGainingCycle arcs → IsAdmissible net (rounds_of (changed_all net rounds arcs))
 IsAdmissible-changed_all net live rounds arcs sound ok long residual cycle =
     let f : ℕ → ℕ = rounds_of rounds in
-    let g : ℕ → ℕ = rounds_of (changed_all net rounds arcs) in
     let windows = InWindows-changed_all net live f rounds arcs sound long residual (λ s less. (ok.not_early s less, ok.not_late s less)) in
     record {
       not_early = λ s less. (windows s less).0;
       not_late = λ s less. (windows s less).1;
-      devices_hold = λ d r inside first last.
-          let before : row_load net f d r ≤ row_cap net d r = omega (arith, ok.devices_hold d r inside first last, device_load-row net f d r inside, dev_cap-row net d r inside) in
-          let after = row_load-changed net live rounds arcs d r sound ok long residual cycle (omega arith) first before in
-          omega (arith, after, device_load-row net g d r inside, dev_cap-row net d r inside);
-      adapters_hold = λ a r inside first last.
-          let before : row_load net f (net.devices + a) r ≤ row_cap net (net.devices + a) r = omega (arith, ok.adapters_hold a r inside first last, adapter_load-row net f a r sound.on_device, sim_cap-row net a r) in
-          let after = row_load-changed net live rounds arcs (net.devices + a) r sound ok long residual cycle (omega arith) first before in
-          omega (arith, after, adapter_load-row net g a r sound.on_device, sim_cap-row net a r);
+      rows_hold = λ row r inside first last. load-changed net live rounds arcs row r sound ok long residual cycle inside (ok.rows_hold row r inside first last);
     }

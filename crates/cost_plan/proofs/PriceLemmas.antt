@@ -1,166 +1,175 @@
 -- Labels that settle each arc of what can be changed in a schedule give prices that prove it.
-use Rattle.std.proofs.Common.{◌≡◌, ℕ, ◌+◌, ◌-◌, ◌*◌, ◌<◌, ◌≤◌, ◌==◌, ◌&&◌, Bool, true, cond, nat_lt, map, refl, sym, ap, ◌∙◌, inl, inr, arith}
-use Rattle.std.proofs.lemmas.Bool.{cases_lt, eq-eqb, lt-ltb, ltb-true, cond-true, and_from, and_parts}
-use Rattle.round_net.specs.Sums.{sum_below, sum_to, least}
-use Rattle.round_net.specs.Instance.{Instance, adapter}
-use Rattle.round_net.specs.Schedules.{IsAdmissible}
-use Rattle.round_net.specs.Value.{is_open, allowed, priced, paid, ProvesBest}
+use Rattle.std.proofs.Common.{◌≡◌, ℕ, zero, suc, ◌+◌, ◌-◌, ◌*◌, ◌<◌, ◌≤◌, ◌==◌, ◌&&◌, Bool, true, cond, nat_lt, List, [], ◌∷◌, get_or, map, refl, sym, ap, ◌∙◌, subst, inl, inr, arith}
+use Rattle.std.specs.List.{All, list_any, sum_by}
+use Rattle.std.proofs.lemmas.Bool.{cases_lt, eq-eqb, lt-ltb, ltb-true, cond-true, and_from, or_left, or_right}
+use Rattle.std.proofs.lemmas.List.Sums.{sum_by-cons, AllPass-from_list_all, list_all-from_AllPass}
+use Rattle.std.proofs.lemmas.List.Elements.{All-head, All-tail}
+use Rattle.round_net.specs.Sums.{sum_below, least}
+use Rattle.round_net.specs.Instance.{Instance, rows, path, uses}
+use Rattle.round_net.specs.Schedules.{IsAdmissible, load}
+use Rattle.round_net.specs.Value.{is_open, allowed, priced, paid, offered, ProvesBest}
 use Rattle.round_net.specs.Sound.{IsSound}
-use Rattle.cost_plan.specs.Cells.{rows, cell, above, covers, row_load, row_cap}
+use Rattle.cost_plan.specs.Cells.{cell, root, row_above, levels, rows_up, node_of, above}
 use Rattle.cost_plan.specs.Residual.{move_arc, take_arc, give_arc}
-use Rattle.cost_plan.specs.RowPrices.{SettlesAll, row_price, label_pricing}
+use Rattle.cost_plan.specs.RowPrices.{SettlesAll, row_price}
 use Rattle.round_net.proofs.SumLemmas.{sum_below-same, sum_below-add, term-le-sum_below}
-use Rattle.cost_plan.proofs.CellLemmas.{device_load-row, adapter_load-row, dev_cap-row, sim_cap-row, covers-device, covers-adapter, row_above-device, above-device, above-adapter}
+use Rattle.round_net.proofs.PathLemmas.{path-inside, exchange_path}
+use Rattle.cost_plan.proofs.CellLemmas.{node_of-row, node_of-past, steps_up, steps_up-levels, path-rows_up}
 use Rattle.cost_plan.proofs.CycleChangeLemmas.{mul-sub}
 use Rattle.cost_plan.proofs.LeastLemmas.{least-at}
-use Rattle.round_net.proofs.ExchangeLemmas.{exchange}
 
 -- the price of a cell that takes stays
-row_price-open : (net : Instance) (y : ℕ → ℕ) (row r : ℕ) → 0 < row_cap net row r → row_price net y row r ≡ y (cell net row r) - y (above net row r)
-row_price-open net y row r opened = cond-true _ _ _ (lt-ltb 0 (row_cap net row r) opened)
+row_price-open : (net : Instance) (y : ℕ → ℕ) (row r : ℕ) → 0 < net.cap row r → row_price net y row r ≡ y (cell net row r) - y (above net row r)
+row_price-open net y row r opened = cond-true _ _ _ (lt-ltb 0 (net.cap row r) opened)
 
 -- what the labels say of a cell with room, and of one that has a stay
-settled-take : (net : Instance) (f y : ℕ → ℕ) (row r : ℕ) → SettlesAll net f y → row < rows net → 1 ≤ r → r ≤ net.rounds → row_load net f row r < row_cap net row r → y (cell net row r) ≤ y (above net row r)
+settled-take : (net : Instance) (f y : ℕ → ℕ) (row r : ℕ) → SettlesAll net f y → row < rows net → 1 ≤ r → r ≤ net.rounds → load net f row r < net.cap row r → y (cell net row r) ≤ y (above net row r)
 settled-take net f y row r settled inside first last room =
     let s = settled (take_arc net row r) (inr (inl (record { row = row; round = r; is = refl; within = inside; first = first; last = last; room = room }))) in
     omega arith
 
-settled-give : (net : Instance) (f y : ℕ → ℕ) (row r : ℕ) → SettlesAll net f y → row < rows net → 1 ≤ r → r ≤ net.rounds → 0 < row_load net f row r → y (above net row r) ≤ y (cell net row r)
+settled-give : (net : Instance) (f y : ℕ → ℕ) (row r : ℕ) → SettlesAll net f y → row < rows net → 1 ≤ r → r ≤ net.rounds → 0 < load net f row r → y (above net row r) ≤ y (cell net row r)
 settled-give net f y row r settled inside first last some =
     let s = settled (give_arc net row r) (inr (inr (record { row = row; round = r; is = refl; within = inside; first = first; last = last; some = some }))) in
     omega arith
 
 -- a price above 0 stands at a full cell alone
-load-price : (net : Instance) (f y : ℕ → ℕ) (row r : ℕ) → SettlesAll net f y → row < rows net → 1 ≤ r → r ≤ net.rounds → row_load net f row r ≤ row_cap net row r → row_load net f row r * row_price net y row r ≡ row_cap net row r * row_price net y row r
-load-price net f y row r settled inside first last held = elim (cases_lt (row_load net f row r) (row_cap net row r)) [
+load-price : (net : Instance) (f y : ℕ → ℕ) (row r : ℕ) → SettlesAll net f y → row < rows net → 1 ≤ r → r ≤ net.rounds → load net f row r ≤ net.cap row r → load net f row r * row_price net y row r ≡ net.cap row r * row_price net y row r
+load-price net f y row r settled inside first last held = elim (cases_lt (load net f row r) (net.cap row r)) [
   | inl room ↦
       let low = settled-take net f y row r settled inside first last room in
       let none : row_price net y row r ≡ 0 = row_price-open net y row r (omega arith) ∙ (let e : y (cell net row r) - y (above net row r) ≡ 0 = omega arith in e) in
-      ap (λ (p : ℕ). row_load net f row r * p) none ∙ (let e : row_load net f row r * 0 ≡ row_cap net row r * 0 = omega arith in e) ∙ ap (λ (p : ℕ). row_cap net row r * p) (sym none)
-  | inr full ↦ ap (λ (n : ℕ). n * row_price net y row r) (let e : row_load net f row r ≡ row_cap net row r = omega arith in e)
+      ap (λ (p : ℕ). load net f row r * p) none ∙ (let e : load net f row r * 0 ≡ net.cap row r * 0 = omega arith in e) ∙ ap (λ (p : ℕ). net.cap row r * p) (sym none)
+  | inr full ↦ ap (λ (n : ℕ). n * row_price net y row r) (let e : load net f row r ≡ net.cap row r = omega arith in e)
 ]
 
--- a cell that has a stay is worth exactly how far it is above, and one that could take one at least that
-used-price : (net : Instance) (f y : ℕ → ℕ) (row r : ℕ) → SettlesAll net f y → row < rows net → 1 ≤ r → r ≤ net.rounds → row_load net f row r ≤ row_cap net row r → 0 < row_load net f row r → row_price net y row r + y (above net row r) ≡ y (cell net row r)
-used-price net f y row r settled inside first last held some = omega (arith, row_price-open net y row r (omega arith), settled-give net f y row r settled inside first last some)
+-- what a stay's own round says of each row that it uses
+record IsPlaced (net : Instance) (f : ℕ → ℕ) (s row : ℕ) : Type 0 where
+  pub inside : row < rows net
+  pub some : 0 < load net f row (f s)
+  pub held : load net f row (f s) ≤ net.cap row (f s)
 
-open-price : (net : Instance) (y : ℕ → ℕ) (row r : ℕ) → 0 < row_cap net row r → y (cell net row r) ≤ row_price net y row r + y (above net row r)
-open-price net y row r opened = omega (arith, row_price-open net y row r opened)
-
--- the cell of a stay has that stay
-counted : (net : Instance) (f : ℕ → ℕ) (row s : ℕ) → s < net.stays → covers net row (net.device s) ≡ true → 0 < row_load net f row (f s)
+counted : (net : Instance) (f : ℕ → ℕ) (row s : ℕ) → s < net.stays → uses net row s ≡ true → 0 < load net f row (f s)
 counted net f row s within on =
-    let one : cond {A = ℕ} (covers net row (net.device s) && (f s == f s)) 1 0 ≡ 1 = ap (λ (b : Bool). cond {A = ℕ} b 1 0) (and_from (covers net row (net.device s)) (f s == f s) on (eq-eqb (f s) (f s) refl)) in
-    omega (arith, term-le-sum_below net.stays s (λ t. cond (covers net row (net.device t) && (f t == f s)) 1 0) within)
+    let one : cond {A = ℕ} (uses net row s && (f s == f s)) 1 0 ≡ 1 = ap (λ (b : Bool). cond {A = ℕ} b 1 0) (and_from (uses net row s) (f s == f s) on (eq-eqb (f s) (f s) refl)) in
+    omega (arith, term-le-sum_below net.stays s (λ t. cond (uses net row t && (f t == f s)) 1 0) within)
 
--- what holds of a stay: the rows that it uses, and their loads and caps
-record IsPlaced (net : Instance) (f : ℕ → ℕ) (s : ℕ) : Type 0 where
-  pub first : 1 ≤ f s
-  pub last : f s ≤ net.rounds
-  pub device_in : net.device s < rows net
-  pub adapter_in : net.devices + adapter net s < rows net
-  pub device_some : 0 < row_load net f (net.device s) (f s)
-  pub adapter_some : 0 < row_load net f (net.devices + adapter net s) (f s)
-  pub device_held : row_load net f (net.device s) (f s) ≤ row_cap net (net.device s) (f s)
-  pub adapter_held : row_load net f (net.devices + adapter net s) (f s) ≤ row_cap net (net.devices + adapter net s) (f s)
+each-own : (xs : List ℕ) → All (λ x. list_any (λ own. own == x) xs ≡ true) xs
+each-own [] k d h = absurd (omega arith)
+each-own (x ∷ xs) zero d h = or_left (x == x) _ (eq-eqb x x refl)
+each-own (x ∷ xs) (suc k) d h = or_right _ _ (each-own xs k d (omega arith))
 
-row_held-device : (net : Instance) (f : ℕ → ℕ) (d r : ℕ) → IsAdmissible net f → d < net.devices → 1 ≤ r → r ≤ net.rounds → row_load net f d r ≤ row_cap net d r
-row_held-device net f d r ok inside first last = omega (arith, ok.devices_hold d r inside first last, device_load-row net f d r inside, dev_cap-row net d r inside)
+round-first : (net : Instance) (live f : ℕ → ℕ) (s : ℕ) → IsSound net live → IsAdmissible net f → s < net.stays → 1 ≤ f s
+round-first net live f s sound ok within = omega (arith, sound.from_first s within, ok.not_early s within)
 
-row_held-adapter : (net : Instance) (live f : ℕ → ℕ) (a r : ℕ) → IsSound net live → IsAdmissible net f → a < net.adapters → 1 ≤ r → r ≤ net.rounds → row_load net f (net.devices + a) r ≤ row_cap net (net.devices + a) r
-row_held-adapter net live f a r sound ok inside first last = omega (arith, ok.adapters_hold a r inside first last, adapter_load-row net f a r sound.on_device, sim_cap-row net a r)
+round-last : (net : Instance) (live f : ℕ → ℕ) (s : ℕ) → IsSound net live → IsAdmissible net f → s < net.stays → f s ≤ net.rounds
+round-last net live f s sound ok within = omega (arith, ok.not_late s within, sound.to_last s within)
 
-IsPlaced-from_admissible : (net : Instance) (live f : ℕ → ℕ) (s : ℕ) → IsSound net live → IsAdmissible net f → s < net.stays → IsPlaced net f s
-IsPlaced-from_admissible net live f s sound ok within =
-    let d_in : net.device s < net.devices = sound.on_device s within in
-    let a_in : adapter net s < net.adapters = sound.on_adapter (net.device s) d_in in
-    let low : 1 ≤ f s = omega (arith, sound.from_first s within, ok.not_early s within) in
-    let high : f s ≤ net.rounds = omega (arith, ok.not_late s within, sound.to_last s within) in
+AllPlaced : (net : Instance) (live f : ℕ → ℕ) (s : ℕ) → IsSound net live → IsAdmissible net f → s < net.stays → All (IsPlaced net f s) (path net s)
+AllPlaced net live f s sound ok within = λ k d h.
+    let row : ℕ = get_or (path net s) k d in
+    let inside : row < rows net = path-inside net live s sound within k d h in
     record {
-      first = low;
-      last = high;
-      device_in = omega arith;
-      adapter_in = omega arith;
-      device_some = counted net f (net.device s) s within (covers-device net (net.device s) (net.device s) d_in ∙ eq-eqb _ _ refl);
-      adapter_some = counted net f (net.devices + adapter net s) s within (covers-adapter net (adapter net s) (net.device s) d_in ∙ eq-eqb _ _ refl);
-      device_held = row_held-device net f (net.device s) (f s) ok d_in low high;
-      adapter_held = row_held-adapter net live f (adapter net s) (f s) sound ok a_in low high;
+      inside = inside;
+      some = counted net f row s within (each-own (path net s) k d h);
+      held = ok.rows_hold row (f s) inside (round-first net live f s sound ok within) (round-last net live f s sound ok within);
     }
 
--- the node above a stay's cell is its adapter's, and above that is the root
-above-stay : (net : Instance) (s r : ℕ) → net.device s < net.devices → above net (net.device s) r ≡ cell net (net.devices + adapter net s) r
-above-stay net s r inside = above-device net (net.device s) r inside ∙ ap (λ (row : ℕ). cell net row r) (row_above-device net (net.device s) inside)
+-- The price of a cell that has a stay is how far its label is above the next one. That of one that could take a stay is so at
+-- least.
+abbrev pub IsExact : Instance → (ℕ → ℕ) → ℕ → ℕ → Type 0
+IsExact net y r row = row_price net y row r + y (above net row r) ≡ y (node_of net row r)
+
+abbrev pub IsEnough : Instance → (ℕ → ℕ) → ℕ → ℕ → Type 0
+IsEnough net y r row = y (node_of net row r) ≤ row_price net y row r + y (above net row r)
+
+IsExact-used : (net : Instance) (f y : ℕ → ℕ) (row r : ℕ) → SettlesAll net f y → row < rows net → 1 ≤ r → r ≤ net.rounds → load net f row r ≤ net.cap row r → 0 < load net f row r → IsExact net y r row
+IsExact-used net f y row r settled inside first last held some = omega (arith, row_price-open net y row r (omega arith), settled-give net f y row r settled inside first last some, ap y (node_of-row net row r inside))
+
+IsEnough-open : (net : Instance) (y : ℕ → ℕ) (row r : ℕ) → row < rows net → 0 < net.cap row r → IsEnough net y r row
+IsEnough-open net y row r inside opened = omega (arith, row_price-open net y row r opened, ap y (node_of-row net row r inside))
+
+-- from a row up prices add up to how far its label is above the last one
+exact-up : (n : ℕ) (net : Instance) (y : ℕ → ℕ) (row r : ℕ) → All (IsExact net y r) (rows_up n net row) → sum_by (λ k. row_price net y k r) (rows_up n net row) + y (node_of net (steps_up n net row) r) ≡ y (node_of net row r)
+exact-up zero net y row r each = omega arith
+exact-up (suc n) net y row r each =
+    let others : List ℕ = rows_up n net (row_above net row) in
+    let first = All-head (IsExact net y r) row others each in
+    let rest = exact-up n net y (row_above net row) r (All-tail (IsExact net y r) row others each) in
+    omega (arith, sum_by-cons (λ k. row_price net y k r) row others, first, rest)
+
+enough-up : (n : ℕ) (net : Instance) (y : ℕ → ℕ) (row r : ℕ) → All (IsEnough net y r) (rows_up n net row) → y (node_of net row r) ≤ sum_by (λ k. row_price net y k r) (rows_up n net row) + y (node_of net (steps_up n net row) r)
+enough-up zero net y row r each = omega arith
+enough-up (suc n) net y row r each =
+    let others : List ℕ = rows_up n net (row_above net row) in
+    let first = All-head (IsEnough net y r) row others each in
+    let rest = enough-up n net y (row_above net row) r (All-tail (IsEnough net y r) row others each) in
+    omega (arith, sum_by-cons (λ k. row_price net y k r) row others, first, rest)
+
+-- so from a stay's device up to the root
+root-up : (net : Instance) (y : ℕ → ℕ) (row r : ℕ) → y (node_of net (steps_up levels net row) r) ≡ y (root net)
+root-up net y row r = ap (λ (k : ℕ). y (node_of net k r)) (steps_up-levels net row) ∙ ap y (node_of-past net (rows net) r (omega arith))
+
+exact-path : (net : Instance) (y : ℕ → ℕ) (s r : ℕ) → net.device s < net.devices → All (IsExact net y r) (path net s) → sum_by (λ k. row_price net y k r) (path net s) + y (root net) ≡ y (cell net (net.device s) r)
+exact-path net y s r device each =
+    let up = path-rows_up net s device in
+    let all = exact-up levels net y (net.device s) r (subst (λ (own : List ℕ). All (IsExact net y r) own) up each) in
+    let sums = ap (λ (own : List ℕ). sum_by (λ k. row_price net y k r) own) up in
+    omega (arith, all, sums, root-up net y (net.device s) r, ap y (node_of-row net (net.device s) r (omega arith)))
+
+enough-path : (net : Instance) (y : ℕ → ℕ) (s r : ℕ) → net.device s < net.devices → All (IsEnough net y r) (path net s) → y (cell net (net.device s) r) ≤ sum_by (λ k. row_price net y k r) (path net s) + y (root net)
+enough-path net y s r device each =
+    let up = path-rows_up net s device in
+    let all = enough-up levels net y (net.device s) r (subst (λ (own : List ℕ). All (IsEnough net y r) own) up each) in
+    let sums = ap (λ (own : List ℕ). sum_by (λ k. row_price net y k r) own) up in
+    omega (arith, all, sums, root-up net y (net.device s) r, ap y (node_of-row net (net.device s) r (omega arith)))
 
 -- no opened round of its window is cheaper for a stay than its own
-cheapest : (net : Instance) (live f y : ℕ → ℕ) (s r : ℕ) → IsSound net live → IsAdmissible net f → SettlesAll net f y → s < net.stays → net.arrival s ≤ r → r ≤ net.last s → is_open net s r ≡ true → priced net (label_pricing net y) s (f s) ≤ priced net (label_pricing net y) s r
+cheapest : (net : Instance) (live f y : ℕ → ℕ) (s r : ℕ) → IsSound net live → IsAdmissible net f → SettlesAll net f y → s < net.stays → net.arrival s ≤ r → r ≤ net.last s → is_open net s r ≡ true → priced net (row_price net y) s (f s) ≤ priced net (row_price net y) s r
 cheapest net live f y s r sound ok settled within early late opened =
-    let p = IsPlaced-from_admissible net live f s sound ok within in
-    let d_in : net.device s < net.devices = sound.on_device s within in
-    let a_past : net.devices ≤ net.devices + adapter net s = omega arith in
-    let parts = and_parts (nat_lt 0 (net.dev_cap (net.device s) r)) (nat_lt 0 (net.sim_cap (adapter net s) r)) opened in
-    let d_open : 0 < row_cap net (net.device s) r = omega (arith, ltb-true 0 (net.dev_cap (net.device s) r) parts.0, dev_cap-row net (net.device s) r d_in) in
-    let a_open : 0 < row_cap net (net.devices + adapter net s) r = omega (arith, ltb-true 0 (net.sim_cap (adapter net s) r) parts.1, sim_cap-row net (adapter net s) r) in
-    let d_used = used-price net f y (net.device s) (f s) settled p.device_in p.first p.last p.device_held p.device_some in
-    let a_used = used-price net f y (net.devices + adapter net s) (f s) settled p.adapter_in p.first p.last p.adapter_held p.adapter_some in
-    let d_reach = open-price net y (net.device s) r d_open in
-    let a_reach = open-price net y (net.devices + adapter net s) r a_open in
-    let up_here = ap y (above-stay net s (f s) d_in) in
-    let up_there = ap y (above-stay net s r d_in) in
-    let root_here = ap y (above-adapter net (net.devices + adapter net s) (f s) a_past) in
-    let root_there = ap y (above-adapter net (net.devices + adapter net s) r a_past) in
+    let device = sound.on_device s within in
+    let placed = AllPlaced net live f s sound ok within in
+    let opens = AllPass-from_list_all (λ row. nat_lt 0 (net.cap row r)) (path net s) opened in
+    let used = exact-path net y s (f s) device (λ k d h.
+    let p = placed k d h in
+    IsExact-used net f y (get_or (path net s) k d) (f s) settled p.inside (round-first net live f s sound ok within) (round-last net live f s sound ok within) p.held p.some) in
+    let reach = enough-path net y s r device (λ k d h.
+    let row : ℕ = get_or (path net s) k d in
+    IsEnough-open net y row r (placed k d h).inside (ltb-true 0 (net.cap row r) (opens k d h))) in
     let move = settled (move_arc net f s r) (inl (record { stay = s; round = r; is = refl; within = within; not_early = early; not_late = late })) in
     let waits_here = mul-sub (net.weight s) (net.arrival s) (f s) (ok.not_early s within) in
     let waits_there = mul-sub (net.weight s) (net.arrival s) r early in
-    omega (arith, d_used, a_used, d_reach, a_reach, up_here, up_there, root_here, root_there, move, waits_here, waits_there)
+    omega (arith, used, reach, move, waits_here, waits_there)
 
 -- a stay's own round is one of those that it could be sent in
 open-here : (net : Instance) (live f : ℕ → ℕ) (s : ℕ) → IsSound net live → IsAdmissible net f → s < net.stays → is_open net s (f s) ≡ true
 open-here net live f s sound ok within =
-    let p = IsPlaced-from_admissible net live f s sound ok within in
-    let d_in : net.device s < net.devices = sound.on_device s within in
-    and_from _ _
-    (lt-ltb 0 (net.dev_cap (net.device s) (f s)) (omega (arith, p.device_some, p.device_held, dev_cap-row net (net.device s) (f s) d_in)))
-    (lt-ltb 0 (net.sim_cap (adapter net s) (f s)) (omega (arith, p.adapter_some, p.adapter_held, sim_cap-row net (adapter net s) (f s))))
+    let placed = AllPlaced net live f s sound ok within in
+    list_all-from_AllPass (λ row. nat_lt 0 (net.cap row (f s))) (path net s) (λ k d h.
+    let p = placed k d h in
+    lt-ltb 0 (net.cap (get_or (path net s) k d) (f s)) (omega (arith, p.some, p.held)))
 
 -- so what it pays at least is what it pays there
-pays-here : (net : Instance) (live f y : ℕ → ℕ) (s : ℕ) → IsSound net live → IsAdmissible net f → SettlesAll net f y → s < net.stays → least (map (priced net (label_pricing net y) s) (allowed net s)) ≡ priced net (label_pricing net y) s (f s)
+pays-here : (net : Instance) (live f y : ℕ → ℕ) (s : ℕ) → IsSound net live → IsAdmissible net f → SettlesAll net f y → s < net.stays → least (map (priced net (row_price net y) s) (allowed net s)) ≡ priced net (row_price net y) s (f s)
 pays-here net live f y s sound ok settled within =
     let early = ok.not_early s within in
     let late = ok.not_late s within in
-    least-at (priced net (label_pricing net y) s) (is_open net s) (net.arrival s) (net.last s + 1 - net.arrival s) (f s) early (omega arith) (open-here net live f s sound ok within)
+    least-at (priced net (row_price net y) s) (is_open net s) (net.arrival s) (net.last s + 1 - net.arrival s) (f s) early (omega arith) (open-here net live f s sound ok within)
     (λ r low high opened. cheapest net live f y s r sound ok settled within low (omega arith) opened)
 
 -- what all stays pay for their openings is what the openings are worth
-devices-worth : (net : Instance) (live f y : ℕ → ℕ) → IsSound net live → IsAdmissible net f → SettlesAll net f y → sum_below net.stays (λ s. row_price net y (net.device s) (f s)) ≡ sum_below net.devices (λ d. sum_to net.rounds (λ r. net.dev_cap d r * row_price net y d r))
-devices-worth net live f y sound ok settled =
-    exchange net.stays net.devices net.rounds net.device f (row_price net y) (λ s within. let p = IsPlaced-from_admissible net live f s sound ok within in (sound.on_device s within, p.first, p.last))
-    ∙ sum_below-same net.devices _ _ (λ d inside. sum_below-same net.rounds _ _ (λ q lt.
+rows-worth : (net : Instance) (live f y : ℕ → ℕ) → IsSound net live → IsAdmissible net f → SettlesAll net f y → sum_below net.stays (λ s. sum_by (λ row. row_price net y row (f s)) (path net s)) ≡ offered net (row_price net y)
+rows-worth net live f y sound ok settled =
+    exchange_path net live f (row_price net y) sound (λ s within. (round-first net live f s sound ok within, round-last net live f s sound ok within))
+    ∙ sum_below-same (rows net) _ _ (λ row inside. sum_below-same net.rounds _ _ (λ q lt.
     let low : 1 ≤ q + 1 = omega arith in
     let high : q + 1 ≤ net.rounds = omega arith in
-    let row_in : d < rows net = omega arith in
-    ap (λ (n : ℕ). n * row_price net y d (q + 1)) (device_load-row net f d (q + 1) inside)
-    ∙ load-price net f y d (q + 1) settled row_in low high (row_held-device net f d (q + 1) ok inside low high)
-    ∙ ap (λ (n : ℕ). n * row_price net y d (q + 1)) (dev_cap-row net d (q + 1) inside)))
-
-adapters-worth : (net : Instance) (live f y : ℕ → ℕ) → IsSound net live → IsAdmissible net f → SettlesAll net f y → sum_below net.stays (λ s. row_price net y (net.devices + adapter net s) (f s)) ≡ sum_below net.adapters (λ a. sum_to net.rounds (λ r. net.sim_cap a r * row_price net y (net.devices + a) r))
-adapters-worth net live f y sound ok settled =
-    exchange net.stays net.adapters net.rounds (adapter net) f (λ a. row_price net y (net.devices + a)) (λ s within. let p = IsPlaced-from_admissible net live f s sound ok within in (sound.on_adapter (net.device s) (sound.on_device s within), p.first, p.last))
-    ∙ sum_below-same net.adapters _ _ (λ a inside. sum_below-same net.rounds _ _ (λ q lt.
-    let low : 1 ≤ q + 1 = omega arith in
-    let high : q + 1 ≤ net.rounds = omega arith in
-    let row_in : net.devices + a < rows net = omega arith in
-    ap (λ (n : ℕ). n * row_price net y (net.devices + a) (q + 1)) (adapter_load-row net f a (q + 1) sound.on_device)
-    ∙ load-price net f y (net.devices + a) (q + 1) settled row_in low high (row_held-adapter net live f a (q + 1) sound ok inside low high)
-    ∙ ap (λ (n : ℕ). n * row_price net y (net.devices + a) (q + 1)) (sim_cap-row net a (q + 1))))
+    load-price net f y row (q + 1) settled inside low high (ok.rows_hold row (q + 1) inside low high)))
 
 -- labels that settle each change prove the schedule
-pub ProvesBest-from_labels : (net : Instance) (live f y : ℕ → ℕ) → IsSound net live → IsAdmissible net f → SettlesAll net f y → ProvesBest net f (label_pricing net y)
+pub ProvesBest-from_labels : (net : Instance) (live f y : ℕ → ℕ) → IsSound net live → IsAdmissible net f → SettlesAll net f y → ProvesBest net f (row_price net y)
 ProvesBest-from_labels net live f y sound ok settled =
     let waits : ℕ → ℕ = λ s. net.weight s * (f s - net.arrival s) in
-    let devs : ℕ → ℕ = λ s. row_price net y (net.device s) (f s) in
-    let sims : ℕ → ℕ = λ s. row_price net y (net.devices + adapter net s) (f s) in
-    let pays : paid net (label_pricing net y) ≡ sum_below net.stays (λ s. waits s + devs s + sims s) = sum_below-same net.stays _ _ (λ s within. pays-here net live f y s sound ok settled within) in
-    record {
-      admissible = ok;
-      tight = omega (arith, pays, sum_below-add net.stays (λ s. waits s + devs s) sims, sum_below-add net.stays waits devs, devices-worth net live f y sound ok settled, adapters-worth net live f y sound ok settled);
-    }
+    let openings : ℕ → ℕ = λ s. sum_by (λ row. row_price net y row (f s)) (path net s) in
+    let pays : paid net (row_price net y) ≡ sum_below net.stays (λ s. waits s + openings s) = sum_below-same net.stays _ _ (λ s within. pays-here net live f y s sound ok settled within) in
+    record { admissible = ok; tight = omega (arith, pays, sum_below-add net.stays waits openings, rows-worth net live f y sound ok settled) }

@@ -1,42 +1,49 @@
--- The cells of a net, a row for each device and then each adapter, as the nodes of a graph, with one root above all.
-use Rattle.std.specs.Prelude.{ℕ, ◌+◌, ◌-◌, ◌*◌, ◌==◌, nat_lt, Bool, cond, ◌&&◌, ◌||◌, if◌then◌else◌, List, slice_index}
+-- The cells of a net as the nodes of a graph, one for each row and round, with one root above all.
+use Rattle.std.specs.Prelude.{ℕ, zero, suc, ◌+◌, ◌*◌, ◌==◌, nat_lt, Bool, cond, ◌&&◌, if◌then◌else◌, List, [], ◌∷◌, slice_index}
+use Rattle.std.specs.List.{list_any}
 use Rattle.round_net.specs.Sums.{count_below}
-use Rattle.round_net.specs.Instance.{Instance}
-
--- devices and adapters
-abbrev pub rows : Instance → ℕ
-rows net = net.devices + net.adapters
+use Rattle.round_net.specs.Instance.{Instance, rows, adapter_row, uses}
 
 -- the node of a row and a round, where rounds begin at 1
 abbrev pub cell : Instance → ℕ → ℕ → ℕ
 cell net row round = row * (net.rounds + 1) + round
 
+-- the root, as the node of the row past all rows
+abbrev pub root : Instance → ℕ
+root net = cell net (rows net) 0
+
 -- the row above: a device's is its adapter's, and an adapter's is the root's
 abbrev pub row_above : Instance → ℕ → ℕ
-row_above net row = if nat_lt row net.devices then net.devices + net.adapter_of row else rows net
+row_above net row = if nat_lt row net.devices then adapter_row net (net.adapter_of row) else rows net
+
+-- how many rows stand one above the other
+abbrev pub levels : ℕ
+levels = 2
+
+-- a row and those above it, so many in all
+abbrev pub rows_up : ℕ → Instance → ℕ → List ℕ
+rows_up zero net row = []
+rows_up (suc n) net row = row ∷ rows_up n net (row_above net row)
+
+-- a row is another, or stands anywhere above it
+abbrev pub covers : Instance → ℕ → ℕ → Bool
+covers net row other = list_any (λ own. own == row) (rows_up levels net other)
+
+-- the node of a row in a round, which past all rows is the root
+abbrev pub node_of : Instance → ℕ → ℕ → ℕ
+node_of net row round = if nat_lt row (rows net) then cell net row round else root net
 
 -- the node above a cell
 abbrev pub above : Instance → ℕ → ℕ → ℕ
-above net row round = if nat_lt row net.devices then cell net (row_above net row) round else cell net (rows net) 0
+above net row round = node_of net (row_above net row) round
 
--- a row is another, or stands right above it
-abbrev pub covers : Instance → ℕ → ℕ → Bool
-covers net row other = (other == row) || (row_above net other == row)
-
--- 1 where the stay is on the row, or under it, and the one round is the other, and 0 elsewhere
+-- 1 where the stay uses the row and the one round is the other, and 0 elsewhere
 abbrev pub stands : Instance → ℕ → ℕ → ℕ → ℕ → ℕ
-stands net row round stay r = cond (covers net row (net.device stay) && (r == round)) 1 0
+stands net row round stay r = cond (uses net row stay && (r == round)) 1 0
 
--- how many of the first stays are of the row, or under it, and in the round
+-- how many of the first stays use the row and are in the round
 abbrev pub part_load : Instance → (ℕ → ℕ) → ℕ → ℕ → ℕ → ℕ
-part_load net f n row round = count_below n (λ s. covers net row (net.device s) && (f s == round))
-
--- how many stays of a row a schedule puts into a round, and how many it takes
-abbrev pub row_load : Instance → (ℕ → ℕ) → ℕ → ℕ → ℕ
-row_load net f row round = part_load net f net.stays row round
-
-abbrev pub row_cap : Instance → ℕ → ℕ → ℕ
-row_cap net row round = if nat_lt row net.devices then net.dev_cap row round else net.sim_cap (row - net.devices) round
+part_load net f n row round = count_below n (λ s. uses net row s && (f s == round))
 
 -- cells and the root
 abbrev pub node_count : Instance → ℕ

@@ -1,8 +1,9 @@
 -- What a schedule and its loads are while it is made better.
 use Rattle.std.specs.Prelude.{◌≡◌, ℕ, ◌+◌, ◌*◌, ◌<◌, ◌≤◌, List, length, slice_index}
-use Rattle.round_net.specs.Instance.{Instance}
+use Rattle.round_net.specs.Instance.{Instance, rows}
+use Rattle.round_net.specs.Schedules.{load}
 use Rattle.cost_plan.specs.declared.draft.Draft.{Draft}
-use Rattle.cost_plan.specs.Cells.{rows, cell, part_load, row_load, row_cap, rounds_of}
+use Rattle.cost_plan.specs.Cells.{cell, part_load, rounds_of}
 
 -- for each cell, how many of the first stays it has
 pub record AreLoads (net : Instance) (f : ℕ → ℕ) (n : ℕ) (loads : List ℕ) : Type 0 where
@@ -28,7 +29,7 @@ KeepWindows net f n = (s : ℕ) → s < n → (net.arrival s ≤ f s) × (f s �
 
 -- in each round before this one the row has no more stays than it takes; so have the first rows in all rounds
 abbrev pub KeepsRow : Instance → (ℕ → ℕ) → ℕ → ℕ → Type 0
-KeepsRow net f row here = (round : ℕ) → 1 ≤ round → round < here → row_load net f row round ≤ row_cap net row round
+KeepsRow net f row here = (round : ℕ) → 1 ≤ round → round < here → load net f row round ≤ net.cap row round
 
 abbrev pub KeepRows : Instance → (ℕ → ℕ) → ℕ → Type 0
 KeepRows net f n = (row : ℕ) → row < n → KeepsRow net f row (net.rounds + 1)

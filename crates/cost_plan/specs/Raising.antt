@@ -4,7 +4,7 @@ use Rattle.gaining_cycle.specs.declared.arc.Arc.{Arc}
 use Rattle.gaining_cycle.specs.Walks.{came_by}
 use Rattle.gaining_cycle.specs.Labelling.{Labelling, label_of, limit, IsSettled}
 use Rattle.round_net.specs.Instance.{Instance}
-use Rattle.cost_plan.specs.Cells.{row_load, row_cap}
+use Rattle.round_net.specs.Schedules.{load}
 use Rattle.cost_plan.specs.Residual.{IsResidual, move_arc, take_arc, give_arc}
 
 -- Labels rise, by arcs of what can be changed alone. Where no node is named they are as they were; a node that is named rose,
@@ -29,10 +29,10 @@ abbrev pub SettlesMoves : Instance → (ℕ → ℕ) → Labelling → ℕ → T
 SettlesMoves net f l stay = (round : ℕ) → net.arrival stay ≤ round → round ≤ net.last stay → SettlesMove net f stay l round
 
 abbrev pub SettlesTake : Instance → (ℕ → ℕ) → Labelling → ℕ → ℕ → Type 0
-SettlesTake net f l row round = row_load net f row round < row_cap net row round → IsSettled l (take_arc net row round)
+SettlesTake net f l row round = load net f row round < net.cap row round → IsSettled l (take_arc net row round)
 
 abbrev pub SettlesGive : Instance → (ℕ → ℕ) → Labelling → ℕ → ℕ → Type 0
-SettlesGive net f l row round = 0 < row_load net f row round → IsSettled l (give_arc net row round)
+SettlesGive net f l row round = 0 < load net f row round → IsSettled l (give_arc net row round)
 
 abbrev pub SettlesCell : Instance → (ℕ → ℕ) → ℕ → Labelling → ℕ → Type 0
 SettlesCell net f row l round = SettlesTake net f l row round × SettlesGive net f l row round

@@ -3,8 +3,9 @@
 use Rattle.std.specs.Prelude.{◌≡◌, ℕ, ◌+◌, ◌*◌, ◌%◌, ◌<◌, ◌≤◌, ◌⊎◌, List, Option, Some, None, fold, slice_set}
 use Rattle.std.specs.List.{All}
 use Rattle.gaining_cycle.specs.declared.arc.Arc.{Arc}
-use Rattle.round_net.specs.Instance.{Instance}
-use Rattle.cost_plan.specs.Cells.{rows, cell, above, row_load, row_cap}
+use Rattle.round_net.specs.Instance.{Instance, rows}
+use Rattle.round_net.specs.Schedules.{load}
+use Rattle.cost_plan.specs.Cells.{cell, above}
 
 -- a stay moves from its round to another: what it waited is gained, what it will wait is lost
 abbrev pub move_arc : Instance → (ℕ → ℕ) → ℕ → ℕ → Arc
@@ -41,7 +42,7 @@ pub record IsTake (net : Instance) (f : ℕ → ℕ) (arc : Arc) : Type 0 where
   pub within : row < rows net
   pub first : 1 ≤ round
   pub last : round ≤ net.rounds
-  pub room : row_load net f row round < row_cap net row round
+  pub room : load net f row round < net.cap row round
 
 -- a cell may give one up while it has one
 pub record IsGive (net : Instance) (f : ℕ → ℕ) (arc : Arc) : Type 0 where
@@ -51,7 +52,7 @@ pub record IsGive (net : Instance) (f : ℕ → ℕ) (arc : Arc) : Type 0 where
   pub within : row < rows net
   pub first : 1 ≤ round
   pub last : round ≤ net.rounds
-  pub some : 0 < row_load net f row round
+  pub some : 0 < load net f row round
 
 -- the arcs of what can be changed
 abbrev pub IsResidual : Instance → (ℕ → ℕ) → Arc → Type 0

@@ -1,9 +1,11 @@
 //! What can be changed in a draft, as arcs. Proved: each arc is the one that the definitions name, between nodes of the graph.
 
 ghost use Rattle.std.specs.Prelude.{◌≡◌, ◌+◌, ◌<◌, ◌≤◌};
+ghost use Rattle.round_net.specs.Instance.{rows};
 ghost use Rattle.round_net.specs.Rows.{instance_of_rows, live_of_rows};
+ghost use Rattle.round_net.specs.Schedules.{load};
 ghost use Rattle.round_net.specs.Sound.{IsSound};
-ghost use Rattle.cost_plan.specs.Cells.{rows, row_load, node_count};
+ghost use Rattle.cost_plan.specs.Cells.{node_count};
 ghost use Rattle.cost_plan.specs.Draft.{IsDraftOf, schedule_of};
 ghost use Rattle.cost_plan.specs.Residual.{move_arc, take_arc, give_arc};
 ghost use Rattle.gaining_cycle.specs.declared.arc.TheConstants.{MOST_UP};
@@ -19,7 +21,7 @@ pub fn load(net: &Net, draft: &Draft, row: u32, round: u32) -> u32
     requires draft { IsDraftOf (instance_of_rows net.now) draft.now }
     requires row { row < rows (instance_of_rows net.now) }
     requires round { round ≤ (instance_of_rows net.now).rounds }
-    ensures { result ≡ row_load (instance_of_rows net.now) (schedule_of draft.now) row round }
+    ensures { result ≡ load (instance_of_rows net.now) (schedule_of draft.now) row round }
 {
     draft.loads[node(net, row, round) as usize]
 }

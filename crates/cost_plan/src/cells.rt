@@ -1,10 +1,11 @@
-//! The cells of a net as the nodes of a graph: a row for each device and then each adapter, a column for each round. Proved:
-//! each node and cap is the one that the definitions name.
+//! The cells of a net as the nodes of a graph, one for each row and round, with one root above all. Proved: each node is the
+//! one that the definitions name.
 
 ghost use Rattle.std.specs.Prelude.{◌≡◌, ◌+◌, ◌<◌, ◌≤◌};
+ghost use Rattle.round_net.specs.Instance.{rows};
 ghost use Rattle.round_net.specs.Rows.{instance_of_rows, live_of_rows};
 ghost use Rattle.round_net.specs.Sound.{IsSound};
-ghost use Rattle.cost_plan.specs.Cells.{rows, cell, above, row_cap, node_count};
+ghost use Rattle.cost_plan.specs.Cells.{cell, row_above, above, node_count};
 ghost use Rattle.gaining_cycle.specs.declared.labels.TheConstants.{MOST_NODES};
 
 use round_net::Net;
@@ -20,6 +21,20 @@ pub fn node(net: &Net, row: u32, round: u32) -> u32
     row * (net.rounds() + 1) + round
 }
 
+/// The row above: a device's is its adapter's, and an adapter's is the root's, past all rows.
+pub fn row_above(net: &Net, row: u32) -> u32
+    requires { row < rows (instance_of_rows net.now) }
+    ensures same { result ≡ row_above (instance_of_rows net.now) row }
+    ensures within { result ≤ rows (instance_of_rows net.now) }
+    ensures sound { IsSound (instance_of_rows net.now) (live_of_rows net.now) }
+{
+    if row < net.devices() {
+        net.devices() + net.adapter_of(row)
+    } else {
+        net.rows()
+    }
+}
+
 /// The node above a cell: a device's is its adapter's, and an adapter's is the root.
 pub fn node_above(net: &Net, row: u32, round: u32) -> u32
     requires row { row < rows (instance_of_rows net.now) }
@@ -27,24 +42,11 @@ pub fn node_above(net: &Net, row: u32, round: u32) -> u32
     ensures same { result ≡ above (instance_of_rows net.now) row round }
     ensures sound { IsSound (instance_of_rows net.now) (live_of_rows net.now) }
 {
-    if row < net.devices() {
-        node(net, net.devices() + net.adapter_of(row), round)
+    let up = row_above(net, row);
+    if up < net.rows() {
+        node(net, up, round)
     } else {
-        node(net, net.devices() + net.adapters(), 0)
-    }
-}
-
-/// How many stays a cell takes.
-pub fn cap(net: &Net, row: u32, round: u32) -> u32
-    requires row { row < rows (instance_of_rows net.now) }
-    requires first { 1 ≤ round }
-    requires last { round ≤ (instance_of_rows net.now).rounds }
-    ensures { result ≡ row_cap (instance_of_rows net.now) row round }
-{
-    if row < net.devices() {
-        net.dev_cap(row, round)
-    } else {
-        net.sim_cap(row - net.devices(), round)
+        node(net, net.rows(), 0)
     }
 }
 
@@ -54,5 +56,16 @@ pub fn nodes(net: &Net) -> u32
     ensures small { result ≤ MOST_NODES }
     ensures sound { IsSound (instance_of_rows net.now) (live_of_rows net.now) }
 {
-    (net.devices() + net.adapters()) * (net.rounds() + 1) + 1
+    net.rows() * (net.rounds() + 1) + 1
+}
+
+/// The adapter of a row.
+pub fn adapter_of_row(net: &Net, row: u32) -> u32
+    requires { row < rows (instance_of_rows net.now) }
+{
+    if row < net.devices() {
+        net.adapter_of(row)
+    } else {
+        row - net.devices()
+    }
 }

@@ -4,15 +4,16 @@
 ghost use Rattle.std.specs.Prelude.{◌≡◌, ℕ, ◌+◌, ◌*◌, ◌<◌, ◌≤◌, Some, length, slice_index, slice_set, IfOk};
 ghost use Rattle.std.specs.Option.{IfSome, IfNone};
 ghost use Rattle.gaining_cycle.specs.declared.arc.Arc.{Arc};
+ghost use Rattle.round_net.specs.Instance.{rows};
 ghost use Rattle.round_net.specs.Rows.{instance_of_rows, live_of_rows};
 ghost use Rattle.round_net.specs.Schedules.{IsAdmissible};
 ghost use Rattle.round_net.specs.Sound.{IsSound};
-ghost use Rattle.cost_plan.specs.Cells.{rows, cell, stands, rounds_of};
+ghost use Rattle.cost_plan.specs.Cells.{cell, stands, rounds_of};
 ghost use Rattle.cost_plan.specs.Draft.{AreLoads, IsDraftOf, schedule_of};
 ghost use Rattle.cost_plan.specs.Residual.{changed, changed_all, MarksWithin};
 ghost use Rattle.cam_types.specs.declared.maxima.TheConstants.{MOST_STAYS};
 
-use crate::cells::node;
+use crate::cells::{node, row_above};
 use crate::keeping::{keep_caps, keep_windows};
 use gaining_cycle::Arc;
 use round_net::Net;
@@ -73,7 +74,7 @@ fn loads_of(alloc: Global, net: &Net, rounds: &[u32]) -> Result<Vec<u32>, AllocE
     requires within { (s : ℕ) → s < (instance_of_rows net.now).stays → slice_index rounds.now s ≤ (instance_of_rows net.now).rounds }
     ensures { IfOk result (λ loads. AreLoads (instance_of_rows net.now) (rounds_of rounds.now) (instance_of_rows net.now).stays loads.items) }
 {
-    let cells = (net.devices() + net.adapters()) * (net.rounds() + 1);
+    let cells = net.rows() * (net.rounds() + 1);
     let mut loads = vec![in alloc; 0; cells as usize]?;
     for stay in 0..net.stays() {
         add(net, &mut loads, stay, rounds[stay as usize]);
@@ -81,7 +82,7 @@ fn loads_of(alloc: Global, net: &Net, rounds: &[u32]) -> Result<Vec<u32>, AllocE
     Ok(loads)
 }
 
-// Counts a stay in a round.
+// Counts a stay in a round, in the cell of its device and in each above.
 fn add(net: &Net, loads: &mut Vec<u32>, stay: u32, round: u32)
     requires stay { stay < (instance_of_rows net.now).stays }
     requires round { round ≤ (instance_of_rows net.now).rounds }
@@ -91,10 +92,12 @@ fn add(net: &Net, loads: &mut Vec<u32>, stay: u32, round: u32)
     ensures counts { (row r : ℕ) → row < rows (instance_of_rows net.now) → r ≤ (instance_of_rows net.now).rounds →
         slice_index loads.new.items (cell (instance_of_rows net.now) row r) ≡ slice_index loads.old.items (cell (instance_of_rows net.now) row r) + stands (instance_of_rows net.now) row r stay round }
 {
-    let device = node(net, net.device(stay), round);
-    let adapter = node(net, net.devices() + net.adapter(stay), round);
-    loads[device as usize] += 1;
-    loads[adapter as usize] += 1;
+    let mut row = net.device(stay);
+    while row < net.rows() {
+        let cell = node(net, row, round);
+        loads[cell as usize] += 1;
+        row = row_above(net, row);
+    }
 }
 
 // No longer counts a stay in a round.
@@ -108,10 +111,12 @@ fn remove(net: &Net, loads: &mut Vec<u32>, stay: u32, round: u32)
         slice_index loads.old.items (cell (instance_of_rows net.now) row r) ≡ slice_index loads.new.items (cell (instance_of_rows net.now) row r) + stands (instance_of_rows net.now) row r stay round }
     ensures few { (instance_of_rows net.now).stays ≤ MOST_STAYS }
 {
-    let device = node(net, net.device(stay), round);
-    let adapter = node(net, net.devices() + net.adapter(stay), round);
-    loads[device as usize] -= 1;
-    loads[adapter as usize] -= 1;
+    let mut row = net.device(stay);
+    while row < net.rows() {
+        let cell = node(net, row, round);
+        loads[cell as usize] -= 1;
+        row = row_above(net, row);
+    }
 }
 
 // Puts a stay into another round.

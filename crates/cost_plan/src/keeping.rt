@@ -1,13 +1,13 @@
 //! Whether a schedule keeps windows and caps. Proved: it is said of each exactly.
 
 ghost use Rattle.std.specs.Prelude.{◌≡◌, ◌↔◌, ◌+◌, ◌<◌, length, true};
+ghost use Rattle.round_net.specs.Instance.{rows};
 ghost use Rattle.round_net.specs.Rows.{instance_of_rows, live_of_rows};
 ghost use Rattle.round_net.specs.Sound.{IsSound};
-ghost use Rattle.cost_plan.specs.Cells.{rows, rounds_of};
+ghost use Rattle.cost_plan.specs.Cells.{rounds_of};
 ghost use Rattle.cost_plan.specs.Draft.{IsDraftOf, schedule_of, KeepWindows, KeepsRow, KeepRows};
 
 use crate::arcs::load;
-use crate::cells::cap;
 use crate::draft::Draft;
 use round_net::Net;
 
@@ -31,7 +31,7 @@ pub fn keep_caps(net: &Net, draft: &Draft) -> bool
     requires { IsDraftOf (instance_of_rows net.now) draft.now }
     ensures { (result ≡ true) ↔ KeepRows (instance_of_rows net.now) (schedule_of draft.now) (rows (instance_of_rows net.now)) }
 {
-    for row in 0..net.devices() + net.adapters() {
+    for row in 0..net.rows() {
         if !keeps_row(net, draft, row) {
             return false;
         }
@@ -46,7 +46,7 @@ fn keeps_row(net: &Net, draft: &Draft, row: u32) -> bool
     ensures { (result ≡ true) ↔ KeepsRow (instance_of_rows net.now) (schedule_of draft.now) row ((instance_of_rows net.now).rounds + 1) }
 {
     for round in 1..net.rounds() + 1 {
-        if load(net, draft, row, round) > cap(net, row, round) {
+        if load(net, draft, row, round) > net.cap(row, round) {
             return false;
         }
     }

@@ -2,11 +2,12 @@
 //! adapter's stays have its rounds, in order, and all others keep theirs.
 
 ghost use Rattle.std.specs.Prelude.{◌≡◌, ℕ, ◌<◌, length, slice_index};
+ghost use Rattle.round_net.specs.Instance.{rows};
 ghost use Rattle.round_net.specs.Rows.{instance_of_rows};
-ghost use Rattle.cost_plan.specs.Cells.{rows, node_count};
+ghost use Rattle.cost_plan.specs.Cells.{node_count};
 ghost use Rattle.cost_plan.specs.Parts.{IsPutIn};
 
-use crate::cells::node;
+use crate::cells::{adapter_of_row, node};
 use crate::problem::problem_of_adapter;
 use round_net::Net;
 use std::alloc::{AllocError, Global};
@@ -60,7 +61,7 @@ pub fn put_labels(net: &Net, labels: &mut [u64], part: &Part)
     ensures { length labels.new ≡ length labels.old }
 {
     let mut rest: &[u64] = &part.guess.labels;
-    for row in 0..net.devices() + net.adapters() {
+    for row in 0..net.rows() {
         if adapter_of_row(net, row) == part.adapter {
             put_row(net, labels, row, rest);
             rest = behind_row(net, rest);
@@ -75,17 +76,6 @@ fn behind_row<'a>(net: &Net, labels: &'a [u64]) -> &'a [u64] {
         &labels[width..]
     } else {
         &[]
-    }
-}
-
-// The adapter of a row.
-fn adapter_of_row(net: &Net, row: u32) -> u32
-    requires { row < rows (instance_of_rows net.now) }
-{
-    if row < net.devices() {
-        net.adapter_of(row)
-    } else {
-        row - net.devices()
     }
 }
 

@@ -2,11 +2,11 @@
 //! rows and rounds there are.
 
 ghost use Rattle.std.specs.Prelude.{◌≡◌, ◌<◌, length, IfOk};
+ghost use Rattle.round_net.specs.Instance.{rows};
 ghost use Rattle.round_net.specs.Rows.{instance_of_rows, live_of_rows};
 ghost use Rattle.round_net.specs.Sound.{IsSound};
-ghost use Rattle.cost_plan.specs.Cells.{rows};
 
-use crate::cells::cap;
+use crate::cells::{adapter_of_row, row_above};
 use round_net::Net;
 use std::alloc::{AllocError, Global};
 use waiting_network::{Problem, Stay};
@@ -32,11 +32,8 @@ fn rows_above(alloc: Global, net: &Net) -> Result<Vec<u32>, AllocError>
     ensures { IfOk result (λ above. length above.items ≡ rows (instance_of_rows net.now)) }
 {
     let mut above = Vec::new(alloc);
-    for device in 0..net.devices() {
-        above.push(net.devices() + net.adapter_of(device))?;
-    }
-    for _adapter in 0..net.adapters() {
-        above.push(net.devices() + net.adapters())?;
+    for row in 0..net.rows() {
+        above.push(row_above(net, row))?;
     }
     Ok(above)
 }
@@ -44,7 +41,7 @@ fn rows_above(alloc: Global, net: &Net) -> Result<Vec<u32>, AllocError>
 // How many stays each cell takes, and none in a round 0.
 fn caps(alloc: Global, net: &Net) -> Result<Vec<u32>, AllocError> {
     let mut caps = Vec::new(alloc);
-    for row in 0..net.devices() + net.adapters() {
+    for row in 0..net.rows() {
         caps.push(0)?;
         add_caps(net, &mut caps, row)?;
     }
@@ -56,7 +53,7 @@ fn add_caps(net: &Net, caps: &mut Vec<u32>, row: u32) -> Result<(), AllocError>
     requires { row < rows (instance_of_rows net.now) }
 {
     for round in 1..net.rounds() + 1 {
-        caps.push(cap(net, row, round))?;
+        caps.push(net.cap(row, round))?;
     }
     Ok(())
 }
@@ -112,17 +109,16 @@ fn places_of(alloc: Global, net: &Net, adapter: u32) -> Result<Vec<u32>, AllocEr
 fn own_rows(alloc: Global, net: &Net, adapter: u32) -> Result<(Vec<u32>, Vec<u32>), AllocError> {
     let (mut above, mut caps) = (Vec::new(alloc), Vec::new(alloc));
     let own = devices_of(net, adapter);
-    for device in 0..net.devices() {
-        if net.adapter_of(device) == adapter {
-            above.push(own)?;
+    for row in 0..net.rows() {
+        if adapter_of_row(net, row) == adapter {
+            above.push(if row < net.devices() {
+                own
+            } else {
+                own.saturating_add(1)
+            })?;
             caps.push(0)?;
-            add_caps(net, &mut caps, device)?;
+            add_caps(net, &mut caps, row)?;
         }
-    }
-    if adapter < net.adapters() {
-        above.push(own.saturating_add(1))?;
-        caps.push(0)?;
-        add_caps(net, &mut caps, net.devices() + adapter)?;
     }
     Ok((above, caps))
 }

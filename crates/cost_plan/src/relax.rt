@@ -1,15 +1,15 @@
 //! Raises labels by everything that can be changed in a draft, once. Where no label rises, they settle all of it.
 
 ghost use Rattle.std.specs.Prelude.{◌≡◌, ℕ, ◌+◌, ◌<◌, ◌≤◌, None, length};
+ghost use Rattle.round_net.specs.Instance.{rows};
 ghost use Rattle.round_net.specs.Rows.{instance_of_rows};
-ghost use Rattle.cost_plan.specs.Cells.{rows, node_count};
+ghost use Rattle.cost_plan.specs.Cells.{node_count};
 ghost use Rattle.gaining_cycle.specs.Labelling.{label_of};
 ghost use Rattle.cost_plan.specs.RowPrices.{SettlesAll};
 ghost use Rattle.cost_plan.specs.Draft.{IsDraftOf, schedule_of};
 ghost use Rattle.cost_plan.specs.Raising.{Raises, SettlesMoves, SettlesTake, SettlesGive, SettlesCell, SettlesRow};
 
 use crate::arcs::{giving, load, moving, taking};
-use crate::cells::cap;
 use crate::draft::Draft;
 use gaining_cycle::{Arc, Labels};
 use round_net::Net;
@@ -30,7 +30,7 @@ pub fn relax_take(
     ensures raises { Raises (instance_of_rows net.now) (schedule_of draft.now) labels.old labels.new result }
     ensures settled { result ≡ None → SettlesTake (instance_of_rows net.now) (schedule_of draft.now) labels.old row round }
 {
-    if load(net, draft, row, round) >= cap(net, row, round) {
+    if load(net, draft, row, round) >= net.cap(row, round) {
         return None;
     }
     labels.relax(taking(net, row, round))
@@ -148,7 +148,7 @@ fn relax_rows(net: &Net, draft: &Draft, labels: &mut Labels) -> Option<u32>
     ensures settled { result ≡ None → (row : ℕ) → row < rows (instance_of_rows net.now) → SettlesRow (instance_of_rows net.now) (schedule_of draft.now) labels.old row }
 {
     let mut found = None;
-    for row in 0..net.devices() + net.adapters() {
+    for row in 0..net.rows() {
         found = relax_row(net, draft, labels, row).or(found);
     }
     found

@@ -1,6 +1,7 @@
 //! The prices of an audit.
 
 ghost use Rattle.std.specs.Prelude.{◌<◌};
+ghost use Rattle.round_net.specs.Instance.{rows};
 ghost use Rattle.round_net.specs.Rows.{instance_of_rows};
 ghost use Rattle.round_net.specs.PriceRows.{IsPricingFor};
 
@@ -28,55 +29,24 @@ pub(crate) fn price_list(
     requires { IsPricingFor (instance_of_rows net.now) prices.now }
 {
     let mut list = Vec::new(alloc);
-    for device in 0..net.devices() {
-        push_device(&mut list, net, prices, device)?;
-    }
-    for adapter in 0..net.adapters() {
-        push_adapter(&mut list, net, prices, adapter)?;
+    for row in 0..net.rows() {
+        push_row(&mut list, net, prices, row)?;
     }
     Ok(list)
 }
 
-// Puts the prices of a device behind the others.
-fn push_device(
-    list: &mut Vec<Price>,
-    net: &Net,
-    prices: &Prices,
-    device: u32,
-) -> Result<(), AllocError>
+// Puts the prices of a row behind the others: those of its device, or of its adapter.
+fn push_row(list: &mut Vec<Price>, net: &Net, prices: &Prices, row: u32) -> Result<(), AllocError>
     requires prices { IsPricingFor (instance_of_rows net.now) prices.now }
-    requires device { device < (instance_of_rows net.now).devices }
+    requires row { row < rows (instance_of_rows net.now) }
 {
+    let devices = net.devices();
     for round in 0..net.rounds() {
-        let price = prices.dev(device, round + 1);
+        let price = prices.price(row, round + 1);
         if price > 0 {
             list.push(Price {
-                device: Some(device),
-                adapter: None,
-                round: round + 1,
-                price,
-            })?;
-        }
-    }
-    Ok(())
-}
-
-// Puts the prices of an adapter behind the others.
-fn push_adapter(
-    list: &mut Vec<Price>,
-    net: &Net,
-    prices: &Prices,
-    adapter: u32,
-) -> Result<(), AllocError>
-    requires prices { IsPricingFor (instance_of_rows net.now) prices.now }
-    requires adapter { adapter < (instance_of_rows net.now).adapters }
-{
-    for round in 0..net.rounds() {
-        let price = prices.sim(adapter, round + 1);
-        if price > 0 {
-            list.push(Price {
-                device: None,
-                adapter: Some(adapter),
+                device: (row < devices).then_some(row),
+                adapter: row.checked_sub(devices),
                 round: round + 1,
                 price,
             })?;

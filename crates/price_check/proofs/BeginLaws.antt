@@ -15,14 +15,13 @@ use Rattle.price_check.specs.declared.claim.Claim.{Claim}
 use Rattle.price_check.specs.declared.report_fault.ReportFault.{ReportFault}
 use Rattle.price_check.proofs.SeriesLemmas.{Reader}
 use Rattle.price_check.proofs.SeriesLaws.{texts_of, texts_below-same, series_takes, Takes}
-use Rattle.price_check.proofs.CellLaws.{form_of, dev_whose, sim_whose}
+use Rattle.price_check.proofs.CellLaws.{price_cells, form_of}
 use Rattle.price_check.proofs.LineLaws.{stay_form}
 use Rattle.price_check.specs.Claims.{fault_line}
 use Rattle.price_check.proofs.LinesLemmas.{IsClosed, closed_append}
 use Rattle.price_check.proofs.CutLaws.{AreLines, texts_closed}
 use Rattle.price_check.proofs.StepLaws.{Exact, Steps, series_broken, behind_one}
 use Rattle.price_check.proofs.SectionLaws.{seven_at, seven_form, seven_takes, seven_steps, seven_lines, seven_texts, said_of, parts_of, report_parts}
-use Rattle.price_check.proofs.PassLaws.{dev_cells, sim_cells}
 
 -- a fault's line follows on a front that is also the front of a claim's report
 pub record FailsBehind (past : Past) (net : NetRows) (live : ℕ) (text : List ℕ) (e : ReportFault) : Type 0 where
@@ -74,10 +73,10 @@ padded_texts form n k vs size le =
 
 -- ---- claims made of what was read
 
-abbrev pub made : NetRows → ℕ → ℕ → List ℕ → List ℕ → List ℕ → Claim
-made net best excess stays dev sim = record {
+abbrev pub made : NetRows → ℕ → ℕ → List ℕ → List ℕ → Claim
+made net best excess stays prices = record {
   schedule = stays;
-  prices = record { rounds = (instance_of_rows net).rounds; devices = (instance_of_rows net).devices; adapters = (instance_of_rows net).adapters; dev = dev; sim = sim };
+  prices = record { rounds = (instance_of_rows net).rounds; devices = (instance_of_rows net).devices; adapters = (instance_of_rows net).adapters; prices = prices };
   best = best;
   excess = excess;
 }
@@ -93,17 +92,15 @@ filled n most vs le small = record { size = padded_size n vs le; small = padded_
 pub zeros : (n most : ℕ) → Fitting n most (replicate n 0)
 zeros n most = record { size = length-replicate n 0; small = All-replicate (λ v. v ≤ most) n 0 (let le : 0 ≤ most = omega arith in le) }
 
-pub is_claim : (net : NetRows) (best excess : ℕ) (stays dev sim : List ℕ) → IsSound (instance_of_rows net) (live_of_rows net) → best ≤ most_stated → excess ≤ most_stated
-    → Fitting (instance_of_rows net).stays 65535 stays → Fitting (dev_cells net) MOST_PRICE dev → Fitting (sim_cells net) MOST_PRICE sim → IsClaim (instance_of_rows net) (made net best excess stays dev sim)
-is_claim net best excess stays dev sim sound small small' hs hd ha = record {
+pub is_claim : (net : NetRows) (best excess : ℕ) (stays prices : List ℕ) → IsSound (instance_of_rows net) (live_of_rows net) → best ≤ most_stated → excess ≤ most_stated
+    → Fitting (instance_of_rows net).stays 65535 stays → Fitting (price_cells net) MOST_PRICE prices → IsClaim (instance_of_rows net) (made net best excess stays prices)
+is_claim net best excess stays prices sound small small' hs hp = record {
   stays = hs.size;
   rounds = hs.small;
   pricing = record { rounds = refl; devices = refl; adapters = refl };
   priced = record {
-    dev_cells = hd.size;
-    sim_cells = ha.size;
-    dev_small = hd.small;
-    sim_small = ha.small;
+    cells = hp.size;
+    small = hp.small;
     few_rounds = sound.few_rounds;
     few_devices = sound.few_devices;
     few_adapters = sound.few_adapters;
@@ -113,16 +110,15 @@ is_claim net best excess stays dev sim sound small small' hs hd ha = record {
 }
 
 -- its report, by sections
-abbrev pub sections : Past → NetRows → ℕ → ℕ → ℕ → List ℕ → List ℕ → List ℕ → List ℕ
-sections past net live best excess stays dev sim =
+abbrev pub sections : Past → NetRows → ℕ → ℕ → ℕ → List ℕ → List ℕ → List ℕ
+sections past net live best excess stays prices =
     texts_of (seven_form past.events live) 7 (said_of best excess)
     ++ (texts_of (stay_form net) (instance_of_rows net).stays stays
-    ++ (texts_of (form_of (dev_whose past.config.devices (instance_of_rows net).rounds) (instance_of_rows net).rounds) (dev_cells net) dev
-    ++ (texts_of (form_of (sim_whose (instance_of_rows net).rounds) (instance_of_rows net).rounds) (sim_cells net) sim ++ codes "end\n")))
+    ++ (texts_of (form_of past.config.devices (instance_of_rows net).rounds) (price_cells net) prices ++ codes "end\n"))
 
-pub made_report : (past : Past) (net : NetRows) (live best excess : ℕ) (stays dev sim : List ℕ) → report_text past net live (made net best excess stays dev sim) ≡ sections past net live best excess stays dev sim
+pub made_report : (past : Past) (net : NetRows) (live best excess : ℕ) (stays prices : List ℕ) → report_text past net live (made net best excess stays prices) ≡ sections past net live best excess stays prices
 unfolding parts_of
-made_report past net live best excess stays dev sim = report_parts past net live (made net best excess stays dev sim) (record { rounds = refl; devices = refl; adapters = refl })
+made_report past net live best excess stays prices = report_parts past net live (made net best excess stays prices) (record { rounds = refl; devices = refl; adapters = refl })
 
 -- ---- where a section fails
 
@@ -211,12 +207,10 @@ at_summary past net live text e sound h =
     let small : best ≤ most_stated = All-get_or (λ v. v ≤ most_stated) (padded 7 b.values) 5 0 (omega (arith, full.size)) full.small in
     let small' : excess ≤ most_stated = All-get_or (λ v. v ≤ most_stated) (padded 7 b.values) 6 0 (omega (arith, full.size)) full.small in
     let stays = replicate (instance_of_rows net).stays 0 in
-    let dev = replicate (dev_cells net) 0 in
-    let sim = replicate (sim_cells net) 0 in
+    let prices = replicate (price_cells net) 0 in
     let texts : texts_of form 7 (said_of best excess) ≡ texts_of form 7 (padded 7 b.values) = seven_texts past.events live best excess (said_of best excess) refl refl ∙ sym (seven_texts past.events live best excess (padded 7 b.values) refl refl) in
-    section_failed past net live text e form most_stated (seven_at past.events live text) 7 0 [] _ (made net best excess stays dev sim) (seven_lines past.events live) (record { whole = refl; closed = tt }) b
-    (is_claim net best excess stays dev sim sound small small' (zeros (instance_of_rows net).stays 65535) (zeros (dev_cells net) MOST_PRICE) (zeros (sim_cells net) MOST_PRICE))
-    (made_report past net live best excess stays dev sim
+    section_failed past net live text e form most_stated (seven_at past.events live text) 7 0 [] _ (made net best excess stays prices) (seven_lines past.events live) (record { whole = refl; closed = tt }) b
+    (is_claim net best excess stays prices sound small small' (zeros (instance_of_rows net).stays 65535) (zeros (price_cells net) MOST_PRICE))
+    (made_report past net live best excess stays prices
     ∙ ap (λ (l : List ℕ). l ++ (texts_of (stay_form net) (instance_of_rows net).stays stays
-    ++ (texts_of (form_of (dev_whose past.config.devices (instance_of_rows net).rounds) (instance_of_rows net).rounds) (dev_cells net) dev
-    ++ (texts_of (form_of (sim_whose (instance_of_rows net).rounds) (instance_of_rows net).rounds) (sim_cells net) sim ++ codes "end\n")))) texts)
+    ++ (texts_of (form_of past.config.devices (instance_of_rows net).rounds) (price_cells net) prices ++ codes "end\n"))) texts)

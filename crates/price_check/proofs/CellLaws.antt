@@ -1,6 +1,7 @@
 -- the prices of cells, one behind another
-use Rattle.std.proofs.Common.{◌≡◌, ◌<◌, ◌≤◌, ◌+◌, ◌*◌, ◌/◌, ◌%◌, ◌^◌, ℕ, List, ◌++◌, length, drop, get_or, Bool, true, false, refl, sym, ap, ◌∙◌, subst, arith, append_assoc, inl, inr}
+use Rattle.std.proofs.Common.{◌≡◌, ◌<◌, ◌≤◌, ◌+◌, ◌-◌, ◌*◌, ◌/◌, ◌%◌, ◌^◌, ℕ, List, ◌++◌, length, drop, get_or, Bool, true, false, refl, sym, ap, ◌∙◌, subst, arith, append_assoc, inl, inr}
 use Rattle.std.specs.Prelude.{◌==◌, Option, Some, None, Ok, decimal, codes, slice_get, All}
+use Rattle.std.specs.Option.{option_map_or}
 use Rattle.std.proofs.lemmas.Bool.{eqb-true}
 use Rattle.std.proofs.lemmas.List.{append_cancel_left}
 use Rattle.std.proofs.lemmas.List.Elements.{All-get_or}
@@ -8,25 +9,35 @@ use Rattle.std.proofs.lemmas.Fmt.{decimal_injective}
 use Rattle.std.proofs.lemmas.Option.{slice_get_cases}
 use Rattle.std.proofs.Math.Nat.{div-add-mod, div-lt_iff_lt-mul, mod-lt}
 use Rattle.cam_types.specs.declared.device.Device.{Device}
-use Rattle.cam_types.specs.declared.maxima.TheConstants.{MOST_ROUNDS, MOST_ADAPTERS}
+use Rattle.cam_types.specs.declared.maxima.TheConstants.{MOST_ROUNDS, MOST_DEVICES, MOST_ADAPTERS}
 use Rattle.cam_path.specs.Paths.{spelled, address_of}
+use Rattle.round_net.specs.Instance.{Instance, rows}
+use Rattle.round_net.specs.PriceRows.{PriceRows, IsPriced, IsPricingFor}
+use Rattle.round_net.specs.Rows.{NetRows, instance_of_rows}
 use Rattle.round_net.specs.declared.price_range.TheConstants.{MOST_PRICE}
 use Rattle.price_check.specs.Pieces.{skip}
-use Rattle.price_check.specs.Report.{number_text, price_line, path_text}
-use Rattle.price_check.specs.Reading.{price_at, dev_price_at, sim_price_at}
+use Rattle.price_check.specs.Report.{number_text, price_line, row_text}
+use Rattle.price_check.specs.Reading.{price_at, cell_price_at}
 use Rattle.price_check.proofs.PieceLaws.{IsApart}
-use Rattle.price_check.proofs.FormLaws.{price_front, dev_front-skip, sim_front-skip}
+use Rattle.price_check.proofs.FormLaws.{front_text, price_front-skip}
 use Rattle.price_check.proofs.PriceLaws.{regroup, price_takes, price_none, price_some}
-use Rattle.price_check.proofs.SeriesLemmas.{Reader}
 use Rattle.price_check.proofs.SeriesLaws.{Takes, Again, Joins}
 use Rattle.price_check.proofs.ApartLaws.{IsWord, same_word, word_decimal, word_spelled, spelled_injective, AreNamed}
 
--- the line of a cell's price, and its front
-abbrev pub form_of : (ℕ → List ℕ) → ℕ → ℕ → ℕ → List ℕ
-form_of whose rounds k v = price_line (whose k) (k % rounds + 1) v
+-- how many cells a net has
+abbrev pub price_cells : NetRows → ℕ
+price_cells net = rows (instance_of_rows net) * (instance_of_rows net).rounds
 
-abbrev pub front_of : (ℕ → List ℕ) → ℕ → ℕ → List ℕ
-front_of whose rounds k = price_front (whose k) (k % rounds + 1)
+-- the line of a cell's price, and its front
+abbrev pub form_of : List Device → ℕ → ℕ → ℕ → List ℕ
+form_of devices rounds k v = price_line (row_text devices (k / rounds)) (k % rounds + 1) v
+
+abbrev pub front_of : List Device → ℕ → ℕ → List ℕ
+front_of devices rounds k = front_text (row_text devices (k / rounds)) (k % rounds + 1)
+
+-- whose a row is, by what stands at its number among the devices
+abbrev whose_of : List Device → ℕ → Option Device → List ℕ
+whose_of devices row o = option_map_or (λ (device : Device). codes "price dev " ++ spelled (address_of device)) o (codes "price sim" ++ number_text (row - length devices))
 
 -- a text begins with no front of an earlier cell
 abbrev pub NoneBefore : (ℕ → List ℕ) → ℕ → List ℕ → Type 0
@@ -36,72 +47,60 @@ NoneBefore front k rest = (j : ℕ) → j < k → IsApart (front j) rest
 abbrev pub AreApart : (ℕ → List ℕ) → ℕ → Type 0
 AreApart front n = (j k : ℕ) (x y : List ℕ) → j < n → k < n → front j ++ x ≡ front k ++ y → j ≡ k
 
-pub begins : (whose : List ℕ) (r v : ℕ) (rest : List ℕ) → (v == 0) ≡ false → price_line whose r v ++ rest ≡ price_front whose r ++ (decimal v ++ (codes "\n" ++ rest))
+begins : (whose : List ℕ) (r v : ℕ) (rest : List ℕ) → (v == 0) ≡ false → price_line whose r v ++ rest ≡ front_text whose r ++ (decimal v ++ (codes "\n" ++ rest))
 begins whose r v rest some = rw some (sym (regroup whose (number_text r) (codes " ") (decimal v) (codes "\n") rest))
 
-pub nothing : (whose : List ℕ) (r v : ℕ) (rest : List ℕ) → (v == 0) ≡ true → price_line whose r v ++ rest ≡ rest
+nothing : (whose : List ℕ) (r v : ℕ) (rest : List ℕ) → (v == 0) ≡ true → price_line whose r v ++ rest ≡ rest
 nothing whose r v rest none = rw none refl
 
-pub cells_join : (whose : ℕ → List ℕ) (rounds n : ℕ) (vs : List ℕ) → AreApart (front_of whose rounds) n → Joins (form_of whose rounds) (NoneBefore (front_of whose rounds)) n vs
-cells_join whose rounds n vs apart k rest lt h = by (get_or vs k 0 == 0) refl
-  where
-    by : (b : Bool) → (get_or vs k 0 == 0) ≡ b → NoneBefore (front_of whose rounds) k (form_of whose rounds k (get_or vs k 0) ++ rest)
-    by true none = λ j less. subst (IsApart (front_of whose rounds j)) (sym (nothing (whose k) (k % rounds + 1) (get_or vs k 0) rest none)) (h j (omega arith))
-    by false some = λ j less tail e.
-        let same : j ≡ k = apart j k tail (decimal (get_or vs k 0) ++ (codes "\n" ++ rest)) (omega arith) lt (sym e ∙ begins (whose k) (k % rounds + 1) (get_or vs k 0) rest some) in
-        omega arith
+-- where a cell has a line, no front of an earlier one begins it
+pub none_earlier : (devices : List Device) (rounds n k v : ℕ) (rest : List ℕ) → AreApart (front_of devices rounds) n → k < n → (v == 0) ≡ false → NoneBefore (front_of devices rounds) k (form_of devices rounds k v ++ rest)
+none_earlier devices rounds n k v rest apart lt some = λ j less tail e.
+    let same : j ≡ k = apart j k tail (decimal v ++ (codes "\n" ++ rest)) (omega arith) lt (sym e ∙ begins (row_text devices (k / rounds)) (k % rounds + 1) v rest some) in
+    omega arith
 
-pub cells_again : (whose : ℕ → List ℕ) (rounds : ℕ) (text : List ℕ) (one : Reader) (n : ℕ) (vs : List ℕ) → n ≤ length vs → All (λ v. v ≤ MOST_PRICE) vs
-    → ((k at : ℕ) → k < n → one k at ≡ price_at (skip (front_of whose rounds k) text at) text at) → Again (form_of whose rounds) (NoneBefore (front_of whose rounds)) text one n vs
-cells_again whose rounds text one n vs le small reads k at rest lt e h = by (get_or vs k 0 == 0) refl
+pub cells_join : (devices : List Device) (rounds n : ℕ) (vs : List ℕ) → AreApart (front_of devices rounds) n → Joins (form_of devices rounds) (NoneBefore (front_of devices rounds)) n vs
+cells_join devices rounds n vs apart k rest lt h = by (get_or vs k 0 == 0) refl
   where
-    by : (b : Bool) → (get_or vs k 0 == 0) ≡ b → (end : ℕ) × (one k at ≡ Ok (get_or vs k 0, end)) × (drop end text ≡ rest)
+    by : (b : Bool) → (get_or vs k 0 == 0) ≡ b → NoneBefore (front_of devices rounds) k (form_of devices rounds k (get_or vs k 0) ++ rest)
+    by true none = λ j less. subst (IsApart (front_of devices rounds j)) (sym (nothing (row_text devices (k / rounds)) (k % rounds + 1) (get_or vs k 0) rest none)) (h j (omega arith))
+    by false some = none_earlier devices rounds n k (get_or vs k 0) rest apart lt some
+
+pub cell_reads : (devices : List Device) (rounds : ℕ) (text : List ℕ) (k at : ℕ) → cell_price_at devices rounds text k at ≡ price_at (skip (front_of devices rounds k) text at) text at
+unfolding cell_price_at
+cell_reads devices rounds text k at = ap (λ (f : Option ℕ). price_at f text at) (price_front-skip devices (k / rounds) (k % rounds + 1) text at)
+
+pub cells_take : (devices : List Device) (rounds : ℕ) (text : List ℕ) → Takes (form_of devices rounds) MOST_PRICE text (cell_price_at devices rounds text)
+cells_take devices rounds text k at said e = price_takes (row_text devices (k / rounds)) (k % rounds + 1) text at said (sym (cell_reads devices rounds text k at) ∙ e)
+
+pub cells_again : (devices : List Device) (rounds : ℕ) (text : List ℕ) (n : ℕ) (vs : List ℕ) → n ≤ length vs → All (λ v. v ≤ MOST_PRICE) vs
+    → Again (form_of devices rounds) (NoneBefore (front_of devices rounds)) text (cell_price_at devices rounds text) n vs
+cells_again devices rounds text n vs le small k at rest lt e h = by (get_or vs k 0 == 0) refl
+  where
+    by : (b : Bool) → (get_or vs k 0 == 0) ≡ b → (end : ℕ) × (cell_price_at devices rounds text k at ≡ Ok (get_or vs k 0, end)) × (drop end text ≡ rest)
     by true none =
         let zero' : get_or vs k 0 ≡ 0 = eqb-true (get_or vs k 0) 0 none in
-        let here : drop at text ≡ rest = e ∙ nothing (whose k) (k % rounds + 1) (get_or vs k 0) rest none in
-        let apart : IsApart (front_of whose rounds k) (drop at text) = subst (IsApart (front_of whose rounds k)) (sym here) (h k (omega arith)) in
-        (at, reads k at lt ∙ price_none (front_of whose rounds k) text at apart ∙ ap (λ (v : ℕ). Ok (v, at)) (sym zero'), here)
+        let here : drop at text ≡ rest = e ∙ nothing (row_text devices (k / rounds)) (k % rounds + 1) (get_or vs k 0) rest none in
+        let apart : IsApart (front_of devices rounds k) (drop at text) = subst (IsApart (front_of devices rounds k)) (sym here) (h k (omega arith)) in
+        (at, cell_reads devices rounds text k at ∙ price_none (front_of devices rounds k) text at apart ∙ ap (λ (v : ℕ). Ok (v, at)) (sym zero'), here)
     by false some =
         let most = All-get_or (λ v. v ≤ MOST_PRICE) vs k 0 (omega arith) small in
-        let read = price_some (whose k) (k % rounds + 1) (get_or vs k 0) text rest at some most e in
-        (read.0, reads k at lt ∙ read.1, read.2)
-
--- ---- whose prices
-
-abbrev pub dev_whose : List Device → ℕ → ℕ → List ℕ
-dev_whose devices rounds k = codes "price dev " ++ path_text devices (k / rounds)
-
-abbrev pub sim_whose : ℕ → ℕ → List ℕ
-sim_whose rounds k = codes "price sim" ++ number_text (k / rounds)
-
-pub dev_reads : (devices : List Device) (rounds : ℕ) (text : List ℕ) (k at : ℕ) (device : Device) → slice_get devices (k / rounds) ≡ Some device
-    → dev_price_at devices rounds text k at ≡ price_at (skip (front_of (dev_whose devices rounds) rounds k) text at) text at
-unfolding dev_price_at path_text
-dev_reads devices rounds text k at device is = rw is (ap (λ (f : Option ℕ). price_at f text at) (dev_front-skip device (k % rounds + 1) text at))
-
-no_device : (devices : List Device) (rounds : ℕ) (text : List ℕ) (k at : ℕ) → slice_get devices (k / rounds) ≡ None → dev_price_at devices rounds text k at ≡ Ok (0, at)
-unfolding dev_price_at
-no_device devices rounds text k at is = rw is refl
-
-pub dev_takes : (devices : List Device) (rounds : ℕ) (text : List ℕ) → Takes (form_of (dev_whose devices rounds) rounds) MOST_PRICE text (dev_price_at devices rounds text)
-dev_takes devices rounds text k at said e = by (slice_get devices (k / rounds)) refl
-  where
-    by : (o : Option Device) → slice_get devices (k / rounds) ≡ o → (drop at text ≡ form_of (dev_whose devices rounds) rounds k said.0 ++ drop said.1 text) × (said.0 ≤ MOST_PRICE)
-    by (Some device) is = price_takes (dev_whose devices rounds k) (k % rounds + 1) text at said (sym (dev_reads devices rounds text k at device is) ∙ e)
-    by None is =
-        let h : Ok (0, at) ≡ Ok said = sym (no_device devices rounds text k at is) ∙ e in
-        let none : ℕ × ℕ = (0, at) in
-        let same : none ≡ said = cc in
-        subst (λ (q : ℕ × ℕ). (drop at text ≡ form_of (dev_whose devices rounds) rounds k q.0 ++ drop q.1 text) × (q.0 ≤ MOST_PRICE)) same (refl, omega arith)
-
-pub sim_reads : (rounds : ℕ) (text : List ℕ) (k at : ℕ) → sim_price_at rounds text k at ≡ price_at (skip (front_of (sim_whose rounds) rounds k) text at) text at
-unfolding sim_price_at
-sim_reads rounds text k at = ap (λ (f : Option ℕ). price_at f text at) (sim_front-skip (k / rounds) (k % rounds + 1) text at)
-
-pub sim_takes : (rounds : ℕ) (text : List ℕ) → Takes (form_of (sim_whose rounds) rounds) MOST_PRICE text (sim_price_at rounds text)
-sim_takes rounds text k at said e = price_takes (sim_whose rounds k) (k % rounds + 1) text at said (sym (sim_reads rounds text k at) ∙ e)
+        let read = price_some (row_text devices (k / rounds)) (k % rounds + 1) (get_or vs k 0) text rest at some most e in
+        (read.0, cell_reads devices rounds text k at ∙ read.1, read.2)
 
 -- ---- cells whose lines begin alike are one
+
+pub at_byte : (k : ℕ) (xs ys : List ℕ) → xs ≡ ys → get_or xs k 0 ≡ get_or ys k 0
+at_byte k xs ys e = ap (λ (l : List ℕ). get_or l k 0) e
+
+-- the last line begins with no front of a cell
+pub none_at_end : (devices : List Device) (rounds n : ℕ) (rest : List ℕ) → NoneBefore (front_of devices rounds) n (codes "end\n" ++ rest)
+unfolding row_text
+none_at_end devices rounds n rest = λ j lt tail front. by (slice_get devices (j / rounds)) j tail front
+  where
+    by : (o : Option Device) (j : ℕ) (tail : List ℕ) → codes "end\n" ++ rest ≡ front_text (whose_of devices (j / rounds) o) (j % rounds + 1) ++ tail → ⊥
+    by (Some device) j tail front = let wrong : ◌≡◌ {A = ℕ} 101 112 = at_byte 0 _ _ front in absurd (omega arith)
+    by None j tail front = let wrong : ◌≡◌ {A = ℕ} 101 112 = at_byte 0 _ _ front in absurd (omega arith)
 
 regrouped : (p a s r x : List ℕ) → ((p ++ a) ++ ((s ++ r) ++ s)) ++ x ≡ p ++ (a ++ (s ++ (r ++ (s ++ x))))
 regrouped p a s r x = simp append_assoc
@@ -113,6 +112,37 @@ same_words p a b r r' x y wa wb wr wr' e =
     let other = same_word r r' x y wr wr' one.1 in
     (one.0, other.0)
 
+past_devices : (devices : List Device) (row : ℕ) → slice_get devices row ≡ None → length devices ≤ row
+past_devices devices row none = elim (slice_get_cases devices row).1 [
+  | inl here ↦ let some = here.2 in absurd cc
+  | inr past ↦ omega (arith, past.0)
+]
+
+same_row : (devices : List Device) (row row' r r' : ℕ) (x y : List ℕ) → AreNamed devices → row < 2 ^ 64 → row' < 2 ^ 64 → r < 2 ^ 64 → r' < 2 ^ 64
+    → front_text (row_text devices row) r ++ x ≡ front_text (row_text devices row') r' ++ y → (row ≡ row') × (r ≡ r')
+unfolding row_text
+same_row devices row row' r r' x y named fits fits' few few' e = by (slice_get devices row) (slice_get devices row') refl refl e
+  where
+    by : (o o' : Option Device) → slice_get devices row ≡ o → slice_get devices row' ≡ o' → front_text (whose_of devices row o) r ++ x ≡ front_text (whose_of devices row' o') r' ++ y → (row ≡ row') × (r ≡ r')
+    by (Some one) (Some other) is is' e =
+        let fits = named.fits row one is in
+        let fits' = named.fits row' other is' in
+        let words = same_words (codes "price dev ") (spelled (address_of one)) (spelled (address_of other)) (decimal r) (decimal r') x y
+        (word_spelled (address_of one) fits) (word_spelled (address_of other) fits') (word_decimal r few) (word_decimal r' few') e in
+        (named.apart row row' one other is is' (spelled_injective (address_of one) (address_of other) fits fits' words.0), decimal_injective r r' few few' words.1)
+    by (Some one) None is is' e = let wrong : ◌≡◌ {A = ℕ} 100 115 = at_byte 6 _ _ e in absurd (omega arith)
+    by None (Some other) is is' e = let wrong : ◌≡◌ {A = ℕ} 115 100 = at_byte 6 _ _ e in absurd (omega arith)
+    by None None is is' e =
+        let a = row - length devices in
+        let b = row' - length devices in
+        let fits : a < 2 ^ 64 = omega arith in
+        let fits' : b < 2 ^ 64 = omega arith in
+        let words = same_words (codes "price sim ") (decimal a) (decimal b) (decimal r) (decimal r') x y (word_decimal a fits) (word_decimal b fits') (word_decimal r few) (word_decimal r' few') e in
+        let past = past_devices devices row is in
+        let past' = past_devices devices row' is' in
+        let same : a ≡ b = decimal_injective a b fits fits' words.0 in
+        (omega arith, decimal_injective r r' few few' words.1)
+
 same_cell : (rounds j k : ℕ) → j / rounds ≡ k / rounds → j % rounds + 1 ≡ k % rounds + 1 → j ≡ k
 same_cell rounds j k row round =
     let one = div-add-mod j rounds in
@@ -120,53 +150,27 @@ same_cell rounds j k row round =
     let product : rounds * (j / rounds) ≡ rounds * (k / rounds) = ap (λ (q : ℕ). rounds * q) row in
     omega arith
 
-pub row_within : (rows rounds k : ℕ) → 1 ≤ rounds → k < rows * rounds → k / rounds < rows
-row_within rows rounds k some lt = (div-lt_iff_lt-mul some).1 lt
-
 few_round : (rounds k : ℕ) → 1 ≤ rounds → rounds ≤ MOST_ROUNDS → k % rounds + 1 < 2 ^ 64
 few_round rounds k some few = let lt : k % rounds < rounds = mod-lt k some in omega arith
 
-pub dev_apart : (devices : List Device) (rounds : ℕ) → AreNamed devices → 1 ≤ rounds → rounds ≤ MOST_ROUNDS → AreApart (front_of (dev_whose devices rounds) rounds) (length devices * rounds)
-unfolding path_text
-dev_apart devices rounds named some few j k x y jlt klt e = by (found (j / rounds) (row_within (length devices) rounds j some jlt)) (found (k / rounds) (row_within (length devices) rounds k some klt))
-  where
-    found : (d : ℕ) → d < length devices → (device : Device) × (slice_get devices d ≡ Some device)
-    found d lt = elim (slice_get_cases devices d).1 [
-      | inl here ↦ (here.0, here.2)
-      | inr past ↦ absurd (omega (arith, past.0))
-    ]
+pub cells_apart : (devices : List Device) (n rounds : ℕ) → AreNamed devices → n ≤ MOST_DEVICES + MOST_ADAPTERS → 1 ≤ rounds → rounds ≤ MOST_ROUNDS → AreApart (front_of devices rounds) (n * rounds)
+cells_apart devices n rounds named small some few j k x y jlt klt e =
+    let row : j / rounds < n = (div-lt_iff_lt-mul some).1 jlt in
+    let row' : k / rounds < n = (div-lt_iff_lt-mul some).1 klt in
+    let same = same_row devices (j / rounds) (k / rounds) (j % rounds + 1) (k % rounds + 1) x y named (omega arith) (omega arith) (few_round rounds j some few) (few_round rounds k some few) e in
+    same_cell rounds j k same.0 same.1
 
-    by : ((device : Device) × (slice_get devices (j / rounds) ≡ Some device)) → ((device : Device) × (slice_get devices (k / rounds) ≡ Some device)) → j ≡ k
-    by one other =
-        let fits = named.fits (j / rounds) one.0 one.1 in
-        let fits' = named.fits (k / rounds) other.0 other.1 in
-        let e' : ((codes "price dev " ++ spelled (address_of one.0)) ++ ((codes " " ++ decimal (j % rounds + 1)) ++ codes " ")) ++ x
-        ≡ ((codes "price dev " ++ spelled (address_of other.0)) ++ ((codes " " ++ decimal (k % rounds + 1)) ++ codes " ")) ++ y = rw (one.1, other.1) at e in
-        let words = same_words (codes "price dev ") (spelled (address_of one.0)) (spelled (address_of other.0)) (decimal (j % rounds + 1)) (decimal (k % rounds + 1)) x y
-        (word_spelled (address_of one.0) fits) (word_spelled (address_of other.0) fits') (word_decimal (j % rounds + 1) (few_round rounds j some few)) (word_decimal (k % rounds + 1) (few_round rounds k some few)) e' in
-        same_cell rounds j k
-        (named.apart (j / rounds) (k / rounds) one.0 other.0 one.1 other.1 (spelled_injective (address_of one.0) (address_of other.0) fits fits' words.0))
-        (decimal_injective (j % rounds + 1) (k % rounds + 1) (few_round rounds j some few) (few_round rounds k some few) words.1)
+-- ---- prices for a net
 
-pub sim_apart : (adapters rounds : ℕ) → adapters ≤ MOST_ADAPTERS → 1 ≤ rounds → rounds ≤ MOST_ROUNDS → AreApart (front_of (sim_whose rounds) rounds) (adapters * rounds)
-sim_apart adapters rounds few' some few j k x y jlt klt e =
-    let row = row_within adapters rounds j some jlt in
-    let row' = row_within adapters rounds k some klt in
-    let fits : j / rounds < 2 ^ 64 = omega arith in
-    let fits' : k / rounds < 2 ^ 64 = omega arith in
-    let words = same_words (codes "price sim ") (decimal (j / rounds)) (decimal (k / rounds)) (decimal (j % rounds + 1)) (decimal (k % rounds + 1)) x y
-    (word_decimal (j / rounds) fits) (word_decimal (k / rounds) fits') (word_decimal (j % rounds + 1) (few_round rounds j some few)) (word_decimal (k % rounds + 1) (few_round rounds k some few)) e in
-    same_cell rounds j k (decimal_injective (j / rounds) (k / rounds) fits fits' words.0)
-    (decimal_injective (j % rounds + 1) (k % rounds + 1) (few_round rounds j some few) (few_round rounds k some few) words.1)
+pub pricing_cells : (net : Instance) (p : PriceRows) → IsPricingFor net p → IsPriced p → length p.prices ≡ rows net * net.rounds
+pricing_cells net p h is = is.cells ∙ rw (h.rounds, h.devices, h.adapters) refl
 
-pub dev_again : (devices : List Device) (rounds : ℕ) (text : List ℕ) (vs : List ℕ) → 1 ≤ rounds → length vs ≡ length devices * rounds → All (λ v. v ≤ MOST_PRICE) vs
-    → Again (form_of (dev_whose devices rounds) rounds) (NoneBefore (front_of (dev_whose devices rounds) rounds)) text (dev_price_at devices rounds text) (length devices * rounds) vs
-dev_again devices rounds text vs some size small = cells_again (dev_whose devices rounds) rounds text (dev_price_at devices rounds text) (length devices * rounds) vs (omega arith) small
-    (λ k at lt. elim (slice_get_cases devices (k / rounds)).1 [
-      | inl here ↦ dev_reads devices rounds text k at here.0 here.2
-      | inr past ↦ absurd (let within = row_within (length devices) rounds k some lt in omega (arith, past.0))
-    ])
-
-pub sim_again : (adapters rounds : ℕ) (text : List ℕ) (vs : List ℕ) → length vs ≡ adapters * rounds → All (λ v. v ≤ MOST_PRICE) vs
-    → Again (form_of (sim_whose rounds) rounds) (NoneBefore (front_of (sim_whose rounds) rounds)) text (sim_price_at rounds text) (adapters * rounds) vs
-sim_again adapters rounds text vs size small = cells_again (sim_whose rounds) rounds text (sim_price_at rounds text) (adapters * rounds) vs (omega arith) small (λ k at lt. sim_reads rounds text k at)
+pub net_apart : (devices : List Device) (net : Instance) (p : PriceRows) → AreNamed devices → 1 ≤ net.rounds → IsPricingFor net p → IsPriced p → AreApart (front_of devices net.rounds) (rows net * net.rounds)
+net_apart devices net p named some h is =
+    let rounds = h.rounds in
+    let devices' = h.devices in
+    let adapters = h.adapters in
+    let few_rounds = is.few_rounds in
+    let few_devices = is.few_devices in
+    let few_adapters = is.few_adapters in
+    cells_apart devices (rows net) net.rounds named (omega arith) some (omega arith)

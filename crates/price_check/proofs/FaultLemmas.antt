@@ -1,23 +1,25 @@
 -- a schedule is admissible where it has no fault, and not where it has one
-use Rattle.std.proofs.Common.{◌≡◌, ℕ, zero, suc, ◌+◌, ◌<◌, ◌≤◌, Bool, true, false, cond, refl, arith, Option, Some, None}
+use Rattle.std.proofs.Common.{◌≡◌, ℕ, zero, suc, ◌+◌, ◌<◌, ◌≤◌, Bool, true, false, cond, [], ◌∷◌, refl, arith, Option, Some, None}
 use Rattle.std.specs.Prelude.{◌==◌, ◌&&◌, nat_lt}
 use Rattle.std.proofs.lemmas.Bool.{and_parts, eqb-true, ltb-true}
 use Rattle.std.proofs.lemmas.Bool.Decides.{nat_tests}
+use Rattle.std.proofs.lemmas.List.Elements.{All-nil, All-cons}
 use Rattle.round_net.specs.Sums.{count_below}
-use Rattle.round_net.specs.Instance.{Instance, adapter}
-use Rattle.round_net.specs.Schedules.{IsAdmissible, device_load, adapter_load}
+use Rattle.round_net.specs.Instance.{Instance, adapter, adapter_row, path, uses}
+use Rattle.round_net.specs.Schedules.{IsAdmissible, load}
 use Rattle.round_net.specs.Sound.{IsSound}
-use Rattle.price_check.specs.Faults.{at_device, at_adapter, fault_at, IsFaultlessBelow, IsFirstFault}
+use Rattle.round_net.proofs.PathLemmas.{uses-device, uses-adapter}
+use Rattle.price_check.specs.Faults.{at_row, is_over, fault_at, IsFaultlessBelow, IsFirstFault}
 use Rattle.price_check.specs.declared.verdict.Cause.{Cause}
 use Rattle.price_check.specs.declared.verdict.Cause.TheVariants.{Early, Late, DeviceFull, AdapterFull}
 use Rattle.price_check.proofs.TallyLemmas.{count_below-more}
+use Rattle.price_check.proofs.UsedLemmas.{of_used, used_within}
 
 -- what no fault says of a stay
 pub record IsWell (net : Instance) (f : ℕ → ℕ) (s : ℕ) : Type 0 where
   pub not_early : net.arrival s ≤ f s
   pub not_late : f s ≤ net.last s
-  pub device : at_device net f s ≤ net.dev_cap (net.device s) (f s)
-  pub adapter : at_adapter net f s ≤ net.sim_cap (adapter net s) (f s)
+  pub holds : (row : ℕ) → uses net row s ≡ true → at_row net f row s ≤ net.cap row (f s)
 
 not_taken : {X : Type 0} → (b : Bool) (x : X) (o : Option X) → cond b (Some x) o ≡ None → (b ≡ false) × (o ≡ None)
 not_taken true x o e = absurd cc
@@ -32,35 +34,43 @@ less-not a b e = grind (arith, nat_tests)
 pub well_where_no_fault : (net : Instance) (f : ℕ → ℕ) (s : ℕ) → fault_at net f s ≡ None → IsWell net f s
 unfolding fault_at
 well_where_no_fault net f s e =
+    let device = net.device s in
+    let row' = adapter_row net (adapter net s) in
+    let Q : ℕ → Type 0 = λ x. at_row net f x s ≤ net.cap x (f s) in
     let one = not_taken (nat_lt (f s) (net.arrival s)) Early _ e in
     let two = not_taken (nat_lt (net.last s) (f s)) Late _ one.1 in
-    let three = not_taken (nat_lt (net.dev_cap (net.device s) (f s)) (at_device net f s)) DeviceFull _ two.1 in
-    let four = not_taken (nat_lt (net.sim_cap (adapter net s) (f s)) (at_adapter net f s)) AdapterFull _ three.1 in
+    let three = not_taken (is_over net f device s) DeviceFull _ two.1 in
+    let four = not_taken (is_over net f row' s) AdapterFull _ three.1 in
     record {
       not_early = not_less _ _ one.0;
       not_late = not_less _ _ two.0;
-      device = not_less _ _ three.0;
-      adapter = not_less _ _ four.0;
+      holds = λ row own. of_used Q (path net s) row (All-cons Q device (row' ∷ []) (not_less _ _ three.0) (All-cons Q row' [] (not_less _ _ four.0) (All-nil Q))) own;
     }
 
 pub no_fault_where_well : (net : Instance) (f : ℕ → ℕ) (s : ℕ) → IsWell net f s → fault_at net f s ≡ None
 unfolding fault_at
 no_fault_where_well net f s well =
-    rw (less-not (f s) (net.arrival s) well.not_early, less-not (net.last s) (f s) well.not_late, less-not (net.dev_cap (net.device s) (f s)) (at_device net f s) well.device, less-not (net.sim_cap (adapter net s) (f s)) (at_adapter net f s) well.adapter) refl
+    let device = net.device s in
+    let row = adapter_row net (adapter net s) in
+    rw (
+      less-not (f s) (net.arrival s) well.not_early,
+      less-not (net.last s) (f s) well.not_late,
+      less-not (net.cap device (f s)) (at_row net f device s) (well.holds device (uses-device net s)),
+      less-not (net.cap row (f s)) (at_row net f row s) (well.holds row (uses-adapter net s)),
+    ) refl
 
--- where each stay, with those before it, keeps within a cap, all together do
-load_within : (n : ℕ) (row round : ℕ → ℕ) (x r cap : ℕ) → ((s : ℕ) → s < n → row s ≡ x → round s ≡ r → count_below (s + 1) (λ t. (row t == x) && (round t == r)) ≤ cap) → count_below n (λ t. (row t == x) && (round t == r)) ≤ cap
-load_within zero row round x r cap h = omega arith
-load_within (suc n) row round x r cap h =
-    let rest : count_below n (λ t. (row t == x) && (round t == r)) ≤ cap = load_within n row round x r cap (λ s lt. h s (omega arith)) in
-    elim ((row n == x) && (round n == r)) as (λ b. ((row n == x) && (round n == r)) ≡ b → count_below n (λ t. (row t == x) && (round t == r)) + cond b 1 0 ≤ cap) [
+-- where each stay that passes a test, with those before it, keeps within a cap, all together do
+load_within : (n : ℕ) (test : ℕ → Bool) (round : ℕ → ℕ) (r cap : ℕ) → ((s : ℕ) → s < n → test s ≡ true → round s ≡ r → count_below (s + 1) (λ t. test t && (round t == r)) ≤ cap) → count_below n (λ t. test t && (round t == r)) ≤ cap
+load_within zero test round r cap h = omega arith
+load_within (suc n) test round r cap h =
+    let rest : count_below n (λ t. test t && (round t == r)) ≤ cap = load_within n test round r cap (λ s lt. h s (omega arith)) in
+    elim (test n && (round n == r)) as (λ b. (test n && (round n == r)) ≡ b → count_below n (λ t. test t && (round t == r)) + cond b 1 0 ≤ cap) [
       | true ↦ λ e.
-          let parts = and_parts (row n == x) (round n == r) e in
-          let at : row n ≡ x = eqb-true (row n) x parts.0 in
-          let at' : round n ≡ r = eqb-true (round n) r parts.1 in
-          let here : count_below (n + 1) (λ t. (row t == x) && (round t == r)) ≤ cap = h n (omega arith) at at' in
-          let more = count_below-more n (λ t. (row t == x) && (round t == r)) in
-          let one : ◌≡◌ {A = ℕ} (cond ((row n == x) && (round n == r)) 1 0) 1 = rw e refl in
+          let parts = and_parts (test n) (round n == r) e in
+          let at : round n ≡ r = eqb-true (round n) r parts.1 in
+          let here : count_below (n + 1) (λ t. test t && (round t == r)) ≤ cap = h n (omega arith) parts.0 at in
+          let more = count_below-more n (λ t. test t && (round t == r)) in
+          let one : ◌≡◌ {A = ℕ} (cond (test n && (round n == r)) 1 0) 1 = rw e refl in
           omega arith
       | false ↦ λ e. omega arith
     ] refl
@@ -69,10 +79,8 @@ pub admissible_where_faultless : (net : Instance) (f : ℕ → ℕ) → IsFaultl
 admissible_where_faultless net f faultless = record {
   not_early = λ s lt. (well_where_no_fault net f s (faultless s lt)).not_early;
   not_late = λ s lt. (well_where_no_fault net f s (faultless s lt)).not_late;
-  devices_hold = λ d r within some most.
-      load_within net.stays net.device f d r (net.dev_cap d r) (λ s lt at at'. let well = (well_where_no_fault net f s (faultless s lt)).device in rw (at, at') at well);
-  adapters_hold = λ a r within some most.
-      load_within net.stays (adapter net) f a r (net.sim_cap a r) (λ s lt at at'. let well = (well_where_no_fault net f s (faultless s lt)).adapter in rw (at, at') at well);
+  rows_hold = λ row r within some most.
+      load_within net.stays (uses net row) f r (net.cap row r) (λ s lt own at. let holds = (well_where_no_fault net f s (faultless s lt)).holds row own in rw at at holds);
 }
 
 -- a count over more numbers is no less
@@ -90,15 +98,14 @@ well_where_admissible net live f s sound is lt =
     let late = is.not_late s lt in
     let first = sound.from_first s lt in
     let last = sound.to_last s lt in
-    let device = sound.on_device s lt in
-    let le : s + 1 ≤ net.stays = omega arith in
-    let some : 1 ≤ f s = omega arith in
-    let most : f s ≤ net.rounds = omega arith in
-    let holds : device_load net f (net.device s) (f s) ≤ net.dev_cap (net.device s) (f s) = is.devices_hold (net.device s) (f s) device some most in
-    let holds' : adapter_load net f (adapter net s) (f s) ≤ net.sim_cap (adapter net s) (f s) = is.adapters_hold (adapter net s) (f s) (sound.on_adapter (net.device s) device) some most in
-    let part : at_device net f s ≤ device_load net f (net.device s) (f s) = count_below-le (s + 1) net.stays (λ t. (net.device t == net.device s) && (f t == f s)) le in
-    let part' : at_adapter net f s ≤ adapter_load net f (adapter net s) (f s) = count_below-le (s + 1) net.stays (λ t. (adapter net t == adapter net s) && (f t == f s)) le in
-    record { not_early = early; not_late = late; device = omega arith; adapter = omega arith }
+    record {
+      not_early = early;
+      not_late = late;
+      holds = λ row own.
+          let all : load net f row (f s) ≤ net.cap row (f s) = is.rows_hold row (f s) (used_within net live s row sound lt own) (omega arith) (omega arith) in
+          let part : at_row net f row s ≤ load net f row (f s) = count_below-le (s + 1) net.stays (λ t. uses net row t && (f t == f s)) (omega arith) in
+          omega arith;
+    }
 
 pub faulty_not_admissible : (net : Instance) (live f : ℕ → ℕ) (s : ℕ) (cause : Cause) → IsSound net live → IsFirstFault net f s cause → IsAdmissible net f → ⊥
 faulty_not_admissible net live f s cause sound fault is =

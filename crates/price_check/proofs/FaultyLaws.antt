@@ -20,7 +20,7 @@ use Rattle.price_check.specs.declared.claim.Claim.{Claim}
 use Rattle.price_check.specs.declared.report_fault.ReportFault.{ReportFault}
 use Rattle.price_check.specs.declared.report_fault.ReportFault.TheVariants as fault
 use Rattle.price_check.proofs.ApartLaws.{named_devices}
-use Rattle.price_check.proofs.OutcomeLaws.{ends, last_byte, some_rounds, devices_of, live_is_known, IsOfText, FailsByText, Gives, reading_fails}
+use Rattle.price_check.proofs.OutcomeLaws.{ends, last_byte, some_rounds, live_is_known, IsOfText, FailsByText, Gives, reading_fails}
 use Rattle.price_check.proofs.ReadingLaws.{reading_again}
 use Rattle.price_check.specs.TextLines.{lines, with_byte}
 use Rattle.price_check.specs.Claims.{fault_line, IsFirstFaulty}
@@ -142,7 +142,7 @@ none_begins past net live text e claim known closed h counted same =
     let few' : length (take n (lines report)) < n = subst (λ (ls : List (List ℕ)). length ls < n) same few in
     let all : lines text ≡ lines report = sym (short n (lines text) few) ∙ same ∙ short n (lines report) few' in
     let equal : text ≡ report = same_lines text report closed (report_closed past net live claim) all in
-    let read = reading_again past net live text claim known.named known.size known.some known.claims equal in
+    let read = reading_again past net live text claim known.named known.some known.claims equal in
     absurd (differ (reading past.config.devices past.events live net text) read h)
   where
     differ : (r : Result Claim ReportFault) → r ≡ Ok claim → r ≡ Err e → ⊥
@@ -196,7 +196,6 @@ first_faulty past net live (c ∷ cs) e is config sound h =
       none = λ targets claim b.
           let known : Known past net claim = record {
             named = named_devices past.config config.kept targets;
-            size = devices_of past.config past.events net is;
             some = some_rounds past.config past.events net is;
             claims = b.claims;
           } in

@@ -7,21 +7,21 @@ use Rattle.round_net.specs.Sound.{IsSound}
 use Rattle.round_net.specs.declared.price_range.TheConstants.{MOST_PRICE}
 use Rattle.price_check.specs.Pieces.{skip, line_of}
 use Rattle.price_check.specs.Forms.{most_stated}
-use Rattle.price_check.specs.Reading.{due, summary_at, stay_at, dev_price_at, sim_price_at, series, stops, ended, reading}
+use Rattle.price_check.specs.Reading.{due, summary_at, stay_at, cell_price_at, series, stops, ended, reading}
 use Rattle.price_check.specs.Claims.{report_text}
 use Rattle.price_check.specs.declared.report_fault.ReportFault.{ReportFault}
 use Rattle.price_check.specs.declared.report_fault.ReportFault.TheVariants as fault
 use Rattle.price_check.proofs.PieceLaws.{skip_takes}
 use Rattle.price_check.proofs.SeriesLaws.{texts_of, series_takes}
-use Rattle.price_check.proofs.CellLaws.{form_of, dev_whose, sim_whose, dev_takes, sim_takes}
+use Rattle.price_check.proofs.CellLaws.{price_cells, form_of, cells_take}
 use Rattle.price_check.proofs.LineLaws.{ok_some, stay_form, stay_takes}
 use Rattle.price_check.proofs.ReportLaws.{summary_takes}
 use Rattle.price_check.specs.Claims.{fault_line}
 use Rattle.price_check.proofs.LinesLemmas.{closed_line}
 use Rattle.price_check.proofs.CutLaws.{texts_closed}
-use Rattle.price_check.proofs.StepLaws.{on_err, stay_steps, dev_steps, sim_steps}
-use Rattle.price_check.proofs.SectionLaws.{seven_at, seven_form, seven_lines, seven_texts, stay_lines, dev_lines, sim_lines, stated, said_of, summary-series}
-use Rattle.price_check.proofs.PassLaws.{dev_cells, sim_cells, reading_parts}
+use Rattle.price_check.proofs.StepLaws.{on_err, stay_steps, cell_steps}
+use Rattle.price_check.proofs.SectionLaws.{seven_at, seven_form, seven_lines, seven_texts, stay_lines, cell_lines, stated, said_of, summary-series}
+use Rattle.price_check.proofs.PassLaws.{reading_parts}
 use Rattle.price_check.proofs.BeginLaws.{FailsBehind, broken_at, padded, Fitting, filled, zeros, made, is_claim, made_report, failed, Front, longer, section_failed, at_summary}
 
 -- what the sections before one have given, and their text
@@ -52,33 +52,22 @@ seven_part past live costs = texts_of (seven_form past.events live) 7 (said_of c
 abbrev stay_part : NetRows → List ℕ → List ℕ
 stay_part net stays = texts_of (stay_form net) (instance_of_rows net).stays stays
 
-abbrev dev_part : Past → NetRows → List ℕ → List ℕ
-dev_part past net dev = texts_of (form_of (dev_whose past.config.devices (instance_of_rows net).rounds) (instance_of_rows net).rounds) (dev_cells net) dev
-
-abbrev sim_part : NetRows → List ℕ → List ℕ
-sim_part net sim = texts_of (form_of (sim_whose (instance_of_rows net).rounds) (instance_of_rows net).rounds) (sim_cells net) sim
+abbrev price_part : Past → NetRows → List ℕ → List ℕ
+price_part past net prices = texts_of (form_of past.config.devices (instance_of_rows net).rounds) (price_cells net) prices
 
 abbrev front_of_stays : Past → NetRows → ℕ → ℕ × ℕ × ℕ → List ℕ → List ℕ
 front_of_stays past net live costs stays = seven_part past live costs ++ stay_part net stays
 
-abbrev front_of_dev : Past → NetRows → ℕ → ℕ × ℕ × ℕ → List ℕ → List ℕ → List ℕ
-front_of_dev past net live costs stays dev = front_of_stays past net live costs stays ++ dev_part past net dev
+abbrev front_of_prices : Past → NetRows → ℕ → ℕ × ℕ × ℕ → List ℕ → List ℕ → List ℕ
+front_of_prices past net live costs stays prices = front_of_stays past net live costs stays ++ price_part past net prices
 
-abbrev front_of_sim : Past → NetRows → ℕ → ℕ × ℕ × ℕ → List ℕ → List ℕ → List ℕ → List ℕ
-front_of_sim past net live costs stays dev sim = front_of_dev past net live costs stays dev ++ sim_part net sim
+from_stays_on : (past : Past) (net : NetRows) (live : ℕ) (costs : ℕ × ℕ × ℕ) (stays prices : List ℕ)
+    → report_text past net live (made net costs.0 costs.1 stays prices) ≡ front_of_stays past net live costs stays ++ (price_part past net prices ++ codes "end\n")
+from_stays_on past net live costs stays prices =
+    moved (seven_part past live costs) (stay_part net stays) (price_part past net prices ++ codes "end\n") _ (made_report past net live costs.0 costs.1 stays prices)
 
-from_stays_on : (past : Past) (net : NetRows) (live : ℕ) (costs : ℕ × ℕ × ℕ) (stays dev sim : List ℕ)
-    → report_text past net live (made net costs.0 costs.1 stays dev sim) ≡ front_of_stays past net live costs stays ++ (dev_part past net dev ++ (sim_part net sim ++ codes "end\n"))
-from_stays_on past net live costs stays dev sim =
-    moved (seven_part past live costs) (stay_part net stays) (dev_part past net dev ++ (sim_part net sim ++ codes "end\n")) _ (made_report past net live costs.0 costs.1 stays dev sim)
-
-from_dev_on : (past : Past) (net : NetRows) (live : ℕ) (costs : ℕ × ℕ × ℕ) (stays dev sim : List ℕ)
-    → report_text past net live (made net costs.0 costs.1 stays dev sim) ≡ front_of_dev past net live costs stays dev ++ (sim_part net sim ++ codes "end\n")
-from_dev_on past net live costs stays dev sim =
-    moved (front_of_stays past net live costs stays) (dev_part past net dev) (sim_part net sim ++ codes "end\n") _ (from_stays_on past net live costs stays dev sim)
-
-from_sim_on : (past : Past) (net : NetRows) (live : ℕ) (costs : ℕ × ℕ × ℕ) (stays dev sim : List ℕ) → report_text past net live (made net costs.0 costs.1 stays dev sim) ≡ front_of_sim past net live costs stays dev sim ++ codes "end\n"
-from_sim_on past net live costs stays dev sim = moved (front_of_dev past net live costs stays dev) (sim_part net sim) (codes "end\n") _ (from_dev_on past net live costs stays dev sim)
+from_prices_on : (past : Past) (net : NetRows) (live : ℕ) (costs : ℕ × ℕ × ℕ) (stays prices : List ℕ) → report_text past net live (made net costs.0 costs.1 stays prices) ≡ front_of_prices past net live costs stays prices ++ codes "end\n"
+from_prices_on past net live costs stays prices = moved (front_of_stays past net live costs stays) (price_part past net prices) (codes "end\n") _ (from_stays_on past net live costs stays prices)
 
 at_stays : (past : Past) (net : NetRows) (live : ℕ) (text : List ℕ) (e : ReportFault) (costs : ℕ × ℕ × ℕ) → IsSound (instance_of_rows net) (live_of_rows net) → Read past net live text costs
     → series (stay_at net text) (instance_of_rows net).stays costs.2 ≡ Err e → FailsBehind past net live text e
@@ -87,41 +76,25 @@ at_stays past net live text e costs sound r h =
     let b = broken_at (stay_form net) 65535 text (stay_at net text) (stay_takes net text) (stay_steps net text) n costs.2 e h in
     let lt = b.within in
     let size = b.size in
-    let dev = replicate (dev_cells net) 0 in
-    let sim = replicate (sim_cells net) 0 in
-    section_failed past net live text e (stay_form net) 65535 (stay_at net text) n costs.2 (seven_part past live costs) (dev_part past net dev ++ (sim_part net sim ++ codes "end\n")) (made net costs.0 costs.1 (padded n b.values) dev sim) (stay_lines net) r.front b
-    (is_claim net costs.0 costs.1 (padded n b.values) dev sim sound r.best r.excess (filled n 65535 b.values (omega arith) b.small) (zeros (dev_cells net) MOST_PRICE) (zeros (sim_cells net) MOST_PRICE))
-    (made_report past net live costs.0 costs.1 (padded n b.values) dev sim)
+    let prices = replicate (price_cells net) 0 in
+    section_failed past net live text e (stay_form net) 65535 (stay_at net text) n costs.2 (seven_part past live costs) (price_part past net prices ++ codes "end\n") (made net costs.0 costs.1 (padded n b.values) prices) (stay_lines net) r.front b
+    (is_claim net costs.0 costs.1 (padded n b.values) prices sound r.best r.excess (filled n 65535 b.values (omega arith) b.small) (zeros (price_cells net) MOST_PRICE))
+    (made_report past net live costs.0 costs.1 (padded n b.values) prices)
 
-at_dev : (past : Past) (net : NetRows) (live : ℕ) (text : List ℕ) (e : ReportFault) (costs : ℕ × ℕ × ℕ) (best : List ℕ × ℕ) → IsSound (instance_of_rows net) (live_of_rows net) → Read past net live text costs
+at_prices : (past : Past) (net : NetRows) (live : ℕ) (text : List ℕ) (e : ReportFault) (costs : ℕ × ℕ × ℕ) (best : List ℕ × ℕ) → IsSound (instance_of_rows net) (live_of_rows net) → Read past net live text costs
     → Front text (front_of_stays past net live costs best.0) best.1 → Fitting (instance_of_rows net).stays 65535 best.0
-    → series (dev_price_at past.config.devices (instance_of_rows net).rounds text) (dev_cells net) best.1 ≡ Err e → FailsBehind past net live text e
-at_dev past net live text e costs best sound r f fits h =
+    → series (cell_price_at past.config.devices (instance_of_rows net).rounds text) (price_cells net) best.1 ≡ Err e → FailsBehind past net live text e
+at_prices past net live text e costs best sound r f fits h =
     let devices = past.config.devices in
     let rounds = (instance_of_rows net).rounds in
-    let n = dev_cells net in
-    let form = form_of (dev_whose devices rounds) rounds in
-    let b = broken_at form MOST_PRICE text (dev_price_at devices rounds text) (dev_takes devices rounds text) (dev_steps devices rounds text) n best.1 e h in
+    let n = price_cells net in
+    let form = form_of devices rounds in
+    let b = broken_at form MOST_PRICE text (cell_price_at devices rounds text) (cells_take devices rounds text) (cell_steps devices rounds text) n best.1 e h in
     let lt = b.within in
     let size = b.size in
-    let sim = replicate (sim_cells net) 0 in
-    section_failed past net live text e form MOST_PRICE (dev_price_at devices rounds text) n best.1 (front_of_stays past net live costs best.0) (sim_part net sim ++ codes "end\n") (made net costs.0 costs.1 best.0 (padded n b.values) sim) (dev_lines devices rounds) f b
-    (is_claim net costs.0 costs.1 best.0 (padded n b.values) sim sound r.best r.excess fits (filled n MOST_PRICE b.values (omega arith) b.small) (zeros (sim_cells net) MOST_PRICE))
-    (from_stays_on past net live costs best.0 (padded n b.values) sim)
-
-at_sim : (past : Past) (net : NetRows) (live : ℕ) (text : List ℕ) (e : ReportFault) (costs : ℕ × ℕ × ℕ) (best dev : List ℕ × ℕ) → IsSound (instance_of_rows net) (live_of_rows net) → Read past net live text costs
-    → Front text (front_of_dev past net live costs best.0 dev.0) dev.1 → Fitting (instance_of_rows net).stays 65535 best.0 → Fitting (dev_cells net) MOST_PRICE dev.0
-    → series (sim_price_at (instance_of_rows net).rounds text) (sim_cells net) dev.1 ≡ Err e → FailsBehind past net live text e
-at_sim past net live text e costs best dev sound r f fits fits' h =
-    let rounds = (instance_of_rows net).rounds in
-    let n = sim_cells net in
-    let form = form_of (sim_whose rounds) rounds in
-    let b = broken_at form MOST_PRICE text (sim_price_at rounds text) (sim_takes rounds text) (sim_steps rounds text) n dev.1 e h in
-    let lt = b.within in
-    let size = b.size in
-    section_failed past net live text e form MOST_PRICE (sim_price_at rounds text) n dev.1 (front_of_dev past net live costs best.0 dev.0) (codes "end\n") (made net costs.0 costs.1 best.0 dev.0 (padded n b.values)) (sim_lines rounds) f b
-    (is_claim net costs.0 costs.1 best.0 dev.0 (padded n b.values) sound r.best r.excess fits fits' (filled n MOST_PRICE b.values (omega arith) b.small))
-    (from_dev_on past net live costs best.0 dev.0 (padded n b.values))
+    section_failed past net live text e form MOST_PRICE (cell_price_at devices rounds text) n best.1 (front_of_stays past net live costs best.0) (codes "end\n") (made net costs.0 costs.1 best.0 (padded n b.values)) (cell_lines devices rounds) f b
+    (is_claim net costs.0 costs.1 best.0 (padded n b.values) sound r.best r.excess fits (filled n MOST_PRICE b.values (omega arith) b.small))
+    (from_stays_on past net live costs best.0 (padded n b.values))
 
 -- ---- the end
 
@@ -133,21 +106,23 @@ not_stopped : (b : Bool) (d e : ReportFault) → ◌≡◌ {A = Result ⊤ Repor
 not_stopped true d e h = absurd cc
 not_stopped false d e h = cc
 
-at_end : (past : Past) (net : NetRows) (live : ℕ) (text : List ℕ) (e : ReportFault) (costs : ℕ × ℕ × ℕ) (best dev sim : List ℕ × ℕ) → IsSound (instance_of_rows net) (live_of_rows net) → Read past net live text costs
-    → Front text (front_of_sim past net live costs best.0 dev.0 sim.0) sim.1 → Fitting (instance_of_rows net).stays 65535 best.0 → Fitting (dev_cells net) MOST_PRICE dev.0 → Fitting (sim_cells net) MOST_PRICE sim.0
-    → ended text sim.1 ≡ Err e → FailsBehind past net live text e
+at_end : (past : Past) (net : NetRows) (live : ℕ) (text : List ℕ) (e : ReportFault) (costs : ℕ × ℕ × ℕ) (best prices : List ℕ × ℕ) → IsSound (instance_of_rows net) (live_of_rows net) → Read past net live text costs
+    → Front text (front_of_prices past net live costs best.0 prices.0) prices.1 → Fitting (instance_of_rows net).stays 65535 best.0 → Fitting (price_cells net) MOST_PRICE prices.0
+    → ended text prices.1 ≡ Err e → FailsBehind past net live text e
 unfolding ended
-at_end past net live text e costs best dev sim sound r f fits fits' fits'' h =
-    let claim = made net costs.0 costs.1 best.0 dev.0 sim.0 in
-    let claims = is_claim net costs.0 costs.1 best.0 dev.0 sim.0 sound r.best r.excess fits fits' fits'' in
-    let report = from_sim_on past net live costs best.0 dev.0 sim.0 in
-    on_err (due (skip (codes "end\n") text sim.1) text sim.1) (stops text) e h (λ h'.
-    failed past net live text e (front_of_sim past net live costs best.0 dev.0 sim.0) (codes "end\n") sim.1 claim f.closed f.whole (ap fault_line (missing (skip (codes "end\n") text sim.1) (fault.BadLine (line_of text sim.1)) e h')) claims report)
+at_end past net live text e costs best prices sound r f fits fits' h =
+    let claim = made net costs.0 costs.1 best.0 prices.0 in
+    let claims = is_claim net costs.0 costs.1 best.0 prices.0 sound r.best r.excess fits fits' in
+    let report = from_prices_on past net live costs best.0 prices.0 in
+    let front = front_of_prices past net live costs best.0 prices.0 in
+    let end = skip (codes "end\n") text prices.1 in
+    on_err (due end text prices.1) (stops text) e h (λ h'.
+    failed past net live text e front (codes "end\n") prices.1 claim f.closed f.whole (ap fault_line (missing end (fault.BadLine (line_of text prices.1)) e h')) claims report)
     (λ next is h'.
-    let t = skip_takes (codes "end\n") text sim.1 next (ok_some (skip (codes "end\n") text sim.1) (fault.BadLine (line_of text sim.1)) next is) in
-    let f' = longer text (front_of_sim past net live costs best.0 dev.0 sim.0) (codes "end\n") sim.1 next f t.0 (closed_line (codes "end") [] tt) in
-    failed past net live text e (front_of_sim past net live costs best.0 dev.0 sim.0 ++ codes "end\n") [] next claim f'.closed f'.whole (ap fault_line (not_stopped (nat_le (length text) next) (fault.BadLine (line_of text next)) e h')) claims
-    (report ∙ sym (append-nil (front_of_sim past net live costs best.0 dev.0 sim.0 ++ codes "end\n"))))
+    let t = skip_takes (codes "end\n") text prices.1 next (ok_some end (fault.BadLine (line_of text prices.1)) next is) in
+    let f' = longer text front (codes "end\n") prices.1 next f t.0 (closed_line (codes "end") [] tt) in
+    failed past net live text e (front ++ codes "end\n") [] next claim f'.closed f'.whole (ap fault_line (not_stopped (nat_le (length text) next) (fault.BadLine (line_of text next)) e h')) claims
+    (report ∙ sym (append-nil (front ++ codes "end\n"))))
 
 pub fails_behind : (past : Past) (net : NetRows) (live : ℕ) (text : List ℕ) (e : ReportFault) → IsSound (instance_of_rows net) (live_of_rows net) → reading past.config.devices past.events live net text ≡ Err e → FailsBehind past net live text e
 fails_behind past net live text e sound h =
@@ -162,12 +137,8 @@ fails_behind past net live text e sound h =
     let t1 = series_takes (stay_form net) 65535 text (stay_at net text) (stay_takes net text) (instance_of_rows net).stays costs.2 best e1 in
     let f1 = longer text (seven_part past live costs) (stay_part net best.0) costs.2 best.1 r.front t1.spelled (texts_closed (stay_form net) (stay_lines net) (instance_of_rows net).stays best.0) in
     let fits1 : Fitting (instance_of_rows net).stays 65535 best.0 = record { size = t1.size; small = t1.small } in
-    on_err (series (dev_price_at devices rounds text) (dev_cells net) best.1) _ e h1 (λ h'. at_dev past net live text e costs best sound r f1 fits1 h') (λ dev e2 h2.
-    let t2 = series_takes (form_of (dev_whose devices rounds) rounds) MOST_PRICE text (dev_price_at devices rounds text) (dev_takes devices rounds text) (dev_cells net) best.1 dev e2 in
-    let f2 = longer text (front_of_stays past net live costs best.0) (dev_part past net dev.0) best.1 dev.1 f1 t2.spelled (texts_closed (form_of (dev_whose devices rounds) rounds) (dev_lines devices rounds) (dev_cells net) dev.0) in
-    let fits2 : Fitting (dev_cells net) MOST_PRICE dev.0 = record { size = t2.size; small = t2.small } in
-    on_err (series (sim_price_at rounds text) (sim_cells net) dev.1) _ e h2 (λ h'. at_sim past net live text e costs best dev sound r f2 fits1 fits2 h') (λ sim e3 h3.
-    let t3 = series_takes (form_of (sim_whose rounds) rounds) MOST_PRICE text (sim_price_at rounds text) (sim_takes rounds text) (sim_cells net) dev.1 sim e3 in
-    let f3 = longer text (front_of_dev past net live costs best.0 dev.0) (sim_part net sim.0) dev.1 sim.1 f2 t3.spelled (texts_closed (form_of (sim_whose rounds) rounds) (sim_lines rounds) (sim_cells net) sim.0) in
-    let fits3 : Fitting (sim_cells net) MOST_PRICE sim.0 = record { size = t3.size; small = t3.small } in
-    on_err (ended text sim.1) _ e h3 (λ h'. at_end past net live text e costs best dev sim sound r f3 fits1 fits2 fits3 h') (λ u e4 h4. absurd cc)))))
+    on_err (series (cell_price_at devices rounds text) (price_cells net) best.1) _ e h1 (λ h'. at_prices past net live text e costs best sound r f1 fits1 h') (λ prices e2 h2.
+    let t2 = series_takes (form_of devices rounds) MOST_PRICE text (cell_price_at devices rounds text) (cells_take devices rounds text) (price_cells net) best.1 prices e2 in
+    let f2 = longer text (front_of_stays past net live costs best.0) (price_part past net prices.0) best.1 prices.1 f1 t2.spelled (texts_closed (form_of devices rounds) (cell_lines devices rounds) (price_cells net) prices.0) in
+    let fits2 : Fitting (price_cells net) MOST_PRICE prices.0 = record { size = t2.size; small = t2.small } in
+    on_err (ended text prices.1) _ e h2 (λ h'. at_end past net live text e costs best prices sound r f2 fits1 fits2 h') (λ u e3 h3. absurd cc))))

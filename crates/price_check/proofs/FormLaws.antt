@@ -1,13 +1,14 @@
 -- the forms of lines by their whole pieces
-use Rattle.std.proofs.Common.{◌≡◌, ℕ, List, ◌++◌, refl, sym, ◌∙◌, append_assoc}
-use Rattle.std.specs.Prelude.{Option, Some, None, decimal, codes}
+use Rattle.std.proofs.Common.{◌≡◌, ◌-◌, ℕ, List, ◌++◌, length, refl, sym, ◌∙◌, append_assoc}
+use Rattle.std.specs.Prelude.{Option, Some, None, decimal, codes, slice_get}
+use Rattle.std.specs.Option.{option_map_or}
 use Rattle.cam_types.specs.declared.device.Device.{Device}
 use Rattle.cam_path.specs.Paths.{address_of, spelled}
 use Rattle.cam_event.specs.declared.stay.StayName.{StayName}
 use Rattle.price_check.specs.Pieces.{◌>>=◌, skip, skip_number, found_number}
 use Rattle.price_check.specs.Lines.{line}
-use Rattle.price_check.specs.Report.{number_text}
-use Rattle.price_check.specs.Forms.{known_line, stated_line, most_stated, named_stay, dev_front, sim_front}
+use Rattle.price_check.specs.Report.{number_text, row_text}
+use Rattle.price_check.specs.Forms.{known_line, stated_line, most_stated, named_stay, dev_front, sim_front, price_front}
 use Rattle.price_check.proofs.PieceLaws.{skip_append, bind-assoc, framed}
 
 bind-same : {A B : Type 0} (o : Option A) (f g : A → Option B) → ((x : A) → f x ≡ g x) → (o >>= f) ≡ (o >>= g)
@@ -75,13 +76,22 @@ named_stay-framed name arrival live weight text at =
     numbered (λ next. Some (best.0, next)) text (codes " ") (decimal weight) (codes "\n") best.1))
 
 -- a price's line up to the price, of this whose
-abbrev pub price_front : List ℕ → ℕ → List ℕ
-price_front whose r = whose ++ (number_text r ++ codes " ")
+abbrev pub front_text : List ℕ → ℕ → List ℕ
+front_text whose r = whose ++ (number_text r ++ codes " ")
 
-pub dev_front-skip : (device : Device) (r : ℕ) (text : List ℕ) (at : ℕ) → dev_front device r text at ≡ skip (price_front (codes "price dev " ++ spelled (address_of device)) r) text at
+dev_front-skip : (device : Device) (r : ℕ) (text : List ℕ) (at : ℕ) → dev_front device r text at ≡ skip (front_text (codes "price dev " ++ spelled (address_of device)) r) text at
 unfolding dev_front skip_number spelled
 dev_front-skip device r text at = alone (of_device (λ x. Some x) text (codes "price dev ") (decimal device.bus) (codes ":") (decimal device.target) (decimal device.lun) (codes " ") (decimal r) at)
 
-pub sim_front-skip : (adapter r : ℕ) (text : List ℕ) (at : ℕ) → sim_front adapter r text at ≡ skip (price_front (codes "price sim" ++ number_text adapter) r) text at
+sim_front-skip : (adapter r : ℕ) (text : List ℕ) (at : ℕ) → sim_front adapter r text at ≡ skip (front_text (codes "price sim" ++ number_text adapter) r) text at
 unfolding sim_front skip_number
 sim_front-skip adapter r text at = alone (of_adapter (λ x. Some x) text (codes "price sim") (codes " ") (decimal adapter) (decimal r) at)
+
+pub price_front-skip : (devices : List Device) (row r : ℕ) (text : List ℕ) (at : ℕ) → price_front devices row r text at ≡ skip (front_text (row_text devices row) r) text at
+unfolding price_front row_text
+price_front-skip devices row r text at = by (slice_get devices row)
+  where
+    by : (o : Option Device) → option_map_or (λ (device : Device). dev_front device r text at) o (sim_front (row - length devices) r text at)
+        ≡ skip (front_text (option_map_or (λ (device : Device). codes "price dev " ++ spelled (address_of device)) o (codes "price sim" ++ number_text (row - length devices))) r) text at
+    by (Some device) = dev_front-skip device r text at
+    by None = sim_front-skip (row - length devices) r text at

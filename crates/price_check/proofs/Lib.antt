@@ -23,3 +23,4 @@ pub mod SeriesLaws
 pub mod SeriesLemmas
 pub mod StepLaws
 pub mod TallyLemmas
+pub mod UsedLemmas

@@ -1,10 +1,10 @@
 -- what a reader of reports answers
-use Rattle.std.proofs.Common.{◌≡◌, ◌≢◌, ◌≤◌, ◌+◌, ◌-◌, ◌*◌, ◌/◌, ℕ, zero, suc, List, ◌++◌, length, get_or, Bool, true, false, cond, refl, sym, ap, ◌∙◌, subst, arith, append_assoc, append-nil, length-append, inl, inr}
-use Rattle.std.specs.Prelude.{◌==◌, ◌&&◌, ◌⊎◌, ⊤, nat_le, Option, Some, None, Result, Ok, Err, ok_or, codes, slice_index, slice_get, sum_by, is_some, IfOk, IfSome}
+use Rattle.std.proofs.Common.{◌≡◌, ◌≢◌, ◌≤◌, ◌+◌, ◌-◌, ℕ, zero, suc, List, ◌++◌, length, get_or, Bool, true, false, cond, refl, sym, ap, ◌∙◌, subst, arith, append_assoc, append-nil, length-append, inl, inr}
+use Rattle.std.specs.Prelude.{◌==◌, ◌&&◌, ◌⊎◌, ⊤, nat_le, Option, Some, None, Result, Ok, Err, ok_or, codes, slice_index, sum_by, is_some, IfOk, IfSome}
 use Rattle.std.specs.List.{AllByRecursion}
 use Rattle.std.specs.Option.{option_map_or}
 use Rattle.std.proofs.lemmas.Bool.{eq-eqb, ne_eqb}
-use Rattle.std.proofs.lemmas.List.{append_cancel_right, get_or-append-add, length-map}
+use Rattle.std.proofs.lemmas.List.{append_cancel_right, get_or-append-add}
 use Rattle.cam_types.specs.Topology.{Topology, IsConfig}
 use Rattle.text_io.specs.Whole.{IsWhole}
 use Rattle.text_io.specs.Number.{number_of}
@@ -23,15 +23,16 @@ use Rattle.round_net.specs.Rows.{NetRows, instance_of_rows, live_of_rows}
 use Rattle.round_net.specs.Sound.{IsSound}
 use Rattle.round_net.specs.declared.price_range.TheConstants.{MOST_PRICE}
 use Rattle.price_check.specs.Pieces.{skip, line_of}
-use Rattle.price_check.specs.Report.{texts_below, summary_text, plan_text, stay_line, dev_line, sim_line}
+use Rattle.price_check.specs.Report.{texts_below, summary_text, plan_text, stay_line, price_lines}
 use Rattle.price_check.specs.Forms.{known_line, stated_line, own_stay, any_stay}
-use Rattle.price_check.specs.Reading.{closed, due, stops, ended, summary_at, stay_at, is_large, valued, price_at, dev_price_at, sim_price_at, series, reading}
+use Rattle.price_check.specs.Reading.{closed, due, stops, ended, summary_at, stay_at, is_large, valued, price_at, cell_price_at, series, reading}
 use Rattle.price_check.specs.Claims.{IsClaim, IsReport, WasReport, report_text}
 use Rattle.price_check.specs.declared.claim.Claim.{Claim}
 use Rattle.price_check.specs.declared.report_fault.ReportFault.{ReportFault}
 use Rattle.price_check.specs.declared.report_fault.ReportFault.TheVariants as fault
 use Rattle.price_check.proofs.SeriesLemmas.{Reader}
 use Rattle.price_check.proofs.ApartLaws.{named_devices}
+use Rattle.price_check.proofs.CellLaws.{price_cells}
 use Rattle.price_check.proofs.ReadingLaws.{reading_takes, reading_again}
 
 -- ---- the net of a history
@@ -39,10 +40,6 @@ use Rattle.price_check.proofs.ReadingLaws.{reading_takes, reading_again}
 pub some_rounds : (c : Topology) (es : List Event) (n : NetRows) → n ≡ net_of c es → 1 ≤ (instance_of_rows n).rounds
 unfolding instance_of_rows net_of round
 some_rounds c es n e = rw e (omega arith)
-
-pub devices_of : (c : Topology) (es : List Event) (n : NetRows) → n ≡ net_of c es → length c.devices ≡ (instance_of_rows n).devices
-unfolding instance_of_rows net_of
-devices_of c es n e = rw e (sym (length-map c.devices (λ (device : Device). device.bus)))
 
 -- where each stay was sent the live schedule has a cost
 pub live_is_known : (c : Topology) (es : List Event) → unsent es ≡ None → (live : ℕ) × (live_cost c es ≡ Some live)
@@ -81,12 +78,11 @@ unfolding report_text plan_text
 ends past net live claim =
     let s = summary_text past.events live claim.best claim.excess in
     let a = texts_below (instance_of_rows net).stays (stay_line net (slice_index claim.schedule)) in
-    let b = texts_below (instance_of_rows net).devices (λ d. texts_below (instance_of_rows net).rounds (λ r. dev_line past.config.devices (pricing_of_rows claim.prices) d (r + 1))) in
-    let c = texts_below (instance_of_rows net).adapters (λ d. texts_below (instance_of_rows net).rounds (λ r. sim_line (pricing_of_rows claim.prices) d (r + 1))) in
-    (s ++ (a ++ (b ++ c)), regroup s a b c (codes "end\n"))
+    let b = price_lines past.config.devices (instance_of_rows net) (pricing_of_rows claim.prices) in
+    (s ++ (a ++ b), regroup s a b (codes "end\n"))
   where
-    regroup : (s a b c e : List ℕ) → s ++ (a ++ (b ++ (c ++ e))) ≡ (s ++ (a ++ (b ++ c))) ++ e
-    regroup s a b c e = simp append_assoc
+    regroup : (s a b e : List ℕ) → s ++ (a ++ (b ++ e)) ≡ (s ++ (a ++ b)) ++ e
+    regroup s a b e = simp append_assoc
 
 -- ---- a fault of a text is none of the reader's or of memory
 
@@ -153,13 +149,9 @@ price_fails : (front : Option ℕ) (text : List ℕ) (at : ℕ) → FailsByText 
 unfolding price_at
 price_fails front text at = mapped _ front _ (λ begin. mapped _ (skip (codes "\n") text (begin + digits_at text begin)) _ (λ next. valued_fails text _ at next) tt) tt
 
-dev_fails : (devices : List Device) (rounds : ℕ) (text : List ℕ) (k at : ℕ) → FailsByText (dev_price_at devices rounds text k at)
-unfolding dev_price_at
-dev_fails devices rounds text k at = mapped _ (slice_get devices (k / rounds)) _ (λ device. price_fails _ text at) tt
-
-sim_fails : (rounds : ℕ) (text : List ℕ) (k at : ℕ) → FailsByText (sim_price_at rounds text k at)
-unfolding sim_price_at
-sim_fails rounds text k at = price_fails _ text at
+cell_fails : (devices : List Device) (rounds : ℕ) (text : List ℕ) (k at : ℕ) → FailsByText (cell_price_at devices rounds text k at)
+unfolding cell_price_at
+cell_fails devices rounds text k at = price_fails _ text at
 
 series_fails : (one : Reader) → ((k at : ℕ) → FailsByText (one k at)) → (n at : ℕ) → FailsByText (series one n at)
 unfolding series
@@ -180,9 +172,8 @@ reading_fails devices events live net text =
     let rounds = (instance_of_rows net).rounds in
     bound (summary_at events live text) _ (summary_fails events live text) (λ costs.
     bound (series (stay_at net text) (instance_of_rows net).stays costs.2) _ (series_fails (stay_at net text) (stay_fails net text) (instance_of_rows net).stays costs.2) (λ best.
-    bound (series (dev_price_at devices rounds text) ((instance_of_rows net).devices * rounds) best.1) _ (series_fails (dev_price_at devices rounds text) (dev_fails devices rounds text) ((instance_of_rows net).devices * rounds) best.1) (λ dev.
-    bound (series (sim_price_at rounds text) ((instance_of_rows net).adapters * rounds) dev.1) _ (series_fails (sim_price_at rounds text) (sim_fails rounds text) ((instance_of_rows net).adapters * rounds) dev.1) (λ sim.
-    bound (ended text sim.1) _ (ended_fails text sim.1) (λ u. tt)))))
+    bound (series (cell_price_at devices rounds text) (price_cells net) best.1) _ (series_fails (cell_price_at devices rounds text) (cell_fails devices rounds text) (price_cells net) best.1) (λ prices.
+    bound (ended text prices.1) _ (ended_fails text prices.1) (λ u. tt))))
 
 -- ---- the clauses of a reader of reports, from what reading the whole text gives
 
@@ -209,7 +200,7 @@ read_again past net text r claim is config targets claims h report memory =
     let spelled : (text ≡ end.0 ++ codes "end\n") ⊎ (text ++ codes "\n" ≡ end.0 ++ codes "end\n") = rw end.1 at report.spelled in
     let whole : closed text ≡ report_text past net report.live claim = closed_again text end.0 spelled ∙ sym end.1 in
     h report.live report.costs memory
-    ∙ reading_again past net report.live (closed text) claim (named_devices past.config config.kept targets) (devices_of past.config past.events net is) (some_rounds past.config past.events net is) claims whole
+    ∙ reading_again past net report.live (closed text) claim (named_devices past.config config.kept targets) (some_rounds past.config past.events net is) claims whole
 
 pub only_law : (past : Past) (net : NetRows) (before after : Option (List ℕ)) (text : List ℕ) (r : Result Claim ReportFault) (claim : Claim) → net ≡ net_of past.config past.events → IsConfig past.config
     → IsWhole before after text → Gives past net text r → IsClaim (instance_of_rows net) claim → AllByRecursion (λ (d : Device). d.target ≤ 65535) past.config.devices

@@ -1,54 +1,42 @@
 -- the first lines of a report are read wherever they stand
-use Rattle.std.proofs.Common.{◌≡◌, ◌≤◌, ◌<◌, ◌+◌, ◌-◌, ◌*◌, ◌%◌, ℕ, suc, List, [], ◌∷◌, ◌++◌, length, take, drop, get_or, Bool, true, false, refl, sym, ap, ◌∙◌, subst, arith, append_assoc}
-use Rattle.std.specs.Prelude.{◌==◌, ⊤, Result, Ok, codes, decimal, All}
+use Rattle.std.proofs.Common.{◌≡◌, ◌≤◌, ◌<◌, ◌+◌, ◌-◌, ◌/◌, ◌%◌, ℕ, suc, List, [], ◌∷◌, ◌++◌, length, take, drop, get_or, Bool, true, false, refl, sym, ap, ◌∙◌, subst, arith, append_assoc}
+use Rattle.std.specs.Prelude.{◌==◌, ⊤, Result, Ok, All}
 use Rattle.std.proofs.lemmas.List.Elements.{All-get_or}
 use Rattle.cam_types.specs.declared.device.Device.{Device}
 use Rattle.cam_path.specs.Paths.{◌>>=◌}
 use Rattle.cam_event.specs.declared.event.Event.{Event}
 use Rattle.round_net.specs.Rows.{NetRows, instance_of_rows}
 use Rattle.round_net.specs.declared.price_range.TheConstants.{MOST_PRICE}
-use Rattle.price_check.specs.Pieces.{skip}
-use Rattle.price_check.specs.Report.{price_line}
-use Rattle.price_check.specs.Reading.{summary_at, stay_at, price_at, dev_price_at, sim_price_at, series, ended, reading}
+use Rattle.price_check.specs.Report.{price_line, row_text}
+use Rattle.price_check.specs.Reading.{summary_at, stay_at, cell_price_at, series, ended, reading}
 use Rattle.price_check.specs.declared.claim.Claim.{Claim}
 use Rattle.price_check.specs.declared.report_fault.ReportFault.{ReportFault}
-use Rattle.price_check.proofs.PieceLaws.{IsApart}
 use Rattle.price_check.proofs.PriceLaws.{price_some}
 use Rattle.price_check.proofs.SeriesLemmas.{Reader, series-more}
 use Rattle.price_check.proofs.SeriesLaws.{texts_of, series_again, Again}
-use Rattle.price_check.proofs.CellLaws.{form_of, front_of, NoneBefore, AreApart, begins, cells_join, cells_again}
-use Rattle.price_check.proofs.LinesLemmas.{IsClosed, IsSome, closed_tail}
-use Rattle.price_check.proofs.CutLaws.{HasNoFeed, IsLine, EndsWithin}
-use Rattle.price_check.proofs.StepLaws.{From, Steps, bind_from, behind_all, series_from, series_later, stay_steps, dev_steps, sim_steps, ended_from}
+use Rattle.price_check.proofs.CellLaws.{price_cells, form_of, front_of, NoneBefore, AreApart, none_earlier, cell_reads, cells_join, cells_again}
+use Rattle.price_check.proofs.CutLaws.{IsLine, EndsWithin}
+use Rattle.price_check.proofs.StepLaws.{From, Steps, bind_from, behind_all, series_from, series_later, stay_steps, cell_steps, ended_from}
 use Rattle.price_check.proofs.SectionLaws.{seven_at, stated, summary-series}
 
 -- ---- the rest of a reading, from each section on
 
-abbrev pub dev_cells : NetRows → ℕ
-dev_cells net = (instance_of_rows net).devices * (instance_of_rows net).rounds
-
-abbrev pub sim_cells : NetRows → ℕ
-sim_cells net = (instance_of_rows net).adapters * (instance_of_rows net).rounds
-
-abbrev pub claimed : NetRows → ℕ × ℕ × ℕ → List ℕ × ℕ → List ℕ × ℕ → List ℕ × ℕ → Claim
-claimed net costs best dev sim = record {
+abbrev pub claimed : NetRows → ℕ × ℕ × ℕ → List ℕ × ℕ → List ℕ × ℕ → Claim
+claimed net costs best prices = record {
   schedule = best.0;
-  prices = record { rounds = (instance_of_rows net).rounds; devices = (instance_of_rows net).devices; adapters = (instance_of_rows net).adapters; dev = dev.0; sim = sim.0 };
+  prices = record { rounds = (instance_of_rows net).rounds; devices = (instance_of_rows net).devices; adapters = (instance_of_rows net).adapters; prices = prices.0 };
   best = costs.0;
   excess = costs.1;
 }
 
-abbrev pub from_end : NetRows → List ℕ → ℕ × ℕ × ℕ → List ℕ × ℕ → List ℕ × ℕ → List ℕ × ℕ → Result Claim ReportFault
-from_end net text costs best dev sim = ended text sim.1 >>= λ _. Ok (claimed net costs best dev sim)
+abbrev pub from_end : NetRows → List ℕ → ℕ × ℕ × ℕ → List ℕ × ℕ → List ℕ × ℕ → Result Claim ReportFault
+from_end net text costs best prices = ended text prices.1 >>= λ _. Ok (claimed net costs best prices)
 
-abbrev pub from_sim : NetRows → List ℕ → ℕ × ℕ × ℕ → List ℕ × ℕ → List ℕ × ℕ → Result Claim ReportFault
-from_sim net text costs best dev = series (sim_price_at (instance_of_rows net).rounds text) (sim_cells net) dev.1 >>= λ sim. from_end net text costs best dev sim
-
-abbrev pub from_dev : List Device → NetRows → List ℕ → ℕ × ℕ × ℕ → List ℕ × ℕ → Result Claim ReportFault
-from_dev devices net text costs best = series (dev_price_at devices (instance_of_rows net).rounds text) (dev_cells net) best.1 >>= λ dev. from_sim net text costs best dev
+abbrev pub from_prices : List Device → NetRows → List ℕ → ℕ × ℕ × ℕ → List ℕ × ℕ → Result Claim ReportFault
+from_prices devices net text costs best = series (cell_price_at devices (instance_of_rows net).rounds text) (price_cells net) best.1 >>= λ prices. from_end net text costs best prices
 
 abbrev pub from_stays : List Device → NetRows → List ℕ → ℕ × ℕ × ℕ → Result Claim ReportFault
-from_stays devices net text costs = series (stay_at net text) (instance_of_rows net).stays costs.2 >>= λ best. from_dev devices net text costs best
+from_stays devices net text costs = series (stay_at net text) (instance_of_rows net).stays costs.2 >>= λ best. from_prices devices net text costs best
 
 pub reading_parts : (devices : List Device) (events : List Event) (live : ℕ) (net : NetRows) (text : List ℕ) → reading devices events live net text ≡ (summary_at events live text >>= λ costs. from_stays devices net text costs)
 unfolding reading
@@ -58,22 +46,18 @@ reading_parts devices events live net text = refl
 abbrev pub Reaches : List ℕ → ℕ → Result Claim ReportFault → Type 0
 Reaches text m r = From text m (λ _. m) r
 
-pub on_end : (net : NetRows) (text : List ℕ) (costs : ℕ × ℕ × ℕ) (best dev sim : List ℕ × ℕ) (m : ℕ) → From text m (λ _. m) (ended text sim.1) → Reaches text m (from_end net text costs best dev sim)
-on_end net text costs best dev sim m h = bind_from text m (λ _. m) (λ _. m) (ended text sim.1) _ h (λ u le. le)
+pub on_end : (net : NetRows) (text : List ℕ) (costs : ℕ × ℕ × ℕ) (best prices : List ℕ × ℕ) (m : ℕ) → From text m (λ _. m) (ended text prices.1) → Reaches text m (from_end net text costs best prices)
+on_end net text costs best prices m h = bind_from text m (λ _. m) (λ _. m) (ended text prices.1) _ h (λ u le. le)
 
-pub on_sim : (net : NetRows) (text : List ℕ) (costs : ℕ × ℕ × ℕ) (best dev : List ℕ × ℕ) (m : ℕ) → From text m behind_all (series (sim_price_at (instance_of_rows net).rounds text) (sim_cells net) dev.1) → Reaches text m (from_sim net text costs best dev)
-on_sim net text costs best dev m h = bind_from text m behind_all (λ _. m) (series (sim_price_at (instance_of_rows net).rounds text) (sim_cells net) dev.1) _ h (λ sim le. on_end net text costs best dev sim m (ended_from text m sim.1 le))
-
-pub on_dev : (devices : List Device) (net : NetRows) (text : List ℕ) (costs : ℕ × ℕ × ℕ) (best : List ℕ × ℕ) (m : ℕ) → From text m behind_all (series (dev_price_at devices (instance_of_rows net).rounds text) (dev_cells net) best.1)
-    → Reaches text m (from_dev devices net text costs best)
-on_dev devices net text costs best m h =
-    bind_from text m behind_all (λ _. m) (series (dev_price_at devices (instance_of_rows net).rounds text) (dev_cells net) best.1) _ h (λ dev le.
-    on_sim net text costs best dev m (series_from text (sim_price_at (instance_of_rows net).rounds text) (sim_steps (instance_of_rows net).rounds text) (sim_cells net) dev.1 m le))
+pub on_prices : (devices : List Device) (net : NetRows) (text : List ℕ) (costs : ℕ × ℕ × ℕ) (best : List ℕ × ℕ) (m : ℕ) → From text m behind_all (series (cell_price_at devices (instance_of_rows net).rounds text) (price_cells net) best.1)
+    → Reaches text m (from_prices devices net text costs best)
+on_prices devices net text costs best m h =
+    bind_from text m behind_all (λ _. m) (series (cell_price_at devices (instance_of_rows net).rounds text) (price_cells net) best.1) _ h (λ prices le. on_end net text costs best prices m (ended_from text m prices.1 le))
 
 pub on_stays : (devices : List Device) (net : NetRows) (text : List ℕ) (costs : ℕ × ℕ × ℕ) (m : ℕ) → From text m behind_all (series (stay_at net text) (instance_of_rows net).stays costs.2) → Reaches text m (from_stays devices net text costs)
 on_stays devices net text costs m h =
     bind_from text m behind_all (λ _. m) (series (stay_at net text) (instance_of_rows net).stays costs.2) _ h (λ best le.
-    on_dev devices net text costs best m (series_from text (dev_price_at devices (instance_of_rows net).rounds text) (dev_steps devices (instance_of_rows net).rounds text) (dev_cells net) best.1 m le))
+    on_prices devices net text costs best m (series_from text (cell_price_at devices (instance_of_rows net).rounds text) (cell_steps devices (instance_of_rows net).rounds text) (price_cells net) best.1 m le))
 
 pub on_summary : (devices : List Device) (events : List Event) (live : ℕ) (net : NetRows) (text : List ℕ) (m : ℕ) → From text m behind_all (series (seven_at events live text) 7 0) → Reaches text m (reading devices events live net text)
 on_summary devices events live net text m h =
@@ -120,50 +104,30 @@ not_zero whose r v h = by (v == 0) refl
     by false e = e
     by true e = let empty : price_line whose r v ≡ [] = rw e refl in absurd (none h.content (sym empty ∙ h.whole))
 
-none_earlier : (whose : ℕ → List ℕ) (rounds n k v : ℕ) (rest : List ℕ) → AreApart (front_of whose rounds) n → k < n → (v == 0) ≡ false → NoneBefore (front_of whose rounds) k (form_of whose rounds k v ++ rest)
-none_earlier whose rounds n k v rest apart lt some = λ j less tail e.
-    let same : j ≡ k = apart j k tail (decimal v ++ (codes "\n" ++ rest)) (omega arith) lt (sym e ∙ begins (whose k) (k % rounds + 1) v rest some) in
-    omega arith
-
-abbrev pub Reads : (ℕ → List ℕ) → ℕ → List ℕ → Reader → ℕ → Type 0
-Reads whose rounds text one n = (k at : ℕ) → k < n → one k at ≡ price_at (skip (front_of whose rounds k) text at) text at
-
 -- the cells before one that has a line
-pub cells_before : (whose : ℕ → List ℕ) (rounds : ℕ) (text : List ℕ) (one : Reader) (n : ℕ) (vs : List ℕ) → n ≤ length vs → All (λ v. v ≤ MOST_PRICE) vs → Reads whose rounds text one n → AreApart (front_of whose rounds) n
-    → (place at : ℕ) (rest : List ℕ) → place < n → NoneBefore (front_of whose rounds) place rest → drop at text ≡ texts_of (form_of whose rounds) place vs ++ rest
-    → (e : ℕ) × (series one place at ≡ Ok (take place vs, e)) × (drop e text ≡ rest)
-cells_before whose rounds text one n vs le small reads apart place at rest lt none here =
-    series_again (form_of whose rounds) (NoneBefore (front_of whose rounds)) text one place vs (omega arith)
-    (λ k at' r lt'. cells_again whose rounds text one n vs le small reads k at' r (omega arith))
-    (λ k r lt'. cells_join whose rounds n vs apart k r (omega arith)) at rest here none
+cells_before : (devices : List Device) (rounds : ℕ) (text : List ℕ) (n : ℕ) (vs : List ℕ) → n ≤ length vs → All (λ v. v ≤ MOST_PRICE) vs → AreApart (front_of devices rounds) n
+    → (place at : ℕ) (rest : List ℕ) → place < n → NoneBefore (front_of devices rounds) place rest → drop at text ≡ texts_of (form_of devices rounds) place vs ++ rest
+    → (e : ℕ) × (series (cell_price_at devices rounds text) place at ≡ Ok (take place vs, e)) × (drop e text ≡ rest)
+cells_before devices rounds text n vs le small apart place at rest lt none here =
+    series_again (form_of devices rounds) (NoneBefore (front_of devices rounds)) text (cell_price_at devices rounds text) place vs (omega arith)
+    (λ k at' r lt'. cells_again devices rounds text n vs le small k at' r (omega arith))
+    (λ k r lt'. cells_join devices rounds n vs apart k r (omega arith)) at rest here none
 
-pub cells_within : (whose : ℕ → List ℕ) (rounds : ℕ) (text : List ℕ) (one : Reader) → Steps text one → (n : ℕ) (vs : List ℕ) → n ≤ length vs → All (λ v. v ≤ MOST_PRICE) vs → Reads whose rounds text one n
-    → AreApart (front_of whose rounds) n → (at : ℕ) (rest front : List ℕ) → EndsWithin (form_of whose rounds) n vs front → drop at text ≡ front ++ rest → PassedIn text rest (series one n at)
-cells_within whose rounds text one steps n vs le small reads apart at rest front w e =
+pub cells_within : (devices : List Device) (rounds : ℕ) (text : List ℕ) (n : ℕ) (vs : List ℕ) → n ≤ length vs → All (λ v. v ≤ MOST_PRICE) vs → AreApart (front_of devices rounds) n
+    → (at : ℕ) (rest front : List ℕ) → EndsWithin (form_of devices rounds) n vs front → drop at text ≡ front ++ rest → PassedIn text rest (series (cell_price_at devices rounds text) n at)
+cells_within devices rounds text n vs le small apart at rest front w e =
+    let one = cell_price_at devices rounds text in
+    let form = form_of devices rounds in
     let k = w.place in
     let lt = w.within in
     let v = get_or vs k 0 in
-    let some = not_zero (whose k) (k % rounds + 1) v w.line in
-    let here : drop at text ≡ texts_of (form_of whose rounds) k vs ++ (form_of whose rounds k v ++ rest) = e ∙ ap (λ (l : List ℕ). l ++ rest) w.is ∙ append_assoc (texts_of (form_of whose rounds) k vs) (form_of whose rounds k v) rest in
-    let a = cells_before whose rounds text one n vs le small reads apart k at (form_of whose rounds k v ++ rest) lt (none_earlier whose rounds n k v rest apart lt some) here in
+    let whose = row_text devices (k / rounds) in
+    let some = not_zero whose (k % rounds + 1) v w.line in
+    let here : drop at text ≡ texts_of form k vs ++ (form k v ++ rest) = e ∙ ap (λ (l : List ℕ). l ++ rest) w.is ∙ append_assoc (texts_of form k vs) (form k v) rest in
+    let a = cells_before devices rounds text n vs le small apart k at (form k v ++ rest) lt (none_earlier devices rounds n k v rest apart lt some) here in
     let most = All-get_or (λ v. v ≤ MOST_PRICE) vs k 0 (omega arith) small in
-    let b = price_some (whose k) (k % rounds + 1) v text rest a.0 some most a.2 in
+    let b = price_some whose (k % rounds + 1) v text rest a.0 some most a.2 in
     let step : k + 1 ≡ suc k = omega arith in
-    let last : one k a.0 ≡ Ok (v, b.0) = reads k a.0 lt ∙ b.1 in
+    let last : one k a.0 ≡ Ok (v, b.0) = cell_reads devices rounds text k a.0 ∙ b.1 in
     let all : series one (suc k) at ≡ Ok (take k vs ++ v ∷ [], b.0) = subst (λ (i : ℕ). series one i at ≡ Ok (take k vs ++ v ∷ [], b.0)) step (series-more one k at a.0 (take k vs) (take k vs ++ v ∷ []) v b.0 a.1 last refl) in
-    (b.0, b.2, further text one steps k n at b.0 (take k vs ++ v ∷ []) lt all)
-
--- ---- what doesn't begin with a piece doesn't, whatever is behind its first lines
-
-pub apart_moved : (piece front back rest : List ℕ) → HasNoFeed piece → IsClosed front → IsSome front → IsApart piece (front ++ back) → IsApart piece (front ++ rest)
-apart_moved [] front back rest plain closed some apart tail e = apart (front ++ back) refl
-apart_moved (p ∷ ps) [] back rest plain closed some apart tail e = some
-apart_moved (p ∷ ps) (c ∷ cs) back rest plain closed some apart tail e =
-    let head : c ≡ p = cc in
-    let after : cs ++ rest ≡ ps ++ tail = cc in
-    apart_moved ps cs back rest plain.1 (closed_tail c cs closed) (more cs closed (λ is. plain.0 (sym head ∙ is)))
-    (λ tail' e'. apart tail' (ap (λ (x : ℕ). x ∷ (cs ++ back)) head ∙ ap (λ (l : List ℕ). p ∷ l) e')) tail after
-  where
-    more : (cs : List ℕ) → IsClosed (c ∷ cs) → (c ≡ 10 → ⊥) → IsSome cs
-    more [] h other = other h
-    more (d ∷ ds) h other = tt
+    (b.0, b.2, further text one (cell_steps devices rounds text) k n at b.0 (take k vs ++ v ∷ []) lt all)

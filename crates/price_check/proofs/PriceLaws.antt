@@ -12,7 +12,7 @@ use Rattle.price_check.specs.Reading.{price_at, valued, is_large}
 use Rattle.price_check.specs.declared.report_fault.ReportFault.{ReportFault}
 use Rattle.price_check.specs.declared.report_fault.ReportFault.TheVariants.{PriceRange}
 use Rattle.price_check.proofs.PieceLaws.{skip_takes, skip_again, skip_none, IsApart, number_found, number_found_again}
-use Rattle.price_check.proofs.FormLaws.{price_front}
+use Rattle.price_check.proofs.FormLaws.{front_text}
 
 abbrev Read : Type 0
 Read = Result (ℕ × ℕ) ReportFault
@@ -66,25 +66,25 @@ IsTaken whose r text at said = (drop at text ≡ price_line whose r said.0 ++ dr
 none_taken : (whose : List ℕ) (r : ℕ) (text : List ℕ) (at : ℕ) (said : ℕ × ℕ) → IsNone at said → IsTaken whose r text at said
 none_taken whose r text at said none = rw (none.0, none.1) (refl, omega arith)
 
-some_taken : (whose : List ℕ) (r : ℕ) (text : List ℕ) (at begin next : ℕ) (said : ℕ × ℕ) → skip (price_front whose r) text at ≡ Some begin
+some_taken : (whose : List ℕ) (r : ℕ) (text : List ℕ) (at begin next : ℕ) (said : ℕ × ℕ) → skip (front_text whose r) text at ≡ Some begin
     → skip (codes "\n") text (begin + digits_at text begin) ≡ Some next → IsSome (take (digits_at text begin) (drop begin text)) next said → IsTaken whose r text at said
 unfolding number_at
 some_taken whose r text at begin next said front end some =
-    let a = skip_takes (price_front whose r) text at begin front in
+    let a = skip_takes (front_text whose r) text at begin front in
     let k = begin + digits_at text begin in
     let found : found_number MOST_PRICE text begin ≡ Some (said.0, k) = found_of (number_of MOST_PRICE (take (digits_at text begin) (drop begin text))) begin k said.0 some.1 in
     let b = number_found MOST_PRICE text begin (said.0, k) (omega arith) found in
     let c = skip_takes (codes "\n") text k next end in
-    let whole : drop at text ≡ price_front whose r ++ (decimal said.0 ++ (codes "\n" ++ drop next text)) =
-    a.0 ∙ ap (λ (l : List ℕ). price_front whose r ++ l) (b.0 ∙ ap (λ (l : List ℕ). decimal said.0 ++ l) c.0) in
+    let whole : drop at text ≡ front_text whose r ++ (decimal said.0 ++ (codes "\n" ++ drop next text)) =
+    a.0 ∙ ap (λ (l : List ℕ). front_text whose r ++ l) (b.0 ∙ ap (λ (l : List ℕ). decimal said.0 ++ l) c.0) in
     (rw (some.0, some.2) (whole ∙ regroup whose (number_text r) (codes " ") (decimal said.0) (codes "\n") (drop next text)), b.1)
 
-pub price_takes : (whose : List ℕ) (r : ℕ) (text : List ℕ) (at : ℕ) (said : ℕ × ℕ) → price_at (skip (price_front whose r) text at) text at ≡ Ok said
+pub price_takes : (whose : List ℕ) (r : ℕ) (text : List ℕ) (at : ℕ) (said : ℕ × ℕ) → price_at (skip (front_text whose r) text at) text at ≡ Ok said
     → (drop at text ≡ price_line whose r said.0 ++ drop said.1 text) × (said.0 ≤ MOST_PRICE)
 unfolding price_at
-price_takes whose r text at said e = by (skip (price_front whose r) text at) refl e
+price_takes whose r text at said e = by (skip (front_text whose r) text at) refl e
   where
-    ended : (begin : ℕ) → skip (price_front whose r) text at ≡ Some begin → (o : Option ℕ) → skip (codes "\n") text (begin + digits_at text begin) ≡ o
+    ended : (begin : ℕ) → skip (front_text whose r) text at ≡ Some begin → (o : Option ℕ) → skip (codes "\n") text (begin + digits_at text begin) ≡ o
         → ◌≡◌ {A = Read} (option_map_or (λ next. valued text at next (take (digits_at text begin) (drop begin text))) o (Ok (0, at))) (Ok said) → IsTaken whose r text at said
     ended begin front (Some next) end h = elim (valued_ok text (take (digits_at text begin) (drop begin text)) at next said h) [
       | inl none ↦ none_taken whose r text at said none
@@ -92,7 +92,7 @@ price_takes whose r text at said e = by (skip (price_front whose r) text at) ref
     ]
     ended begin front None end h = let same : (0, at) ≡ said = cc in none_taken whose r text at said (subst (λ (q : ℕ × ℕ). IsNone at q) same (refl, refl))
 
-    by : (o : Option ℕ) → skip (price_front whose r) text at ≡ o
+    by : (o : Option ℕ) → skip (front_text whose r) text at ≡ o
         → ◌≡◌ {A = Read} (option_map_or (λ begin. option_map_or (λ next. valued text at next (take (digits_at text begin) (drop begin text))) (skip (codes "\n") text (begin + digits_at text begin)) (Ok (0, at))) o (Ok (0, at))) (Ok said)
         → IsTaken whose r text at said
     by (Some begin) front h = ended begin front (skip (codes "\n") text (begin + digits_at text begin)) refl h
@@ -109,13 +109,13 @@ valued_some text digits at next v some e = rw e (rw some refl)
 
 -- a price's line is read as this price
 pub price_some : (whose : List ℕ) (r v : ℕ) (text rest : List ℕ) (at : ℕ) → (v == 0) ≡ false → v ≤ MOST_PRICE → drop at text ≡ price_line whose r v ++ rest
-    → (e : ℕ) × (price_at (skip (price_front whose r) text at) text at ≡ Ok (v, e)) × (drop e text ≡ rest)
+    → (e : ℕ) × (price_at (skip (front_text whose r) text at) text at ≡ Ok (v, e)) × (drop e text ≡ rest)
 unfolding price_at number_at
 price_some whose r v text rest at some small e =
     let e' : drop at text ≡ (whose ++ (number_text r ++ (number_text v ++ codes "\n"))) ++ rest = rw some at e in
-    let whole : drop at text ≡ price_front whose r ++ (decimal v ++ (codes "\n" ++ rest)) = e' ∙ sym (regroup whose (number_text r) (codes " ") (decimal v) (codes "\n") rest) in
-    let a = skip_again (price_front whose r) text (decimal v ++ (codes "\n" ++ rest)) at whole in
-    let begin = at + length (price_front whose r) in
+    let whole : drop at text ≡ front_text whose r ++ (decimal v ++ (codes "\n" ++ rest)) = e' ∙ sym (regroup whose (number_text r) (codes " ") (decimal v) (codes "\n") rest) in
+    let a = skip_again (front_text whose r) text (decimal v ++ (codes "\n" ++ rest)) at whole in
+    let begin = at + length (front_text whose r) in
     let b = number_found_again MOST_PRICE text (codes "\n" ++ rest) begin v (omega arith) small refl a.1 in
     let end = begin + length (decimal v) in
     let f = of_found (number_of MOST_PRICE (take (digits_at text begin) (drop begin text))) begin (begin + digits_at text begin) v end b.0 in

@@ -6,14 +6,14 @@ use Rattle.cam_types.specs.declared.device.Device.{Device}
 use Rattle.cam_event.specs.Counts.{round, commands}
 use Rattle.cam_event.specs.Stays.{stays_begun}
 use Rattle.cam_event.specs.declared.event.Event.{Event}
-use Rattle.round_net.specs.PriceRows.{PriceRows, pricing_of_rows}
-use Rattle.round_net.specs.Rows.{NetRows, cell}
+use Rattle.round_net.specs.PriceRows.{PriceRows, pricing_of_rows, IsPricingFor}
+use Rattle.round_net.specs.Rows.{NetRows, cell, instance_of_rows}
 use Rattle.price_check.specs.Lines.{line}
-use Rattle.price_check.specs.Report.{texts_below, summary_text, stay_line, path_text, number_text, price_line, dev_line, sim_line}
+use Rattle.price_check.specs.Report.{texts_below, summary_text, plan_text, price_lines, stay_line, price_line, row_text, row_line}
 use Rattle.price_check.specs.Forms.{known_line, stated_line, most_stated}
 use Rattle.price_check.specs.Reading.{due, summary_at}
 use Rattle.price_check.proofs.SeriesLaws.{on_ok, texts_of, texts_below-same, texts_by_row}
-use Rattle.price_check.proofs.CellLaws.{form_of, dev_whose, sim_whose}
+use Rattle.price_check.proofs.CellLaws.{form_of, price_cells}
 use Rattle.price_check.proofs.LineLaws.{known_takes, known_again, stated_takes, stated_again, stay_form}
 
 -- ---- the summary
@@ -69,7 +69,7 @@ summary_again events live best excess text rest small small' e =
 
 -- ---- the texts of stays and of prices, by their definitions
 
-pub stay_texts : (net : NetRows) (n : ℕ) (vs : List ℕ) → texts_of (stay_form net) n vs ≡ texts_below n (stay_line net (slice_index vs))
+stay_texts : (net : NetRows) (n : ℕ) (vs : List ℕ) → texts_of (stay_form net) n vs ≡ texts_below n (stay_line net (slice_index vs))
 unfolding stay_line
 stay_texts net n vs = texts_below-same n _ _ (λ i lt. refl)
 
@@ -79,18 +79,17 @@ at_place rounds k vs =
     let place : k ≡ cell rounds (k / rounds) (k % rounds + 1) = omega arith in
     ap (slice_index vs) place
 
-pub dev_texts : (devices : List Device) (p : PriceRows) (rows : ℕ) → texts_of (form_of (dev_whose devices p.rounds) p.rounds) (rows * p.rounds) p.dev
-    ≡ texts_below rows (λ d. texts_below p.rounds (λ r. dev_line devices (pricing_of_rows p) d (r + 1)))
-unfolding dev_line pricing_of_rows
-dev_texts devices p rows =
-    texts_below-same (rows * p.rounds) _ (λ k. price_line (codes "price dev " ++ path_text devices (k / p.rounds)) (k % p.rounds + 1) (slice_index p.dev (cell p.rounds (k / p.rounds) (k % p.rounds + 1))))
-    (λ k lt. ap (price_line (codes "price dev " ++ path_text devices (k / p.rounds)) (k % p.rounds + 1)) (at_place p.rounds k p.dev))
-    ∙ texts_by_row rows p.rounds (λ d r. price_line (codes "price dev " ++ path_text devices d) (r + 1) (slice_index p.dev (cell p.rounds d (r + 1))))
+pub price_texts : (devices : List Device) (p : PriceRows) (n : ℕ) → texts_of (form_of devices p.rounds) (n * p.rounds) p.prices
+    ≡ texts_below n (λ row. texts_below p.rounds (λ r. row_line devices (pricing_of_rows p) row (r + 1)))
+unfolding row_line pricing_of_rows
+price_texts devices p n =
+    texts_below-same (n * p.rounds) _ (λ k. price_line (row_text devices (k / p.rounds)) (k % p.rounds + 1) (slice_index p.prices (cell p.rounds (k / p.rounds) (k % p.rounds + 1))))
+    (λ k lt. ap (price_line (row_text devices (k / p.rounds)) (k % p.rounds + 1)) (at_place p.rounds k p.prices))
+    ∙ texts_by_row n p.rounds (λ row r. price_line (row_text devices row) (r + 1) (slice_index p.prices (cell p.rounds row (r + 1))))
 
-pub sim_texts : (p : PriceRows) (rows : ℕ) → texts_of (form_of (sim_whose p.rounds) p.rounds) (rows * p.rounds) p.sim
-    ≡ texts_below rows (λ a. texts_below p.rounds (λ r. sim_line (pricing_of_rows p) a (r + 1)))
-unfolding sim_line pricing_of_rows
-sim_texts p rows =
-    texts_below-same (rows * p.rounds) _ (λ k. price_line (codes "price sim" ++ number_text (k / p.rounds)) (k % p.rounds + 1) (slice_index p.sim (cell p.rounds (k / p.rounds) (k % p.rounds + 1))))
-    (λ k lt. ap (price_line (codes "price sim" ++ number_text (k / p.rounds)) (k % p.rounds + 1)) (at_place p.rounds k p.sim))
-    ∙ texts_by_row rows p.rounds (λ a r. price_line (codes "price sim" ++ number_text a) (r + 1) (slice_index p.sim (cell p.rounds a (r + 1))))
+-- the stays and the prices of a report, one behind another
+pub plan_parts : (devices : List Device) (net : NetRows) (best : List ℕ) (p : PriceRows) → IsPricingFor (instance_of_rows net) p → plan_text devices net (slice_index best) (pricing_of_rows p)
+    ≡ texts_of (stay_form net) (instance_of_rows net).stays best ++ (texts_of (form_of devices (instance_of_rows net).rounds) (price_cells net) p.prices ++ codes "end\n")
+unfolding plan_text price_lines
+plan_parts devices net best p h =
+    rw (← h.rounds, ← h.devices, ← h.adapters, stay_texts net (instance_of_rows net).stays best, price_texts devices p (p.devices + p.adapters)) refl

@@ -1,5 +1,5 @@
--- the sections of a report: the summary, the stays, the prices of devices and those of adapters
-use Rattle.std.proofs.Common.{◌≡◌, ◌≤◌, ◌+◌, ◌*◌, ◌/◌, ◌%◌, ℕ, zero, suc, List, [], ◌∷◌, ◌++◌, length, drop, get_or, Bool, true, false, cond, refl, sym, ap, ◌∙◌, subst, arith, append_assoc, inl, inr}
+-- the sections of a report: the summary, the stays and the prices
+use Rattle.std.proofs.Common.{◌≡◌, ◌≤◌, ◌+◌, ◌-◌, ◌/◌, ◌%◌, ℕ, zero, suc, List, [], ◌∷◌, ◌++◌, length, drop, get_or, Bool, true, false, cond, refl, sym, ap, ◌∙◌, subst, arith, append_assoc, inl, inr}
 use Rattle.std.specs.Prelude.{◌==◌, ◌⊎◌, ⊤, not, Option, Some, None, Result, Ok, Err, codes, decimal, slice_get, slice_index}
 use Rattle.std.specs.List.{list_all}
 use Rattle.std.specs.Option.{option_map_or}
@@ -11,10 +11,10 @@ use Rattle.cam_event.specs.Counts.{round, commands}
 use Rattle.cam_event.specs.Stays.{stays_begun}
 use Rattle.cam_event.specs.declared.event.Event.{Event}
 use Rattle.cam_event.specs.declared.stay.StayName.{StayName}
-use Rattle.round_net.specs.PriceRows.{PriceRows, pricing_of_rows, IsPricingFor}
+use Rattle.round_net.specs.PriceRows.{pricing_of_rows, IsPricingFor}
 use Rattle.round_net.specs.Rows.{NetRows, instance_of_rows, live_of_rows, names_of_rows}
 use Rattle.price_check.specs.Lines.{line}
-use Rattle.price_check.specs.Report.{summary_text, plan_text, number_text, name_text, stay_line, price_line, path_text}
+use Rattle.price_check.specs.Report.{summary_text, plan_text, number_text, name_text, stay_line, price_line, row_text}
 use Rattle.price_check.specs.Forms.{known_line, stated_line, most_stated}
 use Rattle.price_check.specs.Reading.{due, summary_at, series}
 use Rattle.price_check.specs.Claims.{report_text}
@@ -22,9 +22,9 @@ use Rattle.price_check.specs.declared.claim.Claim.{Claim}
 use Rattle.price_check.specs.declared.report_fault.ReportFault.{ReportFault}
 use Rattle.price_check.proofs.SeriesLemmas.{Reader}
 use Rattle.price_check.proofs.SeriesLaws.{on_ok, texts_of, Takes, Again}
-use Rattle.price_check.proofs.CellLaws.{form_of, dev_whose, sim_whose}
+use Rattle.price_check.proofs.CellLaws.{price_cells, form_of}
 use Rattle.price_check.proofs.LineLaws.{known_takes, known_again, stated_takes, stated_again, stay_form}
-use Rattle.price_check.proofs.ReportLaws.{stay_texts, dev_texts, sim_texts}
+use Rattle.price_check.proofs.ReportLaws.{plan_parts}
 use Rattle.price_check.proofs.CutLaws.{HasNoFeed, plain_append, plain_decimal, plain_number, IsLine, AreLines}
 use Rattle.price_check.proofs.StepLaws.{Exact, Steps, behind_one, known_exact, stated_exact}
 
@@ -170,22 +170,22 @@ price_is_line whose r v h = by (v == 0)
       whole = grouped' whose (number_text r) (number_text v) (codes "\n");
     })
 
-pub plain_path : (devices : List Device) (d : ℕ) → HasNoFeed (path_text devices d)
-unfolding path_text spelled
-plain_path devices d = by (slice_get devices d)
+plain_row : (devices : List Device) (row : ℕ) → HasNoFeed (row_text devices row)
+unfolding row_text spelled
+plain_row devices row = by (slice_get devices row)
   where
     colon : HasNoFeed (codes ":")
     colon = plain_of (codes ":") refl
 
-    by : (o : Option Device) → HasNoFeed (option_map_or (λ (device : Device). spelled (address_of device)) o [])
-    by (Some device) = plain_append (decimal device.bus) _ (plain_decimal device.bus) (plain_append (codes ":") _ colon (plain_append (decimal device.target) _ (plain_decimal device.target) (plain_append (codes ":") (decimal device.lun) colon (plain_decimal device.lun))))
-    by None = tt
+    path : (device : Device) → HasNoFeed (decimal device.bus ++ (codes ":" ++ (decimal device.target ++ (codes ":" ++ decimal device.lun))))
+    path device = plain_append (decimal device.bus) _ (plain_decimal device.bus) (plain_append (codes ":") _ colon (plain_append (decimal device.target) _ (plain_decimal device.target) (plain_append (codes ":") (decimal device.lun) colon (plain_decimal device.lun))))
 
-pub dev_lines : (devices : List Device) (rounds : ℕ) → AreLines (form_of (dev_whose devices rounds) rounds)
-dev_lines devices rounds k v = price_is_line (dev_whose devices rounds k) (k % rounds + 1) v (plain_append (codes "price dev ") (path_text devices (k / rounds)) (plain_of (codes "price dev ") refl) (plain_path devices (k / rounds)))
+    by : (o : Option Device) → HasNoFeed (option_map_or (λ (device : Device). codes "price dev " ++ spelled (address_of device)) o (codes "price sim" ++ number_text (row - length devices)))
+    by (Some device) = plain_append (codes "price dev ") _ (plain_of (codes "price dev ") refl) (path device)
+    by None = plain_append (codes "price sim") (number_text (row - length devices)) (plain_of (codes "price sim") refl) (plain_number (row - length devices))
 
-pub sim_lines : (rounds : ℕ) → AreLines (form_of (sim_whose rounds) rounds)
-sim_lines rounds k v = price_is_line (sim_whose rounds k) (k % rounds + 1) v (plain_append (codes "price sim") (number_text (k / rounds)) (plain_of (codes "price sim") refl) (plain_number (k / rounds)))
+pub cell_lines : (devices : List Device) (rounds : ℕ) → AreLines (form_of devices rounds)
+cell_lines devices rounds k v = price_is_line (row_text devices (k / rounds)) (k % rounds + 1) v (plain_row devices (k / rounds))
 
 -- ---- a report by its sections
 
@@ -197,16 +197,7 @@ unfoldable pub parts_of : Past → NetRows → ℕ → Claim → List ℕ
 parts_of past net live claim =
     texts_of (seven_form past.events live) 7 (said_of claim.best claim.excess)
     ++ (texts_of (stay_form net) (instance_of_rows net).stays claim.schedule
-    ++ (texts_of (form_of (dev_whose past.config.devices (instance_of_rows net).rounds) (instance_of_rows net).rounds) ((instance_of_rows net).devices * (instance_of_rows net).rounds) claim.prices.dev
-    ++ (texts_of (form_of (sim_whose (instance_of_rows net).rounds) (instance_of_rows net).rounds) ((instance_of_rows net).adapters * (instance_of_rows net).rounds) claim.prices.sim ++ codes "end\n")))
-
-plan_parts : (devices : List Device) (net : NetRows) (best : List ℕ) (p : PriceRows) → IsPricingFor (instance_of_rows net) p → plan_text devices net (slice_index best) (pricing_of_rows p)
-    ≡ texts_of (stay_form net) (instance_of_rows net).stays best
-    ++ (texts_of (form_of (dev_whose devices (instance_of_rows net).rounds) (instance_of_rows net).rounds) ((instance_of_rows net).devices * (instance_of_rows net).rounds) p.dev
-    ++ (texts_of (form_of (sim_whose (instance_of_rows net).rounds) (instance_of_rows net).rounds) ((instance_of_rows net).adapters * (instance_of_rows net).rounds) p.sim ++ codes "end\n"))
-unfolding plan_text
-plan_parts devices net best p h =
-    rw (← h.rounds, ← h.devices, ← h.adapters, stay_texts net (instance_of_rows net).stays best, dev_texts devices p p.devices, sim_texts p p.adapters) refl
+    ++ (texts_of (form_of past.config.devices (instance_of_rows net).rounds) (price_cells net) claim.prices.prices ++ codes "end\n"))
 
 pub report_parts : (past : Past) (net : NetRows) (live : ℕ) (claim : Claim) → IsPricingFor (instance_of_rows net) claim.prices → report_text past net live claim ≡ parts_of past net live claim
 unfolding report_text parts_of

@@ -90,13 +90,6 @@ series_again form behind text one (suc n) vs le again joins at rest e h =
     let more : take (suc n) vs ≡ take n vs ++ v ∷ [] = rw step (take_more vs n 0 (omega arith)) in
     (last.0, rw (before.1, last.1, more) refl, last.2)
 
--- nothing more of the readings is behind them, where nothing of them is behind the texts of the last ones
-pub joined : (form : ℕ → ℕ → List ℕ) (behind : ℕ → List ℕ → Type 0) (n : ℕ) (vs : List ℕ) → Joins form behind n vs → (rest : List ℕ) → behind n rest → behind 0 (texts_of form n vs ++ rest)
-joined form behind zero vs joins rest h = h
-joined form behind (suc n) vs joins rest h =
-    rw (append_assoc (texts_of form n vs) (form n (get_or vs n 0)) rest)
-    (joined form behind n vs (λ k r lt. joins k r (omega arith)) (form n (get_or vs n 0) ++ rest) (joins n rest (omega arith) h))
-
 -- ---- texts by rows
 
 texts_below-add : (a b : ℕ) (f : ℕ → List ℕ) → texts_below (a + b) f ≡ texts_below a f ++ texts_below b (λ i. f (a + i))

@@ -10,12 +10,12 @@ use Rattle.cam_event.specs.declared.stay.StayName.{StayName}
 use Rattle.round_net.specs.Rows.{NetRows, instance_of_rows, live_of_rows, names_of_rows}
 use Rattle.round_net.specs.declared.price_range.TheConstants.{MOST_PRICE}
 use Rattle.price_check.specs.Pieces.{skip, found_number, line_of}
-use Rattle.price_check.specs.Forms.{known_line, stated_line, own_stay, any_stay, named_stay, dev_front, most_stated}
-use Rattle.price_check.specs.Reading.{due, stay_at, is_large, valued, price_at, dev_price_at, sim_price_at, series, stops, ended}
+use Rattle.price_check.specs.Forms.{known_line, stated_line, own_stay, any_stay, named_stay, most_stated}
+use Rattle.price_check.specs.Reading.{due, stay_at, is_large, valued, price_at, cell_price_at, series, stops, ended}
 use Rattle.price_check.specs.declared.report_fault.ReportFault.{ReportFault}
 use Rattle.price_check.specs.declared.report_fault.ReportFault.TheVariants as fault
 use Rattle.price_check.proofs.PieceLaws.{skip_takes, on_some, framed}
-use Rattle.price_check.proofs.FormLaws.{known_line-skip, stated_line-framed, named_stay-framed, stay_front, stay_back, dev_front-skip, sim_front-skip}
+use Rattle.price_check.proofs.FormLaws.{known_line-skip, stated_line-framed, named_stay-framed, stay_front, stay_back, price_front-skip}
 use Rattle.price_check.proofs.SeriesLemmas.{Reader}
 use Rattle.price_check.specs.Claims.{fault_line}
 
@@ -181,17 +181,9 @@ price_exact front text at = by (skip front text at) refl
     by (Some begin) is = ended begin (skip_on front text at begin is) (skip (codes "\n") text (begin + digits_at text begin)) refl
     by None is = let same : at ≤ at = omega arith in same
 
-pub sim_steps : (rounds : ℕ) (text : List ℕ) → Steps text (sim_price_at rounds text)
-unfolding sim_price_at
-sim_steps rounds text k at = rw (sim_front-skip (k / rounds) (k % rounds + 1) text at) (price_exact _ text at)
-
-pub dev_steps : (devices : List Device) (rounds : ℕ) (text : List ℕ) → Steps text (dev_price_at devices rounds text)
-unfolding dev_price_at
-dev_steps devices rounds text k at = by (slice_get devices (k / rounds))
-  where
-    by : (o : Option Device) → Exact {X = ℕ × ℕ} text at behind_one (option_map_or (λ device. price_at (dev_front device (k % rounds + 1) text at) text at) o (Ok (0, at)))
-    by (Some device) = rw (dev_front-skip device (k % rounds + 1) text at) (price_exact _ text at)
-    by None = let same : at ≤ at = omega arith in same
+pub cell_steps : (devices : List Device) (rounds : ℕ) (text : List ℕ) → Steps text (cell_price_at devices rounds text)
+unfolding cell_price_at
+cell_steps devices rounds text k at = rw (price_front-skip devices (k / rounds) (k % rounds + 1) text at) (price_exact _ text at)
 
 -- ---- the end
 

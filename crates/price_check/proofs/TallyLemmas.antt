@@ -1,14 +1,16 @@
 -- one stay more in the counts of cells
-use Rattle.std.proofs.Common.{◌≡◌, ◌≢◌, ℕ, zero, suc, ◌+◌, ◌*◌, ◌^◌, ◌<◌, ◌≤◌, Bool, true, false, cond, List, length, refl, sym, ap, ◌∙◌, arith, add-one, get_or, eq-eqb}
-use Rattle.std.specs.Prelude.{◌==◌, ◌&&◌, slice_index, slice_set}
+use Rattle.std.proofs.Common.{◌≡◌, ◌≢◌, ℕ, zero, suc, ◌+◌, ◌*◌, ◌^◌, ◌<◌, ◌≤◌, Bool, true, false, cond, List, [], ◌∷◌, ◌++◌, length, refl, sym, ap, ◌∙◌, arith, add-one, get_or, eq-eqb}
+use Rattle.std.specs.Prelude.{◌==◌, ◌&&◌, ◌||◌, slice_index, slice_set}
+use Rattle.std.specs.List.{list_any}
 use Rattle.std.proofs.lemmas.Bool.{eqb-true, ne_eqb, and_parts}
-use Rattle.std.proofs.lemmas.Bool.Decides.{nat_tests}
 use Rattle.std.proofs.lemmas.List.{get_or-set_same, get_or-set_other, length-set}
+use Rattle.std.proofs.lemmas.List.Folds.{list_any-append}
 use Rattle.round_net.specs.Sums.{count_below}
-use Rattle.round_net.specs.Instance.{Instance, adapter}
+use Rattle.round_net.specs.Instance.{Instance, rows, adapter, adapter_row, path, uses}
 use Rattle.round_net.specs.Rows.{cell}
 use Rattle.round_net.proofs.CellLemmas.{cell_within, cell-injective}
-use Rattle.price_check.specs.Faults.{at_device, at_adapter}
+use Rattle.round_net.proofs.PathLemmas.{uses-device, uses-adapter}
+use Rattle.price_check.specs.Faults.{at_row}
 use Rattle.price_check.specs.Tally.{IsTally}
 
 pub few_counted : (n : ℕ) (test : ℕ → Bool) → count_below n test ≤ n
@@ -22,8 +24,8 @@ pub count_below-more : (n : ℕ) (test : ℕ → Bool) → count_below (n + 1) t
 count_below-more n test = rw add-one refl
 
 -- the stay itself counts
-pub count_here : (n : ℕ) (row round : ℕ → ℕ) → count_below (n + 1) (λ t. (row t == row n) && (round t == round n)) ≡ count_below n (λ t. (row t == row n) && (round t == round n)) + 1
-count_here n row round = rw (add-one, eq-eqb (row n) (row n) refl, eq-eqb (round n) (round n) refl) refl
+pub count_here : (n : ℕ) (test : ℕ → Bool) (round : ℕ → ℕ) → test n ≡ true → count_below (n + 1) (λ t. test t && (round t == round n)) ≡ count_below n (λ t. test t && (round t == round n)) + 1
+count_here n test round passes = rw (add-one, passes, eq-eqb (round n) (round n) refl) refl
 
 -- one more at a place
 pub bump : (xs : List ℕ) (i k : ℕ) → i < length xs → slice_index (slice_set xs i (slice_index xs i + 1)) k ≡ slice_index xs k + cond (i == k) 1 0
@@ -39,9 +41,9 @@ cell-test rounds row r other q r1 rn q1 qn =
     elim ((row == other) && (r == q)) as (λ b. ((row == other) && (r == q)) ≡ b → (cell rounds row r == cell rounds other q) ≡ b) [
       | true ↦ λ e.
           let parts = and_parts (row == other) (r == q) e in
-          let rows : row ≡ other = eqb-true row other parts.0 in
+          let rows' : row ≡ other = eqb-true row other parts.0 in
           let at : r ≡ q = eqb-true r q parts.1 in
-          eq-eqb (cell rounds row r) (cell rounds other q) (rw (rows, at) refl)
+          eq-eqb (cell rounds row r) (cell rounds other q) (rw (rows', at) refl)
       | false ↦ λ e.
           ne_eqb (cell rounds row r) (cell rounds other q) (λ at.
           let same = cell-injective rounds row r other q r1 rn q1 qn at in
@@ -49,14 +51,89 @@ cell-test rounds row r other q r1 rn q1 qn =
           cc)
     ] refl
 
-past_all : (devices a e : ℕ) → e < devices → (devices + a == e) ≡ false
-past_all devices a e lt = ne_eqb (devices + a) e (λ at. omega arith)
+abbrev pub bumped : List ℕ → ℕ → List ℕ
+bumped xs i = slice_set xs i (slice_index xs i + 1)
 
-before_all : (devices d e : ℕ) → d < devices → (d == devices + e) ≡ false
-before_all devices d e lt = ne_eqb d (devices + e) (λ at. omega arith)
+-- ---- the stay itself is counted row by row
 
-behind_all : (devices a e : ℕ) → (devices + a == devices + e) ≡ (a == e)
-behind_all devices a e = grind (arith, nat_tests)
+-- the counts of the stays before this one, and of the stay itself in some rows
+pub record IsCounted (net : Instance) (f : ℕ → ℕ) (counts : List ℕ) (s : ℕ) (own : List ℕ) : Type 0 where
+  pub each : (row r : ℕ) → row < rows net → 1 ≤ r → r ≤ net.rounds → slice_index counts (cell net.rounds row r) ≡ count_below s (λ t. uses net row t && (f t == r)) + cond (list_any (λ x. x == row) own && (f s == r)) 1 0
+
+-- none of these rows is this one
+abbrev pub IsNew : List ℕ → ℕ → Type 0
+IsNew own row = list_any (λ x. x == row) own ≡ false
+
+-- a row of the net in a round of it
+pub record IsPlace (net : Instance) (f : ℕ → ℕ) (s row : ℕ) : Type 0 where
+  pub within : row < rows net
+  pub first : 1 ≤ f s
+  pub last : f s ≤ net.rounds
+
+pub counted_none : (net : Instance) (f : ℕ → ℕ) (counts : List ℕ) (s : ℕ) → IsTally net f counts s → IsCounted net f counts s []
+counted_none net f counts s tally = record { each = λ row r within some most. let h = tally.each row r within some most in omega arith }
+
+pub counted_all : (net : Instance) (f : ℕ → ℕ) (counts : List ℕ) (s : ℕ) → IsCounted net f counts s (path net s) → IsTally net f counts (s + 1)
+counted_all net f counts s counted = record {
+  each = λ row r within some most.
+      let h : slice_index counts (cell net.rounds row r) ≡ count_below s (λ t. uses net row t && (f t == r)) + cond (uses net row s && (f s == r)) 1 0 = counted.each row r within some most in
+      let more = count_below-more s (λ t. uses net row t && (f t == r)) in
+      omega arith;
+}
+
+place_within : (net : Instance) (f : ℕ → ℕ) (s row n : ℕ) → IsPlace net f s row → rows net * net.rounds ≤ n → cell net.rounds row (f s) < n
+place_within net f s row n p room = omega (arith, cell_within net.rounds (rows net) row (f s) p.within p.first p.last)
+
+either_adds : (a b c : Bool) → (b ≡ true → a ≡ false) → cond (a && c) 1 0 + cond (b && c) 1 0 ≡ cond ((a || b) && c) 1 0
+either_adds true true c apart = let wrong = apart refl in absurd cc
+either_adds true false true apart = refl
+either_adds true false false apart = refl
+either_adds false true true apart = refl
+either_adds false true false apart = refl
+either_adds false false c apart = refl
+
+or_none : (a b : Bool) → (a || (b || false)) ≡ (a || b)
+or_none true b = refl
+or_none false true = refl
+or_none false false = refl
+
+pub counted_more : (net : Instance) (f : ℕ → ℕ) (counts : List ℕ) (s row : ℕ) (own : List ℕ) → IsCounted net f counts s own → IsPlace net f s row → IsNew own row → rows net * net.rounds ≤ length counts →
+    IsCounted net f (bumped counts (cell net.rounds row (f s))) s (own ++ row ∷ [])
+counted_more net f counts s row own counted p new room = record {
+  each = λ other r within some most.
+      let at = cell net.rounds row (f s) in
+      let one : slice_index (bumped counts at) (cell net.rounds other r) ≡ slice_index counts (cell net.rounds other r) + cond (at == cell net.rounds other r) 1 0 =
+      bump counts at (cell net.rounds other r) (place_within net f s row (length counts) p room) in
+      let test : ◌≡◌ {A = ℕ} (cond (at == cell net.rounds other r) 1 0) (cond ((row == other) && (f s == r)) 1 0) = ap (λ b. cond b 1 0) (cell-test net.rounds row (f s) other r p.first p.last some most) in
+      let apart : (row == other) ≡ true → list_any (λ x. x == other) own ≡ false = λ e. let same : row ≡ other = eqb-true row other e in rw same at new in
+      let both = either_adds (list_any (λ x. x == other) own) (row == other) (f s == r) apart in
+      let whole : list_any (λ x. x == other) (own ++ row ∷ []) ≡ (list_any (λ x. x == other) own || (row == other)) = list_any-append (λ x. x == other) own (row ∷ []) ∙ or_none (list_any (λ x. x == other) own) (row == other) in
+      let after : ◌≡◌ {A = ℕ} (cond (list_any (λ x. x == other) (own ++ row ∷ []) && (f s == r)) 1 0) (cond ((list_any (λ x. x == other) own || (row == other)) && (f s == r)) 1 0) = ap (λ b. cond (b && (f s == r)) 1 0) whole in
+      let before = counted.each other r within some most in
+      omega arith;
+}
+
+-- before a row is counted it has the stays before this one alone
+counted_here : (net : Instance) (f : ℕ → ℕ) (counts : List ℕ) (s row : ℕ) (own : List ℕ) → IsCounted net f counts s own → IsPlace net f s row → IsNew own row → slice_index counts (cell net.rounds row (f s)) ≡ count_below s (λ t. uses net row t && (f t == f s))
+counted_here net f counts s row own counted p new =
+    let h = counted.each row (f s) p.within p.first p.last in
+    let none : ◌≡◌ {A = ℕ} (cond (list_any (λ x. x == row) own && (f s == f s)) 1 0) 0 = rw new refl in
+    omega arith
+
+-- there are no more than stays
+pub few_here : (net : Instance) (f : ℕ → ℕ) (counts : List ℕ) (s row at : ℕ) (own : List ℕ) → IsCounted net f counts s own → IsPlace net f s row → IsNew own row → s < 2 ^ 31 → at ≡ cell net.rounds row (f s) → slice_index counts at < 2 ^ 31
+few_here net f counts s row at own counted p new lt is =
+    let few = few_counted s (λ t. uses net row t && (f t == f s)) in
+    let h = counted_here net f counts s row own counted p new in
+    rw is (omega arith)
+
+-- with the stay they are those that its fault is told by
+pub here_counted : (net : Instance) (f : ℕ → ℕ) (counts : List ℕ) (s row at one : ℕ) (own : List ℕ) → IsCounted net f counts s own → IsPlace net f s row → IsNew own row → uses net row s ≡ true → at ≡ cell net.rounds row (f s) → one ≡ slice_index counts at + 1 → one ≡ at_row net f row s
+here_counted net f counts s row at one own counted p new used is e =
+    let h = counted_here net f counts s row own counted p new in
+    let here = count_here s (uses net row) f used in
+    let same : slice_index counts at ≡ slice_index counts (cell net.rounds row (f s)) = ap (slice_index counts) is in
+    omega arith
 
 -- a stay within the net
 pub record IsPlaced (net : Instance) (f : ℕ → ℕ) (s : ℕ) : Type 0 where
@@ -65,108 +142,34 @@ pub record IsPlaced (net : Instance) (f : ℕ → ℕ) (s : ℕ) : Type 0 where
   pub first : 1 ≤ f s
   pub last : f s ≤ net.rounds
 
-abbrev pub device_cell : Instance → (ℕ → ℕ) → ℕ → ℕ
-device_cell net f s = cell net.rounds (net.device s) (f s)
+pub device_place : (net : Instance) (f : ℕ → ℕ) (s : ℕ) → IsPlaced net f s → IsPlace net f s (net.device s)
+device_place net f s p = let lt = p.device in record { within = omega arith; first = p.first; last = p.last }
 
-abbrev pub adapter_cell : Instance → (ℕ → ℕ) → ℕ → ℕ
-adapter_cell net f s = cell net.rounds (net.devices + adapter net s) (f s)
+pub adapter_place : (net : Instance) (f : ℕ → ℕ) (s : ℕ) → IsPlaced net f s → IsPlace net f s (adapter_row net (adapter net s))
+adapter_place net f s p = let lt = p.adapter in record { within = omega arith; first = p.first; last = p.last }
 
-abbrev pub bumped : List ℕ → ℕ → List ℕ
-bumped xs i = slice_set xs i (slice_index xs i + 1)
-
-pub device_cell-within : (net : Instance) (f : ℕ → ℕ) (s n : ℕ) → IsPlaced net f s → (net.devices + net.adapters) * net.rounds ≤ n → device_cell net f s < n
-device_cell-within net f s n p le =
-    let h = cell_within net.rounds (net.devices + net.adapters) (net.device s) (f s) (let lt = p.device in omega arith) p.first p.last in omega arith
-
-pub adapter_cell-within : (net : Instance) (f : ℕ → ℕ) (s n : ℕ) → IsPlaced net f s → (net.devices + net.adapters) * net.rounds ≤ n → adapter_cell net f s < n
-adapter_cell-within net f s n p le =
-    let h = cell_within net.rounds (net.devices + net.adapters) (net.devices + adapter net s) (f s) (let lt = p.adapter in omega arith) p.first p.last in omega arith
-
--- what is counted of the stay's device and adapter, the stay among them
-pub device_count : (net : Instance) (f : ℕ → ℕ) (counts : List ℕ) (s : ℕ) → IsTally net f counts s → IsPlaced net f s → slice_index counts (device_cell net f s) + 1 ≡ at_device net f s
-device_count net f counts s tally p =
-    let h = tally.devices (net.device s) (f s) p.device p.first p.last in
-    let here = count_here s net.device f in
-    omega arith
-
--- the count of the device leaves the adapter's as it was
-pub apart_count : (net : Instance) (f : ℕ → ℕ) (counts : List ℕ) (s : ℕ) → IsPlaced net f s → device_cell net f s < length counts → slice_index (bumped counts (device_cell net f s)) (adapter_cell net f s) ≡ slice_index counts (adapter_cell net f s)
-apart_count net f counts s p lt =
-    let h = bump counts (device_cell net f s) (adapter_cell net f s) lt in
-    let test = cell-test net.rounds (net.device s) (f s) (net.devices + adapter net s) (f s) p.first p.last p.first p.last in
-    let no : ◌≡◌ {A = ℕ} (cond (device_cell net f s == adapter_cell net f s) 1 0) 0 = rw (test, before_all net.devices (net.device s) (adapter net s) p.device) refl in
-    omega arith
-
-pub adapter_count : (net : Instance) (f : ℕ → ℕ) (counts : List ℕ) (s : ℕ) → IsTally net f counts s → IsPlaced net f s → device_cell net f s < length counts → slice_index (bumped counts (device_cell net f s)) (adapter_cell net f s) + 1 ≡ at_adapter net f s
-adapter_count net f counts s tally p lt =
-    let h = tally.adapters (adapter net s) (f s) p.adapter p.first p.last in
-    let here = count_here s (adapter net) f in
-    let apart = apart_count net f counts s p lt in
-    omega arith
-
--- both cells counted, the counts are those of one stay more
-tally_devices : (net : Instance) (f : ℕ → ℕ) (counts : List ℕ) (s e q : ℕ) → IsTally net f counts s → IsPlaced net f s → device_cell net f s < length counts → adapter_cell net f s < length counts → e < net.devices → 1 ≤ q → q ≤ net.rounds →
-    slice_index (bumped (bumped counts (device_cell net f s)) (adapter_cell net f s)) (cell net.rounds e q) ≡ count_below (s + 1) (λ t. (net.device t == e) && (f t == q))
-tally_devices net f counts s e q tally p lt lt' within some most =
-    let one = bump counts (device_cell net f s) (cell net.rounds e q) lt in
-    let two = bump (bumped counts (device_cell net f s)) (adapter_cell net f s) (cell net.rounds e q) (omega (arith, length-set counts (device_cell net f s) (slice_index counts (device_cell net f s) + 1))) in
-    let test = cell-test net.rounds (net.device s) (f s) e q p.first p.last some most in
-    let test' = cell-test net.rounds (net.devices + adapter net s) (f s) e q p.first p.last some most in
-    let no : ◌≡◌ {A = ℕ} (cond (adapter_cell net f s == cell net.rounds e q) 1 0) 0 = rw (test', past_all net.devices (adapter net s) e within) refl in
-    let yes : ◌≡◌ {A = ℕ} (cond (device_cell net f s == cell net.rounds e q) 1 0) (cond ((net.device s == e) && (f s == q)) 1 0) = ap (λ b. cond b 1 0) test in
-    let h = tally.devices e q within some most in
-    let more = count_below-more s (λ t. (net.device t == e) && (f t == q)) in
-    omega arith
-
-tally_adapters : (net : Instance) (f : ℕ → ℕ) (counts : List ℕ) (s e q : ℕ) → IsTally net f counts s → IsPlaced net f s → device_cell net f s < length counts → adapter_cell net f s < length counts → e < net.adapters → 1 ≤ q → q ≤ net.rounds →
-    slice_index (bumped (bumped counts (device_cell net f s)) (adapter_cell net f s)) (cell net.rounds (net.devices + e) q) ≡ count_below (s + 1) (λ t. (adapter net t == e) && (f t == q))
-tally_adapters net f counts s e q tally p lt lt' within some most =
-    let at : ℕ = cell net.rounds (net.devices + e) q in
-    let one = bump counts (device_cell net f s) at lt in
-    let two = bump (bumped counts (device_cell net f s)) (adapter_cell net f s) at (omega (arith, length-set counts (device_cell net f s) (slice_index counts (device_cell net f s) + 1))) in
-    let test = cell-test net.rounds (net.device s) (f s) (net.devices + e) q p.first p.last some most in
-    let test' = cell-test net.rounds (net.devices + adapter net s) (f s) (net.devices + e) q p.first p.last some most in
-    let no : ◌≡◌ {A = ℕ} (cond (device_cell net f s == at) 1 0) 0 = rw (test, before_all net.devices (net.device s) e p.device) refl in
-    let yes : ◌≡◌ {A = ℕ} (cond (adapter_cell net f s == at) 1 0) (cond ((adapter net s == e) && (f s == q)) 1 0) = ap (λ b. cond b 1 0) (test' ∙ ap (λ b. b && (f s == q)) (behind_all net.devices (adapter net s) e)) in
-    let h = tally.adapters e q within some most in
-    let more = count_below-more s (λ t. (adapter net t == e) && (f t == q)) in
-    omega arith
-
-pub tally-step : (net : Instance) (f : ℕ → ℕ) (counts : List ℕ) (s : ℕ) → IsTally net f counts s → IsPlaced net f s → device_cell net f s < length counts → adapter_cell net f s < length counts → IsTally net f (bumped (bumped counts (device_cell net f s)) (adapter_cell net f s)) (s + 1)
-tally-step net f counts s tally p lt lt' = record {
-  devices = λ e q within some most. tally_devices net f counts s e q tally p lt lt' within some most;
-  adapters = λ e q within some most. tally_adapters net f counts s e q tally p lt lt' within some most;
-}
-
--- there are no more than stays
-pub few_at_device : (net : Instance) (f : ℕ → ℕ) (counts : List ℕ) (s at : ℕ) → IsTally net f counts s → IsPlaced net f s → s < 2 ^ 31 → at ≡ device_cell net f s → slice_index counts at < 2 ^ 31
-few_at_device net f counts s at tally p lt is =
-    let few = few_counted s (λ t. (net.device t == net.device s) && (f t == f s)) in
-    let h = tally.devices (net.device s) (f s) p.device p.first p.last in
-    rw is (omega arith)
-
-pub few_at_adapter : (net : Instance) (f : ℕ → ℕ) (counts counts' : List ℕ) (s at at' : ℕ) → IsTally net f counts s → IsPlaced net f s → s < 2 ^ 31 → (net.devices + net.adapters) * net.rounds ≤ length counts →
-    at ≡ device_cell net f s → counts' ≡ bumped counts at → at' ≡ adapter_cell net f s → slice_index counts' at' < 2 ^ 31
-few_at_adapter net f counts counts' s at at' tally p lt room is more is' =
-    let few = few_counted s (λ t. (adapter net t == adapter net s) && (f t == f s)) in
-    let h = tally.adapters (adapter net s) (f s) p.adapter p.first p.last in
-    let apart = apart_count net f counts s p (device_cell-within net f s (length counts) p room) in
-    rw (more, is, is') (omega arith)
+-- the device's row isn't the adapter's
+pub adapter_new : (net : Instance) (f : ℕ → ℕ) (s : ℕ) → IsPlaced net f s → IsNew (net.device s ∷ []) (adapter_row net (adapter net s))
+adapter_new net f s p = let lt = p.device in rw (ne_eqb (net.device s) (adapter_row net (adapter net s)) (λ at. omega arith)) refl
 
 -- both counted
 pub record IsTallied (net : Instance) (f : ℕ → ℕ) (s : ℕ) (one other : ℕ) (counts : List ℕ) : Type 0 where
-  pub at_device : one ≡ at_device net f s
-  pub at_adapter : other ≡ at_adapter net f s
+  pub at_device : one ≡ at_row net f (net.device s) s
+  pub at_adapter : other ≡ at_row net f (adapter_row net (adapter net s)) s
   pub tally : IsTally net f counts (s + 1)
 
-pub tallied : (net : Instance) (f : ℕ → ℕ) (counts counts' counts'' : List ℕ) (s at at' one other : ℕ) → IsTally net f counts s → IsPlaced net f s → (net.devices + net.adapters) * net.rounds ≤ length counts →
-    at ≡ device_cell net f s → one ≡ slice_index counts at + 1 → counts' ≡ bumped counts at →
-    at' ≡ adapter_cell net f s → other ≡ slice_index counts' at' + 1 → counts'' ≡ bumped counts' at' → IsTallied net f s one other counts''
+pub tallied : (net : Instance) (f : ℕ → ℕ) (counts counts' counts'' : List ℕ) (s at at' one other : ℕ) → IsTally net f counts s → IsPlaced net f s → rows net * net.rounds ≤ length counts →
+    at ≡ cell net.rounds (net.device s) (f s) → one ≡ slice_index counts at + 1 → counts' ≡ bumped counts at →
+    at' ≡ cell net.rounds (adapter_row net (adapter net s)) (f s) → other ≡ slice_index counts' at' + 1 → counts'' ≡ bumped counts' at' → IsTallied net f s one other counts''
 tallied net f counts counts' counts'' s at at' one other tally p room is e more is' e' more' =
-    let lt = device_cell-within net f s (length counts) p room in
-    let lt' = adapter_cell-within net f s (length counts) p room in
+    let device = net.device s in
+    let row = adapter_row net (adapter net s) in
+    let none = counted_none net f counts s tally in
+    let first : IsCounted net f counts' s (device ∷ []) = rw (more, is) (counted_more net f counts s device [] none (device_place net f s p) refl room) in
+    let room' : rows net * net.rounds ≤ length counts' = rw more (omega (arith, length-set counts at (slice_index counts at + 1))) in
+    let second : IsCounted net f counts'' s (path net s) = rw (more', is') (counted_more net f counts' s row (device ∷ []) first (adapter_place net f s p) (adapter_new net f s p) room') in
     record {
-      at_device = e ∙ ap (λ i. slice_index counts i + 1) is ∙ device_count net f counts s tally p;
-      at_adapter = e' ∙ rw (more, is, is') (adapter_count net f counts s tally p lt);
-      tally = rw (more', more, is, is') (tally-step net f counts s tally p lt lt');
+      at_device = here_counted net f counts s device at one [] none (device_place net f s p) refl (uses-device net s) is e;
+      at_adapter = here_counted net f counts' s row at' other (device ∷ []) first (adapter_place net f s p) (adapter_new net f s p) (uses-adapter net s) is' e';
+      tally = counted_all net f counts'' s second;
     }

@@ -17,8 +17,8 @@ use Rattle.price_check.specs.declared.claim.Claim.{Claim}
 use Rattle.price_check.specs.declared.report_fault.ReportFault.{ReportFault}
 use Rattle.price_check.specs.declared.report_fault.ReportFault.TheVariants as fault
 
--- a round of at most 65,535 for each stay, a price for each round of each device and adapter, none above the most, and costs
--- of at most 18 digits
+-- a round of at most 65,535 for each stay, a price for each round of each row, none above the most, and costs of at most 18
+-- digits
 pub record IsClaim (net : Instance) (claim : Claim) : Type 0 where
   pub stays : length claim.schedule ≡ net.stays
   pub rounds : All (λ r. r ≤ 65535) claim.schedule

@@ -1,5 +1,6 @@
 -- the forms of a report's lines: where one stands at an offset, what it says and the offset behind it
-use Rattle.std.specs.Prelude.{ℕ, List, Option, Some, codes, decimal, option_and_then, slice_get}
+use Rattle.std.specs.Prelude.{ℕ, ◌-◌, List, length, Option, Some, codes, decimal, option_and_then, slice_get}
+use Rattle.std.specs.Option.{option_map_or}
 use Rattle.cam_types.specs.declared.device.Device.{Device}
 use Rattle.cam_event.specs.declared.stay.StayName.{StayName}
 use Rattle.round_net.specs.Rows.{NetRows, instance_of_rows, live_of_rows, names_of_rows}
@@ -63,7 +64,7 @@ any_stay text at = do
   weight ← small_number text best
   skip (codes "\n") text weight
 
--- the front of a price's line, up to the price: that of a device's opening in a round, and that of an adapter's
+-- the front of a price's line, up to the price, of a device's opening in a round, and of an adapter's
 unfoldable pub dev_front : Device → ℕ → List ℕ → ℕ → Option ℕ
 dev_front device r text at = do
   bus ← skip (codes "price dev ") text at
@@ -81,3 +82,8 @@ sim_front adapter r text at = do
   round ← skip_number adapter text number
   space ← skip_number r text round
   skip (codes " ") text space
+
+-- the same by the row: of a device's, and behind all devices of an adapter's
+unfoldable pub price_front : List Device → ℕ → ℕ → List ℕ → ℕ → Option ℕ
+price_front devices row r text at =
+    option_map_or (λ (device : Device). dev_front device r text at) (slice_get devices row) (sim_front (row - length devices) r text at)

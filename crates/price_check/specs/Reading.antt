@@ -1,5 +1,5 @@
 -- How a text is read as a report: line by line, each the one that is due behind those before it.
-use Rattle.std.specs.Prelude.{ℕ, zero, suc, ◌+◌, ◌-◌, ◌*◌, ◌/◌, ◌%◌, ◌==◌, Bool, not, nat_le, nat_lt, ◌&&◌, if◌then◌else◌, List, [], ◌∷◌, ◌++◌, length, take, drop, slice_get, slice_index, Option, is_some, ok_or, Result, Ok, Err, codes, ⊤}
+use Rattle.std.specs.Prelude.{ℕ, zero, suc, ◌+◌, ◌-◌, ◌*◌, ◌/◌, ◌%◌, ◌==◌, Bool, not, nat_le, nat_lt, ◌&&◌, if◌then◌else◌, List, [], ◌∷◌, ◌++◌, length, take, drop, slice_index, Option, is_some, ok_or, Result, Ok, Err, codes, ⊤}
 use Rattle.std.specs.Option.{option_map_or}
 use Rattle.text_io.specs.Number.{has_leading_zero, number_of}
 use Rattle.cam_types.specs.declared.device.Device.{Device}
@@ -7,10 +7,11 @@ use Rattle.cam_path.specs.Paths.{◌>>=◌, digits_at}
 use Rattle.cam_event.specs.Counts.{round, commands}
 use Rattle.cam_event.specs.Stays.{stays_begun}
 use Rattle.cam_event.specs.declared.event.Event.{Event}
+use Rattle.round_net.specs.Instance.{rows}
 use Rattle.round_net.specs.Rows.{NetRows, instance_of_rows}
 use Rattle.round_net.specs.declared.price_range.TheConstants.{MOST_PRICE}
 use Rattle.price_check.specs.Pieces.{skip, line_of}
-use Rattle.price_check.specs.Forms.{known_line, stated_line, own_stay, any_stay, dev_front, sim_front}
+use Rattle.price_check.specs.Forms.{known_line, stated_line, own_stay, any_stay, price_front}
 use Rattle.price_check.specs.declared.claim.Claim.{Claim}
 use Rattle.price_check.specs.declared.report_fault.ReportFault.{ReportFault}
 use Rattle.price_check.specs.declared.report_fault.ReportFault.TheVariants.{BadLine, PriceRange, WrongStays}
@@ -56,13 +57,9 @@ unfoldable pub price_at : Option ℕ → List ℕ → ℕ → Result (ℕ × ℕ
 price_at front text at = option_map_or (λ begin. option_map_or (λ next. valued text at next (take (digits_at text begin) (drop begin text)))
     (skip (codes "\n") text (begin + digits_at text begin)) (Ok (0, at))) front (Ok (0, at))
 
--- the price of a cell of devices, or of adapters: 0, and no line is taken, where the line at hand isn't the cell's
-unfoldable pub dev_price_at : List Device → ℕ → List ℕ → ℕ → ℕ → Result (ℕ × ℕ) ReportFault
-dev_price_at devices rounds text cell at =
-    option_map_or (λ device. price_at (dev_front device (cell % rounds + 1) text at) text at) (slice_get devices (cell / rounds)) (Ok (0, at))
-
-unfoldable pub sim_price_at : ℕ → List ℕ → ℕ → ℕ → Result (ℕ × ℕ) ReportFault
-sim_price_at rounds text cell at = price_at (sim_front (cell / rounds) (cell % rounds + 1) text at) text at
+-- the price of a cell, a row in a round: 0, and no line is taken, where the line at hand isn't the cell's
+unfoldable pub cell_price_at : List Device → ℕ → List ℕ → ℕ → ℕ → Result (ℕ × ℕ) ReportFault
+cell_price_at devices rounds text cell at = price_at (price_front devices (cell / rounds) (cell % rounds + 1) text at) text at
 
 -- what n readings in a row give, each from the offset behind the one before
 unfoldable pub series : (ℕ → ℕ → Result (ℕ × ℕ) ReportFault) → ℕ → ℕ → Result (List ℕ × ℕ) ReportFault
@@ -81,17 +78,16 @@ unfoldable pub ended : List ℕ → ℕ → Result ⊤ ReportFault
 ended text at = due (skip (codes "end\n") text at) text at >>= stops text
 
 -- what a report claims whose lines are each closed, or the fault of the first line that isn't the one due: the summary, a line
--- for each stay in order, the prices of devices and then of adapters, by number and round, and the last line
+-- for each stay in order, the prices by row and round, and the last line
 unfoldable pub reading : List Device → List Event → ℕ → NetRows → List ℕ → Result Claim ReportFault
 reading devices events live net text = do
   costs ← summary_at events live text
   best ← series (stay_at net text) (instance_of_rows net).stays costs.2
-  dev ← series (dev_price_at devices (instance_of_rows net).rounds text) ((instance_of_rows net).devices * (instance_of_rows net).rounds) best.1
-  sim ← series (sim_price_at (instance_of_rows net).rounds text) ((instance_of_rows net).adapters * (instance_of_rows net).rounds) dev.1
-  _ ← ended text sim.1
+  prices ← series (cell_price_at devices (instance_of_rows net).rounds text) (rows (instance_of_rows net) * (instance_of_rows net).rounds) best.1
+  _ ← ended text prices.1
   Ok (record {
     schedule = best.0;
-    prices = record { rounds = (instance_of_rows net).rounds; devices = (instance_of_rows net).devices; adapters = (instance_of_rows net).adapters; dev = dev.0; sim = sim.0 };
+    prices = record { rounds = (instance_of_rows net).rounds; devices = (instance_of_rows net).devices; adapters = (instance_of_rows net).adapters; prices = prices.0 };
     best = costs.0;
     excess = costs.1;
   })

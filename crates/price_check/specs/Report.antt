@@ -1,5 +1,5 @@
 -- the report on a history: a schedule, what it costs, and the prices that prove it
-use Rattle.std.specs.Prelude.{ℕ, zero, suc, ◌+◌, ◌==◌, if◌then◌else◌, List, [], ◌++◌, length, slice_get, codes, decimal}
+use Rattle.std.specs.Prelude.{ℕ, zero, suc, ◌+◌, ◌-◌, ◌==◌, if◌then◌else◌, List, [], ◌++◌, length, slice_get, codes, decimal}
 use Rattle.std.specs.Option.{option_map_or}
 use Rattle.cam_types.specs.declared.device.Device.{Device}
 use Rattle.cam_path.specs.Paths.{address_of, spelled}
@@ -7,6 +7,7 @@ use Rattle.cam_event.specs.Counts.{round, commands}
 use Rattle.cam_event.specs.Stays.{stays_begun}
 use Rattle.cam_event.specs.declared.event.Event.{Event}
 use Rattle.cam_event.specs.declared.stay.StayName.{StayName}
+use Rattle.round_net.specs.Instance.{Instance, rows}
 use Rattle.round_net.specs.Rows.{NetRows, instance_of_rows, live_of_rows, names_of_rows}
 use Rattle.round_net.specs.Value.{Pricing}
 use Rattle.price_check.specs.Lines.{line}
@@ -51,20 +52,21 @@ stay_line net best s =
 abbrev pub price_line : List ℕ → ℕ → ℕ → List ℕ
 price_line whose r price = if price == 0 then [] else whose ++ (number_text r ++ (number_text price ++ codes "\n"))
 
--- the path of a device of this number, and nothing where there is none
-unfoldable pub path_text : List Device → ℕ → List ℕ
-path_text devices d = option_map_or (λ (device : Device). spelled (address_of device)) (slice_get devices d) []
+-- whose opening it is, by the row: a device by its path, and behind all devices an adapter by its number
+unfoldable pub row_text : List Device → ℕ → List ℕ
+row_text devices row =
+    option_map_or (λ (device : Device). codes "price dev " ++ spelled (address_of device)) (slice_get devices row) (codes "price sim" ++ number_text (row - length devices))
 
-unfoldable pub dev_line : List Device → Pricing → ℕ → ℕ → List ℕ
-dev_line devices p d r = price_line (codes "price dev " ++ path_text devices d) r (p.dev d r)
+unfoldable pub row_line : List Device → Pricing → ℕ → ℕ → List ℕ
+row_line devices p row r = price_line (row_text devices row) r (p row r)
 
-unfoldable pub sim_line : Pricing → ℕ → ℕ → List ℕ
-sim_line p a r = price_line (codes "price sim" ++ number_text a) r (p.sim a r)
+-- the prices by row and round
+unfoldable pub price_lines : List Device → Instance → Pricing → List ℕ
+price_lines devices net p = texts_below (rows net) (λ row. texts_below net.rounds (λ r. row_line devices p row (r + 1)))
 
--- the stays in order of birth, the prices by device and round, then by adapter and round, and the last line
+-- the stays in order of birth, the prices, and the last line
 unfoldable pub plan_text : List Device → NetRows → (ℕ → ℕ) → Pricing → List ℕ
 plan_text devices net best p =
     texts_below (instance_of_rows net).stays (stay_line net best)
-    ++ (texts_below (instance_of_rows net).devices (λ d. texts_below (instance_of_rows net).rounds (λ r. dev_line devices p d (r + 1)))
-    ++ (texts_below (instance_of_rows net).adapters (λ a. texts_below (instance_of_rows net).rounds (λ r. sim_line p a (r + 1)))
-    ++ codes "end\n"))
+    ++ (price_lines devices (instance_of_rows net) p
+    ++ codes "end\n")

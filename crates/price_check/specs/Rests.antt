@@ -1,17 +1,22 @@
 -- which round of the rest of all rounds is cheapest for stays of one device and one weight
-use Rattle.std.specs.Prelude.{◌≡◌, ℕ, ◌+◌, ◌*◌, ◌<◌, ◌≤◌, Bool, true, false, ◌&&◌, nat_lt, List, slice_index}
+use Rattle.std.specs.Prelude.{◌≡◌, ℕ, ◌+◌, ◌*◌, ◌<◌, ◌≤◌, Bool, true, false, nat_lt, List, [], ◌∷◌, slice_index, sum_by}
+use Rattle.std.specs.List.{list_all}
 use Rattle.cam_types.specs.declared.maxima.TheConstants.{MOST_WEIGHT}
-use Rattle.round_net.specs.Instance.{Instance}
+use Rattle.round_net.specs.Instance.{Instance, adapter_row}
 use Rattle.round_net.specs.Rows.{cell}
 use Rattle.round_net.specs.Value.{Pricing}
 
--- both the device and its adapter take commands in the round
+-- the rows of which each stay of a device takes an opening
+abbrev pub path_of : Instance → ℕ → List ℕ
+path_of net d = d ∷ adapter_row net (net.adapter_of d) ∷ []
+
+-- each of them takes commands in the round
 abbrev pub takes : Instance → ℕ → ℕ → Bool
-takes net d r = nat_lt 0 (net.dev_cap d r) && nat_lt 0 (net.sim_cap (net.adapter_of d) r)
+takes net d r = list_all (λ row. nat_lt 0 (net.cap row r)) (path_of net d)
 
 -- what a stay of the device and weight would pay in the round, if it had waited from a round 0 on
 abbrev pub pays : Instance → Pricing → ℕ → ℕ → ℕ → ℕ
-pays net p w d r = w * r + p.dev d r + p.sim (net.adapter_of d) r
+pays net p w d r = w * r + sum_by (λ row. p row r) (path_of net d)
 
 -- The round is the cheapest for such stays, of those from one round on in which they could be sent; where there is none, it
 -- is 0.

@@ -1,6 +1,7 @@
 //! The check of a schedule and its prices.
 
-ghost use Rattle.std.specs.Prelude.{◌≡◌, ◌+◌, ◌*◌, ◌≤◌, length, slice_index};
+ghost use Rattle.std.specs.Prelude.{◌≡◌, ◌*◌, ◌≤◌, length, slice_index};
+ghost use Rattle.round_net.specs.Instance.{rows};
 ghost use Rattle.round_net.specs.Rows.{instance_of_rows, names_of_rows};
 ghost use Rattle.round_net.specs.PriceRows.{pricing_of_rows, IsPricingFor};
 ghost use Rattle.round_net.specs.Value.{ProvesBest};
@@ -15,12 +16,12 @@ use round_net::{Net, Prices, Schedule, cost};
 /// Whether prices prove that a schedule is a best one, whoever made them: it is admissible, and costs what all stays pay,
 /// each in the round that is cheapest for it, less what all openings are worth.
 ///
-/// The schedule and the prices have to be of the net's size, and the row has to have a count for each cell of the net. It
+/// The schedule and the prices have to be of the net's size, and the list has to have a count for each cell of the net. It
 /// is used up, and no memory is taken.
 pub fn check(net: &Net, schedule: &Schedule, prices: &Prices, counts: &mut [u32]) -> Verdict
     requires schedule { length schedule.now ≡ (instance_of_rows net.now).stays }
     requires prices { IsPricingFor (instance_of_rows net.now) prices.now }
-    requires cells { let n = instance_of_rows net.now in (n.devices + n.adapters) * n.rounds ≤ length counts.old }
+    requires cells { let n = instance_of_rows net.now in rows n * n.rounds ≤ length counts.old }
     ensures means { Means (instance_of_rows net.now) (names_of_rows net.now) (slice_index schedule.now) (pricing_of_rows prices.now) result }
 
     // Whoever has a proof is told so, and then no admissible schedule costs less.

@@ -8,7 +8,7 @@ use round_net::{Prices, Schedule};
 pub struct Claim {
     /// The round that is best for each stay, in order of birth. It may be any round up to 65,535.
     pub schedule: Schedule,
-    /// What an opening of each device and adapter is worth in each round.
+    /// What an opening of each row is worth in each round.
     pub prices: Prices,
     /// What the schedule is said to cost, below 10^18 weighted rounds.
     pub best: u64,

@@ -1,20 +1,21 @@
 //! The first stay that makes a schedule inadmissible.
 
 ghost use Rattle.std.specs.Prelude.{◌≡◌, ℕ, ◌+◌, ◌*◌, ◌^◌, ◌<◌, ◌≤◌, length, slice_index, slice_set, MatchOption, IfNone};
+ghost use Rattle.round_net.specs.Instance.{rows, adapter, adapter_row};
 ghost use Rattle.round_net.specs.Rows.{instance_of_rows, live_of_rows};
 ghost use Rattle.round_net.specs.Sound.{IsSound};
 ghost use Rattle.round_net.specs.Schedules.{IsAdmissible};
-ghost use Rattle.price_check.specs.Faults.{at_device, at_adapter, fault_at, IsFirstFault};
+ghost use Rattle.price_check.specs.Faults.{at_row, fault_at, IsFirstFault};
 ghost use Rattle.price_check.specs.Tally.{IsTally};
 
 use crate::verdict::Cause;
 use round_net::{Net, Schedule, cell};
 
-/// The number of the first stay with whose place in the schedule something is wrong, and what. The row has to have a count
+/// The number of the first stay with whose place in the schedule something is wrong, and what. The list has to have a count
 /// for each cell of the net, and is used up.
 pub fn first_fault(net: &Net, schedule: &Schedule, counts: &mut [u32]) -> Option<(u32, Cause)>
     requires size { length schedule.now ≡ (instance_of_rows net.now).stays }
-    requires cells { let n = instance_of_rows net.now in (n.devices + n.adapters) * n.rounds ≤ length counts.old }
+    requires cells { let n = instance_of_rows net.now in rows n * n.rounds ≤ length counts.old }
     ensures found { MatchOption result
         (IsAdmissible (instance_of_rows net.now) (slice_index schedule.now))
         (λ found. IsFirstFault (instance_of_rows net.now) (slice_index schedule.now) found.0 found.1) }
@@ -41,7 +42,7 @@ fn clear(counts: &mut [u32])
 #[tactic(auto, unfolding(crate::specs::Faults::fault_at))]
 fn fault(net: &Net, schedule: &Schedule, stay: u32, counts: &mut [u32]) -> Option<Cause>
     requires size { length schedule.now ≡ (instance_of_rows net.now).stays }
-    requires cells { let n = instance_of_rows net.now in (n.devices + n.adapters) * n.rounds ≤ length counts.old }
+    requires cells { let n = instance_of_rows net.now in rows n * n.rounds ≤ length counts.old }
     requires stay { stay < (instance_of_rows net.now).stays }
     requires tally { IsTally (instance_of_rows net.now) (slice_index schedule.now) counts.old stay }
     ensures fault { result ≡ fault_at (instance_of_rows net.now) (slice_index schedule.now) stay }
@@ -64,23 +65,23 @@ fn fault(net: &Net, schedule: &Schedule, stay: u32, counts: &mut [u32]) -> Optio
     }
 }
 
-// Counts the stay in its round, and answers how many of its device and of its adapter are there now.
+// Counts the stay in its round, and answers how many use its device's row and its adapter's there now.
 fn tally(net: &Net, schedule: &Schedule, stay: u32, counts: &mut [u32]) -> (u32, u32)
     requires size { length schedule.now ≡ (instance_of_rows net.now).stays }
-    requires cells { let n = instance_of_rows net.now in (n.devices + n.adapters) * n.rounds ≤ length counts.old }
+    requires cells { let n = instance_of_rows net.now in rows n * n.rounds ≤ length counts.old }
     requires stay { stay < (instance_of_rows net.now).stays }
     requires first { 1 ≤ slice_index schedule.now stay }
     requires last { slice_index schedule.now stay ≤ (instance_of_rows net.now).rounds }
     requires tally { IsTally (instance_of_rows net.now) (slice_index schedule.now) counts.old stay }
-    ensures at_device { result.0 ≡ at_device (instance_of_rows net.now) (slice_index schedule.now) stay }
-    ensures at_adapter { result.1 ≡ at_adapter (instance_of_rows net.now) (slice_index schedule.now) stay }
+    ensures at_device { let n = instance_of_rows net.now in result.0 ≡ at_row n (slice_index schedule.now) (n.device stay) stay }
+    ensures at_adapter { let n = instance_of_rows net.now in result.1 ≡ at_row n (slice_index schedule.now) (adapter_row n (adapter n stay)) stay }
     ensures tally { IsTally (instance_of_rows net.now) (slice_index schedule.now) counts.new (stay + 1) }
 {
     let round = schedule.round(stay);
     let device = net.device(stay);
-    let adapter = net.adapter(stay);
+    let adapter = net.adapter_row(net.adapter(stay));
     let at_device = count(counts, cell(net.rounds(), device, round));
-    let at_adapter = count(counts, cell(net.rounds(), net.devices() + adapter, round));
+    let at_adapter = count(counts, cell(net.rounds(), adapter, round));
     (at_device, at_adapter)
 }
 

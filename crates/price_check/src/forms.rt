@@ -2,7 +2,7 @@
 
 ghost use Rattle.std.specs.Prelude.{◌≡◌, ◌<◌, ◌≤◌, length, IfSome};
 ghost use Rattle.round_net.specs.Rows.{instance_of_rows};
-ghost use Rattle.price_check.specs.Forms.{known_line, stated_line, named_stay, own_stay, small_number, any_stay, dev_front, sim_front};
+ghost use Rattle.price_check.specs.Forms.{known_line, stated_line, named_stay, own_stay, small_number, any_stay, dev_front, sim_front, price_front};
 
 use crate::pieces::{number_at, skip, skip_digits, skip_number};
 use cam_event::StayName;
@@ -111,9 +111,28 @@ fn small_number(text: &[u8], at: usize) -> Option<usize>
     Some(end)
 }
 
-/// The offset behind the front of the line of the price of a device's opening in a round.
+/// The offset behind the front of the line of the price of a row's opening in a round: of a device's, or behind all devices
+/// of an adapter's.
+#[tactic(auto, unfolding(crate::specs::Forms::price_front))]
+pub(crate) fn price_front(
+    text: &[u8],
+    at: usize,
+    devices: &[Device],
+    row: u32,
+    round: u32,
+) -> Option<usize>
+    requires { at ≤ length text.now }
+    ensures value { result ≡ price_front devices.now row round text.now at }
+    ensures within { IfSome result (λ end. end ≤ length text.now) }
+{
+    match devices.get(row as usize) {
+        Some(device) => dev_front(text, at, device, round),
+        None => sim_front(text, at, row - devices.len() as u32, round),
+    }
+}
+
 #[tactic(auto, unfolding(crate::specs::Forms::dev_front))]
-pub(crate) fn dev_front(text: &[u8], at: usize, device: &Device, round: u32) -> Option<usize>
+fn dev_front(text: &[u8], at: usize, device: &Device, round: u32) -> Option<usize>
     requires { at ≤ length text.now }
     ensures value { result ≡ dev_front device.now round text.now at }
     ensures within { IfSome result (λ end. end ≤ length text.now) }
@@ -128,9 +147,8 @@ pub(crate) fn dev_front(text: &[u8], at: usize, device: &Device, round: u32) -> 
     skip(text, space, b" ")
 }
 
-/// The offset behind the front of the line of the price of an adapter's opening in a round.
 #[tactic(auto, unfolding(crate::specs::Forms::sim_front))]
-pub(crate) fn sim_front(text: &[u8], at: usize, adapter: u32, round: u32) -> Option<usize>
+fn sim_front(text: &[u8], at: usize, adapter: u32, round: u32) -> Option<usize>
     requires { at ≤ length text.now }
     ensures value { result ≡ sim_front adapter round text.now at }
     ensures within { IfSome result (λ end. end ≤ length text.now) }

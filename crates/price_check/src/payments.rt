@@ -15,7 +15,7 @@ use round_net::{Net, Prices, cell};
 /// What all stays pay, each in the round that is cheapest for it, of those of its window in which it could be sent.
 ///
 /// For stays whose window ends with the last round, the cheapest of the rest of all rounds is looked for once for each weight
-/// and device. The row has to have a place for each round of each device, and is used up.
+/// and device. The list has to have a place for each round of each device, and is used up.
 #[tactic(auto, using(crate::proofs::RestLemmas::up_to_none, crate::proofs::RestLemmas::up_to_step, crate::proofs::RestLemmas::up_to_all))]
 pub fn paid(net: &Net, prices: &Prices, rests: &mut [u32]) -> u128
     requires size { IsPricingFor (instance_of_rows net.now) prices.now }

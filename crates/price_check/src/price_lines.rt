@@ -1,11 +1,12 @@
 //! Reads the price lines of a report, cell by cell.
 
-ghost use Rattle.std.specs.Prelude.{◌≡◌, ◌≢◌, ◌+◌, ◌*◌, ◌<◌, ◌≤◌, ◌^◌, ◌/◌, length, Ok, Err, IfOk, IfErr, IfSome};
+ghost use Rattle.std.specs.Prelude.{◌≡◌, ◌≢◌, ◌*◌, ◌<◌, ◌≤◌, ◌^◌, length, Ok, Err, IfOk, IfErr, IfSome};
+ghost use Rattle.round_net.specs.Instance.{rows};
 ghost use Rattle.round_net.specs.Rows.{instance_of_rows};
-ghost use Rattle.price_check.specs.Reading.{series, dev_price_at, sim_price_at, price_at, valued, is_large};
+ghost use Rattle.price_check.specs.Reading.{series, cell_price_at, price_at, valued, is_large};
 ghost use Rattle.round_net.specs.declared.price_range.TheConstants.{MOST_PRICE};
 
-use crate::forms::{dev_front, sim_front};
+use crate::forms::price_front;
 use crate::pieces::{digits_from, line_of, skip};
 use crate::report_fault::ReportFault;
 use cam_types::Device;
@@ -16,8 +17,8 @@ use text_io::read_number;
 /// How many bytes a line may have, its line feed included.
 const MOST_LINE: usize = 101;
 
-/// The prices of the devices' cells, and the offset behind their lines.
-pub(crate) fn read_dev_prices(
+/// The prices of all cells, by row and round, and the offset behind their lines.
+pub(crate) fn read_prices(
     alloc: Global,
     text: &[u8],
     at: usize,
@@ -26,73 +27,28 @@ pub(crate) fn read_dev_prices(
 ) -> Result<(Vec<u64>, usize), ReportFault>
     requires within { at ≤ length text.now }
     requires short { length text.now < 2 ^ 31 }
-    requires devices { length devices.now ≡ (instance_of_rows net.now).devices }
     requires some { 1 ≤ (instance_of_rows net.now).rounds }
-    ensures ok { let n = instance_of_rows net.now in IfOk result (λ r. series (dev_price_at devices.now n.rounds text.now) (n.devices * n.rounds) at ≡ Ok (r.0.items, r.1)) }
-    ensures err { let n = instance_of_rows net.now in IfErr result (λ e. e ≢ ReportFault.OutOfMemory → series (dev_price_at devices.now n.rounds text.now) (n.devices * n.rounds) at ≡ Err e) }
+    ensures ok { let n = instance_of_rows net.now in IfOk result (λ r. series (cell_price_at devices.now n.rounds text.now) (rows n * n.rounds) at ≡ Ok (r.0.items, r.1)) }
+    ensures err { let n = instance_of_rows net.now in IfErr result (λ e. e ≢ ReportFault.OutOfMemory → series (cell_price_at devices.now n.rounds text.now) (rows n * n.rounds) at ≡ Err e) }
     ensures within { IfOk result (λ r. r.1 ≤ length text.now) }
 {
     let rounds = net.rounds();
     let mut prices = Vec::new(alloc);
     let mut next = at;
-    for cell in 0..net.devices() * rounds {
-        let (price, end) = read_dev_price(text, next, devices, rounds, cell)?;
+    for cell in 0..net.rows() * rounds {
+        let (price, end) = read_cell(text, next, devices, rounds, cell)?;
         prices.push(price)?;
         next = end;
     }
     Ok((prices, next))
 }
 
-/// The prices of the adapters' cells, and the offset behind their lines.
-pub(crate) fn read_sim_prices(
-    alloc: Global,
-    text: &[u8],
-    at: usize,
-    net: &Net,
-) -> Result<(Vec<u64>, usize), ReportFault>
-    requires within { at ≤ length text.now }
-    requires short { length text.now < 2 ^ 31 }
-    requires some { 1 ≤ (instance_of_rows net.now).rounds }
-    ensures ok { let n = instance_of_rows net.now in IfOk result (λ r. series (sim_price_at n.rounds text.now) (n.adapters * n.rounds) at ≡ Ok (r.0.items, r.1)) }
-    ensures err { let n = instance_of_rows net.now in IfErr result (λ e. e ≢ ReportFault.OutOfMemory → series (sim_price_at n.rounds text.now) (n.adapters * n.rounds) at ≡ Err e) }
-    ensures within { IfOk result (λ r. r.1 ≤ length text.now) }
-{
-    let rounds = net.rounds();
-    let mut prices = Vec::new(alloc);
-    let mut next = at;
-    for cell in 0..net.adapters() * rounds {
-        let (price, end) = read_sim_price(text, next, rounds, cell)?;
-        prices.push(price)?;
-        next = end;
-    }
-    Ok((prices, next))
-}
-
-// The price of a cell of the devices, and the offset behind its line.
-#[tactic(auto, unfolding(crate::specs::Reading::dev_price_at))]
-fn read_dev_price(
+// The price of a cell, and the offset behind its line.
+#[tactic(auto, unfolding(crate::specs::Reading::cell_price_at))]
+fn read_cell(
     text: &[u8],
     at: usize,
     devices: &[Device],
-    rounds: u32,
-    cell: u32,
-) -> Result<(u64, usize), ReportFault>
-    requires within { at ≤ length text.now }
-    requires short { length text.now < 2 ^ 31 }
-    requires some { 1 ≤ rounds }
-    requires cell { cell / rounds < length devices.now }
-    ensures value { result ≡ dev_price_at devices.now rounds text.now cell at }
-    ensures within { IfOk result (λ r. r.1 ≤ length text.now) }
-{
-    let device = &devices[(cell / rounds) as usize];
-    read_price(text, at, dev_front(text, at, device, cell % rounds + 1))
-}
-
-// The price of a cell of the adapters, and the offset behind its line.
-#[tactic(auto, unfolding(crate::specs::Reading::sim_price_at))]
-fn read_sim_price(
-    text: &[u8],
-    at: usize,
     rounds: u32,
     cell: u32,
 ) -> Result<(u64, usize), ReportFault>
@@ -100,10 +56,10 @@ fn read_sim_price(
     requires short { length text.now < 2 ^ 31 }
     requires some { 1 ≤ rounds }
     requires fits { cell < 2 ^ 31 }
-    ensures value { result ≡ sim_price_at rounds text.now cell at }
+    ensures value { result ≡ cell_price_at devices.now rounds text.now cell at }
     ensures within { IfOk result (λ r. r.1 ≤ length text.now) }
 {
-    let front = sim_front(text, at, cell / rounds, cell % rounds + 1);
+    let front = price_front(text, at, devices, cell / rounds, cell % rounds + 1);
     read_price(text, at, front)
 }
 

@@ -17,7 +17,7 @@ ghost use Rattle.price_check.specs.declared.claim.Claim.{Claim};
 
 use crate::claim::Claim;
 use crate::pieces::{line_of, skip};
-use crate::price_lines::{read_dev_prices, read_sim_prices};
+use crate::price_lines::read_prices;
 use crate::report_fault::ReportFault;
 use crate::stay_lines::read_stays;
 use crate::summary::read_summary;
@@ -101,7 +101,6 @@ fn read_lines(
     live: u64,
 ) -> Result<Claim, ReportFault>
     requires short { length text.now < 2 ^ 31 }
-    requires devices { length devices.now ≡ (instance_of_rows net.now).devices }
     requires some { 1 ≤ (instance_of_rows net.now).rounds }
     ensures value { result ≢ Err ReportFault.OutOfMemory → result ≡ reading devices.now history.now.events live net.now text.now }
     ensures sound { IsSound (instance_of_rows net.now) (live_of_rows net.now) }
@@ -111,12 +110,11 @@ fn read_lines(
     prove!(has_rounds);
     let (best, excess, stays) = read_summary(text, history, live)?;
     let (rounds, first) = read_stays(alloc, text, stays, net)?;
-    let (dev, second) = read_dev_prices(alloc, text, first, devices, net)?;
-    let (sim, end) = read_sim_prices(alloc, text, second, net)?;
+    let (prices, end) = read_prices(alloc, text, first, devices, net)?;
     read_end(text, end)?;
     Ok(Claim {
         schedule: Schedule::new(alloc, &rounds)?,
-        prices: Prices::listed(net, dev, sim),
+        prices: Prices::listed(net, prices),
         best,
         excess,
     })

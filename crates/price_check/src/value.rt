@@ -1,7 +1,8 @@
 //! What all openings are worth.
 
 ghost use Rattle.std.specs.Prelude.{◌≡◌, ◌*◌, ◌^◌, ◌<◌, ◌≤◌};
-ghost use Rattle.round_net.specs.Sums.{sum_below, sum_to};
+ghost use Rattle.round_net.specs.Sums.{sum_to};
+ghost use Rattle.round_net.specs.Instance.{rows};
 ghost use Rattle.round_net.specs.Rows.{instance_of_rows};
 ghost use Rattle.round_net.specs.PriceRows.{pricing_of_rows, IsPricingFor};
 ghost use Rattle.round_net.specs.Value.{offered};
@@ -16,61 +17,25 @@ pub fn offered(net: &Net, prices: &Prices) -> u128
     ensures same { result ≡ offered (instance_of_rows net.now) (pricing_of_rows prices.now) }
     ensures short { result < 2 ^ 96 }
 {
-    by_devices(net, prices) + by_adapters(net, prices)
-}
-
-fn by_devices(net: &Net, prices: &Prices) -> u128
-    requires { IsPricingFor (instance_of_rows net.now) prices.now }
-    ensures same { let n = instance_of_rows net.now in let p = pricing_of_rows prices.now in
-        result ≡ sum_below n.devices (λ d. sum_to n.rounds (λ r. n.dev_cap d r * p.dev d r)) }
-    ensures short { result ≤ 2 ^ 64 }
-{
     let mut total = 0;
-    for device in 0..net.devices() {
-        total += by_device(net, prices, device);
+    for row in 0..net.rows() {
+        total += by_row(net, prices, row);
     }
     total
 }
 
-fn by_device(net: &Net, prices: &Prices, device: u32) -> u128
+// What the openings of a row are worth.
+fn by_row(net: &Net, prices: &Prices, row: u32) -> u128
     requires size { IsPricingFor (instance_of_rows net.now) prices.now }
-    requires device { device < (instance_of_rows net.now).devices }
-    ensures same { let n = instance_of_rows net.now in let p = pricing_of_rows prices.now in
-        result ≡ sum_to n.rounds (λ r. n.dev_cap device r * p.dev device r) }
+    requires row { row < rows (instance_of_rows net.now) }
+    ensures same { let n = instance_of_rows net.now in
+        result ≡ sum_to n.rounds (λ r. n.cap row r * pricing_of_rows prices.now row r) }
     ensures short { result ≤ 2 ^ 57 }
 {
     let mut total = 0;
     for passed in 0..net.rounds() {
         let round = passed + 1;
-        total += worth(net.dev_cap(device, round), prices.dev(device, round));
-    }
-    total
-}
-
-fn by_adapters(net: &Net, prices: &Prices) -> u128
-    requires { IsPricingFor (instance_of_rows net.now) prices.now }
-    ensures same { let n = instance_of_rows net.now in let p = pricing_of_rows prices.now in
-        result ≡ sum_below n.adapters (λ a. sum_to n.rounds (λ r. n.sim_cap a r * p.sim a r)) }
-    ensures short { result ≤ 2 ^ 64 }
-{
-    let mut total = 0;
-    for adapter in 0..net.adapters() {
-        total += by_adapter(net, prices, adapter);
-    }
-    total
-}
-
-fn by_adapter(net: &Net, prices: &Prices, adapter: u32) -> u128
-    requires size { IsPricingFor (instance_of_rows net.now) prices.now }
-    requires adapter { adapter < (instance_of_rows net.now).adapters }
-    ensures same { let n = instance_of_rows net.now in let p = pricing_of_rows prices.now in
-        result ≡ sum_to n.rounds (λ r. n.sim_cap adapter r * p.sim adapter r) }
-    ensures short { result ≤ 2 ^ 57 }
-{
-    let mut total = 0;
-    for passed in 0..net.rounds() {
-        let round = passed + 1;
-        total += worth(net.sim_cap(adapter, round), prices.sim(adapter, round));
+        total += worth(net.cap(row, round), prices.price(row, round));
     }
     total
 }

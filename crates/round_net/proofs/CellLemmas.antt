@@ -2,7 +2,9 @@
 use Rattle.std.proofs.Common.{◌≡◌, ℕ, ◌+◌, ◌-◌, ◌*◌, ◌/◌, ◌^◌, ◌<◌, ◌≤◌, arith, length, List, ap, sym, ◌∙◌}
 use Rattle.std.proofs.lemmas.Nat.{mul-add-lt, mul-le, div-mul-add}
 use Rattle.cam_types.specs.declared.maxima.TheConstants.{MOST_ROUNDS}
-use Rattle.round_net.specs.Rows.{cell}
+use Rattle.round_net.specs.Rows.{NetRows, cell, instance_of_rows}
+use Rattle.round_net.specs.Sound.{IsNet}
+use Rattle.round_net.specs.PriceRows.{PriceRows, IsPriced}
 
 -- a round of a row stands within the rows
 pub cell_within : (rounds rows row r : ℕ) → row < rows → 1 ≤ r → r ≤ rounds → cell rounds row r < rows * rounds
@@ -33,3 +35,12 @@ cell-injective rounds row r other q r1 rn q1 qn e =
 -- a cell of the rows stands within a list that has them all
 pub cell_room : (rows rounds row r at n : ℕ) → rows * rounds ≤ n → row < rows → 1 ≤ r → r ≤ rounds → at ≡ cell rounds row r → at < n
 cell_room rows rounds row r at n all within first last is = omega (arith, cell_within rounds rows row r within first last)
+
+-- a round of a net's row has a cap
+pub cap_in : (n : NetRows) (row r : ℕ) → IsNet n → row < length n.adapter_of + n.adapters → 1 ≤ r → r ≤ n.rounds → cell n.rounds row r < length n.caps
+unfolding instance_of_rows
+cap_in n row r is within first last = cell_in n.caps n.rounds (length n.adapter_of + n.adapters) row r is.cells within first last
+
+-- and a price
+pub price_in : (p : PriceRows) (row r : ℕ) → IsPriced p → row < p.devices + p.adapters → 1 ≤ r → r ≤ p.rounds → cell p.rounds row r < length p.prices
+price_in p row r is within first last = cell_in p.prices p.rounds (p.devices + p.adapters) row r is.cells within first last

@@ -1,5 +1,5 @@
 -- what was found at the places of a history makes its net
-use Rattle.std.proofs.Common.{◌≡◌, ℕ, ◌+◌, ◌-◌, ◌≤◌, Bool, true, false, cond, List, [], ◌∷◌, length, map, drop, refl, sym, ap, ◌∙◌, arith, length-drop, Option, Some, None}
+use Rattle.std.proofs.Common.{◌≡◌, ℕ, ◌+◌, ◌-◌, ◌<◌, ◌≤◌, Bool, true, false, cond, List, [], ◌∷◌, length, map, drop, refl, sym, ap, ◌∙◌, arith, length-drop, Option, Some, None}
 use Rattle.std.specs.Prelude.{not, unwrap_or}
 use Rattle.std.specs.Option.{option_map, option_map_or}
 use Rattle.std.proofs.lemmas.List.{take_all}
@@ -7,7 +7,6 @@ use Rattle.cam_types.specs.Topology.{Topology}
 use Rattle.cam_types.specs.declared.device.Device.{Device}
 use Rattle.cam_event.specs.Event.{is_send_of}
 use Rattle.cam_event.specs.Counts.{round}
-use Rattle.cam_types.specs.Questions.{adapter_openings}
 use Rattle.cam_event.specs.Stays.{stays_begun, is_unsent}
 use Rattle.cam_event.specs.Live.{send_place, live_round}
 use Rattle.cam_event.specs.declared.event.Event.{Event}
@@ -15,14 +14,14 @@ use Rattle.cam_event.specs.declared.stay.Stay.{Stay}
 use Rattle.cam_event.proofs.LimitLemmas.{round_first}
 use Rattle.xpt_stays.specs.Records.{next_stay, record_of, records}
 use Rattle.round_net.specs.Rows.{NetRows, cell}
-use Rattle.round_net.specs.Caps.{is_device_free, is_adapter_free, openings_in, sends_to, sends_by, dev_cap, sim_cap}
+use Rattle.round_net.specs.Caps.{row_count, is_free, openings_in, sends_in, cap}
 use Rattle.round_net.specs.Nets.{last_round, stay_row, row_of, table, net_of}
 use Rattle.round_net.specs.Marks.{AreCaps, IsNoted, HasCells}
 use Rattle.round_net.specs.declared.stay_row.StayRow.{StayRow}
 use Rattle.round_net.proofs.NetLemmas.{net_of_parts}
 use Rattle.round_net.proofs.CellLemmas.{cell_within}
 use Rattle.xpt_stays.proofs.SentLemmas.{first_past, unsent_none}
-use Rattle.round_net.proofs.TableLemmas.{cell-table, table_by_cells}
+use Rattle.round_net.proofs.TableLemmas.{table_by_cells}
 
 -- a stay without a send counts as sent in the last round
 live_round-unsent : (es : List Event) (p : Stay) → is_unsent es p ≡ true → live_round es p ≡ round es
@@ -51,7 +50,7 @@ map-same : {X Y : Type 0} (f g : X → Y) → ((x : X) → f x ≡ g x) → (xs 
 map-same f g h [] = refl
 map-same f g h (x ∷ xs) = rw (h x, map-same f g h xs) refl
 
-pub rows_of_records : (c : Topology) (es : List Event) → map (row_of c (round es)) (records es) ≡ map (stay_row c es) (stays_begun es)
+rows_of_records : (c : Topology) (es : List Event) → map (row_of c (round es)) (records es) ≡ map (stay_row c es) (stays_begun es)
 unfolding records
 rows_of_records c es = map-map (row_of c (round es)) (record_of es) (stays_begun es) ∙ map-same (λ p. row_of c (round es) (record_of es p)) (stay_row c es) (row_of-record c es) (stays_begun es)
 
@@ -60,31 +59,20 @@ flipped : {X : Type 0} (b : Bool) (x y : X) → cond (not b) x y ≡ cond b y x
 flipped true x y = refl
 flipped false x y = refl
 
-pub dev_caps_found : (c : Topology) (es : List Event) (rounds : ℕ) (dev sim : List Bool) (openings sends sim_sends caps : List ℕ) → 1 ≤ rounds →
-    IsNoted c es rounds dev sim openings sends sim_sends → HasCells c rounds dev sim openings sends sim_sends → AreCaps dev sends openings caps → caps ≡ table (length c.devices) rounds (dev_cap c es)
-unfolding dev_cap
-dev_caps_found c es rounds dev sim openings sends sim_sends caps some noted cells are =
-    table_by_cells (length c.devices) rounds (dev_cap c es) caps some (are.0 ∙ cells.devices) (λ d r within first last.
-    are.1 (cell rounds d r) (omega (arith, cells.devices, cell_within rounds (length c.devices) d r within first last))
-    ∙ rw (noted.devices d r within first last, noted.sends d r within first last, noted.openings d r within first last) (flipped (is_device_free es d r) (sends_to es d r) (openings_in c es d r)))
-
-pub sim_caps_found : (c : Topology) (es : List Event) (rounds : ℕ) (dev sim : List Bool) (openings sends sim_sends sim_openings caps : List ℕ) → 1 ≤ rounds →
-    IsNoted c es rounds dev sim openings sends sim_sends → HasCells c rounds dev sim openings sends sim_sends → sim_openings ≡ table (length c.adapters) rounds (λ a r. adapter_openings c a) → AreCaps sim sim_sends sim_openings caps →
-    caps ≡ table (length c.adapters) rounds (sim_cap c es)
-unfolding sim_cap
-sim_caps_found c es rounds dev sim openings sends sim_sends sim_openings caps some noted cells there are =
-    table_by_cells (length c.adapters) rounds (sim_cap c es) caps some (are.0 ∙ cells.adapters) (λ a r within first last.
-    are.1 (cell rounds a r) (omega (arith, cells.adapters, cell_within rounds (length c.adapters) a r within first last))
-    ∙ rw (noted.adapters a r within first last, noted.adapter_sends a r within first last, there, cell-table (length c.adapters) rounds (λ a r. adapter_openings c a) a r within first last) (flipped (is_adapter_free es a r) (sends_by c es a r) (adapter_openings c a)))
+caps_found : (c : Topology) (es : List Event) (rounds : ℕ) (frozen : List Bool) (openings sends caps : List ℕ) → 1 ≤ rounds → IsNoted c es rounds frozen openings sends → HasCells c rounds frozen openings sends → AreCaps frozen sends openings caps →
+    caps ≡ table (row_count c) rounds (cap c es)
+unfolding cap
+caps_found c es rounds frozen openings sends caps some noted cells are =
+    table_by_cells (row_count c) rounds (cap c es) caps some (are.0 ∙ cells.marked) (λ row r within first last.
+    let lt : cell rounds row r < length frozen = rw cells.marked (cell_within rounds (row_count c) row r within first last) in
+    are.1 (cell rounds row r) lt ∙ rw (noted.marked row r within first last, noted.sent row r within first last, noted.opened row r within first last) (flipped (is_free c es row r) (sends_in c es row r) (openings_in c es row r)))
 
 -- all parts of the net
-pub net_found : (c : Topology) (es : List Event) (rounds adapters : ℕ) (adapter_of : List ℕ) (rows : List StayRow) (dev sim : List Bool) (openings sends sim_sends sim_openings dev_caps sim_caps : List ℕ) →
+pub net_found : (c : Topology) (es : List Event) (rounds adapters : ℕ) (adapter_of : List ℕ) (rows : List StayRow) (frozen : List Bool) (openings sends caps : List ℕ) →
     rounds ≡ round es → adapters ≡ length c.adapters → adapter_of ≡ map (λ (device : Device). device.bus) c.devices → rows ≡ map (row_of c rounds) (records es) →
-    IsNoted c es rounds dev sim openings sends sim_sends → HasCells c rounds dev sim openings sends sim_sends → sim_openings ≡ table (length c.adapters) rounds (λ a r. adapter_openings c a) →
-    AreCaps dev sends openings dev_caps → AreCaps sim sim_sends sim_openings sim_caps →
-    ◌≡◌ {A = NetRows} (record { rounds = rounds; adapters = adapters; adapter_of = adapter_of; stays = rows; dev_caps = dev_caps; sim_caps = sim_caps }) (net_of c es)
-net_found c es rounds adapters adapter_of rows dev sim openings sends sim_sends sim_openings dev_caps sim_caps r a d s noted cells there are sim_are =
+    IsNoted c es rounds frozen openings sends → HasCells c rounds frozen openings sends → AreCaps frozen sends openings caps →
+    ◌≡◌ {A = NetRows} (record { rounds = rounds; adapters = adapters; adapter_of = adapter_of; stays = rows; caps = caps }) (net_of c es)
+net_found c es rounds adapters adapter_of rows frozen openings sends caps r a d s noted cells are =
     let some : 1 ≤ rounds = rw r (round_first es) in
-    net_of_parts c es rounds adapters adapter_of rows dev_caps sim_caps r a d (s ∙ ap (λ n. map (row_of c n) (records es)) r ∙ rows_of_records c es)
-    (dev_caps_found c es rounds dev sim openings sends sim_sends dev_caps some noted cells are ∙ ap (λ n. table (length c.devices) n (dev_cap c es)) r)
-    (sim_caps_found c es rounds dev sim openings sends sim_sends sim_openings sim_caps some noted cells there sim_are ∙ ap (λ n. table (length c.adapters) n (sim_cap c es)) r)
+    net_of_parts c es rounds adapters adapter_of rows caps r a d (s ∙ ap (λ n. map (row_of c n) (records es)) r ∙ rows_of_records c es)
+    (caps_found c es rounds frozen openings sends caps some noted cells are ∙ ap (λ n. table (row_count c) n (cap c es)) r)

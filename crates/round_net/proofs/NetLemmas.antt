@@ -1,8 +1,8 @@
 -- the net of a complete history is sound
-use Rattle.std.proofs.Common.{◌≡◌, ℕ, zero, suc, ◌+◌, ◌*◌, ◌<◌, ◌≤◌, Bool, true, false, cond, List, [], ◌∷◌, length, map, take, get_or, refl, sym, ap, ◌∙◌, arith, Some, None, inl, inr}
-use Rattle.std.specs.Prelude.{◌==◌, ◌&&◌, All, slice_get, slice_index, nat_le, find, count_by}
+use Rattle.std.proofs.Common.{◌≡◌, ℕ, zero, suc, ◌+◌, ◌-◌, ◌*◌, ◌<◌, ◌≤◌, Bool, true, false, cond, List, [], ◌∷◌, length, map, take, get_or, refl, sym, ap, ◌∙◌, arith, Some, None, inl, inr}
+use Rattle.std.specs.Prelude.{◌==◌, ◌&&◌, All, slice_get, slice_index, nat_le, nat_lt, find, count_by}
 use Rattle.std.specs.Option.{option_map, option_map_or}
-use Rattle.std.proofs.lemmas.Bool.{and_parts, eqb-true, ltb-true}
+use Rattle.std.proofs.lemmas.Bool.{and_parts, eqb-true, ltb-true, ltb-false}
 use Rattle.std.proofs.lemmas.Option.{slice_get_cases, slice_get_within, get_or_from_slice_get}
 use Rattle.std.proofs.lemmas.List.{length-map, take_all}
 use Rattle.std.proofs.lemmas.List.Elements.{All-nil, All-cons}
@@ -23,17 +23,18 @@ use Rattle.cam_event.specs.Laws.{is_in_range, is_stay_of, is_stay_in_range}
 use Rattle.cam_event.proofs.RangeLemmas.{stays_in_range}
 use Rattle.cam_event.proofs.LimitLemmas.{round_first, round_most, stays_most}
 use Rattle.round_net.specs.Sums.{count_below}
-use Rattle.round_net.specs.Instance.{Instance, adapter}
-use Rattle.round_net.specs.Schedules.{IsAdmissible, device_load, adapter_load}
+use Rattle.round_net.specs.Instance.{Instance, rows, adapter, adapter_row, uses}
+use Rattle.round_net.specs.Schedules.{IsAdmissible, load}
 use Rattle.round_net.specs.Rows.{NetRows, cell, of_stay, instance_of_rows, live_of_rows}
 use Rattle.round_net.specs.Sound.{IsSound, IsNet}
-use Rattle.round_net.specs.Caps.{sends_to, sends_by, dev_cap, sim_cap}
+use Rattle.round_net.specs.Caps.{row_count, carries, sends_in, cap}
 use Rattle.round_net.specs.Nets.{last_round, stay_row, table, net_of, instance_of, live_of}
 use Rattle.round_net.specs.declared.stay_row.StayRow.{StayRow}
 use Rattle.cam_types.proofs.ConfigLemmas.{few_adapters, devices_on_adapters, few_devices, weight_small}
 use Rattle.round_net.proofs.LoadLemmas.{covered-legal, sent-complete}
-use Rattle.round_net.proofs.OpeningLemmas.{sends_to-cap, sends_by-cap}
-use Rattle.round_net.proofs.SmallLemmas.{small_dev_cap, small_sim_cap}
+use Rattle.round_net.proofs.OpeningLemmas.{sends_in-cap}
+use Rattle.round_net.proofs.PathLemmas.{uses-device_row, uses-adapter_row}
+use Rattle.round_net.proofs.SmallLemmas.{small_cap}
 use Rattle.round_net.proofs.TableLemmas.{cell-table, All-table, length-cells}
 use Rattle.round_net.proofs.WindowLemmas.{IsInWindow, windows-legal, last_round-le}
 
@@ -129,13 +130,13 @@ bus_of_device : (c : Topology) (es : List Event) (d : ℕ) (device : Device) →
 unfolding instance_of_rows net_of
 bus_of_device c es d device e = get_or_from_slice_get (map (λ (x : Device). x.bus) c.devices) d device.bus 0 (mapped (λ (x : Device). x.bus) c.devices d device e)
 
-dev_cap_of_net : (c : Topology) (es : List Event) (d r : ℕ) → d < length c.devices → 1 ≤ r → r ≤ round es → (instance_of c es).dev_cap d r ≡ dev_cap c es d r
+rows_of_net : (c : Topology) (es : List Event) → rows (instance_of c es) ≡ row_count c
 unfolding instance_of_rows net_of
-dev_cap_of_net c es d r within first last = cell-table (length c.devices) (round es) (dev_cap c es) d r within first last
+rows_of_net c es = ap (λ n. n + length c.adapters) (length-map c.devices (λ (device : Device). device.bus))
 
-sim_cap_of_net : (c : Topology) (es : List Event) (a r : ℕ) → a < length c.adapters → 1 ≤ r → r ≤ round es → (instance_of c es).sim_cap a r ≡ sim_cap c es a r
+cap_of_net : (c : Topology) (es : List Event) (row r : ℕ) → row < row_count c → 1 ≤ r → r ≤ round es → (instance_of c es).cap row r ≡ cap c es row r
 unfolding instance_of_rows net_of
-sim_cap_of_net c es a r within first last = cell-table (length c.adapters) (round es) (sim_cap c es) a r within first last
+cap_of_net c es row r within first last = cell-table (row_count c) (round es) (cap c es) row r within first last
 
 -- a stay of the net is one of the history
 stay_of_net : (c : Topology) (es : List Event) (s : ℕ) → s < (instance_of c es).stays → (p : Stay) × (slice_get (stays_begun es) s ≡ Some p)
@@ -169,36 +170,39 @@ all_sent : (es : List Event) → unsent es ≡ None → All (λ p. is_unsent es 
 unfolding unsent
 all_sent es e = find_none (is_unsent es) (stays_begun es) e
 
--- no device has more stays in a round than its cap
-devices_hold : (c : Topology) (es : List Event) → is_legal history_rules c es ≡ true → unsent es ≡ None → (d r : ℕ) → d < (instance_of c es).devices → 1 ≤ r → r ≤ (instance_of c es).rounds → device_load (instance_of c es) (live_of c es) d r ≤ (instance_of c es).dev_cap d r
-unfolding sends_to
-devices_hold c es legal complete d r within first last =
-    let net : Instance = instance_of c es in
-    let f : ℕ → Bool = λ x. x == d in
-    let load : count_below (length (stays_begun es)) (λ s. (net.device s == d) && (live_of c es s == r)) ≡ count_by (λ (p : Stay). (p.device == d) && (live_round es p == r)) (stays_begun es) =
-    count_list (λ (p : Stay). (p.device == d) && (live_round es p == r)) (λ s. (net.device s == d) && (live_of c es s == r)) (stays_begun es) (λ s p e. rw (device_at c es s p e, live_at c es s p e) refl) in
-    let sent = sent-complete f es r (all_sent es complete) in
-    let covered = (covered-legal f history_rules c es legal).covered r in
-    let capped : sends_to es d r ≤ dev_cap c es d r = sends_to-cap history_rules c es d r legal in
-    rw (dev_cap_of_net c es d r (rw devices_of_net at within) first (rw rounds_of_net at last), stays_of_net c es) (omega arith)
-
--- nor has an adapter
+-- a stay uses the rows that carry a command to its device
 on_adapter_test : (c : Topology) (es : List Event) (a s : ℕ) (p : Stay) → is_legal history_rules c es ≡ true → slice_get (stays_begun es) s ≡ Some p → (adapter (instance_of c es) s == a) ≡ is_on c a p.device
 unfolding instance_of_rows
 on_adapter_test c es a s p legal e =
     let dev = element c.devices p.device (device_of_stay c es s p legal e) in
     rw (device_at c es s p e, bus_of_device c es p.device dev.0 dev.1, dev.1) refl
 
-adapters_hold : (c : Topology) (es : List Event) → is_legal history_rules c es ≡ true → unsent es ≡ None → (a r : ℕ) → a < (instance_of c es).adapters → 1 ≤ r → r ≤ (instance_of c es).rounds → adapter_load (instance_of c es) (live_of c es) a r ≤ (instance_of c es).sim_cap a r
-unfolding sends_by
-adapters_hold c es legal complete a r within first last =
+uses-carries : (c : Topology) (es : List Event) (row s : ℕ) (p : Stay) → is_legal history_rules c es ≡ true → slice_get (stays_begun es) s ≡ Some p → uses (instance_of c es) row s ≡ carries c row p.device
+uses-carries c es row s p legal e =
     let net : Instance = instance_of c es in
-    let load : count_below (length (stays_begun es)) (λ s. (adapter net s == a) && (live_of c es s == r)) ≡ count_by (λ (p : Stay). is_on c a p.device && (live_round es p == r)) (stays_begun es) =
-    count_list (λ (p : Stay). is_on c a p.device && (live_round es p == r)) (λ s. (adapter net s == a) && (live_of c es s == r)) (stays_begun es) (λ s p e. rw (on_adapter_test c es a s p legal e, live_at c es s p e) refl) in
-    let sent = sent-complete (is_on c a) es r (all_sent es complete) in
-    let covered = (covered-legal (is_on c a) history_rules c es legal).covered r in
-    let capped : sends_by c es a r ≤ sim_cap c es a r = sends_by-cap history_rules c es a r legal in
-    rw (sim_cap_of_net c es a r (rw adapters_of_net at within) first (rw rounds_of_net at last), stays_of_net c es) (omega arith)
+    let beyond : ℕ = row - length c.devices in
+    elim (nat_lt row (length c.devices)) as (λ b. nat_lt row (length c.devices) ≡ b → uses net row s ≡ cond b (p.device == row) (is_on c beyond p.device)) [
+      | true ↦ λ is.
+          let within : row < net.devices = rw (devices_of_net c es) (ltb-true row (length c.devices) is) in
+          uses-device_row net row s within ∙ ap (λ d. d == row) (device_at c es s p e)
+      | false ↦ λ is.
+          let past : length c.devices ≤ row = ltb-false row (length c.devices) is in
+          let at : row ≡ adapter_row net beyond = rw (devices_of_net c es) (omega arith) in
+          let device : net.device s < net.devices = rw (device_at c es s p e, devices_of_net c es) (device_of_stay c es s p legal e) in
+          ap (λ r. uses net r s) at ∙ uses-adapter_row net beyond s device ∙ on_adapter_test c es beyond s p legal e
+    ] refl
+
+-- no row has more stays in a round than its cap
+rows_hold : (c : Topology) (es : List Event) → is_legal history_rules c es ≡ true → unsent es ≡ None → (row r : ℕ) → row < rows (instance_of c es) → 1 ≤ r → r ≤ (instance_of c es).rounds → load (instance_of c es) (live_of c es) row r ≤ (instance_of c es).cap row r
+unfolding sends_in
+rows_hold c es legal complete row r within first last =
+    let net : Instance = instance_of c es in
+    let there : count_below (length (stays_begun es)) (λ s. uses net row s && (live_of c es s == r)) ≡ count_by (λ (p : Stay). carries c row p.device && (live_round es p == r)) (stays_begun es) =
+    count_list (λ (p : Stay). carries c row p.device && (live_round es p == r)) (λ s. uses net row s && (live_of c es s == r)) (stays_begun es) (λ s p e. ap (λ b. b && (live_of c es s == r)) (uses-carries c es row s p legal e) ∙ ap (λ n. carries c row p.device && (n == r)) (live_at c es s p e)) in
+    let sent = sent-complete (carries c row) es r (all_sent es complete) in
+    let covered = (covered-legal (carries c row) history_rules c es legal).covered r in
+    let capped : sends_in c es row r ≤ cap c es row r = sends_in-cap history_rules c es row r legal in
+    rw (cap_of_net c es row r (rw rows_of_net at within) first (rw rounds_of_net at last), stays_of_net c es) (omega arith)
 
 in_window : (c : Topology) (es : List Event) (s : ℕ) (p : Stay) → is_legal history_rules c es ≡ true → slice_get (stays_begun es) s ≡ Some p → IsInWindow es p
 in_window c es s p legal e = at_element (IsInWindow es) (stays_begun es) s p (windows-legal history_rules c es legal).each e
@@ -217,21 +221,13 @@ live_admissible c es legal complete = record {
       let stay = stay_of_net c es s lt in
       let h = (in_window c es s stay.0 legal stay.1).within (sent_stay c es s stay.0 complete stay.1) in
       rw (last_at c es s stay.0 stay.1, live_at c es s stay.0 stay.1) h;
-  devices_hold = devices_hold c es legal complete;
-  adapters_hold = adapters_hold c es legal complete;
+  rows_hold = rows_hold c es legal complete;
 }
 
-small_dev_caps : (c : Topology) (es : List Event) → IsConfig c → is_legal history_rules c es ≡ true → (d r : ℕ) → (instance_of c es).dev_cap d r ≤ MOST_OPENINGS
+small_caps : (c : Topology) (es : List Event) → IsConfig c → is_legal history_rules c es ≡ true → (row r : ℕ) → (instance_of c es).cap row r ≤ MOST_OPENINGS
 unfolding instance_of_rows net_of
-small_dev_caps c es config legal d r =
-    small_at (table (length c.devices) (round es) (dev_cap c es)) (cell (round es) d r) MOST_OPENINGS
-    (All-table (λ n. n ≤ MOST_OPENINGS) (length c.devices) (round es) (dev_cap c es) (round_first es) (λ row q within first last. small_dev_cap history_rules c es row q config legal))
-
-small_sim_caps : (c : Topology) (es : List Event) → IsConfig c → is_legal history_rules c es ≡ true → (a r : ℕ) → (instance_of c es).sim_cap a r ≤ MOST_OPENINGS
-unfolding instance_of_rows net_of
-small_sim_caps c es config legal a r =
-    small_at (table (length c.adapters) (round es) (sim_cap c es)) (cell (round es) a r) MOST_OPENINGS
-    (All-table (λ n. n ≤ MOST_OPENINGS) (length c.adapters) (round es) (sim_cap c es) (round_first es) (λ row q within first last. small_sim_cap history_rules c es row q config legal))
+small_caps c es config legal row r =
+    small_at (table (row_count c) (round es) (cap c es)) (cell (round es) row r) MOST_OPENINGS (All-table (λ n. n ≤ MOST_OPENINGS) (row_count c) (round es) (cap c es) (round_first es) (λ other q within first last. small_cap history_rules c es other q config legal))
 
 net_sound : (c : Topology) (es : List Event) → IsConfig c → is_legal history_rules c es ≡ true → unsent es ≡ None → IsSound (instance_of c es) (live_of c es)
 net_sound c es config legal complete = record {
@@ -251,23 +247,20 @@ net_sound c es config legal complete = record {
       rw (last_at c es s stay.0 stay.1, rounds_of_net c es) (last_round-le es stay.0 (λ k d within. ((windows-legal history_rules c es legal).each k d within).soon));
   some_weight = λ s lt. let stay = stay_of_net c es s lt in rw (weight_at c es s stay.0 stay.1) (weight_small c stay.0.priority config).0;
   small_weight = λ s lt. let stay = stay_of_net c es s lt in rw (weight_at c es s stay.0 stay.1) (weight_small c stay.0.priority config).1;
-  small_dev_cap = small_dev_caps c es config legal;
-  small_sim_cap = small_sim_caps c es config legal;
+  small_cap = small_caps c es config legal;
   live_admissible = live_admissible c es legal complete;
 }
 
+cells_of_net : (c : Topology) (es : List Event) → length (net_of c es).caps ≡ row_count c * round es
+unfolding net_of
+cells_of_net c es = length-cells (round es) (cap c es) (row_count c * round es)
+
 pub net_is_net : (c : Topology) (es : List Event) → IsConfig c → is_legal history_rules c es ≡ true → unsent es ≡ None → IsNet (net_of c es)
 unfolding net_of
-net_is_net c es config legal complete = record {
-  dev_cells = length-cells (round es) (dev_cap c es) (length c.devices * round es) ∙ ap (λ n. n * round es) (sym (length-map c.devices (λ (device : Device). device.bus)));
-  sim_cells = length-cells (round es) (sim_cap c es) (length c.adapters * round es);
-  sound = net_sound c es config legal complete;
-}
+net_is_net c es config legal complete = record { cells = cells_of_net c es ∙ ap (λ n. n * round es) (sym (rows_of_net c es)); sound = net_sound c es config legal complete }
 
--- rows that have each part of it are the net
-pub net_of_parts : (c : Topology) (es : List Event) (rounds adapters : ℕ) (adapter_of : List ℕ) (stays : List StayRow) (dev_caps sim_caps : List ℕ) →
-    rounds ≡ round es → adapters ≡ length c.adapters → adapter_of ≡ map (λ (device : Device). device.bus) c.devices → stays ≡ map (stay_row c es) (stays_begun es) →
-    dev_caps ≡ table (length c.devices) (round es) (dev_cap c es) → sim_caps ≡ table (length c.adapters) (round es) (sim_cap c es) →
-    ◌≡◌ {A = NetRows} (record { rounds = rounds; adapters = adapters; adapter_of = adapter_of; stays = stays; dev_caps = dev_caps; sim_caps = sim_caps }) (net_of c es)
+-- lists that have each part of it are the net
+pub net_of_parts : (c : Topology) (es : List Event) (rounds adapters : ℕ) (adapter_of : List ℕ) (stays : List StayRow) (caps : List ℕ) → rounds ≡ round es → adapters ≡ length c.adapters → adapter_of ≡ map (λ (device : Device). device.bus) c.devices →
+    stays ≡ map (stay_row c es) (stays_begun es) → caps ≡ table (row_count c) (round es) (cap c es) → ◌≡◌ {A = NetRows} (record { rounds = rounds; adapters = adapters; adapter_of = adapter_of; stays = stays; caps = caps }) (net_of c es)
 unfolding net_of
-net_of_parts c es rounds adapters adapter_of stays dev_caps sim_caps r a d s dev sim = rw (r, a, d, s, dev, sim) refl
+net_of_parts c es rounds adapters adapter_of stays caps r a d s is = rw (r, a, d, s, is) refl

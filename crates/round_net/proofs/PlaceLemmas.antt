@@ -1,6 +1,6 @@
 -- the places of a round, and one place more
-use Rattle.std.proofs.Common.{◌≡◌, ◌≢◌, ℕ, ◌<◌, ◌≤◌, Bool, true, false, cond, List, [], ◌∷◌, ◌++◌, length, take, refl, sym, ap, ◌∙◌, arith, append-nil, append_assoc, length-append, Option, Some, None}
-use Rattle.std.specs.Prelude.{not, ◌==◌, ◌&&◌, ◌||◌, filter, if◌then◌else◌, count_by, option_to_list, slice_get, slice_index, slice_index_or}
+use Rattle.std.proofs.Common.{◌≡◌, ◌≢◌, ℕ, ◌-◌, ◌<◌, ◌≤◌, Bool, true, false, cond, List, [], ◌∷◌, ◌++◌, length, take, refl, sym, ap, ◌∙◌, arith, append-nil, append_assoc, length-append, Option, Some, None}
+use Rattle.std.specs.Prelude.{not, ◌==◌, ◌&&◌, ◌||◌, filter, if◌then◌else◌, nat_lt, count_by, option_to_list, slice_get, slice_index, slice_index_or}
 use Rattle.std.specs.List.{list_all, before_last}
 use Rattle.std.specs.Option.{option_map, option_map_or}
 use Rattle.std.proofs.lemmas.Bool.{eqb-true, eq-eqb, ne_eqb}
@@ -14,9 +14,9 @@ use Rattle.cam_types.specs.Lists.{moments}
 use Rattle.cam_types.specs.Topology.{Topology}
 use Rattle.cam_types.proofs.ListLemmas.{moments-push}
 use Rattle.cam_event.specs.Event.{is_tick, is_adjust_of, adjusts_to}
-use Rattle.cam_event.specs.Counts.{round, submission, sending_of, sendings, goes_to, freeze_count, adapter_freezes, last}
-use Rattle.cam_types.specs.Questions.{is_on, device_openings}
-use Rattle.cam_event.specs.Head.{openings as place_openings, openings, goes_now_to, goes_now_to_adapter}
+use Rattle.cam_event.specs.Counts.{round, submission, sending_of, sendings, last}
+use Rattle.cam_types.specs.Questions.{device_openings, adapter_openings}
+use Rattle.cam_event.specs.Head.{openings}
 use Rattle.cam_event.specs.declared.event.Event.{Event}
 use Rattle.cam_event.specs.declared.event.Event.TheVariants.{Send}
 use Rattle.cam_event.specs.declared.submission.Submission.{Submission}
@@ -25,7 +25,7 @@ use Rattle.cam_event.proofs.PushLaws.{round-push, sendings-push}
 use Rattle.round_net.proofs.CountLemmas.{count_by-append}
 use Rattle.cam_event.proofs.OpeningLaws.{before_last-push}
 use Rattle.round_net.specs.Rows.{cell}
-use Rattle.round_net.specs.Caps.{fronts, places, is_device_free, is_adapter_free, openings_in, sends_to, sends_by}
+use Rattle.round_net.specs.Caps.{fronts, places, row_count, row_freezes, row_openings, carries, is_free, openings_in, sends_in}
 use Rattle.round_net.specs.Marks.{Marks, Sets, IsNoted}
 
 -- what one element more keeps holds of all lists
@@ -66,21 +66,26 @@ first-append [] ys lt = absurd (omega arith)
 first-append (x ∷ xs) ys lt = refl
 
 -- a device's openings stay as they were until a round opens
-pub openings-push : (c : Topology) (es : List Event) (e : Event) (d : ℕ) → is_tick e ≡ false → openings c (es ++ e ∷ []) d ≡ openings c es d
+openings-push : (c : Topology) (es : List Event) (e : Event) (d : ℕ) → is_tick e ≡ false → openings c (es ++ e ∷ []) d ≡ openings c es d
 unfolding openings
 openings-push c es e d still = ap (λ xs. option_map_or adjusts_to (last (is_adjust_of d) xs) (device_openings c d)) (before_last-push is_tick es e ∙ ap (λ b. cond b es (before_last is_tick es)) still)
 
+-- so do a row's
+row_openings-push : (c : Topology) (es : List Event) (e : Event) (row : ℕ) → is_tick e ≡ false → row_openings c (es ++ e ∷ []) row ≡ row_openings c es row
+unfolding row_openings
+row_openings-push c es e row still = ap (λ n. cond (nat_lt row (length c.devices)) n (adapter_openings c (row - length c.devices))) (openings-push c es e row still)
+
 abbrev first_openings : Topology → ℕ → List (List Event) → ℕ
-first_openings c d ps = option_map_or (λ before. openings c before d) (slice_get ps 0) 0
+first_openings c row ps = option_map_or (λ before. row_openings c before row) (slice_get ps 0) 0
 
 -- a place that opens a round has the round's openings
-pub openings_in-opened : (c : Topology) (es : List Event) (e : Event) (d r : ℕ) → is_tick e ≡ true → openings_in c (es ++ e ∷ []) d r ≡ (if r == round (es ++ e ∷ []) then openings c (es ++ e ∷ []) d else openings_in c es d r)
+pub openings_in-opened : (c : Topology) (es : List Event) (e : Event) (row r : ℕ) → is_tick e ≡ true → openings_in c (es ++ e ∷ []) row r ≡ (if r == round (es ++ e ∷ []) then row_openings c (es ++ e ∷ []) row else openings_in c es row r)
 unfolding openings_in
-openings_in-opened c es e d r ticks =
+openings_in-opened c es e row r ticks =
     let now : ℕ = round (es ++ e ∷ []) in
     let later : round es < now = omega (arith, round-push es e, ap {B = ℕ} (λ b. cond b 1 0) ticks) in
-    ap (first_openings c d) (places-push es e r) ∙
-    elim (r == now) as (λ b. (r == now) ≡ b → first_openings c d (places es r ++ cond (now == r) ((es ++ e ∷ []) ∷ []) []) ≡ (if b then openings c (es ++ e ∷ []) d else first_openings c d (places es r))) [
+    ap (first_openings c row) (places-push es e r) ∙
+    elim (r == now) as (λ b. (r == now) ≡ b → first_openings c row (places es r ++ cond (now == r) ((es ++ e ∷ []) ∷ []) []) ≡ (if b then row_openings c (es ++ e ∷ []) row else first_openings c row (places es r))) [
       | true ↦ λ at.
           let same : r ≡ now = eqb-true r now at in
           rw (eq-eqb now r (sym same), places-later es r (omega arith)) refl
@@ -89,29 +94,29 @@ openings_in-opened c es e d r ticks =
     ] refl
 
 -- and no other place changes them
-pub openings_in-kept : (c : Topology) (es : List Event) (e : Event) (d r : ℕ) → is_tick e ≡ false → openings_in c (es ++ e ∷ []) d r ≡ openings_in c es d r
+pub openings_in-kept : (c : Topology) (es : List Event) (e : Event) (row r : ℕ) → is_tick e ≡ false → openings_in c (es ++ e ∷ []) row r ≡ openings_in c es row r
 unfolding openings_in
-openings_in-kept c es e d r still =
+openings_in-kept c es e row r still =
     let now : ℕ = round (es ++ e ∷ []) in
     let same : now ≡ round es = omega (arith, round-push es e, ap {B = ℕ} (λ b. cond b 1 0) still) in
-    ap (first_openings c d) (places-push es e r) ∙
-    elim (now == r) as (λ b. (now == r) ≡ b → first_openings c d (places es r ++ cond b ((es ++ e ∷ []) ∷ []) []) ≡ first_openings c d (places es r)) [
+    ap (first_openings c row) (places-push es e r) ∙
+    elim (now == r) as (λ b. (now == r) ≡ b → first_openings c row (places es r ++ cond b ((es ++ e ∷ []) ∷ []) []) ≡ first_openings c row (places es r)) [
       | true ↦ λ at.
           let is : round es ≡ r = sym same ∙ eqb-true now r at in
           let some : 0 < length (places es r) = rw (← is) (places-now es) in
-          ap (λ o. option_map_or (λ before. openings c before d) o 0) (first-append (places es r) ((es ++ e ∷ []) ∷ []) some)
+          ap (λ o. option_map_or (λ before. row_openings c before row) o 0) (first-append (places es r) ((es ++ e ∷ []) ∷ []) some)
       | false ↦ λ ne. rw (append-nil (places es r)) refl
     ] refl
 
 -- at each place the round's openings are the place's
-pub openings_in-now : (c : Topology) (d : ℕ) (es : List Event) → openings_in c es d (round es) ≡ openings c es d
+pub openings_in-now : (c : Topology) (row : ℕ) (es : List Event) → openings_in c es row (round es) ≡ row_openings c es row
 unfolding openings_in
-openings_in-now c d es = push-induction (λ xs. openings_in c xs d (round xs) ≡ openings c xs d) (rw (eq-eqb (round []) (round []) refl) refl)
-    (λ xs x h. elim (is_tick x) as (λ b. is_tick x ≡ b → openings_in c (xs ++ x ∷ []) d (round (xs ++ x ∷ [])) ≡ openings c (xs ++ x ∷ []) d) [
-      | true ↦ λ ticks. openings_in-opened c xs x d (round (xs ++ x ∷ [])) ticks ∙ rw (eq-eqb (round (xs ++ x ∷ [])) (round (xs ++ x ∷ [])) refl) refl
+openings_in-now c row es = push-induction (λ xs. openings_in c xs row (round xs) ≡ row_openings c xs row) (rw (eq-eqb (round []) (round []) refl) refl)
+    (λ xs x h. elim (is_tick x) as (λ b. is_tick x ≡ b → openings_in c (xs ++ x ∷ []) row (round (xs ++ x ∷ [])) ≡ row_openings c (xs ++ x ∷ []) row) [
+      | true ↦ λ ticks. openings_in-opened c xs x row (round (xs ++ x ∷ [])) ticks ∙ rw (eq-eqb (round (xs ++ x ∷ [])) (round (xs ++ x ∷ [])) refl) refl
       | false ↦ λ still.
           let same : round (xs ++ x ∷ []) ≡ round xs = omega (arith, round-push xs x, ap {B = ℕ} (λ b. cond b 1 0) still) in
-          openings_in-kept c xs x d (round (xs ++ x ∷ [])) still ∙ ap (openings_in c xs d) same ∙ h ∙ sym (openings-push c xs x d still)
+          openings_in-kept c xs x row (round (xs ++ x ∷ [])) still ∙ ap (openings_in c xs row) same ∙ h ∙ sym (row_openings-push c xs x row still)
     ] refl) es
 
 one_more : {X : Type 0} (test : X → Bool) (x : X) (b : Bool) → list_all test (cond b (x ∷ []) []) ≡ (not b || test x)
@@ -121,13 +126,9 @@ one_more test x false = refl
 all_and_one : {X : Type 0} (test : X → Bool) (xs : List X) (x : X) (b : Bool) → list_all test (xs ++ cond b (x ∷ []) []) ≡ (list_all test xs && (not b || test x))
 all_and_one test xs x b = list_all-append test xs (cond b (x ∷ []) []) ∙ ap (λ t. list_all test xs && t) (one_more test x b)
 
-pub is_device_free-push : (es : List Event) (e : Event) (d r : ℕ) → is_device_free (es ++ e ∷ []) d r ≡ (is_device_free es d r && (not (round (es ++ e ∷ []) == r) || (freeze_count (es ++ e ∷ []) d == 0)))
-unfolding is_device_free
-is_device_free-push es e d r = ap (list_all (λ before. freeze_count before d == 0)) (places-push es e r) ∙ all_and_one (λ before. freeze_count before d == 0) (places es r) (es ++ e ∷ []) (round (es ++ e ∷ []) == r)
-
-pub is_adapter_free-push : (es : List Event) (e : Event) (a r : ℕ) → is_adapter_free (es ++ e ∷ []) a r ≡ (is_adapter_free es a r && (not (round (es ++ e ∷ []) == r) || (adapter_freezes (es ++ e ∷ []) a == 0)))
-unfolding is_adapter_free
-is_adapter_free-push es e a r = ap (list_all (λ before. adapter_freezes before a == 0)) (places-push es e r) ∙ all_and_one (λ before. adapter_freezes before a == 0) (places es r) (es ++ e ∷ []) (round (es ++ e ∷ []) == r)
+is_free-push : (c : Topology) (es : List Event) (e : Event) (row r : ℕ) → is_free c (es ++ e ∷ []) row r ≡ (is_free c es row r && (not (round (es ++ e ∷ []) == r) || (row_freezes c (es ++ e ∷ []) row == 0)))
+unfolding is_free
+is_free-push c es e row r = ap (list_all (λ before. row_freezes c before row == 0)) (places-push es e r) ∙ all_and_one (λ before. row_freezes c before row == 0) (places es r) (es ++ e ∷ []) (round (es ++ e ∷ []) == r)
 
 -- what is noted of the places so far and of one more
 eqb-sym : (a b : ℕ) → (a == b) ≡ (b == a)
@@ -172,30 +173,22 @@ sent-step test es e r old new was is =
       | false ↦ λ ne. was ∙ sym (sends-kept test es e r (λ at. let both : (r == round (es ++ e ∷ [])) ≡ true = eq-eqb r (round (es ++ e ∷ [])) at in absurd (cc)))
     ] refl
 
-pub noted-step : (c : Topology) (es : List Event) (e : Event) (rounds : ℕ) (dev dev' sim sim' : List Bool) (openings openings' sends sends' sim_sends sim_sends' : List ℕ) (opens : Bool) →
-    IsNoted c es rounds dev sim openings sends sim_sends → opens ≡ is_tick e →
-    Marks (length c.devices) rounds dev dev' (round (es ++ e ∷ [])) (λ d. not (freeze_count (es ++ e ∷ []) d == 0)) →
-    Marks (length c.adapters) rounds sim sim' (round (es ++ e ∷ [])) (λ a. not (adapter_freezes (es ++ e ∷ []) a == 0)) →
-    (opens ≡ true → Sets (length c.devices) rounds openings openings' (round (es ++ e ∷ [])) (place_openings c (es ++ e ∷ []))) → (opens ≡ false → openings' ≡ openings) →
-    Sets (length c.devices) rounds sends sends' (round (es ++ e ∷ [])) (λ d. count_by (goes_now_to (es ++ e ∷ []) d) (sendings (es ++ e ∷ []))) →
-    Sets (length c.adapters) rounds sim_sends sim_sends' (round (es ++ e ∷ [])) (λ a. count_by (goes_now_to_adapter c (es ++ e ∷ []) a) (sendings (es ++ e ∷ []))) →
-    IsNoted c (es ++ e ∷ []) rounds dev' sim' openings' sends' sim_sends'
-unfolding sends_to sends_by
-noted-step c es e rounds dev dev' sim sim' openings openings' sends sends' sim_sends sim_sends' opens is opens_is devices adapters opened kept sent adapter_sent = record {
-  devices = λ d r within first last.
-      devices d r within first last
-      ∙ rw (is.devices d r within first last, eqb-sym r (round (es ++ e ∷ [])), is_device_free-push es e d r) (still_marked (is_device_free es d r) (round (es ++ e ∷ []) == r) (freeze_count (es ++ e ∷ []) d == 0));
-  adapters = λ a r within first last.
-      adapters a r within first last
-      ∙ rw (is.adapters a r within first last, eqb-sym r (round (es ++ e ∷ [])), is_adapter_free-push es e a r) (still_marked (is_adapter_free es a r) (round (es ++ e ∷ []) == r) (adapter_freezes (es ++ e ∷ []) a == 0));
-  openings = λ d r within first last.
-      elim (is_tick e) as (λ b. is_tick e ≡ b → slice_index openings' (cell rounds d r) ≡ openings_in c (es ++ e ∷ []) d r) [
-        | true ↦ λ ticks. opened (opens_is ∙ ticks) d r within first last ∙ rw (is.openings d r within first last) (sym (openings_in-opened c es e d r ticks))
-        | false ↦ λ still. ap (λ ns. slice_index ns (cell rounds d r)) (kept (opens_is ∙ still)) ∙ is.openings d r within first last ∙ sym (openings_in-kept c es e d r still)
+pub noted-step : (c : Topology) (es : List Event) (e : Event) (rounds : ℕ) (frozen frozen' : List Bool) (openings openings' sends sends' : List ℕ) (opens : Bool) → IsNoted c es rounds frozen openings sends → opens ≡ is_tick e →
+    Marks (row_count c) rounds frozen frozen' (round (es ++ e ∷ [])) (λ row. not (row_freezes c (es ++ e ∷ []) row == 0)) →
+    (opens ≡ true → Sets (row_count c) rounds openings openings' (round (es ++ e ∷ [])) (row_openings c (es ++ e ∷ []))) → (opens ≡ false → openings' ≡ openings) →
+    Sets (row_count c) rounds sends sends' (round (es ++ e ∷ [])) (λ row. sends_in c (es ++ e ∷ []) row (round (es ++ e ∷ []))) →
+    IsNoted c (es ++ e ∷ []) rounds frozen' openings' sends'
+unfolding sends_in
+noted-step c es e rounds frozen frozen' openings openings' sends sends' opens is opens_is marked opened kept sent = record {
+  marked = λ row r within first last.
+      marked row r within first last
+      ∙ rw (is.marked row r within first last, eqb-sym r (round (es ++ e ∷ [])), is_free-push c es e row r) (still_marked (is_free c es row r) (round (es ++ e ∷ []) == r) (row_freezes c (es ++ e ∷ []) row == 0));
+  opened = λ row r within first last.
+      elim (is_tick e) as (λ b. is_tick e ≡ b → slice_index openings' (cell rounds row r) ≡ openings_in c (es ++ e ∷ []) row r) [
+        | true ↦ λ ticks. opened (opens_is ∙ ticks) row r within first last ∙ rw (is.opened row r within first last) (sym (openings_in-opened c es e row r ticks))
+        | false ↦ λ still. ap (λ ns. slice_index ns (cell rounds row r)) (kept (opens_is ∙ still)) ∙ is.opened row r within first last ∙ sym (openings_in-kept c es e row r still)
       ] refl;
-  sends = λ d r within first last. sent-step (goes_to d) es e r (slice_index sends (cell rounds d r)) (slice_index sends' (cell rounds d r)) (is.sends d r within first last) (sent d r within first last);
-  adapter_sends = λ a r within first last.
-      sent-step (λ (s : Sending). is_on c a s.device) es e r (slice_index sim_sends (cell rounds a r)) (slice_index sim_sends' (cell rounds a r)) (is.adapter_sends a r within first last) (adapter_sent a r within first last);
+  sent = λ row r within first last. sent-step (λ (s : Sending). carries c row s.device) es e r (slice_index sends (cell rounds row r)) (slice_index sends' (cell rounds row r)) (is.sent row r within first last) (sent row r within first last);
 }
 
 -- and of the first place
@@ -211,19 +204,13 @@ none_yet : (test : Sending → Bool) (r old new : ℕ) → old ≡ 0 → new ≡
 unfolding sendings
 none_yet test r old new was is = is ∙ elim (r == round []) as (λ b. (if b then 0 else old) ≡ 0) [ true ↦ refl | false ↦ was ]
 
-pub noted-first : (c : Topology) (rounds : ℕ) (dev dev' sim sim' : List Bool) (openings openings' sends sends' sim_sends sim_sends' : List ℕ) →
-    ((i : ℕ) → slice_index_or dev i false ≡ false) → ((i : ℕ) → slice_index_or sim i false ≡ false) → ((i : ℕ) → slice_index openings i ≡ 0) → ((i : ℕ) → slice_index sends i ≡ 0) → ((i : ℕ) → slice_index sim_sends i ≡ 0) →
-    Marks (length c.devices) rounds dev dev' (round []) (λ d. not (freeze_count [] d == 0)) →
-    Marks (length c.adapters) rounds sim sim' (round []) (λ a. not (adapter_freezes [] a == 0)) →
-    Sets (length c.devices) rounds openings openings' (round []) (place_openings c []) →
-    Sets (length c.devices) rounds sends sends' (round []) (λ d. count_by (goes_now_to [] d) (sendings [])) →
-    Sets (length c.adapters) rounds sim_sends sim_sends' (round []) (λ a. count_by (goes_now_to_adapter c [] a) (sendings [])) →
-    IsNoted c [] rounds dev' sim' openings' sends' sim_sends'
-unfolding is_device_free is_adapter_free openings_in sends_to sends_by
-noted-first c rounds dev dev' sim sim' openings openings' sends sends' sim_sends sim_sends' no_dev no_sim no_opening no_send no_sim_send devices adapters opened sent adapter_sent = record {
-  devices = λ d r within first last. devices d r within first last ∙ rw (no_dev (cell rounds d r), eqb-sym r (round [])) (free_first (λ before. freeze_count before d == 0) (round [] == r));
-  adapters = λ a r within first last. adapters a r within first last ∙ rw (no_sim (cell rounds a r), eqb-sym r (round [])) (free_first (λ before. adapter_freezes before a == 0) (round [] == r));
-  openings = λ d r within first last. opened d r within first last ∙ rw (no_opening (cell rounds d r), eqb-sym r (round [])) (open_first (λ before. place_openings c before d) (round [] == r));
-  sends = λ d r within first last. none_yet (goes_to d) r (slice_index sends (cell rounds d r)) (slice_index sends' (cell rounds d r)) (no_send (cell rounds d r)) (sent d r within first last);
-  adapter_sends = λ a r within first last. none_yet (λ (s : Sending). is_on c a s.device) r (slice_index sim_sends (cell rounds a r)) (slice_index sim_sends' (cell rounds a r)) (no_sim_send (cell rounds a r)) (adapter_sent a r within first last);
+pub noted-first : (c : Topology) (rounds : ℕ) (frozen frozen' : List Bool) (openings openings' sends sends' : List ℕ) →
+    ((i : ℕ) → slice_index_or frozen i false ≡ false) → ((i : ℕ) → slice_index openings i ≡ 0) → ((i : ℕ) → slice_index sends i ≡ 0) →
+    Marks (row_count c) rounds frozen frozen' (round []) (λ row. not (row_freezes c [] row == 0)) → Sets (row_count c) rounds openings openings' (round []) (row_openings c []) → Sets (row_count c) rounds sends sends' (round []) (λ row. sends_in c [] row (round [])) →
+    IsNoted c [] rounds frozen' openings' sends'
+unfolding is_free openings_in sends_in
+noted-first c rounds frozen frozen' openings openings' sends sends' no_mark no_opening no_send marked opened sent = record {
+  marked = λ row r within first last. marked row r within first last ∙ rw (no_mark (cell rounds row r), eqb-sym r (round [])) (free_first (λ before. row_freezes c before row == 0) (round [] == r));
+  opened = λ row r within first last. opened row r within first last ∙ rw (no_opening (cell rounds row r), eqb-sym r (round [])) (open_first (λ before. row_openings c before row) (round [] == r));
+  sent = λ row r within first last. none_yet (λ (s : Sending). carries c row s.device) r (slice_index sends (cell rounds row r)) (slice_index sends' (cell rounds row r)) (no_send (cell rounds row r)) (sent row r within first last);
 }

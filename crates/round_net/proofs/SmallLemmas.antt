@@ -1,11 +1,12 @@
 -- openings and weights are small
-use Rattle.std.proofs.Common.{◌≡◌, ℕ, ◌≤◌, true, false, cond, List, [], ◌∷◌, ◌++◌, get_or, refl, arith, Some, None}
+use Rattle.std.proofs.Common.{◌≡◌, ℕ, ◌-◌, ◌≤◌, true, false, cond, List, [], ◌∷◌, ◌++◌, length, get_or, refl, ap, arith, Some, None}
 use Rattle.std.specs.Prelude.{◌==◌, All, slice_get, nat_lt, nat_le}
 use Rattle.std.specs.List.{before_last}
 use Rattle.std.specs.Option.{option_map_or}
 use Rattle.std.proofs.lemmas.Bool.{and_parts, leb-true}
 use Rattle.std.proofs.lemmas.Option.{slice_get_within, get_or_from_slice_get}
 use Rattle.cam_types.specs.Topology.{Topology, IsConfig, are_openings}
+use Rattle.cam_types.specs.declared.adapter.Adapter.{Adapter}
 use Rattle.cam_types.specs.declared.device.Device.{Device}
 use Rattle.cam_types.specs.declared.maxima.TheConstants.{MOST_OPENINGS}
 use Rattle.cam_event.specs.Event.{is_tick, is_adjust_of, adjusts_to}
@@ -19,35 +20,29 @@ use Rattle.cam_event.proofs.StateLaws.{last-push}
 use Rattle.cam_event.specs.Legal.{Rules, is_legal_event, is_legal}
 use Rattle.cam_event.proofs.LawLemmas.{allowed-legal_event}
 use Rattle.cam_event.proofs.LimitLemmas.{legal-induction}
-use Rattle.round_net.specs.Caps.{openings_in, sends_to, sends_by, is_device_free, is_adapter_free, dev_cap, sim_cap}
+use Rattle.round_net.specs.Caps.{row_openings, is_free, openings_in, sends_in, cap}
 use Rattle.round_net.proofs.PlaceLemmas.{openings_in-opened, openings_in-kept}
 use Rattle.cam_types.proofs.ConfigLemmas.{small_adapters, small_devices}
-use Rattle.round_net.proofs.OpeningLemmas.{sends_to-openings, sends_by-openings}
+use Rattle.round_net.proofs.OpeningLemmas.{sends_in-openings}
 
-slice_or_small : (xs : List ℕ) (i most : ℕ) → All (λ n. n ≤ most) xs → option_map_or (λ n. n) (slice_get xs i) 0 ≤ most
-slice_or_small xs i most h = elim (slice_get xs i) as (λ o. slice_get xs i ≡ o → option_map_or (λ n. n) o 0 ≤ most) [
+-- what each item of a list has at most, an item of it has, and 0 where there is none
+slice_or_small : {X : Type 0} (f : X → ℕ) (xs : List X) (i most : ℕ) → All (λ x. f x ≤ most) xs → option_map_or f (slice_get xs i) 0 ≤ most
+slice_or_small f xs i most h = elim (slice_get xs i) as (λ o. slice_get xs i ≡ o → option_map_or f o 0 ≤ most) [
   | None ↦ λ e. omega arith
-  | Some n ↦ λ e. let le : get_or xs i 0 ≤ most = h i 0 (slice_get_within xs i n e) in let same : get_or xs i 0 ≡ n = get_or_from_slice_get xs i n 0 e in omega arith
+  | Some x ↦ λ e. let le : f (get_or xs i x) ≤ most = h i x (slice_get_within xs i x e) in let same : f (get_or xs i x) ≡ f x = ap f (get_or_from_slice_get xs i x x e) in omega arith
 ] refl
 
-pub small_adapter_openings : (c : Topology) (a : ℕ) → IsConfig c → adapter_openings c a ≤ MOST_OPENINGS
-small_adapter_openings c a is = slice_or_small c.adapters a MOST_OPENINGS (small_adapters c is)
+small_adapter_openings : (c : Topology) (a : ℕ) → IsConfig c → adapter_openings c a ≤ MOST_OPENINGS
+small_adapter_openings c a is = slice_or_small (λ (x : Adapter). x.openings) c.adapters a MOST_OPENINGS (small_adapters c is)
 
 small_device_openings : (c : Topology) (d : ℕ) → IsConfig c → device_openings c d ≤ MOST_OPENINGS
-small_device_openings c d is = elim (slice_get c.devices d) as (λ o. slice_get c.devices d ≡ o → option_map_or (λ (device : Device). device.openings) o 0 ≤ MOST_OPENINGS) [
-  | None ↦ λ e. omega arith
-  | Some device ↦ λ e.
-      let le = small_devices c is d device (slice_get_within c.devices d device e) in
-      let same : get_or c.devices d device ≡ device = get_or_from_slice_get c.devices d device device e in
-      let P : Device → Type 0 = λ x. x.openings ≤ MOST_OPENINGS in
-      rw same at le
-] refl
+small_device_openings c d is = slice_or_small (λ (x : Device). x.openings) c.devices d MOST_OPENINGS (small_devices c is)
 
--- each device's openings, now and from the next round on
+-- each device's openings, now and from the next round on, and each row's in each round
 pub record AreSmall (c : Topology) (es : List Event) : Type 0 where
   pub next : (d : ℕ) → option_map_or adjusts_to (last (is_adjust_of d) es) (device_openings c d) ≤ MOST_OPENINGS
   pub now : (d : ℕ) → openings c es d ≤ MOST_OPENINGS
-  pub each : (d r : ℕ) → openings_in c es d r ≤ MOST_OPENINGS
+  pub each : (row r : ℕ) → openings_in c es row r ≤ MOST_OPENINGS
 
 adjusted_small : (rules : Rules) (c : Topology) (es : List Event) (e : Event) (d : ℕ) → is_legal_event rules c (es, e) ≡ true → is_adjust_of d e ≡ true → adjusts_to e ≤ MOST_OPENINGS
 adjusted_small rules c es (Adjust device openings') d legal is =
@@ -71,35 +66,39 @@ now_small c es e is d =
       | false ↦ is.now d
     ])
 
-each_small : (c : Topology) (es : List Event) (e : Event) → AreSmall c es → (d r : ℕ) → openings_in c (es ++ e ∷ []) d r ≤ MOST_OPENINGS
-each_small c es e is d r = elim (is_tick e) as (λ b. is_tick e ≡ b → openings_in c (es ++ e ∷ []) d r ≤ MOST_OPENINGS) [
-  | true ↦ λ ticks. rw (openings_in-opened c es e d r ticks) (elim (r == round (es ++ e ∷ [])) as (λ b. cond b (openings c (es ++ e ∷ []) d) (openings_in c es d r) ≤ MOST_OPENINGS) [ true ↦ now_small c es e is d | false ↦ is.each d r ])
-  | false ↦ λ still. rw (openings_in-kept c es e d r still) (is.each d r)
+-- a row has its device's openings, or its adapter's
+small_row : (c : Topology) (es : List Event) (row : ℕ) → IsConfig c → ((d : ℕ) → openings c es d ≤ MOST_OPENINGS) → row_openings c es row ≤ MOST_OPENINGS
+unfolding row_openings
+small_row c es row config now =
+    let beyond : ℕ = row - length c.devices in
+    elim (nat_lt row (length c.devices)) as (λ b. cond b (openings c es row) (adapter_openings c beyond) ≤ MOST_OPENINGS) [ true ↦ now row | false ↦ small_adapter_openings c beyond config ]
+
+each_small : (c : Topology) (es : List Event) (e : Event) → IsConfig c → AreSmall c es → (row r : ℕ) → openings_in c (es ++ e ∷ []) row r ≤ MOST_OPENINGS
+each_small c es e config is row r = elim (is_tick e) as (λ b. is_tick e ≡ b → openings_in c (es ++ e ∷ []) row r ≤ MOST_OPENINGS) [
+  | true ↦ λ ticks. rw (openings_in-opened c es e row r ticks) (elim (r == round (es ++ e ∷ [])) as (λ b. cond b (row_openings c (es ++ e ∷ []) row) (openings_in c es row r) ≤ MOST_OPENINGS) [ true ↦ small_row c (es ++ e ∷ []) row config (now_small c es e is) | false ↦ is.each row r ])
+  | false ↦ λ still. rw (openings_in-kept c es e row r still) (is.each row r)
 ] refl
 
+openings_none : (c : Topology) → IsConfig c → (d : ℕ) → openings c [] d ≤ MOST_OPENINGS
+unfolding openings
+openings_none c is d = small_device_openings c d is
+
 small-none : (c : Topology) → IsConfig c → AreSmall c []
-unfolding openings openings_in
+unfolding openings_in
 small-none c is = record {
   next = λ d. small_device_openings c d is;
-  now = λ d. small_device_openings c d is;
-  each = λ d r. elim (round [] == r) as (λ b. option_map_or (λ before. openings c before d) (slice_get (cond b ([] ∷ []) []) 0) 0 ≤ MOST_OPENINGS) [ true ↦ small_device_openings c d is | false ↦ omega arith ];
+  now = openings_none c is;
+  each = λ row r. elim (round [] == r) as (λ b. option_map_or (λ before. row_openings c before row) (slice_get (cond b ([] ∷ []) []) 0) 0 ≤ MOST_OPENINGS) [ true ↦ small_row c [] row is (openings_none c is) | false ↦ omega arith ];
 }
 
 small-legal : (rules : Rules) (c : Topology) (es : List Event) → IsConfig c → is_legal rules c es ≡ true → AreSmall c es
 unfolding is_legal
 small-legal rules c es config legal = legal-induction rules c (AreSmall c)
-    (λ before event here is. record { next = next_small rules c before event here is; now = now_small c before event is; each = each_small c before event is }) [] es legal (small-none c config)
+    (λ before event here is. record { next = next_small rules c before event here is; now = now_small c before event is; each = each_small c before event config is }) [] es legal (small-none c config)
 
-pub small_dev_cap : (rules : Rules) (c : Topology) (es : List Event) (d r : ℕ) → IsConfig c → is_legal rules c es ≡ true → dev_cap c es d r ≤ MOST_OPENINGS
-unfolding dev_cap
-small_dev_cap rules c es d r config legal =
-    let few = (small-legal rules c es config legal).each d r in
-    let le = sends_to-openings rules c es d r legal in
-    elim (is_device_free es d r) as (λ b. cond b (openings_in c es d r) (sends_to es d r) ≤ MOST_OPENINGS) [ true ↦ few | false ↦ omega arith ]
-
-pub small_sim_cap : (rules : Rules) (c : Topology) (es : List Event) (a r : ℕ) → IsConfig c → is_legal rules c es ≡ true → sim_cap c es a r ≤ MOST_OPENINGS
-unfolding sim_cap
-small_sim_cap rules c es a r config legal =
-    let few = small_adapter_openings c a config in
-    let le = sends_by-openings rules c es a r legal in
-    elim (is_adapter_free es a r) as (λ b. cond b (adapter_openings c a) (sends_by c es a r) ≤ MOST_OPENINGS) [ true ↦ few | false ↦ omega arith ]
+pub small_cap : (rules : Rules) (c : Topology) (es : List Event) (row r : ℕ) → IsConfig c → is_legal rules c es ≡ true → cap c es row r ≤ MOST_OPENINGS
+unfolding cap
+small_cap rules c es row r config legal =
+    let few = (small-legal rules c es config legal).each row r in
+    let le = sends_in-openings rules c es row r legal in
+    elim (is_free c es row r) as (λ b. cond b (openings_in c es row r) (sends_in c es row r) ≤ MOST_OPENINGS) [ true ↦ few | false ↦ omega arith ]

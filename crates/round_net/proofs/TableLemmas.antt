@@ -1,29 +1,21 @@
 -- tables of values by row and round
-use Rattle.std.proofs.Common.{◌≡◌, ℕ, ◌+◌, ◌-◌, ◌*◌, ◌/◌, ◌%◌, ◌<◌, ◌≤◌, List, [], ◌∷◌, ◌++◌, length, refl, sym, ap, ◌∙◌, arith, zero-add}
+use Rattle.std.proofs.Common.{◌≡◌, ℕ, ◌+◌, ◌-◌, ◌*◌, ◌/◌, ◌%◌, ◌<◌, ◌≤◌, List, length, refl, sym, ap, ◌∙◌, arith, zero-add}
 use Rattle.std.specs.Prelude.{slice_index, All}
 use Rattle.std.proofs.lemmas.Nat.{div-mul-add, mod-mul-add}
 use Rattle.std.proofs.Math.Nat.{div-lt_iff_lt-mul, mod-lt, mod-eq-sub-div-mul, div-mul-le_self}
 use Rattle.std.proofs.lemmas.List.{ext_get_or}
-use Rattle.std.proofs.lemmas.List.FromFn.{map-range_with_len_more, get_or-map-range_with_len, length-map-range_with_len}
+use Rattle.std.proofs.lemmas.List.FromFn.{get_or-map-range_with_len, length-map-range_with_len}
 use Rattle.std.proofs.lemmas.List.Elements.{All-from_get_or}
 use Rattle.round_net.specs.Rows.{cell}
 use Rattle.round_net.specs.Nets.{cells, table}
 use Rattle.round_net.proofs.CellLemmas.{cell_within}
 
 -- the row and the round of a place
-pub row_of_place : (rows rounds at : ℕ) → 1 ≤ rounds → at < rows * rounds → at / rounds < rows
+row_of_place : (rows rounds at : ℕ) → 1 ≤ rounds → at < rows * rounds → at / rounds < rows
 row_of_place rows rounds at some lt = (div-lt_iff_lt-mul some).1 lt
 
-pub round_of_place : (rounds at : ℕ) → 1 ≤ rounds → at % rounds + 1 ≤ rounds
+round_of_place : (rounds at : ℕ) → 1 ≤ rounds → at % rounds + 1 ≤ rounds
 round_of_place rounds at some = let lt : at % rounds < rounds = mod-lt at some in omega arith
-
-pub cells-none : (rounds : ℕ) (value : ℕ → ℕ → ℕ) → cells rounds value 0 ≡ []
-unfolding cells
-cells-none rounds value = refl
-
-pub cells-more : (rounds : ℕ) (value : ℕ → ℕ → ℕ) (n : ℕ) → cells rounds value (n + 1) ≡ cells rounds value n ++ value (n / rounds) (n % rounds + 1) ∷ []
-unfolding cells
-cells-more rounds value n = map-range_with_len_more (λ at. value (at / rounds) (at % rounds + 1)) 0 n n (zero-add n)
 
 pub length-cells : (rounds : ℕ) (value : ℕ → ℕ → ℕ) (n : ℕ) → length (cells rounds value n) ≡ n
 unfolding cells

@@ -1,10 +1,10 @@
--- how many commands the devices and adapters of a history take in each round
-use Rattle.std.specs.Prelude.{ℕ, ◌==◌, Bool, ◌&&◌, if◌then◌else◌, List, [], ◌∷◌, ◌++◌, map, filter, count_by, slice_get}
+-- how many commands the rows of a history take in each round
+use Rattle.std.specs.Prelude.{ℕ, ◌+◌, ◌-◌, ◌==◌, Bool, ◌&&◌, if◌then◌else◌, nat_lt, List, [], ◌∷◌, ◌++◌, length, map, filter, count_by, slice_get}
 use Rattle.std.specs.List.{list_all}
 use Rattle.std.specs.Option.{option_map_or}
 use Rattle.cam_types.specs.Lists.{moments}
 use Rattle.cam_types.specs.Topology.{Topology}
-use Rattle.cam_event.specs.Counts.{round, sendings, goes_to, freeze_count, adapter_freezes}
+use Rattle.cam_event.specs.Counts.{round, sendings, freeze_count, adapter_freezes}
 use Rattle.cam_types.specs.Questions.{is_on, adapter_openings}
 use Rattle.cam_event.specs.Head.{openings}
 use Rattle.cam_event.specs.declared.event.Event.{Event}
@@ -18,29 +18,38 @@ fronts events = map (λ (m : List Event × Event). m.0) (moments events) ++ even
 abbrev pub places : List Event → ℕ → List (List Event)
 places events r = filter (λ before. round before == r) (fronts events)
 
--- no freeze of the device, or of the adapter, stands at any place of the round
-unfoldable pub is_device_free : List Event → ℕ → ℕ → Bool
-is_device_free events d r = list_all (λ before. freeze_count before d == 0) (places events r)
+-- how many rows there are: one for each device, and behind these one for each adapter
+abbrev pub row_count : Topology → ℕ
+row_count c = length c.devices + length c.adapters
 
-unfoldable pub is_adapter_free : List Event → ℕ → ℕ → Bool
-is_adapter_free events a r = list_all (λ before. adapter_freezes before a == 0) (places events r)
+-- what a row's device has, or its adapter
+abbrev pub by_row : {A : Type 0} → Topology → (ℕ → A) → (ℕ → A) → ℕ → A
+by_row c of_device of_adapter row = if nat_lt row (length c.devices) then of_device row else of_adapter (row - length c.devices)
 
--- the device's openings in the round, which are the same at each of its places
+-- its freezes and its openings at a place
+unfoldable pub row_freezes : Topology → List Event → ℕ → ℕ
+row_freezes c before row = by_row c (freeze_count before) (adapter_freezes before) row
+
+unfoldable pub row_openings : Topology → List Event → ℕ → ℕ
+row_openings c before row = by_row c (openings c before) (adapter_openings c) row
+
+-- whether a command to a device uses an opening of the row: that of the device itself, or of its adapter
+abbrev pub carries : Topology → ℕ → ℕ → Bool
+carries c row device = by_row c (λ d. device == d) (λ a. is_on c a device) row
+
+-- no freeze of the row stands at any place of the round
+unfoldable pub is_free : Topology → List Event → ℕ → ℕ → Bool
+is_free c events row r = list_all (λ before. row_freezes c before row == 0) (places events r)
+
+-- the row's openings in the round, which are the same at each of its places
 unfoldable pub openings_in : Topology → List Event → ℕ → ℕ → ℕ
-openings_in c events d r = option_map_or (λ before. openings c before d) (slice_get (places events r) 0) 0
+openings_in c events row r = option_map_or (λ before. row_openings c before row) (slice_get (places events r) 0) 0
 
--- how many commands were sent in the round to the device, or to the devices on the adapter
-unfoldable pub sends_to : List Event → ℕ → ℕ → ℕ
-sends_to events d r = count_by (λ (s : Sending). goes_to d s && (s.round == r)) (sendings events)
+-- how many sends of the round used an opening of the row
+unfoldable pub sends_in : Topology → List Event → ℕ → ℕ → ℕ
+sends_in c events row r = count_by (λ (s : Sending). carries c row s.device && (s.round == r)) (sendings events)
 
-unfoldable pub sends_by : Topology → List Event → ℕ → ℕ → ℕ
-sends_by c events a r = count_by (λ (s : Sending). is_on c a s.device && (s.round == r)) (sendings events)
-
--- A device takes as many commands in a round as it has openings, and where a freeze stood anywhere in the round as many as
--- were sent.
-unfoldable pub dev_cap : Topology → List Event → ℕ → ℕ → ℕ
-dev_cap c events d r = if is_device_free events d r then openings_in c events d r else sends_to events d r
-
--- the same of an adapter
-unfoldable pub sim_cap : Topology → List Event → ℕ → ℕ → ℕ
-sim_cap c events a r = if is_adapter_free events a r then adapter_openings c a else sends_by c events a r
+-- A row takes as many commands in a round as it has openings, and where a freeze stood anywhere in the round as many as were
+-- sent.
+unfoldable pub cap : Topology → List Event → ℕ → ℕ → ℕ
+cap c events row r = if is_free c events row r then openings_in c events row r else sends_in c events row r

@@ -3,7 +3,7 @@ use Rattle.std.specs.Prelude.{◌≡◌, ℕ, ◌*◌, ◌<◌, ◌≤◌, Bool,
 use Rattle.cam_types.specs.Topology.{Topology}
 use Rattle.cam_event.specs.declared.event.Event.{Event}
 use Rattle.round_net.specs.Rows.{cell}
-use Rattle.round_net.specs.Caps.{is_device_free, is_adapter_free, openings_in, sends_to, sends_by}
+use Rattle.round_net.specs.Caps.{row_count, is_free, openings_in, sends_in}
 
 -- a round of a row is marked
 abbrev pub is_marked : List Bool → ℕ → ℕ → ℕ → Bool
@@ -24,18 +24,14 @@ abbrev pub Sets : ℕ → ℕ → List ℕ → List ℕ → ℕ → (ℕ → ℕ
 Sets rows rounds old new now value =
     (row r : ℕ) → row < rows → 1 ≤ r → r ≤ rounds → slice_index new (cell rounds row r) ≡ (if r == now then value row else slice_index old (cell rounds row r))
 
--- the rounds in which a device or an adapter was frozen are marked, and its openings and its sends stand in its row
-pub record IsNoted (c : Topology) (events : List Event) (rounds : ℕ) (dev_frozen sim_frozen : List Bool) (dev_openings dev_sends sim_sends : List ℕ) : Type 0 where
-  pub devices : (d r : ℕ) → d < length c.devices → 1 ≤ r → r ≤ rounds → is_marked dev_frozen rounds d r ≡ not (is_device_free events d r)
-  pub adapters : (a r : ℕ) → a < length c.adapters → 1 ≤ r → r ≤ rounds → is_marked sim_frozen rounds a r ≡ not (is_adapter_free events a r)
-  pub openings : (d r : ℕ) → d < length c.devices → 1 ≤ r → r ≤ rounds → slice_index dev_openings (cell rounds d r) ≡ openings_in c events d r
-  pub sends : (d r : ℕ) → d < length c.devices → 1 ≤ r → r ≤ rounds → slice_index dev_sends (cell rounds d r) ≡ sends_to events d r
-  pub adapter_sends : (a r : ℕ) → a < length c.adapters → 1 ≤ r → r ≤ rounds → slice_index sim_sends (cell rounds a r) ≡ sends_by c events a r
+-- the rounds in which a row was frozen are marked, and its openings and its sends stand there
+pub record IsNoted (c : Topology) (events : List Event) (rounds : ℕ) (frozen : List Bool) (openings sends : List ℕ) : Type 0 where
+  pub marked : (row r : ℕ) → row < row_count c → 1 ≤ r → r ≤ rounds → is_marked frozen rounds row r ≡ not (is_free c events row r)
+  pub opened : (row r : ℕ) → row < row_count c → 1 ≤ r → r ≤ rounds → slice_index openings (cell rounds row r) ≡ openings_in c events row r
+  pub sent : (row r : ℕ) → row < row_count c → 1 ≤ r → r ≤ rounds → slice_index sends (cell rounds row r) ≡ sends_in c events row r
 
--- there is a cell for each round of each device and adapter
-pub record HasCells (c : Topology) (rounds : ℕ) (dev_frozen sim_frozen : List Bool) (dev_openings dev_sends sim_sends : List ℕ) : Type 0 where
-  pub devices : length dev_frozen ≡ length c.devices * rounds
-  pub adapters : length sim_frozen ≡ length c.adapters * rounds
-  pub openings : length dev_openings ≡ length c.devices * rounds
-  pub sends : length dev_sends ≡ length c.devices * rounds
-  pub adapter_sends : length sim_sends ≡ length c.adapters * rounds
+-- there is a cell for each round of each row
+pub record HasCells (c : Topology) (rounds : ℕ) (frozen : List Bool) (openings sends : List ℕ) : Type 0 where
+  pub marked : length frozen ≡ row_count c * rounds
+  pub opened : length openings ≡ row_count c * rounds
+  pub sent : length sends ≡ row_count c * rounds

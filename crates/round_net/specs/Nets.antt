@@ -14,7 +14,7 @@ use Rattle.xpt_stays.specs.Records.{next_stay}
 use Rattle.xpt_stays.specs.declared.stay_record.StayRecord.{StayRecord}
 use Rattle.round_net.specs.Instance.{Instance}
 use Rattle.round_net.specs.Rows.{NetRows, instance_of_rows, live_of_rows}
-use Rattle.round_net.specs.Caps.{dev_cap, sim_cap}
+use Rattle.round_net.specs.Caps.{row_count, cap}
 use Rattle.round_net.specs.declared.stay_row.StayRow.{StayRow}
 
 -- the last round of a stay: the one before its CCB's next stay arrives, or else the last round of all
@@ -58,8 +58,7 @@ net_of c events = record {
   adapters = length c.adapters;
   adapter_of = map (λ (device : Device). device.bus) c.devices;
   stays = map (stay_row c events) (stays_begun events);
-  dev_caps = table (length c.devices) (round events) (dev_cap c events);
-  sim_caps = table (length c.adapters) (round events) (sim_cap c events);
+  caps = table (row_count c) (round events) (cap c events);
 }
 
 -- what there is to plan of a history, and where its stays were sent

@@ -1,21 +1,20 @@
--- a net as flat rows, and what it holds
+-- a net as flat lists, and what it holds
 use Rattle.std.specs.Prelude.{ℕ, ◌+◌, ◌-◌, ◌*◌, List, length, map, slice_get, slice_index}
 use Rattle.std.specs.Option.{option_map_or}
 use Rattle.cam_event.specs.declared.stay.StayName.{StayName}
 use Rattle.round_net.specs.Instance.{Instance}
 use Rattle.round_net.specs.declared.stay_row.StayRow.{StayRow}
 
--- each device's adapter, each stay, and the caps of devices and of adapters: those of the first one's rounds, then those
--- of the second one's, and so on
+-- each device's adapter, each stay, and the caps of rows: those of the first row's rounds, then those of the second one's, and
+-- so on
 pub record NetRows : Type 0 where
   pub rounds : ℕ
   pub adapters : ℕ
   pub adapter_of : List ℕ
   pub stays : List StayRow
-  pub dev_caps : List ℕ
-  pub sim_caps : List ℕ
+  pub caps : List ℕ
 
--- where a round of a device or of an adapter stands in such a list
+-- where a round of a row stands in such a list
 abbrev pub cell : ℕ → ℕ → ℕ → ℕ
 cell rounds row r = row * rounds + (r - 1)
 
@@ -23,7 +22,7 @@ cell rounds row r = row * rounds + (r - 1)
 abbrev pub of_stay : (StayRow → ℕ) → List StayRow → ℕ → ℕ
 of_stay part stays s = option_map_or part (slice_get stays s) 0
 
--- what there is to plan by these rows
+-- what there is to plan by these lists
 unfoldable pub instance_of_rows : NetRows → Instance
 instance_of_rows n = record {
   stays = length n.stays;
@@ -35,8 +34,7 @@ instance_of_rows n = record {
   arrival = of_stay (λ (row : StayRow). row.arrival) n.stays;
   last = of_stay (λ (row : StayRow). row.last) n.stays;
   weight = of_stay (λ (row : StayRow). row.weight) n.stays;
-  dev_cap = λ d r. slice_index n.dev_caps (cell n.rounds d r);
-  sim_cap = λ a r. slice_index n.sim_caps (cell n.rounds a r);
+  cap = λ row r. slice_index n.caps (cell n.rounds row r);
 }
 
 -- the round in which each stay was sent

@@ -1,21 +1,17 @@
 -- schedules: a round for each stay
 use Rattle.std.specs.Prelude.{ℕ, ◌-◌, ◌*◌, ◌==◌, ◌≤◌, ◌<◌, ◌&&◌}
 use Rattle.round_net.specs.Sums.{sum_below, count_below}
-use Rattle.round_net.specs.Instance.{Instance, adapter}
+use Rattle.round_net.specs.Instance.{Instance, rows, uses}
 
--- how many stays of a device, or of an adapter, a schedule puts into a round
-abbrev pub device_load : Instance → (ℕ → ℕ) → ℕ → ℕ → ℕ
-device_load net f d r = count_below net.stays (λ s. (net.device s == d) && (f s == r))
+-- how many of the stays that use a row a schedule puts into a round
+abbrev pub load : Instance → (ℕ → ℕ) → ℕ → ℕ → ℕ
+load net f row r = count_below net.stays (λ s. uses net row s && (f s == r))
 
-abbrev pub adapter_load : Instance → (ℕ → ℕ) → ℕ → ℕ → ℕ
-adapter_load net f a r = count_below net.stays (λ s. (adapter net s == a) && (f s == r))
-
--- each stay lies in its window, and no device or adapter has more stays in a round than its cap
+-- each stay lies in its window, and no row has more stays in a round than its cap
 pub record IsAdmissible (net : Instance) (f : ℕ → ℕ) : Type 0 where
   pub not_early : (s : ℕ) → s < net.stays → net.arrival s ≤ f s
   pub not_late : (s : ℕ) → s < net.stays → f s ≤ net.last s
-  pub devices_hold : (d r : ℕ) → d < net.devices → 1 ≤ r → r ≤ net.rounds → device_load net f d r ≤ net.dev_cap d r
-  pub adapters_hold : (a r : ℕ) → a < net.adapters → 1 ≤ r → r ≤ net.rounds → adapter_load net f a r ≤ net.sim_cap a r
+  pub rows_hold : (row r : ℕ) → row < rows net → 1 ≤ r → r ≤ net.rounds → load net f row r ≤ net.cap row r
 
 -- the rounds that its stays wait, each by the stay's weight
 abbrev pub cost : Instance → (ℕ → ℕ) → ℕ

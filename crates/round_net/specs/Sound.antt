@@ -1,7 +1,7 @@
 -- what holds of every net
 use Rattle.std.specs.Prelude.{◌≡◌, ℕ, ◌*◌, ◌<◌, ◌≤◌, length}
 use Rattle.cam_types.specs.declared.maxima.TheConstants.{MOST_ROUNDS, MOST_STAYS, MOST_DEVICES, MOST_ADAPTERS, MOST_OPENINGS, MOST_WEIGHT}
-use Rattle.round_net.specs.Instance.{Instance}
+use Rattle.round_net.specs.Instance.{Instance, rows}
 use Rattle.round_net.specs.Schedules.{IsAdmissible}
 use Rattle.round_net.specs.Rows.{NetRows, instance_of_rows, live_of_rows}
 
@@ -18,12 +18,10 @@ pub record IsSound (net : Instance) (live : ℕ → ℕ) : Type 0 where
   pub to_last : (s : ℕ) → s < net.stays → net.last s ≤ net.rounds
   pub some_weight : (s : ℕ) → s < net.stays → 1 ≤ net.weight s
   pub small_weight : (s : ℕ) → s < net.stays → net.weight s ≤ MOST_WEIGHT
-  pub small_dev_cap : (d r : ℕ) → net.dev_cap d r ≤ MOST_OPENINGS
-  pub small_sim_cap : (a r : ℕ) → net.sim_cap a r ≤ MOST_OPENINGS
+  pub small_cap : (row r : ℕ) → net.cap row r ≤ MOST_OPENINGS
   pub live_admissible : IsAdmissible net live
 
--- the rows have a cap for each round of each device and adapter, and the net is sound
+-- the rows have a cap for each round, and the net is sound
 pub record IsNet (n : NetRows) : Type 0 where
-  pub dev_cells : length n.dev_caps ≡ length n.adapter_of * n.rounds
-  pub sim_cells : length n.sim_caps ≡ n.adapters * n.rounds
+  pub cells : length n.caps ≡ rows (instance_of_rows n) * n.rounds
   pub sound : IsSound (instance_of_rows n) (live_of_rows n)

@@ -1,5 +1,4 @@
-//! The net of a history: stays with windows and weights, caps for each device and adapter in each round; schedules and
-//! prices over it.
+//! The net of a history: stays with windows and weights, a cap for each row in each round; schedules and prices over it.
 #![tactic(auto)]
 
 pub use flat::cell;
@@ -17,6 +16,7 @@ mod net;
 mod net_fault;
 mod price_range;
 mod prices;
+mod row_state;
 mod schedule;
 mod stay_row;
 mod stay_rows;

@@ -1,6 +1,6 @@
 //! The net of a complete history.
 
-use crate::cap_rows::{adapter_rows, caps};
+use crate::cap_rows::caps;
 use crate::flat::cell;
 use crate::net_fault::NetFault;
 use crate::stay_row::StayRow;
@@ -13,16 +13,15 @@ use xpt_state::History;
 
 /// What a complete history left to plan: stays with windows and weights, and caps.
 ///
-/// Stays, devices and adapters are numbered from 0, rounds from 1. Each number that a call takes has to be within the
-/// net.
+/// Stays, devices and adapters are numbered from 0, rounds from 1. There is a row for each device, and behind these one
+/// for each adapter. Each number that a call takes has to be within the net.
 #[derive(Debug, Drop)]
 pub struct Net {
     rounds: u32,
     adapters: u32,
     adapter_of: Vec<u32>,
     stays: Vec<StayRow>,
-    dev_caps: Vec<u32>,
-    sim_caps: Vec<u32>,
+    caps: Vec<u32>,
 }
 
 impl Model for Net {
@@ -31,15 +30,15 @@ impl Model for Net {
 
     ghost Value = { NetRows };
 
-    ghost view = { λ n. record { rounds = n.rounds; adapters = n.adapters; adapter_of = n.adapter_of.items; stays = n.stays.items; dev_caps = n.dev_caps.items; sim_caps = n.sim_caps.items } };
+    ghost view = { λ n. record { rounds = n.rounds; adapters = n.adapters; adapter_of = n.adapter_of.items; stays = n.stays.items; caps = n.caps.items } };
 
-    ghost invariant = { λ n. IsNet (record { rounds = n.rounds; adapters = n.adapters; adapter_of = n.adapter_of.items; stays = n.stays.items; dev_caps = n.dev_caps.items; sim_caps = n.sim_caps.items }) };
+    ghost invariant = { λ n. IsNet (record { rounds = n.rounds; adapters = n.adapters; adapter_of = n.adapter_of.items; stays = n.stays.items; caps = n.caps.items }) };
 }
 
 impl Net {
     ghost use Rattle.std.specs.Prelude.{◌≡◌, ◌+◌, ◌*◌, ◌<◌, ◌≤◌, Some, length, slice_get};
     ghost use Rattle.cam_types.specs.declared.maxima.TheConstants.{MOST_ROUNDS, MOST_OPENINGS, MOST_WEIGHT};
-    ghost use Rattle.round_net.specs.Instance.{adapter};
+    ghost use Rattle.round_net.specs.Instance.{rows, adapter, adapter_row};
     ghost use Rattle.round_net.specs.Rows.{instance_of_rows, live_of_rows, names_of_rows};
     ghost use Rattle.round_net.specs.Sound.{IsSound};
     ghost use Rattle.std.specs.Prelude.{IfOk, MatchOption, IsOkUnless};
@@ -54,7 +53,7 @@ impl Net {
             (λ stay. result ≡ Err (NetFault.Unsent stay)) }
         ensures net { IfOk result (λ net. net ≡ net_of history.now.config history.now.events) }
 
-        // Each stay was sent within its window, and no device or adapter was sent more than it takes.
+        // Each stay was sent within its window, and no row was sent more than it takes.
         ensures live { IfOk result (λ _. IsAdmissible (instance_of history.now.config history.now.events) (live_of history.now.config history.now.events)) }
     {
         if let Some(stay) = history.unsent() {
@@ -63,19 +62,12 @@ impl Net {
         let config = history.config();
         let rounds = history.round();
         let notes = walk_through(alloc, config, history.events(), rounds)?;
-        let openings = adapter_rows(alloc, config, rounds)?;
         Ok(Net {
             rounds,
             adapters: config.adapters().len() as u32,
             adapter_of: adapters_of(alloc, config.devices())?,
             stays: stay_rows(alloc, config, history.stays(), rounds)?,
-            dev_caps: caps(
-                alloc,
-                &notes.dev_frozen,
-                &notes.dev_sends,
-                &notes.dev_openings,
-            )?,
-            sim_caps: caps(alloc, &notes.sim_frozen, &notes.sim_sends, &openings)?,
+            caps: caps(alloc, &notes.frozen, &notes.sends, &notes.openings)?,
         })
     }
 
@@ -115,16 +107,25 @@ impl Net {
         self.adapters
     }
 
-    /// How many pairs there are of a device or adapter with a round.
+    /// How many rows there are: one for each device, and behind these one for each adapter.
+    #[tactic(auto, unfolding(crate::specs::Rows::instance_of_rows))]
+    pub fn rows(&self) -> u32
+        ensures same { result ≡ rows (instance_of_rows self.now) }
+        ensures sound { IsSound (instance_of_rows self.now) (live_of_rows self.now) }
+    {
+        self.devices() + self.adapters()
+    }
+
+    /// How many pairs there are of a row with a round.
     #[tactic(auto, unfolding(crate::specs::Rows::instance_of_rows))]
     pub fn cells(&self) -> usize
         ensures { let net = instance_of_rows self.now in result ≡ (net.devices + net.adapters) * net.rounds }
     {
-        self.dev_caps.len() + self.sim_caps.len()
+        self.caps.len()
     }
 
     // The row of the stay of this number.
-    fn row(&self, stay: u32) -> StayRow
+    fn stay_row(&self, stay: u32) -> StayRow
         requires { stay < length self.now.stays }
         ensures same { slice_get self.now.stays stay ≡ Some result }
         ensures sound { IsSound (instance_of_rows self.now) (live_of_rows self.now) }
@@ -138,7 +139,7 @@ impl Net {
         requires { stay < (instance_of_rows self.now).stays }
         ensures { slice_get (names_of_rows self.now) stay ≡ Some result }
     {
-        self.row(stay).stay
+        self.stay_row(stay).stay
     }
 
     /// The number of the stay's device.
@@ -148,7 +149,7 @@ impl Net {
         ensures same { result ≡ (instance_of_rows self.now).device stay }
         ensures within { result < (instance_of_rows self.now).devices }
     {
-        self.row(stay).device
+        self.stay_row(stay).device
     }
 
     /// The number of the adapter of the stay's device.
@@ -178,7 +179,7 @@ impl Net {
         ensures same { result ≡ (instance_of_rows self.now).arrival stay }
         ensures first { 1 ≤ result }
     {
-        self.row(stay).arrival
+        self.stay_row(stay).arrival
     }
 
     /// The last round in which the stay could be sent.
@@ -189,7 +190,7 @@ impl Net {
         ensures within { result ≤ (instance_of_rows self.now).rounds }
         ensures most { result ≤ MOST_ROUNDS }
     {
-        self.row(stay).last
+        self.stay_row(stay).last
     }
 
     /// What each round of the stay's waiting costs, by its priority.
@@ -200,7 +201,7 @@ impl Net {
         ensures some { 1 ≤ result }
         ensures most { result ≤ MOST_WEIGHT }
     {
-        self.row(stay).weight
+        self.stay_row(stay).weight
     }
 
     /// The round in which the stay was sent.
@@ -209,30 +210,50 @@ impl Net {
         requires { stay < (instance_of_rows self.now).stays }
         ensures { result ≡ live_of_rows self.now stay }
     {
-        self.row(stay).live
+        self.stay_row(stay).live
+    }
+
+    /// The number of the adapter's row.
+    #[tactic(auto, unfolding(crate::specs::Rows::instance_of_rows))]
+    pub fn adapter_row(&self, adapter: u32) -> u32
+        requires { adapter < (instance_of_rows self.now).adapters }
+        ensures same { result ≡ adapter_row (instance_of_rows self.now) adapter }
+        ensures within { result < rows (instance_of_rows self.now) }
+    {
+        self.devices() + adapter
+    }
+
+    /// How many commands the row takes in the round.
+    #[tactic(auto, unfolding(crate::specs::Rows::instance_of_rows))]
+    pub fn cap(&self, row: u32, round: u32) -> u32
+        requires row { row < rows (instance_of_rows self.now) }
+        requires first { 1 ≤ round }
+        requires last { round ≤ (instance_of_rows self.now).rounds }
+        ensures same { result ≡ (instance_of_rows self.now).cap row round }
+        ensures most { result ≤ MOST_OPENINGS }
+    {
+        self.caps[cell(self.rounds, row, round)]
     }
 
     /// How many commands the device takes in the round.
-    #[tactic(auto, using(crate::proofs::CellLemmas::cell_in), unfolding(crate::specs::Rows::instance_of_rows))]
     pub fn dev_cap(&self, device: u32, round: u32) -> u32
         requires device { device < (instance_of_rows self.now).devices }
         requires first { 1 ≤ round }
         requires last { round ≤ (instance_of_rows self.now).rounds }
-        ensures same { result ≡ (instance_of_rows self.now).dev_cap device round }
+        ensures same { result ≡ (instance_of_rows self.now).cap device round }
         ensures most { result ≤ MOST_OPENINGS }
     {
-        self.dev_caps[cell(self.rounds, device, round)]
+        self.cap(device, round)
     }
 
     /// How many commands the adapter takes in the round.
-    #[tactic(auto, using(crate::proofs::CellLemmas::cell_in), unfolding(crate::specs::Rows::instance_of_rows))]
     pub fn sim_cap(&self, adapter: u32, round: u32) -> u32
         requires adapter { adapter < (instance_of_rows self.now).adapters }
         requires first { 1 ≤ round }
         requires last { round ≤ (instance_of_rows self.now).rounds }
-        ensures same { result ≡ (instance_of_rows self.now).sim_cap adapter round }
+        ensures same { let n = instance_of_rows self.now in result ≡ n.cap (adapter_row n adapter) round }
         ensures most { result ≤ MOST_OPENINGS }
     {
-        self.sim_caps[cell(self.rounds, adapter, round)]
+        self.cap(self.adapter_row(adapter), round)
     }
 }

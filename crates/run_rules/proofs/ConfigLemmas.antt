@@ -1,11 +1,15 @@
 -- equal configurations
-use Rattle.std.proofs.Common.{◌≡◌, ℕ, true, List, refl}
-use Rattle.std.specs.Prelude.{◌==◌, ◌&&◌, nat_eq}
+use Rattle.std.proofs.Common.{◌≡◌, ℕ, true, List, refl, ap}
+use Rattle.std.specs.Prelude.{◌==◌, ◌&&◌, nat_eq, Option, Some, None}
+use Rattle.std.specs.Option.{option_eq}
+use lib.Dec.{eqb}
 use Rattle.std.proofs.lemmas.Bool.{and_parts, eqb-true}
 use lib.Pointwise.{pointwise}
 use Rattle.cam_types.specs.Topology.{Topology}
+use Rattle.cam_types.specs.declared.adapter.Adapter.{Adapter}
 use Rattle.cam_types.specs.declared.device.Device.{Device}
 use Rattle.cam_types.specs.declared.weight_row.WeightRow.{WeightRow}
+use Rattle.cam_types.specs.contracts.adapter.AdapterPartialEq.TheImpl as adapters
 use Rattle.cam_types.specs.contracts.device.DevicePartialEq.TheImpl as devices
 use Rattle.cam_types.specs.contracts.weight_row.WeightRowPartialEq.TheImpl as rows
 use Rattle.cam_types.proofs.ListLemmas.{same_lists}
@@ -24,14 +28,27 @@ same_device a b h =
     let r = and_parts (a.lun == b.lun) (a.openings == b.openings) q.1 in
     device_from a b (eqb-true _ _ p.0) (eqb-true _ _ q.0) (eqb-true _ _ r.0) (eqb-true _ _ r.1)
 
+same_link : (a b : Option ℕ) → option_eq eqb a b ≡ true → a ≡ b
+same_link None None h = refl
+same_link None (Some y) h = absurd cc
+same_link (Some x) None h = absurd cc
+same_link (Some x) (Some y) h = ap Some (eqb-true x y h)
+
+pub same_adapter : (a b : Adapter) → adapters.ghosts.eq a b ≡ true → a ≡ b
+same_adapter a b h =
+    let p = and_parts (a.openings == b.openings) (option_eq eqb a.link b.link) h in
+    let made : ℕ → Option ℕ → Adapter = λ n l. record { openings = n; link = l } in
+    let whole : made a.openings a.link ≡ made b.openings b.link = rw (eqb-true _ _ p.0, same_link a.link b.link p.1) refl in
+    whole
+
 pub same_numbers : (xs ys : List ℕ) → pointwise nat_eq xs ys ≡ true → xs ≡ ys
 same_numbers xs ys h = same_lists nat_eq xs ys (λ x y e. eqb-true x y e) h
 
 pub same_rows : (xs ys : List WeightRow) → pointwise rows.ghosts.eq xs ys ≡ true → xs ≡ ys
 same_rows xs ys h = same_lists rows.ghosts.eq xs ys same_row h
 
-pub same_config : (a b : Topology) → a.weights ≡ b.weights → a.adapters ≡ b.adapters → a.devices ≡ b.devices → a.lanes ≡ b.lanes → b ≡ a
-same_config a b w e f g =
-    let made : List WeightRow → List ℕ → List Device → List ℕ → Topology = λ v x y z. record { weights = v; adapters = x; devices = y; lanes = z } in
-    let whole : made b.weights b.adapters b.devices b.lanes ≡ made a.weights a.adapters a.devices a.lanes = rw (w, e, f, g) refl in
+pub same_config : (a b : Topology) → a.weights ≡ b.weights → a.links ≡ b.links → a.adapters ≡ b.adapters → a.devices ≡ b.devices → a.lanes ≡ b.lanes → b ≡ a
+same_config a b w k e f g =
+    let made : List WeightRow → List ℕ → List Adapter → List Device → List ℕ → Topology = λ v u x y z. record { weights = v; links = u; adapters = x; devices = y; lanes = z } in
+    let whole : made b.weights b.links b.adapters b.devices b.lanes ≡ made a.weights a.links a.adapters a.devices a.lanes = rw (w, k, e, f, g) refl in
     whole

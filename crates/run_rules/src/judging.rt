@@ -77,10 +77,10 @@ fn mismatch(logs: &[SeatLog], place: usize) -> LiveFault {
 fn is_config(one: &Config, other: &Config) -> bool
     ensures { result ≡ true → other.now ≡ one.now }
 {
-    if one.weights() != other.weights() || one.adapters() != other.adapters() {
+    if one.weights() != other.weights() || one.links() != other.links() {
         return false;
     }
-    if one.devices() != other.devices() {
+    if one.adapters() != other.adapters() || one.devices() != other.devices() {
         return false;
     }
     one.lanes() == other.lanes()

@@ -1,8 +1,8 @@
-//! What tests are made of: devices, flags, outcomes and events.
+//! What tests are made of: adapters, devices, flags, outcomes and events.
 #![tactic(auto)]
 
 use cam_event::Event;
-use cam_types::{Device, Flags, Outcome, SenseBytes};
+use cam_types::{Adapter, Device, Flags, Outcome, SenseBytes};
 
 /// Neither flag.
 pub const PLAIN: Flags = Flags {
@@ -21,6 +21,14 @@ pub const QFRZDIS: Flags = Flags {
     qfreeze: false,
     qfrzdis: true,
 };
+
+/// An adapter of so many openings that is on no link.
+pub fn unlinked(openings: u32) -> Adapter {
+    Adapter {
+        openings,
+        link: None,
+    }
+}
 
 /// A device of the adapter, with that target and lun 0.
 pub fn device(bus: u8, target: u16, openings: u32) -> Device {

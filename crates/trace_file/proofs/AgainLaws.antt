@@ -1,13 +1,14 @@
 -- The records of a history are read as that history.
-use Rattle.std.proofs.Common.{◌≡◌, ◌≢◌, ◌<◌, ◌≤◌, ◌+◌, ℕ, List, [], ◌∷◌, ◌++◌, length, map, Bool, true, refl, sym, ap, ◌∙◌, append_assoc, append-nil, arith}
-use Rattle.std.specs.Prelude.{Option, None, Result, Ok, ⊤}
+use Rattle.std.proofs.Common.{◌≡◌, ◌≢◌, ◌<◌, ◌≤◌, ◌+◌, ℕ, List, [], ◌∷◌, ◌++◌, length, map, Bool, true, false, refl, sym, ap, ◌∙◌, append_assoc, append-nil, arith}
+use Rattle.std.specs.Prelude.{Option, Some, None, Result, Ok, ⊤}
 use Rattle.std.specs.List.{AllByRecursion, list_all}
+use Rattle.std.specs.Option.{option_map_or}
 use Rattle.std.proofs.lemmas.Bool.{and_parts}
 use Rattle.csv.specs.Records.{field_at}
 use Rattle.cam_types.specs.Lists.{first_answer, moments_after}
 use Rattle.cam_event.specs.declared.event.Event.TheVariants as event
 use Rattle.cam_types.proofs.ListLemmas.{or_left, or_right}
-use Rattle.trace_file.specs.Histories.{Device, Event}
+use Rattle.trace_file.specs.Histories.{Adapter, Device, Event, unlinked}
 use Rattle.trace_file.specs.declared.device_row.DeviceRow.{DeviceRow}
 use Rattle.trace_file.specs.declared.trace_fault.TraceFault.{TraceFault}
 use Rattle.trace_file.specs.declared.trace_stage.TraceStage.{TraceStage}
@@ -17,7 +18,7 @@ use Rattle.trace_file.specs.declared.word.Word.TheVariants as word
 use Rattle.trace_file.specs.Fields.{Row, field_of}
 use Rattle.trace_file.specs.Reading.{add_weight, add_adapter, add_device, add_event, add_lane, add_row, placed, row_step, stands, step}
 use Rattle.trace_file.specs.Histories.{WeightRow}
-use Rattle.trace_file.specs.Records.{weight_row, adapter_row, device_row, event_row, lane_row}
+use Rattle.trace_file.specs.Records.{weight_row, adapter_row, device_row, event_row, is_unlinked, lane_row}
 use Rattle.trace_file.specs.Rows.{most_number}
 use Rattle.trace_file.specs.Steps.{taken}
 use Rattle.trace_file.specs.Trace.{FitsEvent}
@@ -37,6 +38,10 @@ Along P before (x ∷ xs) = P before x × Along P (before ++ x ∷ []) xs
 pub along_both : {X : Type 0} (P : List X → X → Type 0) (Q : X → Type 0) (before xs : List X) → Along P before xs → AllByRecursion Q xs → Along (λ b x. P b x × Q x) before xs
 along_both P Q before [] p q = tt
 along_both P Q before (x ∷ xs) p q = ((p.0, q.0), along_both P Q (before ++ x ∷ []) xs p.1 q.1)
+
+pub all_true : {X : Type 0} (p : X → Bool) (xs : List X) → list_all p xs ≡ true → AllByRecursion (λ x. p x ≡ true) xs
+all_true p [] e = tt
+all_true p (x ∷ xs) e = let n = and_parts _ _ e in (n.0, all_true p xs n.1)
 
 pub none_along : {X F : Type 0} (f : List X × X → Option F) (before xs : List X) → first_answer f (moments_after before xs) ≡ None → Along (λ b x. f (b, x) ≡ None) before xs
 none_along f before [] e = tt
@@ -78,10 +83,18 @@ unfolding add_row field_at
 weight_step n s w behind place a b =
     row_again n s (weight_row w) word.Weight behind refl refl place ∙ rw (two_again (spelled word.Weight) w.last w.weight a b) refl
 
-pub adapter_step : (n : ℕ) (s : TraceStage) (o : ℕ) → s ≢ stage.Header → stands s word.Sim ≡ true → o ≤ most_number → step n s (adapter_row o) ≡ add_adapter n s o
+-- an adapter that is on no link is spelled by its openings
+alone_same : (a : Adapter) → is_unlinked a ≡ true → unlinked a.openings ≡ a
+alone_same a alone = by a.link alone
+  where
+    by : (link : Option ℕ) → option_map_or (λ l. false) link true ≡ true → unlinked a.openings ≡ record { openings = a.openings; link = link }
+    by None e = refl
+    by (Some l) e = absurd cc
+
+pub adapter_step : (n : ℕ) (s : TraceStage) (a : Adapter) → s ≢ stage.Header → stands s word.Sim ≡ true → is_unlinked a ≡ true → a.openings ≤ most_number → step n s (adapter_row a) ≡ add_adapter n s a
 unfolding add_row field_at
-adapter_step n s o behind place fits =
-    row_again n s (adapter_row o) word.Sim behind refl refl place ∙ rw (one_again (spelled word.Sim) o fits) refl
+adapter_step n s a behind place alone fits =
+    row_again n s (adapter_row a) word.Sim behind refl refl place ∙ rw (one_again (spelled word.Sim) a.openings fits) (ap (add_adapter n s) (alone_same a alone))
 
 pub lane_step : (n : ℕ) (s : TraceStage) (a : ℕ) → s ≢ stage.Header → stands s word.Lane ≡ true → a ≤ most_number → step n s (lane_row a) ≡ add_lane n s a
 unfolding add_row field_at

@@ -3,6 +3,7 @@ pub mod FaultLaws
 pub mod FieldLaws
 pub mod FieldLemmas
 pub mod HexLaws
+pub mod LinkLemmas
 pub mod ListLaws
 pub mod RecordLemmas
 pub mod RowLaws

@@ -4,7 +4,7 @@ use Rattle.std.specs.Prelude.{Result, Ok, Err, decimal, ◌==◌, ⊤}
 use Rattle.std.proofs.lemmas.Bool.{eqb-true}
 use Rattle.std.proofs.lemmas.List.{length-drop, nil_from_length}
 use Rattle.cam_event.specs.declared.event.Event.TheVariants as event
-use Rattle.trace_file.specs.Histories.{Event, Outcome}
+use Rattle.trace_file.specs.Histories.{Event, Outcome, unlinked}
 use Rattle.trace_file.specs.declared.device_row.DeviceRow.{DeviceRow}
 use Rattle.trace_file.specs.declared.word.Word.{Word}
 use Rattle.trace_file.specs.declared.word.Word.TheVariants as word
@@ -177,7 +177,7 @@ event_takes row w x eight is e = let t = event_tells row w x eight e in (with_wo
 pub weight_takes : (row : Row) (m : ℕ × ℕ) → length row ≡ 8 → field_of row 0 ≡ spelled word.Weight → two_numbers row ≡ Ok m → row ≡ weight_row (row_to m.0 m.1)
 weight_takes row m eight is e = with_word row word.Weight eight is ∙ ap (λ (l : Row). spelled word.Weight ∷ l) (two_take row m eight e).0
 
-pub adapter_takes : (row : Row) (n : ℕ) → length row ≡ 8 → field_of row 0 ≡ spelled word.Sim → one_number row ≡ Ok n → row ≡ adapter_row n
+pub adapter_takes : (row : Row) (n : ℕ) → length row ≡ 8 → field_of row 0 ≡ spelled word.Sim → one_number row ≡ Ok n → row ≡ adapter_row (unlinked n)
 adapter_takes row n eight is e = with_word row word.Sim eight is ∙ ap (λ (l : Row). spelled word.Sim ∷ l) (one_takes row n eight e).0
 
 pub lane_takes : (row : Row) (n : ℕ) → length row ≡ 8 → field_of row 0 ≡ spelled word.Lane → one_number row ≡ Ok n → row ≡ lane_row n

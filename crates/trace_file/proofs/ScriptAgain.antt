@@ -15,7 +15,7 @@ use Rattle.trace_file.specs.declared.script_stage.ScriptStage.TheVariants as sta
 use Rattle.trace_file.specs.declared.trace_stage.TraceStage.{TraceStage}
 use Rattle.trace_file.specs.declared.trace_stage.TraceStage.TheVariants as trace
 use Rattle.trace_file.specs.Fields.{Row, field_of}
-use Rattle.trace_file.specs.Histories.{Past, Refusal, Topology, WeightRow, config_fault, standard_weights}
+use Rattle.trace_file.specs.Histories.{Adapter, Past, Refusal, Topology, WeightRow, config_fault, standard_weights}
 use Rattle.trace_file.specs.Reading.{config_of, has_letters, is_header, lacks_adapters, row_step, step}
 use Rattle.trace_file.specs.Records.{adapter_row, device_row, lane_row}
 use Rattle.trace_file.specs.Scenarios.{Scenario, empty_scenario, is_answer_row, is_answer_word, item_of}
@@ -29,7 +29,7 @@ use Rattle.trace_file.proofs.ScriptLaws.{fold_config, item_added, item_kind, mor
 use Rattle.trace_file.proofs.ScriptRowLaws.{limits_again, row_again, row_of, word_of_row}
 use Rattle.trace_file.proofs.ScriptStageLemmas.{configures}
 use Rattle.trace_file.proofs.StageLemmas.{step_behind, is_legal-nil}
-use Rattle.trace_file.proofs.WholeLaws.{at_config, at_lanes, config, first_base, kept, taken_all}
+use Rattle.trace_file.proofs.WholeLaws.{all_alone, at_config, at_lanes, config, first_base, kept, taken_all, whole_of}
 use Rattle.trace_file.proofs.AgainLaws.{taken_on}
 
 -- ---- rows
@@ -118,17 +118,17 @@ config_words c =
     (All-append IsConfigRow (map lane_row c.lanes) [] (All-map IsConfigRow lane_row c.lanes (λ k d h. refl)) (All-nil IsConfigRow))))
 
 -- where no limits are given, the configuration begins at once
-begins : (n : ℕ) (os : List ℕ) (rest : List Row) → (length os ≡ 0 → ⊥)
-    → taken script_step n stage.First (map adapter_row os ++ rest) ≡ taken script_step n (stage.Config most_bounds trace.First) (map adapter_row os ++ rest)
+begins : (n : ℕ) (as' : List Adapter) (rest : List Row) → (length as' ≡ 0 → ⊥)
+    → taken script_step n stage.First (map adapter_row as' ++ rest) ≡ taken script_step n (stage.Config most_bounds trace.First) (map adapter_row as' ++ rest)
 unfolding script_step is_limits field_at
 begins n [] rest some = absurd (some refl)
-begins n (o ∷ os) rest some = refl
+begins n (a ∷ as') rest some = refl
 
-from_limits : (n : ℕ) (given : Option Bounds) (os : List ℕ) (rest : List Row) → IfSome given (λ b. are_within b ≡ true) → (length os ≡ 0 → ⊥)
-    → (m : ℕ) × (taken script_step n stage.First (limits_rows given ++ (map adapter_row os ++ rest)) ≡ taken script_step m (stage.Config (unwrap_or given most_bounds) trace.First) (map adapter_row os ++ rest))
+from_limits : (n : ℕ) (given : Option Bounds) (as' : List Adapter) (rest : List Row) → IfSome given (λ b. are_within b ≡ true) → (length as' ≡ 0 → ⊥)
+    → (m : ℕ) × (taken script_step n stage.First (limits_rows given ++ (map adapter_row as' ++ rest)) ≡ taken script_step m (stage.Config (unwrap_or given most_bounds) trace.First) (map adapter_row as' ++ rest))
 unfolding script_step limits_step
-from_limits n None os rest within some = (n, begins n os rest some)
-from_limits n (Some b) os rest within some = let k = limits_again b within in (n + 1, rw (k.0, k.1) refl)
+from_limits n None as' rest within some = (n, begins n as' rest some)
+from_limits n (Some b) as' rest within some = let k = limits_again b within in (n + 1, rw (k.0, k.1) refl)
 
 -- ---- a whole script
 
@@ -160,8 +160,8 @@ unfolding script_reading script_records scenario_of
 script_again m h =
     let c = m.config in
     let ws = standard_weights in
-    let whole : config ws c.adapters c.devices c.lanes ≡ c = ap (λ (w : List WeightRow). config w c.adapters c.devices c.lanes) (sym h.weights) in
-    let k = kept ws c.adapters c.devices c.lanes (subst (λ (t : Topology). config_fault t ≡ None) (sym whole) h.config) in
+    let whole : config ws c.adapters c.devices c.lanes ≡ c = ap (λ (w : List WeightRow). config w c.adapters c.devices c.lanes) (sym h.weights) ∙ whole_of c h.unlinked in
+    let k = kept ws c.adapters c.devices c.lanes (subst (λ (t : Topology). config_fault t ≡ None) (sym whole) h.config) (all_alone c h.unlinked) in
     let some : length c.adapters ≡ 0 → ⊥ = (λ e. false≢true (sym k.some ∙ eq-eqb (length c.adapters) 0 e)) in
     let rows = map script_row m.rows in
     let limits = unwrap_or m.limits most_bounds in

@@ -4,6 +4,7 @@ use Rattle.std.specs.Prelude.{Option, Some, None, IfSome, Result, Ok, Err, ok_or
 use Rattle.std.specs.List.{fold}
 use Rattle.std.proofs.lemmas.List.{map-append}
 use Rattle.std.proofs.lemmas.Option.{cond_some}
+use Rattle.std.proofs.lemmas.Bool.{and_parts}
 use Rattle.std.proofs.lemmas.Bool.Decides.{nat_tests}
 use Rattle.std.proofs.lemmas.List.Sums.{fold_push}
 use Rattle.cam_types.specs.Bounds.{Bounds, are_within, most_bounds}
@@ -22,9 +23,10 @@ use Rattle.trace_file.specs.declared.trace_stage.TraceStage.TheVariants as trace
 use Rattle.trace_file.specs.Fields.{Row, field_of}
 use Rattle.trace_file.specs.Histories.{NoAdapters, Past, Refusal, Topology}
 use Rattle.trace_file.specs.Reading.{config_of, in_record, is_header, lacks_adapters, past_of, row_step}
+use Rattle.cam_types.specs.Weights.{are_standard}
 use Rattle.cam_types.proofs.WeightLemmas.{standard_is}
 use Rattle.trace_file.specs.declared.version.Version.TheVariants as version
-use Rattle.trace_file.specs.Records.{adapter_row, device_row, header, lane_row, records_of}
+use Rattle.trace_file.specs.Records.{adapter_row, device_row, has_no_links, header, lane_row, records_of}
 use Rattle.trace_file.specs.Scenarios.{Scenario, add_item, empty_scenario, is_answer_item, is_answer_row, is_answer_word, item_of}
 use Rattle.trace_file.specs.Script.{FitsRow, IsManuscript, Manuscript, WasScript, answer_rows, limits_rows, put_item, put_row, scenario_of, script_records, step_rows}
 use Rattle.trace_file.specs.ScriptReading.{config_step, configured, first_row, has_room, is_config_word, is_configuring, is_limits, item_word, limits_step, roomy_word, rows_step, script_ended, script_reading, script_step, with_item}
@@ -155,13 +157,15 @@ unfolding script_records scenario_of
 whole_config limits t rows h some =
     let c = config_of t in
     let ready = event_ready version.One t h.reads.sound h.reads.held some in
+    let held = and_parts (are_standard c.weights) (has_no_links c) ready.1 in
     let behind = config_records (past_of t) h.trace (h.reads.spelled ∙ ready.0) (no_events t h.configuring) in
     record {
       made = record { limits = h.given; config = c; rows = [] };
       kept = record {
         limits = h.within;
         config = ready.2.config;
-        weights = standard_is c.weights ready.1;
+        weights = standard_is c.weights held.0;
+        unlinked = held.1;
         targets = h.reads.targets;
         fits = tt;
         ruled = tt;
@@ -201,6 +205,7 @@ push_row s k a rows fields w x i h word room said is =
         limits = h.kept.limits;
         config = h.kept.config;
         weights = h.kept.weights;
+        unlinked = h.kept.unlinked;
         targets = h.kept.targets;
         fits = all_push FitsRow m.rows x h.kept.fits t.1;
         ruled = all_push (λ y. is_ok (item_of m.config y) ≡ true) m.rows x h.kept.ruled fine;

@@ -1,8 +1,9 @@
 -- What the stages of reading have read is spelled so.
 use Rattle.std.proofs.Common.{◌≡◌, ◌≤◌, ◌+◌, ℕ, List, [], ◌∷◌, ◌++◌, length, drop, map, Bool, true, false, cond, refl, sym, ap, ◌∙◌, subst, arith, append_assoc, append-nil, rules, tests}
 use Rattle.std.specs.Prelude.{Option, Some, None, Result, Ok, Err, ok_or, codes, ◌==◌}
-use Rattle.std.specs.List.{AllByRecursion}
-use Rattle.std.proofs.lemmas.Bool.{eqb-true, not-false}
+use Rattle.std.specs.List.{AllByRecursion, list_all}
+use Rattle.std.proofs.lemmas.Bool.{and_parts, eqb-true, not-false}
+use Rattle.std.proofs.lemmas.List.Folds.{list_all-append}
 use Rattle.std.proofs.lemmas.List.{map-append, nil_from_length, length-drop}
 use Rattle.std.proofs.lemmas.Option.{cond_some}
 use Rattle.std.proofs.lemmas.Slice.Eq.{bytes_eq-Decides}
@@ -10,7 +11,7 @@ use Rattle.std.proofs.lemmas.Bool.Decides.{nat_tests}
 use Rattle.cam_types.specs.Topology.{IsDraft}
 use Rattle.cam_event.specs.Legal.{history_rules}
 use Rattle.cam_event.proofs.LegalLemmas.{legal-none}
-use Rattle.trace_file.specs.Histories.{Topology, WeightRow, reaches_last, Device, Event, Past, ConfigFault, Refusal}
+use Rattle.trace_file.specs.Histories.{Adapter, Topology, unlinked, WeightRow, reaches_last, Device, Event, Past, ConfigFault, Refusal}
 use Rattle.trace_file.specs.declared.device_row.DeviceRow.{DeviceRow}
 use Rattle.trace_file.specs.declared.trace_fault.TraceFault.{TraceFault}
 use Rattle.trace_file.specs.declared.trace_fault.TraceFault.TheVariants.{BadHeader, BadRecord}
@@ -20,7 +21,7 @@ use Rattle.trace_file.specs.declared.word.Word.{Word}
 use Rattle.trace_file.specs.declared.word.Word.TheVariants as word
 use Rattle.trace_file.specs.Fields.{Row, field_of}
 use Rattle.trace_file.specs.Reading.{add_weight, add_adapter, add_device, add_event, add_lane, add_row, config_of, ended, has_letters, in_record, is_header, lacks_adapters, lacks_weights, past_of, placed, row_step, stands, step, unless_fault, unless_refused}
-use Rattle.trace_file.specs.Records.{weight_row, weight_rows, adapter_row, device_row, event_row, header, holds, lane_row, name_of, records_of}
+use Rattle.trace_file.specs.Records.{weight_row, weight_rows, adapter_row, device_row, event_row, has_no_links, header, holds, is_unlinked, lane_row, name_of, records_of}
 use Rattle.trace_file.specs.Rows.{device_at, device_of, event_at, one_number, two_numbers}
 use Rattle.trace_file.specs.declared.version.Version.{Version}
 use Rattle.trace_file.specs.declared.version.Version.TheVariants as version
@@ -54,13 +55,13 @@ push_weight t w adapters devices lanes =
     rw (adapters, devices, lanes) (ap (λ (rs : List Row). header version.Two ∷ rs)
     (weights_more (map weight_row t.weights) (weight_row w) ∙ ap (λ (l : List Row). l ++ []) (sym (map-append weight_row t.weights (w ∷ [])))))
 
-pub push_adapter : (v : Version) (t : Topology) (o : ℕ) → t.devices ≡ [] → t.lanes ≡ []
-    → records_of v (record { config = t; events = [] }) ++ adapter_row o ∷ [] ≡ records_of v (record { config = record t { adapters = t.adapters ++ o ∷ [] }; events = [] })
+pub push_adapter : (v : Version) (t : Topology) (a : Adapter) → t.devices ≡ [] → t.lanes ≡ []
+    → records_of v (record { config = t; events = [] }) ++ adapter_row a ∷ [] ≡ records_of v (record { config = record t { adapters = t.adapters ++ a ∷ [] }; events = [] })
 unfolding records_of
-push_adapter v t o devices lanes =
+push_adapter v t a devices lanes =
     let ws = weight_rows v t.weights in
     rw (devices, lanes) (ap (λ (rs : List Row). header v ∷ rs)
-    (adapters_more ws (map adapter_row t.adapters) (adapter_row o) ∙ ap (λ (l : List Row). ws ++ (l ++ [])) (sym (map-append adapter_row t.adapters (o ∷ [])))))
+    (adapters_more ws (map adapter_row t.adapters) (adapter_row a) ∙ ap (λ (l : List Row). ws ++ (l ++ [])) (sym (map-append adapter_row t.adapters (a ∷ [])))))
 
 pub push_device : (v : Version) (t : Topology) (d : Device) → t.lanes ≡ []
     → records_of v (record { config = t; events = [] }) ++ device_row d ∷ [] ≡ records_of v (record { config = record t { devices = t.devices ++ d ∷ [] }; events = [] })
@@ -99,10 +100,21 @@ is_in (stage.Devices t) v = holds v t
 is_in (stage.Lanes t) v = holds v t
 is_in (stage.Events p) v = holds v p.config
 
--- whether a version holds a configuration goes by its weights
-holds_same : (v : Version) (a b : Topology) → a.weights ≡ b.weights → holds v a ≡ true → holds v b ≡ true
-holds_same version.One a b e h = subst (λ (ws : List WeightRow). are_standard ws ≡ true) e h
-holds_same version.Two a b e h = refl
+-- whether a version holds a configuration doesn't go by its devices and lanes
+holds_same : (v : Version) (c : Topology) (ds : List Device) (ls : List ℕ) → holds v c ≡ true → holds v (record c { devices = ds; lanes = ls }) ≡ true
+holds_same version.One c ds ls h = h
+holds_same version.Two c ds ls h = h
+
+no_links_more : (c : Topology) (a : Adapter) → is_unlinked a ≡ true → has_no_links c ≡ true → has_no_links (record c { adapters = c.adapters ++ a ∷ [] }) ≡ true
+no_links_more c a alone h = let k = and_parts (length c.links == 0) (list_all is_unlinked c.adapters) h in rw (k.0, list_all-append is_unlinked c.adapters (a ∷ []), k.1, alone) refl
+
+-- a version holds a configuration with an adapter more that is on no link
+holds_more : (v : Version) (c : Topology) (a : Adapter) → is_unlinked a ≡ true → holds v c ≡ true → holds v (record c { adapters = c.adapters ++ a ∷ [] }) ≡ true
+holds_more version.One c a alone h = let k = and_parts (are_standard c.weights) (has_no_links c) h in rw (k.0, no_links_more c a alone k.1) refl
+holds_more version.Two c a alone h = no_links_more c a alone h
+
+no_links_yet : (c : Topology) → c.links ≡ [] → c.adapters ≡ [] → has_no_links c ≡ true
+no_links_yet c links adapters = rw (links, adapters) refl
 
 pub record Reads (v : Version) (s : TraceStage) (rows : List Row) : Type 0 where
   pub spelled : rows ≡ rows_at v s
@@ -116,8 +128,8 @@ abbrev Ready : Version → TraceStage → Type 0
 Ready v s = (rows_at v s ≡ records_of v (record { config = config_of s; events = [] })) × (holds v (config_of s) ≡ true)
 
 weight_ready : (v : Version) (s : TraceStage) → IsSound s → is_in s v ≡ true → stands s word.Weight ≡ true → Ready v s × (v ≡ version.Two) × IsSound (stage.Weights (config_of s))
-unfolding stands
-weight_ready version.Two (stage.Weights t) h i e = ((refl, refl), refl, h)
+unfolding IsSound stands
+weight_ready version.Two (stage.Weights t) h i e = ((refl, no_links_yet t h.1 h.2), refl, h)
 weight_ready version.One (stage.Weights t) h i e = absurd cc
 weight_ready v _ h i e = absurd cc
 
@@ -125,7 +137,7 @@ adapter_ready : (v : Version) (s : TraceStage) → IsSound s → is_in s v ≡ t
 unfolding IsSound stands
 adapter_ready version.One stage.First h i e = ((refl, refl), standard_draft, refl, refl)
 adapter_ready version.Two stage.First h i e = absurd cc
-adapter_ready version.Two (stage.Weights t) h i e = ((refl, refl), h.0, h.2, h.3)
+adapter_ready version.Two (stage.Weights t) h i e = ((refl, no_links_yet t h.1 h.2), h.0, h.3, h.4)
 adapter_ready version.One (stage.Weights t) h i e = absurd cc
 adapter_ready v (stage.Adapters t) h i e = ((refl, i), h.0.draft, h.1, h.2)
 adapter_ready v _ h i e = absurd cc
@@ -155,7 +167,7 @@ event_ready v _ h i l = absurd cc
 
 sound_items : (t : Topology) → IsSound (stage.Weights t) → (t.adapters ≡ []) × (t.devices ≡ []) × (t.lanes ≡ [])
 unfolding IsSound
-sound_items t h = (h.1, h.2, h.3)
+sound_items t h = (h.2, h.3, h.4)
 
 reached : (s : TraceStage) → lacks_weights s ≡ false → reaches_last (config_of s).weights ≡ true
 reached s e = not-false _ e
@@ -193,14 +205,14 @@ reads_weight version.Two n s t w rows h place e =
     let k = no_fault n _ _ t e in
     reads_next version.Two s _ t (weight_row w) rows h k.1 (ap (λ (l : List Row). l ++ weight_row w ∷ []) r.0.0 ∙ push_weight c w items.0 items.1 items.2) refl (sound_weight c _ w r.2 k.0 refl) h.targets tt
 
-reads_adapter : (v : Version) (n : ℕ) (s t : TraceStage) (o : ℕ) (rows : List Row) → Reads v s rows → stands s word.Sim ≡ true → add_adapter n s o ≡ Ok t → Reads v t (rows ++ adapter_row o ∷ [])
+reads_adapter : (v : Version) (n : ℕ) (s t : TraceStage) (a : Adapter) (rows : List Row) → Reads v s rows → stands s word.Sim ≡ true → is_unlinked a ≡ true → add_adapter n s a ≡ Ok t → Reads v t (rows ++ adapter_row a ∷ [])
 unfolding add_adapter
-reads_adapter v n s t o rows h place e =
+reads_adapter v n s t a rows h place alone e =
     let c = config_of s in
     let r = adapter_ready v s h.sound h.held place in
     let g = guarded (lacks_weights s) _ _ t e in
     let k = no_fault n _ _ t g.1 in
-    reads_next v s _ t (adapter_row o) rows h k.1 (ap (λ (l : List Row). l ++ adapter_row o ∷ []) r.0.0 ∙ push_adapter v c o r.2 r.3) (holds_same v c _ refl r.0.1) (sound_adapter c _ o r.1 (reached s g.0) r.2 r.3 k.0 refl) h.targets tt
+    reads_next v s _ t (adapter_row a) rows h k.1 (ap (λ (l : List Row). l ++ adapter_row a ∷ []) r.0.0 ∙ push_adapter v c a r.2 r.3) (holds_more v c a alone r.0.1) (sound_adapter c _ a r.1 (reached s g.0) r.2 r.3 k.0 refl) h.targets tt
 
 reads_device : (v : Version) (n : ℕ) (s t : TraceStage) (d : DeviceRow) (rows : List Row) → Reads v s rows → stands s word.Dev ≡ true → d.target ≤ 65535 → add_device n s d ≡ Ok t
     → Reads v t (rows ++ device_row (device_of d) ∷ [])
@@ -211,7 +223,7 @@ reads_device v n s t d rows h place fits e =
     let g = guarded (lacks_adapters s) _ _ t e in
     let k = no_fault n _ _ t g.1 in
     let r = device_ready v s h.sound h.held place g.0 in
-    reads_next v s _ t (device_row x) rows h k.1 (ap (λ (l : List Row). l ++ device_row x ∷ []) r.0.0 ∙ push_device v c x r.2) (holds_same v c _ refl r.0.1) (sound_device c _ x r.1 r.2 k.0 refl)
+    reads_next v s _ t (device_row x) rows h k.1 (ap (λ (l : List Row). l ++ device_row x ∷ []) r.0.0 ∙ push_device v c x r.2) (holds_same v c _ c.lanes r.0.1) (sound_device c _ x r.1 r.2 k.0 refl)
     (all_push (λ (y : Device). y.target ≤ 65535) c.devices x h.targets fits) tt
 
 reads_lane : (v : Version) (n : ℕ) (s t : TraceStage) (a : ℕ) (rows : List Row) → Reads v s rows → stands s word.Lane ≡ true → add_lane n s a ≡ Ok t → Reads v t (rows ++ lane_row a ∷ [])
@@ -221,7 +233,7 @@ reads_lane v n s t a rows h place e =
     let g = guarded (lacks_adapters s) _ _ t e in
     let k = no_fault n _ _ t g.1 in
     let r = lane_ready v s h.sound h.held place g.0 in
-    reads_next v s _ t (lane_row a) rows h k.1 (ap (λ (l : List Row). l ++ lane_row a ∷ []) r.0.0 ∙ push_lane v c a) (holds_same v c _ refl r.0.1) (sound_lane c _ a r.1 k.0 refl) h.targets tt
+    reads_next v s _ t (lane_row a) rows h k.1 (ap (λ (l : List Row). l ++ lane_row a ∷ []) r.0.0 ∙ push_lane v c a) (holds_same v c c.devices _ r.0.1) (sound_lane c _ a r.1 k.0 refl) h.targets tt
 
 reads_event : (v : Version) (n : ℕ) (s t : TraceStage) (x : Event) (rows : List Row) → Reads v s rows → FitsEvent x → add_event n s x ≡ Ok t → Reads v t (rows ++ event_row x ∷ [])
 unfolding add_event
@@ -279,9 +291,9 @@ reads_row v n s t word.Weight row rows h p e =
     let k = weight_takes row m p.eight p.word (in_record_ok n (two_numbers row) m em) in
     subst (λ (l : Row). Reads v t (rows ++ l ∷ [])) (sym k) (reads_weight v n s t (row_to m.0 m.1) rows h p.place r))
 reads_row v n s t word.Sim row rows h p e =
-    on_ok (in_record n (one_number row)) (add_adapter n s) t e (λ o eo r.
+    on_ok (in_record n (one_number row)) (λ o. add_adapter n s (unlinked o)) t e (λ o eo r.
     let k = adapter_takes row o p.eight p.word (in_record_ok n (one_number row) o eo) in
-    subst (λ (l : Row). Reads v t (rows ++ l ∷ [])) (sym k) (reads_adapter v n s t o rows h p.place r))
+    subst (λ (l : Row). Reads v t (rows ++ l ∷ [])) (sym k) (reads_adapter v n s t (unlinked o) rows h p.place refl r))
 reads_row v n s t word.Dev row rows h p e =
     on_ok (in_record n (device_at row)) (add_device n s) t e (λ d ed r.
     let k = device_row_takes row d p.eight p.word (in_record_ok n (device_at row) d ed) in
@@ -316,11 +328,11 @@ unfolding step IsSound records_of
 step_reads n stage.Header t row rows h e = by (is_header (name_of version.One) row) (is_header (name_of version.Two) row) refl refl e
   where
     by : (one two : Bool) → is_header (name_of version.One) row ≡ one → is_header (name_of version.Two) row ≡ two
-        → cond one (Ok stage.First) (cond two (Ok (stage.Weights (record { weights = []; adapters = []; devices = []; lanes = [] }))) (Err BadHeader)) ≡ Ok t → ReadsBy t (rows ++ row ∷ [])
+        → cond one (Ok stage.First) (cond two (Ok (stage.Weights (record { weights = []; links = []; adapters = []; devices = []; lanes = [] }))) (Err BadHeader)) ≡ Ok t → ReadsBy t (rows ++ row ∷ [])
     by true two is other k = header_reads version.One stage.First t row rows h.reads.spelled is refl refl tt (refl, refl) (ok_is _ t k)
     by false true is other k =
-        header_reads version.Two (stage.Weights (record { weights = []; adapters = []; devices = []; lanes = [] })) t row rows h.reads.spelled other refl refl
-        (record { weights = refl; adapters = refl; devices = refl; lanes = refl }, refl, refl, refl) (refl, refl) (ok_is _ t k)
+        header_reads version.Two (stage.Weights (record { weights = []; links = []; adapters = []; devices = []; lanes = [] })) t row rows h.reads.spelled other refl refl
+        (record { weights = refl; links = refl; adapters = refl; devices = refl; lanes = refl }, refl, refl, refl, refl) (refl, refl) (ok_is _ t k)
     by false false is other k = absurd cc
 step_reads n s t row rows h e = record { version = h.version; reads = reads_behind h.version n s t row rows h.reads e }
 

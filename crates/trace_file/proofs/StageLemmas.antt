@@ -6,11 +6,12 @@ use Rattle.std.proofs.lemmas.Bool.Decides.{nat_tests}
 use Rattle.cam_types.specs.Topology.{IsDraft, address_fault}
 use Rattle.cam_types.specs.declared.config.ConfigError.{ConfigError}
 use Rattle.cam_types.specs.declared.config.ConfigError.TheVariants as error
+use Rattle.cam_types.proofs.ListLemmas.{or_left}
 use Rattle.cam_types.proofs.TopologyLemmas.{config_fault-draft, draft_weight, draft_adapter, draft_device, draft_lane}
 use Rattle.cam_types.specs.declared.maxima.TheConstants.{MOST_ADAPTERS}
 use Rattle.cam_event.specs.Legal.{history_rules, is_legal as legal_by}
 use Rattle.cam_event.proofs.LawLemmas.{legal-push}
-use Rattle.trace_file.specs.Histories.{Topology, WeightRow, reaches_last, weight_fault, Device, Event, Past, ConfigFault, adapter_fault, device_fault, lane_fault, config_fault, is_legal_event, is_legal}
+use Rattle.trace_file.specs.Histories.{Adapter, Topology, WeightRow, reaches_last, weight_fault, Device, Event, Past, ConfigFault, adapter_fault, device_fault, lane_fault, config_fault, is_legal_event, is_legal}
 use Rattle.trace_file.specs.declared.device_row.DeviceRow.{DeviceRow}
 use Rattle.trace_file.specs.declared.trace_fault.TraceFault.TheVariants.{BadConfig}
 use Rattle.trace_file.specs.declared.trace_stage.TraceStage.{TraceStage}
@@ -33,28 +34,28 @@ pub cond_none : {X : Type 0} (b : Bool) (x : X) (rest : Option X) → cond b (So
 cond_none true x rest e = absurd cc
 cond_none false x rest e = (refl, e)
 
-pub few_adapters : (adapters : List ℕ) (openings : ℕ) → adapter_fault (adapters, openings) ≡ None → length adapters < MOST_ADAPTERS
+pub few_adapters : (links : ℕ) (adapters : List Adapter) (a : Adapter) → adapter_fault links (adapters, a) ≡ None → length adapters < MOST_ADAPTERS
 unfolding adapter_fault
-few_adapters adapters openings none = leb-false _ _ (cond_none _ _ _ none).0
+few_adapters links adapters a none = leb-false _ _ (cond_none _ _ _ (or_left _ _ none)).0
 
 -- ---- weights
 
 pub sound_weight : (t t' : Topology) (w : WeightRow) → IsSound (stage.Weights t) → weight_fault (t.weights, w) ≡ None
     → t' ≡ record t { weights = t.weights ++ w ∷ [] } → IsSound (stage.Weights t')
 unfolding IsSound
-sound_weight t t' w h none e = rw e (draft_weight t (t.weights ++ w ∷ []) w h.0 none refl, h.1, h.2, h.3)
+sound_weight t t' w h none e = rw e (draft_weight t (t.weights ++ w ∷ []) w h.0 none refl, h.1, h.2, h.3, h.4)
 
 -- ---- adapters
 
-pub sound_adapter : (t t' : Topology) (openings : ℕ) → IsDraft t → reaches_last t.weights ≡ true → t.devices ≡ [] → t.lanes ≡ [] → adapter_fault (t.adapters, openings) ≡ None
-    → t' ≡ record t { adapters = t.adapters ++ openings ∷ [] } → IsSound (stage.Adapters t')
+pub sound_adapter : (t t' : Topology) (a : Adapter) → IsDraft t → reaches_last t.weights ≡ true → t.devices ≡ [] → t.lanes ≡ [] → adapter_fault (length t.links) (t.adapters, a) ≡ None
+    → t' ≡ record t { adapters = t.adapters ++ a ∷ [] } → IsSound (stage.Adapters t')
 unfolding IsSound
-sound_adapter t t' openings d reaches devices lanes none e =
-    let few = few_adapters t.adapters openings none in
-    let size = length-append t.adapters (openings ∷ []) in
+sound_adapter t t' a d reaches devices lanes none e =
+    let few = few_adapters (length t.links) t.adapters a none in
+    let size = length-append t.adapters (a ∷ []) in
     rw e (
       record {
-        draft = draft_adapter t (t.adapters ++ openings ∷ []) openings d devices lanes none refl;
+        draft = draft_adapter t (t.adapters ++ a ∷ []) a d devices lanes none refl;
         reaches = reaches;
         some = omega arith;
         few = omega arith;

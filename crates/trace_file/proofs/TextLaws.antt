@@ -20,14 +20,15 @@ use Rattle.trace_file.specs.declared.version.Version.TheVariants as version
 use Rattle.trace_file.specs.Rows.{most_number}
 use Rattle.trace_file.specs.Trace.{FitsEvent, IsHistory, IsTrace}
 use Rattle.trace_file.specs.Writing.{text_of, text_in}
-use Rattle.cam_types.proofs.ConfigLemmas.{few_devices, few_weights}
+use Rattle.cam_types.specs.Topology.{IsConfig}
+use Rattle.cam_types.proofs.ConfigLemmas.{adapter_items, device_items, few_adapters, few_devices, few_weights, lane_items, weight_items}
 use Rattle.cam_types.specs.declared.maxima.TheConstants.{MOST_ADAPTERS, MOST_DEVICES, MOST_LANES, MOST_EVENTS, MOST_WEIGHT_ROWS}
 use Rattle.cam_event.proofs.LaneCount.{few_lanes}
-use Rattle.trace_file.proofs.AgainLaws.{Along, along_both}
+use Rattle.trace_file.proofs.AgainLaws.{Along, along_both, none_along}
 use Rattle.trace_file.proofs.HexLaws.{length-hex}
 use Rattle.trace_file.proofs.RecordLemmas.{first_left, none_left}
 use Rattle.trace_file.proofs.StageLemmas.{device_small}
-use Rattle.trace_file.proofs.WholeLaws.{GoodDevice, adapter_small, kept, lane_small, weight_numbers}
+use Rattle.trace_file.proofs.WholeLaws.{GoodDevice, adapter_small, lane_small, weight_numbers}
 
 -- ---- records that are written are read again
 
@@ -177,27 +178,28 @@ unfolding records_of
 good_records v past h few =
     let t = past.config in
     let n = length t.adapters in
-    let k = kept t.weights t.adapters t.devices t.lanes h.config in
-    let weights = good_weights v t.weights k.weights (few_weights t (record { kept = h.config })) in
-    let openings = along_good (λ b o. adapter_fault (b, o) ≡ None) adapter_row [] t.adapters (λ b o e. let s = adapter_small b o e in (refl, one_number (codes "sim") o (omega arith) (omega arith))) k.adapters in
-    let devices = along_good (GoodDevice t.adapters) device_row [] t.devices (λ b d p. let s = device_small n b d p.0 in let few = k.few in (refl, short_device d (omega arith) (omega (arith, p.1)) (omega arith) (omega arith)))
-    (along_both (λ b d. device_fault n (b, d) ≡ None) (λ (d : Device). d.target ≤ 65535) [] t.devices k.devices h.targets) in
-    let buses = along_good (λ b a. lane_fault n (b, a) ≡ None) lane_row [] t.lanes (λ b a e. let s = lane_small n b a e in let few = k.few in (refl, one_number (codes "lane") a (omega arith) (omega arith))) k.lanes in
+    let is : IsConfig t = record { kept = h.config } in
+    let adapter_count = few_adapters t is in
+    let weights = good_weights v t.weights (none_along weight_fault [] t.weights (weight_items t is)) (few_weights t is) in
+    let openings = along_good (λ b a. adapter_fault (length t.links) (b, a) ≡ None) adapter_row [] t.adapters (λ b a e. let s = adapter_small (length t.links) b a e in (refl, one_number (codes "sim") a.openings (omega arith) (omega arith)))
+    (none_along (adapter_fault (length t.links)) [] t.adapters (adapter_items t is)) in
+    let devices = along_good (GoodDevice t.adapters) device_row [] t.devices (λ b d p. let s = device_small n b d p.0 in (refl, short_device d (omega arith) (omega (arith, p.1)) (omega arith) (omega arith)))
+    (along_both (λ b d. device_fault n (b, d) ≡ None) (λ (d : Device). d.target ≤ 65535) [] t.devices (none_along (device_fault n) [] t.devices (device_items t is)) h.targets) in
+    let buses = along_good (λ b a. lane_fault n (b, a) ≡ None) lane_row [] t.lanes (λ b a e. let s = lane_small n b a e in (refl, one_number (codes "lane") a (omega arith) (omega arith))) (none_along (lane_fault n) [] t.lanes (lane_items t is)) in
     let events = All-map IsGood event_row past.events (All-weaker FitsEvent (λ e. IsGood (event_row e)) good_event past.events (All-from_recursion FitsEvent past.events h.events)) in
     let lanes = map lane_row t.lanes ++ map event_row past.events in
     let rest = map device_row t.devices ++ lanes in
     let all = map adapter_row t.adapters ++ rest in
     let size_w = length-append (weight_rows v t.weights) all in
-    let device_count = few_devices t (record { kept = h.config }) in
-    let lane_count = few_lanes t (record { kept = h.config }) in
+    let device_count = few_devices t is in
+    let lane_count = few_lanes t is in
     let size_a = length-append (map adapter_row t.adapters) rest in
     let size_d = length-append (map device_row t.devices) lanes in
     let size_l = length-append (map lane_row t.lanes) (map event_row past.events) in
     let a = length-map t.adapters adapter_row in
     let d = length-map t.devices device_row in
     let l = length-map t.lanes lane_row in
-    let e = length-map past.events event_row in
-    let adapter_count = k.few in (
+    let e = length-map past.events event_row in (
       All-cons IsGood (header v) _ (good_header v)
           (All-append IsGood (weight_rows v t.weights) all weights.0
           (All-append IsGood (map adapter_row t.adapters) rest openings

@@ -1,6 +1,6 @@
 -- How a list of records is read as a history: record by record, each by the stage that it finds.
 use Rattle.std.specs.Prelude.{ℕ, ◌+◌, ◌==◌, Bool, true, false, not, nat_le, ◌&&◌, if◌then◌else◌, List, [], ◌∷◌, ◌++◌, length, Option, Some, None, option_and_then, ok_or, Result, Ok, Err, codes, bytes_eq}
-use Rattle.trace_file.specs.Histories.{Topology, Past, Event, WeightRow, ConfigFault, NoAdapters, BadWeight, weight_fault, reaches_last, standard_weights, adapter_fault, device_fault, lane_fault, Refusal, refusal}
+use Rattle.trace_file.specs.Histories.{Adapter, Topology, unlinked, Past, Event, WeightRow, ConfigFault, NoAdapters, BadWeight, weight_fault, reaches_last, standard_weights, adapter_fault, device_fault, lane_fault, Refusal, refusal}
 use Rattle.cam_types.specs.Weights.{row_to}
 use Rattle.trace_file.specs.declared.device_row.DeviceRow.{DeviceRow}
 use Rattle.trace_file.specs.declared.trace_fault.TraceFault.{TraceFault}
@@ -53,7 +53,7 @@ past_of (stage.Adapters t) = record { config = t; events = [] }
 past_of (stage.Devices t) = record { config = t; events = [] }
 past_of (stage.Lanes t) = record { config = t; events = [] }
 past_of (stage.Events p) = p
-past_of _ = record { config = record { weights = standard_weights; adapters = []; devices = []; lanes = [] }; events = [] }
+past_of _ = record { config = record { weights = standard_weights; links = []; adapters = []; devices = []; lanes = [] }; events = [] }
 
 abbrev pub config_of : TraceStage → Topology
 config_of s = (past_of s).config
@@ -94,11 +94,11 @@ add_weight n s w =
     let t = config_of s in
     unless_fault n (weight_fault (t.weights, w)) (stage.Weights (record t { weights = t.weights ++ w ∷ [] }))
 
-unfoldable pub add_adapter : ℕ → TraceStage → ℕ → Result TraceStage TraceFault
-add_adapter n s openings =
+unfoldable pub add_adapter : ℕ → TraceStage → Adapter → Result TraceStage TraceFault
+add_adapter n s a =
     let t = config_of s in
     if lacks_weights s then Err (BadConfig n BadWeight)
-    else unless_fault n (adapter_fault (t.adapters, openings)) (stage.Adapters (record t { adapters = t.adapters ++ openings ∷ [] }))
+    else unless_fault n (adapter_fault (length t.links) (t.adapters, a)) (stage.Adapters (record t { adapters = t.adapters ++ a ∷ [] }))
 
 unfoldable pub add_device : ℕ → TraceStage → DeviceRow → Result TraceStage TraceFault
 add_device n s d =
@@ -121,7 +121,7 @@ add_event n s e =
 -- a record of this word
 unfoldable pub add_row : ℕ → TraceStage → Word → Row → Result TraceStage TraceFault
 add_row n s word.Weight row = in_record n (two_numbers row) >>= λ p. add_weight n s (row_to p.0 p.1)
-add_row n s word.Sim row = in_record n (one_number row) >>= add_adapter n s
+add_row n s word.Sim row = in_record n (one_number row) >>= λ openings. add_adapter n s (unlinked openings)
 add_row n s word.Dev row = in_record n (device_at row) >>= add_device n s
 add_row n s word.Lane row = in_record n (one_number row) >>= add_lane n s
 add_row n s w row = in_record n (event_at w row) >>= add_event n s
@@ -136,7 +136,7 @@ row_step n s row = do
 unfoldable pub step : ℕ → TraceStage → Row → Result TraceStage TraceFault
 step n stage.Header row =
     if is_header (name_of version.One) row then Ok stage.First
-    else if is_header (name_of version.Two) row then Ok (stage.Weights (record { weights = []; adapters = []; devices = []; lanes = [] }))
+    else if is_header (name_of version.Two) row then Ok (stage.Weights (record { weights = []; links = []; adapters = []; devices = []; lanes = [] }))
     else Err BadHeader
 step n s row = row_step n s row
 

@@ -1,10 +1,12 @@
 -- The records of a history.
-use Rattle.std.specs.Prelude.{ℕ, ◌-◌, ◌/◌, ◌%◌, Bool, true, if◌then◌else◌, List, [], ◌∷◌, ◌++◌, length, map, replicate, codes, decimal}
+use Rattle.std.specs.Prelude.{ℕ, ◌-◌, ◌/◌, ◌%◌, ◌==◌, ◌&&◌, Bool, true, false, if◌then◌else◌, List, [], ◌∷◌, ◌++◌, length, map, replicate, codes, decimal}
+use Rattle.std.specs.List.{list_all}
+use Rattle.std.specs.Option.{option_map_or}
 use Rattle.std.specs.Char.{digit_char}
 use Rattle.cam_event.specs.declared.event.Event.TheVariants as event
 use Rattle.trace_file.specs.declared.word.Word.TheVariants as word
 use Rattle.cam_types.specs.Weights.{are_standard}
-use Rattle.trace_file.specs.Histories.{Device, Event, Past, Topology, WeightRow}
+use Rattle.trace_file.specs.Histories.{Adapter, Device, Event, Past, Topology, WeightRow}
 use Rattle.trace_file.specs.declared.version.Version.{Version}
 use Rattle.trace_file.specs.declared.version.Version.TheVariants as version
 use Rattle.trace_file.specs.Fields.{Row, flags_text}
@@ -35,8 +37,8 @@ abbrev pub weight_rows : Version → List WeightRow → List Row
 weight_rows version.One weights = []
 weight_rows version.Two weights = map weight_row weights
 
-abbrev pub adapter_row : ℕ → Row
-adapter_row openings = padded (spelled word.Sim ∷ decimal openings ∷ [])
+abbrev pub adapter_row : Adapter → Row
+adapter_row a = padded (spelled word.Sim ∷ decimal a.openings ∷ [])
 
 abbrev pub device_row : Device → Row
 device_row d = padded (spelled word.Dev ∷ decimal d.bus ∷ decimal d.target ∷ decimal d.lun ∷ decimal d.openings ∷ [])
@@ -65,10 +67,18 @@ records_of v past =
     header v ∷ (weight_rows v past.config.weights
     ++ (map adapter_row past.config.adapters ++ (map device_row past.config.devices ++ (map lane_row past.config.lanes ++ map event_row past.events))))
 
+-- an adapter is on no link
+abbrev pub is_unlinked : Adapter → Bool
+is_unlinked a = option_map_or (λ l. false) a.link true
+
+-- there is no link, and so no adapter on one
+abbrev pub has_no_links : Topology → Bool
+has_no_links c = (length c.links == 0) && list_all is_unlinked c.adapters
+
 -- a version can hold a configuration
 abbrev pub holds : Version → Topology → Bool
-holds version.One c = are_standard c.weights
-holds version.Two c = true
+holds version.One c = are_standard c.weights && has_no_links c
+holds version.Two c = has_no_links c
 
 -- the least version that holds a configuration
 abbrev pub least_version : Topology → Version

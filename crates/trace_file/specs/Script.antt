@@ -14,7 +14,7 @@ use Rattle.trace_file.specs.declared.script_stage.ScriptStage.TheVariants as sta
 use Rattle.trace_file.specs.declared.trace_fault.TraceFault.{TraceFault}
 use Rattle.trace_file.specs.Fields.{Row}
 use Rattle.trace_file.specs.Histories.{Device, Outcome, Refusal, Topology, config_fault, standard_weights}
-use Rattle.trace_file.specs.Records.{adapter_row, device_row, lane_row}
+use Rattle.trace_file.specs.Records.{adapter_row, device_row, has_no_links, lane_row}
 use Rattle.trace_file.specs.Rows.{most_number}
 use Rattle.trace_file.specs.Scenarios.{Scenario, add_item, empty_scenario, is_answer_row, item_of}
 use Rattle.trace_file.specs.ScriptReading.{script_ended, script_step}
@@ -84,12 +84,13 @@ step_rows rows = count_by (λ said. not (is_answer_row said)) rows
 abbrev pub answer_rows : List ScriptRow → ℕ
 answer_rows rows = count_by is_answer_row rows
 
--- limits within their ranges, a configuration within its rules with the standard weights, rows whose numbers fit and that no static cause refuses,
+-- limits within their ranges, a configuration within its rules with the standard weights and no link, rows whose numbers fit and that no static cause refuses,
 -- and at most 4,096 rows of drivers and as many answers
 pub record IsManuscript (m : Manuscript) : Type 0 where
   pub limits : IfSome m.limits (λ b. are_within b ≡ true)
   pub config : config_fault m.config ≡ None
   pub weights : m.config.weights ≡ standard_weights
+  pub unlinked : has_no_links m.config ≡ true
   pub targets : AllByRecursion (λ (d : Device). d.target ≤ 65535) m.config.devices
   pub fits : AllByRecursion FitsRow m.rows
   pub ruled : AllByRecursion (λ said. is_ok (item_of m.config said) ≡ true) m.rows

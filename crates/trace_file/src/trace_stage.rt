@@ -12,7 +12,7 @@ use crate::trace_fault::TraceFault;
 use crate::version::Version;
 use crate::word::Word;
 use cam_event::Event;
-use cam_types::{Config, ConfigDraft, ConfigError, ConfigFault, WeightRow};
+use cam_types::{Adapter, Config, ConfigDraft, ConfigError, ConfigFault, WeightRow};
 use csv::ByteRecord;
 use std::alloc::Global;
 use xpt_state::History;
@@ -99,23 +99,23 @@ impl TraceStage {
         self,
         alloc: Global,
         number: u32,
-        openings: u32,
+        adapter: Adapter,
     ) -> Result<TraceStage, TraceFault>
         requires sound { IsSound self }
         requires place { IsTrue (stands self Word.Sim) }
-        ensures value { result ≢ Err TraceFault.OutOfMemory → result ≡ add_adapter number self openings }
+        ensures value { result ≢ Err TraceFault.OutOfMemory → result ≡ add_adapter number self adapter }
         ensures sound { IfOk result (λ s. IsSound s) }
     {
         match self {
-            TraceStage::First => with_adapter(standard(alloc)?, number, openings),
+            TraceStage::First => with_adapter(standard(alloc)?, number, adapter),
             TraceStage::Weights(draft) => {
                 if draft.reaches_last() {
-                    with_adapter(draft, number, openings)
+                    with_adapter(draft, number, adapter)
                 } else {
                     Err(TraceFault::BadConfig(number, ConfigFault::BadWeight))
                 }
             }
-            TraceStage::Adapters(draft) => with_adapter(draft, number, openings),
+            TraceStage::Adapters(draft) => with_adapter(draft, number, adapter),
             _ => unreachable!(),
         }
     }
@@ -213,7 +213,11 @@ impl TraceStage {
             }
             Word::Sim => {
                 let openings = in_record(number, one_number(row))?;
-                self.add_adapter(alloc, number, openings)
+                let adapter = Adapter {
+                    openings,
+                    link: None,
+                };
+                self.add_adapter(alloc, number, adapter)
             }
             Word::Dev => {
                 let device = in_record(number, device_at(row))?;
@@ -295,7 +299,7 @@ ghost use Rattle.trace_file.specs.Sound.{IsBegun, IsKept, IsSound};
 
 // The standard weights, and nothing else yet.
 fn standard(alloc: Global) -> Result<ConfigDraft, TraceFault>
-    ensures value { IfOk result (λ d. d ≡ record { weights = standard_weights; adapters = []; devices = []; lanes = [] }) }
+    ensures value { IfOk result (λ d. d ≡ record { weights = standard_weights; links = []; adapters = []; devices = []; lanes = [] }) }
     ensures draft { IfOk result (λ d. IsDraft d) }
     ensures memory { IfErr result (λ e. e ≡ TraceFault.OutOfMemory) }
 {
@@ -335,16 +339,16 @@ fn with_weight(
 fn with_adapter(
     mut draft: ConfigDraft,
     number: u32,
-    openings: u32,
+    adapter: Adapter,
 ) -> Result<TraceStage, TraceFault>
     requires draft { IsDraft draft }
     requires reaches { reaches_last draft.weights ≡ true }
     requires no_device { draft.devices ≡ [] }
     requires no_lane { draft.lanes ≡ [] }
-    ensures value { result ≢ Err TraceFault.OutOfMemory → result ≡ unless_fault number (adapter_fault (draft.adapters, openings)) (TraceStage.Adapters (record draft { adapters = draft.adapters ++ openings ∷ [] })) }
+    ensures value { result ≢ Err TraceFault.OutOfMemory → result ≡ unless_fault number (adapter_fault (length draft.links) (draft.adapters, adapter)) (TraceStage.Adapters (record draft { adapters = draft.adapters ++ adapter ∷ [] })) }
     ensures sound { IfOk result (λ s. IsSound s) }
 {
-    match draft.add_adapter(openings) {
+    match draft.add_adapter(adapter) {
         Ok(()) => Ok(TraceStage::Adapters(draft)),
         Err(ConfigError::Fault(fault)) => Err(TraceFault::BadConfig(number, fault)),
         Err(ConfigError::OutOfMemory) => Err(TraceFault::OutOfMemory),

@@ -4,6 +4,7 @@ ghost use Rattle.std.specs.Prelude.{◌≡◌, ◌≢◌, false, true, Err, OnOk
 ghost use Rattle.text_io.specs.Watched.{device_of, has_failed, is_flushed};
 ghost use Rattle.text_io.specs.Whole.{AppendsFront};
 ghost use Rattle.std.specs.Io.KnownBytes.{Appends};
+ghost use Rattle.cam_types.specs.Topology.{IsConfig};
 ghost use Rattle.trace_file.specs.Records.{holds};
 ghost use Rattle.trace_file.specs.Trace.{IsHistory, IsTrace};
 ghost use Rattle.trace_file.specs.Writing.{text_in, trace_text, migrated_text};
@@ -11,7 +12,7 @@ ghost use Rattle.trace_file.specs.Writing.{text_in, trace_text, migrated_text};
 use crate::row_writer::write_row;
 use crate::version::Version;
 use crate::write_fault::WriteFault;
-use crate::writing::{write_devices, write_events, write_numbers, write_weights};
+use crate::writing::{write_adapters, write_devices, write_events, write_numbers, write_weights};
 use csv::WriterBuilder;
 use std::alloc::{AllocError, Global};
 use std::io::Write;
@@ -19,7 +20,7 @@ use text_io::{Watched, write_whole};
 use xpt_state::History;
 
 /// Writes the trace of a history and flushes it: its records by CSV's defaults, with a line feed behind each, in the least
-/// version that holds the history, which is 1 where the weights are the standard ones. The text is made whole before
+/// version that holds the history, which is 1 if the weights are the standard ones. The text is made whole before
 /// anything of it is written.
 pub fn write_trace<W: Write>(
     alloc: Global,
@@ -67,7 +68,7 @@ fn write_in<W: Write>(
     writer: &mut Watched<W>,
 ) -> Result<(), WriteFault>
     requires calm { has_failed writer.old ≡ false }
-    requires held { holds version history.now.config ≡ true }
+    requires held { IsConfig history.now.config → holds version history.now.config ≡ true }
     ensures written { OnOk result (Appends (W.contents (device_of writer.old)) (W.contents (device_of writer.new)) (text_in version history.now)) }
     ensures flushed { OnOk result (is_flushed writer.new ≡ true) }
     ensures trace { result ≢ Err WriteFault.OutOfMemory → IsTrace (text_in version history.now) history.now }
@@ -86,7 +87,7 @@ fn write_in<W: Write>(
 
 // The text of a history's records in a version.
 fn text_in(alloc: Global, version: Version, history: &History) -> Result<Vec<u8>, AllocError>
-    requires { holds version history.now.config ≡ true }
+    requires { IsConfig history.now.config → holds version history.now.config ≡ true }
     ensures text { IfOk result (λ t. t.items ≡ text_in version history.now) }
     ensures trace { OnOk result (IsTrace (text_in version history.now) history.now) }
     ensures legal { OnOk result (IsHistory history.now) }
@@ -98,7 +99,7 @@ fn text_in(alloc: Global, version: Version, history: &History) -> Result<Vec<u8>
     )?;
     let config = history.config();
     write_weights(&mut writer, version, config.weights())?;
-    write_numbers(&mut writer, b"sim", config.adapters())?;
+    write_adapters(&mut writer, config.adapters())?;
     write_devices(&mut writer, config.devices())?;
     write_numbers(&mut writer, b"lane", config.lanes())?;
     write_events(&mut writer, history.events())?;

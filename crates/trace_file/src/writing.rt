@@ -3,7 +3,7 @@
 ghost use Rattle.std.specs.Prelude.{◌≡◌, ◌≤◌, ◌∷◌, [], decimal, map, OnOk};
 ghost use Rattle.std.specs.List.{AllByRecursion};
 ghost use Rattle.trace_file.specs.Histories.{Device};
-ghost use Rattle.trace_file.specs.Records.{padded, weight_row, weight_rows, device_row, event_row, hex};
+ghost use Rattle.trace_file.specs.Records.{padded, weight_row, weight_rows, adapter_row, device_row, event_row, hex};
 ghost use Rattle.trace_file.specs.Fields.{flags_text};
 ghost use Rattle.trace_file.specs.Trace.{FitsEvent};
 ghost use Rattle.trace_file.specs.Writing.{IsBetween, Wrote};
@@ -12,11 +12,25 @@ use crate::hex::hex_text;
 use crate::row_writer::{write_one, write_row, write_two, write_word};
 use crate::version::Version;
 use cam_event::Event;
-use cam_types::{Device, Flags, Outcome, WeightRow};
+use cam_types::{Adapter, Device, Flags, Outcome, WeightRow};
 use csv::Writer;
 use itoa::Buffer;
 use std::alloc::AllocError;
 use std::io::Write;
+
+/// Writes a record for each of these adapters.
+pub(crate) fn write_adapters<W: Write + Drop>(
+    writer: &mut Writer<W>,
+    adapters: &[Adapter],
+) -> Result<(), AllocError>
+    requires { IsBetween writer.old }
+    ensures { OnOk result (Wrote W.contents writer.old writer.new (map adapter_row adapters.now)) }
+{
+    for adapter in adapters {
+        write_one(writer, b"sim", adapter.openings)?;
+    }
+    Ok(())
+}
 
 /// Writes a record of a word and a number for each of these numbers.
 pub(crate) fn write_numbers<W: Write + Drop>(

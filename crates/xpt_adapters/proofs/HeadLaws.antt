@@ -9,7 +9,7 @@ use Rattle.cam_types.specs.Topology.{Topology}
 use Rattle.cam_event.specs.Counts.{freeze_count, adapter_freezes}
 use Rattle.cam_event.specs.Stays.{first}
 use Rattle.cam_types.specs.Questions.{is_on, devices}
-use Rattle.cam_event.specs.Head.{is_ready, has_opening, adapter_has_opening, turn_key, may_send, head}
+use Rattle.cam_event.specs.Head.{is_ready, has_opening, adapter_has_opening, turn_key, may_send, turn, head, link_has_opening}
 use Rattle.cam_event.specs.declared.event.Event.{Event}
 use Rattle.cam_event.specs.declared.stay.Stay.{Stay}
 use Rattle.cam_event.proofs.ListFacts.{filter-both, filter-same}
@@ -107,6 +107,15 @@ head-rows c es a =
     ∙ device_cases k (least_by (turn_key es) (filter (is_ready c es) (devices_on c a)))
     ∙ ap (least_by (turn_key es)) (sym (filter-both (is_on c a) (is_ready c es) (devices c)))
 
-pub best_ready-head : (c : Topology) (es : List Event) (a : ℕ) → sim.best_ready (adapter_of c (known c es) a) ≡ head c es a
-unfolding known head adapter_has_opening
-best_ready-head c es a = ap (λ o. cond ((adapter_freezes es a == 0) && adapter_has_opening c es a) o None) (head-rows c es a)
+pub best_ready-turn : (c : Topology) (es : List Event) (a : ℕ) → sim.best_ready (adapter_of c (known c es) a) ≡ turn c es a
+unfolding known turn adapter_has_opening
+best_ready-turn c es a = ap (λ o. cond ((adapter_freezes es a == 0) && adapter_has_opening c es a) o None) (head-rows c es a)
+
+-- the head is the device whose turn it is where the adapter's link has an opening, and there is none elsewhere
+pub head-open : (c : Topology) (es : List Event) (a : ℕ) → link_has_opening c es a ≡ true → head c es a ≡ turn c es a
+unfolding head
+head-open c es a way = ap (λ (b : Bool). cond b (turn c es a) None) way
+
+pub head-closed : (c : Topology) (es : List Event) (a : ℕ) → link_has_opening c es a ≡ false → head c es a ≡ None
+unfolding head
+head-closed c es a shut = ap (λ (b : Bool). cond b (turn c es a) None) shut

@@ -7,3 +7,4 @@ pub mod SimLemmas
 pub mod NextLemmas
 pub mod OpenLemmas
 pub mod ReadyLemmas
+pub mod LinkLemmas

@@ -8,6 +8,7 @@ use Rattle.std.proofs.lemmas.List.{map-append}
 use Rattle.std.proofs.lemmas.List.Elements.{filter-append}
 use Rattle.std.proofs.lemmas.Option.{slice_get-get_or}
 use Rattle.cam_types.specs.Topology.{Topology}
+use Rattle.cam_types.specs.declared.adapter.Adapter as cam
 use Rattle.cam_types.specs.declared.device.Device.{Device}
 use Rattle.cam_event.specs.Counts.{sendings, adapter_freezes}
 use Rattle.cam_event.specs.Stays.{first, queue, waiting, stays_begun}
@@ -47,13 +48,13 @@ module _ (c : Topology) (a n : ℕ) (ds : List Device) (d : Device) (same : ds �
       ∙ append-nil (filter (is_on c a) (range_with_len 0 n)))
 
 -- one adapter more
-pub adapter_more : (c : Topology) (n : ℕ) (openings : List ℕ) (ds : List ℕ) (d : ℕ) (ss : List Adapter) → openings ≡ c.adapters → n < length openings → ds ≡ devices_on c n →
+pub adapter_more : (c : Topology) (n : ℕ) (given : List cam.Adapter) (ds : List ℕ) (d : cam.Adapter) (ss : List Adapter) → given ≡ c.adapters → n < length given → ds ≡ devices_on c n →
     ss ≡ map (adapter_of c nothing) (range_with_len 0 n) →
-    ss ++ record { rows = map new_row ds; openings = get_or openings n d; sent = 0; callers = 0 } ∷ [] ≡ map (adapter_of c nothing) (range_with_len 0 (n + 1))
-adapter_more c n openings ds d ss same lt on so_far =
-    let takes : get_or openings n d ≡ adapter_openings c n =
-    sym (ap (λ xs. option_map_or (λ k. k) (slice_get xs n) 0) (sym same) ∙ ap (λ o. option_map_or (λ k. k) o 0) (slice_get-get_or openings n d lt)) in
-    let made : adapter (map new_row ds) (get_or openings n d) 0 0 ≡ adapter_of c nothing n =
+    ss ++ record { rows = map new_row ds; openings = (get_or given n d).openings; sent = 0; callers = 0 } ∷ [] ≡ map (adapter_of c nothing) (range_with_len 0 (n + 1))
+adapter_more c n given ds d ss same lt on so_far =
+    let takes : (get_or given n d).openings ≡ adapter_openings c n =
+    sym (ap (λ xs. option_map_or (λ (k : cam.Adapter). k.openings) (slice_get xs n) 0) (sym same) ∙ ap (λ o. option_map_or (λ (k : cam.Adapter). k.openings) o 0) (slice_get-get_or given n d lt)) in
+    let made : adapter (map new_row ds) (get_or given n d).openings 0 0 ≡ adapter_of c nothing n =
     ap (λ o. adapter (map new_row ds) o 0 0) takes ∙ ap (λ xs. adapter (map new_row xs) (adapter_openings c n) 0 0) on in
     ap (λ s. ss ++ s ∷ []) made ∙ ap (λ xs. xs ++ adapter_of c nothing n ∷ []) so_far
     ∙ sym (ap (map (adapter_of c nothing)) (range_with_len-push 0 n ∙ ap (λ k. range_with_len 0 n ++ k ∷ []) (zero-add n)) ∙ map-append (adapter_of c nothing) (range_with_len 0 n) (n ∷ []))

@@ -5,10 +5,12 @@ use Rattle.std.specs.Option.{option_map, option_map_or}
 use Rattle.std.proofs.lemmas.Bool.{and_parts, eqb-true, ltb-true, leb-true}
 use Rattle.std.proofs.lemmas.Option.{slice_get_within}
 use Rattle.cam_types.specs.Topology.{Topology}
+use Rattle.cam_types.specs.declared.adapter.Adapter as cam
 use Rattle.cam_event.specs.Event.{is_some_and, is_tick}
 use Rattle.cam_event.specs.Counts.{round, submission, sendings, sending_of, goes_to, adapter_freezes}
 use Rattle.cam_event.specs.Stays.{first}
 use Rattle.cam_types.specs.Questions.{names_adapter, is_on, device_adapter, lane_adapter, adapter_openings}
+use Rattle.cam_event.specs.Head as Head
 use Rattle.cam_event.specs.Head.{goes_now_to_adapter, adapter_has_opening, last_sent, head, next}
 use Rattle.cam_event.specs.declared.event.Event.{Event}
 use Rattle.cam_event.specs.declared.event.Event.TheVariants.{Send, FreezeSim, ReleaseSim, Tick}
@@ -32,7 +34,7 @@ use Rattle.xpt_devices.proofs.RoomLemmas.{submitted}
 use Rattle.xpt_adapters.specs.Known.{Known, known, devices_on, row_of, adapter_of, adapters_of}
 use Rattle.xpt_adapters.specs.Updated.{with_turn, with_freezes, less_freeze, in_next_round, updated, CanUpdate}
 use Rattle.xpt_devices.specs.Updated.{at_place, HasAt}
-use Rattle.xpt_adapters.proofs.HeadLaws.{best_ready-head}
+use Rattle.xpt_adapters.proofs.HeadLaws.{best_ready-turn}
 use Rattle.xpt_devices.proofs.PlaceLemmas.{at_range, all_range, has_range}
 use Rattle.xpt_adapters.proofs.RowLemmas.{adapter, adapter-same, known-same, row-same, row-sent, rows_where, rows_change, on-bus, on-there}
 
@@ -137,9 +139,9 @@ sent-still c es e a still none =
 -- an adapter that has an opening is there
 opening_there : (c : Topology) (es : List Event) (a : ℕ) → adapter_has_opening c es a ≡ true → a < length c.adapters
 unfolding adapter_has_opening
-opening_there c es a h = elim (slice_get c.adapters a) as (λ o. slice_get c.adapters a ≡ o → nat_lt (sent_on c es a) (option_map_or (λ n. n) o 0) ≡ true → a < length c.adapters) [
+opening_there c es a h = elim (slice_get c.adapters a) as (λ o. slice_get c.adapters a ≡ o → nat_lt (sent_on c es a) (option_map_or (λ (x : cam.Adapter). x.openings) o 0) ≡ true → a < length c.adapters) [
   | None ↦ λ e g. absurd (omega (arith, ltb-true _ 0 g))
-  | Some n ↦ λ e g. slice_get_within c.adapters a n e
+  | Some x ↦ λ e g. slice_get_within c.adapters a x e
 ] refl h
 
 -- the turn that a legal send takes
@@ -253,13 +255,13 @@ module _ (rules : Rules) (c : Topology) (es : List Event) where
         (λ x.
         adapter-same _ _ (adapter_openings c x) _ _ _ _ refl (sent-send x) (callers-still es e x refl)
         ∙ turn_cases (map (row_of before) (devices_on c x)) _ (adapter_openings c x) (sent_on c es x) (adapter_freezes es x) d (length es) (a == x)
-        (λ same. best_ready-head c es x ∙ ap (head c es) (sym (eqb-true a x same)) ∙ turn.head) (rows-send x))
+        (λ same. best_ready-turn c es x ∙ ap (Head.turn c es) (sym (eqb-true a x same)) ∙ (head_stands c es a d turn.head).turn_is) (rows-send x))
         ∙ ap (λ k. at_place k (with_turn (length es)) (adapters_of c before)) (sym (ap (λ o. option_map_or (λ n. n) o 0) turn.over))
 
     can_send : (place : ℕ) → place < 65535 → lane < length c.lanes → CanUpdate c place (Send lane ccb) (adapters_of c before)
     can_send place lt named =
         let there = opening_there c es a (head_stands c es a d turn.head).adapter_opening in
-        let ready : is_some (best_ready (adapter_of c before a)) ≡ true = ap is_some (best_ready-head c es a ∙ turn.head) in
+        let ready : is_some (best_ready (adapter_of c before a)) ≡ true = ap is_some (best_ready-turn c es a ∙ (head_stands c es a d turn.head).turn_is) in
         let at : lane_adapter c lane ≡ a = ap (λ o. option_map_or (λ n. n) o 0) turn.over in
         (named, lt, subst (HasAt (λ s. is_some (best_ready s) ≡ true) (adapters_of c before)) (sym at) (has_range (λ s. is_some (best_ready s) ≡ true) (adapter_of c before) (length c.adapters) a there ready))
 

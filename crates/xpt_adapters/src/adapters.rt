@@ -37,7 +37,7 @@ impl Model for Adapters {
 
 impl Adapters {
     ghost use Rattle.cam_event.specs.Counts.{sendings, adapter_freezes};
-    ghost use Rattle.cam_event.specs.Head.{goes_now_to_adapter, adapter_has_opening, next};
+    ghost use Rattle.cam_event.specs.Head.{goes_now_to_adapter, goes_now_over_link, adapter_has_opening, link_has_opening, next};
     ghost use Rattle.cam_event.specs.Legal.{is_legal_event};
     ghost use Rattle.xpt_adapters.specs.Known.{known, adapter_of};
     ghost use Rattle.xpt_adapters.specs.Next.{next_of};
@@ -80,11 +80,14 @@ impl Adapters {
     }
 
     /// Whose turn it is on the adapter: the first stay of its device that sends next. None where it is frozen, its
-    /// openings are used, or no device on it is ready.
+    /// openings or those of its link are used, or no device on it is ready.
     pub fn next(&self, adapter: u32) -> Option<Next>
         requires { adapter < length self.now.config.adapters }
         ensures { result ≡ option_map next_of (next self.now.config self.now.events adapter) }
     {
+        if !self.link_has_opening(adapter) {
+            return None;
+        }
         let device = self.sim(adapter).best_ready()?;
         let stay = self.devices.first(device)?;
         Some(Next::new(device, stay))
@@ -126,6 +129,37 @@ impl Adapters {
     {
         let sim = self.sim(adapter);
         sim.sent() < sim.openings()
+    }
+
+    /// Whether an opening of the adapter's link is left in this round, if it is on one. It takes time that grows with the
+    /// number of adapters.
+    #[tactic(auto, unfolding(cam_event::specs::Head::link_has_opening))]
+    pub fn link_has_opening(&self, adapter: u32) -> bool
+        ensures { result ≡ link_has_opening self.now.config self.now.events adapter }
+    {
+        let config = self.devices.config();
+        match config.adapter_link(adapter) {
+            Some(link) => self.sent_over(link) < config.link_openings(link),
+            None => true,
+        }
+    }
+
+    /// How many commands were sent over the link in this round: by all adapters on it.
+    pub fn sent_over(&self, link: u32) -> u32
+        ensures { result ≡ count_by (goes_now_over_link self.now.config self.now.events link) (sendings self.now.events) }
+    {
+        // There are no more sends than events.
+        if self.devices.events().is_empty() {
+            return 0;
+        }
+        let config = self.devices.config();
+        let mut sent = 0;
+        for adapter in 0..config.adapters().len() as u32 {
+            if config.adapter_link(adapter) == Some(link) {
+                sent += self.sent(adapter);
+            }
+        }
+        sent
     }
 
     /// The configuration and the events.

@@ -14,7 +14,7 @@ pub(crate) fn open_queues(alloc: Global, config: &Config) -> Result<Vec<SimQueue
     let mut sims = Vec::with_capacity(alloc, adapters.len())?;
     for adapter in 0..adapters.len() {
         let devices = devices_on(alloc, config, adapter as u32)?;
-        sims.push_reserved(SimQueue::open(alloc, adapters[adapter], &devices)?);
+        sims.push_reserved(SimQueue::open(alloc, adapters[adapter].openings, &devices)?);
     }
     Ok(sims)
 }

@@ -9,7 +9,7 @@ use Rattle.xpt_lock.specs.declared.fault.GatherFault.{GatherFault}
 use Rattle.xpt_lock.specs.declared.fault.GatherFault.TheVariants.{OutOfMemory}
 
 abbrev empty : Past
-empty = record { config = record { weights = []; adapters = []; devices = []; lanes = [] }; events = [] }
+empty = record { config = record { weights = []; links = []; adapters = []; devices = []; lanes = [] }; events = [] }
 
 empty_legal : IsPast empty
 unfolding is_legal

@@ -1,13 +1,13 @@
 -- the definitions at one history: a driver submits a CCB, and a lane sends it and completes it
 use Rattle.std.specs.Prelude.{◌≡◌, true, false, List, [], ◌∷◌, map, Some, slice_get}
 use Rattle.std.proofs.Common.{refl}
-use Rattle.cam_types.specs.Topology.{Topology}
+use Rattle.cam_types.specs.Topology.{Topology, unlinked}
 use Rattle.cam_types.specs.Weights.{standard_weights}
 use Rattle.cam_types.specs.declared.outcome.Outcome.{Outcome}
 use Rattle.cam_event.specs.declared.event.Event.{Event}
 use Rattle.cam_event.specs.declared.event.Event.TheVariants.{Submit, Send, Done, Tick}
 use Rattle.cam_event.specs.Counts.{submissions, round, sendings, caller_count, error_count, adapter_freezes, counted_requeues, is_recovering}
-use Rattle.cam_event.specs.Head.{openings, has_opening, adapter_has_opening, is_ready, last_sent, head, next}
+use Rattle.cam_event.specs.Head.{openings, has_opening, adapter_has_opening, link_has_opening, is_ready, last_sent, turn, head, next}
 use Rattle.cam_event.specs.Stays.{stays_begun, waiting, has_queued, queue, first}
 use Rattle.cam_event.specs.Classes.{kind_of, scsi_kind, sense_kind}
 use Rattle.cam_event.specs.Sense.{read_sense, fixed_sense, descriptor_sense}
@@ -20,7 +20,7 @@ use Rattle.xpt_lock.specs.declared.seat.SeatName.TheVariants as names
 
 -- one adapter, one device and one lane, each of one opening
 abbrev frame : Topology
-frame = record { weights = standard_weights; adapters = 1 ∷ []; devices = record { bus = 0; target = 1; lun = 0; openings = 1 } ∷ []; lanes = 0 ∷ [] }
+frame = record { weights = standard_weights; links = []; adapters = unlinked 1 ∷ []; devices = record { bus = 0; target = 1; lun = 0; openings = 1 } ∷ []; lanes = 0 ∷ [] }
 
 abbrev submit : Event
 submit = Submit 0 0 1152 4 (record { qfreeze = false; qfrzdis = false })
@@ -58,7 +58,7 @@ abbrev due : List Receipt
 due = submitted ∷ sent ∷ completed ∷ []
 
 three_receipts : receipts_of frame (submit ∷ Send 0 0 ∷ Done 0 good ∷ []) ≡ due
-unfolding submissions round stays_begun waiting has_queued queue first openings has_opening adapter_has_opening is_ready last_sent head next sendings caller_count error_count adapter_freezes counted_requeues is_recovering kind_of scsi_kind sense_kind read_sense fixed_sense descriptor_sense
+unfolding submissions round stays_begun waiting has_queued queue first openings has_opening adapter_has_opening link_has_opening is_ready last_sent turn head next sendings caller_count error_count adapter_freezes counted_requeues is_recovering kind_of scsi_kind sense_kind read_sense fixed_sense descriptor_sense
 three_receipts = refl
 
 -- each receipt fits: it stands in the history at the place that it names

@@ -9,14 +9,14 @@ use Rattle.std.proofs.Math.Bool.{not-not}
 use Rattle.cam_event.specs.Counts.{freeze_count, adapter_freezes}
 use Rattle.cam_event.specs.Stays.{first}
 use Rattle.cam_types.specs.Questions.{is_on, devices}
-use Rattle.cam_event.specs.Head.{has_opening, adapter_has_opening, is_ready, may_send, turn_key, head, next}
+use Rattle.cam_event.specs.Head.{has_opening, adapter_has_opening, link_has_opening, is_ready, may_send, turn_key, turn, head, next}
 use Rattle.cam_event.specs.declared.event.Event.{Event}
 use Rattle.cam_event.proofs.LeastLemmas.{is_some-least_by-filter}
 use Rattle.cam_event.proofs.TestLemmas.{same_tests, list_any-weaker}
 use Rattle.cam_event.proofs.NextLemmas.{is_some-next}
 use Rattle.xpt_state.specs.declared.idle.Idle.{Idle}
 use Rattle.xpt_state.specs.declared.idle.Idle.TheVariants.{Empty, AdapterFrozen, AdapterBusy, DevicesHeld}
-use Rattle.xpt_state.specs.Idle.{has_stay_on, is_held_back, idle_causes, idle_named, idle, idle_by}
+use Rattle.xpt_state.specs.Idle.{has_stay_on, is_held_back, idle_causes, idle_named, idle, idle_by, takes_more}
 
 -- there is a first cause where one holds
 is_some-first : (ms : List (Bool × Idle)) → is_some (first_answer idle_named ms) ≡ list_any (λ m. m.0) ms
@@ -61,11 +61,24 @@ head_cases : (b : Bool) (o : Option ℕ) → is_some (cond b o None) ≡ (b && i
 head_cases true o = refl
 head_cases false o = refl
 
-pub is_some-head : (c : Topology) (es : List Event) (a : ℕ) → is_some (head c es a) ≡ ((adapter_freezes es a == 0) && adapter_has_opening c es a && list_any (may_send c es a) (devices c))
-unfolding head
-is_some-head c es a =
+some_turn : (c : Topology) (es : List Event) (a : ℕ) → is_some (turn c es a) ≡ ((adapter_freezes es a == 0) && adapter_has_opening c es a && list_any (may_send c es a) (devices c))
+unfolding turn
+some_turn c es a =
     head_cases ((adapter_freezes es a == 0) && adapter_has_opening c es a) (least_by (turn_key es) (filter (may_send c es a) (devices c)))
     ∙ ap (λ b. ((adapter_freezes es a == 0) && adapter_has_opening c es a) && b) (is_some-least_by-filter (turn_key es) (may_send c es a) (devices c))
+
+link_first : (free left link may : Bool) → (link && ((free && left) && may)) ≡ ((free && (left && link)) && may)
+link_first true true link may = refl
+link_first true false true may = refl
+link_first true false false may = refl
+link_first false left true may = refl
+link_first false left false may = refl
+
+pub is_some-head : (c : Topology) (es : List Event) (a : ℕ) → is_some (head c es a) ≡ ((adapter_freezes es a == 0) && takes_more c es a && list_any (may_send c es a) (devices c))
+unfolding head
+is_some-head c es a =
+    head_cases (link_has_opening c es a) (turn c es a) ∙ ap (λ b. link_has_opening c es a && b) (some_turn c es a)
+    ∙ link_first (adapter_freezes es a == 0) (adapter_has_opening c es a) (link_has_opening c es a) (list_any (may_send c es a) (devices c))
 
 from_head : (es : List Event) (o : Option ℕ) → is_some (option_and_then (first es) o) ≡ true → is_some o ≡ true
 from_head es (Some d) h = refl
@@ -90,7 +103,7 @@ idle_is_no_next c es a =
     let may = list_any (may_send c es a) (devices c) in
     let stays = list_any (has_stay_on c es a) (devices c) in
     let free = (adapter_freezes es a == 0) in
-    let left = adapter_has_opening c es a in
+    let left = takes_more c es a in
     is_some-first (idle_causes c es a)
     ∙ ap (λ b. not stays || (not free || (not left || (b || false)))) (none_passes (λ d. not (has_stay_on c es a d) || is_held_back c es d) (may_send c es a) (devices c) (held_cases c es a))
     ∙ idle_cases stays free left may (list_any-weaker (may_send c es a) (has_stay_on c es a) (devices c) (has_stay_where c es a))
@@ -106,13 +119,13 @@ by_tests true true true true h = refl
 by_tests true true true false h = absurd (cc)
 
 pub idle_is_by_tests : (c : Topology) (es : List Event) (a : ℕ) → next c es a ≡ None →
-    idle c es a ≡ Some (idle_by (list_any (has_stay_on c es a) (devices c)) (adapter_freezes es a == 0) (adapter_has_opening c es a))
+    idle c es a ≡ Some (idle_by (list_any (has_stay_on c es a) (devices c)) (adapter_freezes es a == 0) (takes_more c es a))
 idle_is_by_tests c es a none =
-    by_tests (list_any (has_stay_on c es a) (devices c)) (adapter_freezes es a == 0) (adapter_has_opening c es a) (list_all (λ d. not (has_stay_on c es a d) || is_held_back c es d) (devices c))
+    by_tests (list_any (has_stay_on c es a) (devices c)) (adapter_freezes es a == 0) (takes_more c es a) (list_all (λ d. not (has_stay_on c es a d) || is_held_back c es d) (devices c))
     (sym (is_some-first (idle_causes c es a)) ∙ idle_is_no_next c es a ∙ ap (λ o. not (is_some o)) none)
 
 -- the same of what the tests were found to be
-pub idle_found : (c : Topology) (es : List Event) (a : ℕ) (queued frozen left : Bool) → next c es a ≡ None → queued ≡ list_any (has_stay_on c es a) (devices c) → frozen ≡ not (adapter_freezes es a == 0) → left ≡ adapter_has_opening c es a →
+pub idle_found : (c : Topology) (es : List Event) (a : ℕ) (queued frozen left : Bool) → next c es a ≡ None → queued ≡ list_any (has_stay_on c es a) (devices c) → frozen ≡ not (adapter_freezes es a == 0) → left ≡ takes_more c es a →
     idle c es a ≡ Some (idle_by queued (not frozen) left)
 idle_found c es a queued frozen left none i j k =
     idle_is_by_tests c es a none ∙ ap Some (rw (i, j, k, not-not (adapter_freezes es a == 0)) refl)

@@ -3,7 +3,7 @@ use Rattle.std.proofs.Common.{◌≡◌, ℕ, zero, suc, ◌<◌, ◌≤◌, Boo
 use Rattle.std.specs.Prelude.{◌==◌, ◌&&◌, nat_le, is_some, count_by}
 use Rattle.std.specs.List.{list_any}
 use Rattle.std.specs.Option.{option_map, option_or}
-use Rattle.std.proofs.lemmas.Bool.{leb-false, le-ltb}
+use Rattle.std.proofs.lemmas.Bool.{and_left, leb-false, le-ltb}
 use Rattle.std.proofs.lemmas.Option.{slice_get_past}
 use Rattle.cam_types.specs.Lists.{moments_after, first_answer}
 use Rattle.cam_types.proofs.ConfigLemmas.{lane_items}
@@ -12,7 +12,7 @@ use Rattle.cam_types.specs.declared.config_fault.ConfigFault.TheVariants.{TooMan
 use Rattle.cam_types.specs.declared.maxima.TheConstants.{MOST_LANES}
 use Rattle.cam_event.specs.Counts.{adapter_freezes}
 use Rattle.cam_types.specs.Questions.{names_lane, lane_adapter, devices}
-use Rattle.cam_event.specs.Head.{adapter_has_opening, head, may_send, next}
+use Rattle.cam_event.specs.Head.{adapter_has_opening, link_has_opening, head, may_send, next}
 use Rattle.cam_event.specs.declared.event.Event.{Event}
 use Rattle.cam_event.specs.declared.event.Event.TheVariants.{Send}
 use Rattle.cam_event.specs.declared.stay.Stay.{Stay}
@@ -21,6 +21,7 @@ use Rattle.xpt_adapters.specs.Next.{next_of}
 use Rattle.xpt_adapters.specs.declared.next.Next.{Next}
 use Rattle.xpt_devices.specs.Transport.{Transport}
 use Rattle.xpt_state.specs.Calls.{refused}
+use Rattle.xpt_state.specs.Idle.{takes_more}
 use Rattle.xpt_state.specs.Sends.{lane_refusal}
 use Rattle.xpt_state.proofs.IdleLemmas.{is_some-head, is_some-next_head}
 use Rattle.xpt_state.proofs.LaneLemmas.{free_cases, next_unrefused}
@@ -87,4 +88,4 @@ no_opening c es a past = rw (slice_get_past c.adapters a past) (le-ltb _ 0 (omeg
 
 pub no_head : (c : Topology) (es : List Event) (a : ℕ) → length c.adapters ≤ a → is_some (head c es a) ≡ false
 no_head c es a past =
-    is_some-head c es a ∙ none_left (adapter_has_opening c es a) (list_any (may_send c es a) (devices c)) (adapter_freezes es a == 0) (no_opening c es a past)
+    is_some-head c es a ∙ none_left (takes_more c es a) (list_any (may_send c es a) (devices c)) (adapter_freezes es a == 0) (and_left (adapter_has_opening c es a) (link_has_opening c es a) (no_opening c es a past))

@@ -6,7 +6,7 @@ use Rattle.cam_types.specs.Topology.{Topology}
 use Rattle.cam_event.specs.Counts.{freeze_count, adapter_freezes}
 use Rattle.cam_event.specs.Stays.{first}
 use Rattle.cam_types.specs.Questions.{is_on, devices}
-use Rattle.cam_event.specs.Head.{has_opening, adapter_has_opening}
+use Rattle.cam_event.specs.Head.{has_opening, adapter_has_opening, link_has_opening}
 use Rattle.cam_event.specs.declared.event.Event.{Event}
 use Rattle.xpt_state.specs.declared.idle.Idle.{Idle}
 use Rattle.xpt_state.specs.declared.idle.Idle.TheVariants.{Empty, AdapterFrozen, AdapterBusy, DevicesHeld}
@@ -19,12 +19,16 @@ has_stay_on c events a d = is_on c a d && is_some (first events d)
 abbrev pub is_held_back : Topology → List Event → ℕ → Bool
 is_held_back c events d = not (freeze_count events d == 0) || not (has_opening c events d)
 
+-- the adapter takes one more command in this round: an opening of it is left, and of its link, if it is on one
+abbrev pub takes_more : Topology → List Event → ℕ → Bool
+takes_more c events a = adapter_has_opening c events a && link_has_opening c events a
+
 -- Each cause stands beside its name, in the order of testing.
 abbrev pub idle_causes : Topology → List Event → ℕ → List (Bool × Idle)
 idle_causes c events a =
     (not (list_any (has_stay_on c events a) (devices c)), Empty)
     ∷ (not (adapter_freezes events a == 0), AdapterFrozen)
-    ∷ (not (adapter_has_opening c events a), AdapterBusy)
+    ∷ (not (takes_more c events a), AdapterBusy)
     ∷ (list_all (λ d. not (has_stay_on c events a d) || is_held_back c events d) (devices c), DevicesHeld)
     ∷ []
 
@@ -36,7 +40,7 @@ idle_named m = if m.0 then Some m.1 else None
 abbrev pub idle : Topology → List Event → ℕ → Option Idle
 idle c events a = first_answer idle_named (idle_causes c events a)
 
--- the cause by three tests: a stay is queued, no freeze of the adapter holds, and an opening of it is left
+-- the cause by three tests: a stay is queued, no freeze of the adapter holds, and it takes one more command
 abbrev pub idle_by : Bool → Bool → Bool → Idle
 idle_by queued free left =
     if not queued then Empty

@@ -15,7 +15,7 @@ use crate::command::command_of;
 use crate::done::Done;
 use crate::idle::Idle;
 use crate::look::Case;
-use crate::questions::{adapters, config, devices, has_head, lane_adapter};
+use crate::questions::{adapters, config, devices, has_head, lane_adapter, takes_more};
 use cam_event::Class;
 use cam_types::{Command, Outcome};
 use xpt_stays::Stays;
@@ -66,7 +66,7 @@ fn idle(state: &Stays, adapter: u32) -> Idle
 {
     let queued = has_stay(state, adapter);
     let free = !adapters(state).is_frozen(adapter);
-    let left = adapters(state).has_opening(adapter);
+    let left = takes_more(state, adapter);
     Idle::by(queued, free, left)
 }
 

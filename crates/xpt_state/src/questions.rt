@@ -6,6 +6,7 @@ ghost use Rattle.cam_event.specs.Counts.{is_recovering, wants_requeue, wants_fin
 ghost use Rattle.cam_event.specs.Legal.{names_ccb, is_legal};
 ghost use Rattle.cam_types.specs.Questions.{lane_adapter};
 ghost use Rattle.cam_event.specs.Refusals.{device_of, are_ccbs_full, are_stays_full, have_openings, is_other_next};
+ghost use Rattle.xpt_state.specs.Idle.{takes_more};
 ghost use Rattle.cam_types.specs.Topology.{IsConfig};
 
 use cam_types::Config;
@@ -76,13 +77,21 @@ pub(crate) fn lane_adapter(config: &Config, lane: u32) -> u32
     config.lane_adapter(lane).unwrap_or(0)
 }
 
-/// Whether an opening is left at the device and at the adapter.
+/// Whether the adapter takes one more command in this round: an opening of it is left, and of its link, if it is on one.
+pub(crate) fn takes_more(state: &Stays, adapter: u32) -> bool
+    requires { adapter < length state.now.config.adapters }
+    ensures { result ≡ takes_more state.now.config state.now.events adapter }
+{
+    adapters(state).has_opening(adapter) && adapters(state).link_has_opening(adapter)
+}
+
+/// Whether an opening is left at the device, at the adapter, and at its link.
 pub(crate) fn have_openings(state: &Stays, device: u32, adapter: u32) -> bool
     requires device { device < length state.now.config.devices }
     requires adapter { adapter < length state.now.config.adapters }
     ensures { result ≡ have_openings state.now.config state.now.events device adapter }
 {
-    devices(state).has_opening(device) && adapters(state).has_opening(adapter)
+    devices(state).has_opening(device) && takes_more(state, adapter)
 }
 
 /// Whether the adapter's next stay is another CCB's.

@@ -6,7 +6,7 @@ ghost use Rattle.cam_types.specs.declared.device.Device.{Device};
 ghost use Rattle.cam_types.specs.declared.maxima.TheConstants.{MOST_WEIGHT};
 ghost use Rattle.cam_types.specs.Topology.{IsConfig};
 ghost use Rattle.cam_types.specs.Weights.{are_standard};
-ghost use Rattle.cam_types.specs.Questions.{names_device, names_adapter, names_lane, is_on, weight};
+ghost use Rattle.cam_types.specs.Questions.{names_device, names_adapter, names_lane, adapter_link, adapter_openings, link_openings, is_on, weight};
 
 use super::Config;
 use crate::weight_row::{are_standard, weight_in};
@@ -48,6 +48,34 @@ impl Config {
     {
         let device = self.devices.get(device as usize)?;
         Some(u32::from(device.bus))
+    }
+
+    /// The link that an adapter is on, if it is on one.
+    pub fn adapter_link(&self, adapter: u32) -> Option<u32>
+        ensures same { result ≡ adapter_link self.now adapter }
+        ensures kept { IsConfig self.now }
+    {
+        self.adapters.get(adapter as usize)?.link
+    }
+
+    /// The openings of an adapter, and 0 if there is none of that number.
+    pub fn adapter_openings(&self, adapter: u32) -> u32
+        ensures { result ≡ adapter_openings self.now adapter }
+    {
+        match self.adapters.get(adapter as usize) {
+            Some(adapter) => adapter.openings,
+            None => 0,
+        }
+    }
+
+    /// The openings of a link, and 0 if there is none of that number.
+    pub fn link_openings(&self, link: u32) -> u32
+        ensures { result ≡ link_openings self.now link }
+    {
+        match self.links.get(link as usize) {
+            Some(openings) => *openings,
+            None => 0,
+        }
     }
 
     /// Whether the device is on the adapter.

@@ -7,7 +7,7 @@ pub returns-clause-tail : goal.returns-clause-tail
 returns-clause-tail c = omega (arith, c.node.ensures.same, cell-lt-node_count (instance_of_rows c.args.net.now) c.args.row c.args.round c.requires.row c.requires.round)
 
 pub returns-clause-head : goal.returns-clause-head
-returns-clause-head c = omega (arith, c.node_above.ensures.same, above-lt-node_count (instance_of_rows c.args.net.now) (live_of_rows c.args.net.now) c.args.row c.args.round c.node_above.ensures.sound c.requires.row c.requires.round)
+returns-clause-head c = omega (arith, c.node_above.ensures.same, above-lt-node_count (instance_of_rows c.args.net.now) c.args.row c.args.round c.requires.round)
 
 pub returns-clause-few : goal.returns-clause-few
 returns-clause-few c = node_count-le (instance_of_rows c.args.net.now) (live_of_rows c.args.net.now) c.node_above.ensures.sound

@@ -15,6 +15,6 @@ returns-clause-proved c =
     let live = live_of_rows c.args.net.now in
     let f = schedule_of c.args.best.now.draft in
     let label = label_of c.args.best.now.labels in
-    let proof = ProvesBest-priced net live f label (pricing_of_rows c.in_ok-prices_of.field-0) c.requires.sound c.in_ok-prices_of.ensures.devices c.in_ok-prices_of.ensures.adapters
+    let proof = ProvesBest-priced net live f label (pricing_of_rows c.in_ok-prices_of.field-0) c.requires.sound c.in_ok-prices_of.ensures.priced
     (ProvesBest-from_labels net live f label c.requires.sound c.requires.admissible c.requires.settled) in
     subst (λ (rounds : List ℕ). ProvesBest net (rounds_of rounds) (pricing_of_rows c.in_ok-prices_of.field-0)) (sym (c.in_ok-new.ensures ∙ c.deref.ensures.value)) proof

@@ -8,11 +8,11 @@ use Rattle.cost_plan.proofs.draft.draft_of.Goals as goal
 pub returns-then-not-keep_caps-clause-none : goal.returns-then-not-keep_caps-clause-none
 returns-then-not-keep_caps-clause-none c = λ ok.
     let net = instance_of_rows c.args.net.now in
-    let never : false ≡ true = c.if-not-keep_caps.ensures.1 (KeepRows-admissible net (rounds_of c.args.rounds.items) c.if-not-keep_windows.ensures.sound.on_device ok) in
+    let never : false ≡ true = c.if-not-keep_caps.ensures.1 (KeepRows-admissible net (rounds_of c.args.rounds.items) ok) in
     cc
 
 pub returns-clause-admissible : goal.returns-clause-admissible
 returns-clause-admissible c =
     let net = instance_of_rows c.args.net.now in
     let windows = subst (λ (rounds : List ℕ). KeepWindows net (rounds_of rounds) net.stays) c.deref.ensures.value (c.if-not-keep_windows.ensures.exact.0 refl) in
-    IsAdmissible-kept net (rounds_of c.args.rounds.items) c.if-not-keep_windows.ensures.sound.on_device windows (c.if-not-keep_caps.ensures.0 refl)
+    IsAdmissible-kept net (rounds_of c.args.rounds.items) windows (c.if-not-keep_caps.ensures.0 refl)

@@ -1,62 +1,46 @@
-use Rattle.std.proofs.Common.{ℕ, ◌≡◌, ◌<◌, ◌+◌, ◌-◌, ◌∙◌, ap, arith, length, get_or, set}
-use Rattle.std.proofs.lemmas.List.{get_or_read, length-set}
-use Rattle.round_net.specs.Instance.{adapter}
-use Rattle.round_net.specs.Rows.{instance_of_rows, live_of_rows}
-use Rattle.cost_plan.specs.Cells.{cell, rows}
-use Rattle.cost_plan.proofs.LoadLemmas.{AreCells, second-kept, stands-removed, stands-device, stands-adapter}
-use Rattle.cost_plan.proofs.NodeLemmas.{cells-of_stay}
+use Rattle.std.proofs.Common.{ℕ, ◌≡◌, ◌<◌, ◌+◌, ◌-◌, ap, arith, length, get_or, set, subst, sym}
+use Rattle.std.proofs.lemmas.List.{get_or_read}
+use Rattle.round_net.specs.Rows.{instance_of_rows}
+use Rattle.cost_plan.proofs.LoadLemmas.{IsRemoving, IsRemoving-begun, IsRemoving-some, IsRemoving-step, IsRemoving-ended}
+use Rattle.cost_plan.proofs.NodeLemmas.{cell-in}
 use Rattle.cost_plan.proofs.draft.remove.Goals as goal
+
+pub loop-row-init : goal.loop-row-init
+loop-row-init c =
+    let net = instance_of_rows c.args.net.now in
+    subst (IsRemoving net c.args.stay c.args.round c.args.loads.now.items c.args.loads.now.items) (sym c.device-row.ensures.same)
+    (IsRemoving-begun net c.args.stay c.args.round c.args.loads.now.items (omega (arith, c.device-row.ensures.same, c.device-row.ensures.within)))
+
+pub index_mut-requires : goal.index_mut-requires
+index_mut-requires c =
+    let net = instance_of_rows c.args.net.now in
+    omega (arith, c.node-cell.ensures.same, cell-in net c.loop-row.row c.args.round (omega arith) c.requires.round, c.loop-row.invariant.size, c.requires.size)
 
 pub overflow_sub-index_mut : goal.overflow_sub-index_mut
 overflow_sub-index_mut c =
     let net = instance_of_rows c.args.net.now in
-    let loads = c.args.loads.now.items in
-    let cells : AreCells net (length loads) c.args.stay c.args.round c.node-device.result c.node-adapter.result = cells-of_stay net (live_of_rows c.args.net.now) (length loads) c.args.stay c.args.round c.node-device.result c.node-adapter.result c.device.result c.adapter.result c.node-device.ensures.sound c.requires.stay c.requires.round c.requires.size c.device.ensures.same c.adapter.ensures.same c.node-device.ensures.same (c.node-adapter.ensures.same ∙ ap (λ (k : ℕ). cell net (k + c.adapter.result) c.args.round) c.devices.ensures.same) in
-    let x : c.index_mut.result.now ≡ get_or loads c.node-device.result 0 = get_or_read loads _ _ cells.device_in c.index_mut.ensures.value 0 in
-    let device_in : net.device c.args.stay < rows net = omega (arith, cells.on_device) in
-    let first = c.requires.some (net.device c.args.stay) c.args.round device_in c.requires.round in
-    let device_is = ap (λ (k : ℕ). get_or loads k 0) cells.device_is in
-    let one = stands-device net c.args.stay c.args.round cells.on_device c.requires.round in
+    let loads = c.loop-row.loads.items in
+    let row_in : c.loop-row.row < (net.devices + net.adapters) = omega arith in
+    let inside : c.node-cell.result < length loads = omega (arith, c.node-cell.ensures.same, cell-in net c.loop-row.row c.args.round row_in c.requires.round, c.loop-row.invariant.size, c.requires.size) in
+    let x : c.index_mut.result.now ≡ get_or loads c.node-cell.result 0 = get_or_read loads _ _ inside c.index_mut.ensures.value 0 in
+    let place = ap (λ (k : ℕ). get_or loads k 0) c.node-cell.ensures.same in
+    let some = IsRemoving-some net c.args.stay c.args.round c.args.loads.now.items loads c.loop-row.row row_in c.requires.round c.requires.some c.loop-row.invariant in
     omega arith
 
-pub overflow_sub-index_mut-2 : goal.overflow_sub-index_mut-2
-overflow_sub-index_mut-2 c =
+pub loop-row-preserved : goal.loop-row-preserved
+loop-row-preserved c =
     let net = instance_of_rows c.args.net.now in
-    let loads = c.args.loads.now.items in
-    let cells : AreCells net (length loads) c.args.stay c.args.round c.node-device.result c.node-adapter.result = cells-of_stay net (live_of_rows c.args.net.now) (length loads) c.args.stay c.args.round c.node-device.result c.node-adapter.result c.device.result c.adapter.result c.node-device.ensures.sound c.requires.stay c.requires.round c.requires.size c.device.ensures.same c.adapter.ensures.same c.node-device.ensures.same (c.node-adapter.ensures.same ∙ ap (λ (k : ℕ). cell net (k + c.adapter.result) c.args.round) c.devices.ensures.same) in
-    let x : c.index_mut.result.now ≡ get_or loads c.node-device.result 0 = get_or_read loads _ _ cells.device_in c.index_mut.ensures.value 0 in
-    let device_in : net.device c.args.stay < rows net = omega (arith, cells.on_device) in
-    let first = c.requires.some (net.device c.args.stay) c.args.round device_in c.requires.round in
-    let device_is = ap (λ (k : ℕ). get_or loads k 0) cells.device_is in
-    let mid = set loads c.node-device.result (c.index_mut.result.now - 1) in
-    let second_in : c.node-adapter.result < length mid = omega (arith, length-set loads c.node-device.result (c.index_mut.result.now - 1), cells.adapter_in) in
-    let y : c.index_mut-2.result.now ≡ get_or mid c.node-adapter.result 0 = get_or_read mid _ _ second_in c.index_mut-2.ensures.value 0 in
-    let kept = second-kept net loads c.args.stay c.args.round c.node-device.result c.node-adapter.result (c.index_mut.result.now - 1) cells in
-    let on = c.device.ensures.within in
-    let adapter_in : net.devices + adapter net c.args.stay < rows net = omega (arith, c.adapter.ensures.within, c.adapter.ensures.same) in
-    let second = c.requires.some (net.devices + adapter net c.args.stay) c.args.round adapter_in c.requires.round in
-    let adapter_is = ap (λ (k : ℕ). get_or loads k 0) cells.adapter_is in
-    let one = stands-device net c.args.stay c.args.round cells.on_device c.requires.round in
-    let two = stands-adapter net c.args.stay c.args.round cells.on_device c.requires.round in
-    omega arith
+    let old = c.args.loads.now.items in
+    let loads = c.loop-row.loads.items in
+    let row_in : c.loop-row.row < (net.devices + net.adapters) = omega arith in
+    let inside : c.node-cell.result < length loads = omega (arith, c.node-cell.ensures.same, cell-in net c.loop-row.row c.args.round row_in c.requires.round, c.loop-row.invariant.size, c.requires.size) in
+    let x : c.index_mut.result.now ≡ get_or loads c.node-cell.result 0 = get_or_read loads _ _ inside c.index_mut.ensures.value 0 in
+    let place = ap (λ (k : ℕ). get_or loads k 0) c.node-cell.ensures.same in
+    let some = IsRemoving-some net c.args.stay c.args.round old loads c.loop-row.row row_in c.requires.round c.requires.some c.loop-row.invariant in
+    subst (IsRemoving net c.args.stay c.args.round old (set loads c.node-cell.result (c.index_mut.result.now - 1))) (sym c.row_above-row.ensures.same)
+    (IsRemoving-step net c.args.stay c.args.round old loads c.loop-row.row c.node-cell.result c.index_mut.result.now row_in c.requires.round inside c.node-cell.ensures.same x (omega arith) c.loop-row.invariant)
 
 pub returns-clause-counts : goal.returns-clause-counts
-returns-clause-counts c = λ row r inside low.
+returns-clause-counts c =
     let net = instance_of_rows c.args.net.now in
-    let loads = c.args.loads.now.items in
-    let cells : AreCells net (length loads) c.args.stay c.args.round c.node-device.result c.node-adapter.result = cells-of_stay net (live_of_rows c.args.net.now) (length loads) c.args.stay c.args.round c.node-device.result c.node-adapter.result c.device.result c.adapter.result c.node-device.ensures.sound c.requires.stay c.requires.round c.requires.size c.device.ensures.same c.adapter.ensures.same c.node-device.ensures.same (c.node-adapter.ensures.same ∙ ap (λ (k : ℕ). cell net (k + c.adapter.result) c.args.round) c.devices.ensures.same) in
-    let x : c.index_mut.result.now ≡ get_or loads c.node-device.result 0 = get_or_read loads _ _ cells.device_in c.index_mut.ensures.value 0 in
-    let device_in : net.device c.args.stay < rows net = omega (arith, cells.on_device) in
-    let first = c.requires.some (net.device c.args.stay) c.args.round device_in c.requires.round in
-    let device_is = ap (λ (k : ℕ). get_or loads k 0) cells.device_is in
-    let mid = set loads c.node-device.result (c.index_mut.result.now - 1) in
-    let second_in : c.node-adapter.result < length mid = omega (arith, length-set loads c.node-device.result (c.index_mut.result.now - 1), cells.adapter_in) in
-    let y : c.index_mut-2.result.now ≡ get_or mid c.node-adapter.result 0 = get_or_read mid _ _ second_in c.index_mut-2.ensures.value 0 in
-    let kept = second-kept net loads c.args.stay c.args.round c.node-device.result c.node-adapter.result (c.index_mut.result.now - 1) cells in
-    let on = c.device.ensures.within in
-    let adapter_in : net.devices + adapter net c.args.stay < rows net = omega (arith, c.adapter.ensures.within, c.adapter.ensures.same) in
-    let second = c.requires.some (net.devices + adapter net c.args.stay) c.args.round adapter_in c.requires.round in
-    let adapter_is = ap (λ (k : ℕ). get_or loads k 0) cells.adapter_is in
-    let one = stands-device net c.args.stay c.args.round cells.on_device c.requires.round in
-    let two = stands-adapter net c.args.stay c.args.round cells.on_device c.requires.round in
-    stands-removed net loads c.args.stay c.args.round c.node-device.result c.node-adapter.result row r _ _ cells low x y (omega arith) (omega arith)
+    IsRemoving-ended net c.args.stay c.args.round c.args.loads.now.items c.loop-row.loads.items c.loop-row.row (omega arith) c.loop-row.invariant

@@ -1,5 +1,5 @@
 use Rattle.std.proofs.Common.{arith}
-use Rattle.round_net.specs.Rows.{instance_of_rows, live_of_rows}
+use Rattle.round_net.specs.Rows.{instance_of_rows}
 use Rattle.cost_plan.proofs.NodeLemmas.{cell-lt-node_count, above-lt-node_count}
 use Rattle.cost_plan.proofs.pricing.price_of.Goals as goal
 
@@ -8,5 +8,5 @@ label-cell-requires c = omega (arith, c.node.ensures.same, cell-lt-node_count (i
 
 pub label-requires : goal.label-requires
 label-requires c =
-    let above = above-lt-node_count (instance_of_rows c.args.net.now) (live_of_rows c.args.net.now) c.args.row c.args.round c.node_above.ensures.sound c.requires.row c.requires.last in
+    let above = above-lt-node_count (instance_of_rows c.args.net.now) c.args.row c.args.round c.requires.last in
     omega (arith, c.node_above.ensures.same, above, c.requires.size)

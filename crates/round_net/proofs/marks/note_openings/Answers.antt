@@ -1,27 +1,31 @@
-use Rattle.std.proofs.Common.{◌≡◌, ◌<◌, length, refl, ap, ◌∙◌, arith}
+use Rattle.std.proofs.Common.{◌≡◌, ◌<◌, refl, ap, ◌∙◌, arith}
 use Rattle.cam_event.specs.Counts.{round}
-use Rattle.cam_event.specs.Head.{openings}
-use Rattle.cam_types.specs.Topology.{Topology}
 use Rattle.cam_event.proofs.LimitLemmas.{round_first}
 use Rattle.xpt_devices.specs.Transport.{Transport}
 use Rattle.round_net.specs.Rows.{cell}
+use Rattle.round_net.specs.Caps.{row_count, row_openings}
 use Rattle.round_net.proofs.CellLemmas.{cell_room}
 use Rattle.round_net.proofs.MarkLemmas.{sets-step}
 use Rattle.round_net.proofs.marks.note_openings.Goals as goal
 
 pub bounds-numbers-at : goal.bounds-numbers-at
 bounds-numbers-at c =
-    let rows : length c.devices.result.now ≡ length c.args.replay.now.config.devices = ap length c.devices.ensures.same ∙ ap (λ (g : Topology). length g.devices) (c.config.ensures ∙ ap (λ (t : Transport). t.config) c.devices-devices.ensures) in
+    let rows : c.row_count-row-end.result ≡ row_count c.args.replay.now.config = c.row_count-row-end.ensures ∙ ap row_count (c.config.ensures ∙ ap (λ (t : Transport). t.config) c.devices-devices.ensures) in
     let now : c.round.result ≡ round c.args.replay.now.events = c.round.ensures ∙ ap (λ (t : Transport). round t.events) c.devices-devices.ensures in
-    let at : c.cell-at.result ≡ cell c.args.rounds c.loop-device.device (round c.args.replay.now.events) = c.cell-at.ensures ∙ ap (cell c.args.rounds c.loop-device.device) now in
-    let lt : c.loop-device.device < length c.args.replay.now.config.devices = omega (arith, rows, c.loop-device-test.true) in
-    cell_room (length c.args.replay.now.config.devices) c.args.rounds c.loop-device.device (round c.args.replay.now.events) c.cell-at.result _ (omega arith) lt (round_first c.args.replay.now.events) c.requires.within at
+    let at : c.cell-at.result ≡ cell c.args.rounds c.loop-row.row (round c.args.replay.now.events) = c.cell-at.ensures ∙ ap (cell c.args.rounds c.loop-row.row) now in
+    let lt : c.loop-row.row < row_count c.args.replay.now.config = omega (arith, rows, c.loop-row-test.true) in
+    cell_room (row_count c.args.replay.now.config) c.args.rounds c.loop-row.row (round c.args.replay.now.events) c.cell-at.result _ (omega arith) lt (round_first c.args.replay.now.events) c.requires.within at
 
-pub loop-device-preserved : goal.loop-device-preserved
-loop-device-preserved c =
-    let rows : length c.devices.result.now ≡ length c.args.replay.now.config.devices = ap length c.devices.ensures.same ∙ ap (λ (g : Topology). length g.devices) (c.config.ensures ∙ ap (λ (t : Transport). t.config) c.devices-devices.ensures) in
+pub openings-requires : goal.openings-requires
+openings-requires c =
+    let rows : c.row_count-row-end.result ≡ row_count c.args.replay.now.config = c.row_count-row-end.ensures ∙ ap row_count (c.config.ensures ∙ ap (λ (t : Transport). t.config) c.devices-devices.ensures) in
+    omega (arith, rows, c.loop-row-test.true)
+
+pub loop-row-preserved : goal.loop-row-preserved
+loop-row-preserved c =
+    let rows : c.row_count-row-end.result ≡ row_count c.args.replay.now.config = c.row_count-row-end.ensures ∙ ap row_count (c.config.ensures ∙ ap (λ (t : Transport). t.config) c.devices-devices.ensures) in
     let now : c.round.result ≡ round c.args.replay.now.events = c.round.ensures ∙ ap (λ (t : Transport). round t.events) c.devices-devices.ensures in
-    let at : c.cell-at.result ≡ cell c.args.rounds c.loop-device.device (round c.args.replay.now.events) = c.cell-at.ensures ∙ ap (cell c.args.rounds c.loop-device.device) now in
-    let lt : c.loop-device.device < length c.args.replay.now.config.devices = omega (arith, rows, c.loop-device-test.true) in
-    sets-step (length c.args.replay.now.config.devices) c.args.rounds (round c.args.replay.now.events) c.loop-device.device c.cell-at.result c.openings.result c.args.numbers.now c.loop-device.numbers _ (λ x. openings c.args.replay.now.config c.args.replay.now.events x)
-    (omega arith) lt (round_first c.args.replay.now.events) c.requires.within c.loop-device.invariant (c.openings.ensures ∙ ap (λ (t : Transport). openings t.config t.events c.loop-device.device) c.devices-devices.ensures) at refl
+    let at : c.cell-at.result ≡ cell c.args.rounds c.loop-row.row (round c.args.replay.now.events) = c.cell-at.ensures ∙ ap (cell c.args.rounds c.loop-row.row) now in
+    let lt : c.loop-row.row < row_count c.args.replay.now.config = omega (arith, rows, c.loop-row-test.true) in
+    sets-step (row_count c.args.replay.now.config) c.args.rounds (round c.args.replay.now.events) c.loop-row.row c.cell-at.result c.openings.result c.args.numbers.now c.loop-row.numbers _ (row_openings c.args.replay.now.config c.args.replay.now.events)
+    (omega arith) lt (round_first c.args.replay.now.events) c.requires.within c.loop-row.invariant c.openings.ensures at refl

@@ -19,17 +19,9 @@ loop-event-init c =
     let now = c.note.ensures in
     record {
       replay = started c.args.replay c.requires.rules c.requires.start;
-      cells = record {
-        devices = c.note.auto.dev_frozen ∙ c.requires.cells.devices;
-        adapters = c.note.auto.sim_frozen ∙ c.requires.cells.adapters;
-        openings = c.note.auto.dev_openings ∙ c.requires.cells.openings;
-        sends = c.note.auto.dev_sends ∙ c.requires.cells.sends;
-        adapter_sends = c.note.auto.sim_sends ∙ c.requires.cells.adapter_sends;
-      };
-      noted = noted-first c.args.replay.config c.args.rounds c.args.dev_frozen.now c.note.new.dev_frozen c.args.sim_frozen.now c.note.new.sim_frozen c.args.dev_openings.now c.note.new.dev_openings
-          c.args.dev_sends.now c.note.new.dev_sends c.args.sim_sends.now c.note.new.sim_sends
-          c.requires.no_dev_mark c.requires.no_sim_mark c.requires.no_opening c.requires.no_dev_send c.requires.no_sim_send
-          (rw c.requires.start at now.devices) (rw c.requires.start at now.adapters) (rw c.requires.start at (now.opened refl)) (rw c.requires.start at now.dev_sends) (rw c.requires.start at now.sim_sends);
+      cells = record { marked = c.note.auto.frozen ∙ c.requires.cells.marked; opened = c.note.auto.openings ∙ c.requires.cells.opened; sent = c.note.auto.sends ∙ c.requires.cells.sent };
+      noted = noted-first c.args.replay.config c.args.rounds c.args.frozen.now c.note.new.frozen c.args.openings.now c.note.new.openings c.args.sends.now c.note.new.sends
+          c.requires.no_mark c.requires.no_opening c.requires.no_send (rw c.requires.start at now.marked) (rw c.requires.start at (now.opened refl)) (rw c.requires.start at now.sent);
     }
 
 pub append-requires : goal.append-requires
@@ -62,14 +54,8 @@ loop-event-preserved c =
     let kept = c.note-in-loop-event.auto in
     record {
       replay = there ∙ ap (λ es. record { config = c.args.replay.config; rules = history_rules; events = es }) (sym more);
-      cells = record {
-        devices = kept.dev_frozen ∙ was.devices;
-        adapters = kept.sim_frozen ∙ was.adapters;
-        openings = kept.dev_openings ∙ was.openings;
-        sends = kept.dev_sends ∙ was.sends;
-        adapter_sends = kept.sim_sends ∙ was.adapter_sends;
-      };
-      noted = rw more (noted-step c.args.replay.config (take i events) event c.args.rounds c.loop-event.dev_frozen c.note-in-loop-event.new.dev_frozen c.loop-event.sim_frozen c.note-in-loop-event.new.sim_frozen
-          c.loop-event.dev_openings c.note-in-loop-event.new.dev_openings c.loop-event.dev_sends c.note-in-loop-event.new.dev_sends c.loop-event.sim_sends c.note-in-loop-event.new.sim_sends c.is_tick.result
-          c.loop-event.invariant.noted c.is_tick.ensures (rw there at now.devices) (rw there at now.adapters) (rw there at now.opened) now.kept (rw there at now.dev_sends) (rw there at now.sim_sends));
+      cells = record { marked = kept.frozen ∙ was.marked; opened = kept.openings ∙ was.opened; sent = kept.sends ∙ was.sent };
+      noted = rw more (noted-step c.args.replay.config (take i events) event c.args.rounds c.loop-event.frozen c.note-in-loop-event.new.frozen c.loop-event.openings c.note-in-loop-event.new.openings
+          c.loop-event.sends c.note-in-loop-event.new.sends c.is_tick.result c.loop-event.invariant.noted c.is_tick.ensures
+          (rw there at now.marked) (rw there at now.opened) now.kept (rw there at now.sent));
     }

@@ -6,6 +6,6 @@ use Rattle.round_net.proofs.walk.walk.Given as goal
 abbrev pub invariant-loop-event : goal.invariant-loop-event
 invariant-loop-event l = record {
   replay : l.replay ≡ record { config = l.fn.replay.config; rules = history_rules; events = take l.event-index l.events };
-  cells : HasCells l.fn.replay.config l.rounds l.dev_frozen l.sim_frozen l.dev_openings l.dev_sends l.sim_sends;
-  noted : IsNoted l.fn.replay.config (take l.event-index l.events) l.rounds l.dev_frozen l.sim_frozen l.dev_openings l.dev_sends l.sim_sends;
+  cells : HasCells l.fn.replay.config l.rounds l.frozen l.openings l.sends;
+  noted : IsNoted l.fn.replay.config (take l.event-index l.events) l.rounds l.frozen l.openings l.sends;
 }

@@ -17,9 +17,9 @@ returns-in-Ok-clause-text c =
     let ds : c.devices.result.now ≡ t.devices = c.devices.ensures.same ∙ ap (λ (x : Topology). x.devices) of in
     let ls : c.lanes.result.now ≡ t.lanes = c.lanes.ensures.same ∙ ap (λ (x : Topology). x.lanes) of in
     let zero = rw ws at c.in_ok-write_weights.ensures in
-    let one = rw as' at c.in_ok-write_numbers.ensures in
+    let one = rw as' at c.in_ok-write_adapters.ensures in
     let two = rw ds at c.in_ok-write_devices.ensures.rows in
-    let three = rw ls at c.in_ok-write_numbers-2.ensures in
+    let three = rw ls at c.in_ok-write_numbers.ensures in
     let four = rw c.events.ensures.same at c.in_ok-write_events.ensures.rows in
     let all = wrote_both _ _ _ _ (header c.args.version ∷ []) _ (rw c.name.ensures at c.in_ok-write_row.ensures)
     (wrote_both _ _ _ _ (weight_rows c.args.version t.weights) _ zero
@@ -31,4 +31,4 @@ pub returns-in-Ok-clause-trace : goal.returns-in-Ok-clause-trace
 returns-in-Ok-clause-trace c =
     let h : IsHistory c.args.history.now = search rules in
     let short = rw c.events.ensures.same at c.events.ensures.short in
-    is_trace c.args.version c.args.history.now c.requires h short
+    is_trace c.args.version c.args.history.now (c.requires (record { kept = h.config })) h short

@@ -1,15 +1,13 @@
-use Rattle.std.proofs.Common.{◌≡◌, ◌*◌, ◌≤◌, length, map, refl, sym, ap, ◌∙◌, arith, None}
+use Rattle.std.proofs.Common.{◌≡◌, ◌≤◌, length, map, sym, ap, ◌∙◌, refl, arith, None}
 use Rattle.cam_types.specs.Topology.{IsConfig}
 use Rattle.cam_types.specs.declared.maxima.TheConstants.{MOST_ADAPTERS}
 use Rattle.cam_event.specs.Counts.{round}
-use Rattle.cam_types.specs.Questions.{adapter_openings}
 use Rattle.cam_event.specs.Stays.{unsent}
 use Rattle.xpt_stays.specs.Records.{records}
 use Rattle.round_net.specs.Nets.{row_of}
 use Rattle.cam_types.proofs.ConfigLemmas.{few_adapters}
 use Rattle.round_net.proofs.FoundLemmas.{net_found}
 use Rattle.round_net.proofs.NetLemmas.{net_is_net, live_admissible}
-use Rattle.round_net.proofs.TableLemmas.{length-cells}
 use Rattle.round_net.proofs.net.Net.of.Goals as goal
 
 pub walk_through-requires-clause-legal : goal.walk_through-requires-clause-legal
@@ -20,24 +18,16 @@ overflow_cast-result c =
     let few : length c.adapters.result.now ≤ MOST_ADAPTERS = rw c.adapters.ensures.same (few_adapters c.config-config.result.now c.adapters.ensures.kept) in
     omega arith
 
-pub caps-requires-2-clause-openings : goal.caps-requires-2-clause-openings
-caps-requires-2-clause-openings c =
-    let rows = ap length c.in_ok-openings.ensures ∙ length-cells c.round-rounds.result (λ a r. adapter_openings c.config-config.result.now a) (length c.config-config.result.now.adapters * c.round-rounds.result) in
-    rw (c.deref-6.ensures.value, c.deref-4.ensures.value) (rows ∙ sym c.in_ok-notes.ensures.cells.adapters)
-
 pub invariant_of-result : goal.invariant_of-result
 invariant_of-result c =
-    let config : c.config-config.result.now ≡ c.args.history.now.config = c.config-config.ensures in
-    let events : c.events.result.now ≡ c.args.history.now.events = c.events.ensures.same in
+    let config = c.config-config.ensures in
+    let events = c.events.ensures.same in
     let net =
     net_found c.config-config.result.now c.events.result.now c.round-rounds.result (length c.adapters.result.now) c.in_ok-adapters_of.field-0.items c.in_ok-stay_rows.field-0.items
-    c.in_ok-notes.notes.dev_frozen.items c.in_ok-notes.notes.sim_frozen.items c.in_ok-notes.notes.dev_openings.items c.in_ok-notes.notes.dev_sends.items c.in_ok-notes.notes.sim_sends.items
-    c.in_ok-openings.openings.items c.in_ok-caps.field-0.items c.in_ok-caps-2.field-0.items
+    c.in_ok-notes.notes.frozen.items c.in_ok-notes.notes.openings.items c.in_ok-notes.notes.sends.items c.in_ok-caps.field-0.items
     (c.round-rounds.ensures.same ∙ ap round (sym events)) (ap length c.adapters.ensures.same) (c.in_ok-adapters_of.ensures ∙ rw c.devices.ensures.same refl)
     (c.in_ok-stay_rows.ensures ∙ ap (map (row_of c.config-config.result.now c.round-rounds.result)) (c.stays.ensures ∙ ap records (sym events)))
-    c.in_ok-notes.ensures.noted c.in_ok-notes.ensures.cells c.in_ok-openings.ensures
-    (rw (c.deref.ensures.value, c.deref-2.ensures.value, c.deref-3.ensures.value) at c.in_ok-caps.ensures)
-    (rw (c.deref-4.ensures.value, c.deref-5.ensures.value, c.deref-6.ensures.value) at c.in_ok-caps-2.ensures)
+    c.in_ok-notes.ensures.noted c.in_ok-notes.ensures.cells (rw (c.deref.ensures.value, c.deref-2.ensures.value, c.deref-3.ensures.value) at c.in_ok-caps.ensures)
     ∙ rw (config, events) refl in
     let kept : IsConfig c.args.history.now.config = rw config at c.devices.ensures.kept in
     let complete : unsent c.args.history.now.events ≡ None = sym c.unsent.ensures ∙ c.in_default.is in
@@ -45,17 +35,14 @@ invariant_of-result c =
 
 pub returns-clause-net : goal.returns-clause-net
 returns-clause-net c =
-    let config : c.config-config.result.now ≡ c.args.history.now.config = c.config-config.ensures in
-    let events : c.events.result.now ≡ c.args.history.now.events = c.events.ensures.same in
+    let config = c.config-config.ensures in
+    let events = c.events.ensures.same in
     let net =
     net_found c.config-config.result.now c.events.result.now c.round-rounds.result (length c.adapters.result.now) c.in_ok-adapters_of.field-0.items c.in_ok-stay_rows.field-0.items
-    c.in_ok-notes.notes.dev_frozen.items c.in_ok-notes.notes.sim_frozen.items c.in_ok-notes.notes.dev_openings.items c.in_ok-notes.notes.dev_sends.items c.in_ok-notes.notes.sim_sends.items
-    c.in_ok-openings.openings.items c.in_ok-caps.field-0.items c.in_ok-caps-2.field-0.items
+    c.in_ok-notes.notes.frozen.items c.in_ok-notes.notes.openings.items c.in_ok-notes.notes.sends.items c.in_ok-caps.field-0.items
     (c.round-rounds.ensures.same ∙ ap round (sym events)) (ap length c.adapters.ensures.same) (c.in_ok-adapters_of.ensures ∙ rw c.devices.ensures.same refl)
     (c.in_ok-stay_rows.ensures ∙ ap (map (row_of c.config-config.result.now c.round-rounds.result)) (c.stays.ensures ∙ ap records (sym events)))
-    c.in_ok-notes.ensures.noted c.in_ok-notes.ensures.cells c.in_ok-openings.ensures
-    (rw (c.deref.ensures.value, c.deref-2.ensures.value, c.deref-3.ensures.value) at c.in_ok-caps.ensures)
-    (rw (c.deref-4.ensures.value, c.deref-5.ensures.value, c.deref-6.ensures.value) at c.in_ok-caps-2.ensures)
+    c.in_ok-notes.ensures.noted c.in_ok-notes.ensures.cells (rw (c.deref.ensures.value, c.deref-2.ensures.value, c.deref-3.ensures.value) at c.in_ok-caps.ensures)
     ∙ rw (config, events) refl in
     net
 

@@ -1,8 +1,0 @@
-use Rattle.std.proofs.Common.{◌≡◌, take, drop}
-use Rattle.cam_types.specs.Topology.{lane_fault}
-use Rattle.cam_types.specs.Lists.{moments, moments_after, first_answer}
-use Rattle.cam_types.proofs.config.lanes_fault.Given as goal
-
--- what is left gives the answer
-abbrev pub invariant-loop-i : goal.invariant-loop-i
-invariant-loop-i l = first_answer (lane_fault l.fn.adapters) (moments_after (take l.i l.lanes) (drop l.i l.lanes)) ≡ first_answer (lane_fault l.fn.adapters) (moments l.lanes)

@@ -1,0 +1,11 @@
+use Rattle.std.proofs.Common.{◌-◌}
+use Rattle.round_net.specs.Instance.{rows}
+use Rattle.round_net.specs.Rows.{instance_of_rows}
+use Rattle.cost_plan.proofs.LoadLemmas.{IsAdding}
+use Rattle.cost_plan.proofs.draft.add.Given as goal
+
+abbrev pub invariant-loop-row : goal.invariant-loop-row
+invariant-loop-row l = IsAdding (instance_of_rows l.net) l.stay l.round l.initial.loads.items l.loads.items l.row
+
+abbrev pub decreases-loop-row : goal.decreases-loop-row
+decreases-loop-row l = rows (instance_of_rows l.net) - l.row

@@ -1,0 +1,13 @@
+use Rattle.std.proofs.Common.{◌≡◌, ◌≤◌, ◌*◌, ◌^◌}
+use Rattle.round_net.specs.Sums.{sum_below, sum_to}
+use Rattle.round_net.specs.Rows.{instance_of_rows}
+use Rattle.round_net.specs.PriceRows.{pricing_of_rows}
+use Rattle.price_check.proofs.value.offered.Given as goal
+
+abbrev pub invariant-loop-row : goal.invariant-loop-row
+invariant-loop-row l =
+    let net = instance_of_rows l.net in
+    record {
+      so_far : l.total ≡ sum_below l.row (λ row. sum_to net.rounds (λ r. net.cap row r * pricing_of_rows l.prices row r));
+      short : l.total ≤ 2 ^ 57 * l.row;
+    }

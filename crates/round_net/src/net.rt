@@ -80,7 +80,7 @@ impl Net {
         self.rounds
     }
 
-    /// How many stays there are, at most 1,024.
+    /// How many stays there are, at most `MOST_STAYS`.
     #[tactic(auto, unfolding(crate::specs::Rows::instance_of_rows))]
     pub fn stays(&self) -> u32
         ensures same { result ≡ (instance_of_rows self.now).stays }
@@ -89,7 +89,7 @@ impl Net {
         self.stays.len() as u32
     }
 
-    /// How many devices there are, at most 16.
+    /// How many devices there are, at most `MOST_DEVICES`.
     #[tactic(auto, unfolding(crate::specs::Rows::instance_of_rows))]
     pub fn devices(&self) -> u32
         ensures same { result ≡ (instance_of_rows self.now).devices }
@@ -98,7 +98,7 @@ impl Net {
         self.adapter_of.len() as u32
     }
 
-    /// How many adapters there are, at most 4.
+    /// How many adapters there are, at most `MOST_ADAPTERS`.
     #[tactic(auto, unfolding(crate::specs::Rows::instance_of_rows))]
     pub fn adapters(&self) -> u32
         ensures same { result ≡ (instance_of_rows self.now).adapters }

@@ -9,7 +9,6 @@ use Rattle.cam_types.specs.Lists.{moments, moments_after, first_answer}
 use Rattle.cam_types.specs.Questions.{device_adapter, weight}
 use Rattle.cam_types.specs.Topology.{Topology, IsConfig, are_openings, openings_fault, names_link, link_fault, adapter_fault, address_fault, device_fault, lane_fault, weight_lack, adapter_lack, unit_fault}
 use Rattle.cam_types.specs.Weights.{reaches_last, weight_fault, weight_in}
-use Rattle.cam_types.specs.declared.config_fault.ConfigFault.{ConfigFault}
 use Rattle.cam_types.specs.declared.weight_row.WeightRow.{WeightRow}
 use Rattle.cam_types.specs.declared.config_fault.ConfigFault.TheVariants.{NoAdapters, TooMany, BadOpenings, NoAdapter, BadWeight, NoLink}
 use Rattle.cam_types.specs.declared.maxima.TheConstants.{MOST_LINKS, MOST_ADAPTERS, MOST_DEVICES, MOST_OPENINGS, MOST_WEIGHT, MOST_WEIGHT_ROWS}

@@ -1,5 +1,3 @@
-use Rattle.std.proofs.Common.{refl, ◌∙◌}
-use Rattle.std.specs.Prelude.{length}
 use Rattle.cam_types.specs.Lists.{moments, first_answer}
 use Rattle.cam_types.specs.Topology.{unit_fault, link_fault, device_fault, lane_fault, weight_lack, adapter_lack}
 use Rattle.cam_types.specs.Weights.{weight_fault}

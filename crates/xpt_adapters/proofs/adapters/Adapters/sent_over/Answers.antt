@@ -1,7 +1,7 @@
 use lib.Dec.{eqb}
 use Rattle.std.specs.Option.{option_eq}
 use Rattle.std.proofs.lemmas.Bool.{eqb-true}
-use Rattle.std.proofs.Common.{◌≡◌, ◌+◌, ◌≤◌, length, Some, ap, sym, subst, ◌∙◌, arith}
+use Rattle.std.proofs.Common.{◌+◌, ◌≤◌, length, Some, ap, sym, subst, ◌∙◌, arith}
 use Rattle.cam_types.specs.Questions.{adapter_link}
 use Rattle.cam_types.specs.Topology.{Topology, IsConfig}
 use Rattle.cam_types.specs.declared.maxima.TheConstants.{MOST_EVENTS}

@@ -1,4 +1,5 @@
-"""Traces for the benches: a transport of eight adapters, most of them with 32 devices and some openings unused."""
+"""Traces for the benches: a transport of eight adapters, most of them with 32 devices and some openings unused; where there are
+links, the adapters are on them in turn."""
 import random
 import typing
 
@@ -22,7 +23,8 @@ def fill(rows, count, choose, stopped, coming, shape):
 
 class Shape(typing.NamedTuple):
     """What a trace is like: its devices and their openings, the openings of each adapter, the part of its rounds in which
-    commands come, how many of its stays begin with a requeue, and how often an adapter idles and a device is frozen."""
+    commands come, how many of its stays begin with a requeue, how often an adapter idles and a device is frozen, and its links
+    and the openings of each."""
     devices: int = DEVICES
     device_openings: int = 1
     adapter_openings: int = 2
@@ -30,8 +32,11 @@ class Shape(typing.NamedTuple):
     requeued: float = 0
     idle: float = 0.1
     frozen: float = 0
+    links: int = 0
+    link_openings: int = 0
 
 
+STANDARD_WEIGHTS = [f"weight,{last},{weight},,,,," for last, weight in ((255, 16), (511, 8), (767, 4), (1023, 2), (1279, 1))]
 SHAPES = {
     "loose": Shape(device_openings=4, adapter_openings=16, idle=0.3),
     "tight": Shape(),
@@ -41,6 +46,9 @@ SHAPES = {
     "at once on 32 devices": Shape(adapter_openings=16, within=0),
     "overloaded": Shape(within=1 / 4, idle=0),
 }
+# Three of these with the adapters on two links, which are narrower than the adapters on them together.
+LINKED = {"loose": 16, "tight": 6, "frozen": 6}
+SHAPES |= {f"{kind}, linked": SHAPES[kind]._replace(links=2, link_openings=openings) for kind, openings in LINKED.items()}
 
 
 def trace(kind, stays, rounds, seed=1, events=0):
@@ -49,8 +57,9 @@ def trace(kind, stays, rounds, seed=1, events=0):
     choose, choose_more = random.Random(seed), random.Random(seed)
     shape = SHAPES.get(kind, kind)
     coming = [shape.device_openings] * shape.devices
-    rows = ["camtrace1,a,b,c,d,e,f,g"]
-    rows += [f"sim,{shape.adapter_openings},,,,,,"] * ADAPTERS
+    rows = ["camtrace3,a,b,c,d,e,f,g", *STANDARD_WEIGHTS] if shape.links else ["camtrace1,a,b,c,d,e,f,g"]
+    rows += [f"link,{shape.link_openings},,,,,,"] * shape.links
+    rows += [f"sim,{shape.adapter_openings},{a % shape.links if shape.links else ''},,,,," for a in range(ADAPTERS)]
     rows += [f"dev,{d % ADAPTERS},{d},0,{shape.device_openings},,," for d in range(shape.devices)]
     rows += [f"lane,{a},,,,,," for a in range(ADAPTERS)]
     head = len(rows)
@@ -73,17 +82,22 @@ def trace(kind, stays, rounds, seed=1, events=0):
             rows.append(f"submit,0,{d},{priority},4,none,,")
             queues[d].append((priority, len(rows), submitted, 0))
             submitted += 1
+        left = [shape.link_openings] * shape.links
         for a in range(ADAPTERS):
             fill(rows, events // rounds // (2 * ADAPTERS), choose_more, stopped, coming, shape)
             used = [0] * shape.devices
             for _ in range(shape.adapter_openings):
                 ready = [d for d in range(a, shape.devices, ADAPTERS) if queues[d] and d not in frozen and used[d] < openings[d]]
+                if shape.links and not left[a % shape.links]:
+                    break
                 if not ready or (r < rounds * 3 // 4 and choose.random() < shape.idle):
                     break
                 d = min(ready, key=lambda d: (min(queues[d])[0], last[d], d))
                 first = min(queues[d])
                 queues[d].remove(first)
                 used[d] += 1
+                if shape.links:
+                    left[a % shape.links] -= 1
                 priority, _, ccb, attempt = first
                 rows.append(f"send,{a},{ccb},,,,,")
                 last[d] = len(rows)

@@ -101,11 +101,35 @@ def slowed(rng, text):
     return "".join(given + late)
 
 
+def weights(rng):
+    """A random table of weights."""
+    lasts = sorted(rng.sample(range(1279), rng.randint(0, 15))) + [1279]
+    return [record("weight", last, rng.choice([1, 2, 7, rng.randint(1, 1000), 1000])) for last in lasts]
+
+
 def weighed(rng, text):
     """The same history in version 2, with a random table of weights."""
-    lasts = sorted(rng.sample(range(1279), rng.randint(0, 15))) + [1279]
-    rows = [record("weight", last, rng.choice([1, 2, 7, rng.randint(1, 1000), 1000])) for last in lasts]
-    return record("camtrace2", *"abcdefg") + "".join(rows) + text.split("\n", 1)[1]
+    return record("camtrace2", *"abcdefg") + "".join(weights(rng)) + text.split("\n", 1)[1]
+
+
+def linked(rng, text):
+    """The same events in version 3, with a random table of weights, and adapters on links that are just wide enough."""
+    rows = [line.split(",") for line in text.splitlines()[1:]]
+    adapters = [row for row in rows if row[0] == "sim"]
+    of_lane = [int(row[1]) for row in rows if row[0] == "lane"]
+    links = rng.randint(1, 4)
+    link_of = [rng.choice([None, *range(links)]) for _ in adapters]
+    sent, most = [0] * links, [1] * links
+    for row in rows:
+        if row[0] == "tick":
+            sent = [0] * links
+        elif row[0] == "send" and link_of[of_lane[int(row[1])]] is not None:
+            link = link_of[of_lane[int(row[1])]]
+            sent[link] += 1
+            most[link] = max(most[link], sent[link])
+    head = [record("camtrace3", *"abcdefg"), *weights(rng), *(record("link", openings) for openings in most)]
+    head += [record("sim", row[1], "" if link is None else link) for row, link in zip(adapters, link_of, strict=True)]
+    return "".join(head) + "".join(line for line in text.splitlines(keepends=True)[1:] if not line.startswith("sim,"))
 
 
 def run(words, text):
@@ -115,11 +139,11 @@ def run(words, text):
 
 
 def trace(number):
-    """The trace of this number, or None if its script was refused or its history isn't complete. Every second one has weights of
-    its own."""
+    """The trace of this number, or None if its script was refused or its history isn't complete. Of four one has weights of its
+    own, and two have links too."""
     rng = random.Random(number)
     given = run(["sim", "-", str(rng.getrandbits(64))], script(rng))
     if given is None:
         return None
     text = next((text for text in (slowed(rng, given), given) if run(["check"], text) is not None), None)
-    return weighed(rng, text) if text and number % 2 else text
+    return text and (lambda rng, text: text, weighed, linked, linked)[number % 4](rng, text)

@@ -1,7 +1,7 @@
 // Solves the net on standard input, as `audit_bench net` prints it, by the network simplex of LEMON (lemon.cs.elte.hu). The
-// graph has a node for each stay, for each round of each device and adapter, and a root. An arc leads from a stay to each round of its
-// device in which it could be sent, at what its waiting costs; one from there to the adapter's round, and one from there to the
-// root, for as many stays as the device and the adapter take. Prints the least cost, and the least processor time
+// graph has a node for each stay, for each round of each device, adapter and link, and a root. An arc leads from a stay to each
+// round of its device in which it could be sent, at what its waiting costs; one from there to the adapter's round, one from
+// there to its link's, if it is on one, and one to the root, each for as many stays as the device, the adapter and the link take. Prints the least cost, and the least processor time
 // in milliseconds in which a solver was made over the graph and run.
 #include <algorithm>
 #include <cstdlib>
@@ -30,10 +30,17 @@ struct Stay {
 
 int main() {
   const int runs = 10;
-  const int stay_count = read(), devices = read(), adapters = read(), rounds = read();
-  std::vector<int> adapter_of(devices), caps((devices + adapters) * rounds);
+  const int stay_count = read(), devices = read(), adapters = read(), links = read(), rounds = read();
+  const int units = devices + adapters, rows = units + links;
+  std::vector<int> adapter_of(devices), link_of(adapters), caps(rows * rounds);
   std::vector<Stay> stays(stay_count);
   for (int &adapter : adapter_of) adapter = read();
+  for (int &link : link_of) link = read();
+  // The row above each, or all rows for the root.
+  const auto row_above = [&](int row) {
+    if (row < devices) return devices + adapter_of[row];
+    return row < units && link_of[row - devices] >= 0 ? units + link_of[row - devices] : rows;
+  };
   for (Stay &stay : stays) {
     stay.device = read();
     stay.arrival = read();
@@ -54,21 +61,20 @@ int main() {
     upper[arc] = most;
     cost[arc] = price;
   };
-  for (int row = 0; row < devices + adapters; ++row) {
+  for (int row = 0; row < rows; ++row) {
+    const int above = row_above(row);
     for (int round = 0; round < rounds; ++round) {
       const int cell = row * rounds + round;
-      if (caps[cell] > 0) {
-        add(cells[cell], row < devices ? cells[(devices + adapter_of[row]) * rounds + round] : root, caps[cell], 0);
-      }
+      if (caps[cell] > 0) add(cells[cell], above < rows ? cells[above * rounds + round] : root, caps[cell], 0);
     }
   }
   for (const Stay &stay : stays) {
     const Graph::Node node = graph.addNode();
     supply[node] = 1;
     for (int round = stay.arrival; round <= stay.last; ++round) {
-      const int cell = stay.device * rounds + round - 1;
-      const int above = (devices + adapter_of[stay.device]) * rounds + round - 1;
-      if (caps[cell] > 0 && caps[above] > 0) add(node, cells[cell], 1, stay.weight * (round - stay.arrival));
+      bool is_open = true;
+      for (int row = stay.device; row < rows; row = row_above(row)) is_open = is_open && caps[row * rounds + round - 1] > 0;
+      if (is_open) add(node, cells[stay.device * rounds + round - 1], 1, stay.weight * (round - stay.arrival));
     }
   }
 

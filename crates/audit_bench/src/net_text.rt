@@ -1,24 +1,33 @@
 //! A net as numbers, for other solvers.
 
 ghost use Rattle.std.specs.Prelude.{◌<◌};
+ghost use Rattle.round_net.specs.Instance.{rows};
 ghost use Rattle.round_net.specs.Rows.{instance_of_rows};
 
 use round_net::Net;
 use std::io;
 use std::process::ExitCode;
 
-/// Prints how many stays, devices, adapters and rounds there are; the adapter of each device; of each stay its device, first
-/// round, last round and weight; and how many stays each device, and then each adapter, takes in each round.
+/// Prints how many stays, devices, adapters, links and rounds there are; the adapter of each device; the link of each adapter, or
+/// -1; of each stay its device, first round, last round and weight; and how many stays each row takes in each round: each device,
+/// then each adapter, then each link.
 pub fn print_net<R: Print>(rt: &R, net: &Net) -> io::Result<ExitCode> {
     println!(rt;
-        "{} {} {} {}",
+        "{} {} {} {} {}",
         net.stays(),
         net.devices(),
         net.adapters(),
+        net.links(),
         net.rounds()
     )?;
     for device in 0..net.devices() {
         println!(rt; "{}", net.adapter_of(device))?;
+    }
+    for adapter in 0..net.adapters() {
+        match net.link_of(adapter) {
+            Some(link) => println!(rt; "{link}")?,
+            None => println!(rt; "-1")?,
+        }
     }
     for stay in 0..net.stays() {
         let (device, weight) = (net.device(stay), net.weight(stay));
@@ -28,29 +37,17 @@ pub fn print_net<R: Print>(rt: &R, net: &Net) -> io::Result<ExitCode> {
             net.last(stay)
         )?;
     }
-    for device in 0..net.devices() {
-        print_device(rt, net, device)?;
-    }
-    for adapter in 0..net.adapters() {
-        print_adapter(rt, net, adapter)?;
+    for row in 0..net.rows() {
+        print_row(rt, net, row)?;
     }
     Ok(ExitCode::SUCCESS)
 }
 
-fn print_device<R: Print>(rt: &R, net: &Net, device: u32) -> io::Result<()>
-    requires { device < (instance_of_rows net.now).devices }
+fn print_row<R: Print>(rt: &R, net: &Net, row: u32) -> io::Result<()>
+    requires { row < rows (instance_of_rows net.now) }
 {
     for round in 1..net.rounds() + 1 {
-        println!(rt; "{}", net.dev_cap(device, round))?;
-    }
-    Ok(())
-}
-
-fn print_adapter<R: Print>(rt: &R, net: &Net, adapter: u32) -> io::Result<()>
-    requires { adapter < (instance_of_rows net.now).adapters }
-{
-    for round in 1..net.rounds() + 1 {
-        println!(rt; "{}", net.sim_cap(adapter, round))?;
+        println!(rt; "{}", net.cap(row, round))?;
     }
     Ok(())
 }

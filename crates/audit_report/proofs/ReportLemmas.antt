@@ -5,7 +5,7 @@ use Rattle.std.proofs.lemmas.Fmt.{length-decimal-le}
 use Rattle.cam_types.specs.declared.device.Device.{Device}
 use Rattle.cam_path.specs.Paths.{Fits, address_of, spelled}
 use Rattle.cam_path.specs.declared.path.CamPath.{CamPath}
-use Rattle.price_check.specs.Report.{number_text, texts_below, row_text}
+use Rattle.price_check.specs.Report.{texts_below, shared_text, row_text}
 
 pub no_text : (text : ℕ → List ℕ) (before : List ℕ) → before ≡ before ++ texts_below 0 text
 no_text text before = sym (append-nil before)
@@ -36,10 +36,10 @@ pub two_pieces : (before first second so_far : List ℕ) → so_far ≡ before +
 two_pieces before first second so_far is = sym (append_assoc before first second) ∙ ap (λ t. t ++ second) (sym is)
 
 -- whose opening a row's is
-pub row_text-device : (devices : List Device) (row : ℕ) (device : Device) → slice_get devices row ≡ Some device → row_text devices row ≡ codes "price dev " ++ spelled (address_of device)
+pub row_text-device : (devices : List Device) (adapters row : ℕ) (device : Device) → slice_get devices row ≡ Some device → row_text devices adapters row ≡ codes "price dev " ++ spelled (address_of device)
 unfolding row_text
-row_text-device devices row device is = rw is refl
+row_text-device devices adapters row device is = rw is refl
 
-pub row_text-adapter : (devices : List Device) (row : ℕ) → slice_get devices row ≡ None → row_text devices row ≡ codes "price sim" ++ number_text (row - length devices)
+pub row_text-shared : (devices : List Device) (adapters row : ℕ) → slice_get devices row ≡ None → row_text devices adapters row ≡ shared_text adapters (row - length devices)
 unfolding row_text
-row_text-adapter devices row is = rw is refl
+row_text-shared devices adapters row is = rw is refl

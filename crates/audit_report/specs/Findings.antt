@@ -11,7 +11,7 @@ use Rattle.price_check.specs.Report.{number_text}
 use Rattle.price_check.specs.Verdicts.{IsGap, IsRefused}
 use Rattle.price_check.specs.declared.claim.Claim.{Claim}
 use Rattle.price_check.specs.declared.verdict.Cause.{Cause}
-use Rattle.price_check.specs.declared.verdict.Cause.TheVariants.{Early, Late, DeviceFull, AdapterFull}
+use Rattle.price_check.specs.declared.verdict.Cause.TheVariants.{Early, Late, DeviceFull, AdapterFull, LinkFull}
 use Rattle.audit_report.specs.declared.finding.Finding.{Finding}
 use Rattle.audit_report.specs.declared.finding.Finding.TheVariants.{Proved, Gap, NotAdmissible, WrongBest, WrongExcess}
 
@@ -53,6 +53,7 @@ cause_text Early = codes "early"
 cause_text Late = codes "late"
 cause_text DeviceFull = codes "device full"
 cause_text AdapterFull = codes "adapter full"
+cause_text LinkFull = codes "link full"
 
 -- the line on a schedule that costs so much more than the prices are worth
 unfoldable pub gap_text : ℕ → List ℕ

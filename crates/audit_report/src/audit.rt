@@ -12,7 +12,7 @@ ghost use Rattle.price_check.specs.Report.{plan_text};
 ghost use Rattle.audit_report.specs.Audit.{IsAudit};
 ghost use Rattle.trace_file.specs.Trace.{WasTrace};
 ghost use Rattle.audit_report.specs.Runs.{Ended, WhyNoNet};
-ghost use Rattle.cam_types.specs.declared.maxima.TheConstants.{MOST_STAYS, MOST_ROUNDS, MOST_DEVICES, MOST_ADAPTERS};
+ghost use Rattle.cam_types.specs.declared.maxima.TheConstants.{MOST_STAYS, MOST_ROUNDS, MOST_DEVICES, MOST_ADAPTERS, MOST_LINKS};
 
 use crate::audit_fault::AuditFault;
 use crate::costs::Costs;
@@ -133,7 +133,7 @@ fn push_rest(
     requires stays { length best.now.schedule ≡ (instance_of_rows net.now).stays }
     requires cells { IsPricingFor (instance_of_rows net.now) best.now.prices }
     ensures text { OnOk result (text.new.items ≡ text.old.items ++ (if summary then [] else plan_text history.now.config.devices net.now (slice_index best.now.schedule) (pricing_of_rows best.now.prices))) }
-    ensures short { OnOk result (length text.new.items ≤ length text.old.items + (260 * MOST_STAYS + 156 * MOST_ROUNDS * (MOST_DEVICES + MOST_ADAPTERS) + 4)) }
+    ensures short { OnOk result (length text.new.items ≤ length text.old.items + (260 * MOST_STAYS + 156 * MOST_ROUNDS * (MOST_DEVICES + MOST_ADAPTERS + MOST_LINKS) + 4)) }
 {
     if summary {
         return Ok(());

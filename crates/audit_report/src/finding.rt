@@ -141,5 +141,6 @@ fn cause_text(cause: Cause) -> &'static [u8]
         Cause::Late => b"late",
         Cause::DeviceFull => b"device full",
         Cause::AdapterFull => b"adapter full",
+        Cause::LinkFull => b"link full",
     }
 }

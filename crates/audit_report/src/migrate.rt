@@ -12,8 +12,8 @@ use std::io::{Read, Write};
 use text_io::Watched;
 use trace_file::{TraceFault, WriteFault, migrate_trace, read_trace};
 
-/// Reads a trace of any version and writes the trace of the same history in version 2, which has a table of weights. Stays
-/// without a send are taken as they are. Before anything is written the trace is read to its end and tested.
+/// Reads a trace of any version and writes the trace of the same history in version 3, which has a table of weights and
+/// links. Stays without a send are taken as they are. Before anything is written the trace is read to its end and tested.
 pub fn run_migrate<R: Read, W: Write>(
     alloc: Global,
     trace: &mut Watched<R>,

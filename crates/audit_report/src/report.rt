@@ -5,8 +5,8 @@ ghost use Rattle.cam_path.specs.Paths.{address_of, spelled};
 ghost use Rattle.round_net.specs.Instance.{rows};
 ghost use Rattle.round_net.specs.Rows.{instance_of_rows};
 ghost use Rattle.round_net.specs.PriceRows.{pricing_of_rows, IsPricingFor};
-ghost use Rattle.price_check.specs.Report.{summary_text, number_text, texts_below, stay_line, row_text, row_line, price_lines, plan_text};
-ghost use Rattle.cam_types.specs.declared.maxima.TheConstants.{MOST_STAYS, MOST_ROUNDS, MOST_DEVICES, MOST_ADAPTERS};
+ghost use Rattle.price_check.specs.Report.{summary_text, number_text, texts_below, stay_line, shared_text, row_text, row_line, price_lines, plan_text};
+ghost use Rattle.cam_types.specs.declared.maxima.TheConstants.{MOST_STAYS, MOST_ROUNDS, MOST_DEVICES, MOST_ADAPTERS, MOST_LINKS};
 
 use crate::costs::Costs;
 use crate::text::{push_line, push_name, push_number};
@@ -45,7 +45,7 @@ pub fn push_plan(
     requires schedule { length schedule.now ≡ (instance_of_rows net.now).stays }
     requires prices { IsPricingFor (instance_of_rows net.now) prices.now }
     ensures text { OnOk result (text.new.items ≡ text.old.items ++ plan_text devices.now net.now (slice_index schedule.now) (pricing_of_rows prices.now)) }
-    ensures short { OnOk result (length text.new.items ≤ length text.old.items + (260 * MOST_STAYS + 156 * MOST_ROUNDS * (MOST_DEVICES + MOST_ADAPTERS) + 4)) }
+    ensures short { OnOk result (length text.new.items ≤ length text.old.items + (260 * MOST_STAYS + 156 * MOST_ROUNDS * (MOST_DEVICES + MOST_ADAPTERS + MOST_LINKS) + 4)) }
 {
     push_stays(text, net, schedule)?;
     push_prices(text, devices, net, prices)?;
@@ -96,7 +96,7 @@ fn push_prices(
 ) -> Result<(), AllocError>
     requires { IsPricingFor (instance_of_rows net.now) prices.now }
     ensures text { OnOk result (text.new.items ≡ text.old.items ++ price_lines devices.now (instance_of_rows net.now) (pricing_of_rows prices.now)) }
-    ensures short { OnOk result (length text.new.items ≤ length text.old.items + 156 * MOST_ROUNDS * (MOST_DEVICES + MOST_ADAPTERS)) }
+    ensures short { OnOk result (length text.new.items ≤ length text.old.items + 156 * MOST_ROUNDS * (MOST_DEVICES + MOST_ADAPTERS + MOST_LINKS)) }
 {
     for row in 0..net.rows() {
         push_rounds(text, devices, net, prices, row)?;
@@ -115,11 +115,11 @@ fn push_rounds(
 ) -> Result<(), AllocError>
     requires prices { IsPricingFor (instance_of_rows net.now) prices.now }
     requires row { row < rows (instance_of_rows net.now) }
-    ensures text { OnOk result (text.new.items ≡ text.old.items ++ texts_below (instance_of_rows net.now).rounds (λ r. row_line devices.now (pricing_of_rows prices.now) row (r + 1))) }
+    ensures text { OnOk result (text.new.items ≡ text.old.items ++ texts_below (instance_of_rows net.now).rounds (λ r. row_line devices.now (instance_of_rows net.now).adapters (pricing_of_rows prices.now) row (r + 1))) }
     ensures short { OnOk result (length text.new.items ≤ length text.old.items + 156 * MOST_ROUNDS) }
 {
     for round in 0..net.rounds() {
-        push_price(text, devices, prices, row, round + 1)?;
+        push_price(text, devices, net.adapters(), prices, row, round + 1)?;
     }
     Ok(())
 }
@@ -129,41 +129,62 @@ fn push_rounds(
 fn push_price(
     text: &mut Vec<u8>,
     devices: &[Device],
+    adapters: u32,
     prices: &Prices,
     row: u32,
     round: u32,
 ) -> Result<(), AllocError>
-    requires row { row < prices.now.devices + prices.now.adapters }
+    requires row { row < prices.now.devices + prices.now.adapters + prices.now.links }
     requires first { 1 ≤ round }
     requires last { round ≤ prices.now.rounds }
-    ensures text { OnOk result (text.new.items ≡ text.old.items ++ row_line devices.now (pricing_of_rows prices.now) row round) }
+    ensures text { OnOk result (text.new.items ≡ text.old.items ++ row_line devices.now adapters (pricing_of_rows prices.now) row round) }
     ensures short { OnOk result (length text.new.items ≤ length text.old.items + 156) }
 {
     let price = prices.price(row, round);
     if price == 0 {
         return Ok(());
     }
-    push_row(text, devices, row)?;
+    push_row(text, devices, adapters, row)?;
     push_number(text, u64::from(round))?;
     push_number(text, price)?;
     text.extend_from_slice(b"\n")
 }
 
-// Puts whose opening a row's is behind the text: a device's by its path, and behind all devices an adapter's by its number.
+// Puts whose opening a row's is behind the text: a device's by its path, and behind all devices an adapter's or a link's.
 #[tactic(auto, unfolding(price_check::specs::Report::row_text))]
-fn push_row(text: &mut Vec<u8>, devices: &[Device], row: u32) -> Result<(), AllocError>
-    ensures text { OnOk result (text.new.items ≡ text.old.items ++ row_text devices.now row) }
-    ensures short { OnOk result (length text.new.items ≤ length text.old.items + 50) }
+fn push_row(
+    text: &mut Vec<u8>,
+    devices: &[Device],
+    adapters: u32,
+    row: u32,
+) -> Result<(), AllocError>
+    ensures text { OnOk result (text.new.items ≡ text.old.items ++ row_text devices.now adapters row) }
+    ensures short { OnOk result (length text.new.items ≤ length text.old.items + 51) }
 {
     match devices.get(row as usize) {
         Some(device) => {
             text.extend_from_slice(b"price dev ")?;
             push_path(text, device)
         }
-        None => {
-            text.extend_from_slice(b"price sim")?;
-            push_number(text, (row as usize).saturating_sub(devices.len()) as u64)
-        }
+        None => push_shared(
+            text,
+            adapters,
+            (row as usize).saturating_sub(devices.len()) as u32,
+        ),
+    }
+}
+
+// Puts an adapter by its number behind the text, or behind all adapters a link by its number.
+fn push_shared(text: &mut Vec<u8>, adapters: u32, number: u32) -> Result<(), AllocError>
+    ensures text { OnOk result (text.new.items ≡ text.old.items ++ shared_text adapters number) }
+    ensures short { OnOk result (length text.new.items ≤ length text.old.items + 51) }
+{
+    if number < adapters {
+        text.extend_from_slice(b"price sim")?;
+        push_number(text, u64::from(number))
+    } else {
+        text.extend_from_slice(b"price link")?;
+        push_number(text, u64::from(number - adapters))
     }
 }
 

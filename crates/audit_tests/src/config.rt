@@ -77,7 +77,6 @@ fn the_first_rule_that_is_broken_is_named(rt: HostRuntime) {
     }
 }
 
-// Adapters that name links, of which there may be none so far.
 #[test]
 fn links_are_tested_before_the_adapters(rt: HostRuntime) -> Result<(), Fail> {
     let none = Config::with_links(
@@ -102,9 +101,23 @@ fn links_are_tested_before_the_adapters(rt: HostRuntime) -> Result<(), Fail> {
         openings: 0,
         link: Some(0),
     };
-    let cases: [(&[u32], &[Adapter], ConfigFault); 5] = [
-        (&[1], &[linked], ConfigFault::TooMany),
-        (&[1], &[], ConfigFault::TooMany),
+    let two = Config::with_links(
+        rt.alloc(),
+        &standard_weights(),
+        &[255, 1],
+        &[linked, unlinked(3)],
+        &[],
+        &[],
+    )?;
+    assert_eq!(rt; two.links(), [255, 1].as_slice());
+    assert_eq!(rt; (two.adapter_link(0), two.adapter_link(1)), (Some(0), None));
+    assert_eq!(rt; (two.link_openings(0), two.link_openings(2)), (255, 0));
+    let cases: [(&[u32], &[Adapter], ConfigFault); 8] = [
+        (&[1, 1, 1, 1, 1], &[linked], ConfigFault::TooMany),
+        (&[1, 1, 1, 1, 1], &[], ConfigFault::TooMany),
+        (&[1, 0], &[], ConfigFault::BadOpenings),
+        (&[256], &[linked], ConfigFault::BadOpenings),
+        (&[1], &[], ConfigFault::NoAdapters),
         (&[], &[], ConfigFault::NoAdapters),
         (&[], &[unlinked(1), linked], ConfigFault::NoLink),
         (&[], &[bad], ConfigFault::BadOpenings),

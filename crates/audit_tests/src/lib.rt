@@ -17,6 +17,8 @@ mod guesses;
 #[cfg(test)]
 mod histories;
 #[cfg(test)]
+mod links;
+#[cfg(test)]
 mod made;
 #[cfg(test)]
 mod net;

@@ -1,7 +1,7 @@
 //! Traces, written.
 
 use crate::fakes::Taker;
-use crate::texts::{FROZEN, ONE_COMMAND};
+use crate::texts::{FROZEN, NARROW_LINK, ONE_COMMAND};
 use std::alloc::Global;
 use std::test::Fail;
 use text_io::Watched;
@@ -15,8 +15,12 @@ const EVERY: &str =
 const WEIGHTED: &str =
     "camtrace2,a,b,c,d,e,f,g\nweight,1023,1,,,,,\nweight,1279,1000,,,,,\nsim,1,,,,,,\ndev,0,1,0,1,,,\nsubmit,0,0,1152,4,none,,\n";
 
+// The same in version 3.
+const LINKLESS: &str =
+    "camtrace3,a,b,c,d,e,f,g\nweight,1023,1,,,,,\nweight,1279,1000,,,,,\nsim,1,,,,,,\ndev,0,1,0,1,,,\nsubmit,0,0,1152,4,none,,\n";
+
 const STANDARD: &str =
-    "camtrace2,a,b,c,d,e,f,g\nweight,255,16,,,,,\nweight,511,8,,,,,\nweight,767,4,,,,,\nweight,1023,2,,,,,\nweight,1279,1,,,,,\nsim,1,,,,,,\ndev,0,1,0,1,,,\nlane,0,,,,,,\nsubmit,0,0,1152,4,none,,\nsend,0,0,,,,,\ndone,0,01,00,,,,\n";
+    "camtrace3,a,b,c,d,e,f,g\nweight,255,16,,,,,\nweight,511,8,,,,,\nweight,767,4,,,,,\nweight,1023,2,,,,,\nweight,1279,1,,,,,\nsim,1,,,,,,\ndev,0,1,0,1,,,\nlane,0,,,,,,\nsubmit,0,0,1152,4,none,,\nsend,0,0,,,,,\ndone,0,01,00,,,,\n";
 
 /// What the history of a trace is written as.
 fn again(alloc: Global, text: &str) -> Result<Vec<u8>, Fail> {
@@ -28,7 +32,7 @@ fn again(alloc: Global, text: &str) -> Result<Vec<u8>, Fail> {
 
 #[test]
 fn a_trace_is_written_as_it_was_read(rt: HostRuntime) -> Result<(), Fail> {
-    for text in [ONE_COMMAND, FROZEN, EVERY, WEIGHTED] {
+    for text in [ONE_COMMAND, FROZEN, EVERY, WEIGHTED, NARROW_LINK] {
         assert_eq!(rt;
             again(rt.alloc(), text)?.as_slice(),
             text.as_bytes(),
@@ -39,11 +43,12 @@ fn a_trace_is_written_as_it_was_read(rt: HostRuntime) -> Result<(), Fail> {
 }
 
 #[test]
-fn a_migrated_trace_has_its_weights(rt: HostRuntime) -> Result<(), Fail> {
+fn a_migrated_trace_has_its_weights_and_links(rt: HostRuntime) -> Result<(), Fail> {
     for (text, migrated) in [
         (ONE_COMMAND, STANDARD),
         (STANDARD, STANDARD),
-        (WEIGHTED, WEIGHTED),
+        (WEIGHTED, LINKLESS),
+        (NARROW_LINK, NARROW_LINK),
     ] {
         let history = read_trace(rt.alloc(), &mut Watched::new(text.as_bytes()))?;
         let mut written = Vec::new(rt.alloc());

@@ -81,8 +81,11 @@ link_room : (before : List ℕ) (n : ℕ) → link_fault (before, n) ≡ None �
 unfolding link_fault
 link_room before n none = openings_room MOST_LINKS (length before) n none
 
+pub few_in_draft : (links : List ℕ) → first_answer link_fault (moments links) ≡ None → length links ≤ MOST_LINKS
+few_in_draft links none = few_where_none link_fault MOST_LINKS (λ before n none'. (link_room before n none').0) links none
+
 pub few_links : (t : Topology) → IsConfig t → length t.links ≤ MOST_LINKS
-few_links t is = few_where_none link_fault MOST_LINKS (λ before n none. (link_room before n none).0) t.links (link_items t is)
+few_links t is = few_in_draft t.links (link_items t is)
 
 adapter_room : (links : ℕ) (before : List Adapter) (x : Adapter) → adapter_fault links (before, x) ≡ None → (length before < MOST_ADAPTERS) × (x.openings ≤ MOST_OPENINGS)
 unfolding adapter_fault

@@ -3,7 +3,7 @@
 ghost use Rattle.std.specs.Prelude.{◌≡◌, [], ◌∷◌, ◌++◌, ◌≤◌, length, IfOk, OnOk, OnErr, MatchOption, IsOkUnless};
 ghost use Rattle.cam_types.specs.Topology.{link_fault, adapter_fault, device_fault, lane_fault, config_fault};
 ghost use Rattle.cam_types.specs.Weights.{reaches_last, standard_weights, weight_fault};
-ghost use Rattle.cam_types.specs.declared.maxima.TheConstants.{MOST_WEIGHT_ROWS};
+ghost use Rattle.cam_types.specs.declared.maxima.TheConstants.{MOST_LINKS, MOST_WEIGHT_ROWS};
 ghost use Rattle.cam_types.specs.declared.config.ConfigError.TheVariants.{Fault, OutOfMemory};
 
 use crate::adapter::Adapter;
@@ -104,6 +104,14 @@ impl ConfigDraft {
         }
         self.links.push(openings)?;
         Ok(())
+    }
+
+    /// How many links there are, at most 4.
+    pub fn link_count(&self) -> u32
+        ensures same { result ≡ length self.now.links }
+        ensures few { result ≤ MOST_LINKS }
+    {
+        self.links.len() as u32
     }
 
     /// Adds an adapter, before any device or lane. Refused, the draft is as it was.

@@ -11,8 +11,8 @@ pub const MOST_ROUNDS: u32 = 512;
 pub const MOST_STAYS: u32 = 4096;
 /// The most events of a history.
 pub const MOST_EVENTS: u32 = 65535;
-/// The most links of a configuration: none so far.
-pub const MOST_LINKS: usize = 0;
+/// The most links of a configuration.
+pub const MOST_LINKS: usize = 4;
 /// The most adapters of a configuration.
 pub const MOST_ADAPTERS: usize = 8;
 /// The most devices of a configuration.
@@ -41,7 +41,7 @@ pub const MOST_BYTES: usize = 16_777_216;
 /// Each of them is this number.
 pub fn maxima_are_these()
     ensures history { (MOST_CCBS ≡ 1024) × (MOST_ROUNDS ≡ 512) × (MOST_STAYS ≡ 4096) × (MOST_EVENTS ≡ 65535) }
-    ensures configuration { (MOST_LINKS ≡ 0) × (MOST_ADAPTERS ≡ 8) × (MOST_DEVICES ≡ 32) × (MOST_LANES ≡ 4) × (MOST_OPENINGS ≡ 255) × (MOST_LUN ≡ 16383) }
+    ensures configuration { (MOST_LINKS ≡ 4) × (MOST_ADAPTERS ≡ 8) × (MOST_DEVICES ≡ 32) × (MOST_LANES ≡ 4) × (MOST_OPENINGS ≡ 255) × (MOST_LUN ≡ 16383) }
     ensures commands { (MOST_PRIORITY ≡ 1279) × (MOST_WEIGHT ≡ 1000) × (MOST_WEIGHT_ROWS ≡ 16) × (MOST_RETRIES ≡ 7) × (MOST_FREEZES ≡ 65535) × (MOST_SENSE ≡ 18) }
     ensures text { MOST_BYTES ≡ 16777216 }
 {}

@@ -119,7 +119,7 @@ fn run<'a>(alloc: Global) -> Result<Command<'a>, AllocError> {
 
 fn migrate<'a>(alloc: Global) -> Result<Command<'a>, AllocError> {
     Command::new(alloc, "migrate")
-        .about("Prints a trace of any version in version 2, which has a table of weights")
+        .about("Prints a trace of any version in version 3, which has a table of weights and links")
         .after_help("Example: camxpt migrate examples/frozen-device.csv")
         .arg(verbose(alloc))?
         .arg(trace(alloc))

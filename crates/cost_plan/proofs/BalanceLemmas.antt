@@ -43,11 +43,11 @@ pub record IsBalanced (net : Instance) (f : ℕ → ℕ) (row round : ℕ) (arc 
   pub within : takes ≤ cond (arc.tail == cell net row round) 1 0
   pub room : 0 < takes → load net f row round < net.cap row round
 
-IsBalanced-move : (net : Instance) (f : ℕ → ℕ) (row round stay r : ℕ) → net.device stay < net.devices → f stay ≤ net.rounds → r ≤ net.rounds → IsBalanced net f row round (move_arc net f stay r)
-IsBalanced-move net f row round stay r device from to = record {
+IsBalanced-move : (net : Instance) (live f : ℕ → ℕ) (row round stay r : ℕ) → IsSound net live → stay < net.stays → f stay ≤ net.rounds → r ≤ net.rounds → IsBalanced net f row round (move_arc net f stay r)
+IsBalanced-move net live f row round stay r sound within from to = record {
   takes = 0;
   balance =
-      let on = covers-uses net row stay device in
+      let on = covers-uses net live row stay sound within in
       let tail = ap (λ (b : Bool). cond {A = ℕ} b 1 0) (inside-cell net row round (net.device stay) (f stay) from ∙ ap (λ (b : Bool). b && (f stay == round)) on) in
       let head = ap (λ (b : Bool). cond {A = ℕ} b 1 0) (inside-cell net row round (net.device stay) r to ∙ ap (λ (b : Bool). b && (r == round)) on) in
       let reaches = ap (λ (q : ℕ). stands net row round stay q) (cell-round net (net.device stay) r to) in
@@ -122,7 +122,7 @@ IsBalanced-from_residual net live f row round arc sound ok below residual =
       | inl m ↦
           let from : f m.stay ≤ net.rounds = omega (arith, ok.not_late m.stay m.within, sound.to_last m.stay m.within) in
           let to : m.round ≤ net.rounds = omega (arith, m.not_late, sound.to_last m.stay m.within) in
-          subst P (sym m.is) (IsBalanced-move net f row round m.stay m.round (sound.on_device m.stay m.within) from to)
+          subst P (sym m.is) (IsBalanced-move net live f row round m.stay m.round sound m.within from to)
       | inr other ↦ elim other [
         | inl t ↦ subst P (sym t.is) (IsBalanced-take net f row round t.row t.round below t.last t.room)
         | inr g ↦ subst P (sym g.is) (IsBalanced-give net f row round g.row g.round below g.last)

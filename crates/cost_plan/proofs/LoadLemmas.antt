@@ -4,11 +4,12 @@ use Rattle.std.proofs.lemmas.Bool.{cases_eq, eq-eqb, ne_eqb, and_from, and_left,
 use Rattle.std.proofs.lemmas.List.{length-set, get_or-set_same, get_or-set_other}
 use Rattle.round_net.specs.Instance.{Instance, rows, uses}
 use Rattle.round_net.specs.Schedules.{IsAdmissible, load}
+use Rattle.round_net.specs.Sound.{IsSound}
 use Rattle.cost_plan.specs.Cells.{cell, row_above, covers, stands, part_load, rounds_of}
 use Rattle.cost_plan.specs.Draft.{AreLoads, IsDraft, KeepWindows, KeepRows}
 use Rattle.round_net.proofs.SumLemmas.{sum_below-same, sum_below-more, sum_below-set}
 use Rattle.cost_plan.proofs.BalanceLemmas.{at_most_one}
-use Rattle.cost_plan.proofs.CellLemmas.{cell-apart, row_above-past, covers-uses, covers-past, covers-above}
+use Rattle.cost_plan.proofs.CellLemmas.{cell-apart, row_above-past, covers-uses, covers-past, covers-above, covers-self}
 
 -- 1 at equal numbers, and 0 elsewhere
 abbrev pub same : ℕ → ℕ → ℕ
@@ -25,11 +26,11 @@ abbrev pub over : Instance → ℕ → ℕ → ℕ → ℕ → ℕ
 over net row r other round = cond (covers net row other && (round == r)) 1 0
 
 -- a stay stands in its device's cell and in those above it
-over-stay : (net : Instance) (row r stay round : ℕ) → net.device stay < net.devices → over net row r (net.device stay) round ≡ stands net row r stay round
-over-stay net row r stay round device = ap (λ (b : Bool). cond {A = ℕ} (b && (round == r)) 1 0) (covers-uses net row stay device)
+over-stay : (net : Instance) (live : ℕ → ℕ) (row r stay round : ℕ) → IsSound net live → stay < net.stays → over net row r (net.device stay) round ≡ stands net row r stay round
+over-stay net live row r stay round sound within = ap (λ (b : Bool). cond {A = ℕ} (b && (round == r)) 1 0) (covers-uses net live row stay sound within)
 
-over-self : (net : Instance) (row r : ℕ) → over net row r row r ≡ 1
-over-self net row r = ap (λ (b : Bool). cond {A = ℕ} b 1 0) (and_from (covers net row row) (r == r) (or_left (row == row) _ (eq-eqb row row refl)) (eq-eqb r r refl))
+over-self : (net : Instance) (row r : ℕ) → row < rows net → over net row r row r ≡ 1
+over-self net row r inside = ap (λ (b : Bool). cond {A = ℕ} b 1 0) (and_from (covers net row row) (r == r) (covers-self net row inside) (eq-eqb r r refl))
 
 -- past all rows there are none
 over-past : (net : Instance) (row r other round : ℕ) → row < rows net → rows net ≤ other → over net row r other round ≡ 0
@@ -53,7 +54,7 @@ over-above net row r other round inside within low high =
                 omega arith
             | inl same_round ↦
                 let is = same-yes (cell net row r) (cell net other round) (ap (λ (k : ℕ). cell net k r) (sym this) ∙ ap (cell net other) (sym same_round)) in
-                let one : over net row r other round ≡ 1 = ap (λ (b : Bool). cond {A = ℕ} b 1 0) (and_from (covers net row other) (round == r) (or_left (other == row) _ (eq-eqb other row this)) (eq-eqb round r same_round)) in
+                let one : over net row r other round ≡ 1 = ap (λ (b : Bool). cond {A = ℕ} b 1 0) (and_from (covers net row other) (round == r) (here ∙ or_left (other == row) (covers net row (row_above net other)) (eq-eqb other row this)) (eq-eqb round r same_round)) in
                 omega arith
           ]
     ]
@@ -82,8 +83,8 @@ pub record IsAdding (net : Instance) (stay round : ℕ) (old new : List ℕ) (ro
   pub size : length new ≡ length old
   pub counts : (k r : ℕ) → k < rows net → r ≤ net.rounds → get_or new (cell net k r) 0 + over net k r row round ≡ get_or old (cell net k r) 0 + stands net k r stay round
 
-pub IsAdding-begun : (net : Instance) (stay round : ℕ) (loads : List ℕ) → net.device stay < net.devices → IsAdding net stay round loads loads (net.device stay)
-IsAdding-begun net stay round loads device = record { size = refl; counts = λ k r inside low. omega (arith, over-stay net k r stay round device) }
+pub IsAdding-begun : (net : Instance) (live : ℕ → ℕ) (stay round : ℕ) (loads : List ℕ) → IsSound net live → stay < net.stays → IsAdding net stay round loads loads (net.device stay)
+IsAdding-begun net live stay round loads sound within = record { size = refl; counts = λ k r inside low. omega (arith, over-stay net live k r stay round sound within) }
 
 pub IsAdding-step : (net : Instance) (stay round : ℕ) (old new : List ℕ) (row place x : ℕ) → row < rows net → round ≤ net.rounds → place < length new → place ≡ cell net row round → x ≡ get_or new place 0 → IsAdding net stay round old new row → IsAdding net stay round old (set new place (x + 1)) (row_above net row)
 IsAdding-step net stay round old new row place x within high inside is read before = record {
@@ -101,12 +102,12 @@ pub record IsRemoving (net : Instance) (stay round : ℕ) (old new : List ℕ) (
   pub size : length new ≡ length old
   pub counts : (k r : ℕ) → k < rows net → r ≤ net.rounds → get_or new (cell net k r) 0 + stands net k r stay round ≡ get_or old (cell net k r) 0 + over net k r row round
 
-pub IsRemoving-begun : (net : Instance) (stay round : ℕ) (loads : List ℕ) → net.device stay < net.devices → IsRemoving net stay round loads loads (net.device stay)
-IsRemoving-begun net stay round loads device = record { size = refl; counts = λ k r inside low. omega (arith, over-stay net k r stay round device) }
+pub IsRemoving-begun : (net : Instance) (live : ℕ → ℕ) (stay round : ℕ) (loads : List ℕ) → IsSound net live → stay < net.stays → IsRemoving net stay round loads loads (net.device stay)
+IsRemoving-begun net live stay round loads sound within = record { size = refl; counts = λ k r inside low. omega (arith, over-stay net live k r stay round sound within) }
 
 -- where all cells of the stay's rows had one, this row's still has
 pub IsRemoving-some : (net : Instance) (stay round : ℕ) (old new : List ℕ) (row : ℕ) → row < rows net → round ≤ net.rounds → ((k r : ℕ) → k < rows net → r ≤ net.rounds → stands net k r stay round ≤ get_or old (cell net k r) 0) → IsRemoving net stay round old new row → 1 ≤ get_or new (cell net row round) 0
-IsRemoving-some net stay round old new row within high some removed = omega (arith, removed.counts row round within high, some row round within high, over-self net row round)
+IsRemoving-some net stay round old new row within high some removed = omega (arith, removed.counts row round within high, some row round within high, over-self net row round within)
 
 pub IsRemoving-step : (net : Instance) (stay round : ℕ) (old new : List ℕ) (row place x : ℕ) → row < rows net → round ≤ net.rounds → place < length new → place ≡ cell net row round → x ≡ get_or new place 0 → 1 ≤ x → IsRemoving net stay round old new row → IsRemoving net stay round old (set new place (x - 1)) (row_above net row)
 IsRemoving-step net stay round old new row place x within high inside is read some before = record {

@@ -2,12 +2,12 @@
 use Rattle.std.proofs.Common.{ℕ, ◌+◌, ◌*◌, ◌<◌, ◌≤◌, inl, inr, arith}
 use Rattle.std.proofs.lemmas.Bool.{cases_lt}
 use Rattle.std.proofs.lemmas.Nat.{mul-add-lt, mul-le}
-use Rattle.cam_types.specs.declared.maxima.TheConstants.{MOST_ADAPTERS, MOST_DEVICES, MOST_ROUNDS, MOST_WEIGHT}
+use Rattle.cam_types.specs.declared.maxima.TheConstants.{MOST_ADAPTERS, MOST_DEVICES, MOST_LINKS, MOST_ROUNDS, MOST_WEIGHT}
 use Rattle.gaining_cycle.specs.declared.labels.TheConstants.{MOST_NODES}
 use Rattle.gaining_cycle.specs.declared.arc.TheConstants.{MOST_UP}
 use Rattle.round_net.specs.Instance.{Instance, rows}
 use Rattle.round_net.specs.Sound.{IsSound}
-use Rattle.cost_plan.specs.Cells.{cell, row_above, above, node_count}
+use Rattle.cost_plan.specs.Cells.{cell, node_of, node_count}
 use Rattle.cost_plan.proofs.CellLemmas.{node_of-row, node_of-past}
 
 -- cells stand within the rows
@@ -18,16 +18,17 @@ pub cell-lt-node_count : (net : Instance) (row r : ℕ) → row < rows net → r
 cell-lt-node_count net row r inside last = omega (arith, cell-in net row r inside last)
 
 -- and so does what stands above them
-pub above-lt-node_count : (net : Instance) (row r : ℕ) → r ≤ net.rounds → above net row r < node_count net
-above-lt-node_count net row r last = elim (cases_lt (row_above net row) (rows net)) [
-  | inl within ↦ omega (arith, node_of-row net (row_above net row) r within, cell-lt-node_count net (row_above net row) r within last)
-  | inr past ↦ omega (arith, node_of-past net (row_above net row) r past)
+pub node_of-lt-node_count : (net : Instance) (row r : ℕ) → r ≤ net.rounds → node_of net row r < node_count net
+node_of-lt-node_count net row r last = elim (cases_lt row (rows net)) [
+  | inl within ↦ omega (arith, node_of-row net row r within, cell-lt-node_count net row r within last)
+  | inr past ↦ omega (arith, node_of-past net row r past)
 ]
 
 -- there are few nodes
 pub node_count-le : (net : Instance) (live : ℕ → ℕ) → IsSound net live → node_count net ≤ MOST_NODES
 node_count-le net live sound =
-    let product : rows net * (net.rounds + 1) ≤ (MOST_DEVICES + MOST_ADAPTERS) * (MOST_ROUNDS + 1) = mul-le (rows net) (net.rounds + 1) (MOST_DEVICES + MOST_ADAPTERS) (MOST_ROUNDS + 1) (omega (arith, sound.few_devices, sound.few_adapters)) (omega (arith, sound.few_rounds)) in
+    let most : ℕ = MOST_DEVICES + MOST_ADAPTERS + MOST_LINKS in
+    let product : rows net * (net.rounds + 1) ≤ most * (MOST_ROUNDS + 1) = mul-le (rows net) (net.rounds + 1) most (MOST_ROUNDS + 1) (omega (arith, sound.few_devices, sound.few_adapters, sound.few_links)) (omega (arith, sound.few_rounds)) in
     omega arith
 
 -- what a stay gains by leaving a round is little

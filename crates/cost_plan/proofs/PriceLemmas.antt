@@ -14,7 +14,7 @@ use Rattle.cost_plan.specs.Residual.{move_arc, take_arc, give_arc}
 use Rattle.cost_plan.specs.RowPrices.{SettlesAll, row_price}
 use Rattle.round_net.proofs.SumLemmas.{sum_below-same, sum_below-add, term-le-sum_below}
 use Rattle.round_net.proofs.PathLemmas.{path-inside, exchange_path}
-use Rattle.cost_plan.proofs.CellLemmas.{node_of-row, node_of-past, steps_up, steps_up-levels, path-rows_up}
+use Rattle.cost_plan.proofs.CellLemmas.{node_of-row, node_of-past, steps_up, steps_up-levels, rows_up-row, rows_up-past, path-rows_up}
 use Rattle.cost_plan.proofs.CycleChangeLemmas.{mul-sub}
 use Rattle.cost_plan.proofs.LeastLemmas.{least-at}
 
@@ -89,51 +89,63 @@ IsExact-used net f y row r settled inside first last held some = omega (arith, r
 IsEnough-open : (net : Instance) (y : ℕ → ℕ) (row r : ℕ) → row < rows net → 0 < net.cap row r → IsEnough net y r row
 IsEnough-open net y row r inside opened = omega (arith, row_price-open net y row r opened, ap y (node_of-row net row r inside))
 
--- from a row up prices add up to how far its label is above the last one
-exact-up : (n : ℕ) (net : Instance) (y : ℕ → ℕ) (row r : ℕ) → All (IsExact net y r) (rows_up n net row) → sum_by (λ k. row_price net y k r) (rows_up n net row) + y (node_of net (steps_up n net row) r) ≡ y (node_of net row r)
-exact-up zero net y row r each = omega arith
-exact-up (suc n) net y row r each =
-    let others : List ℕ = rows_up n net (row_above net row) in
-    let first = All-head (IsExact net y r) row others each in
-    let rest = exact-up n net y (row_above net row) r (All-tail (IsExact net y r) row others each) in
-    omega (arith, sum_by-cons (λ k. row_price net y k r) row others, first, rest)
+-- from a row up prices add up to how far its label is above the root's
+exact-up : (n : ℕ) (net : Instance) (y : ℕ → ℕ) (row r : ℕ) → steps_up n net row ≡ rows net → All (IsExact net y r) (rows_up n net row) → sum_by (λ k. row_price net y k r) (rows_up n net row) + y (root net) ≡ y (node_of net row r)
+exact-up zero net y row r end each = omega (arith, ap y (node_of-past net row r (omega arith)))
+exact-up (suc n) net y row r end each = elim (cases_lt row (rows net)) [
+  | inr past ↦
+      let none = ap (λ (own : List ℕ). sum_by (λ k. row_price net y k r) own) (rows_up-past (suc n) net row past) in
+      omega (arith, none, ap y (node_of-past net row r past))
+  | inl inside ↦
+      let others : List ℕ = rows_up n net (row_above net row) in
+      let is = rows_up-row n net row inside in
+      let all = subst (λ (own : List ℕ). All (IsExact net y r) own) is each in
+      let first = All-head (IsExact net y r) row others all in
+      let rest = exact-up n net y (row_above net row) r end (All-tail (IsExact net y r) row others all) in
+      let sums = ap (λ (own : List ℕ). sum_by (λ k. row_price net y k r) own) is in
+      omega (arith, sums, sum_by-cons (λ k. row_price net y k r) row others, first, rest)
+]
 
-enough-up : (n : ℕ) (net : Instance) (y : ℕ → ℕ) (row r : ℕ) → All (IsEnough net y r) (rows_up n net row) → y (node_of net row r) ≤ sum_by (λ k. row_price net y k r) (rows_up n net row) + y (node_of net (steps_up n net row) r)
-enough-up zero net y row r each = omega arith
-enough-up (suc n) net y row r each =
-    let others : List ℕ = rows_up n net (row_above net row) in
-    let first = All-head (IsEnough net y r) row others each in
-    let rest = enough-up n net y (row_above net row) r (All-tail (IsEnough net y r) row others each) in
-    omega (arith, sum_by-cons (λ k. row_price net y k r) row others, first, rest)
+enough-up : (n : ℕ) (net : Instance) (y : ℕ → ℕ) (row r : ℕ) → steps_up n net row ≡ rows net → All (IsEnough net y r) (rows_up n net row) → y (node_of net row r) ≤ sum_by (λ k. row_price net y k r) (rows_up n net row) + y (root net)
+enough-up zero net y row r end each = omega (arith, ap y (node_of-past net row r (omega arith)))
+enough-up (suc n) net y row r end each = elim (cases_lt row (rows net)) [
+  | inr past ↦ omega (arith, ap y (node_of-past net row r past))
+  | inl inside ↦
+      let others : List ℕ = rows_up n net (row_above net row) in
+      let is = rows_up-row n net row inside in
+      let all = subst (λ (own : List ℕ). All (IsEnough net y r) own) is each in
+      let first = All-head (IsEnough net y r) row others all in
+      let rest = enough-up n net y (row_above net row) r end (All-tail (IsEnough net y r) row others all) in
+      let sums = ap (λ (own : List ℕ). sum_by (λ k. row_price net y k r) own) is in
+      omega (arith, sums, sum_by-cons (λ k. row_price net y k r) row others, first, rest)
+]
 
--- so from a stay's device up to the root
-root-up : (net : Instance) (y : ℕ → ℕ) (row r : ℕ) → y (node_of net (steps_up levels net row) r) ≡ y (root net)
-root-up net y row r = ap (λ (k : ℕ). y (node_of net k r)) (steps_up-levels net row) ∙ ap y (node_of-past net (rows net) r (omega arith))
-
-exact-path : (net : Instance) (y : ℕ → ℕ) (s r : ℕ) → net.device s < net.devices → All (IsExact net y r) (path net s) → sum_by (λ k. row_price net y k r) (path net s) + y (root net) ≡ y (cell net (net.device s) r)
-exact-path net y s r device each =
-    let up = path-rows_up net s device in
-    let all = exact-up levels net y (net.device s) r (subst (λ (own : List ℕ). All (IsExact net y r) own) up each) in
+-- so from a stay's device up
+exact-path : (net : Instance) (live y : ℕ → ℕ) (s r : ℕ) → IsSound net live → s < net.stays → All (IsExact net y r) (path net s) → sum_by (λ k. row_price net y k r) (path net s) + y (root net) ≡ y (cell net (net.device s) r)
+exact-path net live y s r sound within each =
+    let device = sound.on_device s within in
+    let up = path-rows_up net live s sound within in
+    let all = exact-up levels net y (net.device s) r (steps_up-levels net (net.device s)) (subst (λ (own : List ℕ). All (IsExact net y r) own) up each) in
     let sums = ap (λ (own : List ℕ). sum_by (λ k. row_price net y k r) own) up in
-    omega (arith, all, sums, root-up net y (net.device s) r, ap y (node_of-row net (net.device s) r (omega arith)))
+    omega (arith, all, sums, ap y (node_of-row net (net.device s) r (omega arith)))
 
-enough-path : (net : Instance) (y : ℕ → ℕ) (s r : ℕ) → net.device s < net.devices → All (IsEnough net y r) (path net s) → y (cell net (net.device s) r) ≤ sum_by (λ k. row_price net y k r) (path net s) + y (root net)
-enough-path net y s r device each =
-    let up = path-rows_up net s device in
-    let all = enough-up levels net y (net.device s) r (subst (λ (own : List ℕ). All (IsEnough net y r) own) up each) in
+enough-path : (net : Instance) (live y : ℕ → ℕ) (s r : ℕ) → IsSound net live → s < net.stays → All (IsEnough net y r) (path net s) → y (cell net (net.device s) r) ≤ sum_by (λ k. row_price net y k r) (path net s) + y (root net)
+enough-path net live y s r sound within each =
+    let device = sound.on_device s within in
+    let up = path-rows_up net live s sound within in
+    let all = enough-up levels net y (net.device s) r (steps_up-levels net (net.device s)) (subst (λ (own : List ℕ). All (IsEnough net y r) own) up each) in
     let sums = ap (λ (own : List ℕ). sum_by (λ k. row_price net y k r) own) up in
-    omega (arith, all, sums, root-up net y (net.device s) r, ap y (node_of-row net (net.device s) r (omega arith)))
+    omega (arith, all, sums, ap y (node_of-row net (net.device s) r (omega arith)))
 
 -- no opened round of its window is cheaper for a stay than its own
 cheapest : (net : Instance) (live f y : ℕ → ℕ) (s r : ℕ) → IsSound net live → IsAdmissible net f → SettlesAll net f y → s < net.stays → net.arrival s ≤ r → r ≤ net.last s → is_open net s r ≡ true → priced net (row_price net y) s (f s) ≤ priced net (row_price net y) s r
 cheapest net live f y s r sound ok settled within early late opened =
-    let device = sound.on_device s within in
     let placed = AllPlaced net live f s sound ok within in
     let opens = AllPass-from_list_all (λ row. nat_lt 0 (net.cap row r)) (path net s) opened in
-    let used = exact-path net y s (f s) device (λ k d h.
+    let used = exact-path net live y s (f s) sound within (λ k d h.
     let p = placed k d h in
     IsExact-used net f y (get_or (path net s) k d) (f s) settled p.inside (round-first net live f s sound ok within) (round-last net live f s sound ok within) p.held p.some) in
-    let reach = enough-path net y s r device (λ k d h.
+    let reach = enough-path net live y s r sound within (λ k d h.
     let row : ℕ = get_or (path net s) k d in
     IsEnough-open net y row r (placed k d h).inside (ltb-true 0 (net.cap row r) (opens k d h))) in
     let move = settled (move_arc net f s r) (inl (record { stay = s; round = r; is = refl; within = within; not_early = early; not_late = late })) in

@@ -148,14 +148,14 @@ IsSettled-by l found arc that node same none = subst (IsSettled l) same (IsSettl
 pub IsRaising-begun : (net : Instance) (f : ℕ → ℕ) (Settles : Labelling → ℕ → Type 0) (low here : ℕ) (l : Labelling) → here ≤ low → IsRaising net f Settles low l l None here
 IsRaising-begun net f Settles low here l begun = record { raises = Raises-none net f l; settled = λ none k from to. absurd (omega arith) }
 
-pub IsRaising-more : (net : Instance) (f : ℕ → ℕ) (Settles : Labelling → ℕ → Type 0) (low : ℕ) (initial now next : Labelling) (found more : Option ℕ) (here : ℕ) → IsRaising net f Settles low initial now found here → Raises net f now next more → (more ≡ None → Settles now here) → IsRaising net f Settles low initial next (option_or more found) (here + 1)
-IsRaising-more net f Settles low initial now next found more here before step settles = record {
-  raises = Raises-then net f initial now next found more before.raises step;
+pub IsRaising-more : (net : Instance) (f : ℕ → ℕ) (Settles : Labelling → ℕ → Type 0) (low : ℕ) (initial now next : Labelling) (found more both : Option ℕ) (here : ℕ) → both ≡ option_or more found → IsRaising net f Settles low initial now found here → Raises net f now next more → (more ≡ None → Settles now here) → IsRaising net f Settles low initial next both (here + 1)
+IsRaising-more net f Settles low initial now next found more both here is before step settles = record {
+  raises = subst (λ (o : Option ℕ). Raises net f initial next o) (sym is) (Raises-then net f initial now next found more before.raises step);
   settled = λ none k from to.
-      let both = some-or more found none in
+      let neither = some-or more found (sym is ∙ none) in
       elim (cases_eq k here) [
-        | inl same ↦ subst (λ (i : ℕ). Settles initial i) (sym same) (subst (λ (l : Labelling). Settles l here) (before.raises.quiet both.1) (settles both.0))
-        | inr other ↦ before.settled both.1 k from (omega arith)
+        | inl same ↦ subst (λ (i : ℕ). Settles initial i) (sym same) (subst (λ (l : Labelling). Settles l here) (before.raises.quiet neither.1) (settles neither.0))
+        | inr other ↦ before.settled neither.1 k from (omega arith)
       ];
 }
 

@@ -1,8 +1,9 @@
 -- The cells of a net as the nodes of a graph, one for each row and round, with one root above all.
-use Rattle.std.specs.Prelude.{ℕ, zero, suc, ◌+◌, ◌*◌, ◌==◌, nat_lt, Bool, cond, ◌&&◌, if◌then◌else◌, List, [], ◌∷◌, slice_index}
+use Rattle.std.specs.Prelude.{ℕ, zero, suc, ◌+◌, ◌*◌, ◌==◌, ◌-◌, nat_lt, Bool, cond, ◌&&◌, if◌then◌else◌, List, [], ◌∷◌, slice_index}
 use Rattle.std.specs.List.{list_any}
+use Rattle.std.specs.Option.{option_map_or}
 use Rattle.round_net.specs.Sums.{count_below}
-use Rattle.round_net.specs.Instance.{Instance, rows, adapter_row, uses}
+use Rattle.round_net.specs.Instance.{Instance, rows, adapter_row, link_row, uses}
 
 -- the node of a row and a round, where rounds begin at 1
 abbrev pub cell : Instance → ℕ → ℕ → ℕ
@@ -12,18 +13,25 @@ cell net row round = row * (net.rounds + 1) + round
 abbrev pub root : Instance → ℕ
 root net = cell net (rows net) 0
 
--- the row above: a device's is its adapter's, and an adapter's is the root's
+-- the row above an adapter's: its link's, or the root's if it is on none
+abbrev pub adapter_above : Instance → ℕ → ℕ
+adapter_above net a = option_map_or (link_row net) (net.link_of a) (rows net)
+
+-- the row above: a device's is its adapter's, and a link's is the root's
 abbrev pub row_above : Instance → ℕ → ℕ
-row_above net row = if nat_lt row net.devices then adapter_row net (net.adapter_of row) else rows net
+row_above net row =
+    if nat_lt row net.devices then adapter_row net (net.adapter_of row)
+    else (if nat_lt row (net.devices + net.adapters) then adapter_above net (row - net.devices)
+    else rows net)
 
--- how many rows stand one above the other
+-- how many rows stand one above the other at most
 abbrev pub levels : ℕ
-levels = 2
+levels = 3
 
--- a row and those above it, so many in all
+-- a row and those above it, the root's left out, and no more than so many in all
 abbrev pub rows_up : ℕ → Instance → ℕ → List ℕ
 rows_up zero net row = []
-rows_up (suc n) net row = row ∷ rows_up n net (row_above net row)
+rows_up (suc n) net row = if nat_lt row (rows net) then row ∷ rows_up n net (row_above net row) else []
 
 -- a row is another, or stands anywhere above it
 abbrev pub covers : Instance → ℕ → ℕ → Bool

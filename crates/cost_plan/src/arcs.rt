@@ -1,11 +1,11 @@
 //! What can be changed in a draft, as arcs. Proved: each arc is the one that the definitions name, between nodes of the graph.
 
-ghost use Rattle.std.specs.Prelude.{◌≡◌, ◌+◌, ◌<◌, ◌≤◌};
+ghost use Rattle.std.specs.Prelude.{◌≡◌, ◌<◌, ◌≤◌};
 ghost use Rattle.round_net.specs.Instance.{rows};
 ghost use Rattle.round_net.specs.Rows.{instance_of_rows, live_of_rows};
 ghost use Rattle.round_net.specs.Schedules.{load};
 ghost use Rattle.round_net.specs.Sound.{IsSound};
-ghost use Rattle.cost_plan.specs.Cells.{node_count};
+ghost use Rattle.cost_plan.specs.Cells.{row_above, node_count};
 ghost use Rattle.cost_plan.specs.Draft.{IsDraftOf, schedule_of};
 ghost use Rattle.cost_plan.specs.Residual.{move_arc, take_arc, give_arc};
 ghost use Rattle.gaining_cycle.specs.declared.arc.TheConstants.{MOST_UP};
@@ -26,9 +26,11 @@ pub fn load(net: &Net, draft: &Draft, row: u32, round: u32) -> u32
     draft.loads[node(net, row, round) as usize]
 }
 
-/// The arc of one stay more in a cell.
-pub fn taking(net: &Net, row: u32, round: u32) -> Arc
+/// The arc of one stay more in a cell, by the row above.
+pub fn taking(net: &Net, row: u32, up: u32, round: u32) -> Arc
     requires row { row < rows (instance_of_rows net.now) }
+    requires up { up ≡ row_above (instance_of_rows net.now) row }
+    requires within { up ≤ rows (instance_of_rows net.now) }
     requires round { round ≤ (instance_of_rows net.now).rounds }
     ensures same { result ≡ take_arc (instance_of_rows net.now) row round }
     ensures tail { result.tail < node_count (instance_of_rows net.now) }
@@ -38,16 +40,18 @@ pub fn taking(net: &Net, row: u32, round: u32) -> Arc
 {
     Arc {
         tail: node(net, row, round),
-        head: node_above(net, row, round),
+        head: node_above(net, up, round),
         up: 0,
         down: 0,
         mark: None,
     }
 }
 
-/// The arc of one stay less in a cell.
-pub fn giving(net: &Net, row: u32, round: u32) -> Arc
+/// The arc of one stay less in a cell, by the row above.
+pub fn giving(net: &Net, row: u32, up: u32, round: u32) -> Arc
     requires row { row < rows (instance_of_rows net.now) }
+    requires up { up ≡ row_above (instance_of_rows net.now) row }
+    requires within { up ≤ rows (instance_of_rows net.now) }
     requires round { round ≤ (instance_of_rows net.now).rounds }
     ensures same { result ≡ give_arc (instance_of_rows net.now) row round }
     ensures tail { result.tail < node_count (instance_of_rows net.now) }
@@ -55,7 +59,7 @@ pub fn giving(net: &Net, row: u32, round: u32) -> Arc
     ensures up { result.up ≡ 0 }
     ensures few { node_count (instance_of_rows net.now) ≤ MOST_NODES }
 {
-    let arc = taking(net, row, round);
+    let arc = taking(net, row, up, round);
     Arc {
         tail: arc.head,
         head: arc.tail,

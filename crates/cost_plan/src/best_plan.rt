@@ -1,7 +1,7 @@
 //! The planner. Proved: each cycle of changes that gains keeps the schedule admissible and lowers its cost, and where there is
 //! none the labels give prices that prove it best.
 
-ghost use Rattle.std.specs.Prelude.{◌≡◌, ℕ, ◌+◌, ◌<◌, ◌≤◌, length, drop, slice_index, IfOk};
+ghost use Rattle.std.specs.Prelude.{◌≡◌, ◌+◌, ◌<◌, ◌≤◌, length, drop, slice_index, IfOk};
 ghost use Rattle.std.specs.List.{All};
 ghost use Rattle.std.specs.Option.{IfSome};
 ghost use Rattle.gaining_cycle.specs.Walks.{IsGainingCycle};
@@ -34,7 +34,7 @@ use std::thread::Threads;
 pub struct BestPlan {
     /// A round for each stay of the net, in order of birth.
     pub schedule: Schedule,
-    /// What an opening of each device and adapter is worth in each round.
+    /// What an opening of each device, adapter and link is worth in each round.
     pub prices: Prices,
 }
 
@@ -50,9 +50,10 @@ pub fn plan(alloc: Global, net: &Net) -> Result<BestPlan, AllocError>
     settled(alloc, net, begin(alloc, net)?)
 }
 
-/// A best plan of the net, as `plan` makes it. But the guess is made for each adapter that has a stay by itself, and for all
-/// of them at once: for one by the caller's thread, and for each other one by a thread of its own. The thread that begins an
-/// adapter's part tells the gate so first. Where no thread can be started, the one that would have started it makes the part.
+/// A best plan of the net, as `plan` makes it. But the guess is made for each part that has a stay by itself, and for all of
+/// them at once: for one by the caller's thread, and for each other one by a thread of its own. A part is all adapters on one
+/// link, or an adapter on no link. The thread that begins a part tells the gate its least adapter first. Where no thread can be
+/// started, the one that would have started it makes the part.
 pub fn plan_with<G: Gate + Sync, R: Threads + Sync>(
     rt: &R,
     alloc: Global,

@@ -5,7 +5,7 @@ ghost use Rattle.std.specs.Prelude.{◌≡◌, ◌+◌, ◌<◌, ◌≤◌};
 ghost use Rattle.round_net.specs.Instance.{rows};
 ghost use Rattle.round_net.specs.Rows.{instance_of_rows, live_of_rows};
 ghost use Rattle.round_net.specs.Sound.{IsSound};
-ghost use Rattle.cost_plan.specs.Cells.{cell, row_above, above, node_count};
+ghost use Rattle.cost_plan.specs.Cells.{cell, adapter_above, row_above, node_of, node_count};
 ghost use Rattle.gaining_cycle.specs.declared.labels.TheConstants.{MOST_NODES};
 
 use round_net::Net;
@@ -21,28 +21,45 @@ pub fn node(net: &Net, row: u32, round: u32) -> u32
     row * (net.rounds() + 1) + round
 }
 
-/// The row above: a device's is its adapter's, and an adapter's is the root's, past all rows.
+/// The row above: a device's is its adapter's, that of an adapter on a link is the link's, and any other's is the root's, past
+/// all rows.
 pub fn row_above(net: &Net, row: u32) -> u32
     requires { row < rows (instance_of_rows net.now) }
     ensures same { result ≡ row_above (instance_of_rows net.now) row }
     ensures within { result ≤ rows (instance_of_rows net.now) }
     ensures sound { IsSound (instance_of_rows net.now) (live_of_rows net.now) }
 {
-    if row < net.devices() {
-        net.devices() + net.adapter_of(row)
+    let devices = net.devices();
+    if row < devices {
+        net.adapter_row(net.adapter_of(row))
+    } else if row - devices < net.adapters() {
+        adapter_above(net, row - devices)
     } else {
         net.rows()
     }
 }
 
-/// The node above a cell: a device's is its adapter's, and an adapter's is the root.
-pub fn node_above(net: &Net, row: u32, round: u32) -> u32
-    requires row { row < rows (instance_of_rows net.now) }
-    requires round { round ≤ (instance_of_rows net.now).rounds }
-    ensures same { result ≡ above (instance_of_rows net.now) row round }
+// The row above an adapter's.
+fn adapter_above(net: &Net, adapter: u32) -> u32
+    requires { adapter < (instance_of_rows net.now).adapters }
+    ensures same { result ≡ adapter_above (instance_of_rows net.now) adapter }
+    ensures within { result ≤ rows (instance_of_rows net.now) }
     ensures sound { IsSound (instance_of_rows net.now) (live_of_rows net.now) }
 {
-    let up = row_above(net, row);
+    let root = net.rows();
+    match net.link_of(adapter) {
+        Some(link) => net.link_row(link),
+        None => root,
+    }
+}
+
+/// The node above a cell by the row above: that row's in the same round, or the root.
+pub fn node_above(net: &Net, up: u32, round: u32) -> u32
+    requires up { up ≤ rows (instance_of_rows net.now) }
+    requires round { round ≤ (instance_of_rows net.now).rounds }
+    ensures same { result ≡ node_of (instance_of_rows net.now) up round }
+    ensures sound { IsSound (instance_of_rows net.now) (live_of_rows net.now) }
+{
     if up < net.rows() {
         node(net, up, round)
     } else {
@@ -57,15 +74,4 @@ pub fn nodes(net: &Net) -> u32
     ensures sound { IsSound (instance_of_rows net.now) (live_of_rows net.now) }
 {
     net.rows() * (net.rounds() + 1) + 1
-}
-
-/// The adapter of a row.
-pub fn adapter_of_row(net: &Net, row: u32) -> u32
-    requires { row < rows (instance_of_rows net.now) }
-{
-    if row < net.devices() {
-        net.adapter_of(row)
-    } else {
-        row - net.devices()
-    }
 }

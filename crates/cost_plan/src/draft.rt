@@ -92,8 +92,9 @@ fn add(net: &Net, loads: &mut Vec<u32>, stay: u32, round: u32)
     ensures counts { (row r : ℕ) → row < rows (instance_of_rows net.now) → r ≤ (instance_of_rows net.now).rounds →
         slice_index loads.new.items (cell (instance_of_rows net.now) row r) ≡ slice_index loads.old.items (cell (instance_of_rows net.now) row r) + stands (instance_of_rows net.now) row r stay round }
 {
+    let end = net.rows();
     let mut row = net.device(stay);
-    while row < net.rows() {
+    while row < end {
         let cell = node(net, row, round);
         loads[cell as usize] += 1;
         row = row_above(net, row);
@@ -111,8 +112,9 @@ fn remove(net: &Net, loads: &mut Vec<u32>, stay: u32, round: u32)
         slice_index loads.old.items (cell (instance_of_rows net.now) row r) ≡ slice_index loads.new.items (cell (instance_of_rows net.now) row r) + stands (instance_of_rows net.now) row r stay round }
     ensures few { (instance_of_rows net.now).stays ≤ MOST_STAYS }
 {
+    let end = net.rows();
     let mut row = net.device(stay);
-    while row < net.rows() {
+    while row < end {
         let cell = node(net, row, round);
         loads[cell as usize] -= 1;
         row = row_above(net, row);

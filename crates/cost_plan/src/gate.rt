@@ -1,8 +1,8 @@
-//! Who is told that the planning of an adapter's stays begins.
+//! Who is told that the planning of a part begins: of the stays of all adapters on one link, or of an adapter on no link.
 
-/// Is told of each adapter whose stays are planned, by the thread that plans them.
+/// Is told of each part that is planned, by the thread that plans it.
 pub trait Gate {
-    /// The planning of this adapter's stays begins. It goes on when this returns.
+    /// The planning of the part of which this is the least adapter begins. It goes on when this returns.
     fn begun(&self, adapter: u32);
 }
 

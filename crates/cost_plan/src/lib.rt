@@ -12,6 +12,7 @@ mod draft;
 mod gate;
 mod keeping;
 mod part;
+mod part_name;
 mod parts;
 mod pricing;
 mod problem;

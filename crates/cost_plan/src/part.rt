@@ -1,34 +1,38 @@
-//! The part of a plan that is one adapter's: stays of different adapters share no cap. Proved: once a part is put in, the
-//! adapter's stays have its rounds, in order, and all others keep theirs.
+//! A part of a plan: it is all adapters of one link, or one adapter that is on none. Stays of different parts share no cap.
+//! Proved: once a part is put in, its stays have its rounds, in order, and all others keep theirs.
 
-ghost use Rattle.std.specs.Prelude.{◌≡◌, ℕ, ◌<◌, length, slice_index};
+ghost use Rattle.std.specs.Prelude.{◌≡◌, ℕ, ◌<◌, length, slice_index, IfOk};
+ghost use Rattle.std.specs.Option.{IfSome};
 ghost use Rattle.round_net.specs.Instance.{rows};
 ghost use Rattle.round_net.specs.Rows.{instance_of_rows};
 ghost use Rattle.cost_plan.specs.Cells.{node_count};
 ghost use Rattle.cost_plan.specs.Parts.{IsPutIn};
 
-use crate::cells::{adapter_of_row, node};
-use crate::problem::problem_of_adapter;
+use crate::cells::node;
+use crate::part_name::{part_of_row, part_of_stay};
+use crate::problem::problem_of_part;
 use round_net::Net;
 use std::alloc::{AllocError, Global};
 use waiting_network::{Guess, guess};
 
-/// A guess at a best plan of an adapter's stays.
+/// A guess at a best plan of a part's stays.
 #[derive(Drop)]
 pub struct Part {
-    /// The adapter.
+    /// The least of its adapters, by which it goes.
     pub adapter: u32,
-    /// A round for each of its stays, and a label for each cell of its devices, in order, and then of its own.
+    /// A round for each of its stays, and a label for each cell of its rows, in order.
     pub guess: Guess,
 }
 
-/// A guess at a best plan of the adapter's stays, if there is one.
-pub fn part_of(alloc: Global, net: &Net, adapter: u32) -> Result<Option<Part>, AllocError> {
-    let problem = problem_of_adapter(alloc, net, adapter)?;
+/// A guess at a best plan of the part of this least adapter, if there is one.
+pub fn guess_part(alloc: Global, net: &Net, adapter: u32) -> Result<Option<Part>, AllocError>
+    ensures { IfOk result (λ found. IfSome found (λ part. part.adapter ≡ adapter)) }
+{
+    let problem = problem_of_part(alloc, net, adapter)?;
     Ok(guess(alloc, &problem)?.map(|guess| Part { adapter, guess }))
 }
 
-/// Gives the stays of a part's adapter their rounds, in order.
+/// Gives the stays of a part their rounds, in order.
 pub fn put_rounds(net: &Net, rounds: &mut [u32], part: &Part)
     requires { length rounds.old ≡ (instance_of_rows net.now).stays }
     ensures size { length rounds.new ≡ length rounds.old }
@@ -36,7 +40,7 @@ pub fn put_rounds(net: &Net, rounds: &mut [u32], part: &Part)
 {
     let mut next = 0usize;
     for stay in 0..net.stays() {
-        if net.adapter(stay) == part.adapter {
+        if part_of_stay(net, stay) == part.adapter {
             put_round(rounds, stay, &part.guess.rounds, next);
             next += 1;
         }
@@ -55,14 +59,14 @@ fn put_round(rounds: &mut [u32], stay: u32, part: &[u32], place: usize)
     }
 }
 
-/// Gives the cells of a part's adapter, and of its devices, their labels.
+/// Gives the cells of a part's rows their labels.
 pub fn put_labels(net: &Net, labels: &mut [u64], part: &Part)
     requires { length labels.old ≡ node_count (instance_of_rows net.now) }
     ensures { length labels.new ≡ length labels.old }
 {
     let mut rest: &[u64] = &part.guess.labels;
     for row in 0..net.rows() {
-        if adapter_of_row(net, row) == part.adapter {
+        if part_of_row(net, row) == part.adapter {
             put_row(net, labels, row, rest);
             rest = behind_row(net, rest);
         }

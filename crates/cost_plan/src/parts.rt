@@ -1,5 +1,5 @@
-//! The guess of a plan, made for all adapters at once. Proved: if there is one, its draft is admissible, and it has a label for
-//! each node.
+//! The guess of a plan, made for all parts at once. Proved: if there is one, its draft is admissible, and it has a label for
+//! each node; and which parts there are.
 
 ghost use Rattle.std.specs.Prelude.{◌≡◌, length, IfOk};
 ghost use Rattle.std.specs.Option.{IfSome};
@@ -7,19 +7,21 @@ ghost use Rattle.round_net.specs.Rows.{instance_of_rows, live_of_rows};
 ghost use Rattle.round_net.specs.Sound.{IsSound};
 ghost use Rattle.round_net.specs.Schedules.{IsAdmissible};
 ghost use Rattle.cost_plan.specs.Cells.{node_count};
+ghost use Rattle.cost_plan.specs.Parts.{busy_parts};
 ghost use Rattle.cost_plan.specs.Draft.{IsDraftOf, schedule_of};
 
 use crate::begin::Start;
 use crate::cells::nodes;
 use crate::draft::{draft_of, live_rounds};
 use crate::gate::Gate;
-use crate::part::{Part, part_of, put_labels, put_rounds};
+use crate::part::{Part, guess_part, put_labels, put_rounds};
+use crate::part_name::has_stay;
 use gaining_cycle::Labels;
 use round_net::Net;
 use std::alloc::{AllocError, Global};
 use std::thread::{Threads, map_indices};
 
-/// The guesses for all adapters that have a stay, made at once and put together, if that keeps windows and caps. One is made
+/// The guesses for all parts that have a stay, made at once and put together, if that keeps windows and caps. One is made
 /// by the caller's thread, and each other one by a thread of its own. Where no thread can be started, the one that would have
 /// started it makes the guess.
 pub fn guessed_at_once<G: Gate + Sync, R: Threads + Sync>(
@@ -33,7 +35,7 @@ pub fn guessed_at_once<G: Gate + Sync, R: Threads + Sync>(
     ensures size { IfOk result (λ found. IfSome found (λ start. length start.labels.labels ≡ node_count (instance_of_rows net.now))) }
     ensures sound { IsSound (instance_of_rows net.now) (live_of_rows net.now) }
 {
-    let busy = busy_adapters(alloc, net)?;
+    let busy = busy_parts(alloc, net)?;
     let parts = map_indices(
         rt,
         alloc,
@@ -78,20 +80,23 @@ fn put(net: &Net, rounds: &mut [u32], labels: &mut [u64], part: Option<Part>)
     }
 }
 
-// Tells the gate, and makes the adapter's part.
+// Tells the gate, and makes the part.
 fn part_behind<G: Gate>(
     alloc: Global,
     net: &Net,
     gate: &G,
     adapter: u32,
-) -> Result<Option<Part>, AllocError> {
+) -> Result<Option<Part>, AllocError>
+    ensures { IfOk result (λ found. IfSome found (λ part. part.adapter ≡ adapter)) }
+{
     gate.begun(adapter);
-    part_of(alloc, net, adapter)
+    guess_part(alloc, net, adapter)
 }
 
-// The adapters that have a stay.
-fn busy_adapters(alloc: Global, net: &Net) -> Result<Vec<u32>, AllocError>
-    ensures { IsSound (instance_of_rows net.now) (live_of_rows net.now) }
+// The parts that have a stay, each by its least adapter.
+fn busy_parts(alloc: Global, net: &Net) -> Result<Vec<u32>, AllocError>
+    ensures parts { IfOk result (λ busy. busy.items ≡ busy_parts (instance_of_rows net.now)) }
+    ensures sound { IsSound (instance_of_rows net.now) (live_of_rows net.now) }
 {
     let mut busy = Vec::new(alloc);
     for adapter in 0..net.adapters() {
@@ -100,9 +105,4 @@ fn busy_adapters(alloc: Global, net: &Net) -> Result<Vec<u32>, AllocError>
         }
     }
     Ok(busy)
-}
-
-// Whether an adapter has a stay.
-fn has_stay(net: &Net, adapter: u32) -> bool {
-    (0..net.stays()).any(|stay| net.adapter(stay) == adapter)
 }

@@ -6,18 +6,20 @@ ghost use Rattle.gaining_cycle.specs.Labelling.{label_of};
 ghost use Rattle.round_net.specs.Instance.{rows};
 ghost use Rattle.round_net.specs.Rows.{instance_of_rows};
 ghost use Rattle.round_net.specs.PriceRows.{pricing_of_rows, IsPricingFor};
-ghost use Rattle.cost_plan.specs.Cells.{node_count};
+ghost use Rattle.cost_plan.specs.Cells.{row_above, node_count};
 ghost use Rattle.cost_plan.specs.RowPrices.{row_price, PricesRows};
 
-use crate::cells::{node, node_above};
+use crate::cells::{node, node_above, row_above};
 use gaining_cycle::Labels;
 use round_net::{Net, Prices};
 use std::alloc::{AllocError, Global};
 
-/// What an opening of a cell is worth, and 0 where it has none.
-fn price_of(net: &Net, labels: &Labels, row: u32, round: u32) -> u64
+/// What an opening of a cell is worth, and 0 where it has none. The row above its own is given.
+fn price_of(net: &Net, labels: &Labels, row: u32, up: u32, round: u32) -> u64
     requires size { length labels.now.labels ≡ node_count (instance_of_rows net.now) }
     requires row { row < rows (instance_of_rows net.now) }
+    requires up { up ≡ row_above (instance_of_rows net.now) row }
+    requires within { up ≤ rows (instance_of_rows net.now) }
     requires first { 1 ≤ round }
     requires last { round ≤ (instance_of_rows net.now).rounds }
     ensures same { result ≡ row_price (instance_of_rows net.now) (label_of labels.now) row round }
@@ -27,7 +29,7 @@ fn price_of(net: &Net, labels: &Labels, row: u32, round: u32) -> u64
         return 0;
     }
     let cell = labels.label(node(net, row, round));
-    cell.saturating_sub(labels.label(node_above(net, row, round)))
+    cell.saturating_sub(labels.label(node_above(net, up, round)))
 }
 
 // Sets the prices of a row.
@@ -39,8 +41,9 @@ fn price_row(net: &Net, labels: &Labels, prices: &mut Prices, row: u32)
     ensures size { IsPricingFor (instance_of_rows net.now) prices.new }
     ensures priced { PricesRows (instance_of_rows net.now) (label_of labels.now) (pricing_of_rows prices.new) (row + 1) }
 {
+    let up = row_above(net, row);
     for round in 1..net.rounds() + 1 {
-        let price = price_of(net, labels, row, round);
+        let price = price_of(net, labels, row, up, round);
         prices.set(row, round, price).unwrap();
     }
 }

@@ -1,18 +1,19 @@
 //! A net as the search for a guess takes it. What a guess says is looked at before it is used: proved is only how many stays,
 //! rows and rounds there are.
 
-ghost use Rattle.std.specs.Prelude.{◌≡◌, ◌<◌, length, IfOk};
+ghost use Rattle.std.specs.Prelude.{◌≡◌, ◌+◌, ◌<◌, length, IfOk};
 ghost use Rattle.round_net.specs.Instance.{rows};
 ghost use Rattle.round_net.specs.Rows.{instance_of_rows, live_of_rows};
 ghost use Rattle.round_net.specs.Sound.{IsSound};
 
-use crate::cells::{adapter_of_row, row_above};
+use crate::cells::row_above;
+use crate::part_name::{part_of_row, part_of_stay};
 use round_net::Net;
 use std::alloc::{AllocError, Global};
 use waiting_network::{Problem, Stay};
 
-/// What there is to plan of these stays: a row for each device and then each adapter, an adapter's above those of its
-/// devices.
+/// What there is to plan of these stays: a row for each device, then for each adapter, then for each link. An adapter's is
+/// above those of its devices, and a link's above those of its adapters.
 pub fn problem_of(alloc: Global, net: &Net, stays: Vec<Stay>) -> Result<Problem, AllocError>
     ensures rounds { IfOk result (λ problem. problem.rounds ≡ (instance_of_rows net.now).rounds) }
     ensures rows { IfOk result (λ problem. length problem.above.items ≡ rows (instance_of_rows net.now)) }
@@ -70,16 +71,15 @@ pub fn all_stays(alloc: Global, net: &Net) -> Result<Vec<Stay>, AllocError>
     Ok(stays)
 }
 
-/// What there is to plan of an adapter's stays alone: a row for each of its devices, in order, and then its own above them.
-pub fn problem_of_adapter(alloc: Global, net: &Net, adapter: u32) -> Result<Problem, AllocError> {
-    let places = places_of(alloc, net, adapter)?;
-    let (above, caps) = own_rows(alloc, net, adapter)?;
+/// What there is to plan of a part alone: a row for each of its rows, in order.
+pub fn problem_of_part(alloc: Global, net: &Net, part: u32) -> Result<Problem, AllocError> {
+    let places = places_of(alloc, net, part)?;
+    let (above, caps) = own_rows(alloc, net, part, &places)?;
     let mut stays = Vec::new(alloc);
     for stay in 0..net.stays() {
-        if net.adapter(stay) == adapter {
-            let row = places.get(net.device(stay) as usize).copied().unwrap_or(0);
+        if part_of_stay(net, stay) == part {
             stays.push(Stay {
-                row,
+                row: places[net.device(stay) as usize],
                 ..stay_of(net, stay)
             })?;
         }
@@ -92,46 +92,40 @@ pub fn problem_of_adapter(alloc: Global, net: &Net, adapter: u32) -> Result<Prob
     })
 }
 
-// Of each device how many before it are the adapter's, which is its row if it is so too.
-fn places_of(alloc: Global, net: &Net, adapter: u32) -> Result<Vec<u32>, AllocError> {
-    let mut places = Vec::with_capacity(alloc, net.devices() as usize)?;
+// Of each row how many before it are the part's, which is its place if it is so too. The last place, the root's, is past all.
+fn places_of(alloc: Global, net: &Net, part: u32) -> Result<Vec<u32>, AllocError>
+    ensures { IfOk result (λ places. length places.items ≡ rows (instance_of_rows net.now) + 1) }
+{
+    let mut places = Vec::with_capacity(alloc, net.rows() as usize + 1)?;
     let mut next = 0u32;
-    for device in 0..net.devices() {
+    for row in 0..net.rows() {
         places.push(next)?;
-        if net.adapter_of(device) == adapter {
+        if part_of_row(net, row) == part {
             next = next.saturating_add(1);
         }
     }
+    places.push(next)?;
     Ok(places)
 }
 
-// The row above each row of the adapter's, and how many stays their cells take.
-fn own_rows(alloc: Global, net: &Net, adapter: u32) -> Result<(Vec<u32>, Vec<u32>), AllocError> {
+// The place above each row of the part, and how many stays their cells take.
+fn own_rows(
+    alloc: Global,
+    net: &Net,
+    part: u32,
+    places: &[u32],
+) -> Result<(Vec<u32>, Vec<u32>), AllocError>
+    requires { length places.now ≡ rows (instance_of_rows net.now) + 1 }
+{
     let (mut above, mut caps) = (Vec::new(alloc), Vec::new(alloc));
-    let own = devices_of(net, adapter);
     for row in 0..net.rows() {
-        if adapter_of_row(net, row) == adapter {
-            above.push(if row < net.devices() {
-                own
-            } else {
-                own.saturating_add(1)
-            })?;
+        if part_of_row(net, row) == part {
+            above.push(places[row_above(net, row) as usize])?;
             caps.push(0)?;
             add_caps(net, &mut caps, row)?;
         }
     }
     Ok((above, caps))
-}
-
-// How many devices are on the adapter.
-fn devices_of(net: &Net, adapter: u32) -> u32 {
-    let mut count = 0u32;
-    for device in 0..net.devices() {
-        if net.adapter_of(device) == adapter {
-            count = count.saturating_add(1);
-        }
-    }
-    count
 }
 
 // A stay.

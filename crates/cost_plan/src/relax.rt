@@ -3,28 +3,32 @@
 ghost use Rattle.std.specs.Prelude.{◌≡◌, ℕ, ◌+◌, ◌<◌, ◌≤◌, None, length};
 ghost use Rattle.round_net.specs.Instance.{rows};
 ghost use Rattle.round_net.specs.Rows.{instance_of_rows};
-ghost use Rattle.cost_plan.specs.Cells.{node_count};
+ghost use Rattle.cost_plan.specs.Cells.{row_above, node_count};
 ghost use Rattle.gaining_cycle.specs.Labelling.{label_of};
 ghost use Rattle.cost_plan.specs.RowPrices.{SettlesAll};
 ghost use Rattle.cost_plan.specs.Draft.{IsDraftOf, schedule_of};
 ghost use Rattle.cost_plan.specs.Raising.{Raises, SettlesMoves, SettlesTake, SettlesGive, SettlesCell, SettlesRow};
 
 use crate::arcs::{giving, load, moving, taking};
+use crate::cells::row_above;
 use crate::draft::Draft;
 use gaining_cycle::{Arc, Labels};
 use round_net::Net;
 
-/// Raises labels by the arc of one stay more in a cell, where it has room.
+/// Raises labels by the arc of one stay more in a cell, where it has room. The row above its own is given.
 pub fn relax_take(
     net: &Net,
     draft: &Draft,
     labels: &mut Labels,
     row: u32,
+    up: u32,
     round: u32,
 ) -> Option<u32>
     requires draft { IsDraftOf (instance_of_rows net.now) draft.now }
     requires size { length labels.old.labels ≡ node_count (instance_of_rows net.now) }
     requires row { row < rows (instance_of_rows net.now) }
+    requires up { up ≡ row_above (instance_of_rows net.now) row }
+    requires within { up ≤ rows (instance_of_rows net.now) }
     requires first { 1 ≤ round }
     requires last { round ≤ (instance_of_rows net.now).rounds }
     ensures raises { Raises (instance_of_rows net.now) (schedule_of draft.now) labels.old labels.new result }
@@ -33,20 +37,23 @@ pub fn relax_take(
     if load(net, draft, row, round) >= net.cap(row, round) {
         return None;
     }
-    labels.relax(taking(net, row, round))
+    labels.relax(taking(net, row, up, round))
 }
 
-/// Raises labels by the arc of one stay less in a cell, where it has one.
+/// Raises labels by the arc of one stay less in a cell, where it has one. The row above its own is given.
 pub fn relax_give(
     net: &Net,
     draft: &Draft,
     labels: &mut Labels,
     row: u32,
+    up: u32,
     round: u32,
 ) -> Option<u32>
     requires draft { IsDraftOf (instance_of_rows net.now) draft.now }
     requires size { length labels.old.labels ≡ node_count (instance_of_rows net.now) }
     requires row { row < rows (instance_of_rows net.now) }
+    requires up { up ≡ row_above (instance_of_rows net.now) row }
+    requires within { up ≤ rows (instance_of_rows net.now) }
     requires first { 1 ≤ round }
     requires last { round ≤ (instance_of_rows net.now).rounds }
     ensures raises { Raises (instance_of_rows net.now) (schedule_of draft.now) labels.old labels.new result }
@@ -55,27 +62,30 @@ pub fn relax_give(
     if load(net, draft, row, round) == 0 {
         return None;
     }
-    labels.relax(giving(net, row, round))
+    labels.relax(giving(net, row, up, round))
 }
 
-/// Raises labels by both arcs of a cell.
+/// Raises labels by both arcs of a cell. The row above its own is given.
 pub fn relax_cell(
     net: &Net,
     draft: &Draft,
     labels: &mut Labels,
     row: u32,
+    up: u32,
     round: u32,
 ) -> Option<u32>
     requires draft { IsDraftOf (instance_of_rows net.now) draft.now }
     requires size { length labels.old.labels ≡ node_count (instance_of_rows net.now) }
     requires row { row < rows (instance_of_rows net.now) }
+    requires up { up ≡ row_above (instance_of_rows net.now) row }
+    requires within { up ≤ rows (instance_of_rows net.now) }
     requires first { 1 ≤ round }
     requires last { round ≤ (instance_of_rows net.now).rounds }
     ensures raises { Raises (instance_of_rows net.now) (schedule_of draft.now) labels.old labels.new result }
     ensures settled { result ≡ None → SettlesCell (instance_of_rows net.now) (schedule_of draft.now) row labels.old round }
 {
-    let taken = relax_take(net, draft, labels, row, round);
-    relax_give(net, draft, labels, row, round).or(taken)
+    let taken = relax_take(net, draft, labels, row, up, round);
+    relax_give(net, draft, labels, row, up, round).or(taken)
 }
 
 /// Raises labels by the arcs of the cells of a row.
@@ -86,9 +96,10 @@ pub fn relax_row(net: &Net, draft: &Draft, labels: &mut Labels, row: u32) -> Opt
     ensures raises { Raises (instance_of_rows net.now) (schedule_of draft.now) labels.old labels.new result }
     ensures settled { result ≡ None → SettlesRow (instance_of_rows net.now) (schedule_of draft.now) labels.old row }
 {
+    let up = row_above(net, row);
     let mut found = None;
     for round in 1..net.rounds() + 1 {
-        found = relax_cell(net, draft, labels, row, round).or(found);
+        found = relax_cell(net, draft, labels, row, up, round).or(found);
     }
     found
 }

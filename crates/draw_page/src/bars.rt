@@ -59,6 +59,7 @@ pub(crate) fn push_bar(
         Cause::AdapterFrozen,
         Cause::DeviceFull,
         Cause::AdapterFull,
+        Cause::LinkFull,
         Cause::NotAsked,
     ] {
         push_segments(text, scale, waits, *cause)?;

@@ -1,4 +1,4 @@
-//! The row of a device: bands, bars and openings; and that of an adapter.
+//! The row of a device: bands, bars and openings; and those of adapters and links.
 
 use crate::bands::push_bands;
 use crate::bars::push_bar;
@@ -27,6 +27,14 @@ pub(crate) struct Scene<'a> {
     pub(crate) scale: Scale,
 }
 
+/// Puts the row of each link behind the text.
+pub(crate) fn push_links(text: &mut String, scene: &Scene) -> Result<(), AllocError> {
+    for link in 0..scene.net.links() {
+        push_shared(text, scene, "link ", link, Owner::Link(link))?;
+    }
+    Ok(())
+}
+
 /// Puts the row of each adapter behind the text, and below each the rows of its devices.
 pub(crate) fn push_adapters(
     alloc: Global,
@@ -34,39 +42,43 @@ pub(crate) fn push_adapters(
     scene: &Scene,
 ) -> Result<(), AllocError> {
     for adapter in 0..scene.net.adapters() {
-        push_adapter(text, scene, adapter)?;
+        push_shared(text, scene, "adapter ", adapter, Owner::Adapter(adapter))?;
         push_devices(alloc, text, scene, adapter)?;
     }
     Ok(())
 }
 
-// Puts the openings of an adapter behind the text.
-fn push_adapter(text: &mut String, scene: &Scene, adapter: u32) -> Result<(), AllocError> {
+// Puts the openings of an adapter or a link behind the text, which several devices share.
+fn push_shared(
+    text: &mut String,
+    scene: &Scene,
+    word: &str,
+    number: u32,
+    owner: Owner,
+) -> Result<(), AllocError> {
+    push_words(
+        text,
+        &["<div class='row adapter'><div class='label'>", word],
+    )?;
     push_parts(
         text,
         &[
-            (
-                "<div class='row adapter'><div class='label'>adapter ",
-                u64::from(adapter),
-            ),
+            ("", u64::from(number)),
             (
                 "</div><svg xmlns='http://www.w3.org/2000/svg' role='img' width='",
                 scene.scale.whole(),
             ),
             ("' height='", STRIP),
-            (
-                "' aria-label='openings used of adapter ",
-                u64::from(adapter),
-            ),
         ],
-        ", by round'>\n",
+        "' aria-label='openings used of ",
     )?;
+    push_parts(text, &[(word, u64::from(number))], ", by round'>\n")?;
     push_strip(
         text,
         &scene.scale,
         scene.net,
         scene.explanation.stays(),
-        Owner::Adapter(adapter),
+        owner,
         0,
     )?;
     text.push_str("</svg></div>\n")

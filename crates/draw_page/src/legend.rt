@@ -1,8 +1,9 @@
 //! The legend, with what the waiting cost by cause.
 
-use crate::words::{by_cause, letter, push_parts, push_words};
+use crate::words::{letter, push_parts, push_words};
+use cam_types::Config;
 use std::alloc::AllocError;
-use wait_causes::Part;
+use wait_causes::{Cause, Part};
 
 /// What the legend says of the marks.
 const MARKS: &str = "<ul class='legend'>\
@@ -14,20 +15,31 @@ const MARKS: &str = "<ul class='legend'>\
 </ul>\n";
 
 /// Puts the legend behind the text: the causes with their costs, and the marks.
-pub(crate) fn push_legend(text: &mut String, whole: &Part) -> Result<(), AllocError> {
+pub(crate) fn push_legend(
+    text: &mut String,
+    config: &Config,
+    whole: &Part,
+) -> Result<(), AllocError> {
     text.push_str("<ul class='legend' id='causes'>\n")?;
-    for (cause, cost) in &by_cause(&whole.costs) {
-        push_words(
-            text,
-            &[
-                "<li><svg xmlns='http://www.w3.org/2000/svg' aria-hidden='true' width='28' height='14'><path stroke-width='12' class='",
-                letter(*cause),
-                "' d='M2 7h24'/></svg>",
-                cause.name(),
-            ],
-        )?;
-        push_parts(text, &[(" <b>", *cost)], "</b></li>\n")?;
+    for (cause, cost) in &whole.costs.by_cause() {
+        if cause.can_hold(config) {
+            push_cause(text, *cause, *cost)?;
+        }
     }
     text.push_str("</ul>\n")?;
     text.push_str(MARKS)
+}
+
+// Puts a cause with its cost behind the text.
+fn push_cause(text: &mut String, cause: Cause, cost: u64) -> Result<(), AllocError> {
+    push_words(
+        text,
+        &[
+            "<li><svg xmlns='http://www.w3.org/2000/svg' aria-hidden='true' width='28' height='14'><path stroke-width='12' class='",
+            letter(cause),
+            "' d='M2 7h24'/></svg>",
+            cause.name(),
+        ],
+    )?;
+    push_parts(text, &[(" <b>", cost)], "</b></li>\n")
 }

@@ -16,14 +16,19 @@ pub(crate) enum Owner {
     Device(u32),
     /// The adapter of this number.
     Adapter(u32),
+    /// The link of this number.
+    Link(u32),
 }
 
 impl Owner {
     // Whether the stay was sent by one of these openings.
-    fn is_of(self, stay: &ExplainedStay) -> bool {
+    fn is_of(self, net: &Net, stay: &ExplainedStay) -> bool {
         match self {
             Owner::Device(device) => stay.device == device,
             Owner::Adapter(adapter) => stay.adapter == adapter,
+            Owner::Link(link) => {
+                stay.adapter < net.adapters() && net.link_of(stay.adapter) == Some(link)
+            }
         }
     }
 
@@ -35,6 +40,7 @@ impl Owner {
         match self {
             Owner::Device(device) if device < net.devices() => net.dev_cap(device, round),
             Owner::Adapter(adapter) if adapter < net.adapters() => net.sim_cap(adapter, round),
+            Owner::Link(link) if link < net.links() => net.link_cap(link, round),
             _ => 0,
         }
     }
@@ -56,17 +62,17 @@ pub(crate) fn push_strip(
     )?;
     for before in 0..scale.rounds {
         let round = before.saturating_add(1);
-        let used = sent_in(stays, owner, round);
+        let used = sent_in(net, stays, owner, round);
         push_cell(text, scale, round, used, owner.cap(net, round))?;
     }
     text.push_str("</g>\n")
 }
 
 // How many of the stays were sent by these openings in the round.
-fn sent_in(stays: &[ExplainedStay], owner: Owner, round: u32) -> u64 {
+fn sent_in(net: &Net, stays: &[ExplainedStay], owner: Owner, round: u32) -> u64 {
     let mut sent = 0u64;
     for stay in stays {
-        if stay.live == round && owner.is_of(stay) {
+        if stay.live == round && owner.is_of(net, stay) {
             sent = sent.saturating_add(1);
         }
     }

@@ -54,3 +54,9 @@ a{color:inherit}
 @media print{main{padding:0}.scroll,.long{overflow:visible;max-height:none;border:0}
 *{print-color-adjust:exact;-webkit-print-color-adjust:exact}tr,.row{break-inside:avoid}}
 ";
+
+/// What the style sheet has more where there are links.
+pub(crate) const LINK_STYLE: &str = ":root{--l:#b03a86}
+@media(prefers-color-scheme:dark){:root{--l:#e57fc0}}
+.l{stroke:var(--l)}
+";

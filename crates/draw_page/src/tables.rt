@@ -4,7 +4,7 @@ use crate::words::{freeze_words, push_number, push_parts, push_words};
 use cam_path::path_name;
 use cam_types::Config;
 use std::alloc::{AllocError, Global};
-use wait_causes::{Explanation, Freeze, FreezeKind, Grouping, Part, Row};
+use wait_causes::{Cause, Explanation, Freeze, FreezeKind, Grouping, Part, Row};
 
 // What stands above the columns of a part.
 const COLUMNS: &str = "</th><th scope='col'>stays</th><th scope='col'>waited</th>\
@@ -12,7 +12,13 @@ const COLUMNS: &str = "</th><th scope='col'>stays</th><th scope='col'>waited</th
 <th scope='col'>live</th><th scope='col'>best</th><th scope='col'>excess</th>\
 <th scope='col'>held by an error</th><th scope='col'>frozen by a caller</th>\
 <th scope='col'>adapter frozen</th><th scope='col'>device full</th>\
-<th scope='col'>adapter full</th><th scope='col'>not asked</th></tr></thead><tbody>\n";
+<th scope='col'>adapter full</th>";
+
+// The column of full links, where there are links.
+const LINK_FULL: &str = "<th scope='col'>link full</th>";
+
+// The last column, and the end of the head.
+const NOT_ASKED: &str = "<th scope='col'>not asked</th></tr></thead><tbody>\n";
 
 /// Puts the tables by adapter, device, driver and run level behind the text.
 pub(crate) fn push_tables(
@@ -21,6 +27,7 @@ pub(crate) fn push_tables(
     config: &Config,
     explanation: &Explanation,
 ) -> Result<(), AllocError> {
+    let has_links = Cause::LinkFull.can_hold(config);
     for (by, id, name) in &[
         (Grouping::Adapter, "adapters", "adapter"),
         (Grouping::Device, "devices", "device"),
@@ -37,6 +44,8 @@ pub(crate) fn push_tables(
                 "</caption><thead><tr><th scope='col'>",
                 name,
                 COLUMNS,
+                if has_links { LINK_FULL } else { "" },
+                NOT_ASKED,
             ],
         )?;
         let rows = explanation.table(alloc, *by)?;
@@ -61,13 +70,13 @@ fn push_rows(
         } else {
             push_number(text, u64::from(row.number))?;
         }
-        push_part(text, &row.part)?;
+        push_part(text, &row.part, Cause::LinkFull.can_hold(config))?;
     }
     Ok(())
 }
 
 // Puts the cells of a part behind the text, and the end of its row.
-fn push_part(text: &mut String, part: &Part) -> Result<(), AllocError> {
+fn push_part(text: &mut String, part: &Part, has_links: bool) -> Result<(), AllocError> {
     let costs = &part.costs;
     push_parts(
         text,
@@ -91,10 +100,13 @@ fn push_part(text: &mut String, part: &Part) -> Result<(), AllocError> {
             ("</td><td>", costs.adapter_frozen),
             ("</td><td>", costs.device_full),
             ("</td><td>", costs.adapter_full),
-            ("</td><td>", costs.not_asked),
         ],
-        "</td></tr>\n",
-    )
+        "",
+    )?;
+    if has_links {
+        push_parts(text, &[("</td><td>", costs.link_full)], "")?;
+    }
+    push_parts(text, &[("</td><td>", costs.not_asked)], "</td></tr>\n")
 }
 
 /// Puts the excess of a part behind the text.

@@ -1,7 +1,7 @@
 //! The words and numbers that the page is made of.
 
 use std::alloc::AllocError;
-use wait_causes::{Cause, CauseCosts, FreezeKind};
+use wait_causes::{Cause, FreezeKind};
 
 /// Puts a number behind the text, in decimal.
 pub(crate) fn push_number(text: &mut String, number: u64) -> Result<(), AllocError> {
@@ -55,6 +55,7 @@ pub(crate) fn letter(cause: Cause) -> &'static str {
         Cause::AdapterFrozen => "z",
         Cause::DeviceFull => "d",
         Cause::AdapterFull => "a",
+        Cause::LinkFull => "l",
         Cause::NotAsked => "n",
     }
 }
@@ -66,16 +67,4 @@ pub(crate) fn freeze_words(kind: FreezeKind) -> (&'static str, &'static str) {
         FreezeKind::Caller => ("frozen by a caller", "c"),
         FreezeKind::Adapter => ("adapter frozen by a caller", "z"),
     }
-}
-
-/// The causes in the order in which they are tested, each with its cost.
-pub(crate) fn by_cause(costs: &CauseCosts) -> [(Cause, u64); 6] {
-    [
-        (Cause::Error, costs.error),
-        (Cause::Caller, costs.caller),
-        (Cause::AdapterFrozen, costs.adapter_frozen),
-        (Cause::DeviceFull, costs.device_full),
-        (Cause::AdapterFull, costs.adapter_full),
-        (Cause::NotAsked, costs.not_asked),
-    ]
 }

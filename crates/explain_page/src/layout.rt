@@ -1,6 +1,5 @@
 //! The page: what the waiting cost and why, and the stays that cost most.
 
-use crate::causes::by_cause;
 use crate::freezes::push_freezes;
 use crate::order::most_first;
 use crate::stays::push_stays;
@@ -44,8 +43,10 @@ pub fn page(
         push_worst_freeze(alloc, &mut text, config, freeze)?;
     }
     writeln!(&mut text, "\nWhat the waiting cost, by cause:\n")?;
-    for (cause, cost) in &by_cause(&whole.costs) {
-        writeln!(&mut text, "  {:<18} {cost:>9}", cause.name())?;
+    for (cause, cost) in &whole.costs.by_cause() {
+        if cause.can_hold(config) {
+            writeln!(&mut text, "  {:<18} {cost:>9}", cause.name())?;
+        }
     }
     push_tables(alloc, &mut text, config, explanation)?;
     push_freezes(alloc, &mut text, config, &freezes, &worst_freezes, top)?;

@@ -3,7 +3,6 @@
 
 pub use layout::page;
 
-mod causes;
 mod freezes;
 mod layout;
 mod order;

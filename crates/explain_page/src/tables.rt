@@ -3,11 +3,11 @@
 use cam_path::path_name;
 use cam_types::Config;
 use std::alloc::{AllocError, Global};
-use wait_causes::{Explanation, Grouping, Part};
+use wait_causes::{Cause, Explanation, Grouping, Part};
 
-// What stands above the columns.
+// What stands above the columns: behind these `l.full` where there are links, and then `unasked`.
 const COLUMNS: &str =
-    "stays  waited   p50   p90   max      live      best    excess     error    caller  a.frozen    d.full    a.full unasked";
+    "stays  waited   p50   p90   max      live      best    excess     error    caller  a.frozen    d.full    a.full";
 
 /// Puts the tables behind the text.
 pub(crate) fn push_tables(
@@ -16,7 +16,9 @@ pub(crate) fn push_tables(
     config: &Config,
     explanation: &Explanation,
 ) -> Result<(), AllocError> {
-    writeln!(text, "\n{:<14} {COLUMNS}", "")?;
+    let has_links = Cause::LinkFull.can_hold(config);
+    let link_full = if has_links { "    l.full" } else { "" };
+    writeln!(text, "\n{:<14} {COLUMNS}{link_full} unasked", "")?;
     for (by, name) in &[
         (Grouping::Adapter, "adapter"),
         (Grouping::Device, "device"),
@@ -30,14 +32,19 @@ pub(crate) fn push_tables(
                 format!(in alloc; "{}", row.number)?
             };
             let label = format!(in alloc; "{name} {number}")?;
-            push_part(text, &label, &row.part)?;
+            push_part(text, &label, &row.part, has_links)?;
         }
     }
     Ok(())
 }
 
 // A row of a table.
-fn push_part(text: &mut String, label: &str, part: &Part) -> Result<(), AllocError> {
+fn push_part(
+    text: &mut String,
+    label: &str,
+    part: &Part,
+    has_links: bool,
+) -> Result<(), AllocError> {
     let costs = &part.costs;
     write!(
         text,
@@ -51,14 +58,13 @@ fn push_part(text: &mut String, label: &str, part: &Part) -> Result<(), AllocErr
         part.best,
         part.excess()
     )?;
-    writeln!(
+    write!(
         text,
-        "{:>9} {:>9} {:>9} {:>9} {:>9} {:>7}",
-        costs.error,
-        costs.caller,
-        costs.adapter_frozen,
-        costs.device_full,
-        costs.adapter_full,
-        costs.not_asked
-    )
+        "{:>9} {:>9} {:>9} {:>9} {:>9}",
+        costs.error, costs.caller, costs.adapter_frozen, costs.device_full, costs.adapter_full
+    )?;
+    if has_links {
+        write!(text, " {:>9}", costs.link_full)?;
+    }
+    writeln!(text, " {:>7}", costs.not_asked)
 }

@@ -99,6 +99,7 @@ fn causes_have_words(rt: HostRuntime) -> Result<(), Fail> {
         (Cause::AdapterFrozen, "adapter frozen"),
         (Cause::DeviceFull, "device full"),
         (Cause::AdapterFull, "adapter full"),
+        (Cause::LinkFull, "link full"),
         (Cause::NotAsked, "not asked"),
     ];
     for (cause, words) in rows {

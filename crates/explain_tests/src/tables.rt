@@ -12,6 +12,7 @@ const NO_COSTS: CauseCosts = CauseCosts {
     adapter_frozen: 0,
     device_full: 0,
     adapter_full: 0,
+    link_full: 0,
     not_asked: 0,
 };
 
@@ -21,6 +22,7 @@ const FROZEN_COSTS: CauseCosts = CauseCosts {
     adapter_frozen: 0,
     device_full: 0,
     adapter_full: 1,
+    link_full: 0,
     not_asked: 0,
 };
 

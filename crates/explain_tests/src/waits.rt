@@ -2,11 +2,13 @@
 
 use crate::histories::{history, waits, whole};
 use cam_event::Event;
+use cam_types::{Adapter, Config, standard_weights};
 use std::test::Fail;
 use test_events::{
-    PLAIN, attention, done, freeze, freeze_sim, release, release_sim, requeue, send, submit,
+    PLAIN, attention, device, done, freeze, freeze_sim, release, release_sim, requeue, send, submit,
 };
 use wait_causes::{Cause, CauseCosts, Part, Wait};
+use xpt_state::History;
 
 fn wait(cause: Cause, first: u32, last: u32) -> Wait {
     Wait { cause, first, last }
@@ -18,6 +20,7 @@ const NOTHING: CauseCosts = CauseCosts {
     adapter_frozen: 0,
     device_full: 0,
     adapter_full: 0,
+    link_full: 0,
     not_asked: 0,
 };
 
@@ -180,5 +183,73 @@ fn error_comes_before_a_caller_and_a_frozen_adapter(rt: HostRuntime) -> Result<(
         costs,
     };
     assert_eq!(rt; whole(rt.alloc(), &history, &other)?, Some(part));
+    Ok(())
+}
+
+// Two adapters share a link with one opening. The first one's command takes it in round 1, and an urgent one for the other
+// adapter waits for it; both adapters and devices have an opening left.
+#[test]
+fn the_link_of_two_adapters_is_full(rt: HostRuntime) -> Result<(), Fail> {
+    let adapter = Adapter {
+        openings: 2,
+        link: Some(0),
+    };
+    let config = Config::with_links(
+        rt.alloc(),
+        &standard_weights(),
+        &[1],
+        &[adapter, adapter],
+        &[device(0, 1, 2), device(1, 1, 2)],
+        &[0, 1],
+    )?;
+    assert!(rt; Cause::LinkFull.can_hold(&config) && Cause::AdapterFull.can_hold(&config));
+    let mut history = History::new(rt.alloc(), config)?;
+    let events = [
+        submit(0, 1152, 4, PLAIN),
+        send(0, 0),
+        done(0, 1),
+        submit(1, 128, 4, PLAIN),
+        Event::Tick,
+        send(1, 1),
+        done(1, 1),
+    ];
+    for event in events {
+        history.push(event)?;
+    }
+    assert_eq!(rt;
+        waits(rt.alloc(), &history, &[2, 1], 1)?.as_slice(),
+        [wait(Cause::LinkFull, 1, 1)].as_slice()
+    );
+    let Some(part) = whole(rt.alloc(), &history, &[2, 1])? else {
+        return Err(Fail::new("another history"));
+    };
+    let costs = part.costs;
+    assert_eq!(rt;
+        costs,
+        CauseCosts {
+            link_full: 16,
+            ..NOTHING
+        }
+    );
+    assert_eq!(rt;
+        costs.by_cause().as_slice(),
+        [
+            (Cause::Error, 0),
+            (Cause::Caller, 0),
+            (Cause::AdapterFrozen, 0),
+            (Cause::DeviceFull, 0),
+            (Cause::AdapterFull, 0),
+            (Cause::LinkFull, 16),
+            (Cause::NotAsked, 0),
+        ]
+        .as_slice()
+    );
+    Ok(())
+}
+
+#[test]
+fn no_link_is_full_where_there_is_none(rt: HostRuntime) -> Result<(), Fail> {
+    let config = Config::new(rt.alloc(), &[1], &[], &[])?;
+    assert!(rt; !Cause::LinkFull.can_hold(&config) && Cause::AdapterFull.can_hold(&config));
     Ok(())
 }

@@ -1,12 +1,16 @@
 //! What helps to find the fault of a trace or a script.
 
+ghost use Rattle.std.specs.Prelude.{◌≡◌, IfSome, find};
+ghost use Rattle.fault_note.specs.Beginnings.{BeginsAt, is_named};
+
 use crate::place::place_of;
 use crate::shown::{first_line, push_line};
 use crate::turn::turn_at;
-use cam_event::{Event, Refusal, StayName};
+use cam_event::{Refusal, StayName};
 use std::alloc::{AllocError, Global};
 use text_io::Watched;
-use trace_file::{TraceFault, read_trace};
+use trace_file::{TraceFault, event_record, read_trace};
+use xpt_state::StayRecord;
 
 /// The line of the record that the fault names, with its text, and for a send out of turn a line on the CCB whose turn it
 /// was. The note is empty if the fault is none of a record, or the record isn't there.
@@ -82,33 +86,27 @@ fn push_turn(alloc: Global, note: &mut String, text: &[u8], record: u32) -> Resu
 }
 
 // The number of the record with which the stay began.
-fn beginning_of(alloc: Global, text: &[u8], stay: StayName) -> Option<u32> {
-    let history = read_trace(alloc, &mut Watched::new(text)).ok()?;
-    let config = history.config();
-    let before = 1 + config.adapters().len() + config.devices().len() + config.lanes().len();
-    let mut submits = 0u32;
-    let mut requeues = 0u32;
-    for (place, event) in history.events().iter().enumerate() {
-        match event {
-            Event::Submit { .. } => {
-                if submits == stay.ccb && stay.attempt == 0 {
-                    return number_of(before, place);
-                }
-                submits = submits.saturating_add(1);
-            }
-            Event::Requeue { ccb } if *ccb == stay.ccb => {
-                requeues = requeues.saturating_add(1);
-                if requeues == stay.attempt {
-                    return number_of(before, place);
-                }
-            }
-            _ => {}
+fn beginning_of(alloc: Global, text: &[u8], stay: StayName) -> Option<u32>
+    ensures { IfSome result (λ n. BeginsAt text.now stay n) }
+{
+    match read_trace(alloc, &mut Watched::new(text)) {
+        Ok(history) => {
+            let begun = named(history.stays(), stay)?;
+            event_record(alloc, text, &history, begun.stay.place)
         }
+        Err(_) => None,
     }
-    None
 }
 
-// The number of the record of the event at a place, where so many records stand before all events.
-fn number_of(before: usize, place: usize) -> Option<u32> {
-    u32::try_from(before.saturating_add(place).saturating_add(1)).ok()
+// The stay of this name.
+fn named(stays: &[StayRecord], name: StayName) -> Option<StayRecord>
+    ensures { result ≡ find (is_named name) stays.now }
+{
+    stays.iter().copied().find(|begun| is_named(name, begun))
+}
+
+fn is_named(name: StayName, begun: &StayRecord) -> bool
+    ensures { result ≡ is_named name begun.now }
+{
+    begun.stay.ccb == name.ccb && begun.stay.attempt == name.attempt
 }

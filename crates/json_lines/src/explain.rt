@@ -48,7 +48,7 @@ pub fn explain_json(
         live: whole.live,
         best: whole.best,
         excess: whole.excess(),
-        causes: Causes::of(&whole.costs),
+        causes: Causes::of(&whole.costs, config),
         adapters: rows(alloc, config, explanation, Grouping::Adapter)?,
         devices: rows(alloc, config, explanation, Grouping::Device)?,
         drivers: rows(alloc, config, explanation, Grouping::Driver)?,

@@ -4,9 +4,9 @@ use cam_path::path_name;
 use cam_types::Config;
 use serde::Serialize;
 use std::alloc::{AllocError, Global};
-use wait_causes::{CauseCosts, Explanation, Grouping, Part, Row};
+use wait_causes::{Cause, CauseCosts, Explanation, Grouping, Part, Row};
 
-/// Weighted rounds by cause.
+/// Weighted rounds by cause, that of full links only where there are links.
 #[derive(Clone, Copy, Drop, Serialize)]
 pub(crate) struct Causes {
     error: u64,
@@ -14,18 +14,21 @@ pub(crate) struct Causes {
     adapter_frozen: u64,
     device_full: u64,
     adapter_full: u64,
+    #[serde(skip_serializing_if = "Option::is_none")]
+    link_full: Option<u64>,
     not_asked: u64,
 }
 
 impl Causes {
-    /// Those of these costs.
-    pub(crate) fn of(costs: &CauseCosts) -> Causes {
+    /// Those of these costs in a configuration.
+    pub(crate) fn of(costs: &CauseCosts, config: &Config) -> Causes {
         Causes {
             error: costs.error,
             caller: costs.caller,
             adapter_frozen: costs.adapter_frozen,
             device_full: costs.device_full,
             adapter_full: costs.adapter_full,
+            link_full: Cause::LinkFull.can_hold(config).then_some(costs.link_full),
             not_asked: costs.not_asked,
         }
     }
@@ -62,13 +65,13 @@ pub(crate) fn rows(
             Grouping::Device => Some(path_name(alloc, config, row.number)?),
             _ => None,
         };
-        rows.push(row_of(row, path))?;
+        rows.push(row_of(row, path, config))?;
     }
     Ok(rows)
 }
 
 // The row with this path.
-fn row_of(row: &Row, path: Option<String>) -> TableRow {
+fn row_of(row: &Row, path: Option<String>, config: &Config) -> TableRow {
     let part: &Part = &row.part;
     TableRow {
         number: row.number,
@@ -81,6 +84,6 @@ fn row_of(row: &Row, path: Option<String>) -> TableRow {
         live: part.live,
         best: part.best,
         excess: part.excess(),
-        causes: Causes::of(&part.costs),
+        causes: Causes::of(&part.costs, config),
     }
 }

@@ -79,6 +79,7 @@ fn key_of(cause: Cause) -> &'static str {
         Cause::AdapterFrozen => "adapter_frozen",
         Cause::DeviceFull => "device_full",
         Cause::AdapterFull => "adapter_full",
+        Cause::LinkFull => "link_full",
         Cause::NotAsked => "not_asked",
     }
 }

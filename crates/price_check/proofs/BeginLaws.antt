@@ -76,7 +76,7 @@ padded_texts form n k vs size le =
 abbrev pub made : NetRows → ℕ → ℕ → List ℕ → List ℕ → Claim
 made net best excess stays prices = record {
   schedule = stays;
-  prices = record { rounds = (instance_of_rows net).rounds; devices = (instance_of_rows net).devices; adapters = (instance_of_rows net).adapters; prices = prices };
+  prices = record { rounds = (instance_of_rows net).rounds; devices = (instance_of_rows net).devices; adapters = (instance_of_rows net).adapters; links = (instance_of_rows net).links; prices = prices };
   best = best;
   excess = excess;
 }
@@ -97,13 +97,14 @@ pub is_claim : (net : NetRows) (best excess : ℕ) (stays prices : List ℕ) →
 is_claim net best excess stays prices sound small small' hs hp = record {
   stays = hs.size;
   rounds = hs.small;
-  pricing = record { rounds = refl; devices = refl; adapters = refl };
+  pricing = record { rounds = refl; devices = refl; adapters = refl; links = refl };
   priced = record {
     cells = hp.size;
     small = hp.small;
     few_rounds = sound.few_rounds;
     few_devices = sound.few_devices;
     few_adapters = sound.few_adapters;
+    few_links = sound.few_links;
   };
   best = small;
   excess = small';
@@ -114,11 +115,11 @@ abbrev pub sections : Past → NetRows → ℕ → ℕ → ℕ → List ℕ → 
 sections past net live best excess stays prices =
     texts_of (seven_form past.events live) 7 (said_of best excess)
     ++ (texts_of (stay_form net) (instance_of_rows net).stays stays
-    ++ (texts_of (form_of past.config.devices (instance_of_rows net).rounds) (price_cells net) prices ++ codes "end\n"))
+    ++ (texts_of (form_of past.config.devices (instance_of_rows net).adapters (instance_of_rows net).rounds) (price_cells net) prices ++ codes "end\n"))
 
 pub made_report : (past : Past) (net : NetRows) (live best excess : ℕ) (stays prices : List ℕ) → report_text past net live (made net best excess stays prices) ≡ sections past net live best excess stays prices
 unfolding parts_of
-made_report past net live best excess stays prices = report_parts past net live (made net best excess stays prices) (record { rounds = refl; devices = refl; adapters = refl })
+made_report past net live best excess stays prices = report_parts past net live (made net best excess stays prices) (record { rounds = refl; devices = refl; adapters = refl; links = refl })
 
 -- ---- where a section fails
 
@@ -213,4 +214,4 @@ at_summary past net live text e sound h =
     (is_claim net best excess stays prices sound small small' (zeros (instance_of_rows net).stays 65535) (zeros (price_cells net) MOST_PRICE))
     (made_report past net live best excess stays prices
     ∙ ap (λ (l : List ℕ). l ++ (texts_of (stay_form net) (instance_of_rows net).stays stays
-    ++ (texts_of (form_of past.config.devices (instance_of_rows net).rounds) (price_cells net) prices ++ codes "end\n"))) texts)
+    ++ (texts_of (form_of past.config.devices (instance_of_rows net).adapters (instance_of_rows net).rounds) (price_cells net) prices ++ codes "end\n"))) texts)

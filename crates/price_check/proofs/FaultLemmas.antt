@@ -1,17 +1,18 @@
 -- a schedule is admissible where it has no fault, and not where it has one
-use Rattle.std.proofs.Common.{◌≡◌, ℕ, zero, suc, ◌+◌, ◌<◌, ◌≤◌, Bool, true, false, cond, [], ◌∷◌, refl, arith, Option, Some, None}
-use Rattle.std.specs.Prelude.{◌==◌, ◌&&◌, nat_lt}
-use Rattle.std.proofs.lemmas.Bool.{and_parts, eqb-true, ltb-true}
+use Rattle.std.proofs.Common.{◌≡◌, ℕ, zero, suc, ◌+◌, ◌<◌, ◌≤◌, Bool, true, false, cond, List, [], ◌∷◌, refl, arith, Option, Some, None}
+use Rattle.std.specs.Prelude.{◌==◌, ◌&&◌, nat_lt, All}
+use Rattle.std.specs.List.{list_any}
+use Rattle.std.proofs.lemmas.Bool.{and_parts, or_parts, or_left, or_right, eqb-true, eq-eqb, ltb-true}
 use Rattle.std.proofs.lemmas.Bool.Decides.{nat_tests}
 use Rattle.std.proofs.lemmas.List.Elements.{All-nil, All-cons}
 use Rattle.round_net.specs.Sums.{count_below}
-use Rattle.round_net.specs.Instance.{Instance, adapter, adapter_row, path, uses}
+use Rattle.round_net.specs.Instance.{Instance, adapter, adapter_row, link_rows, path, uses}
 use Rattle.round_net.specs.Schedules.{IsAdmissible, load}
 use Rattle.round_net.specs.Sound.{IsSound}
 use Rattle.round_net.proofs.PathLemmas.{uses-device, uses-adapter}
-use Rattle.price_check.specs.Faults.{at_row, is_over, fault_at, IsFaultlessBelow, IsFirstFault}
+use Rattle.price_check.specs.Faults.{at_row, is_over, is_link_over, fault_at, IsFaultlessBelow, IsFirstFault}
 use Rattle.price_check.specs.declared.verdict.Cause.{Cause}
-use Rattle.price_check.specs.declared.verdict.Cause.TheVariants.{Early, Late, DeviceFull, AdapterFull}
+use Rattle.price_check.specs.declared.verdict.Cause.TheVariants.{Early, Late, DeviceFull, AdapterFull, LinkFull}
 use Rattle.price_check.proofs.TallyLemmas.{count_below-more}
 use Rattle.price_check.proofs.UsedLemmas.{of_used, used_within}
 
@@ -31,20 +32,38 @@ not_less a b e = grind (arith, nat_tests)
 less-not : (a b : ℕ) → b ≤ a → nat_lt a b ≡ false
 less-not a b e = grind (arith, nat_tests)
 
+-- none of these rows is over its cap, by the test of any
+none_over : (net : Instance) (f : ℕ → ℕ) (s : ℕ) (rows : List ℕ) → list_any (λ row. is_over net f row s) rows ≡ false → All (λ row. at_row net f row s ≤ net.cap row (f s)) rows
+none_over net f s [] e = All-nil (λ row. at_row net f row s ≤ net.cap row (f s))
+none_over net f s (row ∷ rows) e =
+    let parts = or_parts (is_over net f row s) (list_any (λ other. is_over net f other s) rows) e in
+    All-cons (λ other. at_row net f other s ≤ net.cap other (f s)) row rows (not_less _ _ parts.0) (none_over net f s rows parts.1)
+
+-- a test that fails at each number among them fails at any
+none_among : (test : ℕ → Bool) (own : List ℕ) → ((row : ℕ) → list_any (λ x. x == row) own ≡ true → test row ≡ false) → list_any test own ≡ false
+none_among test [] h = refl
+none_among test (x ∷ xs) h =
+    rw (h x (or_left (x == x) _ (eq-eqb x x refl))) (none_among test xs (λ row e. h row (or_right (x == row) _ e)))
+
+uses-link_rows : (net : Instance) (row s : ℕ) → list_any (λ x. x == row) (link_rows net (adapter net s)) ≡ true → uses net row s ≡ true
+uses-link_rows net row s among = or_right (net.device s == row) _ (or_right (adapter_row net (adapter net s) == row) _ among)
+
 pub well_where_no_fault : (net : Instance) (f : ℕ → ℕ) (s : ℕ) → fault_at net f s ≡ None → IsWell net f s
 unfolding fault_at
 well_where_no_fault net f s e =
     let device = net.device s in
     let row' = adapter_row net (adapter net s) in
+    let links = link_rows net (adapter net s) in
     let Q : ℕ → Type 0 = λ x. at_row net f x s ≤ net.cap x (f s) in
     let one = not_taken (nat_lt (f s) (net.arrival s)) Early _ e in
     let two = not_taken (nat_lt (net.last s) (f s)) Late _ one.1 in
     let three = not_taken (is_over net f device s) DeviceFull _ two.1 in
     let four = not_taken (is_over net f row' s) AdapterFull _ three.1 in
+    let five = not_taken (is_link_over net f s) LinkFull _ four.1 in
     record {
       not_early = not_less _ _ one.0;
       not_late = not_less _ _ two.0;
-      holds = λ row own. of_used Q (path net s) row (All-cons Q device (row' ∷ []) (not_less _ _ three.0) (All-cons Q row' [] (not_less _ _ four.0) (All-nil Q))) own;
+      holds = λ row own. of_used Q (path net s) row (All-cons Q device (row' ∷ links) (not_less _ _ three.0) (All-cons Q row' links (not_less _ _ four.0) (none_over net f s links five.0))) own;
     }
 
 pub no_fault_where_well : (net : Instance) (f : ℕ → ℕ) (s : ℕ) → IsWell net f s → fault_at net f s ≡ None
@@ -57,6 +76,7 @@ no_fault_where_well net f s well =
       less-not (net.last s) (f s) well.not_late,
       less-not (net.cap device (f s)) (at_row net f device s) (well.holds device (uses-device net s)),
       less-not (net.cap row (f s)) (at_row net f row s) (well.holds row (uses-adapter net s)),
+      none_among (λ other. is_over net f other s) (link_rows net (adapter net s)) (λ other among. less-not (net.cap other (f s)) (at_row net f other s) (well.holds other (uses-link_rows net other s among))),
     ) refl
 
 -- where each stay that passes a test, with those before it, keeps within a cap, all together do

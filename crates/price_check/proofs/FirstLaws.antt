@@ -53,7 +53,7 @@ abbrev stay_part : NetRows → List ℕ → List ℕ
 stay_part net stays = texts_of (stay_form net) (instance_of_rows net).stays stays
 
 abbrev price_part : Past → NetRows → List ℕ → List ℕ
-price_part past net prices = texts_of (form_of past.config.devices (instance_of_rows net).rounds) (price_cells net) prices
+price_part past net prices = texts_of (form_of past.config.devices (instance_of_rows net).adapters (instance_of_rows net).rounds) (price_cells net) prices
 
 abbrev front_of_stays : Past → NetRows → ℕ → ℕ × ℕ × ℕ → List ℕ → List ℕ
 front_of_stays past net live costs stays = seven_part past live costs ++ stay_part net stays
@@ -83,16 +83,17 @@ at_stays past net live text e costs sound r h =
 
 at_prices : (past : Past) (net : NetRows) (live : ℕ) (text : List ℕ) (e : ReportFault) (costs : ℕ × ℕ × ℕ) (best : List ℕ × ℕ) → IsSound (instance_of_rows net) (live_of_rows net) → Read past net live text costs
     → Front text (front_of_stays past net live costs best.0) best.1 → Fitting (instance_of_rows net).stays 65535 best.0
-    → series (cell_price_at past.config.devices (instance_of_rows net).rounds text) (price_cells net) best.1 ≡ Err e → FailsBehind past net live text e
+    → series (cell_price_at past.config.devices (instance_of_rows net).adapters (instance_of_rows net).rounds text) (price_cells net) best.1 ≡ Err e → FailsBehind past net live text e
 at_prices past net live text e costs best sound r f fits h =
     let devices = past.config.devices in
+    let adapters = (instance_of_rows net).adapters in
     let rounds = (instance_of_rows net).rounds in
     let n = price_cells net in
-    let form = form_of devices rounds in
-    let b = broken_at form MOST_PRICE text (cell_price_at devices rounds text) (cells_take devices rounds text) (cell_steps devices rounds text) n best.1 e h in
+    let form = form_of devices adapters rounds in
+    let b = broken_at form MOST_PRICE text (cell_price_at devices adapters rounds text) (cells_take devices adapters rounds text) (cell_steps devices adapters rounds text) n best.1 e h in
     let lt = b.within in
     let size = b.size in
-    section_failed past net live text e form MOST_PRICE (cell_price_at devices rounds text) n best.1 (front_of_stays past net live costs best.0) (codes "end\n") (made net costs.0 costs.1 best.0 (padded n b.values)) (cell_lines devices rounds) f b
+    section_failed past net live text e form MOST_PRICE (cell_price_at devices adapters rounds text) n best.1 (front_of_stays past net live costs best.0) (codes "end\n") (made net costs.0 costs.1 best.0 (padded n b.values)) (cell_lines devices adapters rounds) f b
     (is_claim net costs.0 costs.1 best.0 (padded n b.values) sound r.best r.excess fits (filled n MOST_PRICE b.values (omega arith) b.small))
     (from_stays_on past net live costs best.0 (padded n b.values))
 
@@ -127,6 +128,7 @@ at_end past net live text e costs best prices sound r f fits fits' h =
 pub fails_behind : (past : Past) (net : NetRows) (live : ℕ) (text : List ℕ) (e : ReportFault) → IsSound (instance_of_rows net) (live_of_rows net) → reading past.config.devices past.events live net text ≡ Err e → FailsBehind past net live text e
 fails_behind past net live text e sound h =
     let devices = past.config.devices in
+    let adapters = (instance_of_rows net).adapters in
     let rounds = (instance_of_rows net).rounds in
     on_err (summary_at past.events live text) _ e (sym (reading_parts devices past.events live net text) ∙ h)
     (λ h'. on_err (series (seven_at past.events live text) 7 0) (λ said. Ok (stated said)) e (sym (summary-series past.events live text) ∙ h')
@@ -137,8 +139,8 @@ fails_behind past net live text e sound h =
     let t1 = series_takes (stay_form net) 65535 text (stay_at net text) (stay_takes net text) (instance_of_rows net).stays costs.2 best e1 in
     let f1 = longer text (seven_part past live costs) (stay_part net best.0) costs.2 best.1 r.front t1.spelled (texts_closed (stay_form net) (stay_lines net) (instance_of_rows net).stays best.0) in
     let fits1 : Fitting (instance_of_rows net).stays 65535 best.0 = record { size = t1.size; small = t1.small } in
-    on_err (series (cell_price_at devices rounds text) (price_cells net) best.1) _ e h1 (λ h'. at_prices past net live text e costs best sound r f1 fits1 h') (λ prices e2 h2.
-    let t2 = series_takes (form_of devices rounds) MOST_PRICE text (cell_price_at devices rounds text) (cells_take devices rounds text) (price_cells net) best.1 prices e2 in
-    let f2 = longer text (front_of_stays past net live costs best.0) (price_part past net prices.0) best.1 prices.1 f1 t2.spelled (texts_closed (form_of devices rounds) (cell_lines devices rounds) (price_cells net) prices.0) in
+    on_err (series (cell_price_at devices adapters rounds text) (price_cells net) best.1) _ e h1 (λ h'. at_prices past net live text e costs best sound r f1 fits1 h') (λ prices e2 h2.
+    let t2 = series_takes (form_of devices adapters rounds) MOST_PRICE text (cell_price_at devices adapters rounds text) (cells_take devices adapters rounds text) (price_cells net) best.1 prices e2 in
+    let f2 = longer text (front_of_stays past net live costs best.0) (price_part past net prices.0) best.1 prices.1 f1 t2.spelled (texts_closed (form_of devices adapters rounds) (cell_lines devices adapters rounds) (price_cells net) prices.0) in
     let fits2 : Fitting (price_cells net) MOST_PRICE prices.0 = record { size = t2.size; small = t2.small } in
     on_err (ended text prices.1) _ e h2 (λ h'. at_end past net live text e costs best prices sound r f2 fits1 fits2 h') (λ u e3 h3. absurd cc))))

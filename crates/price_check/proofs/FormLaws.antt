@@ -1,14 +1,14 @@
 -- the forms of lines by their whole pieces
-use Rattle.std.proofs.Common.{◌≡◌, ◌-◌, ℕ, List, ◌++◌, length, refl, sym, ◌∙◌, append_assoc}
-use Rattle.std.specs.Prelude.{Option, Some, None, decimal, codes, slice_get}
+use Rattle.std.proofs.Common.{◌≡◌, ◌-◌, ℕ, Bool, true, false, cond, List, ◌++◌, length, refl, sym, ◌∙◌, append_assoc}
+use Rattle.std.specs.Prelude.{nat_lt, Option, Some, None, decimal, codes, slice_get}
 use Rattle.std.specs.Option.{option_map_or}
 use Rattle.cam_types.specs.declared.device.Device.{Device}
 use Rattle.cam_path.specs.Paths.{address_of, spelled}
 use Rattle.cam_event.specs.declared.stay.StayName.{StayName}
 use Rattle.price_check.specs.Pieces.{◌>>=◌, skip, skip_number, found_number}
 use Rattle.price_check.specs.Lines.{line}
-use Rattle.price_check.specs.Report.{number_text, row_text}
-use Rattle.price_check.specs.Forms.{known_line, stated_line, most_stated, named_stay, dev_front, sim_front, price_front}
+use Rattle.price_check.specs.Report.{number_text, shared_text, row_text}
+use Rattle.price_check.specs.Forms.{known_line, stated_line, most_stated, named_stay, dev_front, number_front, shared_front, price_front}
 use Rattle.price_check.proofs.PieceLaws.{skip_append, bind-assoc, framed}
 
 bind-same : {A B : Type 0} (o : Option A) (f g : A → Option B) → ((x : A) → f x ≡ g x) → (o >>= f) ≡ (o >>= g)
@@ -35,10 +35,10 @@ module _ {X : Type 0} (k : ℕ → Option X) (text : List ℕ) where
       ≡ (skip ((p ++ (b ++ (c ++ (t ++ (c ++ l))))) ++ ((s ++ r) ++ s)) text at >>= k)
   of_device p b c t l s r at = simp (append_assoc, skip_append, bind-assoc)
 
-  of_adapter : (p s a r : List ℕ) (at : ℕ) →
+  of_number : (p s a r : List ℕ) (at : ℕ) →
       ((skip p text at >>= λ x. (skip s text x >>= λ y. skip a text y) >>= λ x. (skip s text x >>= λ y. skip r text y) >>= λ y. skip s text y) >>= k)
       ≡ (skip ((p ++ (s ++ a)) ++ ((s ++ r) ++ s)) text at >>= k)
-  of_adapter p s a r at = simp (append_assoc, skip_append, bind-assoc)
+  of_number p s a r at = simp (append_assoc, skip_append, bind-assoc)
 
 -- the offset behind is given as it is
 alone : {o p : Option ℕ} → (o >>= λ x. Some x) ≡ (p >>= λ x. Some x) → o ≡ p
@@ -83,15 +83,24 @@ dev_front-skip : (device : Device) (r : ℕ) (text : List ℕ) (at : ℕ) → de
 unfolding dev_front skip_number spelled
 dev_front-skip device r text at = alone (of_device (λ x. Some x) text (codes "price dev ") (decimal device.bus) (codes ":") (decimal device.target) (decimal device.lun) (codes " ") (decimal r) at)
 
-sim_front-skip : (adapter r : ℕ) (text : List ℕ) (at : ℕ) → sim_front adapter r text at ≡ skip (front_text (codes "price sim" ++ number_text adapter) r) text at
-unfolding sim_front skip_number
-sim_front-skip adapter r text at = alone (of_adapter (λ x. Some x) text (codes "price sim") (codes " ") (decimal adapter) (decimal r) at)
+number_front-skip : (word : List ℕ) (n r : ℕ) (text : List ℕ) (at : ℕ) → number_front word n r text at ≡ skip (front_text (word ++ number_text n) r) text at
+unfolding number_front skip_number
+number_front-skip word n r text at = alone (of_number (λ x. Some x) text word (codes " ") (decimal n) (decimal r) at)
 
-pub price_front-skip : (devices : List Device) (row r : ℕ) (text : List ℕ) (at : ℕ) → price_front devices row r text at ≡ skip (front_text (row_text devices row) r) text at
-unfolding price_front row_text
-price_front-skip devices row r text at = by (slice_get devices row)
+shared_front-skip : (adapters n r : ℕ) (text : List ℕ) (at : ℕ) → shared_front adapters n r text at ≡ skip (front_text (shared_text adapters n) r) text at
+unfolding shared_front
+shared_front-skip adapters n r text at = by (nat_lt n adapters)
   where
-    by : (o : Option Device) → option_map_or (λ (device : Device). dev_front device r text at) o (sim_front (row - length devices) r text at)
-        ≡ skip (front_text (option_map_or (λ (device : Device). codes "price dev " ++ spelled (address_of device)) o (codes "price sim" ++ number_text (row - length devices))) r) text at
+    by : (b : Bool) → cond b (number_front (codes "price sim") n r text at) (number_front (codes "price link") (n - adapters) r text at)
+        ≡ skip (front_text (cond b (codes "price sim" ++ number_text n) (codes "price link" ++ number_text (n - adapters))) r) text at
+    by true = number_front-skip (codes "price sim") n r text at
+    by false = number_front-skip (codes "price link") (n - adapters) r text at
+
+pub price_front-skip : (devices : List Device) (adapters row r : ℕ) (text : List ℕ) (at : ℕ) → price_front devices adapters row r text at ≡ skip (front_text (row_text devices adapters row) r) text at
+unfolding price_front row_text
+price_front-skip devices adapters row r text at = by (slice_get devices row)
+  where
+    by : (o : Option Device) → option_map_or (λ (device : Device). dev_front device r text at) o (shared_front adapters (row - length devices) r text at)
+        ≡ skip (front_text (option_map_or (λ (device : Device). codes "price dev " ++ spelled (address_of device)) o (shared_text adapters (row - length devices))) r) text at
     by (Some device) = dev_front-skip device r text at
-    by None = sim_front-skip (row - length devices) r text at
+    by None = shared_front-skip adapters (row - length devices) r text at

@@ -149,9 +149,9 @@ price_fails : (front : Option ℕ) (text : List ℕ) (at : ℕ) → FailsByText 
 unfolding price_at
 price_fails front text at = mapped _ front _ (λ begin. mapped _ (skip (codes "\n") text (begin + digits_at text begin)) _ (λ next. valued_fails text _ at next) tt) tt
 
-cell_fails : (devices : List Device) (rounds : ℕ) (text : List ℕ) (k at : ℕ) → FailsByText (cell_price_at devices rounds text k at)
+cell_fails : (devices : List Device) (adapters rounds : ℕ) (text : List ℕ) (k at : ℕ) → FailsByText (cell_price_at devices adapters rounds text k at)
 unfolding cell_price_at
-cell_fails devices rounds text k at = price_fails _ text at
+cell_fails devices adapters rounds text k at = price_fails _ text at
 
 series_fails : (one : Reader) → ((k at : ℕ) → FailsByText (one k at)) → (n at : ℕ) → FailsByText (series one n at)
 unfolding series
@@ -169,10 +169,11 @@ ended_fails text at = bound (due (skip (codes "end\n") text at) text at) (stops 
 pub reading_fails : (devices : List Device) (events : List Event) (live : ℕ) (net : NetRows) (text : List ℕ) → FailsByText (reading devices events live net text)
 unfolding reading
 reading_fails devices events live net text =
+    let adapters = (instance_of_rows net).adapters in
     let rounds = (instance_of_rows net).rounds in
     bound (summary_at events live text) _ (summary_fails events live text) (λ costs.
     bound (series (stay_at net text) (instance_of_rows net).stays costs.2) _ (series_fails (stay_at net text) (stay_fails net text) (instance_of_rows net).stays costs.2) (λ best.
-    bound (series (cell_price_at devices rounds text) (price_cells net) best.1) _ (series_fails (cell_price_at devices rounds text) (cell_fails devices rounds text) (price_cells net) best.1) (λ prices.
+    bound (series (cell_price_at devices adapters rounds text) (price_cells net) best.1) _ (series_fails (cell_price_at devices adapters rounds text) (cell_fails devices adapters rounds text) (price_cells net) best.1) (λ prices.
     bound (ended text prices.1) _ (ended_fails text prices.1) (λ u. tt))))
 
 -- ---- the clauses of a reader of reports, from what reading the whole text gives

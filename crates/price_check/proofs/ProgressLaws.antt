@@ -28,7 +28,7 @@ pub record Known (past : Past) (net : NetRows) (claim : Claim) : Type 0 where
 cell_count : (past : Past) (net : NetRows) (claim : Claim) → Known past net claim → length claim.prices.prices ≡ price_cells net
 cell_count past net claim h = pricing_cells (instance_of_rows net) claim.prices h.claims.pricing h.claims.priced
 
-pub alone : (past : Past) (net : NetRows) (claim : Claim) → Known past net claim → AreApart (front_of past.config.devices (instance_of_rows net).rounds) (price_cells net)
+pub alone : (past : Past) (net : NetRows) (claim : Claim) → Known past net claim → AreApart (front_of past.config.devices (instance_of_rows net).adapters (instance_of_rows net).rounds) (price_cells net)
 alone past net claim h = net_apart past.config.devices (instance_of_rows net) claim.prices h.named h.some h.claims.pricing h.claims.priced
 
 -- ---- section by section, from the last one on
@@ -54,33 +54,34 @@ at_end net text rest costs best prices e =
     record { at = m; behind = a.1; reaches = on_end net text costs best prices m here }
 
 at_prices : (past : Past) (net : NetRows) (claim : Claim) (text rest front back : List ℕ) (costs : ℕ × ℕ × ℕ) (best : List ℕ × ℕ) → Known past net claim → IsClosed front → IsSome front
-    → texts_of (form_of past.config.devices (instance_of_rows net).rounds) (price_cells net) claim.prices.prices ++ codes "end\n" ≡ front ++ back
+    → texts_of (form_of past.config.devices (instance_of_rows net).adapters (instance_of_rows net).rounds) (price_cells net) claim.prices.prices ++ codes "end\n" ≡ front ++ back
     → drop best.1 text ≡ front ++ rest → Passed text rest (from_prices past.config.devices net text costs best)
 at_prices past net claim text rest front back costs best h closed some e here =
     let devices = past.config.devices in
+    let adapters = (instance_of_rows net).adapters in
     let rounds = (instance_of_rows net).rounds in
     let n = price_cells net in
     let vs = claim.prices.prices in
-    let form = form_of devices rounds in
+    let form = form_of devices adapters rounds in
     let size = cell_count past net claim h in
     let small = h.claims.priced.small in
-    elim (cut_texts form (cell_lines devices rounds) n vs (codes "end\n") front back closed some e) [
+    elim (cut_texts form (cell_lines devices adapters rounds) n vs (codes "end\n") front back closed some e) [
       | inl w ↦
-          let a = cells_within devices rounds text n vs (omega arith) small (alone past net claim h) best.1 rest front w here in
+          let a = cells_within devices adapters rounds text n vs (omega arith) small (alone past net claim h) best.1 rest front w here in
           record { at = a.0; behind = a.1; reaches = on_prices devices net text costs best a.0 a.2 }
       | inr g ↦
           let whole = all_of_end g.more back g.closed g.some g.then in
           let here' : drop best.1 text ≡ texts_of form n vs ++ (codes "end\n" ++ rest) =
           here ∙ ap (λ (l : List ℕ). l ++ rest) (g.is ∙ ap (λ (l : List ℕ). texts_of form n vs ++ l) whole) ∙ append_assoc (texts_of form n vs) (codes "end\n") rest in
-          let a = series_again form (NoneBefore (front_of devices rounds)) text (cell_price_at devices rounds text) n vs (omega arith)
-          (cells_again devices rounds text n vs (omega arith) small) (cells_join devices rounds n vs (alone past net claim h)) best.1 (codes "end\n" ++ rest) here' (none_at_end devices rounds n rest) in
+          let a = series_again form (NoneBefore (front_of devices adapters rounds)) text (cell_price_at devices adapters rounds text) n vs (omega arith)
+          (cells_again devices adapters rounds text n vs (omega arith) small) (cells_join devices adapters rounds n vs (alone past net claim h)) best.1 (codes "end\n" ++ rest) here' (none_at_end devices adapters rounds n rest) in
           let b = at_end net text rest costs best (take n vs, a.0) a.2 in
           record { at = b.at; behind = b.behind; reaches = rw a.1 b.reaches }
     ]
 
 at_stays : (past : Past) (net : NetRows) (claim : Claim) (text rest front back : List ℕ) (costs : ℕ × ℕ × ℕ) → Known past net claim → IsClosed front → IsSome front
     → texts_of (stay_form net) (instance_of_rows net).stays claim.schedule
-    ++ (texts_of (form_of past.config.devices (instance_of_rows net).rounds) (price_cells net) claim.prices.prices ++ codes "end\n") ≡ front ++ back
+    ++ (texts_of (form_of past.config.devices (instance_of_rows net).adapters (instance_of_rows net).rounds) (price_cells net) claim.prices.prices ++ codes "end\n") ≡ front ++ back
     → drop costs.2 text ≡ front ++ rest → Passed text rest (from_stays past.config.devices net text costs)
 at_stays past net claim text rest front back costs h closed some e here =
     let n = (instance_of_rows net).stays in

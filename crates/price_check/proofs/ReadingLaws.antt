@@ -26,25 +26,26 @@ pub reading_takes : (past : Past) (net : NetRows) (live : ℕ) (text : List ℕ)
 unfolding reading report_text
 reading_takes past net live text claim sound e =
     let devices = past.config.devices in
+    let adapters = (instance_of_rows net).adapters in
     let rounds = (instance_of_rows net).rounds in
     on_ok (summary_at past.events live text) _ claim e (λ costs e1 r1.
     on_ok (series (stay_at net text) (instance_of_rows net).stays costs.2) _ claim r1 (λ best e2 r2.
-    on_ok (series (cell_price_at devices rounds text) (price_cells net) best.1) _ claim r2 (λ prices e3 r3.
+    on_ok (series (cell_price_at devices adapters rounds text) (price_cells net) best.1) _ claim r2 (λ prices e3 r3.
     on_ok (ended text prices.1) _ claim r3 (λ u e4 r4.
-    let p : PriceRows = record { rounds = rounds; devices = (instance_of_rows net).devices; adapters = (instance_of_rows net).adapters; prices = prices.0 } in
+    let p : PriceRows = record { rounds = rounds; devices = (instance_of_rows net).devices; adapters = (instance_of_rows net).adapters; links = (instance_of_rows net).links; prices = prices.0 } in
     let made : Claim = record { schedule = best.0; prices = p; best = costs.0; excess = costs.1 } in
     let t1 = summary_takes past.events live text costs e1 in
     let t2 = series_takes (stay_form net) 65535 text (stay_at net text) (stay_takes net text) (instance_of_rows net).stays costs.2 best e2 in
-    let t3 = series_takes (form_of devices rounds) MOST_PRICE text (cell_price_at devices rounds text) (cells_take devices rounds text) (price_cells net) best.1 prices e3 in
+    let t3 = series_takes (form_of devices adapters rounds) MOST_PRICE text (cell_price_at devices adapters rounds text) (cells_take devices adapters rounds text) (price_cells net) best.1 prices e3 in
     let t4 = ended_takes text prices.1 u e4 in
-    let pricing : IsPricingFor (instance_of_rows net) p = record { rounds = refl; devices = refl; adapters = refl } in
+    let pricing : IsPricingFor (instance_of_rows net) p = record { rounds = refl; devices = refl; adapters = refl; links = refl } in
     let plan : drop costs.2 text ≡ plan_text devices net (slice_index best.0) (pricing_of_rows p) =
     behind _ _ _ _ t2.spelled (behind _ _ _ _ t3.spelled t4) ∙ sym (plan_parts devices net best.0 p pricing) in
     let claims : IsClaim (instance_of_rows net) made = record {
       stays = t2.size;
       rounds = t2.small;
       pricing = pricing;
-      priced = record { cells = t3.size; small = t3.small; few_rounds = sound.few_rounds; few_devices = sound.few_devices; few_adapters = sound.few_adapters };
+      priced = record { cells = t3.size; small = t3.small; few_rounds = sound.few_rounds; few_devices = sound.few_devices; few_adapters = sound.few_adapters; few_links = sound.few_links };
       best = t1.1;
       excess = t1.2;
     } in
@@ -62,6 +63,7 @@ reading_again past net live text claim named some claims e =
     let devices = past.config.devices in
     let p = claim.prices in
     let h = claims.pricing in
+    let adapters = (instance_of_rows net).adapters in
     let rounds = (instance_of_rows net).rounds in
     let n = price_cells net in
     let stays = claims.stays in
@@ -70,9 +72,9 @@ reading_again past net live text claim named some claims e =
     let a1 = summary_again past.events live claim.best claim.excess text _ claims.best claims.excess parts in
     let a2 = series_again (stay_form net) (λ _ _. ⊤) text (stay_at net text) (instance_of_rows net).stays claim.schedule (omega arith)
     (stay_again net text claim.schedule (λ k lt. All-get_or (λ r. r ≤ 65535) claim.schedule k 0 (omega arith) claims.rounds)) (λ k rest lt t. tt) a1.0 _ a1.2 tt in
-    let a3 = series_again (form_of devices rounds) (NoneBefore (front_of devices rounds)) text (cell_price_at devices rounds text) n p.prices (omega arith) (cells_again devices rounds text n p.prices (omega arith) claims.priced.small)
-    (cells_join devices rounds n p.prices (net_apart devices (instance_of_rows net) p named some h claims.priced)) a2.0 (codes "end\n") a2.2 (none_at_end devices rounds n []) in
+    let a3 = series_again (form_of devices adapters rounds) (NoneBefore (front_of devices adapters rounds)) text (cell_price_at devices adapters rounds text) n p.prices (omega arith) (cells_again devices adapters rounds text n p.prices (omega arith) claims.priced.small)
+    (cells_join devices adapters rounds n p.prices (net_apart devices (instance_of_rows net) p named some h claims.priced)) a2.0 (codes "end\n") a2.2 (none_at_end devices adapters rounds n []) in
     let a4 = ended_again text a3.0 a3.2 in
     let stays_all : take (instance_of_rows net).stays claim.schedule ≡ claim.schedule = take_all (instance_of_rows net).stays claim.schedule (omega arith) in
     let prices_all : take n p.prices ≡ p.prices = take_all n p.prices (omega arith) in
-    rw (a1.1, a2.1, a3.1, a4, stays_all, prices_all, ← h.rounds, ← h.devices, ← h.adapters) refl
+    rw (a1.1, a2.1, a3.1, a4, stays_all, prices_all, ← h.rounds, ← h.devices, ← h.adapters, ← h.links) refl

@@ -79,17 +79,17 @@ at_place rounds k vs =
     let place : k ≡ cell rounds (k / rounds) (k % rounds + 1) = omega arith in
     ap (slice_index vs) place
 
-pub price_texts : (devices : List Device) (p : PriceRows) (n : ℕ) → texts_of (form_of devices p.rounds) (n * p.rounds) p.prices
-    ≡ texts_below n (λ row. texts_below p.rounds (λ r. row_line devices (pricing_of_rows p) row (r + 1)))
+pub price_texts : (devices : List Device) (p : PriceRows) (n : ℕ) → texts_of (form_of devices p.adapters p.rounds) (n * p.rounds) p.prices
+    ≡ texts_below n (λ row. texts_below p.rounds (λ r. row_line devices p.adapters (pricing_of_rows p) row (r + 1)))
 unfolding row_line pricing_of_rows
 price_texts devices p n =
-    texts_below-same (n * p.rounds) _ (λ k. price_line (row_text devices (k / p.rounds)) (k % p.rounds + 1) (slice_index p.prices (cell p.rounds (k / p.rounds) (k % p.rounds + 1))))
-    (λ k lt. ap (price_line (row_text devices (k / p.rounds)) (k % p.rounds + 1)) (at_place p.rounds k p.prices))
-    ∙ texts_by_row n p.rounds (λ row r. price_line (row_text devices row) (r + 1) (slice_index p.prices (cell p.rounds row (r + 1))))
+    texts_below-same (n * p.rounds) _ (λ k. price_line (row_text devices p.adapters (k / p.rounds)) (k % p.rounds + 1) (slice_index p.prices (cell p.rounds (k / p.rounds) (k % p.rounds + 1))))
+    (λ k lt. ap (price_line (row_text devices p.adapters (k / p.rounds)) (k % p.rounds + 1)) (at_place p.rounds k p.prices))
+    ∙ texts_by_row n p.rounds (λ row r. price_line (row_text devices p.adapters row) (r + 1) (slice_index p.prices (cell p.rounds row (r + 1))))
 
 -- the stays and the prices of a report, one behind another
 pub plan_parts : (devices : List Device) (net : NetRows) (best : List ℕ) (p : PriceRows) → IsPricingFor (instance_of_rows net) p → plan_text devices net (slice_index best) (pricing_of_rows p)
-    ≡ texts_of (stay_form net) (instance_of_rows net).stays best ++ (texts_of (form_of devices (instance_of_rows net).rounds) (price_cells net) p.prices ++ codes "end\n")
+    ≡ texts_of (stay_form net) (instance_of_rows net).stays best ++ (texts_of (form_of devices (instance_of_rows net).adapters (instance_of_rows net).rounds) (price_cells net) p.prices ++ codes "end\n")
 unfolding plan_text price_lines
 plan_parts devices net best p h =
-    rw (← h.rounds, ← h.devices, ← h.adapters, stay_texts net (instance_of_rows net).stays best, price_texts devices p (p.devices + p.adapters)) refl
+    rw (← h.rounds, ← h.devices, ← h.adapters, ← h.links, stay_texts net (instance_of_rows net).stays best, price_texts devices p (p.devices + p.adapters + p.links)) refl

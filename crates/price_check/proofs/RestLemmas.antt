@@ -1,5 +1,5 @@
 -- the cheapest round of the rest of all rounds
-use Rattle.std.proofs.Common.{◌≡◌, ◌≢◌, ℕ, zero, suc, ◌+◌, ◌-◌, ◌*◌, ◌<◌, ◌≤◌, Bool, true, false, cond, List, length, refl, sym, ap, ◌∙◌, arith, inl, inr, mul-add}
+use Rattle.std.proofs.Common.{◌≡◌, ◌≢◌, ℕ, zero, suc, ◌+◌, ◌-◌, ◌*◌, ◌<◌, ◌≤◌, Bool, true, false, cond, List, length, refl, sym, ap, subst, ◌∙◌, arith, inl, inr, mul-add}
 use Rattle.std.specs.Prelude.{◌==◌, nat_le, map, filter, slice_index, slice_set}
 use Rattle.std.specs.List.{range_with_len}
 use Rattle.std.proofs.lemmas.Bool.{cases_lt, cases_eq}
@@ -31,13 +31,13 @@ pub cheapest_closed : (net : Instance) (p : Pricing) (w d round next : ℕ) → 
 cheapest_closed net p w d round next rest closed = record {
   within = rest.within;
   none = λ e r from most. elim (cases_eq r round) [
-    | inl same ↦ rw same closed
+    | inl same ↦ subst (λ q. takes net d q ≡ false) (sym same) closed
     | inr other ↦ rest.none e r (omega arith) most
   ];
   late = λ some. let h = rest.late some in omega arith;
   taken = rest.taken;
   least = λ some r from most takes_it. elim (cases_eq r round) [
-    | inl same ↦ let no : takes net d r ≡ false = rw same closed in absurd cc
+    | inl same ↦ let no : takes net d r ≡ false = subst (λ q. takes net d q ≡ false) (sym same) closed in absurd cc
     | inr other ↦ rest.least some r (omega arith) most takes_it
   ];
 }

@@ -1,6 +1,6 @@
 -- the sections of a report: the summary, the stays and the prices
 use Rattle.std.proofs.Common.{◌≡◌, ◌≤◌, ◌+◌, ◌-◌, ◌/◌, ◌%◌, ℕ, zero, suc, List, [], ◌∷◌, ◌++◌, length, drop, get_or, Bool, true, false, cond, refl, sym, ap, ◌∙◌, subst, arith, append_assoc, inl, inr}
-use Rattle.std.specs.Prelude.{◌==◌, ◌⊎◌, ⊤, not, Option, Some, None, Result, Ok, Err, codes, decimal, slice_get, slice_index}
+use Rattle.std.specs.Prelude.{◌==◌, ◌⊎◌, ⊤, nat_lt, not, Option, Some, None, Result, Ok, Err, codes, decimal, slice_get, slice_index}
 use Rattle.std.specs.List.{list_all}
 use Rattle.std.specs.Option.{option_map_or}
 use Rattle.std.proofs.lemmas.Bool.{and_parts, eq-eqb}
@@ -14,7 +14,7 @@ use Rattle.cam_event.specs.declared.stay.StayName.{StayName}
 use Rattle.round_net.specs.PriceRows.{pricing_of_rows, IsPricingFor}
 use Rattle.round_net.specs.Rows.{NetRows, instance_of_rows, live_of_rows, names_of_rows}
 use Rattle.price_check.specs.Lines.{line}
-use Rattle.price_check.specs.Report.{summary_text, plan_text, number_text, name_text, stay_line, price_line, row_text}
+use Rattle.price_check.specs.Report.{summary_text, plan_text, number_text, name_text, stay_line, price_line, shared_text, row_text}
 use Rattle.price_check.specs.Forms.{known_line, stated_line, most_stated}
 use Rattle.price_check.specs.Reading.{due, summary_at, series}
 use Rattle.price_check.specs.Claims.{report_text}
@@ -170,9 +170,16 @@ price_is_line whose r v h = by (v == 0)
       whole = grouped' whose (number_text r) (number_text v) (codes "\n");
     })
 
-plain_row : (devices : List Device) (row : ℕ) → HasNoFeed (row_text devices row)
+plain_shared : (adapters n : ℕ) → HasNoFeed (shared_text adapters n)
+plain_shared adapters n = by (nat_lt n adapters)
+  where
+    by : (b : Bool) → HasNoFeed (cond b (codes "price sim" ++ number_text n) (codes "price link" ++ number_text (n - adapters)))
+    by true = plain_append (codes "price sim") (number_text n) (plain_of (codes "price sim") refl) (plain_number n)
+    by false = plain_append (codes "price link") (number_text (n - adapters)) (plain_of (codes "price link") refl) (plain_number (n - adapters))
+
+plain_row : (devices : List Device) (adapters row : ℕ) → HasNoFeed (row_text devices adapters row)
 unfolding row_text spelled
-plain_row devices row = by (slice_get devices row)
+plain_row devices adapters row = by (slice_get devices row)
   where
     colon : HasNoFeed (codes ":")
     colon = plain_of (codes ":") refl
@@ -180,12 +187,12 @@ plain_row devices row = by (slice_get devices row)
     path : (device : Device) → HasNoFeed (decimal device.bus ++ (codes ":" ++ (decimal device.target ++ (codes ":" ++ decimal device.lun))))
     path device = plain_append (decimal device.bus) _ (plain_decimal device.bus) (plain_append (codes ":") _ colon (plain_append (decimal device.target) _ (plain_decimal device.target) (plain_append (codes ":") (decimal device.lun) colon (plain_decimal device.lun))))
 
-    by : (o : Option Device) → HasNoFeed (option_map_or (λ (device : Device). codes "price dev " ++ spelled (address_of device)) o (codes "price sim" ++ number_text (row - length devices)))
+    by : (o : Option Device) → HasNoFeed (option_map_or (λ (device : Device). codes "price dev " ++ spelled (address_of device)) o (shared_text adapters (row - length devices)))
     by (Some device) = plain_append (codes "price dev ") _ (plain_of (codes "price dev ") refl) (path device)
-    by None = plain_append (codes "price sim") (number_text (row - length devices)) (plain_of (codes "price sim") refl) (plain_number (row - length devices))
+    by None = plain_shared adapters (row - length devices)
 
-pub cell_lines : (devices : List Device) (rounds : ℕ) → AreLines (form_of devices rounds)
-cell_lines devices rounds k v = price_is_line (row_text devices (k / rounds)) (k % rounds + 1) v (plain_row devices (k / rounds))
+pub cell_lines : (devices : List Device) (adapters rounds : ℕ) → AreLines (form_of devices adapters rounds)
+cell_lines devices adapters rounds k v = price_is_line (row_text devices adapters (k / rounds)) (k % rounds + 1) v (plain_row devices adapters (k / rounds))
 
 -- ---- a report by its sections
 
@@ -197,7 +204,7 @@ unfoldable pub parts_of : Past → NetRows → ℕ → Claim → List ℕ
 parts_of past net live claim =
     texts_of (seven_form past.events live) 7 (said_of claim.best claim.excess)
     ++ (texts_of (stay_form net) (instance_of_rows net).stays claim.schedule
-    ++ (texts_of (form_of past.config.devices (instance_of_rows net).rounds) (price_cells net) claim.prices.prices ++ codes "end\n"))
+    ++ (texts_of (form_of past.config.devices (instance_of_rows net).adapters (instance_of_rows net).rounds) (price_cells net) claim.prices.prices ++ codes "end\n"))
 
 pub report_parts : (past : Past) (net : NetRows) (live : ℕ) (claim : Claim) → IsPricingFor (instance_of_rows net) claim.prices → report_text past net live claim ≡ parts_of past net live claim
 unfolding report_text parts_of

@@ -181,9 +181,9 @@ price_exact front text at = by (skip front text at) refl
     by (Some begin) is = ended begin (skip_on front text at begin is) (skip (codes "\n") text (begin + digits_at text begin)) refl
     by None is = let same : at ≤ at = omega arith in same
 
-pub cell_steps : (devices : List Device) (rounds : ℕ) (text : List ℕ) → Steps text (cell_price_at devices rounds text)
+pub cell_steps : (devices : List Device) (adapters rounds : ℕ) (text : List ℕ) → Steps text (cell_price_at devices adapters rounds text)
 unfolding cell_price_at
-cell_steps devices rounds text k at = rw (price_front-skip devices (k / rounds) (k % rounds + 1) text at) (price_exact _ text at)
+cell_steps devices adapters rounds text k at = rw (price_front-skip devices adapters (k / rounds) (k % rounds + 1) text at) (price_exact _ text at)
 
 -- ---- the end
 

@@ -1,17 +1,17 @@
 -- one stay more in the counts of cells
-use Rattle.std.proofs.Common.{◌≡◌, ◌≢◌, ℕ, zero, suc, ◌+◌, ◌*◌, ◌^◌, ◌<◌, ◌≤◌, Bool, true, false, cond, List, [], ◌∷◌, ◌++◌, length, refl, sym, ap, ◌∙◌, arith, add-one, get_or, eq-eqb}
-use Rattle.std.specs.Prelude.{◌==◌, ◌&&◌, ◌||◌, slice_index, slice_set}
+use Rattle.std.proofs.Common.{◌≡◌, ◌≢◌, ℕ, zero, suc, ◌+◌, ◌*◌, ◌^◌, ◌<◌, ◌≤◌, Bool, true, false, cond, List, [], ◌∷◌, ◌++◌, length, refl, sym, ap, ◌∙◌, arith, add-one, get_or, eq-eqb, Some, None}
+use Rattle.std.specs.Prelude.{◌==◌, ◌&&◌, ◌||◌, nat_lt, slice_index, slice_set}
 use Rattle.std.specs.List.{list_any}
 use Rattle.std.proofs.lemmas.Bool.{eqb-true, ne_eqb, and_parts}
 use Rattle.std.proofs.lemmas.List.{get_or-set_same, get_or-set_other, length-set}
 use Rattle.std.proofs.lemmas.List.Folds.{list_any-append}
 use Rattle.round_net.specs.Sums.{count_below}
-use Rattle.round_net.specs.Instance.{Instance, rows, adapter, adapter_row, path, uses}
+use Rattle.round_net.specs.Instance.{Instance, rows, adapter, link, adapter_row, link_row, path, uses}
 use Rattle.round_net.specs.Rows.{cell}
 use Rattle.round_net.proofs.CellLemmas.{cell_within, cell-injective}
 use Rattle.round_net.proofs.PathLemmas.{uses-device, uses-adapter}
-use Rattle.price_check.specs.Faults.{at_row}
-use Rattle.price_check.specs.Tally.{IsTally}
+use Rattle.price_check.specs.Faults.{at_row, is_over, is_link_over}
+use Rattle.price_check.specs.Tally.{IsTally, IsCounted}
 
 pub few_counted : (n : ℕ) (test : ℕ → Bool) → count_below n test ≤ n
 few_counted zero test = omega arith
@@ -55,10 +55,6 @@ abbrev pub bumped : List ℕ → ℕ → List ℕ
 bumped xs i = slice_set xs i (slice_index xs i + 1)
 
 -- ---- the stay itself is counted row by row
-
--- the counts of the stays before this one, and of the stay itself in some rows
-pub record IsCounted (net : Instance) (f : ℕ → ℕ) (counts : List ℕ) (s : ℕ) (own : List ℕ) : Type 0 where
-  pub each : (row r : ℕ) → row < rows net → 1 ≤ r → r ≤ net.rounds → slice_index counts (cell net.rounds row r) ≡ count_below s (λ t. uses net row t && (f t == r)) + cond (list_any (λ x. x == row) own && (f s == r)) 1 0
 
 -- none of these rows is this one
 abbrev pub IsNew : List ℕ → ℕ → Type 0
@@ -152,11 +148,19 @@ adapter_place net f s p = let lt = p.adapter in record { within = omega arith; f
 pub adapter_new : (net : Instance) (f : ℕ → ℕ) (s : ℕ) → IsPlaced net f s → IsNew (net.device s ∷ []) (adapter_row net (adapter net s))
 adapter_new net f s p = let lt = p.device in rw (ne_eqb (net.device s) (adapter_row net (adapter net s)) (λ at. omega arith)) refl
 
--- both counted
+pub link_place : (net : Instance) (f : ℕ → ℕ) (s l : ℕ) → 1 ≤ f s → f s ≤ net.rounds → l < net.links → IsPlace net f s (link_row net l)
+link_place net f s l first last lt = record { within = omega arith; first = first; last = last }
+
+-- the link's row isn't the device's, nor the adapter's
+pub link_new : (net : Instance) (s l : ℕ) → net.device s < net.devices → adapter net s < net.adapters → IsNew (net.device s ∷ adapter_row net (adapter net s) ∷ []) (link_row net l)
+link_new net s l device adapter' =
+    rw (ne_eqb (net.device s) (link_row net l) (λ at. omega arith), ne_eqb (adapter_row net (adapter net s)) (link_row net l) (λ at. omega arith)) refl
+
+-- the device's row and the adapter's counted
 pub record IsTallied (net : Instance) (f : ℕ → ℕ) (s : ℕ) (one other : ℕ) (counts : List ℕ) : Type 0 where
   pub at_device : one ≡ at_row net f (net.device s) s
   pub at_adapter : other ≡ at_row net f (adapter_row net (adapter net s)) s
-  pub tally : IsTally net f counts (s + 1)
+  pub counted : IsCounted net f counts s (net.device s ∷ adapter_row net (adapter net s) ∷ [])
 
 pub tallied : (net : Instance) (f : ℕ → ℕ) (counts counts' counts'' : List ℕ) (s at at' one other : ℕ) → IsTally net f counts s → IsPlaced net f s → rows net * net.rounds ≤ length counts →
     at ≡ cell net.rounds (net.device s) (f s) → one ≡ slice_index counts at + 1 → counts' ≡ bumped counts at →
@@ -167,9 +171,30 @@ tallied net f counts counts' counts'' s at at' one other tally p room is e more 
     let none = counted_none net f counts s tally in
     let first : IsCounted net f counts' s (device ∷ []) = rw (more, is) (counted_more net f counts s device [] none (device_place net f s p) refl room) in
     let room' : rows net * net.rounds ≤ length counts' = rw more (omega (arith, length-set counts at (slice_index counts at + 1))) in
-    let second : IsCounted net f counts'' s (path net s) = rw (more', is') (counted_more net f counts' s row (device ∷ []) first (adapter_place net f s p) (adapter_new net f s p) room') in
     record {
       at_device = here_counted net f counts s device at one [] none (device_place net f s p) refl (uses-device net s) is e;
       at_adapter = here_counted net f counts' s row at' other (device ∷ []) first (adapter_place net f s p) (adapter_new net f s p) (uses-adapter net s) is' e';
-      tally = counted_all net f counts'' s second;
+      counted = rw (more', is') (counted_more net f counts' s row (device ∷ []) first (adapter_place net f s p) (adapter_new net f s p) room');
     }
+
+-- a stay that is on no link is counted in all its rows then
+pub tallied_without : (net : Instance) (f : ℕ → ℕ) (counts : List ℕ) (s : ℕ) → link net s ≡ None → IsCounted net f counts s (net.device s ∷ adapter_row net (adapter net s) ∷ []) → IsTally net f counts (s + 1)
+tallied_without net f counts s none counted =
+    let same : path net s ≡ net.device s ∷ adapter_row net (adapter net s) ∷ [] = rw none refl in
+    counted_all net f counts s (rw same counted)
+
+-- and one that is on a link where its row is counted too
+pub tallied_with : (net : Instance) (f : ℕ → ℕ) (counts counts' : List ℕ) (s l at : ℕ) → link net s ≡ Some l → IsCounted net f counts s (net.device s ∷ adapter_row net (adapter net s) ∷ []) →
+    IsPlace net f s (link_row net l) → IsNew (net.device s ∷ adapter_row net (adapter net s) ∷ []) (link_row net l) → rows net * net.rounds ≤ length counts → at ≡ cell net.rounds (link_row net l) (f s) → counts' ≡ bumped counts at → IsTally net f counts' (s + 1)
+tallied_with net f counts counts' s l at is counted p new room at_is more =
+    let same : path net s ≡ net.device s ∷ adapter_row net (adapter net s) ∷ link_row net l ∷ [] = rw is refl in
+    let all : IsCounted net f counts' s (net.device s ∷ adapter_row net (adapter net s) ∷ link_row net l ∷ []) = rw (more, at_is) (counted_more net f counts s (link_row net l) (net.device s ∷ adapter_row net (adapter net s) ∷ []) counted p new room) in
+    counted_all net f counts' s (rw same all)
+
+-- the link's row is over its cap where more are counted in it than it takes
+pub over_link : (net : Instance) (f : ℕ → ℕ) (s l cap one : ℕ) → link net s ≡ Some l → cap ≡ net.cap (link_row net l) (f s) → one ≡ at_row net f (link_row net l) s → nat_lt cap one ≡ is_link_over net f s
+over_link net f s l cap one is e e' = rw (is, e, e') (by (is_over net f (link_row net l) s))
+  where
+    by : (b : Bool) → b ≡ (b || false)
+    by true = refl
+    by false = refl

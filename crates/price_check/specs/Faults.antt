@@ -1,9 +1,10 @@
 -- the first fault of a schedule
 use Rattle.std.specs.Prelude.{◌≡◌, ℕ, ◌+◌, ◌==◌, ◌<◌, Bool, ◌&&◌, nat_lt, if◌then◌else◌, Option, Some, None}
+use Rattle.std.specs.List.{list_any}
 use Rattle.round_net.specs.Sums.{count_below}
-use Rattle.round_net.specs.Instance.{Instance, adapter, adapter_row, uses}
+use Rattle.round_net.specs.Instance.{Instance, adapter, adapter_row, link_rows, uses}
 use Rattle.price_check.specs.declared.verdict.Cause.{Cause}
-use Rattle.price_check.specs.declared.verdict.Cause.TheVariants.{Early, Late, DeviceFull, AdapterFull}
+use Rattle.price_check.specs.declared.verdict.Cause.TheVariants.{Early, Late, DeviceFull, AdapterFull, LinkFull}
 
 -- how many stays, up to and including this one, use a row in its round
 abbrev pub at_row : Instance → (ℕ → ℕ) → ℕ → ℕ → ℕ
@@ -13,13 +14,19 @@ at_row net f row s = count_below (s + 1) (λ t. uses net row t && (f t == f s))
 abbrev pub is_over : Instance → (ℕ → ℕ) → ℕ → ℕ → Bool
 is_over net f row s = nat_lt (net.cap row (f s)) (at_row net f row s)
 
--- what is wrong with a stay's place: it lies outside of its window, or its device's row or its adapter's is over the cap
+-- the row of the stay's link is over the cap, if its adapter is on one
+abbrev pub is_link_over : Instance → (ℕ → ℕ) → ℕ → Bool
+is_link_over net f s = list_any (λ row. is_over net f row s) (link_rows net (adapter net s))
+
+-- what is wrong with a stay's place: it lies outside of its window, or the row of its device, its adapter or its link is over
+-- the cap
 unfoldable pub fault_at : Instance → (ℕ → ℕ) → ℕ → Option Cause
 fault_at net f s =
     if nat_lt (f s) (net.arrival s) then Some Early
     else if nat_lt (net.last s) (f s) then Some Late
     else if is_over net f (net.device s) s then Some DeviceFull
     else if is_over net f (adapter_row net (adapter net s)) s then Some AdapterFull
+    else if is_link_over net f s then Some LinkFull
     else None
 
 -- nothing is wrong with the stays before this one

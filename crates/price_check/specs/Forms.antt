@@ -1,5 +1,5 @@
 -- the forms of a report's lines: where one stands at an offset, what it says and the offset behind it
-use Rattle.std.specs.Prelude.{ℕ, ◌-◌, List, length, Option, Some, codes, decimal, option_and_then, slice_get}
+use Rattle.std.specs.Prelude.{ℕ, ◌-◌, nat_lt, if◌then◌else◌, List, length, Option, Some, codes, decimal, option_and_then, slice_get}
 use Rattle.std.specs.Option.{option_map_or}
 use Rattle.cam_types.specs.declared.device.Device.{Device}
 use Rattle.cam_event.specs.declared.stay.StayName.{StayName}
@@ -64,7 +64,7 @@ any_stay text at = do
   weight ← small_number text best
   skip (codes "\n") text weight
 
--- the front of a price's line, up to the price, of a device's opening in a round, and of an adapter's
+-- the front of a price's line, up to the price, of a device's opening in a round, and of an opening of what has a number
 unfoldable pub dev_front : Device → ℕ → List ℕ → ℕ → Option ℕ
 dev_front device r text at = do
   bus ← skip (codes "price dev ") text at
@@ -76,14 +76,19 @@ dev_front device r text at = do
   space ← skip_number r text end
   skip (codes " ") text space
 
-unfoldable pub sim_front : ℕ → ℕ → List ℕ → ℕ → Option ℕ
-sim_front adapter r text at = do
-  number ← skip (codes "price sim") text at
-  round ← skip_number adapter text number
+unfoldable pub number_front : List ℕ → ℕ → ℕ → List ℕ → ℕ → Option ℕ
+number_front word n r text at = do
+  number ← skip word text at
+  round ← skip_number n text number
   space ← skip_number r text round
   skip (codes " ") text space
 
--- the same by the row: of a device's, and behind all devices of an adapter's
-unfoldable pub price_front : List Device → ℕ → ℕ → List ℕ → ℕ → Option ℕ
-price_front devices row r text at =
-    option_map_or (λ (device : Device). dev_front device r text at) (slice_get devices row) (sim_front (row - length devices) r text at)
+-- the same behind all devices: of an adapter's opening, and behind all adapters of a link's
+unfoldable pub shared_front : ℕ → ℕ → ℕ → List ℕ → ℕ → Option ℕ
+shared_front adapters n r text at =
+    if nat_lt n adapters then number_front (codes "price sim") n r text at else number_front (codes "price link") (n - adapters) r text at
+
+-- the same by the row: of a device's opening, and behind all devices of an adapter's or a link's
+unfoldable pub price_front : List Device → ℕ → ℕ → ℕ → List ℕ → ℕ → Option ℕ
+price_front devices adapters row r text at =
+    option_map_or (λ (device : Device). dev_front device r text at) (slice_get devices row) (shared_front adapters (row - length devices) r text at)

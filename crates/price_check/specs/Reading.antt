@@ -58,8 +58,8 @@ price_at front text at = option_map_or (λ begin. option_map_or (λ next. valued
     (skip (codes "\n") text (begin + digits_at text begin)) (Ok (0, at))) front (Ok (0, at))
 
 -- the price of a cell, a row in a round: 0, and no line is taken, where the line at hand isn't the cell's
-unfoldable pub cell_price_at : List Device → ℕ → List ℕ → ℕ → ℕ → Result (ℕ × ℕ) ReportFault
-cell_price_at devices rounds text cell at = price_at (price_front devices (cell / rounds) (cell % rounds + 1) text at) text at
+unfoldable pub cell_price_at : List Device → ℕ → ℕ → List ℕ → ℕ → ℕ → Result (ℕ × ℕ) ReportFault
+cell_price_at devices adapters rounds text cell at = price_at (price_front devices adapters (cell / rounds) (cell % rounds + 1) text at) text at
 
 -- what n readings in a row give, each from the offset behind the one before
 unfoldable pub series : (ℕ → ℕ → Result (ℕ × ℕ) ReportFault) → ℕ → ℕ → Result (List ℕ × ℕ) ReportFault
@@ -83,11 +83,11 @@ unfoldable pub reading : List Device → List Event → ℕ → NetRows → List
 reading devices events live net text = do
   costs ← summary_at events live text
   best ← series (stay_at net text) (instance_of_rows net).stays costs.2
-  prices ← series (cell_price_at devices (instance_of_rows net).rounds text) (rows (instance_of_rows net) * (instance_of_rows net).rounds) best.1
+  prices ← series (cell_price_at devices (instance_of_rows net).adapters (instance_of_rows net).rounds text) (rows (instance_of_rows net) * (instance_of_rows net).rounds) best.1
   _ ← ended text prices.1
   Ok (record {
     schedule = best.0;
-    prices = record { rounds = (instance_of_rows net).rounds; devices = (instance_of_rows net).devices; adapters = (instance_of_rows net).adapters; prices = prices.0 };
+    prices = record { rounds = (instance_of_rows net).rounds; devices = (instance_of_rows net).devices; adapters = (instance_of_rows net).adapters; links = (instance_of_rows net).links; prices = prices.0 };
     best = costs.0;
     excess = costs.1;
   })

@@ -1,5 +1,5 @@
 -- the report on a history: a schedule, what it costs, and the prices that prove it
-use Rattle.std.specs.Prelude.{ℕ, zero, suc, ◌+◌, ◌-◌, ◌==◌, if◌then◌else◌, List, [], ◌++◌, length, slice_get, codes, decimal}
+use Rattle.std.specs.Prelude.{ℕ, zero, suc, ◌+◌, ◌-◌, ◌==◌, nat_lt, if◌then◌else◌, List, [], ◌++◌, length, slice_get, codes, decimal}
 use Rattle.std.specs.Option.{option_map_or}
 use Rattle.cam_types.specs.declared.device.Device.{Device}
 use Rattle.cam_path.specs.Paths.{address_of, spelled}
@@ -52,17 +52,21 @@ stay_line net best s =
 abbrev pub price_line : List ℕ → ℕ → ℕ → List ℕ
 price_line whose r price = if price == 0 then [] else whose ++ (number_text r ++ (number_text price ++ codes "\n"))
 
--- whose opening it is, by the row: a device by its path, and behind all devices an adapter by its number
-unfoldable pub row_text : List Device → ℕ → List ℕ
-row_text devices row =
-    option_map_or (λ (device : Device). codes "price dev " ++ spelled (address_of device)) (slice_get devices row) (codes "price sim" ++ number_text (row - length devices))
+-- whose opening it is, behind all devices: an adapter by its number, and behind all adapters a link by its number
+abbrev pub shared_text : ℕ → ℕ → List ℕ
+shared_text adapters n = if nat_lt n adapters then codes "price sim" ++ number_text n else codes "price link" ++ number_text (n - adapters)
 
-unfoldable pub row_line : List Device → Pricing → ℕ → ℕ → List ℕ
-row_line devices p row r = price_line (row_text devices row) r (p row r)
+-- the same by the row: a device by its path, and behind all devices an adapter or a link
+unfoldable pub row_text : List Device → ℕ → ℕ → List ℕ
+row_text devices adapters row =
+    option_map_or (λ (device : Device). codes "price dev " ++ spelled (address_of device)) (slice_get devices row) (shared_text adapters (row - length devices))
+
+unfoldable pub row_line : List Device → ℕ → Pricing → ℕ → ℕ → List ℕ
+row_line devices adapters p row r = price_line (row_text devices adapters row) r (p row r)
 
 -- the prices by row and round
 unfoldable pub price_lines : List Device → Instance → Pricing → List ℕ
-price_lines devices net p = texts_below (rows net) (λ row. texts_below net.rounds (λ r. row_line devices p row (r + 1)))
+price_lines devices net p = texts_below (rows net) (λ row. texts_below net.rounds (λ r. row_line devices net.adapters p row (r + 1)))
 
 -- the stays in order of birth, the prices, and the last line
 unfoldable pub plan_text : List Device → NetRows → (ℕ → ℕ) → Pricing → List ℕ

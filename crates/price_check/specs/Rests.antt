@@ -1,16 +1,12 @@
 -- which round of the rest of all rounds is cheapest for stays of one device and one weight
-use Rattle.std.specs.Prelude.{◌≡◌, ℕ, ◌+◌, ◌*◌, ◌<◌, ◌≤◌, Bool, true, false, nat_lt, List, [], ◌∷◌, slice_index, sum_by}
+use Rattle.std.specs.Prelude.{◌≡◌, ℕ, ◌+◌, ◌*◌, ◌<◌, ◌≤◌, Bool, true, false, nat_lt, List, slice_index, sum_by}
 use Rattle.std.specs.List.{list_all}
 use Rattle.cam_types.specs.declared.maxima.TheConstants.{MOST_WEIGHT}
-use Rattle.round_net.specs.Instance.{Instance, adapter_row}
+use Rattle.round_net.specs.Instance.{Instance, path_of}
 use Rattle.round_net.specs.Rows.{cell}
 use Rattle.round_net.specs.Value.{Pricing}
 
--- the rows of which each stay of a device takes an opening
-abbrev pub path_of : Instance → ℕ → List ℕ
-path_of net d = d ∷ adapter_row net (net.adapter_of d) ∷ []
-
--- each of them takes commands in the round
+-- each row of which a command to the device takes an opening takes commands in the round
 abbrev pub takes : Instance → ℕ → ℕ → Bool
 takes net d r = list_all (λ row. nat_lt 0 (net.cap row r)) (path_of net d)
 

@@ -1,12 +1,12 @@
 //! The first stay that makes a schedule inadmissible.
 
-ghost use Rattle.std.specs.Prelude.{◌≡◌, ℕ, ◌+◌, ◌*◌, ◌^◌, ◌<◌, ◌≤◌, length, slice_index, slice_set, MatchOption, IfNone};
+ghost use Rattle.std.specs.Prelude.{◌≡◌, ℕ, ◌+◌, ◌*◌, ◌^◌, ◌<◌, ◌≤◌, [], ◌∷◌, length, slice_index, slice_set, MatchOption, IfNone};
 ghost use Rattle.round_net.specs.Instance.{rows, adapter, adapter_row};
 ghost use Rattle.round_net.specs.Rows.{instance_of_rows, live_of_rows};
 ghost use Rattle.round_net.specs.Sound.{IsSound};
 ghost use Rattle.round_net.specs.Schedules.{IsAdmissible};
-ghost use Rattle.price_check.specs.Faults.{at_row, fault_at, IsFirstFault};
-ghost use Rattle.price_check.specs.Tally.{IsTally};
+ghost use Rattle.price_check.specs.Faults.{at_row, is_link_over, fault_at, IsFirstFault};
+ghost use Rattle.price_check.specs.Tally.{IsTally, IsCounted};
 
 use crate::verdict::Cause;
 use round_net::{Net, Schedule, cell};
@@ -56,10 +56,13 @@ fn fault(net: &Net, schedule: &Schedule, stay: u32, counts: &mut [u32]) -> Optio
         return Some(Cause::Late);
     }
     let (at_device, at_adapter) = tally(net, schedule, stay, counts);
+    let is_link_over = tally_link(net, schedule, stay, counts);
     if at_device > net.dev_cap(net.device(stay), round) {
         Some(Cause::DeviceFull)
     } else if at_adapter > net.sim_cap(net.adapter(stay), round) {
         Some(Cause::AdapterFull)
+    } else if is_link_over {
+        Some(Cause::LinkFull)
     } else {
         None
     }
@@ -75,7 +78,7 @@ fn tally(net: &Net, schedule: &Schedule, stay: u32, counts: &mut [u32]) -> (u32,
     requires tally { IsTally (instance_of_rows net.now) (slice_index schedule.now) counts.old stay }
     ensures at_device { let n = instance_of_rows net.now in result.0 ≡ at_row n (slice_index schedule.now) (n.device stay) stay }
     ensures at_adapter { let n = instance_of_rows net.now in result.1 ≡ at_row n (slice_index schedule.now) (adapter_row n (adapter n stay)) stay }
-    ensures tally { IsTally (instance_of_rows net.now) (slice_index schedule.now) counts.new (stay + 1) }
+    ensures counted { let n = instance_of_rows net.now in IsCounted n (slice_index schedule.now) counts.new stay (n.device stay ∷ adapter_row n (adapter n stay) ∷ []) }
 {
     let round = schedule.round(stay);
     let device = net.device(stay);
@@ -83,6 +86,26 @@ fn tally(net: &Net, schedule: &Schedule, stay: u32, counts: &mut [u32]) -> (u32,
     let at_device = count(counts, cell(net.rounds(), device, round));
     let at_adapter = count(counts, cell(net.rounds(), adapter, round));
     (at_device, at_adapter)
+}
+
+// Counts the stay in its round on its link too, if its adapter is on one, and answers whether more use it there now than it
+// takes.
+fn tally_link(net: &Net, schedule: &Schedule, stay: u32, counts: &mut [u32]) -> bool
+    requires size { length schedule.now ≡ (instance_of_rows net.now).stays }
+    requires cells { let n = instance_of_rows net.now in rows n * n.rounds ≤ length counts.old }
+    requires stay { stay < (instance_of_rows net.now).stays }
+    requires first { 1 ≤ slice_index schedule.now stay }
+    requires last { slice_index schedule.now stay ≤ (instance_of_rows net.now).rounds }
+    requires counted { let n = instance_of_rows net.now in IsCounted n (slice_index schedule.now) counts.old stay (n.device stay ∷ adapter_row n (adapter n stay) ∷ []) }
+    ensures over { result ≡ is_link_over (instance_of_rows net.now) (slice_index schedule.now) stay }
+    ensures tally { IsTally (instance_of_rows net.now) (slice_index schedule.now) counts.new (stay + 1) }
+{
+    let Some(link) = net.link(stay) else {
+        return false;
+    };
+    let round = schedule.round(stay);
+    let at = cell(net.rounds(), net.link_row(link), round);
+    count(counts, at) > net.link_cap(link, round)
 }
 
 // Counts one more at a place, and answers how many there are now.

@@ -2,7 +2,7 @@
 
 ghost use Rattle.std.specs.Prelude.{◌≡◌, ◌<◌, ◌≤◌, length, IfSome};
 ghost use Rattle.round_net.specs.Rows.{instance_of_rows};
-ghost use Rattle.price_check.specs.Forms.{known_line, stated_line, named_stay, own_stay, small_number, any_stay, dev_front, sim_front, price_front};
+ghost use Rattle.price_check.specs.Forms.{known_line, stated_line, named_stay, own_stay, small_number, any_stay, dev_front, number_front, shared_front, price_front};
 
 use crate::pieces::{number_at, skip, skip_digits, skip_number};
 use cam_event::StayName;
@@ -112,22 +112,23 @@ fn small_number(text: &[u8], at: usize) -> Option<usize>
 }
 
 /// The offset behind the front of the line of the price of a row's opening in a round: of a device's, or behind all devices
-/// of an adapter's.
+/// of an adapter's, or behind all adapters of a link's.
 #[tactic(auto, unfolding(crate::specs::Forms::price_front))]
 pub(crate) fn price_front(
     text: &[u8],
     at: usize,
     devices: &[Device],
+    adapters: u32,
     row: u32,
     round: u32,
 ) -> Option<usize>
     requires { at ≤ length text.now }
-    ensures value { result ≡ price_front devices.now row round text.now at }
+    ensures value { result ≡ price_front devices.now adapters row round text.now at }
     ensures within { IfSome result (λ end. end ≤ length text.now) }
 {
     match devices.get(row as usize) {
         Some(device) => dev_front(text, at, device, round),
-        None => sim_front(text, at, row - devices.len() as u32, round),
+        None => shared_front(text, at, adapters, row - devices.len() as u32, round),
     }
 }
 
@@ -147,14 +148,27 @@ fn dev_front(text: &[u8], at: usize, device: &Device, round: u32) -> Option<usiz
     skip(text, space, b" ")
 }
 
-#[tactic(auto, unfolding(crate::specs::Forms::sim_front))]
-fn sim_front(text: &[u8], at: usize, adapter: u32, round: u32) -> Option<usize>
+#[tactic(auto, unfolding(crate::specs::Forms::shared_front))]
+fn shared_front(text: &[u8], at: usize, adapters: u32, number: u32, round: u32) -> Option<usize>
     requires { at ≤ length text.now }
-    ensures value { result ≡ sim_front adapter round text.now at }
+    ensures value { result ≡ shared_front adapters number round text.now at }
     ensures within { IfSome result (λ end. end ≤ length text.now) }
 {
-    let number = skip(text, at, b"price sim")?;
-    let round_at = skip_number(text, number, u64::from(adapter))?;
-    let space = skip_number(text, round_at, u64::from(round))?;
+    if number < adapters {
+        number_front(text, at, b"price sim", number, round)
+    } else {
+        number_front(text, at, b"price link", number - adapters, round)
+    }
+}
+
+#[tactic(auto, unfolding(crate::specs::Forms::number_front))]
+fn number_front(text: &[u8], at: usize, word: &[u8], number: u32, round: u32) -> Option<usize>
+    requires { at ≤ length text.now }
+    ensures value { result ≡ number_front word.now number round text.now at }
+    ensures within { IfSome result (λ end. end ≤ length text.now) }
+{
+    let begin = skip(text, at, word)?;
+    let end = skip_number(text, begin, u64::from(number))?;
+    let space = skip_number(text, end, u64::from(round))?;
     skip(text, space, b" ")
 }

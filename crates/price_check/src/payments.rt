@@ -9,7 +9,7 @@ ghost use Rattle.round_net.specs.Value.{is_open, allowed, priced, paid};
 ghost use Rattle.price_check.specs.Least.{cheaper};
 ghost use Rattle.price_check.specs.Rests.{AreCheapest, IsNextWeight};
 
-use crate::rests::{note_devices, takes};
+use crate::rests::{note_devices, openings_price, takes};
 use round_net::{Net, Prices, cell};
 
 /// What all stays pay, each in the round that is cheapest for it, of those of its window in which it could be sent.
@@ -161,5 +161,5 @@ fn price(net: &Net, prices: &Prices, stay: u32, round: u32) -> u64
     ensures { result ≡ priced (instance_of_rows net.now) (pricing_of_rows prices.now) stay round }
 {
     let waiting = u64::from(net.weight(stay)) * u64::from(round - net.arrival(stay));
-    waiting + prices.dev(net.device(stay), round) + prices.sim(net.adapter(stay), round)
+    waiting + openings_price(net, prices, net.device(stay), round)
 }

@@ -28,15 +28,16 @@ pub(crate) fn read_prices(
     requires within { at ≤ length text.now }
     requires short { length text.now < 2 ^ 31 }
     requires some { 1 ≤ (instance_of_rows net.now).rounds }
-    ensures ok { let n = instance_of_rows net.now in IfOk result (λ r. series (cell_price_at devices.now n.rounds text.now) (rows n * n.rounds) at ≡ Ok (r.0.items, r.1)) }
-    ensures err { let n = instance_of_rows net.now in IfErr result (λ e. e ≢ ReportFault.OutOfMemory → series (cell_price_at devices.now n.rounds text.now) (rows n * n.rounds) at ≡ Err e) }
+    ensures ok { let n = instance_of_rows net.now in IfOk result (λ r. series (cell_price_at devices.now n.adapters n.rounds text.now) (rows n * n.rounds) at ≡ Ok (r.0.items, r.1)) }
+    ensures err { let n = instance_of_rows net.now in IfErr result (λ e. e ≢ ReportFault.OutOfMemory → series (cell_price_at devices.now n.adapters n.rounds text.now) (rows n * n.rounds) at ≡ Err e) }
     ensures within { IfOk result (λ r. r.1 ≤ length text.now) }
 {
+    let adapters = net.adapters();
     let rounds = net.rounds();
     let mut prices = Vec::new(alloc);
     let mut next = at;
     for cell in 0..net.rows() * rounds {
-        let (price, end) = read_cell(text, next, devices, rounds, cell)?;
+        let (price, end) = read_cell(text, next, devices, adapters, rounds, cell)?;
         prices.push(price)?;
         next = end;
     }
@@ -49,6 +50,7 @@ fn read_cell(
     text: &[u8],
     at: usize,
     devices: &[Device],
+    adapters: u32,
     rounds: u32,
     cell: u32,
 ) -> Result<(u64, usize), ReportFault>
@@ -56,10 +58,17 @@ fn read_cell(
     requires short { length text.now < 2 ^ 31 }
     requires some { 1 ≤ rounds }
     requires fits { cell < 2 ^ 31 }
-    ensures value { result ≡ cell_price_at devices.now rounds text.now cell at }
+    ensures value { result ≡ cell_price_at devices.now adapters rounds text.now cell at }
     ensures within { IfOk result (λ r. r.1 ≤ length text.now) }
 {
-    let front = price_front(text, at, devices, cell / rounds, cell % rounds + 1);
+    let front = price_front(
+        text,
+        at,
+        devices,
+        adapters,
+        cell / rounds,
+        cell % rounds + 1,
+    );
     read_price(text, at, front)
 }
 

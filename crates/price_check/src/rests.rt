@@ -1,21 +1,57 @@
 //! Which round of the rest of all rounds is cheapest, for stays of one weight on each device.
 
-ghost use Rattle.std.specs.Prelude.{◌≡◌, ℕ, ◌+◌, ◌-◌, ◌*◌, ◌<◌, ◌≤◌, length, slice_index, slice_set};
+ghost use Rattle.std.specs.Prelude.{◌≡◌, ℕ, ◌+◌, ◌-◌, ◌*◌, ◌<◌, ◌≤◌, ◌∷◌, nat_lt, sum_by, length, slice_index, slice_set};
+ghost use Rattle.std.specs.List.{list_all};
+ghost use Rattle.round_net.specs.Instance.{adapter_row, link_rows, path_of};
 ghost use Rattle.round_net.specs.Rows.{instance_of_rows, cell};
 ghost use Rattle.round_net.specs.PriceRows.{pricing_of_rows, IsPricingFor};
 ghost use Rattle.price_check.specs.Rests.{takes, pays, IsCheapest, AreCheapest};
 ghost use Rattle.cam_types.specs.declared.maxima.TheConstants.{MOST_ROUNDS, MOST_WEIGHT};
+ghost use Rattle.round_net.specs.declared.price_range.TheConstants.{MOST_PRICE};
 
 use round_net::{Net, Prices, cell};
 
-/// Whether both the device and its adapter take commands in the round.
+/// Whether the device takes commands in the round, its adapter, and the adapter's link, if it is on one.
 pub fn takes(net: &Net, device: u32, round: u32) -> bool
     requires device { device < (instance_of_rows net.now).devices }
     requires first { 1 ≤ round }
     requires last { round ≤ (instance_of_rows net.now).rounds }
     ensures { result ≡ takes (instance_of_rows net.now) device round }
 {
-    net.dev_cap(device, round) > 0 && net.sim_cap(net.adapter_of(device), round) > 0
+    net.dev_cap(device, round) > 0 && passes(net, net.adapter_of(device), round)
+}
+
+// Whether the adapter takes commands in the round, and its link, if it is on one.
+fn passes(net: &Net, adapter: u32, round: u32) -> bool
+    requires adapter { adapter < (instance_of_rows net.now).adapters }
+    requires first { 1 ≤ round }
+    requires last { round ≤ (instance_of_rows net.now).rounds }
+    ensures { let n = instance_of_rows net.now in result ≡ list_all (λ row. nat_lt 0 (n.cap row round)) (adapter_row n adapter ∷ link_rows n adapter) }
+{
+    if net.sim_cap(adapter, round) == 0 {
+        return false;
+    }
+    match net.link_of(adapter) {
+        Some(link) => net.link_cap(link, round) > 0,
+        None => true,
+    }
+}
+
+/// What the openings are worth that a command to the device takes in the round.
+pub fn openings_price(net: &Net, prices: &Prices, device: u32, round: u32) -> u64
+    requires size { IsPricingFor (instance_of_rows net.now) prices.now }
+    requires device { device < (instance_of_rows net.now).devices }
+    requires first { 1 ≤ round }
+    requires last { round ≤ (instance_of_rows net.now).rounds }
+    ensures same { result ≡ sum_by (λ row. pricing_of_rows prices.now row round) (path_of (instance_of_rows net.now) device) }
+    ensures most { result ≤ 3 * MOST_PRICE }
+{
+    let adapter = net.adapter_of(device);
+    let below = prices.dev(device, round) + prices.sim(adapter, round);
+    match net.link_of(adapter) {
+        Some(link) => below + prices.link(link, round),
+        None => below,
+    }
 }
 
 // What a stay of the device and weight would pay in the round, if it had waited from a round 0 on.
@@ -30,7 +66,7 @@ fn pays(net: &Net, prices: &Prices, weight: u32, device: u32, round: u32) -> u64
     ensures { result ≡ pays (instance_of_rows net.now) (pricing_of_rows prices.now) weight device round }
 {
     let waiting = u64::from(weight * round);
-    waiting + prices.dev(device, round) + prices.sim(net.adapter_of(device), round)
+    waiting + openings_price(net, prices, device, round)
 }
 
 // The cheapest round from this one on, where `next` is that from the next one on.

@@ -13,6 +13,8 @@ pub enum Cause {
     DeviceFull,
     /// Of the stays up to it more are of its adapter and in its round than the adapter takes.
     AdapterFull,
+    /// Of the stays up to it more are of its link and in its round than the link takes.
+    LinkFull,
 }
 
 /// What a schedule and prices come to.

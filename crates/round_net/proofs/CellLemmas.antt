@@ -37,10 +37,10 @@ pub cell_room : (rows rounds row r at n : ℕ) → rows * rounds ≤ n → row <
 cell_room rows rounds row r at n all within first last is = omega (arith, cell_within rounds rows row r within first last)
 
 -- a round of a net's row has a cap
-pub cap_in : (n : NetRows) (row r : ℕ) → IsNet n → row < length n.adapter_of + n.adapters → 1 ≤ r → r ≤ n.rounds → cell n.rounds row r < length n.caps
+pub cap_in : (n : NetRows) (row r : ℕ) → IsNet n → row < length n.adapter_of + length n.link_of + n.links → 1 ≤ r → r ≤ n.rounds → cell n.rounds row r < length n.caps
 unfolding instance_of_rows
-cap_in n row r is within first last = cell_in n.caps n.rounds (length n.adapter_of + n.adapters) row r is.cells within first last
+cap_in n row r is within first last = cell_in n.caps n.rounds (length n.adapter_of + length n.link_of + n.links) row r is.cells within first last
 
 -- and a price
-pub price_in : (p : PriceRows) (row r : ℕ) → IsPriced p → row < p.devices + p.adapters → 1 ≤ r → r ≤ p.rounds → cell p.rounds row r < length p.prices
-price_in p row r is within first last = cell_in p.prices p.rounds (p.devices + p.adapters) row r is.cells within first last
+pub price_in : (p : PriceRows) (row r : ℕ) → IsPriced p → row < p.devices + p.adapters + p.links → 1 ≤ r → r ≤ p.rounds → cell p.rounds row r < length p.prices
+price_in p row r is within first last = cell_in p.prices p.rounds (p.devices + p.adapters + p.links) row r is.cells within first last

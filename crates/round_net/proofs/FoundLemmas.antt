@@ -4,6 +4,7 @@ use Rattle.std.specs.Prelude.{not, unwrap_or}
 use Rattle.std.specs.Option.{option_map, option_map_or}
 use Rattle.std.proofs.lemmas.List.{take_all}
 use Rattle.cam_types.specs.Topology.{Topology}
+use Rattle.cam_types.specs.declared.adapter.Adapter.{Adapter}
 use Rattle.cam_types.specs.declared.device.Device.{Device}
 use Rattle.cam_event.specs.Event.{is_send_of}
 use Rattle.cam_event.specs.Counts.{round}
@@ -68,11 +69,11 @@ caps_found c es rounds frozen openings sends caps some noted cells are =
     are.1 (cell rounds row r) lt ∙ rw (noted.marked row r within first last, noted.sent row r within first last, noted.opened row r within first last) (flipped (is_free c es row r) (sends_in c es row r) (openings_in c es row r)))
 
 -- all parts of the net
-pub net_found : (c : Topology) (es : List Event) (rounds adapters : ℕ) (adapter_of : List ℕ) (rows : List StayRow) (frozen : List Bool) (openings sends caps : List ℕ) →
-    rounds ≡ round es → adapters ≡ length c.adapters → adapter_of ≡ map (λ (device : Device). device.bus) c.devices → rows ≡ map (row_of c rounds) (records es) →
+pub net_found : (c : Topology) (es : List Event) (rounds links : ℕ) (adapter_of : List ℕ) (link_of : List (Option ℕ)) (rows : List StayRow) (frozen : List Bool) (openings sends caps : List ℕ) →
+    rounds ≡ round es → links ≡ length c.links → adapter_of ≡ map (λ (device : Device). device.bus) c.devices → link_of ≡ map (λ (adapter : Adapter). adapter.link) c.adapters → rows ≡ map (row_of c rounds) (records es) →
     IsNoted c es rounds frozen openings sends → HasCells c rounds frozen openings sends → AreCaps frozen sends openings caps →
-    ◌≡◌ {A = NetRows} (record { rounds = rounds; adapters = adapters; adapter_of = adapter_of; stays = rows; caps = caps }) (net_of c es)
-net_found c es rounds adapters adapter_of rows frozen openings sends caps r a d s noted cells are =
+    ◌≡◌ {A = NetRows} (record { rounds = rounds; links = links; adapter_of = adapter_of; link_of = link_of; stays = rows; caps = caps }) (net_of c es)
+net_found c es rounds links adapter_of link_of rows frozen openings sends caps r l a o s noted cells are =
     let some : 1 ≤ rounds = rw r (round_first es) in
-    net_of_parts c es rounds adapters adapter_of rows caps r a d (s ∙ ap (λ n. map (row_of c n) (records es)) r ∙ rows_of_records c es)
+    net_of_parts c es rounds links adapter_of link_of rows caps r l a o (s ∙ ap (λ n. map (row_of c n) (records es)) r ∙ rows_of_records c es)
     (caps_found c es rounds frozen openings sends caps some noted cells are ∙ ap (λ n. table (row_count c) n (cap c es)) r)

@@ -6,6 +6,7 @@ pub mod MarkLemmas
 pub mod NetLemmas
 pub mod FoundLemmas
 pub mod OpeningLemmas
+pub mod OwnerLemmas
 pub mod PathLemmas
 pub mod PlaceLemmas
 pub mod PriceLemmas

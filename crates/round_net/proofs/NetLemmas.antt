@@ -1,20 +1,21 @@
 -- the net of a complete history is sound
-use Rattle.std.proofs.Common.{◌≡◌, ℕ, zero, suc, ◌+◌, ◌-◌, ◌*◌, ◌<◌, ◌≤◌, Bool, true, false, cond, List, [], ◌∷◌, length, map, take, get_or, refl, sym, ap, ◌∙◌, arith, Some, None, inl, inr}
-use Rattle.std.specs.Prelude.{◌==◌, ◌&&◌, All, slice_get, slice_index, nat_le, nat_lt, find, count_by}
+use Rattle.std.proofs.Common.{◌≡◌, ℕ, zero, suc, ◌+◌, ◌-◌, ◌*◌, ◌<◌, ◌≤◌, Bool, true, false, cond, List, [], ◌∷◌, length, map, take, get_or, refl, sym, ap, ◌∙◌, arith, Option, Some, None, inl, inr}
+use Rattle.std.specs.Prelude.{◌==◌, ◌&&◌, All, slice_get, slice_index, nat_le, nat_lt, find, count_by, option_and_then}
 use Rattle.std.specs.Option.{option_map, option_map_or}
 use Rattle.std.proofs.lemmas.Bool.{and_parts, eqb-true, ltb-true, ltb-false}
 use Rattle.std.proofs.lemmas.Option.{slice_get_cases, slice_get_within, get_or_from_slice_get}
 use Rattle.std.proofs.lemmas.List.{length-map, take_all}
 use Rattle.std.proofs.lemmas.List.Elements.{All-nil, All-cons}
 use Rattle.std.proofs.lemmas.List.Sums.{sum_by_more, AllPass-from_list_all}
-use Rattle.cam_types.specs.Topology.{Topology, IsConfig}
+use Rattle.cam_types.specs.Topology.{Topology, IsConfig, names_link}
+use Rattle.cam_types.specs.declared.adapter.Adapter.{Adapter}
 use Rattle.cam_types.specs.declared.device.Device.{Device}
 use Rattle.cam_types.specs.declared.maxima.TheConstants.{MOST_OPENINGS}
 use Rattle.cam_event.specs.Event.{is_some_and}
 use Rattle.cam_event.specs.Counts.{round, submission}
 use Rattle.cam_event.specs.Stays.{stays_begun, is_unsent, unsent, name_of}
 use Rattle.cam_event.specs.Live.{live_round}
-use Rattle.cam_types.specs.Questions.{names_device, is_on, weight}
+use Rattle.cam_types.specs.Questions.{names_device, is_on, is_under, adapter_link, weight}
 use Rattle.cam_event.specs.declared.event.Event.{Event}
 use Rattle.cam_event.specs.declared.submission.Submission.{Submission}
 use Rattle.cam_event.specs.declared.stay.Stay.{Stay}
@@ -23,17 +24,17 @@ use Rattle.cam_event.specs.Laws.{is_in_range, is_stay_of, is_stay_in_range}
 use Rattle.cam_event.proofs.RangeLemmas.{stays_in_range}
 use Rattle.cam_event.proofs.LimitLemmas.{round_first, round_most, stays_most}
 use Rattle.round_net.specs.Sums.{count_below}
-use Rattle.round_net.specs.Instance.{Instance, rows, adapter, adapter_row, uses}
+use Rattle.round_net.specs.Instance.{Instance, rows, adapter, link, adapter_row, link_row, uses}
 use Rattle.round_net.specs.Schedules.{IsAdmissible, load}
 use Rattle.round_net.specs.Rows.{NetRows, cell, of_stay, instance_of_rows, live_of_rows}
 use Rattle.round_net.specs.Sound.{IsSound, IsNet}
 use Rattle.round_net.specs.Caps.{row_count, carries, sends_in, cap}
 use Rattle.round_net.specs.Nets.{last_round, stay_row, table, net_of, instance_of, live_of}
 use Rattle.round_net.specs.declared.stay_row.StayRow.{StayRow}
-use Rattle.cam_types.proofs.ConfigLemmas.{few_adapters, devices_on_adapters, few_devices, weight_small}
+use Rattle.cam_types.proofs.ConfigLemmas.{few_adapters, few_links, adapters_on_links, devices_on_adapters, few_devices, weight_small}
 use Rattle.round_net.proofs.LoadLemmas.{covered-legal, sent-complete}
 use Rattle.round_net.proofs.OpeningLemmas.{sends_in-cap}
-use Rattle.round_net.proofs.PathLemmas.{uses-device_row, uses-adapter_row}
+use Rattle.round_net.proofs.PathLemmas.{uses-device_row, uses-adapter_row, uses-link_row}
 use Rattle.round_net.proofs.SmallLemmas.{small_cap}
 use Rattle.round_net.proofs.TableLemmas.{cell-table, All-table, length-cells}
 use Rattle.round_net.proofs.WindowLemmas.{IsInWindow, windows-legal, last_round-le}
@@ -120,7 +121,11 @@ devices_of_net c es = length-map c.devices (λ (device : Device). device.bus)
 
 adapters_of_net : (c : Topology) (es : List Event) → (instance_of c es).adapters ≡ length c.adapters
 unfolding instance_of_rows net_of
-adapters_of_net c es = refl
+adapters_of_net c es = length-map c.adapters (λ (adapter : Adapter). adapter.link)
+
+links_of_net : (c : Topology) (es : List Event) → (instance_of c es).links ≡ length c.links
+unfolding instance_of_rows net_of
+links_of_net c es = refl
 
 rounds_of_net : (c : Topology) (es : List Event) → (instance_of c es).rounds ≡ round es
 unfolding instance_of_rows net_of
@@ -130,9 +135,17 @@ bus_of_device : (c : Topology) (es : List Event) (d : ℕ) (device : Device) →
 unfolding instance_of_rows net_of
 bus_of_device c es d device e = get_or_from_slice_get (map (λ (x : Device). x.bus) c.devices) d device.bus 0 (mapped (λ (x : Device). x.bus) c.devices d device e)
 
-rows_of_net : (c : Topology) (es : List Event) → rows (instance_of c es) ≡ row_count c
+linked : (xs : List Adapter) (a : ℕ) → option_and_then (λ (link : Option ℕ). link) (slice_get (map (λ (adapter : Adapter). adapter.link) xs) a) ≡ option_and_then (λ (adapter : Adapter). adapter.link) (slice_get xs a)
+linked [] a = refl
+linked (x ∷ xs) zero = refl
+linked (x ∷ xs) (suc a) = linked xs a
+
+link_of_adapter : (c : Topology) (es : List Event) (a : ℕ) → (instance_of c es).link_of a ≡ adapter_link c a
 unfolding instance_of_rows net_of
-rows_of_net c es = ap (λ n. n + length c.adapters) (length-map c.devices (λ (device : Device). device.bus))
+link_of_adapter c es a = linked c.adapters a
+
+rows_of_net : (c : Topology) (es : List Event) → rows (instance_of c es) ≡ row_count c
+rows_of_net c es = rw (devices_of_net c es, adapters_of_net c es, links_of_net c es) refl
 
 cap_of_net : (c : Topology) (es : List Event) (row r : ℕ) → row < row_count c → 1 ≤ r → r ≤ round es → (instance_of c es).cap row r ≡ cap c es row r
 unfolding instance_of_rows net_of
@@ -170,39 +183,66 @@ all_sent : (es : List Event) → unsent es ≡ None → All (λ p. is_unsent es 
 unfolding unsent
 all_sent es e = find_none (is_unsent es) (stays_begun es) e
 
+-- a device is on an adapter of the net
+on_adapter : (c : Topology) (es : List Event) (d : ℕ) → IsConfig c → d < (instance_of c es).devices → (instance_of c es).adapter_of d < (instance_of c es).adapters
+on_adapter c es d config lt =
+    let dev = element c.devices d (rw devices_of_net at lt) in
+    rw (bus_of_device c es d dev.0 dev.1, adapters_of_net c es) (at_element (λ (device : Device). device.bus < length c.adapters) c.devices d dev.0 (devices_on_adapters c config) dev.1)
+
 -- a stay uses the rows that carry a command to its device
+adapter_at : (c : Topology) (es : List Event) (s : ℕ) (p : Stay) (device : Device) → slice_get (stays_begun es) s ≡ Some p → slice_get c.devices p.device ≡ Some device → adapter (instance_of c es) s ≡ device.bus
+adapter_at c es s p device e there = ap (instance_of c es).adapter_of (device_at c es s p e) ∙ bus_of_device c es p.device device there
+
 on_adapter_test : (c : Topology) (es : List Event) (a s : ℕ) (p : Stay) → is_legal history_rules c es ≡ true → slice_get (stays_begun es) s ≡ Some p → (adapter (instance_of c es) s == a) ≡ is_on c a p.device
-unfolding instance_of_rows
 on_adapter_test c es a s p legal e =
     let dev = element c.devices p.device (device_of_stay c es s p legal e) in
-    rw (device_at c es s p e, bus_of_device c es p.device dev.0 dev.1, dev.1) refl
+    rw (adapter_at c es s p dev.0 e dev.1, dev.1) refl
 
-uses-carries : (c : Topology) (es : List Event) (row s : ℕ) (p : Stay) → is_legal history_rules c es ≡ true → slice_get (stays_begun es) s ≡ Some p → uses (instance_of c es) row s ≡ carries c row p.device
-uses-carries c es row s p legal e =
+under_link_test : (c : Topology) (es : List Event) (l s : ℕ) (p : Stay) → is_legal history_rules c es ≡ true → slice_get (stays_begun es) s ≡ Some p → option_map_or (λ k. k == l) (link (instance_of c es) s) false ≡ is_under c l p.device
+unfolding instance_of_rows
+under_link_test c es l s p legal e =
+    let dev = element c.devices p.device (device_of_stay c es s p legal e) in
+    rw (adapter_at c es s p dev.0 e dev.1, link_of_adapter c es dev.0.bus, dev.1) refl
+
+uses-carries : (c : Topology) (es : List Event) (row s : ℕ) (p : Stay) → IsConfig c → is_legal history_rules c es ≡ true → row < row_count c → slice_get (stays_begun es) s ≡ Some p → uses (instance_of c es) row s ≡ carries c row p.device
+uses-carries c es row s p config legal within e =
     let net : Instance = instance_of c es in
-    let beyond : ℕ = row - length c.devices in
-    elim (nat_lt row (length c.devices)) as (λ b. nat_lt row (length c.devices) ≡ b → uses net row s ≡ cond b (p.device == row) (is_on c beyond p.device)) [
+    let n : ℕ = length c.devices in
+    let m : ℕ = n + length c.adapters in
+    let device : net.device s < net.devices = rw (device_at c es s p e, devices_of_net c es) (device_of_stay c es s p legal e) in
+    let devices : net.devices ≡ n = devices_of_net c es in
+    let adapters : net.adapters ≡ length c.adapters = adapters_of_net c es in
+    elim (nat_lt row n) as (λ b. nat_lt row n ≡ b → uses net row s ≡ cond b (p.device == row) (cond (nat_lt row m) (is_on c (row - n) p.device) (is_under c (row - m) p.device))) [
       | true ↦ λ is.
-          let within : row < net.devices = rw (devices_of_net c es) (ltb-true row (length c.devices) is) in
-          uses-device_row net row s within ∙ ap (λ d. d == row) (device_at c es s p e)
-      | false ↦ λ is.
-          let past : length c.devices ≤ row = ltb-false row (length c.devices) is in
-          let at : row ≡ adapter_row net beyond = rw (devices_of_net c es) (omega arith) in
-          let device : net.device s < net.devices = rw (device_at c es s p e, devices_of_net c es) (device_of_stay c es s p legal e) in
-          ap (λ r. uses net r s) at ∙ uses-adapter_row net beyond s device ∙ on_adapter_test c es beyond s p legal e
+          let before : row < net.devices = rw devices (ltb-true row n is) in
+          uses-device_row net row s before ∙ ap (λ d. d == row) (device_at c es s p e)
+      | false ↦ λ other.
+          let past : n ≤ row = ltb-false row n other in
+          elim (nat_lt row m) as (λ b. nat_lt row m ≡ b → uses net row s ≡ cond b (is_on c (row - n) p.device) (is_under c (row - m) p.device)) [
+            | true ↦ λ is.
+                let lt = ltb-true row m is in
+                let at : row ≡ adapter_row net (row - n) = omega arith in
+                let there : row - n < net.adapters = omega arith in
+                ap (λ r. uses net r s) at ∙ uses-adapter_row net (row - n) s device there ∙ on_adapter_test c es (row - n) s p legal e
+            | false ↦ λ other.
+                let beyond : m ≤ row = ltb-false row m other in
+                let at : row ≡ link_row net (row - m) = omega arith in
+                ap (λ r. uses net r s) at ∙ uses-link_row net (row - m) s device (on_adapter c es (net.device s) config device) ∙ under_link_test c es (row - m) s p legal e
+          ] refl
     ] refl
 
 -- no row has more stays in a round than its cap
-rows_hold : (c : Topology) (es : List Event) → is_legal history_rules c es ≡ true → unsent es ≡ None → (row r : ℕ) → row < rows (instance_of c es) → 1 ≤ r → r ≤ (instance_of c es).rounds → load (instance_of c es) (live_of c es) row r ≤ (instance_of c es).cap row r
+rows_hold : (c : Topology) (es : List Event) → IsConfig c → is_legal history_rules c es ≡ true → unsent es ≡ None → (row r : ℕ) → row < rows (instance_of c es) → 1 ≤ r → r ≤ (instance_of c es).rounds → load (instance_of c es) (live_of c es) row r ≤ (instance_of c es).cap row r
 unfolding sends_in
-rows_hold c es legal complete row r within first last =
+rows_hold c es config legal complete row r within first last =
     let net : Instance = instance_of c es in
+    let inside : row < row_count c = rw rows_of_net at within in
     let there : count_below (length (stays_begun es)) (λ s. uses net row s && (live_of c es s == r)) ≡ count_by (λ (p : Stay). carries c row p.device && (live_round es p == r)) (stays_begun es) =
-    count_list (λ (p : Stay). carries c row p.device && (live_round es p == r)) (λ s. uses net row s && (live_of c es s == r)) (stays_begun es) (λ s p e. ap (λ b. b && (live_of c es s == r)) (uses-carries c es row s p legal e) ∙ ap (λ n. carries c row p.device && (n == r)) (live_at c es s p e)) in
+    count_list (λ (p : Stay). carries c row p.device && (live_round es p == r)) (λ s. uses net row s && (live_of c es s == r)) (stays_begun es) (λ s p e. ap (λ b. b && (live_of c es s == r)) (uses-carries c es row s p config legal inside e) ∙ ap (λ n. carries c row p.device && (n == r)) (live_at c es s p e)) in
     let sent = sent-complete (carries c row) es r (all_sent es complete) in
     let covered = (covered-legal (carries c row) history_rules c es legal).covered r in
     let capped : sends_in c es row r ≤ cap c es row r = sends_in-cap history_rules c es row r legal in
-    rw (cap_of_net c es row r (rw rows_of_net at within) first (rw rounds_of_net at last), stays_of_net c es) (omega arith)
+    rw (cap_of_net c es row r inside first (rw rounds_of_net at last), stays_of_net c es) (omega arith)
 
 in_window : (c : Topology) (es : List Event) (s : ℕ) (p : Stay) → is_legal history_rules c es ≡ true → slice_get (stays_begun es) s ≡ Some p → IsInWindow es p
 in_window c es s p legal e = at_element (IsInWindow es) (stays_begun es) s p (windows-legal history_rules c es legal).each e
@@ -211,8 +251,8 @@ sent_stay : (c : Topology) (es : List Event) (s : ℕ) (p : Stay) → unsent es 
 sent_stay c es s p complete e = at_element (λ q. is_unsent es q ≡ false) (stays_begun es) s p (all_sent es complete) e
 
 -- the live schedule of a complete history is admissible
-pub live_admissible : (c : Topology) (es : List Event) → is_legal history_rules c es ≡ true → unsent es ≡ None → IsAdmissible (instance_of c es) (live_of c es)
-live_admissible c es legal complete = record {
+pub live_admissible : (c : Topology) (es : List Event) → IsConfig c → is_legal history_rules c es ≡ true → unsent es ≡ None → IsAdmissible (instance_of c es) (live_of c es)
+live_admissible c es config legal complete = record {
   not_early = λ s lt.
       let stay = stay_of_net c es s lt in
       let h = (in_window c es s stay.0 legal stay.1).arrived (sent_stay c es s stay.0 complete stay.1) in
@@ -221,7 +261,7 @@ live_admissible c es legal complete = record {
       let stay = stay_of_net c es s lt in
       let h = (in_window c es s stay.0 legal stay.1).within (sent_stay c es s stay.0 complete stay.1) in
       rw (last_at c es s stay.0 stay.1, live_at c es s stay.0 stay.1) h;
-  rows_hold = rows_hold c es legal complete;
+  rows_hold = rows_hold c es config legal complete;
 }
 
 small_caps : (c : Topology) (es : List Event) → IsConfig c → is_legal history_rules c es ≡ true → (row r : ℕ) → (instance_of c es).cap row r ≤ MOST_OPENINGS
@@ -229,18 +269,28 @@ unfolding instance_of_rows net_of
 small_caps c es config legal row r =
     small_at (table (row_count c) (round es) (cap c es)) (cell (round es) row r) MOST_OPENINGS (All-table (λ n. n ≤ MOST_OPENINGS) (row_count c) (round es) (cap c es) (round_first es) (λ other q within first last. small_cap history_rules c es other q config legal))
 
+-- an adapter that is on a link is on one of the net
+on_link : (c : Topology) (es : List Event) (a l : ℕ) → IsConfig c → (instance_of c es).link_of a ≡ Some l → l < (instance_of c es).links
+on_link c es a l config is = rw (links_of_net c es) (elim (slice_get c.adapters a) as (λ o. slice_get c.adapters a ≡ o → option_and_then (λ (adapter : Adapter). adapter.link) o ≡ Some l → l < length c.links) [
+  | None ↦ λ e h. absurd cc
+  | Some adapter ↦ λ e h.
+      let there = at_element (λ (x : Adapter). names_link (length c.links) x.link ≡ true) c.adapters a adapter (adapters_on_links c config) e in
+      let named : nat_lt l (length c.links) ≡ true = rw h at there in
+      ltb-true l (length c.links) named
+] refl (rw link_of_adapter at is))
+
 net_sound : (c : Topology) (es : List Event) → IsConfig c → is_legal history_rules c es ≡ true → unsent es ≡ None → IsSound (instance_of c es) (live_of c es)
 net_sound c es config legal complete = record {
   few_rounds = rw (rounds_of_net c es) (round_most c es legal);
   few_stays = rw (stays_of_net c es) (stays_most c es legal);
   few_devices = rw (devices_of_net c es) (few_devices c config);
   few_adapters = rw (adapters_of_net c es) (few_adapters c config);
+  few_links = rw (links_of_net c es) (few_links c config);
   on_device = λ s lt.
       let stay = stay_of_net c es s lt in
       rw (device_at c es s stay.0 stay.1, devices_of_net c es) (device_of_stay c es s stay.0 legal stay.1);
-  on_adapter = λ d lt.
-      let dev = element c.devices d (rw devices_of_net at lt) in
-      rw (bus_of_device c es d dev.0 dev.1, adapters_of_net c es) (at_element (λ (device : Device). device.bus < length c.adapters) c.devices d dev.0 (devices_on_adapters c config) dev.1);
+  on_adapter = λ d lt. on_adapter c es d config lt;
+  on_link = λ a l is. on_link c es a l config is;
   from_first = λ s lt. let stay = stay_of_net c es s lt in rw (arrival_at c es s stay.0 stay.1) (in_window c es s stay.0 legal stay.1).first;
   to_last = λ s lt.
       let stay = stay_of_net c es s lt in
@@ -248,7 +298,7 @@ net_sound c es config legal complete = record {
   some_weight = λ s lt. let stay = stay_of_net c es s lt in rw (weight_at c es s stay.0 stay.1) (weight_small c stay.0.priority config).0;
   small_weight = λ s lt. let stay = stay_of_net c es s lt in rw (weight_at c es s stay.0 stay.1) (weight_small c stay.0.priority config).1;
   small_cap = small_caps c es config legal;
-  live_admissible = live_admissible c es legal complete;
+  live_admissible = live_admissible c es config legal complete;
 }
 
 cells_of_net : (c : Topology) (es : List Event) → length (net_of c es).caps ≡ row_count c * round es
@@ -260,7 +310,8 @@ unfolding net_of
 net_is_net c es config legal complete = record { cells = cells_of_net c es ∙ ap (λ n. n * round es) (sym (rows_of_net c es)); sound = net_sound c es config legal complete }
 
 -- lists that have each part of it are the net
-pub net_of_parts : (c : Topology) (es : List Event) (rounds adapters : ℕ) (adapter_of : List ℕ) (stays : List StayRow) (caps : List ℕ) → rounds ≡ round es → adapters ≡ length c.adapters → adapter_of ≡ map (λ (device : Device). device.bus) c.devices →
-    stays ≡ map (stay_row c es) (stays_begun es) → caps ≡ table (row_count c) (round es) (cap c es) → ◌≡◌ {A = NetRows} (record { rounds = rounds; adapters = adapters; adapter_of = adapter_of; stays = stays; caps = caps }) (net_of c es)
+pub net_of_parts : (c : Topology) (es : List Event) (rounds links : ℕ) (adapter_of : List ℕ) (link_of : List (Option ℕ)) (stays : List StayRow) (caps : List ℕ) → rounds ≡ round es → links ≡ length c.links →
+    adapter_of ≡ map (λ (device : Device). device.bus) c.devices → link_of ≡ map (λ (adapter : Adapter). adapter.link) c.adapters → stays ≡ map (stay_row c es) (stays_begun es) → caps ≡ table (row_count c) (round es) (cap c es) →
+    ◌≡◌ {A = NetRows} (record { rounds = rounds; links = links; adapter_of = adapter_of; link_of = link_of; stays = stays; caps = caps }) (net_of c es)
 unfolding net_of
-net_of_parts c es rounds adapters adapter_of stays caps r a d s is = rw (r, a, d, s, is) refl
+net_of_parts c es rounds links adapter_of link_of stays caps r l a o s is = rw (r, l, a, o, s, is) refl

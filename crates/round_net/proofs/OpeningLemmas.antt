@@ -1,13 +1,13 @@
 -- no more commands are sent in a round than there are openings, and openings are few
-use Rattle.std.proofs.Common.{◌≡◌, ℕ, ◌+◌, ◌-◌, ◌<◌, ◌≤◌, true, false, cond, List, [], ◌∷◌, ◌++◌, length, refl, sym, ap, ◌∙◌, arith, Some, None}
+use Rattle.std.proofs.Common.{◌≡◌, ℕ, ◌+◌, ◌-◌, ◌<◌, ◌≤◌, true, false, cond, List, [], ◌∷◌, ◌++◌, length, refl, sym, ap, ◌∙◌, arith, Option, Some, None}
 use Rattle.std.specs.Prelude.{◌==◌, ◌&&◌, nat_lt, count_by, slice_get}
 use Rattle.std.specs.Option.{option_map_or}
 use Rattle.std.proofs.lemmas.Bool.{and_parts, eqb-true, ltb-true}
 use Rattle.cam_types.specs.Topology.{Topology}
 use Rattle.cam_types.specs.declared.device.Device.{Device}
 use Rattle.cam_event.specs.Counts.{round, submission, sendings, sending_of}
-use Rattle.cam_types.specs.Questions.{names_lane, is_on, lane_adapter, adapter_openings}
-use Rattle.cam_event.specs.Head.{openings, goes_now_to, goes_now_to_adapter, has_opening, adapter_has_opening}
+use Rattle.cam_types.specs.Questions.{names_lane, is_on, is_under, lane_adapter, adapter_link, adapter_openings, link_openings}
+use Rattle.cam_event.specs.Head.{openings, goes_now_to, goes_now_to_adapter, goes_now_over_link, has_opening, adapter_has_opening, link_has_opening}
 use Rattle.cam_event.specs.declared.event.Event.{Event}
 use Rattle.cam_event.specs.declared.event.Event.TheVariants.{Send}
 use Rattle.cam_event.specs.declared.submission.Submission.{Submission}
@@ -49,7 +49,7 @@ on_one c a b d h g = elim (slice_get c.devices d) as (λ o. option_map_or (λ (d
   | Some device ↦ λ h' g'. sym (eqb-true device.bus a h') ∙ eqb-true device.bus b g'
 ] h g
 
--- where a send may go, its device has an opening left, and its adapter
+-- where a send may go, its device has an opening left, its adapter, and its link, if it is on one
 device_left : (c : Topology) (es : List Event) (d : ℕ) → has_opening c es d ≡ true → count_by (goes (λ x. x == d) (round es)) (sendings es) < openings c es d
 unfolding has_opening
 device_left c es d h = ltb-true (count_by (goes_now_to es d) (sendings es)) (openings c es d) h
@@ -58,18 +58,41 @@ adapter_left : (c : Topology) (es : List Event) (a : ℕ) → adapter_has_openin
 unfolding adapter_has_opening
 adapter_left c es a h = ltb-true (count_by (goes_now_to_adapter c es a) (sendings es)) (adapter_openings c a) h
 
+-- a device under a link is on an adapter that is on it
+under_link : (c : Topology) (a l d : ℕ) → is_on c a d ≡ true → is_under c l d ≡ true → adapter_link c a ≡ Some l
+under_link c a l d h g = elim (slice_get c.devices d) as (λ o. option_map_or (λ (device : Device). device.bus == a) o false ≡ true → option_map_or (λ (device : Device). option_map_or (λ k. k == l) (adapter_link c device.bus) false) o false ≡ true → adapter_link c a ≡ Some l) [
+  | None ↦ λ h' g'. absurd cc
+  | Some device ↦ λ h' g'. let at : device.bus ≡ a = eqb-true device.bus a h' in named l (adapter_link c a) (rw at at g')
+] h g
+  where
+    named : (k : ℕ) (o : Option ℕ) → option_map_or (λ n. n == k) o false ≡ true → o ≡ Some k
+    named k None e = absurd cc
+    named k (Some n) e = ap (λ m. Some m) (eqb-true n k e)
+
+link_left : (c : Topology) (es : List Event) (a l : ℕ) → adapter_link c a ≡ Some l → link_has_opening c es a ≡ true → count_by (goes (is_under c l) (round es)) (sendings es) < link_openings c l
+unfolding link_has_opening
+link_left c es a l is h =
+    let left : nat_lt (count_by (goes_now_over_link c es l) (sendings es)) (link_openings c l) ≡ true = rw is at h in
+    ltb-true (count_by (goes_now_over_link c es l) (sendings es)) (link_openings c l) left
+
 -- so each row that it uses has one
 opening_left : (c : Topology) (es : List Event) (lane ccb row : ℕ) (s : Submission) → IsSend c es lane ccb → submission es ccb ≡ Some s → carries c row s.device ≡ true → count_by (goes (carries c row) (round es)) (sendings es) < row_openings c es row
 unfolding row_openings
 opening_left c es lane ccb row s send found uses =
     let of_ccb = device_of-submission es ccb s found in
-    let beyond : ℕ = row - length c.devices in
-    elim (nat_lt row (length c.devices)) as (λ b. cond b (s.device == row) (is_on c beyond s.device) ≡ true → count_by (goes (λ x. cond b (x == row) (is_on c beyond x)) (round es)) (sendings es) < cond b (openings c es row) (adapter_openings c beyond)) [
+    let own : is_on c (lane_adapter c lane) s.device ≡ true = rw of_ccb at send.sendable.on in
+    let n : ℕ = length c.devices in
+    let m : ℕ = n + length c.adapters in
+    elim (nat_lt row n) as (λ b. cond b (s.device == row) (cond (nat_lt row m) (is_on c (row - n) s.device) (is_under c (row - m) s.device)) ≡ true →
+    count_by (goes (λ x. cond b (x == row) (cond (nat_lt row m) (is_on c (row - n) x) (is_under c (row - m) x))) (round es)) (sendings es) < cond b (openings c es row) (cond (nat_lt row m) (adapter_openings c (row - n)) (link_openings c (row - m)))) [
       | true ↦ λ to. let at : device_of es ccb ≡ row = of_ccb ∙ eqb-true s.device row to in device_left c es row (rw at at send.sendable.device_opening)
-      | false ↦ λ on.
-          let own : is_on c (lane_adapter c lane) s.device ≡ true = rw of_ccb at send.sendable.on in
-          let at : lane_adapter c lane ≡ beyond = on_one c (lane_adapter c lane) beyond s.device own on in
-          adapter_left c es beyond (rw at at send.sendable.adapter_opening)
+      | false ↦ elim (nat_lt row m) as (λ b. cond b (is_on c (row - n) s.device) (is_under c (row - m) s.device) ≡ true →
+          count_by (goes (λ x. cond b (is_on c (row - n) x) (is_under c (row - m) x)) (round es)) (sendings es) < cond b (adapter_openings c (row - n)) (link_openings c (row - m))) [
+            | true ↦ λ on.
+                let at : lane_adapter c lane ≡ row - n = on_one c (lane_adapter c lane) (row - n) s.device own on in
+                adapter_left c es (row - n) (rw at at send.sendable.adapter_opening)
+            | false ↦ λ under. link_left c es (lane_adapter c lane) (row - m) (under_link c (lane_adapter c lane) (row - m) s.device own under) send.sendable.link_opening
+          ]
     ] uses
 
 -- the sends of each round that use an opening of a row are within its openings

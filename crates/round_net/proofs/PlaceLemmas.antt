@@ -1,6 +1,6 @@
 -- the places of a round, and one place more
-use Rattle.std.proofs.Common.{◌≡◌, ◌≢◌, ℕ, ◌-◌, ◌<◌, ◌≤◌, Bool, true, false, cond, List, [], ◌∷◌, ◌++◌, length, take, refl, sym, ap, ◌∙◌, arith, append-nil, append_assoc, length-append, Option, Some, None}
-use Rattle.std.specs.Prelude.{not, ◌==◌, ◌&&◌, ◌||◌, filter, if◌then◌else◌, nat_lt, count_by, option_to_list, slice_get, slice_index, slice_index_or}
+use Rattle.std.proofs.Common.{◌≡◌, ◌≢◌, ℕ, ◌<◌, ◌≤◌, Bool, true, false, cond, List, [], ◌∷◌, ◌++◌, length, take, refl, sym, ap, ◌∙◌, arith, append-nil, append_assoc, length-append, Option, Some, None}
+use Rattle.std.specs.Prelude.{not, ◌==◌, ◌&&◌, ◌||◌, filter, if◌then◌else◌, count_by, option_to_list, slice_get, slice_index, slice_index_or}
 use Rattle.std.specs.List.{list_all, before_last}
 use Rattle.std.specs.Option.{option_map, option_map_or}
 use Rattle.std.proofs.lemmas.Bool.{eqb-true, eq-eqb, ne_eqb}
@@ -15,7 +15,7 @@ use Rattle.cam_types.specs.Topology.{Topology}
 use Rattle.cam_types.proofs.ListLemmas.{moments-push}
 use Rattle.cam_event.specs.Event.{is_tick, is_adjust_of, adjusts_to}
 use Rattle.cam_event.specs.Counts.{round, submission, sending_of, sendings, last}
-use Rattle.cam_types.specs.Questions.{device_openings, adapter_openings}
+use Rattle.cam_types.specs.Questions.{device_openings, adapter_openings, link_openings}
 use Rattle.cam_event.specs.Head.{openings}
 use Rattle.cam_event.specs.declared.event.Event.{Event}
 use Rattle.cam_event.specs.declared.event.Event.TheVariants.{Send}
@@ -25,7 +25,7 @@ use Rattle.cam_event.proofs.PushLaws.{round-push, sendings-push}
 use Rattle.round_net.proofs.CountLemmas.{count_by-append}
 use Rattle.cam_event.proofs.OpeningLaws.{before_last-push}
 use Rattle.round_net.specs.Rows.{cell}
-use Rattle.round_net.specs.Caps.{fronts, places, row_count, row_freezes, row_openings, carries, is_free, openings_in, sends_in}
+use Rattle.round_net.specs.Caps.{fronts, places, row_count, by_row, row_freezes, row_openings, carries, is_free, openings_in, sends_in}
 use Rattle.round_net.specs.Marks.{Marks, Sets, IsNoted}
 
 -- what one element more keeps holds of all lists
@@ -73,7 +73,7 @@ openings-push c es e d still = ap (λ xs. option_map_or adjusts_to (last (is_adj
 -- so do a row's
 row_openings-push : (c : Topology) (es : List Event) (e : Event) (row : ℕ) → is_tick e ≡ false → row_openings c (es ++ e ∷ []) row ≡ row_openings c es row
 unfolding row_openings
-row_openings-push c es e row still = ap (λ n. cond (nat_lt row (length c.devices)) n (adapter_openings c (row - length c.devices))) (openings-push c es e row still)
+row_openings-push c es e row still = ap (λ n. by_row c (λ d. n) (adapter_openings c) (link_openings c) row) (openings-push c es e row still)
 
 abbrev first_openings : Topology → ℕ → List (List Event) → ℕ
 first_openings c row ps = option_map_or (λ before. row_openings c before row) (slice_get ps 0) 0

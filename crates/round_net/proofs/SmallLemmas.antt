@@ -1,5 +1,5 @@
 -- openings and weights are small
-use Rattle.std.proofs.Common.{◌≡◌, ℕ, ◌-◌, ◌≤◌, true, false, cond, List, [], ◌∷◌, ◌++◌, length, get_or, refl, ap, arith, Some, None}
+use Rattle.std.proofs.Common.{◌≡◌, ℕ, ◌+◌, ◌-◌, ◌≤◌, true, false, cond, List, [], ◌∷◌, ◌++◌, length, get_or, refl, ap, arith, Some, None}
 use Rattle.std.specs.Prelude.{◌==◌, All, slice_get, nat_lt, nat_le}
 use Rattle.std.specs.List.{before_last}
 use Rattle.std.specs.Option.{option_map_or}
@@ -11,7 +11,7 @@ use Rattle.cam_types.specs.declared.device.Device.{Device}
 use Rattle.cam_types.specs.declared.maxima.TheConstants.{MOST_OPENINGS}
 use Rattle.cam_event.specs.Event.{is_tick, is_adjust_of, adjusts_to}
 use Rattle.cam_event.specs.Counts.{round, last}
-use Rattle.cam_types.specs.Questions.{names_device, device_openings, adapter_openings}
+use Rattle.cam_types.specs.Questions.{names_device, device_openings, adapter_openings, link_openings}
 use Rattle.cam_event.specs.Head.{openings}
 use Rattle.cam_event.specs.declared.event.Event.{Event}
 use Rattle.cam_event.specs.declared.event.Event.TheVariants.{Adjust}
@@ -22,7 +22,7 @@ use Rattle.cam_event.proofs.LawLemmas.{allowed-legal_event}
 use Rattle.cam_event.proofs.LimitLemmas.{legal-induction}
 use Rattle.round_net.specs.Caps.{row_openings, is_free, openings_in, sends_in, cap}
 use Rattle.round_net.proofs.PlaceLemmas.{openings_in-opened, openings_in-kept}
-use Rattle.cam_types.proofs.ConfigLemmas.{small_adapters, small_devices}
+use Rattle.cam_types.proofs.ConfigLemmas.{small_adapters, small_links, small_devices}
 use Rattle.round_net.proofs.OpeningLemmas.{sends_in-openings}
 
 -- what each item of a list has at most, an item of it has, and 0 where there is none
@@ -34,6 +34,9 @@ slice_or_small f xs i most h = elim (slice_get xs i) as (λ o. slice_get xs i �
 
 small_adapter_openings : (c : Topology) (a : ℕ) → IsConfig c → adapter_openings c a ≤ MOST_OPENINGS
 small_adapter_openings c a is = slice_or_small (λ (x : Adapter). x.openings) c.adapters a MOST_OPENINGS (small_adapters c is)
+
+small_link_openings : (c : Topology) (l : ℕ) → IsConfig c → link_openings c l ≤ MOST_OPENINGS
+small_link_openings c l is = slice_or_small (λ n. n) c.links l MOST_OPENINGS (small_links c is)
 
 small_device_openings : (c : Topology) (d : ℕ) → IsConfig c → device_openings c d ≤ MOST_OPENINGS
 small_device_openings c d is = slice_or_small (λ (x : Device). x.openings) c.devices d MOST_OPENINGS (small_devices c is)
@@ -66,12 +69,19 @@ now_small c es e is d =
       | false ↦ is.now d
     ])
 
--- a row has its device's openings, or its adapter's
+-- a row has its device's openings, its adapter's, or its link's
 small_row : (c : Topology) (es : List Event) (row : ℕ) → IsConfig c → ((d : ℕ) → openings c es d ≤ MOST_OPENINGS) → row_openings c es row ≤ MOST_OPENINGS
 unfolding row_openings
 small_row c es row config now =
-    let beyond : ℕ = row - length c.devices in
-    elim (nat_lt row (length c.devices)) as (λ b. cond b (openings c es row) (adapter_openings c beyond) ≤ MOST_OPENINGS) [ true ↦ now row | false ↦ small_adapter_openings c beyond config ]
+    let adapter : ℕ = row - length c.devices in
+    let link : ℕ = row - (length c.devices + length c.adapters) in
+    elim (nat_lt row (length c.devices)) as (λ b. cond b (openings c es row) (cond (nat_lt row (length c.devices + length c.adapters)) (adapter_openings c adapter) (link_openings c link)) ≤ MOST_OPENINGS) [
+      | true ↦ now row
+      | false ↦ elim (nat_lt row (length c.devices + length c.adapters)) as (λ b. cond b (adapter_openings c adapter) (link_openings c link) ≤ MOST_OPENINGS) [
+        | true ↦ small_adapter_openings c adapter config
+        | false ↦ small_link_openings c link config
+      ]
+    ]
 
 each_small : (c : Topology) (es : List Event) (e : Event) → IsConfig c → AreSmall c es → (row r : ℕ) → openings_in c (es ++ e ∷ []) row r ≤ MOST_OPENINGS
 each_small c es e config is row r = elim (is_tick e) as (λ b. is_tick e ≡ b → openings_in c (es ++ e ∷ []) row r ≤ MOST_OPENINGS) [

@@ -1,5 +1,6 @@
 -- what a sound net gives
-use Rattle.std.proofs.Common.{ℕ, ◌<◌, ◌≤◌, arith}
+use Rattle.std.proofs.Common.{◌≡◌, ℕ, ◌<◌, ◌≤◌, refl, arith, Option, Some, None}
+use Rattle.std.specs.Prelude.{IfSome}
 use Rattle.round_net.specs.Instance.{Instance}
 use Rattle.round_net.specs.Sound.{IsSound}
 
@@ -9,3 +10,8 @@ window net live sound s lt =
     let early = sound.live_admissible.not_early s lt in
     let late = sound.live_admissible.not_late s lt in
     omega arith
+
+-- what is on a link, if it is on one, is on one of so many where each that it can be is
+pub within_links : (link : Option ℕ) (links : ℕ) → ((l : ℕ) → link ≡ Some l → l < links) → IfSome link (λ l. l < links)
+within_links None links h = tt
+within_links (Some l) links h = h l refl

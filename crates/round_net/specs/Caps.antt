@@ -1,14 +1,16 @@
 -- how many commands the rows of a history take in each round
-use Rattle.std.specs.Prelude.{ℕ, ◌+◌, ◌-◌, ◌==◌, Bool, ◌&&◌, if◌then◌else◌, nat_lt, List, [], ◌∷◌, ◌++◌, length, map, filter, count_by, slice_get}
+use Rattle.std.specs.Prelude.{◌≡◌, ℕ, ◌+◌, ◌-◌, ◌<◌, ◌==◌, Bool, ◌&&◌, if◌then◌else◌, nat_lt, List, [], ◌∷◌, ◌++◌, length, map, filter, count_by, slice_get}
 use Rattle.std.specs.List.{list_all}
 use Rattle.std.specs.Option.{option_map_or}
 use Rattle.cam_types.specs.Lists.{moments}
 use Rattle.cam_types.specs.Topology.{Topology}
 use Rattle.cam_event.specs.Counts.{round, sendings, freeze_count, adapter_freezes}
-use Rattle.cam_types.specs.Questions.{is_on, adapter_openings}
+use Rattle.cam_types.specs.Questions.{is_on, is_under, adapter_openings, link_openings}
 use Rattle.cam_event.specs.Head.{openings}
 use Rattle.cam_event.specs.declared.event.Event.{Event}
 use Rattle.cam_event.specs.declared.sending.Sending.{Sending}
+use Rattle.round_net.specs.declared.row_state.Owner.{Owner}
+use Rattle.round_net.specs.declared.row_state.Owner.TheVariants.{Device, Adapter, Link}
 
 -- the places of a history, from the first to the last, each by the events before it
 abbrev pub fronts : List Event → List (List Event)
@@ -18,24 +20,34 @@ fronts events = map (λ (m : List Event × Event). m.0) (moments events) ++ even
 abbrev pub places : List Event → ℕ → List (List Event)
 places events r = filter (λ before. round before == r) (fronts events)
 
--- how many rows there are: one for each device, and behind these one for each adapter
+-- how many rows there are: one for each device, behind these one for each adapter, and behind these one for each link
 abbrev pub row_count : Topology → ℕ
-row_count c = length c.devices + length c.adapters
+row_count c = length c.devices + length c.adapters + length c.links
 
--- what a row's device has, or its adapter
-abbrev pub by_row : {A : Type 0} → Topology → (ℕ → A) → (ℕ → A) → ℕ → A
-by_row c of_device of_adapter row = if nat_lt row (length c.devices) then of_device row else of_adapter (row - length c.devices)
+-- it is the row of this device, of this adapter, or of this link
+abbrev pub IsRowOf : Topology → ℕ → Owner → Type 0
+IsRowOf c row (Device d) = (row ≡ d) × (d < length c.devices)
+IsRowOf c row (Adapter a) = (row ≡ length c.devices + a) × (a < length c.adapters)
+IsRowOf c row (Link l) = (row ≡ length c.devices + length c.adapters + l) × (l < length c.links)
 
--- its freezes and its openings at a place
+-- what a row's device has, or its adapter, or its link
+abbrev pub by_row : {A : Type 0} → Topology → (ℕ → A) → (ℕ → A) → (ℕ → A) → ℕ → A
+by_row c of_device of_adapter of_link row =
+    if nat_lt row (length c.devices) then of_device row
+    else (if nat_lt row (length c.devices + length c.adapters) then of_adapter (row - length c.devices)
+    else of_link (row - (length c.devices + length c.adapters)))
+
+-- its freezes, which a link has none of, and its openings at a place
 unfoldable pub row_freezes : Topology → List Event → ℕ → ℕ
-row_freezes c before row = by_row c (freeze_count before) (adapter_freezes before) row
+row_freezes c before row = by_row c (freeze_count before) (adapter_freezes before) (λ l. 0) row
 
 unfoldable pub row_openings : Topology → List Event → ℕ → ℕ
-row_openings c before row = by_row c (openings c before) (adapter_openings c) row
+row_openings c before row = by_row c (openings c before) (adapter_openings c) (link_openings c) row
 
--- whether a command to a device uses an opening of the row: that of the device itself, or of its adapter
+-- whether a command to a device uses an opening of the row: that of the device itself, of its adapter, or of the adapter's
+-- link
 abbrev pub carries : Topology → ℕ → ℕ → Bool
-carries c row device = by_row c (λ d. device == d) (λ a. is_on c a device) row
+carries c row device = by_row c (λ d. device == d) (λ a. is_on c a device) (λ l. is_under c l device) row
 
 -- no freeze of the row stands at any place of the round
 unfoldable pub is_free : Topology → List Event → ℕ → ℕ → Bool

@@ -1,16 +1,19 @@
 -- what there is to plan: stays with their windows and weights, and how many commands each row takes in each round
-use Rattle.std.specs.Prelude.{ℕ, ◌+◌, ◌==◌, Bool, List, [], ◌∷◌}
+use Rattle.std.specs.Prelude.{ℕ, ◌+◌, ◌==◌, Bool, List, [], ◌∷◌, Option}
 use Rattle.std.specs.List.{list_any}
+use Rattle.std.specs.Option.{option_map_or}
 
--- Stays, devices and adapters are numbered from 0, rounds from 1. There is a row for each device, and behind these one for
--- each adapter.
+-- Stays, devices, adapters and links are numbered from 0, rounds from 1. There is a row for each device, behind these one for
+-- each adapter, and behind these one for each link.
 pub record Instance : Type 0 where
   pub stays : ℕ
   pub devices : ℕ
   pub adapters : ℕ
+  pub links : ℕ
   pub rounds : ℕ
   pub device : ℕ → ℕ
   pub adapter_of : ℕ → ℕ
+  pub link_of : ℕ → Option ℕ
   pub arrival : ℕ → ℕ
   pub last : ℕ → ℕ
   pub weight : ℕ → ℕ
@@ -18,19 +21,33 @@ pub record Instance : Type 0 where
 
 -- how many rows there are
 abbrev pub rows : Instance → ℕ
-rows net = net.devices + net.adapters
+rows net = net.devices + net.adapters + net.links
 
--- the adapter of a stay's device
+-- the adapter of a stay's device, and its link, if it is on one
 abbrev pub adapter : Instance → ℕ → ℕ
 adapter net s = net.adapter_of (net.device s)
 
--- the row of an adapter
+abbrev pub link : Instance → ℕ → Option ℕ
+link net s = net.link_of (adapter net s)
+
+-- the row of an adapter, and of a link
 abbrev pub adapter_row : Instance → ℕ → ℕ
 adapter_row net a = net.devices + a
 
--- the rows of which a stay takes an opening: its device's and its adapter's
+abbrev pub link_row : Instance → ℕ → ℕ
+link_row net l = net.devices + net.adapters + l
+
+-- the row of the link that an adapter is on, if it is on one
+abbrev pub link_rows : Instance → ℕ → List ℕ
+link_rows net a = option_map_or (λ l. link_row net l ∷ []) (net.link_of a) []
+
+-- the rows of which a command to a device takes an opening: the device's, its adapter's, and that of the adapter's link
+abbrev pub path_of : Instance → ℕ → List ℕ
+path_of net d = d ∷ adapter_row net (net.adapter_of d) ∷ link_rows net (net.adapter_of d)
+
+-- the rows of which a stay takes an opening
 abbrev pub path : Instance → ℕ → List ℕ
-path net s = net.device s ∷ adapter_row net (adapter net s) ∷ []
+path net s = path_of net (net.device s)
 
 -- whether a row is one of them
 abbrev pub uses : Instance → ℕ → ℕ → Bool

@@ -3,6 +3,7 @@ use Rattle.std.specs.Prelude.{ℕ, ◌+◌, ◌-◌, ◌*◌, ◌/◌, ◌%◌, 
 use Rattle.std.specs.List.{range_with_len}
 use Rattle.std.specs.Option.{option_map_or}
 use Rattle.cam_types.specs.Topology.{Topology}
+use Rattle.cam_types.specs.declared.adapter.Adapter.{Adapter}
 use Rattle.cam_types.specs.declared.device.Device.{Device}
 use Rattle.cam_types.specs.Questions.{weight}
 use Rattle.cam_event.specs.Counts.{round}
@@ -55,8 +56,9 @@ table rows rounds value = cells rounds value (rows * rounds)
 unfoldable pub net_of : Topology → List Event → NetRows
 net_of c events = record {
   rounds = round events;
-  adapters = length c.adapters;
+  links = length c.links;
   adapter_of = map (λ (device : Device). device.bus) c.devices;
+  link_of = map (λ (adapter : Adapter). adapter.link) c.adapters;
   stays = map (stay_row c events) (stays_begun events);
   caps = table (row_count c) (round events) (cap c events);
 }

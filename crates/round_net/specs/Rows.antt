@@ -1,16 +1,17 @@
 -- a net as flat lists, and what it holds
-use Rattle.std.specs.Prelude.{ℕ, ◌+◌, ◌-◌, ◌*◌, List, length, map, slice_get, slice_index}
+use Rattle.std.specs.Prelude.{ℕ, ◌+◌, ◌-◌, ◌*◌, List, length, map, Option, option_and_then, slice_get, slice_index}
 use Rattle.std.specs.Option.{option_map_or}
 use Rattle.cam_event.specs.declared.stay.StayName.{StayName}
 use Rattle.round_net.specs.Instance.{Instance}
 use Rattle.round_net.specs.declared.stay_row.StayRow.{StayRow}
 
--- each device's adapter, each stay, and the caps of rows: those of the first row's rounds, then those of the second one's, and
--- so on
+-- each device's adapter, each adapter's link, each stay, and the caps of rows: those of the first row's rounds, then
+-- those of the second one's, and so on
 pub record NetRows : Type 0 where
   pub rounds : ℕ
-  pub adapters : ℕ
+  pub links : ℕ
   pub adapter_of : List ℕ
+  pub link_of : List (Option ℕ)
   pub stays : List StayRow
   pub caps : List ℕ
 
@@ -27,10 +28,12 @@ unfoldable pub instance_of_rows : NetRows → Instance
 instance_of_rows n = record {
   stays = length n.stays;
   devices = length n.adapter_of;
-  adapters = n.adapters;
+  adapters = length n.link_of;
+  links = n.links;
   rounds = n.rounds;
   device = of_stay (λ (row : StayRow). row.device) n.stays;
   adapter_of = slice_index n.adapter_of;
+  link_of = λ a. option_and_then (λ link. link) (slice_get n.link_of a);
   arrival = of_stay (λ (row : StayRow). row.arrival) n.stays;
   last = of_stay (λ (row : StayRow). row.last) n.stays;
   weight = of_stay (λ (row : StayRow). row.weight) n.stays;

@@ -1,19 +1,21 @@
 -- what holds of every net
-use Rattle.std.specs.Prelude.{◌≡◌, ℕ, ◌*◌, ◌<◌, ◌≤◌, length}
-use Rattle.cam_types.specs.declared.maxima.TheConstants.{MOST_ROUNDS, MOST_STAYS, MOST_DEVICES, MOST_ADAPTERS, MOST_OPENINGS, MOST_WEIGHT}
+use Rattle.std.specs.Prelude.{◌≡◌, ℕ, ◌*◌, ◌<◌, ◌≤◌, Some, length}
+use Rattle.cam_types.specs.declared.maxima.TheConstants.{MOST_ROUNDS, MOST_STAYS, MOST_DEVICES, MOST_ADAPTERS, MOST_LINKS, MOST_OPENINGS, MOST_WEIGHT}
 use Rattle.round_net.specs.Instance.{Instance, rows}
 use Rattle.round_net.specs.Schedules.{IsAdmissible}
 use Rattle.round_net.specs.Rows.{NetRows, instance_of_rows, live_of_rows}
 
--- It is within the limits: each stay is of a device, each device is on an adapter, windows lie within the rounds, and no
--- weight or cap is too large. Its live schedule is admissible.
+-- It is within the limits: each stay is of a device, each device is on an adapter, an adapter on a link or on none, windows lie
+-- within the rounds, and no weight or cap is too large. Its live schedule is admissible.
 pub record IsSound (net : Instance) (live : ℕ → ℕ) : Type 0 where
   pub few_rounds : net.rounds ≤ MOST_ROUNDS
   pub few_stays : net.stays ≤ MOST_STAYS
   pub few_devices : net.devices ≤ MOST_DEVICES
   pub few_adapters : net.adapters ≤ MOST_ADAPTERS
+  pub few_links : net.links ≤ MOST_LINKS
   pub on_device : (s : ℕ) → s < net.stays → net.device s < net.devices
   pub on_adapter : (d : ℕ) → d < net.devices → net.adapter_of d < net.adapters
+  pub on_link : (a l : ℕ) → net.link_of a ≡ Some l → l < net.links
   pub from_first : (s : ℕ) → s < net.stays → 1 ≤ net.arrival s
   pub to_last : (s : ℕ) → s < net.stays → net.last s ≤ net.rounds
   pub some_weight : (s : ℕ) → s < net.stays → 1 ≤ net.weight s

@@ -4,7 +4,7 @@ use crate::cap_rows::caps;
 use crate::flat::cell;
 use crate::net_fault::NetFault;
 use crate::stay_row::StayRow;
-use crate::stay_rows::{adapters_of, stay_rows};
+use crate::stay_rows::{adapters_of, links_of, stay_rows};
 use crate::walk::walk_through;
 use cam_event::StayName;
 use std::alloc::Global;
@@ -13,13 +13,14 @@ use xpt_state::History;
 
 /// What a complete history left to plan: stays with windows and weights, and caps.
 ///
-/// Stays, devices and adapters are numbered from 0, rounds from 1. There is a row for each device, and behind these one
-/// for each adapter. Each number that a call takes has to be within the net.
+/// Stays, devices, adapters and links are numbered from 0, rounds from 1. There is a row for each device, behind these one
+/// for each adapter, and behind these one for each link. Each number that a call takes has to be within the net.
 #[derive(Debug, Drop)]
 pub struct Net {
     rounds: u32,
-    adapters: u32,
+    links: u32,
     adapter_of: Vec<u32>,
+    link_of: Vec<Option<u32>>,
     stays: Vec<StayRow>,
     caps: Vec<u32>,
 }
@@ -30,18 +31,18 @@ impl Model for Net {
 
     ghost Value = { NetRows };
 
-    ghost view = { λ n. record { rounds = n.rounds; adapters = n.adapters; adapter_of = n.adapter_of.items; stays = n.stays.items; caps = n.caps.items } };
+    ghost view = { λ n. record { rounds = n.rounds; links = n.links; adapter_of = n.adapter_of.items; link_of = n.link_of.items; stays = n.stays.items; caps = n.caps.items } };
 
-    ghost invariant = { λ n. IsNet (record { rounds = n.rounds; adapters = n.adapters; adapter_of = n.adapter_of.items; stays = n.stays.items; caps = n.caps.items }) };
+    ghost invariant = { λ n. IsNet (record { rounds = n.rounds; links = n.links; adapter_of = n.adapter_of.items; link_of = n.link_of.items; stays = n.stays.items; caps = n.caps.items }) };
 }
 
 impl Net {
     ghost use Rattle.std.specs.Prelude.{◌≡◌, ◌+◌, ◌*◌, ◌<◌, ◌≤◌, Some, length, slice_get};
     ghost use Rattle.cam_types.specs.declared.maxima.TheConstants.{MOST_ROUNDS, MOST_OPENINGS, MOST_WEIGHT};
-    ghost use Rattle.round_net.specs.Instance.{rows, adapter, adapter_row};
+    ghost use Rattle.round_net.specs.Instance.{rows, adapter, link, adapter_row, link_row};
     ghost use Rattle.round_net.specs.Rows.{instance_of_rows, live_of_rows, names_of_rows};
     ghost use Rattle.round_net.specs.Sound.{IsSound};
-    ghost use Rattle.std.specs.Prelude.{IfOk, MatchOption, IsOkUnless};
+    ghost use Rattle.std.specs.Prelude.{IfOk, IfSome, MatchOption, IsOkUnless};
     ghost use Rattle.cam_event.specs.Stays.{unsent};
     ghost use Rattle.round_net.specs.Nets.{net_of, instance_of, live_of};
     ghost use Rattle.round_net.specs.Schedules.{IsAdmissible};
@@ -64,8 +65,9 @@ impl Net {
         let notes = walk_through(alloc, config, history.events(), rounds)?;
         Ok(Net {
             rounds,
-            adapters: config.adapters().len() as u32,
+            links: config.links().len() as u32,
             adapter_of: adapters_of(alloc, config.devices())?,
+            link_of: links_of(alloc, config.adapters())?,
             stays: stay_rows(alloc, config, history.stays(), rounds)?,
             caps: caps(alloc, &notes.frozen, &notes.sends, &notes.openings)?,
         })
@@ -104,22 +106,31 @@ impl Net {
         ensures same { result ≡ (instance_of_rows self.now).adapters }
         ensures sound { IsSound (instance_of_rows self.now) (live_of_rows self.now) }
     {
-        self.adapters
+        self.link_of.len() as u32
     }
 
-    /// How many rows there are: one for each device, and behind these one for each adapter.
+    /// How many links there are, at most `MOST_LINKS`.
+    #[tactic(auto, unfolding(crate::specs::Rows::instance_of_rows))]
+    pub fn links(&self) -> u32
+        ensures same { result ≡ (instance_of_rows self.now).links }
+        ensures sound { IsSound (instance_of_rows self.now) (live_of_rows self.now) }
+    {
+        self.links
+    }
+
+    /// How many rows there are: one for each device, behind these one for each adapter, and behind these one for each link.
     #[tactic(auto, unfolding(crate::specs::Rows::instance_of_rows))]
     pub fn rows(&self) -> u32
         ensures same { result ≡ rows (instance_of_rows self.now) }
         ensures sound { IsSound (instance_of_rows self.now) (live_of_rows self.now) }
     {
-        self.devices() + self.adapters()
+        self.devices() + self.adapters() + self.links()
     }
 
     /// How many pairs there are of a row with a round.
     #[tactic(auto, unfolding(crate::specs::Rows::instance_of_rows))]
     pub fn cells(&self) -> usize
-        ensures { let net = instance_of_rows self.now in result ≡ (net.devices + net.adapters) * net.rounds }
+        ensures { let net = instance_of_rows self.now in result ≡ rows net * net.rounds }
     {
         self.caps.len()
     }
@@ -170,6 +181,26 @@ impl Net {
         ensures within { result < (instance_of_rows self.now).adapters }
     {
         self.adapter_of[device as usize]
+    }
+
+    /// The number of the link that the adapter is on, if it is on one.
+    #[tactic(auto, unfolding(crate::specs::Rows::instance_of_rows))]
+    pub fn link_of(&self, adapter: u32) -> Option<u32>
+        requires { adapter < (instance_of_rows self.now).adapters }
+        ensures same { result ≡ (instance_of_rows self.now).link_of adapter }
+        ensures within { IfSome result (λ link. link < (instance_of_rows self.now).links) }
+    {
+        self.link_of[adapter as usize]
+    }
+
+    /// The number of the link of the stay's adapter, if that is on one.
+    #[tactic(auto, unfolding(crate::specs::Rows::instance_of_rows))]
+    pub fn link(&self, stay: u32) -> Option<u32>
+        requires { stay < (instance_of_rows self.now).stays }
+        ensures same { result ≡ link (instance_of_rows self.now) stay }
+        ensures within { IfSome result (λ link. link < (instance_of_rows self.now).links) }
+    {
+        self.link_of(self.adapter(stay))
     }
 
     /// The first round in which the stay could be sent, from 1.
@@ -223,6 +254,16 @@ impl Net {
         self.devices() + adapter
     }
 
+    /// The number of the link's row.
+    #[tactic(auto, unfolding(crate::specs::Rows::instance_of_rows))]
+    pub fn link_row(&self, link: u32) -> u32
+        requires { link < (instance_of_rows self.now).links }
+        ensures same { result ≡ link_row (instance_of_rows self.now) link }
+        ensures within { result < rows (instance_of_rows self.now) }
+    {
+        self.devices() + self.adapters() + link
+    }
+
     /// How many commands the row takes in the round.
     #[tactic(auto, unfolding(crate::specs::Rows::instance_of_rows))]
     pub fn cap(&self, row: u32, round: u32) -> u32
@@ -255,5 +296,16 @@ impl Net {
         ensures most { result ≤ MOST_OPENINGS }
     {
         self.cap(self.adapter_row(adapter), round)
+    }
+
+    /// How many commands the link takes in the round.
+    pub fn link_cap(&self, link: u32, round: u32) -> u32
+        requires link { link < (instance_of_rows self.now).links }
+        requires first { 1 ≤ round }
+        requires last { round ≤ (instance_of_rows self.now).rounds }
+        ensures same { let n = instance_of_rows self.now in result ≡ n.cap (link_row n link) round }
+        ensures most { result ≤ MOST_OPENINGS }
+    {
+        self.cap(self.link_row(link), round)
     }
 }

@@ -8,13 +8,14 @@ use std::marker::Model;
 
 /// What one opening of each row is worth in each round, in weighted rounds.
 ///
-/// There is a row for each device, and behind these one for each adapter. Rows, devices and adapters are numbered from 0,
-/// rounds from 1. Each number that a call takes has to be within the net.
+/// There is a row for each device, behind these one for each adapter, and behind these one for each link. Rows, devices,
+/// adapters and links are numbered from 0, rounds from 1. Each number that a call takes has to be within the net.
 #[derive(Debug, Drop)]
 pub struct Prices {
     rounds: u32,
     devices: u32,
     adapters: u32,
+    links: u32,
     prices: Vec<u64>,
 }
 
@@ -23,9 +24,9 @@ impl Model for Prices {
 
     ghost Value = { PriceRows };
 
-    ghost view = { λ p. record { rounds = p.rounds; devices = p.devices; adapters = p.adapters; prices = p.prices.items } };
+    ghost view = { λ p. record { rounds = p.rounds; devices = p.devices; adapters = p.adapters; links = p.links; prices = p.prices.items } };
 
-    ghost invariant = { λ p. IsPriced (record { rounds = p.rounds; devices = p.devices; adapters = p.adapters; prices = p.prices.items }) };
+    ghost invariant = { λ p. IsPriced (record { rounds = p.rounds; devices = p.devices; adapters = p.adapters; links = p.links; prices = p.prices.items }) };
 }
 
 impl Prices {
@@ -45,6 +46,7 @@ impl Prices {
             rounds: net.rounds(),
             devices: net.devices(),
             adapters: net.adapters(),
+            links: net.links(),
             prices: vec![in alloc; 0; cells]?,
         })
     }
@@ -55,12 +57,13 @@ impl Prices {
     pub fn listed(net: &Net, prices: Vec<u64>) -> Prices
         requires cells { let n = instance_of_rows net.now in length prices.items ≡ rows n * n.rounds }
         requires small { All (λ price. price ≤ MOST_PRICE) prices.items }
-        ensures { let n = instance_of_rows net.now in result ≡ record { rounds = n.rounds; devices = n.devices; adapters = n.adapters; prices = prices.items } }
+        ensures { let n = instance_of_rows net.now in result ≡ record { rounds = n.rounds; devices = n.devices; adapters = n.adapters; links = n.links; prices = prices.items } }
     {
         Prices {
             rounds: net.rounds(),
             devices: net.devices(),
             adapters: net.adapters(),
+            links: net.links(),
             prices,
         }
     }
@@ -76,7 +79,7 @@ impl Prices {
     /// What an opening of the row is worth in the round.
     #[tactic(auto, unfolding(crate::specs::PriceRows::pricing_of_rows))]
     pub fn price(&self, row: u32, round: u32) -> u64
-        requires row { row < self.now.devices + self.now.adapters }
+        requires row { row < self.now.devices + self.now.adapters + self.now.links }
         requires first { 1 ≤ round }
         requires last { round ≤ self.now.rounds }
         ensures same { result ≡ pricing_of_rows self.now row round }
@@ -107,10 +110,21 @@ impl Prices {
         self.price(self.devices + adapter, round)
     }
 
+    /// What an opening of the link is worth in the round.
+    pub fn link(&self, link: u32, round: u32) -> u64
+        requires link { link < self.now.links }
+        requires first { 1 ≤ round }
+        requires last { round ≤ self.now.rounds }
+        ensures same { result ≡ pricing_of_rows self.now (self.now.devices + self.now.adapters + link) round }
+        ensures most { result ≤ MOST_PRICE }
+    {
+        self.price(self.devices + self.adapters + link, round)
+    }
+
     /// Sets what an opening of the row is worth in the round. A price above 1,000,000,000,000 is refused, and the prices are
     /// as they were.
     pub fn set(&mut self, row: u32, round: u32, price: u64) -> Result<(), PriceRange>
-        requires row { row < self.old.devices + self.old.adapters }
+        requires row { row < self.old.devices + self.old.adapters + self.old.links }
         requires first { 1 ≤ round }
         requires last { round ≤ self.old.rounds }
         ensures range { IsOk result ↔ (price ≤ MOST_PRICE) }
@@ -147,6 +161,19 @@ impl Prices {
         ensures err { OnErr result (self.new ≡ self.old) }
     {
         let row = self.devices + adapter;
+        self.set(row, round, price)
+    }
+
+    /// Sets what an opening of the link is worth in the round, or refuses it, as `set` does.
+    pub fn set_link(&mut self, link: u32, round: u32, price: u64) -> Result<(), PriceRange>
+        requires link { link < self.old.links }
+        requires first { 1 ≤ round }
+        requires last { round ≤ self.old.rounds }
+        ensures range { IsOk result ↔ (price ≤ MOST_PRICE) }
+        ensures ok { OnOk result (SetsPrice self.old self.new (self.old.devices + self.old.adapters + link) round price) }
+        ensures err { OnErr result (self.new ≡ self.old) }
+    {
+        let row = self.devices + self.adapters + link;
         self.set(row, round, price)
     }
 }

@@ -1,12 +1,13 @@
 //! The stays of a history with their windows.
 
 ghost use Rattle.std.specs.Prelude.{◌≡◌, map, IfOk};
+ghost use Rattle.cam_types.specs.declared.adapter.Adapter.{Adapter};
 ghost use Rattle.cam_types.specs.declared.device.Device.{Device};
 ghost use Rattle.round_net.specs.Nets.{row_of};
 
 use crate::stay_row::StayRow;
 use cam_event::StayName;
-use cam_types::{Config, Device};
+use cam_types::{Adapter, Config, Device};
 use std::alloc::{AllocError, Global};
 use xpt_state::StayRecord;
 
@@ -57,4 +58,15 @@ pub fn adapters_of(alloc: Global, devices: &[Device]) -> Result<Vec<u32>, AllocE
         adapters.push(u32::from(device.bus))?;
     }
     Ok(adapters)
+}
+
+/// The link of each adapter, if it is on one.
+pub fn links_of(alloc: Global, adapters: &[Adapter]) -> Result<Vec<Option<u32>>, AllocError>
+    ensures { IfOk result (λ links. links.items ≡ map (λ (adapter : Adapter). adapter.link) adapters.now) }
+{
+    let mut links = Vec::new(alloc);
+    for adapter in adapters {
+        links.push(adapter.link)?;
+    }
+    Ok(links)
 }

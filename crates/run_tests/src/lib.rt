@@ -6,6 +6,8 @@ mod answers;
 #[cfg(test)]
 mod endings;
 #[cfg(test)]
+mod linked;
+#[cfg(test)]
 mod meeting;
 #[cfg(test)]
 mod scripts;

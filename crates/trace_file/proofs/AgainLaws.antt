@@ -1,32 +1,33 @@
 -- The records of a history are read as that history.
-use Rattle.std.proofs.Common.{◌≡◌, ◌≢◌, ◌<◌, ◌≤◌, ◌+◌, ℕ, List, [], ◌∷◌, ◌++◌, length, map, Bool, true, false, refl, sym, ap, ◌∙◌, append_assoc, append-nil, arith}
-use Rattle.std.specs.Prelude.{Option, Some, None, Result, Ok, ⊤}
+use Rattle.std.proofs.Common.{◌≡◌, ◌≢◌, ◌<◌, ◌≤◌, ◌+◌, ℕ, List, [], ◌∷◌, ◌++◌, length, map, Bool, true, refl, sym, ap, ◌∙◌, append_assoc, append-nil, arith}
+use Rattle.std.specs.Prelude.{Option, None, Result, Ok, ⊤, IfSome, nat_le, ◌&&◌}
 use Rattle.std.specs.List.{AllByRecursion, list_all}
-use Rattle.std.specs.Option.{option_map_or}
 use Rattle.std.proofs.lemmas.Bool.{and_parts}
 use Rattle.csv.specs.Records.{field_at}
 use Rattle.cam_types.specs.Lists.{first_answer, moments_after}
 use Rattle.cam_event.specs.declared.event.Event.TheVariants as event
 use Rattle.cam_types.proofs.ListLemmas.{or_left, or_right}
-use Rattle.trace_file.specs.Histories.{Adapter, Device, Event, unlinked}
+use Rattle.trace_file.specs.Histories.{Adapter, Device, Event}
 use Rattle.trace_file.specs.declared.device_row.DeviceRow.{DeviceRow}
 use Rattle.trace_file.specs.declared.trace_fault.TraceFault.{TraceFault}
 use Rattle.trace_file.specs.declared.trace_stage.TraceStage.{TraceStage}
 use Rattle.trace_file.specs.declared.trace_stage.TraceStage.TheVariants as stage
+use Rattle.trace_file.specs.declared.version.Version.{Version}
 use Rattle.trace_file.specs.declared.word.Word.{Word}
 use Rattle.trace_file.specs.declared.word.Word.TheVariants as word
 use Rattle.trace_file.specs.Fields.{Row, field_of}
-use Rattle.trace_file.specs.Reading.{add_weight, add_adapter, add_device, add_event, add_lane, add_row, placed, row_step, stands, step}
+use Rattle.trace_file.specs.Reading.{add_weight, add_link, add_adapter, add_device, add_event, add_lane, add_row, placed, row_step, stage_rank, stands, step, version_of}
 use Rattle.trace_file.specs.Histories.{WeightRow}
-use Rattle.trace_file.specs.Records.{weight_row, adapter_row, device_row, event_row, is_unlinked, lane_row}
+use Rattle.trace_file.specs.Records.{weight_row, link_row, adapter_row, device_row, event_row, lane_row}
 use Rattle.trace_file.specs.Rows.{most_number}
 use Rattle.trace_file.specs.Steps.{taken}
 use Rattle.trace_file.specs.Trace.{FitsEvent}
+use Rattle.trace_file.specs.Versions.{has_word}
 use Rattle.trace_file.specs.Words.{spelled, word_rank}
 use Rattle.trace_file.proofs.FieldLaws.{word_again}
-use Rattle.trace_file.proofs.RowsAgain.{device_again, event_again, one_again, two_again, word_for}
+use Rattle.trace_file.proofs.RowsAgain.{adapter_again, device_again, event_again, one_again, two_again, word_for}
 use Rattle.trace_file.proofs.StageLemmas.{step_behind, add_row_event}
-use Rattle.trace_file.proofs.RowLaws.{ok_is, on_ok}
+use Rattle.trace_file.proofs.RowLaws.{can_spell, ok_is, on_ok}
 
 -- ---- a fact of each element beside those before it
 
@@ -83,18 +84,16 @@ unfolding add_row field_at
 weight_step n s w behind place a b =
     row_again n s (weight_row w) word.Weight behind refl refl place ∙ rw (two_again (spelled word.Weight) w.last w.weight a b) refl
 
--- an adapter that is on no link is spelled by its openings
-alone_same : (a : Adapter) → is_unlinked a ≡ true → unlinked a.openings ≡ a
-alone_same a alone = by a.link alone
-  where
-    by : (link : Option ℕ) → option_map_or (λ l. false) link true ≡ true → unlinked a.openings ≡ record { openings = a.openings; link = link }
-    by None e = refl
-    by (Some l) e = absurd cc
-
-pub adapter_step : (n : ℕ) (s : TraceStage) (a : Adapter) → s ≢ stage.Header → stands s word.Sim ≡ true → is_unlinked a ≡ true → a.openings ≤ most_number → step n s (adapter_row a) ≡ add_adapter n s a
+pub link_step : (n : ℕ) (s : TraceStage) (k : ℕ) → s ≢ stage.Header → stands s word.Link ≡ true → k ≤ most_number → step n s (link_row k) ≡ add_link n s k
 unfolding add_row field_at
-adapter_step n s a behind place alone fits =
-    row_again n s (adapter_row a) word.Sim behind refl refl place ∙ rw (one_again (spelled word.Sim) a.openings fits) (ap (add_adapter n s) (alone_same a alone))
+link_step n s k behind place fits =
+    row_again n s (link_row k) word.Link behind refl refl place ∙ rw (one_again (spelled word.Link) k fits) refl
+
+pub adapter_step : (n : ℕ) (s : TraceStage) (a : Adapter) → s ≢ stage.Header → stands s word.Sim ≡ true → can_spell (version_of s) a ≡ true → a.openings ≤ most_number → IfSome a.link (λ l. l ≤ most_number)
+    → step n s (adapter_row a) ≡ add_adapter n s a
+unfolding add_row field_at
+adapter_step n s a behind place spells fits link =
+    row_again n s (adapter_row a) word.Sim behind refl refl place ∙ rw (adapter_again (version_of s) a spells fits link) refl
 
 pub lane_step : (n : ℕ) (s : TraceStage) (a : ℕ) → s ≢ stage.Header → stands s word.Lane ≡ true → a ≤ most_number → step n s (lane_row a) ≡ add_lane n s a
 unfolding add_row field_at
@@ -110,21 +109,30 @@ unfolding add_row field_at
 device_step n s d behind place a b c o =
     row_again n s (device_row d) word.Dev behind refl refl place ∙ rw (device_again (row_for d) a b c o) refl
 
-event_word : (e : Event) → (length (event_row e) ≡ 8) × (field_of (event_row e) 0 ≡ spelled (word_for e)) × (word_rank (word_for e) ≡ 4)
+event_word : (e : Event) → (length (event_row e) ≡ 8) × (field_of (event_row e) 0 ≡ spelled (word_for e)) × (word_rank (word_for e) ≡ 5)
 unfolding field_at
 event_word (event.Submit driver device priority retries flags) = (refl, refl, refl)
 event_word _ = (refl, refl, refl)
 
-event_stands : (s : TraceStage) (w : Word) → s ≢ stage.Header → word_rank w ≡ 4 → stands s w ≡ true
+-- each version knows a word that isn't a link's
+known : (v : Version) (w : Word) → w ≢ word.Link → has_word v w ≡ true
+known v word.Link h = absurd (h refl)
+known v _ h = refl
+
+event_stands : (s : TraceStage) (w : Word) → s ≢ stage.Header → word_rank w ≡ 5 → w ≢ word.Link → stands s w ≡ true
 unfolding stands
-event_stands stage.Header w h last = absurd (h refl)
-event_stands _ w h last = rw last refl
+event_stands stage.Header w h last other = absurd (h refl)
+event_stands s w h last other = rw (last, known (version_of s) w other) (by s)
+  where
+    by : (s : TraceStage) → nat_le (stage_rank s) 5 && true ≡ true
+    by stage.First = refl
+    by _ = refl
 
 pub event_step : (n : ℕ) (s : TraceStage) (e : Event) → s ≢ stage.Header → FitsEvent e → step n s (event_row e) ≡ add_event n s e
 event_step n s e behind fits =
     let k = event_word e in
     let w = word_for e in
-    let other : (v : Word) → word_rank v < 4 → w ≢ v = (λ v less same. let rank : word_rank v ≡ 4 = sym (ap word_rank same) ∙ k.2 in omega arith) in
-    row_again n s (event_row e) w behind k.0 k.1 (event_stands s w behind k.2)
-    ∙ add_row_event n s w (event_row e) (other word.Weight (omega arith)) (other word.Sim (omega arith)) (other word.Dev (omega arith)) (other word.Lane (omega arith))
+    let other : (v : Word) → word_rank v < 5 → w ≢ v = (λ v less same. let rank : word_rank v ≡ 5 = sym (ap word_rank same) ∙ k.2 in omega arith) in
+    row_again n s (event_row e) w behind k.0 k.1 (event_stands s w behind k.2 (other word.Link (omega arith)))
+    ∙ add_row_event n s w (event_row e) (other word.Weight (omega arith)) (other word.Link (omega arith)) (other word.Sim (omega arith)) (other word.Dev (omega arith)) (other word.Lane (omega arith))
     ∙ rw (event_again e fits) refl

@@ -11,10 +11,10 @@ use Rattle.trace_file.specs.declared.trace_stage.TraceStage.TheVariants as stage
 use Rattle.trace_file.specs.declared.word.Word.{Word}
 use Rattle.trace_file.specs.declared.word.Word.TheVariants as word
 use Rattle.trace_file.specs.Fields.{Row}
-use Rattle.trace_file.specs.Reading.{add_weight, lacking, lacks_weights, add_adapter, add_device, add_event, add_lane, add_row, ended, in_record, is_header, lacks_adapters, placed, reading, row_step, step, unless_fault, unless_refused}
-use Rattle.trace_file.specs.Records.{name_of}
+use Rattle.trace_file.specs.Reading.{add_weight, add_link, config_of, lacking, version_of, lacks_weights, add_adapter, add_device, add_event, add_lane, add_row, ended, in_record, is_header, lacks_adapters, placed, reading, row_step, step, unless_fault, unless_refused}
+use Rattle.trace_file.specs.Versions.{name_of}
 use Rattle.trace_file.specs.declared.version.Version.TheVariants as version
-use Rattle.trace_file.specs.Rows.{device_at, event_at, one_number, two_numbers}
+use Rattle.trace_file.specs.Rows.{adapter_at, device_at, event_at, one_number, two_numbers}
 use Rattle.trace_file.specs.Sound.{IsSound}
 use Rattle.trace_file.specs.Steps.{◌>>=◌, taken}
 use Rattle.trace_file.specs.Text.{records_in}
@@ -59,12 +59,13 @@ by_test true r s h k = h
 by_test false r s h k = k
 
 pub row_fails : (n : ℕ) (s : TraceStage) (w : Word) (row : Row) → FailsByText (add_row n s w row)
-unfolding add_row add_weight add_adapter add_device add_lane add_event
+unfolding add_row add_weight add_link add_adapter add_device add_lane add_event
 row_fails n s word.Weight row = bound (in_record n (two_numbers row)) _ (by_field n (two_numbers row)) (λ m. by_config n _ _)
-row_fails n s word.Sim row = bound (in_record n (one_number row)) _ (by_field n (one_number row)) (λ o. by_test (lacks_weights s) (Err (fault.BadConfig n BadWeight)) _ tt (by_config n _ _))
-row_fails n s word.Dev row = bound (in_record n (device_at row)) _ (by_field n (device_at row)) (λ d. by_test (lacks_adapters s) (Err (fault.BadConfig n (lacking s))) _ tt (by_config n _ _))
-row_fails n s word.Lane row = bound (in_record n (one_number row)) _ (by_field n (one_number row)) (λ a. by_test (lacks_adapters s) (Err (fault.BadConfig n (lacking s))) _ tt (by_config n _ _))
-row_fails n s w row = bound (in_record n (event_at w row)) _ (by_field n (event_at w row)) (λ e. by_test (lacks_adapters s) (Err (fault.BadConfig n (lacking s))) _ tt (by_refusal n _ _))
+row_fails n s word.Link row = bound (in_record n (one_number row)) _ (by_field n (one_number row)) (λ k. by_test (lacks_weights s) (Err (fault.BadConfig n BadWeight)) _ tt (by_config n _ _))
+row_fails n s word.Sim row = bound (in_record n (adapter_at (version_of s) row)) _ (by_field n (adapter_at (version_of s) row)) (λ a. by_test (lacks_weights s) (Err (fault.BadConfig n BadWeight)) _ tt (by_config n _ _))
+row_fails n s word.Dev row = bound (in_record n (device_at row)) _ (by_field n (device_at row)) (λ d. by_test (lacks_adapters s) (Err (fault.BadConfig n (lacking (config_of s).weights))) _ tt (by_config n _ _))
+row_fails n s word.Lane row = bound (in_record n (one_number row)) _ (by_field n (one_number row)) (λ a. by_test (lacks_adapters s) (Err (fault.BadConfig n (lacking (config_of s).weights))) _ tt (by_config n _ _))
+row_fails n s w row = bound (in_record n (event_at w row)) _ (by_field n (event_at w row)) (λ e. by_test (lacks_adapters s) (Err (fault.BadConfig n (lacking (config_of s).weights))) _ tt (by_refusal n _ _))
 
 pub behind_fails : (n : ℕ) (s : TraceStage) (row : Row) → FailsByText (row_step n s row)
 unfolding row_step
@@ -72,7 +73,7 @@ behind_fails n s row = bound (ok_or (placed s row) (fault.BadRecord n)) _ (by_wo
 
 step_fails : (n : ℕ) (s : TraceStage) (row : Row) → FailsByText (step n s row)
 unfolding step
-step_fails n stage.Header row = by_test (is_header (name_of version.One) row) (Ok stage.First) _ tt (by_test (is_header (name_of version.Two) row) (Ok _) (Err fault.BadHeader) tt tt)
+step_fails n stage.Header row = by_test (is_header (name_of version.One) row) (Ok stage.First) _ tt (by_test (is_header (name_of version.Two) row) (Ok _) _ tt (by_test (is_header (name_of version.Three) row) (Ok _) (Err fault.BadHeader) tt tt))
 step_fails n s row = behind_fails n s row
 
 end_fails : (s : TraceStage) → FailsByText (ended s)
@@ -159,7 +160,7 @@ pub was_trace : (before after : Option (List ℕ)) (text : List ℕ) → IsWhole
 unfolding reading IsSound
 was_trace before after text whole past e =
     on_ok (taken step 1 stage.Header (records_in text)) ended past e (λ t et r.
-    let start : ReadsBy stage.Header [] = record { version = version.One; reads = record { spelled = refl; held = refl; sound = tt; targets = tt; events = tt } } in
+    let start : ReadsBy stage.Header [] = record { version = version.One; reads = record { spelled = refl; held = tt; sound = tt; targets = tt; events = tt } } in
     let h = taken_keeps step ReadsBy step_reads 1 stage.Header t [] (records_in text) start et in
     let k = ended_reads h.version t past (records_in text) h.reads r in
     record { text = text; whole = whole; trace = record { bounded = whole.bounded; version = h.version; held = k.1; spelled = k.0 }; history = k.2 })

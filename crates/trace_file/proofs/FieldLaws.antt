@@ -1,6 +1,9 @@
 -- A field that is read is spelled so, and what is spelled so is read.
-use Rattle.std.proofs.Common.{◌≡◌, ◌≤◌, ◌+◌, ℕ, List, [], ◌∷◌, Bool, true, false, refl, ap, ◌∙◌, arith, rules}
-use Rattle.std.specs.Prelude.{Option, Some, None, Ok, ok_or, find, bytes_eq, decimal, IfSome}
+use Rattle.std.proofs.Common.{◌≡◌, ◌≤◌, ◌+◌, ℕ, List, [], ◌∷◌, length, Bool, true, false, cond, refl, ap, ◌∙◌, arith, rules}
+use Rattle.std.specs.Prelude.{◌==◌, Option, Some, None, Result, Ok, Err, ok_or, find, bytes_eq, decimal, IfSome}
+use Rattle.std.proofs.lemmas.Bool.{eqb-true, ne_eqb}
+use Rattle.std.proofs.lemmas.Fmt.{decimal_nonempty}
+use Rattle.std.proofs.lemmas.List.{nil_from_length}
 use Rattle.std.proofs.lemmas.Slice.Eq.{bytes_eq-Decides}
 use Rattle.text_io.specs.Number.{number_of}
 use Rattle.text_io.proofs.NumberLemmas.{number_of-spelled, number_of-decimal, number_of-within}
@@ -10,7 +13,9 @@ use Rattle.trace_file.specs.declared.word.Word.{Word}
 use Rattle.trace_file.specs.declared.word.Word.TheVariants as word
 use Rattle.trace_file.specs.Words.{spelled, word_of, all_words}
 use Rattle.trace_file.specs.Rows.{most_number}
-use Rattle.trace_file.specs.Fields.{Row, field_of, number_at, flags_at, flags_of, flags_text, flags_by}
+use Rattle.trace_file.specs.Records.{link_text}
+use Rattle.trace_file.specs.Steps.{◌>>=◌}
+use Rattle.trace_file.specs.Fields.{Row, field_of, number_at, optional_at, flags_at, flags_of, flags_text, flags_by}
 
 pub same_bytes : (xs ys : List ℕ) → bytes_eq xs ys ≡ true → xs ≡ ys
 same_bytes xs ys e = search (rules, bytes_eq-Decides)
@@ -47,6 +52,30 @@ pub number_again : (row : Row) (at most n : ℕ) → most ≤ most_number → n 
 unfolding number_at
 number_again row at most n le small e =
     ap (λ (f : List ℕ). ok_or (number_of most f) (at + 1)) e ∙ ap (λ (o : Option ℕ). ok_or o (at + 1)) (number_of-decimal most n (omega arith) small)
+
+-- a number, or none where there is no byte
+pub optional_takes : (row : Row) (at most : ℕ) (x : Option ℕ) → most ≤ most_number → optional_at row at most ≡ Ok x → field_of row at ≡ link_text x
+unfolding optional_at
+optional_takes row at most x le e = by (length (field_of row at) == 0) refl e
+  where
+    read : (r : Result ℕ ℕ) → number_at row at most ≡ r → (r >>= λ n. Ok (Some n)) ≡ Ok x → field_of row at ≡ link_text x
+    read (Ok n) is k =
+        let one : Some n ≡ x = cc in
+        rw (← one) (number_takes row at most n le is).0
+    read (Err d) is k = absurd cc
+
+    by : (b : Bool) → (length (field_of row at) == 0) ≡ b → cond b (Ok None) (number_at row at most >>= λ n. Ok (Some n)) ≡ Ok x → field_of row at ≡ link_text x
+    by true is k =
+        let none : None ≡ x = cc in
+        rw (← none) (nil_from_length (field_of row at) (eqb-true _ _ is))
+    by false is k = read (number_at row at most) refl k
+
+pub optional_again : (row : Row) (at most : ℕ) (x : Option ℕ) → most ≤ most_number → IfSome x (λ n. n ≤ most) → field_of row at ≡ link_text x → optional_at row at most ≡ Ok x
+unfolding optional_at
+optional_again row at most None le small e = rw e refl
+optional_again row at most (Some n) le small e =
+    let some : (length (decimal n) == 0) ≡ false = (let k = decimal_nonempty n (omega arith) in ne_eqb _ _ (λ z. omega arith)) in
+    rw (e, some, number_again row at most n le small e) refl
 
 -- ---- flags
 

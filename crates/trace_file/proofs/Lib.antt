@@ -1,10 +1,11 @@
 pub mod AgainLaws
+pub mod EventRecordLaws
 pub mod FaultLaws
 pub mod FieldLaws
 pub mod FieldLemmas
 pub mod HexLaws
-pub mod LinkLemmas
 pub mod ListLaws
+pub mod PushLaws
 pub mod RecordLemmas
 pub mod RowLaws
 pub mod RowsAgain
@@ -14,6 +15,7 @@ pub mod ScriptLaws
 pub mod ScriptLists
 pub mod ScriptOrder
 pub mod ScriptRowLaws
+pub mod ScriptRules
 pub mod ScriptStageLemmas
 pub mod StageLaws
 pub mod StageLemmas

@@ -1,21 +1,24 @@
 -- A record that is read is spelled so, and what is spelled so is read.
 use Rattle.std.proofs.Common.{◌≡◌, ◌<◌, ◌≤◌, ◌+◌, ℕ, subst, List, [], ◌∷◌, length, drop, replicate, Bool, true, false, cond, refl, sym, ap, ◌∙◌, arith}
-use Rattle.std.specs.Prelude.{Result, Ok, Err, decimal, ◌==◌, ⊤}
+use Rattle.std.specs.Prelude.{Result, Ok, Err, decimal, ◌==◌, ⊤, if◌then◌else◌}
 use Rattle.std.proofs.lemmas.Bool.{eqb-true}
 use Rattle.std.proofs.lemmas.List.{length-drop, nil_from_length}
 use Rattle.cam_event.specs.declared.event.Event.TheVariants as event
-use Rattle.trace_file.specs.Histories.{Event, Outcome, unlinked}
+use Rattle.trace_file.specs.Histories.{Adapter, Event, Outcome, unlinked}
 use Rattle.trace_file.specs.declared.device_row.DeviceRow.{DeviceRow}
+use Rattle.trace_file.specs.declared.version.Version.{Version}
+use Rattle.trace_file.specs.declared.version.Version.TheVariants as version
 use Rattle.trace_file.specs.declared.word.Word.{Word}
 use Rattle.trace_file.specs.declared.word.Word.TheVariants as word
 use Rattle.trace_file.specs.Steps.{◌>>=◌}
-use Rattle.trace_file.specs.Fields.{Row, field_of, number_at, byte_at, sense_at, flags_at, flags_text, unused, unused_from}
+use Rattle.trace_file.specs.Fields.{Row, field_of, number_at, optional_at, byte_at, sense_at, flags_at, flags_text, unused, unused_from}
 use Rattle.cam_types.specs.Weights.{row_to}
-use Rattle.trace_file.specs.Records.{hex, weight_row, adapter_row, device_row, lane_row, event_row}
-use Rattle.trace_file.specs.Rows.{most_number, one_number, two_numbers, device_at, submit_at, outcome_at, tick_at, event_at, device_of}
+use Rattle.trace_file.specs.Records.{hex, weight_row, link_row, link_text, adapter_row, device_row, is_unlinked, lane_row, event_row}
+use Rattle.trace_file.specs.Rows.{most_number, one_number, two_numbers, linked_at, adapter_at, device_at, submit_at, outcome_at, tick_at, event_at, device_of}
 use Rattle.trace_file.specs.Trace.{FitsEvent, FitsOutcome}
+use Rattle.trace_file.specs.Versions.{has_links}
 use Rattle.trace_file.specs.Words.{spelled}
-use Rattle.trace_file.proofs.FieldLaws.{number_takes, flags_takes}
+use Rattle.trace_file.proofs.FieldLaws.{number_takes, optional_takes, flags_takes}
 use Rattle.trace_file.proofs.FieldLemmas.{drop_field}
 use Rattle.trace_file.proofs.HexLaws.{byte_at_takes, sense_at_takes, AreBytes}
 
@@ -177,8 +180,35 @@ event_takes row w x eight is e = let t = event_tells row w x eight e in (with_wo
 pub weight_takes : (row : Row) (m : ℕ × ℕ) → length row ≡ 8 → field_of row 0 ≡ spelled word.Weight → two_numbers row ≡ Ok m → row ≡ weight_row (row_to m.0 m.1)
 weight_takes row m eight is e = with_word row word.Weight eight is ∙ ap (λ (l : Row). spelled word.Weight ∷ l) (two_take row m eight e).0
 
-pub adapter_takes : (row : Row) (n : ℕ) → length row ≡ 8 → field_of row 0 ≡ spelled word.Sim → one_number row ≡ Ok n → row ≡ adapter_row (unlinked n)
-adapter_takes row n eight is e = with_word row word.Sim eight is ∙ ap (λ (l : Row). spelled word.Sim ∷ l) (one_takes row n eight e).0
+pub link_takes : (row : Row) (n : ℕ) → length row ≡ 8 → field_of row 0 ≡ spelled word.Link → one_number row ≡ Ok n → row ≡ link_row n
+link_takes row n eight is e = with_word row word.Link eight is ∙ ap (λ (l : Row). spelled word.Link ∷ l) (one_takes row n eight e).0
+
+abbrev Linked : Row → Adapter → Type 0
+Linked row a = drop 1 row ≡ decimal a.openings ∷ link_text a.link ∷ replicate 5 []
+
+linked_takes : (row : Row) (a : Adapter) → length row ≡ 8 → linked_at row ≡ Ok a → Linked row a
+unfolding linked_at
+linked_takes row a eight e =
+    next_number row 1 most_number _ a eight (omega arith) (omega arith) e (λ openings few t1 r1.
+    next_field row 2 (optional_at row 2 most_number) _ a link_text (λ l. ⊤) eight (omega arith) (λ l el. (optional_takes row 2 most_number l (omega arith) el, tt)) r1 (λ link k t2 r2.
+    no_more row 3 5 _ a (Linked row) eight refl r2 (λ rest. t1 _ (t2 _ rest))))
+
+-- an adapter can be spelled in a version: it is on no link, unless the version has links
+abbrev pub can_spell : Version → Adapter → Bool
+can_spell v a = if has_links v then true else is_unlinked a
+
+-- an adapter of its openings alone
+alone_takes : (row : Row) (a : Adapter) → length row ≡ 8 → field_of row 0 ≡ spelled word.Sim → (one_number row >>= λ n. Ok (unlinked n)) ≡ Ok a → (row ≡ adapter_row a) × (is_unlinked a ≡ true)
+alone_takes row a eight is e =
+    on_ok (one_number row) (λ n. Ok (unlinked n)) a e (λ n en s.
+    let made : (row ≡ adapter_row (unlinked n)) × (is_unlinked (unlinked n) ≡ true) = (with_word row word.Sim eight is ∙ ap (λ (l : Row). spelled word.Sim ∷ l) (one_takes row n eight en).0, refl) in
+    subst (λ (y : Adapter). (row ≡ adapter_row y) × (is_unlinked y ≡ true)) (ok_is _ a s) made)
+
+pub adapter_takes : (v : Version) (row : Row) (a : Adapter) → length row ≡ 8 → field_of row 0 ≡ spelled word.Sim → adapter_at v row ≡ Ok a → (row ≡ adapter_row a) × (can_spell v a ≡ true)
+unfolding adapter_at
+adapter_takes version.One row a eight is e = alone_takes row a eight is e
+adapter_takes version.Two row a eight is e = alone_takes row a eight is e
+adapter_takes version.Three row a eight is e = (with_word row word.Sim eight is ∙ ap (λ (l : Row). spelled word.Sim ∷ l) (linked_takes row a eight e), refl)
 
 pub lane_takes : (row : Row) (n : ℕ) → length row ≡ 8 → field_of row 0 ≡ spelled word.Lane → one_number row ≡ Ok n → row ≡ lane_row n
 lane_takes row n eight is e = with_word row word.Lane eight is ∙ ap (λ (l : Row). spelled word.Lane ∷ l) (one_takes row n eight e).0

@@ -1,18 +1,23 @@
 -- What is spelled as a record is read again.
-use Rattle.std.proofs.Common.{◌≡◌, ◌≤◌, ℕ, List, [], ◌∷◌, refl, arith}
-use Rattle.std.specs.Prelude.{Ok, decimal}
+use Rattle.std.proofs.Common.{◌≡◌, ◌≤◌, ℕ, List, [], ◌∷◌, true, false, refl, arith}
+use Rattle.std.specs.Prelude.{Option, Some, None, Ok, IfSome, decimal}
+use Rattle.std.specs.Option.{option_map_or}
 use Rattle.csv.specs.Records.{field_at}
 use Rattle.cam_event.specs.declared.event.Event.TheVariants as event
-use Rattle.trace_file.specs.Histories.{Event}
+use Rattle.trace_file.specs.Histories.{Adapter, Event, unlinked}
 use Rattle.trace_file.specs.declared.device_row.DeviceRow.{DeviceRow}
+use Rattle.trace_file.specs.declared.version.Version.{Version}
+use Rattle.trace_file.specs.declared.version.Version.TheVariants as version
 use Rattle.trace_file.specs.declared.word.Word.{Word}
 use Rattle.trace_file.specs.declared.word.Word.TheVariants as word
 use Rattle.trace_file.specs.Fields.{unused_from}
-use Rattle.trace_file.specs.Records.{padded, event_row}
-use Rattle.trace_file.specs.Rows.{most_number, one_number, two_numbers, device_at, submit_at, outcome_at, tick_at, event_at}
+use Rattle.trace_file.specs.Records.{padded, adapter_row, event_row, is_unlinked}
+use Rattle.trace_file.specs.Steps.{◌>>=◌}
+use Rattle.trace_file.specs.Rows.{most_number, one_number, two_numbers, linked_at, adapter_at, device_at, submit_at, outcome_at, tick_at, event_at}
 use Rattle.trace_file.specs.Trace.{FitsEvent}
 use Rattle.trace_file.specs.Words.{spelled}
-use Rattle.trace_file.proofs.FieldLaws.{number_again, flags_again}
+use Rattle.trace_file.proofs.FieldLaws.{number_again, optional_again, flags_again}
+use Rattle.trace_file.proofs.RowLaws.{can_spell}
 use Rattle.trace_file.proofs.HexLaws.{byte_at_again, sense_at_again}
 
 pub one_again : (w : List ℕ) (n : ℕ) → n ≤ most_number → one_number (padded (w ∷ decimal n ∷ [])) ≡ Ok n
@@ -24,6 +29,25 @@ unfolding two_numbers unused_from field_at
 two_again w m n h k =
     let row = padded (w ∷ decimal m ∷ decimal n ∷ []) in
     rw (number_again row 1 most_number m (omega arith) h refl, number_again row 2 most_number n (omega arith) k refl) refl
+
+linked_again : (a : Adapter) → a.openings ≤ most_number → IfSome a.link (λ l. l ≤ most_number) → linked_at (adapter_row a) ≡ Ok a
+unfolding linked_at unused_from field_at
+linked_again a o l =
+    let row = adapter_row a in
+    rw (number_again row 1 most_number a.openings (omega arith) o refl, optional_again row 2 most_number a.link (omega arith) l refl) refl
+
+alone_again : (a : Adapter) → is_unlinked a ≡ true → a.openings ≤ most_number → (one_number (adapter_row a) >>= λ n. Ok (unlinked n)) ≡ Ok a
+alone_again a alone o = by a.link alone
+  where
+    by : (link : Option ℕ) → option_map_or (λ l. false) link true ≡ true → (one_number (adapter_row (record { openings = a.openings; link = link })) >>= λ n. Ok (unlinked n)) ≡ Ok (record { openings = a.openings; link = link })
+    by None e = rw (one_again (spelled word.Sim) a.openings o) refl
+    by (Some l) e = absurd cc
+
+pub adapter_again : (v : Version) (a : Adapter) → can_spell v a ≡ true → a.openings ≤ most_number → IfSome a.link (λ l. l ≤ most_number) → adapter_at v (adapter_row a) ≡ Ok a
+unfolding adapter_at
+adapter_again version.One a alone o l = alone_again a alone o
+adapter_again version.Two a alone o l = alone_again a alone o
+adapter_again version.Three a alone o l = linked_again a o l
 
 pub device_again : (d : DeviceRow) → d.bus ≤ most_number → d.target ≤ 65535 → d.lun ≤ 16383 → d.openings ≤ most_number
     → device_at (padded (spelled word.Dev ∷ decimal d.bus ∷ decimal d.target ∷ decimal d.lun ∷ decimal d.openings ∷ [])) ≡ Ok d

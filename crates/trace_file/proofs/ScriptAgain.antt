@@ -15,9 +15,10 @@ use Rattle.trace_file.specs.declared.script_stage.ScriptStage.TheVariants as sta
 use Rattle.trace_file.specs.declared.trace_stage.TraceStage.{TraceStage}
 use Rattle.trace_file.specs.declared.trace_stage.TraceStage.TheVariants as trace
 use Rattle.trace_file.specs.Fields.{Row, field_of}
-use Rattle.trace_file.specs.Histories.{Adapter, Past, Refusal, Topology, WeightRow, config_fault, standard_weights}
+use Rattle.trace_file.specs.Histories.{Adapter, Past, Refusal, Topology}
 use Rattle.trace_file.specs.Reading.{config_of, has_letters, is_header, lacks_adapters, row_step, step}
-use Rattle.trace_file.specs.Records.{adapter_row, device_row, lane_row}
+use Rattle.trace_file.specs.Records.{adapter_row, device_row, holds, lane_row}
+use Rattle.trace_file.specs.declared.version.Version.TheVariants as version
 use Rattle.trace_file.specs.Scenarios.{Scenario, empty_scenario, is_answer_row, is_answer_word, item_of}
 use Rattle.trace_file.specs.Script.{FitsRow, IsManuscript, Manuscript, answer_rows, limits_rows, put_row, scenario_of, script_records, step_rows}
 use Rattle.trace_file.specs.ScriptReading.{config_step, first_row, has_room, is_config_word, is_configuring, is_limits, limits_step, roomy_word, rows_step, script_ended, script_reading, script_step}
@@ -29,7 +30,7 @@ use Rattle.trace_file.proofs.ScriptLaws.{fold_config, item_added, item_kind, mor
 use Rattle.trace_file.proofs.ScriptRowLaws.{limits_again, row_again, row_of, word_of_row}
 use Rattle.trace_file.proofs.ScriptStageLemmas.{configures}
 use Rattle.trace_file.proofs.StageLemmas.{step_behind, is_legal-nil}
-use Rattle.trace_file.proofs.WholeLaws.{all_alone, at_config, at_lanes, config, first_base, kept, taken_all, whole_of}
+use Rattle.trace_file.proofs.WholeLaws.{IsBase, at_config, at_lanes, first_base, kept, no_links, taken_all}
 use Rattle.trace_file.proofs.AgainLaws.{taken_on}
 
 -- ---- rows
@@ -159,18 +160,19 @@ pub script_again : (m : Manuscript) → IsManuscript m → script_reading (scrip
 unfolding script_reading script_records scenario_of
 script_again m h =
     let c = m.config in
-    let ws = standard_weights in
-    let whole : config ws c.adapters c.devices c.lanes ≡ c = ap (λ (w : List WeightRow). config w c.adapters c.devices c.lanes) (sym h.weights) ∙ whole_of c h.unlinked in
-    let k = kept ws c.adapters c.devices c.lanes (subst (λ (t : Topology). config_fault t ≡ None) (sym whole) h.config) (all_alone c h.unlinked) in
+    let ws = c.weights in
+    let held : holds version.One c ≡ true = rw (h.weights, h.unlinked) refl in
+    let k = kept version.One c h.config held in
+    let base : IsBase version.One ws c.links trace.First = rw (h.weights, no_links c h.unlinked) first_base in
     let some : length c.adapters ≡ 0 → ⊥ = (λ e. false≢true (sym k.some ∙ eq-eqb (length c.adapters) 0 e)) in
     let rows = map script_row m.rows in
     let limits = unwrap_or m.limits most_bounds in
     let f = from_limits 2 m.limits c.adapters (map device_row c.devices ++ (map lane_row c.lanes ++ rows)) h.limits some in
-    let t = at_lanes ws c.adapters c.devices c.lanes in
-    let at = at_config ws c.adapters c.devices c.lanes in
-    let config_read = config_again f.0 limits trace.First t (config_rows c) (λ e. cc) (config_words c) (taken_all ws trace.First c.adapters c.devices c.lanes [] first_base k h.targets (is_legal-nil (config ws c.adapters c.devices c.lanes)) tt f.0) in
+    let t = at_lanes version.One ws c.links c.adapters c.devices c.lanes in
+    let at = at_config version.One ws c.links c.adapters c.devices c.lanes in
+    let config_read = config_again f.0 limits trace.First t (config_rows c) (λ e. cc) (config_words c) (taken_all version.One ws c.links trace.First c.adapters c.devices c.lanes [] base k h.targets (is_legal-nil c) tt f.0) in
     let behind = taken_on script_step f.0 (stage.Config limits trace.First) (stage.Config limits t) (config_rows c) rows config_read in
-    let is : config_of t ≡ c = ap (λ (p : Past). p.config) at.2 ∙ whole in
+    let is : config_of t ≡ c = ap (λ (p : Past). p.config) at.2 in
     let last = rows_of (f.0 + length (config_rows c)) limits t c m.rows at.1 is h.fits h.ruled h.steps h.answers in
     let same = sym (regroup (map adapter_row c.adapters) (map device_row c.devices) (map lane_row c.lanes) rows) in
     let reached = f.1 ∙ ap (taken script_step f.0 (stage.Config limits trace.First)) same ∙ behind ∙ last.reached in

@@ -38,6 +38,7 @@ use Rattle.trace_file.specs.declared.script_stage.TheConstants.{MOST_ROWS}
 use Rattle.trace_file.proofs.RowLaws.{ok_is, on_ok, if_ok}
 use Rattle.trace_file.proofs.ScriptRowLaws.{limits_take, row_takes}
 use Rattle.trace_file.proofs.ScriptStageLemmas.{configures}
+use Rattle.trace_file.proofs.WholeLaws.{no_links}
 use Rattle.trace_file.proofs.StageLaws.{Reads, event_ready, guarded, in_record_ok, named_header, reads_behind, taken_keeps}
 use Rattle.trace_file.proofs.FieldLaws.{ok_or_ok}
 use Rattle.trace_file.proofs.HexLaws.{on_some}
@@ -145,10 +146,10 @@ no_events trace.Header e = absurd cc
 no_events (trace.Events p) e = absurd cc
 no_events _ e = refl
 
-config_records : (p : Past) (rows : List Row) → header version.One ∷ rows ≡ records_of version.One p → p.events ≡ [] → rows ≡ map adapter_row p.config.adapters ++ (map device_row p.config.devices ++ (map lane_row p.config.lanes ++ []))
+config_records : (p : Past) (rows : List Row) → header version.One ∷ rows ≡ records_of version.One p → p.config.links ≡ [] → p.events ≡ [] → rows ≡ map adapter_row p.config.adapters ++ (map device_row p.config.devices ++ (map lane_row p.config.lanes ++ []))
 unfolding records_of
-config_records p rows e none =
-    let is = rw none at e in
+config_records p rows e no_link none =
+    let is = rw (no_link, none) at e in
     cc
 
 -- a whole configuration, without a row
@@ -158,7 +159,7 @@ whole_config limits t rows h some =
     let c = config_of t in
     let ready = event_ready version.One t h.reads.sound h.reads.held some in
     let held = and_parts (are_standard c.weights) (has_no_links c) ready.1 in
-    let behind = config_records (past_of t) h.trace (h.reads.spelled ∙ ready.0) (no_events t h.configuring) in
+    let behind = config_records (past_of t) h.trace (h.reads.spelled ∙ ready.0) (no_links c held.1) (no_events t h.configuring) in
     record {
       made = record { limits = h.given; config = c; rows = [] };
       kept = record {

@@ -7,8 +7,8 @@ use Rattle.trace_file.specs.declared.trace_stage.TraceStage.{TraceStage}
 use Rattle.trace_file.specs.declared.word.Word.{Word}
 use Rattle.trace_file.specs.declared.word.Word.TheVariants as word
 use Rattle.trace_file.specs.Fields.{Row, field_of}
-use Rattle.trace_file.specs.Reading.{add_adapter, add_device, add_lane, add_row, in_record, lacks_adapters, lacks_weights, placed, row_step}
-use Rattle.trace_file.specs.Rows.{device_at, one_number}
+use Rattle.trace_file.specs.Reading.{add_adapter, add_device, add_lane, add_row, in_record, lacks_adapters, lacks_weights, placed, row_step, version_of}
+use Rattle.trace_file.specs.Rows.{adapter_at, device_at, one_number}
 use Rattle.trace_file.specs.ScriptReading.{is_config_word, is_configuring}
 use Rattle.trace_file.specs.Words.{spelled}
 use Rattle.trace_file.proofs.RowLaws.{on_ok}
@@ -17,7 +17,7 @@ use Rattle.trace_file.proofs.FieldLaws.{ok_or_ok}
 
 row_configures : (n : ℕ) (s t : TraceStage) (w : Word) (row : Row) → field_of row 0 ≡ spelled w → is_config_word (field_of row 0) ≡ true → add_row n s w row ≡ Ok t → is_configuring t ≡ true
 unfolding add_row add_adapter add_device add_lane is_config_word
-row_configures n s t word.Sim row is h e = on_ok (in_record n (one_number row)) _ t e (λ o eo r. let k = no_fault n _ _ t (guarded (lacks_weights s) _ _ t r).1 in ap is_configuring (sym k.1))
+row_configures n s t word.Sim row is h e = on_ok (in_record n (adapter_at (version_of s) row)) _ t e (λ o eo r. let k = no_fault n _ _ t (guarded (lacks_weights s) _ _ t r).1 in ap is_configuring (sym k.1))
 row_configures n s t word.Dev row is h e = on_ok (in_record n (device_at row)) _ t e (λ d ed r. let k = no_fault n _ _ t (guarded (lacks_adapters s) _ _ t r).1 in ap is_configuring (sym k.1))
 row_configures n s t word.Lane row is h e = on_ok (in_record n (one_number row)) _ t e (λ a ea r. let k = no_fault n _ _ t (guarded (lacks_adapters s) _ _ t r).1 in ap is_configuring (sym k.1))
 row_configures n s t w row is h e = absurd (false≢true (sym (ap is_config_word is) ∙ h))

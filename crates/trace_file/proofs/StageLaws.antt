@@ -1,17 +1,17 @@
 -- What the stages of reading have read is spelled so.
-use Rattle.std.proofs.Common.{◌≡◌, ◌≤◌, ◌+◌, ℕ, List, [], ◌∷◌, ◌++◌, length, drop, map, Bool, true, false, cond, refl, sym, ap, ◌∙◌, subst, arith, append_assoc, append-nil, rules, tests}
-use Rattle.std.specs.Prelude.{Option, Some, None, Result, Ok, Err, ok_or, codes, ◌==◌}
+use Rattle.std.proofs.Common.{◌≡◌, ◌≤◌, ◌+◌, ℕ, List, [], ◌∷◌, ◌++◌, length, drop, Bool, true, false, cond, refl, sym, ap, ◌∙◌, subst, arith, append_assoc, append-nil, rules, tests}
+use Rattle.std.specs.Prelude.{Option, Some, None, Result, Ok, Err, ok_or, codes, ◌==◌, ⊤}
 use Rattle.std.specs.List.{AllByRecursion, list_all}
 use Rattle.std.proofs.lemmas.Bool.{and_parts, eqb-true, not-false}
 use Rattle.std.proofs.lemmas.List.Folds.{list_all-append}
-use Rattle.std.proofs.lemmas.List.{map-append, nil_from_length, length-drop}
+use Rattle.std.proofs.lemmas.List.{nil_from_length, length-drop}
 use Rattle.std.proofs.lemmas.Option.{cond_some}
 use Rattle.std.proofs.lemmas.Slice.Eq.{bytes_eq-Decides}
 use Rattle.std.proofs.lemmas.Bool.Decides.{nat_tests}
 use Rattle.cam_types.specs.Topology.{IsDraft}
 use Rattle.cam_event.specs.Legal.{history_rules}
 use Rattle.cam_event.proofs.LegalLemmas.{legal-none}
-use Rattle.trace_file.specs.Histories.{Adapter, Topology, unlinked, WeightRow, reaches_last, Device, Event, Past, ConfigFault, Refusal}
+use Rattle.trace_file.specs.Histories.{Adapter, Topology, WeightRow, reaches_last, Device, Event, Past, ConfigFault, Refusal}
 use Rattle.trace_file.specs.declared.device_row.DeviceRow.{DeviceRow}
 use Rattle.trace_file.specs.declared.trace_fault.TraceFault.{TraceFault}
 use Rattle.trace_file.specs.declared.trace_fault.TraceFault.TheVariants.{BadHeader, BadRecord}
@@ -20,9 +20,10 @@ use Rattle.trace_file.specs.declared.trace_stage.TraceStage.TheVariants as stage
 use Rattle.trace_file.specs.declared.word.Word.{Word}
 use Rattle.trace_file.specs.declared.word.Word.TheVariants as word
 use Rattle.trace_file.specs.Fields.{Row, field_of}
-use Rattle.trace_file.specs.Reading.{add_weight, add_adapter, add_device, add_event, add_lane, add_row, config_of, ended, has_letters, in_record, is_header, lacks_adapters, lacks_weights, past_of, placed, row_step, stands, step, unless_fault, unless_refused}
-use Rattle.trace_file.specs.Records.{weight_row, weight_rows, adapter_row, device_row, event_row, has_no_links, header, holds, is_unlinked, lane_row, name_of, records_of}
-use Rattle.trace_file.specs.Rows.{device_at, device_of, event_at, one_number, two_numbers}
+use Rattle.trace_file.specs.Reading.{add_weight, add_link, add_adapter, add_device, add_event, add_lane, add_row, config_of, empty, ended, has_letters, in_record, is_header, lacks_adapters, lacks_weights, past_of, placed, row_step, stands, step, unless_fault, unless_refused, version_of}
+use Rattle.trace_file.specs.Records.{weight_row, link_row, adapter_row, device_row, event_row, has_no_links, header, holds, is_unlinked, lane_row, records_of}
+use Rattle.trace_file.specs.Versions.{has_table, name_of}
+use Rattle.trace_file.specs.Rows.{adapter_at, device_at, device_of, event_at, one_number, two_numbers}
 use Rattle.trace_file.specs.declared.version.Version.{Version}
 use Rattle.trace_file.specs.declared.version.Version.TheVariants as version
 use Rattle.cam_types.specs.Weights.{are_standard, row_to}
@@ -31,55 +32,12 @@ use Rattle.trace_file.specs.Steps.{◌>>=◌, taken}
 use Rattle.trace_file.specs.Trace.{FitsEvent, IsHistory}
 use Rattle.trace_file.specs.Words.{spelled, word_of}
 use Rattle.trace_file.proofs.FieldLaws.{word_spelled, ok_or_ok}
-use Rattle.trace_file.proofs.RowLaws.{weight_takes, adapter_takes, device_row_takes, event_takes, lane_takes, ok_is, on_ok, peel}
-use Rattle.trace_file.proofs.StageLemmas.{kept_empty, sound_weight, sound_adapter, sound_device, sound_event, sound_lane}
+use Rattle.trace_file.proofs.PushLaws.{push_weight, push_link, push_adapter, push_device, push_lane, push_event}
+use Rattle.trace_file.proofs.RowLaws.{can_spell, weight_takes, link_takes, adapter_takes, device_row_takes, event_takes, lane_takes, ok_is, on_ok, peel}
+use Rattle.trace_file.proofs.StageLemmas.{kept_empty, sound_weight, sound_link, sound_adapter, sound_device, sound_event, sound_lane}
 use Rattle.cam_types.proofs.TopologyLemmas.{standard_draft}
 use Rattle.trace_file.proofs.HexLaws.{guard_some, on_some}
 use Rattle.trace_file.proofs.ListLaws.{all_push}
-
--- ---- the records of a history with one item more
-
-weights_more : (w : List Row) (r : Row) → (w ++ []) ++ r ∷ [] ≡ (w ++ r ∷ []) ++ []
-weights_more w r = rw (append-nil w, append-nil (w ++ r ∷ [])) refl
-
-adapters_more : (w a : List Row) (r : Row) → (w ++ (a ++ [])) ++ r ∷ [] ≡ w ++ ((a ++ r ∷ []) ++ [])
-adapters_more w a r = rw (append-nil a, append-nil (a ++ r ∷ [])) (append_assoc w a (r ∷ []))
-
-devices_more : (w a d : List Row) (r : Row) → (w ++ (a ++ (d ++ []))) ++ r ∷ [] ≡ w ++ (a ++ ((d ++ r ∷ []) ++ []))
-devices_more w a d r = rw (append-nil d, append-nil (d ++ r ∷ [])) (append_assoc w (a ++ d) (r ∷ []) ∙ ap (λ (l : List Row). w ++ l) (append_assoc a d (r ∷ [])))
-
-pub push_weight : (t : Topology) (w : WeightRow) → t.adapters ≡ [] → t.devices ≡ [] → t.lanes ≡ []
-    → records_of version.Two (record { config = t; events = [] }) ++ weight_row w ∷ [] ≡ records_of version.Two (record { config = record t { weights = t.weights ++ w ∷ [] }; events = [] })
-unfolding records_of
-push_weight t w adapters devices lanes =
-    rw (adapters, devices, lanes) (ap (λ (rs : List Row). header version.Two ∷ rs)
-    (weights_more (map weight_row t.weights) (weight_row w) ∙ ap (λ (l : List Row). l ++ []) (sym (map-append weight_row t.weights (w ∷ [])))))
-
-pub push_adapter : (v : Version) (t : Topology) (a : Adapter) → t.devices ≡ [] → t.lanes ≡ []
-    → records_of v (record { config = t; events = [] }) ++ adapter_row a ∷ [] ≡ records_of v (record { config = record t { adapters = t.adapters ++ a ∷ [] }; events = [] })
-unfolding records_of
-push_adapter v t a devices lanes =
-    let ws = weight_rows v t.weights in
-    rw (devices, lanes) (ap (λ (rs : List Row). header v ∷ rs)
-    (adapters_more ws (map adapter_row t.adapters) (adapter_row a) ∙ ap (λ (l : List Row). ws ++ (l ++ [])) (sym (map-append adapter_row t.adapters (a ∷ [])))))
-
-pub push_device : (v : Version) (t : Topology) (d : Device) → t.lanes ≡ []
-    → records_of v (record { config = t; events = [] }) ++ device_row d ∷ [] ≡ records_of v (record { config = record t { devices = t.devices ++ d ∷ [] }; events = [] })
-unfolding records_of
-push_device v t d lanes =
-    let ws = weight_rows v t.weights in
-    let as' = map adapter_row t.adapters in
-    rw lanes (ap (λ (rs : List Row). header v ∷ rs)
-    (devices_more ws as' (map device_row t.devices) (device_row d) ∙ ap (λ (l : List Row). ws ++ (as' ++ (l ++ []))) (sym (map-append device_row t.devices (d ∷ [])))))
-
-pub push_lane : (v : Version) (t : Topology) (a : ℕ)
-    → records_of v (record { config = t; events = [] }) ++ lane_row a ∷ [] ≡ records_of v (record { config = record t { lanes = t.lanes ++ a ∷ [] }; events = [] })
-unfolding records_of
-push_lane v t a = ap (λ (rs : List Row). header v ∷ rs) (simp (append-nil, map-append, append_assoc) refl)
-
-pub push_event : (v : Version) (p : Past) (e : Event) → records_of v p ++ event_row e ∷ [] ≡ records_of v (record p { events = p.events ++ e ∷ [] })
-unfolding records_of
-push_event v p e = ap (λ (rs : List Row). header v ∷ rs) (simp (map-append, append_assoc) refl)
 
 -- ---- what a stage has read
 
@@ -89,36 +47,40 @@ rows_at v stage.Header = []
 rows_at v s = records_of v (past_of s)
 
 -- a stage comes about in this version
-abbrev pub is_in : TraceStage → Version → Bool
-is_in stage.Header v = true
-is_in stage.First version.One = true
-is_in stage.First version.Two = false
-is_in (stage.Weights t) version.One = false
-is_in (stage.Weights t) version.Two = true
-is_in (stage.Adapters t) v = holds v t
-is_in (stage.Devices t) v = holds v t
-is_in (stage.Lanes t) v = holds v t
-is_in (stage.Events p) v = holds v p.config
+abbrev pub IsIn : TraceStage → Version → Type 0
+IsIn stage.Header v = ⊤
+IsIn stage.First v = v ≡ version.One
+IsIn (stage.Weights w t) v = (v ≡ w) × (has_table w ≡ true)
+IsIn (stage.Links t) v = v ≡ version.Three
+IsIn (stage.Adapters w t) v = (v ≡ w) × (holds w t ≡ true)
+IsIn (stage.Devices t) v = holds v t ≡ true
+IsIn (stage.Lanes t) v = holds v t ≡ true
+IsIn (stage.Events p) v = holds v p.config ≡ true
 
 -- whether a version holds a configuration doesn't go by its devices and lanes
 holds_same : (v : Version) (c : Topology) (ds : List Device) (ls : List ℕ) → holds v c ≡ true → holds v (record c { devices = ds; lanes = ls }) ≡ true
 holds_same version.One c ds ls h = h
 holds_same version.Two c ds ls h = h
+holds_same version.Three c ds ls h = h
 
 no_links_more : (c : Topology) (a : Adapter) → is_unlinked a ≡ true → has_no_links c ≡ true → has_no_links (record c { adapters = c.adapters ++ a ∷ [] }) ≡ true
 no_links_more c a alone h = let k = and_parts (length c.links == 0) (list_all is_unlinked c.adapters) h in rw (k.0, list_all-append is_unlinked c.adapters (a ∷ []), k.1, alone) refl
 
--- a version holds a configuration with an adapter more that is on no link
-holds_more : (v : Version) (c : Topology) (a : Adapter) → is_unlinked a ≡ true → holds v c ≡ true → holds v (record c { adapters = c.adapters ++ a ∷ [] }) ≡ true
+-- a version holds a configuration with an adapter more that it can spell
+holds_more : (v : Version) (c : Topology) (a : Adapter) → can_spell v a ≡ true → holds v c ≡ true → holds v (record c { adapters = c.adapters ++ a ∷ [] }) ≡ true
 holds_more version.One c a alone h = let k = and_parts (are_standard c.weights) (has_no_links c) h in rw (k.0, no_links_more c a alone k.1) refl
 holds_more version.Two c a alone h = no_links_more c a alone h
+holds_more version.Three c a alone h = refl
 
-no_links_yet : (c : Topology) → c.links ≡ [] → c.adapters ≡ [] → has_no_links c ≡ true
-no_links_yet c links adapters = rw (links, adapters) refl
+-- a version with a table of weights holds them alone
+holds_table : (v : Version) (c : Topology) → has_table v ≡ true → c.links ≡ [] → c.adapters ≡ [] → holds v c ≡ true
+holds_table version.One c table links adapters = absurd cc
+holds_table version.Two c table links adapters = rw (links, adapters) refl
+holds_table version.Three c table links adapters = refl
 
 pub record Reads (v : Version) (s : TraceStage) (rows : List Row) : Type 0 where
   pub spelled : rows ≡ rows_at v s
-  pub held : is_in s v ≡ true
+  pub held : IsIn s v
   pub sound : IsSound s
   pub targets : AllByRecursion (λ (d : Device). d.target ≤ 65535) (config_of s).devices
   pub events : AllByRecursion FitsEvent (past_of s).events
@@ -127,37 +89,45 @@ pub record Reads (v : Version) (s : TraceStage) (rows : List Row) : Type 0 where
 abbrev Ready : Version → TraceStage → Type 0
 Ready v s = (rows_at v s ≡ records_of v (record { config = config_of s; events = [] })) × (holds v (config_of s) ≡ true)
 
-weight_ready : (v : Version) (s : TraceStage) → IsSound s → is_in s v ≡ true → stands s word.Weight ≡ true → Ready v s × (v ≡ version.Two) × IsSound (stage.Weights (config_of s))
+weight_ready : (v : Version) (s : TraceStage) → IsSound s → IsIn s v → stands s word.Weight ≡ true → Ready v s × (v ≡ version_of s) × (has_table v ≡ true) × IsSound (stage.Weights (version_of s) (config_of s))
 unfolding IsSound stands
-weight_ready version.Two (stage.Weights t) h i e = ((refl, no_links_yet t h.1 h.2), refl, h)
-weight_ready version.One (stage.Weights t) h i e = absurd cc
+weight_ready v (stage.Weights w t) h i e = rw i.0 ((refl, holds_table w t i.1 h.1 h.2), refl, i.1, h)
 weight_ready v _ h i e = absurd cc
 
-adapter_ready : (v : Version) (s : TraceStage) → IsSound s → is_in s v ≡ true → stands s word.Sim ≡ true → Ready v s × IsDraft (config_of s) × ((config_of s).devices ≡ []) × ((config_of s).lanes ≡ [])
+-- nothing stands behind the links
+abbrev NoneBehind : Topology → Type 0
+NoneBehind t = (t.adapters ≡ []) × (t.devices ≡ []) × (t.lanes ≡ [])
+
+link_ready : (v : Version) (s : TraceStage) → IsSound s → IsIn s v → stands s word.Link ≡ true → Ready v s × (v ≡ version.Three) × IsDraft (config_of s) × NoneBehind (config_of s)
 unfolding IsSound stands
-adapter_ready version.One stage.First h i e = ((refl, refl), standard_draft, refl, refl)
-adapter_ready version.Two stage.First h i e = absurd cc
-adapter_ready version.Two (stage.Weights t) h i e = ((refl, no_links_yet t h.1 h.2), h.0, h.3, h.4)
-adapter_ready version.One (stage.Weights t) h i e = absurd cc
-adapter_ready v (stage.Adapters t) h i e = ((refl, i), h.0.draft, h.1, h.2)
+link_ready v (stage.Weights version.Three t) h i e = rw i.0 ((refl, refl), refl, h.0, (h.2, h.3, h.4))
+link_ready v (stage.Links t) h i e = rw i ((refl, refl), refl, h.0, (h.2, h.3, h.4))
+link_ready v _ h i e = absurd cc
+
+adapter_ready : (v : Version) (s : TraceStage) → IsSound s → IsIn s v → stands s word.Sim ≡ true → Ready v s × (v ≡ version_of s) × IsDraft (config_of s) × ((config_of s).devices ≡ []) × ((config_of s).lanes ≡ [])
+unfolding IsSound stands
+adapter_ready v stage.First h i e = rw i ((refl, refl), refl, standard_draft, refl, refl)
+adapter_ready v (stage.Weights w t) h i e = rw i.0 ((refl, holds_table w t i.1 h.1 h.2), refl, h.0, h.3, h.4)
+adapter_ready v (stage.Links t) h i e = rw i ((refl, refl), refl, h.0, h.3, h.4)
+adapter_ready v (stage.Adapters w t) h i e = rw i.0 ((refl, i.1), refl, h.0.draft, h.1, h.2)
 adapter_ready v _ h i e = absurd cc
 
-device_ready : (v : Version) (s : TraceStage) → IsSound s → is_in s v ≡ true → stands s word.Dev ≡ true → lacks_adapters s ≡ false → Ready v s × IsBegun (config_of s) × ((config_of s).lanes ≡ [])
+device_ready : (v : Version) (s : TraceStage) → IsSound s → IsIn s v → stands s word.Dev ≡ true → lacks_adapters s ≡ false → Ready v s × IsBegun (config_of s) × ((config_of s).lanes ≡ [])
 unfolding IsSound stands
-device_ready v (stage.Adapters t) h i e l = ((refl, i), h.0, h.2)
+device_ready v (stage.Adapters w t) h i e l = rw i.0 ((refl, i.1), h.0, h.2)
 device_ready v (stage.Devices t) h i e l = ((refl, i), h.0, h.1)
 device_ready v _ h i e l = absurd cc
 
-lane_ready : (v : Version) (s : TraceStage) → IsSound s → is_in s v ≡ true → stands s word.Lane ≡ true → lacks_adapters s ≡ false → Ready v s × IsBegun (config_of s)
+lane_ready : (v : Version) (s : TraceStage) → IsSound s → IsIn s v → stands s word.Lane ≡ true → lacks_adapters s ≡ false → Ready v s × IsBegun (config_of s)
 unfolding IsSound stands
-lane_ready v (stage.Adapters t) h i e l = ((refl, i), h.0)
+lane_ready v (stage.Adapters w t) h i e l = rw i.0 ((refl, i.1), h.0)
 lane_ready v (stage.Devices t) h i e l = ((refl, i), h.0)
 lane_ready v (stage.Lanes t) h i e l = ((refl, i), h)
 lane_ready v _ h i e l = absurd cc
 
-pub event_ready : (v : Version) (s : TraceStage) → IsSound s → is_in s v ≡ true → lacks_adapters s ≡ false → (rows_at v s ≡ records_of v (past_of s)) × (holds v (config_of s) ≡ true) × IsKept (past_of s)
+pub event_ready : (v : Version) (s : TraceStage) → IsSound s → IsIn s v → lacks_adapters s ≡ false → (rows_at v s ≡ records_of v (past_of s)) × (holds v (config_of s) ≡ true) × IsKept (past_of s)
 unfolding IsSound
-event_ready v (stage.Adapters t) h i l = (refl, i, kept_empty t h.0)
+event_ready v (stage.Adapters w t) h i l = rw i.0 (refl, i.1, kept_empty t h.0)
 event_ready v (stage.Devices t) h i l = (refl, i, kept_empty t h.0)
 event_ready v (stage.Lanes t) h i l = (refl, i, kept_empty t h)
 event_ready v (stage.Events p) h i l = (refl, i, h)
@@ -165,9 +135,9 @@ event_ready v _ h i l = absurd cc
 
 -- ---- one item more
 
-sound_items : (t : Topology) → IsSound (stage.Weights t) → (t.adapters ≡ []) × (t.devices ≡ []) × (t.lanes ≡ [])
+sound_items : (v : Version) (t : Topology) → IsSound (stage.Weights v t) → (t.links ≡ []) × NoneBehind t
 unfolding IsSound
-sound_items t h = (h.2, h.3, h.4)
+sound_items v t h = (h.1, (h.2, h.3, h.4))
 
 reached : (s : TraceStage) → lacks_weights s ≡ false → reaches_last (config_of s).weights ≡ true
 reached s e = not-false _ e
@@ -189,7 +159,7 @@ in_record_ok n (Ok y) x e = cc
 in_record_ok n (Err k) x e = absurd cc
 
 -- a stage with one record more
-reads_next : (v : Version) (s next t : TraceStage) (row : Row) (rows : List Row) → Reads v s rows → next ≡ t → rows_at v s ++ row ∷ [] ≡ rows_at v next → is_in next v ≡ true → IsSound next
+reads_next : (v : Version) (s next t : TraceStage) (row : Row) (rows : List Row) → Reads v s rows → next ≡ t → rows_at v s ++ row ∷ [] ≡ rows_at v next → IsIn next v → IsSound next
     → AllByRecursion (λ (d : Device). d.target ≤ 65535) (config_of next).devices → AllByRecursion FitsEvent (past_of next).events → Reads v t (rows ++ row ∷ [])
 reads_next v s next t row rows h same spelled held sound targets events =
     let made : Reads v next (rows ++ row ∷ []) = record { spelled = ap (λ (l : List Row). l ++ row ∷ []) h.spelled ∙ spelled; held = held; sound = sound; targets = targets; events = events } in
@@ -197,22 +167,33 @@ reads_next v s next t row rows h same spelled held sound targets events =
 
 reads_weight : (v : Version) (n : ℕ) (s t : TraceStage) (w : WeightRow) (rows : List Row) → Reads v s rows → stands s word.Weight ≡ true → add_weight n s w ≡ Ok t → Reads v t (rows ++ weight_row w ∷ [])
 unfolding add_weight
-reads_weight version.One n s t w rows h place e = let r = weight_ready version.One s h.sound h.held place in absurd (let wrong = r.1 in cc)
-reads_weight version.Two n s t w rows h place e =
+reads_weight v n s t w rows h place e =
     let c = config_of s in
-    let r = weight_ready version.Two s h.sound h.held place in
-    let items = sound_items c r.2 in
+    let r = weight_ready v s h.sound h.held place in
+    let items = sound_items (version_of s) c r.3 in
     let k = no_fault n _ _ t e in
-    reads_next version.Two s _ t (weight_row w) rows h k.1 (ap (λ (l : List Row). l ++ weight_row w ∷ []) r.0.0 ∙ push_weight c w items.0 items.1 items.2) refl (sound_weight c _ w r.2 k.0 refl) h.targets tt
+    reads_next v s _ t (weight_row w) rows h k.1 (ap (λ (l : List Row). l ++ weight_row w ∷ []) r.0.0 ∙ push_weight v c w r.2 items.0 items.1.0 items.1.1 items.1.2) (r.1, rw r.1 at r.2) (sound_weight (version_of s) c _ w r.3 k.0 refl) h.targets tt
 
-reads_adapter : (v : Version) (n : ℕ) (s t : TraceStage) (a : Adapter) (rows : List Row) → Reads v s rows → stands s word.Sim ≡ true → is_unlinked a ≡ true → add_adapter n s a ≡ Ok t → Reads v t (rows ++ adapter_row a ∷ [])
+reads_link : (v : Version) (n : ℕ) (s t : TraceStage) (k : ℕ) (rows : List Row) → Reads v s rows → stands s word.Link ≡ true → add_link n s k ≡ Ok t → Reads v t (rows ++ link_row k ∷ [])
+unfolding add_link
+reads_link v n s t k rows h place e =
+    let c = config_of s in
+    let r = link_ready v s h.sound h.held place in
+    let none = r.3 in
+    let g = guarded (lacks_weights s) _ _ t e in
+    let f = no_fault n _ _ t g.1 in
+    reads_next v s _ t (link_row k) rows h f.1 (ap (λ (l : List Row). l ++ link_row k ∷ []) r.0.0 ∙ push_link v c k none.0 none.1 none.2) r.1 (sound_link c _ k r.2 (reached s g.0) none.0 none.1 none.2 f.0 refl) h.targets tt
+
+reads_adapter : (v : Version) (n : ℕ) (s t : TraceStage) (a : Adapter) (rows : List Row) → Reads v s rows → stands s word.Sim ≡ true → can_spell (version_of s) a ≡ true → add_adapter n s a ≡ Ok t → Reads v t (rows ++ adapter_row a ∷ [])
 unfolding add_adapter
-reads_adapter v n s t a rows h place alone e =
+reads_adapter v n s t a rows h place spells e =
     let c = config_of s in
     let r = adapter_ready v s h.sound h.held place in
+    let held : holds (version_of s) c ≡ true = rw r.1 at r.0.1 in
     let g = guarded (lacks_weights s) _ _ t e in
     let k = no_fault n _ _ t g.1 in
-    reads_next v s _ t (adapter_row a) rows h k.1 (ap (λ (l : List Row). l ++ adapter_row a ∷ []) r.0.0 ∙ push_adapter v c a r.2 r.3) (holds_more v c a alone r.0.1) (sound_adapter c _ a r.1 (reached s g.0) r.2 r.3 k.0 refl) h.targets tt
+    reads_next v s _ t (adapter_row a) rows h k.1 (ap (λ (l : List Row). l ++ adapter_row a ∷ []) r.0.0 ∙ push_adapter v c a r.3 r.4) (r.1, holds_more (version_of s) c a spells held)
+    (sound_adapter (version_of s) c _ a r.2 (reached s g.0) r.3 r.4 k.0 refl) h.targets tt
 
 reads_device : (v : Version) (n : ℕ) (s t : TraceStage) (d : DeviceRow) (rows : List Row) → Reads v s rows → stands s word.Dev ≡ true → d.target ≤ 65535 → add_device n s d ≡ Ok t
     → Reads v t (rows ++ device_row (device_of d) ∷ [])
@@ -290,10 +271,14 @@ reads_row v n s t word.Weight row rows h p e =
     on_ok (in_record n (two_numbers row)) (λ m. add_weight n s (row_to m.0 m.1)) t e (λ m em r.
     let k = weight_takes row m p.eight p.word (in_record_ok n (two_numbers row) m em) in
     subst (λ (l : Row). Reads v t (rows ++ l ∷ [])) (sym k) (reads_weight v n s t (row_to m.0 m.1) rows h p.place r))
+reads_row v n s t word.Link row rows h p e =
+    on_ok (in_record n (one_number row)) (add_link n s) t e (λ o eo r.
+    let k = link_takes row o p.eight p.word (in_record_ok n (one_number row) o eo) in
+    subst (λ (l : Row). Reads v t (rows ++ l ∷ [])) (sym k) (reads_link v n s t o rows h p.place r))
 reads_row v n s t word.Sim row rows h p e =
-    on_ok (in_record n (one_number row)) (λ o. add_adapter n s (unlinked o)) t e (λ o eo r.
-    let k = adapter_takes row o p.eight p.word (in_record_ok n (one_number row) o eo) in
-    subst (λ (l : Row). Reads v t (rows ++ l ∷ [])) (sym k) (reads_adapter v n s t (unlinked o) rows h p.place refl r))
+    on_ok (in_record n (adapter_at (version_of s) row)) (add_adapter n s) t e (λ a ea r.
+    let k = adapter_takes (version_of s) row a p.eight p.word (in_record_ok n (adapter_at (version_of s) row) a ea) in
+    subst (λ (l : Row). Reads v t (rows ++ l ∷ [])) (sym k.0) (reads_adapter v n s t a rows h p.place k.1 r))
 reads_row v n s t word.Dev row rows h p e =
     on_ok (in_record n (device_at row)) (add_device n s) t e (λ d ed r.
     let k = device_row_takes row d p.eight p.word (in_record_ok n (device_at row) d ed) in
@@ -315,7 +300,7 @@ pub record ReadsBy (s : TraceStage) (rows : List Row) : Type 0 where
   pub version : Version
   pub reads : Reads version s rows
 
-header_reads : (v : Version) (s t : TraceStage) (row : Row) (rows : List Row) → rows ≡ [] → is_header (name_of v) row ≡ true → rows_at v s ≡ header v ∷ [] → is_in s v ≡ true → IsSound s
+header_reads : (v : Version) (s t : TraceStage) (row : Row) (rows : List Row) → rows ≡ [] → is_header (name_of v) row ≡ true → rows_at v s ≡ header v ∷ [] → IsIn s v → IsSound s
     → ((config_of s).devices ≡ []) × ((past_of s).events ≡ []) → s ≡ t → ReadsBy t (rows ++ row ∷ [])
 unfolding header
 header_reads v s t row rows none named spelled held sound empty same =
@@ -325,15 +310,20 @@ header_reads v s t row rows none named spelled held sound empty same =
 -- a stage that took a record has read it
 pub step_reads : (n : ℕ) (s t : TraceStage) (row : Row) (rows : List Row) → ReadsBy s rows → step n s row ≡ Ok t → ReadsBy t (rows ++ row ∷ [])
 unfolding step IsSound records_of
-step_reads n stage.Header t row rows h e = by (is_header (name_of version.One) row) (is_header (name_of version.Two) row) refl refl e
+step_reads n stage.Header t row rows h e = by (is_header (name_of version.One) row) (is_header (name_of version.Two) row) (is_header (name_of version.Three) row) refl refl refl e
   where
-    by : (one two : Bool) → is_header (name_of version.One) row ≡ one → is_header (name_of version.Two) row ≡ two
-        → cond one (Ok stage.First) (cond two (Ok (stage.Weights (record { weights = []; links = []; adapters = []; devices = []; lanes = [] }))) (Err BadHeader)) ≡ Ok t → ReadsBy t (rows ++ row ∷ [])
-    by true two is other k = header_reads version.One stage.First t row rows h.reads.spelled is refl refl tt (refl, refl) (ok_is _ t k)
-    by false true is other k =
-        header_reads version.Two (stage.Weights (record { weights = []; links = []; adapters = []; devices = []; lanes = [] })) t row rows h.reads.spelled other refl refl
-        (record { weights = refl; links = refl; adapters = refl; devices = refl; lanes = refl }, refl, refl, refl, refl) (refl, refl) (ok_is _ t k)
-    by false false is other k = absurd cc
+    table : (v : Version) → has_table v ≡ true → is_header (name_of v) row ≡ true → stage.Weights v empty ≡ t → ReadsBy t (rows ++ row ∷ [])
+    table v has named same =
+        let rows_are : rows_at v (stage.Weights v empty) ≡ header v ∷ [] = rw has refl in
+        header_reads v (stage.Weights v empty) t row rows h.reads.spelled named rows_are (refl, has)
+        (record { weights = refl; links = refl; adapters = refl; devices = refl; lanes = refl }, refl, refl, refl, refl) (refl, refl) same
+
+    by : (one two three : Bool) → is_header (name_of version.One) row ≡ one → is_header (name_of version.Two) row ≡ two → is_header (name_of version.Three) row ≡ three
+        → cond one (Ok stage.First) (cond two (Ok (stage.Weights version.Two empty)) (cond three (Ok (stage.Weights version.Three empty)) (Err BadHeader))) ≡ Ok t → ReadsBy t (rows ++ row ∷ [])
+    by true two three is_one is_two is_three k = header_reads version.One stage.First t row rows h.reads.spelled is_one refl refl tt (refl, refl) (ok_is _ t k)
+    by false true three is_one is_two is_three k = table version.Two refl is_two (ok_is _ t k)
+    by false false true is_one is_two is_three k = table version.Three refl is_three (ok_is _ t k)
+    by false false false is_one is_two is_three k = absurd cc
 step_reads n s t row rows h e = record { version = h.version; reads = reads_behind h.version n s t row rows h.reads e }
 
 -- what each record keeps of what was read, many records keep
@@ -350,7 +340,8 @@ ended_ok : (s : TraceStage) (past : Past) → ended s ≡ Ok past → (lacks_ada
 unfolding ended
 ended_ok stage.Header past e = absurd cc
 ended_ok stage.First past e = absurd cc
-ended_ok (stage.Weights t) past e = absurd cc
+ended_ok (stage.Weights v t) past e = absurd cc
+ended_ok (stage.Links t) past e = absurd cc
 ended_ok _ past e = (refl, ok_is _ past e)
 
 -- what was read to the end of the records is spelled by them

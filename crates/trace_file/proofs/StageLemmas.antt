@@ -7,15 +7,16 @@ use Rattle.cam_types.specs.Topology.{IsDraft, address_fault}
 use Rattle.cam_types.specs.declared.config.ConfigError.{ConfigError}
 use Rattle.cam_types.specs.declared.config.ConfigError.TheVariants as error
 use Rattle.cam_types.proofs.ListLemmas.{or_left}
-use Rattle.cam_types.proofs.TopologyLemmas.{config_fault-draft, draft_weight, draft_adapter, draft_device, draft_lane}
+use Rattle.cam_types.proofs.TopologyLemmas.{config_fault-draft, draft_weight, draft_link, draft_adapter, draft_device, draft_lane}
 use Rattle.cam_types.specs.declared.maxima.TheConstants.{MOST_ADAPTERS}
 use Rattle.cam_event.specs.Legal.{history_rules, is_legal as legal_by}
 use Rattle.cam_event.proofs.LawLemmas.{legal-push}
-use Rattle.trace_file.specs.Histories.{Adapter, Topology, WeightRow, reaches_last, weight_fault, Device, Event, Past, ConfigFault, adapter_fault, device_fault, lane_fault, config_fault, is_legal_event, is_legal}
+use Rattle.trace_file.specs.Histories.{Adapter, Topology, WeightRow, reaches_last, weight_fault, Device, Event, Past, ConfigFault, link_fault, adapter_fault, device_fault, lane_fault, config_fault, is_legal_event, is_legal}
 use Rattle.trace_file.specs.declared.device_row.DeviceRow.{DeviceRow}
 use Rattle.trace_file.specs.declared.trace_fault.TraceFault.TheVariants.{BadConfig}
 use Rattle.trace_file.specs.declared.trace_stage.TraceStage.{TraceStage}
 use Rattle.trace_file.specs.declared.trace_stage.TraceStage.TheVariants as stage
+use Rattle.trace_file.specs.declared.version.Version.{Version}
 use Rattle.trace_file.specs.declared.word.Word.{Word}
 use Rattle.trace_file.specs.declared.word.Word.TheVariants as word
 use Rattle.trace_file.specs.Fields.{Row}
@@ -40,17 +41,24 @@ few_adapters links adapters a none = leb-false _ _ (cond_none _ _ _ (or_left _ _
 
 -- ---- weights
 
-pub sound_weight : (t t' : Topology) (w : WeightRow) → IsSound (stage.Weights t) → weight_fault (t.weights, w) ≡ None
-    → t' ≡ record t { weights = t.weights ++ w ∷ [] } → IsSound (stage.Weights t')
+pub sound_weight : (v : Version) (t t' : Topology) (w : WeightRow) → IsSound (stage.Weights v t) → weight_fault (t.weights, w) ≡ None
+    → t' ≡ record t { weights = t.weights ++ w ∷ [] } → IsSound (stage.Weights v t')
 unfolding IsSound
-sound_weight t t' w h none e = rw e (draft_weight t (t.weights ++ w ∷ []) w h.0 none refl, h.1, h.2, h.3, h.4)
+sound_weight v t t' w h none e = rw e (draft_weight t (t.weights ++ w ∷ []) w h.0 none refl, h.1, h.2, h.3, h.4)
+
+-- ---- links
+
+pub sound_link : (t t' : Topology) (n : ℕ) → IsDraft t → reaches_last t.weights ≡ true → t.adapters ≡ [] → t.devices ≡ [] → t.lanes ≡ [] → link_fault (t.links, n) ≡ None
+    → t' ≡ record t { links = t.links ++ n ∷ [] } → IsSound (stage.Links t')
+unfolding IsSound
+sound_link t t' n d reaches adapters devices lanes none e = rw e (draft_link t (t.links ++ n ∷ []) n d adapters none refl, reaches, adapters, devices, lanes)
 
 -- ---- adapters
 
-pub sound_adapter : (t t' : Topology) (a : Adapter) → IsDraft t → reaches_last t.weights ≡ true → t.devices ≡ [] → t.lanes ≡ [] → adapter_fault (length t.links) (t.adapters, a) ≡ None
-    → t' ≡ record t { adapters = t.adapters ++ a ∷ [] } → IsSound (stage.Adapters t')
+pub sound_adapter : (v : Version) (t t' : Topology) (a : Adapter) → IsDraft t → reaches_last t.weights ≡ true → t.devices ≡ [] → t.lanes ≡ [] → adapter_fault (length t.links) (t.adapters, a) ≡ None
+    → t' ≡ record t { adapters = t.adapters ++ a ∷ [] } → IsSound (stage.Adapters v t')
 unfolding IsSound
-sound_adapter t t' a d reaches devices lanes none e =
+sound_adapter v t t' a d reaches devices lanes none e =
     let few = few_adapters (length t.links) t.adapters a none in
     let size = length-append t.adapters (a ∷ []) in
     rw e (
@@ -157,13 +165,14 @@ sound_event p p' e kept legal is =
 
 -- ---- a record
 
-pub add_row_event : (n : ℕ) (s : TraceStage) (w : Word) (row : Row) → w ≢ word.Weight → w ≢ word.Sim → w ≢ word.Dev → w ≢ word.Lane → add_row n s w row ≡ (in_record n (event_at w row) >>= add_event n s)
+pub add_row_event : (n : ℕ) (s : TraceStage) (w : Word) (row : Row) → w ≢ word.Weight → w ≢ word.Link → w ≢ word.Sim → w ≢ word.Dev → w ≢ word.Lane → add_row n s w row ≡ (in_record n (event_at w row) >>= add_event n s)
 unfolding add_row
-add_row_event n s word.Weight row o a b c = absurd (o refl)
-add_row_event n s word.Sim row o a b c = absurd (a refl)
-add_row_event n s word.Dev row o a b c = absurd (b refl)
-add_row_event n s word.Lane row o a b c = absurd (c refl)
-add_row_event n s _ row o a b c = refl
+add_row_event n s word.Weight row o k a b c = absurd (o refl)
+add_row_event n s word.Link row o k a b c = absurd (k refl)
+add_row_event n s word.Sim row o k a b c = absurd (a refl)
+add_row_event n s word.Dev row o k a b c = absurd (b refl)
+add_row_event n s word.Lane row o k a b c = absurd (c refl)
+add_row_event n s _ row o k a b c = refl
 
 pub step_behind : (n : ℕ) (s : TraceStage) (row : Row) → s ≢ stage.Header → step n s row ≡ row_step n s row
 unfolding step

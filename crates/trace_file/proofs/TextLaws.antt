@@ -1,6 +1,6 @@
 -- The text of a history's records is a trace of the history.
-use Rattle.std.proofs.Common.{◌≡◌, ◌≤◌, ◌+◌, ◌*◌, ℕ, List, [], ◌∷◌, ◌++◌, length, map, Bool, true, refl, ap, ◌∙◌, arith, length-append, suc}
-use Rattle.std.specs.Prelude.{None, decimal, codes, if◌then◌else◌}
+use Rattle.std.proofs.Common.{◌≡◌, ◌≤◌, ◌+◌, ◌*◌, ℕ, List, [], ◌∷◌, ◌++◌, length, map, Bool, true, false, cond, refl, ap, ◌∙◌, arith, length-append, suc}
+use Rattle.std.specs.Prelude.{Option, Some, None, IfSome, decimal, codes, if◌then◌else◌}
 use Rattle.std.specs.List.{AllByRecursion, flat_map, All}
 use Rattle.std.proofs.lemmas.Bool.Decides.{nat_tests}
 use Rattle.std.proofs.lemmas.Fmt.{length-decimal-le}
@@ -13,22 +13,23 @@ use Rattle.csv.specs.declared.parser.State.TheVariants as st
 use Rattle.csv.proofs.RoundTrip.{read-write}
 use Rattle.cam_event.specs.declared.event.Event.TheVariants as event
 use Rattle.trace_file.specs.Fields.{Row, flags_text, flags_word}
-use Rattle.trace_file.specs.Histories.{WeightRow, weight_fault, Device, Event, Past, adapter_fault, device_fault, lane_fault}
-use Rattle.trace_file.specs.Records.{weight_row, weight_rows, adapter_row, device_row, event_row, header, hex, holds, lane_row, records_of}
+use Rattle.trace_file.specs.Histories.{Adapter, WeightRow, weight_fault, Device, Event, Past, link_fault, adapter_fault, device_fault, lane_fault}
+use Rattle.trace_file.specs.Versions.{has_table}
+use Rattle.trace_file.specs.Records.{weight_row, weight_rows, link_row, adapter_row, device_row, event_row, header, hex, holds, lane_row, records_of}
 use Rattle.trace_file.specs.declared.version.Version.{Version}
 use Rattle.trace_file.specs.declared.version.Version.TheVariants as version
 use Rattle.trace_file.specs.Rows.{most_number}
 use Rattle.trace_file.specs.Trace.{FitsEvent, IsHistory, IsTrace}
 use Rattle.trace_file.specs.Writing.{text_of, text_in}
 use Rattle.cam_types.specs.Topology.{IsConfig}
-use Rattle.cam_types.proofs.ConfigLemmas.{adapter_items, device_items, few_adapters, few_devices, few_weights, lane_items, weight_items}
-use Rattle.cam_types.specs.declared.maxima.TheConstants.{MOST_ADAPTERS, MOST_DEVICES, MOST_LANES, MOST_EVENTS, MOST_WEIGHT_ROWS}
+use Rattle.cam_types.proofs.ConfigLemmas.{adapter_items, device_items, few_adapters, few_devices, few_links, few_weights, lane_items, link_items, weight_items}
+use Rattle.cam_types.specs.declared.maxima.TheConstants.{MOST_LINKS, MOST_ADAPTERS, MOST_DEVICES, MOST_LANES, MOST_EVENTS, MOST_WEIGHT_ROWS}
 use Rattle.cam_event.proofs.LaneCount.{few_lanes}
 use Rattle.trace_file.proofs.AgainLaws.{Along, along_both, none_along}
 use Rattle.trace_file.proofs.HexLaws.{length-hex}
 use Rattle.trace_file.proofs.RecordLemmas.{first_left, none_left}
 use Rattle.trace_file.proofs.StageLemmas.{device_small}
-use Rattle.trace_file.proofs.WholeLaws.{GoodDevice, adapter_small, lane_small, weight_numbers}
+use Rattle.trace_file.proofs.WholeLaws.{GoodDevice, adapter_link, adapter_small, lane_small, link_number, link_small, weight_numbers}
 
 -- ---- records that are written are read again
 
@@ -150,6 +151,7 @@ good_header : (v : Version) → IsGood (header v)
 unfolding header
 good_header version.One = (refl, eight (codes "camtrace1") (codes "a") (codes "b") (codes "c") (codes "d") (codes "e") (codes "f") (codes "g") (omega arith))
 good_header version.Two = (refl, eight (codes "camtrace2") (codes "a") (codes "b") (codes "c") (codes "d") (codes "e") (codes "f") (codes "g") (omega arith))
+good_header version.Three = (refl, eight (codes "camtrace3") (codes "a") (codes "b") (codes "c") (codes "d") (codes "e") (codes "f") (codes "g") (omega arith))
 
 good_weight : (before : List WeightRow) (w : WeightRow) → weight_fault (before, w) ≡ None → IsGood (weight_row w)
 good_weight before w e = let s = weight_numbers before w e in (refl, two_numbers (codes "weight") w.last w.weight (omega arith) (omega arith) (omega arith))
@@ -157,10 +159,21 @@ good_weight before w e = let s = weight_numbers before w e in (refl, two_numbers
 -- the records of the weights: each is good, and they aren't many
 good_weights : (v : Version) (weights : List WeightRow) → Along (λ b w. weight_fault (b, w) ≡ None) [] weights → length weights ≤ MOST_WEIGHT_ROWS
     → All IsGood (weight_rows v weights) × (length (weight_rows v weights) ≤ MOST_WEIGHT_ROWS)
-good_weights version.One weights h few = (All-nil IsGood, omega arith)
-good_weights version.Two weights h few =
-    let size = length-map weights weight_row in
-    (along_good (λ b w. weight_fault (b, w) ≡ None) weight_row [] weights good_weight h, omega arith)
+good_weights v weights h few = by (has_table v)
+  where
+    by : (b : Bool) → All IsGood (cond b (map weight_row weights) []) × (length (cond b (map weight_row weights) []) ≤ MOST_WEIGHT_ROWS)
+    by true = let size = length-map weights weight_row in (along_good (λ b w. weight_fault (b, w) ≡ None) weight_row [] weights good_weight h, omega arith)
+    by false = (All-nil IsGood, omega arith)
+
+good_adapter : (links : ℕ) → links ≤ MOST_LINKS → (before : List Adapter) (a : Adapter) → adapter_fault links (before, a) ≡ None → IsGood (adapter_row a)
+good_adapter links few before a e = by a.link (link_number links a.link few (adapter_link links before a e))
+  where
+    small : a.openings ≤ 255
+    small = adapter_small links before a e
+
+    by : (link : Option ℕ) → IfSome link (λ l. l ≤ most_number) → IsGood (adapter_row (record { openings = a.openings; link = link }))
+    by None h = let s = small in (refl, one_number (codes "sim") a.openings (omega arith) (omega arith))
+    by (Some l) h = let s = small in (refl, two_numbers (codes "sim") a.openings l (omega arith) (omega arith) h)
 
 text-le : (rows : List Row) → AllByRecursion IsGood rows → length (text_of rows) ≤ 135 * length rows
 unfolding text_of
@@ -173,7 +186,7 @@ text-le (row ∷ rows) h =
 
 -- a history's records: each is good, and they aren't many
 good_records : (v : Version) (past : Past) → IsHistory past → length past.events ≤ MOST_EVENTS
-    → All IsGood (records_of v past) × (length (records_of v past) ≤ MOST_EVENTS + (1 + MOST_WEIGHT_ROWS + MOST_ADAPTERS + MOST_DEVICES + MOST_ADAPTERS * MOST_LANES))
+    → All IsGood (records_of v past) × (length (records_of v past) ≤ MOST_EVENTS + (1 + MOST_WEIGHT_ROWS + MOST_LINKS + MOST_ADAPTERS + MOST_DEVICES + MOST_ADAPTERS * MOST_LANES))
 unfolding records_of
 good_records v past h few =
     let t = past.config in
@@ -181,7 +194,9 @@ good_records v past h few =
     let is : IsConfig t = record { kept = h.config } in
     let adapter_count = few_adapters t is in
     let weights = good_weights v t.weights (none_along weight_fault [] t.weights (weight_items t is)) (few_weights t is) in
-    let openings = along_good (λ b a. adapter_fault (length t.links) (b, a) ≡ None) adapter_row [] t.adapters (λ b a e. let s = adapter_small (length t.links) b a e in (refl, one_number (codes "sim") a.openings (omega arith) (omega arith)))
+    let link_count = few_links t is in
+    let shared = along_good (λ b k. link_fault (b, k) ≡ None) link_row [] t.links (λ b k e. let s = link_small b k e in (refl, one_number (codes "link") k (omega arith) (omega arith))) (none_along link_fault [] t.links (link_items t is)) in
+    let openings = along_good (λ b a. adapter_fault (length t.links) (b, a) ≡ None) adapter_row [] t.adapters (good_adapter (length t.links) link_count)
     (none_along (adapter_fault (length t.links)) [] t.adapters (adapter_items t is)) in
     let devices = along_good (GoodDevice t.adapters) device_row [] t.devices (λ b d p. let s = device_small n b d p.0 in (refl, short_device d (omega arith) (omega (arith, p.1)) (omega arith) (omega arith)))
     (along_both (λ b d. device_fault n (b, d) ≡ None) (λ (d : Device). d.target ≤ 65535) [] t.devices (none_along (device_fault n) [] t.devices (device_items t is)) h.targets) in
@@ -190,20 +205,24 @@ good_records v past h few =
     let lanes = map lane_row t.lanes ++ map event_row past.events in
     let rest = map device_row t.devices ++ lanes in
     let all = map adapter_row t.adapters ++ rest in
-    let size_w = length-append (weight_rows v t.weights) all in
+    let links = map link_row t.links ++ all in
+    let size_w = length-append (weight_rows v t.weights) links in
+    let size_k = length-append (map link_row t.links) all in
     let device_count = few_devices t is in
     let lane_count = few_lanes t is in
     let size_a = length-append (map adapter_row t.adapters) rest in
     let size_d = length-append (map device_row t.devices) lanes in
     let size_l = length-append (map lane_row t.lanes) (map event_row past.events) in
+    let k = length-map t.links link_row in
     let a = length-map t.adapters adapter_row in
     let d = length-map t.devices device_row in
     let l = length-map t.lanes lane_row in
     let e = length-map past.events event_row in (
       All-cons IsGood (header v) _ (good_header v)
-          (All-append IsGood (weight_rows v t.weights) all weights.0
+          (All-append IsGood (weight_rows v t.weights) links weights.0
+          (All-append IsGood (map link_row t.links) all shared
           (All-append IsGood (map adapter_row t.adapters) rest openings
-          (All-append IsGood (map device_row t.devices) lanes devices (All-append IsGood (map lane_row t.lanes) (map event_row past.events) buses events)))),
+          (All-append IsGood (map device_row t.devices) lanes devices (All-append IsGood (map lane_row t.lanes) (map event_row past.events) buses events))))),
       omega arith,
     )
 
@@ -212,6 +231,7 @@ no_mark : (v : Version) (past : Past) → strip_bom (text_in v past) ≡ text_in
 unfolding strip_bom text_in text_of records_of header fields_text escaped is_blank
 no_mark version.One past = refl
 no_mark version.Two past = refl
+no_mark version.Three past = refl
 
 -- the text of a history in a version that holds it is a trace of it
 pub is_trace : (v : Version) (past : Past) → holds v past.config ≡ true → IsHistory past → length past.events ≤ 65535 → IsTrace (text_in v past) past

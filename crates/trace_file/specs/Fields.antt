@@ -2,6 +2,7 @@ use Rattle.std.specs.Prelude.{ℕ, ◌+◌, ◌*◌, ◌-◌, ◌==◌, Bool, tr
 use Rattle.csv.specs.Records.{field_at}
 use Rattle.text_io.specs.Number.{number_of}
 use Rattle.cam_types.specs.declared.flags.Flags.{Flags}
+use Rattle.trace_file.specs.Steps.{◌>>=◌}
 
 -- a record: its fields, each of bytes
 abbrev pub Row : Type 0
@@ -18,6 +19,10 @@ formed value at = ok_or value (at + 1)
 -- a number of at most `most`
 unfoldable pub number_at : Row → ℕ → ℕ → Result ℕ ℕ
 number_at row at most = formed (number_of most (field_of row at)) at
+
+-- the same, or none where the field has no byte
+unfoldable pub optional_at : Row → ℕ → ℕ → Result (Option ℕ) ℕ
+optional_at row at most = if length (field_of row at) == 0 then Ok None else (number_at row at most >>= λ n. Ok (Some n))
 
 -- the value of a lower-case hexadecimal digit
 unfoldable pub hex_value : ℕ → Option ℕ

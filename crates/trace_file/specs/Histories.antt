@@ -3,7 +3,7 @@ use Rattle.std.specs.Prelude.{Bool, List, Option}
 use Rattle.cam_event.specs.Legal as legal
 use Rattle.cam_event.specs.Refusals as refusals
 pub use Rattle.cam_types.specs.Topology.{Topology, config_fault, unlinked}
-unfoldable pub use Rattle.cam_types.specs.Topology.{adapter_fault, device_fault, lane_fault}
+unfoldable pub use Rattle.cam_types.specs.Topology.{link_fault, adapter_fault, device_fault, lane_fault}
 unfoldable pub use Rattle.cam_types.specs.Weights.{weight_fault}
 pub use Rattle.cam_types.specs.Weights.{reaches_last, standard_weights}
 pub use Rattle.cam_types.specs.declared.weight_row.WeightRow.{WeightRow}

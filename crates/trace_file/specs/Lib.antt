@@ -1,3 +1,4 @@
+pub mod EventRecord
 pub mod Fields
 pub mod Histories
 pub mod Reading
@@ -11,5 +12,6 @@ pub mod Sound
 pub mod Steps
 pub mod Text
 pub mod Trace
+pub mod Versions
 pub mod Words
 pub mod Writing

@@ -1,20 +1,21 @@
 -- How a list of records is read as a history: record by record, each by the stage that it finds.
 use Rattle.std.specs.Prelude.{ℕ, ◌+◌, ◌==◌, Bool, true, false, not, nat_le, ◌&&◌, if◌then◌else◌, List, [], ◌∷◌, ◌++◌, length, Option, Some, None, option_and_then, ok_or, Result, Ok, Err, codes, bytes_eq}
-use Rattle.trace_file.specs.Histories.{Adapter, Topology, unlinked, Past, Event, WeightRow, ConfigFault, NoAdapters, BadWeight, weight_fault, reaches_last, standard_weights, adapter_fault, device_fault, lane_fault, Refusal, refusal}
+use Rattle.trace_file.specs.Histories.{Adapter, Topology, Past, Event, WeightRow, ConfigFault, NoAdapters, BadWeight, weight_fault, reaches_last, standard_weights, link_fault, adapter_fault, device_fault, lane_fault, Refusal, refusal}
 use Rattle.cam_types.specs.Weights.{row_to}
 use Rattle.trace_file.specs.declared.device_row.DeviceRow.{DeviceRow}
 use Rattle.trace_file.specs.declared.trace_fault.TraceFault.{TraceFault}
 use Rattle.trace_file.specs.declared.trace_fault.TraceFault.TheVariants.{BadHeader, BadRecord, BadField, BadConfig, Illegal}
 use Rattle.trace_file.specs.declared.trace_stage.TraceStage.{TraceStage}
 use Rattle.trace_file.specs.declared.trace_stage.TraceStage.TheVariants as stage
+use Rattle.trace_file.specs.declared.version.Version.{Version}
 use Rattle.trace_file.specs.declared.version.Version.TheVariants as version
-use Rattle.trace_file.specs.Records.{name_of}
+use Rattle.trace_file.specs.Versions.{has_word, name_of}
 use Rattle.trace_file.specs.declared.word.Word.{Word}
 use Rattle.trace_file.specs.declared.word.Word.TheVariants as word
 use Rattle.trace_file.specs.Steps.{◌>>=◌, taken}
 use Rattle.trace_file.specs.Fields.{Row, field_of}
 use Rattle.trace_file.specs.Words.{word_of, word_rank}
-use Rattle.trace_file.specs.Rows.{one_number, two_numbers, device_at, device_of, event_at}
+use Rattle.trace_file.specs.Rows.{one_number, two_numbers, adapter_at, device_at, device_of, event_at}
 
 -- the fields of the header that name the columns
 unfoldable pub has_letters : Row → Bool
@@ -29,17 +30,25 @@ is_header name row = (length row == 8) && bytes_eq (field_of row 0) name && has_
 
 -- the rank of the words that may come next, and of those behind them
 abbrev pub stage_rank : TraceStage → ℕ
-stage_rank (stage.Weights t) = 0
-stage_rank (stage.Devices t) = 2
-stage_rank (stage.Lanes t) = 3
-stage_rank (stage.Events p) = 4
-stage_rank _ = 1
+stage_rank (stage.Weights v t) = 0
+stage_rank (stage.Links t) = 1
+stage_rank (stage.Devices t) = 3
+stage_rank (stage.Lanes t) = 4
+stage_rank (stage.Events p) = 5
+stage_rank _ = 2
 
--- Rows of weights, adapters, devices, lanes and events stand in this order, of weights only in version 2. The first may have
--- any word behind these.
+-- the version of a trace up to its adapters: behind them the versions are alike, and it is not kept
+abbrev pub version_of : TraceStage → Version
+version_of (stage.Weights v t) = v
+version_of (stage.Links t) = version.Three
+version_of (stage.Adapters v t) = v
+version_of _ = version.One
+
+-- Rows of weights, links, adapters, devices, lanes and events stand in this order, of weights in versions 2 and 3, of links in
+-- version 3. The first may have any word behind these.
 unfoldable pub stands : TraceStage → Word → Bool
 stands stage.Header w = false
-stands s w = nat_le (stage_rank s) (word_rank w)
+stands s w = nat_le (stage_rank s) (word_rank w) && has_word (version_of s) w
 
 -- the word of a record of eight fields, where it stands in its place
 unfoldable pub placed : TraceStage → Row → Option Word
@@ -48,8 +57,9 @@ placed s row =
 
 -- what is configured and what happened so far
 abbrev pub past_of : TraceStage → Past
-past_of (stage.Weights t) = record { config = t; events = [] }
-past_of (stage.Adapters t) = record { config = t; events = [] }
+past_of (stage.Weights v t) = record { config = t; events = [] }
+past_of (stage.Links t) = record { config = t; events = [] }
+past_of (stage.Adapters v t) = record { config = t; events = [] }
 past_of (stage.Devices t) = record { config = t; events = [] }
 past_of (stage.Lanes t) = record { config = t; events = [] }
 past_of (stage.Events p) = p
@@ -62,16 +72,17 @@ config_of s = (past_of s).config
 abbrev pub lacks_adapters : TraceStage → Bool
 lacks_adapters stage.Header = true
 lacks_adapters stage.First = true
-lacks_adapters (stage.Weights t) = true
+lacks_adapters (stage.Weights v t) = true
+lacks_adapters (stage.Links t) = true
 lacks_adapters _ = false
 
 -- the weights don't reach the last priority
 abbrev pub lacks_weights : TraceStage → Bool
 lacks_weights s = not (reaches_last (config_of s).weights)
 
--- what is lacking where no adapter has come
-abbrev pub lacking : TraceStage → ConfigFault
-lacking s = if lacks_weights s then BadWeight else NoAdapters
+-- what is lacking behind these weights, where no adapter has come
+abbrev pub lacking : List WeightRow → ConfigFault
+lacking weights = if reaches_last weights then NoAdapters else BadWeight
 
 -- the next stage, unless the record breaks a rule of the configuration
 abbrev pub unless_fault : ℕ → Option ConfigFault → TraceStage → Result TraceStage TraceFault
@@ -92,36 +103,43 @@ in_record n (Err field) = Err (BadField n field)
 unfoldable pub add_weight : ℕ → TraceStage → WeightRow → Result TraceStage TraceFault
 add_weight n s w =
     let t = config_of s in
-    unless_fault n (weight_fault (t.weights, w)) (stage.Weights (record t { weights = t.weights ++ w ∷ [] }))
+    unless_fault n (weight_fault (t.weights, w)) (stage.Weights (version_of s) (record t { weights = t.weights ++ w ∷ [] }))
+
+unfoldable pub add_link : ℕ → TraceStage → ℕ → Result TraceStage TraceFault
+add_link n s openings =
+    let t = config_of s in
+    if lacks_weights s then Err (BadConfig n BadWeight)
+    else unless_fault n (link_fault (t.links, openings)) (stage.Links (record t { links = t.links ++ openings ∷ [] }))
 
 unfoldable pub add_adapter : ℕ → TraceStage → Adapter → Result TraceStage TraceFault
 add_adapter n s a =
     let t = config_of s in
     if lacks_weights s then Err (BadConfig n BadWeight)
-    else unless_fault n (adapter_fault (length t.links) (t.adapters, a)) (stage.Adapters (record t { adapters = t.adapters ++ a ∷ [] }))
+    else unless_fault n (adapter_fault (length t.links) (t.adapters, a)) (stage.Adapters (version_of s) (record t { adapters = t.adapters ++ a ∷ [] }))
 
 unfoldable pub add_device : ℕ → TraceStage → DeviceRow → Result TraceStage TraceFault
 add_device n s d =
     let t = config_of s in
-    if lacks_adapters s then Err (BadConfig n (lacking s))
+    if lacks_adapters s then Err (BadConfig n (lacking t.weights))
     else unless_fault n (device_fault (length t.adapters) (t.devices, device_of d)) (stage.Devices (record t { devices = t.devices ++ device_of d ∷ [] }))
 
 unfoldable pub add_lane : ℕ → TraceStage → ℕ → Result TraceStage TraceFault
 add_lane n s adapter =
     let t = config_of s in
-    if lacks_adapters s then Err (BadConfig n (lacking s))
+    if lacks_adapters s then Err (BadConfig n (lacking t.weights))
     else unless_fault n (lane_fault (length t.adapters) (t.lanes, adapter)) (stage.Lanes (record t { lanes = t.lanes ++ adapter ∷ [] }))
 
 unfoldable pub add_event : ℕ → TraceStage → Event → Result TraceStage TraceFault
 add_event n s e =
     let p = past_of s in
-    if lacks_adapters s then Err (BadConfig n (lacking s))
+    if lacks_adapters s then Err (BadConfig n (lacking p.config.weights))
     else unless_refused n (refusal p.config p.events e) (stage.Events (record p { events = p.events ++ e ∷ [] }))
 
 -- a record of this word
 unfoldable pub add_row : ℕ → TraceStage → Word → Row → Result TraceStage TraceFault
 add_row n s word.Weight row = in_record n (two_numbers row) >>= λ p. add_weight n s (row_to p.0 p.1)
-add_row n s word.Sim row = in_record n (one_number row) >>= λ openings. add_adapter n s (unlinked openings)
+add_row n s word.Link row = in_record n (one_number row) >>= add_link n s
+add_row n s word.Sim row = in_record n (adapter_at (version_of s) row) >>= add_adapter n s
 add_row n s word.Dev row = in_record n (device_at row) >>= add_device n s
 add_row n s word.Lane row = in_record n (one_number row) >>= add_lane n s
 add_row n s w row = in_record n (event_at w row) >>= add_event n s
@@ -132,11 +150,16 @@ row_step n s row = do
   w ← ok_or (placed s row) (BadRecord n)
   add_row n s w row
 
+-- nothing is configured
+abbrev pub empty : Topology
+empty = record { weights = []; links = []; adapters = []; devices = []; lanes = [] }
+
 -- the record of this number
 unfoldable pub step : ℕ → TraceStage → Row → Result TraceStage TraceFault
 step n stage.Header row =
     if is_header (name_of version.One) row then Ok stage.First
-    else if is_header (name_of version.Two) row then Ok (stage.Weights (record { weights = []; links = []; adapters = []; devices = []; lanes = [] }))
+    else if is_header (name_of version.Two) row then Ok (stage.Weights version.Two empty)
+    else if is_header (name_of version.Three) row then Ok (stage.Weights version.Three empty)
     else Err BadHeader
 step n s row = row_step n s row
 
@@ -144,7 +167,8 @@ step n s row = row_step n s row
 unfoldable pub ended : TraceStage → Result Past TraceFault
 ended stage.Header = Err BadHeader
 ended stage.First = Err (BadConfig 2 NoAdapters)
-ended (stage.Weights t) = Err (BadConfig (2 + length t.weights) (lacking (stage.Weights t)))
+ended (stage.Weights v t) = Err (BadConfig (2 + length t.weights) (lacking t.weights))
+ended (stage.Links t) = Err (BadConfig (2 + length t.weights + length t.links) NoAdapters)
 ended s = Ok (past_of s)
 
 -- the history of these records, or the first fault

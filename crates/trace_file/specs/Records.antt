@@ -1,5 +1,5 @@
 -- The records of a history.
-use Rattle.std.specs.Prelude.{ℕ, ◌-◌, ◌/◌, ◌%◌, ◌==◌, ◌&&◌, Bool, true, false, if◌then◌else◌, List, [], ◌∷◌, ◌++◌, length, map, replicate, codes, decimal}
+use Rattle.std.specs.Prelude.{ℕ, ◌-◌, ◌/◌, ◌%◌, ◌==◌, ◌&&◌, Bool, true, false, if◌then◌else◌, List, [], ◌∷◌, ◌++◌, length, map, replicate, Option, codes, decimal}
 use Rattle.std.specs.List.{list_all}
 use Rattle.std.specs.Option.{option_map_or}
 use Rattle.std.specs.Char.{digit_char}
@@ -10,6 +10,7 @@ use Rattle.trace_file.specs.Histories.{Adapter, Device, Event, Past, Topology, W
 use Rattle.trace_file.specs.declared.version.Version.{Version}
 use Rattle.trace_file.specs.declared.version.Version.TheVariants as version
 use Rattle.trace_file.specs.Fields.{Row, flags_text}
+use Rattle.trace_file.specs.Versions.{has_table, name_of}
 use Rattle.trace_file.specs.Words.{spelled}
 
 -- these fields, and empty ones up to eight
@@ -21,24 +22,25 @@ abbrev pub hex : List ℕ → List ℕ
 hex [] = []
 hex (b ∷ bs) = digit_char (b / 16) ∷ digit_char (b % 16) ∷ hex bs
 
--- the word that a trace of a version begins with
-abbrev pub name_of : Version → List ℕ
-name_of version.One = codes "camtrace1"
-name_of version.Two = codes "camtrace2"
-
 unfoldable pub header : Version → Row
 header v = name_of v ∷ codes "a" ∷ codes "b" ∷ codes "c" ∷ codes "d" ∷ codes "e" ∷ codes "f" ∷ codes "g" ∷ []
 
 abbrev pub weight_row : WeightRow → Row
 weight_row w = padded (spelled word.Weight ∷ decimal w.last ∷ decimal w.weight ∷ [])
 
--- version 1 has the standard weights, and no record of them
+-- the table of weights, where a version has one
 abbrev pub weight_rows : Version → List WeightRow → List Row
-weight_rows version.One weights = []
-weight_rows version.Two weights = map weight_row weights
+weight_rows v weights = if has_table v then map weight_row weights else []
+
+abbrev pub link_row : ℕ → Row
+link_row openings = padded (spelled word.Link ∷ decimal openings ∷ [])
+
+-- the number of an adapter's link, and no byte if it is on none
+abbrev pub link_text : Option ℕ → List ℕ
+link_text link = option_map_or decimal link []
 
 abbrev pub adapter_row : Adapter → Row
-adapter_row a = padded (spelled word.Sim ∷ decimal a.openings ∷ [])
+adapter_row a = padded (spelled word.Sim ∷ decimal a.openings ∷ link_text a.link ∷ [])
 
 abbrev pub device_row : Device → Row
 device_row d = padded (spelled word.Dev ∷ decimal d.bus ∷ decimal d.target ∷ decimal d.lun ∷ decimal d.openings ∷ [])
@@ -61,11 +63,11 @@ event_row (event.ReleaseSim sim) = padded (spelled word.ReleaseSim ∷ decimal s
 event_row (event.Adjust device openings) = padded (spelled word.Adjust ∷ decimal device ∷ decimal openings ∷ [])
 event_row event.Tick = padded (spelled word.Tick ∷ [])
 
--- in a version: the header, the records of the weights, one for each adapter, device and lane, and one for each event
+-- in a version: the header, the records of the weights, one for each link, adapter, device and lane, and one for each event
 unfoldable pub records_of : Version → Past → List Row
 records_of v past =
-    header v ∷ (weight_rows v past.config.weights
-    ++ (map adapter_row past.config.adapters ++ (map device_row past.config.devices ++ (map lane_row past.config.lanes ++ map event_row past.events))))
+    header v ∷ (weight_rows v past.config.weights ++ (map link_row past.config.links
+    ++ (map adapter_row past.config.adapters ++ (map device_row past.config.devices ++ (map lane_row past.config.lanes ++ map event_row past.events)))))
 
 -- an adapter is on no link
 abbrev pub is_unlinked : Adapter → Bool
@@ -79,7 +81,8 @@ has_no_links c = (length c.links == 0) && list_all is_unlinked c.adapters
 abbrev pub holds : Version → Topology → Bool
 holds version.One c = are_standard c.weights && has_no_links c
 holds version.Two c = has_no_links c
+holds version.Three c = true
 
 -- the least version that holds a configuration
 abbrev pub least_version : Topology → Version
-least_version c = if holds version.One c then version.One else version.Two
+least_version c = if holds version.One c then version.One else if holds version.Two c then version.Two else version.Three

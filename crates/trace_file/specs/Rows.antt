@@ -1,12 +1,14 @@
 -- What the records of a trace say: their words' fields, in order.
-use Rattle.std.specs.Prelude.{ℕ, min, Result, Ok, Err}
-use Rattle.trace_file.specs.Histories.{Device, Event, Outcome}
+use Rattle.std.specs.Prelude.{ℕ, min, if◌then◌else◌, Result, Ok, Err}
+use Rattle.trace_file.specs.Histories.{Adapter, Device, Event, Outcome, unlinked}
 use Rattle.cam_event.specs.declared.event.Event.TheVariants as event
 use Rattle.trace_file.specs.declared.device_row.DeviceRow.{DeviceRow}
+use Rattle.trace_file.specs.declared.version.Version.{Version}
 use Rattle.trace_file.specs.declared.word.Word.{Word}
 use Rattle.trace_file.specs.declared.word.Word.TheVariants as word
 use Rattle.trace_file.specs.Steps.{◌>>=◌}
-use Rattle.trace_file.specs.Fields.{Row, number_at, byte_at, sense_at, flags_at, unused_from}
+use Rattle.trace_file.specs.Fields.{Row, number_at, optional_at, byte_at, sense_at, flags_at, unused_from}
+use Rattle.trace_file.specs.Versions.{has_links}
 
 -- the largest number of a record
 abbrev pub most_number : ℕ
@@ -26,6 +28,18 @@ two_numbers row = do
   m ← number_at row 2 most_number
   _ ← unused_from row 3
   Ok (n, m)
+
+-- openings, and the number of a link or none
+unfoldable pub linked_at : Row → Result Adapter ℕ
+linked_at row = do
+  openings ← number_at row 1 most_number
+  link ← optional_at row 2 most_number
+  _ ← unused_from row 3
+  Ok (record { openings = openings; link = link })
+
+-- an adapter: its openings, and its link too in a version that has links
+unfoldable pub adapter_at : Version → Row → Result Adapter ℕ
+adapter_at v row = if has_links v then linked_at row else (one_number row >>= λ openings. Ok (unlinked openings))
 
 unfoldable pub device_at : Row → Result DeviceRow ℕ
 device_at row = do

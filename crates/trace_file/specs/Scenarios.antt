@@ -101,6 +101,10 @@ item_of c (row.Answer lane outcome) = do
 abbrev pub push_at : {X : Type 0} → List (List X) → ℕ → X → List (List X)
 push_at lists i x = set lists i (get_or lists i [] ++ x ∷ [])
 
+-- the scenario of these lists
+abbrev pub scenario_by : Topology → Bounds → List (List Step) → List (List Outcome) → Scenario
+scenario_by c limits drivers answers = record { config = c; limits = limits; drivers = drivers; answers = answers }
+
 -- a scenario without any row
 abbrev pub empty_scenario : Topology → Bounds → Scenario
 empty_scenario c limits = record { config = c; limits = limits; drivers = replicate 8 []; answers = replicate (length c.lanes) [] }

@@ -21,7 +21,8 @@ use Rattle.trace_file.specs.declared.script_stage.TheConstants.{MOST_ROWS}
 -- a configuration with the standard weights is in the making, or an adapter is due
 abbrev pub is_configuring : TraceStage → Bool
 is_configuring trace.Header = false
-is_configuring (trace.Weights t) = false
+is_configuring (trace.Weights v t) = false
+is_configuring (trace.Links t) = false
 is_configuring (trace.Events p) = false
 is_configuring _ = true
 

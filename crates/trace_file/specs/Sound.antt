@@ -24,8 +24,9 @@ pub record IsKept (p : Past) : Type 0 where
 
 -- what holds at a stage
 unfoldable pub IsSound : TraceStage → Type 0
-IsSound (stage.Weights t) = IsDraft t × (t.links ≡ []) × (t.adapters ≡ []) × (t.devices ≡ []) × (t.lanes ≡ [])
-IsSound (stage.Adapters t) = IsBegun t × (t.devices ≡ []) × (t.lanes ≡ [])
+IsSound (stage.Weights v t) = IsDraft t × (t.links ≡ []) × (t.adapters ≡ []) × (t.devices ≡ []) × (t.lanes ≡ [])
+IsSound (stage.Links t) = IsDraft t × (reaches_last t.weights ≡ true) × (t.adapters ≡ []) × (t.devices ≡ []) × (t.lanes ≡ [])
+IsSound (stage.Adapters v t) = IsBegun t × (t.devices ≡ []) × (t.lanes ≡ [])
 IsSound (stage.Devices t) = IsBegun t × (t.lanes ≡ [])
 IsSound (stage.Lanes t) = IsBegun t
 IsSound (stage.Events p) = IsKept p

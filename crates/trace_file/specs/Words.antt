@@ -19,20 +19,22 @@ spelled word.ReleaseSim = codes "srelease"
 spelled word.Adjust = codes "adjust"
 spelled word.Tick = codes "tick"
 spelled word.Weight = codes "weight"
+spelled word.Link = codes "link"
 
 abbrev pub all_words : List Word
 all_words =
     word.Sim ∷ word.Dev ∷ word.Lane ∷ word.Submit ∷ word.Send ∷ word.Done ∷ word.Requeue ∷ word.Finish ∷ word.Freeze ∷ word.Release
-    ∷ word.FreezeSim ∷ word.ReleaseSim ∷ word.Adjust ∷ word.Tick ∷ word.Weight ∷ []
+    ∷ word.FreezeSim ∷ word.ReleaseSim ∷ word.Adjust ∷ word.Tick ∷ word.Weight ∷ word.Link ∷ []
 
 -- the word that a field spells
 unfoldable pub word_of : List ℕ → Option Word
 word_of field = find (λ w. bytes_eq field (spelled w)) all_words
 
--- where a record of this word stands: rows of weights, adapters, devices, lanes and events come in this order
+-- where a record of this word stands: rows of weights, links, adapters, devices, lanes and events come in this order
 abbrev pub word_rank : Word → ℕ
 word_rank word.Weight = 0
-word_rank word.Sim = 1
-word_rank word.Dev = 2
-word_rank word.Lane = 3
-word_rank _ = 4
+word_rank word.Link = 1
+word_rank word.Sim = 2
+word_rank word.Dev = 3
+word_rank word.Lane = 4
+word_rank _ = 5

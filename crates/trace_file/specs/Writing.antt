@@ -23,7 +23,7 @@ abbrev pub trace_text : Past → List ℕ
 trace_text past = text_in (least_version past.config) past
 
 abbrev pub migrated_text : Past → List ℕ
-migrated_text past = text_in version.Two past
+migrated_text past = text_in version.Three past
 
 -- a writer with CSV's defaults, between two records
 pub record IsBetween {W : Type 0} (writer : Writer W) : Type 0 where

@@ -2,7 +2,7 @@
 
 ghost use Rattle.std.specs.Prelude.{◌≡◌, ◌<◌, ◌≤◌, ◌+◌, length, IfOk, IfSome, drop, bytes_eq};
 ghost use Rattle.csv.specs.Records.{fields_of};
-ghost use Rattle.trace_file.specs.Fields.{field_of, number_at, hex_value, hex_byte, byte_of, byte_at, bytes_of, sense_of, sense_at, flags_of, flags_at, unused, unused_from};
+ghost use Rattle.trace_file.specs.Fields.{field_of, number_at, optional_at, hex_value, hex_byte, byte_of, byte_at, bytes_of, sense_of, sense_at, flags_of, flags_at, unused, unused_from};
 
 use cam_types::{Flags, SenseBytes};
 use csv::ByteRecord;
@@ -39,6 +39,19 @@ pub(crate) fn number_at(row: &ByteRecord, at: u32, most: u32) -> Result<u32, u32
         Some(number) => Ok(number as u32),
         None => Err(at + 1),
     }
+}
+
+/// The same, or none where the field at this place has no byte.
+#[tactic(auto, unfolding(crate::specs::Fields::optional_at))]
+pub(crate) fn optional_at(row: &ByteRecord, at: u32, most: u32) -> Result<Option<u32>, u32>
+    requires { at < 8 }
+    ensures { result ≡ optional_at (fields_of row.now) at most }
+{
+    if field(row, at).is_empty() {
+        return Ok(None);
+    }
+    let number = number_at(row, at, most)?;
+    Ok(Some(number))
 }
 
 /// The byte that the field at this place spells by two hexadecimal digits, or else the field's number.

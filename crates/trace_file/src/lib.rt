@@ -1,6 +1,7 @@
 //! Traces and scripts as text: what is read is spelled so, and what is spelled so is read; and traces are written.
 #![tactic(auto)]
 
+pub use event_number::event_record;
 pub use reading::{one_history, read_trace};
 pub use script::{DRIVERS, Script};
 pub use script_reading::{read_script, rows_in_order};
@@ -11,6 +12,7 @@ pub use trace_text::{migrate_trace, write_trace};
 pub use write_fault::WriteFault;
 
 mod device_row;
+mod event_number;
 mod fields;
 mod header;
 mod hex;
@@ -23,9 +25,11 @@ mod script_item;
 mod script_reading;
 mod script_row;
 mod script_rows;
+mod script_rules;
 mod script_stage;
 mod script_word;
 mod stage;
+mod stage_items;
 mod step;
 mod trace_fault;
 mod trace_stage;

@@ -47,9 +47,9 @@ fn read_text(alloc: Global, text: &[u8]) -> Result<History, TraceFault>
     take_records(alloc, text, TraceStage::Header)?.finish(alloc)
 }
 
-/// No list of records is that of two histories, in whichever versions, and none is of two versions. So a history that both
-/// versions hold has exactly two lists of records.
+/// No list of records is that of two histories, in whichever versions, and none is of two versions. So a history has exactly
+/// one list of records in each version that holds it.
 pub fn one_history()
     ensures one { (v w : Version) (one other : Past) → IsHistory one → IsHistory other → holds v one.config ≡ true → holds w other.config ≡ true → records_of v one ≡ records_of w other → one ≡ other }
-    ensures versions { (one other : Past) → records_of Version.One one ≢ records_of Version.Two other }
+    ensures versions { (v w : Version) (one other : Past) → records_of v one ≡ records_of w other → v ≡ w }
 {}

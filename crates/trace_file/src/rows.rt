@@ -2,13 +2,14 @@
 
 ghost use Rattle.std.specs.Prelude.{◌≡◌, length};
 ghost use Rattle.csv.specs.Records.{fields_of};
-ghost use Rattle.trace_file.specs.Rows.{one_number, two_numbers, device_at, submit_at, outcome_at, tick_at, event_at};
+ghost use Rattle.trace_file.specs.Rows.{one_number, two_numbers, linked_at, adapter_at, device_at, submit_at, outcome_at, tick_at, event_at};
 
 use crate::device_row::DeviceRow;
-use crate::fields::{byte_at, flags_at, number_at, sense_at, unused_from};
+use crate::fields::{byte_at, flags_at, number_at, optional_at, sense_at, unused_from};
+use crate::version::Version;
 use crate::word::Word;
 use cam_event::Event;
-use cam_types::Outcome;
+use cam_types::{Adapter, Outcome};
 use csv::ByteRecord;
 
 /// The one number of a record, or the number of the first field that hasn't its form.
@@ -32,6 +33,33 @@ pub(crate) fn two_numbers(row: &ByteRecord) -> Result<(u32, u32), u32>
     let second = number_at(row, 2, u32::MAX)?;
     unused_from(row, 3)?;
     Ok((first, second))
+}
+
+/// The adapter of a record in this version, or the number of the first field that hasn't its form. Version 3 alone has links.
+#[tactic(auto, unfolding(crate::specs::Rows::adapter_at))]
+pub(crate) fn adapter_at(version: Version, row: &ByteRecord) -> Result<Adapter, u32>
+    requires { length (fields_of row.now) ≡ 8 }
+    ensures { result ≡ adapter_at version (fields_of row.now) }
+{
+    if version.has_links() {
+        return linked_at(row);
+    }
+    let openings = one_number(row)?;
+    Ok(Adapter {
+        openings,
+        link: None,
+    })
+}
+
+#[tactic(auto, unfolding(crate::specs::Rows::linked_at))]
+fn linked_at(row: &ByteRecord) -> Result<Adapter, u32>
+    requires { length (fields_of row.now) ≡ 8 }
+    ensures { result ≡ linked_at (fields_of row.now) }
+{
+    let openings = number_at(row, 1, u32::MAX)?;
+    let link = optional_at(row, 2, u32::MAX)?;
+    unused_from(row, 3)?;
+    Ok(Adapter { openings, link })
 }
 
 /// The device of a record, or the number of the first field that hasn't its form.
@@ -98,7 +126,7 @@ pub(crate) fn event_at(word: Word, row: &ByteRecord) -> Result<Event, u32>
             Ok(Event::Adjust { device, openings })
         }
         Word::Tick => tick_at(row),
-        Word::Weight | Word::Sim | Word::Dev | Word::Lane => Err(1),
+        Word::Weight | Word::Link | Word::Sim | Word::Dev | Word::Lane => Err(1),
     }
 }
 

@@ -7,6 +7,7 @@ ghost use Rattle.cam_types.specs.Questions.{names_lane};
 ghost use Rattle.trace_file.specs.declared.script_row.ScriptItem.TheVariants as item;
 ghost use Rattle.trace_file.specs.declared.script_stage.TheConstants.{MOST_ROWS};
 
+use crate::script_rules::keep_rules;
 use crate::step::Step;
 use cam_types::{Config, Limits, Outcome};
 use std::alloc::{AllocError, Global};
@@ -36,10 +37,36 @@ impl Model for Script {
 }
 
 impl Script {
-    ghost use Rattle.trace_file.specs.Scenarios.{IsScenario};
+    ghost use Rattle.trace_file.specs.Scenarios.{IsScenario, scenario_by};
+    ghost use Rattle.std.specs.Option.{IfNone};
+    ghost use Rattle.std.specs.Prelude.{IfSome};
+
+    /// A script of these steps of drivers and answers of lanes. There is none unless there are 8 lists of steps and one list of
+    /// answers for each lane, at most 4,096 steps and 4,096 answers in all, each step is one that its driver may ask for (a
+    /// submit by itself, a freeze, a release or an adjustment, of devices, adapters and numbers that are there and in their
+    /// ranges; or a pause), and no answer has status 00.
+    pub fn new(
+        config: Config,
+        limits: Limits,
+        drivers: Vec<Vec<Step>>,
+        answers: Vec<Vec<Outcome>>,
+    ) -> Option<Script>
+        ensures made { IfSome result (λ s. s ≡ scenario_by config limits (map (λ l. l.items) drivers.items) (map (λ l. l.items) answers.items)) }
+        ensures refused { IfNone result (IsScenario (scenario_by config limits (map (λ l. l.items) drivers.items) (map (λ l. l.items) answers.items)) → ⊥) }
+    {
+        if !keep_rules(&config, &drivers, &answers) {
+            return None;
+        }
+        Some(Script {
+            config,
+            limits,
+            drivers,
+            answers,
+        })
+    }
 
     /// A script without any step or answer.
-    pub(crate) fn new(alloc: Global, config: Config, limits: Limits) -> Result<Script, AllocError>
+    pub(crate) fn empty(alloc: Global, config: Config, limits: Limits) -> Result<Script, AllocError>
         ensures { IfOk result (λ s. s ≡ empty_scenario config limits) }
     {
         let lanes = config.lanes().len();

@@ -111,7 +111,7 @@ fn is_at(path: CamPath, device: Device) -> bool
 }
 
 // Status 00 is no result.
-fn is_in_progress(outcome: &Outcome) -> bool
+pub(crate) fn is_in_progress(outcome: &Outcome) -> bool
     ensures { result ≡ (status_of outcome.now == 0) }
 {
     outcome.status & 0x3f == 0

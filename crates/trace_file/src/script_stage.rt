@@ -49,7 +49,7 @@ impl ScriptStage {
             ScriptStage::First => Err(TraceFault::BadConfig(2, ConfigFault::NoAdapters)),
             ScriptStage::Config(limits, stage) => {
                 let config = stage.configured(3)?;
-                match Script::new(alloc, config, limits) {
+                match Script::empty(alloc, config, limits) {
                     Ok(script) => Ok(script),
                     Err(_) => Err(TraceFault::OutOfMemory),
                 }
@@ -140,7 +140,7 @@ fn take_first(
     };
     let said = in_record(number, script_row_at(word, row))?;
     let config = stage.configured(number)?;
-    match Script::new(alloc, config, limits) {
+    match Script::empty(alloc, config, limits) {
         Ok(script) => with_row(number, script, 0, 0, said),
         Err(_) => Err(TraceFault::OutOfMemory),
     }

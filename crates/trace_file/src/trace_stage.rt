@@ -1,18 +1,24 @@
 //! What a trace has said so far, record by record.
 
-ghost use Rattle.std.specs.Prelude.{◌≡◌, ◌≢◌, true, length, [], ◌∷◌, ◌++◌, Ok, Err, IfOk, IfErr, IfSome, IsTrue, None};
+ghost use Rattle.std.specs.Prelude.{◌≡◌, ◌≢◌, length, Err, IfOk, IfSome, IsTrue};
 ghost use Rattle.csv.specs.Records.{fields_of};
+ghost use Rattle.trace_file.specs.Reading.{in_record};
+ghost use Rattle.trace_file.specs.Sound.{IsKept};
 
 use crate::device_row::DeviceRow;
 use crate::fields::field;
 use crate::header::is_header;
-use crate::rows::{device_at, event_at, one_number, two_numbers};
+use crate::rows::{adapter_at, device_at, event_at, one_number, two_numbers};
 use crate::stage::Stage;
+use crate::stage_items::{
+    finished, lacking, standard, with_adapter, with_device, with_event, with_lane, with_link,
+    with_weight, without_events,
+};
 use crate::trace_fault::TraceFault;
 use crate::version::Version;
 use crate::word::Word;
 use cam_event::Event;
-use cam_types::{Adapter, Config, ConfigDraft, ConfigError, ConfigFault, WeightRow};
+use cam_types::{Adapter, Config, ConfigDraft, ConfigFault, WeightRow};
 use csv::ByteRecord;
 use std::alloc::Global;
 use xpt_state::History;
@@ -24,10 +30,12 @@ pub(crate) enum TraceStage {
     Header,
     /// The header of version 1, which has the standard weights: an adapter is due.
     First,
-    /// The header of version 2, and rows of weights.
-    Weights(ConfigDraft),
-    /// Adapters.
-    Adapters(ConfigDraft),
+    /// The header of this version, 2 or 3, and rows of weights.
+    Weights(Version, ConfigDraft),
+    /// The header of version 3, rows of weights, and links.
+    Links(ConfigDraft),
+    /// Adapters, in this version.
+    Adapters(Version, ConfigDraft),
     /// Adapters and devices.
     Devices(ConfigDraft),
     /// Adapters, devices and lanes.
@@ -37,7 +45,7 @@ pub(crate) enum TraceStage {
 }
 
 impl TraceStage {
-    ghost use Rattle.trace_file.specs.Reading.{stage_rank, stands, placed, add_weight, add_adapter, add_device, add_lane, add_event, add_row, row_step, step, ended};
+    ghost use Rattle.trace_file.specs.Reading.{stage_rank, version_of, stands, placed, add_weight, add_link, add_adapter, add_device, add_lane, add_event, add_row, row_step, step, ended};
     ghost use Rattle.trace_file.specs.ScriptReading.{configured, is_configuring};
     ghost use Rattle.trace_file.specs.Sound.{IsSound};
 
@@ -48,7 +56,7 @@ impl TraceStage {
     {
         match self {
             TraceStage::Header => false,
-            stage => stage.rank() <= word.rank(),
+            stage => stage.rank() <= word.rank() && stage.version().has_word(word),
         }
     }
 
@@ -57,11 +65,24 @@ impl TraceStage {
         ensures { result ≡ stage_rank self.now }
     {
         match self {
-            TraceStage::Weights(_) => 0,
-            TraceStage::Header | TraceStage::First | TraceStage::Adapters(_) => 1,
-            TraceStage::Devices(_) => 2,
-            TraceStage::Lanes(_) => 3,
-            TraceStage::Events(_) => 4,
+            TraceStage::Weights(_, _) => 0,
+            TraceStage::Links(_) => 1,
+            TraceStage::Header | TraceStage::First | TraceStage::Adapters(_, _) => 2,
+            TraceStage::Devices(_) => 3,
+            TraceStage::Lanes(_) => 4,
+            TraceStage::Events(_) => 5,
+        }
+    }
+
+    // The version of a trace up to its adapters: behind them the versions are alike, and it is not kept.
+    fn version(&self) -> Version
+        ensures { result ≡ version_of self.now }
+    {
+        match self {
+            TraceStage::Weights(version, _) => *version,
+            TraceStage::Links(_) => Version::Three,
+            TraceStage::Adapters(version, _) => *version,
+            _ => Version::One,
         }
     }
 
@@ -88,7 +109,28 @@ impl TraceStage {
         ensures sound { IfOk result (λ s. IsSound s) }
     {
         match self {
-            TraceStage::Weights(draft) => with_weight(draft, number, row),
+            TraceStage::Weights(version, draft) => with_weight(version, draft, number, row),
+            _ => unreachable!(),
+        }
+    }
+
+    /// One link more, or the rule that it breaks.
+    #[tactic(auto, unfolding(crate::specs::Reading::add_link, crate::specs::Reading::stands, crate::specs::Sound::IsSound))]
+    fn add_link(self, number: u32, openings: u32) -> Result<TraceStage, TraceFault>
+        requires sound { IsSound self }
+        requires place { IsTrue (stands self Word.Link) }
+        ensures value { result ≢ Err TraceFault.OutOfMemory → result ≡ add_link number self openings }
+        ensures sound { IfOk result (λ s. IsSound s) }
+    {
+        match self {
+            TraceStage::Weights(_, draft) => {
+                if draft.reaches_last() {
+                    with_link(draft, number, openings)
+                } else {
+                    Err(TraceFault::BadConfig(number, ConfigFault::BadWeight))
+                }
+            }
+            TraceStage::Links(draft) => with_link(draft, number, openings),
             _ => unreachable!(),
         }
     }
@@ -107,15 +149,16 @@ impl TraceStage {
         ensures sound { IfOk result (λ s. IsSound s) }
     {
         match self {
-            TraceStage::First => with_adapter(standard(alloc)?, number, adapter),
-            TraceStage::Weights(draft) => {
+            TraceStage::First => with_adapter(Version::One, standard(alloc)?, number, adapter),
+            TraceStage::Weights(version, draft) => {
                 if draft.reaches_last() {
-                    with_adapter(draft, number, adapter)
+                    with_adapter(version, draft, number, adapter)
                 } else {
                     Err(TraceFault::BadConfig(number, ConfigFault::BadWeight))
                 }
             }
-            TraceStage::Adapters(draft) => with_adapter(draft, number, adapter),
+            TraceStage::Links(draft) => with_adapter(Version::Three, draft, number, adapter),
+            TraceStage::Adapters(version, draft) => with_adapter(version, draft, number, adapter),
             _ => unreachable!(),
         }
     }
@@ -130,8 +173,9 @@ impl TraceStage {
     {
         match self {
             TraceStage::First => Err(TraceFault::BadConfig(number, ConfigFault::NoAdapters)),
-            TraceStage::Weights(draft) => Err(TraceFault::BadConfig(number, lacking(&draft))),
-            TraceStage::Adapters(draft) => with_device(draft, number, device),
+            TraceStage::Weights(_, draft) => Err(TraceFault::BadConfig(number, lacking(&draft))),
+            TraceStage::Links(draft) => Err(TraceFault::BadConfig(number, lacking(&draft))),
+            TraceStage::Adapters(_, draft) => with_device(draft, number, device),
             TraceStage::Devices(draft) => with_device(draft, number, device),
             _ => unreachable!(),
         }
@@ -147,8 +191,9 @@ impl TraceStage {
     {
         match self {
             TraceStage::First => Err(TraceFault::BadConfig(number, ConfigFault::NoAdapters)),
-            TraceStage::Weights(draft) => Err(TraceFault::BadConfig(number, lacking(&draft))),
-            TraceStage::Adapters(draft) => with_lane(draft, number, adapter),
+            TraceStage::Weights(_, draft) => Err(TraceFault::BadConfig(number, lacking(&draft))),
+            TraceStage::Links(draft) => Err(TraceFault::BadConfig(number, lacking(&draft))),
+            TraceStage::Adapters(_, draft) => with_lane(draft, number, adapter),
             TraceStage::Devices(draft) => with_lane(draft, number, adapter),
             TraceStage::Lanes(draft) => with_lane(draft, number, adapter),
             _ => unreachable!(),
@@ -167,8 +212,13 @@ impl TraceStage {
                 number,
                 ConfigFault::NoAdapters,
             )),
-            TraceStage::Weights(draft) => Err(TraceFault::BadConfig(number, lacking(&draft))),
-            TraceStage::Adapters(draft) => with_event(without_events(alloc, draft)?, number, event),
+            TraceStage::Weights(_, draft) => Err(TraceFault::BadConfig(number, lacking(&draft))),
+            TraceStage::Links(draft) => Err(TraceFault::BadConfig(number, lacking(&draft))),
+            TraceStage::Adapters(_, draft) => with_event(
+                without_events(alloc, draft)?,
+                number,
+                event,
+            ),
             TraceStage::Devices(draft) => with_event(without_events(alloc, draft)?, number, event),
             TraceStage::Lanes(draft) => with_event(without_events(alloc, draft)?, number, event),
             TraceStage::Events(history) => with_event(history, number, event),
@@ -184,7 +234,7 @@ impl TraceStage {
     {
         match self {
             TraceStage::First => Err(TraceFault::BadConfig(number, ConfigFault::NoAdapters)),
-            TraceStage::Adapters(draft) => Ok(finished(draft)),
+            TraceStage::Adapters(_, draft) => Ok(finished(draft)),
             TraceStage::Devices(draft) => Ok(finished(draft)),
             TraceStage::Lanes(draft) => Ok(finished(draft)),
             _ => unreachable!(),
@@ -211,12 +261,12 @@ impl TraceStage {
                 let (last, weight) = in_record(number, two_numbers(row))?;
                 self.add_weight(number, WeightRow { last, weight })
             }
-            Word::Sim => {
+            Word::Link => {
                 let openings = in_record(number, one_number(row))?;
-                let adapter = Adapter {
-                    openings,
-                    link: None,
-                };
+                self.add_link(number, openings)
+            }
+            Word::Sim => {
+                let adapter = in_record(number, adapter_at(self.version(), row))?;
                 self.add_adapter(alloc, number, adapter)
             }
             Word::Dev => {
@@ -244,11 +294,15 @@ impl TraceStage {
         match self {
             TraceStage::Header => Err(TraceFault::BadHeader),
             TraceStage::First => Err(TraceFault::BadConfig(2, ConfigFault::NoAdapters)),
-            TraceStage::Weights(draft) => {
+            TraceStage::Weights(_, draft) => {
                 let number = 2 + draft.weight_count();
                 Err(TraceFault::BadConfig(number, lacking(&draft)))
             }
-            TraceStage::Adapters(draft) => without_events(alloc, draft),
+            TraceStage::Links(draft) => {
+                let number = 2 + draft.weight_count() + draft.link_count();
+                Err(TraceFault::BadConfig(number, ConfigFault::NoAdapters))
+            }
+            TraceStage::Adapters(_, draft) => without_events(alloc, draft),
             TraceStage::Devices(draft) => without_events(alloc, draft),
             TraceStage::Lanes(draft) => without_events(alloc, draft),
             TraceStage::Events(history) => Ok(history),
@@ -271,7 +325,9 @@ impl Stage for TraceStage {
                 if is_header(Version::One.name(), row) {
                     Ok(TraceStage::First)
                 } else if is_header(Version::Two.name(), row) {
-                    Ok(TraceStage::Weights(ConfigDraft::new(alloc)))
+                    Ok(TraceStage::Weights(Version::Two, ConfigDraft::new(alloc)))
+                } else if is_header(Version::Three.name(), row) {
+                    Ok(TraceStage::Weights(Version::Three, ConfigDraft::new(alloc)))
                 } else {
                     Err(TraceFault::BadHeader)
                 }
@@ -289,128 +345,4 @@ pub(crate) fn in_record<T>(number: u32, read: Result<T, u32>) -> Result<T, Trace
         Ok(value) => Ok(value),
         Err(field) => Err(TraceFault::BadField(number, field)),
     }
-}
-
-ghost use Rattle.cam_types.specs.Topology.{IsConfig, IsDraft};
-ghost use Rattle.trace_file.specs.Histories.{weight_fault, reaches_last, standard_weights, adapter_fault, device_fault, lane_fault, refusal};
-ghost use Rattle.trace_file.specs.Reading.{in_record, lacking, unless_fault, unless_refused};
-ghost use Rattle.trace_file.specs.Rows.{device_of};
-ghost use Rattle.trace_file.specs.Sound.{IsBegun, IsKept, IsSound};
-
-// The standard weights, and nothing else yet.
-fn standard(alloc: Global) -> Result<ConfigDraft, TraceFault>
-    ensures value { IfOk result (λ d. d ≡ record { weights = standard_weights; links = []; adapters = []; devices = []; lanes = [] }) }
-    ensures draft { IfOk result (λ d. IsDraft d) }
-    ensures memory { IfErr result (λ e. e ≡ TraceFault.OutOfMemory) }
-{
-    match ConfigDraft::standard(alloc) {
-        Ok(draft) => Ok(draft),
-        Err(_) => Err(TraceFault::OutOfMemory),
-    }
-}
-
-// What is lacking where no adapter has come.
-fn lacking(draft: &ConfigDraft) -> ConfigFault
-    ensures { result ≡ lacking (TraceStage.Weights draft.now) }
-{
-    if draft.reaches_last() {
-        ConfigFault::NoAdapters
-    } else {
-        ConfigFault::BadWeight
-    }
-}
-
-fn with_weight(
-    mut draft: ConfigDraft,
-    number: u32,
-    row: WeightRow,
-) -> Result<TraceStage, TraceFault>
-    requires { IsSound (TraceStage.Weights draft) }
-    ensures value { result ≢ Err TraceFault.OutOfMemory → result ≡ unless_fault number (weight_fault (draft.weights, row)) (TraceStage.Weights (record draft { weights = draft.weights ++ row ∷ [] })) }
-    ensures sound { IfOk result (λ s. IsSound s) }
-{
-    match draft.add_weight(row) {
-        Ok(()) => Ok(TraceStage::Weights(draft)),
-        Err(ConfigError::Fault(fault)) => Err(TraceFault::BadConfig(number, fault)),
-        Err(ConfigError::OutOfMemory) => Err(TraceFault::OutOfMemory),
-    }
-}
-
-fn with_adapter(
-    mut draft: ConfigDraft,
-    number: u32,
-    adapter: Adapter,
-) -> Result<TraceStage, TraceFault>
-    requires draft { IsDraft draft }
-    requires reaches { reaches_last draft.weights ≡ true }
-    requires no_device { draft.devices ≡ [] }
-    requires no_lane { draft.lanes ≡ [] }
-    ensures value { result ≢ Err TraceFault.OutOfMemory → result ≡ unless_fault number (adapter_fault (length draft.links) (draft.adapters, adapter)) (TraceStage.Adapters (record draft { adapters = draft.adapters ++ adapter ∷ [] })) }
-    ensures sound { IfOk result (λ s. IsSound s) }
-{
-    match draft.add_adapter(adapter) {
-        Ok(()) => Ok(TraceStage::Adapters(draft)),
-        Err(ConfigError::Fault(fault)) => Err(TraceFault::BadConfig(number, fault)),
-        Err(ConfigError::OutOfMemory) => Err(TraceFault::OutOfMemory),
-    }
-}
-
-fn with_device(
-    mut draft: ConfigDraft,
-    number: u32,
-    device: DeviceRow,
-) -> Result<TraceStage, TraceFault>
-    requires begun { IsBegun draft }
-    requires no_lane { draft.lanes ≡ [] }
-    ensures value { result ≢ Err TraceFault.OutOfMemory → result ≡ unless_fault number (device_fault (length draft.adapters) (draft.devices, device_of device)) (TraceStage.Devices (record draft { devices = draft.devices ++ device_of device ∷ [] })) }
-    ensures sound { IfOk result (λ s. IsSound s) }
-{
-    match draft.add_device(device.device()) {
-        Ok(()) => Ok(TraceStage::Devices(draft)),
-        Err(ConfigError::Fault(fault)) => Err(TraceFault::BadConfig(number, fault)),
-        Err(ConfigError::OutOfMemory) => Err(TraceFault::OutOfMemory),
-    }
-}
-
-fn with_lane(mut draft: ConfigDraft, number: u32, adapter: u32) -> Result<TraceStage, TraceFault>
-    requires begun { IsBegun draft }
-    ensures value { result ≢ Err TraceFault.OutOfMemory → result ≡ unless_fault number (lane_fault (length draft.adapters) (draft.lanes, adapter)) (TraceStage.Lanes (record draft { lanes = draft.lanes ++ adapter ∷ [] })) }
-    ensures sound { IfOk result (λ s. IsSound s) }
-{
-    match draft.add_lane(adapter) {
-        Ok(()) => Ok(TraceStage::Lanes(draft)),
-        Err(ConfigError::Fault(fault)) => Err(TraceFault::BadConfig(number, fault)),
-        Err(ConfigError::OutOfMemory) => Err(TraceFault::OutOfMemory),
-    }
-}
-
-fn with_event(mut history: History, number: u32, event: Event) -> Result<TraceStage, TraceFault>
-    requires kept { IsKept history }
-    ensures value { result ≢ Err TraceFault.OutOfMemory → result ≡ unless_refused number (refusal history.config history.events event) (TraceStage.Events (record history { events = history.events ++ event ∷ [] })) }
-    ensures sound { IfOk result (λ s. IsSound s) }
-{
-    match history.push(event) {
-        Ok(()) => Ok(TraceStage::Events(history)),
-        Err(refusal) => Err(TraceFault::Illegal(number, refusal)),
-    }
-}
-
-fn without_events(alloc: Global, draft: ConfigDraft) -> Result<History, TraceFault>
-    requires begun { IsBegun draft }
-    ensures value { result ≢ Err TraceFault.OutOfMemory → result ≡ Ok (record { config = draft; events = [] }) }
-    ensures kept { IfOk result IsKept }
-{
-    match History::new(alloc, finished(draft)) {
-        Ok(history) => Ok(history),
-        Err(_) => Err(TraceFault::OutOfMemory),
-    }
-}
-
-/// A draft with an adapter is a configuration.
-fn finished(draft: ConfigDraft) -> Config
-    requires { IsBegun draft }
-    ensures same { result ≡ draft }
-    ensures kept { IsConfig result }
-{
-    draft.finish().unwrap()
 }

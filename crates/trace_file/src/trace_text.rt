@@ -4,7 +4,6 @@ ghost use Rattle.std.specs.Prelude.{◌≡◌, ◌≢◌, false, true, Err, OnOk
 ghost use Rattle.text_io.specs.Watched.{device_of, has_failed, is_flushed};
 ghost use Rattle.text_io.specs.Whole.{AppendsFront};
 ghost use Rattle.std.specs.Io.KnownBytes.{Appends};
-ghost use Rattle.cam_types.specs.Topology.{IsConfig};
 ghost use Rattle.trace_file.specs.Records.{holds};
 ghost use Rattle.trace_file.specs.Trace.{IsHistory, IsTrace};
 ghost use Rattle.trace_file.specs.Writing.{text_in, trace_text, migrated_text};
@@ -20,8 +19,8 @@ use text_io::{Watched, write_whole};
 use xpt_state::History;
 
 /// Writes the trace of a history and flushes it: its records by CSV's defaults, with a line feed behind each, in the least
-/// version that holds the history, which is 1 if the weights are the standard ones. The text is made whole before
-/// anything of it is written.
+/// version that holds the history: 3 if it has links, else 2 if the weights aren't the standard ones, and else 1. The text is
+/// made whole before anything of it is written.
 pub fn write_trace<W: Write>(
     alloc: Global,
     history: &History,
@@ -41,7 +40,7 @@ pub fn write_trace<W: Write>(
     write_in(alloc, Version::least(history.config()), history, writer)
 }
 
-/// The same in the newest version, 2, which any history can be written in.
+/// The same in the newest version, 3, which any history can be written in.
 pub fn migrate_trace<W: Write>(
     alloc: Global,
     history: &History,
@@ -57,7 +56,7 @@ pub fn migrate_trace<W: Write>(
     ensures front { result ≡ Err WriteFault.WriteFailed → AppendsFront (W.contents (device_of writer.old)) (W.contents (device_of writer.new)) (migrated_text history.now) }
     ensures untouched { result ≡ Err WriteFault.OutOfMemory → writer.new ≡ writer.old }
 {
-    write_in(alloc, Version::Two, history, writer)
+    write_in(alloc, Version::Three, history, writer)
 }
 
 // Writes the trace in a version that holds the history.
@@ -68,7 +67,7 @@ fn write_in<W: Write>(
     writer: &mut Watched<W>,
 ) -> Result<(), WriteFault>
     requires calm { has_failed writer.old ≡ false }
-    requires held { IsConfig history.now.config → holds version history.now.config ≡ true }
+    requires held { holds version history.now.config ≡ true }
     ensures written { OnOk result (Appends (W.contents (device_of writer.old)) (W.contents (device_of writer.new)) (text_in version history.now)) }
     ensures flushed { OnOk result (is_flushed writer.new ≡ true) }
     ensures trace { result ≢ Err WriteFault.OutOfMemory → IsTrace (text_in version history.now) history.now }
@@ -87,7 +86,7 @@ fn write_in<W: Write>(
 
 // The text of a history's records in a version.
 fn text_in(alloc: Global, version: Version, history: &History) -> Result<Vec<u8>, AllocError>
-    requires { IsConfig history.now.config → holds version history.now.config ≡ true }
+    requires { holds version history.now.config ≡ true }
     ensures text { IfOk result (λ t. t.items ≡ text_in version history.now) }
     ensures trace { OnOk result (IsTrace (text_in version history.now) history.now) }
     ensures legal { OnOk result (IsHistory history.now) }
@@ -99,6 +98,7 @@ fn text_in(alloc: Global, version: Version, history: &History) -> Result<Vec<u8>
     )?;
     let config = history.config();
     write_weights(&mut writer, version, config.weights())?;
+    write_numbers(&mut writer, b"link", config.links())?;
     write_adapters(&mut writer, config.adapters())?;
     write_devices(&mut writer, config.devices())?;
     write_numbers(&mut writer, b"lane", config.lanes())?;

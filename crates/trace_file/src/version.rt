@@ -2,8 +2,10 @@
 
 ghost use Rattle.std.specs.Prelude.{◌≡◌};
 ghost use Rattle.std.specs.List.{list_all};
-ghost use Rattle.trace_file.specs.Records.{has_no_links, is_unlinked, least_version, name_of};
+ghost use Rattle.trace_file.specs.Records.{has_no_links, is_unlinked, least_version};
+ghost use Rattle.trace_file.specs.Versions.{has_links, has_table, has_word, name_of};
 
+use crate::word::Word;
 use cam_types::{Adapter, Config};
 
 /// Which records a trace may have.
@@ -13,6 +15,8 @@ pub(crate) enum Version {
     One,
     /// A table of weights too.
     Two,
+    /// Links too.
+    Three,
 }
 
 impl Version {
@@ -20,7 +24,9 @@ impl Version {
     pub(crate) fn least(config: &Config) -> Version
         ensures { result ≡ least_version config.now }
     {
-        if config.has_standard_weights() && has_no_links(config) {
+        if !has_no_links(config) {
+            Version::Three
+        } else if config.has_standard_weights() {
             Version::One
         } else {
             Version::Two
@@ -34,6 +40,37 @@ impl Version {
         match self {
             Version::One => b"camtrace1",
             Version::Two => b"camtrace2",
+            Version::Three => b"camtrace3",
+        }
+    }
+
+    /// Whether it has the table of weights.
+    pub(crate) fn has_table(self) -> bool
+        ensures { result ≡ has_table self }
+    {
+        match self {
+            Version::One => false,
+            Version::Two | Version::Three => true,
+        }
+    }
+
+    /// Whether it has links.
+    pub(crate) fn has_links(self) -> bool
+        ensures { result ≡ has_links self }
+    {
+        match self {
+            Version::One | Version::Two => false,
+            Version::Three => true,
+        }
+    }
+
+    /// Whether a record of it may have this word.
+    pub(crate) fn has_word(self, word: Word) -> bool
+        ensures { result ≡ has_word self word }
+    {
+        match word {
+            Word::Link => self.has_links(),
+            _ => true,
         }
     }
 }

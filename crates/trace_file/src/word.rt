@@ -20,6 +20,7 @@ pub(crate) enum Word {
     Adjust,
     Tick,
     Weight,
+    Link,
 }
 
 impl Word {
@@ -61,22 +62,25 @@ impl Word {
             Word::Tick
         } else if is_text(field, b"weight") {
             Word::Weight
+        } else if is_text(field, b"link") {
+            Word::Link
         } else {
             return None;
         };
         Some(word)
     }
 
-    /// Where a record of this word stands: rows of weights, adapters, devices, lanes and events come in this order.
+    /// Where a record of this word stands: rows of weights, links, adapters, devices, lanes and events come in this order.
     pub(crate) fn rank(self) -> u32
         ensures { result ≡ word_rank self }
     {
         match self {
             Word::Weight => 0,
-            Word::Sim => 1,
-            Word::Dev => 2,
-            Word::Lane => 3,
-            _ => 4,
+            Word::Link => 1,
+            Word::Sim => 2,
+            Word::Dev => 3,
+            Word::Lane => 4,
+            _ => 5,
         }
     }
 }

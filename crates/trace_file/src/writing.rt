@@ -27,9 +27,22 @@ pub(crate) fn write_adapters<W: Write + Drop>(
     ensures { OnOk result (Wrote W.contents writer.old writer.new (map adapter_row adapters.now)) }
 {
     for adapter in adapters {
-        write_one(writer, b"sim", adapter.openings)?;
+        write_adapter(writer, *adapter)?;
     }
     Ok(())
+}
+
+fn write_adapter<W: Write + Drop>(
+    writer: &mut Writer<W>,
+    adapter: Adapter,
+) -> Result<(), AllocError>
+    requires { IsBetween writer.old }
+    ensures { OnOk result (Wrote W.contents writer.old writer.new (adapter_row adapter ∷ [])) }
+{
+    match adapter.link {
+        None => write_one(writer, b"sim", adapter.openings),
+        Some(link) => write_two(writer, b"sim", adapter.openings, link),
+    }
 }
 
 /// Writes a record of a word and a number for each of these numbers.
@@ -56,9 +69,10 @@ pub(crate) fn write_weights<W: Write + Drop>(
     requires { IsBetween writer.old }
     ensures { OnOk result (Wrote W.contents writer.old writer.new (weight_rows version weights.now)) }
 {
-    match version {
-        Version::One => Ok(()),
-        Version::Two => write_table(writer, weights),
+    if version.has_table() {
+        write_table(writer, weights)
+    } else {
+        Ok(())
     }
 }
 

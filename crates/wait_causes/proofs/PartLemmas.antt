@@ -26,7 +26,7 @@ use Rattle.cam_event.specs.declared.stay.Stay.{Stay}
 use Rattle.wait_causes.specs.Causes.{waited_causes, round_cause}
 use Rattle.wait_causes.specs.Stays.{all_rounds, explained_stay, explained_stays}
 use Rattle.wait_causes.specs.Parts.{waited, measure, is_enough, nearest_rank, part_of, costs_of, all_costs}
-use Rattle.wait_causes.specs.declared.cause.Cause.TheVariants.{Error, Caller, AdapterFrozen, DeviceFull, AdapterFull, NotAsked}
+use Rattle.wait_causes.specs.declared.cause.Cause.TheVariants.{Error, Caller, AdapterFrozen, DeviceFull, AdapterFull, LinkFull, NotAsked}
 use Rattle.wait_causes.specs.declared.explained_stay.ExplainedStay.{ExplainedStay}
 use Rattle.wait_causes.specs.declared.part.Measure.TheVariants.{Waited, Live, Best, Cost}
 use Rattle.wait_causes.proofs.StayLemmas.{rounds_add_up}
@@ -118,10 +118,10 @@ sought_none percent xs low high le kept =
     ap (λ o. unwrap_or o 0) (sym (sought_left percent xs low high kept ∙ ap (λ n. find (is_enough percent xs) (range_with_len low n)) over))
 
 -- a part by its numbers
-pub part_found : (xs : List ExplainedStay) (w p50 p90 max live best error caller adapter_frozen device_full adapter_full not_asked : ℕ) →
+pub part_found : (xs : List ExplainedStay) (w p50 p90 max live best error caller adapter_frozen device_full adapter_full link_full not_asked : ℕ) →
     w ≡ sum_by (measure Waited) xs → p50 ≡ nearest_rank 50 xs → p90 ≡ nearest_rank 90 xs → max ≡ nearest_rank 100 xs → live ≡ sum_by (measure Live) xs → best ≡ sum_by (measure Best) xs →
     error ≡ sum_by (measure (Cost Error)) xs → caller ≡ sum_by (measure (Cost Caller)) xs → adapter_frozen ≡ sum_by (measure (Cost AdapterFrozen)) xs → device_full ≡ sum_by (measure (Cost DeviceFull)) xs →
-    adapter_full ≡ sum_by (measure (Cost AdapterFull)) xs → not_asked ≡ sum_by (measure (Cost NotAsked)) xs →
+    adapter_full ≡ sum_by (measure (Cost AdapterFull)) xs → link_full ≡ sum_by (measure (Cost LinkFull)) xs → not_asked ≡ sum_by (measure (Cost NotAsked)) xs →
     Path Part (record {
       stays = length xs;
       waited = w;
@@ -130,10 +130,10 @@ pub part_found : (xs : List ExplainedStay) (w p50 p90 max live best error caller
       max = max;
       live = live;
       best = best;
-      costs = record { error = error; caller = caller; adapter_frozen = adapter_frozen; device_full = device_full; adapter_full = adapter_full; not_asked = not_asked };
+      costs = record { error = error; caller = caller; adapter_frozen = adapter_frozen; device_full = device_full; adapter_full = adapter_full; link_full = link_full; not_asked = not_asked };
     }) (part_of xs)
 unfolding part_of
-part_found xs w p50 p90 max live best error caller adapter_frozen device_full adapter_full not_asked a b c d e f g h i j k l = rw (a, b, c, d, e, f, g, h, i, j, k, l) refl
+part_found xs w p50 p90 max live best error caller adapter_frozen device_full adapter_full link_full not_asked a b c d e f g h i j k l m = rw (a, b, c, d, e, f, g, h, i, j, k, l, m) refl
 
 -- the rows so far and those of one number more
 pub rows_step : {X : Type 0} (f : ℕ → List X) (old new : List X) (n : ℕ) → old ≡ flat_map f (range_with_len 0 n) → new ≡ old ++ f n → new ≡ flat_map f (range_with_len 0 (n + 1))
@@ -145,16 +145,16 @@ rows_step f old new n was is =
     ∙ ap (λ k. flat_map f (range_with_len 0 n) ++ f k) plain)
 
 -- a weight times each cause's rounds, all together
-by_cause : (w a b c d e f n : ℕ) → a + b + c + d + e + f ≡ n → w * a + w * b + w * c + w * d + w * e + w * f ≡ w * n
-by_cause w a b c d e f n all =
-    omega (arith, ap (λ k. w * k) all, mul-add w (a + b + c + d + e) f, mul-add w (a + b + c + d) e, mul-add w (a + b + c) d, mul-add w (a + b) c, mul-add w a b)
+by_cause : (w a b c d e f g n : ℕ) → a + b + c + d + e + f + g ≡ n → w * a + w * b + w * c + w * d + w * e + w * f + w * g ≡ w * n
+by_cause w a b c d e f g n all =
+    omega (arith, ap (λ k. w * k) all, mul-add w (a + b + c + d + e + f) g, mul-add w (a + b + c + d + e) f, mul-add w (a + b + c + d) e, mul-add w (a + b + c) d, mul-add w (a + b) c, mul-add w a b)
 
 -- where each stay's rounds by cause are those that it waited, the costs by cause are its cost
 costs_each : (xs : List ExplainedStay) → All (λ (s : ExplainedStay). all_rounds s.rounds ≡ waited s) xs → all_costs (costs_of xs) ≡ sum_by (measure Live) xs
 costs_each [] all = refl
 costs_each (x ∷ xs) all =
     let rest = costs_each xs (λ k d lt. all (suc k) d (omega arith)) in
-    let one = by_cause x.weight x.rounds.error x.rounds.caller x.rounds.adapter_frozen x.rounds.device_full x.rounds.adapter_full x.rounds.not_asked (waited x) (all 0 x (omega arith)) in
+    let one = by_cause x.weight x.rounds.error x.rounds.caller x.rounds.adapter_frozen x.rounds.device_full x.rounds.adapter_full x.rounds.link_full x.rounds.not_asked (waited x) (all 0 x (omega arith)) in
     omega (
       arith,
       rest,
@@ -164,6 +164,7 @@ costs_each (x ∷ xs) all =
       sum_by-cons (measure (Cost AdapterFrozen)) x xs,
       sum_by-cons (measure (Cost DeviceFull)) x xs,
       sum_by-cons (measure (Cost AdapterFull)) x xs,
+      sum_by-cons (measure (Cost LinkFull)) x xs,
       sum_by-cons (measure (Cost NotAsked)) x xs,
       sum_by-cons (measure Live) x xs,
     )

@@ -8,7 +8,7 @@ use Rattle.std.proofs.lemmas.List.Sums.{sum_by-cons}
 use Rattle.wait_causes.specs.Parts.{measure, part_of}
 use Rattle.wait_causes.specs.TableLaws.{amount, RowsAddUp}
 use Rattle.wait_causes.specs.Tables.{number, stays_of, row_for, row_of, greatest, table_of}
-use Rattle.wait_causes.specs.declared.cause.Cause.TheVariants.{Error, Caller, AdapterFrozen, DeviceFull, AdapterFull, NotAsked}
+use Rattle.wait_causes.specs.declared.cause.Cause.TheVariants.{Error, Caller, AdapterFrozen, DeviceFull, AdapterFull, LinkFull, NotAsked}
 use Rattle.wait_causes.specs.declared.explained_stay.ExplainedStay.{ExplainedStay}
 use Rattle.wait_causes.specs.declared.part.Measure.{Measure}
 use Rattle.wait_causes.specs.declared.part.Measure.TheVariants.{Waited, Live, Best, Cost}
@@ -45,6 +45,7 @@ amount_of (Cost Caller) stays = refl
 amount_of (Cost AdapterFrozen) stays = refl
 amount_of (Cost DeviceFull) stays = refl
 amount_of (Cost AdapterFull) stays = refl
+amount_of (Cost LinkFull) stays = refl
 amount_of (Cost NotAsked) stays = refl
 
 plus-none : (n : ℕ) → n + 0 ≡ n

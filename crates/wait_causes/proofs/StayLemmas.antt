@@ -30,7 +30,7 @@ use Rattle.xpt_stays.proofs.SentLemmas.{first_past, unsent_none}
 use Rattle.wait_causes.specs.Causes.{round_cause, cause_table, cause_in, waited_causes}
 use Rattle.wait_causes.specs.Stays.{rounds_by, all_rounds, with_round, explained_stay, explained_stays, row_by, sent_in}
 use Rattle.wait_causes.specs.declared.cause.Cause.{Cause}
-use Rattle.wait_causes.specs.declared.cause.Cause.TheVariants.{Error, Caller, AdapterFrozen, DeviceFull, AdapterFull, NotAsked}
+use Rattle.wait_causes.specs.declared.cause.Cause.TheVariants.{Error, Caller, AdapterFrozen, DeviceFull, AdapterFull, LinkFull, NotAsked}
 use Rattle.wait_causes.specs.declared.explained_stay.CauseRounds.{CauseRounds}
 use Rattle.wait_causes.specs.declared.explained_stay.ExplainedStay.{ExplainedStay}
 use Rattle.wait_causes.specs.declared.wait.Wait.{Wait}
@@ -38,18 +38,21 @@ use Rattle.wait_causes.specs.Sound.{IsExplained}
 use Rattle.wait_causes.specs.Waits.{beside, AreWaits, AreWaitsOf}
 use Rattle.wait_causes.proofs.CauseLemmas.{cause_in-table}
 
-same_rounds : (a b c d e f a' b' c' d' e' f' : ℕ) → a ≡ a' → b ≡ b' → c ≡ c' → d ≡ d' → e ≡ e' → f ≡ f' →
-    Path CauseRounds (record { error = a; caller = b; adapter_frozen = c; device_full = d; adapter_full = e; not_asked = f }) (record { error = a'; caller = b'; adapter_frozen = c'; device_full = d'; adapter_full = e'; not_asked = f' })
-same_rounds a b c d e f a' b' c' d' e' f' ea eb ec ed ee ef = rw (ea, eb, ec, ed, ee, ef) refl
+same_rounds : (a b c d e f g a' b' c' d' e' f' g' : ℕ) → a ≡ a' → b ≡ b' → c ≡ c' → d ≡ d' → e ≡ e' → f ≡ f' → g ≡ g' →
+    Path CauseRounds
+    (record { error = a; caller = b; adapter_frozen = c; device_full = d; adapter_full = e; link_full = f; not_asked = g })
+    (record { error = a'; caller = b'; adapter_frozen = c'; device_full = d'; adapter_full = e'; link_full = f'; not_asked = g' })
+same_rounds a b c d e f g a' b' c' d' e' f' g' ea eb ec ed ee ef eg = rw (ea, eb, ec, ed, ee, ef, eg) refl
 
 -- one round more counts for its cause alone
 pub rounds_by-push : (xs : List Cause) (x : Cause) → rounds_by (xs ++ x ∷ []) ≡ with_round (rounds_by xs) x
-rounds_by-push xs Error = simp (count_by-push) (same_rounds _ _ _ _ _ _ _ _ _ _ _ _ (omega arith) (omega arith) (omega arith) (omega arith) (omega arith) (omega arith))
-rounds_by-push xs Caller = simp (count_by-push) (same_rounds _ _ _ _ _ _ _ _ _ _ _ _ (omega arith) (omega arith) (omega arith) (omega arith) (omega arith) (omega arith))
-rounds_by-push xs AdapterFrozen = simp (count_by-push) (same_rounds _ _ _ _ _ _ _ _ _ _ _ _ (omega arith) (omega arith) (omega arith) (omega arith) (omega arith) (omega arith))
-rounds_by-push xs DeviceFull = simp (count_by-push) (same_rounds _ _ _ _ _ _ _ _ _ _ _ _ (omega arith) (omega arith) (omega arith) (omega arith) (omega arith) (omega arith))
-rounds_by-push xs AdapterFull = simp (count_by-push) (same_rounds _ _ _ _ _ _ _ _ _ _ _ _ (omega arith) (omega arith) (omega arith) (omega arith) (omega arith) (omega arith))
-rounds_by-push xs NotAsked = simp (count_by-push) (same_rounds _ _ _ _ _ _ _ _ _ _ _ _ (omega arith) (omega arith) (omega arith) (omega arith) (omega arith) (omega arith))
+rounds_by-push xs Error = simp (count_by-push) (same_rounds _ _ _ _ _ _ _ _ _ _ _ _ _ _ (omega arith) (omega arith) (omega arith) (omega arith) (omega arith) (omega arith) (omega arith))
+rounds_by-push xs Caller = simp (count_by-push) (same_rounds _ _ _ _ _ _ _ _ _ _ _ _ _ _ (omega arith) (omega arith) (omega arith) (omega arith) (omega arith) (omega arith) (omega arith))
+rounds_by-push xs AdapterFrozen = simp (count_by-push) (same_rounds _ _ _ _ _ _ _ _ _ _ _ _ _ _ (omega arith) (omega arith) (omega arith) (omega arith) (omega arith) (omega arith) (omega arith))
+rounds_by-push xs DeviceFull = simp (count_by-push) (same_rounds _ _ _ _ _ _ _ _ _ _ _ _ _ _ (omega arith) (omega arith) (omega arith) (omega arith) (omega arith) (omega arith) (omega arith))
+rounds_by-push xs AdapterFull = simp (count_by-push) (same_rounds _ _ _ _ _ _ _ _ _ _ _ _ _ _ (omega arith) (omega arith) (omega arith) (omega arith) (omega arith) (omega arith) (omega arith))
+rounds_by-push xs LinkFull = simp (count_by-push) (same_rounds _ _ _ _ _ _ _ _ _ _ _ _ _ _ (omega arith) (omega arith) (omega arith) (omega arith) (omega arith) (omega arith) (omega arith))
+rounds_by-push xs NotAsked = simp (count_by-push) (same_rounds _ _ _ _ _ _ _ _ _ _ _ _ _ _ (omega arith) (omega arith) (omega arith) (omega arith) (omega arith) (omega arith) (omega arith))
 
 all_rounds-more : (n : CauseRounds) (x : Cause) → all_rounds (with_round n x) ≡ all_rounds n + 1
 all_rounds-more n Error = omega arith
@@ -57,6 +60,7 @@ all_rounds-more n Caller = omega arith
 all_rounds-more n AdapterFrozen = omega arith
 all_rounds-more n DeviceFull = omega arith
 all_rounds-more n AdapterFull = omega arith
+all_rounds-more n LinkFull = omega arith
 all_rounds-more n NotAsked = omega arith
 
 -- each round counts once

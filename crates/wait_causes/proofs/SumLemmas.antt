@@ -36,35 +36,52 @@ use Rattle.wait_causes.proofs.CostLemmas.{runs_cost, written_out, count_passed, 
 use Rattle.wait_causes.proofs.StayLemmas.{devices_in_range}
 
 -- the first that holds
-first_of : (a b e f g : Bool) → waiting.Cause
-first_of a b e f g = if a then why.Error else if b then why.Caller else if e then why.AdapterFrozen else if f then why.DeviceFull else if g then why.AdapterFull else why.NotAsked
+first_of : (a b e f g h : Bool) → waiting.Cause
+first_of a b e f g h =
+    if a then why.Error
+    else if b then why.Caller
+    else if e then why.AdapterFrozen
+    else if f then why.DeviceFull
+    else if g then why.AdapterFull
+    else if h then why.LinkFull
+    else why.NotAsked
 
-error_held : (a b e f g : Bool) → is_cause why.Error (first_of a b e f g) ≡ true → a ≡ true
+-- one behind these is none that a freeze has
+full_or_not : (kind : FreezeKind) (f g h : Bool) → is_cause (cause_of kind) (first_of false false false f g h) ≡ true → false ≡ true
 unfolding first_of
-error_held true b e f g is = refl
-error_held false true e f g is = absurd cc
-error_held false false true f g is = absurd cc
-error_held false false false true g is = absurd cc
-error_held false false false false true is = absurd cc
-error_held false false false false false is = absurd cc
+full_or_not Error true g h is = is
+full_or_not Error false true h is = is
+full_or_not Error false false true is = is
+full_or_not Error false false false is = is
+full_or_not Caller true g h is = is
+full_or_not Caller false true h is = is
+full_or_not Caller false false true is = is
+full_or_not Caller false false false is = is
+full_or_not Adapter true g h is = is
+full_or_not Adapter false true h is = is
+full_or_not Adapter false false true is = is
+full_or_not Adapter false false false is = is
 
-caller_held : (a b e f g : Bool) → is_cause why.Caller (first_of a b e f g) ≡ true → b ≡ true
+error_held : (a b e f g h : Bool) → is_cause why.Error (first_of a b e f g h) ≡ true → a ≡ true
 unfolding first_of
-caller_held a true e f g is = refl
-caller_held true false e f g is = absurd cc
-caller_held false false true f g is = absurd cc
-caller_held false false false true g is = absurd cc
-caller_held false false false false true is = absurd cc
-caller_held false false false false false is = absurd cc
+error_held true b e f g h is = refl
+error_held false true e f g h is = is
+error_held false false true f g h is = is
+error_held false false false f g h is = full_or_not Error f g h is
 
-adapter_held : (a b e f g : Bool) → is_cause why.AdapterFrozen (first_of a b e f g) ≡ true → e ≡ true
+caller_held : (a b e f g h : Bool) → is_cause why.Caller (first_of a b e f g h) ≡ true → b ≡ true
 unfolding first_of
-adapter_held a b true f g is = refl
-adapter_held true b false f g is = absurd cc
-adapter_held false true false f g is = absurd cc
-adapter_held false false false true g is = absurd cc
-adapter_held false false false false true is = absurd cc
-adapter_held false false false false false is = absurd cc
+caller_held a true e f g h is = refl
+caller_held true false e f g h is = is
+caller_held false false true f g h is = is
+caller_held false false false f g h is = full_or_not Caller f g h is
+
+adapter_held : (a b e f g h : Bool) → is_cause why.AdapterFrozen (first_of a b e f g h) ≡ true → e ≡ true
+unfolding first_of
+adapter_held a b true f g h is = refl
+adapter_held true b false f g h is = is
+adapter_held false true false f g h is = is
+adapter_held false false false f g h is = full_or_not Adapter f g h is
 
 -- a device, or its adapter
 abbrev pub holder : FreezeKind → Topology → ℕ → ℕ
@@ -74,9 +91,9 @@ holder Adapter c d = device_adapter c d
 
 held_at : (kind : FreezeKind) (c : Topology) (before : List Event) (d : ℕ) → is_cause (cause_of kind) (cause_at c before d) ≡ true → is_frozen_at kind before (holder kind c d) ≡ true
 unfolding cause_at first_of
-held_at Error c before d is = error_held _ _ _ _ _ is
-held_at Caller c before d is = caller_held _ _ _ _ _ is
-held_at Adapter c before d is = adapter_held _ _ _ _ _ is
+held_at Error c before d is = error_held _ _ _ _ _ _ is
+held_at Caller c before d is = caller_held _ _ _ _ _ _ is
+held_at Adapter c before d is = adapter_held _ _ _ _ _ _ is
 
 none_held : (kind : FreezeKind) → is_cause (cause_of kind) why.NotAsked ≡ true → false ≡ true
 none_held Error is = is

@@ -10,7 +10,7 @@ use Rattle.cam_event.proofs.ListFacts.{range_with_len-push}
 use Rattle.wait_causes.specs.Stays.{is_cause}
 use Rattle.wait_causes.specs.Waits.{beside, rounds_of, are_apart, AreBegun}
 use Rattle.wait_causes.specs.declared.cause.Cause.{Cause}
-use Rattle.wait_causes.specs.declared.cause.Cause.TheVariants.{Error, Caller, AdapterFrozen, DeviceFull, AdapterFull, NotAsked}
+use Rattle.wait_causes.specs.declared.cause.Cause.TheVariants.{Error, Caller, AdapterFrozen, DeviceFull, AdapterFull, LinkFull, NotAsked}
 use Rattle.wait_causes.specs.declared.wait.Wait.{Wait}
 
 pub same_cause : (a b : Cause) → is_cause a b ≡ true → a ≡ b
@@ -19,6 +19,7 @@ same_cause Caller Caller e = refl
 same_cause AdapterFrozen AdapterFrozen e = refl
 same_cause DeviceFull DeviceFull e = refl
 same_cause AdapterFull AdapterFull e = refl
+same_cause LinkFull LinkFull e = refl
 same_cause NotAsked NotAsked e = refl
 same_cause _ _ e = absurd (cc)
 

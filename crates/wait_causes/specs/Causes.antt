@@ -1,5 +1,5 @@
 -- why the stays of a history waited: what held where each round ended
-use Rattle.std.specs.Prelude.{ℕ, ◌+◌, ◌-◌, ◌*◌, ◌==◌, not, if◌then◌else◌, List, map, filter, flat_map, slice_get, unwrap_or}
+use Rattle.std.specs.Prelude.{ℕ, ◌+◌, ◌-◌, ◌*◌, ◌==◌, Bool, true, not, if◌then◌else◌, nat_lt, List, length, map, filter, flat_map, slice_get, unwrap_or}
 use Rattle.std.specs.List.{range_with_len}
 use Rattle.std.specs.Option.{option_map_or}
 use Rattle.cam_types.specs.Lists.{moments}
@@ -7,12 +7,17 @@ use Rattle.cam_types.specs.Topology.{Topology}
 use Rattle.cam_types.specs.Questions.{devices, device_adapter}
 use Rattle.cam_event.specs.Event.{is_tick}
 use Rattle.cam_event.specs.Counts.{error_count, caller_count, adapter_freezes}
-use Rattle.cam_event.specs.Head.{has_opening, adapter_has_opening}
+use Rattle.cam_event.specs.Head.{has_opening, adapter_has_opening, link_has_opening}
 use Rattle.cam_event.specs.Live.{live_round}
 use Rattle.cam_event.specs.declared.event.Event.{Event}
 use Rattle.cam_event.specs.declared.stay.Stay.{Stay}
 use Rattle.wait_causes.specs.declared.cause.Cause.{Cause}
-use Rattle.wait_causes.specs.declared.cause.Cause.TheVariants.{Error, Caller, AdapterFrozen, DeviceFull, AdapterFull, NotAsked}
+use Rattle.wait_causes.specs.declared.cause.Cause.TheVariants.{Error, Caller, AdapterFrozen, DeviceFull, AdapterFull, LinkFull, NotAsked}
+
+-- whether a configuration lets a cause hold: links are full only where there are links
+abbrev pub can_hold : Cause → Topology → Bool
+can_hold LinkFull c = nat_lt 0 (length c.links)
+can_hold _ c = true
 
 -- the places where a round ended, in order: each by the events before its tick
 unfoldable pub round_ends : List Event → List (List Event)
@@ -27,6 +32,7 @@ cause_at c events d =
     else if not (adapter_freezes events (device_adapter c d) == 0) then AdapterFrozen
     else if not (has_opening c events d) then DeviceFull
     else if not (adapter_has_opening c events (device_adapter c d)) then AdapterFull
+    else if not (link_has_opening c events (device_adapter c d)) then LinkFull
     else NotAsked
 
 -- what held them up in a round that ended

@@ -1,9 +1,9 @@
 -- what some stays waited, and what that cost
-use Rattle.std.specs.Prelude.{ℕ, ◌+◌, ◌-◌, ◌*◌, Bool, nat_le, List, length, count_by, sum_by, find, unwrap_or}
+use Rattle.std.specs.Prelude.{ℕ, ◌+◌, ◌-◌, ◌*◌, Bool, nat_le, List, [], ◌∷◌, length, count_by, sum_by, find, unwrap_or}
 use Rattle.std.specs.List.{range_with_len}
 use Rattle.cam_types.specs.declared.maxima.TheConstants.{MOST_ROUNDS}
 use Rattle.wait_causes.specs.declared.cause.Cause.{Cause}
-use Rattle.wait_causes.specs.declared.cause.Cause.TheVariants.{Error, Caller, AdapterFrozen, DeviceFull, AdapterFull, NotAsked}
+use Rattle.wait_causes.specs.declared.cause.Cause.TheVariants.{Error, Caller, AdapterFrozen, DeviceFull, AdapterFull, LinkFull, NotAsked}
 use Rattle.wait_causes.specs.declared.explained_stay.CauseRounds.{CauseRounds}
 use Rattle.wait_causes.specs.declared.explained_stay.ExplainedStay.{ExplainedStay}
 use Rattle.wait_causes.specs.declared.part.Measure.{Measure}
@@ -18,6 +18,7 @@ rounds_for Caller n = n.caller
 rounds_for AdapterFrozen n = n.adapter_frozen
 rounds_for DeviceFull n = n.device_full
 rounds_for AdapterFull n = n.adapter_full
+rounds_for LinkFull n = n.link_full
 rounds_for NotAsked n = n.not_asked
 
 -- the rounds that a stay waited
@@ -47,12 +48,25 @@ costs_of stays = record {
   adapter_frozen = sum_by (measure (Cost AdapterFrozen)) stays;
   device_full = sum_by (measure (Cost DeviceFull)) stays;
   adapter_full = sum_by (measure (Cost AdapterFull)) stays;
+  link_full = sum_by (measure (Cost LinkFull)) stays;
   not_asked = sum_by (measure (Cost NotAsked)) stays;
 }
 
+-- the causes in the order in which they are tested, each with its cost
+abbrev pub by_cause : CauseCosts → List (Cause × ℕ)
+by_cause n =
+    (Error, n.error)
+    ∷ (Caller, n.caller)
+    ∷ (AdapterFrozen, n.adapter_frozen)
+    ∷ (DeviceFull, n.device_full)
+    ∷ (AdapterFull, n.adapter_full)
+    ∷ (LinkFull, n.link_full)
+    ∷ (NotAsked, n.not_asked)
+    ∷ []
+
 -- all causes together
 abbrev pub all_costs : CauseCosts → ℕ
-all_costs n = n.error + n.caller + n.adapter_frozen + n.device_full + n.adapter_full + n.not_asked
+all_costs n = n.error + n.caller + n.adapter_frozen + n.device_full + n.adapter_full + n.link_full + n.not_asked
 
 -- what these stays waited, and what that cost
 unfoldable pub part_of : List ExplainedStay → Part

@@ -14,7 +14,7 @@ use Rattle.cam_event.specs.declared.submission.Submission.{Submission}
 use Rattle.xpt_stays.specs.declared.stay_record.StayRecord.{StayRecord}
 use Rattle.wait_causes.specs.Causes.{waited_causes, cause_in}
 use Rattle.wait_causes.specs.declared.cause.Cause.{Cause}
-use Rattle.wait_causes.specs.declared.cause.Cause.TheVariants.{Error, Caller, AdapterFrozen, DeviceFull, AdapterFull, NotAsked}
+use Rattle.wait_causes.specs.declared.cause.Cause.TheVariants.{Error, Caller, AdapterFrozen, DeviceFull, AdapterFull, LinkFull, NotAsked}
 use Rattle.wait_causes.specs.declared.explained_stay.CauseRounds.{CauseRounds}
 use Rattle.wait_causes.specs.declared.explained_stay.ExplainedStay.{ExplainedStay}
 
@@ -25,6 +25,7 @@ is_cause Caller Caller = true
 is_cause AdapterFrozen AdapterFrozen = true
 is_cause DeviceFull DeviceFull = true
 is_cause AdapterFull AdapterFull = true
+is_cause LinkFull LinkFull = true
 is_cause NotAsked NotAsked = true
 is_cause _ _ = false
 
@@ -36,12 +37,13 @@ rounds_by causes = record {
   adapter_frozen = count_by (is_cause AdapterFrozen) causes;
   device_full = count_by (is_cause DeviceFull) causes;
   adapter_full = count_by (is_cause AdapterFull) causes;
+  link_full = count_by (is_cause LinkFull) causes;
   not_asked = count_by (is_cause NotAsked) causes;
 }
 
 -- all of them together
 abbrev pub all_rounds : CauseRounds → ℕ
-all_rounds n = n.error + n.caller + n.adapter_frozen + n.device_full + n.adapter_full + n.not_asked
+all_rounds n = n.error + n.caller + n.adapter_frozen + n.device_full + n.adapter_full + n.link_full + n.not_asked
 
 -- a stay, and the round in which the other schedule sends it
 unfoldable pub explained_stay : Topology → List Event → Stay → ℕ → ExplainedStay
@@ -67,7 +69,7 @@ explained_stays c events best =
 
 -- no rounds, and one more of a cause
 abbrev pub no_rounds : CauseRounds
-no_rounds = record { error = 0; caller = 0; adapter_frozen = 0; device_full = 0; adapter_full = 0; not_asked = 0 }
+no_rounds = record { error = 0; caller = 0; adapter_frozen = 0; device_full = 0; adapter_full = 0; link_full = 0; not_asked = 0 }
 
 abbrev pub with_round : CauseRounds → Cause → CauseRounds
 with_round n Error = record n { error = n.error + 1 }
@@ -75,6 +77,7 @@ with_round n Caller = record n { caller = n.caller + 1 }
 with_round n AdapterFrozen = record n { adapter_frozen = n.adapter_frozen + 1 }
 with_round n DeviceFull = record n { device_full = n.device_full + 1 }
 with_round n AdapterFull = record n { adapter_full = n.adapter_full + 1 }
+with_round n LinkFull = record n { link_full = n.link_full + 1 }
 with_round n NotAsked = record n { not_asked = n.not_asked + 1 }
 
 -- the round of a send by the record of the stay, and the last round where it has none

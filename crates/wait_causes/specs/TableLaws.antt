@@ -2,7 +2,7 @@
 use Rattle.std.specs.Prelude.{◌≡◌, ℕ, List, sum_by}
 use Rattle.wait_causes.specs.Parts.{part_of}
 use Rattle.wait_causes.specs.Tables.{table_of}
-use Rattle.wait_causes.specs.declared.cause.Cause.TheVariants.{Error, Caller, AdapterFrozen, DeviceFull, AdapterFull, NotAsked}
+use Rattle.wait_causes.specs.declared.cause.Cause.TheVariants.{Error, Caller, AdapterFrozen, DeviceFull, AdapterFull, LinkFull, NotAsked}
 use Rattle.wait_causes.specs.declared.explained_stay.ExplainedStay.{ExplainedStay}
 use Rattle.wait_causes.specs.declared.part.Measure.{Measure}
 use Rattle.wait_causes.specs.declared.part.Measure.TheVariants.{Waited, Live, Best, Cost}
@@ -20,6 +20,7 @@ amount (Cost Caller) p = p.costs.caller
 amount (Cost AdapterFrozen) p = p.costs.adapter_frozen
 amount (Cost DeviceFull) p = p.costs.device_full
 amount (Cost AdapterFull) p = p.costs.adapter_full
+amount (Cost LinkFull) p = p.costs.link_full
 amount (Cost NotAsked) p = p.costs.not_asked
 
 -- in every table the rows have all stays, and of each measure they have together what the whole has

@@ -3,6 +3,7 @@
 ghost use Rattle.std.specs.Prelude.{◌≡◌, ◌<◌, length};
 ghost use Rattle.wait_causes.specs.Causes.{cause_at};
 
+use cam_types::Config;
 use xpt_adapters::Adapters;
 
 /// Why a stay waited in a round: of these the first that held where the round ended, just before its tick.
@@ -18,11 +19,14 @@ pub enum Cause {
     DeviceFull,
     /// The adapter had no opening left in the round.
     AdapterFull,
+    /// The adapter's link had no opening left in the round.
+    LinkFull,
     /// None of these: it or another stay could have been sent, and no lane asked.
     NotAsked,
 }
 
 impl Cause {
+    ghost use Rattle.wait_causes.specs.Causes.{can_hold};
     ghost use Rattle.wait_causes.specs.Stays.{is_cause};
 
     // Whether the two are the same.
@@ -30,6 +34,16 @@ impl Cause {
         ensures { result ≡ is_cause self other }
     {
         self == other
+    }
+
+    /// Whether the configuration lets the cause hold: links are full only where there are links.
+    pub fn can_hold(self, config: &Config) -> bool
+        ensures { result ≡ can_hold self config.now }
+    {
+        match self {
+            Cause::LinkFull => !config.links().is_empty(),
+            _ => true,
+        }
     }
 }
 
@@ -53,6 +67,8 @@ pub(crate) fn cause_at(replay: &Adapters, device: u32) -> Cause
         Cause::DeviceFull
     } else if !replay.has_opening(adapter) {
         Cause::AdapterFull
+    } else if !replay.link_has_opening(adapter) {
+        Cause::LinkFull
     } else {
         Cause::NotAsked
     }

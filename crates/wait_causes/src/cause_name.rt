@@ -11,6 +11,7 @@ impl Cause {
             Cause::AdapterFrozen => "adapter frozen",
             Cause::DeviceFull => "device full",
             Cause::AdapterFull => "adapter full",
+            Cause::LinkFull => "link full",
             Cause::NotAsked => "not asked",
         }
     }

@@ -20,6 +20,8 @@ pub struct CauseRounds {
     pub device_full: u32,
     /// Rounds at whose ends the adapter had no opening left.
     pub adapter_full: u32,
+    /// Rounds at whose ends the adapter's link had no opening left.
+    pub link_full: u32,
     /// Rounds in which no lane asked.
     pub not_asked: u32,
 }
@@ -35,6 +37,7 @@ impl CauseRounds {
             adapter_frozen: 0,
             device_full: 0,
             adapter_full: 0,
+            link_full: 0,
             not_asked: 0,
         }
     }
@@ -50,6 +53,7 @@ impl CauseRounds {
             Cause::AdapterFrozen => self.adapter_frozen += 1,
             Cause::DeviceFull => self.device_full += 1,
             Cause::AdapterFull => self.adapter_full += 1,
+            Cause::LinkFull => self.link_full += 1,
             Cause::NotAsked => self.not_asked += 1,
         }
     }

@@ -21,8 +21,29 @@ pub struct CauseCosts {
     pub device_full: u64,
     /// While the adapter had no opening left.
     pub adapter_full: u64,
+    /// While the adapter's link had no opening left.
+    pub link_full: u64,
     /// While no lane asked.
     pub not_asked: u64,
+}
+
+impl CauseCosts {
+    ghost use Rattle.wait_causes.specs.Parts.{by_cause};
+
+    /// The causes in the order in which they are tested, each with its cost.
+    pub fn by_cause(&self) -> [(Cause, u64); 7]
+        ensures { result ≡ by_cause self.now }
+    {
+        [
+            (Cause::Error, self.error),
+            (Cause::Caller, self.caller),
+            (Cause::AdapterFrozen, self.adapter_frozen),
+            (Cause::DeviceFull, self.device_full),
+            (Cause::AdapterFull, self.adapter_full),
+            (Cause::LinkFull, self.link_full),
+            (Cause::NotAsked, self.not_asked),
+        ]
+    }
 }
 
 /// What some stays waited, and what that cost.
@@ -93,6 +114,7 @@ fn rounds_for(rounds: &CauseRounds, cause: Cause) -> u32
         Cause::AdapterFrozen => rounds.adapter_frozen,
         Cause::DeviceFull => rounds.device_full,
         Cause::AdapterFull => rounds.adapter_full,
+        Cause::LinkFull => rounds.link_full,
         Cause::NotAsked => rounds.not_asked,
     }
 }
@@ -116,6 +138,7 @@ pub(crate) fn part_of(stays: &[ExplainedStay]) -> Part
             adapter_frozen: total(stays, Measure::Cost(Cause::AdapterFrozen)),
             device_full: total(stays, Measure::Cost(Cause::DeviceFull)),
             adapter_full: total(stays, Measure::Cost(Cause::AdapterFull)),
+            link_full: total(stays, Measure::Cost(Cause::LinkFull)),
             not_asked: total(stays, Measure::Cost(Cause::NotAsked)),
         },
     }

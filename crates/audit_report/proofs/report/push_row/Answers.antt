@@ -3,8 +3,7 @@ use Rattle.std.proofs.lemmas.Option.{slice_get-get_or, slice_get_past}
 use Rattle.cam_types.specs.declared.device.Device.{Device}
 use Rattle.std.specs.Prelude.{codes, slice_get}
 use Rattle.cam_path.specs.Paths.{address_of, spelled}
-use Rattle.price_check.specs.Report.{number_text}
-use Rattle.audit_report.proofs.ReportLemmas.{two_pieces, row_text-device, row_text-adapter}
+use Rattle.audit_report.proofs.ReportLemmas.{two_pieces, row_text-device, row_text-shared}
 use Rattle.audit_report.proofs.report.push_row.Goals as goal
 
 pub returns-in_ok-extend_from_slice-in-Some-clause-text : goal.returns-in_ok-extend_from_slice-in-Some-clause-text
@@ -12,11 +11,4 @@ returns-in_ok-extend_from_slice-in-Some-clause-text c =
     let looked = c.in-Some.ensures.lookup in
     let found : slice_get c.args.devices.now c.args.row ≡ Some c.in-Some.device.now = slice_get-get_or c.args.devices.now c.args.row c.in-Some.device.now looked.3.0 ∙ ap (λ (d : Device). Some d) (sym looked.1) in
     let so_far : c.extend_from_slice.new.self.items ≡ c.args.text.now.items ++ codes "price dev " = search rules in
-    rw (row_text-device c.args.devices.now c.args.row c.in-Some.device.now found, two_pieces c.args.text.now.items (codes "price dev ") (spelled (address_of c.in-Some.device.now)) c.extend_from_slice.new.self.items so_far) c.push_path.ensures.text
-
-pub returns-in_ok-extend_from_slice-in-None-clause-text : goal.returns-in_ok-extend_from_slice-in-None-clause-text
-returns-in_ok-extend_from_slice-in-None-clause-text c =
-    let found : slice_get c.args.devices.now c.args.row ≡ None = slice_get_past c.args.devices.now c.args.row c.in-None.ensures.lookup.3 in
-    let so_far : c.extend_from_slice-in-None.new.self.items ≡ c.args.text.now.items ++ codes "price sim" = search rules in
-    let beyond : c.args.row - length c.args.devices.now ≡ c.saturating_sub.result = search rules in
-    rw (row_text-adapter c.args.devices.now c.args.row found, beyond, two_pieces c.args.text.now.items (codes "price sim") (number_text c.saturating_sub.result) c.extend_from_slice-in-None.new.self.items so_far) c.push_number.ensures.text
+    rw (row_text-device c.args.devices.now c.args.adapters c.args.row c.in-Some.device.now found, two_pieces c.args.text.now.items (codes "price dev ") (spelled (address_of c.in-Some.device.now)) c.extend_from_slice.new.self.items so_far) c.push_path.ensures.text

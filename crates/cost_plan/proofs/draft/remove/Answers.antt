@@ -1,6 +1,7 @@
-use Rattle.std.proofs.Common.{ℕ, ◌≡◌, ◌<◌, ◌+◌, ◌-◌, ap, arith, length, get_or, set, subst, sym}
+use Rattle.std.proofs.Common.{ℕ, ◌≡◌, ◌<◌, ◌-◌, ap, arith, length, get_or, set, subst, sym}
 use Rattle.std.proofs.lemmas.List.{get_or_read}
-use Rattle.round_net.specs.Rows.{instance_of_rows}
+use Rattle.round_net.specs.Instance.{rows}
+use Rattle.round_net.specs.Rows.{instance_of_rows, live_of_rows}
 use Rattle.cost_plan.proofs.LoadLemmas.{IsRemoving, IsRemoving-begun, IsRemoving-some, IsRemoving-step, IsRemoving-ended}
 use Rattle.cost_plan.proofs.NodeLemmas.{cell-in}
 use Rattle.cost_plan.proofs.draft.remove.Goals as goal
@@ -9,18 +10,18 @@ pub loop-row-init : goal.loop-row-init
 loop-row-init c =
     let net = instance_of_rows c.args.net.now in
     subst (IsRemoving net c.args.stay c.args.round c.args.loads.now.items c.args.loads.now.items) (sym c.device-row.ensures.same)
-    (IsRemoving-begun net c.args.stay c.args.round c.args.loads.now.items (omega (arith, c.device-row.ensures.same, c.device-row.ensures.within)))
+    (IsRemoving-begun net (live_of_rows c.args.net.now) c.args.stay c.args.round c.args.loads.now.items c.rows-end.ensures.sound c.requires.stay)
 
 pub index_mut-requires : goal.index_mut-requires
 index_mut-requires c =
     let net = instance_of_rows c.args.net.now in
-    omega (arith, c.node-cell.ensures.same, cell-in net c.loop-row.row c.args.round (omega arith) c.requires.round, c.loop-row.invariant.size, c.requires.size)
+    omega (arith, c.node-cell.ensures.same, cell-in net c.loop-row.row c.args.round (omega (arith, c.rows-end.ensures.same)) c.requires.round, c.loop-row.invariant.size, c.requires.size)
 
 pub overflow_sub-index_mut : goal.overflow_sub-index_mut
 overflow_sub-index_mut c =
     let net = instance_of_rows c.args.net.now in
     let loads = c.loop-row.loads.items in
-    let row_in : c.loop-row.row < (net.devices + net.adapters) = omega arith in
+    let row_in : c.loop-row.row < rows net = omega (arith, c.rows-end.ensures.same) in
     let inside : c.node-cell.result < length loads = omega (arith, c.node-cell.ensures.same, cell-in net c.loop-row.row c.args.round row_in c.requires.round, c.loop-row.invariant.size, c.requires.size) in
     let x : c.index_mut.result.now ≡ get_or loads c.node-cell.result 0 = get_or_read loads _ _ inside c.index_mut.ensures.value 0 in
     let place = ap (λ (k : ℕ). get_or loads k 0) c.node-cell.ensures.same in
@@ -32,7 +33,7 @@ loop-row-preserved c =
     let net = instance_of_rows c.args.net.now in
     let old = c.args.loads.now.items in
     let loads = c.loop-row.loads.items in
-    let row_in : c.loop-row.row < (net.devices + net.adapters) = omega arith in
+    let row_in : c.loop-row.row < rows net = omega (arith, c.rows-end.ensures.same) in
     let inside : c.node-cell.result < length loads = omega (arith, c.node-cell.ensures.same, cell-in net c.loop-row.row c.args.round row_in c.requires.round, c.loop-row.invariant.size, c.requires.size) in
     let x : c.index_mut.result.now ≡ get_or loads c.node-cell.result 0 = get_or_read loads _ _ inside c.index_mut.ensures.value 0 in
     let place = ap (λ (k : ℕ). get_or loads k 0) c.node-cell.ensures.same in
@@ -43,4 +44,4 @@ loop-row-preserved c =
 pub returns-clause-counts : goal.returns-clause-counts
 returns-clause-counts c =
     let net = instance_of_rows c.args.net.now in
-    IsRemoving-ended net c.args.stay c.args.round c.args.loads.now.items c.loop-row.loads.items c.loop-row.row (omega arith) c.loop-row.invariant
+    IsRemoving-ended net c.args.stay c.args.round c.args.loads.now.items c.loop-row.loads.items c.loop-row.row (omega (arith, c.rows-end.ensures.same)) c.loop-row.invariant

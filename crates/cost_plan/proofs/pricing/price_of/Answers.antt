@@ -1,6 +1,6 @@
 use Rattle.std.proofs.Common.{arith}
 use Rattle.round_net.specs.Rows.{instance_of_rows}
-use Rattle.cost_plan.proofs.NodeLemmas.{cell-lt-node_count, above-lt-node_count}
+use Rattle.cost_plan.proofs.NodeLemmas.{cell-lt-node_count, node_of-lt-node_count}
 use Rattle.cost_plan.proofs.pricing.price_of.Goals as goal
 
 pub label-cell-requires : goal.label-cell-requires
@@ -8,5 +8,5 @@ label-cell-requires c = omega (arith, c.node.ensures.same, cell-lt-node_count (i
 
 pub label-requires : goal.label-requires
 label-requires c =
-    let above = above-lt-node_count (instance_of_rows c.args.net.now) c.args.row c.args.round c.requires.last in
+    let above = node_of-lt-node_count (instance_of_rows c.args.net.now) c.args.up c.args.round c.requires.last in
     omega (arith, c.node_above.ensures.same, above, c.requires.size)

@@ -1,4 +1,4 @@
-use Rattle.std.proofs.Common.{ℕ, ◌≡◌, ◌+◌, ◌*◌, ◌<◌, ◌≤◌, ◌∙◌, Option, length, ap, sym, subst, arith, inl}
+use Rattle.std.proofs.Common.{◌≡◌, ◌+◌, ◌*◌, ◌<◌, ◌≤◌, ◌∙◌, length, ap, arith, inl}
 use Rattle.std.proofs.lemmas.Nat.{mul-le}
 use Rattle.cam_types.specs.declared.maxima.TheConstants.{MOST_ROUNDS, MOST_WEIGHT}
 use Rattle.gaining_cycle.specs.declared.arc.Arc.{Arc}
@@ -6,7 +6,7 @@ use Rattle.round_net.specs.Rows.{instance_of_rows, live_of_rows}
 use Rattle.cost_plan.specs.Cells.{node_count}
 use Rattle.cost_plan.specs.Draft.{schedule_of}
 use Rattle.cost_plan.specs.Residual.{IsResidual, move_arc}
-use Rattle.cost_plan.specs.Raising.{IsRaising, SettlesMove}
+use Rattle.cost_plan.specs.Raising.{SettlesMove}
 use Rattle.cost_plan.proofs.NodeLemmas.{cell-lt-node_count, node_count-le}
 use Rattle.cost_plan.proofs.RaisingLemmas.{Raises-by, IsSettled-by, IsRaising-more, move_arc-on}
 use Rattle.cost_plan.proofs.relax.relax_moves.Goals as goal
@@ -46,6 +46,5 @@ loop-round-preserved c =
     let head_in : start.head + c.loop-round.round < node_count net = omega (arith, ap (λ (a : Arc). a.head) c.moving-start.ensures.same) in
     let residual : IsResidual net f arc = inl (record { stay = c.args.stay; round = c.loop-round.round; is = is; within = c.requires.stay; not_early = omega arith; not_late = omega arith }) in
     let step = Raises-by net f c.loop-round.labels c.relax.new.self c.relax.result arc (node_count net) c.relax.ensures.labels c.relax.ensures.node size (node_count-le net (live_of_rows c.args.net.now) sound) c.moving-start.ensures.tail head_in c.moving-start.ensures.up residual in
-    let more = IsRaising-more net f (SettlesMove net f c.args.stay) (net.arrival c.args.stay) c.args.labels.now c.loop-round.labels c.relax.new.self c.loop-round.found c.relax.result c.loop-round.round before step
-    (λ none. IsSettled-by c.loop-round.labels c.relax.result arc _ c.relax.ensures.node is none) in
-    subst (λ (o : Option ℕ). IsRaising net f (SettlesMove net f c.args.stay) (net.arrival c.args.stay) c.args.labels.now c.relax.new.self o (c.loop-round.round + 1)) (sym c.or-found.ensures) more
+    IsRaising-more net f (SettlesMove net f c.args.stay) (net.arrival c.args.stay) c.args.labels.now c.loop-round.labels c.relax.new.self c.loop-round.found c.relax.result c.or-found.result c.loop-round.round c.or-found.ensures before step
+    (λ none. IsSettled-by c.loop-round.labels c.relax.result arc _ c.relax.ensures.node is none)

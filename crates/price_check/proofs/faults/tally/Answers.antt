@@ -3,7 +3,8 @@ use Rattle.std.specs.Prelude.{slice_index}
 use Rattle.round_net.specs.Instance.{rows, adapter, adapter_row}
 use Rattle.round_net.specs.Rows.{instance_of_rows, cell}
 use Rattle.round_net.proofs.CellLemmas.{cell_room}
-use Rattle.price_check.proofs.TallyLemmas.{IsPlaced, IsCounted, counted_none, counted_more, few_here, device_place, adapter_place, adapter_new, tallied}
+use Rattle.price_check.specs.Tally.{IsCounted}
+use Rattle.price_check.proofs.TallyLemmas.{IsPlaced, counted_none, counted_more, few_here, device_place, adapter_place, adapter_new, tallied}
 use Rattle.price_check.proofs.faults.tally.Goals as goal
 
 pub count-at_device-requires-clause-few : goal.count-at_device-requires-clause-few
@@ -58,4 +59,4 @@ returns c =
     let done = tallied net f c.args.counts.now c.count-at_device.new.counts c.count-at_adapter.new.counts c.args.stay c.cell.result c.cell-2.result c.count-at_device.result c.count-at_adapter.result c.requires.tally placed c.requires.cells
     (c.cell.ensures ∙ rw (c.rounds.ensures.same, c.device-device.ensures.same, c.round-round.ensures) refl) c.count-at_device.ensures.now c.count-at_device.ensures.counted
     (c.cell-2.ensures ∙ rw (c.rounds-2.ensures.same, c.adapter_row-adapter.ensures.same, c.adapter.ensures.same, c.round-round.ensures) refl) c.count-at_adapter.ensures.now c.count-at_adapter.ensures.counted in
-    record { at_device = done.at_device; at_adapter = done.at_adapter; tally = done.tally }
+    record { at_device = done.at_device; at_adapter = done.at_adapter; counted = done.counted }

@@ -7,12 +7,14 @@ use Rattle.price_check.proofs.reader.read_lines.Goals as goal
 
 pub listed-requires-clause-cells : goal.listed-requires-clause-cells
 listed-requires-clause-cells c =
+    let adapters = (instance_of_rows c.args.net.now).adapters in
     let rounds = (instance_of_rows c.args.net.now).rounds in
-    (series_takes (form_of c.args.devices.now rounds) MOST_PRICE c.args.text.now (cell_price_at c.args.devices.now rounds c.args.text.now)
-    (cells_take c.args.devices.now rounds c.args.text.now) (price_cells c.args.net.now) _ (c.in_ok-prices.prices.items, c.in_ok-prices.end) c.in_ok-prices.ensures.ok).size
+    (series_takes (form_of c.args.devices.now adapters rounds) MOST_PRICE c.args.text.now (cell_price_at c.args.devices.now adapters rounds c.args.text.now)
+    (cells_take c.args.devices.now adapters rounds c.args.text.now) (price_cells c.args.net.now) _ (c.in_ok-prices.prices.items, c.in_ok-prices.end) c.in_ok-prices.ensures.ok).size
 
 pub listed-requires-clause-small : goal.listed-requires-clause-small
 listed-requires-clause-small c =
+    let adapters = (instance_of_rows c.args.net.now).adapters in
     let rounds = (instance_of_rows c.args.net.now).rounds in
-    (series_takes (form_of c.args.devices.now rounds) MOST_PRICE c.args.text.now (cell_price_at c.args.devices.now rounds c.args.text.now)
-    (cells_take c.args.devices.now rounds c.args.text.now) (price_cells c.args.net.now) _ (c.in_ok-prices.prices.items, c.in_ok-prices.end) c.in_ok-prices.ensures.ok).small
+    (series_takes (form_of c.args.devices.now adapters rounds) MOST_PRICE c.args.text.now (cell_price_at c.args.devices.now adapters rounds c.args.text.now)
+    (cells_take c.args.devices.now adapters rounds c.args.text.now) (price_cells c.args.net.now) _ (c.in_ok-prices.prices.items, c.in_ok-prices.end) c.in_ok-prices.ensures.ok).small

@@ -11,4 +11,4 @@ pub loop-adapter-preserved : goal.loop-adapter-preserved
 loop-adapter-preserved g c =
     let adapters = c.args.adapters.now in
     let i = c.loop-adapter.adapter-index in
-    wrote_more g.W.Write.contents c.args.writer.now c.loop-adapter.writer c.write_one.new.writer adapter_row adapters i _ (omega arith) (get_or_default adapters i _ _ (omega arith)) c.loop-adapter.invariant c.in_ok-write_one.ensures
+    wrote_more g.W.Write.contents c.args.writer.now c.loop-adapter.writer c.write_adapter.new.writer adapter_row adapters i _ (omega arith) (get_or_default adapters i _ _ (omega arith)) c.loop-adapter.invariant c.in_ok-write_adapter.ensures

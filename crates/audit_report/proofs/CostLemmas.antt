@@ -9,6 +9,7 @@ use Rattle.cam_event.specs.Stays.{stays_begun}
 use Rattle.cam_event.specs.Live.{live_part}
 use Rattle.cam_event.specs.declared.event.Event.{Event}
 use Rattle.cam_event.specs.declared.stay.Stay.{Stay}
+use Rattle.trace_file.proofs.ScriptRules.{sum_by-map}
 use Rattle.round_net.specs.Sums.{sum_below}
 use Rattle.round_net.specs.Rows.{of_stay, instance_of_rows, live_of_rows}
 use Rattle.round_net.specs.Schedules.{IsAdmissible, cost}
@@ -29,10 +30,6 @@ rows_sum : (rows : List StayRow) → sum_below (length rows) (cost_at rows) ≡ 
 rows_sum [] = refl
 rows_sum (row ∷ rows) =
     sum_below-shift (length rows) (cost_at (row ∷ rows)) ∙ ap (λ n. row_cost row + n) (rows_sum rows) ∙ sym (sum_by-cons row_cost row rows)
-
-sum_by-map : {X Y : Type 0} (f : X → Y) (g : Y → ℕ) (xs : List X) → sum_by g (map f xs) ≡ sum_by (λ x. g (f x)) xs
-sum_by-map f g [] = refl
-sum_by-map f g (x ∷ xs) = sum_by-cons g (f x) (map f xs) ∙ ap (λ n. g (f x) + n) (sum_by-map f g xs) ∙ sym (sum_by-cons (λ y. g (f y)) x xs)
 
 same_parts : (c : Topology) (es : List Event) (ps : List Stay) → sum_by (λ p. row_cost (stay_row c es p)) ps ≡ sum_by (live_part c es) ps
 unfolding stay_row live_part

@@ -3,7 +3,7 @@ use Rattle.std.proofs.Common.{◌≡◌, ℕ, zero, suc, ◌+◌, ◌<◌, ◌�
 use Rattle.std.specs.Prelude.{sum_by}
 use Rattle.std.specs.List.{AllByRecursion, list_all}
 use Rattle.std.proofs.lemmas.Bool.{and_parts, leb-false, leb-true, le-leb}
-use Rattle.std.proofs.lemmas.List.{get_or-map, length-map}
+use Rattle.std.proofs.lemmas.List.{get_or-map, get_or_past, length-map}
 use Rattle.std.proofs.lemmas.List.Folds.{list_all-map}
 use Rattle.std.proofs.lemmas.List.Sums.{sum_by-cons}
 use Rattle.cam_types.specs.Bounds.{Bounds}
@@ -35,22 +35,16 @@ passes : {X : Type 0} (p : X → Bool) (xs : List X) → AllByRecursion (λ x. p
 passes p [] h = refl
 passes p (x ∷ xs) h = rw (h.0) (passes p xs h.1)
 
-sum_by-map : {X Y : Type 0} (f : Y → ℕ) (h : X → Y) (xs : List X) → sum_by f (map h xs) ≡ sum_by (λ x. f (h x)) xs
-sum_by-map f h [] = refl
-sum_by-map f h (x ∷ xs) = sum_by-cons f (h x) (map h xs) ∙ ap (λ n. f (h x) + n) (sum_by-map f h xs) ∙ sym (sum_by-cons (λ y. f (h y)) x xs)
+pub sum_by-map : {X Y : Type 0} (f : X → Y) (g : Y → ℕ) (xs : List X) → sum_by g (map f xs) ≡ sum_by (λ x. g (f x)) xs
+sum_by-map f g [] = refl
+sum_by-map f g (x ∷ xs) = sum_by-cons g (f x) (map f xs) ∙ ap (λ n. g (f x) + n) (sum_by-map f g xs) ∙ sym (sum_by-cons (λ y. g (f y)) x xs)
 
 -- what is asked of some vectors is asked of their lists
 pub few_items : {X : Type 0} (xs : List (Vec X Global)) → sum_by (λ l. length l.items) xs ≡ sum_by length (map (λ l. l.items) xs)
-few_items xs = sym (sum_by-map length (λ (l : Vec _ Global). l.items) xs)
+few_items xs = sym (sum_by-map (λ (l : Vec _ Global). l.items) length xs)
 
 pub all_items : {X : Type 0} (p : X → Bool) (xs : List (Vec X Global)) → list_all (λ l. list_all p l.items) xs ≡ list_all (list_all p) (map (λ l. l.items) xs)
 all_items p xs = sym (list_all-map (list_all p) (λ (l : Vec _ Global). l.items) xs)
-
--- past the last list there are none
-past : {X : Type 0} (xs : List (List X)) (i : ℕ) → length xs ≤ i → get_or xs i [] ≡ []
-past [] i le = refl
-past (x ∷ xs) zero le = absurd (omega arith)
-past (x ∷ xs) (suc i) le = past xs i (omega arith)
 
 each_passes : {X : Type 0} (p : X → Bool) (xs : List (List X)) (i : ℕ) → list_all (list_all p) xs ≡ true → AllByRecursion (λ x. p x ≡ true) (get_or xs i [])
 each_passes p [] i h = tt
@@ -65,7 +59,7 @@ all_pass p (x ∷ xs) h = rw (passes p x (h 0)) (all_pass p xs (λ i. h (suc i))
 module _ (c : Topology) (limits : Bounds) (drivers : List (List Step)) (answers : List (List Outcome)) where
   ruled_at : length drivers ≡ 8 → ((driver : ℕ) → driver < 8 → list_all (is_ruled c driver) (get_or drivers driver []) ≡ true) → (driver : ℕ) → AllByRecursion (λ one. is_ruled c driver one ≡ true) (get_or drivers driver [])
   ruled_at eight good driver = elim (nat_le 8 driver) as (λ b. nat_le 8 driver ≡ b → AllByRecursion (λ one. is_ruled c driver one ≡ true) (get_or drivers driver [])) [
-    | true ↦ λ le. rw (past drivers driver (omega (arith, eight, leb-true 8 driver le))) tt
+    | true ↦ λ le. rw (get_or_past drivers driver [] (omega (arith, eight, leb-true 8 driver le))) tt
     | false ↦ λ less. all_true (is_ruled c driver) (get_or drivers driver []) (good driver (leb-false 8 driver less))
   ] refl
 

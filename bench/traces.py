@@ -46,9 +46,13 @@ SHAPES = {
     "at once on 32 devices": Shape(adapter_openings=16, within=0),
     "overloaded": Shape(within=1 / 4, idle=0),
 }
-# Three of these with the adapters on two links, which are narrower than the adapters on them together.
-LINKED = {"loose": 16, "tight": 6, "frozen": 6}
-SHAPES |= {f"{kind}, linked": SHAPES[kind]._replace(links=2, link_openings=openings) for kind, openings in LINKED.items()}
+# Three of these with the adapters on two links. Of the last two the openings that all adapters had together are those of the
+# links, and each adapter has twice as many.
+LINKED = {"loose": (16, 16), "tight": (4, 8), "frozen": (4, 8)}
+SHAPES |= {f"{kind}, linked": SHAPES[kind]._replace(adapter_openings=of_adapter, links=2, link_openings=of_link)
+           for kind, (of_adapter, of_link) in LINKED.items()}
+# Links that take three commands for four that come.
+SHAPES["narrow links"] = SHAPES["tight"]._replace(links=2, link_openings=6)
 
 
 def trace(kind, stays, rounds, seed=1, events=0):

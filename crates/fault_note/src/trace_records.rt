@@ -92,7 +92,7 @@ fn beginning_of(alloc: Global, text: &[u8], stay: StayName) -> Option<u32>
     match read_trace(alloc, &mut Watched::new(text)) {
         Ok(history) => {
             let begun = named(history.stays(), stay)?;
-            event_record(alloc, text, &history, begun.stay.place)
+            event_record(alloc, text, &history, begun.stay.place).ok()?
         }
         Err(_) => None,
     }

@@ -1,6 +1,6 @@
 //! The number of an event's record in a trace.
 
-ghost use Rattle.std.specs.Prelude.{◌≡◌, ◌≤◌, ⊤, length, IfSome, IfOk};
+ghost use Rattle.std.specs.Prelude.{◌≡◌, ◌≤◌, ⊤, length, None, IfSome, IfOk};
 ghost use Rattle.cam_types.specs.declared.maxima.TheConstants.{MOST_BYTES};
 ghost use Rattle.trace_file.specs.EventRecord.{IsEventRecord};
 ghost use Rattle.trace_file.specs.Text.{records_in};
@@ -10,30 +10,40 @@ use crate::records::take_records;
 use crate::stage::Stage;
 use crate::trace_fault::TraceFault;
 use csv::ByteRecord;
-use std::alloc::Global;
+use std::alloc::{AllocError, Global};
 use xpt_state::History;
 
 /// The number of the record of the event at this place, from 0 on, in a trace of the history, whichever its version. There is
-/// none if the history has no such event, or no memory is left.
-pub fn event_record(alloc: Global, text: &[u8], history: &History, place: u32) -> Option<u32>
+/// none exactly if the history has no such event.
+///
+/// # Errors
+///
+/// `AllocError` if no memory is left.
+pub fn event_record(
+    alloc: Global,
+    text: &[u8],
+    history: &History,
+    place: u32,
+) -> Result<Option<u32>, AllocError>
     requires { IsTrace text.now history.now }
-    ensures { IfSome result (λ n. IsEventRecord text.now history.now place n) }
+    ensures number { IfOk result (λ found. IfSome found (λ n. IsEventRecord text.now history.now place n)) }
+    ensures none { IfOk result (λ found. found ≡ None → length history.now.events ≤ place) }
 {
     let events = history.events().len() as u32;
     if place >= events {
-        return None;
+        return Ok(None);
     }
     let others = record_count(alloc, text)? - events;
-    Some(others + place + 1)
+    Ok(Some(others + place + 1))
 }
 
-fn record_count(alloc: Global, text: &[u8]) -> Option<u32>
+fn record_count(alloc: Global, text: &[u8]) -> Result<u32, AllocError>
     requires { length text.now ≤ MOST_BYTES }
-    ensures { IfSome result (λ n. n ≡ length (records_in text.now)) }
+    ensures { IfOk result (λ n. n ≡ length (records_in text.now)) }
 {
     match take_records(alloc, text, RecordCount { records: 0 }) {
-        Ok(counted) => Some(counted.records),
-        Err(_) => None,
+        Ok(counted) => Ok(counted.records),
+        Err(_) => Err(AllocError),
     }
 }
 

@@ -10,8 +10,8 @@ overflow_sub-others c =
     let all = k.1 in
     omega arith
 
-pub returns : goal.returns
-returns c =
+pub returns-clause-number : goal.returns-clause-number
+returns-clause-number c =
     let k = event_records c.args.text.now c.args.history.now c.requires in
     let same : length c.events.result.now ≡ length c.args.history.now.events = ap length c.events.ensures.same in
     let count = c.in_ok-others.ensures in

@@ -6,7 +6,7 @@ use price_check::{Cause, Verdict, check};
 use round_net::{Net, Prices, Schedule};
 use std::alloc::Global;
 use std::test::Fail;
-use test_events::{PLAIN, done, send, submit};
+use test_events::{PLAIN, done, same, send, submit};
 
 fn net(alloc: Global, devices: u16, events: &[Event]) -> Result<Net, Fail> {
     let history = history(alloc, 1, devices, events)?;
@@ -45,33 +45,38 @@ fn a_live_schedule_without_prices_leaves_its_excess(rt: HostRuntime) -> Result<(
             send(0, 1),
         ],
     )?;
-    assert_eq!(rt;
+    same(
         verdict(rt.alloc(), &waited, &[1, 3], 0)?,
-        Some(Verdict::Gap(2))
-    );
+        Some(Verdict::Gap(2)),
+    )
+    .expect(&rt, "as due");
     let frozen = frozen(rt.alloc())?;
-    assert_eq!(rt;
+    same(
         verdict(rt.alloc(), &frozen, &[1, 5], 0)?,
-        Some(Verdict::Gap(4))
-    );
+        Some(Verdict::Gap(4)),
+    )
+    .expect(&rt, "as due");
     Ok(())
 }
 
 #[test]
 fn a_price_on_the_first_round_proves_the_best_plan(rt: HostRuntime) -> Result<(), Fail> {
     let net = frozen(rt.alloc())?;
-    assert_eq!(rt;
+    same(
         verdict(rt.alloc(), &net, &[2, 1], 3)?,
-        Some(Verdict::Proved)
-    );
-    assert_eq!(rt;
+        Some(Verdict::Proved),
+    )
+    .expect(&rt, "as due");
+    same(
         verdict(rt.alloc(), &net, &[2, 1], 1)?,
-        Some(Verdict::Gap(1))
-    );
-    assert_eq!(rt;
+        Some(Verdict::Gap(1)),
+    )
+    .expect(&rt, "as due");
+    same(
         verdict(rt.alloc(), &net, &[2, 1], 1_000_000_000_000)?,
-        Some(Verdict::Gap(999_999_999_996))
-    );
+        Some(Verdict::Gap(999_999_999_996)),
+    )
+    .expect(&rt, "as due");
     Ok(())
 }
 
@@ -89,7 +94,7 @@ fn the_first_fault_of_a_schedule_is_named(rt: HostRuntime) -> Result<(), Fail> {
         else {
             return Err(Fail::new("no fault"));
         };
-        assert_eq!(rt; (stay.ccb, named), (ccb, cause));
+        same((stay.ccb, named), (ccb, cause)).expect(&rt, "as due");
     }
     Ok(())
 }

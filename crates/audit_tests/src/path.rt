@@ -3,6 +3,7 @@
 use cam_path::{BadPath, CamPath};
 use cam_types::Device;
 use std::test::Fail;
+use test_events::same;
 
 #[test]
 fn a_path_is_read_and_written_alike(rt: HostRuntime) -> Result<(), Fail> {
@@ -11,10 +12,10 @@ fn a_path_is_read_and_written_alike(rt: HostRuntime) -> Result<(), Fail> {
         target: 1,
         lun: 0,
     };
-    assert_eq!(rt; CamPath::read(b"0:1:0"), Ok(path));
+    same(CamPath::read(b"0:1:0"), Ok(path)).expect(&rt, "as due");
     let mut text = Vec::from_slice(rt.alloc(), b">")?;
     path.write(&mut text)?;
-    assert_eq!(rt; text.as_slice(), b">0:1:0".as_slice());
+    same(text.as_slice(), b">0:1:0".as_slice()).expect(&rt, "as due");
     Ok(())
 }
 
@@ -33,7 +34,7 @@ fn a_path_that_is_not_written_leaves_the_text(rt: HostRuntime) -> Result<(), Fai
     } else {
         b">".as_slice()
     };
-    assert_eq!(rt; text.as_slice(), want);
+    same(text.as_slice(), want).expect(&rt, "as due");
     Ok(())
 }
 
@@ -45,7 +46,7 @@ fn a_path_is_that_of_its_device(rt: HostRuntime) {
         lun: 16383,
         openings: 1,
     };
-    assert_eq!(rt; CamPath::read(b"3:258:16383"), Ok(CamPath::of(&device)));
+    same(CamPath::read(b"3:258:16383"), Ok(CamPath::of(&device))).expect(&rt, "as due");
 }
 
 #[test]
@@ -67,11 +68,11 @@ fn the_first_fault_of_a_path_has_its_offset(rt: HostRuntime) {
         ("0:1:0x", 5),
         ("0:1:0:", 5),
     ] {
-        assert_eq!(rt;
-            CamPath::read(text.as_bytes()),
-            Err(BadPath(place)),
-            "{text:?}"
-        );
+        same(
+            (text, CamPath::read(text.as_bytes())),
+            (text, Err(BadPath(place))),
+        )
+        .expect(&rt, "as due");
     }
     assert!(rt; CamPath::read(b"255:65535:65535").is_ok());
 }

@@ -3,6 +3,7 @@
 use crate::fakes::{Many, Pieces, Taker};
 use cam_types::MOST_BYTES;
 use std::test::Fail;
+use test_events::same;
 use text_io::{Watched, WholeFault, read_whole, write_whole};
 
 #[test]
@@ -21,13 +22,13 @@ fn reads_to_the_end_or_to_the_first_error(rt: HostRuntime) -> Result<(), Fail> {
             good,
         });
         let answer = read_whole(rt.alloc(), &mut reader);
-        assert_eq!(rt; reader.failed(), want.is_err(), "{good} good reads");
+        same((good, reader.failed()), (good, want.is_err())).expect(&rt, "as due");
         match answer {
             Ok(text) => {
-                assert_eq!(rt; want, Ok(()), "{good} good reads");
-                assert_eq!(rt; text.as_slice(), b"hello".as_slice());
+                same((good, want), (good, Ok(()))).expect(&rt, "as due");
+                same(text.as_slice(), b"hello".as_slice()).expect(&rt, "as due");
             }
-            Err(fault) => assert_eq!(rt; want, Err(fault), "{good} good reads"),
+            Err(fault) => same((good, want), (good, Err(fault))).expect(&rt, "as due"),
         }
     }
     Ok(())
@@ -37,10 +38,10 @@ fn reads_to_the_end_or_to_the_first_error(rt: HostRuntime) -> Result<(), Fail> {
 fn reads_as_many_bytes_as_may_be(rt: HostRuntime) -> Result<(), Fail> {
     let mut most = Watched::new(Many(MOST_BYTES));
     let text = read_whole(rt.alloc(), &mut most)?;
-    assert_eq!(rt; text.len(), 16_777_216);
+    same(text.len(), 16_777_216).expect(&rt, "as due");
     let mut more = Watched::new(Many(16_777_217));
     let answer = read_whole(rt.alloc(), &mut more);
-    assert_eq!(rt; answer.err(), Some(WholeFault::TooLong));
+    same(answer.err(), Some(WholeFault::TooLong)).expect(&rt, "as due");
     assert!(rt; !more.failed());
     Ok(())
 }
@@ -65,9 +66,9 @@ fn writes_all_or_a_front(rt: HostRuntime) -> Result<(), Fail> {
         let mut writer = Watched::new(&mut taker);
         let answer = write_whole(&mut writer, b"hello world");
         let failed = writer.failed();
-        assert_eq!(rt; answer.is_ok(), room == 11 && flushes, "room for {room}");
-        assert_eq!(rt; failed, answer.is_err(), "room for {room}");
-        assert_eq!(rt; taker.taken.as_slice(), written, "room for {room}");
+        same((room, answer.is_ok()), (room, room == 11 && flushes)).expect(&rt, "as due");
+        same((room, failed), (room, answer.is_err())).expect(&rt, "as due");
+        same((room, taker.taken.as_slice()), (room, written)).expect(&rt, "as due");
     }
     Ok(())
 }

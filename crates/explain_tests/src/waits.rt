@@ -5,7 +5,8 @@ use cam_event::Event;
 use cam_types::{Adapter, Config, standard_weights};
 use std::test::Fail;
 use test_events::{
-    PLAIN, attention, device, done, freeze, freeze_sim, release, release_sim, requeue, send, submit,
+    PLAIN, attention, device, done, freeze, freeze_sim, release, release_sim, requeue, same, send,
+    submit,
 };
 use wait_causes::{Cause, CauseCosts, Part, Wait};
 use xpt_state::History;
@@ -43,11 +44,12 @@ fn adapter_is_full_and_then_a_caller_froze_the_device(rt: HostRuntime) -> Result
         done(1, 1),
     ];
     let history = history(rt.alloc(), 1, 2, &events)?;
-    assert_eq!(rt;
+    same(
         waits(rt.alloc(), &history, &[2, 1], 1)?.as_slice(),
-        [wait(Cause::AdapterFull, 1, 1), wait(Cause::Caller, 2, 4),].as_slice()
-    );
-    assert_eq!(rt; waits(rt.alloc(), &history, &[2, 1], 0)?.len(), 0);
+        [wait(Cause::AdapterFull, 1, 1), wait(Cause::Caller, 2, 4)].as_slice(),
+    )
+    .expect(&rt, "as due");
+    same(waits(rt.alloc(), &history, &[2, 1], 0)?.len(), 0).expect(&rt, "as due");
     let costs = CauseCosts {
         caller: 3,
         adapter_full: 1,
@@ -63,8 +65,8 @@ fn adapter_is_full_and_then_a_caller_froze_the_device(rt: HostRuntime) -> Result
         best: 2,
         costs,
     };
-    assert_eq!(rt; whole(rt.alloc(), &history, &[2, 1])?, Some(part));
-    assert_eq!(rt; part.excess(), 2);
+    same(whole(rt.alloc(), &history, &[2, 1])?, Some(part)).expect(&rt, "as due");
+    same(part.excess(), 2).expect(&rt, "as due");
     Ok(())
 }
 
@@ -89,14 +91,16 @@ fn device_is_full_for_a_second_try(rt: HostRuntime) -> Result<(), Fail> {
     ];
     let history = history(rt.alloc(), 1, 1, &events)?;
     let best = [1, 2, 3];
-    assert_eq!(rt;
+    same(
         waits(rt.alloc(), &history, &best, 1)?.as_slice(),
-        [wait(Cause::DeviceFull, 1, 1)].as_slice()
-    );
-    assert_eq!(rt;
+        [wait(Cause::DeviceFull, 1, 1)].as_slice(),
+    )
+    .expect(&rt, "as due");
+    same(
         waits(rt.alloc(), &history, &best, 2)?.as_slice(),
-        [wait(Cause::DeviceFull, 2, 2)].as_slice()
-    );
+        [wait(Cause::DeviceFull, 2, 2)].as_slice(),
+    )
+    .expect(&rt, "as due");
     let costs = CauseCosts {
         device_full: 20,
         ..NOTHING
@@ -111,7 +115,7 @@ fn device_is_full_for_a_second_try(rt: HostRuntime) -> Result<(), Fail> {
         best: 20,
         costs,
     };
-    assert_eq!(rt; whole(rt.alloc(), &history, &best)?, Some(part));
+    same(whole(rt.alloc(), &history, &best)?, Some(part)).expect(&rt, "as due");
     Ok(())
 }
 
@@ -145,7 +149,7 @@ fn error_comes_before_a_caller_and_a_frozen_adapter(rt: HostRuntime) -> Result<(
     ];
     let history = history(rt.alloc(), 1, 1, &events)?;
     let other = [1, 2, 3];
-    assert_eq!(rt;
+    same(
         waits(rt.alloc(), &history, &other, 1)?.as_slice(),
         [
             wait(Cause::Error, 1, 1),
@@ -154,16 +158,18 @@ fn error_comes_before_a_caller_and_a_frozen_adapter(rt: HostRuntime) -> Result<(
             wait(Cause::NotAsked, 4, 4),
             wait(Cause::DeviceFull, 5, 5),
         ]
-        .as_slice()
-    );
-    assert_eq!(rt;
+        .as_slice(),
+    )
+    .expect(&rt, "as due");
+    same(
         waits(rt.alloc(), &history, &other, 2)?.as_slice(),
         [
             wait(Cause::AdapterFrozen, 3, 3),
             wait(Cause::NotAsked, 4, 4),
         ]
-        .as_slice()
-    );
+        .as_slice(),
+    )
+    .expect(&rt, "as due");
     let costs = CauseCosts {
         error: 1,
         caller: 1,
@@ -182,7 +188,7 @@ fn error_comes_before_a_caller_and_a_frozen_adapter(rt: HostRuntime) -> Result<(
         best: 1,
         costs,
     };
-    assert_eq!(rt; whole(rt.alloc(), &history, &other)?, Some(part));
+    same(whole(rt.alloc(), &history, &other)?, Some(part)).expect(&rt, "as due");
     Ok(())
 }
 
@@ -216,22 +222,24 @@ fn the_link_of_two_adapters_is_full(rt: HostRuntime) -> Result<(), Fail> {
     for event in events {
         history.push(event)?;
     }
-    assert_eq!(rt;
+    same(
         waits(rt.alloc(), &history, &[2, 1], 1)?.as_slice(),
-        [wait(Cause::LinkFull, 1, 1)].as_slice()
-    );
+        [wait(Cause::LinkFull, 1, 1)].as_slice(),
+    )
+    .expect(&rt, "as due");
     let Some(part) = whole(rt.alloc(), &history, &[2, 1])? else {
         return Err(Fail::new("another history"));
     };
     let costs = part.costs;
-    assert_eq!(rt;
+    same(
         costs,
         CauseCosts {
             link_full: 16,
             ..NOTHING
-        }
-    );
-    assert_eq!(rt;
+        },
+    )
+    .expect(&rt, "as due");
+    same(
         costs.by_cause().as_slice(),
         [
             (Cause::Error, 0),
@@ -242,8 +250,9 @@ fn the_link_of_two_adapters_is_full(rt: HostRuntime) -> Result<(), Fail> {
             (Cause::LinkFull, 16),
             (Cause::NotAsked, 0),
         ]
-        .as_slice()
-    );
+        .as_slice(),
+    )
+    .expect(&rt, "as due");
     Ok(())
 }
 

@@ -10,6 +10,7 @@ use std::process::Abort;
 use std::sync::Wait;
 use std::sync::ledger::{Blank, Ledger};
 use std::test::Fail;
+use test_events::same;
 use xpt_lock::{Bell, Seat, SeatName, SharedXpt};
 
 // The bells of rounds, of work, of cases and of rest rang so often.
@@ -20,7 +21,7 @@ fn expect<L: Ledger, R: Wait + Abort>(rt: &R, shared: &SharedXpt<L>, due: [u64; 
         shared.moment(rt, Bell::Case).rings,
         shared.moment(rt, Bell::Rest).rings,
     ];
-    assert_eq!(rt; rings, due);
+    same(rings, due).expect(rt, "as due");
 }
 
 // A submit and releases ring the bell of work; freezes ring none.

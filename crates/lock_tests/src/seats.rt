@@ -11,6 +11,7 @@ use std::process::Abort;
 use std::sync::Wait;
 use std::sync::ledger::{Blank, Ledger};
 use std::test::Fail;
+use test_events::same;
 use xpt_lock::{GatherFault, Seat, SeatName, SharedFault, SharedXpt};
 use xpt_state::{Done, History, Idle, Sent};
 
@@ -72,9 +73,9 @@ fn submits<L: Ledger, R: Wait + Abort>(
     shared: &SharedXpt<L>,
     driver: &mut Seat<L>,
 ) -> Result<(), Fail> {
-    assert_eq!(rt; shared.submit(rt, driver, 0, 0, 1152, 4, PLAIN)?, 0);
-    assert_eq!(rt; driver.name(), SeatName::Driver(0));
-    assert_eq!(rt; driver.receipts().len(), 1);
+    same(shared.submit(rt, driver, 0, 0, 1152, 4, PLAIN)?, 0).expect(rt, "as due");
+    same(driver.name(), SeatName::Driver(0)).expect(rt, "as due");
+    same(driver.receipts().len(), 1).expect(rt, "as due");
     Ok(())
 }
 
@@ -90,13 +91,13 @@ fn serves<L: Ledger, R: Wait + Abort>(
         device: 0,
         priority: 1152,
     };
-    assert_eq!(rt; shared.send_next(rt, lane, 0)?, Sent::Command(command));
+    same(shared.send_next(rt, lane, 0)?, Sent::Command(command)).expect(rt, "as due");
     let done = Done {
         class: Class::Complete,
         value: 0x01,
     };
-    assert_eq!(rt; shared.done(rt, lane, 0, outcome(0x01))?, done);
-    assert_eq!(rt; lane.receipts().len(), 2);
+    same(shared.done(rt, lane, 0, outcome(0x01))?, done).expect(rt, "as due");
+    same(lane.receipts().len(), 2).expect(rt, "as due");
     Ok(())
 }
 
@@ -131,7 +132,7 @@ fn gathered<R: Wait + Abort>(rt: &R, alloc: Global, which: Given) -> Result<Ende
 #[test]
 fn both_seats_make_one_history(rt: HostRuntime) -> Result<(), Fail> {
     for which in [Given::DriverAndLane, Given::LaneAndDriver] {
-        assert_eq!(&rt; gathered(&rt, rt.alloc(), which)?, Ended::Events(3));
+        same(gathered(&rt, rt.alloc(), which)?, Ended::Events(3)).expect(&rt, "as due");
     }
     Ok(())
 }
@@ -143,7 +144,7 @@ fn the_first_place_that_no_receipt_names(rt: HostRuntime) -> Result<(), Fail> {
         (Given::LaneAlone, 0),
         (Given::Neither, 0),
     ] {
-        assert_eq!(&rt; gathered(&rt, rt.alloc(), which)?, Ended::Unnamed(place));
+        same(gathered(&rt, rt.alloc(), which)?, Ended::Unnamed(place)).expect(&rt, "as due");
     }
     Ok(())
 }
@@ -172,15 +173,15 @@ fn makes_nothing<L: Ledger, R: Wait + Abort>(
 ) -> Result<(), Fail> {
     is_refused(rt, shared, seat);
     is_idle(rt, shared, seat)?;
-    assert_eq!(rt; seat.receipts().len(), 0);
+    same(seat.receipts().len(), 0).expect(rt, "as due");
     Ok(())
 }
 
 fn is_refused<L: Ledger, R: Wait + Abort>(rt: &R, shared: &SharedXpt<L>, seat: &mut Seat<L>) {
     let refused = SharedFault::Refused(Refusal::BadPriority);
-    assert_eq!(rt; shared.submit(rt, seat, 0, 0, 1280, 4, PLAIN), Err(refused));
+    same(shared.submit(rt, seat, 0, 0, 1280, 4, PLAIN), Err(refused)).expect(rt, "as due");
     let no_lane = SharedFault::Refused(Refusal::NoLane);
-    assert_eq!(rt; shared.send_next(rt, seat, 1), Err(no_lane));
+    same(shared.send_next(rt, seat, 1), Err(no_lane)).expect(rt, "as due");
 }
 
 fn is_idle<L: Ledger, R: Wait + Abort>(
@@ -188,9 +189,9 @@ fn is_idle<L: Ledger, R: Wait + Abort>(
     shared: &SharedXpt<L>,
     seat: &mut Seat<L>,
 ) -> Result<(), Fail> {
-    assert_eq!(rt; shared.send_next(rt, seat, 0)?, Sent::Idle(Idle::Empty));
-    assert_eq!(rt; shared.next_case(rt), None);
-    assert_eq!(rt; shared.look(rt).length, 0);
+    same(shared.send_next(rt, seat, 0)?, Sent::Idle(Idle::Empty)).expect(rt, "as due");
+    same(shared.next_case(rt), None).expect(rt, "as due");
+    same(shared.look(rt).length, 0).expect(rt, "as due");
     Ok(())
 }
 
@@ -200,7 +201,7 @@ fn nothing<R: Wait + Abort>(rt: &R, alloc: Global) -> Result<Ended, Fail> {
 
 #[test]
 fn refused_and_idle_calls_leave_no_receipt(rt: HostRuntime) -> Result<(), Fail> {
-    assert_eq!(&rt; nothing(&rt, rt.alloc())?, Ended::Events(0));
+    same(nothing(&rt, rt.alloc())?, Ended::Events(0)).expect(&rt, "as due");
     Ok(())
 }
 
@@ -230,7 +231,7 @@ fn all_seats<R: Wait>(rt: &R, alloc: Global) -> Result<u32, Fail> {
 
 #[test]
 fn there_are_64_seats(rt: HostRuntime) -> Result<(), Fail> {
-    assert_eq!(&rt; all_seats(&rt, rt.alloc())?, 64);
+    same(all_seats(&rt, rt.alloc())?, 64).expect(&rt, "as due");
     Ok(())
 }
 
@@ -254,8 +255,8 @@ fn ticks<L: Ledger, R: Wait + Abort>(
     shared: &SharedXpt<L>,
     keeper: &mut Seat<L>,
 ) -> Result<(), Fail> {
-    assert_eq!(rt; shared.tick(rt, keeper)?, 2);
-    assert_eq!(rt; shared.tick(rt, keeper)?, 3);
+    same(shared.tick(rt, keeper)?, 2).expect(rt, "as due");
+    same(shared.tick(rt, keeper)?, 3).expect(rt, "as due");
     is_full(rt, shared, keeper);
     assert!(rt;
         keeper
@@ -268,8 +269,8 @@ fn ticks<L: Ledger, R: Wait + Abort>(
 
 fn is_full<L: Ledger, R: Wait + Abort>(rt: &R, shared: &SharedXpt<L>, keeper: &mut Seat<L>) {
     let full = SharedFault::Refused(Refusal::HistoryFull(2));
-    assert_eq!(rt; shared.tick(rt, keeper), Err(full));
-    assert_eq!(rt; shared.send_next(rt, keeper, 0), Err(full));
+    same(shared.tick(rt, keeper), Err(full)).expect(rt, "as due");
+    same(shared.send_next(rt, keeper, 0), Err(full)).expect(rt, "as due");
 }
 
 fn full<R: Wait + Abort>(rt: &R, alloc: Global) -> Result<(), Fail> {

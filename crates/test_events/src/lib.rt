@@ -1,8 +1,11 @@
-//! What tests are made of: adapters, devices, flags, outcomes and events.
+//! What tests are made of: adapters, devices, flags, outcomes, events, and a test of equality.
 #![tactic(auto)]
 
+pub use crate::equality::{Differs, same};
 use cam_event::Event;
 use cam_types::{Adapter, Device, Flags, Outcome, SenseBytes};
+
+mod equality;
 
 /// Neither flag.
 pub const PLAIN: Flags = Flags {

@@ -8,7 +8,6 @@ use std::alloc::Global;
 use std::sync::atomic::{AtomicBool, Ordering};
 use std::test::Fail;
 use std::thread::yield_now;
-use test_events::same;
 use text_io::Watched;
 use trace_file::read_trace;
 
@@ -61,7 +60,7 @@ fn each_adapter_begins_before_the_other_is_planned(rt: HostRuntime) -> Result<()
     let best = plan_with(&rt, rt.alloc(), &net, &gate)?;
     assert!(rt; gate.are_both_here());
     assert!(rt; !gate.gave_up.load(Ordering::SeqCst));
-    same(cost(&net, &best.schedule), Some(3)).expect(&rt, "as due");
+    assert_eq!(rt; cost(&net, &best.schedule), Some(3));
     Ok(())
 }
 
@@ -72,7 +71,7 @@ fn the_gate_is_told_of_the_one_adapter_there_is(rt: HostRuntime) -> Result<(), F
     let best = plan_with(&rt, rt.alloc(), &net, &gate)?;
     assert!(rt; gate.here[0].load(Ordering::SeqCst) && !gate.here[1].load(Ordering::SeqCst));
     assert!(rt; gate.gave_up.load(Ordering::SeqCst));
-    same(cost(&net, &best.schedule), Some(2)).expect(&rt, "as due");
+    assert_eq!(rt; cost(&net, &best.schedule), Some(2));
     Ok(())
 }
 
@@ -86,7 +85,7 @@ fn an_audit_of_adapters_at_once_says_the_same(rt: HostRuntime) -> Result<(), Fai
     let mut out = Watched::new(&mut at_once);
     run_audit_with(&rt, rt.alloc(), &mut trace, &mut out, true, &OpenGate)?;
     let want = b"camaudit 1\ncommands 4\nstays 4\nrounds 5\nlive 20\nbest 3\nexcess 17\n";
-    same(alone.as_slice(), want.as_slice()).expect(&rt, "as due");
-    same(at_once.as_slice(), want.as_slice()).expect(&rt, "as due");
+    assert_eq!(rt; alone.as_slice(), want.as_slice());
+    assert_eq!(rt; at_once.as_slice(), want.as_slice());
     Ok(())
 }

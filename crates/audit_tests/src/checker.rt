@@ -6,7 +6,7 @@ use price_check::{Cause, Verdict, check};
 use round_net::{Net, Prices, Schedule};
 use std::alloc::Global;
 use std::test::Fail;
-use test_events::{PLAIN, done, same, send, submit};
+use test_events::{PLAIN, done, send, submit};
 
 fn net(alloc: Global, devices: u16, events: &[Event]) -> Result<Net, Fail> {
     let history = history(alloc, 1, devices, events)?;
@@ -45,38 +45,33 @@ fn a_live_schedule_without_prices_leaves_its_excess(rt: HostRuntime) -> Result<(
             send(0, 1),
         ],
     )?;
-    same(
+    assert_eq!(rt;
         verdict(rt.alloc(), &waited, &[1, 3], 0)?,
-        Some(Verdict::Gap(2)),
-    )
-    .expect(&rt, "as due");
+        Some(Verdict::Gap(2))
+    );
     let frozen = frozen(rt.alloc())?;
-    same(
+    assert_eq!(rt;
         verdict(rt.alloc(), &frozen, &[1, 5], 0)?,
-        Some(Verdict::Gap(4)),
-    )
-    .expect(&rt, "as due");
+        Some(Verdict::Gap(4))
+    );
     Ok(())
 }
 
 #[test]
 fn a_price_on_the_first_round_proves_the_best_plan(rt: HostRuntime) -> Result<(), Fail> {
     let net = frozen(rt.alloc())?;
-    same(
+    assert_eq!(rt;
         verdict(rt.alloc(), &net, &[2, 1], 3)?,
-        Some(Verdict::Proved),
-    )
-    .expect(&rt, "as due");
-    same(
+        Some(Verdict::Proved)
+    );
+    assert_eq!(rt;
         verdict(rt.alloc(), &net, &[2, 1], 1)?,
-        Some(Verdict::Gap(1)),
-    )
-    .expect(&rt, "as due");
-    same(
+        Some(Verdict::Gap(1))
+    );
+    assert_eq!(rt;
         verdict(rt.alloc(), &net, &[2, 1], 1_000_000_000_000)?,
-        Some(Verdict::Gap(999_999_999_996)),
-    )
-    .expect(&rt, "as due");
+        Some(Verdict::Gap(999_999_999_996))
+    );
     Ok(())
 }
 
@@ -94,7 +89,7 @@ fn the_first_fault_of_a_schedule_is_named(rt: HostRuntime) -> Result<(), Fail> {
         else {
             return Err(Fail::new("no fault"));
         };
-        same((stay.ccb, named), (ccb, cause)).expect(&rt, "as due");
+        assert_eq!(rt; (stay.ccb, named), (ccb, cause));
     }
     Ok(())
 }

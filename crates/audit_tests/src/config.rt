@@ -5,19 +5,19 @@ use cam_types::{
     standard_weights,
 };
 use std::test::Fail;
-use test_events::{device, same, unlinked};
+use test_events::{device, unlinked};
 
 #[test]
 fn a_configuration_gives_back_its_items(rt: HostRuntime) -> Result<(), Fail> {
     let devices = [device(0, 1, 2), device(1, 1, 2)];
     let config = Config::new(rt.alloc(), &[4, 8], &devices, &[0, 1, 1])?;
     let copy = config.copy(rt.alloc())?;
-    same(copy.adapters(), [unlinked(4), unlinked(8)].as_slice()).expect(&rt, "as due");
+    assert_eq!(rt; copy.adapters(), [unlinked(4), unlinked(8)].as_slice());
     assert!(rt; copy.links().is_empty());
-    same(copy.devices(), devices.as_slice()).expect(&rt, "as due");
-    same(copy.lanes(), [0, 1, 1].as_slice()).expect(&rt, "as due");
+    assert_eq!(rt; copy.devices(), devices.as_slice());
+    assert_eq!(rt; copy.lanes(), [0, 1, 1].as_slice());
     for (priority, weight) in [(0, 16), (256, 8), (512, 4), (768, 2), (1024, 1), (1279, 1)] {
-        same(config.weight(priority), weight).expect(&rt, "as due");
+        assert_eq!(rt; config.weight(priority), weight);
     }
     Ok(())
 }
@@ -30,11 +30,11 @@ fn row(last: u32, weight: u32) -> WeightRow {
 fn a_table_of_weights_is_kept(rt: HostRuntime) -> Result<(), Fail> {
     let rows = [row(127, 1000), row(1278, 3), row(1279, 1)];
     let config = Config::with_weights(rt.alloc(), &rows, &[1], &[], &[])?;
-    same(config.weights(), rows.as_slice()).expect(&rt, "as due");
-    same(config.copy(rt.alloc())?.weights(), rows.as_slice()).expect(&rt, "as due");
+    assert_eq!(rt; config.weights(), rows.as_slice());
+    assert_eq!(rt; config.copy(rt.alloc())?.weights(), rows.as_slice());
     assert!(rt; !config.has_standard_weights());
     for (priority, weight) in [(0, 1000), (127, 1000), (128, 3), (1278, 3), (1279, 1)] {
-        same(config.weight(priority), weight).expect(&rt, "as due");
+        assert_eq!(rt; config.weight(priority), weight);
     }
     let standard = Config::with_weights(rt.alloc(), &standard_weights(), &[1], &[], &[])?;
     assert!(rt; standard.has_standard_weights());
@@ -54,9 +54,7 @@ fn a_bad_table_of_weights_is_refused(rt: HostRuntime) {
     for table in tables {
         match Config::with_weights(rt.alloc(), table, &[1], &[], &[]) {
             Ok(_) => assert!(rt; false, "{table:?}"),
-            Err(given) => same(given, ConfigError::Fault(ConfigFault::BadWeight)).expect(
-                &rt, "as due",
-            ),
+            Err(given) => assert_eq!(rt; given, ConfigError::Fault(ConfigFault::BadWeight)),
         }
     }
 }
@@ -74,7 +72,7 @@ fn the_first_rule_that_is_broken_is_named(rt: HostRuntime) {
     for (adapters, devices, lanes, fault) in cases {
         match Config::new(rt.alloc(), adapters, devices, lanes) {
             Ok(_) => assert!(rt; false, "due {fault}"),
-            Err(given) => same(given, ConfigError::Fault(fault)).expect(&rt, "as due"),
+            Err(given) => assert_eq!(rt; given, ConfigError::Fault(fault)),
         }
     }
 }
@@ -89,9 +87,12 @@ fn links_are_tested_before_the_adapters(rt: HostRuntime) -> Result<(), Fail> {
         &[],
         &[],
     )?;
-    same(none.adapters(), [unlinked(1)].as_slice()).expect(&rt, "as due");
-    same((none.adapter_openings(0), none.adapter_openings(1)), (1, 0)).expect(&rt, "as due");
-    same((none.adapter_link(0), none.link_openings(0)), (None, 0)).expect(&rt, "as due");
+    assert_eq!(rt; none.adapters(), [unlinked(1)].as_slice());
+    assert_eq!(rt;
+        (none.adapter_openings(0), none.adapter_openings(1)),
+        (1, 0)
+    );
+    assert_eq!(rt; (none.adapter_link(0), none.link_openings(0)), (None, 0));
     let linked = Adapter {
         openings: 1,
         link: Some(0),
@@ -108,9 +109,9 @@ fn links_are_tested_before_the_adapters(rt: HostRuntime) -> Result<(), Fail> {
         &[],
         &[],
     )?;
-    same(two.links(), [255, 1].as_slice()).expect(&rt, "as due");
-    same((two.adapter_link(0), two.adapter_link(1)), (Some(0), None)).expect(&rt, "as due");
-    same((two.link_openings(0), two.link_openings(2)), (255, 0)).expect(&rt, "as due");
+    assert_eq!(rt; two.links(), [255, 1].as_slice());
+    assert_eq!(rt; (two.adapter_link(0), two.adapter_link(1)), (Some(0), None));
+    assert_eq!(rt; (two.link_openings(0), two.link_openings(2)), (255, 0));
     let cases: [(&[u32], &[Adapter], ConfigFault); 8] = [
         (&[1, 1, 1, 1, 1], &[linked], ConfigFault::TooMany),
         (&[1, 1, 1, 1, 1], &[], ConfigFault::TooMany),
@@ -124,7 +125,7 @@ fn links_are_tested_before_the_adapters(rt: HostRuntime) -> Result<(), Fail> {
     for (links, adapters, fault) in cases {
         match Config::with_links(rt.alloc(), &standard_weights(), links, adapters, &[], &[0]) {
             Ok(_) => assert!(rt; false, "due {fault}"),
-            Err(given) => same(given, ConfigError::Fault(fault)).expect(&rt, "as due"),
+            Err(given) => assert_eq!(rt; given, ConfigError::Fault(fault)),
         }
     }
     Ok(())
@@ -133,20 +134,19 @@ fn links_are_tested_before_the_adapters(rt: HostRuntime) -> Result<(), Fail> {
 #[test]
 fn limits_and_priorities_within_their_ranges(rt: HostRuntime) -> Result<(), Fail> {
     let limits = Limits::new(1, 128, 2, 65535)?;
-    same(
+    assert_eq!(rt;
         (
             limits.ccbs(),
             limits.rounds(),
             limits.stays(),
-            limits.events(),
+            limits.events()
         ),
-        (1, 128, 2, 65535),
-    )
-    .expect(&rt, "as due");
+        (1, 128, 2, 65535)
+    );
     assert!(rt; Limits::new(1, 513, 2, 3).is_err());
-    same(Limits::most().stays(), 4096).expect(&rt, "as due");
+    assert_eq!(rt; Limits::most().stays(), 4096);
     let urgent = Priority::new(128)?;
-    same((urgent.number(), urgent.run_level()), (128, 0)).expect(&rt, "as due");
+    assert_eq!(rt; (urgent.number(), urgent.run_level()), (128, 0));
     assert!(rt; Priority::new(1280).is_err());
     Ok(())
 }

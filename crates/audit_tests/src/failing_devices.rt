@@ -5,7 +5,6 @@ use crate::texts::{FROZEN, ONE_COMMAND};
 use audit_report::{AuditFault, run_check};
 use std::alloc::Global;
 use std::test::Fail;
-use test_events::same;
 use text_io::Watched;
 use trace_file::TraceFault;
 
@@ -31,8 +30,8 @@ fn checked(
 #[test]
 fn a_byte_a_read_is_the_same_trace(rt: HostRuntime) {
     let (answer, text) = checked(rt.alloc(), ONE_COMMAND.as_bytes(), 1, usize::MAX);
-    same(answer, Ok(())).expect(&rt, "as due");
-    same(text.as_slice(), LINES).expect(&rt, "as due");
+    assert_eq!(rt; answer, Ok(()));
+    assert_eq!(rt; text.as_slice(), LINES);
 }
 
 #[test]
@@ -40,15 +39,15 @@ fn each_read_may_fail(rt: HostRuntime) {
     let needed = ONE_COMMAND.len().div_ceil(10) + 1;
     for reads in 0..needed {
         let (answer, text) = checked(rt.alloc(), ONE_COMMAND.as_bytes(), 10, reads);
-        same(
-            (reads, answer),
-            (reads, Err(AuditFault::Trace(TraceFault::ReadFailed))),
-        )
-        .expect(&rt, "as due");
+        assert_eq!(rt;
+            answer,
+            Err(AuditFault::Trace(TraceFault::ReadFailed)),
+            "after {reads}"
+        );
         assert!(rt; text.is_empty());
     }
     let (answer, _text) = checked(rt.alloc(), ONE_COMMAND.as_bytes(), 10, needed);
-    same(answer, Ok(())).expect(&rt, "as due");
+    assert_eq!(rt; answer, Ok(()));
 }
 
 #[test]
@@ -82,8 +81,12 @@ fn each_write_may_fail(rt: HostRuntime) -> Result<(), Fail> {
                 &mut Watched::new(ONE_COMMAND.as_bytes()),
                 &mut Watched::new(&mut out),
             );
-            same((room, answer), (room, Err(AuditFault::WriteFailed))).expect(&rt, "as due");
-            same(out.taken.as_slice(), &LINES[..room]).expect(&rt, "as due");
+            assert_eq!(rt;
+                answer,
+                Err(AuditFault::WriteFailed),
+                "with room for {room}"
+            );
+            assert_eq!(rt; out.taken.as_slice(), &LINES[..room]);
         }
     }
     Ok(())

@@ -4,7 +4,6 @@ use crate::made::{Shape, history};
 use cost_plan::{OpenGate, guessed_plan, guessed_plan_with};
 use round_net::Net;
 use std::test::Fail;
-use test_events::same;
 
 const LOOSE: Shape = Shape {
     devices: 16,
@@ -69,7 +68,7 @@ fn a_guess_of_1024_stays_is_best(rt: HostRuntime) -> Result<(), Fail> {
     for shape in SHAPES {
         let history = history(rt.alloc(), shape)?;
         let net = Net::of(rt.alloc(), &history)?;
-        same(net.stays(), 1024).expect(&rt, "as many stays");
+        assert_eq!(rt; net.stays(), 1024, "{shape:?}");
         assert!(rt; guessed_plan(rt.alloc(), &net)?.is_some(), "{shape:?}");
         let at_once = guessed_plan_with(&rt, rt.alloc(), &net, &OpenGate)?;
         assert!(rt; at_once.is_some(), "{shape:?}");

@@ -9,7 +9,7 @@ use price_check::{Cause, Verdict, check};
 use round_net::{Net, PriceRange, Prices, Schedule, cost};
 use std::alloc::Global;
 use std::test::Fail;
-use test_events::{PLAIN, device, outcome, same};
+use test_events::{PLAIN, device, outcome};
 use text_io::Watched;
 use trace_file::{TraceFault, read_trace};
 use xpt_state::{Idle, Sent, Xpt};
@@ -44,14 +44,14 @@ fn adapters_use_up_the_openings_of_their_link(rt: HostRuntime) -> Result<(), Fai
     for device in [0, 0, 1] {
         xpt.submit(0, device, 1152, 4, PLAIN)?;
     }
-    same(sent(&mut xpt, 0)?, None).expect(&rt, "as due");
-    same(sent(&mut xpt, 1)?, None).expect(&rt, "as due");
-    same(sent(&mut xpt, 0)?, Some(Idle::AdapterBusy)).expect(&rt, "as due");
+    assert_eq!(rt; sent(&mut xpt, 0)?, None);
+    assert_eq!(rt; sent(&mut xpt, 1)?, None);
+    assert_eq!(rt; sent(&mut xpt, 0)?, Some(Idle::AdapterBusy));
     assert!(rt; xpt.done(0, outcome(0x01)).is_ok());
-    same(sent(&mut xpt, 0)?, Some(Idle::AdapterBusy)).expect(&rt, "as due");
+    assert_eq!(rt; sent(&mut xpt, 0)?, Some(Idle::AdapterBusy));
     assert!(rt; xpt.done(2, outcome(0x01)).is_ok());
     xpt.tick()?;
-    same(sent(&mut xpt, 0)?, None).expect(&rt, "as due");
+    assert_eq!(rt; sent(&mut xpt, 0)?, None);
     Ok(())
 }
 
@@ -63,22 +63,20 @@ fn net(alloc: Global) -> Result<Net, Fail> {
 #[test]
 fn a_net_has_rows_of_links_behind_all_others(rt: HostRuntime) -> Result<(), Fail> {
     let net = net(rt.alloc())?;
-    same(
+    assert_eq!(rt;
         (net.devices(), net.adapters(), net.links(), net.rows()),
-        (2, 2, 1, 5),
-    )
-    .expect(&rt, "as due");
-    same((net.rounds(), net.cells()), (2, 10)).expect(&rt, "as due");
+        (2, 2, 1, 5)
+    );
+    assert_eq!(rt; (net.rounds(), net.cells()), (2, 10));
     if net.stays() != 2 || net.adapters() != 2 || net.links() != 1 || net.rounds() != 2 {
         return Err(Fail::new("another net"));
     }
-    same((net.link(0), net.link(1)), (Some(0), Some(0))).expect(&rt, "as due");
-    same((net.link_of(0), net.link_of(1)), (Some(0), Some(0))).expect(&rt, "as due");
-    same(
+    assert_eq!(rt; (net.link(0), net.link(1)), (Some(0), Some(0)));
+    assert_eq!(rt; (net.link_of(0), net.link_of(1)), (Some(0), Some(0)));
+    assert_eq!(rt;
         (net.link_row(0), net.link_cap(0, 1), net.link_cap(0, 2)),
-        (4, 1, 1),
-    )
-    .expect(&rt, "as due");
+        (4, 1, 1)
+    );
     Ok(())
 }
 
@@ -90,13 +88,12 @@ fn a_link_has_prices_of_its_own(rt: HostRuntime) -> Result<(), Fail> {
         return Err(Fail::new("another net"));
     }
     prices.set_link(0, 2, 7)?;
-    same(
+    assert_eq!(rt;
         (prices.link(0, 1), prices.link(0, 2), prices.sim(1, 2)),
-        (0, 7, 0),
-    )
-    .expect(&rt, "as due");
-    same(prices.set_link(0, 2, 1_000_000_000_001), Err(PriceRange)).expect(&rt, "as due");
-    same(prices.link(0, 2), 7).expect(&rt, "as due");
+        (0, 7, 0)
+    );
+    assert_eq!(rt; prices.set_link(0, 2, 1_000_000_000_001), Err(PriceRange));
+    assert_eq!(rt; prices.link(0, 2), 7);
     Ok(())
 }
 
@@ -116,13 +113,13 @@ fn verdict(alloc: Global, net: &Net, rounds: &[u32], price: u64) -> Result<Verdi
 fn the_best_plan_goes_over_the_link_one_by_one(rt: HostRuntime) -> Result<(), Fail> {
     let net = net(rt.alloc())?;
     let best = plan(rt.alloc(), &net)?;
-    same(cost(&net, &best.schedule), Some(1)).expect(&rt, "as due");
-    same(verdict(rt.alloc(), &net, &[2, 1], 5)?, Verdict::Proved).expect(&rt, "as due");
-    same(verdict(rt.alloc(), &net, &[2, 1], 17)?, Verdict::Gap(1)).expect(&rt, "as due");
+    assert_eq!(rt; cost(&net, &best.schedule), Some(1));
+    assert_eq!(rt; verdict(rt.alloc(), &net, &[2, 1], 5)?, Verdict::Proved);
+    assert_eq!(rt; verdict(rt.alloc(), &net, &[2, 1], 17)?, Verdict::Gap(1));
     let Verdict::NotAdmissible(stay, cause) = verdict(rt.alloc(), &net, &[1, 1], 5)? else {
         return Err(Fail::new("no fault"));
     };
-    same((stay.ccb, stay.attempt, cause), (1, 0, Cause::LinkFull)).expect(&rt, "as due");
+    assert_eq!(rt; (stay.ccb, stay.attempt, cause), (1, 0, Cause::LinkFull));
     Ok(())
 }
 
@@ -147,7 +144,7 @@ fn an_audit_over_a_link_is_proved(rt: HostRuntime) -> Result<(), Fail> {
         &mut claim,
         &mut Watched::new(&mut line),
     )?;
-    same(line.as_slice(), b"proved\n".as_slice()).expect(&rt, "as due");
+    assert_eq!(rt; line.as_slice(), b"proved\n".as_slice());
     Ok(())
 }
 
@@ -160,9 +157,7 @@ fn a_send_over_a_full_link_is_no_history(rt: HostRuntime) -> Result<(), Fail> {
     text.extend_from_slice(b"send,1,1,,,,,\n")?;
     match read_trace(rt.alloc(), &mut Watched::new(text.as_slice())) {
         Ok(_) => assert!(rt; false, "no fault"),
-        Err(fault) => same(fault, TraceFault::Illegal(18, Refusal::NoOpening)).expect(
-            &rt, "as due",
-        ),
+        Err(fault) => assert_eq!(rt; fault, TraceFault::Illegal(18, Refusal::NoOpening)),
     }
     Ok(())
 }

@@ -5,7 +5,7 @@ use cam_event::Event;
 use round_net::{Net, NetFault, PriceRange, Prices, Schedule, cost};
 use std::alloc::{AllocError, Global};
 use std::test::Fail;
-use test_events::{PLAIN, QFREEZE, adjust, done, freeze_sim, release, requeue, same, send, submit};
+use test_events::{PLAIN, QFREEZE, adjust, done, freeze_sim, release, requeue, send, submit};
 
 fn net_of(alloc: Global, openings: u32, devices: u16, events: &[Event]) -> Result<Net, Fail> {
     let history = history(alloc, openings, devices, events)?;
@@ -66,11 +66,17 @@ fn a_freeze_caps_its_round_at_what_was_sent(rt: HostRuntime) -> Result<(), Fail>
         send(0, 1),
     ];
     let net = net_of(rt.alloc(), 2, 1, &events)?;
-    same(dev_caps(rt.alloc(), &net, 0)?.as_slice(), [1, 1].as_slice()).expect(&rt, "as due");
-    same(sim_caps(rt.alloc(), &net, 0)?.as_slice(), [2, 2].as_slice()).expect(&rt, "as due");
-    same(net.cells(), 4).expect(&rt, "as due");
-    same(window(&net, 0), Some((1, 2, 1, 1))).expect(&rt, "as due");
-    same(window(&net, 1), Some((1, 2, 1, 2))).expect(&rt, "as due");
+    assert_eq!(rt;
+        dev_caps(rt.alloc(), &net, 0)?.as_slice(),
+        [1, 1].as_slice()
+    );
+    assert_eq!(rt;
+        sim_caps(rt.alloc(), &net, 0)?.as_slice(),
+        [2, 2].as_slice()
+    );
+    assert_eq!(rt; net.cells(), 4);
+    assert_eq!(rt; window(&net, 0), Some((1, 2, 1, 1)));
+    assert_eq!(rt; window(&net, 1), Some((1, 2, 1, 2)));
     Ok(())
 }
 
@@ -89,16 +95,15 @@ fn a_requeued_stay_arrives_in_the_next_round(rt: HostRuntime) -> Result<(), Fail
         send(0, 0),
     ];
     let net = net_of(rt.alloc(), 1, 1, &events)?;
-    same(window(&net, 0), Some((1, 1, 4, 1))).expect(&rt, "as due");
-    same(window(&net, 1), Some((1, 3, 16, 2))).expect(&rt, "as due");
-    same(window(&net, 2), Some((2, 3, 4, 3))).expect(&rt, "as due");
-    same(named(&net, 2), Some((0, 1, 0, 0))).expect(&rt, "as due");
-    same(named(&net, 3), None).expect(&rt, "as due");
-    same(
+    assert_eq!(rt; window(&net, 0), Some((1, 1, 4, 1)));
+    assert_eq!(rt; window(&net, 1), Some((1, 3, 16, 2)));
+    assert_eq!(rt; window(&net, 2), Some((2, 3, 4, 3)));
+    assert_eq!(rt; named(&net, 2), Some((0, 1, 0, 0)));
+    assert_eq!(rt; named(&net, 3), None);
+    assert_eq!(rt;
         dev_caps(rt.alloc(), &net, 0)?.as_slice(),
-        [1, 1, 1].as_slice(),
-    )
-    .expect(&rt, "as due");
+        [1, 1, 1].as_slice()
+    );
     Ok(())
 }
 
@@ -113,8 +118,14 @@ fn an_adjustment_counts_from_the_next_round(rt: HostRuntime) -> Result<(), Fail>
         freeze_sim(0, 1),
     ];
     let net = net_of(rt.alloc(), 3, 1, &events)?;
-    same(dev_caps(rt.alloc(), &net, 0)?.as_slice(), [3, 2].as_slice()).expect(&rt, "as due");
-    same(sim_caps(rt.alloc(), &net, 0)?.as_slice(), [3, 0].as_slice()).expect(&rt, "as due");
+    assert_eq!(rt;
+        dev_caps(rt.alloc(), &net, 0)?.as_slice(),
+        [3, 2].as_slice()
+    );
+    assert_eq!(rt;
+        sim_caps(rt.alloc(), &net, 0)?.as_slice(),
+        [3, 0].as_slice()
+    );
     Ok(())
 }
 
@@ -127,7 +138,7 @@ fn an_unsent_stay_is_named(rt: HostRuntime) -> Result<(), Fail> {
     let Err(NetFault::Unsent(stay)) = answer else {
         return Err(Fail::new("a net"));
     };
-    same((stay.ccb, stay.attempt), (0, 0)).expect(&rt, "as due");
+    assert_eq!(rt; (stay.ccb, stay.attempt), (0, 0));
     Ok(())
 }
 
@@ -138,8 +149,8 @@ fn a_schedule_costs_its_weighted_rounds(rt: HostRuntime) -> Result<(), Fail> {
         let schedule = Schedule::new(rt.alloc(), &[round])?;
         assert!(rt; !schedule.is_empty());
         if schedule.len() == 1 && net.stays() == 1 {
-            same(schedule.round(0), round).expect(&rt, "as due");
-            same((round, cost(&net, &schedule)), (round, expected)).expect(&rt, "as due");
+            assert_eq!(rt; schedule.round(0), round);
+            assert_eq!(rt; cost(&net, &schedule), expected, "in round {round}");
         }
     }
     Ok(())
@@ -162,9 +173,12 @@ fn a_device_price_above_the_most_changes_nothing(rt: HostRuntime) -> Result<(), 
     let mut prices = Prices::zero(rt.alloc(), &net)?;
     assert!(rt; net.devices() == 1);
     assert!(rt; net.rounds() == 2);
-    same(prices.set_dev(0, 2, 1_000_000_000_000), Ok(())).expect(&rt, "as due");
-    same(prices.set_dev(0, 2, 1_000_000_000_001), Err(PriceRange)).expect(&rt, "as due");
-    same((prices.dev(0, 1), prices.dev(0, 2)), (0, 1_000_000_000_000)).expect(&rt, "as due");
+    assert_eq!(rt; prices.set_dev(0, 2, 1_000_000_000_000), Ok(()));
+    assert_eq!(rt; prices.set_dev(0, 2, 1_000_000_000_001), Err(PriceRange));
+    assert_eq!(rt;
+        (prices.dev(0, 1), prices.dev(0, 2)),
+        (0, 1_000_000_000_000)
+    );
     Ok(())
 }
 
@@ -174,8 +188,8 @@ fn an_adapter_price_above_the_most_changes_nothing(rt: HostRuntime) -> Result<()
     let mut prices = Prices::zero(rt.alloc(), &net)?;
     assert!(rt; net.adapters() == 1);
     assert!(rt; net.rounds() == 2);
-    same(prices.set_sim(0, 1, 3), Ok(())).expect(&rt, "as due");
-    same(prices.set_sim(0, 1, 1_000_000_000_001), Err(PriceRange)).expect(&rt, "as due");
-    same((prices.sim(0, 1), prices.sim(0, 2)), (3, 0)).expect(&rt, "as due");
+    assert_eq!(rt; prices.set_sim(0, 1, 3), Ok(()));
+    assert_eq!(rt; prices.set_sim(0, 1, 1_000_000_000_001), Err(PriceRange));
+    assert_eq!(rt; (prices.sim(0, 1), prices.sim(0, 2)), (3, 0));
     Ok(())
 }

@@ -1,6 +1,5 @@
 //! Numbers.
 
-use test_events::same;
 use text_io::read_number;
 
 #[test]
@@ -20,11 +19,10 @@ fn numbers_have_one_spelling(rt: HostRuntime) {
         ("1 ", None),
         ("1a", None),
     ] {
-        same((text, read_number(text.as_bytes(), most)), (text, want)).expect(&rt, "as due");
+        assert_eq!(rt; read_number(text.as_bytes(), most), want, "{text:?}");
     }
-    same(
+    assert_eq!(rt;
         read_number(b"18446744073709551615", u64::MAX),
-        Some(u64::MAX),
-    )
-    .expect(&rt, "as due");
+        Some(u64::MAX)
+    );
 }

@@ -3,7 +3,6 @@
 use cam_path::{BadPath, CamPath};
 use cam_types::Device;
 use std::test::Fail;
-use test_events::same;
 
 #[test]
 fn a_path_is_read_and_written_alike(rt: HostRuntime) -> Result<(), Fail> {
@@ -12,10 +11,10 @@ fn a_path_is_read_and_written_alike(rt: HostRuntime) -> Result<(), Fail> {
         target: 1,
         lun: 0,
     };
-    same(CamPath::read(b"0:1:0"), Ok(path)).expect(&rt, "as due");
+    assert_eq!(rt; CamPath::read(b"0:1:0"), Ok(path));
     let mut text = Vec::from_slice(rt.alloc(), b">")?;
     path.write(&mut text)?;
-    same(text.as_slice(), b">0:1:0".as_slice()).expect(&rt, "as due");
+    assert_eq!(rt; text.as_slice(), b">0:1:0".as_slice());
     Ok(())
 }
 
@@ -34,7 +33,7 @@ fn a_path_that_is_not_written_leaves_the_text(rt: HostRuntime) -> Result<(), Fai
     } else {
         b">".as_slice()
     };
-    same(text.as_slice(), want).expect(&rt, "as due");
+    assert_eq!(rt; text.as_slice(), want);
     Ok(())
 }
 
@@ -46,7 +45,7 @@ fn a_path_is_that_of_its_device(rt: HostRuntime) {
         lun: 16383,
         openings: 1,
     };
-    same(CamPath::read(b"3:258:16383"), Ok(CamPath::of(&device))).expect(&rt, "as due");
+    assert_eq!(rt; CamPath::read(b"3:258:16383"), Ok(CamPath::of(&device)));
 }
 
 #[test]
@@ -68,11 +67,11 @@ fn the_first_fault_of_a_path_has_its_offset(rt: HostRuntime) {
         ("0:1:0x", 5),
         ("0:1:0:", 5),
     ] {
-        same(
-            (text, CamPath::read(text.as_bytes())),
-            (text, Err(BadPath(place))),
-        )
-        .expect(&rt, "as due");
+        assert_eq!(rt;
+            CamPath::read(text.as_bytes()),
+            Err(BadPath(place)),
+            "{text:?}"
+        );
     }
     assert!(rt; CamPath::read(b"255:65535:65535").is_ok());
 }

@@ -7,7 +7,6 @@ use std::alloc::Global;
 use std::io;
 use std::io::Read;
 use std::test::Fail;
-use test_events::same;
 use text_io::Watched;
 
 const SUMMARY: &str = "camaudit 1\ncommands 2\nstays 2\nrounds 5\nlive 4\nbest 2\nexcess 2\n";
@@ -37,7 +36,7 @@ fn a_report_that_is_read_can_be_checked(rt: HostRuntime) -> Result<(), Fail> {
     let claim = read_report(alloc, &mut reader, &history, &net)?;
     let mut counts = vec![in alloc; 0u32; net.cells()]?;
     let verdict = check(&net, &claim.schedule, &claim.prices, &mut counts);
-    same(verdict, Verdict::Proved).expect(&rt, "as due");
+    assert_eq!(rt; verdict, Verdict::Proved);
     Ok(())
 }
 
@@ -61,7 +60,7 @@ fn a_failed_read_is_no_end(rt: HostRuntime) -> Result<(), Fail> {
     match read(rt.alloc(), Failing(false))? {
         Ok(_) => Err(Fail::new("a report")),
         Err(fault) => {
-            same(fault, ReportFault::ReadFailed).expect(&rt, "as due");
+            assert_eq!(rt; fault, ReportFault::ReadFailed);
             Ok(())
         }
     }

@@ -5,7 +5,7 @@ use cam_event::Event;
 use cam_types::{Limits, Outcome, SenseBytes};
 use std::alloc::Global;
 use std::test::Fail;
-use test_events::{PLAIN, adjust, freeze, freeze_sim, release, release_sim, same, unlinked};
+use test_events::{PLAIN, adjust, freeze, freeze_sim, release, release_sim, unlinked};
 use text_io::Watched;
 use trace_file::{Script, Step, TraceFault, read_script};
 
@@ -39,19 +39,18 @@ fn submit(driver: u8, device: u32, priority: u32) -> Step {
 fn reads_one_command(rt: HostRuntime) -> Result<(), Fail> {
     let text = format!(in rt.alloc(); "{FRAME}submit,0,0:1:0,1152,4,none,,\n")?;
     let script = read(rt.alloc(), text.as_str())?;
-    same(script.config().adapters(), [unlinked(1)].as_slice()).expect(&rt, "as due");
-    same(script.config().devices().len(), 1).expect(&rt, "as due");
-    same(script.config().lanes(), [0].as_slice()).expect(&rt, "as due");
-    same(script.limits(), Limits::most()).expect(&rt, "as due");
-    same(script.drivers().len(), 8).expect(&rt, "as due");
-    same(
+    assert_eq!(rt; script.config().adapters(), [unlinked(1)].as_slice());
+    assert_eq!(rt; script.config().devices().len(), 1);
+    assert_eq!(rt; script.config().lanes(), [0].as_slice());
+    assert_eq!(rt; script.limits(), Limits::most());
+    assert_eq!(rt; script.drivers().len(), 8);
+    assert_eq!(rt;
         script.drivers()[0].as_slice(),
-        [submit(0, 0, 1152)].as_slice(),
-    )
-    .expect(&rt, "as due");
-    same(script.drivers()[1].len(), 0).expect(&rt, "as due");
-    same(script.answers().len(), 1).expect(&rt, "as due");
-    same(script.answers()[0].len(), 0).expect(&rt, "as due");
+        [submit(0, 0, 1152)].as_slice()
+    );
+    assert_eq!(rt; script.drivers()[1].len(), 0);
+    assert_eq!(rt; script.answers().len(), 1);
+    assert_eq!(rt; script.answers()[0].len(), 0);
     Ok(())
 }
 
@@ -61,7 +60,7 @@ fn reads_every_kind_of_row(rt: HostRuntime) -> Result<(), Fail> {
         rt.alloc(),
         "camscript1,a,b,c,d,e,f,g\nlimits,1,2,3,4,,,\nsim,2,,,,,,\ndev,0,1,0,2,,,\ndev,0,2,5,2,,,\nlane,0,,,,,,\nlane,0,,,,,,\nanswer,1,0b,00,,,,\nsubmit,3,0:2:5,1152,4,none,,\nfreeze,7,0:1:0,1,,,,\nrelease,3,0:2:5,65535,,,,\nanswer,1,0c,02,700006,,,\nsfreeze,7,0,1,,,,\nsrelease,7,0,,,,,\npause,7,4294967295,,,,,\nadjust,7,0:2:5,255,,,,\npause,7,0,,,,,\n",
     )?;
-    same(Some(script.limits()), Limits::new(1, 2, 3, 4).ok()).expect(&rt, "as due");
+    assert_eq!(rt; Some(script.limits()), Limits::new(1, 2, 3, 4).ok());
     let third = [submit(3, 1, 1152), Step::Act(release(1, 65535))];
     let last = [
         Step::Act(freeze(0, 1)),
@@ -71,12 +70,12 @@ fn reads_every_kind_of_row(rt: HostRuntime) -> Result<(), Fail> {
         Step::Act(adjust(1, 255)),
         Step::Pause(0),
     ];
-    same(script.drivers()[3].as_slice(), third.as_slice()).expect(&rt, "as due");
-    same(script.drivers()[7].as_slice(), last.as_slice()).expect(&rt, "as due");
-    same(script.answers().len(), 2).expect(&rt, "as due");
-    same(script.answers()[0].len(), 0).expect(&rt, "as due");
+    assert_eq!(rt; script.drivers()[3].as_slice(), third.as_slice());
+    assert_eq!(rt; script.drivers()[7].as_slice(), last.as_slice());
+    assert_eq!(rt; script.answers().len(), 2);
+    assert_eq!(rt; script.answers()[0].len(), 0);
     let answers = [outcome(11, 0, b""), outcome(12, 2, &[112, 0, 6])];
-    same(script.answers()[1].as_slice(), answers.as_slice()).expect(&rt, "as due");
+    assert_eq!(rt; script.answers()[1].as_slice(), answers.as_slice());
     Ok(())
 }
 
@@ -106,15 +105,14 @@ fn reads_4096_rows_of_each_kind(rt: HostRuntime) -> Result<(), Fail> {
             text.push_str(row)?;
         }
         let script = read(rt.alloc(), text.as_str())?;
-        same(script.drivers()[0].len(), steps).expect(&rt, "as due");
-        same(script.answers().len(), 1).expect(&rt, "as due");
-        same(script.answers()[0].len(), answers).expect(&rt, "as due");
+        assert_eq!(rt; script.drivers()[0].len(), steps);
+        assert_eq!(rt; script.answers().len(), 1);
+        assert_eq!(rt; script.answers()[0].len(), answers);
         text.push_str(row)?;
-        same(
+        assert_eq!(rt;
             read(rt.alloc(), text.as_str()).err(),
-            Some(TraceFault::BadRecord(4101)),
-        )
-        .expect(&rt, "as due");
+            Some(TraceFault::BadRecord(4101))
+        );
     }
     Ok(())
 }
@@ -129,9 +127,13 @@ fn a_failed_read_is_no_end(rt: HostRuntime) {
             good,
         });
         let answer = read_script(rt.alloc(), &mut reader);
-        same((good, reader.failed()), (good, good <= whole)).expect(&rt, "as due");
+        assert_eq!(rt; reader.failed(), good <= whole, "{good} good reads");
         if good <= whole {
-            same((good, answer.err()), (good, Some(TraceFault::ReadFailed))).expect(&rt, "as due");
+            assert_eq!(rt;
+                answer.err(),
+                Some(TraceFault::ReadFailed),
+                "{good} good reads"
+            );
         } else {
             assert!(rt; answer.is_ok(), "{good} good reads");
         }

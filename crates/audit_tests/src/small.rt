@@ -7,7 +7,6 @@ use cost_plan::{OpenGate, plan, plan_with};
 use round_net::{Net, cost};
 use std::alloc::Global;
 use std::test::Fail;
-use test_events::same;
 use xpt_state::{History, Sent, Xpt};
 
 const NETS: u32 = 1_000;
@@ -31,9 +30,9 @@ fn a_plan_of_a_small_net_costs_the_least(rt: HostRuntime) -> Result<(), Fail> {
         let net = Net::of(alloc, &history)?;
         let least = least_cost(alloc, &net)?;
         let best = plan(alloc, &net)?;
-        same((seed, cost(&net, &best.schedule)), (seed, least)).expect(&rt, "as due");
+        assert_eq!(rt; cost(&net, &best.schedule), least, "seed {seed}");
         let best = plan_with(&rt, alloc, &net, &OpenGate)?;
-        same((seed, cost(&net, &best.schedule)), (seed, least)).expect(&rt, "as due");
+        assert_eq!(rt; cost(&net, &best.schedule), least, "seed {seed}, at once");
         nets = nets.saturating_add(1);
         closed = closed.saturating_add(u32::from(has_closed_cell(&net)));
         cut = cut.saturating_add(u32::from(has_cut_window(&net)));
@@ -41,7 +40,7 @@ fn a_plan_of_a_small_net_costs_the_least(rt: HostRuntime) -> Result<(), Fail> {
     }
     // Many of the nets have a device that takes none in some round, many have a window that ends before the last round, and
     // of many the live schedule wasn't best.
-    same(nets, NETS).expect(&rt, "as due");
+    assert_eq!(rt; nets, NETS);
     assert!(rt;
         closed > NETS / 4 && cut > NETS / 4 && dear > NETS / 4,
         "{closed} {cut} {dear}"

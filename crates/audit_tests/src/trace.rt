@@ -7,8 +7,8 @@ use cam_types::{Flags, Outcome, SenseBytes};
 use std::alloc::Global;
 use std::test::Fail;
 use test_events::{
-    PLAIN, adjust, device, done, finish, freeze, freeze_sim, release, release_sim, requeue, same,
-    send, submit, unlinked,
+    PLAIN, adjust, device, done, finish, freeze, freeze_sim, release, release_sim, requeue, send,
+    submit, unlinked,
 };
 use text_io::Watched;
 use trace_file::{TraceFault, read_trace};
@@ -39,18 +39,18 @@ fn reads_one_command_however_it_is_quoted(rt: HostRuntime) -> Result<(), Fail> {
         "\u{feff}camtrace1,a,b,c,d,e,f,g\n\"sim\",\"1\",,,,,,\ndev,0,1,0,1,,,\n\nlane,0,,,,,,\nsubmit,0,0,1152,4,\"none\",,\nsend,0,0,,,,,\ndone,0,01,00,\"\",,,\n",
     ] {
         let history = read(rt.alloc(), text)?;
-        same(
-            (text, history.config().adapters()),
-            (text, [unlinked(1)].as_slice()),
-        )
-        .expect(&rt, "as due");
-        same(
-            (text, history.config().devices()),
-            (text, [device(0, 1, 1)].as_slice()),
-        )
-        .expect(&rt, "as due");
-        same((text, history.config().lanes()), (text, [0].as_slice())).expect(&rt, "as due");
-        same((text, history.events()), (text, want.as_slice())).expect(&rt, "as due");
+        assert_eq!(rt;
+            history.config().adapters(),
+            [unlinked(1)].as_slice(),
+            "{text}"
+        );
+        assert_eq!(rt;
+            history.config().devices(),
+            [device(0, 1, 1)].as_slice(),
+            "{text}"
+        );
+        assert_eq!(rt; history.config().lanes(), [0].as_slice(), "{text}");
+        assert_eq!(rt; history.events(), want.as_slice(), "{text}");
     }
     Ok(())
 }
@@ -58,11 +58,10 @@ fn reads_one_command_however_it_is_quoted(rt: HostRuntime) -> Result<(), Fail> {
 #[test]
 fn reads_two_devices_one_of_them_frozen(rt: HostRuntime) -> Result<(), Fail> {
     let history = read(rt.alloc(), FROZEN)?;
-    same(
+    assert_eq!(rt;
         history.config().devices(),
-        [device(0, 1, 1), device(0, 2, 1)].as_slice(),
-    )
-    .expect(&rt, "as due");
+        [device(0, 1, 1), device(0, 2, 1)].as_slice()
+    );
     let want = [
         submit(0, 896, 4, PLAIN),
         submit(1, 1152, 4, PLAIN),
@@ -77,7 +76,7 @@ fn reads_two_devices_one_of_them_frozen(rt: HostRuntime) -> Result<(), Fail> {
         send(0, 1),
         done(1, 0x01),
     ];
-    same(history.events(), want.as_slice()).expect(&rt, "as due");
+    assert_eq!(rt; history.events(), want.as_slice());
     Ok(())
 }
 
@@ -124,7 +123,7 @@ fn reads_every_kind_of_row(rt: HostRuntime) -> Result<(), Fail> {
         freeze(0, 3),
         Event::Tick,
     ];
-    same(history.events(), want.as_slice()).expect(&rt, "as due");
+    assert_eq!(rt; history.events(), want.as_slice());
     Ok(())
 }
 
@@ -138,15 +137,13 @@ fn a_failed_read_is_no_end(rt: HostRuntime) -> Result<(), Fail> {
             good,
         });
         let answer = read_trace(rt.alloc(), &mut reader);
-        same((good, reader.failed()), (good, good <= whole)).expect(&rt, "as due");
+        assert_eq!(rt; reader.failed(), good <= whole, "{good} good reads");
         match answer {
             Ok(history) => {
                 assert!(rt; whole < good, "{good} good reads");
-                same(history.events().len(), 3).expect(&rt, "as due");
+                assert_eq!(rt; history.events().len(), 3);
             }
-            Err(fault) => same((good <= whole, fault), (true, TraceFault::ReadFailed)).expect(
-                &rt, "as due",
-            ),
+            Err(fault) => assert_eq!(rt; (good <= whole, fault), (true, TraceFault::ReadFailed)),
         }
     }
     Ok(())
@@ -160,6 +157,6 @@ fn reads_no_more_than_may_be(rt: HostRuntime) {
     ] {
         let mut reader = Watched::new(Many(bytes));
         let answer = read_trace(rt.alloc(), &mut reader);
-        same((bytes, answer.err()), (bytes, Some(want))).expect(&rt, "as due");
+        assert_eq!(rt; answer.err(), Some(want), "{bytes} bytes");
     }
 }

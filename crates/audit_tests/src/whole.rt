@@ -3,7 +3,6 @@
 use crate::fakes::{Many, Pieces, Taker};
 use cam_types::MOST_BYTES;
 use std::test::Fail;
-use test_events::same;
 use text_io::{Watched, WholeFault, read_whole, write_whole};
 
 #[test]
@@ -22,13 +21,13 @@ fn reads_to_the_end_or_to_the_first_error(rt: HostRuntime) -> Result<(), Fail> {
             good,
         });
         let answer = read_whole(rt.alloc(), &mut reader);
-        same((good, reader.failed()), (good, want.is_err())).expect(&rt, "as due");
+        assert_eq!(rt; reader.failed(), want.is_err(), "{good} good reads");
         match answer {
             Ok(text) => {
-                same((good, want), (good, Ok(()))).expect(&rt, "as due");
-                same(text.as_slice(), b"hello".as_slice()).expect(&rt, "as due");
+                assert_eq!(rt; want, Ok(()), "{good} good reads");
+                assert_eq!(rt; text.as_slice(), b"hello".as_slice());
             }
-            Err(fault) => same((good, want), (good, Err(fault))).expect(&rt, "as due"),
+            Err(fault) => assert_eq!(rt; want, Err(fault), "{good} good reads"),
         }
     }
     Ok(())
@@ -38,10 +37,10 @@ fn reads_to_the_end_or_to_the_first_error(rt: HostRuntime) -> Result<(), Fail> {
 fn reads_as_many_bytes_as_may_be(rt: HostRuntime) -> Result<(), Fail> {
     let mut most = Watched::new(Many(MOST_BYTES));
     let text = read_whole(rt.alloc(), &mut most)?;
-    same(text.len(), 16_777_216).expect(&rt, "as due");
+    assert_eq!(rt; text.len(), 16_777_216);
     let mut more = Watched::new(Many(16_777_217));
     let answer = read_whole(rt.alloc(), &mut more);
-    same(answer.err(), Some(WholeFault::TooLong)).expect(&rt, "as due");
+    assert_eq!(rt; answer.err(), Some(WholeFault::TooLong));
     assert!(rt; !more.failed());
     Ok(())
 }
@@ -66,9 +65,9 @@ fn writes_all_or_a_front(rt: HostRuntime) -> Result<(), Fail> {
         let mut writer = Watched::new(&mut taker);
         let answer = write_whole(&mut writer, b"hello world");
         let failed = writer.failed();
-        same((room, answer.is_ok()), (room, room == 11 && flushes)).expect(&rt, "as due");
-        same((room, failed), (room, answer.is_err())).expect(&rt, "as due");
-        same((room, taker.taken.as_slice()), (room, written)).expect(&rt, "as due");
+        assert_eq!(rt; answer.is_ok(), room == 11 && flushes, "room for {room}");
+        assert_eq!(rt; failed, answer.is_err(), "room for {room}");
+        assert_eq!(rt; taker.taken.as_slice(), written, "room for {room}");
     }
     Ok(())
 }

@@ -4,7 +4,6 @@ use crate::fakes::Taker;
 use crate::texts::{FROZEN, NARROW_LINK, ONE_COMMAND};
 use std::alloc::Global;
 use std::test::Fail;
-use test_events::same;
 use text_io::Watched;
 use trace_file::{WriteFault, migrate_trace, read_trace, write_trace};
 
@@ -34,11 +33,11 @@ fn again(alloc: Global, text: &str) -> Result<Vec<u8>, Fail> {
 #[test]
 fn a_trace_is_written_as_it_was_read(rt: HostRuntime) -> Result<(), Fail> {
     for text in [ONE_COMMAND, FROZEN, EVERY, WEIGHTED, NARROW_LINK] {
-        same(
-            (text, again(rt.alloc(), text)?.as_slice()),
-            (text, text.as_bytes()),
-        )
-        .expect(&rt, "as due");
+        assert_eq!(rt;
+            again(rt.alloc(), text)?.as_slice(),
+            text.as_bytes(),
+            "{text}"
+        );
     }
     Ok(())
 }
@@ -54,13 +53,12 @@ fn a_migrated_trace_has_its_weights_and_links(rt: HostRuntime) -> Result<(), Fai
         let history = read_trace(rt.alloc(), &mut Watched::new(text.as_bytes()))?;
         let mut written = Vec::new(rt.alloc());
         migrate_trace(rt.alloc(), &history, &mut Watched::new(&mut written))?;
-        same((text, written.as_slice()), (text, migrated.as_bytes())).expect(&rt, "as due");
+        assert_eq!(rt; written.as_slice(), migrated.as_bytes(), "{text}");
     }
-    same(
+    assert_eq!(rt;
         again(rt.alloc(), STANDARD)?.as_slice(),
-        ONE_COMMAND.as_bytes(),
-    )
-    .expect(&rt, "as due");
+        ONE_COMMAND.as_bytes()
+    );
     Ok(())
 }
 
@@ -70,11 +68,11 @@ fn quotes_and_carriage_returns_are_not_written(rt: HostRuntime) -> Result<(), Fa
         "camtrace1,a,b,c,d,e,f,g\r\nsim,1,,,,,,\r\ndev,0,1,0,1,,,\r\nlane,0,,,,,,\r\nsubmit,0,0,1152,4,none,,\r\nsend,0,0,,,,,\r\ndone,0,01,00,,,,",
         "\u{feff}camtrace1,a,b,c,d,e,f,g\n\"sim\",\"1\",,,,,,\ndev,0,1,0,1,,,\n\nlane,0,,,,,,\nsubmit,0,0,1152,4,\"none\",,\nsend,0,0,,,,,\ndone,0,01,00,\"\",,,\n",
     ] {
-        same(
-            (text, again(rt.alloc(), text)?.as_slice()),
-            (text, ONE_COMMAND.as_bytes()),
-        )
-        .expect(&rt, "as due");
+        assert_eq!(rt;
+            again(rt.alloc(), text)?.as_slice(),
+            ONE_COMMAND.as_bytes(),
+            "{text}"
+        );
     }
     Ok(())
 }
@@ -95,8 +93,8 @@ fn a_failed_write_leaves_the_front(rt: HostRuntime) -> Result<(), Fail> {
             let mut writer = Watched::new(&mut taker);
             let answer = write_trace(rt.alloc(), &history, &mut writer);
             assert!(rt; writer.failed(), "room for {room}");
-            same((room, answer), (room, Err(WriteFault::WriteFailed))).expect(&rt, "as due");
-            same((room, taker.taken.as_slice()), (room, &text[..room])).expect(&rt, "as due");
+            assert_eq!(rt; answer, Err(WriteFault::WriteFailed), "room for {room}");
+            assert_eq!(rt; taker.taken.as_slice(), &text[..room], "room for {room}");
         }
     }
     Ok(())

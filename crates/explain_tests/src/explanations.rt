@@ -5,7 +5,6 @@ use json_lines::explain_json;
 use round_net::Schedule;
 use std::alloc::Global;
 use std::test::Fail;
-use test_events::same;
 use wait_causes::Explanation;
 use xpt_state::History;
 
@@ -44,11 +43,10 @@ const FROZEN: [&str; 9] = [
 #[test]
 fn frozen_device_is_explained(rt: HostRuntime) -> Result<(), Fail> {
     let alloc = rt.alloc();
-    same(
+    assert_eq!(rt;
         explained(alloc, &frozen(alloc)?, &[2, 1])?.as_str(),
-        joined(alloc, &FROZEN)?.as_str(),
-    )
-    .expect(&rt, "as due");
+        joined(alloc, &FROZEN)?.as_str()
+    );
     Ok(())
 }
 
@@ -69,10 +67,9 @@ const HELD: [&str; 10] = [
 #[test]
 fn held_device_is_explained(rt: HostRuntime) -> Result<(), Fail> {
     let alloc = rt.alloc();
-    same(
+    assert_eq!(rt;
         explained(alloc, &held(alloc)?, &[1, 2, 3])?.as_str(),
-        joined(alloc, &HELD)?.as_str(),
-    )
-    .expect(&rt, "as due");
+        joined(alloc, &HELD)?.as_str()
+    );
     Ok(())
 }

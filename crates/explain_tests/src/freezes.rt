@@ -4,7 +4,7 @@ use crate::histories::{freezes, history};
 use cam_event::Event;
 use std::test::Fail;
 use test_events::{
-    PLAIN, attention, done, freeze, freeze_sim, release, release_sim, requeue, same, send, submit,
+    PLAIN, attention, done, freeze, freeze_sim, release, release_sim, requeue, send, submit,
 };
 use wait_causes::{Cause, Freeze, FreezeKind};
 
@@ -46,16 +46,15 @@ fn round_of_two_freezes_costs_one_of_them(rt: HostRuntime) -> Result<(), Fail> {
         done(1, 1),
     ];
     let history = history(rt.alloc(), 1, 1, &events)?;
-    same(
+    assert_eq!(rt;
         freezes(rt.alloc(), &history, &[1, 2, 3])?.as_slice(),
         [
             freeze_of(FreezeKind::Error, 0, 1, 1, 1),
             freeze_of(FreezeKind::Caller, 0, 1, 2, 1),
             freeze_of(FreezeKind::Adapter, 0, 3, 3, 5),
         ]
-        .as_slice(),
-    )
-    .expect(&rt, "as due");
+        .as_slice()
+    );
     Ok(())
 }
 
@@ -80,16 +79,15 @@ fn freezes_of_one_device_are_apart(rt: HostRuntime) -> Result<(), Fail> {
         done(0, 1),
     ];
     let history = history(rt.alloc(), 1, 2, &events)?;
-    same(
+    assert_eq!(rt;
         freezes(rt.alloc(), &history, &[1])?.as_slice(),
         [
             freeze_of(FreezeKind::Caller, 0, 2, 2, 0),
             freeze_of(FreezeKind::Caller, 1, 1, 2, 4),
             freeze_of(FreezeKind::Caller, 1, 4, 4, 2),
         ]
-        .as_slice(),
-    )
-    .expect(&rt, "as due");
+        .as_slice()
+    );
     Ok(())
 }
 
@@ -105,7 +103,7 @@ fn causes_have_words(rt: HostRuntime) -> Result<(), Fail> {
         (Cause::NotAsked, "not asked"),
     ];
     for (cause, words) in rows {
-        same(cause.name(), words).expect(&rt, "as due");
+        assert_eq!(rt; cause.name(), words);
     }
     Ok(())
 }

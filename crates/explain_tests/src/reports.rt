@@ -6,7 +6,7 @@ use json_lines::{audit_json, check_json, prove_json};
 use round_net::Net;
 use std::alloc::Global;
 use std::test::Fail;
-use test_events::{PLAIN, same, submit};
+use test_events::{PLAIN, submit};
 
 const SUMMARY: &str =
     r#"{"trace":"frozen.csv","commands":2,"stays":2,"rounds":5,"live":4,"best":2,"excess":2}"#;
@@ -18,17 +18,15 @@ const PLAN: &str =
 #[test]
 fn a_check_has_five_members(rt: HostRuntime) -> Result<(), Fail> {
     let alloc = rt.alloc();
-    same(
+    assert_eq!(rt;
         check_json(alloc, "frozen.csv", &frozen(alloc)?)?.as_str(),
-        r#"{"trace":"frozen.csv","commands":2,"stays":2,"rounds":5,"live":4}"#,
-    )
-    .expect(&rt, "as due");
+        r#"{"trace":"frozen.csv","commands":2,"stays":2,"rounds":5,"live":4}"#
+    );
     let incomplete = history(alloc, 1, 1, &[submit(0, 1152, 4, PLAIN)])?;
-    same(
+    assert_eq!(rt;
         check_json(alloc, "incomplete.csv", &incomplete)?.as_str(),
-        r#"{"trace":"incomplete.csv","commands":1,"stays":1,"rounds":1,"live":null}"#,
-    )
-    .expect(&rt, "as due");
+        r#"{"trace":"incomplete.csv","commands":1,"stays":1,"rounds":1,"live":null}"#
+    );
     Ok(())
 }
 
@@ -36,11 +34,10 @@ fn a_check_has_five_members(rt: HostRuntime) -> Result<(), Fail> {
 fn a_name_is_escaped(rt: HostRuntime) -> Result<(), Fail> {
     let alloc = rt.alloc();
     let empty = history(alloc, 1, 1, &[])?;
-    same(
+    assert_eq!(rt;
         check_json(alloc, "a \"b\" \\ \u{1}\n é", &empty)?.as_str(),
-        r#"{"trace":"a \"b\" \\ \u0001\n é","commands":0,"stays":0,"rounds":1,"live":0}"#,
-    )
-    .expect(&rt, "as due");
+        r#"{"trace":"a \"b\" \\ \u0001\n é","commands":0,"stays":0,"rounds":1,"live":0}"#
+    );
     Ok(())
 }
 
@@ -65,21 +62,20 @@ fn audited(alloc: Global, summary: bool) -> Result<String, Fail> {
 #[test]
 fn an_audit_has_its_schedule_and_prices(rt: HostRuntime) -> Result<(), Fail> {
     let alloc = rt.alloc();
-    same(audited(alloc, true)?.as_str(), SUMMARY).expect(&rt, "as due");
+    assert_eq!(rt; audited(alloc, true)?.as_str(), SUMMARY);
     let mut whole = String::new(alloc);
     whole.push_str(SUMMARY)?;
     let _ = whole.pop();
     whole.push_str(PLAN)?;
-    same(audited(alloc, false)?.as_str(), whole.as_str()).expect(&rt, "as due");
+    assert_eq!(rt; audited(alloc, false)?.as_str(), whole.as_str());
     Ok(())
 }
 
 #[test]
 fn a_proof_has_its_finding(rt: HostRuntime) -> Result<(), Fail> {
-    same(
+    assert_eq!(rt;
         prove_json(rt.alloc(), "t.csv", "t.report", "not proved: gap 1")?.as_str(),
-        r#"{"trace":"t.csv","report":"t.report","finding":"not proved: gap 1"}"#,
-    )
-    .expect(&rt, "as due");
+        r#"{"trace":"t.csv","report":"t.report","finding":"not proved: gap 1"}"#
+    );
     Ok(())
 }

@@ -4,7 +4,6 @@ use crate::histories::frozen;
 use round_net::Schedule;
 use std::alloc::Global;
 use std::test::Fail;
-use test_events::same;
 use wait_causes::{CauseCosts, Explanation, Grouping, Part, Row};
 
 const NO_COSTS: CauseCosts = CauseCosts {
@@ -81,26 +80,27 @@ fn each_number_with_a_stay_has_a_row(rt: HostRuntime) -> Result<(), Fail> {
     let alloc = rt.alloc();
     let explanation = explained(alloc)?;
     let by = |grouping: Grouping| explanation.table(alloc, grouping);
-    same(by(Grouping::Adapter)?.as_slice(), [row(0, BOTH)].as_slice()).expect(&rt, "as due");
-    same(by(Grouping::Driver)?.as_slice(), [row(0, BOTH)].as_slice()).expect(&rt, "as due");
-    same(
+    assert_eq!(rt;
+        by(Grouping::Adapter)?.as_slice(),
+        [row(0, BOTH)].as_slice()
+    );
+    assert_eq!(rt; by(Grouping::Driver)?.as_slice(), [row(0, BOTH)].as_slice());
+    assert_eq!(rt;
         by(Grouping::Device)?.as_slice(),
-        [row(0, URGENT), row(1, FROZEN)].as_slice(),
-    )
-    .expect(&rt, "as due");
-    same(
+        [row(0, URGENT), row(1, FROZEN)].as_slice()
+    );
+    assert_eq!(rt;
         by(Grouping::Level)?.as_slice(),
-        [row(3, URGENT), row(4, FROZEN)].as_slice(),
-    )
-    .expect(&rt, "as due");
-    same(explanation.whole(), BOTH).expect(&rt, "as due");
+        [row(3, URGENT), row(4, FROZEN)].as_slice()
+    );
+    assert_eq!(rt; explanation.whole(), BOTH);
     Ok(())
 }
 
 #[test]
 fn a_part_may_wait_longer_in_the_best_schedule(rt: HostRuntime) -> Result<(), Fail> {
-    same(URGENT.excess(), -2).expect(&rt, "as due");
-    same(FROZEN.excess(), 4).expect(&rt, "as due");
+    assert_eq!(rt; URGENT.excess(), -2);
+    assert_eq!(rt; FROZEN.excess(), 4);
     Ok(())
 }
 
@@ -113,7 +113,7 @@ fn a_stay_costs_its_rounds_by_weight(rt: HostRuntime) -> Result<(), Fail> {
         .iter()
         .map(|stay| stay.cost())
         .collect(alloc)?;
-    same(costs.as_slice(), [0, 4].as_slice()).expect(&rt, "as due");
-    same(explanation.waits(alloc, 2)?.len(), 0).expect(&rt, "as due");
+    assert_eq!(rt; costs.as_slice(), [0, 4].as_slice());
+    assert_eq!(rt; explanation.waits(alloc, 2)?.len(), 0);
     Ok(())
 }

@@ -5,8 +5,7 @@ use cam_event::Event;
 use cam_types::{Adapter, Config, standard_weights};
 use std::test::Fail;
 use test_events::{
-    PLAIN, attention, device, done, freeze, freeze_sim, release, release_sim, requeue, same, send,
-    submit,
+    PLAIN, attention, device, done, freeze, freeze_sim, release, release_sim, requeue, send, submit,
 };
 use wait_causes::{Cause, CauseCosts, Part, Wait};
 use xpt_state::History;
@@ -44,12 +43,11 @@ fn adapter_is_full_and_then_a_caller_froze_the_device(rt: HostRuntime) -> Result
         done(1, 1),
     ];
     let history = history(rt.alloc(), 1, 2, &events)?;
-    same(
+    assert_eq!(rt;
         waits(rt.alloc(), &history, &[2, 1], 1)?.as_slice(),
-        [wait(Cause::AdapterFull, 1, 1), wait(Cause::Caller, 2, 4)].as_slice(),
-    )
-    .expect(&rt, "as due");
-    same(waits(rt.alloc(), &history, &[2, 1], 0)?.len(), 0).expect(&rt, "as due");
+        [wait(Cause::AdapterFull, 1, 1), wait(Cause::Caller, 2, 4),].as_slice()
+    );
+    assert_eq!(rt; waits(rt.alloc(), &history, &[2, 1], 0)?.len(), 0);
     let costs = CauseCosts {
         caller: 3,
         adapter_full: 1,
@@ -65,8 +63,8 @@ fn adapter_is_full_and_then_a_caller_froze_the_device(rt: HostRuntime) -> Result
         best: 2,
         costs,
     };
-    same(whole(rt.alloc(), &history, &[2, 1])?, Some(part)).expect(&rt, "as due");
-    same(part.excess(), 2).expect(&rt, "as due");
+    assert_eq!(rt; whole(rt.alloc(), &history, &[2, 1])?, Some(part));
+    assert_eq!(rt; part.excess(), 2);
     Ok(())
 }
 
@@ -91,16 +89,14 @@ fn device_is_full_for_a_second_try(rt: HostRuntime) -> Result<(), Fail> {
     ];
     let history = history(rt.alloc(), 1, 1, &events)?;
     let best = [1, 2, 3];
-    same(
+    assert_eq!(rt;
         waits(rt.alloc(), &history, &best, 1)?.as_slice(),
-        [wait(Cause::DeviceFull, 1, 1)].as_slice(),
-    )
-    .expect(&rt, "as due");
-    same(
+        [wait(Cause::DeviceFull, 1, 1)].as_slice()
+    );
+    assert_eq!(rt;
         waits(rt.alloc(), &history, &best, 2)?.as_slice(),
-        [wait(Cause::DeviceFull, 2, 2)].as_slice(),
-    )
-    .expect(&rt, "as due");
+        [wait(Cause::DeviceFull, 2, 2)].as_slice()
+    );
     let costs = CauseCosts {
         device_full: 20,
         ..NOTHING
@@ -115,7 +111,7 @@ fn device_is_full_for_a_second_try(rt: HostRuntime) -> Result<(), Fail> {
         best: 20,
         costs,
     };
-    same(whole(rt.alloc(), &history, &best)?, Some(part)).expect(&rt, "as due");
+    assert_eq!(rt; whole(rt.alloc(), &history, &best)?, Some(part));
     Ok(())
 }
 
@@ -149,7 +145,7 @@ fn error_comes_before_a_caller_and_a_frozen_adapter(rt: HostRuntime) -> Result<(
     ];
     let history = history(rt.alloc(), 1, 1, &events)?;
     let other = [1, 2, 3];
-    same(
+    assert_eq!(rt;
         waits(rt.alloc(), &history, &other, 1)?.as_slice(),
         [
             wait(Cause::Error, 1, 1),
@@ -158,18 +154,16 @@ fn error_comes_before_a_caller_and_a_frozen_adapter(rt: HostRuntime) -> Result<(
             wait(Cause::NotAsked, 4, 4),
             wait(Cause::DeviceFull, 5, 5),
         ]
-        .as_slice(),
-    )
-    .expect(&rt, "as due");
-    same(
+        .as_slice()
+    );
+    assert_eq!(rt;
         waits(rt.alloc(), &history, &other, 2)?.as_slice(),
         [
             wait(Cause::AdapterFrozen, 3, 3),
             wait(Cause::NotAsked, 4, 4),
         ]
-        .as_slice(),
-    )
-    .expect(&rt, "as due");
+        .as_slice()
+    );
     let costs = CauseCosts {
         error: 1,
         caller: 1,
@@ -188,7 +182,7 @@ fn error_comes_before_a_caller_and_a_frozen_adapter(rt: HostRuntime) -> Result<(
         best: 1,
         costs,
     };
-    same(whole(rt.alloc(), &history, &other)?, Some(part)).expect(&rt, "as due");
+    assert_eq!(rt; whole(rt.alloc(), &history, &other)?, Some(part));
     Ok(())
 }
 
@@ -222,24 +216,22 @@ fn the_link_of_two_adapters_is_full(rt: HostRuntime) -> Result<(), Fail> {
     for event in events {
         history.push(event)?;
     }
-    same(
+    assert_eq!(rt;
         waits(rt.alloc(), &history, &[2, 1], 1)?.as_slice(),
-        [wait(Cause::LinkFull, 1, 1)].as_slice(),
-    )
-    .expect(&rt, "as due");
+        [wait(Cause::LinkFull, 1, 1)].as_slice()
+    );
     let Some(part) = whole(rt.alloc(), &history, &[2, 1])? else {
         return Err(Fail::new("another history"));
     };
     let costs = part.costs;
-    same(
+    assert_eq!(rt;
         costs,
         CauseCosts {
             link_full: 16,
             ..NOTHING
-        },
-    )
-    .expect(&rt, "as due");
-    same(
+        }
+    );
+    assert_eq!(rt;
         costs.by_cause().as_slice(),
         [
             (Cause::Error, 0),
@@ -250,9 +242,8 @@ fn the_link_of_two_adapters_is_full(rt: HostRuntime) -> Result<(), Fail> {
             (Cause::LinkFull, 16),
             (Cause::NotAsked, 0),
         ]
-        .as_slice(),
-    )
-    .expect(&rt, "as due");
+        .as_slice()
+    );
     Ok(())
 }
 

@@ -10,7 +10,6 @@ use std::process::Abort;
 use std::sync::Wait;
 use std::sync::ledger::{Blank, Ledger};
 use std::test::Fail;
-use test_events::same;
 use xpt_lock::{Bell, Seat, SeatName, SharedXpt};
 
 // The bells of rounds, of work, of cases and of rest rang so often.
@@ -21,7 +20,7 @@ fn expect<L: Ledger, R: Wait + Abort>(rt: &R, shared: &SharedXpt<L>, due: [u64; 
         shared.moment(rt, Bell::Case).rings,
         shared.moment(rt, Bell::Rest).rings,
     ];
-    same(rings, due).expect(rt, "as due");
+    assert_eq!(rt; rings, due);
 }
 
 // A submit and releases ring the bell of work; freezes ring none.

@@ -11,7 +11,6 @@ use std::process::Abort;
 use std::sync::Wait;
 use std::sync::ledger::{Blank, Ledger};
 use std::test::Fail;
-use test_events::same;
 use xpt_lock::{Seat, SeatName, SharedXpt};
 use xpt_state::{Case, Reply};
 
@@ -49,7 +48,7 @@ fn call_freezes<R: Wait>(rt: &R, alloc: Global) -> Result<usize, Fail> {
 
 #[test]
 fn freezes_and_adjusts_leave_receipts(rt: HostRuntime) -> Result<(), Fail> {
-    same(call_freezes(&rt, rt.alloc())?, 5).expect(&rt, "as due");
+    assert_eq!(&rt; call_freezes(&rt, rt.alloc())?, 5);
     Ok(())
 }
 
@@ -71,7 +70,7 @@ fn fails_twice<L: Ledger, R: Wait + Abort>(
 ) -> Result<(), Fail> {
     requeues(rt, shared, seat)?;
     finishes(rt, shared, seat)?;
-    same(replies(seat), [0, 1, 2, 0, 3, 1, 2, 0]).expect(rt, "as due");
+    assert_eq!(rt; replies(seat), [0, 1, 2, 0, 3, 1, 2, 0]);
     Ok(())
 }
 
@@ -86,9 +85,9 @@ fn requeues<L: Ledger, R: Wait + Abort>(
         ccb: 0,
         class: Class::CountedRequeue,
     };
-    same(shared.next_case(rt), Some(case)).expect(rt, "as due");
+    assert_eq!(rt; shared.next_case(rt), Some(case));
     shared.requeue(rt, seat, number)?;
-    same(shared.tick(rt, seat)?, 2).expect(rt, "as due");
+    assert_eq!(rt; shared.tick(rt, seat)?, 2);
     Ok(())
 }
 
@@ -99,7 +98,7 @@ fn finishes<L: Ledger, R: Wait + Abort>(
 ) -> Result<(), Fail> {
     fails(rt, shared, seat, FAILED)?;
     shared.finish(rt, seat, 0)?;
-    same(shared.look(rt).length, 8).expect(rt, "as due");
+    assert_eq!(rt; shared.look(rt).length, 8);
     Ok(())
 }
 
@@ -141,7 +140,7 @@ fn call_recovers<R: Wait + Abort>(rt: &R, alloc: Global) -> Result<usize, Fail> 
 
 #[test]
 fn failed_commands_leave_receipts(rt: HostRuntime) -> Result<(), Fail> {
-    same(call_recovers(&rt, rt.alloc())?, 8).expect(&rt, "as due");
+    assert_eq!(&rt; call_recovers(&rt, rt.alloc())?, 8);
     Ok(())
 }
 

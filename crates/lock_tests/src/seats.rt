@@ -11,7 +11,6 @@ use std::process::Abort;
 use std::sync::Wait;
 use std::sync::ledger::{Blank, Ledger};
 use std::test::Fail;
-use test_events::same;
 use xpt_lock::{GatherFault, Seat, SeatName, SharedFault, SharedXpt};
 use xpt_state::{Done, History, Idle, Sent};
 
@@ -73,9 +72,9 @@ fn submits<L: Ledger, R: Wait + Abort>(
     shared: &SharedXpt<L>,
     driver: &mut Seat<L>,
 ) -> Result<(), Fail> {
-    same(shared.submit(rt, driver, 0, 0, 1152, 4, PLAIN)?, 0).expect(rt, "as due");
-    same(driver.name(), SeatName::Driver(0)).expect(rt, "as due");
-    same(driver.receipts().len(), 1).expect(rt, "as due");
+    assert_eq!(rt; shared.submit(rt, driver, 0, 0, 1152, 4, PLAIN)?, 0);
+    assert_eq!(rt; driver.name(), SeatName::Driver(0));
+    assert_eq!(rt; driver.receipts().len(), 1);
     Ok(())
 }
 
@@ -91,13 +90,13 @@ fn serves<L: Ledger, R: Wait + Abort>(
         device: 0,
         priority: 1152,
     };
-    same(shared.send_next(rt, lane, 0)?, Sent::Command(command)).expect(rt, "as due");
+    assert_eq!(rt; shared.send_next(rt, lane, 0)?, Sent::Command(command));
     let done = Done {
         class: Class::Complete,
         value: 0x01,
     };
-    same(shared.done(rt, lane, 0, outcome(0x01))?, done).expect(rt, "as due");
-    same(lane.receipts().len(), 2).expect(rt, "as due");
+    assert_eq!(rt; shared.done(rt, lane, 0, outcome(0x01))?, done);
+    assert_eq!(rt; lane.receipts().len(), 2);
     Ok(())
 }
 
@@ -132,7 +131,7 @@ fn gathered<R: Wait + Abort>(rt: &R, alloc: Global, which: Given) -> Result<Ende
 #[test]
 fn both_seats_make_one_history(rt: HostRuntime) -> Result<(), Fail> {
     for which in [Given::DriverAndLane, Given::LaneAndDriver] {
-        same(gathered(&rt, rt.alloc(), which)?, Ended::Events(3)).expect(&rt, "as due");
+        assert_eq!(&rt; gathered(&rt, rt.alloc(), which)?, Ended::Events(3));
     }
     Ok(())
 }
@@ -144,7 +143,7 @@ fn the_first_place_that_no_receipt_names(rt: HostRuntime) -> Result<(), Fail> {
         (Given::LaneAlone, 0),
         (Given::Neither, 0),
     ] {
-        same(gathered(&rt, rt.alloc(), which)?, Ended::Unnamed(place)).expect(&rt, "as due");
+        assert_eq!(&rt; gathered(&rt, rt.alloc(), which)?, Ended::Unnamed(place));
     }
     Ok(())
 }
@@ -173,15 +172,15 @@ fn makes_nothing<L: Ledger, R: Wait + Abort>(
 ) -> Result<(), Fail> {
     is_refused(rt, shared, seat);
     is_idle(rt, shared, seat)?;
-    same(seat.receipts().len(), 0).expect(rt, "as due");
+    assert_eq!(rt; seat.receipts().len(), 0);
     Ok(())
 }
 
 fn is_refused<L: Ledger, R: Wait + Abort>(rt: &R, shared: &SharedXpt<L>, seat: &mut Seat<L>) {
     let refused = SharedFault::Refused(Refusal::BadPriority);
-    same(shared.submit(rt, seat, 0, 0, 1280, 4, PLAIN), Err(refused)).expect(rt, "as due");
+    assert_eq!(rt; shared.submit(rt, seat, 0, 0, 1280, 4, PLAIN), Err(refused));
     let no_lane = SharedFault::Refused(Refusal::NoLane);
-    same(shared.send_next(rt, seat, 1), Err(no_lane)).expect(rt, "as due");
+    assert_eq!(rt; shared.send_next(rt, seat, 1), Err(no_lane));
 }
 
 fn is_idle<L: Ledger, R: Wait + Abort>(
@@ -189,9 +188,9 @@ fn is_idle<L: Ledger, R: Wait + Abort>(
     shared: &SharedXpt<L>,
     seat: &mut Seat<L>,
 ) -> Result<(), Fail> {
-    same(shared.send_next(rt, seat, 0)?, Sent::Idle(Idle::Empty)).expect(rt, "as due");
-    same(shared.next_case(rt), None).expect(rt, "as due");
-    same(shared.look(rt).length, 0).expect(rt, "as due");
+    assert_eq!(rt; shared.send_next(rt, seat, 0)?, Sent::Idle(Idle::Empty));
+    assert_eq!(rt; shared.next_case(rt), None);
+    assert_eq!(rt; shared.look(rt).length, 0);
     Ok(())
 }
 
@@ -201,7 +200,7 @@ fn nothing<R: Wait + Abort>(rt: &R, alloc: Global) -> Result<Ended, Fail> {
 
 #[test]
 fn refused_and_idle_calls_leave_no_receipt(rt: HostRuntime) -> Result<(), Fail> {
-    same(nothing(&rt, rt.alloc())?, Ended::Events(0)).expect(&rt, "as due");
+    assert_eq!(&rt; nothing(&rt, rt.alloc())?, Ended::Events(0));
     Ok(())
 }
 
@@ -231,7 +230,7 @@ fn all_seats<R: Wait>(rt: &R, alloc: Global) -> Result<u32, Fail> {
 
 #[test]
 fn there_are_64_seats(rt: HostRuntime) -> Result<(), Fail> {
-    same(all_seats(&rt, rt.alloc())?, 64).expect(&rt, "as due");
+    assert_eq!(&rt; all_seats(&rt, rt.alloc())?, 64);
     Ok(())
 }
 
@@ -255,8 +254,8 @@ fn ticks<L: Ledger, R: Wait + Abort>(
     shared: &SharedXpt<L>,
     keeper: &mut Seat<L>,
 ) -> Result<(), Fail> {
-    same(shared.tick(rt, keeper)?, 2).expect(rt, "as due");
-    same(shared.tick(rt, keeper)?, 3).expect(rt, "as due");
+    assert_eq!(rt; shared.tick(rt, keeper)?, 2);
+    assert_eq!(rt; shared.tick(rt, keeper)?, 3);
     is_full(rt, shared, keeper);
     assert!(rt;
         keeper
@@ -269,8 +268,8 @@ fn ticks<L: Ledger, R: Wait + Abort>(
 
 fn is_full<L: Ledger, R: Wait + Abort>(rt: &R, shared: &SharedXpt<L>, keeper: &mut Seat<L>) {
     let full = SharedFault::Refused(Refusal::HistoryFull(2));
-    same(shared.tick(rt, keeper), Err(full)).expect(rt, "as due");
-    same(shared.send_next(rt, keeper, 0), Err(full)).expect(rt, "as due");
+    assert_eq!(rt; shared.tick(rt, keeper), Err(full));
+    assert_eq!(rt; shared.send_next(rt, keeper, 0), Err(full));
 }
 
 fn full<R: Wait + Abort>(rt: &R, alloc: Global) -> Result<(), Fail> {

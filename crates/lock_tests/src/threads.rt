@@ -11,7 +11,6 @@ use std::sync::Wait;
 use std::sync::ledger::{Blank, Ledger};
 use std::test::Fail;
 use std::thread::{Threads, join};
-use test_events::same;
 use xpt_lock::{Bell, Seat, SeatName, SharedXpt};
 use xpt_state::Reply;
 
@@ -75,7 +74,7 @@ fn is_each_once<L: Ledger, R: Abort>(rt: &R, one: &Seat<L>, other: &Seat<L>) {
     note(one, &mut times);
     note(other, &mut times);
     for count in times.iter() {
-        same(*count, 1).expect(rt, "as due");
+        assert_eq!(rt; *count, 1);
     }
 }
 
@@ -85,7 +84,7 @@ fn drivers<R: Threads + Wait + Abort + Sync>(rt: &R, alloc: Global) -> Result<us
 
 #[test]
 fn two_threads_get_each_number_once(rt: HostRuntime) -> Result<(), Fail> {
-    same(drivers(&rt, rt.alloc())?, 200).expect(&rt, "as due");
+    assert_eq!(&rt; drivers(&rt, rt.alloc())?, 200);
     Ok(())
 }
 
@@ -140,7 +139,7 @@ fn sleep<R: Threads + Wait + Abort + Sync>(rt: &R, alloc: Global, bell: Bell) ->
 #[test]
 fn each_bell_wakes_who_sleeps(rt: HostRuntime) -> Result<(), Fail> {
     for bell in [Bell::Round, Bell::Work, Bell::Case, Bell::Rest] {
-        same(sleep(&rt, rt.alloc(), bell)?, 1).expect(&rt, "as due");
+        assert_eq!(&rt; sleep(&rt, rt.alloc(), bell)?, 1);
     }
     Ok(())
 }

@@ -9,7 +9,6 @@ use live_worker::{Untold, run_live};
 use run_rules::{Port, Served};
 use std::alloc::{AllocError, Global};
 use std::test::Fail;
-use test_events::same;
 use text_io::Watched;
 use trace_file::{read_trace, write_trace};
 
@@ -114,7 +113,7 @@ fn runs_end_by_each_answer(rt: HostRuntime) -> Result<(), Fail> {
         }
         let mut ports = Vec::new(alloc);
         ports.push(Answering::new(alloc, next))?;
-        same(script.config().lanes().len(), ports.len()).expect(&rt, "as due");
+        assert_eq!(rt; script.config().lanes().len(), ports.len());
         let run = run_live(&rt, alloc, &script, ports, &Untold)?;
         for port in &run.ports {
             assert!(rt; next < port.next, "{next}: none given");
@@ -123,7 +122,7 @@ fn runs_end_by_each_answer(rt: HostRuntime) -> Result<(), Fail> {
         let mut text = Vec::new(alloc);
         write_trace(alloc, &run.history, &mut Watched::new(&mut text))?;
         let read = read_trace(alloc, &mut Watched::new(text.as_slice()))?;
-        same((next, read.events()), (next, run.history.events())).expect(&rt, "as due");
+        assert_eq!(rt; read.events(), run.history.events(), "to {next}");
     }
     assert!(rt; next >= ANSWERS);
     Ok(())

@@ -9,7 +9,7 @@ use std::process::Abort;
 use std::sync::Wait;
 use std::test::Fail;
 use std::thread::Threads;
-use test_events::{PLAIN, done, freeze, same, send, submit};
+use test_events::{PLAIN, done, freeze, send, submit};
 
 // On one adapter, one device and one lane, each of one opening: a command.
 const ONE: &str = "sim,1,,,,,,\ndev,0,1,0,1,,,\nlane,0,,,,,,\nsubmit,0,0:1:0,1152,4,none,,\n";
@@ -48,11 +48,11 @@ fn gives<R: Threads + Wait + Abort + Sync>(
 ) -> Result<(), Fail> {
     let script = script(alloc, rows)?;
     let run = live(rt, alloc, &script)?;
-    same((rows, run.history.events()), (rows, events)).expect(rt, "as due");
-    same((rows, run.ending), (rows, ending)).expect(rt, "as due");
+    assert_eq!(rt; run.history.events(), events, "{rows}");
+    assert_eq!(rt; run.ending, ending, "{rows}");
     let sim = sim_run(alloc, &script, 1)?;
-    same((rows, sim.history.events()), (rows, events)).expect(rt, "as due");
-    same((rows, sim.ending), (rows, ending)).expect(rt, "as due");
+    assert_eq!(rt; sim.history.events(), events, "{rows}");
+    assert_eq!(rt; sim.ending, ending, "{rows}");
     Ok(())
 }
 
@@ -106,12 +106,12 @@ fn a_run_stops_at_each_limit_of_its_events(rt: HostRuntime) -> Result<(), Fail> 
         let count = run.history.events().len();
         match run.ending {
             Ending::Drained => assert!(rt; count == 6 || count == 10, "{limit}: {count}"),
-            Ending::HistoryFull => same(count, limit as usize).expect(&rt, "as due"),
+            Ending::HistoryFull => assert_eq!(rt; count, limit as usize),
             Ending::RoundsFull => assert!(rt; false, "{limit}: rounds full"),
         }
         if limit > 10 {
-            same((limit, run.ending), (limit, Ending::Drained)).expect(&rt, "as due");
-            same(run.history.commands(), 2).expect(&rt, "as due");
+            assert_eq!(rt; run.ending, Ending::Drained, "{limit}");
+            assert_eq!(rt; run.history.commands(), 2);
         }
     }
     Ok(())

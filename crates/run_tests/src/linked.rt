@@ -6,7 +6,7 @@ use run_rules::Ending;
 use sim_worker::sim_run;
 use std::alloc::Global;
 use std::test::Fail;
-use test_events::{PLAIN, device, freeze, outcome, same, submit};
+use test_events::{PLAIN, device, freeze, outcome, submit};
 use trace_file::{Script, Step};
 
 // Two adapters of one opening behind a link of one opening, each with a device and a lane.
@@ -61,10 +61,10 @@ fn a_run_over_a_narrow_link_takes_two_rounds(rt: HostRuntime) -> Result<(), Fail
         return Err(Fail::new("no script"));
     };
     let run = live(&rt, rt.alloc(), &script)?;
-    same((run.ending, run.history.round()), (Ending::Drained, 2)).expect(&rt, "as due");
+    assert_eq!(rt; (run.ending, run.history.round()), (Ending::Drained, 2));
     for seed in 0..20 {
         let sim = sim_run(rt.alloc(), &script, seed)?;
-        same((sim.ending, sim.history.round()), (Ending::Drained, 2)).expect(&rt, "as due");
+        assert_eq!(rt; (sim.ending, sim.history.round()), (Ending::Drained, 2));
     }
     Ok(())
 }

@@ -11,7 +11,6 @@ use std::alloc::{AllocError, Global};
 use std::sync::atomic::{AtomicBool, Ordering};
 use std::test::Fail;
 use std::thread;
-use test_events::same;
 
 // How often a port that waits looks whether the other one has begun.
 const MOST_TURNS: u32 = 1_000_000;
@@ -97,11 +96,11 @@ fn two_lanes_serve_at_the_same_time(rt: HostRuntime) -> Result<(), Fail> {
     let mut ports = Vec::new(alloc);
     ports.push(Meeting::new(alloc, &one, &other))?;
     ports.push(Meeting::new(alloc, &other, &one))?;
-    same(script.config().lanes().len(), ports.len()).expect(&rt, "as due");
+    assert_eq!(rt; script.config().lanes().len(), ports.len());
     let run = run_live(&rt, alloc, &script, ports, &Untold)?;
-    same(run.ending, Ending::Drained).expect(&rt, "as due");
+    assert_eq!(rt; run.ending, Ending::Drained);
     for port in &run.ports {
-        same(port.served.len(), 1).expect(&rt, "as due");
+        assert_eq!(rt; port.served.len(), 1);
         assert!(rt; !port.gave_up);
     }
     Ok(())

@@ -4,7 +4,6 @@ use crate::scripts::{live, script};
 use sim_worker::sim_run;
 use std::alloc::{AllocError, Global};
 use std::test::Fail;
-use test_events::same;
 
 // What is particular about a script.
 #[derive(Clone, Copy, Debug, PartialEq, Eq)]
@@ -123,7 +122,7 @@ fn a_thousand_scripts_end_as_on_one_thread(rt: HostRuntime) -> Result<(), Fail> 
         let script = script(alloc, rows.as_str())?;
         let run = live(&rt, alloc, &script)?;
         let sim = sim_run(alloc, &script, number as u64)?;
-        same((number, run.ending), (number, sim.ending)).expect(&rt, "as due");
+        assert_eq!(rt; run.ending, sim.ending, "{rows}");
     }
     Ok(())
 }

@@ -6,7 +6,6 @@ use run_rules::Ending;
 use sim_worker::ScriptPort;
 use std::sync::atomic::{AtomicU32, Ordering};
 use std::test::Fail;
-use test_events::same;
 use xpt_state::Look;
 
 // The command comes in round 3.
@@ -38,9 +37,9 @@ fn each_round_and_all_events_are_told(rt: HostRuntime) -> Result<(), Fail> {
         events: AtomicU32::new(0),
     };
     let run = run_live(&rt, alloc, &script, ports, &told)?;
-    same(run.ending, Ending::Drained).expect(&rt, "as due");
+    assert_eq!(rt; run.ending, Ending::Drained);
     // Two rounds opened, and the command was submitted, sent and done.
-    same(told.events.load(Ordering::SeqCst), 5).expect(&rt, "as due");
-    same(told.rounds.load(Ordering::SeqCst), 0b1110).expect(&rt, "as due");
+    assert_eq!(rt; told.events.load(Ordering::SeqCst), 5);
+    assert_eq!(rt; told.rounds.load(Ordering::SeqCst), 0b1110);
     Ok(())
 }

@@ -1,11 +1,8 @@
-//! What tests are made of: adapters, devices, flags, outcomes, events, and a test of equality.
+//! What tests are made of: adapters, devices, flags, outcomes and events.
 #![tactic(auto)]
 
-pub use crate::equality::{Differs, same};
 use cam_event::Event;
 use cam_types::{Adapter, Device, Flags, Outcome, SenseBytes};
-
-mod equality;
 
 /// Neither flag.
 pub const PLAIN: Flags = Flags {

@@ -4,7 +4,6 @@ use cam_types::Priority;
 use sim_queue::{FreezeOverflow, ReleaseTooMany, SimQueue};
 use std::process::Abort;
 use std::test::Fail;
-use test_events::same;
 
 fn set_ready(rt: &impl Abort, queue: &mut SimQueue, device: u32, number: Option<u32>) {
     assert!(rt; queue.has_device(device), "device {device}");
@@ -26,7 +25,7 @@ fn send(rt: &impl Abort, queue: &mut SimQueue, device: u32, place: u32) {
 fn devices_of_one_priority_take_turns(rt: HostRuntime) -> Result<(), Fail> {
     let devices = [0, 1, 4];
     let mut queue = SimQueue::open(rt.alloc(), 255, &devices)?;
-    same(queue.best_ready(), None).expect(&rt, "none is ready");
+    assert_eq!(rt; queue.best_ready(), None, "none is ready");
     for device in devices {
         set_ready(&rt, &mut queue, device, Some(1152));
     }
@@ -37,33 +36,33 @@ fn devices_of_one_priority_take_turns(rt: HostRuntime) -> Result<(), Fail> {
     set_ready(&rt, &mut queue, 1, Some(896));
     send(&rt, &mut queue, 1, 13);
     set_ready(&rt, &mut queue, 1, None);
-    same(queue.best_ready(), Some(4)).expect(&rt, "as due");
+    assert_eq!(rt; queue.best_ready(), Some(4));
     set_ready(&rt, &mut queue, 4, Some(1153));
-    same(queue.best_ready(), Some(0)).expect(&rt, "as due");
+    assert_eq!(rt; queue.best_ready(), Some(0));
     set_ready(&rt, &mut queue, 0, None);
     set_ready(&rt, &mut queue, 0, None);
-    same(queue.best_ready(), Some(4)).expect(&rt, "as due");
+    assert_eq!(rt; queue.best_ready(), Some(4));
     assert!(rt; !queue.has_device(2));
-    same(queue.sent(), 6).expect(&rt, "as due");
+    assert_eq!(rt; queue.sent(), 6);
     Ok(())
 }
 
 #[test]
 fn no_device_has_its_turn_while_frozen_or_without_opening(rt: HostRuntime) -> Result<(), Fail> {
     let mut queue = SimQueue::open(rt.alloc(), 1, &[7])?;
-    same(queue.openings(), 1).expect(&rt, "as due");
+    assert_eq!(rt; queue.openings(), 1);
     set_ready(&rt, &mut queue, 7, Some(0));
-    same(queue.freeze(65_535), Ok(())).expect(&rt, "as due");
-    same(queue.freeze(1), Err(FreezeOverflow)).expect(&rt, "as due");
-    same((queue.frozen(), queue.best_ready()), (true, None)).expect(&rt, "as due");
+    assert_eq!(rt; queue.freeze(65_535), Ok(()));
+    assert_eq!(rt; queue.freeze(1), Err(FreezeOverflow));
+    assert_eq!(rt; (queue.frozen(), queue.best_ready()), (true, None));
     for _ in 0..65_535u32 {
-        same(queue.release(), Ok(())).expect(&rt, "as due");
+        assert_eq!(rt; queue.release(), Ok(()));
     }
-    same(queue.release(), Err(ReleaseTooMany)).expect(&rt, "as due");
-    same((queue.frozen(), queue.callers()), (false, 0)).expect(&rt, "as due");
+    assert_eq!(rt; queue.release(), Err(ReleaseTooMany));
+    assert_eq!(rt; (queue.frozen(), queue.callers()), (false, 0));
     send(&rt, &mut queue, 7, 65_534);
-    same((queue.used(), queue.best_ready()), (true, None)).expect(&rt, "as due");
+    assert_eq!(rt; (queue.used(), queue.best_ready()), (true, None));
     queue.next_round();
-    same((queue.used(), queue.best_ready()), (false, Some(7))).expect(&rt, "as due");
+    assert_eq!(rt; (queue.used(), queue.best_ready()), (false, Some(7)));
     Ok(())
 }

@@ -7,7 +7,7 @@ use cam_event::{Event, Rules};
 use cam_types::Config;
 use std::process::Abort;
 use std::test::Fail;
-use test_events::{PLAIN, device, done, freeze, freeze_sim, release_sim, same, send, submit};
+use test_events::{PLAIN, device, done, freeze, freeze_sim, release_sim, send, submit};
 use xpt_adapters::Adapters;
 use xpt_state::History;
 
@@ -34,7 +34,7 @@ fn of_adapter(
 ) -> (Option<(u32, u32)>, u32, bool) {
     assert!(rt; (adapter as usize) < adapters.devices().config().adapters().len());
     let callers = adapters.callers(adapter);
-    same(callers > 0, adapters.is_frozen(adapter)).expect(rt, "as due");
+    assert_eq!(rt; callers > 0, adapters.is_frozen(adapter));
     (
         adapters.next(adapter).map(|turn| (turn.ccb, turn.device)),
         callers,
@@ -77,10 +77,18 @@ fn devices_of_an_adapter_take_turns(rt: HostRuntime) -> Result<(), Fail> {
     for (event, first, second) in steps {
         append(&rt, &mut history, &mut adapters, &event);
         let place = adapters.devices().events().len();
-        same((place, of_adapter(&rt, &adapters, 0)), (place, first)).expect(&rt, "as due");
-        same((place, of_adapter(&rt, &adapters, 1)), (place, second)).expect(&rt, "as due");
+        assert_eq!(rt;
+            of_adapter(&rt, &adapters, 0),
+            first,
+            "behind {place} events"
+        );
+        assert_eq!(rt;
+            of_adapter(&rt, &adapters, 1),
+            second,
+            "behind {place} events"
+        );
     }
     let (config, kept) = adapters.into_parts();
-    same((config.devices().len(), kept.len()), (3, 17)).expect(&rt, "as due");
+    assert_eq!(rt; (config.devices().len(), kept.len()), (3, 17));
     Ok(())
 }

@@ -8,7 +8,7 @@ use cam_types::Config;
 use std::alloc::Global;
 use std::process::Abort;
 use std::test::Fail;
-use test_events::{PLAIN, device, done, finish, requeue, same, send};
+use test_events::{PLAIN, device, done, finish, requeue, send};
 use xpt_ccbs::Ccbs;
 use xpt_state::History;
 
@@ -67,36 +67,41 @@ fn append_all(rt: &impl Abort, history: &mut History, ccbs: &mut Ccbs, events: &
 fn a_busy_ccb_is_tried_again(rt: HostRuntime) -> Result<(), Fail> {
     let (mut history, mut ccbs) = start(rt.alloc())?;
     append_all(&rt, &mut history, &mut ccbs, &[submit(4), send(0, 0)]);
-    same((ccbs.is_in_flight(0), ccbs.is_recovering(0)), (true, false)).expect(&rt, "as due");
-    same(
+    assert_eq!(rt;
+        (ccbs.is_in_flight(0), ccbs.is_recovering(0)),
+        (true, false)
+    );
+    assert_eq!(rt;
         (ccbs.alive(), ccbs.in_flight_count(), ccbs.class(0)),
-        (1, 1, None),
-    )
-    .expect(&rt, "as due");
+        (1, 1, None)
+    );
     append(&rt, &mut history, &mut ccbs, &done(0, 0x05));
-    same((ccbs.is_in_flight(0), ccbs.is_recovering(0)), (false, true)).expect(&rt, "as due");
-    same((ccbs.in_flight_count(), ccbs.case_count()), (0, 1)).expect(&rt, "as due");
-    same(
+    assert_eq!(rt;
+        (ccbs.is_in_flight(0), ccbs.is_recovering(0)),
+        (false, true)
+    );
+    assert_eq!(rt; (ccbs.in_flight_count(), ccbs.case_count()), (0, 1));
+    assert_eq!(rt;
         (ccbs.next_case(), ccbs.class(0)),
-        (Some(0), Some(Class::CountedRequeue)),
-    )
-    .expect(&rt, "as due");
-    same((ccbs.wants_requeue(0), ccbs.wants_finish(0)), (true, false)).expect(&rt, "as due");
+        (Some(0), Some(Class::CountedRequeue))
+    );
+    assert_eq!(rt;
+        (ccbs.wants_requeue(0), ccbs.wants_finish(0)),
+        (true, false)
+    );
     let again = [requeue(0), Event::Tick, send(0, 0)];
     append_all(&rt, &mut history, &mut ccbs, &again);
-    same(
+    assert_eq!(rt;
         ccbs.ccb(0)
             .map(|ccb| (ccb.counted, ccb.attempt, ccb.submission.driver)),
-        Some((1, 1, 3)),
-    )
-    .expect(&rt, "as due");
+        Some((1, 1, 3))
+    );
     append(&rt, &mut history, &mut ccbs, &done(0, 0x01));
     assert!(rt; ccbs.ccb(0).is_none());
-    same(
+    assert_eq!(rt;
         (ccbs.alive(), ccbs.case_count(), ccbs.class(0)),
-        (0, 0, None),
-    )
-    .expect(&rt, "as due");
+        (0, 0, None)
+    );
     Ok(())
 }
 
@@ -113,26 +118,27 @@ fn a_ccb_without_retries_left_is_finished(rt: HostRuntime) -> Result<(), Fail> {
         done(0, 0x05),
     ];
     append_all(&rt, &mut history, &mut ccbs, &events);
-    same(ccbs.class(0), Some(Class::Fail(Why::Spent))).expect(&rt, "as due");
-    same((ccbs.wants_requeue(0), ccbs.wants_finish(0)), (false, true)).expect(&rt, "as due");
+    assert_eq!(rt; ccbs.class(0), Some(Class::Fail(Why::Spent)));
+    assert_eq!(rt;
+        (ccbs.wants_requeue(0), ccbs.wants_finish(0)),
+        (false, true)
+    );
     append(&rt, &mut history, &mut ccbs, &finish(0));
     for number in [0, 9] {
         assert!(rt;
             ccbs.ccb(number).is_none(),
             "an ended CCB, and one that never was"
         );
-        same(
+        assert_eq!(rt;
             (ccbs.is_in_flight(number), ccbs.is_recovering(number)),
-            (false, false),
-        )
-        .expect(&rt, "as due");
-        same(
+            (false, false)
+        );
+        assert_eq!(rt;
             (ccbs.wants_requeue(number), ccbs.wants_finish(number)),
-            (false, false),
-        )
-        .expect(&rt, "as due");
+            (false, false)
+        );
     }
-    same((ccbs.alive(), ccbs.next_case()), (0, None)).expect(&rt, "as due");
+    assert_eq!(rt; (ccbs.alive(), ccbs.next_case()), (0, None));
     Ok(())
 }
 
@@ -148,8 +154,8 @@ fn cases_stand_in_the_order_of_completion(rt: HostRuntime) -> Result<(), Fail> {
         done(0, 0x04),
     ];
     append_all(&rt, &mut history, &mut ccbs, &events);
-    same((ccbs.case_count(), ccbs.next_case()), (2, Some(1))).expect(&rt, "as due");
+    assert_eq!(rt; (ccbs.case_count(), ccbs.next_case()), (2, Some(1)));
     append(&rt, &mut history, &mut ccbs, &finish(1));
-    same((ccbs.case_count(), ccbs.next_case()), (1, Some(0))).expect(&rt, "as due");
+    assert_eq!(rt; (ccbs.case_count(), ccbs.next_case()), (1, Some(0)));
     Ok(())
 }

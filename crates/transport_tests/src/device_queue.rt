@@ -4,7 +4,6 @@ use cam_types::Priority;
 use dev_queue::{DevQueue, FreezeOverflow, QueueFull, ReleaseTooMany, Waiting};
 use std::process::Abort;
 use std::test::Fail;
-use test_events::same;
 
 fn insert(rt: &impl Abort, queue: &mut DevQueue, ccb: u32, number: u32) -> Result<(), QueueFull> {
     assert!(rt; queue.entered() < u32::MAX);
@@ -19,7 +18,7 @@ fn requeue(rt: &impl Abort, queue: &mut DevQueue, ccb: u32, number: u32) -> Resu
 // Sends the first CCB, which has to be this one.
 fn send(rt: &impl Abort, queue: &mut DevQueue, ccb: u32, qfreeze: bool) {
     assert!(rt; queue.ready(), "CCB {ccb}");
-    same(queue.send(qfreeze).ccb, ccb).expect(rt, "as due");
+    assert_eq!(rt; queue.send(qfreeze).ccb, ccb);
 }
 
 fn done(rt: &impl Abort, queue: &mut DevQueue, freezes: bool) {
@@ -39,13 +38,13 @@ fn a_requeued_ccb_enters_first_in_the_next_round(rt: HostRuntime) -> Result<(), 
     assert!(rt; insert(&rt, &mut queue, 0, 640).is_ok());
     send(&rt, &mut queue, 0, false);
     done(&rt, &mut queue, true);
-    same(queue.errors(), 1).expect(&rt, "as due");
+    assert_eq!(rt; queue.errors(), 1);
     assert!(rt; queue.errors() > 0);
     queue.resolve();
     assert!(rt; requeue(&rt, &mut queue, 0, 640).is_ok());
     assert!(rt; !queue.ready(), "it waits for the next round");
-    same(queue.first().map(|entry| entry.ccb), None).expect(&rt, "as due");
-    same((queue.len(), queue.entered()), (1, 2)).expect(&rt, "as due");
+    assert_eq!(rt; queue.first().map(|entry| entry.ccb), None);
+    assert_eq!(rt; (queue.len(), queue.entered()), (1, 2));
     next_round(&rt, &mut queue);
     assert!(rt; insert(&rt, &mut queue, 1, 640).is_ok());
     assert!(rt; insert(&rt, &mut queue, 2, 128).is_ok());
@@ -53,7 +52,7 @@ fn a_requeued_ccb_enters_first_in_the_next_round(rt: HostRuntime) -> Result<(), 
         send(&rt, &mut queue, ccb, false);
     }
     assert!(rt; !queue.ready(), "the openings of the round are used");
-    same((queue.sent(), queue.in_flight()), (2, 2)).expect(&rt, "as due");
+    assert_eq!(rt; (queue.sent(), queue.in_flight()), (2, 2));
     Ok(())
 }
 
@@ -64,9 +63,9 @@ fn both_kinds_of_entry_count(rt: HostRuntime) -> Result<(), Fail> {
     assert!(rt; !queue.is_full());
     assert!(rt; requeue(&rt, &mut queue, 1, 1152).is_ok());
     assert!(rt; queue.is_full());
-    same(insert(&rt, &mut queue, 2, 0), Err(QueueFull)).expect(&rt, "as due");
-    same(requeue(&rt, &mut queue, 2, 0), Err(QueueFull)).expect(&rt, "as due");
-    same((queue.len(), queue.capacity(), queue.entered()), (2, 2, 2)).expect(&rt, "as due");
+    assert_eq!(rt; insert(&rt, &mut queue, 2, 0), Err(QueueFull));
+    assert_eq!(rt; requeue(&rt, &mut queue, 2, 0), Err(QueueFull));
+    assert_eq!(rt; (queue.len(), queue.capacity(), queue.entered()), (2, 2, 2));
     Ok(())
 }
 
@@ -77,13 +76,13 @@ fn an_adjustment_counts_from_the_next_round(rt: HostRuntime) -> Result<(), Fail>
         assert!(rt; insert(&rt, &mut queue, ccb, 1152).is_ok());
     }
     queue.adjust(2);
-    same(queue.openings(), 1).expect(&rt, "as due");
+    assert_eq!(rt; queue.openings(), 1);
     send(&rt, &mut queue, 0, false);
     assert!(rt; !queue.ready());
     done(&rt, &mut queue, false);
     assert!(rt; !queue.ready(), "a completion gives nothing back");
     next_round(&rt, &mut queue);
-    same((queue.openings(), queue.sent()), (2, 0)).expect(&rt, "as due");
+    assert_eq!(rt; (queue.openings(), queue.sent()), (2, 0));
     send(&rt, &mut queue, 1, false);
     Ok(())
 }
@@ -95,27 +94,25 @@ fn freezes_nest_and_a_release_leaves_those_of_errors(rt: HostRuntime) -> Result<
         assert!(rt; insert(&rt, &mut queue, ccb, 1152).is_ok());
     }
     send(&rt, &mut queue, 0, true);
-    same(
+    assert_eq!(rt;
         (queue.callers(), queue.frozen(), queue.ready()),
-        (1, true, false),
-    )
-    .expect(&rt, "as due");
+        (1, true, false)
+    );
     done(&rt, &mut queue, true);
-    same(queue.release(2), Err(ReleaseTooMany)).expect(&rt, "one is an error's");
-    same(queue.release(1), Ok(())).expect(&rt, "as due");
+    assert_eq!(rt; queue.release(2), Err(ReleaseTooMany), "one is an error's");
+    assert_eq!(rt; queue.release(1), Ok(()));
     assert!(rt; queue.frozen());
     assert!(rt; queue.errors() > 0);
     queue.resolve();
     assert!(rt; queue.ready());
-    same(queue.freeze(65_535), Ok(())).expect(&rt, "as due");
-    same(queue.freeze(1), Err(FreezeOverflow)).expect(&rt, "as due");
-    same(queue.callers(), 65_535).expect(&rt, "as due");
-    same(
+    assert_eq!(rt; queue.freeze(65_535), Ok(()));
+    assert_eq!(rt; queue.freeze(1), Err(FreezeOverflow));
+    assert_eq!(rt; queue.callers(), 65_535);
+    assert_eq!(rt;
         queue
             .first()
             .map(|Waiting { ccb, priority }| (ccb, priority.number())),
-        Some((1, 1152)),
-    )
-    .expect(&rt, "as due");
+        Some((1, 1152))
+    );
     Ok(())
 }

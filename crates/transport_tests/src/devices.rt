@@ -9,7 +9,7 @@ use std::process::Abort;
 use std::test::Fail;
 use test_events::{
     PLAIN, QFREEZE, adjust, device, done, finish, freeze, freeze_sim, release, release_sim,
-    requeue, same, send, submit,
+    requeue, send, submit,
 };
 use xpt_devices::Devices;
 use xpt_state::History;
@@ -58,11 +58,11 @@ fn of_device(
 ) -> (u32, u64, Option<u32>, bool, bool) {
     assert!(rt; (device as usize) < devices.config().devices().len());
     let first = devices.first(device).map(|stay| stay.ccb);
-    same(first.is_some(), devices.has_queued_stay(device)).expect(rt, "as due");
+    assert_eq!(rt; first.is_some(), devices.has_queued_stay(device));
     let ready = devices.is_ready(device);
-    same(devices.ready_priority(device).is_some(), ready).expect(rt, "as due");
+    assert_eq!(rt; devices.ready_priority(device).is_some(), ready);
     let freezes = devices.freeze_count(device);
-    same(freezes > 0, devices.is_frozen(device)).expect(rt, "as due");
+    assert_eq!(rt; freezes > 0, devices.is_frozen(device));
     (
         devices.caller_count(device),
         freezes,
@@ -166,17 +166,20 @@ fn queues_follow_the_events(rt: HostRuntime) -> Result<(), Fail> {
     ];
     for (place, all, first, second) in steps {
         append_to(&rt, &mut history, &mut devices, &events, place);
-        same((place, of_all(&devices)), (place, all)).expect(&rt, "as due");
-        same((place, of_device(&rt, &devices, 0)), (place, first)).expect(&rt, "as due");
-        same((place, of_device(&rt, &devices, 1)), (place, second)).expect(&rt, "as due");
+        assert_eq!(rt; of_all(&devices), all, "behind {place} events");
+        assert_eq!(rt; of_device(&rt, &devices, 0), first, "behind {place} events");
+        assert_eq!(rt;
+            of_device(&rt, &devices, 1),
+            second,
+            "behind {place} events"
+        );
     }
-    same(
+    assert_eq!(rt;
         devices.submission(1).map(|submission| submission.priority),
-        Some(128),
-    )
-    .expect(&rt, "as due");
-    same(devices.rules(), Rules::of_history()).expect(&rt, "as due");
+        Some(128)
+    );
+    assert_eq!(rt; devices.rules(), Rules::of_history());
     let (config, kept) = devices.into_parts();
-    same((config.devices().len(), kept.len()), (2, 18)).expect(&rt, "as due");
+    assert_eq!(rt; (config.devices().len(), kept.len()), (2, 18));
     Ok(())
 }

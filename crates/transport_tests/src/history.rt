@@ -4,7 +4,7 @@ use cam_event::{Event, Refusal, StayName};
 use cam_types::Config;
 use std::alloc::Global;
 use std::test::Fail;
-use test_events::{PLAIN, attention, device, done, freeze, release, requeue, same, send, submit};
+use test_events::{PLAIN, attention, device, done, freeze, release, requeue, send, submit};
 use xpt_state::History;
 
 // One adapter, one device with one opening and one lane.
@@ -41,14 +41,13 @@ fn a_frozen_device_waits_at_a_cost(rt: HostRuntime) -> Result<(), Fail> {
         done(1, 0x01),
     ];
     push_all(&mut history, &events)?;
-    same(history.events(), events.as_slice()).expect(&rt, "as due");
-    same(history.config().devices(), devices.as_slice()).expect(&rt, "as due");
-    same(
+    assert_eq!(rt; history.events(), events.as_slice());
+    assert_eq!(rt; history.config().devices(), devices.as_slice());
+    assert_eq!(rt;
         (history.round(), history.commands(), history.stay_count()),
-        (5, 2, 2),
-    )
-    .expect(&rt, "as due");
-    same((history.unsent(), history.live_cost()), (None, Some(4))).expect(&rt, "as due");
+        (5, 2, 2)
+    );
+    assert_eq!(rt; (history.unsent(), history.live_cost()), (None, Some(4)));
     Ok(())
 }
 
@@ -71,14 +70,13 @@ fn a_requeued_command_is_a_stay_more(rt: HostRuntime) -> Result<(), Fail> {
     ];
     push_all(&mut history, &events)?;
     let requeued = StayName { ccb: 0, attempt: 1 };
-    same(
+    assert_eq!(rt;
         (history.unsent(), history.live_cost()),
-        (Some(requeued), None),
-    )
-    .expect(&rt, "as due");
+        (Some(requeued), None)
+    );
     history.push(send(0, 0))?;
-    same((history.commands(), history.stay_count()), (2, 3)).expect(&rt, "as due");
-    same(history.live_cost(), Some(20)).expect(&rt, "as due");
+    assert_eq!(rt; (history.commands(), history.stay_count()), (2, 3));
+    assert_eq!(rt; history.live_cost(), Some(20));
     Ok(())
 }
 
@@ -87,8 +85,8 @@ fn a_refused_event_is_not_kept(rt: HostRuntime) -> Result<(), Fail> {
     let mut history = frame(rt.alloc(), 1)?;
     history.push(submit(0, 1152, 4, PLAIN))?;
     history.push(send(0, 0))?;
-    same(history.push(send(0, 0)), Err(Refusal::NotQueued)).expect(&rt, "as due");
-    same(history.events().len(), 2).expect(&rt, "as due");
+    assert_eq!(rt; history.push(send(0, 0)), Err(Refusal::NotQueued));
+    assert_eq!(rt; history.events().len(), 2);
     Ok(())
 }
 
@@ -96,8 +94,8 @@ fn a_refused_event_is_not_kept(rt: HostRuntime) -> Result<(), Fail> {
 fn refusals_print_their_names(rt: HostRuntime) -> Result<(), Fail> {
     let alloc = rt.alloc();
     let full = format!(in alloc; "{}", Refusal::HistoryFull(65535))?;
-    same(full.as_str(), "HistoryFull").expect(&rt, "as due");
+    assert_eq!(rt; full.as_str(), "HistoryFull");
     let of_turn = format!(in alloc; "{}", Refusal::NotHead)?;
-    same(of_turn.as_str(), "NotHead").expect(&rt, "as due");
+    assert_eq!(rt; of_turn.as_str(), "NotHead");
     Ok(())
 }

@@ -2,7 +2,7 @@
 
 use cam_event::{Class, Sense, Why, classify, kind_of, read_sense};
 use cam_types::{Outcome, SenseBytes};
-use test_events::{outcome, same};
+use test_events::outcome;
 
 #[test]
 fn forms_of_sense(rt: HostRuntime) {
@@ -24,11 +24,11 @@ fn forms_of_sense(rt: HostRuntime) {
         asc: 0,
         ascq: 0,
     };
-    same(read_sense(&[0x70, 0x00]), None).expect(&rt, "as due");
-    same(read_sense(&[0x72, 0x06, 0x29, 0x00]), Some(unit_attention)).expect(&rt, "as due");
-    same(read_sense(&[0x71, 0x00, 0x06]), Some(deferred)).expect(&rt, "as due");
-    same(read_sense(&[0xf0, 0x00, 0x03]), Some(medium_error)).expect(&rt, "as due");
-    same(read_sense(&[0x7e, 0x00, 0x06]), None).expect(&rt, "as due");
+    assert_eq!(rt; read_sense(&[0x70, 0x00]), None);
+    assert_eq!(rt; read_sense(&[0x72, 0x06, 0x29, 0x00]), Some(unit_attention));
+    assert_eq!(rt; read_sense(&[0x71, 0x00, 0x06]), Some(deferred));
+    assert_eq!(rt; read_sense(&[0xf0, 0x00, 0x03]), Some(medium_error));
+    assert_eq!(rt; read_sense(&[0x7e, 0x00, 0x06]), None);
 }
 
 #[test]
@@ -48,22 +48,20 @@ fn classes_of_results(rt: HostRuntime) {
             sense: SenseBytes::first(sense),
         };
         let given = classify(&outcome, 0, 1);
-        same((status, given), (status, class)).expect(&rt, "as due");
-        same(given.asks_finish(), matches!(class, Class::Fail(_))).expect(&rt, "as due");
-        same(
+        assert_eq!(rt; given, class, "of status {status}");
+        assert_eq!(rt; given.asks_finish(), matches!(class, Class::Fail(_)));
+        assert_eq!(rt;
             given.asks_requeue(),
-            matches!(class, Class::FreeRequeue | Class::CountedRequeue),
-        )
-        .expect(&rt, "as due");
-        same(
+            matches!(class, Class::FreeRequeue | Class::CountedRequeue)
+        );
+        assert_eq!(rt;
             kind_of(&outcome).is_counted(),
-            class == Class::CountedRequeue,
-        )
-        .expect(&rt, "as due");
+            class == Class::CountedRequeue
+        );
     }
 }
 
 #[test]
 fn a_spent_ccb_fails(rt: HostRuntime) {
-    same(classify(&outcome(0x0b), 1, 1), Class::Fail(Why::Spent)).expect(&rt, "as due");
+    assert_eq!(rt; classify(&outcome(0x0b), 1, 1), Class::Fail(Why::Spent));
 }

@@ -7,7 +7,7 @@ use std::alloc::Global;
 use std::test::Fail;
 use test_events::{
     PLAIN, QFRZDIS, adjust, attention, device, done, finish, freeze, freeze_sim, outcome, release,
-    release_sim, requeue, same, send,
+    release_sim, requeue, send,
 };
 use xpt_state::{Case, Done, Idle, Look, Reply};
 
@@ -99,22 +99,22 @@ fn a_busy_command_is_sent_again_in_the_next_round(rt: HostRuntime) -> Result<(),
         cases: 0,
         waiting: 1,
     };
-    same(both.xpt.look(), ready).expect(&rt, "as due");
+    assert_eq!(rt; both.xpt.look(), ready);
     both.take(
         &rt,
         &[(send(0, 0), command(0, 1, 0, 1152)), (done(0, 0x01), GOOD)],
     );
-    same(both.xpt.events().len(), 7).expect(&rt, "as due");
+    assert_eq!(rt; both.xpt.events().len(), 7);
     both.end(&rt, rt.alloc())
 }
 
 #[test]
 fn what_was_given_is_given_back(rt: HostRuntime) -> Result<(), Fail> {
     let both = open(rt.alloc(), 2, &[2], Limits::most())?;
-    same(both.xpt.rules(), Rules::of(Limits::most())).expect(&rt, "as due");
-    same(both.xpt.config().devices().len(), 1).expect(&rt, "as due");
+    assert_eq!(rt; both.xpt.rules(), Rules::of(Limits::most()));
+    assert_eq!(rt; both.xpt.config().devices().len(), 1);
     assert!(rt; both.xpt.events().is_empty());
-    same(both.xpt.next_case(), None).expect(&rt, "as due");
+    assert_eq!(rt; both.xpt.next_case(), None);
     Ok(())
 }
 
@@ -146,9 +146,9 @@ fn the_cases_are_told_in_the_order_of_completion(rt: HostRuntime) -> Result<(), 
     ];
     for (steps, case, cases, in_flight) in runs {
         both.take(&rt, steps);
-        same(both.xpt.next_case(), case).expect(&rt, "as due");
+        assert_eq!(rt; both.xpt.next_case(), case);
         let look = both.xpt.look();
-        same((look.cases, look.in_flight), (cases, in_flight)).expect(&rt, "as due");
+        assert_eq!(rt; (look.cases, look.in_flight), (cases, in_flight));
     }
     both.end(&rt, rt.alloc())
 }
@@ -191,7 +191,7 @@ fn a_second_ccb_is_one_too_many(rt: HostRuntime) -> Result<(), Fail> {
         (submit(0, 1152, 4, PLAIN), Due::Limited(Refusal::CcbFull)),
     ];
     both.take(&rt, &steps);
-    same(both.xpt.rules(), Rules::of(limits)).expect(&rt, "as due");
+    assert_eq!(rt; both.xpt.rules(), Rules::of(limits));
     both.end(&rt, rt.alloc())
 }
 
@@ -220,7 +220,7 @@ fn a_full_history_refuses_every_further_event(rt: HostRuntime) -> Result<(), Fai
         (adjust(0, 1), full),
     ];
     both.take(&rt, &steps);
-    same(both.xpt.next_case(), None).expect(&rt, "as due");
+    assert_eq!(rt; both.xpt.next_case(), None);
     both.end(&rt, rt.alloc())
 }
 
@@ -234,7 +234,7 @@ fn a_frozen_device_keeps_its_command(rt: HostRuntime) -> Result<(), Fail> {
     ];
     both.take(&rt, &steps);
     let look = both.xpt.look();
-    same((look.length, look.heads, look.waiting), (2, 0, 1)).expect(&rt, "as due");
+    assert_eq!(rt; (look.length, look.heads, look.waiting), (2, 0, 1));
     both.end(&rt, rt.alloc())
 }
 
@@ -256,7 +256,7 @@ fn the_first_cause_of_idleness_is_named(rt: HostRuntime) -> Result<(), Fail> {
         (send(0, 1), Due::Idle(Idle::AdapterBusy)),
     ];
     both.take(&rt, &steps);
-    same(both.xpt.look().heads, 0).expect(&rt, "as due");
+    assert_eq!(rt; both.xpt.look().heads, 0);
     both.end(&rt, rt.alloc())
 }
 
@@ -270,7 +270,7 @@ fn causes_of_idleness_print_their_names(rt: HostRuntime) -> Result<(), Fail> {
     ];
     for (idle, name) in cases {
         let printed = format!(in rt.alloc(); "{}", idle)?;
-        same(printed.as_str(), name).expect(&rt, "as due");
+        assert_eq!(rt; printed.as_str(), name);
     }
     Ok(())
 }

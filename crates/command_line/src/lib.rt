@@ -7,3 +7,4 @@ pub use subcommands::command;
 mod completion;
 mod shell;
 mod subcommands;
+mod word;

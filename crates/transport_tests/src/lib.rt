@@ -1,28 +1,20 @@
-//! Tests of the transport: its slots, queues and layers, histories, and whole runs, by their public calls. They stand
-//! here so that no crate is proved twice for its tests.
+//! Tests of a transport's slots, heap and sense data, and of its seats, receipts and gathering, by their public calls. They
+//! stand here so that no crate is proved twice for its tests.
 #![tactic(auto)]
 
 #[cfg(test)]
-mod adapter_queue;
+mod bells;
 #[cfg(test)]
-mod adapters;
-#[cfg(test)]
-mod both;
+mod calls;
 #[cfg(test)]
 mod ccb_slots;
 #[cfg(test)]
-mod ccbs;
-#[cfg(test)]
-mod device_queue;
-#[cfg(test)]
-mod devices;
+mod frame;
 #[cfg(test)]
 mod heap;
 #[cfg(test)]
-mod history;
+mod seats;
 #[cfg(test)]
 mod sense;
 #[cfg(test)]
-mod transport;
-#[cfg(test)]
-mod transport_runs;
+mod threads;

@@ -1,0 +1,123 @@
+//! Makes the calls that standard input lists on transports, in order. Without a word it tells what came of each in each run,
+//! and where a transport that takes the same events, a history of them or the layers below give something else. With `alone`
+//! it makes those of the first run on one transport alone and tells what came of each. With a number it makes them on so many
+//! transports, one after the other, and tells how many events there were and the processor time that the calls took.
+#![tactic(auto)]
+
+mod answer;
+mod call;
+mod doors;
+mod fault;
+mod layers;
+mod line;
+mod maker;
+mod opening;
+mod script;
+
+use answer::Answer;
+use call::Call;
+use doors::Doors;
+use fault::Fault;
+use script::Script;
+use std::process::ExitCode;
+use std::rt::Runtime;
+use std::time::{CpuClock, Duration};
+use std::{env, io};
+use xpt_state::Reply;
+
+fn main(rt: HostRuntime) -> io::Result<ExitCode> {
+    match run(&rt) {
+        Ok(()) => Ok(ExitCode::SUCCESS),
+        Err(fault) => {
+            eprintln!(rt; "transport_calls: {fault}")?;
+            Ok(ExitCode::FAILURE)
+        }
+    }
+}
+
+fn run<R: Runtime + AllocGlobal + CpuClock>(rt: &R) -> Result<(), Fault> {
+    let words: Vec<String> = env::args(rt)?.collect(rt.alloc())?;
+    let text = io::read_to_string(rt.alloc(), rt.reader())?;
+    let scripts = Script::read_all(rt.alloc(), &text)?;
+    let Some(word) = words.get(1) else {
+        for script in &scripts {
+            beside(rt, script)?;
+        }
+        return Ok(());
+    };
+    let Some(script) = scripts.first() else {
+        return Err(Fault::NoRun);
+    };
+    let mut answers = vec![in rt.alloc(); Answer::Done(Reply::Nothing); script.lines.len()]?;
+    if word.as_str() == "alone" {
+        return alone(rt, script, &mut answers);
+    }
+    match word.parse() {
+        Ok(count) => time(rt, script, &mut answers, count),
+        Err(_) => Err(Fault::Word),
+    }
+}
+
+// Tells what came of each call, and where the doors differ.
+fn beside<R: Print + AllocGlobal>(rt: &R, script: &Script<'_>) -> Result<(), Fault> {
+    println!(rt; "== {}", script.name)?;
+    let mut doors = Doors::open(rt.alloc(), &script.opening)?;
+    for line in &script.lines {
+        print!(rt; "{}: ", line.text)?;
+        if let Call::Layer(layer) = line.call {
+            doors.tell(rt, layer)?;
+            continue;
+        }
+        let (answer, agree) = doors.make(line.call);
+        println!(rt;
+            "{answer}{}",
+            if agree { "" } else { ", but not by all doors" }
+        )?;
+    }
+    if !doors.end(rt.alloc(), &script.opening)? {
+        println!(rt; "the doors differ in the end")?;
+    }
+    Ok(())
+}
+
+// `opened` and `called` stand between the requests for memory of `open`, of the calls and of `into_history`.
+fn alone<R: Print + AllocGlobal>(
+    rt: &R,
+    script: &Script<'_>,
+    answers: &mut [Answer],
+) -> Result<(), Fault> {
+    let mut xpt = script.open(rt.alloc())?;
+    println!(rt; "opened")?;
+    script.make(&mut xpt, answers);
+    println!(rt; "called")?;
+    let history = xpt.into_history(rt.alloc())?;
+    println!(rt; "history of {} events", history.events().len())?;
+    for answer in answers.iter() {
+        println!(rt; "{answer}")?;
+    }
+    Ok(())
+}
+
+fn time<R: Print + AllocGlobal + CpuClock>(
+    rt: &R,
+    script: &Script<'_>,
+    answers: &mut [Answer],
+    count: u32,
+) -> Result<(), Fault> {
+    let mut events = 0usize;
+    let mut taken = Duration::ZERO;
+    for _ in 0..count {
+        let mut xpt = script.open(rt.alloc())?;
+        let start = rt.process_cpu_time()?;
+        script.make(&mut xpt, answers);
+        let end = rt.process_cpu_time()?;
+        taken = taken.saturating_add(end.saturating_sub(start));
+        events = events.saturating_add(xpt.events().len());
+    }
+    println!(rt;
+        "{events} events {}.{:09} s",
+        taken.as_secs(),
+        taken.subsec_nanos()
+    )?;
+    Ok(())
+}

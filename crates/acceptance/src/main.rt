@@ -1,13 +1,17 @@
-//! Checks each of the recorded traces in `data/` and audits some of them, tells what the scripts there ask for, and prints what
-//! comes of it. With the word `script` it reads a script from standard input instead, and with `trace` it reads a trace from
-//! there and writes it again.
+//! Does the runs that standard input lists, a line each, over the traces and scripts in `data/`, and prints what comes of each. With
+//! the word `script` it reads a script from standard input instead, and with `trace` it reads a trace from there and writes it
+//! again.
 #![tactic(auto)]
 
-use scripts::{show, show_scripts, write_again};
+use runs::do_runs;
+use scripts::show_script;
 use std::{env, io};
-use traces::show_traces;
+use traces::write_again;
 
+mod nets;
+mod runs;
 mod scripts;
+mod spellings;
 mod traces;
 
 fn main(rt: HostRuntime) -> io::Result<()> {
@@ -17,11 +21,8 @@ fn main(rt: HostRuntime) -> io::Result<()> {
         None => "",
     };
     match word {
-        "script" => show(&rt, rt.reader()),
+        "script" => show_script(&rt, rt.reader()),
         "trace" => write_again(&rt, rt.reader()),
-        _ => {
-            show_traces(&rt)?;
-            show_scripts(&rt)
-        }
+        _ => do_runs(&rt),
     }
 }

@@ -1,65 +1,51 @@
-//! What scripts ask for, and traces written again.
+//! What scripts ask for.
 
-use std::fs::File;
 use std::io;
 use std::io::Read;
-use std::rt::Files;
 use text_io::Watched;
-use trace_file::{Script, read_script, read_trace, write_trace};
-
-const SCRIPTS: [&str; 4] = [
-    "script-one-command",
-    "script-two-drivers",
-    "script-timeout-requeued",
-    "script-freeze-released-later",
-];
-
-/// Prints what each script asks for.
-pub fn show_scripts<R: Files + Print + AllocGlobal>(rt: &R) -> io::Result<()> {
-    for name in SCRIPTS {
-        println!(rt; "== {name}")?;
-        let path = format!(in rt.alloc(); "{name}.csv")?;
-        show(rt, File::open(rt, path.as_str())?)?;
-    }
-    Ok(())
-}
+use trace_file::{Script, read_script};
 
 /// Prints what a script asks for, or why it is none.
-pub fn show<R: Print + AllocGlobal>(rt: &R, script: impl Read + Drop) -> io::Result<()> {
+pub fn show_script<R: Print + AllocGlobal>(rt: &R, script: impl Read + Drop) -> io::Result<()> {
     match read_script(rt.alloc(), &mut Watched::new(script)) {
-        Ok(script) => tell(rt, &script),
+        Ok(script) => {
+            let limits = script.limits();
+            println!(rt;
+                "ccbs {} rounds {} stays {} events {}",
+                limits.ccbs(),
+                limits.rounds(),
+                limits.stays(),
+                limits.events()
+            )?;
+            show_steps(rt, &script)?;
+            show_answers(rt, &script)
+        }
         Err(fault) => rt.println(fault),
     }
 }
 
-fn tell<R: Print>(rt: &R, script: &Script) -> io::Result<()> {
-    let limits = script.limits();
-    println!(rt;
-        "ccbs {} rounds {} stays {} events {}",
-        limits.ccbs(),
-        limits.rounds(),
-        limits.stays(),
-        limits.events()
-    )?;
+// The steps of each driver, a line each.
+fn show_steps<R: Print>(rt: &R, script: &Script) -> io::Result<()> {
     for (driver, steps) in script.drivers().iter().enumerate() {
-        if !steps.is_empty() {
-            println!(rt; "driver {driver} steps {}", steps.len())?;
+        println!(rt; "driver {driver} steps {}", steps.len())?;
+        for step in steps {
+            println!(rt; "{step:?}")?;
         }
-    }
-    for (lane, answers) in script.answers().iter().enumerate() {
-        println!(rt; "lane {lane} answers {}", answers.len())?;
     }
     Ok(())
 }
 
-/// Prints a trace in its plain form, or why it is none or wasn't written.
-pub fn write_again<R: Print + AllocGlobal>(rt: &R, trace: impl Read + Drop) -> io::Result<()> {
-    let history = match read_trace(rt.alloc(), &mut Watched::new(trace)) {
-        Ok(history) => history,
-        Err(fault) => return rt.println(fault),
-    };
-    match write_trace(rt.alloc(), &history, &mut Watched::new(io::writer(rt))) {
-        Ok(()) => Ok(()),
-        Err(fault) => rt.println(fault),
+// What each lane answers, a line for each answer, with the numbers in decimal.
+fn show_answers<R: Print>(rt: &R, script: &Script) -> io::Result<()> {
+    for (lane, answers) in script.answers().iter().enumerate() {
+        println!(rt; "lane {lane} answers {}", answers.len())?;
+        for answer in answers {
+            let (status, scsi) = (answer.status, answer.scsi);
+            println!(rt;
+                "status {status} scsi {scsi} sense {:?}",
+                answer.sense.bytes()
+            )?;
+        }
     }
+    Ok(())
 }

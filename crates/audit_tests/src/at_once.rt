@@ -1,8 +1,7 @@
 //! Adapters planned at once.
 
 use crate::texts::{FROZEN, TWO_ADAPTERS};
-use audit_report::{run_audit, run_audit_with};
-use cost_plan::{Gate, OpenGate, plan_with};
+use cost_plan::{Gate, plan_with};
 use round_net::{Net, cost};
 use std::alloc::Global;
 use std::sync::atomic::{AtomicBool, Ordering};
@@ -58,9 +57,12 @@ fn each_adapter_begins_before_the_other_is_planned(rt: HostRuntime) -> Result<()
     let net = net(rt.alloc(), TWO_ADAPTERS)?;
     let gate = Meeting::new();
     let best = plan_with(&rt, rt.alloc(), &net, &gate)?;
-    assert!(rt; gate.are_both_here());
-    assert!(rt; !gate.gave_up.load(Ordering::SeqCst));
-    assert_eq!(rt; cost(&net, &best.schedule), Some(3));
+    let given = (
+        gate.are_both_here(),
+        gate.gave_up.load(Ordering::SeqCst),
+        cost(&net, &best.schedule),
+    );
+    assert_eq!(rt; given, (true, false, Some(3)));
     Ok(())
 }
 
@@ -69,23 +71,15 @@ fn the_gate_is_told_of_the_one_adapter_there_is(rt: HostRuntime) -> Result<(), F
     let net = net(rt.alloc(), FROZEN)?;
     let gate = Meeting::new();
     let best = plan_with(&rt, rt.alloc(), &net, &gate)?;
-    assert!(rt; gate.here[0].load(Ordering::SeqCst) && !gate.here[1].load(Ordering::SeqCst));
-    assert!(rt; gate.gave_up.load(Ordering::SeqCst));
-    assert_eq!(rt; cost(&net, &best.schedule), Some(2));
-    Ok(())
-}
-
-#[test]
-fn an_audit_of_adapters_at_once_says_the_same(rt: HostRuntime) -> Result<(), Fail> {
-    let mut alone = Vec::new(rt.alloc());
-    let mut trace = Watched::new(TWO_ADAPTERS.as_bytes());
-    run_audit(rt.alloc(), &mut trace, &mut Watched::new(&mut alone), true)?;
-    let mut at_once = Vec::new(rt.alloc());
-    let mut trace = Watched::new(TWO_ADAPTERS.as_bytes());
-    let mut out = Watched::new(&mut at_once);
-    run_audit_with(&rt, rt.alloc(), &mut trace, &mut out, true, &OpenGate)?;
-    let want = b"camaudit 1\ncommands 4\nstays 4\nrounds 5\nlive 20\nbest 3\nexcess 17\n";
-    assert_eq!(rt; alone.as_slice(), want.as_slice());
-    assert_eq!(rt; at_once.as_slice(), want.as_slice());
+    let here = [
+        gate.here[0].load(Ordering::SeqCst),
+        gate.here[1].load(Ordering::SeqCst),
+    ];
+    let given = (
+        here,
+        gate.gave_up.load(Ordering::SeqCst),
+        cost(&net, &best.schedule),
+    );
+    assert_eq!(rt; given, ([true, false], true, Some(2)));
     Ok(())
 }

@@ -1,92 +1,125 @@
-//! Readers and writers that fail, and what a check answers then.
+//! Readers and writers that fail, and what is answered then.
 
 use crate::fakes::{Pieces, Taker};
-use crate::texts::{FROZEN, ONE_COMMAND};
-use audit_report::{AuditFault, run_check};
-use std::alloc::Global;
+use crate::texts::{FROZEN, ONE_COMMAND, REPORT, SCRIPT};
+use audit_report::{AuditFault, read_net, run_check};
+use price_check::{ReportFault, read_report};
 use std::test::Fail;
 use text_io::Watched;
-use trace_file::TraceFault;
+use trace_file::{TraceFault, WriteFault, read_script, read_trace, write_trace};
 
 const LINES: &[u8] = b"camcheck 1\ncommands 1\nstays 1\nrounds 1\nlive 0\n";
 
-/// What a check of the trace answers, whose reads end after so many, and what it wrote.
-fn checked(
-    alloc: Global,
-    trace: &[u8],
-    piece: usize,
-    good: usize,
-) -> (Result<(), AuditFault>, Vec<u8>) {
-    let mut trace = Watched::new(Pieces {
-        rest: trace,
+// A reader that gives so many bytes a read, and fails once `good` reads are done.
+fn reader(text: &str, piece: usize, good: usize) -> Watched<Pieces<'_>> {
+    Watched::new(Pieces {
+        rest: text.as_bytes(),
         piece,
         good,
-    });
-    let mut text = Vec::new(alloc);
-    let answer = run_check(alloc, &mut trace, &mut Watched::new(&mut text));
-    (answer, text)
+    })
+}
+
+// A writer that has room for so many bytes. The next write fails, or takes nothing.
+fn taker(taken: Vec<u8>, room: usize, fails: bool) -> Taker {
+    Taker {
+        taken,
+        piece: usize::MAX,
+        room,
+        fails,
+        flushes: true,
+    }
+}
+
+// Each read gives a byte; the one behind the last byte finds the end.
+#[test]
+fn a_failed_read_is_no_end(rt: HostRuntime) -> Result<(), Fail> {
+    let (history, net) = read_net(rt.alloc(), &mut Watched::new(FROZEN.as_bytes()))?;
+    for good in 0..200 {
+        let mut input = reader(ONE_COMMAND, 1, good);
+        let fault = read_trace(rt.alloc(), &mut input).err();
+        let fails = good <= ONE_COMMAND.len();
+        let due = if fails {
+            Some(TraceFault::ReadFailed)
+        } else {
+            None
+        };
+        assert_eq!(rt; (input.failed(), fault), (fails, due), "a trace, {good}");
+
+        let mut input = reader(SCRIPT, 1, good);
+        let fault = read_script(rt.alloc(), &mut input).err();
+        let fails = good <= SCRIPT.len();
+        let due = if fails {
+            Some(TraceFault::ReadFailed)
+        } else {
+            None
+        };
+        assert_eq!(rt; (input.failed(), fault), (fails, due), "a script, {good}");
+
+        let mut input = reader(REPORT, 1, good);
+        let fault = read_report(rt.alloc(), &mut input, &history, &net).err();
+        let fails = good <= REPORT.len();
+        let due = if fails {
+            Some(ReportFault::ReadFailed)
+        } else {
+            None
+        };
+        assert_eq!(rt; (input.failed(), fault), (fails, due), "a report, {good}");
+    }
+    Ok(())
 }
 
 #[test]
-fn a_byte_a_read_is_the_same_trace(rt: HostRuntime) {
-    let (answer, text) = checked(rt.alloc(), ONE_COMMAND.as_bytes(), 1, usize::MAX);
-    assert_eq!(rt; answer, Ok(()));
-    assert_eq!(rt; text.as_slice(), LINES);
-}
-
-#[test]
-fn each_read_may_fail(rt: HostRuntime) {
+fn a_check_writes_nothing_where_a_read_fails(rt: HostRuntime) {
     let needed = ONE_COMMAND.len().div_ceil(10) + 1;
-    for reads in 0..needed {
-        let (answer, text) = checked(rt.alloc(), ONE_COMMAND.as_bytes(), 10, reads);
+    for (piece, good) in (0..needed + 1)
+        .map(|good| (10, good))
+        .chain([(1, usize::MAX)])
+    {
+        let mut text = Vec::new(rt.alloc());
+        let mut out = Watched::new(&mut text);
+        let answer = run_check(rt.alloc(), &mut reader(ONE_COMMAND, piece, good), &mut out);
+        let due = if good < needed {
+            (
+                Err(AuditFault::Trace(TraceFault::ReadFailed)),
+                b"".as_slice(),
+            )
+        } else {
+            (Ok(()), LINES)
+        };
         assert_eq!(rt;
-            answer,
-            Err(AuditFault::Trace(TraceFault::ReadFailed)),
-            "after {reads}"
+            (answer, text.as_slice()),
+            due,
+            "{good} reads of {piece} bytes"
         );
-        assert!(rt; text.is_empty());
-    }
-    let (answer, _text) = checked(rt.alloc(), ONE_COMMAND.as_bytes(), 10, needed);
-    assert_eq!(rt; answer, Ok(()));
-}
-
-#[test]
-fn each_front_of_a_trace_is_answered_in_whole(rt: HostRuntime) {
-    for trace in [ONE_COMMAND, FROZEN] {
-        for end in 0..trace.len() {
-            let (answer, text) = checked(rt.alloc(), &trace.as_bytes()[..end], 4096, usize::MAX);
-            if answer.is_err() {
-                assert!(rt; text.is_empty(), "of {end} bytes");
-            } else {
-                assert!(rt; text.starts_with(b"camcheck 1\n"), "of {end} bytes");
-                assert!(rt; text.ends_with(b"\n"), "of {end} bytes");
-            }
-        }
     }
 }
 
 #[test]
-fn each_write_may_fail(rt: HostRuntime) -> Result<(), Fail> {
-    for fails in [false, true] {
-        for room in 0..LINES.len() {
-            let mut out = Taker {
-                taken: Vec::new(rt.alloc()),
-                piece: usize::MAX,
-                room,
-                fails,
-                flushes: true,
-            };
-            let answer = run_check(
-                rt.alloc(),
-                &mut Watched::new(ONE_COMMAND.as_bytes()),
-                &mut Watched::new(&mut out),
-            );
+fn a_failed_write_leaves_the_front(rt: HostRuntime) -> Result<(), Fail> {
+    let history = read_trace(rt.alloc(), &mut Watched::new(ONE_COMMAND.as_bytes()))?;
+    for fails in [true, false] {
+        for room in 0..ONE_COMMAND.len() {
+            let mut out = taker(Vec::new(rt.alloc()), room, fails);
+            let mut writer = Watched::new(&mut out);
+            let answer = write_trace(rt.alloc(), &history, &mut writer);
+            let given = (answer, writer.failed(), out.taken.as_slice());
+            let front = &ONE_COMMAND.as_bytes()[..room];
             assert_eq!(rt;
-                answer,
-                Err(AuditFault::WriteFailed),
-                "with room for {room}"
+                given,
+                (Err(WriteFault::WriteFailed), true, front),
+                "a trace, {room}"
             );
-            assert_eq!(rt; out.taken.as_slice(), &LINES[..room]);
+        }
+        for room in 0..LINES.len() {
+            let mut out = taker(Vec::new(rt.alloc()), room, fails);
+            let mut trace = Watched::new(ONE_COMMAND.as_bytes());
+            let answer = run_check(rt.alloc(), &mut trace, &mut Watched::new(&mut out));
+            let given = (answer, out.taken.as_slice());
+            assert_eq!(rt;
+                given,
+                (Err(AuditFault::WriteFailed), &LINES[..room]),
+                "a check, {room}"
+            );
         }
     }
     Ok(())

@@ -1,8 +1,9 @@
 //! Histories of many stays, made by a transport.
 
-use cam_types::{Config, Device, Flags, Limits, Outcome, SenseBytes};
+use cam_types::{Config, Device, Flags, Limits, Outcome};
 use std::alloc::Global;
 use std::test::Fail;
+use test_events::attention;
 use xpt_state::{History, Sent, Xpt};
 
 const ADAPTERS: u8 = 4;
@@ -144,15 +145,4 @@ fn send(
         }
     }
     Ok(())
-}
-
-/// A unit attention: the device was reset.
-pub(crate) fn attention() -> Outcome {
-    Outcome {
-        status: 0x0c,
-        scsi: 0x02,
-        sense: SenseBytes::first(&[
-            0x70, 0x00, 0x06, 0x00, 0x00, 0x00, 0x00, 0x0a, 0x00, 0x00, 0x00, 0x00, 0x29, 0x00,
-        ]),
-    }
 }

@@ -1,12 +1,13 @@
 //! Small nets made by chance, each planned and searched through.
 
-use crate::made::{Dice, attention};
+use crate::made::Dice;
 use crate::search::least_cost;
 use cam_types::{Config, Device, Flags, Limits, Outcome};
 use cost_plan::{OpenGate, plan, plan_with};
 use round_net::{Net, cost};
 use std::alloc::Global;
 use std::test::Fail;
+use test_events::attention;
 use xpt_state::{History, Sent, Xpt};
 
 const NETS: u32 = 1_000;
@@ -29,10 +30,10 @@ fn a_plan_of_a_small_net_costs_the_least(rt: HostRuntime) -> Result<(), Fail> {
         }
         let net = Net::of(alloc, &history)?;
         let least = least_cost(alloc, &net)?;
-        let best = plan(alloc, &net)?;
-        assert_eq!(rt; cost(&net, &best.schedule), least, "seed {seed}");
-        let best = plan_with(&rt, alloc, &net, &OpenGate)?;
-        assert_eq!(rt; cost(&net, &best.schedule), least, "seed {seed}, at once");
+        let alone = plan(alloc, &net)?;
+        let at_once = plan_with(&rt, alloc, &net, &OpenGate)?;
+        let costs = [cost(&net, &alone.schedule), cost(&net, &at_once.schedule)];
+        assert_eq!(rt; costs, [least, least], "seed {seed}, alone and at once");
         nets = nets.saturating_add(1);
         closed = closed.saturating_add(u32::from(has_closed_cell(&net)));
         cut = cut.saturating_add(u32::from(has_cut_window(&net)));
@@ -40,10 +41,9 @@ fn a_plan_of_a_small_net_costs_the_least(rt: HostRuntime) -> Result<(), Fail> {
     }
     // Many of the nets have a device that takes none in some round, many have a window that ends before the last round, and
     // of many the live schedule wasn't best.
-    assert_eq!(rt; nets, NETS);
     assert!(rt;
-        closed > NETS / 4 && cut > NETS / 4 && dear > NETS / 4,
-        "{closed} {cut} {dear}"
+        nets == NETS && closed > NETS / 4 && cut > NETS / 4 && dear > NETS / 4,
+        "{nets} {closed} {cut} {dear}"
     );
     Ok(())
 }

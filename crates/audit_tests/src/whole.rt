@@ -6,47 +6,44 @@ use std::test::Fail;
 use text_io::{Watched, WholeFault, read_whole, write_whole};
 
 #[test]
-fn reads_to_the_end_or_to_the_first_error(rt: HostRuntime) -> Result<(), Fail> {
+fn reads_to_the_end_or_to_the_first_error(rt: HostRuntime) {
     // Five reads: two bytes, two, one, and the end.
     for (good, want) in [
         (0, Err(WholeFault::ReadFailed)),
         (1, Err(WholeFault::ReadFailed)),
         (3, Err(WholeFault::ReadFailed)),
-        (4, Ok(())),
-        (9, Ok(())),
+        (4, Ok(true)),
+        (9, Ok(true)),
     ] {
         let mut reader = Watched::new(Pieces {
             rest: b"hello",
             piece: 2,
             good,
         });
-        let answer = read_whole(rt.alloc(), &mut reader);
-        assert_eq!(rt; reader.failed(), want.is_err(), "{good} good reads");
-        match answer {
-            Ok(text) => {
-                assert_eq!(rt; want, Ok(()), "{good} good reads");
-                assert_eq!(rt; text.as_slice(), b"hello".as_slice());
-            }
-            Err(fault) => assert_eq!(rt; want, Err(fault), "{good} good reads"),
-        }
+        let is_whole = match read_whole(rt.alloc(), &mut reader) {
+            Ok(text) => Ok(text.as_slice() == b"hello".as_slice()),
+            Err(fault) => Err(fault),
+        };
+        assert_eq!(rt;
+            (is_whole, reader.failed()),
+            (want, want.is_err()),
+            "{good} good reads"
+        );
     }
-    Ok(())
 }
 
 #[test]
 fn reads_as_many_bytes_as_may_be(rt: HostRuntime) -> Result<(), Fail> {
-    let mut most = Watched::new(Many(MOST_BYTES));
-    let text = read_whole(rt.alloc(), &mut most)?;
-    assert_eq!(rt; text.len(), 16_777_216);
+    let text = read_whole(rt.alloc(), &mut Watched::new(Many(MOST_BYTES)))?;
     let mut more = Watched::new(Many(16_777_217));
-    let answer = read_whole(rt.alloc(), &mut more);
-    assert_eq!(rt; answer.err(), Some(WholeFault::TooLong));
-    assert!(rt; !more.failed());
+    let fault = read_whole(rt.alloc(), &mut more).err();
+    let given = (text.len(), fault, more.failed());
+    assert_eq!(rt; given, (16_777_216, Some(WholeFault::TooLong), false));
     Ok(())
 }
 
 #[test]
-fn writes_all_or_a_front(rt: HostRuntime) -> Result<(), Fail> {
+fn writes_all_or_a_front(rt: HostRuntime) {
     // The room, whether a write fails where there is none, whether a flush works, and what is written.
     for (room, fails, flushes, written) in [
         (11, true, true, b"hello world".as_slice()),
@@ -63,11 +60,9 @@ fn writes_all_or_a_front(rt: HostRuntime) -> Result<(), Fail> {
             flushes,
         };
         let mut writer = Watched::new(&mut taker);
-        let answer = write_whole(&mut writer, b"hello world");
-        let failed = writer.failed();
-        assert_eq!(rt; answer.is_ok(), room == 11 && flushes, "room for {room}");
-        assert_eq!(rt; failed, answer.is_err(), "room for {room}");
-        assert_eq!(rt; taker.taken.as_slice(), written, "room for {room}");
+        let is_ok = write_whole(&mut writer, b"hello world").is_ok();
+        let given = (is_ok, writer.failed(), taker.taken.as_slice());
+        let due = room == 11 && flushes;
+        assert_eq!(rt; given, (due, !due, written), "room for {room}");
     }
-    Ok(())
 }

@@ -17,6 +17,8 @@ mod links;
 #[cfg(test)]
 mod made;
 #[cfg(test)]
+mod object;
+#[cfg(test)]
 mod prices;
 #[cfg(test)]
 mod search;

@@ -4,14 +4,10 @@
 #[cfg(test)]
 mod answers;
 #[cfg(test)]
-mod endings;
-#[cfg(test)]
 mod linked;
 #[cfg(test)]
 mod meeting;
 #[cfg(test)]
 mod scripts;
-#[cfg(test)]
-mod small_scripts;
 #[cfg(test)]
 mod telling;

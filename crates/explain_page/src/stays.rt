@@ -3,7 +3,7 @@
 use cam_path::path_name;
 use cam_types::Config;
 use std::alloc::{AllocError, Global};
-use wait_causes::Explanation;
+use wait_causes::{ExplainedStay, Explanation, Wait};
 
 /// Puts at most so many of the stays at these places behind the text, with the causes of their rounds.
 pub(crate) fn push_stays(
@@ -24,29 +24,41 @@ pub(crate) fn push_stays(
         "  CCB try  path         priority arrival  sent  best      cost  waited"
     )?;
     for place in places.iter().take(top) {
-        let Some(stay) = stays.get(*place) else {
-            continue;
-        };
-        let path = path_name(alloc, config, stay.device)?;
-        write!(text, "{:>5} {:>3}  {path:<12} ", stay.ccb, stay.attempt)?;
-        write!(
-            text,
-            "{:>8} {:>7} {:>5} ",
-            stay.priority, stay.arrival, stay.live
-        )?;
-        write!(text, "{:>5} {:>9}  ", stay.best, stay.cost())?;
-        let mut is_first = true;
-        for wait in &explanation.waits(alloc, *place)? {
-            if !is_first {
-                write!(text, ", ")?;
-            }
-            is_first = false;
-            push_rounds(text, wait.first, wait.last)?;
-            write!(text, " {}", wait.cause.name())?;
+        if let Some(stay) = stays.get(*place) {
+            push_stay(alloc, text, config, stay)?;
+            push_waits(text, &explanation.waits(alloc, *place)?)?;
         }
-        writeln!(text)?;
     }
     Ok(())
+}
+
+// The columns of a stay, up to its causes.
+fn push_stay(
+    alloc: Global,
+    text: &mut String,
+    config: &Config,
+    stay: &ExplainedStay,
+) -> Result<(), AllocError> {
+    let path = path_name(alloc, config, stay.device)?;
+    write!(text, "{:>5} {:>3}  {path:<12} ", stay.ccb, stay.attempt)?;
+    write!(
+        text,
+        "{:>8} {:>7} {:>5} ",
+        stay.priority, stay.arrival, stay.live
+    )?;
+    write!(text, "{:>5} {:>9}  ", stay.best, stay.cost())
+}
+
+// The rounds that a stay waited, each with its cause, to the end of the line.
+fn push_waits(text: &mut String, waits: &[Wait]) -> Result<(), AllocError> {
+    let mut between = "";
+    for wait in waits {
+        write!(text, "{between}")?;
+        push_rounds(text, wait.first, wait.last)?;
+        write!(text, " {}", wait.cause.name())?;
+        between = ", ";
+    }
+    writeln!(text)
 }
 
 /// Puts a range of rounds behind the text.

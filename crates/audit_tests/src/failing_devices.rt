@@ -1,5 +1,8 @@
 //! Readers and writers that fail, and what is answered then.
 
+ghost use Rattle.std.specs.Prelude.{◌≡◌, false};
+ghost use Rattle.text_io.specs.Watched.{has_failed};
+
 use crate::fakes::{Pieces, Taker};
 use crate::texts::{FROZEN, ONE_COMMAND, REPORT, SCRIPT};
 use audit_report::{AuditFault, read_net, run_check};
@@ -11,7 +14,9 @@ use trace_file::{TraceFault, WriteFault, read_script, read_trace, write_trace};
 const LINES: &[u8] = b"camcheck 1\ncommands 1\nstays 1\nrounds 1\nlive 0\n";
 
 // A reader that gives so many bytes a read, and fails once `good` reads are done.
-fn reader(text: &str, piece: usize, good: usize) -> Watched<Pieces<'_>> {
+fn reader(text: &str, piece: usize, good: usize) -> Watched<Pieces<'_>>
+    ensures { has_failed result ≡ false }
+{
     Watched::new(Pieces {
         rest: text.as_bytes(),
         piece,

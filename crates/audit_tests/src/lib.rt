@@ -13,8 +13,6 @@ mod fakes;
 #[cfg(test)]
 mod guesses;
 #[cfg(test)]
-mod links;
-#[cfg(test)]
 mod made;
 #[cfg(test)]
 mod object;

@@ -20,11 +20,10 @@ pub fn stay_rows(
 ) -> Result<Vec<StayRow>, AllocError>
     ensures { IfOk result (λ rows. rows.items ≡ map (row_of config.now rounds) records.now) }
 {
-    let mut rows = Vec::new(alloc);
-    for record in records {
-        rows.push(stay_row(config, record, rounds))?;
-    }
-    Ok(rows)
+    records
+        .iter()
+        .map(|record| stay_row(config, record, rounds))
+        .collect(alloc)
 }
 
 // The last round of a stay is the one before its CCB's next stay arrives, or else the last of all; a stay without a send
@@ -53,20 +52,15 @@ fn stay_row(config: &Config, kept: &StayRecord, rounds: u32) -> StayRow
 pub fn adapters_of(alloc: Global, devices: &[Device]) -> Result<Vec<u32>, AllocError>
     ensures { IfOk result (λ adapters. adapters.items ≡ map (λ (device : Device). device.bus) devices.now) }
 {
-    let mut adapters = Vec::new(alloc);
-    for device in devices {
-        adapters.push(u32::from(device.bus))?;
-    }
-    Ok(adapters)
+    devices
+        .iter()
+        .map(|device| u32::from(device.bus))
+        .collect(alloc)
 }
 
 /// The link of each adapter, if it is on one.
 pub fn links_of(alloc: Global, adapters: &[Adapter]) -> Result<Vec<Option<u32>>, AllocError>
     ensures { IfOk result (λ links. links.items ≡ map (λ (adapter : Adapter). adapter.link) adapters.now) }
 {
-    let mut links = Vec::new(alloc);
-    for adapter in adapters {
-        links.push(adapter.link)?;
-    }
-    Ok(links)
+    adapters.iter().map(|adapter| adapter.link).collect(alloc)
 }

@@ -1,6 +1,6 @@
 //! Where a record of a text stands.
 
-use csv::ReaderBuilder;
+use csv::{ByteRecord, ReaderBuilder};
 use std::alloc::Global;
 
 /// Where a record begins.
@@ -23,12 +23,17 @@ pub(crate) fn place_of(alloc: Global, text: &[u8], record: u32) -> Option<Place>
         let row = row.ok()?;
         left = left.saturating_sub(1);
         if left == 0 {
-            let position = row.position()?;
-            let byte = usize::try_from(position.byte()).ok()?;
-            return Some(behind_breaks(text, byte, position.line()));
+            return begins(text, &row);
         }
     }
     None
+}
+
+// Where a record of the text begins.
+fn begins(text: &[u8], row: &ByteRecord) -> Option<Place> {
+    let position = row.position()?;
+    let byte = usize::try_from(position.byte()).ok()?;
+    Some(behind_breaks(text, byte, position.line()))
 }
 
 // The first place from this byte of this line on where no line breaks: empty lines are no records.

@@ -11,6 +11,7 @@ pub mod RowLaws
 pub mod RowsAgain
 pub mod ScriptAgain
 pub mod ScriptFaults
+pub mod ScriptItems
 pub mod ScriptLaws
 pub mod ScriptLists
 pub mod ScriptOrder

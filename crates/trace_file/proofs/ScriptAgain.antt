@@ -26,7 +26,8 @@ use Rattle.trace_file.specs.ScriptRows.{script_header, script_row}
 use Rattle.trace_file.specs.Steps.{taken}
 use Rattle.trace_file.specs.declared.script_stage.TheConstants.{MOST_ROWS}
 use Rattle.trace_file.proofs.RowLaws.{ok_is, on_ok}
-use Rattle.trace_file.proofs.ScriptLaws.{fold_config, item_added, item_kind, more_answers, more_steps}
+use Rattle.trace_file.proofs.ScriptItems.{item_kind}
+use Rattle.trace_file.proofs.ScriptLaws.{fold_config, item_added, more_answers, more_steps}
 use Rattle.trace_file.proofs.ScriptRowLaws.{limits_again, row_again, row_of, word_of_row}
 use Rattle.trace_file.proofs.ScriptStageLemmas.{configures}
 use Rattle.trace_file.proofs.StageLemmas.{step_behind, is_legal-nil}

@@ -11,7 +11,6 @@ use Rattle.cam_types.specs.Bounds.{Bounds, are_within, most_bounds}
 use Rattle.text_io.specs.Whole.{IsWhole}
 use Rattle.cam_event.proofs.ListFacts.{count_by-push}
 use Rattle.trace_file.specs.declared.script_row.ScriptRow.{ScriptRow}
-use Rattle.trace_file.specs.declared.script_row.ScriptRow.TheVariants as row
 use Rattle.trace_file.specs.declared.script_row.ScriptItem.{ScriptItem}
 use Rattle.trace_file.specs.declared.script_row.ScriptItem.TheVariants as item
 use Rattle.trace_file.specs.declared.script_stage.ScriptStage.{ScriptStage}
@@ -36,6 +35,7 @@ use Rattle.trace_file.specs.Steps.{◌>>=◌, taken}
 use Rattle.trace_file.specs.Text.{records_in}
 use Rattle.trace_file.specs.declared.script_stage.TheConstants.{MOST_ROWS}
 use Rattle.trace_file.proofs.RowLaws.{ok_is, on_ok, if_ok}
+use Rattle.trace_file.proofs.ScriptItems.{item_kind}
 use Rattle.trace_file.proofs.ScriptRowLaws.{limits_take, row_takes}
 use Rattle.trace_file.proofs.ScriptStageLemmas.{configures}
 use Rattle.trace_file.proofs.WholeLaws.{no_links}
@@ -45,12 +45,6 @@ use Rattle.trace_file.proofs.HexLaws.{on_some}
 use Rattle.trace_file.proofs.ListLaws.{all_push}
 
 -- ---- items
-
--- a row of a driver adds a step, and an answer an answer
-pub item_kind : (c : Topology) (x : ScriptRow) (i : ScriptItem) → item_of c x ≡ Ok i → is_answer_item i ≡ is_answer_row x
-unfolding item_of
-item_kind c (row.Pause driver round) i e = grind arith
-item_kind c _ i e = grind arith
 
 -- so many rows of drivers, and so many answers, with one row more
 abbrev pub more_steps : Bool → ℕ → ℕ

@@ -12,6 +12,7 @@ pub mod Sound
 pub mod Steps
 pub mod Text
 pub mod Trace
+pub mod TraceRows
 pub mod Versions
 pub mod Words
 pub mod Writing

@@ -32,6 +32,7 @@ mod stage;
 mod stage_items;
 mod step;
 mod trace_fault;
+mod trace_row;
 mod trace_stage;
 mod trace_text;
 mod version;

@@ -1,23 +1,20 @@
 //! The static causes that refuse a script's record.
 
-ghost use Rattle.std.specs.Prelude.{◌≡◌, ◌<◌, length, IfOk, IfSome, IsTrue};
+ghost use Rattle.std.specs.Prelude.{◌≡◌, ◌<◌, length, not, IfSome, Ok};
 ghost use Rattle.cam_event.specs.Classes.{status_of};
-ghost use Rattle.cam_types.specs.Questions.{names_device};
-ghost use Rattle.trace_file.specs.Scenarios.{device_number, is_answer_item, is_answer_row, is_at, is_ruled_item, item_of, names_driver, refused_if};
+ghost use Rattle.trace_file.specs.Scenarios.{device_number, is_at, item_of, refused_if};
+ghost use Rattle.trace_file.specs.Steps.{◌>>=◌ as and_then};
 
 use crate::script_row::{ScriptItem, ScriptRow};
 use crate::step::Step;
 use cam_event::{Event, Refusal, is_count};
 use cam_path::CamPath;
-use cam_types::{Config, Device, MOST_PRIORITY, MOST_RETRIES, Outcome, are_openings};
+use cam_types::{Config, Device, Flags, MOST_PRIORITY, MOST_RETRIES, Outcome, are_openings};
 
 /// What a row asks for, or the first static cause that refuses it.
 #[tactic(auto, unfolding(crate::specs::Scenarios::item_of))]
 pub(crate) fn item_of(config: &Config, row: ScriptRow) -> Result<ScriptItem, Refusal>
-    requires { IsTrue (names_driver row) }
-    ensures value { result ≡ item_of config.now row }
-    ensures ruled { IfOk result (λ i. IsTrue (is_ruled_item config.now i)) }
-    ensures kind { IfOk result (λ i. is_answer_item i ≡ is_answer_row row) }
+    ensures { result ≡ item_of config.now row }
 {
     match row {
         ScriptRow::Submit {
@@ -26,26 +23,13 @@ pub(crate) fn item_of(config: &Config, row: ScriptRow) -> Result<ScriptItem, Ref
             priority,
             retries,
             flags,
-        } => {
-            let device = device_at(config, path)?;
-            refused_if(priority > MOST_PRIORITY, Refusal::BadPriority)?;
-            refused_if(retries > MOST_RETRIES, Refusal::BadRetries)?;
-            let event = Event::Submit {
-                driver,
-                device,
-                priority,
-                retries,
-                flags,
-            };
-            Ok(ScriptItem::Step(driver, Step::Act(event)))
-        }
+        } => submission_of(config, driver, path, priority, retries, flags),
         ScriptRow::Freeze {
             driver,
             path,
             count,
         } => {
-            let device = device_at(config, path)?;
-            refused_if(!is_count(count), Refusal::BadCount)?;
+            let device = device_if(config, path, is_count(count), Refusal::BadCount)?;
             Ok(ScriptItem::Step(driver, Step::Act(Event::FreezeDev { device, count })))
         }
         ScriptRow::Release {
@@ -53,46 +37,84 @@ pub(crate) fn item_of(config: &Config, row: ScriptRow) -> Result<ScriptItem, Ref
             path,
             count,
         } => {
-            let device = device_at(config, path)?;
-            refused_if(!is_count(count), Refusal::BadCount)?;
+            let device = device_if(config, path, is_count(count), Refusal::BadCount)?;
             Ok(ScriptItem::Step(driver, Step::Act(Event::ReleaseDev { device, count })))
         }
         ScriptRow::FreezeSim { driver, sim, count } => {
-            refused_if(!config.names_adapter(sim), Refusal::NoAdapter)?;
-            refused_if(!is_count(count), Refusal::BadCount)?;
-            Ok(ScriptItem::Step(driver, Step::Act(Event::FreezeSim { sim, count })))
+            if !config.names_adapter(sim) {
+                Err(Refusal::NoAdapter)
+            } else if !is_count(count) {
+                Err(Refusal::BadCount)
+            } else {
+                Ok(ScriptItem::Step(driver, Step::Act(Event::FreezeSim { sim, count })))
+            }
         }
         ScriptRow::ReleaseSim { driver, sim } => {
-            refused_if(!config.names_adapter(sim), Refusal::NoAdapter)?;
-            Ok(ScriptItem::Step(driver, Step::Act(Event::ReleaseSim { sim })))
+            if config.names_adapter(sim) {
+                Ok(ScriptItem::Step(driver, Step::Act(Event::ReleaseSim { sim })))
+            } else {
+                Err(Refusal::NoAdapter)
+            }
         }
         ScriptRow::Adjust {
             driver,
             path,
             openings,
         } => {
-            let device = device_at(config, path)?;
-            refused_if(!are_openings(openings), Refusal::BadOpenings)?;
+            let device = device_if(config, path, are_openings(openings), Refusal::BadOpenings)?;
             Ok(ScriptItem::Step(driver, Step::Act(Event::Adjust { device, openings })))
         }
         ScriptRow::Pause { driver, round } => Ok(ScriptItem::Step(driver, Step::Pause(round))),
         ScriptRow::Answer { lane, outcome } => {
-            refused_if(!config.names_lane(lane), Refusal::NoLane)?;
-            refused_if(is_in_progress(&outcome), Refusal::BadStatus)?;
-            Ok(ScriptItem::Answer(lane, outcome))
+            if !config.names_lane(lane) {
+                Err(Refusal::NoLane)
+            } else if is_in_progress(&outcome) {
+                Err(Refusal::BadStatus)
+            } else {
+                Ok(ScriptItem::Answer(lane, outcome))
+            }
         }
     }
 }
 
-fn refused_if(holds: bool, cause: Refusal) -> Result<(), Refusal>
-    ensures { result ≡ refused_if holds cause }
+#[tactic(auto, unfolding(crate::specs::Scenarios::item_of))]
+fn submission_of(
+    config: &Config,
+    driver: u8,
+    path: CamPath,
+    priority: u32,
+    retries: u32,
+    flags: Flags,
+) -> Result<ScriptItem, Refusal>
+    ensures { result ≡ item_of config.now (ScriptRow.Submit driver path priority retries flags) }
 {
-    if holds { Err(cause) } else { Ok(()) }
+    let device = device_at(config, path)?;
+    if priority > MOST_PRIORITY {
+        return Err(Refusal::BadPriority);
+    }
+    if retries > MOST_RETRIES {
+        return Err(Refusal::BadRetries);
+    }
+    let event = Event::Submit {
+        driver,
+        device,
+        priority,
+        retries,
+        flags,
+    };
+    Ok(ScriptItem::Step(driver, Step::Act(event)))
+}
+
+// The device that a path names, where what is asked of it may be asked.
+fn device_if(config: &Config, path: CamPath, may: bool, otherwise: Refusal) -> Result<u32, Refusal>
+    ensures { result ≡ and_then (ok_or (device_number config.now path) Refusal.NoDevice) (λ d. and_then (refused_if (not may) otherwise) (λ _. Ok d)) }
+{
+    let device = device_at(config, path)?;
+    if may { Ok(device) } else { Err(otherwise) }
 }
 
 fn device_at(config: &Config, path: CamPath) -> Result<u32, Refusal>
-    ensures value { result ≡ ok_or (device_number config.now path) Refusal.NoDevice }
-    ensures named { IfOk result (λ d. IsTrue (names_device config.now d)) }
+    ensures { result ≡ ok_or (device_number config.now path) Refusal.NoDevice }
 {
     match config
         .devices()

@@ -150,6 +150,20 @@ pub(crate) fn with_event(
     }
 }
 
+/// The first event of a configuration, or why it is refused.
+pub(crate) fn first_event(
+    alloc: Global,
+    draft: ConfigDraft,
+    number: u32,
+    event: Event,
+) -> Result<TraceStage, TraceFault>
+    requires begun { IsBegun draft }
+    ensures value { result ≢ Err TraceFault.OutOfMemory → result ≡ unless_refused number (refusal draft [] event) (TraceStage.Events (record { config = draft; events = event ∷ [] })) }
+    ensures sound { IfOk result (λ s. IsSound s) }
+{
+    with_event(without_events(alloc, draft)?, number, event)
+}
+
 /// The history of a configuration in which nothing has happened.
 pub(crate) fn without_events(alloc: Global, draft: ConfigDraft) -> Result<History, TraceFault>
     requires begun { IsBegun draft }

@@ -1,6 +1,6 @@
 //! What a trace has said so far, record by record.
 
-ghost use Rattle.std.specs.Prelude.{◌≡◌, ◌≢◌, length, Err, IfOk, IfSome, IsTrue};
+ghost use Rattle.std.specs.Prelude.{◌≡◌, ◌≢◌, length, Err, IfOk, IfSome, IsTrue, MatchResult};
 ghost use Rattle.csv.specs.Records.{fields_of};
 ghost use Rattle.trace_file.specs.Reading.{in_record};
 ghost use Rattle.trace_file.specs.Sound.{IsKept};
@@ -11,10 +11,11 @@ use crate::header::is_header;
 use crate::rows::{adapter_at, device_at, event_at, one_number, two_numbers};
 use crate::stage::Stage;
 use crate::stage_items::{
-    finished, lacking, standard, with_adapter, with_device, with_event, with_lane, with_link,
-    with_weight, without_events,
+    finished, first_event, lacking, standard, with_adapter, with_device, with_event, with_lane,
+    with_link, with_weight, without_events,
 };
 use crate::trace_fault::TraceFault;
+use crate::trace_row::TraceRow;
 use crate::version::Version;
 use crate::word::Word;
 use cam_event::Event;
@@ -46,6 +47,7 @@ pub(crate) enum TraceStage {
 
 impl TraceStage {
     ghost use Rattle.trace_file.specs.Reading.{stage_rank, version_of, stands, placed, add_weight, add_link, add_adapter, add_device, add_lane, add_event, add_row, row_step, step, ended};
+    ghost use Rattle.trace_file.specs.TraceRows.{add_said, has_place};
     ghost use Rattle.trace_file.specs.ScriptReading.{configured, is_configuring};
     ghost use Rattle.trace_file.specs.Sound.{IsSound};
 
@@ -214,13 +216,9 @@ impl TraceStage {
             )),
             TraceStage::Weights(_, draft) => Err(TraceFault::BadConfig(number, lacking(&draft))),
             TraceStage::Links(draft) => Err(TraceFault::BadConfig(number, lacking(&draft))),
-            TraceStage::Adapters(_, draft) => with_event(
-                without_events(alloc, draft)?,
-                number,
-                event,
-            ),
-            TraceStage::Devices(draft) => with_event(without_events(alloc, draft)?, number, event),
-            TraceStage::Lanes(draft) => with_event(without_events(alloc, draft)?, number, event),
+            TraceStage::Adapters(_, draft) => first_event(alloc, draft, number, event),
+            TraceStage::Devices(draft) => first_event(alloc, draft, number, event),
+            TraceStage::Lanes(draft) => first_event(alloc, draft, number, event),
             TraceStage::Events(history) => with_event(history, number, event),
         }
     }
@@ -242,7 +240,6 @@ impl TraceStage {
     }
 
     /// A record behind the header, or its fault.
-    #[tactic(auto, using(crate::proofs::StageLemmas::add_row_event), unfolding(crate::specs::Reading::row_step, crate::specs::Reading::add_row))]
     pub(crate) fn take_row(
         self,
         alloc: Global,
@@ -253,34 +250,63 @@ impl TraceStage {
         ensures value { result ≢ Err TraceFault.OutOfMemory → result ≡ row_step number self (fields_of row.now) }
         ensures sound { IfOk result (λ s. IsSound s) }
     {
+        match self.said(number, row) {
+            Ok(said) => self.add_said(alloc, number, said),
+            Err(fault) => Err(fault),
+        }
+    }
+
+    /// What a record says that stands in its place, or its fault.
+    #[tactic(auto, using(crate::proofs::StageLemmas::add_row_event), unfolding(crate::specs::Reading::row_step, crate::specs::Reading::add_row))]
+    fn said(&self, number: u32, row: &ByteRecord) -> Result<TraceRow, TraceFault>
+        ensures value { MatchResult result (λ said. row_step number self.now (fields_of row.now) ≡ add_said number self.now said) (λ e. row_step number self.now (fields_of row.now) ≡ Err e) }
+        ensures place { IfOk result (λ said. IsTrue (has_place self.now said)) }
+    {
         let Some(word) = self.placed(row) else {
             return Err(TraceFault::BadRecord(number));
         };
         match word {
             Word::Weight => {
                 let (last, weight) = in_record(number, two_numbers(row))?;
-                self.add_weight(number, WeightRow { last, weight })
+                Ok(TraceRow::Weight(WeightRow { last, weight }))
             }
             Word::Link => {
                 let openings = in_record(number, one_number(row))?;
-                self.add_link(number, openings)
+                Ok(TraceRow::Link(openings))
             }
             Word::Sim => {
                 let adapter = in_record(number, adapter_at(self.version(), row))?;
-                self.add_adapter(alloc, number, adapter)
+                Ok(TraceRow::Sim(adapter))
             }
             Word::Dev => {
                 let device = in_record(number, device_at(row))?;
-                self.add_device(number, device)
+                Ok(TraceRow::Dev(device))
             }
             Word::Lane => {
                 let adapter = in_record(number, one_number(row))?;
-                self.add_lane(number, adapter)
+                Ok(TraceRow::Lane(adapter))
             }
             _ => {
                 let event = in_record(number, event_at(word, row))?;
-                self.add_event(alloc, number, event)
+                Ok(TraceRow::Event(event))
             }
+        }
+    }
+
+    /// What a record said, added, or why it can't be.
+    fn add_said(self, alloc: Global, number: u32, said: TraceRow) -> Result<TraceStage, TraceFault>
+        requires sound { IsSound self }
+        requires place { IsTrue (has_place self said) }
+        ensures value { result ≢ Err TraceFault.OutOfMemory → result ≡ add_said number self said }
+        ensures sound { IfOk result (λ s. IsSound s) }
+    {
+        match said {
+            TraceRow::Weight(row) => self.add_weight(number, row),
+            TraceRow::Link(openings) => self.add_link(number, openings),
+            TraceRow::Sim(adapter) => self.add_adapter(alloc, number, adapter),
+            TraceRow::Dev(device) => self.add_device(number, device),
+            TraceRow::Lane(adapter) => self.add_lane(number, adapter),
+            TraceRow::Event(event) => self.add_event(alloc, number, event),
         }
     }
 

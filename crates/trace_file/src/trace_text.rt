@@ -11,7 +11,7 @@ ghost use Rattle.trace_file.specs.Writing.{text_in, trace_text, migrated_text};
 use crate::row_writer::write_row;
 use crate::version::Version;
 use crate::write_fault::WriteFault;
-use crate::writing::{write_adapters, write_devices, write_events, write_numbers, write_weights};
+use crate::writing::{write_config, write_events};
 use csv::WriterBuilder;
 use std::alloc::{AllocError, Global};
 use std::io::Write;
@@ -96,12 +96,7 @@ fn text_in(alloc: Global, version: Version, history: &History) -> Result<Vec<u8>
         &mut writer,
         &[version.name(), b"a", b"b", b"c", b"d", b"e", b"f", b"g"],
     )?;
-    let config = history.config();
-    write_weights(&mut writer, version, config.weights())?;
-    write_numbers(&mut writer, b"link", config.links())?;
-    write_adapters(&mut writer, config.adapters())?;
-    write_devices(&mut writer, config.devices())?;
-    write_numbers(&mut writer, b"lane", config.lanes())?;
+    write_config(&mut writer, version, history.config())?;
     write_events(&mut writer, history.events())?;
     match writer.into_inner() {
         Ok(text) => Ok(text),

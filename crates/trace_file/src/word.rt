@@ -24,8 +24,8 @@ pub(crate) enum Word {
 }
 
 impl Word {
-    ghost use Rattle.std.specs.Prelude.{◌≡◌};
-    ghost use Rattle.trace_file.specs.Words.{word_of, word_rank};
+    ghost use Rattle.std.specs.Prelude.{◌≡◌, ◌∷◌, [], bytes_eq, find};
+    ghost use Rattle.trace_file.specs.Words.{spelled, word_of, word_rank};
 
     /// The word that a field spells.
     #[tactic(auto, unfolding(crate::specs::Words::word_of))]
@@ -48,7 +48,18 @@ impl Word {
             Word::Requeue
         } else if is_text(field, b"finish") {
             Word::Finish
-        } else if is_text(field, b"freeze") {
+        } else {
+            return Word::of_rest(field);
+        };
+        Some(word)
+    }
+
+    // The same of the words that come behind `finish`.
+    #[tactic(auto, unfolding(crate::specs::Words::word_of))]
+    fn of_rest(field: &[u8]) -> Option<Word>
+        ensures { result ≡ find (λ w. bytes_eq field.now (spelled w)) (Word.Freeze ∷ Word.Release ∷ Word.FreezeSim ∷ Word.ReleaseSim ∷ Word.Adjust ∷ Word.Tick ∷ Word.Weight ∷ Word.Link ∷ []) }
+    {
+        let word = if is_text(field, b"freeze") {
             Word::Freeze
         } else if is_text(field, b"release") {
             Word::Release

@@ -1,9 +1,10 @@
 //! Writes the records of a configuration and of events.
 
-ghost use Rattle.std.specs.Prelude.{◌≡◌, ◌≤◌, ◌∷◌, [], decimal, map, OnOk};
+ghost use Rattle.std.specs.Prelude.{◌≡◌, ◌≤◌, ◌∷◌, ◌++◌, [], decimal, map, OnOk};
 ghost use Rattle.std.specs.List.{AllByRecursion};
+ghost use Rattle.cam_types.specs.Topology.{IsConfig};
 ghost use Rattle.trace_file.specs.Histories.{Device};
-ghost use Rattle.trace_file.specs.Records.{padded, weight_row, weight_rows, adapter_row, device_row, event_row, hex};
+ghost use Rattle.trace_file.specs.Records.{padded, weight_row, weight_rows, link_row, adapter_row, device_row, lane_row, event_row, hex};
 ghost use Rattle.trace_file.specs.Fields.{flags_text};
 ghost use Rattle.trace_file.specs.Trace.{FitsEvent};
 ghost use Rattle.trace_file.specs.Writing.{IsBetween, Wrote};
@@ -12,14 +13,32 @@ use crate::hex::hex_text;
 use crate::row_writer::{write_one, write_row, write_two, write_word};
 use crate::version::Version;
 use cam_event::Event;
-use cam_types::{Adapter, Device, Flags, Outcome, WeightRow};
+use cam_types::{Adapter, Config, Device, Flags, Outcome, WeightRow};
 use csv::Writer;
 use itoa::Buffer;
 use std::alloc::AllocError;
 use std::io::Write;
 
-/// Writes a record for each of these adapters.
-pub(crate) fn write_adapters<W: Write + Drop>(
+/// Writes the records of a configuration in a version.
+pub(crate) fn write_config<W: Write + Drop>(
+    writer: &mut Writer<W>,
+    version: Version,
+    config: &Config,
+) -> Result<(), AllocError>
+    requires { IsBetween writer.old }
+    ensures rows { OnOk result (Wrote W.contents writer.old writer.new (weight_rows version config.now.weights ++ (map link_row config.now.links ++ (map adapter_row config.now.adapters ++ (map device_row config.now.devices ++ map lane_row config.now.lanes))))) }
+    ensures fits { OnOk result (AllByRecursion (λ (d : Device). d.target ≤ 65535) config.now.devices) }
+    ensures kept { OnOk result (IsConfig config.now) }
+{
+    write_weights(writer, version, config.weights())?;
+    write_numbers(writer, b"link", config.links())?;
+    write_adapters(writer, config.adapters())?;
+    write_devices(writer, config.devices())?;
+    write_numbers(writer, b"lane", config.lanes())
+}
+
+// Writes a record for each of these adapters.
+fn write_adapters<W: Write + Drop>(
     writer: &mut Writer<W>,
     adapters: &[Adapter],
 ) -> Result<(), AllocError>
@@ -45,8 +64,8 @@ fn write_adapter<W: Write + Drop>(
     }
 }
 
-/// Writes a record of a word and a number for each of these numbers.
-pub(crate) fn write_numbers<W: Write + Drop>(
+// Writes a record of a word and a number for each of these numbers.
+fn write_numbers<W: Write + Drop>(
     writer: &mut Writer<W>,
     word: &[u8],
     numbers: &[u32],
@@ -60,8 +79,8 @@ pub(crate) fn write_numbers<W: Write + Drop>(
     Ok(())
 }
 
-/// Writes a record for each row of the table of weights, where this version has them.
-pub(crate) fn write_weights<W: Write + Drop>(
+// Writes a record for each row of the table of weights, where this version has them.
+fn write_weights<W: Write + Drop>(
     writer: &mut Writer<W>,
     version: Version,
     weights: &[WeightRow],
@@ -89,8 +108,8 @@ fn write_table<W: Write + Drop>(
     Ok(())
 }
 
-/// Writes a record for each of these devices.
-pub(crate) fn write_devices<W: Write + Drop>(
+// Writes a record for each of these devices.
+fn write_devices<W: Write + Drop>(
     writer: &mut Writer<W>,
     devices: &[Device],
 ) -> Result<(), AllocError>

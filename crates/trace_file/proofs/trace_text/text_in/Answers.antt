@@ -1,37 +1,47 @@
-use Rattle.std.proofs.Common.{◌≡◌, ◌∙◌, ◌∷◌, [], ap, map, rules}
-use Rattle.trace_file.specs.Histories.{Topology}
-use Rattle.trace_file.specs.Records.{adapter_row, device_row, header, lane_row, link_row, records_of, weight_rows}
+use Rattle.std.proofs.Common.{◌≡◌, ◌∙◌, ◌++◌, ◌∷◌, List, [], ap, append_assoc, map, refl}
+use Rattle.trace_file.specs.declared.version.Version.{Version}
+use Rattle.trace_file.specs.Fields.{Row}
+use Rattle.trace_file.specs.Histories.{Past}
+use Rattle.trace_file.specs.Records.{adapter_row, device_row, event_row, header, lane_row, link_row, records_of, weight_rows}
 use Rattle.trace_file.specs.Trace.{IsHistory}
 use Rattle.trace_file.specs.Writing.{text_in}
 use Rattle.trace_file.proofs.TextLaws.{is_trace}
 use Rattle.trace_file.proofs.WritingLemmas.{wrote_both}
 use Rattle.trace_file.proofs.trace_text.text_in.Goals as goal
 
+-- the rows of the configuration come before those of the events
+config_first : (v : Version) (past : Past)
+    → header v ∷ ((weight_rows v past.config.weights ++ (map link_row past.config.links ++ (map adapter_row past.config.adapters ++ (map device_row past.config.devices ++ map lane_row past.config.lanes)))) ++ map event_row past.events) ≡ records_of v past
+unfolding records_of
+config_first v past = ap (λ (l : List Row). header v ∷ l) (simp append_assoc refl)
+
 pub returns-in-Ok-clause-text : goal.returns-in-Ok-clause-text
-unfolding text_in records_of header
+unfolding text_in header
 returns-in-Ok-clause-text c =
-    let t = c.args.history.now.config in
-    let of : c.config-config.result.now ≡ t = c.config-config.ensures in
-    let ws : c.weights.result.now ≡ t.weights = c.weights.ensures.same ∙ ap (λ (x : Topology). x.weights) of in
-    let ks : c.links.result.now ≡ t.links = c.links.ensures.same ∙ ap (λ (x : Topology). x.links) of in
-    let as' : c.adapters.result.now ≡ t.adapters = c.adapters.ensures.same ∙ ap (λ (x : Topology). x.adapters) of in
-    let ds : c.devices.result.now ≡ t.devices = c.devices.ensures.same ∙ ap (λ (x : Topology). x.devices) of in
-    let ls : c.lanes.result.now ≡ t.lanes = c.lanes.ensures.same ∙ ap (λ (x : Topology). x.lanes) of in
-    let zero = rw ws at c.in_ok-write_weights.ensures in
-    let one = rw as' at c.in_ok-write_adapters.ensures in
-    let two = rw ds at c.in_ok-write_devices.ensures.rows in
-    let links = rw ks at c.in_ok-write_numbers.ensures in
-    let three = rw ls at c.in_ok-write_numbers-2.ensures in
-    let four = rw c.events.ensures.same at c.in_ok-write_events.ensures.rows in
-    let all = wrote_both _ _ _ _ (header c.args.version ∷ []) _ (rw c.name.ensures at c.in_ok-write_row.ensures)
-    (wrote_both _ _ _ _ (weight_rows c.args.version t.weights) _ zero
-    (wrote_both _ _ _ _ (map link_row t.links) _ links
-    (wrote_both _ _ _ _ (map adapter_row t.adapters) _ one (wrote_both _ _ _ _ (map device_row t.devices) _ two (wrote_both _ _ _ _ (map lane_row t.lanes) _ three four))))) in
+    let past = c.args.history.now in
+    let v = c.args.version in
+    let config = rw c.config.ensures at c.in_ok-write_config.ensures.rows in
+    let events = rw c.events.ensures.same at c.in_ok-write_events.ensures.rows in
+    let all = wrote_both _ _ _ _ (header v ∷ []) _ (rw c.name.ensures at c.in_ok-write_row.ensures) (wrote_both _ _ _ _ _ (map event_row past.events) config events) in
+    let whole = rw (config_first v past) at all.text in
     let from = c.from_writer-writer.ensures in
-    c.in-Ok.ensures.ok ∙ (rw (from.wtr, c.new-2.ensures.items, from.empty) at all.text)
+    c.in-Ok.ensures.ok ∙ (rw (from.wtr, c.new-2.ensures.items, from.empty) at whole)
+
+pub returns-in-Ok-clause-legal : goal.returns-in-Ok-clause-legal
+returns-in-Ok-clause-legal c = record {
+  config = (rw c.config.ensures at c.in_ok-write_config.ensures.kept).kept;
+  legal = c.events.ensures.legal;
+  targets = rw c.config.ensures at c.in_ok-write_config.ensures.fits;
+  events = rw c.events.ensures.same at c.in_ok-write_events.ensures.fits;
+}
 
 pub returns-in-Ok-clause-trace : goal.returns-in-Ok-clause-trace
 returns-in-Ok-clause-trace c =
-    let h : IsHistory c.args.history.now = search rules in
+    let h : IsHistory c.args.history.now = record {
+      config = (rw c.config.ensures at c.in_ok-write_config.ensures.kept).kept;
+      legal = c.events.ensures.legal;
+      targets = rw c.config.ensures at c.in_ok-write_config.ensures.fits;
+      events = rw c.events.ensures.same at c.in_ok-write_events.ensures.fits;
+    } in
     let short = rw c.events.ensures.same at c.events.ensures.short in
     is_trace c.args.version c.args.history.now c.requires h short

@@ -1,0 +1,17 @@
+//! What a trace's record says by its word and its fields.
+
+use crate::device_row::DeviceRow;
+use cam_event::Event;
+use cam_types::{Adapter, WeightRow};
+
+/// What a record of a trace says behind the header, by its word and its fields.
+#[derive(Clone, Copy)]
+pub(crate) enum TraceRow {
+    Weight(WeightRow),
+    Link(u32),
+    Sim(Adapter),
+    Dev(DeviceRow),
+    /// A lane of the adapter of this number.
+    Lane(u32),
+    Event(Event),
+}

@@ -36,9 +36,7 @@ impl Buckets {
     /// Takes all nodes out.
     pub fn clear(&mut self) {
         for distance in self.first..self.last.saturating_add(1) {
-            if let Some(head) = self.heads.get_mut(distance as usize) {
-                *head = None;
-            }
+            self.set_head(distance, None);
         }
         self.entries.clear();
         self.first = 0;
@@ -53,26 +51,46 @@ impl Buckets {
         for _ in self.heads.len()..distance as usize + 1 {
             self.heads.push(None)?;
         }
-        let number = u32::try_from(self.entries.len()).ok().ok_or(Stop::GivenUp)?;
-        if let Some(head) = self.heads.get_mut(distance as usize) {
-            self.entries.push(Entry { node, next: *head })?;
-            *head = Some(number);
-        }
         self.last = self.last.max(distance);
+        self.push_at(node, distance)
+    }
+
+    // Puts a node into the bucket of a distance, which is there.
+    fn push_at(&mut self, node: u32, distance: u32) -> Result<(), Stop> {
+        let number = u32::try_from(self.entries.len()).ok().ok_or(Stop::GivenUp)?;
+        let next = self.head(distance);
+        self.entries.push(Entry { node, next })?;
+        self.set_head(distance, Some(number));
         Ok(())
     }
 
     /// Takes out a node of least distance. No node is put in afterwards that is nearer.
     pub fn pop(&mut self) -> Option<(u32, u32)> {
         for distance in self.first..self.last.saturating_add(1) {
-            let head = self.heads.get_mut(distance as usize)?;
-            if let Some(number) = *head {
-                let entry = self.entries.get(number as usize).copied()?;
-                *head = entry.next;
+            if let Some(node) = self.pop_at(distance) {
                 self.first = distance;
-                return Some((entry.node, distance));
+                return Some((node, distance));
             }
         }
         None
+    }
+
+    // Takes a node out of the bucket of a distance.
+    fn pop_at(&mut self, distance: u32) -> Option<u32> {
+        let number = self.head(distance)?;
+        let entry = self.entries.get(number as usize).copied()?;
+        self.set_head(distance, entry.next);
+        Some(entry.node)
+    }
+
+    // The first entry of a bucket, if there is one.
+    fn head(&self, distance: u32) -> Option<u32> {
+        self.heads.get(distance as usize).copied().flatten()
+    }
+
+    fn set_head(&mut self, distance: u32, entry: Option<u32>) {
+        if let Some(head) = self.heads.get_mut(distance as usize) {
+            *head = entry;
+        }
     }
 }

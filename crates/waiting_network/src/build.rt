@@ -68,14 +68,20 @@ impl Problem {
     /// The network of the cells, the root and the stays, where no stay stands in a cell.
     pub fn network(&self, alloc: Global, root: u32) -> Result<Network, Stop> {
         let mut network = Network::new(alloc, root);
+        self.add_nodes(&mut network, root)?;
+        Ok(network)
+    }
+
+    // Adds the cells, the root and the stays.
+    fn add_nodes(&self, network: &mut Network, root: u32) -> Result<(), Stop> {
         for row in 0..self.rows() {
-            self.add_cells(&mut network, row)?;
+            self.add_cells(network, row)?;
         }
         network.push(Node::new(root, u32::MAX, 0))?;
         for _stay in self.stays.iter() {
             network.push(Node::new(root, 1, 0))?;
         }
-        Ok(network)
+        Ok(())
     }
 
     // Adds the cells of a row.

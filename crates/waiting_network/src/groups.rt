@@ -15,6 +15,28 @@ struct Group {
     key: i64,
 }
 
+impl Group {
+    // Up to which round a search has to look for a stay of the group, as `Groups::last_to_look` says. The group notes that the
+    // search looked, where the stay's window goes up to the last round of all.
+    fn last_to_look(&mut self, turn: u32, rounds: u32, stay: &Stay, key: i64) -> u32 {
+        let looked = self.turn == turn && self.key <= key;
+        if looked && self.first <= stay.arrival {
+            return 0;
+        }
+        let last = if looked {
+            stay.last.min(self.first.saturating_sub(1))
+        } else {
+            stay.last
+        };
+        if stay.last == rounds {
+            self.turn = turn;
+            self.first = stay.arrival;
+            self.key = key;
+        }
+        last
+    }
+}
+
 /// The groups, and that of each stay.
 #[derive(Drop)]
 pub struct Groups {
@@ -27,22 +49,34 @@ pub struct Groups {
 impl Groups {
     /// The groups of a problem's stays, along which no search has looked.
     pub fn of(alloc: Global, problem: &Problem) -> Result<Groups, Stop> {
-        let mut rows: Vec<Vec<u32>> = Vec::new(alloc);
-        for _ in 0..problem.above.len() {
-            rows.push(Vec::new(alloc))?;
-        }
+        let of = Vec::with_capacity(alloc, problem.stays.len())?;
         let mut groups = Groups {
             groups: Vec::new(alloc),
-            of: Vec::with_capacity(alloc, problem.stays.len())?,
+            of,
             rounds: problem.rounds,
             turn: 0,
         };
-        for stay in problem.stays.iter() {
-            let known = rows.get_mut(stay.row as usize).ok_or(Stop::GivenUp)?;
-            let group = groups.group_of(known, stay.weight)?;
-            groups.of.push(group)?;
-        }
+        groups.add_stays(alloc, problem)?;
         Ok(groups)
+    }
+
+    // Gives each stay of a problem its group.
+    fn add_stays(&mut self, alloc: Global, problem: &Problem) -> Result<(), Stop> {
+        let mut rows = rows_of_none(alloc, problem.above.len())?;
+        for stay in problem.stays.iter() {
+            self.add_stay(&mut rows, stay)?;
+        }
+        Ok(())
+    }
+
+    // Gives the next stay its group, which is one of those of its row.
+    fn add_stay(&mut self, rows: &mut [Vec<u32>], stay: &Stay) -> Result<(), Stop> {
+        let Some(known) = rows.get_mut(stay.row as usize) else {
+            return Err(Stop::GivenUp);
+        };
+        let group = self.group_of(known, stay.weight)?;
+        self.of.push(group)?;
+        Ok(())
     }
 
     // The group of this weight among those of a row, or a new one.
@@ -79,21 +113,18 @@ impl Groups {
     /// Up to which round a search has to look where a stay could move, from its arrival on. Before its arrival it is 0.
     pub fn last_to_look(&mut self, number: u32, stay: &Stay, key: i64) -> Result<u32, Stop> {
         let of = self.of.get(number as usize).copied().ok_or(Stop::GivenUp)?;
-        let group = self.groups.get_mut(of as usize).ok_or(Stop::GivenUp)?;
-        let looked = group.turn == self.turn && group.key <= key;
-        if looked && group.first <= stay.arrival {
-            return Ok(0);
+        match self.groups.get_mut(of as usize) {
+            Some(group) => Ok(group.last_to_look(self.turn, self.rounds, stay, key)),
+            None => Err(Stop::GivenUp),
         }
-        let last = if looked {
-            stay.last.min(group.first.saturating_sub(1))
-        } else {
-            stay.last
-        };
-        if stay.last == self.rounds {
-            group.turn = self.turn;
-            group.first = stay.arrival;
-            group.key = key;
-        }
-        Ok(last)
     }
+}
+
+// For each row, that it has no groups yet.
+fn rows_of_none(alloc: Global, count: usize) -> Result<Vec<Vec<u32>>, Stop> {
+    let mut rows = Vec::with_capacity(alloc, count)?;
+    for _ in 0..count {
+        rows.push(Vec::new(alloc))?;
+    }
+    Ok(rows)
 }

@@ -4,7 +4,8 @@ ghost use Rattle.std.specs.Prelude.{◌≡◌, ◌+◌, ◌*◌, length, IfOk};
 ghost use Rattle.std.specs.Option.{IfSome};
 
 use crate::answer::{labels, rounds};
-use crate::placing::{place_all, turns};
+use crate::network::Network;
+use crate::placing::place_all;
 use crate::problem::{Guess, Problem};
 use crate::search::Search;
 use crate::stop::Stop;
@@ -29,11 +30,16 @@ fn search(alloc: Global, problem: &Problem) -> Result<Guess, Stop>
     ensures labels { IfOk result (λ guess. length guess.labels.items ≡ length problem.now.above.items * (problem.now.rounds + 1) + 1) }
 {
     let root = problem.root()?;
-    let mut network = problem.network(alloc, root)?;
-    let mut search = Search::new(alloc, problem, root)?;
-    let turns = turns(alloc, problem)?;
-    place_all(&mut network, &mut search, problem, &turns)?;
+    let network = placed(alloc, problem, root)?;
     let labels = labels(alloc, &network, root)?;
     let rounds = rounds(alloc, &network, problem)?;
     Ok(Guess { rounds, labels })
+}
+
+// The network in which all stays are placed.
+fn placed(alloc: Global, problem: &Problem, root: u32) -> Result<Network, Stop> {
+    let mut network = problem.network(alloc, root)?;
+    let mut search = Search::new(alloc, problem, root)?;
+    place_all(alloc, &mut network, &mut search, problem)?;
+    Ok(network)
 }

@@ -55,8 +55,7 @@ impl Network {
     /// Adds a node.
     pub fn push(&mut self, node: Node) -> Result<(), Stop> {
         self.nodes.push(node)?;
-        self.senders.push()?;
-        Ok(())
+        self.senders.push()
     }
 
     /// How many nodes there are.

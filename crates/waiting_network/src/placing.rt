@@ -5,22 +5,22 @@ use crate::problem::{Problem, Stay};
 use crate::search::Search;
 use crate::stop::Stop;
 use std::alloc::Global;
+use std::cmp::Reverse;
 
 /// The most that a way is looked for where no room is left.
 const FAR: u32 = 500_000_000;
 
-/// A stay in the order in which stays are placed from the last one on: heavy stays first, and of equal ones those that
-/// arrive late.
-#[derive(Clone, Copy, PartialEq, Eq, PartialOrd, Ord)]
-pub struct Turn {
+// A stay in the order in which stays are placed.
+#[derive(Clone, Copy)]
+struct Turn {
     weight: u32,
     arrival: u32,
-    /// The number of the stay.
-    pub stay: u32,
+    // The number of the stay.
+    stay: u32,
 }
 
-/// The stays in order: light ones first, and of equal ones those that arrive early.
-pub fn turns(alloc: Global, problem: &Problem) -> Result<Vec<Turn>, Stop> {
+// The stays in order: heavy ones first, and of equal ones those that arrive late.
+fn turns(alloc: Global, problem: &Problem) -> Result<Vec<Turn>, Stop> {
     let mut turns = Vec::with_capacity(alloc, problem.stays.len())?;
     let mut number = 0u32;
     for stay in problem.stays.iter() {
@@ -31,18 +31,19 @@ pub fn turns(alloc: Global, problem: &Problem) -> Result<Vec<Turn>, Stop> {
         })?;
         number = number.saturating_add(1);
     }
-    turns.sort_unstable();
+    turns.sort_unstable_by_key(|turn| Reverse((turn.weight, turn.arrival, turn.stay)));
     Ok(turns)
 }
 
 /// Places all stays.
 pub fn place_all(
+    alloc: Global,
     network: &mut Network,
     search: &mut Search,
     problem: &Problem,
-    turns: &[Turn],
 ) -> Result<(), Stop> {
-    for turn in turns.iter().rev() {
+    let turns = turns(alloc, problem)?;
+    for turn in &turns {
         place(network, search, problem, turn.stay)?;
     }
     Ok(())
@@ -56,22 +57,43 @@ fn place(
     number: u32,
 ) -> Result<(), Stop> {
     let stay = problem.stay(number)?;
-    let label = least_label(network, problem, &stay)?;
     let direct = first_room(network, problem, &stay)?;
-    let bound = match direct {
-        Some(round) => waiting(&stay, round).saturating_sub(label),
-        None => FAR,
-    };
-    if bound > 0 {
-        let shorter = search.run(network, problem, number, label, bound)?;
-        search.raise_labels(network)?;
-        if shorter {
-            return send_along(network, search);
-        }
+    if find_way(network, search, problem, number, &stay, direct)? {
+        return send_along(network, search);
     }
-    let cell = problem.cell(stay.row, direct.ok_or(Stop::GivenUp)?);
+    match direct {
+        Some(round) => send_direct(network, number, problem.cell(stay.row, round)),
+        None => Err(Stop::GivenUp),
+    }
+}
+
+// Puts a stay that stands in no cell into one that has room.
+fn send_direct(network: &mut Network, number: u32, cell: u32) -> Result<(), Stop> {
     network.put(network.stay_node(number), cell)?;
     network.send_up(cell)
+}
+
+// Looks for a way for a stay that is shorter than by its first round with room, raises the labels by what that shows, and says
+// whether there is one.
+fn find_way(
+    network: &mut Network,
+    search: &mut Search,
+    problem: &Problem,
+    number: u32,
+    stay: &Stay,
+    direct: Option<u32>,
+) -> Result<bool, Stop> {
+    let label = least_label(network, problem, stay)?;
+    let bound = match direct {
+        Some(round) => waiting(stay, round).saturating_sub(label),
+        None => FAR,
+    };
+    if bound == 0 {
+        return Ok(false);
+    }
+    let shorter = search.run(network, problem, number, label, bound)?;
+    search.raise_labels(network)?;
+    Ok(shorter)
 }
 
 // What a stay's waiting up to a round costs.

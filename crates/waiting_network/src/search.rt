@@ -36,15 +36,13 @@ impl Search {
     /// A search among the cells of a problem, of which there are as many as the root's number.
     pub fn new(alloc: Global, problem: &Problem, root: u32) -> Result<Search, Stop> {
         let nodes = root.checked_add(1).ok_or(Stop::GivenUp)?;
-        let mut marks = Vec::with_capacity(alloc, nodes as usize)?;
-        for _ in 0..nodes {
-            marks.push(UNREACHED)?;
-        }
+        let marks = vec![in alloc; UNREACHED; nodes as usize]?;
+        let groups = Groups::of(alloc, problem)?;
         Ok(Search {
             marks,
             reached: Vec::new(alloc),
             queue: Buckets::new(alloc),
-            groups: Groups::of(alloc, problem)?,
+            groups,
             best: u32::MAX,
         })
     }
@@ -63,16 +61,19 @@ impl Search {
         self.best = bound;
         let stay = problem.stay(number)?;
         let start = before(-i64::from(label), &stay, stay.arrival);
-        self.look_along(network, problem, number, start)?;
+        self.look_along(network, problem, number, &stay, start)?;
+        self.look_on(network, problem)?;
+        Ok(self.best < bound)
+    }
+
+    // Looks from one node after another, the nearest first, until none is nearer than the root.
+    fn look_on(&mut self, network: &Network, problem: &Problem) -> Result<(), Stop> {
         for _ in 0..network.len().saturating_mul(TURNS) {
-            let Some((cell, distance)) = self.queue.pop() else {
-                return Ok(self.best < bound);
-            };
-            if distance >= self.best {
-                return Ok(self.best < bound);
-            }
-            if self.mark(cell)?.distance == distance {
-                self.look_from(network, problem, cell, distance)?;
+            match self.queue.pop() {
+                Some((cell, distance)) if distance < self.best => {
+                    self.look_from(network, problem, cell, distance)?;
+                }
+                _ => return Ok(()),
             }
         }
         Err(Stop::GivenUp)
@@ -85,21 +86,17 @@ impl Search {
 
     /// Raises the label of each cell that is nearer than the root by how much nearer it is.
     pub fn raise_labels(&self, network: &mut Network) -> Result<(), Stop> {
-        for cell in self.reached.iter().copied() {
-            let distance = self.mark(cell)?.distance;
+        for cell in &self.reached {
+            let distance = self.mark(*cell)?.distance;
             if distance < self.best {
-                network.raise(cell, self.best - distance)?;
+                network.raise(*cell, self.best - distance)?;
             }
         }
         Ok(())
     }
 
     fn forget(&mut self) {
-        for cell in self.reached.iter().copied() {
-            if let Some(mark) = self.marks.get_mut(cell as usize) {
-                *mark = UNREACHED;
-            }
-        }
+        unmark(&mut self.marks, &self.reached);
         self.reached.clear();
         self.queue.clear();
         self.groups.begin();
@@ -123,20 +120,10 @@ impl Search {
         if distance >= i64::from(self.best) {
             return Ok(());
         }
-        let Some(mark) = self.marks.get_mut(number as usize) else {
-            return Err(Stop::GivenUp);
-        };
-        if distance >= i64::from(mark.distance) {
+        let distance = u32::try_from(distance).ok().ok_or(Stop::GivenUp)?;
+        if !self.shorten(number, distance, from)? {
             return Ok(());
         }
-        let distance = u32::try_from(distance).ok().ok_or(Stop::GivenUp)?;
-        if mark.distance == u32::MAX {
-            self.reached.push(number)?;
-        }
-        *mark = Mark {
-            distance,
-            from: Some(from),
-        };
         if number == network.root() {
             self.best = distance;
             return Ok(());
@@ -144,8 +131,37 @@ impl Search {
         self.queue.push(number, distance)
     }
 
-    // Reaches the nodes to which a cell leads: the one above if it has room, the cells below that send it stays, which could
-    // send one less, and those to which its stays could move.
+    // Marks a node with a way to it, if that is the shortest so far, and says whether it is.
+    fn shorten(&mut self, number: u32, distance: u32, from: u32) -> Result<bool, Stop> {
+        let mark = self.marks.get_mut(number as usize).ok_or(Stop::GivenUp)?;
+        let known = mark.distance;
+        if distance >= known {
+            return Ok(false);
+        }
+        *mark = Mark {
+            distance,
+            from: Some(from),
+        };
+        if known == u32::MAX {
+            self.reached.push(number)?;
+        }
+        Ok(true)
+    }
+
+    // Reaches a node by a way whose length but for the node's label is given.
+    fn reach_labelled(
+        &mut self,
+        network: &Network,
+        number: u32,
+        key: i64,
+        from: u32,
+    ) -> Result<(), Stop> {
+        let label = network.node(number)?.label;
+        self.reach(network, number, key.saturating_add(i64::from(label)), from)
+    }
+
+    // Reaches the nodes to which a cell leads, if this is its distance: the one above if it has room, the cells below that send
+    // it stays, which could send one less, and those to which its stays could move.
     fn look_from(
         &mut self,
         network: &Network,
@@ -153,12 +169,25 @@ impl Search {
         cell: u32,
         distance: u32,
     ) -> Result<(), Stop> {
+        if self.mark(cell)?.distance != distance {
+            return Ok(());
+        }
         let node = network.node(cell)?;
         let key = i64::from(distance) - i64::from(node.label);
         if node.has_room() {
-            let label = network.node(node.above)?.label;
-            self.reach(network, node.above, key + i64::from(label), cell)?;
+            self.reach_labelled(network, node.above, key, cell)?;
         }
+        self.look_below(network, problem, cell, key)
+    }
+
+    // Reaches the nodes to which a cell leads through the nodes that send it stays.
+    fn look_below(
+        &mut self,
+        network: &Network,
+        problem: &Problem,
+        cell: u32,
+        key: i64,
+    ) -> Result<(), Stop> {
         let mut sender = network.first_sender(cell);
         for _ in 0..network.len() {
             let Some(from) = sender else {
@@ -166,10 +195,7 @@ impl Search {
             };
             match network.stay_of(from) {
                 Some(number) => self.look_at(network, problem, number, cell, key)?,
-                None => {
-                    let label = network.node(from)?.label;
-                    self.reach(network, from, key + i64::from(label), cell)?;
-                }
+                None => self.reach_labelled(network, from, key, cell)?,
             }
             sender = network.next_sender(from);
         }
@@ -187,7 +213,7 @@ impl Search {
     ) -> Result<(), Stop> {
         let stay = problem.stay(number)?;
         let round = cell.saturating_sub(problem.cell(stay.row, 0));
-        self.look_along(network, problem, number, before(key, &stay, round))
+        self.look_along(network, problem, number, &stay, before(key, &stay, round))
     }
 
     // Reaches the cells of a stay's window, by how far they would be in a round 0 with labels 0.
@@ -196,10 +222,10 @@ impl Search {
         network: &Network,
         problem: &Problem,
         number: u32,
+        stay: &Stay,
         key: i64,
     ) -> Result<(), Stop> {
-        let stay = problem.stay(number)?;
-        let last = self.groups.last_to_look(number, &stay, key)?;
+        let last = self.groups.last_to_look(number, stay, key)?;
         let from = network.stay_node(number);
         for round in stay.arrival..last.saturating_add(1) {
             let waits = i64::from(stay.weight).saturating_mul(i64::from(round));
@@ -208,10 +234,18 @@ impl Search {
                 break;
             }
             let cell = problem.cell(stay.row, round);
-            let label = network.node(cell)?.label;
-            self.reach(network, cell, ahead.saturating_add(i64::from(label)), from)?;
+            self.reach_labelled(network, cell, ahead, from)?;
         }
         Ok(())
+    }
+}
+
+// Takes back how nodes were reached.
+fn unmark(marks: &mut [Mark], reached: &[u32]) {
+    for cell in reached {
+        if let Some(mark) = marks.get_mut(*cell as usize) {
+            *mark = UNREACHED;
+        }
     }
 }
 

@@ -66,10 +66,27 @@ pub fn audit_json(
         prices: None,
     };
     if !summary {
-        audited.schedule = Some(stay_list(alloc, net, schedule)?);
-        audited.prices = Some(price_list(alloc, net, prices)?);
+        audited.list(alloc, net, schedule, prices)?;
     }
     line(alloc, &audited)
+}
+
+impl Audited<'_> {
+    // Lists the stays and the prices.
+    fn list(
+        &mut self,
+        alloc: Global,
+        net: &Net,
+        schedule: &Schedule,
+        prices: &Prices,
+    ) -> Result<(), AllocError>
+        requires stays { length schedule.now ≡ (instance_of_rows net.now).stays }
+        requires cells { IsPricingFor (instance_of_rows net.now) prices.now }
+    {
+        self.schedule = Some(stay_list(alloc, net, schedule)?);
+        self.prices = Some(price_list(alloc, net, prices)?);
+        Ok(())
+    }
 }
 
 // By how much the live schedule is above the other one.

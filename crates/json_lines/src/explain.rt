@@ -7,11 +7,11 @@ ghost use Rattle.json.specs.Print.{print};
 use crate::counts::Counts;
 use crate::freezes::{ListedFreeze, freeze_list};
 use crate::line::line;
-use crate::parts::{Causes, TableRow, rows};
+use crate::parts::{Causes, Tables};
 use crate::stays::{ListedStay, stay_list};
 use serde::Serialize;
 use std::alloc::{AllocError, Global};
-use wait_causes::{Explanation, Grouping};
+use wait_causes::Explanation;
 use xpt_state::History;
 
 #[derive(Drop, Serialize)]
@@ -22,10 +22,8 @@ struct Explained<'a> {
     best: u64,
     excess: i128,
     causes: Causes,
-    adapters: Vec<TableRow>,
-    devices: Vec<TableRow>,
-    drivers: Vec<TableRow>,
-    levels: Vec<TableRow>,
+    #[serde(flatten)]
+    tables: Tables,
     freezes: Vec<ListedFreeze>,
     list: Vec<ListedStay>,
 }
@@ -49,10 +47,7 @@ pub fn explain_json(
         best: whole.best,
         excess: whole.excess(),
         causes: Causes::of(&whole.costs, config),
-        adapters: rows(alloc, config, explanation, Grouping::Adapter)?,
-        devices: rows(alloc, config, explanation, Grouping::Device)?,
-        drivers: rows(alloc, config, explanation, Grouping::Driver)?,
-        levels: rows(alloc, config, explanation, Grouping::Level)?,
+        tables: Tables::of(alloc, config, explanation)?,
         freezes: freeze_list(alloc, explanation)?,
         list: stay_list(alloc, explanation)?,
     };

@@ -1,20 +1,34 @@
 //! The freezes of an explanation.
 
-use serde::Serialize;
+use crate::line::put_member;
+use serde::{Described, Serialize, Serializer};
 use std::alloc::{AllocError, Global};
 use wait_causes::{Explanation, Freeze, FreezeKind};
 
 /// Rounds in a row at whose ends a device or an adapter was frozen, by an error or by a caller.
-#[derive(Clone, Copy, Drop, Serialize)]
+#[derive(Clone, Copy, Drop)]
 pub(crate) struct ListedFreeze {
-    #[serde(skip_serializing_if = "Option::is_none")]
-    device: Option<u32>,
-    #[serde(skip_serializing_if = "Option::is_none")]
-    adapter: Option<u32>,
+    // The key of what was frozen.
+    frozen: &'static str,
+    number: u32,
     kind: &'static str,
     first: u32,
     last: u32,
     cost: u64,
+}
+
+impl Described for ListedFreeze {}
+
+impl Serialize for ListedFreeze {
+    fn serialize<S: Serializer>(&self, out: &mut S) -> Result<(), S::Error> {
+        out.begin_map(Some(5))?;
+        put_member(out, self.frozen, &self.number)?;
+        put_member(out, "kind", &self.kind)?;
+        put_member(out, "first", &self.first)?;
+        put_member(out, "last", &self.last)?;
+        put_member(out, "cost", &self.cost)?;
+        out.end_map()
+    }
 }
 
 /// The freezes of devices by errors, then by callers, then those of adapters.
@@ -32,14 +46,14 @@ pub(crate) fn freeze_list(
 
 // The freeze under the keys of what it froze.
 fn listed(freeze: &Freeze) -> ListedFreeze {
-    let (device, adapter, kind) = match freeze.kind {
-        FreezeKind::Error => (Some(freeze.number), None, "error"),
-        FreezeKind::Caller => (Some(freeze.number), None, "caller"),
-        FreezeKind::Adapter => (None, Some(freeze.number), "caller"),
+    let (frozen, kind) = match freeze.kind {
+        FreezeKind::Error => ("device", "error"),
+        FreezeKind::Caller => ("device", "caller"),
+        FreezeKind::Adapter => ("adapter", "caller"),
     };
     ListedFreeze {
-        device,
-        adapter,
+        frozen,
+        number: freeze.number,
         kind,
         first: freeze.first,
         last: freeze.last,

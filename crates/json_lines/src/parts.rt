@@ -34,9 +34,18 @@ impl Causes {
     }
 }
 
-/// A row of a table; a device has its path too.
+/// The tables of an explanation.
 #[derive(Drop, Serialize)]
-pub(crate) struct TableRow {
+pub(crate) struct Tables {
+    adapters: Vec<TableRow>,
+    devices: Vec<TableRow>,
+    drivers: Vec<TableRow>,
+    levels: Vec<TableRow>,
+}
+
+// A row of a table; a device has its path too.
+#[derive(Drop, Serialize)]
+struct TableRow {
     number: u32,
     #[serde(skip_serializing_if = "Option::is_none")]
     path: Option<String>,
@@ -51,8 +60,24 @@ pub(crate) struct TableRow {
     causes: Causes,
 }
 
-/// The rows of a table, by number.
-pub(crate) fn rows(
+impl Tables {
+    /// Those of this explanation, each with its rows by number.
+    pub(crate) fn of(
+        alloc: Global,
+        config: &Config,
+        explanation: &Explanation,
+    ) -> Result<Tables, AllocError> {
+        Ok(Tables {
+            adapters: rows(alloc, config, explanation, Grouping::Adapter)?,
+            devices: rows(alloc, config, explanation, Grouping::Device)?,
+            drivers: rows(alloc, config, explanation, Grouping::Driver)?,
+            levels: rows(alloc, config, explanation, Grouping::Level)?,
+        })
+    }
+}
+
+// The rows of a table, by number.
+fn rows(
     alloc: Global,
     config: &Config,
     explanation: &Explanation,
@@ -61,19 +86,19 @@ pub(crate) fn rows(
     let table = explanation.table(alloc, by)?;
     let mut rows = Vec::with_capacity(alloc, table.len())?;
     for row in &table {
-        let path = match by {
-            Grouping::Device => Some(path_name(alloc, config, row.number)?),
-            _ => None,
-        };
-        rows.push(row_of(row, path, config))?;
+        rows.push(row_of(alloc, config, row, by)?)?;
     }
     Ok(rows)
 }
 
-// The row with this path.
-fn row_of(row: &Row, path: Option<String>, config: &Config) -> TableRow {
+// The row of a table by this, with the path of a device.
+fn row_of(alloc: Global, config: &Config, row: &Row, by: Grouping) -> Result<TableRow, AllocError> {
+    let path = match by {
+        Grouping::Device => Some(path_name(alloc, config, row.number)?),
+        _ => None,
+    };
     let part: &Part = &row.part;
-    TableRow {
+    Ok(TableRow {
         number: row.number,
         path,
         stays: part.stays,
@@ -85,5 +110,5 @@ fn row_of(row: &Row, path: Option<String>, config: &Config) -> TableRow {
         best: part.best,
         excess: part.excess(),
         causes: Causes::of(&part.costs, config),
-    }
+    })
 }

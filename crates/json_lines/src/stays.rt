@@ -36,15 +36,20 @@ pub(crate) fn stay_list(
     let stays = explanation.stays();
     let mut list = Vec::with_capacity(alloc, stays.len())?;
     for (place, stay) in stays.iter().enumerate() {
-        let waits = wait_list(alloc, &explanation.waits(alloc, place)?)?;
-        list.push(listed(stay, waits))?;
+        list.push(listed(alloc, explanation, stay, place)?)?;
     }
     Ok(list)
 }
 
-// The stay with these waits.
-fn listed(stay: &ExplainedStay, waits: Vec<ListedWait>) -> ListedStay {
-    ListedStay {
+// The stay at this place with its waits.
+fn listed(
+    alloc: Global,
+    explanation: &Explanation,
+    stay: &ExplainedStay,
+    place: usize,
+) -> Result<ListedStay, AllocError> {
+    let waits = explanation.waits(alloc, place)?;
+    Ok(ListedStay {
         ccb: stay.ccb,
         attempt: stay.attempt,
         driver: stay.driver,
@@ -54,8 +59,8 @@ fn listed(stay: &ExplainedStay, waits: Vec<ListedWait>) -> ListedStay {
         arrival: stay.arrival,
         live: stay.live,
         best: stay.best,
-        waits,
-    }
+        waits: wait_list(alloc, &waits)?,
+    })
 }
 
 // The waits under their causes' keys.

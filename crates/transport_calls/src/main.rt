@@ -18,12 +18,12 @@ use answer::Answer;
 use call::Call;
 use doors::Doors;
 use fault::Fault;
-use script::Script;
+use script::{Line, Script};
 use std::process::ExitCode;
 use std::rt::Runtime;
 use std::time::{CpuClock, Duration};
 use std::{env, io};
-use xpt_state::Reply;
+use xpt_state::{Reply, Xpt};
 
 fn main(rt: HostRuntime) -> io::Result<ExitCode> {
     match run(&rt) {
@@ -39,17 +39,30 @@ fn run<R: Runtime + AllocGlobal + CpuClock>(rt: &R) -> Result<(), Fault> {
     let words: Vec<String> = env::args(rt)?.collect(rt.alloc())?;
     let text = io::read_to_string(rt.alloc(), rt.reader())?;
     let scripts = Script::read_all(rt.alloc(), &text)?;
-    let Some(word) = words.get(1) else {
-        for script in &scripts {
-            beside(rt, script)?;
-        }
-        return Ok(());
-    };
+    match words.get(1) {
+        Some(word) => first(rt, &scripts, word),
+        None => beside_all(rt, &scripts),
+    }
+}
+
+fn beside_all<R: Print + AllocGlobal>(rt: &R, scripts: &[Script<'_>]) -> Result<(), Fault> {
+    for script in scripts {
+        beside(rt, script)?;
+    }
+    Ok(())
+}
+
+// Makes the calls of the first run alone, or on so many transports, as the word says.
+fn first<R: Print + AllocGlobal + CpuClock>(
+    rt: &R,
+    scripts: &[Script<'_>],
+    word: &str,
+) -> Result<(), Fault> {
     let Some(script) = scripts.first() else {
         return Err(Fault::NoRun);
     };
     let mut answers = vec![in rt.alloc(); Answer::Done(Reply::Nothing); script.lines.len()]?;
-    if word.as_str() == "alone" {
+    if word == "alone" {
         return alone(rt, script, &mut answers);
     }
     match word.parse() {
@@ -62,22 +75,30 @@ fn run<R: Runtime + AllocGlobal + CpuClock>(rt: &R) -> Result<(), Fault> {
 fn beside<R: Print + AllocGlobal>(rt: &R, script: &Script<'_>) -> Result<(), Fault> {
     println!(rt; "== {}", script.name)?;
     let mut doors = Doors::open(rt.alloc(), &script.opening)?;
-    for line in &script.lines {
-        print!(rt; "{}: ", line.text)?;
-        if let Call::Layer(layer) = line.call {
-            doors.tell(rt, layer)?;
-            continue;
-        }
-        let (answer, agree) = doors.make(line.call);
-        println!(rt;
-            "{answer}{}",
-            if agree { "" } else { ", but not by all doors" }
-        )?;
-    }
+    make_all(rt, &script.lines, &mut doors)?;
     if !doors.end(rt.alloc(), &script.opening)? {
         println!(rt; "the doors differ in the end")?;
     }
     Ok(())
+}
+
+fn make_all<R: Print>(rt: &R, lines: &[Line<'_>], doors: &mut Doors) -> io::Result<()> {
+    for line in lines {
+        print!(rt; "{}: ", line.text)?;
+        make(rt, line.call, doors)?;
+    }
+    Ok(())
+}
+
+fn make<R: Print>(rt: &R, call: Call, doors: &mut Doors) -> io::Result<()> {
+    if let Call::Layer(layer) = call {
+        return doors.tell(rt, layer);
+    }
+    let (answer, agree) = doors.make(call);
+    println!(rt;
+        "{answer}{}",
+        if agree { "" } else { ", but not by all doors" }
+    )
 }
 
 // `opened` and `called` stand between the requests for memory of `open`, of the calls and of `into_history`.
@@ -87,12 +108,26 @@ fn alone<R: Print + AllocGlobal>(
     answers: &mut [Answer],
 ) -> Result<(), Fault> {
     let mut xpt = script.open(rt.alloc())?;
-    println!(rt; "opened")?;
-    script.make(&mut xpt, answers);
-    println!(rt; "called")?;
+    make_alone(rt, script, &mut xpt, answers)?;
     let history = xpt.into_history(rt.alloc())?;
     println!(rt; "history of {} events", history.events().len())?;
-    for answer in answers.iter() {
+    tell_all(rt, answers)?;
+    Ok(())
+}
+
+fn make_alone<R: Print>(
+    rt: &R,
+    script: &Script<'_>,
+    xpt: &mut Xpt,
+    answers: &mut [Answer],
+) -> io::Result<()> {
+    println!(rt; "opened")?;
+    script.make(xpt, answers);
+    println!(rt; "called")
+}
+
+fn tell_all<R: Print>(rt: &R, answers: &[Answer]) -> io::Result<()> {
+    for answer in answers {
         println!(rt; "{answer}")?;
     }
     Ok(())
@@ -108,10 +143,7 @@ fn time<R: Print + AllocGlobal + CpuClock>(
     let mut taken = Duration::ZERO;
     for _ in 0..count {
         let mut xpt = script.open(rt.alloc())?;
-        let start = rt.process_cpu_time()?;
-        script.make(&mut xpt, answers);
-        let end = rt.process_cpu_time()?;
-        taken = taken.saturating_add(end.saturating_sub(start));
+        taken = taken.saturating_add(time_calls(rt, script, &mut xpt, answers)?);
         events = events.saturating_add(xpt.events().len());
     }
     println!(rt;
@@ -120,4 +152,16 @@ fn time<R: Print + AllocGlobal + CpuClock>(
         taken.subsec_nanos()
     )?;
     Ok(())
+}
+
+// The processor time that the calls on one transport took.
+fn time_calls<R: CpuClock>(
+    rt: &R,
+    script: &Script<'_>,
+    xpt: &mut Xpt,
+    answers: &mut [Answer],
+) -> io::Result<Duration> {
+    let start = rt.process_cpu_time()?;
+    script.make(xpt, answers);
+    Ok(rt.process_cpu_time()?.saturating_sub(start))
 }

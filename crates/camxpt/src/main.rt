@@ -4,6 +4,7 @@
 use std::io::IsTerminal;
 use std::process::ExitCode;
 
+mod completion;
 mod failure;
 mod note;
 mod output;
@@ -11,8 +12,11 @@ mod program;
 mod progress;
 mod proof_run;
 mod script_run;
+mod shell;
 mod source;
+mod subcommands;
 mod trace_run;
+mod word;
 mod words;
 
 fn main(rt: HostRuntime) -> ExitCode {

@@ -2,6 +2,7 @@
 
 use crate::failure::Failure;
 use audit_report::AuditFault;
+use std::alloc::AllocError;
 use std::io;
 use text_io::{Watched, write_whole};
 
@@ -11,4 +12,11 @@ pub fn print<R: Print>(rt: &R, text: &str) -> Result<(), Failure> {
         Ok(()) => Ok(()),
         Err(_) => Err(Failure::Audit(AuditFault::WriteFailed)),
     }
+}
+
+/// The line with its line feed.
+pub fn closed(line: Result<String, AllocError>) -> Result<String, Failure> {
+    let mut line = line?;
+    line.push('\n')?;
+    Ok(line)
 }

@@ -5,13 +5,14 @@ use crate::note::{Named, note_on};
 use crate::output::print;
 use crate::proof_run::prove;
 use crate::script_run::ScriptRun;
+use crate::shell::Shell;
 use crate::source::{STANDARD_INPUT, Source, read};
+use crate::subcommands::command;
 use crate::trace_run::TraceRun;
 use crate::words::words;
 use audit_report::{AuditFault, read_net};
 use clap::ArgMatches;
 use clap::error::ErrorKind;
-use command_line::{Shell, command};
 use std::process::ExitCode;
 use std::rt::Runtime;
 use std::sync::Wait;
@@ -89,26 +90,46 @@ fn obey<R: Runtime + AllocGlobal + Threads + Wait + Sync>(
     matches: &ArgMatches<'_>,
     on_terminal: bool,
 ) -> Result<ExitCode, Failure> {
-    match matches.subcommand() {
-        Some(("check", words)) => over_trace(rt, words, TraceRun::Check),
-        Some(("audit", words)) => {
-            let summary = words.get_flag("summary");
-            over_trace(rt, words, TraceRun::Audit { summary })
-        }
-        Some(("explain", words)) => {
-            let top = words.get_one("top").unwrap_or(TOP);
-            over_trace(rt, words, TraceRun::Explain { top })
-        }
-        Some(("draw", words)) => over_trace(rt, words, TraceRun::Draw),
-        Some(("migrate", words)) => over_trace(rt, words, TraceRun::Migrate),
-        Some(("prove", words)) => over_report(rt, words),
-        Some(("sim", words)) => {
-            let seed = words.get_one("SEED").unwrap_or(0);
-            over_script(rt, words, ScriptRun::Sim { seed })
-        }
-        Some(("run", words)) => over_script(rt, words, ScriptRun::Live { on_terminal }),
-        Some(("completions", words)) => complete(rt, words.get_str("SHELL").unwrap_or("")),
+    let Some((name, words)) = matches.subcommand() else {
+        return over_input(rt);
+    };
+    if let Some(run) = trace_run(name, words) {
+        return over_trace(rt, words, run);
+    }
+    if let Some(run) = script_run(name, words, on_terminal) {
+        return over_script(rt, words, run);
+    }
+    match name {
+        "prove" => over_report(rt, words),
+        "completions" => complete(rt, words.get_str("SHELL").unwrap_or("")),
         _ => over_input(rt),
+    }
+}
+
+// What the subcommand of this name does with a trace, if it takes one.
+fn trace_run(name: &str, words: &ArgMatches<'_>) -> Option<TraceRun> {
+    match name {
+        "check" => Some(TraceRun::Check),
+        "audit" => Some(TraceRun::Audit {
+            summary: words.get_flag("summary"),
+        }),
+        "explain" => Some(TraceRun::Explain {
+            top: words.get_one("top").unwrap_or(TOP),
+        }),
+        "draw" => Some(TraceRun::Draw),
+        "migrate" => Some(TraceRun::Migrate),
+        _ => None,
+    }
+}
+
+// How the subcommand of this name runs a script, if it takes one.
+fn script_run(name: &str, words: &ArgMatches<'_>, on_terminal: bool) -> Option<ScriptRun> {
+    match name {
+        "sim" => Some(ScriptRun::Sim {
+            seed: words.get_one("SEED").unwrap_or(0),
+        }),
+        "run" => Some(ScriptRun::Live { on_terminal }),
+        _ => None,
     }
 }
 
@@ -132,7 +153,6 @@ fn over_trace<R: Runtime + AllocGlobal + Threads + Sync>(
     }
 }
 
-// The status is 1 for a report that isn't proved.
 fn over_report<R: Runtime + AllocGlobal + Threads + Sync>(
     rt: &R,
     words: &ArgMatches<'_>,
@@ -148,17 +168,25 @@ fn over_report<R: Runtime + AllocGlobal + Threads + Sync>(
         name: trace,
         text: source.read(rt)?,
     };
-    let report = match behind.read(rt) {
-        Ok(text) => Named { name: report, text },
-        Err(fault) => return refuse(rt, words, &trace, fault),
-    };
-    let answer = prove(rt, &trace, &report, words.get_flag("json"));
-    match answer {
+    match behind.read(rt) {
+        Ok(text) => over_texts(rt, words, &trace, &Named { name: report, text }),
+        Err(fault) => refuse(rt, words, &trace, fault),
+    }
+}
+
+// The status is 1 for a report that isn't proved.
+fn over_texts<R: Runtime + AllocGlobal + Threads + Sync>(
+    rt: &R,
+    words: &ArgMatches<'_>,
+    trace: &Named<'_>,
+    report: &Named<'_>,
+) -> Result<ExitCode, Failure> {
+    match prove(rt, trace, report, words.get_flag("json")) {
         Ok(true) => Ok(ExitCode::SUCCESS),
         Ok(false) => Ok(ExitCode::FAILURE),
         Err(failure) => {
             let is_verbose = words.get_flag("verbose");
-            Ok(tell_on(rt, &failure, is_verbose, &trace, Some(&report)))
+            Ok(tell_on(rt, &failure, is_verbose, trace, Some(report)))
         }
     }
 }

@@ -2,9 +2,10 @@
 
 use crate::failure::Failure;
 use crate::note::Named;
-use crate::output::print;
+use crate::output::{closed, print};
 use audit_report::run_prove;
 use json_lines::prove_json;
+use std::alloc::Global;
 use std::io;
 use text_io::Watched;
 
@@ -18,19 +19,38 @@ pub fn prove<R: Print + AllocGlobal>(
     report: &Named<'_>,
     as_json: bool,
 ) -> Result<bool, Failure> {
-    let alloc = rt.alloc();
-    let mut trace_text = Watched::new(trace.text.as_slice());
-    let mut report_text = Watched::new(report.text.as_slice());
-    if !as_json {
-        let mut out = Watched::new(io::writer(rt));
-        return Ok(run_prove(alloc, &mut trace_text, &mut report_text, &mut out)?);
+    if as_json {
+        return prove_as_json(rt, trace, report);
     }
-    let mut line = Vec::with_capacity(alloc, MOST_FINDING)?;
-    let mut out = Watched::new(&mut line);
-    let is_proved = run_prove(alloc, &mut trace_text, &mut report_text, &mut out)?;
-    let finding = str::from_utf8(&line).unwrap_or("").trim_end();
-    let mut line = prove_json(alloc, trace.name, report.name, finding)?;
-    line.push('\n')?;
+    let mut trace = Watched::new(trace.text.as_slice());
+    let mut report = Watched::new(report.text.as_slice());
+    let mut out = Watched::new(io::writer(rt));
+    Ok(run_prove(rt.alloc(), &mut trace, &mut report, &mut out)?)
+}
+
+fn prove_as_json<R: Print + AllocGlobal>(
+    rt: &R,
+    trace: &Named<'_>,
+    report: &Named<'_>,
+) -> Result<bool, Failure> {
+    let alloc = rt.alloc();
+    let mut finding = Vec::with_capacity(alloc, MOST_FINDING)?;
+    let is_proved = find(alloc, trace, report, &mut finding)?;
+    let finding = str::from_utf8(&finding).unwrap_or("").trim_end();
+    let line = closed(prove_json(alloc, trace.name, report.name, finding))?;
     print(rt, &line)?;
     Ok(is_proved)
+}
+
+// Puts the line that says what comes of the report behind these bytes.
+fn find(
+    alloc: Global,
+    trace: &Named<'_>,
+    report: &Named<'_>,
+    finding: &mut Vec<u8>,
+) -> Result<bool, Failure> {
+    let mut trace = Watched::new(trace.text.as_slice());
+    let mut report = Watched::new(report.text.as_slice());
+    let mut out = Watched::new(finding);
+    Ok(run_prove(alloc, &mut trace, &mut report, &mut out)?)
 }

@@ -11,7 +11,7 @@ use std::rt::Runtime;
 use std::sync::Wait;
 use std::thread::Threads;
 use text_io::Watched;
-use trace_file::{read_script, write_trace};
+use trace_file::{Script, read_script, write_trace};
 
 /// How a script is run.
 #[derive(Clone, Copy)]
@@ -37,21 +37,29 @@ impl ScriptRun {
     ) -> Result<Ending, Failure> {
         let alloc = rt.alloc();
         let script = read_script(alloc, &mut Watched::new(script.text.as_slice()))?;
-        let (history, ending) = match self {
+        match self {
             ScriptRun::Sim { seed } => {
                 let run = sim_run(alloc, &script, seed)?;
-                (run.history, run.ending)
+                write_trace(alloc, &run.history, &mut Watched::new(io::writer(rt)))?;
+                Ok(run.ending)
             }
-            ScriptRun::Live { on_terminal } => {
-                let ports = ScriptPort::for_lanes(alloc, &script)?;
-                let line = ProgressLine::new(rt, on_terminal);
-                let run = run_live(rt, alloc, &script, ports, &line);
-                line.clear();
-                let run = run?;
-                (run.history, run.ending)
-            }
-        };
-        write_trace(alloc, &history, &mut Watched::new(io::writer(rt)))?;
-        Ok(ending)
+            ScriptRun::Live { on_terminal } => over_threads(rt, &script, on_terminal),
+        }
     }
+}
+
+// Runs the script with threads, writes the trace and answers how the run ended.
+fn over_threads<R: Runtime + AllocGlobal + Threads + Wait + Sync>(
+    rt: &R,
+    script: &Script,
+    on_terminal: bool,
+) -> Result<Ending, Failure> {
+    let alloc = rt.alloc();
+    let ports = ScriptPort::for_lanes(alloc, script)?;
+    let line = ProgressLine::new(rt, on_terminal);
+    let run = run_live(rt, alloc, script, ports, &line);
+    line.clear();
+    let run = run?;
+    write_trace(alloc, &run.history, &mut Watched::new(io::writer(rt)))?;
+    Ok(run.ending)
 }

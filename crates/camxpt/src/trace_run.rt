@@ -2,16 +2,16 @@
 
 use crate::failure::Failure;
 use crate::note::Named;
-use crate::output::print;
+use crate::output::{closed, print};
 use audit_report::{read_net, run_audit_with, run_check, run_migrate};
 use cost_plan::{OpenGate, plan_with};
-use draw_page::page as drawing;
-use explain_page::page;
 use json_lines::{audit_json, check_json, explain_json};
+use std::alloc::AllocError;
 use std::io;
 use std::thread::Threads;
 use text_io::Watched;
 use wait_causes::Explanation;
+use wait_pages::{draw, page};
 
 /// What is done with a trace.
 #[derive(Clone, Copy)]
@@ -65,28 +65,25 @@ impl TraceRun {
         let alloc = rt.alloc();
         let (history, net) = read_net(alloc, &mut Watched::new(trace.text.as_slice()))?;
         if let TraceRun::Check = self {
-            return closed(check_json(alloc, trace.name, &history)?);
+            return closed(check_json(alloc, trace.name, &history));
         }
         let best = plan_with(rt, alloc, &net, &OpenGate)?;
         if let TraceRun::Audit { summary } = self {
             let (schedule, prices) = (&best.schedule, &best.prices);
-            return closed(audit_json(
-                alloc, trace.name, &history, &net, schedule, prices, summary,
-            )?);
+            return closed(audit_json(alloc, trace.name, &history, &net, schedule, prices, summary));
         }
         let explanation = Explanation::of_net(alloc, &history, &net, &best.schedule)?;
         match self {
             TraceRun::Explain { top } if !as_json => {
-                Ok(page(alloc, history.config(), &explanation, top)?)
+                made(page(alloc, history.config(), &explanation, top))
             }
-            TraceRun::Draw => Ok(drawing(alloc, trace.name, history.config(), &net, &explanation)?),
-            _ => closed(explain_json(alloc, trace.name, &history, &explanation)?),
+            TraceRun::Draw => made(draw(alloc, trace.name, history.config(), &net, &explanation)),
+            _ => closed(explain_json(alloc, trace.name, &history, &explanation)),
         }
     }
 }
 
-// The line with its line feed.
-fn closed(mut line: String) -> Result<String, Failure> {
-    line.push('\n')?;
-    Ok(line)
+// The text, unless there was no memory.
+fn made(text: Result<String, AllocError>) -> Result<String, Failure> {
+    Ok(text?)
 }

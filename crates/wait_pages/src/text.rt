@@ -1,0 +1,12 @@
+//! The text that says where the commands of a history waited, and why.
+
+pub use layout::page;
+
+mod columns;
+mod freezes;
+mod layout;
+mod order;
+mod stays;
+mod tables;
+mod weights;
+mod worst;

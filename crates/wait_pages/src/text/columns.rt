@@ -1,0 +1,33 @@
+//! The columns and labels of tables.
+
+use cam_path::path_name;
+use cam_types::Config;
+use std::alloc::{AllocError, Global};
+use wait_causes::Grouping;
+
+/// Puts each of these widths' numbers behind the text, flush right behind a space.
+pub(crate) fn push_columns(text: &mut String, columns: &[(usize, u64)]) -> Result<(), AllocError> {
+    for (width, number) in columns {
+        write!(text, " {number:>width$}", width = *width)?;
+    }
+    Ok(())
+}
+
+/// The adapter, device, driver or run level of this number, in words.
+pub(crate) fn label(
+    alloc: Global,
+    config: &Config,
+    by: Grouping,
+    number: u32,
+) -> Result<String, AllocError> {
+    let name = match by {
+        Grouping::Device => {
+            let path = path_name(alloc, config, number)?;
+            return format!(in alloc; "device {path}");
+        }
+        Grouping::Adapter => "adapter",
+        Grouping::Driver => "driver",
+        Grouping::Level => "run level",
+    };
+    format!(in alloc; "{name} {number}")
+}

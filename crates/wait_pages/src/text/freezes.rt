@@ -1,0 +1,73 @@
+//! The freezes that cost most.
+
+use crate::text::columns::{label, push_columns};
+use cam_types::Config;
+use std::alloc::{AllocError, Global};
+use wait_causes::{Freeze, FreezeKind, Grouping};
+
+// What stands above the freezes.
+const HEAD: &str = "\nThe freezes that cost most:\n\n\
+\x20 frozen            by        first  last      cost\n";
+
+/// Puts at most so many of the freezes at these places behind the text.
+pub(crate) fn push_freezes(
+    alloc: Global,
+    text: &mut String,
+    config: &Config,
+    freezes: &[Freeze],
+    places: &[usize],
+    top: usize,
+) -> Result<(), AllocError> {
+    if places.is_empty() || top == 0 {
+        return Ok(());
+    }
+    text.push_str(HEAD)?;
+    for place in places.iter().take(top) {
+        if let Some(freeze) = freezes.get(*place) {
+            push_freeze(alloc, text, config, freeze)?;
+        }
+    }
+    Ok(())
+}
+
+// A line on a freeze.
+fn push_freeze(
+    alloc: Global,
+    text: &mut String,
+    config: &Config,
+    freeze: &Freeze,
+) -> Result<(), AllocError> {
+    let name = frozen_name(alloc, config, freeze)?;
+    let by = frozen_by(freeze.kind);
+    write!(text, "  {name:<17} {by:<8}")?;
+    push_columns(
+        text,
+        &[
+            (6, u64::from(freeze.first)),
+            (5, u64::from(freeze.last)),
+            (9, freeze.cost),
+        ],
+    )?;
+    writeln!(text)
+}
+
+/// Who froze.
+pub(crate) fn frozen_by(kind: FreezeKind) -> &'static str {
+    match kind {
+        FreezeKind::Error => "an error",
+        FreezeKind::Caller | FreezeKind::Adapter => "a caller",
+    }
+}
+
+/// The device or the adapter that was frozen.
+pub(crate) fn frozen_name(
+    alloc: Global,
+    config: &Config,
+    freeze: &Freeze,
+) -> Result<String, AllocError> {
+    let by = match freeze.kind {
+        FreezeKind::Error | FreezeKind::Caller => Grouping::Device,
+        FreezeKind::Adapter => Grouping::Adapter,
+    };
+    label(alloc, config, by, freeze.number)
+}

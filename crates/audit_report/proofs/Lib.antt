@@ -1,4 +1,3 @@
 pub mod AuditLemmas
 pub mod CostLemmas
 pub mod ProveLemmas
-pub mod ReportLemmas

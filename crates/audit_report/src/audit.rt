@@ -16,8 +16,8 @@ ghost use Rattle.cam_types.specs.declared.maxima.TheConstants.{MOST_STAYS, MOST_
 
 use crate::audit_fault::AuditFault;
 use crate::costs::Costs;
-use crate::report::{push_plan, push_summary};
 use cost_plan::{BestPlan, plan};
+use price_check::{push_plan, push_summary};
 use round_net::{Net, NetFault};
 use std::alloc::{AllocError, Global};
 use std::io::{Read, Write};
@@ -116,7 +116,8 @@ fn audit_text(
 {
     let lines = net.stays() as usize + best.prices.cells();
     let mut text = Vec::with_capacity(alloc, 40 * lines)?;
-    push_summary(&mut text, history, Costs::of(history, net, &best.schedule))?;
+    let costs = Costs::of(history, net, &best.schedule);
+    push_summary(&mut text, history, costs.live, costs.best, costs.excess)?;
     push_rest(&mut text, history, net, best, summary)?;
     Ok(text)
 }

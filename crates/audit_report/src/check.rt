@@ -8,7 +8,7 @@ ghost use Rattle.audit_report.specs.Check.{check_text, IsCheck};
 ghost use Rattle.audit_report.specs.Runs.{Ended};
 
 use crate::audit_fault::AuditFault;
-use crate::text::push_line;
+use price_check::push_line;
 use std::alloc::{AllocError, Global};
 use std::io::{Read, Write};
 use text_io::{Watched, write_whole};

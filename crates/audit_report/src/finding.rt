@@ -9,10 +9,9 @@ ghost use Rattle.price_check.specs.Verdicts.{IsBest};
 ghost use Rattle.audit_report.specs.Findings.{IsProved, IsRight, Says, is_proved, cause_text, gap_text, stay_text, finding_text};
 
 use crate::costs::Costs;
-use crate::text::push_name;
 use cam_event::StayName;
 use itoa::Buffer;
-use price_check::{Cause, Claim, Verdict, check};
+use price_check::{Cause, Claim, Verdict, check, push_name};
 use round_net::Net;
 use std::alloc::{AllocError, Global};
 use xpt_state::History;

@@ -16,5 +16,3 @@ mod costs;
 mod finding;
 mod migrate;
 mod prove;
-mod report;
-mod text;

@@ -19,7 +19,7 @@ fn linked(openings: u32) -> Adapter {
 }
 
 #[test]
-fn the_first_rule_that_is_broken_is_named(rt: HostRuntime) {
+fn a_table_of_weights_that_breaks_a_rule_is_refused(rt: HostRuntime) {
     let tables: [&[WeightRow]; 6] = [
         &[],
         &[row(1278, 1)],
@@ -33,6 +33,10 @@ fn the_first_rule_that_is_broken_is_named(rt: HostRuntime) {
         let due = ConfigError::Fault(ConfigFault::BadWeight);
         assert_eq!(rt; made.err(), Some(due), "{table:?}");
     }
+}
+
+#[test]
+fn the_first_rule_that_is_broken_is_named(rt: HostRuntime) {
     let twice = [device(0, 1, 2), device(0, 1, 2)];
     let parts: [(&[u32], &[Device], &[u32], ConfigFault); 5] = [
         (&[], &[], &[], ConfigFault::NoAdapters),
@@ -45,6 +49,10 @@ fn the_first_rule_that_is_broken_is_named(rt: HostRuntime) {
         let made = Config::new(rt.alloc(), adapters, devices, lanes);
         assert_eq!(rt; made.err(), Some(ConfigError::Fault(fault)), "due {fault}");
     }
+}
+
+#[test]
+fn the_first_rule_of_links_that_is_broken_is_named(rt: HostRuntime) {
     let links: [(&[u32], &[Adapter], ConfigFault); 8] = [
         (&[1, 1, 1, 1, 1], &[linked(1)], ConfigFault::TooMany),
         (&[1, 1, 1, 1, 1], &[], ConfigFault::TooMany),

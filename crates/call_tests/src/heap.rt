@@ -2,6 +2,7 @@
 
 use cam_types::Priority;
 use camq_heap::{Camq, QueueFull};
+use std::alloc::Global;
 use std::process::Abort;
 use std::test::Fail;
 
@@ -24,29 +25,42 @@ fn insert(
     }
 }
 
+// A full queue of these priorities and generations, all with the item `a`.
+fn full(rt: &impl Abort, alloc: Global, entries: &[(u32, u64); 3]) -> Result<Camq<u8>, Fail> {
+    let mut queue = Camq::with_capacity(alloc, entries.len())?;
+    for (number, generation) in entries {
+        insert(rt, &mut queue, *number, *generation, b'a');
+    }
+    Ok(queue)
+}
+
+// Takes the first entry out: its generation, and how many are left.
+fn leave(queue: &mut Camq<u8>) -> Option<(u64, usize)> {
+    let first = queue.remove_first()?;
+    Some((first.generation, queue.len()))
+}
+
 #[test]
 fn equal_priorities_leave_in_the_order_they_came(rt: HostRuntime) -> Result<(), Fail> {
-    let mut queue = Camq::with_capacity(rt.alloc(), 3)?;
-    assert!(rt; queue.is_empty());
-    for (number, generation) in [(1152, 0), (896, 1), (1152, 2)] {
-        assert_eq!(rt; insert(&rt, &mut queue, number, generation, b'a'), None);
-    }
-    assert!(rt; queue.is_full());
-    assert_eq!(rt; queue.capacity(), 3);
+    let mut queue = full(&rt, rt.alloc(), &[(1152, 0), (896, 1), (1152, 2)])?;
+    let holds = (queue.is_full(), queue.capacity(), queue.is_empty());
+    let back = insert(&rt, &mut queue, 0, 3, b'z');
+    let first = queue.first().map(|entry| entry.generation);
     assert_eq!(rt;
-        insert(&rt, &mut queue, 0, 3, b'z'),
-        Some(b'z'),
+        (holds, back, first),
+        ((true, 3, false), Some(b'z'), Some(1)),
         "the fourth comes back"
     );
-    assert_eq!(rt; queue.first().map(|entry| entry.generation), Some(1));
-    for (generation, left) in [(1, 2), (0, 1), (2, 0)] {
-        assert_eq!(rt;
-            queue.remove_first().map(|entry| entry.generation),
-            Some(generation)
-        );
-        assert_eq!(rt; queue.len(), left);
-    }
-    assert!(rt; queue.remove_first().is_none());
+    let left = [
+        leave(&mut queue),
+        leave(&mut queue),
+        leave(&mut queue),
+        leave(&mut queue),
+    ];
+    assert_eq!(rt;
+        (left, queue.is_empty()),
+        ([Some((1, 2)), Some((0, 1)), Some((2, 0)), None], true)
+    );
     Ok(())
 }
 
@@ -67,19 +81,13 @@ fn moves_are_counted(rt: HostRuntime) -> Result<(), Fail> {
 
 #[test]
 fn an_entry_is_found_by_its_place(rt: HostRuntime) -> Result<(), Fail> {
-    let mut queue = Camq::with_capacity(rt.alloc(), 3)?;
-    for (number, generation) in [(500, 7), (400, 8), (300, 9)] {
-        insert(&rt, &mut queue, number, generation, b'a');
-    }
+    let mut queue = full(&rt, rt.alloc(), &[(500, 7), (400, 8), (300, 9)])?;
     assert_eq!(rt; queue.len(), 3);
     queue.change_priority(2, Priority::new(100).expect(&rt, "a priority"));
-    assert_eq!(rt; queue.first().map(|entry| entry.generation), Some(7));
-    assert_eq!(rt; queue.len(), 3);
+    let first = queue.first().map(|entry| entry.generation);
     let middle = queue.remove_at(1);
-    assert_eq!(rt;
-        (middle.generation, middle.priority.number(), middle.item),
-        (9, 300, b'a')
-    );
-    assert_eq!(rt; queue.moved(), 1, "as the last insert left it");
+    let seen = (middle.generation, middle.priority.number(), middle.item);
+    // The count of moves is as the last insert left it.
+    assert_eq!(rt; (first, seen, queue.moved()), (Some(7), (9, 300, b'a'), 1));
     Ok(())
 }

@@ -1,14 +1,9 @@
-//! Tests of public calls: of a transport's slots, heap and sense data, of its seats, receipts and gathering, of runs on many
-//! threads, and of what only code can see where traces are read, planned and audited. They stand here so that no crate is
-//! proved twice for its tests.
+//! Tests of public calls: of a transport's slots, heap and sense data, of runs on many threads, and of what only code can see
+//! where traces are read, planned and audited. They stand here so that no crate is proved twice for its tests.
 #![tactic(auto)]
 
 #[cfg(test)]
 mod at_once;
-#[cfg(test)]
-mod bells;
-#[cfg(test)]
-mod calls;
 #[cfg(test)]
 mod ccb_slots;
 #[cfg(test)]
@@ -19,8 +14,6 @@ mod events;
 mod failing_devices;
 #[cfg(test)]
 mod fakes;
-#[cfg(test)]
-mod frame;
 #[cfg(test)]
 mod guesses;
 #[cfg(test)]
@@ -40,8 +33,6 @@ mod scripts;
 #[cfg(test)]
 mod search;
 #[cfg(test)]
-mod seats;
-#[cfg(test)]
 mod sense;
 #[cfg(test)]
 mod small;
@@ -49,7 +40,5 @@ mod small;
 mod telling;
 #[cfg(test)]
 mod texts;
-#[cfg(test)]
-mod threads;
 #[cfg(test)]
 mod whole;

@@ -1,7 +1,7 @@
 //! Scripts, and runs of them.
 
 use live_worker::{LiveRun, Untold, run_live};
-use sim_worker::ScriptPort;
+use run_rules::ScriptPort;
 use std::alloc::Global;
 use std::sync::Wait;
 use std::test::Fail;

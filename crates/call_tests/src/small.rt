@@ -7,7 +7,9 @@ use cam_types::{Config, Device, Flags, Limits, Outcome};
 use cost_plan::{OpenGate, plan, plan_with};
 use round_net::{Net, cost};
 use std::alloc::Global;
+use std::process::Abort;
 use std::test::Fail;
+use std::thread::Threads;
 use xpt_state::{History, Sent, Xpt};
 
 const NETS: u32 = 1_000;
@@ -16,36 +18,86 @@ const DEVICES: u32 = 3;
 
 const ROUNDS: u32 = 6;
 
+// How many nets there were; and of these, how many with a device that takes none in some round, how many with a window that
+// ends before the last round, and how many whose live schedule wasn't best.
+#[derive(Clone, Copy, Debug, Default)]
+struct Kinds {
+    nets: u32,
+    closed: u32,
+    cut: u32,
+    dear: u32,
+}
+
 #[test]
 fn a_plan_of_a_small_net_costs_the_least(rt: HostRuntime) -> Result<(), Fail> {
-    let alloc = rt.alloc();
-    let (mut nets, mut closed, mut cut, mut dear) = (0u32, 0u32, 0u32, 0u32);
+    let mut kinds = Kinds::default();
     for seed in 0..4 * NETS {
-        if nets == NETS {
-            break;
+        if kinds.nets < NETS {
+            try_seed(&rt, rt.alloc(), seed, &mut kinds)?;
         }
-        let history = history(alloc, seed)?;
-        if history.unsent().is_some() {
-            continue;
-        }
-        let net = Net::of(alloc, &history)?;
-        let least = least_cost(alloc, &net)?;
-        let alone = plan(alloc, &net)?;
-        let at_once = plan_with(&rt, alloc, &net, &OpenGate)?;
-        let costs = [cost(&net, &alone.schedule), cost(&net, &at_once.schedule)];
-        assert_eq!(rt; costs, [least, least], "seed {seed}, alone and at once");
-        nets = nets.saturating_add(1);
-        closed = closed.saturating_add(u32::from(has_closed_cell(&net)));
-        cut = cut.saturating_add(u32::from(has_cut_window(&net)));
-        dear = dear.saturating_add(u32::from(history.live_cost() > least));
     }
-    // Many of the nets have a device that takes none in some round, many have a window that ends before the last round, and
-    // of many the live schedule wasn't best.
+    let Kinds {
+        nets,
+        closed,
+        cut,
+        dear,
+    } = kinds;
     assert!(rt;
         nets == NETS && closed > NETS / 4 && cut > NETS / 4 && dear > NETS / 4,
-        "{nets} {closed} {cut} {dear}"
+        "{kinds:?}"
     );
     Ok(())
+}
+
+// Plans the net of the seed's history, if each stay was sent.
+fn try_seed<R: Threads + Abort + Sync>(
+    rt: &R,
+    alloc: Global,
+    seed: u32,
+    kinds: &mut Kinds,
+) -> Result<(), Fail> {
+    let history = history(alloc, seed)?;
+    if history.unsent().is_some() {
+        return Ok(());
+    }
+    try_net(
+        rt,
+        alloc,
+        &Net::of(alloc, &history)?,
+        history.live_cost(),
+        seed,
+        kinds,
+    )
+}
+
+fn try_net<R: Threads + Abort + Sync>(
+    rt: &R,
+    alloc: Global,
+    net: &Net,
+    live: Option<u64>,
+    seed: u32,
+    kinds: &mut Kinds,
+) -> Result<(), Fail> {
+    let least = least_cost(alloc, net)?;
+    let costs = [alone(alloc, net)?, at_once(rt, alloc, net)?];
+    assert_eq!(rt; costs, [least, least], "seed {seed}, alone and at once");
+    kinds.nets = kinds.nets.saturating_add(1);
+    kinds.closed = kinds.closed.saturating_add(u32::from(has_closed_cell(net)));
+    kinds.cut = kinds.cut.saturating_add(u32::from(has_cut_window(net)));
+    kinds.dear = kinds.dear.saturating_add(u32::from(live > least));
+    Ok(())
+}
+
+// What a plan that is made on one thread costs.
+fn alone(alloc: Global, net: &Net) -> Result<Option<u64>, Fail> {
+    let best = plan(alloc, net)?;
+    Ok(cost(net, &best.schedule))
+}
+
+// What a plan costs whose adapters are planned at once.
+fn at_once<R: Threads + Sync>(rt: &R, alloc: Global, net: &Net) -> Result<Option<u64>, Fail> {
+    let best = plan_with(rt, alloc, net, &OpenGate)?;
+    Ok(cost(net, &best.schedule))
 }
 
 fn has_closed_cell(net: &Net) -> bool {

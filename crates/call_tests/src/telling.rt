@@ -2,8 +2,7 @@
 
 use crate::scripts::script;
 use live_worker::{Progress, run_live};
-use run_rules::Ending;
-use sim_worker::ScriptPort;
+use run_rules::{Ending, ScriptPort};
 use std::sync::atomic::{AtomicU32, Ordering};
 use std::test::Fail;
 use xpt_state::Look;

@@ -5,7 +5,7 @@ use crate::note::Named;
 use crate::progress::ProgressLine;
 use live_worker::run_live;
 use run_rules::Ending;
-use sim_worker::{ScriptPort, sim_run};
+use sim_worker::sim_run;
 use std::io;
 use std::rt::Runtime;
 use std::sync::Wait;

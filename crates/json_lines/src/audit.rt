@@ -9,6 +9,7 @@ ghost use Rattle.round_net.specs.PriceRows.{IsPricingFor};
 use crate::counts::Counts;
 use crate::line::line;
 use crate::prices::{Price, price_list};
+use crate::stays::Rounds;
 use round_net::{Net, Prices, Schedule, cost};
 use serde::Serialize;
 use std::alloc::{AllocError, Global};
@@ -33,9 +34,8 @@ struct Scheduled {
     ccb: u32,
     #[serde(rename = "try")]
     attempt: u32,
-    arrival: u32,
-    live: u32,
-    best: u32,
+    #[serde(flatten)]
+    rounds: Rounds,
     weight: u32,
 }
 
@@ -104,9 +104,11 @@ fn stay_list(alloc: Global, net: &Net, schedule: &Schedule) -> Result<Vec<Schedu
         list.push(Scheduled {
             ccb: name.ccb,
             attempt: name.attempt,
-            arrival: net.arrival(stay),
-            live: net.live(stay),
-            best: schedule.round(stay),
+            rounds: Rounds {
+                arrival: net.arrival(stay),
+                live: net.live(stay),
+                best: schedule.round(stay),
+            },
             weight: net.weight(stay),
         })?;
     }

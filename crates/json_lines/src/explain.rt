@@ -7,7 +7,7 @@ ghost use Rattle.json.specs.Print.{print};
 use crate::counts::Counts;
 use crate::freezes::{ListedFreeze, freeze_list};
 use crate::line::line;
-use crate::parts::{Causes, Tables};
+use crate::parts::{Costs, Tables};
 use crate::stays::{ListedStay, stay_list};
 use serde::Serialize;
 use std::alloc::{AllocError, Global};
@@ -18,10 +18,8 @@ use xpt_state::History;
 struct Explained<'a> {
     #[serde(flatten)]
     counts: Counts<'a>,
-    live: u64,
-    best: u64,
-    excess: i128,
-    causes: Causes,
+    #[serde(flatten)]
+    costs: Costs,
     #[serde(flatten)]
     tables: Tables,
     freezes: Vec<ListedFreeze>,
@@ -39,14 +37,10 @@ pub fn explain_json(
 ) -> Result<String, AllocError>
     ensures { IfOk result (λ s. string_bytes s ≡ print (tokens (string_bytes s))) }
 {
-    let whole = explanation.whole();
     let config = history.config();
     let explained = Explained {
         counts: Counts::of(alloc, trace, history)?,
-        live: whole.live,
-        best: whole.best,
-        excess: whole.excess(),
-        causes: Causes::of(&whole.costs, config),
+        costs: Costs::of(&explanation.whole(), config),
         tables: Tables::of(alloc, config, explanation)?,
         freezes: freeze_list(alloc, explanation)?,
         list: stay_list(alloc, explanation)?,

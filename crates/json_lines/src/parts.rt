@@ -6,9 +6,9 @@ use serde::Serialize;
 use std::alloc::{AllocError, Global};
 use wait_causes::{Cause, CauseCosts, Explanation, Grouping, Part, Row};
 
-/// Weighted rounds by cause, that of full links only where there are links.
+// Weighted rounds by cause, that of full links only where there are links.
 #[derive(Clone, Copy, Drop, Serialize)]
-pub(crate) struct Causes {
+struct Causes {
     error: u64,
     caller: u64,
     adapter_frozen: u64,
@@ -20,8 +20,8 @@ pub(crate) struct Causes {
 }
 
 impl Causes {
-    /// Those of these costs in a configuration.
-    pub(crate) fn of(costs: &CauseCosts, config: &Config) -> Causes {
+    // Those of these costs in a configuration.
+    fn of(costs: &CauseCosts, config: &Config) -> Causes {
         Causes {
             error: costs.error,
             caller: costs.caller,
@@ -30,6 +30,28 @@ impl Causes {
             adapter_full: costs.adapter_full,
             link_full: Cause::LinkFull.can_hold(config).then_some(costs.link_full),
             not_asked: costs.not_asked,
+        }
+    }
+}
+
+/// What the waiting of some stays cost in weighted rounds: by the live schedule, by the other one, the difference, and the
+/// live cost by cause.
+#[derive(Clone, Copy, Drop, Serialize)]
+pub(crate) struct Costs {
+    live: u64,
+    best: u64,
+    excess: i128,
+    causes: Causes,
+}
+
+impl Costs {
+    /// Those of a part of the stays of a configuration.
+    pub(crate) fn of(part: &Part, config: &Config) -> Costs {
+        Costs {
+            live: part.live,
+            best: part.best,
+            excess: part.excess(),
+            causes: Causes::of(&part.costs, config),
         }
     }
 }
@@ -49,15 +71,33 @@ struct TableRow {
     number: u32,
     #[serde(skip_serializing_if = "Option::is_none")]
     path: Option<String>,
+    #[serde(flatten)]
+    waited: Waited,
+    #[serde(flatten)]
+    costs: Costs,
+}
+
+// How many stays there are, and how many rounds they waited: together, and the median, 90 % and longest wait.
+#[derive(Clone, Copy, Drop, Serialize)]
+struct Waited {
     stays: u32,
     waited: u64,
     p50: u32,
     p90: u32,
     max: u32,
-    live: u64,
-    best: u64,
-    excess: i128,
-    causes: Causes,
+}
+
+impl Waited {
+    // That of the stays of a part.
+    fn of(part: &Part) -> Waited {
+        Waited {
+            stays: part.stays,
+            waited: part.waited,
+            p50: part.p50,
+            p90: part.p90,
+            max: part.max,
+        }
+    }
 }
 
 impl Tables {
@@ -97,18 +137,10 @@ fn row_of(alloc: Global, config: &Config, row: &Row, by: Grouping) -> Result<Tab
         Grouping::Device => Some(path_name(alloc, config, row.number)?),
         _ => None,
     };
-    let part: &Part = &row.part;
     Ok(TableRow {
         number: row.number,
         path,
-        stays: part.stays,
-        waited: part.waited,
-        p50: part.p50,
-        p90: part.p90,
-        max: part.max,
-        live: part.live,
-        best: part.best,
-        excess: part.excess(),
-        causes: Causes::of(&part.costs, config),
+        waited: Waited::of(&row.part),
+        costs: Costs::of(&row.part, config),
     })
 }

@@ -7,6 +7,16 @@ use wait_causes::{Cause, ExplainedStay, Explanation, Wait};
 /// A stay, where both schedules send it, and why it waited.
 #[derive(Drop, Serialize)]
 pub(crate) struct ListedStay {
+    #[serde(flatten)]
+    asked: Asked,
+    #[serde(flatten)]
+    rounds: Rounds,
+    waits: Vec<ListedWait>,
+}
+
+// A stay's name, and what its driver asked for.
+#[derive(Clone, Copy, Drop, Serialize)]
+struct Asked {
     ccb: u32,
     #[serde(rename = "try")]
     attempt: u32,
@@ -14,10 +24,28 @@ pub(crate) struct ListedStay {
     device: u32,
     priority: u32,
     weight: u16,
-    arrival: u32,
-    live: u32,
-    best: u32,
-    waits: Vec<ListedWait>,
+}
+
+impl Asked {
+    // That of a stay.
+    fn of(stay: &ExplainedStay) -> Asked {
+        Asked {
+            ccb: stay.ccb,
+            attempt: stay.attempt,
+            driver: stay.driver,
+            device: stay.device,
+            priority: stay.priority,
+            weight: stay.weight,
+        }
+    }
+}
+
+/// The rounds in which a stay arrived and in which the two schedules send it.
+#[derive(Clone, Copy, Drop, Serialize)]
+pub(crate) struct Rounds {
+    pub(crate) arrival: u32,
+    pub(crate) live: u32,
+    pub(crate) best: u32,
 }
 
 // Rounds in a row with one cause.
@@ -50,15 +78,12 @@ fn listed(
 ) -> Result<ListedStay, AllocError> {
     let waits = explanation.waits(alloc, place)?;
     Ok(ListedStay {
-        ccb: stay.ccb,
-        attempt: stay.attempt,
-        driver: stay.driver,
-        device: stay.device,
-        priority: stay.priority,
-        weight: stay.weight,
-        arrival: stay.arrival,
-        live: stay.live,
-        best: stay.best,
+        asked: Asked::of(stay),
+        rounds: Rounds {
+            arrival: stay.arrival,
+            live: stay.live,
+            best: stay.best,
+        },
         waits: wait_list(alloc, &waits)?,
     })
 }

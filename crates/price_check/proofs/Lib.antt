@@ -17,6 +17,7 @@ pub mod PriceLaws
 pub mod ProgressLaws
 pub mod ReadingLaws
 pub mod ReportLaws
+pub mod ReportLemmas
 pub mod RestLemmas
 pub mod SectionLaws
 pub mod SeriesLaws

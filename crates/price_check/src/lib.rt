@@ -1,10 +1,13 @@
-//! Whether prices prove that a schedule of a net is a best one, whoever made them.
+//! Whether prices prove that a schedule of a net is a best one, whoever made them; and reports, which say that they do, read and
+//! written.
 #![tactic(auto)]
 
 pub use checker::check;
 pub use claim::Claim;
 pub use reader::read_report;
+pub use report::{push_plan, push_summary};
 pub use report_fault::ReportFault;
+pub use text::{push_line, push_name};
 pub use verdict::{Cause, Verdict};
 
 mod checker;
@@ -15,9 +18,11 @@ mod payments;
 mod pieces;
 mod price_lines;
 mod reader;
+mod report;
 mod report_fault;
 mod rests;
 mod stay_lines;
 mod summary;
+mod text;
 mod value;
 mod verdict;

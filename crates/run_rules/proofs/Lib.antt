@@ -3,5 +3,6 @@ pub mod WalkLemmas
 pub mod RestLemmas
 pub mod PassLemmas
 pub mod NameLemmas
+pub mod PortLemmas
 pub mod ConfigLemmas
 pub mod LaneLemmas

@@ -17,8 +17,8 @@ use Rattle.std.proofs.lemmas.List.{map-append}
 use Rattle.trace_file.specs.Scenarios.{Scenario, is_answer}
 use Rattle.run_rules.specs.declared.served.Served.{Served}
 use Rattle.cam_event.proofs.ShareLaws.{same_number, flies-send}
-use Rattle.sim_worker.specs.Ports.{PortState, answer_at, first_answers, outcomes}
-use Rattle.sim_worker.proofs.PortLemmas.{given-push}
+use Rattle.run_rules.specs.Ports.{PortState, answer_at, first_answers, outcomes}
+use Rattle.run_rules.proofs.PortLemmas.{given-push}
 use Rattle.run_rules.specs.Runs.{lane_of, sender, outcome_by, outcomes_by}
 use Rattle.sim_worker.specs.Work.{HasServed, AreLanesAt, IsInHand, AreInHand, outcome_in_hand}
 use Rattle.sim_worker.specs.declared.work.Hand.{Hand}

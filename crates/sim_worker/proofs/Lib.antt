@@ -6,7 +6,6 @@ pub mod LaneFacts
 pub mod LeftLemmas
 pub mod ListFacts
 pub mod OpenLemmas
-pub mod PortLemmas
 pub mod RunLemmas
 pub mod StepLemmas
 pub mod TurnLemmas

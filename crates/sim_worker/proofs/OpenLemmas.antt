@@ -6,7 +6,7 @@ use Rattle.cam_types.specs.Topology.{Topology}
 use Rattle.cam_event.specs.Legal.{Rules, rules_of, is_legal}
 use Rattle.trace_file.specs.Scenarios.{Scenario, IsScenario}
 use Rattle.xpt_devices.specs.Transport.{Transport}
-use Rattle.sim_worker.specs.Ports.{first_answers, outcomes}
+use Rattle.run_rules.specs.Ports.{first_answers, outcomes}
 use Rattle.run_rules.specs.Runs.{outcomes_by}
 use Rattle.sim_worker.specs.Work.{IsWork, AreFresh, HasDone, steps_of}
 use Rattle.sim_worker.specs.declared.work.Driver.{Driver}

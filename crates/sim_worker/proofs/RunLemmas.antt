@@ -8,7 +8,7 @@ use Rattle.cam_event.specs.Legal.{Rules, is_legal}
 use Rattle.cam_event.specs.Past.{Past}
 use Rattle.cam_types.specs.Topology.{Topology}
 use Rattle.run_rules.specs.Endings.{IsEnding}
-use Rattle.sim_worker.specs.Ports.{answer_at, first_answers}
+use Rattle.run_rules.specs.Ports.{answer_at, first_answers}
 use Rattle.run_rules.specs.Runs.{outcomes_by}
 use Rattle.sim_worker.specs.SimRuns.{IsSimRun}
 use Rattle.sim_worker.specs.Work.{Work, IsWork, outcome_in_hand}
@@ -17,7 +17,7 @@ use Rattle.sim_worker.specs.declared.work.Hand.{Hand}
 use Rattle.sim_worker.proofs.KeepLemmas.{prefixes}
 use Rattle.sim_worker.proofs.ListFacts.{heads, tails}
 use Rattle.run_rules.proofs.ListFacts.{get_there}
-use Rattle.sim_worker.proofs.PortLemmas.{first_answers-push}
+use Rattle.run_rules.proofs.PortLemmas.{first_answers-push}
 
 same_front : (xs ys : List Outcome) (a b : Outcome) → length xs ≡ length ys → xs ++ a ∷ [] ≡ ys ++ b ∷ [] → xs ≡ ys
 same_front [] [] a b len h = refl

@@ -17,7 +17,7 @@ use Rattle.cam_event.specs.Legal.{is_legal}
 use Rattle.cam_event.proofs.LawLemmas.{legal-push}
 use Rattle.cam_event.proofs.LegalLemmas.{legal-none}
 use Rattle.xpt_state.specs.Steps.{IsTaken}
-use Rattle.sim_worker.specs.Ports.{answer_at, first_answers, outcomes}
+use Rattle.run_rules.specs.Ports.{answer_at, first_answers, outcomes}
 use Rattle.run_rules.specs.Runs.{outcomes_by, is_in_time, is_submit_by, may_tick}
 use Rattle.sim_worker.specs.Work.{IsWork, HasDone, HasServed, AreLanesAt, AreInHand, IsInHand, outcome_in_hand, steps_of}
 use Rattle.sim_worker.specs.declared.work.Driver.{Driver}

@@ -1,3 +1,2 @@
-pub mod Ports
 pub mod SimRuns
 pub mod Work

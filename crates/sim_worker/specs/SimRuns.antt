@@ -4,7 +4,7 @@ use Rattle.cam_event.specs.Legal.{rules_of, is_legal}
 use Rattle.cam_event.specs.Past.{Past}
 use Rattle.trace_file.specs.Scenarios.{Scenario}
 use Rattle.run_rules.specs.Endings.{IsEnding}
-use Rattle.sim_worker.specs.Ports.{first_answers}
+use Rattle.run_rules.specs.Ports.{first_answers}
 use Rattle.run_rules.specs.Runs.{submits, submits_asked, outcomes_by, IsPrefix, are_ticks_in_time}
 use Rattle.run_rules.specs.declared.ending.Ending.{Ending}
 

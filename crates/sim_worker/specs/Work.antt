@@ -19,7 +19,7 @@ use Rattle.cam_event.specs.declared.refusal.Refusal.TheVariants.{HistoryFull}
 use Rattle.cam_event.specs.declared.event.Event.TheVariants.{Requeue, Finish}
 use Rattle.cam_event.specs.Stays.{waiting}
 use Rattle.xpt_state.specs.Calls.{refused}
-use Rattle.sim_worker.specs.Ports.{first_answers, outcomes}
+use Rattle.run_rules.specs.Ports.{first_answers, outcomes}
 use Rattle.run_rules.specs.Held.{is_held_up}
 use Rattle.run_rules.specs.Runs.{submits, submits_asked, is_over, sender, outcomes_by, are_ticks_in_time}
 use Rattle.sim_worker.specs.declared.actor.Actor.{Actor}

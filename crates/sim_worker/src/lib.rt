@@ -2,12 +2,10 @@
 //! picks, until the script is done or a limit is reached.
 #![tactic(auto)]
 
-pub use script_port::ScriptPort;
 pub use seeded::{SimRun, sim_run};
 
 mod able;
 mod actor;
-mod script_port;
 mod seeded;
 mod sim;
 mod work;

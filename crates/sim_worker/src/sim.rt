@@ -13,13 +13,12 @@ ghost use Rattle.sim_worker.specs.declared.work.Driver.{Driver};
 ghost use Rattle.cam_event.specs.declared.event.Event.{Event};
 
 use crate::actor::Actor;
-use crate::script_port::ScriptPort;
 use crate::seeded::SimRun;
 use crate::work::{Driver, Hand, Lane};
 use cam_event::{Event, Refusal};
 use rand_core::Rng;
 use rand_pcg::Lcg64Xsh32;
-use run_rules::{Ending, Port};
+use run_rules::{Ending, Port, ScriptPort};
 use std::alloc::{AllocError, Global};
 use std::marker::Model;
 use trace_file::{DRIVERS, Script, Step};

@@ -22,10 +22,9 @@ pub struct Doors {
 impl Doors {
     /// All without events.
     pub fn open(alloc: Global, opening: &Opening) -> Result<Doors, Fault> {
-        let config = opening.config(alloc)?;
-        let layers = Layers::open(alloc, &config)?;
-        let taker = Xpt::open(alloc, config.copy(alloc)?, opening.limits())?;
-        let xpt = Xpt::open(alloc, config, opening.limits())?;
+        let xpt = opening.open(alloc)?;
+        let taker = opening.open(alloc)?;
+        let layers = Layers::open(alloc, &opening.config(alloc)?)?;
         Ok(Doors { xpt, taker, layers })
     }
 

@@ -107,7 +107,7 @@ fn alone<R: Print + AllocGlobal>(
     script: &Script<'_>,
     answers: &mut [Answer],
 ) -> Result<(), Fault> {
-    let mut xpt = script.open(rt.alloc())?;
+    let mut xpt = script.opening.open(rt.alloc())?;
     make_alone(rt, script, &mut xpt, answers)?;
     let history = xpt.into_history(rt.alloc())?;
     println!(rt; "history of {} events", history.events().len())?;
@@ -142,7 +142,7 @@ fn time<R: Print + AllocGlobal + CpuClock>(
     let mut events = 0usize;
     let mut taken = Duration::ZERO;
     for _ in 0..count {
-        let mut xpt = script.open(rt.alloc())?;
+        let mut xpt = script.opening.open(rt.alloc())?;
         taken = taken.saturating_add(time_calls(rt, script, &mut xpt, answers)?);
         events = events.saturating_add(xpt.events().len());
     }

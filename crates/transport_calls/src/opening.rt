@@ -4,6 +4,7 @@ use crate::fault::Fault;
 use crate::line::Words;
 use cam_types::{Adapter, Config, Device, Limits, standard_weights};
 use std::alloc::{AllocError, Global};
+use xpt_state::Xpt;
 
 /// The links, adapters, devices and lanes of a transport, and how far it goes.
 #[derive(Drop)]
@@ -70,6 +71,12 @@ impl Opening {
     /// How far the transport goes.
     pub fn limits(&self) -> Limits {
         self.limits
+    }
+
+    /// Opens the transport.
+    pub fn open(&self, alloc: Global) -> Result<Xpt, Fault> {
+        let config = self.config(alloc)?;
+        Ok(Xpt::open(alloc, config, self.limits)?)
     }
 
     /// The configuration, with the standard table of weights.

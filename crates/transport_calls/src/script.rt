@@ -74,12 +74,6 @@ impl<'a> Script<'a> {
         Ok(true)
     }
 
-    /// Opens the transport.
-    pub fn open(&self, alloc: Global) -> Result<Xpt, Fault> {
-        let config = self.opening.config(alloc)?;
-        Ok(Xpt::open(alloc, config, self.opening.limits())?)
-    }
-
     /// Makes the calls, in order, and keeps what comes of each.
     pub fn make(&self, xpt: &mut Xpt, answers: &mut [Answer]) {
         for (line, answer) in self.lines.iter().zip(answers.iter_mut()) {

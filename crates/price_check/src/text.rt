@@ -1,0 +1,42 @@
+//! The pieces that lines of output are made of: words, numbers and the names of stays.
+
+ghost use Rattle.std.specs.Prelude.{◌≡◌, ◌+◌, ◌≤◌, ◌++◌, length, OnOk, IfOk, codes};
+ghost use Rattle.price_check.specs.Lines.{line};
+ghost use Rattle.price_check.specs.Report.{number_text};
+
+use cam_event::StayName;
+use itoa::Buffer;
+use std::alloc::AllocError;
+
+/// Puts a line of a word and a number behind the text. It fails only if there is no memory.
+pub fn push_line(text: &mut Vec<u8>, word: &[u8], number: u64) -> Result<(), AllocError>
+    ensures text { OnOk result (text.new.items ≡ text.old.items ++ line word.now number) }
+    ensures short { OnOk result (length text.new.items ≤ length text.old.items + (length word.now + 42)) }
+{
+    let mut digits = Buffer::new();
+    text.extend_from_slice(word)?;
+    text.extend_from_slice(b" ")?;
+    text.extend_from_slice(digits.format(number).as_bytes())?;
+    text.extend_from_slice(b"\n")?;
+    Ok(())
+}
+
+/// Puts a space and a number behind the text. It fails only if there is no memory.
+pub fn push_number(text: &mut Vec<u8>, number: u64) -> Result<(), AllocError>
+    ensures text { OnOk result (text.new.items ≡ text.old.items ++ number_text number) }
+    ensures short { OnOk result (length text.new.items ≤ length text.old.items + 41) }
+{
+    let mut digits = Buffer::new();
+    text.extend_from_slice(b" ")?;
+    text.extend_from_slice(digits.format(number).as_bytes())
+}
+
+/// Puts a stay's CCB and try behind the text, each behind a space. It fails only if there is no memory.
+pub fn push_name(text: &mut Vec<u8>, stay: StayName) -> Result<(), AllocError>
+    ensures text { OnOk result (text.new.items ≡ text.old.items ++ (number_text stay.ccb ++ number_text stay.attempt)) }
+    ensures short { OnOk result (length text.new.items ≤ length text.old.items + 82) }
+{
+    push_number(text, u64::from(stay.ccb))?;
+    push_number(text, u64::from(stay.attempt))?;
+    Ok(())
+}

@@ -9,6 +9,7 @@ mod lanes;
 mod layout;
 mod legend;
 mod openings;
+mod page;
 mod rounds;
 mod scale;
 mod stay_table;

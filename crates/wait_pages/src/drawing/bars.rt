@@ -1,59 +1,56 @@
 //! The bar of a stay.
 
+use crate::drawing::page::Page;
 use crate::drawing::scale::Scale;
-use crate::drawing::words::{letter, push_parts, push_words};
-use std::alloc::AllocError;
+use crate::drawing::words::letter;
 use wait_causes::{Cause, ExplainedStay, Wait};
 
 /// How many of a stay's waits are told in words; a bar shows them all.
 const TOLD: usize = 8;
 
-/// Puts the waits behind the text, each with its rounds and cause.
-pub(crate) fn push_waits(text: &mut String, waits: &[Wait]) -> Result<(), AllocError> {
+/// Puts the waits on the page, each with its rounds and cause.
+pub(crate) fn push_waits(page: &mut Page, waits: &[Wait]) {
     let mut is_first = true;
     for wait in waits.iter().take(TOLD) {
-        push_wait(text, wait, is_first)?;
+        push_wait(page, wait, is_first);
         is_first = false;
     }
     if waits.len() > TOLD {
         let more = waits.len().saturating_sub(TOLD);
-        push_parts(text, &[(" and ", more as u64)], " more")?;
+        page.parts(&[(" and ", more as u64)], " more");
     }
-    Ok(())
 }
 
-// Puts a wait behind the text, with a comma between it and the one before.
-fn push_wait(text: &mut String, wait: &Wait, is_first: bool) -> Result<(), AllocError> {
+// Puts a wait on the page, with a comma between it and the one before.
+fn push_wait(page: &mut Page, wait: &Wait, is_first: bool) {
     if !is_first {
-        text.push_str(", ")?;
+        page.put(", ");
     }
-    let cause = wait.cause.name();
+    page.number(&wait.first);
     if wait.first < wait.last {
-        write!(text, "{}-{} {cause}", wait.first, wait.last)
-    } else {
-        write!(text, "{} {cause}", wait.first)
+        page.parts(&[("-", u64::from(wait.last))], "");
     }
+    page.words(&[" ", wait.cause.name()]);
 }
 
-/// Puts the bar of a stay behind the text: its rounds in its causes' colours, the round of its send, and the mark where the
+/// Puts the bar of a stay on the page: its rounds in its causes' colours, the round of its send, and the mark where the
 /// best schedule sends it.
 pub(crate) fn push_bar(
-    text: &mut String,
+    page: &mut Page,
     scale: &Scale,
     stay: &ExplainedStay,
     waits: &[Wait],
     lane: u32,
-) -> Result<(), AllocError> {
-    push_parts(
-        text,
+) {
+    page.parts(
         &[
             ("<g class='stay' id='s", u64::from(stay.ccb)),
             ("-", u64::from(stay.attempt)),
             ("' transform='translate(0 ", scale.lane(lane)),
         ],
         ")'><title>",
-    )?;
-    push_hover(text, stay, waits)?;
+    );
+    push_hover(page, stay, waits);
     for cause in &[
         Cause::Error,
         Cause::Caller,
@@ -63,15 +60,14 @@ pub(crate) fn push_bar(
         Cause::LinkFull,
         Cause::NotAsked,
     ] {
-        push_segments(text, scale, waits, *cause)?;
+        push_segments(page, scale, waits, *cause);
     }
-    push_marks(text, scale, stay)
+    push_marks(page, scale, stay);
 }
 
-// Puts what is said of a stay where the pointer is over it behind the text.
-fn push_hover(text: &mut String, stay: &ExplainedStay, waits: &[Wait]) -> Result<(), AllocError> {
-    push_parts(
-        text,
+// Puts what is said of a stay where the pointer is over it on the page.
+fn push_hover(page: &mut Page, stay: &ExplainedStay, waits: &[Wait]) {
+    page.parts(
         &[
             ("CCB ", u64::from(stay.ccb)),
             (" try ", u64::from(stay.attempt)),
@@ -83,53 +79,44 @@ fn push_hover(text: &mut String, stay: &ExplainedStay, waits: &[Wait]) -> Result
             (", cost ", stay.cost()),
         ],
         "\n",
-    )?;
-    push_waits(text, waits)?;
-    text.push_str("</title>")
+    );
+    push_waits(page, waits);
+    page.put("</title>");
 }
 
-// Puts the rounds of one cause behind the text, if there are some.
-fn push_segments(
-    text: &mut String,
-    scale: &Scale,
-    waits: &[Wait],
-    cause: Cause,
-) -> Result<(), AllocError> {
+// Puts the rounds of one cause on the page, if there are some.
+fn push_segments(page: &mut Page, scale: &Scale, waits: &[Wait], cause: Cause) {
     let mut is_open = false;
     for wait in waits {
         if wait.cause == cause {
             if !is_open {
-                push_words(text, &["<path class='", letter(cause), "' d='"])?;
+                page.words(&["<path class='", letter(cause), "' d='"]);
                 is_open = true;
             }
             let rounds = wait.last.saturating_sub(wait.first).saturating_add(1);
-            push_parts(
-                text,
+            page.parts(
                 &[("M", scale.left(wait.first)), (" 0h", scale.width(rounds))],
                 "",
-            )?;
+            );
         }
     }
     if is_open {
-        text.push_str("'/>")?;
+        page.put("'/>");
     }
-    Ok(())
 }
 
-// Puts the marks of the send and of the best schedule's send behind the text, with a line to the one if it comes later.
-fn push_marks(text: &mut String, scale: &Scale, stay: &ExplainedStay) -> Result<(), AllocError> {
+// Puts the marks of the send and of the best schedule's send on the page, with a line to the one if it comes later.
+fn push_marks(page: &mut Page, scale: &Scale, stay: &ExplainedStay) {
     if stay.live < stay.best {
-        push_parts(
-            text,
+        page.parts(
             &[
                 ("<path class='later' d='M", scale.middle(stay.live)),
                 (" 0H", scale.middle(stay.best)),
             ],
             "'/>",
-        )?;
+        );
     }
-    push_parts(
-        text,
+    page.parts(
         &[
             (
                 "<path class='sent' d='M",
@@ -140,5 +127,5 @@ fn push_marks(text: &mut String, scale: &Scale, stay: &ExplainedStay) -> Result<
             ("' r='", scale.pitch / 4),
         ],
         "'/></g>\n",
-    )
+    );
 }

@@ -4,8 +4,8 @@ use crate::drawing::bands::push_bands;
 use crate::drawing::bars::push_bar;
 use crate::drawing::lanes::{Lanes, lanes_of};
 use crate::drawing::openings::{Owner, STRIP, push_strip};
+use crate::drawing::page::Page;
 use crate::drawing::scale::Scale;
-use crate::drawing::words::{push_parts, push_words};
 use cam_path::path_name;
 use cam_types::Config;
 use round_net::Net;
@@ -27,41 +27,30 @@ pub(crate) struct Scene<'a> {
     pub(crate) scale: Scale,
 }
 
-/// Puts the row of each link behind the text.
-pub(crate) fn push_links(text: &mut String, scene: &Scene) -> Result<(), AllocError> {
+/// Puts the row of each link on the page.
+pub(crate) fn push_links(page: &mut Page, scene: &Scene) {
     for link in 0..scene.net.links() {
-        push_shared(text, scene, "link ", link, Owner::Link(link))?;
+        push_shared(page, scene, "link ", link, Owner::Link(link));
     }
-    Ok(())
 }
 
-/// Puts the row of each adapter behind the text, and below each the rows of its devices.
+/// Puts the row of each adapter on the page, and below each the rows of its devices.
 pub(crate) fn push_adapters(
     alloc: Global,
-    text: &mut String,
+    page: &mut Page,
     scene: &Scene,
 ) -> Result<(), AllocError> {
     for adapter in 0..scene.net.adapters() {
-        push_shared(text, scene, "adapter ", adapter, Owner::Adapter(adapter))?;
-        push_devices(alloc, text, scene, adapter)?;
+        push_shared(page, scene, "adapter ", adapter, Owner::Adapter(adapter));
+        push_devices(alloc, page, scene, adapter)?;
     }
     Ok(())
 }
 
-// Puts the openings of an adapter or a link behind the text, which several devices share.
-fn push_shared(
-    text: &mut String,
-    scene: &Scene,
-    word: &str,
-    number: u32,
-    owner: Owner,
-) -> Result<(), AllocError> {
-    push_words(
-        text,
-        &["<div class='row adapter'><div class='label'>", word],
-    )?;
-    push_parts(
-        text,
+// Puts the openings of an adapter or a link on the page, which several devices share.
+fn push_shared(page: &mut Page, scene: &Scene, word: &str, number: u32, owner: Owner) {
+    page.words(&["<div class='row adapter'><div class='label'>", word]);
+    page.parts(
         &[
             ("", u64::from(number)),
             (
@@ -71,40 +60,40 @@ fn push_shared(
             ("' height='", STRIP),
         ],
         "' aria-label='openings used of ",
-    )?;
-    push_parts(text, &[(word, u64::from(number))], ", by round'>\n")?;
+    );
+    page.parts(&[(word, u64::from(number))], ", by round'>\n");
     push_strip(
-        text,
+        page,
         &scene.scale,
         scene.net,
         scene.explanation.stays(),
         owner,
         0,
-    )?;
-    text.push_str("</svg></div>\n")
+    );
+    page.put("</svg></div>\n");
 }
 
-// Puts the rows of the adapter's devices behind the text.
+// Puts the rows of the adapter's devices on the page.
 fn push_devices(
     alloc: Global,
-    text: &mut String,
+    page: &mut Page,
     scene: &Scene,
     adapter: u32,
 ) -> Result<(), AllocError> {
     let mut number = 0u32;
     for device in scene.config.devices() {
         if u32::from(device.bus) == adapter {
-            push_device(alloc, text, scene, number, adapter)?;
+            push_device(alloc, page, scene, number, adapter)?;
         }
         number = number.saturating_add(1);
     }
     Ok(())
 }
 
-// Puts the row of a device behind the text.
+// Puts the row of a device on the page.
 fn push_device(
     alloc: Global,
-    text: &mut String,
+    page: &mut Page,
     scene: &Scene,
     device: u32,
     adapter: u32,
@@ -112,32 +101,32 @@ fn push_device(
     let stays = scene.explanation.stays();
     let lanes = lanes_of(alloc, stays, device)?;
     let height = scene.scale.height(lanes.count).max(4);
-    push_label(alloc, text, scene, device, &lanes)?;
-    push_parts(
-        text,
+    push_label(alloc, page, scene, device, &lanes)?;
+    page.parts(
         &[
             ("' width='", scene.scale.whole()),
             ("' height='", height.saturating_add(STRIP)),
         ],
         "'>\n",
-    )?;
-    push_bands(text, &scene.scale, scene.freezes, device, adapter, height)?;
-    push_bars(alloc, text, scene, &lanes)?;
+    );
+    push_bands(page, &scene.scale, scene.freezes, device, adapter, height);
+    push_bars(alloc, page, scene, &lanes)?;
     push_strip(
-        text,
+        page,
         &scene.scale,
         scene.net,
         stays,
         Owner::Device(device),
         height,
-    )?;
-    text.push_str("</svg></div>\n")
+    );
+    page.put("</svg></div>\n");
+    Ok(())
 }
 
-// Puts the label of a device behind the text, and the beginning of its drawing.
+// Puts the label of a device on the page, and the beginning of its drawing.
 fn push_label(
     alloc: Global,
-    text: &mut String,
+    page: &mut Page,
     scene: &Scene,
     device: u32,
     lanes: &Lanes,
@@ -145,21 +134,18 @@ fn push_label(
     let path = path_name(alloc, scene.config, device)?;
     let stays = lanes.stays.len() as u64;
     let cost = cost_on(scene.explanation.stays(), device);
-    push_words(
-        text,
-        &[
-            "<div class='row device'><div class='label'><b>",
-            &path,
-            "</b>",
-        ],
-    )?;
-    push_parts(
-        text,
+    page.words(&[
+        "<div class='row device'><div class='label'><b>",
+        &path,
+        "</b>",
+    ]);
+    page.parts(
         &[("<span>stays ", stays), ("</span><span>cost ", cost)],
         "</span></div><svg xmlns='http://www.w3.org/2000/svg' role='img' aria-label='device ",
-    )?;
-    text.push_str(&path)?;
-    push_parts(text, &[(", stays ", stays), (", cost ", cost)], "")
+    );
+    page.put(&path);
+    page.parts(&[(", stays ", stays), (", cost ", cost)], "");
+    Ok(())
 }
 
 // The weighted rounds that the stays of a device waited.
@@ -173,23 +159,23 @@ fn cost_on(stays: &[ExplainedStay], device: u32) -> u64 {
     cost
 }
 
-// Puts the bars of a device's stays behind the text.
+// Puts the bars of a device's stays on the page.
 fn push_bars(
     alloc: Global,
-    text: &mut String,
+    page: &mut Page,
     scene: &Scene,
     lanes: &Lanes,
 ) -> Result<(), AllocError> {
-    push_parts(
-        text,
+    page.parts(
         &[("<g class='bars' stroke-width='", scene.scale.bar())],
         "'>\n",
-    )?;
+    );
     for (place, lane) in &lanes.stays {
         if let Some(stay) = scene.explanation.stays().get(*place as usize) {
             let waits = scene.explanation.waits(alloc, *place as usize)?;
-            push_bar(text, &scene.scale, stay, &waits, *lane)?;
+            push_bar(page, &scene.scale, stay, &waits, *lane);
         }
     }
-    text.push_str("</g>\n")
+    page.put("</g>\n");
+    Ok(())
 }

@@ -2,13 +2,13 @@
 
 use crate::drawing::device_row::{Scene, push_adapters, push_links};
 use crate::drawing::legend::push_legend;
+use crate::drawing::page::Page;
 use crate::drawing::rounds::push_rounds;
 use crate::drawing::scale::Scale;
 use crate::drawing::stay_table::push_stay_table;
 use crate::drawing::style::{HEAD, LINK_STYLE, STYLE};
 use crate::drawing::tables::{push_freezes, push_tables};
 use crate::drawing::weights::push_weights;
-use crate::drawing::words::{push_escaped, push_parts, push_words};
 use cam_types::Config;
 use round_net::Net;
 use std::alloc::{AllocError, Global};
@@ -24,30 +24,24 @@ pub fn draw(
     net: &Net,
     explanation: &Explanation,
 ) -> Result<String, AllocError> {
-    let mut text = String::new(alloc);
-    push_top(&mut text, title, config, &explanation.whole(), net.rounds())?;
-    push_rest(alloc, &mut text, config, net, explanation)?;
-    Ok(text)
+    let mut page = Page::new(alloc);
+    push_top(&mut page, title, config, &explanation.whole(), net.rounds());
+    push_rest(alloc, &mut page, config, net, explanation)?;
+    page.finish()
 }
 
-// Puts what stands above the drawing behind the text.
-fn push_top(
-    text: &mut String,
-    title: &str,
-    config: &Config,
-    whole: &Part,
-    rounds: u32,
-) -> Result<(), AllocError> {
-    push_head(text, title, config)?;
-    push_totals(text, whole, rounds)?;
-    push_weights(text, config)?;
-    push_legend(text, config, whole)
+// Puts what stands above the drawing on the page.
+fn push_top(page: &mut Page, title: &str, config: &Config, whole: &Part, rounds: u32) {
+    push_head(page, title, config);
+    push_totals(page, whole, rounds);
+    push_weights(page, config);
+    push_legend(page, config, whole);
 }
 
-// Puts the drawing and what stands below it behind the text.
+// Puts the drawing and what stands below it on the page.
 fn push_rest(
     alloc: Global,
-    text: &mut String,
+    page: &mut Page,
     config: &Config,
     net: &Net,
     explanation: &Explanation,
@@ -60,45 +54,45 @@ fn push_rest(
         freezes: &freezes,
         scale: Scale::of(net.rounds(), explanation.stays().len()),
     };
-    push_drawing(alloc, text, &scene)?;
-    push_all_tables(alloc, text, config, explanation, &freezes)
+    push_drawing(alloc, page, &scene)?;
+    push_all_tables(alloc, page, config, explanation, &freezes)
 }
 
-// Puts the tables and the end of the page behind the text.
+// Puts the tables and the end of the page on the page.
 fn push_all_tables(
     alloc: Global,
-    text: &mut String,
+    page: &mut Page,
     config: &Config,
     explanation: &Explanation,
     freezes: &[Freeze],
 ) -> Result<(), AllocError> {
-    push_tables(alloc, text, config, explanation)?;
-    push_freezes(alloc, text, config, freezes)?;
-    push_stay_table(alloc, text, config, explanation)?;
-    text.push_str("</main></body></html>\n")
+    push_tables(alloc, page, config, explanation)?;
+    push_freezes(alloc, page, config, freezes)?;
+    push_stay_table(alloc, page, config, explanation)?;
+    page.put("</main></body></html>\n");
+    Ok(())
 }
 
-// Puts what stands before the totals behind the text.
-fn push_head(text: &mut String, title: &str, config: &Config) -> Result<(), AllocError> {
+// Puts what stands before the totals on the page.
+fn push_head(page: &mut Page, title: &str, config: &Config) {
     let has_links = Cause::LinkFull.can_hold(config);
     let link_style = if has_links { LINK_STYLE } else { "" };
-    text.push_str(HEAD)?;
-    push_escaped(text, title)?;
+    page.put(HEAD);
+    page.escaped(title);
     let style = [
         "</title><style>\n",
         STYLE,
         link_style,
         "</style></head><body><main><h1>",
     ];
-    push_words(text, &style)?;
-    push_escaped(text, title)?;
-    text.push_str("</h1>\n")
+    page.words(&style);
+    page.escaped(title);
+    page.put("</h1>\n");
 }
 
-// Puts the totals behind the text.
-fn push_totals(text: &mut String, whole: &Part, rounds: u32) -> Result<(), AllocError> {
-    push_parts(
-        text,
+// Puts the totals on the page.
+fn push_totals(page: &mut Page, whole: &Part, rounds: u32) {
+    page.parts(
         &[
             (
                 "<dl id='totals'><div><dt>stays</dt><dd>",
@@ -110,22 +104,23 @@ fn push_totals(text: &mut String, whole: &Part, rounds: u32) -> Result<(), Alloc
             ("</dd></div><div><dt>best cost</dt><dd>", whole.best),
         ],
         "</dd></div><div><dt>excess</dt><dd>",
-    )?;
-    write!(text, "{}</dd></div></dl>\n", whole.excess())
+    );
+    page.number(&whole.excess());
+    page.put("</dd></div></dl>\n");
 }
 
-// Puts the drawing behind the text.
-fn push_drawing(alloc: Global, text: &mut String, scene: &Scene) -> Result<(), AllocError> {
-    push_parts(
-        text,
+// Puts the drawing on the page.
+fn push_drawing(alloc: Global, page: &mut Page, scene: &Scene) -> Result<(), AllocError> {
+    page.parts(
         &[(
             "<div class='scroll' role='region' tabindex='0' aria-label='Stays by device, rounds across' style='--step:",
             scene.scale.step,
         )],
         "px'><div class='rows'>\n",
-    )?;
-    push_rounds(text, &scene.scale)?;
-    push_links(text, scene)?;
-    push_adapters(alloc, text, scene)?;
-    text.push_str("</div></div>\n")
+    );
+    push_rounds(page, &scene.scale);
+    push_links(page, scene);
+    push_adapters(alloc, page, scene)?;
+    page.put("</div></div>\n");
+    Ok(())
 }

@@ -1,8 +1,8 @@
 //! The legend, with what the waiting cost by cause.
 
-use crate::drawing::words::{letter, push_parts, push_words};
+use crate::drawing::page::Page;
+use crate::drawing::words::letter;
 use cam_types::Config;
-use std::alloc::AllocError;
 use wait_causes::{Cause, Part};
 
 /// What the legend says of the marks.
@@ -14,32 +14,25 @@ const MARKS: &str = "<ul class='legend'>\
 <li><svg xmlns='http://www.w3.org/2000/svg' aria-hidden='true' width='28' height='14'><rect class='shut' x='8' width='12' height='12'/></svg>takes no command</li>\
 </ul>\n";
 
-/// Puts the legend behind the text: the causes with their costs, and the marks.
-pub(crate) fn push_legend(
-    text: &mut String,
-    config: &Config,
-    whole: &Part,
-) -> Result<(), AllocError> {
-    text.push_str("<ul class='legend' id='causes'>\n")?;
+/// Puts the legend on the page: the causes with their costs, and the marks.
+pub(crate) fn push_legend(page: &mut Page, config: &Config, whole: &Part) {
+    page.put("<ul class='legend' id='causes'>\n");
     for (cause, cost) in &whole.costs.by_cause() {
         if cause.can_hold(config) {
-            push_cause(text, *cause, *cost)?;
+            push_cause(page, *cause, *cost);
         }
     }
-    text.push_str("</ul>\n")?;
-    text.push_str(MARKS)
+    page.put("</ul>\n");
+    page.put(MARKS);
 }
 
-// Puts a cause with its cost behind the text.
-fn push_cause(text: &mut String, cause: Cause, cost: u64) -> Result<(), AllocError> {
-    push_words(
-        text,
-        &[
-            "<li><svg xmlns='http://www.w3.org/2000/svg' aria-hidden='true' width='28' height='14'><path stroke-width='12' class='",
-            letter(cause),
-            "' d='M2 7h24'/></svg>",
-            cause.name(),
-        ],
-    )?;
-    push_parts(text, &[(" <b>", cost)], "</b></li>\n")
+// Puts a cause with its cost on the page.
+fn push_cause(page: &mut Page, cause: Cause, cost: u64) {
+    page.words(&[
+        "<li><svg xmlns='http://www.w3.org/2000/svg' aria-hidden='true' width='28' height='14'><path stroke-width='12' class='",
+        letter(cause),
+        "' d='M2 7h24'/></svg>",
+        cause.name(),
+    ]);
+    page.parts(&[(" <b>", cost)], "</b></li>\n");
 }

@@ -1,9 +1,8 @@
 //! The openings that were used in each round, as a strip of heat.
 
+use crate::drawing::page::Page;
 use crate::drawing::scale::Scale;
-use crate::drawing::words::{push_parts, push_words};
 use round_net::Net;
-use std::alloc::AllocError;
 use wait_causes::ExplainedStay;
 
 /// The height of a strip in pixels.
@@ -46,26 +45,25 @@ impl Owner {
     }
 }
 
-/// Puts the strip behind the text, so many pixels from the top.
+/// Puts the strip on the page, so many pixels from the top.
 pub(crate) fn push_strip(
-    text: &mut String,
+    page: &mut Page,
     scale: &Scale,
     net: &Net,
     stays: &[ExplainedStay],
     owner: Owner,
     top: u64,
-) -> Result<(), AllocError> {
-    push_parts(
-        text,
+) {
+    page.parts(
         &[("<g class='strip' transform='translate(0 ", top)],
         ")'>\n",
-    )?;
+    );
     for before in 0..scale.rounds {
         let round = before.saturating_add(1);
         let used = sent_in(net, stays, owner, round);
-        push_cell(text, scale, round, used, owner.cap(net, round))?;
+        push_cell(page, scale, round, used, owner.cap(net, round));
     }
-    text.push_str("</g>\n")
+    page.put("</g>\n");
 }
 
 // How many of the stays were sent by these openings in the round.
@@ -79,17 +77,10 @@ fn sent_in(net: &Net, stays: &[ExplainedStay], owner: Owner, round: u32) -> u64 
     sent
 }
 
-// Puts the cell of a round behind the text.
-fn push_cell(
-    text: &mut String,
-    scale: &Scale,
-    round: u32,
-    used: u64,
-    cap: u32,
-) -> Result<(), AllocError> {
-    push_words(text, &["<rect class='", heat(used, u64::from(cap))])?;
-    push_parts(
-        text,
+// Puts the cell of a round on the page.
+fn push_cell(page: &mut Page, scale: &Scale, round: u32, used: u64, cap: u32) {
+    page.words(&["<rect class='", heat(used, u64::from(cap))]);
+    page.parts(
         &[
             ("' x='", scale.left(round).saturating_add(1)),
             ("' width='", scale.step.saturating_sub(1)),
@@ -99,7 +90,7 @@ fn push_cell(
             (" of ", u64::from(cap)),
         ],
         " openings used</title></rect>\n",
-    )
+    );
 }
 
 // The class of a cell: none to take, or a quarter of what may be taken.

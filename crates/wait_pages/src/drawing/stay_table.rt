@@ -1,57 +1,62 @@
 //! The table of stays.
 
 use crate::drawing::bars::push_waits;
-use crate::drawing::words::push_cells;
+use crate::drawing::page::Page;
 use cam_path::path_name;
 use cam_types::Config;
 use std::alloc::{AllocError, Global};
 use wait_causes::{ExplainedStay, Explanation};
 
-/// Puts the table of all stays behind the text, in order of birth.
+/// Puts the table of all stays on the page, in order of birth.
 pub(crate) fn push_stay_table(
     alloc: Global,
-    text: &mut String,
+    page: &mut Page,
     config: &Config,
     explanation: &Explanation,
 ) -> Result<(), AllocError> {
-    text.push_str(
+    page.put(
         "<div class='table long' role='region' aria-label='All stays' tabindex='0'><table id='stays'>\
 <caption>All stays</caption><thead><tr><th scope='col'>CCB</th><th scope='col'>try</th>\
 <th scope='col'>device</th><th scope='col'>driver</th><th scope='col'>priority</th>\
 <th scope='col'>arrival</th><th scope='col'>sent</th><th scope='col'>best</th>\
 <th scope='col'>cost</th><th scope='col' class='words'>waited</th></tr></thead><tbody>\n",
-    )?;
+    );
     for (place, stay) in explanation.stays().iter().enumerate() {
-        push_stay(alloc, text, config, stay)?;
-        push_waits(text, &explanation.waits(alloc, place)?)?;
-        text.push_str("</td></tr>\n")?;
+        push_stay(alloc, page, config, stay)?;
+        push_waits(page, &explanation.waits(alloc, place)?);
+        page.put("</td></tr>\n");
     }
-    text.push_str("</tbody></table></div>\n")
+    page.put("</tbody></table></div>\n");
+    Ok(())
 }
 
-// Puts what is known of a stay behind the text, up to its waits.
+// Puts what is known of a stay on the page, up to its waits.
 fn push_stay(
     alloc: Global,
-    text: &mut String,
+    page: &mut Page,
     config: &Config,
     stay: &ExplainedStay,
 ) -> Result<(), AllocError> {
     let path = path_name(alloc, config, stay.device)?;
-    let (ccb, attempt) = (stay.ccb, stay.attempt);
-    write!(
-        text,
-        "<tr><th scope='row'><a href='#s{ccb}-{attempt}'>{ccb}</a></th><td>{attempt}</td><td>{path}</td>"
-    )?;
-    push_cells(
-        text,
+    let (ccb, attempt) = (u64::from(stay.ccb), u64::from(stay.attempt));
+    page.parts(
         &[
-            u64::from(stay.driver),
-            u64::from(stay.priority),
-            u64::from(stay.arrival),
-            u64::from(stay.live),
-            u64::from(stay.best),
-            stay.cost(),
+            ("<tr><th scope='row'><a href='#s", ccb),
+            ("-", attempt),
+            ("'>", ccb),
+            ("</a></th><td>", attempt),
         ],
-    )?;
-    text.push_str("<td class='words'>")
+        "</td><td>",
+    );
+    page.words(&[&path, "</td>"]);
+    page.cells(&[
+        u64::from(stay.driver),
+        u64::from(stay.priority),
+        u64::from(stay.arrival),
+        u64::from(stay.live),
+        u64::from(stay.best),
+        stay.cost(),
+    ]);
+    page.put("<td class='words'>");
+    Ok(())
 }

@@ -1,6 +1,7 @@
 //! The tables below the drawing.
 
-use crate::drawing::words::{freeze_words, push_cells, push_parts, push_words};
+use crate::drawing::page::Page;
+use crate::drawing::words::freeze_words;
 use cam_path::path_name;
 use cam_types::Config;
 use std::alloc::{AllocError, Global};
@@ -20,10 +21,10 @@ const LINK_FULL: &str = "<th scope='col'>link full</th>";
 // The last column, and the end of the head.
 const NOT_ASKED: &str = "<th scope='col'>not asked</th></tr></thead><tbody>\n";
 
-/// Puts the tables by adapter, device, driver and run level behind the text.
+/// Puts the tables by adapter, device, driver and run level on the page.
 pub(crate) fn push_tables(
     alloc: Global,
-    text: &mut String,
+    page: &mut Page,
     config: &Config,
     explanation: &Explanation,
 ) -> Result<(), AllocError> {
@@ -33,143 +34,139 @@ pub(crate) fn push_tables(
         (Grouping::Driver, "drivers", "driver"),
         (Grouping::Level, "levels", "run level"),
     ] {
-        push_table_head(text, config, id, name)?;
-        push_rows(alloc, text, config, explanation, *by)?;
+        push_table_head(page, config, id, name);
+        push_rows(alloc, page, config, explanation, *by)?;
     }
     Ok(())
 }
 
-// Puts the head of a table behind the text.
-fn push_table_head(
-    text: &mut String,
-    config: &Config,
-    id: &str,
-    name: &str,
-) -> Result<(), AllocError> {
+// Puts the head of a table on the page.
+fn push_table_head(page: &mut Page, config: &Config, id: &str, name: &str) {
     let has_links = Cause::LinkFull.can_hold(config);
-    push_words(
-        text,
-        &[
-            "<div class='table'><table id='",
-            id,
-            "'><caption>By ",
-            name,
-            "</caption><thead><tr><th scope='col'>",
-            name,
-            COLUMNS,
-            if has_links { LINK_FULL } else { "" },
-            NOT_ASKED,
-        ],
-    )
+    page.words(&[
+        "<div class='table'><table id='",
+        id,
+        "'><caption>By ",
+        name,
+        "</caption><thead><tr><th scope='col'>",
+        name,
+        COLUMNS,
+        if has_links { LINK_FULL } else { "" },
+        NOT_ASKED,
+    ]);
 }
 
-// Puts the rows of a table and its end behind the text.
+// Puts the rows of a table and its end on the page.
 fn push_rows(
     alloc: Global,
-    text: &mut String,
+    page: &mut Page,
     config: &Config,
     explanation: &Explanation,
     by: Grouping,
 ) -> Result<(), AllocError> {
     for row in &explanation.table(alloc, by)? {
-        push_row_head(alloc, text, config, by, row.number)?;
-        push_part(text, config, &row.part)?;
+        push_row_head(alloc, page, config, by, row.number)?;
+        push_part(page, config, &row.part);
     }
-    text.push_str("</tbody></table></div>\n")
+    page.put("</tbody></table></div>\n");
+    Ok(())
 }
 
-// Puts the beginning of a row behind the text, with the path of a device.
+// Puts the beginning of a row on the page, with the path of a device.
 fn push_row_head(
     alloc: Global,
-    text: &mut String,
+    page: &mut Page,
     config: &Config,
     by: Grouping,
     number: u32,
 ) -> Result<(), AllocError> {
     if by == Grouping::Device {
         let path = path_name(alloc, config, number)?;
-        push_words(text, &["<tr><th scope='row'>", &path, "</th>"])
+        page.words(&["<tr><th scope='row'>", &path, "</th>"]);
     } else {
-        write!(text, "<tr><th scope='row'>{number}</th>")
+        page.parts(&[("<tr><th scope='row'>", u64::from(number))], "</th>");
     }
+    Ok(())
 }
 
-// Puts the cells of a part behind the text, and the end of its row.
-fn push_part(text: &mut String, config: &Config, part: &Part) -> Result<(), AllocError> {
-    push_cells(
-        text,
-        &[
-            u64::from(part.stays),
-            part.waited,
-            u64::from(part.p50),
-            u64::from(part.p90),
-            u64::from(part.max),
-            part.live,
-            part.best,
-        ],
-    )?;
-    write!(text, "<td>{}</td>", part.excess())?;
+// Puts the cells of a part on the page, and the end of its row.
+fn push_part(page: &mut Page, config: &Config, part: &Part) {
+    page.cells(&[
+        u64::from(part.stays),
+        part.waited,
+        u64::from(part.p50),
+        u64::from(part.p90),
+        u64::from(part.max),
+        part.live,
+        part.best,
+    ]);
+    page.put("<td>");
+    page.number(&part.excess());
+    page.put("</td>");
     for (cause, cost) in &part.costs.by_cause() {
         if cause.can_hold(config) {
-            push_cells(text, &[*cost])?;
+            page.cells(&[*cost]);
         }
     }
-    text.push_str("</tr>\n")
+    page.put("</tr>\n");
 }
 
-/// Puts the table of freezes behind the text, if there are some.
+/// Puts the table of freezes on the page, if there are some.
 pub(crate) fn push_freezes(
     alloc: Global,
-    text: &mut String,
+    page: &mut Page,
     config: &Config,
     freezes: &[Freeze],
 ) -> Result<(), AllocError> {
     if freezes.is_empty() {
         return Ok(());
     }
-    text.push_str(
+    page.put(
         "<div class='table'><table id='freezes'><caption>Freezes</caption><thead><tr>\
 <th scope='col'>of</th><th scope='col' class='words'>kind</th><th scope='col'>first</th><th scope='col'>last</th>\
 <th scope='col'>cost</th></tr></thead><tbody>\n",
-    )?;
+    );
     for freeze in freezes {
-        push_freeze(alloc, text, config, freeze)?;
+        push_freeze(alloc, page, config, freeze)?;
     }
-    text.push_str("</tbody></table></div>\n")
+    page.put("</tbody></table></div>\n");
+    Ok(())
 }
 
-// Puts the row of a freeze behind the text.
+// Puts the row of a freeze on the page.
 fn push_freeze(
     alloc: Global,
-    text: &mut String,
+    page: &mut Page,
     config: &Config,
     freeze: &Freeze,
 ) -> Result<(), AllocError> {
-    text.push_str("<tr><th scope='row'>")?;
-    push_frozen(alloc, text, config, freeze)?;
+    page.put("<tr><th scope='row'>");
+    push_frozen(alloc, page, config, freeze)?;
     let (words, _) = freeze_words(freeze.kind);
-    push_words(text, &["</th><td class='words'>", words])?;
-    push_parts(
-        text,
+    page.words(&["</th><td class='words'>", words]);
+    page.parts(
         &[
             ("</td><td>", u64::from(freeze.first)),
             ("</td><td>", u64::from(freeze.last)),
             ("</td><td>", freeze.cost),
         ],
         "</td></tr>\n",
-    )
+    );
+    Ok(())
 }
 
-// Puts the device or the adapter that was frozen behind the text.
+// Puts the device or the adapter that was frozen on the page.
 fn push_frozen(
     alloc: Global,
-    text: &mut String,
+    page: &mut Page,
     config: &Config,
     freeze: &Freeze,
 ) -> Result<(), AllocError> {
     if freeze.kind == FreezeKind::Adapter {
-        return push_parts(text, &[("adapter ", u64::from(freeze.number))], "");
+        page.parts(&[("adapter ", u64::from(freeze.number))], "");
+    } else {
+        let path = path_name(alloc, config, freeze.number)?;
+        page.words(&["device ", path.as_str()]);
     }
-    let path = path_name(alloc, config, freeze.number)?;
-    push_words(text, &["device ", path.as_str()])
+    Ok(())
 }

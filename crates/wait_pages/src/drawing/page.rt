@@ -1,0 +1,83 @@
+//! The page as it is made.
+
+use std::alloc::{AllocError, Global};
+use std::fmt::Display;
+
+/// A text that is put together piece by piece. Once memory has run out it takes nothing more, and there is no text in the end.
+#[derive(Drop)]
+pub(crate) struct Page {
+    text: String,
+    is_short: bool,
+}
+
+impl Page {
+    /// An empty page.
+    pub(crate) fn new(alloc: Global) -> Page {
+        Page {
+            text: String::new(alloc),
+            is_short: false,
+        }
+    }
+
+    /// The text, unless memory ran out.
+    pub(crate) fn finish(self) -> Result<String, AllocError> {
+        if self.is_short {
+            return Err(AllocError);
+        }
+        Ok(self.text)
+    }
+
+    /// Puts these words on the page.
+    pub(crate) fn put(&mut self, words: &str) {
+        self.is_short = self.is_short || self.text.push_str(words).is_err();
+    }
+
+    // Puts a letter on the page.
+    fn letter(&mut self, letter: char) {
+        self.is_short = self.is_short || self.text.push(letter).is_err();
+    }
+
+    /// Puts a number on the page.
+    pub(crate) fn number<T: Display>(&mut self, number: &T) {
+        self.is_short = self.is_short || write!(self.text, "{number}").is_err();
+    }
+
+    /// Puts each of these words on the page.
+    pub(crate) fn words(&mut self, words: &[&str]) {
+        for word in words {
+            self.put(word);
+        }
+    }
+
+    /// Puts each of these words with its number on the page, and then the last word.
+    pub(crate) fn parts(&mut self, parts: &[(&str, u64)], end: &str) {
+        for (word, number) in parts {
+            self.put(word);
+            self.number(number);
+        }
+        self.put(end);
+    }
+
+    /// Puts each of these numbers on the page, as a cell of a table.
+    pub(crate) fn cells(&mut self, cells: &[u64]) {
+        for cell in cells {
+            self.parts(&[("<td>", *cell)], "</td>");
+        }
+    }
+
+    /// Puts words that may hold anything on the page: what XML keeps for itself is escaped, and characters that it doesn't
+    /// allow are left out.
+    pub(crate) fn escaped(&mut self, words: &str) {
+        for letter in words.chars() {
+            match letter {
+                '&' => self.put("&amp;"),
+                '<' => self.put("&lt;"),
+                '>' => self.put("&gt;"),
+                '"' => self.put("&quot;"),
+                '\u{fffe}' | '\u{ffff}' => {}
+                letter if letter.is_control() => {}
+                letter => self.letter(letter),
+            }
+        }
+    }
+}

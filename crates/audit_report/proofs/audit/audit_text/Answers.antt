@@ -3,12 +3,12 @@ use Rattle.price_check.proofs.DualityLemmas.{best_where_proved}
 use Rattle.audit_report.proofs.AuditLemmas.{is_audit}
 use Rattle.audit_report.proofs.audit.audit_text.Goals as goal
 
-pub of-requires-clause-best : goal.of-requires-clause-best
-of-requires-clause-best c = best_where_proved _ _ _ _ c.stays.ensures.sound c.requires.proved
+pub of-costs-requires-clause-best : goal.of-costs-requires-clause-best
+of-costs-requires-clause-best c = best_where_proved _ _ _ _ c.stays.ensures.sound c.requires.proved
 
 pub returns : goal.returns
 returns c =
-    is_audit _ _ _ _ _ (record { schedule = c.args.best.now.schedule; prices = c.args.best.now.prices; best = c.of.result.best; excess = c.of.result.excess })
+    is_audit _ _ _ _ _ (record { schedule = c.args.best.now.schedule; prices = c.args.best.now.prices; best = c.of-costs.result.best; excess = c.of-costs.result.excess })
     c.requires.net
     (record {
       sound = c.stays.ensures.sound;
@@ -16,11 +16,11 @@ returns c =
       cells = c.requires.cells;
       priced = c.cells.ensures.priced;
       proved = c.requires.proved;
-      small = c.of.ensures.small;
-      lived = c.of.ensures.live;
-      best = c.of.ensures.best;
-      excess = c.of.ensures.excess;
+      small = c.of-costs.ensures.small;
+      lived = c.of-costs.ensures.live;
+      best = c.of-costs.ensures.best;
+      excess = c.of-costs.ensures.excess;
       made = rw (c.in_ok-push_rest.ensures.text, c.in_ok-push_summary.ensures.text, c.in_ok-text.ensures.items) refl;
     })
-    c.requires.legal c.of.ensures.known
+    c.requires.legal c.of-costs.ensures.known
     (omega (arith, c.in_ok-push_rest.ensures.short, c.in_ok-push_summary.ensures.short, ap length c.in_ok-text.ensures.items))

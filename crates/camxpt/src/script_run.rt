@@ -4,7 +4,7 @@ use crate::failure::Failure;
 use crate::note::Named;
 use crate::progress::ProgressLine;
 use live_worker::run_live;
-use run_rules::Ending;
+use run_rules::{Ending, ScriptPort};
 use sim_worker::sim_run;
 use std::io;
 use std::rt::Runtime;

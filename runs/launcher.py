@@ -1,4 +1,4 @@
-"""What `camxpt` and `runs/build` do, tried on a small repository with an `rt` of its own, which proves nothing but tells
+"""What `camxpt` and `runs/build` do, tried on a small repository with a kit of its own, which proves nothing but tells
 how it was called. `runs/run` runs these checks with its own: each gives why it failed, or an empty text."""
 import os
 import shutil
@@ -9,33 +9,47 @@ import time
 
 top = os.path.dirname(os.path.dirname(os.path.abspath(__file__)))
 
-# It writes each call's crate and words to the file CALLS. A source with `wrong` in it isn't proved, one with `slow` takes
-# ten seconds, and the program prints its source, its words and its standard input, and ends with status 3.
+# A kit that proves nothing. Its compiler and `rt try` write each call's crate and verb to the file CALLS. A source with `wrong`
+# in it isn't proved, one with `slow` takes ten seconds, and the program prints its source, its words and its standard input,
+# and ends with status 3.
 RT = """#!/bin/sh
-crate=${PWD##*/}
-echo "$crate $*" >> "$CALLS"
+case $1 in
+  doc) echo "${0%/*}/kit/START-HERE.md"; exit ;;
+  version) echo "a kit"; exit ;;
+esac
+echo "${PWD##*/} try" >> "$CALLS"
+if grep -q wrong src/*; then echo "an open goal"; exit 1; fi
+shift 2
+echo "tried $*"; cat
+echo "camxpt: a fault" >&2
+echo "checked: ended status=3" >&2
+echo "run=ended status=3 runners=1 proved=no" >&2
+exit 3
+"""
+COMPILER = """#!/bin/sh
+while [ $# -gt 0 ]; do
+  case $1 in --crate-name) crate=$2 ;; -o) made=$2 ;; esac
+  shift
+done
+echo "$crate build" >> "$CALLS"
 grep -q slow src/* && sleep 10
 if grep -q wrong src/*; then echo "an open goal"; exit 1; fi
-if [ "$1" = try ]; then
-  shift 2
-  echo "tried $*"; cat
-  echo "camxpt: a fault" >&2
-  echo "checked: ended status=3" >&2
-  echo "run=ended status=3 runners=1 proved=no" >&2
-  exit 3
-fi
 echo "logic=proved functions=2"
-mkdir -p out/rlib
 if [ -f src/main.rt ]; then
-  (echo '#!/bin/sh'; echo "echo '$(cat src/main.rt)' \\$*; cat; exit 3") > out/camxpt
-  echo stamp > out/camxpt.stamp
-  chmod +x out/camxpt
+  (echo '#!/bin/sh'; echo "echo '$(cat src/main.rt)' \\$*; cat; exit 3") > "$made"
+else
+  mkdir "$made"; (cat src/*; ls -R) > "$made/format"
 fi
+"""
+LINKER = """#!/bin/sh
+while [ "$1" != -o ]; do shift; done
+cp "$3" "$2"; chmod +x "$2"
 """
 FILES = {"crates.txt": "camxpt: high\nhigh: low\nlow:\nother:\n", "HANDLES": "Handles allowed: none.\n",
          "crates/camxpt/src/main.rt": "first", "crates/high/src/lib.rt": "", "crates/low/src/lib.rt": "",
-         "crates/low/specs/Low.antt": "", "crates/other/src/lib.rt": "", "bin/rt": RT, "calls": ""}
-BUILT = ["low lib", "high lib", "camxpt run"]
+         "crates/low/specs/Low.antt": "", "crates/other/src/lib.rt": "", "calls": ""}
+COMMANDS = {"bin/rt": RT, "bin/kit/bin/rattle": COMPILER, "bin/kit/bin/rattle-link": LINKER}
+BUILT = ["low build", "high build", "camxpt build"]
 
 
 class Repository:
@@ -43,12 +57,13 @@ class Repository:
 
     def __init__(self, folder):
         self.folder = folder
-        for path, text in FILES.items():
+        for path, text in {**FILES, **COMMANDS}.items():
             self.write(path, text)
+        for path in COMMANDS:
+            os.chmod(self.path(path), 0o755)
         os.makedirs(self.path("runs"))
         for path in ("camxpt", "runs/build", "runs/try"):
             shutil.copy2(os.path.join(top, path), self.path(path))
-        os.chmod(self.path("bin/rt"), 0o755)
         search = self.path("bin") + os.pathsep + os.environ["PATH"]
         self.given = {**os.environ, "PATH": search, "CALLS": self.path("calls")}
 
@@ -72,7 +87,7 @@ class Repository:
         return subprocess.Popen([self.path("camxpt"), *words], cwd=self.folder, env=self.given, start_new_session=True, **how)
 
     def call(self, *words):
-        """What the program gives, what standard error tells, and the crates and words of the calls of `rt`."""
+        """What the program gives, what standard error tells, and the crates and verbs of the kit's calls."""
         self.write("calls", "")
         process = self.start(*words)
         try:
@@ -102,7 +117,7 @@ def wrong(**pairs):
 
 @in_repository
 def builds_what_is_old(repository):
-    """The program is built once, and again where a source that it stands on changed or went, and no other."""
+    """The program is built once, and again where a source that it stands on changed or went, with what stands on that."""
     first, told, calls = repository.call("a", "b")
     lines = [line.split(",")[0] for line in told.splitlines()]
     again = repository.call("a", "b")
@@ -119,7 +134,7 @@ def builds_what_is_old(repository):
     said = [f"camxpt: {k} of 3 crates proved" for k in (1, 2, 3)]
     return wrong(first=(first, due), calls=(calls, BUILT), told=(lines[1:-1], said), again=(again, (due, "", [])),
                  other=(other, (due, "", [])), low=((low[0], low[2]), (due, BUILT)), gone=(gone[2], BUILT),
-                 second=(second[0], ("second a b\ninput\n", 3)), clean=(repository.is_clean(), True))
+                 second=((second[0], second[2]), (("second a b\ninput\n", 3), BUILT[2:])), clean=(repository.is_clean(), True))
 
 
 @in_repository
@@ -131,7 +146,7 @@ def failed_build(repository):
     log = told.splitlines()[-1].partition("; see ")[2]
     again = repository.call()[0]
     repository.change("crates/high/src/lib.rt", "right")
-    return wrong(first=((out, status), ("", 70)), calls=(calls, BUILT[:2]), log=("an open goal" in open(log).read(), True),
+    return wrong(first=((out, status), ("", 70)), calls=(calls, BUILT[1:2]), log=("an open goal" in open(log).read(), True),
                  again=(again, ("", 70)), right=(repository.call()[0][1], 3), clean=(repository.is_clean(), True))
 
 
@@ -146,7 +161,7 @@ def interrupted_build(repository):
     process.communicate(timeout=60)
     is_there = os.path.exists(repository.path("crates/camxpt/out/camxpt"))
     # What a build that was killed leaves.
-    repository.write("crates/camxpt/out/build/trees/low/crates/low/src/lib.rt", "wrong")
+    repository.write("crates/camxpt/out/build/crates/low/src/lib.rt", "wrong")
     repository.change("crates/low/src/lib.rt", "right")
     built = repository.call()
     return wrong(status=(process.returncode in (130, -signal.SIGINT), True), there=(is_there, False), calls=(built[2], BUILT),

@@ -8,7 +8,7 @@ use text_io::{Watched, read_number};
 
 /// Prints the net of a trace, or why it has none: what there is, then each stay, and then how many commands each device, adapter
 /// and link takes in each round.
-pub fn show_net<R: Print + AllocGlobal>(rt: &R, trace: impl Read + Drop) -> io::Result<()> {
+pub fn show_net(rt: &HostRuntime, trace: impl Read + Drop) -> io::Result<()> {
     let net = match read_net(rt.alloc(), &mut Watched::new(trace)) {
         Ok((_, net)) => net,
         Err(fault) => return rt.println(fault),
@@ -29,7 +29,7 @@ pub fn show_net<R: Print + AllocGlobal>(rt: &R, trace: impl Read + Drop) -> io::
     show_links(rt, &net)
 }
 
-fn show_stays<R: Print>(rt: &R, net: &Net) -> io::Result<()> {
+fn show_stays(rt: &HostRuntime, net: &Net) -> io::Result<()> {
     for stay in 0..net.stays() {
         let name = net.stay(stay);
         print!(rt;
@@ -45,7 +45,7 @@ fn show_stays<R: Print>(rt: &R, net: &Net) -> io::Result<()> {
     Ok(())
 }
 
-fn show_devices<R: Print>(rt: &R, net: &Net) -> io::Result<()> {
+fn show_devices(rt: &HostRuntime, net: &Net) -> io::Result<()> {
     for device in 0..net.devices() {
         print!(rt; "device {device} takes")?;
         for round in 1..net.rounds() + 1 {
@@ -56,7 +56,7 @@ fn show_devices<R: Print>(rt: &R, net: &Net) -> io::Result<()> {
     Ok(())
 }
 
-fn show_adapters<R: Print>(rt: &R, net: &Net) -> io::Result<()> {
+fn show_adapters(rt: &HostRuntime, net: &Net) -> io::Result<()> {
     for adapter in 0..net.adapters() {
         print!(rt; "adapter {adapter} link {:?} takes", net.link_of(adapter))?;
         for round in 1..net.rounds() + 1 {
@@ -67,7 +67,7 @@ fn show_adapters<R: Print>(rt: &R, net: &Net) -> io::Result<()> {
     Ok(())
 }
 
-fn show_links<R: Print>(rt: &R, net: &Net) -> io::Result<()> {
+fn show_links(rt: &HostRuntime, net: &Net) -> io::Result<()> {
     for link in 0..net.links() {
         print!(rt; "link {link} row {} takes", net.link_row(link))?;
         for round in 1..net.rounds() + 1 {
@@ -79,11 +79,7 @@ fn show_links<R: Print>(rt: &R, net: &Net) -> io::Result<()> {
 }
 
 /// Prints what a schedule of a trace costs, given as the rounds of its stays.
-pub fn show_cost<R: Print + AllocGlobal>(
-    rt: &R,
-    trace: impl Read + Drop,
-    rounds: &str,
-) -> io::Result<()> {
+pub fn show_cost(rt: &HostRuntime, trace: impl Read + Drop, rounds: &str) -> io::Result<()> {
     let Ok((_, net)) = read_net(rt.alloc(), &mut Watched::new(trace)) else {
         return rt.println("no net");
     };

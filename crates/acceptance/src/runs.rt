@@ -6,10 +6,9 @@ use crate::spellings::{show_number, show_paths};
 use crate::traces::{show_trace, write_again};
 use std::fs::File;
 use std::io;
-use std::rt::Files;
 
 /// Prints each line of standard input, and behind it what comes of the run that it names.
-pub fn do_runs<R: Files + Input + Print + AllocGlobal>(rt: &R) -> io::Result<()> {
+pub fn do_runs(rt: &HostRuntime) -> io::Result<()> {
     for line in rt.lines(rt.alloc()) {
         let line = line?;
         println!(rt; "== {line}")?;
@@ -24,7 +23,7 @@ pub fn do_runs<R: Files + Input + Print + AllocGlobal>(rt: &R) -> io::Result<()>
 }
 
 // A run over a file, whose name stands before the numbers that the run takes.
-fn do_over_file<R: Files + Print + AllocGlobal>(rt: &R, kind: &str, rest: &str) -> io::Result<()> {
+fn do_over_file(rt: &HostRuntime, kind: &str, rest: &str) -> io::Result<()> {
     let (name, numbers) = rest.split_once(' ').unwrap_or((rest, ""));
     let path = format!(in rt.alloc(); "{name}.csv")?;
     let file = File::open(rt, path.as_str())?;

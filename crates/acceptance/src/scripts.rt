@@ -6,7 +6,7 @@ use text_io::Watched;
 use trace_file::{Script, read_script};
 
 /// Prints what a script asks for, or why it is none.
-pub fn show_script<R: Print + AllocGlobal>(rt: &R, script: impl Read + Drop) -> io::Result<()> {
+pub fn show_script(rt: &HostRuntime, script: impl Read + Drop) -> io::Result<()> {
     match read_script(rt.alloc(), &mut Watched::new(script)) {
         Ok(script) => {
             let limits = script.limits();
@@ -25,7 +25,7 @@ pub fn show_script<R: Print + AllocGlobal>(rt: &R, script: impl Read + Drop) -> 
 }
 
 // The steps of each driver, a line each.
-fn show_steps<R: Print>(rt: &R, script: &Script) -> io::Result<()> {
+fn show_steps(rt: &HostRuntime, script: &Script) -> io::Result<()> {
     for (driver, steps) in script.drivers().iter().enumerate() {
         println!(rt; "driver {driver} steps {}", steps.len())?;
         for step in steps {
@@ -36,7 +36,7 @@ fn show_steps<R: Print>(rt: &R, script: &Script) -> io::Result<()> {
 }
 
 // What each lane answers, a line for each answer, with the numbers in decimal.
-fn show_answers<R: Print>(rt: &R, script: &Script) -> io::Result<()> {
+fn show_answers(rt: &HostRuntime, script: &Script) -> io::Result<()> {
     for (lane, answers) in script.answers().iter().enumerate() {
         println!(rt; "lane {lane} answers {}", answers.len())?;
         for answer in answers {

@@ -6,7 +6,7 @@ use std::io::Write;
 use text_io::read_number;
 
 /// Prints the number that a text spells, if that is at most the number before it.
-pub fn show_number<R: Print>(rt: &R, rest: &str) -> io::Result<()> {
+pub fn show_number(rt: &HostRuntime, rest: &str) -> io::Result<()> {
     let (most, text) = rest.split_once(' ').unwrap_or((rest, ""));
     let most = read_number(most.as_bytes(), u64::MAX).unwrap_or(0);
     match read_number(text.as_bytes(), most) {
@@ -16,7 +16,7 @@ pub fn show_number<R: Print>(rt: &R, rest: &str) -> io::Result<()> {
 }
 
 /// Prints each path, or why it is none, and how it stands to the path before it.
-pub fn show_paths<R: Print + AllocGlobal>(rt: &R, paths: &str) -> io::Result<()> {
+pub fn show_paths(rt: &HostRuntime, paths: &str) -> io::Result<()> {
     let mut before: Option<CamPath> = None;
     for word in paths.split(' ') {
         match CamPath::read(word.as_bytes()) {

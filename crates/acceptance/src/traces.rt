@@ -7,11 +7,7 @@ use text_io::Watched;
 use trace_file::{read_trace, write_trace};
 
 /// Prints what a check of a trace says, or its report, or the summary alone, or why there is none.
-pub fn show_trace<R: Print + AllocGlobal>(
-    rt: &R,
-    trace: impl Read + Drop,
-    kind: &str,
-) -> io::Result<()> {
+pub fn show_trace(rt: &HostRuntime, trace: impl Read + Drop, kind: &str) -> io::Result<()> {
     let mut trace = Watched::new(trace);
     let mut out = Watched::new(io::writer(rt));
     let answer = match kind {
@@ -27,7 +23,7 @@ pub fn show_trace<R: Print + AllocGlobal>(
 }
 
 /// Prints a trace in its plain form, or why it is none or wasn't written.
-pub fn write_again<R: Print + AllocGlobal>(rt: &R, trace: impl Read + Drop) -> io::Result<()> {
+pub fn write_again(rt: &HostRuntime, trace: impl Read + Drop) -> io::Result<()> {
     let history = match read_trace(rt.alloc(), &mut Watched::new(trace)) {
         Ok(history) => history,
         Err(fault) => return rt.println(fault),

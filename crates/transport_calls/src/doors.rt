@@ -77,7 +77,7 @@ impl Doors {
     }
 
     /// Prints what there is to see of a layer.
-    pub fn tell<R: Print>(&self, rt: &R, layer: Layer) -> io::Result<()> {
+    pub fn tell(&self, rt: &HostRuntime, layer: Layer) -> io::Result<()> {
         self.layers.tell(rt, layer)
     }
 

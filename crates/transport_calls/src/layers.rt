@@ -43,7 +43,7 @@ impl Layers {
     }
 
     /// Prints what there is to see of a layer.
-    pub fn tell<R: Print>(&self, rt: &R, layer: Layer) -> io::Result<()> {
+    pub fn tell(&self, rt: &HostRuntime, layer: Layer) -> io::Result<()> {
         match layer {
             Layer::Queue(device) => self.tell_queue(rt, device),
             Layer::Turn(adapter) => self.tell_turn(rt, adapter),
@@ -53,7 +53,7 @@ impl Layers {
         }
     }
 
-    fn tell_queue<R: Print>(&self, rt: &R, device: u32) -> io::Result<()> {
+    fn tell_queue(&self, rt: &HostRuntime, device: u32) -> io::Result<()> {
         let devices = self.stays.ccbs().adapters().devices();
         if device as usize >= devices.config().devices().len() {
             return println!(rt; "no device");
@@ -73,7 +73,7 @@ impl Layers {
         )
     }
 
-    fn tell_turn<R: Print>(&self, rt: &R, adapter: u32) -> io::Result<()> {
+    fn tell_turn(&self, rt: &HostRuntime, adapter: u32) -> io::Result<()> {
         let adapters = self.stays.ccbs().adapters();
         if adapter as usize >= adapters.devices().config().adapters().len() {
             return println!(rt; "no adapter");
@@ -87,7 +87,7 @@ impl Layers {
         )
     }
 
-    fn tell_ccb<R: Print>(&self, rt: &R, number: u32) -> io::Result<()> {
+    fn tell_ccb(&self, rt: &HostRuntime, number: u32) -> io::Result<()> {
         let ccbs = self.stays.ccbs();
         println!(rt;
             "counted, try and driver {:?} in flight {} recovering {} class {:?} requeue {} finish {}",
@@ -101,7 +101,7 @@ impl Layers {
         )
     }
 
-    fn tell_counts<R: Print>(&self, rt: &R) -> io::Result<()> {
+    fn tell_counts(&self, rt: &HostRuntime) -> io::Result<()> {
         let ccbs = self.stays.ccbs();
         let devices = ccbs.adapters().devices();
         println!(rt;
@@ -117,7 +117,7 @@ impl Layers {
         )
     }
 
-    fn tell_history<R: Print>(&self, rt: &R) -> io::Result<()> {
+    fn tell_history(&self, rt: &HostRuntime) -> io::Result<()> {
         println!(rt;
             "round {} commands {} stays {} unsent {:?} live {:?}",
             self.history.round(),

@@ -20,7 +20,6 @@ use doors::Doors;
 use fault::Fault;
 use script::{Line, Script};
 use std::process::ExitCode;
-use std::rt::Runtime;
 use std::time::{CpuClock, Duration};
 use std::{env, io};
 use xpt_state::{Reply, Xpt};
@@ -35,7 +34,7 @@ fn main(rt: HostRuntime) -> io::Result<ExitCode> {
     }
 }
 
-fn run<R: Runtime + AllocGlobal + CpuClock>(rt: &R) -> Result<(), Fault> {
+fn run(rt: &HostRuntime) -> Result<(), Fault> {
     let words: Vec<String> = env::args(rt)?.collect(rt.alloc())?;
     let text = io::read_to_string(rt.alloc(), rt.reader())?;
     let scripts = Script::read_all(rt.alloc(), &text)?;
@@ -45,7 +44,7 @@ fn run<R: Runtime + AllocGlobal + CpuClock>(rt: &R) -> Result<(), Fault> {
     }
 }
 
-fn beside_all<R: Print + AllocGlobal>(rt: &R, scripts: &[Script<'_>]) -> Result<(), Fault> {
+fn beside_all(rt: &HostRuntime, scripts: &[Script<'_>]) -> Result<(), Fault> {
     for script in scripts {
         beside(rt, script)?;
     }
@@ -53,11 +52,7 @@ fn beside_all<R: Print + AllocGlobal>(rt: &R, scripts: &[Script<'_>]) -> Result<
 }
 
 // Makes the calls of the first run alone, or on so many transports, as the word says.
-fn first<R: Print + AllocGlobal + CpuClock>(
-    rt: &R,
-    scripts: &[Script<'_>],
-    word: &str,
-) -> Result<(), Fault> {
+fn first(rt: &HostRuntime, scripts: &[Script<'_>], word: &str) -> Result<(), Fault> {
     let Some(script) = scripts.first() else {
         return Err(Fault::NoRun);
     };
@@ -72,7 +67,7 @@ fn first<R: Print + AllocGlobal + CpuClock>(
 }
 
 // Tells what came of each call, and where the doors differ.
-fn beside<R: Print + AllocGlobal>(rt: &R, script: &Script<'_>) -> Result<(), Fault> {
+fn beside(rt: &HostRuntime, script: &Script<'_>) -> Result<(), Fault> {
     println!(rt; "== {}", script.name)?;
     let mut doors = Doors::open(rt.alloc(), &script.opening)?;
     make_all(rt, &script.lines, &mut doors)?;
@@ -82,7 +77,7 @@ fn beside<R: Print + AllocGlobal>(rt: &R, script: &Script<'_>) -> Result<(), Fau
     Ok(())
 }
 
-fn make_all<R: Print>(rt: &R, lines: &[Line<'_>], doors: &mut Doors) -> io::Result<()> {
+fn make_all(rt: &HostRuntime, lines: &[Line<'_>], doors: &mut Doors) -> io::Result<()> {
     for line in lines {
         print!(rt; "{}: ", line.text)?;
         make(rt, line.call, doors)?;
@@ -90,7 +85,7 @@ fn make_all<R: Print>(rt: &R, lines: &[Line<'_>], doors: &mut Doors) -> io::Resu
     Ok(())
 }
 
-fn make<R: Print>(rt: &R, call: Call, doors: &mut Doors) -> io::Result<()> {
+fn make(rt: &HostRuntime, call: Call, doors: &mut Doors) -> io::Result<()> {
     if let Call::Layer(layer) = call {
         return doors.tell(rt, layer);
     }
@@ -102,11 +97,7 @@ fn make<R: Print>(rt: &R, call: Call, doors: &mut Doors) -> io::Result<()> {
 }
 
 // `opened` and `called` stand between the requests for memory of `open`, of the calls and of `into_history`.
-fn alone<R: Print + AllocGlobal>(
-    rt: &R,
-    script: &Script<'_>,
-    answers: &mut [Answer],
-) -> Result<(), Fault> {
+fn alone(rt: &HostRuntime, script: &Script<'_>, answers: &mut [Answer]) -> Result<(), Fault> {
     let mut xpt = script.opening.open(rt.alloc())?;
     make_alone(rt, script, &mut xpt, answers)?;
     let history = xpt.into_history(rt.alloc())?;
@@ -115,8 +106,8 @@ fn alone<R: Print + AllocGlobal>(
     Ok(())
 }
 
-fn make_alone<R: Print>(
-    rt: &R,
+fn make_alone(
+    rt: &HostRuntime,
     script: &Script<'_>,
     xpt: &mut Xpt,
     answers: &mut [Answer],
@@ -126,15 +117,15 @@ fn make_alone<R: Print>(
     println!(rt; "called")
 }
 
-fn tell_all<R: Print>(rt: &R, answers: &[Answer]) -> io::Result<()> {
+fn tell_all(rt: &HostRuntime, answers: &[Answer]) -> io::Result<()> {
     for answer in answers {
         println!(rt; "{answer}")?;
     }
     Ok(())
 }
 
-fn time<R: Print + AllocGlobal + CpuClock>(
-    rt: &R,
+fn time(
+    rt: &HostRuntime,
     script: &Script<'_>,
     answers: &mut [Answer],
     count: u32,
@@ -155,8 +146,8 @@ fn time<R: Print + AllocGlobal + CpuClock>(
 }
 
 // The processor time that the calls on one transport took.
-fn time_calls<R: CpuClock>(
-    rt: &R,
+fn time_calls(
+    rt: &HostRuntime,
     script: &Script<'_>,
     xpt: &mut Xpt,
     answers: &mut [Answer],

@@ -1,17 +1,15 @@
 -- how a run over a trace and a report on it ends
-use Rattle.std.specs.Prelude.{◌≡◌, ℕ, Bool, true, ⊤, List, Option, None, Result, Ok, Err}
+use Rattle.std.specs.Prelude.{◌≡◌, ℕ, Bool, true, List, Option, None, Result, Ok, Err}
 use Rattle.std.specs.Io.KnownBytes.{Appends}
 use Rattle.text_io.specs.Whole.{AppendsFront}
 use Rattle.cam_event.specs.Past.{Past}
 use Rattle.cam_event.specs.Stays.{unsent}
 use Rattle.trace_file.specs.Trace.{WasTrace, Explains}
-use Rattle.trace_file.specs.declared.trace_fault.TraceFault.TheVariants as trace_fault
 use Rattle.round_net.specs.Nets.{net_of}
 use Rattle.price_check.specs.Claims as claims
 use Rattle.price_check.specs.declared.claim.Claim.{Claim}
 use Rattle.price_check.specs.declared.report_fault.ReportFault.{ReportFault}
-use Rattle.price_check.specs.declared.report_fault.ReportFault.TheVariants as report_fault
-use Rattle.audit_report.specs.Runs.{WasUnsent}
+use Rattle.audit_report.specs.Runs.{WasUnsent, IsFailure}
 use Rattle.audit_report.specs.Findings.{Says, is_proved, finding_text}
 use Rattle.audit_report.specs.declared.audit_fault.AuditFault.{AuditFault}
 use Rattle.audit_report.specs.declared.audit_fault.AuditFault.TheVariants.{Trace, Unsent, Report, WriteFailed, OutOfMemory}
@@ -69,12 +67,4 @@ module _ (before after : Streams) where
 -- the report was proved, unless memory was wanting or a read or a write failed
 abbrev pub IsProvedOrFailed : Result Bool AuditFault → Type 0
 IsProvedOrFailed (Ok answer) = answer ≡ true
-IsProvedOrFailed (Err (Trace trace_fault.ReadFailed)) = ⊤
-IsProvedOrFailed (Err (Trace trace_fault.OutOfMemory)) = ⊤
-IsProvedOrFailed (Err (Trace fault)) = ⊥
-IsProvedOrFailed (Err (Unsent s)) = ⊥
-IsProvedOrFailed (Err (Report report_fault.ReadFailed)) = ⊤
-IsProvedOrFailed (Err (Report report_fault.OutOfMemory)) = ⊤
-IsProvedOrFailed (Err (Report fault)) = ⊥
-IsProvedOrFailed (Err WriteFailed) = ⊤
-IsProvedOrFailed (Err OutOfMemory) = ⊤
+IsProvedOrFailed (Err fault) = IsFailure fault

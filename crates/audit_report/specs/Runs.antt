@@ -5,7 +5,10 @@ use Rattle.text_io.specs.Whole.{AppendsFront}
 use Rattle.cam_event.specs.Past.{Past}
 use Rattle.cam_event.specs.Stays.{unsent}
 use Rattle.cam_event.specs.declared.stay.StayName.{StayName}
+use Rattle.round_net.specs.Rows.{NetRows}
+use Rattle.price_check.specs.declared.report_fault.ReportFault.TheVariants as report_fault
 use Rattle.trace_file.specs.Trace.{WasTrace, Explains}
+use Rattle.trace_file.specs.declared.trace_fault.TraceFault.TheVariants as trace_fault
 use Rattle.audit_report.specs.declared.audit_fault.AuditFault.{AuditFault}
 use Rattle.audit_report.specs.declared.audit_fault.AuditFault.TheVariants.{Trace, Unsent, Report, WriteFailed, OutOfMemory}
 
@@ -22,6 +25,23 @@ WhyNoNet before after failed (Unsent s) = WasUnsent before after s
 WhyNoNet before after failed (Report fault) = ⊥
 WhyNoNet before after failed WriteFailed = ⊥
 WhyNoNet before after failed OutOfMemory = ⊤
+
+-- memory was wanting, or a read or a write failed
+abbrev pub IsFailure : AuditFault → Type 0
+IsFailure (Trace trace_fault.ReadFailed) = ⊤
+IsFailure (Trace trace_fault.OutOfMemory) = ⊤
+IsFailure (Trace fault) = ⊥
+IsFailure (Unsent s) = ⊥
+IsFailure (Report report_fault.ReadFailed) = ⊤
+IsFailure (Report report_fault.OutOfMemory) = ⊤
+IsFailure (Report fault) = ⊥
+IsFailure WriteFailed = ⊤
+IsFailure OutOfMemory = ⊤
+
+-- this complete history was read, unless that failed
+abbrev pub IsReadOrFailed : Past → Result (Past × NetRows) AuditFault → Type 0
+IsReadOrFailed past (Ok read) = read.0 ≡ past
+IsReadOrFailed past (Err fault) = IsFailure fault
 
 -- which texts are right for a history is what the run is for
 module _ (IsRight : Past → List ℕ → Type 0) where

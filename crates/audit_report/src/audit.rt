@@ -1,7 +1,8 @@
 //! The audit of a trace: the report on it, or the report's first seven lines.
 
-ghost use Rattle.std.specs.Prelude.{◌≡◌, ◌≢◌, ℕ, ◌+◌, ◌*◌, ◌≤◌, Bool, true, false, if◌then◌else◌, Option, None, Err, List, [], ◌++◌, length, slice_index, IfOk, IfErr, OnOk};
+ghost use Rattle.std.specs.Prelude.{◌≡◌, ◌≢◌, ℕ, ◌+◌, ◌*◌, ◌≤◌, Bool, true, false, if◌then◌else◌, Option, None, Err, List, [], ◌++◌, length, slice_index, IfOk, IfErr, IfSome, OnOk};
 ghost use Rattle.text_io.specs.Watched.{device_of, has_failed, is_flushed};
+ghost use Rattle.cam_event.specs.Past.{Past};
 ghost use Rattle.cam_event.specs.Stays.{unsent};
 ghost use Rattle.round_net.specs.Rows.{instance_of_rows};
 ghost use Rattle.round_net.specs.PriceRows.{pricing_of_rows, IsPricingFor};
@@ -10,8 +11,8 @@ ghost use Rattle.round_net.specs.Nets.{net_of};
 ghost use Rattle.cam_event.specs.Legal.{history_rules, is_legal};
 ghost use Rattle.price_check.specs.Report.{plan_text};
 ghost use Rattle.audit_report.specs.Audit.{IsAudit};
-ghost use Rattle.trace_file.specs.Trace.{WasTrace};
-ghost use Rattle.audit_report.specs.Runs.{Ended, WhyNoNet};
+ghost use Rattle.trace_file.specs.Trace.{IsTrace, IsHistory, WasTrace};
+ghost use Rattle.audit_report.specs.Runs.{Ended, IsReadOrFailed, WhyNoNet};
 ghost use Rattle.cam_types.specs.declared.maxima.TheConstants.{MOST_STAYS, MOST_ROUNDS, MOST_DEVICES, MOST_ADAPTERS, MOST_LINKS};
 
 use crate::audit_fault::AuditFault;
@@ -47,7 +48,7 @@ pub fn run_audit<R: Read, W: Write>(
     write_audit(alloc, &history, &net, &best, out, summary)
 }
 
-/// Reads a trace to its end, and makes the net of its history.
+/// Reads a trace to its end, and makes the net of its history, if that is complete.
 pub fn read_net<R: Read>(
     alloc: Global,
     trace: &mut Watched<R>,
@@ -56,6 +57,7 @@ pub fn read_net<R: Read>(
     ensures trace { IfOk result (λ read. WasTrace (R.remaining (device_of trace.old)) (R.remaining (device_of trace.new)) read.0) }
     ensures net { IfOk result (λ read. read.1 ≡ net_of read.0.config read.0.events) }
     ensures complete { IfOk result (λ read. unsent read.0.events ≡ None) }
+    ensures only { (past : Past) → IsHistory past → unsent past.events ≡ None → IfSome (R.remaining (device_of trace.old)) (λ all. IsTrace all past → IsReadOrFailed past result) }
     ensures faults { IfErr result (WhyNoNet (R.remaining (device_of trace.old)) (R.remaining (device_of trace.new)) (has_failed trace.new)) }
     ensures calm { result ≢ Err (AuditFault.Trace TraceFault.ReadFailed) → has_failed trace.new ≡ false }
 {

@@ -1,20 +1,24 @@
 //! Whether a report on a trace is proved, whoever made it.
 
-ghost use Rattle.std.specs.Prelude.{◌≡◌, ◌≢◌, ℕ, true, false, Err, List, IfSome, OnOk};
+ghost use Rattle.std.specs.Prelude.{◌≡◌, ◌≢◌, ℕ, Bool, true, false, Err, List, Option, None, IfSome, OnOk};
 ghost use Rattle.text_io.specs.Watched.{device_of, has_failed, is_flushed};
 ghost use Rattle.cam_event.specs.Past.{Past};
-ghost use Rattle.trace_file.specs.Trace.{IsTrace, IsHistory};
+ghost use Rattle.cam_event.specs.Stays.{unsent};
+ghost use Rattle.round_net.specs.Nets.{net_of};
+ghost use Rattle.trace_file.specs.Trace.{IsTrace, IsHistory, WasTrace};
 ghost use Rattle.audit_report.specs.Audit.{IsAudit};
 ghost use Rattle.audit_report.specs.Prove.{Proving, IsProvedOrFailed};
 
+use crate::audit::read_net;
 use crate::audit_fault::AuditFault;
 use crate::finding::Finding;
 use price_check::{ReportFault, read_report};
-use round_net::{Net, NetFault};
+use round_net::Net;
 use std::alloc::Global;
 use std::io::{Read, Write};
 use text_io::{Watched, write_whole};
-use trace_file::{TraceFault, read_trace};
+use trace_file::TraceFault;
+use xpt_state::History;
 
 /// Reads a trace and a report on it, whoever made it, and writes one line: whether the report's prices prove that its
 /// schedule is a best one, and its numbers are right, or why not. Answers whether it is proved. The trace is read to its
@@ -42,20 +46,37 @@ pub fn run_prove<R: Read, S: Read, W: Write>(
     ensures report_calm { result ≢ Err (AuditFault.Report ReportFault.ReadFailed) → has_failed report.new ≡ false }
     ensures out_calm { result ≢ Err AuditFault.WriteFailed → has_failed out.new ≡ false }
 {
-    let history = match read_trace(alloc, trace) {
-        Ok(history) => history,
-        Err(fault) => return Err(AuditFault::Trace(fault)),
-    };
-    let net = match Net::of(alloc, &history) {
-        Ok(net) => net,
-        Err(NetFault::Unsent(stay)) => return Err(AuditFault::Unsent(stay)),
-        Err(NetFault::OutOfMemory) => return Err(AuditFault::OutOfMemory),
-    };
-    let claim = match read_report(alloc, report, &history, &net) {
+    let (history, net) = read_net(alloc, trace)?;
+    prove_net(alloc, &history, &net, report, out)
+}
+
+// Reads a report on a complete history, and writes whether it is proved or why not.
+fn prove_net<S: Read, W: Write>(
+    alloc: Global,
+    history: &History,
+    net: &Net,
+    report: &mut Watched<S>,
+    out: &mut Watched<W>,
+) -> Result<bool, AuditFault>
+    requires report_calm { has_failed report.old ≡ false }
+    requires out_calm { has_failed out.old ≡ false }
+    requires net { net.now ≡ net_of history.now.config history.now.events }
+    requires complete { unsent history.now.events ≡ None }
+    ensures ended { (before after : Option (List ℕ)) (had_failed failed : Bool) → WasTrace before after history.now → Proving
+        (record { trace = before; report = S.remaining (device_of report.old); out = W.contents (device_of out.old); trace_failed = had_failed; report_failed = has_failed report.old; out_failed = has_failed out.old })
+        (record { trace = after; report = S.remaining (device_of report.new); out = W.contents (device_of out.new); trace_failed = failed; report_failed = has_failed report.new; out_failed = has_failed out.new })
+        result }
+    ensures audited { (text : List ℕ) → IsHistory history.now → IsAudit false history.now text →
+        IfSome (S.remaining (device_of report.old)) (λ given. given ≡ text → IsProvedOrFailed result) }
+    ensures flushed { OnOk result (is_flushed out.new ≡ true) }
+    ensures report_calm { result ≢ Err (AuditFault.Report ReportFault.ReadFailed) → has_failed report.new ≡ false }
+    ensures out_calm { result ≢ Err AuditFault.WriteFailed → has_failed out.new ≡ false }
+{
+    let claim = match read_report(alloc, report, history, net) {
         Ok(claim) => claim,
         Err(fault) => return Err(AuditFault::Report(fault)),
     };
-    let finding = Finding::of(alloc, &history, &net, &claim)?;
+    let finding = Finding::of(alloc, history, net, &claim)?;
     let mut line = Vec::new(alloc);
     finding.write(&mut line)?;
     match write_whole(out, &line) {

@@ -3,7 +3,7 @@
 use crate::completion::{BASH, FISH, ZSH};
 
 /// A shell that completes the program's words.
-#[derive(Clone, Copy, Debug, PartialEq, Eq)]
+#[derive(Clone, Copy)]
 pub enum Shell {
     /// The GNU project's shell.
     Bash,

@@ -9,7 +9,6 @@ mod lanes;
 mod layout;
 mod legend;
 mod openings;
-mod page;
 mod rounds;
 mod scale;
 mod stay_table;

@@ -5,4 +5,5 @@ pub use drawing::draw;
 pub use text::page;
 
 mod drawing;
+mod making;
 mod text;

@@ -1,8 +1,8 @@
 //! Freezes as bands behind the bars.
 
-use crate::drawing::page::Page;
 use crate::drawing::scale::Scale;
 use crate::drawing::words::freeze_words;
+use crate::making::Page;
 use wait_causes::{Freeze, FreezeKind};
 
 /// Puts the bands of the freezes that hold up this device of this adapter on the page, so many pixels high.

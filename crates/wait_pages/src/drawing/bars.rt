@@ -1,8 +1,8 @@
 //! The bar of a stay.
 
-use crate::drawing::page::Page;
 use crate::drawing::scale::Scale;
 use crate::drawing::words::letter;
+use crate::making::Page;
 use wait_causes::{Cause, ExplainedStay, Wait};
 
 /// How many of a stay's waits are told in words; a bar shows them all.
@@ -26,7 +26,7 @@ fn push_wait(page: &mut Page, wait: &Wait, is_first: bool) {
     if !is_first {
         page.put(", ");
     }
-    page.number(&wait.first);
+    page.show(wait.first);
     if wait.first < wait.last {
         page.parts(&[("-", u64::from(wait.last))], "");
     }

@@ -2,13 +2,13 @@
 
 use crate::drawing::device_row::{Scene, push_adapters, push_links};
 use crate::drawing::legend::push_legend;
-use crate::drawing::page::Page;
 use crate::drawing::rounds::push_rounds;
 use crate::drawing::scale::Scale;
 use crate::drawing::stay_table::push_stay_table;
 use crate::drawing::style::{HEAD, LINK_STYLE, STYLE};
 use crate::drawing::tables::{push_freezes, push_tables};
 use crate::drawing::weights::push_weights;
+use crate::making::Page;
 use cam_types::Config;
 use round_net::Net;
 use std::alloc::{AllocError, Global};
@@ -105,7 +105,7 @@ fn push_totals(page: &mut Page, whole: &Part, rounds: u32) {
         ],
         "</dd></div><div><dt>excess</dt><dd>",
     );
-    page.number(&whole.excess());
+    page.show(whole.excess());
     page.put("</dd></div></dl>\n");
 }
 

@@ -1,7 +1,7 @@
 //! The legend, with what the waiting cost by cause.
 
-use crate::drawing::page::Page;
 use crate::drawing::words::letter;
+use crate::making::Page;
 use cam_types::Config;
 use wait_causes::{Cause, Part};
 

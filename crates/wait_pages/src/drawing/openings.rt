@@ -1,7 +1,7 @@
 //! The openings that were used in each round, as a strip of heat.
 
-use crate::drawing::page::Page;
 use crate::drawing::scale::Scale;
+use crate::making::Page;
 use round_net::Net;
 use wait_causes::ExplainedStay;
 

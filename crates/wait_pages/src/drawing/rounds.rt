@@ -1,7 +1,7 @@
 //! The numbers of the rounds, above the drawing.
 
-use crate::drawing::page::Page;
 use crate::drawing::scale::Scale;
+use crate::making::Page;
 
 /// Puts the row of round numbers on the page.
 pub(crate) fn push_rounds(page: &mut Page, scale: &Scale) {

@@ -1,7 +1,7 @@
 //! The table of stays.
 
 use crate::drawing::bars::push_waits;
-use crate::drawing::page::Page;
+use crate::making::Page;
 use cam_path::path_name;
 use cam_types::Config;
 use std::alloc::{AllocError, Global};

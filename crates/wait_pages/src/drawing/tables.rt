@@ -1,7 +1,7 @@
 //! The tables below the drawing.
 
-use crate::drawing::page::Page;
 use crate::drawing::words::freeze_words;
+use crate::making::Page;
 use cam_path::path_name;
 use cam_types::Config;
 use std::alloc::{AllocError, Global};
@@ -101,7 +101,7 @@ fn push_part(page: &mut Page, config: &Config, part: &Part) {
         part.best,
     ]);
     page.put("<td>");
-    page.number(&part.excess());
+    page.show(part.excess());
     page.put("</td>");
     for (cause, cost) in &part.costs.by_cause() {
         if cause.can_hold(config) {

@@ -1,6 +1,6 @@
 //! The table of weights.
 
-use crate::drawing::page::Page;
+use crate::making::Page;
 use cam_types::Config;
 
 /// Puts what a round of waiting costs by priority on the page, unless the weights are the standard ones.

@@ -1,16 +1,16 @@
 //! The columns and labels of tables.
 
+use crate::making::Page;
 use cam_path::path_name;
 use cam_types::Config;
 use std::alloc::{AllocError, Global};
 use wait_causes::Grouping;
 
-/// Puts each of these widths' numbers behind the text, flush right behind a space.
-pub(crate) fn push_columns(text: &mut String, columns: &[(usize, u64)]) -> Result<(), AllocError> {
+/// Puts each of these widths' numbers on the page, flush right behind a space.
+pub(crate) fn push_columns(page: &mut Page, columns: &[(usize, u64)]) {
     for (width, number) in columns {
-        write!(text, " {number:>width$}", width = *width)?;
+        page.show(format_args!(" {number:>width$}", width = *width));
     }
-    Ok(())
 }
 
 /// The adapter, device, driver or run level of this number, in words.

@@ -1,5 +1,6 @@
 //! The freezes that cost most.
 
+use crate::making::Page;
 use crate::text::columns::{label, push_columns};
 use cam_types::Config;
 use std::alloc::{AllocError, Global};
@@ -9,10 +10,10 @@ use wait_causes::{Freeze, FreezeKind, Grouping};
 const HEAD: &str = "\nThe freezes that cost most:\n\n\
 \x20 frozen            by        first  last      cost\n";
 
-/// Puts at most so many of the freezes at these places behind the text.
+/// Puts at most so many of the freezes at these places on the page.
 pub(crate) fn push_freezes(
     alloc: Global,
-    text: &mut String,
+    page: &mut Page,
     config: &Config,
     freezes: &[Freeze],
     places: &[usize],
@@ -21,34 +22,28 @@ pub(crate) fn push_freezes(
     if places.is_empty() || top == 0 {
         return Ok(());
     }
-    text.push_str(HEAD)?;
+    page.put(HEAD);
     for place in places.iter().take(top) {
         if let Some(freeze) = freezes.get(*place) {
-            push_freeze(alloc, text, config, freeze)?;
+            push_freeze(page, &frozen_name(alloc, config, freeze)?, freeze);
         }
     }
     Ok(())
 }
 
-// A line on a freeze.
-fn push_freeze(
-    alloc: Global,
-    text: &mut String,
-    config: &Config,
-    freeze: &Freeze,
-) -> Result<(), AllocError> {
-    let name = frozen_name(alloc, config, freeze)?;
+// A line on a freeze of what has this name.
+fn push_freeze(page: &mut Page, name: &str, freeze: &Freeze) {
     let by = frozen_by(freeze.kind);
-    write!(text, "  {name:<17} {by:<8}")?;
+    page.show(format_args!("  {name:<17} {by:<8}"));
     push_columns(
-        text,
+        page,
         &[
             (6, u64::from(freeze.first)),
             (5, u64::from(freeze.last)),
             (9, freeze.cost),
         ],
-    )?;
-    writeln!(text)
+    );
+    page.put("\n");
 }
 
 /// Who froze.

@@ -1,5 +1,6 @@
 //! The stays that cost most.
 
+use crate::making::Page;
 use crate::text::columns::push_columns;
 use cam_path::path_name;
 use cam_types::Config;
@@ -10,10 +11,10 @@ use wait_causes::{ExplainedStay, Explanation, Wait};
 const HEAD: &str = "\nThe stays whose waiting cost most:\n\n\
 \x20 CCB try  path         priority arrival  sent  best      cost  waited\n";
 
-/// Puts at most so many of the stays at these places behind the text, with the causes of their rounds.
+/// Puts at most so many of the stays at these places on the page, with the causes of their rounds.
 pub(crate) fn push_stays(
     alloc: Global,
-    text: &mut String,
+    page: &mut Page,
     config: &Config,
     explanation: &Explanation,
     places: &[usize],
@@ -23,27 +24,21 @@ pub(crate) fn push_stays(
         return Ok(());
     }
     let stays = explanation.stays();
-    text.push_str(HEAD)?;
+    page.put(HEAD);
     for place in places.iter().take(top) {
         if let Some(stay) = stays.get(*place) {
-            push_stay(alloc, text, config, stay)?;
-            push_waits(text, &explanation.waits(alloc, *place)?)?;
+            push_stay(page, &path_name(alloc, config, stay.device)?, stay);
+            push_waits(page, &explanation.waits(alloc, *place)?);
         }
     }
     Ok(())
 }
 
-// The columns of a stay, up to its causes.
-fn push_stay(
-    alloc: Global,
-    text: &mut String,
-    config: &Config,
-    stay: &ExplainedStay,
-) -> Result<(), AllocError> {
-    let path = path_name(alloc, config, stay.device)?;
-    write!(text, "{:>5} {:>3}  {path:<12}", stay.ccb, stay.attempt)?;
+// The columns of a stay on a device of this path, up to its causes.
+fn push_stay(page: &mut Page, path: &str, stay: &ExplainedStay) {
+    page.show(format_args!("{:>5} {:>3}  {path:<12}", stay.ccb, stay.attempt));
     push_columns(
-        text,
+        page,
         &[
             (8, u64::from(stay.priority)),
             (7, u64::from(stay.arrival)),
@@ -51,27 +46,26 @@ fn push_stay(
             (5, u64::from(stay.best)),
             (9, stay.cost()),
         ],
-    )?;
-    text.push_str("  ")
+    );
+    page.put("  ");
 }
 
 // The rounds that a stay waited, each with its cause, to the end of the line.
-fn push_waits(text: &mut String, waits: &[Wait]) -> Result<(), AllocError> {
+fn push_waits(page: &mut Page, waits: &[Wait]) {
     let mut between = "";
     for wait in waits {
-        text.push_str(between)?;
-        push_rounds(text, wait.first, wait.last)?;
-        write!(text, " {}", wait.cause.name())?;
+        page.put(between);
+        push_rounds(page, wait.first, wait.last);
+        page.words(&[" ", wait.cause.name()]);
         between = ", ";
     }
-    writeln!(text)
+    page.put("\n");
 }
 
-/// Puts a range of rounds behind the text.
-pub(crate) fn push_rounds(text: &mut String, first: u32, last: u32) -> Result<(), AllocError> {
-    if first == last {
-        write!(text, "{first}")
-    } else {
-        write!(text, "{first}-{last}")
+/// Puts a range of rounds on the page.
+pub(crate) fn push_rounds(page: &mut Page, first: u32, last: u32) {
+    page.show(first);
+    if first != last {
+        page.show(format_args!("-{last}"));
     }
 }

@@ -1,5 +1,6 @@
 //! The tables of the page: what adapters, devices, drivers and run levels waited.
 
+use crate::making::Page;
 use crate::text::columns::{label, push_columns};
 use cam_types::Config;
 use std::alloc::{AllocError, Global};
@@ -9,23 +10,23 @@ use wait_causes::{Cause, CauseCosts, Explanation, Grouping, Part};
 const COLUMNS: &str =
     "stays  waited   p50   p90   max      live      best    excess     error    caller  a.frozen    d.full    a.full";
 
-/// Puts the tables behind the text.
+/// Puts the tables on the page.
 pub(crate) fn push_tables(
     alloc: Global,
-    text: &mut String,
+    page: &mut Page,
     config: &Config,
     explanation: &Explanation,
 ) -> Result<(), AllocError> {
     let has_links = Cause::LinkFull.can_hold(config);
     let link_full = if has_links { "    l.full" } else { "" };
-    writeln!(text, "\n{:<14} {COLUMNS}{link_full} unasked", "")?;
+    page.show(format_args!("\n{:<14} {COLUMNS}{link_full} unasked\n", ""));
     for by in &[
         Grouping::Adapter,
         Grouping::Device,
         Grouping::Driver,
         Grouping::Level,
     ] {
-        push_table(alloc, text, config, explanation, *by)?;
+        push_table(alloc, page, config, explanation, *by)?;
     }
     Ok(())
 }
@@ -33,7 +34,7 @@ pub(crate) fn push_tables(
 // The rows of a table.
 fn push_table(
     alloc: Global,
-    text: &mut String,
+    page: &mut Page,
     config: &Config,
     explanation: &Explanation,
     by: Grouping,
@@ -41,21 +42,16 @@ fn push_table(
     let has_links = Cause::LinkFull.can_hold(config);
     for row in &explanation.table(alloc, by)? {
         let label = label(alloc, config, by, row.number)?;
-        push_part(text, &label, &row.part, has_links)?;
+        push_part(page, &label, &row.part, has_links);
     }
     Ok(())
 }
 
 // A row of a table.
-fn push_part(
-    text: &mut String,
-    label: &str,
-    part: &Part,
-    has_links: bool,
-) -> Result<(), AllocError> {
-    write!(text, "{label:<14}")?;
+fn push_part(page: &mut Page, label: &str, part: &Part, has_links: bool) {
+    page.show(format_args!("{label:<14}"));
     push_columns(
-        text,
+        page,
         &[
             (5, u64::from(part.stays)),
             (7, part.waited),
@@ -65,15 +61,15 @@ fn push_part(
             (9, part.live),
             (9, part.best),
         ],
-    )?;
-    write!(text, " {:>9}", part.excess())?;
-    push_costs(text, &part.costs, has_links)
+    );
+    page.show(format_args!(" {:>9}", part.excess()));
+    push_costs(page, &part.costs, has_links);
 }
 
 // The last columns of a row, with that of full links where there are links.
-fn push_costs(text: &mut String, costs: &CauseCosts, has_links: bool) -> Result<(), AllocError> {
+fn push_costs(page: &mut Page, costs: &CauseCosts, has_links: bool) {
     push_columns(
-        text,
+        page,
         &[
             (9, costs.error),
             (9, costs.caller),
@@ -81,9 +77,9 @@ fn push_costs(text: &mut String, costs: &CauseCosts, has_links: bool) -> Result<
             (9, costs.device_full),
             (9, costs.adapter_full),
         ],
-    )?;
+    );
     if has_links {
-        push_columns(text, &[(9, costs.link_full)])?;
+        push_columns(page, &[(9, costs.link_full)]);
     }
-    writeln!(text, " {:>7}", costs.not_asked)
+    page.show(format_args!(" {:>7}\n", costs.not_asked));
 }

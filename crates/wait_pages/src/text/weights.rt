@@ -1,18 +1,17 @@
 //! The table of weights.
 
+use crate::making::Page;
 use cam_types::Config;
-use std::alloc::AllocError;
 
-/// Puts what a round of waiting costs by priority behind the text, unless the weights are the standard ones.
-pub(crate) fn push_weights(text: &mut String, config: &Config) -> Result<(), AllocError> {
+/// Puts what a round of waiting costs by priority on the page, unless the weights are the standard ones.
+pub(crate) fn push_weights(page: &mut Page, config: &Config) {
     if config.has_standard_weights() {
-        return Ok(());
+        return;
     }
-    writeln!(text, "\nWhat a round of waiting costs, by priority:\n")?;
+    page.put("\nWhat a round of waiting costs, by priority:\n\n");
     let mut first = 0;
     for row in config.weights() {
-        writeln!(text, "  {first:>4}-{:<13} {:>9}", row.last, row.weight)?;
+        page.show(format_args!("  {first:>4}-{:<13} {:>9}\n", row.last, row.weight));
         first = row.last.saturating_add(1);
     }
-    Ok(())
 }

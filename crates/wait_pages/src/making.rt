@@ -37,9 +37,9 @@ impl Page {
         self.is_short = self.is_short || self.text.push(letter).is_err();
     }
 
-    /// Puts a number on the page.
-    pub(crate) fn number<T: Display>(&mut self, number: &T) {
-        self.is_short = self.is_short || write!(self.text, "{number}").is_err();
+    /// Puts what this shows on the page.
+    pub(crate) fn show<T: Display + Drop>(&mut self, shown: T) {
+        self.is_short = self.is_short || write!(self.text, "{shown}").is_err();
     }
 
     /// Puts each of these words on the page.
@@ -53,7 +53,7 @@ impl Page {
     pub(crate) fn parts(&mut self, parts: &[(&str, u64)], end: &str) {
         for (word, number) in parts {
             self.put(word);
-            self.number(number);
+            self.show(*number);
         }
         self.put(end);
     }

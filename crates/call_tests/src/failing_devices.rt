@@ -7,6 +7,7 @@ use crate::fakes::{Pieces, Taker};
 use crate::texts::{FROZEN, ONE_COMMAND, REPORT, SCRIPT};
 use audit_report::{AuditFault, read_net, run_check};
 use price_check::{ReportFault, read_report};
+use std::alloc::Global;
 use std::test::Fail;
 use text_io::Watched;
 use trace_file::{TraceFault, WriteFault, read_script, read_trace, write_trace};
@@ -73,27 +74,27 @@ fn a_failed_read_is_no_end(rt: HostRuntime) -> Result<(), Fail> {
     Ok(())
 }
 
+// What a check answers and writes, if a read gives so many bytes of the trace and fails once `good` reads are done.
+fn checked(alloc: Global, piece: usize, good: usize) -> (Result<(), AuditFault>, Vec<u8>) {
+    let mut text = Vec::new(alloc);
+    let mut out = Watched::new(&mut text);
+    let answer = run_check(alloc, &mut reader(ONE_COMMAND, piece, good), &mut out);
+    (answer, text)
+}
+
 #[test]
 fn a_check_writes_nothing_where_a_read_fails(rt: HostRuntime) {
     let needed = ONE_COMMAND.len().div_ceil(10) + 1;
-    for (piece, good) in (0..needed + 1)
-        .map(|good| (10, good))
-        .chain([(1, usize::MAX)])
-    {
-        let mut text = Vec::new(rt.alloc());
-        let mut out = Watched::new(&mut text);
-        let answer = run_check(rt.alloc(), &mut reader(ONE_COMMAND, piece, good), &mut out);
-        let due = if good < needed {
-            (
-                Err(AuditFault::Trace(TraceFault::ReadFailed)),
-                b"".as_slice(),
-            )
-        } else {
-            (Ok(()), LINES)
-        };
+    for good in 0..needed {
+        let (answer, text) = checked(rt.alloc(), 10, good);
+        let fault = AuditFault::Trace(TraceFault::ReadFailed);
+        assert_eq!(rt; (answer, text.len()), (Err(fault), 0), "{good} reads");
+    }
+    for (piece, good) in [(10, needed), (1, usize::MAX)] {
+        let (answer, text) = checked(rt.alloc(), piece, good);
         assert_eq!(rt;
             (answer, text.as_slice()),
-            due,
+            (Ok(()), LINES),
             "{good} reads of {piece} bytes"
         );
     }

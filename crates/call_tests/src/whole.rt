@@ -2,31 +2,39 @@
 
 use crate::fakes::{Many, Pieces, Taker};
 use cam_types::MOST_BYTES;
+use std::alloc::Global;
 use std::test::Fail;
 use text_io::{Watched, WholeFault, read_whole, write_whole};
 
+// Reads a text in pieces of two bytes, of which so many reads are good. Answers whether it was read whole, and whether the
+// note says that a read failed.
+fn read_hello(alloc: Global, good: usize) -> (Result<bool, WholeFault>, bool) {
+    let mut reader = Watched::new(Pieces {
+        rest: b"hello",
+        piece: 2,
+        good,
+    });
+    let read = match read_whole(alloc, &mut reader) {
+        Ok(text) => Ok(text.as_slice() == b"hello".as_slice()),
+        Err(fault) => Err(fault),
+    };
+    (read, reader.failed())
+}
+
+// Four reads are needed: two bytes, two, one, and the end.
 #[test]
 fn reads_to_the_end_or_to_the_first_error(rt: HostRuntime) {
-    // Five reads: two bytes, two, one, and the end.
-    for (good, want) in [
-        (0, Err(WholeFault::ReadFailed)),
-        (1, Err(WholeFault::ReadFailed)),
-        (3, Err(WholeFault::ReadFailed)),
-        (4, Ok(true)),
-        (9, Ok(true)),
-    ] {
-        let mut reader = Watched::new(Pieces {
-            rest: b"hello",
-            piece: 2,
-            good,
-        });
-        let is_whole = match read_whole(rt.alloc(), &mut reader) {
-            Ok(text) => Ok(text.as_slice() == b"hello".as_slice()),
-            Err(fault) => Err(fault),
-        };
+    for good in 0..4 {
         assert_eq!(rt;
-            (is_whole, reader.failed()),
-            (want, want.is_err()),
+            read_hello(rt.alloc(), good),
+            (Err(WholeFault::ReadFailed), true),
+            "{good} good reads"
+        );
+    }
+    for good in 4..10 {
+        assert_eq!(rt;
+            read_hello(rt.alloc(), good),
+            (Ok(true), false),
             "{good} good reads"
         );
     }

@@ -12,6 +12,7 @@ use std::sync::Wait;
 use std::thread::Threads;
 use text_io::Watched;
 use trace_file::{Script, read_script, write_trace};
+use xpt_state::History;
 
 /// How a script is run.
 #[derive(Clone, Copy)]
@@ -35,17 +36,23 @@ impl ScriptRun {
         rt: &R,
         script: &Named<'_>,
     ) -> Result<Ending, Failure> {
-        let alloc = rt.alloc();
-        let script = read_script(alloc, &mut Watched::new(script.text.as_slice()))?;
+        let script = read_script(rt.alloc(), &mut Watched::new(script.text.as_slice()))?;
         match self {
-            ScriptRun::Sim { seed } => {
-                let run = sim_run(alloc, &script, seed)?;
-                write_trace(alloc, &run.history, &mut Watched::new(io::writer(rt)))?;
-                Ok(run.ending)
-            }
+            ScriptRun::Sim { seed } => over_seed(rt, &script, seed),
             ScriptRun::Live { on_terminal } => over_threads(rt, &script, on_terminal),
         }
     }
+}
+
+// Runs the script by a seed, writes the trace and answers how the run ended.
+fn over_seed<R: Print + AllocGlobal>(
+    rt: &R,
+    script: &Script,
+    seed: u64,
+) -> Result<Ending, Failure> {
+    let run = sim_run(rt.alloc(), script, seed)?;
+    print_trace(rt, &run.history)?;
+    Ok(run.ending)
 }
 
 // Runs the script with threads, writes the trace and answers how the run ended.
@@ -60,6 +67,12 @@ fn over_threads<R: Runtime + AllocGlobal + Threads + Wait + Sync>(
     let run = run_live(rt, alloc, script, ports, &line);
     line.clear();
     let run = run?;
-    write_trace(alloc, &run.history, &mut Watched::new(io::writer(rt)))?;
+    print_trace(rt, &run.history)?;
     Ok(run.ending)
+}
+
+// Writes the trace of a history to standard output.
+fn print_trace<R: Print + AllocGlobal>(rt: &R, history: &History) -> Result<(), Failure> {
+    let mut out = Watched::new(io::writer(rt));
+    Ok(write_trace(rt.alloc(), history, &mut out)?)
 }

@@ -6,12 +6,14 @@ use crate::output::{closed, print};
 use audit_report::{read_net, run_audit_with, run_check, run_migrate};
 use cost_plan::{OpenGate, plan_with};
 use json_lines::{audit_json, check_json, explain_json};
-use std::alloc::AllocError;
+use round_net::Net;
+use std::alloc::{AllocError, Global};
 use std::io;
 use std::thread::Threads;
 use text_io::Watched;
 use wait_causes::Explanation;
 use wait_pages::{draw, page};
+use xpt_state::History;
 
 /// What is done with a trace.
 #[derive(Clone, Copy)]
@@ -73,12 +75,25 @@ impl TraceRun {
             return closed(audit_json(alloc, trace.name, &history, &net, schedule, prices, summary));
         }
         let explanation = Explanation::of_net(alloc, &history, &net, &best.schedule)?;
+        self.explained(alloc, trace.name, &history, &net, &explanation, as_json)
+    }
+
+    // What is printed of an explanation of the trace.
+    fn explained(
+        self,
+        alloc: Global,
+        name: &str,
+        history: &History,
+        net: &Net,
+        explanation: &Explanation,
+        as_json: bool,
+    ) -> Result<String, Failure> {
         match self {
             TraceRun::Explain { top } if !as_json => {
-                made(page(alloc, history.config(), &explanation, top))
+                made(page(alloc, history.config(), explanation, top))
             }
-            TraceRun::Draw => made(draw(alloc, trace.name, history.config(), &net, &explanation)),
-            _ => closed(explain_json(alloc, trace.name, &history, &explanation)),
+            TraceRun::Draw => made(draw(alloc, name, history.config(), net, explanation)),
+            _ => closed(explain_json(alloc, name, history, explanation)),
         }
     }
 }

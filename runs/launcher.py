@@ -10,8 +10,8 @@ import time
 top = os.path.dirname(os.path.dirname(os.path.abspath(__file__)))
 
 # A kit that proves nothing. Its compiler and `rt try` write each call's crate and verb to the file CALLS. A source with `wrong`
-# in it isn't proved, one with `slow` takes ten seconds, and the program prints its source, its words and its standard input,
-# and ends with status 3.
+# in it isn't proved, one with `slow` takes ten seconds, the proof of one with `large` is killed on more than one processor, and
+# the program prints its source, its words and its standard input, and ends with status 3.
 RT = """#!/bin/sh
 case $1 in
   doc) echo "${0%/*}/kit/START-HERE.md"; exit ;;
@@ -28,11 +28,12 @@ exit 3
 """
 COMPILER = """#!/bin/sh
 while [ $# -gt 0 ]; do
-  case $1 in --crate-name) crate=$2 ;; -o) made=$2 ;; esac
+  case $1 in --crate-name) crate=$2 ;; -o) made=$2 ;; --jobs) jobs=$2 ;; esac
   shift
 done
 echo "$crate build" >> "$CALLS"
 grep -q slow src/* && sleep 10
+grep -q large src/* && [ "$jobs" -gt 1 ] && kill -KILL $$
 if grep -q wrong src/*; then echo "an open goal"; exit 1; fi
 echo "logic=proved functions=2"
 if [ -f src/main.rt ]; then
@@ -87,7 +88,7 @@ class Repository:
         return subprocess.Popen([self.path("camxpt"), *words], cwd=self.folder, env=self.given, start_new_session=True, **how)
 
     def call(self, *words):
-        """What the program gives, what standard error tells, and the crates and verbs of the kit's calls."""
+        """What the program gives, what standard error tells, and the kit's calls."""
         self.write("calls", "")
         process = self.start(*words)
         try:
@@ -95,8 +96,16 @@ class Repository:
         finally:
             if process.poll() is None:
                 os.killpg(process.pid, signal.SIGKILL)
-        calls = [" ".join(line.split()[:2]) for line in open(self.path("calls"))]
-        return (out, process.returncode), err, calls
+        return (out, process.returncode), err, self.calls()
+
+    def calls(self):
+        """The crates and verbs of the kit's calls."""
+        return [line.rstrip("\n") for line in open(self.path("calls"))]
+
+    def build(self, *names):
+        """The status of `runs/build`, and what standard error tells."""
+        done = subprocess.run([self.path("runs/build"), *names], env=self.given, capture_output=True, text=True, timeout=60)
+        return done.returncode, done.stderr
 
     def is_clean(self):
         return not os.path.exists(self.path("crates/camxpt/out/build"))
@@ -132,7 +141,7 @@ def builds_what_is_old(repository):
     second = repository.call("a", "b")
     due = "first a b\ninput\n", 3
     said = [f"camxpt: {k} of 3 crates proved" for k in (1, 2, 3)]
-    return wrong(first=(first, due), calls=(calls, BUILT), told=(lines[1:-1], said), again=(again, (due, "", [])),
+    return wrong(first=(first, due), calls=(calls, BUILT), told=(lines[2:-1], said), again=(again, (due, "", [])),
                  other=(other, (due, "", [])), low=((low[0], low[2]), (due, BUILT)), gone=(gone[2], BUILT),
                  second=((second[0], second[2]), (("second a b\ninput\n", 3), BUILT[2:])), clean=(repository.is_clean(), True))
 
@@ -169,12 +178,38 @@ def interrupted_build(repository):
 
 
 @in_repository
+def killed_proof(repository):
+    """A proof that is killed, as where memory is short, is tried once more on one processor."""
+    repository.write("crates/low/src/lib.rt", "large")
+    first = repository.call()
+    return wrong(status=(first[0][1], 3), calls=(first[2], BUILT[:1] + BUILT))
+
+
+@in_repository
+def damaged_archive(repository):
+    """What a crate states is proved again if what was kept of it isn't what was written."""
+    repository.call()
+    shutil.make_archive(repository.path("out/stated/low"), "tar", repository.path("runs"))
+    repository.change("crates/camxpt/src/main.rt", "second")
+    return wrong(built=(repository.call()[2], [BUILT[0], BUILT[2]]))
+
+
+@in_repository
+def library_alone(repository):
+    """`runs/build` proves a library and those below it, and takes from what is kept what it can."""
+    told = [repository.build("high") for _ in range(2)]
+    repository.build("low", "camxpt")
+    return wrong(statuses=([status for status, _ in told], [0, 0]), calls=(repository.calls(), BUILT),
+                 unknown=(repository.build("none"), (2, "runs/build: there is no crate none\n")))
+
+
+@in_repository
 def two_calls_at_once(repository):
     """Of two calls at once the first builds the program, and the second waits for it."""
     processes = [repository.start("a") for _ in range(2)]
     given = [(*process.communicate("input\n", timeout=60), process.returncode) for process in processes]
-    calls = [" ".join(line.split()[:2]) for line in open(repository.path("calls"))]
-    return wrong(given=([(out, status) for out, _, status in given], 2 * [("first a\ninput\n", 3)]), calls=(calls, BUILT))
+    due = 2 * [("first a\ninput\n", 3)]
+    return wrong(given=([(out, status) for out, _, status in given], due), calls=(repository.calls(), BUILT))
 
 
 @in_repository
@@ -227,6 +262,9 @@ CHECKS = [
     ("the launcher builds what is old", builds_what_is_old),
     ("a build that fails", failed_build),
     ("a build that is interrupted", interrupted_build),
+    ("a proof that is killed", killed_proof),
+    ("what is kept and damaged", damaged_archive),
+    ("a library is proved alone", library_alone),
     ("two builds at once", two_calls_at_once),
     ("a build without rt", no_rt),
     ("a run that is not proved", unproved_run),

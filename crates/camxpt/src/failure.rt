@@ -1,5 +1,6 @@
 //! Why the program failed, and the exit status that says so.
 
+use crate::source::Argument;
 use audit_report::AuditFault;
 use price_check::ReportFault;
 use run_rules::LiveFault;
@@ -18,8 +19,8 @@ pub enum Failure {
     StandardInputTwice,
     /// No words are completed for a shell of this name.
     NoShell,
-    /// A file that can't be opened.
-    CannotOpen,
+    /// A file that can't be opened: the one that this argument names.
+    CannotOpen(Argument),
     /// A text that isn't what it has to be, a read or write that failed, or no memory.
     Audit(AuditFault),
     /// A run on many threads that gave nothing.
@@ -33,7 +34,7 @@ impl Failure {
     pub fn exit_code(&self) -> ExitCode {
         ExitCode::from(match self {
             Failure::WordNotUtf8 | Failure::StandardInputTwice | Failure::NoShell => 2,
-            Failure::CannotOpen => 4,
+            Failure::CannotOpen(_) => 4,
             Failure::Audit(AuditFault::Trace(fault)) => trace_status(fault),
             Failure::Audit(AuditFault::Unsent(_)) => 3,
             Failure::Audit(AuditFault::Report(fault)) => report_status(fault),
@@ -68,7 +69,7 @@ impl fmt::Display for Failure {
                 f.write_str("only one of TRACE and REPORT can be standard input")
             }
             Failure::NoShell => f.write_str("only bash, zsh and fish complete words"),
-            Failure::CannotOpen => f.write_str("cannot open"),
+            Failure::CannotOpen(_) => f.write_str("cannot open"),
             Failure::Audit(fault) => fault.fmt(f),
             Failure::Live(fault) => fault.fmt(f),
         }

@@ -6,7 +6,7 @@ use crate::output::print;
 use crate::proof_run::prove;
 use crate::script_run::ScriptRun;
 use crate::shell::Shell;
-use crate::source::{STANDARD_INPUT, Source, read};
+use crate::source::{Argument, STANDARD_INPUT, Source, read, read_input};
 use crate::subcommands::command;
 use crate::trace_run::TraceRun;
 use crate::words::words;
@@ -84,7 +84,7 @@ fn show<R: Runtime>(rt: &R, error: &clap::Error) -> Result<ExitCode, Failure> {
     }
 }
 
-// The exit status of the subcommand.
+// The exit status of what the command line asks.
 fn obey<R: Runtime + AllocGlobal + Threads + Wait + Sync>(
     rt: &R,
     matches: &ArgMatches<'_>,
@@ -93,6 +93,28 @@ fn obey<R: Runtime + AllocGlobal + Threads + Wait + Sync>(
     let Some((name, words)) = matches.subcommand() else {
         return over_input(rt);
     };
+    match obey_words(rt, name, words, on_terminal) {
+        Err(Failure::CannotOpen(argument)) => Ok(tell_unopened(rt, words, argument)),
+        done => done,
+    }
+}
+
+// Says that a file can't be opened, and behind that line which, if that is asked for.
+fn tell_unopened<R: Runtime>(rt: &R, words: &ArgMatches<'_>, argument: Argument) -> ExitCode {
+    let status = tell(rt, &Failure::CannotOpen(argument));
+    if words.get_flag("verbose") {
+        let _ = rt.eprintln(format_args!("  {}", argument.file_name(words)));
+    }
+    status
+}
+
+// The exit status of the subcommand of this name with these words.
+fn obey_words<R: Runtime + AllocGlobal + Threads + Wait + Sync>(
+    rt: &R,
+    name: &str,
+    words: &ArgMatches<'_>,
+    on_terminal: bool,
+) -> Result<ExitCode, Failure> {
     if let Some(run) = trace_run(name, words) {
         return over_trace(rt, words, run);
     }
@@ -135,7 +157,7 @@ fn script_run(name: &str, words: &ArgMatches<'_>, on_terminal: bool) -> Option<S
 
 // Prints the summary of the audit of the trace on standard input.
 fn over_input<R: Runtime + AllocGlobal + Threads + Sync>(rt: &R) -> Result<ExitCode, Failure> {
-    let trace = read(rt, STANDARD_INPUT)?;
+    let trace = read_input(rt)?;
     TraceRun::Audit { summary: true }.over(rt, &trace, false)?;
     Ok(ExitCode::SUCCESS)
 }
@@ -145,7 +167,7 @@ fn over_trace<R: Runtime + AllocGlobal + Threads + Sync>(
     words: &ArgMatches<'_>,
     run: TraceRun,
 ) -> Result<ExitCode, Failure> {
-    let trace = read(rt, words.get_str("TRACE").unwrap_or(STANDARD_INPUT))?;
+    let trace = read(rt, words, Argument::Trace)?;
     let as_json = words.get_flag("json");
     match run.over(rt, &trace, as_json) {
         Ok(()) => Ok(ExitCode::SUCCESS),
@@ -157,13 +179,16 @@ fn over_report<R: Runtime + AllocGlobal + Threads + Sync>(
     rt: &R,
     words: &ArgMatches<'_>,
 ) -> Result<ExitCode, Failure> {
-    let trace = words.get_str("TRACE").unwrap_or("");
-    let report = words.get_str("REPORT").unwrap_or("");
+    let (trace, report) = (
+        Argument::Trace.file_name(words),
+        Argument::Report.file_name(words),
+    );
     if trace == STANDARD_INPUT && report == STANDARD_INPUT {
         return Err(Failure::StandardInputTwice);
     }
     // Both files are opened before one is read.
-    let (source, behind) = (Source::open(rt, trace)?, Source::open(rt, report)?);
+    let source = Source::open(rt, words, Argument::Trace)?;
+    let behind = Source::open(rt, words, Argument::Report)?;
     let trace = Named {
         name: trace,
         text: source.read(rt)?,
@@ -210,7 +235,7 @@ fn over_script<R: Runtime + AllocGlobal + Threads + Wait + Sync>(
     words: &ArgMatches<'_>,
     run: ScriptRun,
 ) -> Result<ExitCode, Failure> {
-    let script = read(rt, words.get_str("SCRIPT").unwrap_or(""))?;
+    let script = read(rt, words, Argument::Script)?;
     match run.over(rt, &script) {
         Ok(ending) => {
             let _ = rt.eprintln(format_args!("ending {ending}"));

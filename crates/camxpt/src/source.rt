@@ -2,6 +2,7 @@
 
 use crate::failure::Failure;
 use crate::note::Named;
+use clap::ArgMatches;
 use std::fs::File;
 use std::io::Read;
 use std::rt::Files;
@@ -9,6 +10,29 @@ use text_io::{Watched, WholeFault, read_whole};
 
 /// The name of a file that means standard input.
 pub const STANDARD_INPUT: &str = "-";
+
+/// An argument that names a file.
+#[derive(Clone, Copy)]
+pub enum Argument {
+    /// That of a trace.
+    Trace,
+    /// That of a report.
+    Report,
+    /// That of a script.
+    Script,
+}
+
+impl Argument {
+    /// The name that the words give the file; standard input's if it is left out.
+    pub fn file_name<'a>(self, words: &ArgMatches<'a>) -> &'a str {
+        let argument = match self {
+            Argument::Trace => "TRACE",
+            Argument::Report => "REPORT",
+            Argument::Script => "SCRIPT",
+        };
+        words.get_str(argument).unwrap_or(STANDARD_INPUT)
+    }
+}
 
 /// An open file, or standard input.
 #[derive(Drop)]
@@ -20,14 +44,19 @@ pub enum Source<F> {
 }
 
 impl<F: Read + Drop> Source<F> {
-    /// Opens the file of this name; `-` is standard input.
-    pub fn open<R: Files<File = F>>(rt: &R, name: &str) -> Result<Source<F>, Failure> {
+    /// Opens the file that an argument names; `-` is standard input.
+    pub fn open<R: Files<File = F>>(
+        rt: &R,
+        words: &ArgMatches<'_>,
+        argument: Argument,
+    ) -> Result<Source<F>, Failure> {
+        let name = argument.file_name(words);
         if name == STANDARD_INPUT {
             return Ok(Source::Input);
         }
         match File::open(rt, name) {
             Ok(file) => Ok(Source::File(file)),
-            Err(_) => Err(Failure::CannotOpen),
+            Err(_) => Err(Failure::CannotOpen(argument)),
         }
     }
 
@@ -40,11 +69,23 @@ impl<F: Read + Drop> Source<F> {
     }
 }
 
-/// Reads the text in the file of this name; `-` is standard input.
+/// Reads the text in the file that an argument names.
 pub fn read<'a, R: Files + Input + AllocGlobal>(
     rt: &R,
-    name: &'a str,
+    words: &ArgMatches<'a>,
+    argument: Argument,
 ) -> Result<Named<'a>, Failure> {
-    let text = Source::open(rt, name)?.read(rt)?;
-    Ok(Named { name, text })
+    let text = Source::open(rt, words, argument)?.read(rt)?;
+    Ok(Named {
+        name: argument.file_name(words),
+        text,
+    })
+}
+
+/// Reads the text on standard input.
+pub fn read_input<R: Input + AllocGlobal>(rt: &R) -> Result<Named<'static>, Failure> {
+    Ok(Named {
+        name: STANDARD_INPUT,
+        text: read_whole(rt.alloc(), &mut Watched::new(rt.reader()))?,
+    })
 }

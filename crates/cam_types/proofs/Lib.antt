@@ -1,8 +1,5 @@
 pub mod ConfigLemmas
-pub mod LaneLemmas
 pub mod LeastLemmas
 pub mod ListLemmas
 pub mod TopologyLemmas
 pub mod WeightLemmas
-pub mod NumberLemmas
-pub mod WholeLemmas

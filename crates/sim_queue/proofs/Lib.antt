@@ -1,4 +1,3 @@
-pub mod EntryLemmas
-pub mod TurnLemmas
+pub mod TreeLemmas
 pub mod HeadLemmas
 pub mod RowLemmas

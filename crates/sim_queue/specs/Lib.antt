@@ -1,2 +1,2 @@
 pub mod Adapter
-pub mod Turns
+pub mod Winners

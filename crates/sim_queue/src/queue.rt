@@ -1,24 +1,22 @@
 //! The queue of one adapter, by its public calls.
 
 use crate::fault::{FreezeOverflow, ReleaseTooMany};
-use crate::ready::{change_ready, requeue_first};
 use crate::row::Row;
-use crate::rows::{new_rows, row_of};
+use crate::rows::{new_rows, place_of};
+use crate::winners::{first_device, new_winners, put_row};
 use cam_types::{MOST_FREEZES, Priority};
-use camq_heap::Camq;
 use std::alloc::{AllocError, Global};
 use std::marker::Model;
 
 /// An adapter's choice among its devices: which of the ready ones sends next.
 ///
 /// Devices take turns by the priority of their first CCB, then least recently sent to, one never sent to
-/// before all others, then by number (the last two are rules of this project). The ready ones stand in a
-/// `Camq`, whose first entry is the head: `best_ready` reads it, and `set_ready` takes a time that grows as the
-/// square of the number of ready devices. Nothing grows after `open`.
+/// before all others, then by number. The head stands at the root of a winner tree, so `set_ready` and
+/// `send` take a binary search and one walk up the tree. Nothing grows after `open`.
 #[derive(Drop)]
 pub struct SimQueue {
     rows: Vec<Row>,
-    ready: Camq<u32>,
+    winners: Vec<usize>,
     openings: u32,
     sent: u32,
     callers: u32,
@@ -26,7 +24,7 @@ pub struct SimQueue {
 
 impl Model for SimQueue {
     ghost use Rattle.sim_queue.specs.Adapter.{Adapter};
-    ghost use Rattle.sim_queue.specs.Turns.{IsSound};
+    ghost use Rattle.sim_queue.specs.Winners.{IsSound};
 
     ghost Value = { Adapter };
 
@@ -37,23 +35,24 @@ impl Model for SimQueue {
       callers = a.callers;
     } };
 
-    ghost invariant = { λ a. IsSound a.rows.items a.ready a.callers };
+    ghost invariant = { λ a. IsSound a.rows.items a.winners.items a.callers };
 }
 
 impl SimQueue {
-    ghost use Rattle.std.specs.Prelude.{◌≡◌, ◌≢◌, ℕ, ◌+◌, ◌-◌, ◌<◌, ◌≤◌, ◌==◌, ◌↔◌, nat_le, not, true, Some, map, IfOk, IsOk, OnOk, OnErr};
-    ghost use Rattle.std.specs.List.{AllPairs};
+    ghost use Rattle.std.specs.Prelude.{◌≡◌, ℕ, ◌+◌, ◌-◌, ◌^◌, ◌<◌, ◌≤◌, ◌==◌, ◌↔◌, nat_le, not, true, Some, map, IfOk, IsOk, OnOk, OnErr};
+    ghost use Rattle.std.specs.List.Sorted.{IsStrictlyIncreasing};
     ghost use Rattle.sim_queue.specs.Adapter.{new_row, is_named, with_priority, with_send, can_send, best_ready};
 
-    /// A queue for these devices, each named once, with that many openings in each round. No device is
+    /// A queue for these devices, of rising numbers, with so many openings in each round. No device is
     /// ready, and none was sent to.
     pub fn open(alloc: Global, openings: u32, devices: &[u32]) -> Result<SimQueue, AllocError>
-        requires { AllPairs (λ x y. x ≢ y) devices.now }
+        requires { IsStrictlyIncreasing devices.now }
         ensures { IfOk result (λ a. a ≡ record { rows = map new_row devices.now; openings = openings; sent = 0; callers = 0 }) }
     {
+        let rows = new_rows(alloc, devices)?;
         Ok(SimQueue {
-            rows: new_rows(alloc, devices)?,
-            ready: Camq::with_capacity(alloc, devices.len())?,
+            winners: new_winners(alloc, &rows)?,
+            rows,
             openings,
             sent: 0,
             callers: 0,
@@ -108,13 +107,12 @@ impl SimQueue {
         requires { is_named device self.old.rows ≡ true }
         ensures { self.new ≡ record self.old { rows = with_priority device priority self.old.rows } }
     {
-        let at = row_of(&self.rows, device);
+        let at = place_of(&self.rows, device);
         let row = Row {
             priority,
             ..self.rows[at]
         };
-        change_ready(&mut self.ready, &self.rows, at, row.priority);
-        self.rows[at] = row;
+        put_row(&mut self.rows, &mut self.winners, at, row);
     }
 
     /// The device whose turn it is; none while the adapter is frozen or has used its openings.
@@ -124,8 +122,7 @@ impl SimQueue {
         if !self.can_send() {
             return None;
         }
-        let first = self.ready.first()?;
-        Some(first.item)
+        first_device(&self.rows, &self.winners)
     }
 
     // Whether no freeze holds and an opening of this round is left.
@@ -142,10 +139,12 @@ impl SimQueue {
         requires place { place < 65535 }
         ensures { self.new ≡ record self.old { rows = with_send device place self.old.rows; sent = self.old.sent + 1 } }
     {
-        let at = row_of(&self.rows, device);
-        let turn = place + 1;
-        requeue_first(&mut self.ready, &self.rows, at, turn);
-        self.rows[at].turn = turn;
+        let at = place_of(&self.rows, device);
+        let row = Row {
+            turn: place + 1,
+            ..self.rows[at]
+        };
+        put_row(&mut self.rows, &mut self.winners, at, row);
         self.sent += 1;
     }
 

@@ -1,9 +1,8 @@
 //! The transport under its lock, and the calls of seats.
 
 ghost use Rattle.std.specs.Prelude.{◌≡◌, ◌≢◌, [], IfOk, MatchResult};
-ghost use Rattle.event_rules.specs.declared.event.Event.TheVariants as Event;
-ghost use Rattle.xpt_lock.specs.Calls.{IsCall, IsTurn, IsAnswer, IsLaneAnswer, IsLook, IsNextCase, receipt_of, receipt_alone, answered};
-ghost use Rattle.xpt_lock.specs.declared.receipt.Receipt.{Receipt};
+ghost use Rattle.cam_event.specs.declared.event.Event.TheVariants as Event;
+ghost use Rattle.xpt_lock.specs.Calls.{IsCall, IsTurn, IsAnswer, IsLaneAnswer, IsLook, IsNextCase};
 ghost use Rattle.xpt_state.specs.Replies.{nothing};
 ghost use Rattle.xpt_state.specs.declared.reply.Reply.TheVariants as replies;
 
@@ -11,11 +10,10 @@ use crate::bell::Bell;
 use crate::fault::{SeatsFull, SharedFault};
 use crate::kept::Kept;
 use crate::moment::Moment;
-use crate::receipt::Receipt;
 use crate::seat::{Seat, SeatName};
 use crate::sleepers::Sleepers;
+use cam_event::Event;
 use cam_types::{Flags, Outcome};
-use event_rules::Event;
 use std::alloc::Global;
 use std::sync::ledger::{Blank, Ledger};
 use std::sync::{Mutex, MutexGuard, Wait};
@@ -74,14 +72,9 @@ impl<L: Ledger> SharedXpt<L> {
     }
 
     // Takes an event of any kind but a send.
-    fn take<R: Wait>(
-        &self,
-        rt: &R,
-        seat: &mut Seat<L>,
-        event: Event,
-    ) -> Result<Receipt, SharedFault>
-        ensures call { IsCall receipt_alone (λ (r : Receipt). r.reply) event seat.old seat.new result }
-        ensures answer { IsAnswer (λ (r : Receipt). r.reply) event result }
+    fn take<R: Wait>(&self, rt: &R, seat: &mut Seat<L>, event: Event) -> Result<Reply, SharedFault>
+        ensures call { IsCall (λ reply. reply) event seat.old seat.new result }
+        ensures answer { IsAnswer (λ reply. reply) event result }
     {
         let Seat {
             name: _,
@@ -90,12 +83,13 @@ impl<L: Ledger> SharedXpt<L> {
         } = seat;
         receipts.reserve(1)?;
         let receipt = self.lock(rt).take(event, share)?;
+        let reply = receipt.reply;
         receipts.push_reserved(receipt);
-        self.sleepers.wake(&event, &receipt.reply);
-        Ok(receipt)
+        self.sleepers.wake(&event, &reply);
+        Ok(reply)
     }
 
-    /// Submits a CCB: `Xpt::submit`, with its answer and its refusals, and the receipt that the seat keeps of it.
+    /// Submits a CCB: `Xpt::submit`, with its answer and its refusals.
     pub fn submit<R: Wait>(
         &self,
         rt: &R,
@@ -105,9 +99,9 @@ impl<L: Ledger> SharedXpt<L> {
         priority: u32,
         retries: u32,
         flags: Flags,
-    ) -> Result<(u32, Receipt), SharedFault>
-        ensures call { IsCall receipt_of (answered replies.Ccb) (Event.Submit driver device priority retries flags) seat.old seat.new result }
-        ensures answer { IsAnswer (answered replies.Ccb) (Event.Submit driver device priority retries flags) result }
+    ) -> Result<u32, SharedFault>
+        ensures call { IsCall replies.Ccb (Event.Submit driver device priority retries flags) seat.old seat.new result }
+        ensures answer { IsAnswer replies.Ccb (Event.Submit driver device priority retries flags) result }
     {
         let event = Event::Submit {
             driver,
@@ -116,22 +110,20 @@ impl<L: Ledger> SharedXpt<L> {
             retries,
             flags,
         };
-        let receipt = self.take(rt, seat, event)?;
-        let Reply::Ccb(number) = receipt.reply else {
+        let Reply::Ccb(number) = self.take(rt, seat, event)? else {
             unreachable!()
         };
-        Ok((number, receipt))
+        Ok(number)
     }
 
-    /// Sends the lane's next command: `Xpt::send_next`, with its answer and its refusals, and the receipt that the seat keeps of
-    /// it. An idle lane gets no receipt.
+    /// Sends the lane's next command: `Xpt::send_next`, with its answer and its refusals. An idle lane leaves no receipt.
     pub fn send_next<R: Wait>(
         &self,
         rt: &R,
         seat: &mut Seat<L>,
         lane: u32,
-    ) -> Result<(Sent, Option<Receipt>), SharedFault>
-        ensures turn { MatchResult result (λ given. IsTurn lane seat.old seat.new given) (λ _. seat.new ≡ seat.old) }
+    ) -> Result<Sent, SharedFault>
+        ensures turn { MatchResult result (λ sent. IsTurn lane seat.old seat.new sent) (λ _. seat.new ≡ seat.old) }
         ensures answer { IsLaneAnswer lane result }
     {
         let Seat {
@@ -140,14 +132,11 @@ impl<L: Ledger> SharedXpt<L> {
             share,
         } = seat;
         receipts.reserve(1)?;
-        match self.lock(rt).send_next(lane, share)? {
-            (sent, Some(receipt)) => {
-                let kept = &receipt;
-                receipts.push_reserved(*kept);
-                Ok((sent, Some(receipt)))
-            }
-            (sent, None) => Ok((sent, None)),
+        let (sent, receipt) = self.lock(rt).send_next(lane, share)?;
+        if let Some(receipt) = receipt {
+            receipts.push_reserved(receipt);
         }
+        Ok(sent)
     }
 
     /// The CCB's command has completed with this result: `Xpt::done`, with its answer and its refusals.
@@ -157,41 +146,32 @@ impl<L: Ledger> SharedXpt<L> {
         seat: &mut Seat<L>,
         ccb: u32,
         outcome: Outcome,
-    ) -> Result<(Done, Receipt), SharedFault>
-        ensures call { IsCall receipt_of (answered replies.Done) (Event.Done ccb outcome) seat.old seat.new result }
-        ensures answer { IsAnswer (answered replies.Done) (Event.Done ccb outcome) result }
+    ) -> Result<Done, SharedFault>
+        ensures call { IsCall replies.Done (Event.Done ccb outcome) seat.old seat.new result }
+        ensures answer { IsAnswer replies.Done (Event.Done ccb outcome) result }
     {
-        let receipt = self.take(rt, seat, Event::Done { ccb, outcome })?;
-        let Reply::Done(done) = receipt.reply else {
+        let Reply::Done(done) = self.take(rt, seat, Event::Done { ccb, outcome })? else {
             unreachable!()
         };
-        Ok((done, receipt))
+        Ok(done)
     }
 
     /// Puts a CCB that failed back into its queue: `Xpt::requeue`, with its refusals.
-    pub fn requeue<R: Wait>(
-        &self,
-        rt: &R,
-        seat: &mut Seat<L>,
-        ccb: u32,
-    ) -> Result<Receipt, SharedFault>
-        ensures call { IsCall receipt_alone nothing (Event.Requeue ccb) seat.old seat.new result }
+    pub fn requeue<R: Wait>(&self, rt: &R, seat: &mut Seat<L>, ccb: u32) -> Result<(), SharedFault>
+        ensures call { IsCall nothing (Event.Requeue ccb) seat.old seat.new result }
         ensures answer { IsAnswer nothing (Event.Requeue ccb) result }
     {
-        self.take(rt, seat, Event::Requeue { ccb })
+        self.take(rt, seat, Event::Requeue { ccb })?;
+        Ok(())
     }
 
     /// Gives a CCB that failed back to its driver: `Xpt::finish`, with its refusals.
-    pub fn finish<R: Wait>(
-        &self,
-        rt: &R,
-        seat: &mut Seat<L>,
-        ccb: u32,
-    ) -> Result<Receipt, SharedFault>
-        ensures call { IsCall receipt_alone nothing (Event.Finish ccb) seat.old seat.new result }
+    pub fn finish<R: Wait>(&self, rt: &R, seat: &mut Seat<L>, ccb: u32) -> Result<(), SharedFault>
+        ensures call { IsCall nothing (Event.Finish ccb) seat.old seat.new result }
         ensures answer { IsAnswer nothing (Event.Finish ccb) result }
     {
-        self.take(rt, seat, Event::Finish { ccb })
+        self.take(rt, seat, Event::Finish { ccb })?;
+        Ok(())
     }
 
     /// Freezes a device so many times: `Xpt::freeze_dev`, with its refusals.
@@ -201,11 +181,12 @@ impl<L: Ledger> SharedXpt<L> {
         seat: &mut Seat<L>,
         device: u32,
         count: u32,
-    ) -> Result<Receipt, SharedFault>
-        ensures call { IsCall receipt_alone nothing (Event.FreezeDev device count) seat.old seat.new result }
+    ) -> Result<(), SharedFault>
+        ensures call { IsCall nothing (Event.FreezeDev device count) seat.old seat.new result }
         ensures answer { IsAnswer nothing (Event.FreezeDev device count) result }
     {
-        self.take(rt, seat, Event::FreezeDev { device, count })
+        self.take(rt, seat, Event::FreezeDev { device, count })?;
+        Ok(())
     }
 
     /// Takes so many freezes of a device away: `Xpt::release_dev`, with its refusals.
@@ -215,11 +196,12 @@ impl<L: Ledger> SharedXpt<L> {
         seat: &mut Seat<L>,
         device: u32,
         count: u32,
-    ) -> Result<Receipt, SharedFault>
-        ensures call { IsCall receipt_alone nothing (Event.ReleaseDev device count) seat.old seat.new result }
+    ) -> Result<(), SharedFault>
+        ensures call { IsCall nothing (Event.ReleaseDev device count) seat.old seat.new result }
         ensures answer { IsAnswer nothing (Event.ReleaseDev device count) result }
     {
-        self.take(rt, seat, Event::ReleaseDev { device, count })
+        self.take(rt, seat, Event::ReleaseDev { device, count })?;
+        Ok(())
     }
 
     /// Freezes an adapter so many times: `Xpt::freeze_sim`, with its refusals.
@@ -229,11 +211,12 @@ impl<L: Ledger> SharedXpt<L> {
         seat: &mut Seat<L>,
         sim: u32,
         count: u32,
-    ) -> Result<Receipt, SharedFault>
-        ensures call { IsCall receipt_alone nothing (Event.FreezeSim sim count) seat.old seat.new result }
+    ) -> Result<(), SharedFault>
+        ensures call { IsCall nothing (Event.FreezeSim sim count) seat.old seat.new result }
         ensures answer { IsAnswer nothing (Event.FreezeSim sim count) result }
     {
-        self.take(rt, seat, Event::FreezeSim { sim, count })
+        self.take(rt, seat, Event::FreezeSim { sim, count })?;
+        Ok(())
     }
 
     /// Takes one freeze of an adapter away: `Xpt::release_sim`, with its refusals.
@@ -242,11 +225,12 @@ impl<L: Ledger> SharedXpt<L> {
         rt: &R,
         seat: &mut Seat<L>,
         sim: u32,
-    ) -> Result<Receipt, SharedFault>
-        ensures call { IsCall receipt_alone nothing (Event.ReleaseSim sim) seat.old seat.new result }
+    ) -> Result<(), SharedFault>
+        ensures call { IsCall nothing (Event.ReleaseSim sim) seat.old seat.new result }
         ensures answer { IsAnswer nothing (Event.ReleaseSim sim) result }
     {
-        self.take(rt, seat, Event::ReleaseSim { sim })
+        self.take(rt, seat, Event::ReleaseSim { sim })?;
+        Ok(())
     }
 
     /// Gives a device so many openings from the next round on: `Xpt::adjust`, with its refusals.
@@ -256,23 +240,23 @@ impl<L: Ledger> SharedXpt<L> {
         seat: &mut Seat<L>,
         device: u32,
         openings: u32,
-    ) -> Result<Receipt, SharedFault>
-        ensures call { IsCall receipt_alone nothing (Event.Adjust device openings) seat.old seat.new result }
+    ) -> Result<(), SharedFault>
+        ensures call { IsCall nothing (Event.Adjust device openings) seat.old seat.new result }
         ensures answer { IsAnswer nothing (Event.Adjust device openings) result }
     {
-        self.take(rt, seat, Event::Adjust { device, openings })
+        self.take(rt, seat, Event::Adjust { device, openings })?;
+        Ok(())
     }
 
     /// Opens the next round, which is the answer: `Xpt::tick`, with its refusals.
-    pub fn tick<R: Wait>(&self, rt: &R, seat: &mut Seat<L>) -> Result<(u32, Receipt), SharedFault>
-        ensures call { IsCall receipt_of (answered replies.Round) Event.Tick seat.old seat.new result }
-        ensures answer { IsAnswer (answered replies.Round) Event.Tick result }
+    pub fn tick<R: Wait>(&self, rt: &R, seat: &mut Seat<L>) -> Result<u32, SharedFault>
+        ensures call { IsCall replies.Round Event.Tick seat.old seat.new result }
+        ensures answer { IsAnswer replies.Round Event.Tick result }
     {
-        let receipt = self.take(rt, seat, Event::Tick)?;
-        let Reply::Round(round) = receipt.reply else {
+        let Reply::Round(round) = self.take(rt, seat, Event::Tick)? else {
             unreachable!()
         };
-        Ok((round, receipt))
+        Ok(round)
     }
 
     /// Of the CCBs that wait for a decision on their error, the one that completed first: `Xpt::next_case`.

@@ -1,7 +1,7 @@
 //! Where the workers sleep, at one bell each.
 
 use crate::bell::Bell;
-use event_rules::Event;
+use cam_event::Event;
 use std::sync::Condvar;
 use xpt_state::Reply;
 

@@ -6,3 +6,4 @@ pub mod Steps
 pub mod Looks
 pub mod Laws
 pub mod Calls
+pub mod Sound

@@ -1,6 +1,6 @@
 //! What there is to see of a transport: its next case, and counts.
 
-use sense_class::Class;
+use cam_event::Class;
 
 /// A CCB that waits for a decision on its error.
 #[derive(Clone, Copy, Debug, PartialEq, Eq)]

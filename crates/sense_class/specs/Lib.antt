@@ -1,2 +1,0 @@
-pub mod Sense
-pub mod Classes

@@ -1,0 +1,10 @@
+pub mod AppendLemmas
+pub mod HeadLaws
+pub mod UpdateLaws
+pub mod RefreshLaws
+pub mod RowLemmas
+pub mod SimLemmas
+pub mod NextLemmas
+pub mod OpenLemmas
+pub mod ReadyLemmas
+pub mod LinkLemmas

@@ -1,0 +1,4 @@
+pub mod Known
+pub mod Affected
+pub mod Updated
+pub mod Next

@@ -1,0 +1,10 @@
+pub mod CountLemmas
+pub mod DeviceLaws
+pub mod EntryLemmas
+pub mod FieldLaws
+pub mod OrderLaws
+pub mod PlaceLemmas
+pub mod RoomLemmas
+pub mod SoundLemmas
+pub mod TransportLemmas
+pub mod AffectedLaws

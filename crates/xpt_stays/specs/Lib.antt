@@ -1,0 +1,4 @@
+pub mod StayRecord
+pub mod Records
+pub mod Latest
+pub mod Sound

@@ -4,14 +4,14 @@ use Rattle.std.specs.Prelude.{is_some, slice_index, if◌then◌else◌, All}
 use Rattle.std.proofs.lemmas.List.Elements.{All-from_get_or}
 use Rattle.cam_types.specs.Topology.{Topology}
 use Rattle.cam_types.specs.declared.maxima.TheConstants.{MOST_BYTES, MOST_STAYS, MOST_ROUNDS, MOST_WEIGHT}
-use Rattle.cam_event.specs.Stays.{unsent}
-use Rattle.cam_event.specs.Live.{live_cost}
-use Rattle.cam_event.specs.declared.event.Event.{Event}
-use Rattle.cam_event.specs.declared.stay.StayName.{StayName}
-use Rattle.cam_event.proofs.LiveLemmas.{live_cost_sent}
-use Rattle.cam_event.specs.Past.{Past}
-use Rattle.cam_event.specs.Legal.{history_rules, is_legal}
-use Rattle.cam_event.proofs.LawLemmas.{sends_stand_free}
+use Rattle.event_rules.specs.Stays.{unsent}
+use Rattle.event_rules.specs.Live.{live_cost}
+use Rattle.event_rules.specs.declared.event.Event.{Event}
+use Rattle.event_rules.specs.declared.stay.Stay.{Stay}
+use Rattle.event_rules.proofs.LiveLemmas.{live_cost_sent}
+use Rattle.event_rules.specs.Past.{Past}
+use Rattle.event_rules.specs.Legal.{history_rules, is_legal}
+use Rattle.event_rules.proofs.LawLemmas.{sends_stand_free}
 use Rattle.round_net.specs.Rows.{NetRows, instance_of_rows, live_of_rows}
 use Rattle.round_net.specs.Instance.{Instance}
 use Rattle.round_net.specs.Sound.{IsSound}
@@ -33,7 +33,7 @@ nothing_more text = sym (append-nil text)
 -- where each stay was sent the live schedule has a cost, that of the net
 live_known : (c : Topology) (es : List Event) → unsent es ≡ None → live_cost c es ≡ Some (cost (instance_of c es) (live_of c es))
 live_known c es e =
-    live_cost_sent c es (ap (λ (o : Option StayName). is_some o) e) ∙ ap (λ n. Some n) (sym (cost-live c es))
+    live_cost_sent c es (ap (λ (o : Option Stay). is_some o) e) ∙ ap (λ n. Some n) (sym (cost-live c es))
 
 pub live_is_known : (c : Topology) (es : List Event) → unsent es ≡ None → live_cost c es ≡ None → ⊥
 live_is_known c es e n = let known = live_known c es e in absurd (cc)

@@ -5,10 +5,10 @@ use Rattle.std.proofs.lemmas.List.Sums.{sum_by-cons}
 use Rattle.std.proofs.lemmas.Nat.{mul-le}
 use Rattle.cam_types.specs.Topology.{Topology}
 use Rattle.cam_types.specs.declared.maxima.TheConstants.{MOST_STAYS, MOST_ROUNDS, MOST_WEIGHT}
-use Rattle.cam_event.specs.Stays.{stays_begun}
-use Rattle.cam_event.specs.Live.{live_part}
-use Rattle.cam_event.specs.declared.event.Event.{Event}
-use Rattle.cam_event.specs.declared.stay.Stay.{Stay}
+use Rattle.event_rules.specs.Stays.{stays_begun}
+use Rattle.event_rules.specs.Live.{live_part}
+use Rattle.event_rules.specs.declared.event.Event.{Event}
+use Rattle.event_rules.specs.declared.passage.Passage.{Passage}
 use Rattle.trace_file.proofs.ScriptRules.{sum_by-map}
 use Rattle.round_net.specs.Sums.{sum_below}
 use Rattle.round_net.specs.Rows.{of_stay, instance_of_rows, live_of_rows}
@@ -31,7 +31,7 @@ rows_sum [] = refl
 rows_sum (row ∷ rows) =
     sum_below-shift (length rows) (cost_at (row ∷ rows)) ∙ ap (λ n. row_cost row + n) (rows_sum rows) ∙ sym (sum_by-cons row_cost row rows)
 
-same_parts : (c : Topology) (es : List Event) (ps : List Stay) → sum_by (λ p. row_cost (stay_row c es p)) ps ≡ sum_by (live_part c es) ps
+same_parts : (c : Topology) (es : List Event) (ps : List Passage) → sum_by (λ p. row_cost (stay_row c es p)) ps ≡ sum_by (live_part c es) ps
 unfolding stay_row live_part
 same_parts c es ps = refl
 

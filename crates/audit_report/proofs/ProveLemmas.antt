@@ -2,11 +2,11 @@
 use Rattle.std.proofs.Common.{◌≡◌, ℕ, false, List, refl, sym, ap, subst, Option, Some, None}
 use Rattle.std.specs.Prelude.{is_some, Result, Ok, Err, IfSome, IsErrAnd, Bool}
 use Rattle.cam_types.specs.Topology.{Topology}
-use Rattle.cam_event.specs.Live.{live_cost}
-use Rattle.cam_event.specs.Stays.{unsent}
-use Rattle.cam_event.specs.declared.stay.StayName.{StayName}
-use Rattle.cam_event.proofs.LiveLemmas.{live_cost_unsent}
-use Rattle.cam_event.specs.Past.{Past}
+use Rattle.event_rules.specs.Live.{live_cost}
+use Rattle.event_rules.specs.Stays.{unsent}
+use Rattle.event_rules.specs.declared.stay.Stay.{Stay}
+use Rattle.event_rules.proofs.LiveLemmas.{live_cost_unsent}
+use Rattle.event_rules.specs.Past.{Past}
 use Rattle.round_net.specs.Rows.{NetRows}
 use Rattle.trace_file.specs.Trace.{IsTrace, IsHistory}
 use Rattle.audit_report.specs.Audit.{IsAudit}
@@ -19,9 +19,9 @@ abbrev pub ReadsTrace : Option (List ℕ) → Result (Past × NetRows) AuditFaul
 ReadsTrace r read = (past : Past) → IsHistory past → unsent past.events ≡ None → IfSome r (λ all. IsTrace all past → IsReadOrFailed past read)
 
 -- an audited history is complete
-sent_cases : (c : Topology) (es : List _) (o : Option StayName) (live : ℕ) → unsent es ≡ o → live_cost c es ≡ Some live → o ≡ None
+sent_cases : (c : Topology) (es : List _) (o : Option Stay) (live : ℕ) → unsent es ≡ o → live_cost c es ≡ Some live → o ≡ None
 sent_cases c es None live e is = refl
-sent_cases c es (Some s) live e is = let none : live_cost c es ≡ None = live_cost_unsent c es (ap (λ (p : Option StayName). is_some p) e) in absurd (cc)
+sent_cases c es (Some s) live e is = let none : live_cost c es ≡ None = live_cost_unsent c es (ap (λ (p : Option Stay). is_some p) e) in absurd (cc)
 
 audited_sent : (past : Past) (text : List ℕ) → IsAudit false past text → unsent past.events ≡ None
 audited_sent past text a = sent_cases past.config past.events (unsent past.events) a.live refl a.costs

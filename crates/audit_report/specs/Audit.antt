@@ -3,9 +3,9 @@ use Rattle.std.specs.Prelude.{◌≡◌, ℕ, ◌≤◌, Bool, if◌then◌else�
 use Rattle.std.specs.List.{list_all}
 use Rattle.cam_types.specs.Lists.{moments}
 use Rattle.cam_types.specs.declared.maxima.TheConstants.{MOST_BYTES}
-use Rattle.cam_event.specs.Live.{live_cost}
-use Rattle.cam_event.specs.Past.{Past}
-use Rattle.cam_event.specs.Laws.{stands_free}
+use Rattle.event_rules.specs.Live.{live_cost}
+use Rattle.event_rules.specs.Past.{Past}
+use Rattle.event_rules.specs.Laws.{stands_free}
 use Rattle.round_net.specs.Schedules.{IsAdmissible, cost}
 use Rattle.round_net.specs.Rows.{NetRows}
 use Rattle.round_net.specs.Nets.{net_of, instance_of, live_of}

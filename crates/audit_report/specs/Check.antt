@@ -1,10 +1,10 @@
 -- what a check of a trace writes
 use Rattle.std.specs.Prelude.{◌≡◌, ℕ, ◌++◌, List, length, Some, codes}
-use Rattle.cam_event.specs.Past.{Past}
-use Rattle.cam_event.specs.Counts.{round, commands}
-use Rattle.cam_event.specs.Stays.{stays_begun}
-use Rattle.cam_event.specs.Live.{live_cost}
-use Rattle.cam_event.specs.declared.event.Event.{Event}
+use Rattle.event_rules.specs.Past.{Past}
+use Rattle.event_rules.specs.Counts.{round, commands}
+use Rattle.event_rules.specs.Stays.{stays_begun}
+use Rattle.event_rules.specs.Live.{live_cost}
+use Rattle.event_rules.specs.declared.event.Event.{Event}
 use Rattle.price_check.specs.Lines.{line}
 
 -- the five lines of a complete history, whose live schedule costs so much

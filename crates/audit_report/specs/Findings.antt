@@ -1,7 +1,7 @@
 -- what comes of a claim about a history, and the line that says so
 use Rattle.std.specs.Prelude.{◌≡◌, ◌≢◌, ℕ, ◌-◌, ◌++◌, Bool, true, false, List, slice_index, codes, decimal}
-use Rattle.cam_event.specs.declared.stay.StayName.{StayName}
-use Rattle.cam_event.specs.Past.{Past}
+use Rattle.event_rules.specs.declared.stay.Stay.{Stay}
+use Rattle.event_rules.specs.Past.{Past}
 use Rattle.round_net.specs.Schedules.{cost}
 use Rattle.round_net.specs.Value.{ProvesBest}
 use Rattle.round_net.specs.Rows.{names_of_rows}
@@ -60,7 +60,7 @@ unfoldable pub gap_text : ℕ → List ℕ
 gap_text gap = codes "not proved: gap " ++ (decimal gap ++ codes "\n")
 
 -- the line on a stay with whose place something is wrong
-unfoldable pub stay_text : StayName → Cause → List ℕ
+unfoldable pub stay_text : Stay → Cause → List ℕ
 stay_text stay cause =
     codes "not proved: stay" ++ ((number_text stay.ccb ++ number_text stay.attempt) ++ (codes " " ++ (cause_text cause ++ codes "\n")))
 

@@ -1,6 +1,6 @@
 -- what a migration of a trace writes
 use Rattle.std.specs.Prelude.{◌≡◌, ℕ, List}
-use Rattle.cam_event.specs.Past.{Past}
+use Rattle.event_rules.specs.Past.{Past}
 use Rattle.trace_file.specs.Trace.{IsTrace}
 use Rattle.trace_file.specs.Writing.{migrated_text}
 

@@ -1,9 +1,9 @@
 -- how a run over a trace and a report on it ends
 use Rattle.std.specs.Prelude.{◌≡◌, ℕ, Bool, true, List, Option, None, Result, Ok, Err}
 use Rattle.std.specs.Io.KnownBytes.{Appends}
-use Rattle.text_io.specs.Whole.{AppendsFront}
-use Rattle.cam_event.specs.Past.{Past}
-use Rattle.cam_event.specs.Stays.{unsent}
+use Rattle.cam_types.specs.Whole.{AppendsFront}
+use Rattle.event_rules.specs.Past.{Past}
+use Rattle.event_rules.specs.Stays.{unsent}
 use Rattle.trace_file.specs.Trace.{WasTrace, Explains}
 use Rattle.round_net.specs.Nets.{net_of}
 use Rattle.price_check.specs.Claims as claims

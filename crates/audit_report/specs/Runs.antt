@@ -1,10 +1,10 @@
 -- how a run over a trace ends
 use Rattle.std.specs.Prelude.{◌≡◌, ℕ, Bool, true, List, Option, Some, Result, Ok, Err, ⊤}
 use Rattle.std.specs.Io.KnownBytes.{Appends}
-use Rattle.text_io.specs.Whole.{AppendsFront}
-use Rattle.cam_event.specs.Past.{Past}
-use Rattle.cam_event.specs.Stays.{unsent}
-use Rattle.cam_event.specs.declared.stay.StayName.{StayName}
+use Rattle.cam_types.specs.Whole.{AppendsFront}
+use Rattle.event_rules.specs.Past.{Past}
+use Rattle.event_rules.specs.Stays.{unsent}
+use Rattle.event_rules.specs.declared.stay.Stay.{Stay}
 use Rattle.round_net.specs.Rows.{NetRows}
 use Rattle.price_check.specs.declared.report_fault.ReportFault.TheVariants as report_fault
 use Rattle.trace_file.specs.Trace.{WasTrace, Explains}
@@ -13,7 +13,7 @@ use Rattle.audit_report.specs.declared.audit_fault.AuditFault.{AuditFault}
 use Rattle.audit_report.specs.declared.audit_fault.AuditFault.TheVariants.{Trace, Unsent, Report, WriteFailed, OutOfMemory}
 
 -- a trace was read, and this is the first of its stays that has no send
-pub record WasUnsent (before after : Option (List ℕ)) (s : StayName) : Type 0 where
+pub record WasUnsent (before after : Option (List ℕ)) (s : Stay) : Type 0 where
   pub past : Past
   pub trace : WasTrace before after past
   pub first : unsent past.events ≡ Some s

@@ -1,14 +1,14 @@
 //! The audit of a trace: the report on it, or the report's first seven lines.
 
 ghost use Rattle.std.specs.Prelude.{◌≡◌, ◌≢◌, ℕ, ◌+◌, ◌*◌, ◌≤◌, Bool, true, false, if◌then◌else◌, Option, None, Err, List, [], ◌++◌, length, slice_index, IfOk, IfErr, IfSome, OnOk};
-ghost use Rattle.text_io.specs.Watched.{device_of, has_failed, is_flushed};
-ghost use Rattle.cam_event.specs.Past.{Past};
-ghost use Rattle.cam_event.specs.Stays.{unsent};
+ghost use Rattle.cam_types.specs.Watched.{device_of, has_failed, is_flushed};
+ghost use Rattle.event_rules.specs.Past.{Past};
+ghost use Rattle.event_rules.specs.Stays.{unsent};
 ghost use Rattle.round_net.specs.Rows.{instance_of_rows};
 ghost use Rattle.round_net.specs.PriceRows.{pricing_of_rows, IsPricingFor};
 ghost use Rattle.round_net.specs.Value.{ProvesBest};
 ghost use Rattle.round_net.specs.Nets.{net_of};
-ghost use Rattle.cam_event.specs.Legal.{history_rules, is_legal};
+ghost use Rattle.event_rules.specs.Legal.{history_rules, is_legal};
 ghost use Rattle.price_check.specs.Report.{plan_text};
 ghost use Rattle.audit_report.specs.Audit.{IsAudit};
 ghost use Rattle.trace_file.specs.Trace.{IsTrace, IsHistory, WasTrace};
@@ -17,14 +17,14 @@ ghost use Rattle.cam_types.specs.declared.maxima.TheConstants.{MOST_STAYS, MOST_
 
 use crate::audit_fault::AuditFault;
 use crate::costs::Costs;
+use cam_event::History;
+use cam_types::{Watched, write_whole};
 use cost_plan::{BestPlan, plan};
 use price_check::{push_plan, push_summary};
 use round_net::{Net, NetFault};
 use std::alloc::{AllocError, Global};
 use std::io::{Read, Write};
-use text_io::{Watched, write_whole};
 use trace_file::{TraceFault, read_trace};
-use xpt_state::History;
 
 /// Reads a trace and writes the report on it: the live schedule, a best schedule, the excess of the one over the other,
 /// and prices that prove by themselves that no schedule costs less; or, where `summary` is asked for, the first seven

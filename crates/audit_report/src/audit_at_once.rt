@@ -1,17 +1,17 @@
 //! The audit of a trace, its adapters planned at once.
 
 ghost use Rattle.std.specs.Prelude.{◌≡◌, ◌≢◌, true, false, Err, OnOk};
-ghost use Rattle.text_io.specs.Watched.{device_of, has_failed, is_flushed};
+ghost use Rattle.cam_types.specs.Watched.{device_of, has_failed, is_flushed};
 ghost use Rattle.audit_report.specs.Audit.{IsAudit};
 ghost use Rattle.audit_report.specs.Runs.{Ended};
 
 use crate::audit::{read_net, write_audit};
 use crate::audit_fault::AuditFault;
+use cam_types::Watched;
 use cost_plan::{Gate, plan_with};
 use std::alloc::Global;
 use std::io::{Read, Write};
 use std::thread::Threads;
-use text_io::Watched;
 use trace_file::TraceFault;
 
 /// As `run_audit`, but that the adapters are planned at once, by threads that tell the gate of each, as `plan_with` does.

@@ -3,7 +3,7 @@
 ghost use Rattle.std.specs.Prelude.{◌≡◌};
 ghost use Rattle.audit_report.specs.declared.audit_fault.AuditFault.TheVariants.{OutOfMemory};
 
-use cam_event::StayName;
+use event_rules::Stay;
 use price_check::ReportFault;
 use std::alloc::AllocError;
 use thiserror::Error;
@@ -17,7 +17,7 @@ pub enum AuditFault {
     Trace(TraceFault),
     /// The history isn't complete: this is the first of its stays, by birth, that has no send.
     #[error("unsent ccb {} try {}", .0.ccb, .0.attempt)]
-    Unsent(StayName),
+    Unsent(Stay),
     /// The report isn't one of the history, or wasn't read.
     #[error("{0}")]
     Report(ReportFault),

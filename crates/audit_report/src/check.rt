@@ -1,19 +1,19 @@
 //! The check of a trace: its counts, and what its live schedule cost.
 
 ghost use Rattle.std.specs.Prelude.{◌≡◌, ◌≢◌, Some, true, false, Ok, Err, IfOk, OnOk};
-ghost use Rattle.text_io.specs.Watched.{device_of, has_failed, is_flushed};
-ghost use Rattle.cam_event.specs.Past.{Past};
-ghost use Rattle.cam_event.specs.Live.{live_cost};
+ghost use Rattle.cam_types.specs.Watched.{device_of, has_failed, is_flushed};
+ghost use Rattle.event_rules.specs.Past.{Past};
+ghost use Rattle.event_rules.specs.Live.{live_cost};
 ghost use Rattle.audit_report.specs.Check.{check_text, IsCheck};
 ghost use Rattle.audit_report.specs.Runs.{Ended};
 
 use crate::audit_fault::AuditFault;
+use cam_event::History;
+use cam_types::{Watched, write_whole};
 use price_check::push_line;
 use std::alloc::{AllocError, Global};
 use std::io::{Read, Write};
-use text_io::{Watched, write_whole};
 use trace_file::{TraceFault, read_trace};
-use xpt_state::History;
 
 /// Reads a trace and writes five lines on it: the version of this form, how many commands, stays and rounds it has, and
 /// what its live schedule cost. Before anything is written the trace is read to its end, tested and found complete.

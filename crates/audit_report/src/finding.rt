@@ -1,7 +1,7 @@
 //! What comes of a claim about a history, and the line that says so.
 
 ghost use Rattle.std.specs.Prelude.{◌≡◌, ◌≢◌, ◌++◌, None, length, slice_index, codes, IfOk, OnOk};
-ghost use Rattle.cam_event.specs.Stays.{unsent};
+ghost use Rattle.event_rules.specs.Stays.{unsent};
 ghost use Rattle.round_net.specs.Rows.{instance_of_rows};
 ghost use Rattle.round_net.specs.PriceRows.{IsPricingFor};
 ghost use Rattle.round_net.specs.Nets.{net_of};
@@ -9,12 +9,12 @@ ghost use Rattle.price_check.specs.Verdicts.{IsBest};
 ghost use Rattle.audit_report.specs.Findings.{IsProved, IsRight, Says, is_proved, cause_text, gap_text, stay_text, finding_text};
 
 use crate::costs::Costs;
-use cam_event::StayName;
+use cam_event::History;
+use event_rules::Stay;
 use itoa::Buffer;
 use price_check::{Cause, Claim, Verdict, check, push_name};
 use round_net::Net;
 use std::alloc::{AllocError, Global};
-use xpt_state::History;
 
 /// What comes of a claim that somebody made about a history.
 #[derive(Clone, Copy)]
@@ -24,7 +24,7 @@ pub enum Finding {
     /// The schedule is admissible, but costs so much more than the prices are worth.
     Gap(u128),
     /// The schedule isn't admissible: the first stay, in order of birth, with whose place something is wrong.
-    NotAdmissible(StayName, Cause),
+    NotAdmissible(Stay, Cause),
     /// The prices prove the schedule, but it doesn't cost what is said.
     WrongBest,
     /// The prices prove the schedule, and it costs what is said, but the live one isn't so much above it.
@@ -112,7 +112,7 @@ fn write_gap(text: &mut Vec<u8>, gap: u128) -> Result<(), AllocError>
 }
 
 #[tactic(auto, unfolding(crate::specs::Findings::stay_text))]
-fn write_stay(text: &mut Vec<u8>, stay: StayName, cause: Cause) -> Result<(), AllocError>
+fn write_stay(text: &mut Vec<u8>, stay: Stay, cause: Cause) -> Result<(), AllocError>
     ensures { OnOk result (text.new.items ≡ text.old.items ++ stay_text stay cause) }
 {
     text.extend_from_slice(b"not proved: stay")?;

@@ -1,15 +1,15 @@
 //! The migration of a trace to the newest version.
 
 ghost use Rattle.std.specs.Prelude.{◌≡◌, ◌≢◌, false, true, Ok, Err, OnOk};
-ghost use Rattle.text_io.specs.Watched.{device_of, has_failed, is_flushed};
-ghost use Rattle.cam_event.specs.declared.stay.StayName.{StayName};
+ghost use Rattle.cam_types.specs.Watched.{device_of, has_failed, is_flushed};
+ghost use Rattle.event_rules.specs.declared.stay.Stay.{Stay};
 ghost use Rattle.audit_report.specs.Migration.{IsMigration};
 ghost use Rattle.audit_report.specs.Runs.{Ended};
 
 use crate::audit_fault::AuditFault;
+use cam_types::Watched;
 use std::alloc::Global;
 use std::io::{Read, Write};
-use text_io::Watched;
 use trace_file::{TraceFault, WriteFault, migrate_trace, read_trace};
 
 /// Reads a trace of any version and writes the trace of the same history in version 3, which has a table of weights and
@@ -25,7 +25,7 @@ pub fn run_migrate<R: Read, W: Write>(
     ensures flushed { OnOk result (is_flushed out.new ≡ true) }
     ensures trace_calm { result ≢ Err (AuditFault.Trace TraceFault.ReadFailed) → has_failed trace.new ≡ false }
     ensures out_calm { result ≢ Err AuditFault.WriteFailed → has_failed out.new ≡ false }
-    ensures unsent { (stay : StayName) → result ≢ Err (AuditFault.Unsent stay) }
+    ensures unsent { (stay : Stay) → result ≢ Err (AuditFault.Unsent stay) }
 {
     let history = match read_trace(alloc, trace) {
         Ok(history) => history,

@@ -1,9 +1,9 @@
 //! Whether a report on a trace is proved, whoever made it.
 
 ghost use Rattle.std.specs.Prelude.{◌≡◌, ◌≢◌, ℕ, Bool, true, false, Err, List, Option, None, IfSome, OnOk};
-ghost use Rattle.text_io.specs.Watched.{device_of, has_failed, is_flushed};
-ghost use Rattle.cam_event.specs.Past.{Past};
-ghost use Rattle.cam_event.specs.Stays.{unsent};
+ghost use Rattle.cam_types.specs.Watched.{device_of, has_failed, is_flushed};
+ghost use Rattle.event_rules.specs.Past.{Past};
+ghost use Rattle.event_rules.specs.Stays.{unsent};
 ghost use Rattle.round_net.specs.Nets.{net_of};
 ghost use Rattle.trace_file.specs.Trace.{IsTrace, IsHistory, WasTrace};
 ghost use Rattle.audit_report.specs.Audit.{IsAudit};
@@ -12,13 +12,13 @@ ghost use Rattle.audit_report.specs.Prove.{Proving, IsProvedOrFailed};
 use crate::audit::read_net;
 use crate::audit_fault::AuditFault;
 use crate::finding::Finding;
+use cam_event::History;
+use cam_types::{Watched, write_whole};
 use price_check::{ReportFault, read_report};
 use round_net::Net;
 use std::alloc::Global;
 use std::io::{Read, Write};
-use text_io::{Watched, write_whole};
 use trace_file::TraceFault;
-use xpt_state::History;
 
 /// Reads a trace and a report on it, whoever made it, and writes one line: whether the report's prices prove that its
 /// schedule is a best one, and its numbers are right, or why not. Answers whether it is proved. The trace is read to its

@@ -1,5 +1,6 @@
 //! Times the parts of an audit alone, on the trace on standard input.
 
+use cam_types::{Watched, read_whole};
 use check_times::time_checks;
 use net_text::print_net;
 use plan_times::time_plans;
@@ -10,7 +11,6 @@ use std::process::ExitCode;
 use std::rt::Runtime;
 use std::thread::Threads;
 use std::time::{Clock, CpuClock};
-use text_io::{Watched, read_whole};
 use trace_file::read_trace;
 
 mod check_times;

@@ -1,7 +1,7 @@
 //! The blocks that are copied, and which CCB is for which block.
 
-use cam_event::{CAM_BUSY, CAM_REQ_CMP};
 use cam_types::Command;
+use sense_class::{CAM_BUSY, CAM_REQ_CMP};
 use std::alloc::{AllocError, Global};
 use std::sync::{Mutex, Wait};
 

@@ -2,8 +2,8 @@
 
 use crate::blocks::{BLOCKS, Blocks};
 use crate::fault::Fault;
-use cam_event::Class;
 use cam_types::{Flags, Outcome};
+use sense_class::Class;
 use std::alloc::{AllocError, Global};
 use std::sync::Wait;
 use std::sync::ledger::Ledger;
@@ -122,7 +122,7 @@ fn submit<L: Ledger, R: Wait>(
             return Ok(());
         }
         let mut table = blocks.table.lock(rt);
-        let ccb = shared.submit(
+        let (ccb, _) = shared.submit(
             rt,
             &mut driver.seat,
             driver.number,
@@ -149,7 +149,8 @@ fn send<L: Ledger, R: Wait>(
     seat: &mut Seat<L>,
 ) -> Result<(), Fault> {
     for _ in rt.forever() {
-        let Sent::Command(command) = shared.send_next(rt, seat, lane)? else {
+        let (sent, _) = shared.send_next(rt, seat, lane)?;
+        let Sent::Command(command) = sent else {
             return Ok(());
         };
         let Some(status) = blocks.serve(rt, &command) else {
@@ -168,10 +169,10 @@ fn decide<L: Ledger, R: Wait>(
 ) -> Result<(), Fault> {
     for _ in 0..shared.look(rt).cases {
         if let Some(Case { ccb, class }) = shared.next_case(rt) {
-            match class {
+            let _receipt = match class {
                 Class::FreeRequeue | Class::CountedRequeue => shared.requeue(rt, seat, ccb)?,
                 Class::Complete | Class::Fail(_) => shared.finish(rt, seat, ccb)?,
-            }
+            };
         }
     }
     Ok(())

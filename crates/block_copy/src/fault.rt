@@ -1,8 +1,8 @@
 //! Why the copy failed.
 
 use audit_report::AuditFault;
-use cam_event::Refusal;
 use cam_types::ConfigError;
+use event_rules::Refusal;
 use std::alloc::AllocError;
 use std::io;
 use thiserror::Error;

@@ -9,8 +9,8 @@ use Rattle.std.proofs.lemmas.List.{drop-drop, drop_all, length-drop, take-append
 use Rattle.std.proofs.Math.Seq.{drop-append_seam, drop-cons, take-append_seam}
 use Rattle.std.specs.Str.Parse.{digits_value}
 use Rattle.std.proofs.lemmas.Str.Parse.{IsNumeralModel, numerals_by_value}
-use Rattle.text_io.specs.Number.{number_of}
-use Rattle.text_io.proofs.NumberLemmas.{number_of-decimal, number_of-spelled, number_of-within}
+use Rattle.cam_types.specs.Number.{number_of}
+use Rattle.cam_types.proofs.NumberLemmas.{number_of-decimal, number_of-spelled, number_of-within}
 use Rattle.cam_path.specs.declared.path.CamPath.{CamPath}
 use Rattle.cam_path.specs.Paths.{Fits, colon_at, digits_at, end_at, number_at, reading, spelled, ◌>>=◌}
 

@@ -2,7 +2,7 @@
 use Rattle.std.specs.Prelude.{ℕ, ◌+◌, ◌≤◌, ◌==◌, nat_lt, nat_le, ◌&&◌, if◌then◌else◌, List, ◌++◌, length, take, drop, slice_index, option_map, Result, Ok, Err, ok_or, ⊤, codes, decimal}
 use Rattle.std.specs.Char.{is_ascii_digit}
 use Rattle.std.specs.List.{prefix_len}
-use Rattle.text_io.specs.Number.{number_of}
+use Rattle.cam_types.specs.Number.{number_of}
 use Rattle.cam_types.specs.declared.device.Device.{Device}
 use Rattle.cam_path.specs.declared.path.CamPath.{CamPath}
 

@@ -6,7 +6,7 @@ ghost use Rattle.std.specs.List.{prefix_len};
 ghost use Rattle.cam_path.specs.Paths.{number_at, colon_at, end_at, reading};
 
 use crate::path::CamPath;
-use text_io::read_number;
+use cam_types::read_number;
 
 /// The path that a text spells, or the offset of its first fault.
 #[tactic(auto, unfolding(crate::specs::Paths::reading))]

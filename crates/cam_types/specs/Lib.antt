@@ -6,3 +6,6 @@ pub mod Questions
 pub mod SenseBytes
 pub mod Topology
 pub mod Weights
+pub mod Number
+pub mod Watched
+pub mod Whole

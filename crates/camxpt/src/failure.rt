@@ -2,12 +2,12 @@
 
 use crate::source::Argument;
 use audit_report::AuditFault;
+use cam_types::WholeFault;
 use price_check::ReportFault;
-use run_rules::LiveFault;
+use sim_worker::LiveFault;
 use std::alloc::AllocError;
 use std::fmt;
 use std::process::ExitCode;
-use text_io::WholeFault;
 use trace_file::{TraceFault, WriteFault};
 
 /// Why the program didn't do what its words asked. Its text is the line on standard error, behind the program's name.

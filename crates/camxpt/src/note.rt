@@ -3,8 +3,8 @@
 use crate::failure::Failure;
 use crate::source::STANDARD_INPUT;
 use audit_report::AuditFault;
-use fault_note::{report_note, trace_note, unsent_note};
 use std::alloc::{AllocError, Global};
+use views::{report_note, trace_note, unsent_note};
 
 /// The text of an input, and the name of its file.
 #[derive(Drop)]

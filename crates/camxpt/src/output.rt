@@ -2,9 +2,9 @@
 
 use crate::failure::Failure;
 use audit_report::AuditFault;
+use cam_types::{Watched, write_whole};
 use std::alloc::AllocError;
 use std::io;
-use text_io::{Watched, write_whole};
 
 /// Writes a text to standard output.
 pub fn print<R: Print>(rt: &R, text: &str) -> Result<(), Failure> {

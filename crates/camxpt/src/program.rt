@@ -11,13 +11,13 @@ use crate::subcommands::command;
 use crate::trace_run::TraceRun;
 use crate::words::words;
 use audit_report::{AuditFault, read_net};
+use cam_types::{Watched, WholeFault};
 use clap::ArgMatches;
 use clap::error::ErrorKind;
 use std::process::ExitCode;
 use std::rt::Runtime;
 use std::sync::Wait;
 use std::thread::Threads;
-use text_io::{Watched, WholeFault};
 
 /// How many stays and freezes are listed where no number is given.
 const TOP: usize = 10;

@@ -1,6 +1,6 @@
 //! Shows on a terminal how far a run is.
 
-use live_worker::Progress;
+use sim_worker::Progress;
 use std::sync::atomic::{AtomicU64, Ordering};
 use std::time::{Clock, Instant};
 use xpt_state::Look;

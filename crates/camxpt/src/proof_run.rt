@@ -4,10 +4,10 @@ use crate::failure::Failure;
 use crate::note::Named;
 use crate::output::{closed, print};
 use audit_report::run_prove;
-use json_lines::prove_json;
+use cam_types::Watched;
 use std::alloc::Global;
 use std::io;
-use text_io::Watched;
+use views::prove_json;
 
 // More bytes than the line has that says what comes of a report.
 const MOST_FINDING: usize = 256;

@@ -3,16 +3,14 @@
 use crate::failure::Failure;
 use crate::note::Named;
 use crate::progress::ProgressLine;
-use live_worker::run_live;
-use run_rules::{Ending, ScriptPort};
-use sim_worker::sim_run;
+use cam_event::History;
+use cam_types::Watched;
+use sim_worker::{Ending, ScriptPort, run_live_with, sim_run};
 use std::io;
 use std::rt::Runtime;
 use std::sync::Wait;
 use std::thread::Threads;
-use text_io::Watched;
 use trace_file::{Script, read_script, write_trace};
-use xpt_state::History;
 
 /// How a script is run.
 #[derive(Clone, Copy)]
@@ -64,7 +62,7 @@ fn over_threads<R: Runtime + AllocGlobal + Threads + Wait + Sync>(
     let alloc = rt.alloc();
     let ports = ScriptPort::for_lanes(alloc, script)?;
     let line = ProgressLine::new(rt, on_terminal);
-    let run = run_live(rt, alloc, script, ports, &line);
+    let run = run_live_with(rt, alloc, script, ports, &line);
     line.clear();
     let run = run?;
     print_trace(rt, &run.history)?;

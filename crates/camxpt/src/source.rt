@@ -2,11 +2,11 @@
 
 use crate::failure::Failure;
 use crate::note::Named;
+use cam_types::{Watched, WholeFault, read_whole};
 use clap::ArgMatches;
 use std::fs::File;
 use std::io::Read;
 use std::rt::Files;
-use text_io::{Watched, WholeFault, read_whole};
 
 /// The name of a file that means standard input.
 pub const STANDARD_INPUT: &str = "-";

@@ -4,16 +4,15 @@ use crate::failure::Failure;
 use crate::note::Named;
 use crate::output::{closed, print};
 use audit_report::{read_net, run_audit_with, run_check, run_migrate};
+use cam_event::History;
+use cam_types::Watched;
 use cost_plan::{OpenGate, plan_with};
-use json_lines::{audit_json, check_json, explain_json};
 use round_net::Net;
 use std::alloc::{AllocError, Global};
 use std::io;
 use std::thread::Threads;
-use text_io::Watched;
+use views::{audit_json, check_json, draw, explain_json, page};
 use wait_causes::Explanation;
-use wait_pages::{draw, page};
-use xpt_state::History;
 
 /// What is done with a trace.
 #[derive(Clone, Copy)]

@@ -1,7 +1,7 @@
 -- What one arc of what can be changed does to a cell and the cells under it.
 use Rattle.std.proofs.Common.{◌≡◌, ℕ, ◌+◌, ◌/◌, ◌%◌, ◌<◌, ◌≤◌, ◌==◌, ◌&&◌, ◌||◌, ◌⊎◌, Bool, true, false, cond, None, refl, sym, ap, ◌∙◌, subst, inl, inr, arith}
 use Rattle.std.proofs.lemmas.Bool.{cases_lt, cases_Bool, eq-eqb, eqb-true, and_left, and_parts}
-use Rattle.gaining_cycle.specs.declared.arc.Arc.{Arc}
+use Rattle.negative_cycle.specs.declared.arc.Arc.{Arc}
 use Rattle.round_net.specs.Instance.{Instance, rows}
 use Rattle.round_net.specs.Sound.{IsSound}
 use Rattle.round_net.specs.Schedules.{IsAdmissible, load}

@@ -4,7 +4,7 @@ use Rattle.std.specs.List.{All, sum_by}
 use Rattle.std.proofs.lemmas.List.{length-set, get_or-set_other}
 use Rattle.std.proofs.lemmas.List.Sums.{sum_by-cons}
 use Rattle.std.proofs.lemmas.List.Elements.{All-head, All-tail}
-use Rattle.gaining_cycle.specs.declared.arc.Arc.{Arc}
+use Rattle.negative_cycle.specs.declared.arc.Arc.{Arc}
 use Rattle.round_net.specs.Sums.{sum_below}
 use Rattle.round_net.specs.Instance.{Instance}
 use Rattle.cost_plan.specs.Cells.{rounds_of}

@@ -5,9 +5,9 @@ use Rattle.std.proofs.lemmas.Bool.{cases_eq, eq-eqb}
 use Rattle.std.proofs.lemmas.List.{get_or-set_same, get_or-set_other}
 use Rattle.std.proofs.lemmas.List.Sums.{sum_by-cons}
 use Rattle.std.proofs.lemmas.List.Elements.{All-head, All-tail}
-use Rattle.gaining_cycle.specs.declared.arc.Arc.{Arc}
-use Rattle.gaining_cycle.specs.Walks.{IsGainingCycle}
-use Rattle.gaining_cycle.proofs.CycleLemmas.{telescope}
+use Rattle.negative_cycle.specs.declared.arc.Arc.{Arc}
+use Rattle.negative_cycle.specs.Walks.{IsGainingCycle}
+use Rattle.negative_cycle.proofs.CycleLemmas.{telescope}
 use Rattle.round_net.specs.Instance.{Instance, rows}
 use Rattle.round_net.specs.Schedules.{IsAdmissible, load, cost}
 use Rattle.round_net.specs.Sound.{IsSound}

@@ -1,8 +1,8 @@
 -- What raising labels by what can be changed does.
 use Rattle.std.specs.Prelude.{◌≡◌, ℕ, ◌<◌, ◌≤◌, ◌⊎◌, Option, Some, None, length}
-use Rattle.gaining_cycle.specs.declared.arc.Arc.{Arc}
-use Rattle.gaining_cycle.specs.Walks.{came_by}
-use Rattle.gaining_cycle.specs.Labelling.{Labelling, label_of, limit, IsSettled}
+use Rattle.negative_cycle.specs.declared.arc.Arc.{Arc}
+use Rattle.negative_cycle.specs.Walks.{came_by}
+use Rattle.negative_cycle.specs.Labelling.{Labelling, label_of, limit, IsSettled}
 use Rattle.round_net.specs.Instance.{Instance}
 use Rattle.round_net.specs.Schedules.{load}
 use Rattle.cost_plan.specs.Residual.{IsResidual, move_arc, take_arc, give_arc}

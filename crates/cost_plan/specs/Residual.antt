@@ -2,7 +2,7 @@
 -- gives one up.
 use Rattle.std.specs.Prelude.{◌≡◌, ℕ, ◌+◌, ◌*◌, ◌%◌, ◌<◌, ◌≤◌, ◌⊎◌, List, Option, Some, None, fold, slice_set}
 use Rattle.std.specs.List.{All}
-use Rattle.gaining_cycle.specs.declared.arc.Arc.{Arc}
+use Rattle.negative_cycle.specs.declared.arc.Arc.{Arc}
 use Rattle.round_net.specs.Instance.{Instance, rows}
 use Rattle.round_net.specs.Schedules.{load}
 use Rattle.cost_plan.specs.Cells.{cell, above}

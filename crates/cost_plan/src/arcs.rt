@@ -8,12 +8,12 @@ ghost use Rattle.round_net.specs.Sound.{IsSound};
 ghost use Rattle.cost_plan.specs.Cells.{row_above, node_count};
 ghost use Rattle.cost_plan.specs.Draft.{IsDraftOf, schedule_of};
 ghost use Rattle.cost_plan.specs.Residual.{move_arc, take_arc, give_arc};
-ghost use Rattle.gaining_cycle.specs.declared.arc.TheConstants.{MOST_UP};
-ghost use Rattle.gaining_cycle.specs.declared.labels.TheConstants.{MOST_NODES};
+ghost use Rattle.negative_cycle.specs.declared.arc.TheConstants.{MOST_UP};
+ghost use Rattle.negative_cycle.specs.declared.labels.TheConstants.{MOST_NODES};
 
 use crate::cells::{node, node_above};
 use crate::draft::Draft;
-use gaining_cycle::Arc;
+use negative_cycle::Arc;
 use round_net::Net;
 
 /// How many stays a cell has.

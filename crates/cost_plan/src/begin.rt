@@ -12,10 +12,10 @@ ghost use Rattle.cost_plan.specs.Draft.{IsDraftOf, schedule_of};
 use crate::cells::nodes;
 use crate::draft::{Draft, draft_of, live_draft};
 use crate::problem::{all_stays, problem_of};
-use gaining_cycle::Labels;
+use negative_cycle::Labels;
 use round_net::Net;
+use shortest_paths::guess;
 use std::alloc::{AllocError, Global};
-use waiting_network::guess;
 
 /// A draft, and labels that are meant to settle all that can be changed in it.
 #[derive(Drop)]

@@ -6,7 +6,7 @@ ghost use Rattle.round_net.specs.Instance.{rows};
 ghost use Rattle.round_net.specs.Rows.{instance_of_rows, live_of_rows};
 ghost use Rattle.round_net.specs.Sound.{IsSound};
 ghost use Rattle.cost_plan.specs.Cells.{cell, adapter_above, row_above, node_of, node_count};
-ghost use Rattle.gaining_cycle.specs.declared.labels.TheConstants.{MOST_NODES};
+ghost use Rattle.negative_cycle.specs.declared.labels.TheConstants.{MOST_NODES};
 
 use round_net::Net;
 

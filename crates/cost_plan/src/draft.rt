@@ -3,7 +3,7 @@
 
 ghost use Rattle.std.specs.Prelude.{◌≡◌, ℕ, ◌+◌, ◌*◌, ◌<◌, ◌≤◌, Some, length, slice_index, slice_set, IfOk};
 ghost use Rattle.std.specs.Option.{IfSome, IfNone};
-ghost use Rattle.gaining_cycle.specs.declared.arc.Arc.{Arc};
+ghost use Rattle.negative_cycle.specs.declared.arc.Arc.{Arc};
 ghost use Rattle.round_net.specs.Instance.{rows};
 ghost use Rattle.round_net.specs.Rows.{instance_of_rows, live_of_rows};
 ghost use Rattle.round_net.specs.Schedules.{IsAdmissible};
@@ -15,7 +15,7 @@ ghost use Rattle.cam_types.specs.declared.maxima.TheConstants.{MOST_STAYS};
 
 use crate::cells::{node, row_above};
 use crate::keeping::{keep_caps, keep_windows};
-use gaining_cycle::Arc;
+use negative_cycle::Arc;
 use round_net::Net;
 use std::alloc::{AllocError, Global};
 

@@ -12,8 +12,8 @@ use crate::cells::node;
 use crate::part_name::{part_of_row, part_of_stay};
 use crate::problem::problem_of_part;
 use round_net::Net;
+use shortest_paths::{Guess, guess};
 use std::alloc::{AllocError, Global};
-use waiting_network::{Guess, guess};
 
 /// A guess at a best plan of a part's stays.
 #[derive(Drop)]

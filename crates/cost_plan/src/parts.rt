@@ -16,7 +16,7 @@ use crate::draft::{draft_of, live_rounds};
 use crate::gate::Gate;
 use crate::part::{Part, guess_part, put_labels, put_rounds};
 use crate::part_name::has_stay;
-use gaining_cycle::Labels;
+use negative_cycle::Labels;
 use round_net::Net;
 use std::alloc::{AllocError, Global};
 use std::thread::{Threads, map_indices};

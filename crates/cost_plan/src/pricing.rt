@@ -2,7 +2,7 @@
 //! 1,000,000,000,000.
 
 ghost use Rattle.std.specs.Prelude.{◌≡◌, ◌+◌, ◌<◌, ◌≤◌, length, IfOk};
-ghost use Rattle.gaining_cycle.specs.Labelling.{label_of};
+ghost use Rattle.negative_cycle.specs.Labelling.{label_of};
 ghost use Rattle.round_net.specs.Instance.{rows};
 ghost use Rattle.round_net.specs.Rows.{instance_of_rows};
 ghost use Rattle.round_net.specs.PriceRows.{pricing_of_rows, IsPricingFor};
@@ -10,7 +10,7 @@ ghost use Rattle.cost_plan.specs.Cells.{row_above, node_count};
 ghost use Rattle.cost_plan.specs.RowPrices.{row_price, PricesRows};
 
 use crate::cells::{node, node_above, row_above};
-use gaining_cycle::Labels;
+use negative_cycle::Labels;
 use round_net::{Net, Prices};
 use std::alloc::{AllocError, Global};
 

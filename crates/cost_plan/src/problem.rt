@@ -9,8 +9,8 @@ ghost use Rattle.round_net.specs.Sound.{IsSound};
 use crate::cells::row_above;
 use crate::part_name::{part_of_row, part_of_stay};
 use round_net::Net;
+use shortest_paths::{Problem, Stay};
 use std::alloc::{AllocError, Global};
-use waiting_network::{Problem, Stay};
 
 /// What there is to plan of these stays: a row for each device, then for each adapter, then for each link. An adapter's is
 /// above those of its devices, and a link's above those of its adapters.

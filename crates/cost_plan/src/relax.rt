@@ -4,7 +4,7 @@ ghost use Rattle.std.specs.Prelude.{◌≡◌, ℕ, ◌+◌, ◌<◌, ◌≤◌,
 ghost use Rattle.round_net.specs.Instance.{rows};
 ghost use Rattle.round_net.specs.Rows.{instance_of_rows};
 ghost use Rattle.cost_plan.specs.Cells.{row_above, node_count};
-ghost use Rattle.gaining_cycle.specs.Labelling.{label_of};
+ghost use Rattle.negative_cycle.specs.Labelling.{label_of};
 ghost use Rattle.cost_plan.specs.RowPrices.{SettlesAll};
 ghost use Rattle.cost_plan.specs.Draft.{IsDraftOf, schedule_of};
 ghost use Rattle.cost_plan.specs.Raising.{Raises, SettlesMoves, SettlesTake, SettlesGive, SettlesCell, SettlesRow};
@@ -12,7 +12,7 @@ ghost use Rattle.cost_plan.specs.Raising.{Raises, SettlesMoves, SettlesTake, Set
 use crate::arcs::{giving, load, moving, taking};
 use crate::cells::row_above;
 use crate::draft::Draft;
-use gaining_cycle::{Arc, Labels};
+use negative_cycle::{Arc, Labels};
 use round_net::Net;
 
 /// Raises labels by the arc of one stay more in a cell, where it has room. The row above its own is given.

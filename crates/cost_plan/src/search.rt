@@ -3,8 +3,8 @@
 ghost use Rattle.std.specs.Prelude.{◌≡◌, length, drop, IfOk};
 ghost use Rattle.std.specs.List.{All};
 ghost use Rattle.std.specs.Option.{IfSome, IfNone};
-ghost use Rattle.gaining_cycle.specs.Walks.{IsGainingCycle};
-ghost use Rattle.gaining_cycle.specs.Labelling.{label_of};
+ghost use Rattle.negative_cycle.specs.Walks.{IsGainingCycle};
+ghost use Rattle.negative_cycle.specs.Labelling.{label_of};
 ghost use Rattle.round_net.specs.Rows.{instance_of_rows};
 ghost use Rattle.cost_plan.specs.Cells.{node_count};
 ghost use Rattle.cost_plan.specs.Draft.{IsDraftOf, schedule_of};
@@ -13,7 +13,7 @@ ghost use Rattle.cost_plan.specs.RowPrices.{SettlesAll};
 
 use crate::draft::Draft;
 use crate::relax::relax_all;
-use gaining_cycle::{Arc, Labels};
+use negative_cycle::{Arc, Labels};
 use round_net::Net;
 use std::alloc::AllocError;
 

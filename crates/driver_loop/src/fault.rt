@@ -1,7 +1,7 @@
 //! Why the loop ended early.
 
-use cam_event::Refusal;
 use cam_types::ConfigError;
+use event_rules::Refusal;
 use std::alloc::AllocError;
 use std::io;
 use thiserror::Error;

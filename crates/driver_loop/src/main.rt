@@ -5,13 +5,12 @@
 
 use crate::fault::Fault;
 use crate::lines::Lines;
-use cam_event::{CAM_BUSY, CAM_REQ_CMP, Class};
-use cam_types::{Config, Device, Flags, Limits, Outcome};
+use cam_types::{Config, Device, Flags, Limits, Outcome, Watched};
+use sense_class::{CAM_BUSY, CAM_REQ_CMP, Class};
 use std::alloc::Global;
 use std::process::ExitCode;
 use std::rt::Runtime;
 use std::{env, io};
-use text_io::Watched;
 use trace_file::write_trace;
 use xpt_state::{Case, Sent, Xpt};
 

@@ -3,7 +3,7 @@ use Rattle.std.proofs.Common.{◌≡◌, ◌≤◌, ◌<◌, ◌+◌, ◌-◌, �
 use Rattle.std.specs.Prelude.{◌==◌, Result, Ok, Err, codes, All, count_by}
 use Rattle.std.proofs.lemmas.List.{append_cancel_right, take-append-drop, get_or_append_left, length-replicate, length-append}
 use Rattle.std.proofs.lemmas.List.Elements.{All-append, All-replicate, All-get_or}
-use Rattle.cam_event.specs.Past.{Past}
+use Rattle.event_rules.specs.Past.{Past}
 use Rattle.round_net.specs.Rows.{NetRows, instance_of_rows, live_of_rows}
 use Rattle.round_net.specs.Sound.{IsSound}
 use Rattle.round_net.specs.declared.price_range.TheConstants.{MOST_PRICE}

@@ -4,9 +4,9 @@ use Rattle.std.specs.Prelude.{◌==◌, Option, None, Result, Ok, Err, codes, co
 use Rattle.std.proofs.lemmas.Bool.{eqb-true}
 use Rattle.std.proofs.lemmas.List.{take_all, length-take}
 use Rattle.cam_types.specs.Topology.{IsConfig}
-use Rattle.text_io.specs.Whole.{IsWhole}
-use Rattle.cam_event.specs.Past.{Past}
-use Rattle.cam_event.specs.Stays.{unsent}
+use Rattle.cam_types.specs.Whole.{IsWhole}
+use Rattle.event_rules.specs.Past.{Past}
+use Rattle.event_rules.specs.Stays.{unsent}
 use Rattle.round_net.specs.Nets.{net_of}
 use Rattle.round_net.specs.Rows.{NetRows, instance_of_rows, live_of_rows}
 use Rattle.round_net.specs.Sound.{IsSound}

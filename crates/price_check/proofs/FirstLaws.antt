@@ -1,7 +1,7 @@
 -- a fault of a reading stands behind lines that begin some claim's report
 use Rattle.std.proofs.Common.{◌≡◌, ◌≤◌, ℕ, List, [], ◌++◌, length, drop, replicate, Bool, true, false, cond, refl, sym, ap, ◌∙◌, arith, append_assoc, append-nil}
 use Rattle.std.specs.Prelude.{⊤, Option, Some, None, Result, Ok, Err, ok_or, codes, nat_le}
-use Rattle.cam_event.specs.Past.{Past}
+use Rattle.event_rules.specs.Past.{Past}
 use Rattle.round_net.specs.Rows.{NetRows, instance_of_rows, live_of_rows}
 use Rattle.round_net.specs.Sound.{IsSound}
 use Rattle.round_net.specs.declared.price_range.TheConstants.{MOST_PRICE}

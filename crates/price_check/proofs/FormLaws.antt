@@ -4,7 +4,7 @@ use Rattle.std.specs.Prelude.{nat_lt, Option, Some, None, decimal, codes, slice_
 use Rattle.std.specs.Option.{option_map_or}
 use Rattle.cam_types.specs.declared.device.Device.{Device}
 use Rattle.cam_path.specs.Paths.{address_of, spelled}
-use Rattle.cam_event.specs.declared.stay.StayName.{StayName}
+use Rattle.event_rules.specs.declared.stay.Stay.{Stay}
 use Rattle.price_check.specs.Pieces.{◌>>=◌, skip, skip_number, found_number}
 use Rattle.price_check.specs.Lines.{line}
 use Rattle.price_check.specs.Report.{number_text, shared_text, row_text}
@@ -60,14 +60,14 @@ unfolding stated_line
 stated_line-framed word text at = two (λ begin. found_number most_stated text begin >>= λ number. skip (codes "\n") text number.1 >>= λ next. Some (number.0, next)) text word (codes " ") at
 
 -- a stay's line up to the round that is best for it, and behind that
-abbrev pub stay_front : StayName → ℕ → ℕ → List ℕ
+abbrev pub stay_front : Stay → ℕ → ℕ → List ℕ
 stay_front name arrival live =
     codes "stay" ++ (number_text name.ccb ++ (number_text name.attempt ++ (number_text arrival ++ (number_text live ++ codes " "))))
 
 abbrev pub stay_back : ℕ → List ℕ
 stay_back weight = number_text weight ++ codes "\n"
 
-pub named_stay-framed : (name : StayName) (arrival live weight : ℕ) (text : List ℕ) (at : ℕ) → named_stay name arrival live weight text at ≡ framed (stay_front name arrival live) (stay_back weight) 65535 text at
+pub named_stay-framed : (name : Stay) (arrival live weight : ℕ) (text : List ℕ) (at : ℕ) → named_stay name arrival live weight text at ≡ framed (stay_front name arrival live) (stay_back weight) 65535 text at
 unfolding named_stay skip_number
 named_stay-framed name arrival live weight text at =
     five (λ begin. found_number 65535 text begin >>= λ best. (skip (codes " ") text best.1 >>= λ x. skip (decimal weight) text x) >>= λ end. skip (codes "\n") text end >>= λ next. Some (best.0, next))

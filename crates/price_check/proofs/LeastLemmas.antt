@@ -6,7 +6,7 @@ use Rattle.std.proofs.lemmas.Bool.{or_cases, or_left, or_right, eqb-true, eq-eqb
 use Rattle.std.proofs.lemmas.Bool.Decides.{nat_tests}
 use Rattle.std.proofs.lemmas.List.{map-append}
 use Rattle.std.proofs.lemmas.List.Elements.{filter-append}
-use Rattle.cam_event.proofs.ListFacts.{range_with_len-push}
+use Rattle.event_rules.proofs.ListFacts.{range_with_len-push}
 use Rattle.round_net.specs.Sums.{least}
 use Rattle.price_check.specs.Least.{cheaper}
 

@@ -4,7 +4,7 @@ use Rattle.std.specs.Prelude.{⊤, Option, Some, None, ok_or, Result, Ok, Err, d
 use Rattle.std.proofs.lemmas.Bool.{leb-true, le-leb}
 use Rattle.std.proofs.lemmas.List.{drop_all, length-drop, length-map}
 use Rattle.std.proofs.lemmas.Option.{slice_get_cases}
-use Rattle.cam_event.specs.declared.stay.StayName.{StayName}
+use Rattle.event_rules.specs.declared.stay.Stay.{Stay}
 use Rattle.round_net.specs.Rows.{NetRows, instance_of_rows, live_of_rows, names_of_rows}
 use Rattle.round_net.specs.declared.stay_row.StayRow.{StayRow}
 use Rattle.price_check.specs.Pieces.{skip, line_of}
@@ -57,13 +57,13 @@ stay_form net s v = stay_line net (λ _. v) s
 regroup : (w c a r l s d n f rest : List ℕ) → (w ++ (c ++ (a ++ (r ++ (l ++ s))))) ++ (d ++ ((n ++ f) ++ rest)) ≡ (w ++ ((c ++ a) ++ (r ++ (l ++ ((s ++ d) ++ (n ++ f)))))) ++ rest
 regroup w c a r l s d n f rest = simp append_assoc
 
-parted : (net : NetRows) (s v : ℕ) (name : StayName) (rest : List ℕ) → slice_get (names_of_rows net) s ≡ Some name
+parted : (net : NetRows) (s v : ℕ) (name : Stay) (rest : List ℕ) → slice_get (names_of_rows net) s ≡ Some name
     → stay_front name ((instance_of_rows net).arrival s) (live_of_rows net s) ++ (decimal v ++ (stay_back ((instance_of_rows net).weight s) ++ rest)) ≡ stay_form net s v ++ rest
 unfolding stay_line name_text
 parted net s v name rest is = rw is (regroup (codes "stay") (number_text name.ccb) (number_text name.attempt) (number_text ((instance_of_rows net).arrival s)) (number_text (live_of_rows net s))
     (codes " ") (decimal v) (number_text ((instance_of_rows net).weight s)) (codes "\n") rest)
 
-pub own_named : (net : NetRows) (s : ℕ) (text : List ℕ) (at : ℕ) (name : StayName) → slice_get (names_of_rows net) s ≡ Some name
+pub own_named : (net : NetRows) (s : ℕ) (text : List ℕ) (at : ℕ) (name : Stay) → slice_get (names_of_rows net) s ≡ Some name
     → own_stay net s text at ≡ framed (stay_front name ((instance_of_rows net).arrival s) (live_of_rows net s)) (stay_back ((instance_of_rows net).weight s)) 65535 text at
 unfolding own_stay
 own_named net s text at name is = rw is (named_stay-framed name ((instance_of_rows net).arrival s) (live_of_rows net s) ((instance_of_rows net).weight s) text at)
@@ -79,14 +79,14 @@ stay_takes net text s at said e = by (slice_get (names_of_rows net) s) refl
     read : own_stay net s text at ≡ Some said
     read = ok_some (own_stay net s text at) (cond (is_some (any_stay text at)) (WrongStays (line_of text at)) (BadLine (line_of text at))) said e
 
-    by : (o : Option StayName) → slice_get (names_of_rows net) s ≡ o → (drop at text ≡ stay_form net s said.0 ++ drop said.1 text) × (said.0 ≤ 65535)
+    by : (o : Option Stay) → slice_get (names_of_rows net) s ≡ o → (drop at text ≡ stay_form net s said.0 ++ drop said.1 text) × (said.0 ≤ 65535)
     by (Some name) is =
         let a = framed_takes (stay_front name ((instance_of_rows net).arrival s) (live_of_rows net s)) (stay_back ((instance_of_rows net).weight s)) 65535 text at said (omega arith)
         (sym (own_named net s text at name is) ∙ read) in
         (a.0 ∙ parted net s said.0 name (drop said.1 text) is, a.1)
     by None is = let none = no_name net s text at is in absurd (cc)
 
-pub named : (net : NetRows) (s : ℕ) → s < (instance_of_rows net).stays → (name : StayName) × (slice_get (names_of_rows net) s ≡ Some name)
+pub named : (net : NetRows) (s : ℕ) → s < (instance_of_rows net).stays → (name : Stay) × (slice_get (names_of_rows net) s ≡ Some name)
 unfolding instance_of_rows names_of_rows
 named net s lt =
     let size = length-map net.stays (λ (row : StayRow). row.stay) in

@@ -6,17 +6,17 @@ use Rattle.std.specs.Option.{option_map_or}
 use Rattle.std.proofs.lemmas.Bool.{eq-eqb, ne_eqb}
 use Rattle.std.proofs.lemmas.List.{append_cancel_right, get_or-append-add}
 use Rattle.cam_types.specs.Topology.{Topology, IsConfig}
-use Rattle.text_io.specs.Whole.{IsWhole}
-use Rattle.text_io.specs.Number.{number_of}
+use Rattle.cam_types.specs.Whole.{IsWhole}
+use Rattle.cam_types.specs.Number.{number_of}
 use Rattle.cam_types.specs.declared.device.Device.{Device}
 use Rattle.cam_path.specs.Paths.{◌>>=◌, digits_at}
-use Rattle.cam_event.specs.Past.{Past}
-use Rattle.cam_event.specs.Counts.{round, commands}
-use Rattle.cam_event.specs.Live.{live_cost, live_part}
-use Rattle.cam_event.specs.Stays.{stays_begun, unsent}
-use Rattle.cam_event.specs.declared.event.Event.{Event}
-use Rattle.cam_event.specs.declared.stay.StayName.{StayName}
-use Rattle.cam_event.proofs.LiveLemmas.{live_cost_sent}
+use Rattle.event_rules.specs.Past.{Past}
+use Rattle.event_rules.specs.Counts.{round, commands}
+use Rattle.event_rules.specs.Live.{live_cost, live_part}
+use Rattle.event_rules.specs.Stays.{stays_begun, unsent}
+use Rattle.event_rules.specs.declared.event.Event.{Event}
+use Rattle.event_rules.specs.declared.stay.Stay.{Stay}
+use Rattle.event_rules.proofs.LiveLemmas.{live_cost_sent}
 use Rattle.round_net.specs.Nets.{net_of}
 use Rattle.round_net.specs.PriceRows.{pricing_of_rows}
 use Rattle.round_net.specs.Rows.{NetRows, instance_of_rows, live_of_rows}
@@ -43,7 +43,7 @@ some_rounds c es n e = rw e (omega arith)
 
 -- where each stay was sent the live schedule has a cost
 pub live_is_known : (c : Topology) (es : List Event) → unsent es ≡ None → (live : ℕ) × (live_cost c es ≡ Some live)
-live_is_known c es e = (sum_by (live_part c es) (stays_begun es), live_cost_sent c es (ap (λ (o : Option StayName). is_some o) e))
+live_is_known c es e = (sum_by (live_part c es) (stays_begun es), live_cost_sent c es (ap (λ (o : Option Stay). is_some o) e))
 
 pub live_not_unknown : (c : Topology) (es : List Event) → unsent es ≡ None → live_cost c es ≡ None → ⊥
 live_not_unknown c es e none = let known = (live_is_known c es e).1 in absurd (cc)

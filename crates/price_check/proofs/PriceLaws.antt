@@ -3,7 +3,7 @@ use Rattle.std.proofs.Common.{◌≡◌, ◌≤◌, ◌+◌, ℕ, List, ◌++◌
 use Rattle.std.specs.Prelude.{◌⊎◌, ◌==◌, Option, Some, None, option_map, ok_or, Result, Ok, Err, decimal, codes, nat_le, ◌&&◌}
 use Rattle.std.specs.Option.{option_map_or}
 use Rattle.std.specs.Result.{result_ok}
-use Rattle.text_io.specs.Number.{number_of}
+use Rattle.cam_types.specs.Number.{number_of}
 use Rattle.cam_path.specs.Paths.{number_at, digits_at}
 use Rattle.round_net.specs.declared.price_range.TheConstants.{MOST_PRICE}
 use Rattle.price_check.specs.Pieces.{skip, found_number, line_of}

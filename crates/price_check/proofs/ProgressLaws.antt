@@ -3,7 +3,7 @@ use Rattle.std.proofs.Common.{◌≡◌, ◌≤◌, ◌+◌, ℕ, List, [], ◌�
 use Rattle.std.specs.Prelude.{⊤, Ok, codes}
 use Rattle.std.proofs.lemmas.List.Elements.{All-get_or}
 use Rattle.cam_path.specs.Paths.{◌>>=◌}
-use Rattle.cam_event.specs.Past.{Past}
+use Rattle.event_rules.specs.Past.{Past}
 use Rattle.round_net.specs.Rows.{NetRows, instance_of_rows}
 use Rattle.price_check.specs.Reading.{summary_at, stay_at, cell_price_at, ended, reading}
 use Rattle.price_check.specs.Claims.{IsClaim, report_text}

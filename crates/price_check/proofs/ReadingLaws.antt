@@ -3,7 +3,7 @@ use Rattle.std.proofs.Common.{◌≡◌, ◌≤◌, ℕ, List, [], ◌++◌, tak
 use Rattle.std.specs.Prelude.{⊤, Result, Ok, codes, slice_index}
 use Rattle.std.proofs.lemmas.List.{take_all}
 use Rattle.std.proofs.lemmas.List.Elements.{All-get_or}
-use Rattle.cam_event.specs.Past.{Past}
+use Rattle.event_rules.specs.Past.{Past}
 use Rattle.round_net.specs.PriceRows.{PriceRows, pricing_of_rows, IsPricingFor}
 use Rattle.round_net.specs.Rows.{NetRows, instance_of_rows, live_of_rows}
 use Rattle.round_net.specs.Sound.{IsSound}

@@ -3,9 +3,9 @@ use Rattle.std.proofs.Common.{◌≡◌, ◌≤◌, ◌+◌, ◌*◌, ◌/◌, �
 use Rattle.std.specs.Prelude.{Ok, codes, slice_index}
 use Rattle.std.proofs.Math.Nat.{div-add-mod}
 use Rattle.cam_types.specs.declared.device.Device.{Device}
-use Rattle.cam_event.specs.Counts.{round, commands}
-use Rattle.cam_event.specs.Stays.{stays_begun}
-use Rattle.cam_event.specs.declared.event.Event.{Event}
+use Rattle.event_rules.specs.Counts.{round, commands}
+use Rattle.event_rules.specs.Stays.{stays_begun}
+use Rattle.event_rules.specs.declared.event.Event.{Event}
 use Rattle.round_net.specs.PriceRows.{PriceRows, pricing_of_rows, IsPricingFor}
 use Rattle.round_net.specs.Rows.{NetRows, cell, instance_of_rows}
 use Rattle.price_check.specs.Lines.{line}

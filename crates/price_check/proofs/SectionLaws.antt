@@ -6,11 +6,11 @@ use Rattle.std.specs.Option.{option_map_or}
 use Rattle.std.proofs.lemmas.Bool.{and_parts, eq-eqb}
 use Rattle.cam_types.specs.declared.device.Device.{Device}
 use Rattle.cam_path.specs.Paths.{◌>>=◌, spelled, address_of}
-use Rattle.cam_event.specs.Past.{Past}
-use Rattle.cam_event.specs.Counts.{round, commands}
-use Rattle.cam_event.specs.Stays.{stays_begun}
-use Rattle.cam_event.specs.declared.event.Event.{Event}
-use Rattle.cam_event.specs.declared.stay.StayName.{StayName}
+use Rattle.event_rules.specs.Past.{Past}
+use Rattle.event_rules.specs.Counts.{round, commands}
+use Rattle.event_rules.specs.Stays.{stays_begun}
+use Rattle.event_rules.specs.declared.event.Event.{Event}
+use Rattle.event_rules.specs.declared.stay.Stay.{Stay}
 use Rattle.round_net.specs.PriceRows.{pricing_of_rows, IsPricingFor}
 use Rattle.round_net.specs.Rows.{NetRows, instance_of_rows, live_of_rows, names_of_rows}
 use Rattle.price_check.specs.Lines.{line}
@@ -134,7 +134,7 @@ plain_name : (net : NetRows) (s : ℕ) → HasNoFeed (name_text net s)
 unfolding name_text
 plain_name net s = by (slice_get (names_of_rows net) s)
   where
-    by : (o : Option StayName) → HasNoFeed (option_map_or (λ (stay : StayName). number_text stay.ccb ++ number_text stay.attempt) o [])
+    by : (o : Option Stay) → HasNoFeed (option_map_or (λ (stay : Stay). number_text stay.ccb ++ number_text stay.attempt) o [])
     by (Some stay) = plain_append (number_text stay.ccb) (number_text stay.attempt) (plain_number stay.ccb) (plain_number stay.attempt)
     by None = tt
 

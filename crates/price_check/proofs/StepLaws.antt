@@ -3,10 +3,10 @@ use Rattle.std.proofs.Common.{◌≡◌, ◌≤◌, ◌<◌, ◌+◌, ◌/◌, �
 use Rattle.std.specs.Prelude.{◌==◌, ◌&&◌, ⊤, Option, Some, None, Result, Ok, Err, ok_or, option_map, codes, slice_get, is_some, nat_le}
 use Rattle.std.specs.Option.{option_map_or, option_and_then}
 use Rattle.std.specs.Result.{result_ok}
-use Rattle.text_io.specs.Number.{number_of}
+use Rattle.cam_types.specs.Number.{number_of}
 use Rattle.cam_types.specs.declared.device.Device.{Device}
 use Rattle.cam_path.specs.Paths.{◌>>=◌, number_at, digits_at}
-use Rattle.cam_event.specs.declared.stay.StayName.{StayName}
+use Rattle.event_rules.specs.declared.stay.Stay.{Stay}
 use Rattle.round_net.specs.Rows.{NetRows, instance_of_rows, live_of_rows, names_of_rows}
 use Rattle.round_net.specs.declared.price_range.TheConstants.{MOST_PRICE}
 use Rattle.price_check.specs.Pieces.{skip, found_number, line_of}
@@ -129,7 +129,7 @@ stated_exact word text at = due_exact text at behind_one (stated_line word text 
 
 -- ---- stays
 
-named_on : (net : NetRows) (text : List ℕ) (s at : ℕ) (o : Option StayName) (r : ℕ × ℕ)
+named_on : (net : NetRows) (text : List ℕ) (s at : ℕ) (o : Option Stay) (r : ℕ × ℕ)
     → option_and_then (λ name. named_stay name ((instance_of_rows net).arrival s) (live_of_rows net s) ((instance_of_rows net).weight s) text at) o ≡ Some r → at ≤ r.1
 named_on net text s at None r h = absurd cc
 named_on net text s at (Some name) r h =

@@ -1,11 +1,11 @@
 -- Reports of claims, and what a reader of reports answers.
 use Rattle.std.specs.Prelude.{◌≡◌, ℕ, ◌≤◌, ◌-◌, ◌⊎◌, ⊤, Bool, true, List, ◌++◌, length, take, slice_index, All, Option, Some, Err, codes}
 use Rattle.std.specs.List.{AllByRecursion}
-use Rattle.text_io.specs.Whole.{IsWhole, IsTooLong}
+use Rattle.cam_types.specs.Whole.{IsWhole, IsTooLong}
 use Rattle.cam_types.specs.declared.maxima.TheConstants.{MOST_BYTES}
 use Rattle.cam_types.specs.declared.device.Device.{Device}
-use Rattle.cam_event.specs.Past.{Past}
-use Rattle.cam_event.specs.Live.{live_cost}
+use Rattle.event_rules.specs.Past.{Past}
+use Rattle.event_rules.specs.Live.{live_cost}
 use Rattle.round_net.specs.Instance.{Instance}
 use Rattle.round_net.specs.PriceRows.{pricing_of_rows, IsPriced, IsPricingFor}
 use Rattle.round_net.specs.Rows.{NetRows, instance_of_rows}

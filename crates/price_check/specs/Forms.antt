@@ -2,7 +2,7 @@
 use Rattle.std.specs.Prelude.{ℕ, ◌-◌, nat_lt, if◌then◌else◌, List, length, Option, Some, codes, decimal, option_and_then, slice_get}
 use Rattle.std.specs.Option.{option_map_or}
 use Rattle.cam_types.specs.declared.device.Device.{Device}
-use Rattle.cam_event.specs.declared.stay.StayName.{StayName}
+use Rattle.event_rules.specs.declared.stay.Stay.{Stay}
 use Rattle.round_net.specs.Rows.{NetRows, instance_of_rows, live_of_rows, names_of_rows}
 use Rattle.price_check.specs.Pieces.{◌>>=◌, skip, skip_number, found_number}
 
@@ -27,7 +27,7 @@ stated_line word text at = do
   Some (number.0, next)
 
 -- the line of a stay of this name, arrival, live round and weight, with a round that is best for it
-unfoldable pub named_stay : StayName → ℕ → ℕ → ℕ → List ℕ → ℕ → Option (ℕ × ℕ)
+unfoldable pub named_stay : Stay → ℕ → ℕ → ℕ → List ℕ → ℕ → Option (ℕ × ℕ)
 named_stay name arrival live weight text at = do
   word ← skip (codes "stay") text at
   ccb ← skip_number name.ccb text word

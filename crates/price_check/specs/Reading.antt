@@ -1,12 +1,12 @@
 -- How a text is read as a report: line by line, each the one that is due behind those before it.
 use Rattle.std.specs.Prelude.{ℕ, zero, suc, ◌+◌, ◌-◌, ◌*◌, ◌/◌, ◌%◌, ◌==◌, Bool, not, nat_le, nat_lt, ◌&&◌, if◌then◌else◌, List, [], ◌∷◌, ◌++◌, length, take, drop, slice_index, Option, is_some, ok_or, Result, Ok, Err, codes, ⊤}
 use Rattle.std.specs.Option.{option_map_or}
-use Rattle.text_io.specs.Number.{has_leading_zero, number_of}
+use Rattle.cam_types.specs.Number.{has_leading_zero, number_of}
 use Rattle.cam_types.specs.declared.device.Device.{Device}
 use Rattle.cam_path.specs.Paths.{◌>>=◌, digits_at}
-use Rattle.cam_event.specs.Counts.{round, commands}
-use Rattle.cam_event.specs.Stays.{stays_begun}
-use Rattle.cam_event.specs.declared.event.Event.{Event}
+use Rattle.event_rules.specs.Counts.{round, commands}
+use Rattle.event_rules.specs.Stays.{stays_begun}
+use Rattle.event_rules.specs.declared.event.Event.{Event}
 use Rattle.round_net.specs.Instance.{rows}
 use Rattle.round_net.specs.Rows.{NetRows, instance_of_rows}
 use Rattle.round_net.specs.declared.price_range.TheConstants.{MOST_PRICE}

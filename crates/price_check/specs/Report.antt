@@ -3,10 +3,10 @@ use Rattle.std.specs.Prelude.{ℕ, zero, suc, ◌+◌, ◌-◌, ◌==◌, nat_lt
 use Rattle.std.specs.Option.{option_map_or}
 use Rattle.cam_types.specs.declared.device.Device.{Device}
 use Rattle.cam_path.specs.Paths.{address_of, spelled}
-use Rattle.cam_event.specs.Counts.{round, commands}
-use Rattle.cam_event.specs.Stays.{stays_begun}
-use Rattle.cam_event.specs.declared.event.Event.{Event}
-use Rattle.cam_event.specs.declared.stay.StayName.{StayName}
+use Rattle.event_rules.specs.Counts.{round, commands}
+use Rattle.event_rules.specs.Stays.{stays_begun}
+use Rattle.event_rules.specs.declared.event.Event.{Event}
+use Rattle.event_rules.specs.declared.stay.Stay.{Stay}
 use Rattle.round_net.specs.Instance.{Instance, rows}
 use Rattle.round_net.specs.Rows.{NetRows, instance_of_rows, live_of_rows, names_of_rows}
 use Rattle.round_net.specs.Value.{Pricing}
@@ -35,7 +35,7 @@ texts_below (suc n) text = texts_below n text ++ text n
 
 -- a stay's CCB and try
 unfoldable pub name_text : NetRows → ℕ → List ℕ
-name_text net s = option_map_or (λ (stay : StayName). number_text stay.ccb ++ number_text stay.attempt) (slice_get (names_of_rows net) s) []
+name_text net s = option_map_or (λ (stay : Stay). number_text stay.ccb ++ number_text stay.attempt) (slice_get (names_of_rows net) s) []
 
 -- a stay: its CCB and try, the rounds in which it arrived, was sent and would best be sent, and its weight
 unfoldable pub stay_line : NetRows → (ℕ → ℕ) → ℕ → List ℕ

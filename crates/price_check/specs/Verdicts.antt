@@ -1,6 +1,6 @@
 -- what a checker answers
 use Rattle.std.specs.Prelude.{◌≡◌, ℕ, ◌+◌, ◌<◌, ◌≤◌, List, Some, slice_get}
-use Rattle.cam_event.specs.declared.stay.StayName.{StayName}
+use Rattle.event_rules.specs.declared.stay.Stay.{Stay}
 use Rattle.round_net.specs.Instance.{Instance}
 use Rattle.round_net.specs.Schedules.{IsAdmissible, cost}
 use Rattle.round_net.specs.Value.{Pricing, paid, offered, ProvesBest}
@@ -16,13 +16,13 @@ pub record IsGap (net : Instance) (f : ℕ → ℕ) (p : Pricing) (gap : ℕ) : 
   pub above : cost net f + offered net p ≡ paid net p + gap
 
 -- the stay of this name is the first one with whose place something is wrong
-pub record IsRefused (net : Instance) (names : List StayName) (f : ℕ → ℕ) (stay : StayName) (cause : Cause) : Type 0 where
+pub record IsRefused (net : Instance) (names : List Stay) (f : ℕ → ℕ) (stay : Stay) (cause : Cause) : Type 0 where
   pub number : ℕ
   pub named : slice_get names number ≡ Some stay
   pub first : IsFirstFault net f number cause
 
 -- what a verdict on a schedule and prices means, where these are the stays
-abbrev pub Means : Instance → List StayName → (ℕ → ℕ) → Pricing → Verdict → Type 0
+abbrev pub Means : Instance → List Stay → (ℕ → ℕ) → Pricing → Verdict → Type 0
 Means net names f p Proved = ProvesBest net f p
 Means net names f p (Gap gap) = IsGap net f p gap
 Means net names f p (NotAdmissible stay cause) = IsRefused net names f stay cause

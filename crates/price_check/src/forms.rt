@@ -5,8 +5,8 @@ ghost use Rattle.round_net.specs.Rows.{instance_of_rows};
 ghost use Rattle.price_check.specs.Forms.{known_line, stated_line, named_stay, own_stay, small_number, any_stay, dev_front, number_front, shared_front, price_front};
 
 use crate::pieces::{number_at, skip, skip_digits, skip_number};
-use cam_event::StayName;
 use cam_types::Device;
+use event_rules::Stay;
 use round_net::Net;
 
 /// The most that may be said of a cost: 18 digits.
@@ -63,7 +63,7 @@ pub(crate) fn own_stay(text: &[u8], at: usize, net: &Net, stay: u32) -> Option<(
 fn named_stay(
     text: &[u8],
     at: usize,
-    name: StayName,
+    name: Stay,
     arrival: u32,
     live: u32,
     weight: u32,

@@ -4,8 +4,8 @@ ghost use Rattle.std.specs.Prelude.{◌≡◌, ◌<◌, ◌≤◌, ◌+◌, ◌^
 ghost use Rattle.cam_path.specs.Paths.{digits_at};
 ghost use Rattle.price_check.specs.Pieces.{skip, skip_number, found_number, line_of};
 
+use cam_types::read_number;
 use itoa::Buffer;
-use text_io::read_number;
 
 /// The offset behind a piece that stands at this one.
 #[tactic(auto, unfolding(crate::specs::Pieces::skip))]

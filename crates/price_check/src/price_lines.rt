@@ -9,10 +9,9 @@ ghost use Rattle.round_net.specs.declared.price_range.TheConstants.{MOST_PRICE};
 use crate::forms::price_front;
 use crate::pieces::{digits_from, line_of, skip};
 use crate::report_fault::ReportFault;
-use cam_types::Device;
+use cam_types::{Device, read_number};
 use round_net::{MOST_PRICE, Net};
 use std::alloc::Global;
-use text_io::read_number;
 
 /// How many bytes a line may have, its line feed included.
 const MOST_LINE: usize = 101;

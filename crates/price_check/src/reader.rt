@@ -3,11 +3,11 @@
 ghost use Rattle.std.specs.Prelude.{◌≡◌, ◌≢◌, ℕ, ◌<◌, ◌≤◌, ◌^◌, false, None, Some, Ok, Err, length, IfOk, IfErr, IfSome, OnOk};
 ghost use Rattle.std.specs.List.{AllByRecursion};
 ghost use Rattle.cam_types.specs.Topology.{IsConfig};
-ghost use Rattle.text_io.specs.Watched.{device_of, has_failed};
+ghost use Rattle.cam_types.specs.Watched.{device_of, has_failed};
 ghost use Rattle.cam_types.specs.declared.device.Device.{Device};
 ghost use Rattle.cam_types.specs.declared.maxima.TheConstants.{MOST_BYTES};
-ghost use Rattle.cam_event.specs.Live.{live_cost};
-ghost use Rattle.cam_event.specs.Stays.{unsent};
+ghost use Rattle.event_rules.specs.Live.{live_cost};
+ghost use Rattle.event_rules.specs.Stays.{unsent};
 ghost use Rattle.round_net.specs.Nets.{net_of};
 ghost use Rattle.round_net.specs.Rows.{instance_of_rows, live_of_rows};
 ghost use Rattle.round_net.specs.Sound.{IsSound};
@@ -21,12 +21,11 @@ use crate::price_lines::read_prices;
 use crate::report_fault::ReportFault;
 use crate::stay_lines::read_stays;
 use crate::summary::read_summary;
-use cam_types::Device;
+use cam_event::History;
+use cam_types::{Device, Watched, WholeFault, read_whole};
 use round_net::{Net, Prices, Schedule};
 use std::alloc::{AllocError, Global};
 use std::io::Read;
-use text_io::{Watched, WholeFault, read_whole};
-use xpt_state::History;
 
 /// Reads a report on a complete history and its net to the end of the input, whoever made it. A fault of the text names
 /// its first faulty line, counted from 1, and why: the lines before it begin the report of some claim about the history,

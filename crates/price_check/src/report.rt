@@ -9,11 +9,11 @@ ghost use Rattle.price_check.specs.Report.{summary_text, number_text, texts_belo
 ghost use Rattle.cam_types.specs.declared.maxima.TheConstants.{MOST_STAYS, MOST_ROUNDS, MOST_DEVICES, MOST_ADAPTERS, MOST_LINKS};
 
 use crate::text::{push_line, push_name, push_number};
+use cam_event::History;
 use cam_path::CamPath;
 use cam_types::Device;
 use round_net::{Net, Prices, Schedule};
 use std::alloc::AllocError;
-use xpt_state::History;
 
 /// Puts the report's first seven lines behind the text: the counts of the history, and in weighted rounds what its live
 /// schedule cost, what a best one costs and by how much the live one is above it. It fails only if there is no memory.

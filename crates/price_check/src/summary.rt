@@ -7,7 +7,7 @@ ghost use Rattle.price_check.specs.Reading.{due, summary_at};
 use crate::forms::{known_line, stated_line};
 use crate::pieces::line_of;
 use crate::report_fault::ReportFault;
-use xpt_state::History;
+use cam_event::History;
 
 /// What the first seven lines say of the cost and of the excess, and the offset behind them.
 #[tactic(auto, unfolding(crate::specs::Reading::summary_at))]

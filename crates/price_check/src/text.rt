@@ -4,7 +4,7 @@ ghost use Rattle.std.specs.Prelude.{◌≡◌, ◌+◌, ◌≤◌, ◌++◌, len
 ghost use Rattle.price_check.specs.Lines.{line};
 ghost use Rattle.price_check.specs.Report.{number_text};
 
-use cam_event::StayName;
+use event_rules::Stay;
 use itoa::Buffer;
 use std::alloc::AllocError;
 
@@ -32,7 +32,7 @@ pub fn push_number(text: &mut Vec<u8>, number: u64) -> Result<(), AllocError>
 }
 
 /// Puts a stay's CCB and try behind the text, each behind a space. It fails only if there is no memory.
-pub fn push_name(text: &mut Vec<u8>, stay: StayName) -> Result<(), AllocError>
+pub fn push_name(text: &mut Vec<u8>, stay: Stay) -> Result<(), AllocError>
     ensures text { OnOk result (text.new.items ≡ text.old.items ++ (number_text stay.ccb ++ number_text stay.attempt)) }
     ensures short { OnOk result (length text.new.items ≤ length text.old.items + 82) }
 {

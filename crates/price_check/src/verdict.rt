@@ -1,6 +1,6 @@
 //! What the check of a schedule and its prices answers.
 
-use cam_event::StayName;
+use event_rules::Stay;
 
 /// What is wrong with a stay's place in a schedule.
 #[derive(Clone, Copy, Debug, PartialEq, Eq)]
@@ -25,5 +25,5 @@ pub enum Verdict {
     /// The schedule is admissible, but costs so much more than the prices are worth.
     Gap(u128),
     /// The schedule isn't admissible: the first stay, in order of birth, with whose place something is wrong.
-    NotAdmissible(StayName, Cause),
+    NotAdmissible(Stay, Cause),
 }

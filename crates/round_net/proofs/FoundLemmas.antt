@@ -6,14 +6,14 @@ use Rattle.std.proofs.lemmas.List.{take_all}
 use Rattle.cam_types.specs.Topology.{Topology}
 use Rattle.cam_types.specs.declared.adapter.Adapter.{Adapter}
 use Rattle.cam_types.specs.declared.device.Device.{Device}
-use Rattle.cam_event.specs.Event.{is_send_of}
-use Rattle.cam_event.specs.Counts.{round}
-use Rattle.cam_event.specs.Stays.{stays_begun, is_unsent}
-use Rattle.cam_event.specs.Live.{send_place, live_round}
-use Rattle.cam_event.specs.declared.event.Event.{Event}
-use Rattle.cam_event.specs.declared.stay.Stay.{Stay}
-use Rattle.cam_event.proofs.LimitLemmas.{round_first}
-use Rattle.xpt_stays.specs.Records.{next_stay, record_of, records}
+use Rattle.event_rules.specs.Event.{is_send_of}
+use Rattle.event_rules.specs.Counts.{round}
+use Rattle.event_rules.specs.Stays.{stays_begun, is_unsent}
+use Rattle.event_rules.specs.Live.{send_place, live_round}
+use Rattle.event_rules.specs.declared.event.Event.{Event}
+use Rattle.event_rules.specs.declared.passage.Passage.{Passage}
+use Rattle.event_rules.proofs.LimitLemmas.{round_first}
+use Rattle.xpt_core.specs.Records.{next_stay, record_of, records}
 use Rattle.round_net.specs.Rows.{NetRows, cell}
 use Rattle.round_net.specs.Caps.{row_count, is_free, openings_in, sends_in, cap}
 use Rattle.round_net.specs.Nets.{last_round, stay_row, row_of, table, net_of}
@@ -21,25 +21,25 @@ use Rattle.round_net.specs.Marks.{AreCaps, IsNoted, HasCells}
 use Rattle.round_net.specs.declared.stay_row.StayRow.{StayRow}
 use Rattle.round_net.proofs.NetLemmas.{net_of_parts}
 use Rattle.round_net.proofs.CellLemmas.{cell_within}
-use Rattle.xpt_stays.proofs.SentLemmas.{first_past, unsent_none}
+use Rattle.xpt_core.proofs.SentLemmas.{first_past, unsent_none}
 use Rattle.round_net.proofs.TableLemmas.{table_by_cells}
 
 -- a stay without a send counts as sent in the last round
-live_round-unsent : (es : List Event) (p : Stay) → is_unsent es p ≡ true → live_round es p ≡ round es
+live_round-unsent : (es : List Event) (p : Passage) → is_unsent es p ≡ true → live_round es p ≡ round es
 unfolding send_place
 live_round-unsent es p unsent =
     let past = first_past (is_send_of p.ccb) (drop (p.place + 1) es) (unsent_none es p unsent) in
     ap round (take_all (send_place es p) es (omega (arith, past, length-drop (p.place + 1) es)))
 
-live_cases : (es : List Event) (p : Stay) (b : Bool) → is_unsent es p ≡ b → unwrap_or (cond b None (Some (live_round es p))) (round es) ≡ live_round es p
+live_cases : (es : List Event) (p : Passage) (b : Bool) → is_unsent es p ≡ b → unwrap_or (cond b None (Some (live_round es p))) (round es) ≡ live_round es p
 live_cases es p true unsent = sym (live_round-unsent es p unsent)
 live_cases es p false sent = refl
 
-last_cases : (o : Option Stay) (n : ℕ) → option_map_or (λ arrival. arrival - 1) (option_map (λ (q : Stay). q.arrival) o) n ≡ option_map_or (λ (q : Stay). q.arrival - 1) o n
+last_cases : (o : Option Passage) (n : ℕ) → option_map_or (λ arrival. arrival - 1) (option_map (λ (q : Passage). q.arrival) o) n ≡ option_map_or (λ (q : Passage). q.arrival - 1) o n
 last_cases None n = refl
 last_cases (Some q) n = refl
 
-row_of-record : (c : Topology) (es : List Event) (p : Stay) → row_of c (round es) (record_of es p) ≡ stay_row c es p
+row_of-record : (c : Topology) (es : List Event) (p : Passage) → row_of c (round es) (record_of es p) ≡ stay_row c es p
 unfolding stay_row last_round
 row_of-record c es p = rw (live_cases es p (is_unsent es p) refl, last_cases (next_stay (stays_begun es) p) (round es)) refl
 

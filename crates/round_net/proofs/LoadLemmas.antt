@@ -6,27 +6,27 @@ use Rattle.std.proofs.lemmas.Option.{slice_get-get_or}
 use Rattle.std.proofs.lemmas.List.Sums.{AllPass-from_list_all}
 use Rattle.std.proofs.Math.Bool.{and-false}
 use Rattle.cam_types.specs.Topology.{Topology}
-use Rattle.cam_event.specs.Event.{is_some_and, is_send_of}
-use Rattle.cam_event.specs.Counts.{round, commands, submissions, submission, sendings, sending_of}
-use Rattle.cam_event.specs.Stays.{stays_begun, stay_begun, is_unsent, waiting}
-use Rattle.cam_event.specs.Live.{live_round}
-use Rattle.cam_event.specs.declared.event.Event.{Event}
-use Rattle.cam_event.specs.declared.event.Event.TheVariants.{Send}
-use Rattle.cam_event.specs.declared.submission.Submission.{Submission}
-use Rattle.cam_event.specs.declared.stay.Stay.{Stay}
-use Rattle.cam_event.specs.declared.sending.Sending.{Sending}
-use Rattle.cam_event.proofs.PushLaws.{is_unsent-push, born_unsent, stays_begun-push, sendings-push, places-stays_begun, place-stay_begun}
-use Rattle.cam_event.specs.Legal.{Rules, is_legal_event, is_legal}
-use Rattle.cam_event.specs.Laws.{is_stay_of}
-use Rattle.cam_event.proofs.LimitLemmas.{legal-induction}
-use Rattle.cam_event.proofs.StayLemmas.{is_of_its_ccb, of_its_ccb-stays_begun}
+use Rattle.event_rules.specs.Event.{is_some_and, is_send_of}
+use Rattle.event_rules.specs.Counts.{round, commands, submissions, submission, sendings, sending_of}
+use Rattle.event_rules.specs.Stays.{stays_begun, stay_begun, is_unsent, waiting}
+use Rattle.event_rules.specs.Live.{live_round}
+use Rattle.event_rules.specs.declared.event.Event.{Event}
+use Rattle.event_rules.specs.declared.event.Event.TheVariants.{Send}
+use Rattle.event_rules.specs.declared.submission.Submission.{Submission}
+use Rattle.event_rules.specs.declared.passage.Passage.{Passage}
+use Rattle.event_rules.specs.declared.sending.Sending.{Sending}
+use Rattle.event_rules.proofs.PushLaws.{is_unsent-push, born_unsent, stays_begun-push, sendings-push, places-stays_begun, place-stay_begun}
+use Rattle.event_rules.specs.Legal.{Rules, is_legal_event, is_legal}
+use Rattle.event_rules.specs.Laws.{is_stay_of}
+use Rattle.event_rules.proofs.LimitLemmas.{legal-induction}
+use Rattle.event_rules.proofs.StayLemmas.{is_of_its_ccb, of_its_ccb-stays_begun}
 use Rattle.round_net.proofs.CountLemmas.{count_by-append, count_by-same, count_by-none, count_by-either, count_by-weaker, count_by-filter}
-use Rattle.xpt_stays.proofs.SentLemmas.{live_round-sent, live_round-sending}
-use Rattle.cam_event.proofs.TotalLaws.{is_of, unsent_count}
-use Rattle.cam_event.proofs.StandLemmas.{AreStates, asks-send, unsent-most, states_step, states_none}
+use Rattle.xpt_core.proofs.SentLemmas.{live_round-sent, live_round-sending}
+use Rattle.event_rules.proofs.TotalLaws.{is_of, unsent_count}
+use Rattle.event_rules.proofs.StandLemmas.{AreStates, asks-send, unsent-most, states_step, states_none}
 
 -- the stay was sent in the round, to a device that the test takes
-unfoldable pub was_sent : (ℕ → Bool) → List Event → ℕ → Stay → Bool
+unfoldable pub was_sent : (ℕ → Bool) → List Event → ℕ → Passage → Bool
 was_sent f es r p = not (is_unsent es p) && (f p.device && (live_round es p == r))
 
 -- a send in the round, to a device that the test takes
@@ -34,7 +34,7 @@ abbrev pub goes : (ℕ → Bool) → ℕ → Sending → Bool
 goes f r s = f s.device && (s.round == r)
 
 -- it waits, and the event sends it, in the round and to such a device
-is_sending : (ℕ → Bool) → List Event → Event → ℕ → Stay → Bool
+is_sending : (ℕ → Bool) → List Event → Event → ℕ → Passage → Bool
 is_sending f es e r p = (is_unsent es p && is_send_of p.ccb e) && (f p.device && (round es == r))
 
 or_false : (b : Bool) → b ≡ (b || false)
@@ -42,7 +42,7 @@ or_false true = refl
 or_false false = refl
 
 -- it was sent so far, or the event sends it
-was_sent-push : (f : ℕ → Bool) (es : List Event) (e : Event) (r : ℕ) (p : Stay) → p.place < length es → was_sent f (es ++ e ∷ []) r p ≡ (was_sent f es r p || is_sending f es e r p)
+was_sent-push : (f : ℕ → Bool) (es : List Event) (e : Event) (r : ℕ) (p : Passage) → p.place < length es → was_sent f (es ++ e ∷ []) r p ≡ (was_sent f es r p || is_sending f es e r p)
 unfolding was_sent is_sending
 was_sent-push f es e r p lt =
     rw (is_unsent-push es e p lt) (elim (is_unsent es p) as (λ u. is_unsent es p ≡ u → (not (u && not (is_send_of p.ccb e)) && (f p.device && (live_round (es ++ e ∷ []) p == r))) ≡ ((not u && (f p.device && (live_round es p == r))) || ((u && is_send_of p.ccb e) && (f p.device && (round es == r))))) [
@@ -54,7 +54,7 @@ was_sent-push f es e r p lt =
     ] refl)
 
 -- a stay that begins wasn't sent
-born_none : (f : ℕ → Bool) (es : List Event) (e : Event) (r : ℕ) (o : Option Stay) → stay_begun (es, e) ≡ o → count_by (was_sent f (es ++ e ∷ []) r) (option_to_list o) ≡ 0
+born_none : (f : ℕ → Bool) (es : List Event) (e : Event) (r : ℕ) (o : Option Passage) → stay_begun (es, e) ≡ o → count_by (was_sent f (es ++ e ∷ []) r) (option_to_list o) ≡ 0
 unfolding was_sent
 born_none f es e r None is = refl
 born_none f es e r (Some p) is = rw (born_unsent es e p (place-stay_begun (es, e) p is)) refl
@@ -69,7 +69,7 @@ sent-more f es e r =
     omega arith
 
 -- an event that is no send sends none
-none_sending : (f : ℕ → Bool) (es : List Event) (e : Event) (r : ℕ) → ((p : Stay) → is_send_of p.ccb e ≡ false) → count_by (is_sending f es e r) (stays_begun es) ≡ 0
+none_sending : (f : ℕ → Bool) (es : List Event) (e : Event) (r : ℕ) → ((p : Passage) → is_send_of p.ccb e ≡ false) → count_by (is_sending f es e r) (stays_begun es) ≡ 0
 unfolding is_sending
 none_sending f es e r other = count_by-none (is_sending f es e r) (stays_begun es) (λ k d lt. rw (other (get_or (stays_begun es) k d)) (cases (is_unsent es (get_or (stays_begun es) k d)) _))
   where
@@ -78,7 +78,7 @@ none_sending f es e r other = count_by-none (is_sending f es e r) (stays_begun e
     cases false c = refl
 
 -- of the stays that a send sends there is one, of the CCB's device
-device_of_stay : (es : List Event) (p : Stay) (ccb : ℕ) (s : Submission) → is_of_its_ccb es p ≡ true → p.ccb ≡ ccb → submission es ccb ≡ Some s → s.device ≡ p.device
+device_of_stay : (es : List Event) (p : Passage) (ccb : ℕ) (s : Submission) → is_of_its_ccb es p ≡ true → p.ccb ≡ ccb → submission es ccb ≡ Some s → s.device ≡ p.device
 device_of_stay es p ccb s is at found =
     let own : is_some_and (is_stay_of p) (submission es p.ccb) ≡ true = is in
     let here : is_stay_of p s ≡ true = rw (at, found) at own in
@@ -145,7 +145,7 @@ pub record IsCovered (f : ℕ → Bool) (es : List Event) : Type 0 where
   pub states : AreStates es
   pub covered : (r : ℕ) → count_by (was_sent f es r) (stays_begun es) ≤ count_by (goes f r) (sendings es)
 
-covered-other : (f : ℕ → Bool) (es : List Event) (e : Event) (r : ℕ) → ((p : Stay) → is_send_of p.ccb e ≡ false) → sending_of (es, e) ≡ None → count_by (was_sent f es r) (stays_begun es) ≤ count_by (goes f r) (sendings es) → count_by (was_sent f (es ++ e ∷ []) r) (stays_begun (es ++ e ∷ [])) ≤ count_by (goes f r) (sendings (es ++ e ∷ []))
+covered-other : (f : ℕ → Bool) (es : List Event) (e : Event) (r : ℕ) → ((p : Passage) → is_send_of p.ccb e ≡ false) → sending_of (es, e) ≡ None → count_by (was_sent f es r) (stays_begun es) ≤ count_by (goes f r) (sendings es) → count_by (was_sent f (es ++ e ∷ []) r) (stays_begun (es ++ e ∷ [])) ≤ count_by (goes f r) (sendings (es ++ e ∷ []))
 covered-other f es e r other none h =
     let more = sent-more f es e r in
     let zero' = none_sending f es e r other in
@@ -177,6 +177,6 @@ covered-legal f rules c es legal = legal-induction rules c (IsCovered f)
     }) [] es legal (covered-none f)
 
 -- where each stay was sent, those sent in a round are those whose live round it is
-pub sent-complete : (f : ℕ → Bool) (es : List Event) (r : ℕ) → All (λ p. is_unsent es p ≡ false) (stays_begun es) → count_by (was_sent f es r) (stays_begun es) ≡ count_by (λ (p : Stay). f p.device && (live_round es p == r)) (stays_begun es)
+pub sent-complete : (f : ℕ → Bool) (es : List Event) (r : ℕ) → All (λ p. is_unsent es p ≡ false) (stays_begun es) → count_by (was_sent f es r) (stays_begun es) ≡ count_by (λ (p : Passage). f p.device && (live_round es p == r)) (stays_begun es)
 unfolding was_sent
-sent-complete f es r sent = count_by-same (was_sent f es r) (λ (p : Stay). f p.device && (live_round es p == r)) (stays_begun es) (λ k d lt. rw (sent k d lt) refl)
+sent-complete f es r sent = count_by-same (was_sent f es r) (λ (p : Passage). f p.device && (live_round es p == r)) (stays_begun es) (λ k d lt. rw (sent k d lt) refl)

@@ -11,18 +11,18 @@ use Rattle.cam_types.specs.Topology.{Topology, IsConfig, names_link}
 use Rattle.cam_types.specs.declared.adapter.Adapter.{Adapter}
 use Rattle.cam_types.specs.declared.device.Device.{Device}
 use Rattle.cam_types.specs.declared.maxima.TheConstants.{MOST_OPENINGS}
-use Rattle.cam_event.specs.Event.{is_some_and}
-use Rattle.cam_event.specs.Counts.{round, submission}
-use Rattle.cam_event.specs.Stays.{stays_begun, is_unsent, unsent, name_of}
-use Rattle.cam_event.specs.Live.{live_round}
+use Rattle.event_rules.specs.Event.{is_some_and}
+use Rattle.event_rules.specs.Counts.{round, submission}
+use Rattle.event_rules.specs.Stays.{stays_begun, is_unsent, unsent, name_of}
+use Rattle.event_rules.specs.Live.{live_round}
 use Rattle.cam_types.specs.Questions.{names_device, is_on, is_under, adapter_link, weight}
-use Rattle.cam_event.specs.declared.event.Event.{Event}
-use Rattle.cam_event.specs.declared.submission.Submission.{Submission}
-use Rattle.cam_event.specs.declared.stay.Stay.{Stay}
-use Rattle.cam_event.specs.Legal.{history_rules, is_legal}
-use Rattle.cam_event.specs.Laws.{is_in_range, is_stay_of, is_stay_in_range}
-use Rattle.cam_event.proofs.RangeLemmas.{stays_in_range}
-use Rattle.cam_event.proofs.LimitLemmas.{round_first, round_most, stays_most}
+use Rattle.event_rules.specs.declared.event.Event.{Event}
+use Rattle.event_rules.specs.declared.submission.Submission.{Submission}
+use Rattle.event_rules.specs.declared.passage.Passage.{Passage}
+use Rattle.event_rules.specs.Legal.{history_rules, is_legal}
+use Rattle.event_rules.specs.Laws.{is_in_range, is_stay_of, is_stay_in_range}
+use Rattle.event_rules.proofs.RangeLemmas.{stays_in_range}
+use Rattle.event_rules.proofs.LimitLemmas.{round_first, round_most, stays_most}
 use Rattle.round_net.specs.Sums.{count_below}
 use Rattle.round_net.specs.Instance.{Instance, rows, adapter, link, adapter_row, link_row, uses}
 use Rattle.round_net.specs.Schedules.{IsAdmissible, load}
@@ -88,26 +88,26 @@ count_list test t (x ∷ xs) h =
     count_front test t (x ∷ xs) x (length (x ∷ xs)) each (omega arith) ∙ ap (count_by test) (take_all (length (x ∷ xs)) (x ∷ xs) (omega arith))
 
 -- what stands in a stay's row
-part_of_stay : (part : StayRow → ℕ) (c : Topology) (es : List Event) (s : ℕ) (p : Stay) → slice_get (stays_begun es) s ≡ Some p → of_stay part (map (stay_row c es) (stays_begun es)) s ≡ part (stay_row c es p)
+part_of_stay : (part : StayRow → ℕ) (c : Topology) (es : List Event) (s : ℕ) (p : Passage) → slice_get (stays_begun es) s ≡ Some p → of_stay part (map (stay_row c es) (stays_begun es)) s ≡ part (stay_row c es p)
 part_of_stay part c es s p e = ap (λ o. option_map_or part o 0) (mapped (stay_row c es) (stays_begun es) s p e)
 
-device_at : (c : Topology) (es : List Event) (s : ℕ) (p : Stay) → slice_get (stays_begun es) s ≡ Some p → (instance_of c es).device s ≡ p.device
+device_at : (c : Topology) (es : List Event) (s : ℕ) (p : Passage) → slice_get (stays_begun es) s ≡ Some p → (instance_of c es).device s ≡ p.device
 unfolding instance_of_rows net_of stay_row
 device_at c es s p e = part_of_stay (λ (row : StayRow). row.device) c es s p e
 
-arrival_at : (c : Topology) (es : List Event) (s : ℕ) (p : Stay) → slice_get (stays_begun es) s ≡ Some p → (instance_of c es).arrival s ≡ p.arrival
+arrival_at : (c : Topology) (es : List Event) (s : ℕ) (p : Passage) → slice_get (stays_begun es) s ≡ Some p → (instance_of c es).arrival s ≡ p.arrival
 unfolding instance_of_rows net_of stay_row
 arrival_at c es s p e = part_of_stay (λ (row : StayRow). row.arrival) c es s p e
 
-last_at : (c : Topology) (es : List Event) (s : ℕ) (p : Stay) → slice_get (stays_begun es) s ≡ Some p → (instance_of c es).last s ≡ last_round es p
+last_at : (c : Topology) (es : List Event) (s : ℕ) (p : Passage) → slice_get (stays_begun es) s ≡ Some p → (instance_of c es).last s ≡ last_round es p
 unfolding instance_of_rows net_of stay_row
 last_at c es s p e = part_of_stay (λ (row : StayRow). row.last) c es s p e
 
-weight_at : (c : Topology) (es : List Event) (s : ℕ) (p : Stay) → slice_get (stays_begun es) s ≡ Some p → (instance_of c es).weight s ≡ weight c p.priority
+weight_at : (c : Topology) (es : List Event) (s : ℕ) (p : Passage) → slice_get (stays_begun es) s ≡ Some p → (instance_of c es).weight s ≡ weight c p.priority
 unfolding instance_of_rows net_of stay_row
 weight_at c es s p e = part_of_stay (λ (row : StayRow). row.weight) c es s p e
 
-live_at : (c : Topology) (es : List Event) (s : ℕ) (p : Stay) → slice_get (stays_begun es) s ≡ Some p → live_of c es s ≡ live_round es p
+live_at : (c : Topology) (es : List Event) (s : ℕ) (p : Passage) → slice_get (stays_begun es) s ≡ Some p → live_of c es s ≡ live_round es p
 unfolding live_of_rows net_of stay_row
 live_at c es s p e = part_of_stay (λ (row : StayRow). row.live) c es s p e
 
@@ -152,11 +152,11 @@ unfolding instance_of_rows net_of
 cap_of_net c es row r within first last = cell-table (row_count c) (round es) (cap c es) row r within first last
 
 -- a stay of the net is one of the history
-stay_of_net : (c : Topology) (es : List Event) (s : ℕ) → s < (instance_of c es).stays → (p : Stay) × (slice_get (stays_begun es) s ≡ Some p)
+stay_of_net : (c : Topology) (es : List Event) (s : ℕ) → s < (instance_of c es).stays → (p : Passage) × (slice_get (stays_begun es) s ≡ Some p)
 stay_of_net c es s lt = element (stays_begun es) s (rw stays_of_net at lt)
 
 -- it is of a device of the configuration
-device_in_range : (c : Topology) (es : List Event) (p : Stay) → is_stay_in_range c es p ≡ true → p.device < length c.devices
+device_in_range : (c : Topology) (es : List Event) (p : Passage) → is_stay_in_range c es p ≡ true → p.device < length c.devices
 device_in_range c es p h = elim (submission es p.ccb) as (λ o. is_some_and (λ (s : Submission). is_in_range c s && is_stay_of p s) o ≡ true → p.device < length c.devices) [
   | None ↦ λ g. absurd cc
   | Some s ↦ λ g.
@@ -167,12 +167,12 @@ device_in_range c es p h = elim (submission es p.ccb) as (λ o. is_some_and (λ 
       omega arith
 ] h
 
-device_of_stay : (c : Topology) (es : List Event) (s : ℕ) (p : Stay) → is_legal history_rules c es ≡ true → slice_get (stays_begun es) s ≡ Some p → p.device < length c.devices
+device_of_stay : (c : Topology) (es : List Event) (s : ℕ) (p : Passage) → is_legal history_rules c es ≡ true → slice_get (stays_begun es) s ≡ Some p → p.device < length c.devices
 device_of_stay c es s p legal e =
     device_in_range c es p (at_element (λ q. is_stay_in_range c es q ≡ true) (stays_begun es) s p (AllPass-from_list_all (is_stay_in_range c es) (stays_begun es) (stays_in_range history_rules c es legal)) e)
 
 -- in a complete history each stay was sent
-find_none : (t : Stay → Bool) (xs : List Stay) → option_map name_of (find t xs) ≡ None → All (λ x. t x ≡ false) xs
+find_none : (t : Passage → Bool) (xs : List Passage) → option_map name_of (find t xs) ≡ None → All (λ x. t x ≡ false) xs
 find_none t [] e = All-nil (λ x. t x ≡ false)
 find_none t (x ∷ xs) e = elim (t x) as (λ b. t x ≡ b → option_map name_of (cond b (Some x) (find t xs)) ≡ None → All (λ y. t y ≡ false) (x ∷ xs)) [
   | true ↦ λ is g. absurd cc
@@ -190,21 +190,21 @@ on_adapter c es d config lt =
     rw (bus_of_device c es d dev.0 dev.1, adapters_of_net c es) (at_element (λ (device : Device). device.bus < length c.adapters) c.devices d dev.0 (devices_on_adapters c config) dev.1)
 
 -- a stay uses the rows that carry a command to its device
-adapter_at : (c : Topology) (es : List Event) (s : ℕ) (p : Stay) (device : Device) → slice_get (stays_begun es) s ≡ Some p → slice_get c.devices p.device ≡ Some device → adapter (instance_of c es) s ≡ device.bus
+adapter_at : (c : Topology) (es : List Event) (s : ℕ) (p : Passage) (device : Device) → slice_get (stays_begun es) s ≡ Some p → slice_get c.devices p.device ≡ Some device → adapter (instance_of c es) s ≡ device.bus
 adapter_at c es s p device e there = ap (instance_of c es).adapter_of (device_at c es s p e) ∙ bus_of_device c es p.device device there
 
-on_adapter_test : (c : Topology) (es : List Event) (a s : ℕ) (p : Stay) → is_legal history_rules c es ≡ true → slice_get (stays_begun es) s ≡ Some p → (adapter (instance_of c es) s == a) ≡ is_on c a p.device
+on_adapter_test : (c : Topology) (es : List Event) (a s : ℕ) (p : Passage) → is_legal history_rules c es ≡ true → slice_get (stays_begun es) s ≡ Some p → (adapter (instance_of c es) s == a) ≡ is_on c a p.device
 on_adapter_test c es a s p legal e =
     let dev = element c.devices p.device (device_of_stay c es s p legal e) in
     rw (adapter_at c es s p dev.0 e dev.1, dev.1) refl
 
-under_link_test : (c : Topology) (es : List Event) (l s : ℕ) (p : Stay) → is_legal history_rules c es ≡ true → slice_get (stays_begun es) s ≡ Some p → option_map_or (λ k. k == l) (link (instance_of c es) s) false ≡ is_under c l p.device
+under_link_test : (c : Topology) (es : List Event) (l s : ℕ) (p : Passage) → is_legal history_rules c es ≡ true → slice_get (stays_begun es) s ≡ Some p → option_map_or (λ k. k == l) (link (instance_of c es) s) false ≡ is_under c l p.device
 unfolding instance_of_rows
 under_link_test c es l s p legal e =
     let dev = element c.devices p.device (device_of_stay c es s p legal e) in
     rw (adapter_at c es s p dev.0 e dev.1, link_of_adapter c es dev.0.bus, dev.1) refl
 
-uses-carries : (c : Topology) (es : List Event) (row s : ℕ) (p : Stay) → IsConfig c → is_legal history_rules c es ≡ true → row < row_count c → slice_get (stays_begun es) s ≡ Some p → uses (instance_of c es) row s ≡ carries c row p.device
+uses-carries : (c : Topology) (es : List Event) (row s : ℕ) (p : Passage) → IsConfig c → is_legal history_rules c es ≡ true → row < row_count c → slice_get (stays_begun es) s ≡ Some p → uses (instance_of c es) row s ≡ carries c row p.device
 uses-carries c es row s p config legal within e =
     let net : Instance = instance_of c es in
     let n : ℕ = length c.devices in
@@ -237,17 +237,17 @@ unfolding sends_in
 rows_hold c es config legal complete row r within first last =
     let net : Instance = instance_of c es in
     let inside : row < row_count c = rw rows_of_net at within in
-    let there : count_below (length (stays_begun es)) (λ s. uses net row s && (live_of c es s == r)) ≡ count_by (λ (p : Stay). carries c row p.device && (live_round es p == r)) (stays_begun es) =
-    count_list (λ (p : Stay). carries c row p.device && (live_round es p == r)) (λ s. uses net row s && (live_of c es s == r)) (stays_begun es) (λ s p e. ap (λ b. b && (live_of c es s == r)) (uses-carries c es row s p config legal inside e) ∙ ap (λ n. carries c row p.device && (n == r)) (live_at c es s p e)) in
+    let there : count_below (length (stays_begun es)) (λ s. uses net row s && (live_of c es s == r)) ≡ count_by (λ (p : Passage). carries c row p.device && (live_round es p == r)) (stays_begun es) =
+    count_list (λ (p : Passage). carries c row p.device && (live_round es p == r)) (λ s. uses net row s && (live_of c es s == r)) (stays_begun es) (λ s p e. ap (λ b. b && (live_of c es s == r)) (uses-carries c es row s p config legal inside e) ∙ ap (λ n. carries c row p.device && (n == r)) (live_at c es s p e)) in
     let sent = sent-complete (carries c row) es r (all_sent es complete) in
     let covered = (covered-legal (carries c row) history_rules c es legal).covered r in
     let capped : sends_in c es row r ≤ cap c es row r = sends_in-cap history_rules c es row r legal in
     rw (cap_of_net c es row r inside first (rw rounds_of_net at last), stays_of_net c es) (omega arith)
 
-in_window : (c : Topology) (es : List Event) (s : ℕ) (p : Stay) → is_legal history_rules c es ≡ true → slice_get (stays_begun es) s ≡ Some p → IsInWindow es p
+in_window : (c : Topology) (es : List Event) (s : ℕ) (p : Passage) → is_legal history_rules c es ≡ true → slice_get (stays_begun es) s ≡ Some p → IsInWindow es p
 in_window c es s p legal e = at_element (IsInWindow es) (stays_begun es) s p (windows-legal history_rules c es legal).each e
 
-sent_stay : (c : Topology) (es : List Event) (s : ℕ) (p : Stay) → unsent es ≡ None → slice_get (stays_begun es) s ≡ Some p → is_unsent es p ≡ false
+sent_stay : (c : Topology) (es : List Event) (s : ℕ) (p : Passage) → unsent es ≡ None → slice_get (stays_begun es) s ≡ Some p → is_unsent es p ≡ false
 sent_stay c es s p complete e = at_element (λ q. is_unsent es q ≡ false) (stays_begun es) s p (all_sent es complete) e
 
 -- the live schedule of a complete history is admissible

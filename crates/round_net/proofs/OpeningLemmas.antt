@@ -5,21 +5,21 @@ use Rattle.std.specs.Option.{option_map_or}
 use Rattle.std.proofs.lemmas.Bool.{and_parts, eqb-true, ltb-true}
 use Rattle.cam_types.specs.Topology.{Topology}
 use Rattle.cam_types.specs.declared.device.Device.{Device}
-use Rattle.cam_event.specs.Counts.{round, submission, sendings, sending_of}
+use Rattle.event_rules.specs.Counts.{round, submission, sendings, sending_of}
 use Rattle.cam_types.specs.Questions.{names_lane, is_on, is_under, lane_adapter, adapter_link, adapter_openings, link_openings}
-use Rattle.cam_event.specs.Head.{openings, goes_now_to, goes_now_to_adapter, goes_now_over_link, has_opening, adapter_has_opening, link_has_opening}
-use Rattle.cam_event.specs.declared.event.Event.{Event}
-use Rattle.cam_event.specs.declared.event.Event.TheVariants.{Send}
-use Rattle.cam_event.specs.declared.submission.Submission.{Submission}
-use Rattle.cam_event.specs.Legal.{Rules, is_next, is_legal_event, is_legal, names_ccb}
-use Rattle.cam_event.specs.Refusals.{device_of}
-use Rattle.cam_event.proofs.SendLemmas.{IsSend, send_from_next}
-use Rattle.cam_event.proofs.LawLemmas.{allowed-legal_event}
-use Rattle.cam_event.proofs.LimitLemmas.{legal-induction}
+use Rattle.event_rules.specs.Head.{openings, goes_now_to, goes_now_to_adapter, goes_now_over_link, has_opening, adapter_has_opening, link_has_opening}
+use Rattle.event_rules.specs.declared.event.Event.{Event}
+use Rattle.event_rules.specs.declared.event.Event.TheVariants.{Send}
+use Rattle.event_rules.specs.declared.submission.Submission.{Submission}
+use Rattle.event_rules.specs.Legal.{Rules, is_next, is_legal_event, is_legal, names_ccb}
+use Rattle.event_rules.specs.Refusals.{device_of}
+use Rattle.event_rules.proofs.SendLemmas.{IsSend, send_from_next}
+use Rattle.event_rules.proofs.LawLemmas.{allowed-legal_event}
+use Rattle.event_rules.proofs.LimitLemmas.{legal-induction}
 use Rattle.round_net.specs.Caps.{places, row_openings, carries, is_free, openings_in, sends_in, cap}
 use Rattle.round_net.proofs.PlaceLemmas.{places-push, openings_in-now}
 use Rattle.round_net.proofs.LoadLemmas.{goes, goes-send, goes-other, submission-named}
-use Rattle.cam_event.proofs.StandLemmas.{asks-send}
+use Rattle.event_rules.proofs.StandLemmas.{asks-send}
 
 -- what a legal send says of its place
 pub legal-send : (rules : Rules) (c : Topology) (es : List Event) (lane ccb : ℕ) → is_legal_event rules c (es, Send lane ccb) ≡ true → IsSend c es lane ccb

@@ -13,17 +13,17 @@ use Rattle.std.proofs.Math.Bool.{and-false}
 use Rattle.cam_types.specs.Lists.{moments}
 use Rattle.cam_types.specs.Topology.{Topology}
 use Rattle.cam_types.proofs.ListLemmas.{moments-push}
-use Rattle.cam_event.specs.Event.{is_tick, is_adjust_of, adjusts_to}
-use Rattle.cam_event.specs.Counts.{round, submission, sending_of, sendings, last}
+use Rattle.event_rules.specs.Event.{is_tick, is_adjust_of, adjusts_to}
+use Rattle.event_rules.specs.Counts.{round, submission, sending_of, sendings, last}
 use Rattle.cam_types.specs.Questions.{device_openings, adapter_openings, link_openings}
-use Rattle.cam_event.specs.Head.{openings}
-use Rattle.cam_event.specs.declared.event.Event.{Event}
-use Rattle.cam_event.specs.declared.event.Event.TheVariants.{Send}
-use Rattle.cam_event.specs.declared.submission.Submission.{Submission}
-use Rattle.cam_event.specs.declared.sending.Sending.{Sending}
-use Rattle.cam_event.proofs.PushLaws.{round-push, sendings-push}
+use Rattle.event_rules.specs.Head.{openings}
+use Rattle.event_rules.specs.declared.event.Event.{Event}
+use Rattle.event_rules.specs.declared.event.Event.TheVariants.{Send}
+use Rattle.event_rules.specs.declared.submission.Submission.{Submission}
+use Rattle.event_rules.specs.declared.sending.Sending.{Sending}
+use Rattle.event_rules.proofs.PushLaws.{round-push, sendings-push}
 use Rattle.round_net.proofs.CountLemmas.{count_by-append}
-use Rattle.cam_event.proofs.OpeningLaws.{before_last-push}
+use Rattle.event_rules.proofs.OpeningLaws.{before_last-push}
 use Rattle.round_net.specs.Rows.{cell}
 use Rattle.round_net.specs.Caps.{fronts, places, row_count, by_row, row_freezes, row_openings, carries, is_free, openings_in, sends_in}
 use Rattle.round_net.specs.Marks.{Marks, Sets, IsNoted}

@@ -9,17 +9,17 @@ use Rattle.cam_types.specs.Topology.{Topology, IsConfig, are_openings}
 use Rattle.cam_types.specs.declared.adapter.Adapter.{Adapter}
 use Rattle.cam_types.specs.declared.device.Device.{Device}
 use Rattle.cam_types.specs.declared.maxima.TheConstants.{MOST_OPENINGS}
-use Rattle.cam_event.specs.Event.{is_tick, is_adjust_of, adjusts_to}
-use Rattle.cam_event.specs.Counts.{round, last}
+use Rattle.event_rules.specs.Event.{is_tick, is_adjust_of, adjusts_to}
+use Rattle.event_rules.specs.Counts.{round, last}
 use Rattle.cam_types.specs.Questions.{names_device, device_openings, adapter_openings, link_openings}
-use Rattle.cam_event.specs.Head.{openings}
-use Rattle.cam_event.specs.declared.event.Event.{Event}
-use Rattle.cam_event.specs.declared.event.Event.TheVariants.{Adjust}
-use Rattle.cam_event.proofs.OpeningLaws.{before_last-push}
-use Rattle.cam_event.proofs.StateLaws.{last-push}
-use Rattle.cam_event.specs.Legal.{Rules, is_legal_event, is_legal}
-use Rattle.cam_event.proofs.LawLemmas.{allowed-legal_event}
-use Rattle.cam_event.proofs.LimitLemmas.{legal-induction}
+use Rattle.event_rules.specs.Head.{openings}
+use Rattle.event_rules.specs.declared.event.Event.{Event}
+use Rattle.event_rules.specs.declared.event.Event.TheVariants.{Adjust}
+use Rattle.event_rules.proofs.OpeningLaws.{before_last-push}
+use Rattle.event_rules.proofs.StateLaws.{last-push}
+use Rattle.event_rules.specs.Legal.{Rules, is_legal_event, is_legal}
+use Rattle.event_rules.proofs.LawLemmas.{allowed-legal_event}
+use Rattle.event_rules.proofs.LimitLemmas.{legal-induction}
 use Rattle.round_net.specs.Caps.{row_openings, is_free, openings_in, sends_in, cap}
 use Rattle.round_net.proofs.PlaceLemmas.{openings_in-opened, openings_in-kept}
 use Rattle.cam_types.proofs.ConfigLemmas.{small_adapters, small_links, small_devices}

@@ -4,11 +4,11 @@ use Rattle.std.specs.List.{list_all}
 use Rattle.std.specs.Option.{option_map_or}
 use Rattle.cam_types.specs.Lists.{moments}
 use Rattle.cam_types.specs.Topology.{Topology}
-use Rattle.cam_event.specs.Counts.{round, sendings, freeze_count, adapter_freezes}
+use Rattle.event_rules.specs.Counts.{round, sendings, freeze_count, adapter_freezes}
 use Rattle.cam_types.specs.Questions.{is_on, is_under, adapter_openings, link_openings}
-use Rattle.cam_event.specs.Head.{openings}
-use Rattle.cam_event.specs.declared.event.Event.{Event}
-use Rattle.cam_event.specs.declared.sending.Sending.{Sending}
+use Rattle.event_rules.specs.Head.{openings}
+use Rattle.event_rules.specs.declared.event.Event.{Event}
+use Rattle.event_rules.specs.declared.sending.Sending.{Sending}
 use Rattle.round_net.specs.declared.row_state.Owner.{Owner}
 use Rattle.round_net.specs.declared.row_state.Owner.TheVariants.{Device, Adapter, Link}
 

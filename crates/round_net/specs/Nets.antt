@@ -6,24 +6,24 @@ use Rattle.cam_types.specs.Topology.{Topology}
 use Rattle.cam_types.specs.declared.adapter.Adapter.{Adapter}
 use Rattle.cam_types.specs.declared.device.Device.{Device}
 use Rattle.cam_types.specs.Questions.{weight}
-use Rattle.cam_event.specs.Counts.{round}
-use Rattle.cam_event.specs.Stays.{stays_begun, name_of}
-use Rattle.cam_event.specs.Live.{live_round}
-use Rattle.cam_event.specs.declared.event.Event.{Event}
-use Rattle.cam_event.specs.declared.stay.Stay.{Stay}
-use Rattle.xpt_stays.specs.Records.{next_stay}
-use Rattle.xpt_stays.specs.declared.stay_record.StayRecord.{StayRecord}
+use Rattle.event_rules.specs.Counts.{round}
+use Rattle.event_rules.specs.Stays.{stays_begun, name_of}
+use Rattle.event_rules.specs.Live.{live_round}
+use Rattle.event_rules.specs.declared.event.Event.{Event}
+use Rattle.event_rules.specs.declared.passage.Passage.{Passage}
+use Rattle.xpt_core.specs.Records.{next_stay}
+use Rattle.xpt_core.specs.declared.stays.stay_record.StayRecord.{StayRecord}
 use Rattle.round_net.specs.Instance.{Instance}
 use Rattle.round_net.specs.Rows.{NetRows, instance_of_rows, live_of_rows}
 use Rattle.round_net.specs.Caps.{row_count, cap}
 use Rattle.round_net.specs.declared.stay_row.StayRow.{StayRow}
 
 -- the last round of a stay: the one before its CCB's next stay arrives, or else the last round of all
-unfoldable pub last_round : List Event → Stay → ℕ
-last_round events p = option_map_or (λ (q : Stay). q.arrival - 1) (next_stay (stays_begun events) p) (round events)
+unfoldable pub last_round : List Event → Passage → ℕ
+last_round events p = option_map_or (λ (q : Passage). q.arrival - 1) (next_stay (stays_begun events) p) (round events)
 
 -- a stay with its window and weight, and where it was sent
-unfoldable pub stay_row : Topology → List Event → Stay → StayRow
+unfoldable pub stay_row : Topology → List Event → Passage → StayRow
 stay_row c events p = record {
   stay = name_of p;
   device = p.device;

@@ -1,7 +1,7 @@
 -- a net as flat lists, and what it holds
 use Rattle.std.specs.Prelude.{ℕ, ◌+◌, ◌-◌, ◌*◌, List, length, map, Option, option_and_then, slice_get, slice_index}
 use Rattle.std.specs.Option.{option_map_or}
-use Rattle.cam_event.specs.declared.stay.StayName.{StayName}
+use Rattle.event_rules.specs.declared.stay.Stay.{Stay}
 use Rattle.round_net.specs.Instance.{Instance}
 use Rattle.round_net.specs.declared.stay_row.StayRow.{StayRow}
 
@@ -45,5 +45,5 @@ unfoldable pub live_of_rows : NetRows → ℕ → ℕ
 live_of_rows n = of_stay (λ (row : StayRow). row.live) n.stays
 
 -- the stays by CCB and try
-unfoldable pub names_of_rows : NetRows → List StayName
+unfoldable pub names_of_rows : NetRows → List Stay
 names_of_rows n = map (λ (row : StayRow). row.stay) n.stays

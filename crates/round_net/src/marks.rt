@@ -2,16 +2,16 @@
 
 ghost use Rattle.std.specs.Prelude.{◌≡◌, ◌<◌, ◌≤◌, ◌*◌, ◌||◌, not, ◌==◌, false, length, slice_set, slice_index_or};
 ghost use Rattle.cam_types.specs.declared.maxima.TheConstants.{MOST_ROUNDS};
-ghost use Rattle.cam_event.specs.Counts.{round};
+ghost use Rattle.event_rules.specs.Counts.{round};
 ghost use Rattle.round_net.specs.Caps.{row_count, row_freezes, row_openings, sends_in};
 ghost use Rattle.round_net.specs.Marks.{Marks, Sets};
 
 use crate::flat::cell;
 use crate::row_state::{is_frozen, openings, row_count, sent};
-use xpt_adapters::Adapters;
+use xpt_core::Queues;
 
 /// Marks each row that is frozen at the place.
-pub fn mark_frozen(replay: &Adapters, rounds: u32, marks: &mut [bool])
+pub fn mark_frozen(replay: &Queues, rounds: u32, marks: &mut [bool])
     requires few { rounds ≤ MOST_ROUNDS }
     requires within { round replay.now.events ≤ rounds }
     requires cells { row_count replay.now.config * rounds ≤ length marks.old }
@@ -32,7 +32,7 @@ fn mark(marks: &mut [bool], at: usize, is_frozen: bool)
 }
 
 /// Notes the openings of each row.
-pub fn note_openings(replay: &Adapters, rounds: u32, numbers: &mut [u32])
+pub fn note_openings(replay: &Queues, rounds: u32, numbers: &mut [u32])
     requires few { rounds ≤ MOST_ROUNDS }
     requires within { round replay.now.events ≤ rounds }
     requires cells { row_count replay.now.config * rounds ≤ length numbers.old }
@@ -46,7 +46,7 @@ pub fn note_openings(replay: &Adapters, rounds: u32, numbers: &mut [u32])
 }
 
 /// Notes how many sends used an opening of each row.
-pub fn note_sends(replay: &Adapters, rounds: u32, numbers: &mut [u32])
+pub fn note_sends(replay: &Queues, rounds: u32, numbers: &mut [u32])
     requires few { rounds ≤ MOST_ROUNDS }
     requires within { round replay.now.events ≤ rounds }
     requires cells { row_count replay.now.config * rounds ≤ length numbers.old }

@@ -6,10 +6,10 @@ use crate::net_fault::NetFault;
 use crate::stay_row::StayRow;
 use crate::stay_rows::{adapters_of, links_of, stay_rows};
 use crate::walk::walk_through;
-use cam_event::StayName;
+use cam_event::History;
+use event_rules::Stay;
 use std::alloc::Global;
 use std::marker::Model;
-use xpt_state::History;
 
 /// What a complete history left to plan: stays with windows and weights, and caps.
 ///
@@ -43,7 +43,7 @@ impl Net {
     ghost use Rattle.round_net.specs.Rows.{instance_of_rows, live_of_rows, names_of_rows};
     ghost use Rattle.round_net.specs.Sound.{IsSound};
     ghost use Rattle.std.specs.Prelude.{IfOk, IfSome, MatchOption, IsOkUnless};
-    ghost use Rattle.cam_event.specs.Stays.{unsent};
+    ghost use Rattle.event_rules.specs.Stays.{unsent};
     ghost use Rattle.round_net.specs.Nets.{net_of, instance_of, live_of};
     ghost use Rattle.round_net.specs.Schedules.{IsAdmissible};
 
@@ -146,7 +146,7 @@ impl Net {
 
     /// The stay of this number, in order of birth.
     #[tactic(auto, unfolding(crate::specs::Rows::instance_of_rows, crate::specs::Rows::names_of_rows))]
-    pub fn stay(&self, stay: u32) -> StayName
+    pub fn stay(&self, stay: u32) -> Stay
         requires { stay < (instance_of_rows self.now).stays }
         ensures { slice_get (names_of_rows self.now) stay ≡ Some result }
     {

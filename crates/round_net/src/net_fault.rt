@@ -3,7 +3,7 @@
 ghost use Rattle.std.specs.Prelude.{◌≡◌};
 ghost use Rattle.round_net.specs.declared.net_fault.NetFault.TheVariants.{OutOfMemory};
 
-use cam_event::StayName;
+use event_rules::Stay;
 use std::alloc::AllocError;
 use thiserror::Error;
 
@@ -12,7 +12,7 @@ use thiserror::Error;
 pub enum NetFault {
     /// The history isn't complete: this is the first of its stays, by birth, that has no send.
     #[error("unsent ccb {} try {}", .0.ccb, .0.attempt)]
-    Unsent(StayName),
+    Unsent(Stay),
     /// There is no memory left.
     #[error("out of memory")]
     OutOfMemory,

@@ -1,11 +1,11 @@
 //! What a row has at a place of a history: that of its device, of its adapter, or of its link.
 
 ghost use Rattle.std.specs.Prelude.{◌≡◌, ◌<◌, not, ◌==◌};
-ghost use Rattle.cam_event.specs.Counts.{round};
+ghost use Rattle.event_rules.specs.Counts.{round};
 ghost use Rattle.round_net.specs.Caps.{row_count, IsRowOf, row_freezes, row_openings, sends_in};
 
 use cam_types::Config;
-use xpt_adapters::Adapters;
+use xpt_core::Queues;
 
 /// Whose row it is.
 #[derive(Clone, Copy)]
@@ -43,7 +43,7 @@ fn owner_of(config: &Config, row: u32) -> Owner
 
 /// Whether the row is frozen.
 #[tactic(auto, unfolding(crate::specs::Caps::row_freezes), using(crate::proofs::OwnerLemmas::by_row_device, crate::proofs::OwnerLemmas::by_row_adapter, crate::proofs::OwnerLemmas::by_row_link))]
-pub fn is_frozen(replay: &Adapters, row: u32) -> bool
+pub fn is_frozen(replay: &Queues, row: u32) -> bool
     requires { row < row_count replay.now.config }
     ensures { result ≡ not (row_freezes replay.now.config replay.now.events row == 0) }
 {
@@ -56,7 +56,7 @@ pub fn is_frozen(replay: &Adapters, row: u32) -> bool
 
 /// How many commands the row takes in this round.
 #[tactic(auto, unfolding(crate::specs::Caps::row_openings), using(crate::proofs::OwnerLemmas::by_row_device, crate::proofs::OwnerLemmas::by_row_adapter, crate::proofs::OwnerLemmas::by_row_link))]
-pub fn openings(replay: &Adapters, row: u32) -> u32
+pub fn openings(replay: &Queues, row: u32) -> u32
     requires { row < row_count replay.now.config }
     ensures { result ≡ row_openings replay.now.config replay.now.events row }
 {
@@ -70,7 +70,7 @@ pub fn openings(replay: &Adapters, row: u32) -> u32
 
 /// How many sends of this round used an opening of the row.
 #[tactic(auto, unfolding(crate::specs::Caps::sends_in), using(crate::proofs::OwnerLemmas::by_row_device, crate::proofs::OwnerLemmas::by_row_adapter, crate::proofs::OwnerLemmas::by_row_link))]
-pub fn sent(replay: &Adapters, row: u32) -> u32
+pub fn sent(replay: &Queues, row: u32) -> u32
     requires { row < row_count replay.now.config }
     ensures { result ≡ sends_in replay.now.config replay.now.events row (round replay.now.events) }
 {

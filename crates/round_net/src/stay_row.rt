@@ -1,12 +1,12 @@
 //! What a net knows of one stay.
 
-use cam_event::StayName;
+use event_rules::Stay;
 
 /// A stay, with its window and weight, and where it was sent.
 #[derive(Clone, Copy, Debug)]
 pub struct StayRow {
     /// Its CCB and try.
-    pub stay: StayName,
+    pub stay: Stay,
     /// The number of its device.
     pub device: u32,
     /// The first round of its window.

@@ -6,10 +6,10 @@ ghost use Rattle.cam_types.specs.declared.device.Device.{Device};
 ghost use Rattle.round_net.specs.Nets.{row_of};
 
 use crate::stay_row::StayRow;
-use cam_event::StayName;
 use cam_types::{Adapter, Config, Device};
+use event_rules::Stay;
 use std::alloc::{AllocError, Global};
-use xpt_state::StayRecord;
+use xpt_core::StayRecord;
 
 /// The rows of these stays of a history of so many rounds.
 pub fn stay_rows(
@@ -33,7 +33,7 @@ fn stay_row(config: &Config, kept: &StayRecord, rounds: u32) -> StayRow
 {
     let stay = &kept.stay;
     StayRow {
-        stay: StayName {
+        stay: Stay {
             ccb: stay.ccb,
             attempt: stay.attempt,
         },

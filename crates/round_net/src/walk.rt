@@ -2,17 +2,17 @@
 
 ghost use Rattle.std.specs.Prelude.{◌≡◌, ℕ, ◌≤◌, not, ◌==◌, true, false, [], length, slice_index, slice_index_or, IsTrue, IfOk, OnOk};
 ghost use Rattle.cam_types.specs.declared.maxima.TheConstants.{MOST_ROUNDS};
-ghost use Rattle.cam_event.specs.Legal.{history_rules, is_legal};
-ghost use Rattle.cam_event.specs.Counts.{round};
+ghost use Rattle.event_rules.specs.Legal.{history_rules, is_legal};
+ghost use Rattle.event_rules.specs.Counts.{round};
 ghost use Rattle.round_net.specs.Caps.{row_count, row_freezes, row_openings, sends_in};
 ghost use Rattle.round_net.specs.Marks.{Marks, Sets, IsNoted, HasCells};
 
 use crate::marks::{mark_frozen, note_openings, note_sends};
 use crate::row_state::row_count;
-use cam_event::{Event, Rules};
 use cam_types::Config;
+use event_rules::{Event, Rules};
 use std::alloc::{AllocError, Global};
-use xpt_adapters::Adapters;
+use xpt_core::Queues;
 
 /// What was found at the places of a history, in rows of rounds: whether each row was frozen in the round, how many
 /// commands it took, and how many sends used an opening of it.
@@ -41,7 +41,7 @@ pub fn walk_through(
     let mut openings = vec![in alloc; 0; cells]?;
     let mut sends = vec![in alloc; 0; cells]?;
     walk(
-        Adapters::open(alloc, config.copy(alloc)?, Rules::of_history())?,
+        Queues::open(alloc, config.copy(alloc)?, Rules::of_history())?,
         events,
         rounds,
         &mut frozen,
@@ -57,7 +57,7 @@ pub fn walk_through(
 
 // Lets the events happen again, and notes at each place what is asked of its round. The rows have to be blank.
 fn walk(
-    mut replay: Adapters,
+    mut replay: Queues,
     events: &[Event],
     rounds: u32,
     frozen: &mut [bool],
@@ -84,7 +84,7 @@ fn walk(
 
 // Notes what there is to note at the place, which may open a round.
 fn note(
-    replay: &Adapters,
+    replay: &Queues,
     rounds: u32,
     opens: bool,
     frozen: &mut [bool],

@@ -1,31 +1,21 @@
--- The device of the row that no other goes before is the head.
-use Rattle.std.proofs.Common.{◌≡◌, ℕ, ◌<◌, ◌==◌, ◌&&◌, ◌||◌, nat_lt, not, Bool, true, false, cond, List, [], ◌∷◌, length, get_or, Option, Some, None, is_some, unwrap_or, option_map, filter, find, inl, inr, ap, sym, subst, refl, ◌∙◌, arith}
-use Rattle.std.proofs.lemmas.Bool.{cases_Bool, cases_lt, not-true, eq-eqb, le-ltb, cond-true, cond-false, false≢true}
-use Rattle.std.proofs.lemmas.Bool.Decides.{nat_tests}
-use Rattle.std.proofs.lemmas.List.{get_or_default, nil_from_length}
-use Rattle.std.proofs.lemmas.List.Elements.{All-nil, All-cons, All-head, All-tail, All-filter, filter_passes}
+-- The first entry is that of the device whose turn it is.
+use Rattle.std.proofs.Common.{◌≡◌, ℕ, ◌<◌, ◌≤◌, ◌==◌, ◌||◌, nat_lt, not, Bool, true, false, cond, List, [], ◌∷◌, length, get_or, Option, Some, None, option_map, filter, find, inl, inr, ap, sym, subst, refl, ◌∙◌, arith}
+use Rattle.std.proofs.lemmas.Bool.{cases_Bool, not-true, eq-eqb, le-ltb, ltb-false, cond-true, cond-false, false≢true}
+use Rattle.std.proofs.lemmas.List.{nil_from_length, length-map}
+use Rattle.std.proofs.lemmas.List.Elements.{All-nil, All-cons, All-head, All-tail}
 use Rattle.std.proofs.lemmas.List.Sums.{AllPass-from_list_all, list_all-from_AllPass}
-use Rattle.std.proofs.lemmas.List.Folds.{list_any_at}
-use Rattle.std.specs.List.{All, list_all}
+use Rattle.std.specs.List.{All, list_all, slice_get}
 use Rattle.cam_types.specs.Lists.{is_less, least_by}
+use Rattle.camq_heap.specs.declared.entry.Entry.{Entry}
+use Rattle.camq_heap.specs.Order.{in_order, AllApart}
+use Rattle.camq_heap.specs.Queue.{Queue, key}
+use Rattle.camq_heap.proofs.OrderLemmas.{IsAmong, IsAmong-get_or, AllRising, AllApart-head, AllApart-tail, AllRising-in_order, IsAmong-in_order, in_order-has, length-in_order}
 use Rattle.sim_queue.specs.declared.row.Row.{Row}
 use Rattle.sim_queue.specs.Adapter.{Adapter, new_row, is_named, turn_key, head, can_send, best_ready}
-use Rattle.sim_queue.specs.Winners.{ready_key, key_at, winner, IsTree}
-use Rattle.sim_queue.proofs.TreeLemmas.{winner-in_range, least_root}
+use Rattle.sim_queue.specs.Turns.{is_ready, entry_of, ready_entries, AreRows, IsInTurn}
+use Rattle.sim_queue.proofs.EntryLemmas.{AllFit, AllFit-from, key_less, same_device, IsEntryOf-among, entry-among, entries-apart}
 
 module _ {X : Type 0} where
-  -- what holds of each element that a filter keeps
-  All-from_filter : (P : X → Type 0) (q : X → Bool) (xs : List X) → All P (filter q xs) → All (λ x. q x ≡ true → P x) xs
-  All-from_filter P q [] h = All-nil (λ x. q x ≡ true → P x)
-  All-from_filter P q (x ∷ xs) h =
-      All-cons (λ y. q y ≡ true → P y) x xs
-      (λ passes. All-head P x (filter q xs) (subst (All P) (cond-true (q x) (x ∷ filter q xs) (filter q xs) passes) h))
-      (All-from_filter P q xs
-      (elim (cases_Bool (q x)) [
-        | inl passes ↦ All-tail P x (filter q xs) (subst (All P) (cond-true (q x) (x ∷ filter q xs) (filter q xs) passes) h)
-        | inr fails ↦ subst (All P) (cond-false (q x) (x ∷ filter q xs) (filter q xs) fails) h
-      ]))
-
   -- what passes is found, up to what all that pass have in common
   find_says : (p : X → Bool) (f : X → ℕ) (d : ℕ) (xs : List X) → All (λ x. p x ≡ true → f x ≡ d) xs → (All (λ x. p x ≡ false) xs → ⊥) → option_map f (find p xs) ≡ Some d
   find_says p f d [] says some = absurd (some (All-nil (λ x. p x ≡ false)))
@@ -37,90 +27,158 @@ module _ {X : Type 0} where
             ∙ find_says p f d xs (All-tail (λ y. p y ≡ true → f y ≡ d) x xs says) (λ none. some (All-cons (λ y. p y ≡ false) x xs fails none))
       ]
 
--- where neither of two lists is less, their first numbers are the same, and neither rest is less
-undecided : (a b : ℕ) (r s : Bool) → (nat_lt a b || ((a == b) && r)) ≡ false → (nat_lt b a || ((b == a) && s)) ≡ false → (a ≡ b) × (r ≡ false) × (s ≡ false)
-undecided a b r s e f =
-    let same : a ≡ b = grind (arith, nat_tests) in
-    let rest = λ (m n : ℕ) (t : Bool) (is : m ≡ n). ap (λ u. u || ((m == n) && t)) (le-ltb m n (omega arith)) ∙ ap (λ u. u && t) (eq-eqb m n is) in
-    (same, sym (rest a b r same) ∙ e, sym (rest b a s (sym same)) ∙ f)
+  -- what holds of all holds of each
+  All-among : (P : X → Type 0) (xs : List X) (x : X) → All P xs → IsAmong x xs → P x
+  All-among P [] x h a = absurd a
+  All-among P (y ∷ ys) x h (inl e) = subst P (sym e) (All-head P y ys h)
+  All-among P (y ∷ ys) x h (inr a) = All-among P ys x (All-tail P y ys h) a
 
-same_device : (y r : Row) → is_less (turn_key y) (turn_key r) ≡ false → is_less (turn_key r) (turn_key y) ≡ false → y.device ≡ r.device
-same_device y r g h =
-    let later = undecided (unwrap_or y.priority 0) (unwrap_or r.priority 0) _ _ g h in
-    let last = undecided y.turn r.turn _ _ later.1 later.2 in
-    (undecided y.device r.device false false last.1 last.2).0
+  All-from_among : (P : X → Type 0) (xs : List X) → ((x : X) → IsAmong x xs → P x) → All P xs
+  All-from_among P xs h = λ k d low. h (get_or xs k d) (IsAmong-get_or xs k d low)
 
--- of ready rows the turn decides
-ready_keys : (y r : Row) → is_some y.priority ≡ true → is_some r.priority ≡ true → is_less (ready_key y) (ready_key r) ≡ is_less (turn_key y) (turn_key r)
-ready_keys y r a b =
-    ap (λ t. is_less (cond t 0 1 ∷ turn_key y) (ready_key r)) a ∙ ap (λ t. is_less (0 ∷ turn_key y) (cond t 0 1 ∷ turn_key r)) b
+  -- those that pass a filter
+  IsAmong-filter : (p : X → Bool) (xs : List X) (x : X) → IsAmong x (filter p xs) → IsAmong x xs × (p x ≡ true)
+  IsAmong-filter p [] x a = absurd a
+  IsAmong-filter p (y ∷ ys) x a =
+      elim (cases_Bool (p y)) [
+        | inl passes ↦ elim (subst (IsAmong x) (cond-true (p y) (y ∷ filter p ys) (filter p ys) passes) a) [
+          | inl e ↦ (inl e, ap p e ∙ passes)
+          | inr b ↦ let w = IsAmong-filter p ys x b in (inr w.0, w.1)
+        ]
+        | inr fails ↦ let w = IsAmong-filter p ys x (subst (IsAmong x) (cond-false (p y) (y ∷ filter p ys) (filter p ys) fails) a) in (inr w.0, w.1)
+      ]
 
-module _ (rows : List Row) (at : ℕ) (r : Row) (inside : at < length rows) (is : get_or rows at r ≡ r) (least : All (λ y. is_less (ready_key y) (ready_key r) ≡ false) rows) where
-  abbrev ready : List Row
-  ready = filter (λ y. is_some y.priority) rows
+  filter-has : (p : X → Bool) (xs : List X) (x : X) → IsAmong x xs → p x ≡ true → IsAmong x (filter p xs)
+  filter-has p [] x a passes = absurd a
+  filter-has p (y ∷ ys) x (inl e) passes =
+      subst (IsAmong x) (sym (cond-true (p y) (y ∷ filter p ys) (filter p ys) (ap p (sym e) ∙ passes))) (inl e)
+  filter-has p (y ∷ ys) x (inr a) passes =
+      elim (cases_Bool (p y)) [
+        | inl here ↦ subst (IsAmong x) (sym (cond-true (p y) (y ∷ filter p ys) (filter p ys) here)) (inr (filter-has p ys x a passes))
+        | inr fails ↦ subst (IsAmong x) (sym (cond-false (p y) (y ∷ filter p ys) (filter p ys) fails)) (filter-has p ys x a passes)
+      ]
 
-  abbrev passes : Row → Bool
-  passes y = list_all (λ z. not (is_less (turn_key z) (turn_key y))) ready
+-- a ready row whose entry's key is no greater than those of the others is that of the head
+module _ (rows : List Row) (sound : AreRows rows) (r : Row) (among : IsAmong r rows) (ready : is_ready r ≡ true)
+    (least : (s : Row) → IsAmong s rows → is_ready s ≡ true → key (entry_of r) ≤ key (entry_of s)) where
+  abbrev ready_rows : List Row
+  ready_rows = filter is_ready rows
 
-  ready_least : is_some r.priority ≡ true → (k : ℕ) (d : Row) → k < length ready → is_less (turn_key (get_or ready k d)) (turn_key r) ≡ false
-  ready_least some k d low =
-      sym (ready_keys (get_or ready k d) r (filter_passes (λ y. is_some y.priority) rows k d low) some)
-      ∙ All-filter (λ y. is_some y.priority) (λ y. is_less (ready_key y) (ready_key r) ≡ false) rows least k d low
+  fit : AllFit rows
+  fit = AllFit-from rows sound
 
-  head-least : (b : Bool) → is_some r.priority ≡ b → head rows ≡ cond b (Some r.device) None
-  head-least true some =
-      let own = λ (P : Row → Type 0) (h : All P ready). subst P is (All-from_filter P (λ y. is_some y.priority) rows h at r inside (ap (λ y. is_some y.priority) is ∙ some)) in
-      find_says passes (λ y. y.device) r.device ready
-      (λ k d low last.
-      let y = get_or ready k d in
-      let before = own (λ z. not (is_less (turn_key z) (turn_key y)) ≡ true) (AllPass-from_list_all (λ z. not (is_less (turn_key z) (turn_key y))) ready last) in
-      same_device y r (ready_least some k d low) (not-true _ before))
-      (λ none. false≢true (sym (own (λ y. passes y ≡ false) none) ∙ list_all-from_AllPass (λ z. not (is_less (turn_key z) (turn_key r))) ready (λ k d low. ap not (ready_least some k d low))))
-  head-least false none =
-      let empty : ready ≡ [] = nil_from_length ready
-      (elim (cases_lt 0 (length ready)) [
-        | inl low ↦
-            let y = get_or ready 0 r in
-            let some = filter_passes (λ y. is_some y.priority) rows 0 r low in
-            let first = All-filter (λ y. is_some y.priority) (λ y. is_less (ready_key y) (ready_key r) ≡ false) rows least 0 r low in
-            absurd (false≢true (sym first ∙ ap (λ t. is_less (cond t 0 1 ∷ turn_key y) (ready_key r)) some ∙ ap (λ t. is_less (0 ∷ turn_key y) (cond t 0 1 ∷ turn_key r)) none))
-        | inr none ↦ omega arith
-      ]) in
-      ap (λ l. option_map (λ y. y.device) (least_by turn_key l)) empty
+  not_before : (s : Row) → IsAmong s ready_rows → is_less (turn_key s) (turn_key r) ≡ false
+  not_before s a =
+      let w = IsAmong-filter is_ready rows s a in
+      sym (key_less s r (fit s w.0) (fit r among)) ∙ le-ltb (key (entry_of s)) (key (entry_of r)) (least s w.0 w.1)
 
--- the row that the root names is that of the head, if it is ready
-pub head-root : (rows : List Row) (ws : List ℕ) (at : ℕ) (r : Row) (b : Bool) → IsTree rows ws → 0 < length rows → at ≡ winner ws 1 → r ≡ get_or rows at r → is_some r.priority ≡ b
-    → head rows ≡ cond b (Some r.device) None
-head-root rows ws at r b tree some root is ready =
-    let inside : at < length rows = omega (arith, winner-in_range ws (length rows) 1 tree.size tree.places (omega arith)) in
-    let own : get_or rows (winner ws 1) (new_row 0) ≡ r = ap (λ k. get_or rows k (new_row 0)) (sym root) ∙ get_or_default rows at (new_row 0) r inside ∙ sym is in
-    head-least rows at r inside (sym is)
-    (λ k d low.
-    ap (λ y. is_less (ready_key y) (ready_key r)) (get_or_default rows k d (new_row 0) low) ∙ ap (λ y. is_less (key_at rows k) (ready_key y)) (sym own)
-    ∙ least_root (key_at rows) ws (λ node positive low _. tree.better node positive low) k (omega (arith, tree.size)))
-    b ready
+  abbrev is_first : Row → Bool
+  is_first s = list_all (λ z. not (is_less (turn_key z) (turn_key s))) ready_rows
 
--- the device whose turn it is is one of the adapter's
-pub named-turn : (a : Adapter) (ws : List ℕ) (device : ℕ) → IsTree a.rows ws → best_ready a ≡ Some device → is_named device a.rows ≡ true
-named-turn a ws device tree is =
-    elim (cases_lt 0 (length a.rows)) [
-      | inl some ↦
-          let at = winner ws 1 in
-          let r = get_or a.rows at (new_row 0) in
-          let inside : at < length a.rows = winner-in_range ws (length a.rows) 1 tree.size tree.places (omega arith) in
-          let e : cond (can_send a) (cond (is_some r.priority) (Some r.device) None) None ≡ Some device =
-          ap (λ o. cond (can_send a) o None) (sym (head-root a.rows ws at r _ tree some refl (get_or_default a.rows at (new_row 0) r inside) refl)) ∙ is in
-          list_any_at (λ s. s.device == device) a.rows at (new_row 0) inside (eq-eqb r.device device (of_some (can_send a) (is_some r.priority) r.device e))
-      | inr none ↦
-          let empty : cond (can_send a) None None ≡ Some device = ap (λ rows. cond (can_send a) (head rows) None) (sym (nil_from_length a.rows (omega arith))) ∙ is in
-          absurd (no_some (can_send a) empty)
-    ]
+  -- no other row is first
+  only : (s : Row) → IsAmong s ready_rows → is_first s ≡ true → s.device ≡ r.device
+  only s a first =
+      let w = IsAmong-filter is_ready rows s a in
+      let later : not (is_less (turn_key r) (turn_key s)) ≡ true =
+      All-among (λ z. not (is_less (turn_key z) (turn_key s)) ≡ true) ready_rows r (AllPass-from_list_all (λ z. not (is_less (turn_key z) (turn_key s))) ready_rows first)
+      (filter-has is_ready rows r among ready) in
+      let behind : nat_lt (key (entry_of r)) (key (entry_of s)) ≡ false = key_less r s (fit r among) (fit s w.0) ∙ not-true _ later in
+      let le = least s w.0 w.1 in
+      same_device s r (fit s w.0) (fit r among) (omega (arith, ltb-false (key (entry_of r)) (key (entry_of s)) behind))
+
+  pub head-least : head rows ≡ Some r.device
+  head-least =
+      find_says is_first (λ s. s.device) r.device ready_rows (All-from_among (λ s. is_first s ≡ true → s.device ≡ r.device) ready_rows only)
+      (λ none.
+      false≢true (sym (All-among (λ s. is_first s ≡ false) ready_rows r none (filter-has is_ready rows r among ready))
+      ∙ list_all-from_AllPass (λ z. not (is_less (turn_key z) (turn_key r))) ready_rows
+      (All-from_among (λ z. not (is_less (turn_key z) (turn_key r)) ≡ true) ready_rows (λ s a. ap not (not_before s a)))))
+
+-- what the first entry says of the rows
+pub record IsHead (rows : List Row) (e : Entry ℕ) : Type 0 where
+  pub row : Row
+  pub among : IsAmong row rows
+  pub ready : is_ready row ≡ true
+  pub is : e ≡ entry_of row
+  pub head_is : head rows ≡ Some row.device
+
+first-head : (rows : List Row) (e : Entry ℕ) (es : List (Entry ℕ)) → AreRows rows → e ∷ es ≡ in_order key (ready_entries rows) → IsHead rows e
+first-head rows e es sound is =
+    let rising : AllRising key (e ∷ es) = subst (AllRising key) (sym is) (AllRising-in_order key (ready_entries rows) (entries-apart rows sound.apart (AllFit-from rows sound))) in
+    let w = IsEntryOf-among e rows (IsAmong-in_order key e (ready_entries rows) (subst (IsAmong e) is (inl refl))) in
+    let least = λ (s : Row) (a : IsAmong s rows) (ready : is_ready s ≡ true).
+    (let at : IsAmong (entry_of s) (e ∷ es) = subst (IsAmong (entry_of s)) (sym is) (in_order-has key (entry_of s) (ready_entries rows) (entry-among s rows a ready)) in
+    let le : key (entry_of w.row) ≤ key (entry_of s) = elim at [ inl same ↦ omega (arith, ap key same, ap key w.is) | inr later ↦ omega (arith, rising.0 (entry_of s) later, ap key w.is) ] in
+    le) in
+    record { row = w.row; among = w.among; ready = w.ready; is = w.is; head_is = head-least rows sound w.row w.among w.ready least }
+
+-- with no entry no row is ready
+none-head : (rows : List Row) → [] ≡ in_order key (ready_entries rows) → head rows ≡ None
+none-head rows is = ap (λ l. option_map (λ r. r.device) (least_by turn_key l)) (nil_from_length (filter is_ready rows) none)
   where
-    of_some : (s t : Bool) (d : ℕ) → cond s (cond t (Some d) None) None ≡ Some device → d ≡ device
-    of_some true true d e = cc
-    of_some true false d e = absurd (cc)
-    of_some false t d e = absurd (cc)
+    none : length (filter is_ready rows) ≡ 0
+    none = omega (arith, length-in_order key (ready_entries rows), length-map (filter is_ready rows) entry_of, ap length is)
 
-    no_some : (s : Bool) → cond {A = Option ℕ} s None None ≡ Some device → ⊥
-    no_some true e = cc
-    no_some false e = cc
+-- the device of the first entry is the head
+pub head-first : (rows : List Row) (es : List (Entry ℕ)) → AreRows rows → es ≡ in_order key (ready_entries rows) → head rows ≡ option_map (λ e. e.item) (slice_get es 0)
+head-first rows [] sound is = none-head rows is
+head-first rows (e ∷ es) sound is = let w = first-head rows e es sound is in w.head_is ∙ ap (λ z. Some z.item) (sym w.is)
+
+-- the device whose turn it is has a row, whose entry is the first
+pub record HasTurn (rows : List Row) (queue : Queue ℕ) (device : ℕ) : Type 0 where
+  pub row : Row
+  pub among : IsAmong row rows
+  pub ready : is_ready row ≡ true
+  pub first : slice_get queue.entries 0 ≡ Some (entry_of row)
+  pub named : row.device ≡ device
+
+pub HasTurn-head : (rows : List Row) (queue : Queue ℕ) (device : ℕ) → IsInTurn rows queue → head rows ≡ Some device → HasTurn rows queue device
+HasTurn-head rows queue device t is = cases queue.entries refl
+  where
+    cases : (es : List (Entry ℕ)) → es ≡ queue.entries → HasTurn rows queue device
+    cases [] same = let none : None ≡ Some device = sym (none-head rows (same ∙ t.entries)) ∙ is in absurd (cc)
+    cases (e ∷ es) same =
+        let w = first-head rows e es t.sound (same ∙ t.entries) in
+        let both : Some w.row.device ≡ Some device = sym w.head_is ∙ is in
+        let named : w.row.device ≡ device = cc in
+        record { row = w.row; among = w.among; ready = w.ready; first = ap (λ l. slice_get l 0) (sym same) ∙ ap Some w.is; named = named }
+
+pub HasTurn-best : (a : Adapter) (queue : Queue ℕ) (device : ℕ) → IsInTurn a.rows queue → best_ready a ≡ Some device → HasTurn a.rows queue device
+HasTurn-best a queue device t is = HasTurn-head a.rows queue device t (of_some (can_send a) (head a.rows) is)
+  where
+    of_some : (s : Bool) (o : Option ℕ) → cond s o None ≡ Some device → o ≡ Some device
+    of_some true o e = e
+    of_some false o e = absurd (cc)
+
+-- rows of one device are one
+pub same_row : (rows : List Row) (r s : Row) → AllApart (λ z. z.device) rows → IsAmong r rows → IsAmong s rows → r.device ≡ s.device → r ≡ s
+same_row [] r s apart a b same = absurd a
+same_row (x ∷ xs) r s apart (inl e) (inl f) same = e ∙ sym f
+same_row (x ∷ xs) r s apart (inl e) (inr b) same = absurd (AllApart-head (λ z. z.device) x xs apart s b (sym same ∙ ap (λ z. z.device) e))
+same_row (x ∷ xs) r s apart (inr a) (inl f) same = absurd (AllApart-head (λ z. z.device) x xs apart r a (same ∙ ap (λ z. z.device) f))
+same_row (x ∷ xs) r s apart (inr a) (inr b) same = same_row xs r s (AllApart-tail (λ z. z.device) x xs apart) a b same
+
+-- it is named among the rows
+pub named-turn : (rows : List Row) (queue : Queue ℕ) (device : ℕ) → HasTurn rows queue device → is_named device rows ≡ true
+named-turn rows queue device w = go rows w.among
+  where
+    or_true : (b : Bool) → (b || true) ≡ true
+    or_true true = refl
+    or_true false = refl
+
+    go : (xs : List Row) → IsAmong w.row xs → is_named device xs ≡ true
+    go [] a = absurd a
+    go (x ∷ xs) (inl e) = ap (λ b. b || is_named device xs) (eq-eqb x.device device (ap (λ z. z.device) (sym e) ∙ w.named))
+    go (x ∷ xs) (inr a) = ap (λ b. (x.device == device) || b) (go xs a) ∙ or_true (x.device == device)
+
+-- it stands where a call that saw the rows found the device
+pub turn_row : (rows seen : List Row) (queue : Queue ℕ) (device at : ℕ) → AreRows rows → seen ≡ rows → at < length seen → ((d : Row) → (get_or seen at d).device ≡ device) → (w : HasTurn rows queue device)
+    → w.row ≡ get_or rows at (new_row 0)
+turn_row rows seen queue device at sound same inside named w =
+    same_row rows w.row (get_or rows at (new_row 0)) sound.apart w.among (IsAmong-get_or rows at (new_row 0) (omega (arith, ap length same)))
+    (w.named ∙ sym (subst (λ l. (get_or l at (new_row 0)).device ≡ device) same (named (new_row 0))))
+
+-- where the adapter can send, the first entry says which device is best
+pub best-first : (a : Adapter) (rows : List Row) (queue : Queue ℕ) → a.rows ≡ rows → IsInTurn rows queue → true ≡ can_send a → best_ready a ≡ option_map (λ e. e.item) (slice_get queue.entries 0)
+best-first a rows queue same t can =
+    ap (λ b. cond b (head a.rows) None) (sym can) ∙ ap head same ∙ head-first rows queue.entries t.sound t.entries

@@ -1,3 +1,4 @@
-pub mod TreeLemmas
+pub mod EntryLemmas
+pub mod TurnLemmas
 pub mod HeadLemmas
 pub mod RowLemmas

@@ -1,2 +1,2 @@
 pub mod Adapter
-pub mod Winners
+pub mod Turns

@@ -8,6 +8,6 @@ pub use queue::SimQueue;
 
 mod fault;
 mod queue;
+mod ready;
 mod row;
 mod rows;
-mod winners;

@@ -1,22 +1,24 @@
 //! The queue of one adapter, by its public calls.
 
 use crate::fault::{FreezeOverflow, ReleaseTooMany};
+use crate::ready::{change_ready, requeue_first};
 use crate::row::Row;
-use crate::rows::{new_rows, place_of};
-use crate::winners::{first_device, new_winners, put_row};
+use crate::rows::{new_rows, row_of};
 use cam_types::{MOST_FREEZES, Priority};
+use camq_heap::Camq;
 use std::alloc::{AllocError, Global};
 use std::marker::Model;
 
 /// An adapter's choice among its devices: which of the ready ones sends next.
 ///
 /// Devices take turns by the priority of their first CCB, then least recently sent to, one never sent to
-/// before all others, then by number. The head stands at the root of a winner tree, so `set_ready` and
-/// `send` take a binary search and one walk up the tree. Nothing grows after `open`.
+/// before all others, then by number (the last two are rules of this project). The ready ones stand in a
+/// `Camq`, whose first entry is the head: `best_ready` reads it, and `set_ready` takes a time that grows as the
+/// square of the number of ready devices. Nothing grows after `open`.
 #[derive(Drop)]
 pub struct SimQueue {
     rows: Vec<Row>,
-    winners: Vec<usize>,
+    ready: Camq<u32>,
     openings: u32,
     sent: u32,
     callers: u32,
@@ -24,7 +26,7 @@ pub struct SimQueue {
 
 impl Model for SimQueue {
     ghost use Rattle.sim_queue.specs.Adapter.{Adapter};
-    ghost use Rattle.sim_queue.specs.Winners.{IsSound};
+    ghost use Rattle.sim_queue.specs.Turns.{IsSound};
 
     ghost Value = { Adapter };
 
@@ -35,24 +37,23 @@ impl Model for SimQueue {
       callers = a.callers;
     } };
 
-    ghost invariant = { λ a. IsSound a.rows.items a.winners.items a.callers };
+    ghost invariant = { λ a. IsSound a.rows.items a.ready a.callers };
 }
 
 impl SimQueue {
-    ghost use Rattle.std.specs.Prelude.{◌≡◌, ℕ, ◌+◌, ◌-◌, ◌^◌, ◌<◌, ◌≤◌, ◌==◌, ◌↔◌, nat_le, not, true, Some, map, IfOk, IsOk, OnOk, OnErr};
-    ghost use Rattle.std.specs.List.Sorted.{IsStrictlyIncreasing};
+    ghost use Rattle.std.specs.Prelude.{◌≡◌, ◌≢◌, ℕ, ◌+◌, ◌-◌, ◌<◌, ◌≤◌, ◌==◌, ◌↔◌, nat_le, not, true, Some, map, IfOk, IsOk, OnOk, OnErr};
+    ghost use Rattle.std.specs.List.{AllPairs};
     ghost use Rattle.sim_queue.specs.Adapter.{new_row, is_named, with_priority, with_send, can_send, best_ready};
 
-    /// A queue for these devices, of rising numbers, with so many openings in each round. No device is
+    /// A queue for these devices, each named once, with that many openings in each round. No device is
     /// ready, and none was sent to.
     pub fn open(alloc: Global, openings: u32, devices: &[u32]) -> Result<SimQueue, AllocError>
-        requires { IsStrictlyIncreasing devices.now }
+        requires { AllPairs (λ x y. x ≢ y) devices.now }
         ensures { IfOk result (λ a. a ≡ record { rows = map new_row devices.now; openings = openings; sent = 0; callers = 0 }) }
     {
-        let rows = new_rows(alloc, devices)?;
         Ok(SimQueue {
-            winners: new_winners(alloc, &rows)?,
-            rows,
+            rows: new_rows(alloc, devices)?,
+            ready: Camq::with_capacity(alloc, devices.len())?,
             openings,
             sent: 0,
             callers: 0,
@@ -107,12 +108,13 @@ impl SimQueue {
         requires { is_named device self.old.rows ≡ true }
         ensures { self.new ≡ record self.old { rows = with_priority device priority self.old.rows } }
     {
-        let at = place_of(&self.rows, device);
+        let at = row_of(&self.rows, device);
         let row = Row {
             priority,
             ..self.rows[at]
         };
-        put_row(&mut self.rows, &mut self.winners, at, row);
+        change_ready(&mut self.ready, &self.rows, at, row.priority);
+        self.rows[at] = row;
     }
 
     /// The device whose turn it is; none while the adapter is frozen or has used its openings.
@@ -122,7 +124,8 @@ impl SimQueue {
         if !self.can_send() {
             return None;
         }
-        first_device(&self.rows, &self.winners)
+        let first = self.ready.first()?;
+        Some(first.item)
     }
 
     // Whether no freeze holds and an opening of this round is left.
@@ -139,12 +142,10 @@ impl SimQueue {
         requires place { place < 65535 }
         ensures { self.new ≡ record self.old { rows = with_send device place self.old.rows; sent = self.old.sent + 1 } }
     {
-        let at = place_of(&self.rows, device);
-        let row = Row {
-            turn: place + 1,
-            ..self.rows[at]
-        };
-        put_row(&mut self.rows, &mut self.winners, at, row);
+        let at = row_of(&self.rows, device);
+        let turn = place + 1;
+        requeue_first(&mut self.ready, &self.rows, at, turn);
+        self.rows[at].turn = turn;
         self.sent += 1;
     }
 

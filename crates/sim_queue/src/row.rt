@@ -15,12 +15,12 @@ pub struct Row {
 
 impl Row {
     ghost use Rattle.std.specs.Prelude.{◌≡◌};
-    ghost use Rattle.cam_types.specs.Lists.{is_less};
-    ghost use Rattle.sim_queue.specs.Winners.{ready_key};
+    ghost use Rattle.sim_queue.specs.Turns.{goes_before, generation};
 
-    /// Whether this device goes before the other: a ready one before one that isn't, then by turn.
+    /// Whether both devices are ready, and this one goes before the other: by priority, then the one that was
+    /// sent to longer ago, one never sent to before all others, then by number.
     pub(crate) fn goes_before(&self, other: &Row) -> bool
-        ensures { result ≡ is_less (ready_key self.now) (ready_key other.now) }
+        ensures { result ≡ goes_before self.now other.now }
     {
         let longer_ago = if self.turn == other.turn {
             self.device < other.device
@@ -29,8 +29,16 @@ impl Row {
         };
         match (self.priority, other.priority) {
             (Some(mine), Some(theirs)) => mine < theirs || (mine == theirs && longer_ago),
-            (None, None) => longer_ago,
-            (mine, _) => mine.is_some(),
+            _ => false,
         }
+    }
+
+    /// The device's generation in the queue of the ready ones: of two devices of one priority, the one with the
+    /// lesser goes first. No other device has the same.
+    pub(crate) fn generation(&self) -> u64
+        ensures { result ≡ generation self.now }
+    {
+        let (turn, device) = (self.turn, self.device);
+        u64::from(turn) * (1 << 32) + u64::from(device)
     }
 }

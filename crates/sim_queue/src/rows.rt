@@ -1,6 +1,6 @@
-//! The rows of an adapter's devices, by number.
-ghost use Rattle.std.specs.Prelude.{◌≡◌, ℕ, ◌<◌, true, length, slice_index_or, map, IfOk};
-ghost use Rattle.std.specs.List.Sorted.{IsStrictlyIncreasing};
+//! The rows of an adapter's devices, in the order in which they were named.
+ghost use Rattle.std.specs.Prelude.{◌≡◌, ℕ, ◌^◌, ◌<◌, true, length, slice_index_or, map, IfOk};
+ghost use Rattle.std.specs.List.{All};
 ghost use Rattle.sim_queue.specs.Adapter.{new_row, is_named};
 ghost use Rattle.sim_queue.specs.declared.row.Row.{Row};
 
@@ -9,7 +9,8 @@ use std::alloc::{AllocError, Global};
 
 /// The rows of these devices, none ready and none sent to.
 pub(crate) fn new_rows(alloc: Global, devices: &[u32]) -> Result<Vec<Row>, AllocError>
-    ensures { IfOk result (λ rows. rows.items ≡ map new_row devices.now) }
+    ensures rows { IfOk result (λ rows. rows.items ≡ map new_row devices.now) }
+    ensures numbers { IfOk result (λ rows. All (λ r. r.device < 2 ^ 32) rows.items) }
 {
     let mut rows = Vec::with_capacity(alloc, devices.len())?;
     for device in devices {
@@ -23,11 +24,15 @@ pub(crate) fn new_rows(alloc: Global, devices: &[u32]) -> Result<Vec<Row>, Alloc
 }
 
 /// The place of a device's row, which is there.
-pub(crate) fn place_of(rows: &[Row], device: u32) -> usize
-    requires rising { IsStrictlyIncreasing (map (λ r. r.device) rows.now) }
-    requires named { is_named device rows.now ≡ true }
+pub(crate) fn row_of(rows: &[Row], device: u32) -> usize
+    requires { is_named device rows.now ≡ true }
     ensures in_range { result < length rows.now }
     ensures device { (d : Row) → (slice_index_or rows.now result d).device ≡ device }
 {
-    rows.partition_point(|row| row.device < device)
+    for (at, row) in rows.iter().enumerate() {
+        if row.device == device {
+            return at;
+        }
+    }
+    unreachable!()
 }

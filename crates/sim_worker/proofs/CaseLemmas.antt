@@ -7,44 +7,45 @@ use Rattle.std.proofs.lemmas.Bool.{lt-ltb}
 use Rattle.cam_types.specs.Topology.{Topology}
 use Rattle.cam_types.specs.Questions.{lane_adapter, names_lane}
 use Rattle.cam_types.specs.declared.outcome.Outcome.{Outcome}
-use Rattle.cam_event.specs.Classes.{status_of, is_one_of, sense_kind, scsi_kind, kind_of, class_of, classify, asks_requeue, asks_finish}
-use Rattle.cam_event.specs.Sense.{read_sense}
-use Rattle.cam_event.specs.declared.sense.Sense.{Sense}
-use Rattle.cam_event.specs.declared.class.Kind.{Kind}
-use Rattle.cam_event.specs.declared.class.Kind.TheVariants as kinds
-use Rattle.cam_event.specs.declared.class.Why.TheVariants as whys
-use Rattle.cam_event.specs.declared.class.Class as class
-use Rattle.cam_event.specs.declared.class.Class.TheVariants.{CountedRequeue, Fail}
-use Rattle.cam_event.specs.Event.{is_some_and, is_done_of, concerns, outcome_of, is_erring}
-use Rattle.cam_event.specs.Counts.{ccbs, last_result, counted_requeues, retries_of, is_recovering, is_in_flight}
-use Rattle.cam_event.specs.Head.{head, next}
-use Rattle.cam_event.specs.declared.event.Event.{Event}
-use Rattle.cam_event.specs.declared.event.Event.TheVariants.{Send, Done, Requeue, Finish}
-use Rattle.cam_event.proofs.CcbLaws.{event-induction, last_result-push}
-use Rattle.cam_event.proofs.StateLaws.{is_recovering-push}
-use Rattle.cam_event.specs.Legal.{Rules, is_legal}
-use Rattle.cam_event.specs.Laws.{last_class}
-use Rattle.cam_event.specs.Refusals.{first_cause, refusal}
-use Rattle.cam_event.specs.declared.refusal.Refusal.{Refusal}
-use Rattle.cam_event.specs.declared.refusal.Refusal.TheVariants as refusals
-use Rattle.cam_event.proofs.LegalLemmas.{legal-none}
-use Rattle.cam_event.proofs.StandLemmas.{asks-send, states-legal}
-use Rattle.cam_event.proofs.FirstLemmas.{first-legal, stands}
-use Rattle.xpt_ccbs.specs.Cases.{cases}
-use Rattle.xpt_ccbs.specs.Laws.{is_for_room}
-use Rattle.xpt_ccbs.proofs.LawLemmas.{first_case_recovers, asked_decisions_are_taken}
-use Rattle.xpt_devices.specs.Transport.{Transport}
-use Rattle.xpt_state.specs.Calls.{refused, lane_refused}
+use Rattle.sense_class.specs.Classes.{status_of, is_one_of, sense_kind, scsi_kind, kind_of, class_of, classify, asks_requeue, asks_finish}
+use Rattle.sense_class.specs.Sense.{read_sense}
+use Rattle.sense_class.specs.declared.sense.Sense.{Sense}
+use Rattle.sense_class.specs.declared.class.Kind.{Kind}
+use Rattle.sense_class.specs.declared.class.Kind.TheVariants as kinds
+use Rattle.sense_class.specs.declared.class.Why.TheVariants as whys
+use Rattle.sense_class.specs.declared.class.Class as class
+use Rattle.sense_class.specs.declared.class.Class.TheVariants.{CountedRequeue, Fail}
+use Rattle.event_rules.specs.Event.{is_some_and, is_done_of, concerns, outcome_of, is_erring}
+use Rattle.event_rules.specs.Counts.{ccbs, last_result, counted_requeues, retries_of, is_recovering, is_in_flight}
+use Rattle.event_rules.specs.Head.{head, next}
+use Rattle.event_rules.specs.declared.event.Event.{Event}
+use Rattle.event_rules.specs.declared.event.Event.TheVariants.{Send, Done, Requeue, Finish}
+use Rattle.event_rules.proofs.CcbLaws.{event-induction, last_result-push}
+use Rattle.event_rules.proofs.StateLaws.{is_recovering-push}
+use Rattle.event_rules.specs.Legal.{Rules, is_legal}
+use Rattle.event_rules.specs.Laws.{last_class}
+use Rattle.event_rules.specs.Refusals.{first_cause, refusal}
+use Rattle.event_rules.specs.declared.refusal.Refusal.{Refusal}
+use Rattle.event_rules.specs.declared.refusal.Refusal.TheVariants as refusals
+use Rattle.event_rules.proofs.LegalLemmas.{legal-none}
+use Rattle.event_rules.proofs.StandLemmas.{asks-send, states-legal}
+use Rattle.event_rules.proofs.FirstLemmas.{first-legal, stands}
+use Rattle.xpt_core.specs.Cases.{cases}
+use Rattle.xpt_core.specs.Laws.{is_for_room}
+use Rattle.xpt_core.proofs.LawLemmas.{first_case_recovers, asked_decisions_are_taken}
+use Rattle.xpt_core.specs.Transport.{Transport}
+use Rattle.xpt_core.specs.Takes.{refused}
+use Rattle.xpt_state.specs.Calls.{lane_refused}
 use Rattle.xpt_state.specs.Idle.{idle}
 use Rattle.xpt_state.specs.Looks.{next_case, case_of, has_head}
 use Rattle.xpt_state.specs.declared.idle.Idle.{Idle}
 use Rattle.xpt_state.specs.declared.look.Case.{Case}
 use Rattle.xpt_state.proofs.IdleLemmas.{idle_is_no_next, is_some-next_head}
-use Rattle.xpt_state.proofs.SendLemmas.{lane_named}
-use Rattle.cam_event.proofs.QueueLaws.{test_le}
+use Rattle.cam_types.proofs.LaneLemmas.{lane_named}
+use Rattle.event_rules.proofs.QueueLaws.{test_le}
 use Rattle.sim_worker.specs.Work.{decision_of, is_full}
-use Rattle.run_rules.specs.Held.{is_for_stays, is_held_up}
-use Rattle.run_rules.proofs.ListFacts.{some_is}
+use Rattle.sim_worker.specs.Held.{is_for_stays, is_held_up}
+use Rattle.sim_worker.proofs.RunListFacts.{some_is}
 use Rattle.sim_worker.proofs.FullLemmas.{false_true}
 
 -- a CCB that is sent wasn't in flight

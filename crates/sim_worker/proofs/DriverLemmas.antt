@@ -5,21 +5,21 @@ use Rattle.std.specs.List.{list_all}
 use Rattle.std.proofs.lemmas.Bool.{and_from, ne_eqb, eqb-true}
 use Rattle.std.proofs.lemmas.List.Elements.{filter-append}
 use Rattle.std.proofs.lemmas.List.Folds.{list_all-append}
-use Rattle.cam_event.specs.Counts.{round}
-use Rattle.cam_event.specs.declared.event.Event.{Event}
-use Rattle.cam_event.specs.declared.event.Event.TheVariants.{Submit, Send, Done, Requeue, Finish, FreezeDev, ReleaseDev, FreezeSim, ReleaseSim, Adjust, Tick}
-use Rattle.cam_event.proofs.ListFacts.{filter_map-push}
-use Rattle.cam_event.proofs.QueueLaws.{le_test, test_le}
-use Rattle.cam_event.proofs.TurnLaws.{round-more}
+use Rattle.event_rules.specs.Counts.{round}
+use Rattle.event_rules.specs.declared.event.Event.{Event}
+use Rattle.event_rules.specs.declared.event.Event.TheVariants.{Submit, Send, Done, Requeue, Finish, FreezeDev, ReleaseDev, FreezeSim, ReleaseSim, Adjust, Tick}
+use Rattle.event_rules.proofs.ListFacts.{filter_map-push}
+use Rattle.event_rules.proofs.QueueLaws.{le_test, test_le}
+use Rattle.event_rules.proofs.TurnLaws.{round-more}
 use Rattle.cam_types.specs.Topology.{Topology}
-use Rattle.cam_event.proofs.TestLemmas.{list_all-weaker}
+use Rattle.event_rules.proofs.TestLemmas.{list_all-weaker}
 use Rattle.trace_file.specs.Scenarios.{Scenario, is_ruled}
 use Rattle.trace_file.specs.declared.step.Step.{Step}
 use Rattle.trace_file.specs.declared.step.Step.TheVariants as step
-use Rattle.run_rules.specs.Runs.{is_submit_by, submits, submit_asked, submits_asked, is_over}
+use Rattle.sim_worker.specs.Runs.{is_submit_by, submits, submit_asked, submits_asked, is_over}
 use Rattle.sim_worker.specs.Work.{HasDone, AreDriversAt, steps_of}
 use Rattle.sim_worker.specs.declared.work.Driver.{Driver}
-use Rattle.run_rules.proofs.ListFacts.{get_in_set, take_one}
+use Rattle.sim_worker.proofs.RunListFacts.{get_in_set, take_one}
 
 -- a pause that is over stays so
 over_later : (now later : ℕ) → now ≤ later → (one : Step) → is_over now one ≡ true → is_over later one ≡ true

@@ -4,16 +4,16 @@ use Rattle.std.specs.Prelude.{not, nat_le, nat_lt, is_none}
 use Rattle.std.specs.List.{list_all}
 use Rattle.std.proofs.lemmas.Bool.{and_parts, and_from, ltb-false}
 use Rattle.cam_types.specs.Topology.{Topology}
-use Rattle.cam_event.specs.Counts.{has_in_flight, round}
-use Rattle.cam_event.proofs.QueueLaws.{test_le}
-use Rattle.cam_event.specs.declared.event.Event.{Event}
-use Rattle.cam_event.specs.declared.event.Event.TheVariants.{Submit, Send, Done, Requeue, Finish, FreezeDev, ReleaseDev, FreezeSim, ReleaseSim, Adjust, Tick}
-use Rattle.cam_event.specs.Legal.{Rules, is_legal_event, is_allowed}
-use Rattle.cam_event.specs.Refusals.{causes, first_cause, refusal}
-use Rattle.cam_event.specs.declared.refusal.Refusal.{Refusal}
-use Rattle.cam_event.specs.declared.refusal.Refusal.TheVariants.{HistoryFull, RoundsFull, InFlight}
+use Rattle.event_rules.specs.Counts.{has_in_flight, round}
+use Rattle.event_rules.proofs.QueueLaws.{test_le}
+use Rattle.event_rules.specs.declared.event.Event.{Event}
+use Rattle.event_rules.specs.declared.event.Event.TheVariants.{Submit, Send, Done, Requeue, Finish, FreezeDev, ReleaseDev, FreezeSim, ReleaseSim, Adjust, Tick}
+use Rattle.event_rules.specs.Legal.{Rules, is_legal_event, is_allowed}
+use Rattle.event_rules.specs.Refusals.{causes, first_cause, refusal}
+use Rattle.event_rules.specs.declared.refusal.Refusal.{Refusal}
+use Rattle.event_rules.specs.declared.refusal.Refusal.TheVariants.{HistoryFull, RoundsFull, InFlight}
 use Rattle.sim_worker.specs.Work.{is_full}
-use Rattle.cam_event.proofs.LegalLemmas.{legal-unrefused}
+use Rattle.event_rules.proofs.LegalLemmas.{legal-unrefused}
 
 abbrev pub says_full : Option Refusal → Bool
 says_full (Some (HistoryFull n)) = true

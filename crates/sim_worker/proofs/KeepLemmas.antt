@@ -6,28 +6,28 @@ use Rattle.std.specs.List.{list_any, list_all}
 use Rattle.std.proofs.lemmas.Bool.{and_parts, and_from, lt-ltb, ltb-true, ltb-false}
 use Rattle.std.proofs.lemmas.List.Elements.{filter_map-append}
 use Rattle.cam_types.specs.Topology.{Topology}
-use Rattle.cam_event.specs.Classes.{asks_requeue}
-use Rattle.cam_event.specs.Event.{is_some_and}
-use Rattle.cam_event.specs.Counts.{round, ccbs, has_in_flight, is_in_flight}
-use Rattle.cam_event.specs.Head.{head}
-use Rattle.cam_event.specs.Stays.{stays_begun}
-use Rattle.cam_event.specs.declared.event.Event.TheVariants.{Requeue}
-use Rattle.cam_event.specs.Legal.{Rules}
+use Rattle.sense_class.specs.Classes.{asks_requeue}
+use Rattle.event_rules.specs.Event.{is_some_and}
+use Rattle.event_rules.specs.Counts.{round, ccbs, has_in_flight, is_in_flight}
+use Rattle.event_rules.specs.Head.{head}
+use Rattle.event_rules.specs.Stays.{stays_begun}
+use Rattle.event_rules.specs.declared.event.Event.TheVariants.{Requeue}
+use Rattle.event_rules.specs.Legal.{Rules}
 use Rattle.trace_file.specs.declared.step.Step.{Step}
-use Rattle.xpt_state.specs.Calls.{refused}
+use Rattle.xpt_core.specs.Takes.{refused}
 use Rattle.xpt_state.specs.Looks.{next_case, has_head}
-use Rattle.run_rules.specs.Endings.{IsDrained}
-use Rattle.run_rules.specs.Runs.{submits, submit_asked, submits_asked, is_over, are_lanes_idle, is_stuck, may_recovery_rest, may_tick, IsPrefix}
+use Rattle.sim_worker.specs.Endings.{IsDrained}
+use Rattle.sim_worker.specs.Runs.{submits, submit_asked, submits_asked, is_over, are_lanes_idle, is_stuck, may_recovery_rest, may_tick, IsPrefix}
 use Rattle.sim_worker.specs.Work.{Work, IsWork, IsAtEnd, actor_at, is_able, steps_of}
-use Rattle.run_rules.specs.Held.{is_for_stays, is_held_up}
+use Rattle.sim_worker.specs.Held.{is_for_stays, is_held_up}
 use Rattle.sim_worker.specs.declared.actor.Actor.TheVariants as actors
 use Rattle.sim_worker.specs.declared.work.Hand.{Hand}
 use Rattle.sim_worker.specs.declared.work.Lane.{Lane}
 use Rattle.sim_worker.proofs.CaseLemmas.{none_recovers}
 use Rattle.sim_worker.proofs.FullLemmas.{false_true}
 use Rattle.sim_worker.proofs.ListFacts.{any_some, none_any, take_and_drop}
-use Rattle.run_rules.proofs.RestLemmas.{stays_full}
-use Rattle.run_rules.proofs.ListFacts.{get_there, take_whole, there_is}
+use Rattle.sim_worker.proofs.RestLemmas.{stays_full}
+use Rattle.sim_worker.proofs.RunListFacts.{get_there, take_whole, there_is}
 
 abbrev pub AllRest : Work → Type 0
 AllRest w = (i : ℕ) → i < 9 + length w.lanes → is_able w (actor_at (length w.lanes) i) ≡ false

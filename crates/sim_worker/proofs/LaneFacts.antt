@@ -7,24 +7,24 @@ use Rattle.std.proofs.lemmas.Bool.{eq-eqb, ne_eqb, eqb-true}
 use Rattle.cam_types.proofs.ListLemmas.{moments-push}
 use Rattle.cam_types.specs.Lists.{moments}
 use Rattle.cam_types.specs.declared.outcome.Outcome.{Outcome}
-use Rattle.cam_event.specs.Event.{is_some_and, is_send_of, is_done_of, is_send_or_done_of}
-use Rattle.cam_event.specs.Counts.{last, is_in_flight}
-use Rattle.cam_event.specs.declared.event.Event.{Event}
-use Rattle.cam_event.specs.declared.event.Event.TheVariants.{Send, Done}
-use Rattle.cam_event.proofs.ListFacts.{filter_map-push}
-use Rattle.cam_event.proofs.StateLaws.{last-push, is_in_flight-push}
+use Rattle.event_rules.specs.Event.{is_some_and, is_send_of, is_done_of, is_send_or_done_of}
+use Rattle.event_rules.specs.Counts.{last, is_in_flight}
+use Rattle.event_rules.specs.declared.event.Event.{Event}
+use Rattle.event_rules.specs.declared.event.Event.TheVariants.{Send, Done}
+use Rattle.event_rules.proofs.ListFacts.{filter_map-push}
+use Rattle.event_rules.proofs.StateLaws.{last-push, is_in_flight-push}
 use Rattle.std.proofs.lemmas.List.{map-append}
 use Rattle.trace_file.specs.Scenarios.{Scenario, is_answer}
-use Rattle.run_rules.specs.declared.served.Served.{Served}
-use Rattle.cam_event.proofs.ShareLaws.{same_number, flies-send}
-use Rattle.run_rules.specs.Ports.{PortState, answer_at, first_answers, outcomes}
-use Rattle.run_rules.proofs.PortLemmas.{given-push}
-use Rattle.run_rules.specs.Runs.{lane_of, sender, outcome_by, outcomes_by}
+use Rattle.sim_worker.specs.declared.served.Served.{Served}
+use Rattle.event_rules.proofs.ShareLaws.{same_number, flies-send}
+use Rattle.sim_worker.specs.Ports.{PortState, answer_at, first_answers, outcomes}
+use Rattle.sim_worker.proofs.PortLemmas.{given-push}
+use Rattle.sim_worker.specs.Runs.{lane_of, sender, outcome_by, outcomes_by}
 use Rattle.sim_worker.specs.Work.{HasServed, AreLanesAt, IsInHand, AreInHand, outcome_in_hand}
 use Rattle.sim_worker.specs.declared.work.Hand.{Hand}
 use Rattle.sim_worker.specs.declared.work.Lane.{Lane}
 use Rattle.sim_worker.proofs.ListFacts.{set_at}
-use Rattle.run_rules.proofs.ListFacts.{get_in_set, set_beside}
+use Rattle.sim_worker.proofs.RunListFacts.{get_in_set, set_beside}
 
 sender_cases : (e : Event) (t : Bool) (o : Option Event) → option_and_then lane_of (cond t (Some e) o) ≡ cond t (lane_of e) (option_and_then lane_of o)
 sender_cases e true o = refl

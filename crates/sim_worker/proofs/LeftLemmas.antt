@@ -2,10 +2,10 @@
 use Rattle.std.proofs.Common.{◌≡◌, ℕ, zero, suc, ◌+◌, ◌<◌, ◌≤◌, Bool, true, false, List, [], ◌∷◌, length, set, sym, ap, ◌∙◌, subst, arith, Some, length-append}
 use Rattle.std.specs.Prelude.{slice_get}
 use Rattle.std.proofs.lemmas.List.Sums.{sum_by-cons}
-use Rattle.cam_event.specs.declared.event.Event.{Event}
+use Rattle.event_rules.specs.declared.event.Event.{Event}
 use Rattle.trace_file.specs.Scenarios.{Scenario}
-use Rattle.xpt_devices.specs.Transport.{Transport}
-use Rattle.xpt_state.specs.Steps.{IsTaken}
+use Rattle.xpt_core.specs.Transport.{Transport}
+use Rattle.xpt_core.specs.Takes.{IsTaken}
 use Rattle.sim_worker.specs.declared.work.Lane.{Lane}
 use Rattle.sim_worker.specs.Work.{Work, fresh, fresh_drivers, left}
 use Rattle.sim_worker.specs.declared.work.Driver.{Driver}

@@ -2,7 +2,7 @@
 use Rattle.std.proofs.Common.{◌≡◌, ℕ, zero, suc, ◌<◌, Bool, true, false, List, [], ◌∷◌, ◌++◌, length, set, get_or, map, refl, sym, ap, ◌∙◌, arith, Some}
 use Rattle.std.specs.Prelude.{◌||◌, take, drop, slice_get}
 use Rattle.std.specs.List.{list_any}
-use Rattle.run_rules.proofs.ListFacts.{some_is}
+use Rattle.sim_worker.proofs.RunListFacts.{some_is}
 
 pub set_at : {X : Type 0} → (xs : List X) (i : ℕ) (y w : X) → slice_get xs i ≡ Some w → slice_get (set xs i y) i ≡ Some y
 set_at [] i y w h = absurd (cc)

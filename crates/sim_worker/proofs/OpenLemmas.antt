@@ -1,18 +1,18 @@
 -- a run on one thread before its first turn
 use Rattle.std.proofs.Common.{◌≡◌, ℕ, zero, suc, ◌≤◌, true, false, List, [], ◌∷◌, ◌++◌, length, get_or, replicate, inl, inr, refl, sym, ap, ◌∙◌, subst, arith, Some, None}
 use Rattle.std.specs.Prelude.{slice_get}
-use Rattle.cam_event.specs.Counts.{is_in_flight}
+use Rattle.event_rules.specs.Counts.{is_in_flight}
 use Rattle.cam_types.specs.Topology.{Topology}
-use Rattle.cam_event.specs.Legal.{Rules, rules_of, is_legal}
+use Rattle.event_rules.specs.Legal.{Rules, rules_of, is_legal}
 use Rattle.trace_file.specs.Scenarios.{Scenario, IsScenario}
-use Rattle.xpt_devices.specs.Transport.{Transport}
-use Rattle.run_rules.specs.Ports.{first_answers, outcomes}
-use Rattle.run_rules.specs.Runs.{outcomes_by}
+use Rattle.xpt_core.specs.Transport.{Transport}
+use Rattle.sim_worker.specs.Ports.{first_answers, outcomes}
+use Rattle.sim_worker.specs.Runs.{outcomes_by}
 use Rattle.sim_worker.specs.Work.{IsWork, AreFresh, HasDone, steps_of}
 use Rattle.sim_worker.specs.declared.work.Driver.{Driver}
 use Rattle.sim_worker.specs.declared.work.Lane.{Lane}
 use Rattle.sim_worker.proofs.FullLemmas.{false_true}
-use Rattle.run_rules.proofs.ListFacts.{get_pushed, some_is}
+use Rattle.sim_worker.proofs.RunListFacts.{get_pushed, some_is}
 
 in_replicate : (n d : ℕ) (x w : Driver) → slice_get (replicate n x) d ≡ Some w → w ≡ x
 in_replicate zero d x w h = absurd (cc)

@@ -4,20 +4,20 @@ use Rattle.std.specs.List.{range_with_len}
 use Rattle.std.proofs.lemmas.List.{length-map}
 use Rattle.std.proofs.lemmas.List.FromFn.{length-range_with_len}
 use Rattle.cam_types.specs.declared.outcome.Outcome.{Outcome}
-use Rattle.cam_event.specs.Legal.{Rules, is_legal}
-use Rattle.cam_event.specs.Past.{Past}
+use Rattle.event_rules.specs.Legal.{Rules, is_legal}
+use Rattle.event_rules.specs.Past.{Past}
 use Rattle.cam_types.specs.Topology.{Topology}
-use Rattle.run_rules.specs.Endings.{IsEnding}
-use Rattle.run_rules.specs.Ports.{answer_at, first_answers}
-use Rattle.run_rules.specs.Runs.{outcomes_by}
+use Rattle.sim_worker.specs.Endings.{IsEnding}
+use Rattle.sim_worker.specs.Ports.{answer_at, first_answers}
+use Rattle.sim_worker.specs.Runs.{outcomes_by}
 use Rattle.sim_worker.specs.SimRuns.{IsSimRun}
 use Rattle.sim_worker.specs.Work.{Work, IsWork, outcome_in_hand}
-use Rattle.run_rules.specs.declared.ending.Ending.{Ending}
+use Rattle.sim_worker.specs.declared.ending.Ending.{Ending}
 use Rattle.sim_worker.specs.declared.work.Hand.{Hand}
 use Rattle.sim_worker.proofs.KeepLemmas.{prefixes}
 use Rattle.sim_worker.proofs.ListFacts.{heads, tails}
-use Rattle.run_rules.proofs.ListFacts.{get_there}
-use Rattle.run_rules.proofs.PortLemmas.{first_answers-push}
+use Rattle.sim_worker.proofs.RunListFacts.{get_there}
+use Rattle.sim_worker.proofs.PortLemmas.{first_answers-push}
 
 same_front : (xs ys : List Outcome) (a b : Outcome) → length xs ≡ length ys → xs ++ a ∷ [] ≡ ys ++ b ∷ [] → xs ≡ ys
 same_front [] [] a b len h = refl

@@ -7,26 +7,26 @@ use Rattle.std.proofs.lemmas.Bool.{eqb-true, eq-eqb}
 use Rattle.std.proofs.lemmas.List.{length-set}
 use Rattle.cam_types.specs.Bounds.{Bounds}
 use Rattle.cam_types.specs.Topology.{Topology}
-use Rattle.cam_event.specs.Counts.{is_in_flight}
-use Rattle.cam_event.specs.declared.event.Event.{Event}
-use Rattle.cam_event.specs.declared.event.Event.TheVariants.{Send, Done, Tick}
+use Rattle.event_rules.specs.Counts.{is_in_flight}
+use Rattle.event_rules.specs.declared.event.Event.{Event}
+use Rattle.event_rules.specs.declared.event.Event.TheVariants.{Send, Done, Tick}
 use Rattle.trace_file.specs.Scenarios.{Scenario, is_ruled, is_answer}
 use Rattle.trace_file.specs.declared.step.Step.TheVariants as step
-use Rattle.xpt_devices.specs.Transport.{Transport}
-use Rattle.cam_event.specs.Legal.{is_legal}
-use Rattle.cam_event.proofs.LawLemmas.{legal-push}
-use Rattle.cam_event.proofs.LegalLemmas.{legal-none}
-use Rattle.xpt_state.specs.Steps.{IsTaken}
-use Rattle.run_rules.specs.Ports.{answer_at, first_answers, outcomes}
-use Rattle.run_rules.specs.Runs.{outcomes_by, is_in_time, is_submit_by, may_tick}
+use Rattle.xpt_core.specs.Transport.{Transport}
+use Rattle.event_rules.specs.Legal.{is_legal}
+use Rattle.event_rules.proofs.LawLemmas.{legal-push}
+use Rattle.event_rules.proofs.LegalLemmas.{legal-none}
+use Rattle.xpt_core.specs.Takes.{IsTaken}
+use Rattle.sim_worker.specs.Ports.{answer_at, first_answers, outcomes}
+use Rattle.sim_worker.specs.Runs.{outcomes_by, is_in_time, is_submit_by, may_tick}
 use Rattle.sim_worker.specs.Work.{IsWork, HasDone, HasServed, AreLanesAt, AreInHand, IsInHand, outcome_in_hand, steps_of}
 use Rattle.sim_worker.specs.declared.work.Driver.{Driver}
 use Rattle.sim_worker.specs.declared.work.Hand.{Hand}
 use Rattle.sim_worker.specs.declared.work.Lane.{Lane}
-use Rattle.run_rules.specs.declared.served.Served.{Served}
+use Rattle.sim_worker.specs.declared.served.Served.{Served}
 use Rattle.sim_worker.proofs.ListFacts.{map_at, set_at}
-use Rattle.run_rules.proofs.PassLemmas.{ticks-push}
-use Rattle.run_rules.proofs.ListFacts.{get_in_set, set_beside, some_is, there_is}
+use Rattle.sim_worker.proofs.PassLemmas.{ticks-push}
+use Rattle.sim_worker.proofs.RunListFacts.{get_in_set, set_beside, some_is, there_is}
 use Rattle.sim_worker.proofs.FullLemmas.{false_true}
 use Rattle.sim_worker.proofs.DriverLemmas.{drivers-call, drivers-other, drivers-set, strangers-call, strangers-other}
 use Rattle.sim_worker.proofs.LaneFacts.{in_hand, is_lane_event, lanes-other, flights-other, lanes-done, flights-done, lanes-send, flights-send}

@@ -3,37 +3,37 @@ use Rattle.std.proofs.Common.{◌≡◌, ℕ, zero, suc, ◌<◌, ◌≤◌, Boo
 use Rattle.std.proofs.lemmas.List.{get_or-map}
 use Rattle.std.specs.Prelude.{slice_get}
 use Rattle.cam_types.specs.Topology.{Topology}
-use Rattle.cam_event.specs.declared.event.Event.{Event}
-use Rattle.cam_event.specs.Legal.{Rules}
-use Rattle.cam_event.specs.declared.refusal.Refusal.{Refusal}
-use Rattle.cam_event.proofs.LegalLemmas.{legal-none}
-use Rattle.cam_event.proofs.LawLemmas.{allowed-legal_event}
+use Rattle.event_rules.specs.declared.event.Event.{Event}
+use Rattle.event_rules.specs.Legal.{Rules}
+use Rattle.event_rules.specs.declared.refusal.Refusal.{Refusal}
+use Rattle.event_rules.proofs.LegalLemmas.{legal-none}
+use Rattle.event_rules.proofs.LawLemmas.{allowed-legal_event}
 use Rattle.trace_file.specs.declared.step.Step.{Step}
 use Rattle.trace_file.specs.declared.step.Step.TheVariants as step
-use Rattle.xpt_devices.specs.Transport.{Transport}
-use Rattle.xpt_state.specs.Calls.{refused}
+use Rattle.xpt_core.specs.Transport.{Transport}
+use Rattle.xpt_core.specs.Takes.{refused}
 use Rattle.std.specs.Prelude.{Result, Ok, Err, is_err, MatchResult, IfSome}
 use Rattle.std.specs.Option.{option_map}
 use Rattle.std.specs.Prelude.{not, sum_by, cond}
 use Rattle.std.proofs.lemmas.Bool.{and_from, and_parts}
 use Rattle.std.proofs.lemmas.List.Sums.{sum_by-cons}
 use Rattle.cam_types.specs.Bounds.{Bounds}
-use Rattle.cam_event.specs.Classes.{asks_requeue}
-use Rattle.cam_event.specs.Event.{is_some_and}
+use Rattle.sense_class.specs.Classes.{asks_requeue}
+use Rattle.event_rules.specs.Event.{is_some_and}
 use Rattle.xpt_state.specs.declared.look.Case.{Case}
 use Rattle.sim_worker.specs.declared.work.Driver.{Driver}
 use Rattle.sim_worker.proofs.LaneFacts.{is_lane_event}
-use Rattle.cam_event.specs.Counts.{is_in_flight}
-use Rattle.cam_event.specs.declared.event.Event.TheVariants.{Done, Requeue, Finish}
-use Rattle.cam_event.proofs.WithinLemmas.{short-legal}
-use Rattle.cam_event.proofs.StandLemmas.{in_flight_held, states-legal}
+use Rattle.event_rules.specs.Counts.{is_in_flight}
+use Rattle.event_rules.specs.declared.event.Event.TheVariants.{Done, Requeue, Finish}
+use Rattle.event_rules.proofs.WithinLemmas.{short-legal}
+use Rattle.event_rules.proofs.StandLemmas.{in_flight_held, states-legal}
 use Rattle.trace_file.specs.Scenarios.{Scenario, is_answer}
-use Rattle.run_rules.specs.Runs.{sender, is_submit_by, is_in_time}
+use Rattle.sim_worker.specs.Runs.{sender, is_submit_by, is_in_time}
 use Rattle.sim_worker.specs.Work.{Work, IsWork, call_of, is_driver_able, is_lane_able, decision_of}
 use Rattle.sim_worker.specs.declared.work.Hand.{Hand}
 use Rattle.sim_worker.specs.declared.work.Lane.{Lane}
 use Rattle.sim_worker.proofs.FullLemmas.{allowed_at_limit}
-use Rattle.run_rules.proofs.ListFacts.{some_is}
+use Rattle.sim_worker.proofs.RunListFacts.{some_is}
 
 pub get_or_is : {X : Type 0} → (xs : List X) (i : ℕ) (x d : X) → slice_get xs i ≡ Some x → get_or xs i d ≡ x
 get_or_is [] i x d h = absurd (cc)

@@ -1,2 +1,9 @@
+pub mod Runs
+pub mod Endings
+pub mod Logs
+pub mod Ports
+pub mod LiveRuns
+pub mod Walks
+pub mod Held
 pub mod SimRuns
 pub mod Work

@@ -1,12 +1,12 @@
 -- what a run on one thread gives
 use Rattle.std.specs.Prelude.{◌≡◌, ℕ, ◌<◌, [], length, get_or, IsTrue}
-use Rattle.cam_event.specs.Legal.{rules_of, is_legal}
-use Rattle.cam_event.specs.Past.{Past}
+use Rattle.event_rules.specs.Legal.{rules_of, is_legal}
+use Rattle.event_rules.specs.Past.{Past}
 use Rattle.trace_file.specs.Scenarios.{Scenario}
-use Rattle.run_rules.specs.Endings.{IsEnding}
-use Rattle.run_rules.specs.Ports.{first_answers}
-use Rattle.run_rules.specs.Runs.{submits, submits_asked, outcomes_by, IsPrefix, are_ticks_in_time}
-use Rattle.run_rules.specs.declared.ending.Ending.{Ending}
+use Rattle.sim_worker.specs.Endings.{IsEnding}
+use Rattle.sim_worker.specs.Ports.{first_answers}
+use Rattle.sim_worker.specs.Runs.{submits, submits_asked, outcomes_by, IsPrefix, are_ticks_in_time}
+use Rattle.sim_worker.specs.declared.ending.Ending.{Ending}
 
 -- The history is of the script's configuration and legal by its limits. What a driver submitted are the first of its
 -- rows' submits, and what a lane's commands came to the first of its port's answers. No round opened before it might.

@@ -3,25 +3,25 @@ use Rattle.std.specs.Prelude.{◌≡◌, ℕ, ◌+◌, ◌*◌, ◌-◌, ◌≤�
 use Rattle.std.specs.List.{list_all}
 use Rattle.std.specs.Option.{option_map}
 use Rattle.cam_types.specs.declared.outcome.Outcome.{Outcome}
-use Rattle.cam_event.specs.Legal.{rules_of, is_legal}
-use Rattle.cam_event.specs.Event.{is_some_and}
-use Rattle.cam_event.specs.Counts.{round, is_in_flight}
-use Rattle.cam_event.specs.declared.event.Event.{Event}
+use Rattle.event_rules.specs.Legal.{rules_of, is_legal}
+use Rattle.event_rules.specs.Event.{is_some_and}
+use Rattle.event_rules.specs.Counts.{round, is_in_flight}
+use Rattle.event_rules.specs.declared.event.Event.{Event}
 use Rattle.trace_file.specs.Scenarios.{Scenario, IsScenario, is_answer}
 use Rattle.trace_file.specs.declared.step.Step.{Step}
 use Rattle.trace_file.specs.declared.step.Step.TheVariants as step
-use Rattle.xpt_devices.specs.Transport.{Transport}
+use Rattle.xpt_core.specs.Transport.{Transport}
 use Rattle.xpt_state.specs.Looks.{next_case, has_head}
 use Rattle.xpt_state.specs.declared.look.Case.{Case}
-use Rattle.cam_event.specs.Classes.{asks_requeue}
-use Rattle.cam_event.specs.declared.refusal.Refusal.{Refusal}
-use Rattle.cam_event.specs.declared.refusal.Refusal.TheVariants.{HistoryFull}
-use Rattle.cam_event.specs.declared.event.Event.TheVariants.{Requeue, Finish}
-use Rattle.cam_event.specs.Stays.{waiting}
-use Rattle.xpt_state.specs.Calls.{refused}
-use Rattle.run_rules.specs.Ports.{first_answers, outcomes}
-use Rattle.run_rules.specs.Held.{is_held_up}
-use Rattle.run_rules.specs.Runs.{submits, submits_asked, is_over, sender, outcomes_by, are_ticks_in_time}
+use Rattle.sense_class.specs.Classes.{asks_requeue}
+use Rattle.event_rules.specs.declared.refusal.Refusal.{Refusal}
+use Rattle.event_rules.specs.declared.refusal.Refusal.TheVariants.{HistoryFull}
+use Rattle.event_rules.specs.declared.event.Event.TheVariants.{Requeue, Finish}
+use Rattle.event_rules.specs.Stays.{waiting}
+use Rattle.xpt_core.specs.Takes.{refused}
+use Rattle.sim_worker.specs.Ports.{first_answers, outcomes}
+use Rattle.sim_worker.specs.Held.{is_held_up}
+use Rattle.sim_worker.specs.Runs.{submits, submits_asked, is_over, sender, outcomes_by, are_ticks_in_time}
 use Rattle.sim_worker.specs.declared.actor.Actor.{Actor}
 use Rattle.sim_worker.specs.declared.actor.Actor.TheVariants as actor
 use Rattle.sim_worker.specs.declared.work.Driver.{Driver}

@@ -1,15 +1,15 @@
 //! Who is able to act in a run on one thread.
 
 ghost use Rattle.std.specs.Prelude.{◌≡◌, ℕ, List, ◌<◌, ◌≤◌, ◌+◌, [], true, false, length, slice_get, All, IfOk};
-ghost use Rattle.cam_event.specs.Counts.{round};
-ghost use Rattle.cam_event.specs.declared.event.Event.{Event};
+ghost use Rattle.event_rules.specs.Counts.{round};
+ghost use Rattle.event_rules.specs.declared.event.Event.{Event};
 ghost use Rattle.sim_worker.specs.Work.{Work, HasDone, actor_at, call_of, is_able, left, steps_of};
 ghost use Rattle.sim_worker.specs.declared.actor.Actor.TheVariants as actors;
 
 use crate::actor::Actor;
+use crate::pass::is_held_up;
 use crate::sim::Sim;
-use cam_event::Event;
-use run_rules::is_held_up;
+use event_rules::Event;
 use std::alloc::AllocError;
 use trace_file::{DRIVERS, Step};
 

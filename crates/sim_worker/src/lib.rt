@@ -1,11 +1,43 @@
-//! The run of a script on one thread: drivers, lanes, recovery and a round keeper take turns on a transport, which a seed
-//! picks, until the script is done or a limit is reached.
+//! Runs of scripts: what serves a lane, how a run ends, the run on one thread by a seed, the run on many threads, and whether
+//! such a run, by the logs of its actors, is one of the script.
 #![tactic(auto)]
 
+pub use ending::Ending;
+pub use fault::LiveFault;
+pub use judging::judge;
+pub use live::{LiveRun, run_live, run_live_with};
+pub use log::SeatLog;
+pub use names::actors;
+pub use pass::is_held_up;
+pub use port::Port;
+pub use progress::{Progress, Untold};
+pub use script_port::ScriptPort;
 pub use seeded::{SimRun, sim_run};
+pub use served::Served;
 
 mod able;
 mod actor;
+mod driver;
+mod ending;
+mod endings;
+mod fault;
+mod judging;
+mod keeper;
+mod lane;
+mod lanes;
+mod live;
+mod log;
+mod names;
+mod pass;
+mod port;
+mod progress;
+mod recovery;
+mod same;
+mod script_port;
 mod seeded;
+mod served;
 mod sim;
+mod walk;
 mod work;
+mod worker;
+mod workplace;

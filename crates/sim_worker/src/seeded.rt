@@ -3,13 +3,13 @@
 ghost use Rattle.std.specs.Prelude.{IfOk};
 ghost use Rattle.sim_worker.specs.SimRuns.{IsSimRun};
 
+use crate::ending::Ending;
 use crate::sim::Sim;
+use cam_event::History;
 use rand_core::SeedableRng;
 use rand_pcg::Lcg64Xsh32;
-use run_rules::Ending;
 use std::alloc::{AllocError, Global};
 use trace_file::Script;
-use xpt_state::History;
 
 /// What a run on one thread gives.
 #[derive(Drop)]

@@ -2,23 +2,25 @@
 
 ghost use Rattle.std.specs.Prelude.{◌≡◌, ℕ, List, map, replicate, ◌<◌, ◌≤◌, ◌+◌, ◌++◌, [], ◌∷◌, true, false, not, length, get_or, slice_get, take, All, IfOk, IfNone, IfSome, Some, None, IsTrue};
 ghost use Rattle.std.specs.List.{list_all};
-ghost use Rattle.run_rules.specs.Endings.{IsEnding};
+ghost use Rattle.sim_worker.specs.Endings.{IsEnding};
 ghost use Rattle.sim_worker.specs.SimRuns.{IsSimRun};
 ghost use Rattle.std.specs.Option.{option_map};
-ghost use Rattle.cam_event.specs.Counts.{round};
+ghost use Rattle.event_rules.specs.Counts.{round};
 ghost use Rattle.sim_worker.specs.Work.{Work, AreFresh, HasDone, IsAtEnd, IsToSend, actor_at, call_of, decision_of, is_able, is_full, left, steps_of};
 ghost use Rattle.sim_worker.specs.declared.actor.Actor.TheVariants as actors;
 ghost use Rattle.sim_worker.specs.declared.work.Lane.{Lane};
 ghost use Rattle.sim_worker.specs.declared.work.Driver.{Driver};
-ghost use Rattle.cam_event.specs.declared.event.Event.{Event};
+ghost use Rattle.event_rules.specs.declared.event.Event.{Event};
 
 use crate::actor::Actor;
+use crate::ending::Ending;
+use crate::port::Port;
+use crate::script_port::ScriptPort;
 use crate::seeded::SimRun;
 use crate::work::{Driver, Hand, Lane};
-use cam_event::{Event, Refusal};
+use event_rules::{Event, Refusal};
 use rand_core::Rng;
 use rand_pcg::Lcg64Xsh32;
-use run_rules::{Ending, Port, ScriptPort};
 use std::alloc::{AllocError, Global};
 use std::marker::Model;
 use trace_file::{DRIVERS, Script, Step};

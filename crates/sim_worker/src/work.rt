@@ -1,7 +1,7 @@
 //! How far the drivers and the lanes of a run are.
 
+use crate::script_port::ScriptPort;
 use cam_types::Outcome;
-use run_rules::ScriptPort;
 
 /// How far a driver is.
 #[derive(Clone, Copy)]

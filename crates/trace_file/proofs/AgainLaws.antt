@@ -5,7 +5,7 @@ use Rattle.std.specs.List.{AllByRecursion, list_all}
 use Rattle.std.proofs.lemmas.Bool.{and_parts}
 use Rattle.csv.specs.Records.{field_at}
 use Rattle.cam_types.specs.Lists.{first_answer, moments_after}
-use Rattle.cam_event.specs.declared.event.Event.TheVariants as event
+use Rattle.event_rules.specs.declared.event.Event.TheVariants as event
 use Rattle.cam_types.proofs.ListLemmas.{or_left, or_right}
 use Rattle.trace_file.specs.Histories.{Adapter, Device, Event}
 use Rattle.trace_file.specs.declared.device_row.DeviceRow.{DeviceRow}

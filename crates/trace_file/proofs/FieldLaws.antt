@@ -5,8 +5,8 @@ use Rattle.std.proofs.lemmas.Bool.{eqb-true, ne_eqb}
 use Rattle.std.proofs.lemmas.Fmt.{decimal_nonempty}
 use Rattle.std.proofs.lemmas.List.{nil_from_length}
 use Rattle.std.proofs.lemmas.Slice.Eq.{bytes_eq-Decides}
-use Rattle.text_io.specs.Number.{number_of}
-use Rattle.text_io.proofs.NumberLemmas.{number_of-spelled, number_of-decimal, number_of-within}
+use Rattle.cam_types.specs.Number.{number_of}
+use Rattle.cam_types.proofs.NumberLemmas.{number_of-spelled, number_of-decimal, number_of-within}
 use Rattle.cam_types.proofs.LeastLemmas.{find_passes}
 use Rattle.trace_file.specs.Histories.{Flags}
 use Rattle.trace_file.specs.declared.word.Word.{Word}

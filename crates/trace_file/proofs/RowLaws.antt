@@ -3,7 +3,7 @@ use Rattle.std.proofs.Common.{◌≡◌, ◌<◌, ◌≤◌, ◌+◌, ℕ, subst
 use Rattle.std.specs.Prelude.{Result, Ok, Err, decimal, ◌==◌, ⊤, if◌then◌else◌}
 use Rattle.std.proofs.lemmas.Bool.{eqb-true}
 use Rattle.std.proofs.lemmas.List.{length-drop, nil_from_length}
-use Rattle.cam_event.specs.declared.event.Event.TheVariants as event
+use Rattle.event_rules.specs.declared.event.Event.TheVariants as event
 use Rattle.trace_file.specs.Histories.{Adapter, Event, Outcome, unlinked}
 use Rattle.trace_file.specs.declared.device_row.DeviceRow.{DeviceRow}
 use Rattle.trace_file.specs.declared.version.Version.{Version}

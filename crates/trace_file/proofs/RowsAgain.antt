@@ -3,7 +3,7 @@ use Rattle.std.proofs.Common.{◌≡◌, ◌≤◌, ℕ, List, [], ◌∷◌, tr
 use Rattle.std.specs.Prelude.{Option, Some, None, Ok, IfSome, decimal}
 use Rattle.std.specs.Option.{option_map_or}
 use Rattle.csv.specs.Records.{field_at}
-use Rattle.cam_event.specs.declared.event.Event.TheVariants as event
+use Rattle.event_rules.specs.declared.event.Event.TheVariants as event
 use Rattle.trace_file.specs.Histories.{Adapter, Event, unlinked}
 use Rattle.trace_file.specs.declared.device_row.DeviceRow.{DeviceRow}
 use Rattle.trace_file.specs.declared.version.Version.{Version}

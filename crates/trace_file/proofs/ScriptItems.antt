@@ -6,9 +6,9 @@ use Rattle.std.proofs.lemmas.List.Quantifiers.{position-Some}
 use Rattle.cam_types.specs.Questions.{names_adapter, names_device, names_lane}
 use Rattle.cam_types.specs.Topology.{are_openings}
 use Rattle.cam_types.specs.declared.maxima.TheConstants.{MOST_PRIORITY, MOST_RETRIES}
-use Rattle.cam_event.specs.Classes.{status_of}
-use Rattle.cam_event.specs.Legal.{is_count}
-use Rattle.cam_event.specs.declared.refusal.Refusal.TheVariants.{NoDevice, NoAdapter, NoLane, BadPriority, BadRetries, BadCount, BadOpenings, BadStatus}
+use Rattle.sense_class.specs.Classes.{status_of}
+use Rattle.event_rules.specs.Legal.{is_count}
+use Rattle.event_rules.specs.declared.refusal.Refusal.TheVariants.{NoDevice, NoAdapter, NoLane, BadPriority, BadRetries, BadCount, BadOpenings, BadStatus}
 use Rattle.cam_path.specs.declared.path.CamPath.{CamPath}
 use Rattle.trace_file.specs.declared.script_row.ScriptRow.{ScriptRow}
 use Rattle.trace_file.specs.declared.script_row.ScriptRow.TheVariants as row

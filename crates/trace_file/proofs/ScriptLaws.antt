@@ -8,8 +8,8 @@ use Rattle.std.proofs.lemmas.Bool.{and_parts}
 use Rattle.std.proofs.lemmas.Bool.Decides.{nat_tests}
 use Rattle.std.proofs.lemmas.List.Sums.{fold_push}
 use Rattle.cam_types.specs.Bounds.{Bounds, are_within, most_bounds}
-use Rattle.text_io.specs.Whole.{IsWhole}
-use Rattle.cam_event.proofs.ListFacts.{count_by-push}
+use Rattle.cam_types.specs.Whole.{IsWhole}
+use Rattle.event_rules.proofs.ListFacts.{count_by-push}
 use Rattle.trace_file.specs.declared.script_row.ScriptRow.{ScriptRow}
 use Rattle.trace_file.specs.declared.script_row.ScriptItem.{ScriptItem}
 use Rattle.trace_file.specs.declared.script_row.ScriptItem.TheVariants as item

@@ -9,8 +9,8 @@ use Rattle.std.proofs.lemmas.Option.{cond_some}
 use Rattle.std.proofs.lemmas.Slice.Eq.{bytes_eq-Decides}
 use Rattle.std.proofs.lemmas.Bool.Decides.{nat_tests}
 use Rattle.cam_types.specs.Topology.{IsDraft}
-use Rattle.cam_event.specs.Legal.{history_rules}
-use Rattle.cam_event.proofs.LegalLemmas.{legal-none}
+use Rattle.event_rules.specs.Legal.{history_rules}
+use Rattle.event_rules.proofs.LegalLemmas.{legal-none}
 use Rattle.trace_file.specs.Histories.{Adapter, Topology, WeightRow, reaches_last, Device, Event, Past, ConfigFault, Refusal}
 use Rattle.trace_file.specs.declared.device_row.DeviceRow.{DeviceRow}
 use Rattle.trace_file.specs.declared.trace_fault.TraceFault.{TraceFault}

@@ -9,8 +9,8 @@ use Rattle.cam_types.specs.declared.config.ConfigError.TheVariants as error
 use Rattle.cam_types.proofs.ListLemmas.{or_left}
 use Rattle.cam_types.proofs.TopologyLemmas.{config_fault-draft, draft_weight, draft_link, draft_adapter, draft_device, draft_lane}
 use Rattle.cam_types.specs.declared.maxima.TheConstants.{MOST_ADAPTERS}
-use Rattle.cam_event.specs.Legal.{history_rules, is_legal as legal_by}
-use Rattle.cam_event.proofs.LawLemmas.{legal-push}
+use Rattle.event_rules.specs.Legal.{history_rules, is_legal as legal_by}
+use Rattle.event_rules.proofs.LawLemmas.{legal-push}
 use Rattle.trace_file.specs.Histories.{Adapter, Topology, WeightRow, reaches_last, weight_fault, Device, Event, Past, ConfigFault, link_fault, adapter_fault, device_fault, lane_fault, config_fault, is_legal_event, is_legal}
 use Rattle.trace_file.specs.declared.device_row.DeviceRow.{DeviceRow}
 use Rattle.trace_file.specs.declared.trace_fault.TraceFault.TheVariants.{BadConfig}

@@ -11,7 +11,7 @@ use Rattle.csv.specs.Reading.{default_config, records, strip_bom}
 use Rattle.csv.specs.Writing.{default_writer, escaped, field_text, fields_text, is_blank, read_back, row_text}
 use Rattle.csv.specs.declared.parser.State.TheVariants as st
 use Rattle.csv.proofs.RoundTrip.{read-write}
-use Rattle.cam_event.specs.declared.event.Event.TheVariants as event
+use Rattle.event_rules.specs.declared.event.Event.TheVariants as event
 use Rattle.trace_file.specs.Fields.{Row, flags_text, flags_word}
 use Rattle.trace_file.specs.Histories.{Adapter, WeightRow, weight_fault, Device, Event, Past, link_fault, adapter_fault, device_fault, lane_fault}
 use Rattle.trace_file.specs.Versions.{has_table}
@@ -24,7 +24,7 @@ use Rattle.trace_file.specs.Writing.{text_of, text_in}
 use Rattle.cam_types.specs.Topology.{IsConfig}
 use Rattle.cam_types.proofs.ConfigLemmas.{adapter_items, device_items, few_adapters, few_devices, few_links, few_weights, lane_items, link_items, weight_items}
 use Rattle.cam_types.specs.declared.maxima.TheConstants.{MOST_LINKS, MOST_ADAPTERS, MOST_DEVICES, MOST_LANES, MOST_EVENTS, MOST_WEIGHT_ROWS}
-use Rattle.cam_event.proofs.LaneCount.{few_lanes}
+use Rattle.event_rules.proofs.LaneCount.{few_lanes}
 use Rattle.trace_file.proofs.AgainLaws.{Along, along_both, none_along}
 use Rattle.trace_file.proofs.HexLaws.{length-hex}
 use Rattle.trace_file.proofs.RecordLemmas.{first_left, none_left}

@@ -13,8 +13,8 @@ use Rattle.cam_types.proofs.ListLemmas.{or_left, or_right}
 use Rattle.cam_types.proofs.WeightLemmas.{standard_is}
 use Rattle.cam_types.specs.Weights.{are_standard}
 use Rattle.cam_types.specs.declared.maxima.TheConstants.{MOST_ADAPTERS, MOST_LINKS}
-use Rattle.cam_event.specs.Legal.{history_rules, is_legal as legal_by}
-use Rattle.cam_event.proofs.LegalLemmas.{none-legal}
+use Rattle.event_rules.specs.Legal.{history_rules, is_legal as legal_by}
+use Rattle.event_rules.proofs.LegalLemmas.{none-legal}
 use Rattle.trace_file.specs.Histories.{Adapter, Topology, WeightRow, weight_fault, reaches_last, standard_weights, Device, Event, Past, link_fault, adapter_fault, device_fault, lane_fault, refusal, config_fault, is_legal, is_legal_event}
 use Rattle.trace_file.specs.declared.trace_fault.TraceFault.{TraceFault}
 use Rattle.trace_file.specs.declared.trace_stage.TraceStage.{TraceStage}

@@ -1,6 +1,6 @@
 use Rattle.std.specs.Prelude.{ℕ, ◌+◌, ◌*◌, ◌-◌, ◌==◌, Bool, true, false, ⊤, nat_le, ◌&&◌, if◌then◌else◌, List, [], ◌∷◌, length, drop, Option, Some, None, unwrap_or, option_and_then, option_map, Result, Ok, Err, codes, bytes_eq, find, ok_or}
 use Rattle.csv.specs.Records.{field_at}
-use Rattle.text_io.specs.Number.{number_of}
+use Rattle.cam_types.specs.Number.{number_of}
 use Rattle.cam_types.specs.declared.flags.Flags.{Flags}
 use Rattle.trace_file.specs.Steps.{◌>>=◌}
 

@@ -1,7 +1,7 @@
 -- The words of configurations and histories that the records of a trace are about.
 use Rattle.std.specs.Prelude.{Bool, List, Option}
-use Rattle.cam_event.specs.Legal as legal
-use Rattle.cam_event.specs.Refusals as refusals
+use Rattle.event_rules.specs.Legal as legal
+use Rattle.event_rules.specs.Refusals as refusals
 pub use Rattle.cam_types.specs.Topology.{Topology, config_fault, unlinked}
 unfoldable pub use Rattle.cam_types.specs.Topology.{link_fault, adapter_fault, device_fault, lane_fault}
 unfoldable pub use Rattle.cam_types.specs.Weights.{weight_fault}
@@ -13,9 +13,9 @@ pub use Rattle.cam_types.specs.declared.flags.Flags.{Flags}
 pub use Rattle.cam_types.specs.declared.outcome.Outcome.{Outcome}
 pub use Rattle.cam_types.specs.declared.config_fault.ConfigFault.{ConfigFault}
 pub use Rattle.cam_types.specs.declared.config_fault.ConfigFault.TheVariants.{NoAdapters, BadWeight}
-pub use Rattle.cam_event.specs.declared.event.Event.{Event}
-pub use Rattle.cam_event.specs.Past.{Past}
-pub use Rattle.cam_event.specs.declared.refusal.Refusal.{Refusal}
+pub use Rattle.event_rules.specs.declared.event.Event.{Event}
+pub use Rattle.event_rules.specs.Past.{Past}
+pub use Rattle.event_rules.specs.declared.refusal.Refusal.{Refusal}
 
 -- by the rules of a history
 abbrev pub refusal : Topology → List Event → Event → Option Refusal

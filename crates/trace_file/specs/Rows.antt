@@ -1,7 +1,7 @@
 -- What the records of a trace say: their words' fields, in order.
 use Rattle.std.specs.Prelude.{ℕ, min, if◌then◌else◌, Result, Ok, Err}
 use Rattle.trace_file.specs.Histories.{Adapter, Device, Event, Outcome, unlinked}
-use Rattle.cam_event.specs.declared.event.Event.TheVariants as event
+use Rattle.event_rules.specs.declared.event.Event.TheVariants as event
 use Rattle.trace_file.specs.declared.device_row.DeviceRow.{DeviceRow}
 use Rattle.trace_file.specs.declared.version.Version.{Version}
 use Rattle.trace_file.specs.declared.word.Word.{Word}

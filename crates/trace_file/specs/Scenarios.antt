@@ -4,11 +4,11 @@ use Rattle.std.specs.List.{AllByRecursion, position, sum_by}
 use Rattle.cam_types.specs.Bounds.{Bounds}
 use Rattle.cam_types.specs.Topology.{are_openings}
 use Rattle.cam_types.specs.declared.maxima.TheConstants.{MOST_PRIORITY, MOST_RETRIES}
-use Rattle.cam_event.specs.Classes.{status_of}
-use Rattle.cam_event.specs.declared.event.Event.TheVariants as event
+use Rattle.sense_class.specs.Classes.{status_of}
+use Rattle.event_rules.specs.declared.event.Event.TheVariants as event
 use Rattle.cam_types.specs.Questions.{names_device, names_adapter, names_lane}
-use Rattle.cam_event.specs.Legal.{is_count}
-use Rattle.cam_event.specs.declared.refusal.Refusal.TheVariants.{NoDevice, NoAdapter, NoLane, BadPriority, BadRetries, BadCount, BadOpenings, BadStatus}
+use Rattle.event_rules.specs.Legal.{is_count}
+use Rattle.event_rules.specs.declared.refusal.Refusal.TheVariants.{NoDevice, NoAdapter, NoLane, BadPriority, BadRetries, BadCount, BadOpenings, BadStatus}
 use Rattle.cam_path.specs.declared.path.CamPath.{CamPath}
 use Rattle.trace_file.specs.declared.script_row.ScriptRow.{ScriptRow}
 use Rattle.trace_file.specs.declared.script_row.ScriptRow.TheVariants as row

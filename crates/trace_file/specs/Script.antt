@@ -2,7 +2,7 @@
 use Rattle.std.specs.Prelude.{◌≡◌, ℕ, ◌≤◌, Bool, true, not, List, [], ◌∷◌, ◌++◌, length, map, count_by, Option, Some, None, IfSome, unwrap_or, Result, Ok, Err, is_ok, if◌then◌else◌, ◌==◌}
 use Rattle.std.specs.List.{AllByRecursion, flat_map, fold}
 use Rattle.cam_types.specs.Bounds.{Bounds, are_within, most_bounds}
-use Rattle.text_io.specs.Whole.{IsWhole}
+use Rattle.cam_types.specs.Whole.{IsWhole}
 use Rattle.cam_types.specs.declared.maxima.TheConstants.{MOST_BYTES}
 use Rattle.cam_path.specs.Paths.{Fits}
 use Rattle.trace_file.specs.declared.script_row.ScriptRow.{ScriptRow}

@@ -1,9 +1,9 @@
 -- Traces of histories, and what a reader of traces answers.
 use Rattle.std.specs.Prelude.{◌≡◌, ℕ, ◌+◌, ◌<◌, ◌≤◌, ◌++◌, ◌∷◌, [], true, ⊤, List, length, Option, None, Result, Ok, Err, Bool}
 use Rattle.std.specs.List.{AllByRecursion}
-use Rattle.cam_event.specs.declared.event.Event.TheVariants as event
+use Rattle.event_rules.specs.declared.event.Event.TheVariants as event
 use Rattle.cam_types.specs.declared.maxima.TheConstants.{MOST_BYTES}
-use Rattle.text_io.specs.Whole.{IsWhole, IsTooLong}
+use Rattle.cam_types.specs.Whole.{IsWhole, IsTooLong}
 use Rattle.trace_file.specs.Histories.{Device, Event, Outcome, Past, config_fault, is_legal}
 use Rattle.trace_file.specs.declared.trace_fault.TraceFault.{TraceFault}
 use Rattle.trace_file.specs.declared.trace_fault.TraceFault.TheVariants as fault

@@ -9,9 +9,9 @@ ghost use Rattle.trace_file.specs.Trace.{IsTrace};
 use crate::records::take_records;
 use crate::stage::Stage;
 use crate::trace_fault::TraceFault;
+use cam_event::History;
 use csv::ByteRecord;
 use std::alloc::{AllocError, Global};
-use xpt_state::History;
 
 /// The number of the record of the event at this place, from 0 on, in a trace of the history, whichever its version. There is
 /// none exactly if the history has no such event.

@@ -4,9 +4,8 @@ ghost use Rattle.std.specs.Prelude.{◌≡◌, ◌<◌, ◌≤◌, ◌+◌, leng
 ghost use Rattle.csv.specs.Records.{fields_of};
 ghost use Rattle.trace_file.specs.Fields.{field_of, number_at, optional_at, hex_value, hex_byte, byte_of, byte_at, bytes_of, sense_of, sense_at, flags_of, flags_at, unused, unused_from};
 
-use cam_types::{Flags, SenseBytes};
+use cam_types::{Flags, SenseBytes, read_number};
 use csv::ByteRecord;
-use text_io::read_number;
 
 /// How many fields a record has.
 pub(crate) const FIELDS: u32 = 8;

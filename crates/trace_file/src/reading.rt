@@ -2,7 +2,7 @@
 
 ghost use Rattle.std.specs.Prelude.{◌≡◌, ◌≢◌, ◌≤◌, false, true, length, Ok, Err, IfOk, IfErr, IfSome};
 ghost use Rattle.cam_types.specs.declared.maxima.TheConstants.{MOST_BYTES};
-ghost use Rattle.text_io.specs.Watched.{device_of, has_failed};
+ghost use Rattle.cam_types.specs.Watched.{device_of, has_failed};
 ghost use Rattle.trace_file.specs.Histories.{Past};
 ghost use Rattle.trace_file.specs.Reading.{reading};
 ghost use Rattle.trace_file.specs.Records.{holds, records_of};
@@ -14,10 +14,10 @@ use crate::records::take_records;
 use crate::trace_fault::TraceFault;
 use crate::trace_stage::TraceStage;
 use crate::version::Version;
+use cam_event::History;
+use cam_types::{Watched, WholeFault, read_whole};
 use std::alloc::Global;
 use std::io::Read;
-use text_io::{Watched, WholeFault, read_whole};
-use xpt_state::History;
 
 /// Reads a trace to the end of the input. A fault of the text names the first record that fails, and the first test
 /// that it fails: of its length, word and place; of its fields; of the configuration's rules; of its event.

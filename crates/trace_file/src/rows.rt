@@ -8,9 +8,9 @@ use crate::device_row::DeviceRow;
 use crate::fields::{byte_at, flags_at, number_at, optional_at, sense_at, unused_from};
 use crate::version::Version;
 use crate::word::Word;
-use cam_event::Event;
 use cam_types::{Adapter, Outcome};
 use csv::ByteRecord;
+use event_rules::Event;
 
 /// The one number of a record, or the number of the first field that hasn't its form.
 #[tactic(auto, unfolding(crate::specs::Rows::one_number))]

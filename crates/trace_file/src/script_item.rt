@@ -1,15 +1,15 @@
 //! The static causes that refuse a script's record.
 
 ghost use Rattle.std.specs.Prelude.{◌≡◌, ◌<◌, length, not, IfSome, Ok};
-ghost use Rattle.cam_event.specs.Classes.{status_of};
+ghost use Rattle.sense_class.specs.Classes.{status_of};
 ghost use Rattle.trace_file.specs.Scenarios.{device_number, is_at, item_of, refused_if};
 ghost use Rattle.trace_file.specs.Steps.{◌>>=◌ as and_then};
 
 use crate::script_row::{ScriptItem, ScriptRow};
 use crate::step::Step;
-use cam_event::{Event, Refusal, is_count};
 use cam_path::CamPath;
 use cam_types::{Config, Device, Flags, MOST_PRIORITY, MOST_RETRIES, Outcome, are_openings};
+use event_rules::{Event, Refusal, is_count};
 
 /// What a row asks for, or the first static cause that refuses it.
 #[tactic(auto, unfolding(crate::specs::Scenarios::item_of))]

@@ -2,7 +2,7 @@
 
 ghost use Rattle.std.specs.Prelude.{◌≡◌, ◌≢◌, ◌<◌, ◌≤◌, ℕ, [], false, get_or, length, Ok, Err, IfOk, IfErr, IfSome};
 ghost use Rattle.cam_types.specs.declared.maxima.TheConstants.{MOST_BYTES};
-ghost use Rattle.text_io.specs.Watched.{device_of, has_failed};
+ghost use Rattle.cam_types.specs.Watched.{device_of, has_failed};
 ghost use Rattle.trace_file.specs.Script.{ExplainsScript, IsManuscript, IsScript, Manuscript, WasScript, answers_of, scenario_of, steps_of};
 ghost use Rattle.trace_file.specs.ScriptReading.{script_reading};
 ghost use Rattle.trace_file.specs.Text.{records_in};
@@ -11,9 +11,9 @@ use crate::records::take_records;
 use crate::script::Script;
 use crate::script_stage::ScriptStage;
 use crate::trace_fault::TraceFault;
+use cam_types::{Watched, WholeFault, read_whole};
 use std::alloc::Global;
 use std::io::Read;
-use text_io::{Watched, WholeFault, read_whole};
 
 /// Reads a script to the end of the input. A fault of the text names the first record that fails, and the first test
 /// that it fails: of its length, word, place and number; of its fields; of the configuration's rules; of the static

@@ -11,8 +11,8 @@ use crate::script::DRIVERS;
 use crate::script_item::is_in_progress;
 use crate::script_stage::MOST_ROWS;
 use crate::step::Step;
-use cam_event::{Event, is_count};
 use cam_types::{Config, MOST_PRIORITY, MOST_RETRIES, Outcome, are_openings};
+use event_rules::{Event, is_count};
 
 /// Whether these steps of drivers and answers of lanes keep the rules of a script of the configuration.
 pub(crate) fn keep_rules(config: &Config, drivers: &[Vec<Step>], answers: &[Vec<Outcome>]) -> bool

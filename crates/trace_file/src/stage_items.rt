@@ -11,10 +11,10 @@ use crate::device_row::DeviceRow;
 use crate::trace_fault::TraceFault;
 use crate::trace_stage::TraceStage;
 use crate::version::Version;
-use cam_event::Event;
+use cam_event::{History, PushFault};
 use cam_types::{Adapter, Config, ConfigDraft, ConfigError, ConfigFault, WeightRow};
+use event_rules::Event;
 use std::alloc::Global;
-use xpt_state::History;
 
 /// The standard weights, and nothing else yet.
 pub(crate) fn standard(alloc: Global) -> Result<ConfigDraft, TraceFault>
@@ -146,7 +146,8 @@ pub(crate) fn with_event(
 {
     match history.push(event) {
         Ok(()) => Ok(TraceStage::Events(history)),
-        Err(refusal) => Err(TraceFault::Illegal(number, refusal)),
+        Err(PushFault::Refused(refusal)) => Err(TraceFault::Illegal(number, refusal)),
+        Err(PushFault::OutOfMemory) => Err(TraceFault::OutOfMemory),
     }
 }
 

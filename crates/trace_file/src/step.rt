@@ -1,6 +1,6 @@
 //! One step of a driver's script.
 
-use cam_event::Event;
+use event_rules::Event;
 
 /// What a driver does next.
 #[derive(Clone, Copy, Debug, PartialEq, Eq)]

@@ -1,7 +1,7 @@
 //! Why a text isn't a trace or a script.
 
-use cam_event::Refusal;
 use cam_types::ConfigFault;
+use event_rules::Refusal;
 use std::fmt;
 use thiserror::Error;
 

@@ -1,8 +1,8 @@
 //! What a trace's record says by its word and its fields.
 
 use crate::device_row::DeviceRow;
-use cam_event::Event;
 use cam_types::{Adapter, WeightRow};
+use event_rules::Event;
 
 /// What a record of a trace says behind the header, by its word and its fields.
 #[derive(Clone, Copy)]

@@ -18,11 +18,11 @@ use crate::trace_fault::TraceFault;
 use crate::trace_row::TraceRow;
 use crate::version::Version;
 use crate::word::Word;
-use cam_event::Event;
+use cam_event::History;
 use cam_types::{Adapter, Config, ConfigDraft, ConfigFault, WeightRow};
 use csv::ByteRecord;
+use event_rules::Event;
 use std::alloc::Global;
-use xpt_state::History;
 
 /// What a trace has said so far.
 #[derive(Drop)]

@@ -1,8 +1,8 @@
 //! Writes the trace of a history.
 
 ghost use Rattle.std.specs.Prelude.{◌≡◌, ◌≢◌, false, true, Err, OnOk, IfOk};
-ghost use Rattle.text_io.specs.Watched.{device_of, has_failed, is_flushed};
-ghost use Rattle.text_io.specs.Whole.{AppendsFront};
+ghost use Rattle.cam_types.specs.Watched.{device_of, has_failed, is_flushed};
+ghost use Rattle.cam_types.specs.Whole.{AppendsFront};
 ghost use Rattle.std.specs.Io.KnownBytes.{Appends};
 ghost use Rattle.trace_file.specs.Records.{holds};
 ghost use Rattle.trace_file.specs.Trace.{IsHistory, IsTrace};
@@ -12,11 +12,11 @@ use crate::row_writer::write_row;
 use crate::version::Version;
 use crate::write_fault::WriteFault;
 use crate::writing::{write_config, write_events};
+use cam_event::History;
+use cam_types::{Watched, write_whole};
 use csv::WriterBuilder;
 use std::alloc::{AllocError, Global};
 use std::io::Write;
-use text_io::{Watched, write_whole};
-use xpt_state::History;
 
 /// Writes the trace of a history and flushes it: its records by CSV's defaults, with a line feed behind each, in the least
 /// version that holds the history: 3 if it has links, else 2 if the weights aren't the standard ones, and else 1. The text is

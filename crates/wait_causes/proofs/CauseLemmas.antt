@@ -15,11 +15,11 @@ use Rattle.cam_types.specs.Questions.{devices, device_adapter}
 use Rattle.cam_types.proofs.ConfigLemmas.{bus-there}
 use Rattle.cam_types.proofs.ListLemmas.{moments-push}
 use Rattle.cam_types.specs.declared.device.Device.{Device}
-use Rattle.cam_event.proofs.ListFacts.{range_with_len-push}
-use Rattle.cam_event.specs.Event.{is_tick}
-use Rattle.xpt_devices.specs.Transport.{Transport}
-use Rattle.cam_event.specs.Legal.{history_rules}
-use Rattle.cam_event.specs.declared.event.Event.{Event}
+use Rattle.event_rules.proofs.ListFacts.{range_with_len-push}
+use Rattle.event_rules.specs.Event.{is_tick}
+use Rattle.xpt_core.specs.Transport.{Transport}
+use Rattle.event_rules.specs.Legal.{history_rules}
+use Rattle.event_rules.specs.declared.event.Event.{Event}
 use Rattle.wait_causes.specs.Causes.{round_ends, cause_at, round_cause, cause_table, cause_in}
 use Rattle.wait_causes.specs.declared.cause.Cause.{Cause}
 use Rattle.wait_causes.specs.declared.cause.Cause.TheVariants.{NotAsked}

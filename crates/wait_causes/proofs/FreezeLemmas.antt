@@ -7,11 +7,11 @@ use Rattle.std.proofs.lemmas.List.{map-append}
 use Rattle.round_net.proofs.CountLemmas.{count_by-cons}
 use Rattle.std.proofs.lemmas.Option.{unwrap_or-slice_get}
 use Rattle.cam_types.specs.Topology.{Topology}
-use Rattle.cam_event.proofs.ListFacts.{range_with_len-push}
-use Rattle.cam_event.specs.Event.{is_tick}
-use Rattle.cam_event.specs.Legal.{history_rules}
-use Rattle.cam_event.specs.declared.event.Event.{Event}
-use Rattle.xpt_devices.specs.Transport.{Transport}
+use Rattle.event_rules.proofs.ListFacts.{range_with_len-push}
+use Rattle.event_rules.specs.Event.{is_tick}
+use Rattle.event_rules.specs.Legal.{history_rules}
+use Rattle.event_rules.specs.declared.event.Event.{Event}
+use Rattle.xpt_core.specs.Transport.{Transport}
 use Rattle.wait_causes.specs.Causes.{round_ends}
 use Rattle.wait_causes.specs.Freezes.{numbers, is_frozen_at, is_frozen_in, behind, flag_table, flag_in}
 use Rattle.wait_causes.specs.declared.freeze.FreezeKind.{FreezeKind}

@@ -6,11 +6,11 @@ use Rattle.std.specs.List.{range_with_len}
 use Rattle.std.proofs.lemmas.List.Sums.{sum_by-cons}
 use Rattle.std.proofs.lemmas.List.Elements.{All-cons, All-filter, All-weaker}
 use Rattle.cam_types.specs.Topology.{Topology}
-use Rattle.cam_event.specs.Counts.{round}
-use Rattle.cam_event.specs.Legal.{history_rules}
-use Rattle.cam_event.specs.Stays.{stays_begun}
-use Rattle.cam_event.specs.declared.event.Event.{Event}
-use Rattle.cam_event.specs.declared.stay.Stay.{Stay}
+use Rattle.event_rules.specs.Counts.{round}
+use Rattle.event_rules.specs.Legal.{history_rules}
+use Rattle.event_rules.specs.Stays.{stays_begun}
+use Rattle.event_rules.specs.declared.event.Event.{Event}
+use Rattle.event_rules.specs.declared.passage.Passage.{Passage}
 use Rattle.wait_causes.specs.Causes.{round_cause, cause_table, cause_in}
 use Rattle.wait_causes.specs.Freezes.{numbers, is_frozen_in, begins, behind, rounds_between, cause_of, grouping_of, stay_cost, cost_in, freeze_from, freezes_at, freezes_by, freezes_of, freezes, flag_table, flag_in}
 use Rattle.wait_causes.specs.Frozen.{IsFrozen}
@@ -62,12 +62,12 @@ by_same kind frozen other count last f g stays same all =
     ∙ at_same kind n (other n) last f g (stays_of (grouping_of kind) stays n) (All-filter (λ s. number (grouping_of kind) s == n) (Agree f g) stays all))
 
 -- each stay is of a device of the configuration
-pub kept_devices : (c : Topology) (es : List Event) (most : ℕ) (ps : List Stay) (best : List ℕ) → All (λ (p : Stay). p.device < most) ps → All (λ (s : ExplainedStay). s.device < most) (map (λ (m : Stay × ℕ). explained_stay c es m.0 m.1) (zip ps best))
+pub kept_devices : (c : Topology) (es : List Event) (most : ℕ) (ps : List Passage) (best : List ℕ) → All (λ (p : Passage). p.device < most) ps → All (λ (s : ExplainedStay). s.device < most) (map (λ (m : Passage × ℕ). explained_stay c es m.0 m.1) (zip ps best))
 unfolding explained_stay
 kept_devices c es most [] best all = λ k d lt. absurd (omega arith)
 kept_devices c es most (p ∷ ps) [] all = λ k d lt. absurd (omega arith)
 kept_devices c es most (p ∷ ps) (b ∷ bs) all =
-    All-cons (λ (s : ExplainedStay). s.device < most) (explained_stay c es p b) (map (λ (m : Stay × ℕ). explained_stay c es m.0 m.1) (zip ps bs)) (all 0 p (omega arith))
+    All-cons (λ (s : ExplainedStay). s.device < most) (explained_stay c es p b) (map (λ (m : Passage × ℕ). explained_stay c es m.0 m.1) (zip ps bs)) (all 0 p (omega arith))
     (kept_devices c es most ps bs (λ k d lt. all (suc k) d (omega arith)))
 
 kind_found : (c : Topology) (es : List Event) (best : List ℕ) (causes : List Cause) (stays : List ExplainedStay) → IsExplained c es best causes stays → (kind : FreezeKind) (f : Frozen) → IsFrozen kind c es f →

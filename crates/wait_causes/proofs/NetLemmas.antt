@@ -2,8 +2,8 @@
 use Rattle.std.proofs.Common.{◌≡◌, List, length}
 use Rattle.std.proofs.lemmas.List.{length-map}
 use Rattle.cam_types.specs.Topology.{Topology}
-use Rattle.cam_event.specs.Stays.{stays_begun}
-use Rattle.cam_event.specs.declared.event.Event.{Event}
+use Rattle.event_rules.specs.Stays.{stays_begun}
+use Rattle.event_rules.specs.declared.event.Event.{Event}
 use Rattle.round_net.specs.Nets.{net_of, stay_row}
 use Rattle.round_net.specs.Rows.{instance_of_rows}
 

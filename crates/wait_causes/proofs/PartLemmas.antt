@@ -12,17 +12,17 @@ use Rattle.std.proofs.lemmas.List.{append-nil, length-map}
 use Rattle.std.proofs.lemmas.Nat.{mul-le}
 use Rattle.std.proofs.lemmas.List.Sums.{sum_by-cons}
 use Rattle.round_net.proofs.CountLemmas.{count_by-weaker}
-use Rattle.cam_event.proofs.ListFacts.{range_with_len-push}
+use Rattle.event_rules.proofs.ListFacts.{range_with_len-push}
 use Rattle.cam_types.specs.Topology.{Topology}
-use Rattle.cam_event.specs.Live.{live_round, live_part, live_cost}
-use Rattle.cam_event.specs.Stays.{stays_begun, unsent}
-use Rattle.cam_event.proofs.LiveLemmas.{live_cost_unsent, live_cost_sent}
-use Rattle.cam_event.proofs.LimitLemmas.{stays_most}
+use Rattle.event_rules.specs.Live.{live_round, live_part, live_cost}
+use Rattle.event_rules.specs.Stays.{stays_begun, unsent}
+use Rattle.event_rules.proofs.LiveLemmas.{live_cost_unsent, live_cost_sent}
+use Rattle.event_rules.proofs.LimitLemmas.{stays_most}
 use Rattle.wait_causes.specs.Sound.{IsExplained}
 use Rattle.wait_causes.specs.declared.cause.Cause.{Cause}
 use Rattle.std.proofs.lemmas.Slice.Zip.{length-zip}
-use Rattle.cam_event.specs.declared.event.Event.{Event}
-use Rattle.cam_event.specs.declared.stay.Stay.{Stay}
+use Rattle.event_rules.specs.declared.event.Event.{Event}
+use Rattle.event_rules.specs.declared.passage.Passage.{Passage}
 use Rattle.wait_causes.specs.Causes.{waited_causes, round_cause}
 use Rattle.wait_causes.specs.Stays.{all_rounds, explained_stay, explained_stays}
 use Rattle.wait_causes.specs.Parts.{waited, measure, is_enough, nearest_rank, part_of, costs_of, all_costs}
@@ -169,7 +169,7 @@ costs_each (x ∷ xs) all =
       sum_by-cons (measure Live) x xs,
     )
 
-all_waited : (c : Topology) (es : List Event) (zs : List (Stay × ℕ)) → All (λ (s : ExplainedStay). all_rounds s.rounds ≡ waited s) (map (λ (m : Stay × ℕ). explained_stay c es m.0 m.1) zs)
+all_waited : (c : Topology) (es : List Event) (zs : List (Passage × ℕ)) → All (λ (s : ExplainedStay). all_rounds s.rounds ≡ waited s) (map (λ (m : Passage × ℕ). explained_stay c es m.0 m.1) zs)
 unfolding explained_stay waited_causes
 all_waited c es [] k d lt = absurd (omega arith)
 all_waited c es (m ∷ zs) zero d lt = rounds_add_up (round_cause c es m.0.device) m.0.arrival (live_round es m.0 - m.0.arrival)
@@ -185,12 +185,12 @@ pub part_adds_up : (c : Topology) (es : List Event) (best : List ℕ) → all_co
 unfolding part_of
 part_adds_up c es best = costs_add_up c es best
 
-lives : (c : Topology) (es : List Event) (ps : List Stay) (bs : List ℕ) → length bs ≡ length ps → sum_by (measure Live) (map (λ (m : Stay × ℕ). explained_stay c es m.0 m.1) (zip ps bs)) ≡ sum_by (live_part c es) ps
+lives : (c : Topology) (es : List Event) (ps : List Passage) (bs : List ℕ) → length bs ≡ length ps → sum_by (measure Live) (map (λ (m : Passage × ℕ). explained_stay c es m.0 m.1) (zip ps bs)) ≡ sum_by (live_part c es) ps
 unfolding explained_stay live_part
 lives c es [] bs same = refl
 lives c es (p ∷ ps) [] same = absurd (omega arith)
 lives c es (p ∷ ps) (b ∷ bs) same =
-    sum_by-cons (measure Live) (explained_stay c es p b) (map (λ (m : Stay × ℕ). explained_stay c es m.0 m.1) (zip ps bs))
+    sum_by-cons (measure Live) (explained_stay c es p b) (map (λ (m : Passage × ℕ). explained_stay c es m.0 m.1) (zip ps bs))
     ∙ ap (λ n. live_part c es p + n) (lives c es ps bs (omega arith))
     ∙ sym (sum_by-cons (live_part c es) p ps)
 
@@ -207,10 +207,10 @@ pub few_stays : (c : Topology) (es : List Event) (best : List ℕ) (causes : Lis
 unfolding explained_stays
 few_stays c es best causes stays x =
     let most = stays_most c es x.legal in
-    omega (arith, ap length x.rows, length-map (zip (stays_begun es) best) (λ (m : Stay × ℕ). explained_stay c es m.0 m.1), length-zip (stays_begun es) best, most)
+    omega (arith, ap length x.rows, length-map (zip (stays_begun es) best) (λ (m : Passage × ℕ). explained_stay c es m.0 m.1), length-zip (stays_begun es) best, most)
 
 -- each stay has a row
 pub all_stays : (c : Topology) (es : List Event) (best : List ℕ) (causes : List Cause) (stays : List ExplainedStay) → IsExplained c es best causes stays → length stays ≡ length (stays_begun es)
 unfolding explained_stays
 all_stays c es best causes stays x =
-    omega (arith, ap length x.rows, length-map (zip (stays_begun es) best) (λ (m : Stay × ℕ). explained_stay c es m.0 m.1), length-zip (stays_begun es) best, x.all)
+    omega (arith, ap length x.rows, length-map (zip (stays_begun es) best) (λ (m : Passage × ℕ). explained_stay c es m.0 m.1), length-zip (stays_begun es) best, x.all)

@@ -13,20 +13,20 @@ use Rattle.std.proofs.lemmas.List.Elements.{All-weaker}
 use Rattle.cam_types.specs.Topology.{Topology}
 use Rattle.cam_types.specs.Questions.{names_device, device_adapter, weight}
 use Rattle.cam_types.specs.Priority.{run_level}
-use Rattle.cam_event.specs.Legal.{Rules, history_rules, is_legal}
-use Rattle.cam_event.specs.Laws.{is_in_range, is_stay_of, is_stay_in_range}
-use Rattle.cam_event.proofs.RangeLemmas.{stays_in_range}
-use Rattle.cam_event.specs.Event.{is_some_and, is_send_of}
-use Rattle.cam_event.specs.Counts.{round, submission}
-use Rattle.cam_event.specs.Live.{send_place, live_round}
-use Rattle.cam_event.specs.Stays.{stays_begun, is_unsent}
-use Rattle.cam_event.specs.declared.event.Event.{Event}
-use Rattle.cam_event.specs.declared.stay.Stay.{Stay}
-use Rattle.cam_event.specs.declared.submission.Submission.{Submission}
-use Rattle.cam_event.proofs.ListFacts.{count_by-push, range_with_len-push}
-use Rattle.xpt_stays.specs.Records.{records, record_of}
-use Rattle.xpt_stays.specs.declared.stay_record.StayRecord.{StayRecord}
-use Rattle.xpt_stays.proofs.SentLemmas.{first_past, unsent_none}
+use Rattle.event_rules.specs.Legal.{Rules, history_rules, is_legal}
+use Rattle.event_rules.specs.Laws.{is_in_range, is_stay_of, is_stay_in_range}
+use Rattle.event_rules.proofs.RangeLemmas.{stays_in_range}
+use Rattle.event_rules.specs.Event.{is_some_and, is_send_of}
+use Rattle.event_rules.specs.Counts.{round, submission}
+use Rattle.event_rules.specs.Live.{send_place, live_round}
+use Rattle.event_rules.specs.Stays.{stays_begun, is_unsent}
+use Rattle.event_rules.specs.declared.event.Event.{Event}
+use Rattle.event_rules.specs.declared.passage.Passage.{Passage}
+use Rattle.event_rules.specs.declared.submission.Submission.{Submission}
+use Rattle.event_rules.proofs.ListFacts.{count_by-push, range_with_len-push}
+use Rattle.xpt_core.specs.Records.{records, record_of}
+use Rattle.xpt_core.specs.declared.stays.stay_record.StayRecord.{StayRecord}
+use Rattle.xpt_core.proofs.SentLemmas.{first_past, unsent_none}
 use Rattle.wait_causes.specs.Causes.{round_cause, cause_table, cause_in, waited_causes}
 use Rattle.wait_causes.specs.Stays.{rounds_by, all_rounds, with_round, explained_stay, explained_stays, row_by, sent_in}
 use Rattle.wait_causes.specs.declared.cause.Cause.{Cause}
@@ -80,7 +80,7 @@ rounds_step f a n old new x was is here =
     ∙ ap rounds_by (sym (ap (map f) (range_with_len-push a n) ∙ map-append f (range_with_len a n) ((a + n) ∷ [])))
 
 -- a stay without a send counts as sent in the last round
-live_round-unsent : (es : List Event) (p : Stay) → is_unsent es p ≡ true → live_round es p ≡ round es
+live_round-unsent : (es : List Event) (p : Passage) → is_unsent es p ≡ true → live_round es p ≡ round es
 unfolding send_place
 live_round-unsent es p unsent =
     let past = first_past (is_send_of p.ccb) (drop (p.place + 1) es) (unsent_none es p unsent) in
@@ -107,11 +107,11 @@ pub row_of_parts : (c : Topology) (es : List Event) (causes : List Cause) (r : S
 unfolding row_by
 row_of_parts c es causes r best driver adapter w live rounds driver_is adapter_is weight_is live_is rounds_is = rw (rounds_is, driver_is, adapter_is, weight_is, live_is) refl
 
-live_cases : (es : List Event) (p : Stay) (b : Bool) → is_unsent es p ≡ b → unwrap_or (cond b None (Some (live_round es p))) (round es) ≡ live_round es p
+live_cases : (es : List Event) (p : Passage) (b : Bool) → is_unsent es p ≡ b → unwrap_or (cond b None (Some (live_round es p))) (round es) ≡ live_round es p
 live_cases es p true unsent = sym (live_round-unsent es p unsent)
 live_cases es p false sent = refl
 
-device_in_range : (c : Topology) (es : List Event) (p : Stay) → is_stay_in_range c es p ≡ true → p.device < length c.devices
+device_in_range : (c : Topology) (es : List Event) (p : Passage) → is_stay_in_range c es p ≡ true → p.device < length c.devices
 device_in_range c es p h = elim (submission es p.ccb) as (λ o. is_some_and (λ (s : Submission). is_in_range c s && is_stay_of p s) o ≡ true → p.device < length c.devices) [
   | None ↦ λ g. absurd cc
   | Some s ↦ λ g.
@@ -123,9 +123,9 @@ device_in_range c es p h = elim (submission es p.ccb) as (λ o. is_some_and (λ 
 ] h
 
 -- each stay is of a device of the configuration
-pub devices_in_range : (rules : Rules) (c : Topology) (es : List Event) → is_legal rules c es ≡ true → All (λ (p : Stay). p.device < length c.devices) (stays_begun es)
+pub devices_in_range : (rules : Rules) (c : Topology) (es : List Event) → is_legal rules c es ≡ true → All (λ (p : Passage). p.device < length c.devices) (stays_begun es)
 devices_in_range rules c es legal =
-    All-weaker (λ p. is_stay_in_range c es p ≡ true) (λ (p : Stay). p.device < length c.devices) (device_in_range c es) (stays_begun es)
+    All-weaker (λ p. is_stay_in_range c es p ≡ true) (λ (p : Passage). p.device < length c.devices) (device_in_range c es) (stays_begun es)
     (AllPass-from_list_all (is_stay_in_range c es) (stays_begun es) (stays_in_range rules c es legal))
 
 pub map-same : {X Y : Type 0} (f g : X → Y) → ((x : X) → f x ≡ g x) → (xs : List X) → map f xs ≡ map g xs
@@ -136,12 +136,12 @@ map-same f g h (x ∷ xs) = rw (h x, map-same f g h xs) refl
 pub causes_found : (c : Topology) (es : List Event) (d : ℕ) (rounds : List ℕ) → d < length c.devices → map (cause_in (cause_table c es) (length c.devices) d) rounds ≡ map (round_cause c es d) rounds
 causes_found c es d rounds lt = map-same (cause_in (cause_table c es) (length c.devices) d) (round_cause c es d) (λ r. cause_in-table c es d r lt) rounds
 
-row_found : (c : Topology) (es : List Event) (p : Stay) (best : ℕ) → p.device < length c.devices → row_by c es (cause_table c es) (record_of es p, best) ≡ explained_stay c es p best
+row_found : (c : Topology) (es : List Event) (p : Passage) (best : ℕ) → p.device < length c.devices → row_by c es (cause_table c es) (record_of es p, best) ≡ explained_stay c es p best
 unfolding row_by explained_stay waited_causes
 row_found c es p best lt = rw (live_cases es p (is_unsent es p) refl, causes_found c es p.device (range_with_len p.arrival (live_round es p - p.arrival)) lt) refl
 
-rows_found : (c : Topology) (es : List Event) (ps : List Stay) (best : List ℕ) → All (λ (p : Stay). p.device < length c.devices) ps →
-    map (row_by c es (cause_table c es)) (zip (map (record_of es) ps) best) ≡ map (λ (m : Stay × ℕ). explained_stay c es m.0 m.1) (zip ps best)
+rows_found : (c : Topology) (es : List Event) (ps : List Passage) (best : List ℕ) → All (λ (p : Passage). p.device < length c.devices) ps →
+    map (row_by c es (cause_table c es)) (zip (map (record_of es) ps) best) ≡ map (λ (m : Passage × ℕ). explained_stay c es m.0 m.1) (zip ps best)
 rows_found c es [] best all = refl
 rows_found c es (p ∷ ps) [] all = refl
 rows_found c es (p ∷ ps) (b ∷ bs) all = rw (row_found c es p b (all 0 p (omega arith)), rows_found c es ps bs (λ k d lt. all (suc k) d (omega arith))) refl
@@ -167,7 +167,7 @@ zip_push {K} {R} f ks vs i rows new r k v was is here at lt lt' =
 pub zip_all : {K R : Type 0} (f : K × ℕ → R) (ks : List K) (vs : List ℕ) (i : ℕ) → length vs ≡ length ks → length ks ≤ i → map f (take i (zip ks vs)) ≡ map f (zip ks vs)
 zip_all f ks vs i same le = ap (map f) (take_all i (zip ks vs) (rw (length-zip ks vs) (omega arith)))
 
-bests : (c : Topology) (es : List Event) (zs : List (Stay × ℕ)) → map (λ (s : ExplainedStay). s.best) (map (λ (m : Stay × ℕ). explained_stay c es m.0 m.1) zs) ≡ map (λ (m : Stay × ℕ). m.1) zs
+bests : (c : Topology) (es : List Event) (zs : List (Passage × ℕ)) → map (λ (s : ExplainedStay). s.best) (map (λ (m : Passage × ℕ). explained_stay c es m.0 m.1) zs) ≡ map (λ (m : Passage × ℕ). m.1) zs
 unfolding explained_stay
 bests c es [] = refl
 bests c es (m ∷ zs) = ap (λ ns. m.1 ∷ ns) (bests c es zs)
@@ -192,14 +192,14 @@ explained_found c es best causes stays legal all table rows =
     }
 
 -- the row of a stay
-row_of_stay : (c : Topology) (es : List Event) (best : List ℕ) (s : ℕ) (p : Stay) (d : ExplainedStay) → length best ≡ length (stays_begun es) → slice_get (stays_begun es) s ≡ Some p → get_or (explained_stays c es best) s d ≡ explained_stay c es p (get_or best s 0)
+row_of_stay : (c : Topology) (es : List Event) (best : List ℕ) (s : ℕ) (p : Passage) (d : ExplainedStay) → length best ≡ length (stays_begun es) → slice_get (stays_begun es) s ≡ Some p → get_or (explained_stays c es best) s d ≡ explained_stay c es p (get_or best s 0)
 unfolding explained_stays
 row_of_stay c es best s p d all at =
     let lt = slice_get_within (stays_begun es) s p at in
     let lt' : s < length best = omega arith in
-    let e : Stay × ℕ = (p, 0) in
-    get_or-map (λ (m : Stay × ℕ). explained_stay c es m.0 m.1) (zip (stays_begun es) best) s e d (rw (length-zip (stays_begun es) best) (omega arith))
-    ∙ ap (λ (m : Stay × ℕ). explained_stay c es m.0 m.1) (get_or-zip (stays_begun es) best s e lt lt')
+    let e : Passage × ℕ = (p, 0) in
+    get_or-map (λ (m : Passage × ℕ). explained_stay c es m.0 m.1) (zip (stays_begun es) best) s e d (rw (length-zip (stays_begun es) best) (omega arith))
+    ∙ ap (λ (m : Passage × ℕ). explained_stay c es m.0 m.1) (get_or-zip (stays_begun es) best s e lt lt')
     ∙ ap (λ q. explained_stay c es q (get_or best s 0)) (get_or_from_slice_get (stays_begun es) s p p at)
 
 same_waits : (f g : ℕ → Cause) (rounds : List ℕ) (waits : List Wait) → ((r : ℕ) → f r ≡ g r) → AreWaits f rounds waits → AreWaits g rounds waits
@@ -210,7 +210,7 @@ same_waits f g rounds waits same are = record {
 }
 
 -- the waits by the row of a stay are the stay's
-pub waits_found : (c : Topology) (es : List Event) (best : List ℕ) (causes : List Cause) (stays : List ExplainedStay) → IsExplained c es best causes stays → (s : ℕ) (p : Stay) (kept : ExplainedStay) (waits : List Wait) → slice_get (stays_begun es) s ≡ Some p → kept ≡ get_or stays s kept →
+pub waits_found : (c : Topology) (es : List Event) (best : List ℕ) (causes : List Cause) (stays : List ExplainedStay) → IsExplained c es best causes stays → (s : ℕ) (p : Passage) (kept : ExplainedStay) (waits : List Wait) → slice_get (stays_begun es) s ≡ Some p → kept ≡ get_or stays s kept →
     AreWaits (cause_in causes (length c.devices) kept.device) (range_with_len kept.arrival (kept.live - kept.arrival)) waits → AreWaitsOf c es p waits
 unfolding explained_stay
 waits_found c es best causes stays x s p kept waits at is are =

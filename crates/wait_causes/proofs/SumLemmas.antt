@@ -12,14 +12,14 @@ use Rattle.round_net.proofs.WindowLemmas.{IsInWindow, windows-legal}
 use Rattle.cam_types.specs.Topology.{Topology, IsConfig}
 use Rattle.cam_types.specs.Questions.{device_adapter}
 use Rattle.cam_types.proofs.ConfigLemmas.{bus-there}
-use Rattle.cam_event.proofs.LimitLemmas.{round_first}
-use Rattle.cam_event.proofs.TurnLaws.{round-more}
-use Rattle.cam_event.specs.Counts.{round}
-use Rattle.cam_event.specs.Legal.{history_rules, is_legal}
-use Rattle.cam_event.specs.Live.{send_place, live_round}
-use Rattle.cam_event.specs.Stays.{stays_begun}
-use Rattle.cam_event.specs.declared.event.Event.{Event}
-use Rattle.cam_event.specs.declared.stay.Stay.{Stay}
+use Rattle.event_rules.proofs.LimitLemmas.{round_first}
+use Rattle.event_rules.proofs.TurnLaws.{round-more}
+use Rattle.event_rules.specs.Counts.{round}
+use Rattle.event_rules.specs.Legal.{history_rules, is_legal}
+use Rattle.event_rules.specs.Live.{send_place, live_round}
+use Rattle.event_rules.specs.Stays.{stays_begun}
+use Rattle.event_rules.specs.declared.event.Event.{Event}
+use Rattle.event_rules.specs.declared.passage.Passage.{Passage}
 use Rattle.wait_causes.specs.Causes.{round_ends, cause_at, round_cause, waited_causes}
 use Rattle.wait_causes.specs.Freezes.{numbers, is_frozen_at, is_frozen_in, begins, rounds_between, cause_of, grouping_of, waits_for, stay_cost, cost_in, freeze_from, freezes_at, freezes_by, freezes_of, freezes, is_kind, cost_of}
 use Rattle.wait_causes.specs.Parts.{rounds_for, measure}
@@ -108,7 +108,7 @@ held_in kind c es d r is = elim (slice_get (round_ends es) (r - 1)) as (λ o. is
   | Some before ↦ λ h. held_at kind c before d h
 ] is
 
-number_is : (kind : FreezeKind) (c : Topology) (es : List Event) (p : Stay) (best : ℕ) → number (grouping_of kind) (explained_stay c es p best) ≡ holder kind c p.device
+number_is : (kind : FreezeKind) (c : Topology) (es : List Event) (p : Passage) (best : ℕ) → number (grouping_of kind) (explained_stay c es p best) ≡ holder kind c p.device
 unfolding explained_stay
 number_is Error c es p best = refl
 number_is Caller c es p best = refl
@@ -118,13 +118,13 @@ count-map : (p : waiting.Cause → Bool) (f : ℕ → waiting.Cause) (xs : List 
 count-map p f [] = refl
 count-map p f (x ∷ xs) = count_by-cons p (f x) (map f xs) ∙ ap (λ n. cond (p (f x)) 1 0 + n) (count-map p f xs) ∙ sym (count_by-cons (λ x. p (f x)) x xs)
 
-rounds_are : (kind : FreezeKind) (c : Topology) (es : List Event) (p : Stay) (best : ℕ) → count_by (is_cause (cause_of kind)) (waited_causes c es p) ≡ rounds_for (cause_of kind) (explained_stay c es p best).rounds
+rounds_are : (kind : FreezeKind) (c : Topology) (es : List Event) (p : Passage) (best : ℕ) → count_by (is_cause (cause_of kind)) (waited_causes c es p) ≡ rounds_for (cause_of kind) (explained_stay c es p best).rounds
 unfolding explained_stay
 rounds_are Error c es p best = refl
 rounds_are Caller c es p best = refl
 rounds_are Adapter c es p best = refl
 
-live-le : (es : List Event) (p : Stay) → live_round es p ≤ round es
+live-le : (es : List Event) (p : Passage) → live_round es p ≤ round es
 live-le es p = omega (arith, round-more (take (send_place es p) es) (drop (send_place es p) es), ap round (take-append-drop (send_place es p) es))
 
 -- what is counted of a stay in the rounds at whose ends its device or adapter was frozen
@@ -132,7 +132,7 @@ abbrev pub Counted : FreezeKind → Topology → List Event → ExplainedStay �
 Counted kind c es s =
     count_by (waits_for (round_cause c es) (cause_of kind) s) (filter (is_frozen_in kind es (number (grouping_of kind) s)) (rounds_between 1 (round es))) ≡ rounds_for (cause_of kind) s.rounds
 
-counted : (kind : FreezeKind) (c : Topology) (es : List Event) (p : Stay) (best : ℕ) → 1 ≤ p.arrival → Counted kind c es (explained_stay c es p best)
+counted : (kind : FreezeKind) (c : Topology) (es : List Event) (p : Passage) (best : ℕ) → 1 ≤ p.arrival → Counted kind c es (explained_stay c es p best)
 unfolding explained_stay waited_causes
 counted kind c es p best some =
     let s : ExplainedStay = explained_stay c es p best in
@@ -143,11 +143,11 @@ counted kind c es p best some =
     ∙ sym (count-map (is_cause (cause_of kind)) (round_cause c es p.device) (range_with_len p.arrival (live_round es p - p.arrival)))
     ∙ rounds_are kind c es p best
 
-each_stay : (c : Topology) (es : List Event) (R : Stay → Type 0) (P : ExplainedStay → Type 0) → ((p : Stay) (b : ℕ) → R p → P (explained_stay c es p b)) → (ps : List Stay) (best : List ℕ) → All R ps → All P (map (λ (m : Stay × ℕ). explained_stay c es m.0 m.1) (zip ps best))
+each_stay : (c : Topology) (es : List Event) (R : Passage → Type 0) (P : ExplainedStay → Type 0) → ((p : Passage) (b : ℕ) → R p → P (explained_stay c es p b)) → (ps : List Passage) (best : List ℕ) → All R ps → All P (map (λ (m : Passage × ℕ). explained_stay c es m.0 m.1) (zip ps best))
 each_stay c es R P f [] best all = λ k d lt. absurd (omega arith)
 each_stay c es R P f (p ∷ ps) [] all = λ k d lt. absurd (omega arith)
 each_stay c es R P f (p ∷ ps) (b ∷ bs) all =
-    All-cons P (explained_stay c es p b) (map (λ (m : Stay × ℕ). explained_stay c es m.0 m.1) (zip ps bs)) (f p b (all 0 p (omega arith)))
+    All-cons P (explained_stay c es p b) (map (λ (m : Passage × ℕ). explained_stay c es m.0 m.1) (zip ps bs)) (f p b (all 0 p (omega arith)))
     (each_stay c es R P f ps bs (λ k d lt. all (suc k) d (omega arith)))
 
 -- the stays of a number cost what they waited
@@ -183,7 +183,7 @@ unfolding freezes_by freezes_at explained_stays
 kind_adds_up kind c es best kept legal =
     let windows = windows-legal history_rules c es legal in
     let all_counted = each_stay c es (IsInWindow es) (Counted kind c es) (λ p b w. counted kind c es p b w.first) (stays_begun es) best windows.each in
-    let all_there = each_stay c es (λ (p : Stay). p.device < length c.devices) (λ (s : ExplainedStay). number (grouping_of kind) s < numbers kind c)
+    let all_there = each_stay c es (λ (p : Passage). p.device < length c.devices) (λ (s : ExplainedStay). number (grouping_of kind) s < numbers kind c)
     (λ p b lt. omega (arith, number_is kind c es p b, number_there kind c p.device kept lt)) (stays_begun es) best (devices_in_range history_rules c es legal) in
     sum_flat (λ (f : Freeze). f.cost) (λ n. freezes_at kind n (is_frozen_in kind es n) (round es) (round_cause c es) (stays_of (grouping_of kind) (explained_stays c es best) n)) (range_with_len 0 (numbers kind c))
     ∙ sum_same (λ n. sum_by (λ (f : Freeze). f.cost) (freezes_at kind n (is_frozen_in kind es n) (round es) (round_cause c es) (stays_of (grouping_of kind) (explained_stays c es best) n)))

@@ -6,7 +6,7 @@ use Rattle.std.proofs.lemmas.Bool.{and_parts, leb-true, le-leb}
 use Rattle.std.proofs.lemmas.Grind.{flat_map-append}
 use Rattle.std.proofs.lemmas.List.{map-append}
 use Rattle.std.proofs.lemmas.List.Folds.{list_all-append}
-use Rattle.cam_event.proofs.ListFacts.{range_with_len-push}
+use Rattle.event_rules.proofs.ListFacts.{range_with_len-push}
 use Rattle.wait_causes.specs.Stays.{is_cause}
 use Rattle.wait_causes.specs.Waits.{beside, rounds_of, are_apart, AreBegun}
 use Rattle.wait_causes.specs.declared.cause.Cause.{Cause}

@@ -5,12 +5,12 @@ use Rattle.std.specs.Option.{option_map_or}
 use Rattle.cam_types.specs.Lists.{moments}
 use Rattle.cam_types.specs.Topology.{Topology}
 use Rattle.cam_types.specs.Questions.{devices, device_adapter}
-use Rattle.cam_event.specs.Event.{is_tick}
-use Rattle.cam_event.specs.Counts.{error_count, caller_count, adapter_freezes}
-use Rattle.cam_event.specs.Head.{has_opening, adapter_has_opening, link_has_opening}
-use Rattle.cam_event.specs.Live.{live_round}
-use Rattle.cam_event.specs.declared.event.Event.{Event}
-use Rattle.cam_event.specs.declared.stay.Stay.{Stay}
+use Rattle.event_rules.specs.Event.{is_tick}
+use Rattle.event_rules.specs.Counts.{error_count, caller_count, adapter_freezes}
+use Rattle.event_rules.specs.Head.{has_opening, adapter_has_opening, link_has_opening}
+use Rattle.event_rules.specs.Live.{live_round}
+use Rattle.event_rules.specs.declared.event.Event.{Event}
+use Rattle.event_rules.specs.declared.passage.Passage.{Passage}
 use Rattle.wait_causes.specs.declared.cause.Cause.{Cause}
 use Rattle.wait_causes.specs.declared.cause.Cause.TheVariants.{Error, Caller, AdapterFrozen, DeviceFull, AdapterFull, LinkFull, NotAsked}
 
@@ -40,11 +40,11 @@ unfoldable pub round_cause : Topology → List Event → ℕ → ℕ → Cause
 round_cause c events d r = option_map_or (λ before. cause_at c before d) (slice_get (round_ends events) (r - 1)) NotAsked
 
 -- the rounds that a stay waited: from its arrival to the one before its send
-abbrev pub waited_rounds : List Event → Stay → List ℕ
+abbrev pub waited_rounds : List Event → Passage → List ℕ
 waited_rounds events p = range_with_len p.arrival (live_round events p - p.arrival)
 
 -- the causes of these rounds
-unfoldable pub waited_causes : Topology → List Event → Stay → List Cause
+unfoldable pub waited_causes : Topology → List Event → Passage → List Cause
 waited_causes c events p = map (round_cause c events p.device) (waited_rounds events p)
 
 -- the causes of all devices in each round that ended, one round after the other

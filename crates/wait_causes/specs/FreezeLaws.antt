@@ -1,8 +1,8 @@
 -- the freezes and what stays waited for their causes
 use Rattle.std.specs.Prelude.{◌≡◌, ℕ, List, IsTrue, sum_by}
 use Rattle.cam_types.specs.Topology.{Topology, IsConfig}
-use Rattle.cam_event.specs.Legal.{history_rules, is_legal}
-use Rattle.cam_event.specs.declared.event.Event.{Event}
+use Rattle.event_rules.specs.Legal.{history_rules, is_legal}
+use Rattle.event_rules.specs.declared.event.Event.{Event}
 use Rattle.wait_causes.specs.Freezes.{freezes, cause_of, cost_of}
 use Rattle.wait_causes.specs.Parts.{measure}
 use Rattle.wait_causes.specs.Stays.{explained_stays}

@@ -3,8 +3,8 @@ use Rattle.std.specs.Prelude.{ℕ, ◌+◌, ◌-◌, ◌*◌, ◌==◌, Bool, tr
 use Rattle.std.specs.List.{range_with_len}
 use Rattle.std.specs.Option.{option_map_or}
 use Rattle.cam_types.specs.Topology.{Topology}
-use Rattle.cam_event.specs.Counts.{round, error_count, caller_count, adapter_freezes}
-use Rattle.cam_event.specs.declared.event.Event.{Event}
+use Rattle.event_rules.specs.Counts.{round, error_count, caller_count, adapter_freezes}
+use Rattle.event_rules.specs.declared.event.Event.{Event}
 use Rattle.wait_causes.specs.Causes.{round_ends, round_cause}
 use Rattle.wait_causes.specs.Stays.{is_cause}
 use Rattle.wait_causes.specs.Tables.{stays_of}

@@ -2,8 +2,8 @@
 use Rattle.std.specs.Prelude.{◌≡◌}
 use Rattle.std.specs.Prelude.{List}
 use Rattle.cam_types.specs.Topology.{Topology}
-use Rattle.cam_event.specs.Counts.{round}
-use Rattle.cam_event.specs.declared.event.Event.{Event}
+use Rattle.event_rules.specs.Counts.{round}
+use Rattle.event_rules.specs.declared.event.Event.{Event}
 use Rattle.wait_causes.specs.Freezes.{numbers, flag_table}
 use Rattle.wait_causes.specs.declared.freeze.FreezeKind.{FreezeKind}
 use Rattle.wait_causes.specs.declared.frozen.Frozen.{Frozen}

@@ -1,9 +1,9 @@
 -- what holds of every explanation
 use Rattle.std.specs.Prelude.{◌≡◌, ℕ, List, length, IsTrue}
 use Rattle.cam_types.specs.Topology.{Topology}
-use Rattle.cam_event.specs.Legal.{history_rules, is_legal}
-use Rattle.cam_event.specs.Stays.{stays_begun}
-use Rattle.cam_event.specs.declared.event.Event.{Event}
+use Rattle.event_rules.specs.Legal.{history_rules, is_legal}
+use Rattle.event_rules.specs.Stays.{stays_begun}
+use Rattle.event_rules.specs.declared.event.Event.{Event}
 use Rattle.wait_causes.specs.Causes.{cause_table}
 use Rattle.wait_causes.specs.Stays.{explained_stays}
 use Rattle.wait_causes.specs.declared.cause.Cause.{Cause}

@@ -5,13 +5,13 @@ use Rattle.std.specs.Option.{option_map_or}
 use Rattle.cam_types.specs.Topology.{Topology}
 use Rattle.cam_types.specs.Questions.{device_adapter, weight}
 use Rattle.cam_types.specs.Priority.{run_level}
-use Rattle.cam_event.specs.Counts.{round, submission}
-use Rattle.cam_event.specs.Stays.{stays_begun}
-use Rattle.cam_event.specs.Live.{live_round}
-use Rattle.cam_event.specs.declared.event.Event.{Event}
-use Rattle.cam_event.specs.declared.stay.Stay.{Stay}
-use Rattle.cam_event.specs.declared.submission.Submission.{Submission}
-use Rattle.xpt_stays.specs.declared.stay_record.StayRecord.{StayRecord}
+use Rattle.event_rules.specs.Counts.{round, submission}
+use Rattle.event_rules.specs.Stays.{stays_begun}
+use Rattle.event_rules.specs.Live.{live_round}
+use Rattle.event_rules.specs.declared.event.Event.{Event}
+use Rattle.event_rules.specs.declared.passage.Passage.{Passage}
+use Rattle.event_rules.specs.declared.submission.Submission.{Submission}
+use Rattle.xpt_core.specs.declared.stays.stay_record.StayRecord.{StayRecord}
 use Rattle.wait_causes.specs.Causes.{waited_causes, cause_in}
 use Rattle.wait_causes.specs.declared.cause.Cause.{Cause}
 use Rattle.wait_causes.specs.declared.cause.Cause.TheVariants.{Error, Caller, AdapterFrozen, DeviceFull, AdapterFull, LinkFull, NotAsked}
@@ -46,7 +46,7 @@ abbrev pub all_rounds : CauseRounds → ℕ
 all_rounds n = n.error + n.caller + n.adapter_frozen + n.device_full + n.adapter_full + n.link_full + n.not_asked
 
 -- a stay, and the round in which the other schedule sends it
-unfoldable pub explained_stay : Topology → List Event → Stay → ℕ → ExplainedStay
+unfoldable pub explained_stay : Topology → List Event → Passage → ℕ → ExplainedStay
 explained_stay c events p best = record {
   ccb = p.ccb;
   attempt = p.attempt;
@@ -65,7 +65,7 @@ explained_stay c events p best = record {
 -- all stays in order of birth, each beside its round of that schedule
 unfoldable pub explained_stays : Topology → List Event → List ℕ → List ExplainedStay
 explained_stays c events best =
-    map (λ (m : Stay × ℕ). explained_stay c events m.0 m.1) (zip (stays_begun events) best)
+    map (λ (m : Passage × ℕ). explained_stay c events m.0 m.1) (zip (stays_begun events) best)
 
 -- no rounds, and one more of a cause
 abbrev pub no_rounds : CauseRounds

@@ -2,8 +2,8 @@
 use Rattle.std.specs.Prelude.{◌≡◌, ℕ, ◌+◌, ◌-◌, Bool, true, not, ◌&&◌, List, [], ◌∷◌, ◌++◌, map, flat_map, nat_le}
 use Rattle.std.specs.List.{range_with_len, list_all}
 use Rattle.cam_types.specs.Topology.{Topology}
-use Rattle.cam_event.specs.declared.event.Event.{Event}
-use Rattle.cam_event.specs.declared.stay.Stay.{Stay}
+use Rattle.event_rules.specs.declared.event.Event.{Event}
+use Rattle.event_rules.specs.declared.passage.Passage.{Passage}
 use Rattle.wait_causes.specs.Causes.{round_cause, waited_rounds}
 use Rattle.wait_causes.specs.Stays.{is_cause}
 use Rattle.wait_causes.specs.declared.cause.Cause.{Cause}
@@ -30,7 +30,7 @@ pub record AreWaits (cause : ℕ → Cause) (rounds : List ℕ) (waits : List Wa
   pub apart : are_apart (map (λ (w : Wait). w.cause) waits) ≡ true
 
 -- the waits of a stay
-abbrev pub AreWaitsOf : Topology → List Event → Stay → List Wait → Type 0
+abbrev pub AreWaitsOf : Topology → List Event → Passage → List Wait → Type 0
 AreWaitsOf c events p waits = AreWaits (round_cause c events p.device) (waited_rounds events p) waits
 
 -- with one wait more they are those of so many rounds from the first on, and that one ends with them

@@ -4,7 +4,7 @@ ghost use Rattle.std.specs.Prelude.{◌≡◌, ◌<◌, length};
 ghost use Rattle.wait_causes.specs.Causes.{cause_at};
 
 use cam_types::Config;
-use xpt_adapters::Adapters;
+use xpt_core::Queues;
 
 /// Why a stay waited in a round: of these the first that held where the round ended, just before its tick.
 #[derive(Clone, Copy, Debug, PartialEq, Eq)]
@@ -49,7 +49,7 @@ impl Cause {
 
 /// What holds up the stays of the device at this place.
 #[tactic(auto, unfolding(crate::specs::Causes::cause_at))]
-pub(crate) fn cause_at(replay: &Adapters, device: u32) -> Cause
+pub(crate) fn cause_at(replay: &Queues, device: u32) -> Cause
     requires { device < length replay.now.config.devices }
     ensures { result ≡ cause_at replay.now.config replay.now.events device }
 {

@@ -10,12 +10,12 @@ use crate::part::{Part, part_of};
 use crate::replay::replay;
 use crate::table::{Grouping, Row, table_of};
 use crate::wait::{Wait, waits_in};
-use cam_event::Event;
+use cam_event::History;
 use cam_types::Config;
+use event_rules::Event;
 use round_net::{Net, Schedule};
 use std::alloc::{AllocError, Global};
 use std::marker::Model;
-use xpt_state::History;
 
 /// Where the stays of a history waited, and why, beside another schedule.
 #[derive(Drop)]
@@ -41,9 +41,9 @@ impl Model for Explanation {
 
 impl Explanation {
     ghost use Rattle.std.specs.Prelude.{◌≡◌, ◌≤◌, [], length, slice_get, Some, IfOk, IfSome};
-    ghost use Rattle.cam_event.specs.Live.{live_cost};
-    ghost use Rattle.cam_event.specs.Stays.{stays_begun};
-    ghost use Rattle.cam_event.specs.declared.stay.Stay.{Stay};
+    ghost use Rattle.event_rules.specs.Live.{live_cost};
+    ghost use Rattle.event_rules.specs.Stays.{stays_begun};
+    ghost use Rattle.event_rules.specs.declared.passage.Passage.{Passage};
     ghost use Rattle.round_net.specs.Nets.{net_of};
     ghost use Rattle.round_net.specs.Rows.{instance_of_rows};
     ghost use Rattle.wait_causes.specs.Stays.{explained_stays};
@@ -92,7 +92,7 @@ impl Explanation {
 
     /// The waits of the stay at this place of `stays`, in order; none if no stay is there.
     pub fn waits(&self, alloc: Global, place: usize) -> Result<Vec<Wait>, AllocError>
-        ensures waits { (p : Stay) → slice_get (stays_begun self.now.events) place ≡ Some p → IfOk result (λ waits. AreWaitsOf self.now.config self.now.events p waits.items) }
+        ensures waits { (p : Passage) → slice_get (stays_begun self.now.events) place ≡ Some p → IfOk result (λ waits. AreWaitsOf self.now.config self.now.events p waits.items) }
         ensures none { length (stays_begun self.now.events) ≤ place → IfOk result (λ waits. waits.items ≡ []) }
     {
         let Some(kept) = self.stays.get(place) else {

@@ -2,18 +2,18 @@
 
 ghost use Rattle.std.specs.Prelude.{◌≡◌, ◌++◌, ◌<◌, map, [], if◌then◌else◌, IsTrue, IfOk};
 ghost use Rattle.std.specs.List.{range_with_len};
-ghost use Rattle.cam_event.specs.Counts.{round};
-ghost use Rattle.cam_event.specs.Event.{is_tick};
-ghost use Rattle.cam_event.specs.Legal.{history_rules, is_legal};
+ghost use Rattle.event_rules.specs.Counts.{round};
+ghost use Rattle.event_rules.specs.Event.{is_tick};
+ghost use Rattle.event_rules.specs.Legal.{history_rules, is_legal};
 ghost use Rattle.wait_causes.specs.Freezes.{numbers, is_frozen_at, flag_in};
 ghost use Rattle.wait_causes.specs.Frozen.{IsFrozen};
 ghost use Rattle.wait_causes.specs.declared.freeze.FreezeKind.TheVariants.{Error, Caller, Adapter};
 
 use crate::freeze::FreezeKind;
-use cam_event::{Event, Rules};
 use cam_types::Config;
+use event_rules::{Event, Rules};
 use std::alloc::{AllocError, Global};
-use xpt_adapters::Adapters;
+use xpt_core::Queues;
 
 /// Which devices or adapters were frozen in one way at the end of each round that ended, one round after the other.
 #[derive(Drop)]
@@ -30,7 +30,7 @@ pub(crate) struct Frozen {
 
 impl Frozen {
     // The flags of this kind, behind all events.
-    fn new(end: &Adapters, kind: FreezeKind, flags: Vec<bool>) -> Frozen
+    fn new(end: &Queues, kind: FreezeKind, flags: Vec<bool>) -> Frozen
         ensures kind { result.kind ≡ kind }
         ensures count { result.count ≡ numbers kind end.now.config }
         ensures last { result.last_round ≡ round end.now.events }
@@ -64,7 +64,7 @@ pub(crate) fn frozen_in(
     ensures callers { IfOk result (λ frozen. IsFrozen Caller config.now events.now frozen.1) }
     ensures adapters { IfOk result (λ frozen. IsFrozen Adapter config.now events.now frozen.2) }
 {
-    let mut end = Adapters::open(alloc, config.copy(alloc)?, Rules::of_history())?;
+    let mut end = Queues::open(alloc, config.copy(alloc)?, Rules::of_history())?;
     let mut errors = Vec::new(alloc);
     let mut callers = Vec::new(alloc);
     let mut adapters = Vec::new(alloc);
@@ -82,7 +82,7 @@ pub(crate) fn frozen_in(
 
 // If the event ends the round, puts behind the others what is frozen in this way.
 fn push_ended(
-    replay: &Adapters,
+    replay: &Queues,
     event: &Event,
     kind: FreezeKind,
     flags: &mut Vec<bool>,
@@ -97,7 +97,7 @@ fn push_ended(
 }
 
 // Puts behind the others which devices or adapters are frozen at this place.
-fn push_flags(replay: &Adapters, kind: FreezeKind, flags: &mut Vec<bool>) -> Result<(), AllocError>
+fn push_flags(replay: &Queues, kind: FreezeKind, flags: &mut Vec<bool>) -> Result<(), AllocError>
     ensures { IfOk result (λ _. flags.new.items ≡ flags.old.items ++ map (is_frozen_at kind replay.now.events) (range_with_len 0 (numbers kind replay.now.config))) }
 {
     for number in 0..numbers(replay.devices().config(), kind) {
@@ -117,7 +117,7 @@ fn numbers(config: &Config, kind: FreezeKind) -> u32
 }
 
 // Whether the device or the adapter is frozen at this place.
-fn is_frozen(replay: &Adapters, kind: FreezeKind, number: u32) -> bool
+fn is_frozen(replay: &Queues, kind: FreezeKind, number: u32) -> bool
     requires { number < numbers kind replay.now.config }
     ensures { result ≡ is_frozen_at kind replay.now.events number }
 {

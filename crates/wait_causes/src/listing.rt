@@ -5,8 +5,8 @@ ghost use Rattle.std.specs.List.{range_with_len};
 ghost use Rattle.cam_types.specs.declared.maxima.TheConstants.{MOST_STAYS};
 ghost use Rattle.std.specs.Option.{option_map_or};
 ghost use Rattle.cam_types.specs.Questions.{device_adapter};
-ghost use Rattle.cam_event.specs.Counts.{submission};
-ghost use Rattle.cam_event.specs.declared.submission.Submission.{Submission};
+ghost use Rattle.event_rules.specs.Counts.{submission};
+ghost use Rattle.event_rules.specs.declared.submission.Submission.{Submission};
 ghost use Rattle.wait_causes.specs.Causes.{cause_in};
 ghost use Rattle.wait_causes.specs.Stays.{rounds_by, row_by};
 
@@ -16,14 +16,12 @@ use crate::replay::cause_in;
 use cam_types::Config;
 use round_net::Schedule;
 use std::alloc::{AllocError, Global};
-use xpt_adapters::Adapters;
-use xpt_devices::Devices;
-use xpt_state::StayRecord;
+use xpt_core::{Devices, Queues, StayRecord};
 
 /// The stays of these records, each beside its round of the schedule. The adapters are those behind all events.
 pub(crate) fn list_stays(
     alloc: Global,
-    end: &Adapters,
+    end: &Queues,
     causes: &[Cause],
     records: &[StayRecord],
     best: &Schedule,
@@ -40,7 +38,7 @@ pub(crate) fn list_stays(
 }
 
 // The stay of this record, sent in this round by the schedule.
-fn explain(end: &Adapters, causes: &[Cause], kept: &StayRecord, best: u32) -> ExplainedStay
+fn explain(end: &Queues, causes: &[Cause], kept: &StayRecord, best: u32) -> ExplainedStay
     ensures { result ≡ row_by end.now.config end.now.events causes.now (kept.now, best) }
 {
     let devices = end.devices();
@@ -53,8 +51,8 @@ fn explain(end: &Adapters, causes: &[Cause], kept: &StayRecord, best: u32) -> Ex
         driver: driver_of(devices, stay.ccb),
         device: stay.device,
         adapter: adapter_of(config, stay.device),
-        priority: stay.priority,
-        level: stay.priority >> 8,
+        priority: stay.priority.number(),
+        level: stay.priority.run_level(),
         weight: config.weight(stay.priority) as u16,
         arrival: stay.arrival,
         live,

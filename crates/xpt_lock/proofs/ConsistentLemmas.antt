@@ -11,9 +11,9 @@ use Rattle.std.proofs.lemmas.List.Concat.{length-flat_map}
 use Rattle.std.proofs.lemmas.List.FromFn.{length-range_with_len}
 use Rattle.std.proofs.lemmas.List.Sums.{sum_by-cons}
 use Rattle.std.proofs.lemmas.Option.{slice_get_past, slice_get_within, slice_get_read, get_or_from_slice_get}
-use Rattle.xpt_ccbs.proofs.ListFacts.{length-by_number}
-use Rattle.cam_event.proofs.ListFacts.{count_by-push}
-use Rattle.cam_event.proofs.StateLaws.{map-range_but, slice_get-range}
+use Rattle.xpt_core.proofs.ListFacts.{length-by_number}
+use Rattle.event_rules.proofs.ListFacts.{count_by-push}
+use Rattle.event_rules.proofs.StateLaws.{map-range_but, slice_get-range}
 use Rattle.xpt_lock.specs.Gathers.{IsMisfit, IsUnnamed}
 use Rattle.xpt_lock.specs.Receipts.{all_receipts, naming, is_rising, marks, AreConsistent, AreInterleaved}
 use Rattle.xpt_lock.specs.Seats.{Held}

@@ -1,8 +1,8 @@
 -- where there was no memory, any history will do
 use Rattle.std.proofs.Common.{◌≡◌, List, [], Result, Ok, Err, refl, sym, subst}
 use Rattle.std.specs.Prelude.{IsErrAnd}
-use Rattle.cam_event.specs.Legal.{is_legal}
-use Rattle.cam_event.specs.Past.{Past}
+use Rattle.event_rules.specs.Legal.{is_legal}
+use Rattle.event_rules.specs.Past.{Past}
 use Rattle.xpt_lock.specs.Gathers.{IsPast, IsGathered, IsFault, due_of}
 use Rattle.xpt_lock.specs.Seats.{Held}
 use Rattle.xpt_lock.specs.declared.fault.GatherFault.{GatherFault}

@@ -2,17 +2,17 @@
 use Rattle.std.proofs.Common.{◌≡◌, ℕ, ◌+◌, ◌<◌, ◌≤◌, true, List, [], ◌∷◌, ◌++◌, length, take, map, Some, None, Result, Ok, Err, refl, sym, ap, subst, ◌∙◌, arith, length-take}
 use Rattle.std.specs.Prelude.{IsOk, slice_index_or}
 use Rattle.std.proofs.lemmas.List.{take_more, map_push, length-map}
-use Rattle.cam_event.proofs.ListFacts.{length-moments_after}
+use Rattle.event_rules.proofs.ListFacts.{length-moments_after}
 use Rattle.cam_types.proofs.ListLemmas.{moments-push}
 use Rattle.cam_types.specs.Lists.{moments}
 use Rattle.cam_types.specs.Topology.{Topology}
-use Rattle.cam_event.specs.declared.event.Event.{Event}
-use Rattle.cam_event.specs.Legal.{history_rules, is_legal, is_legal_event}
-use Rattle.cam_event.specs.declared.refusal.Refusal.{Refusal}
-use Rattle.cam_event.proofs.LegalLemmas.{none-legal}
-use Rattle.cam_event.proofs.LimitLemmas.{legal-at}
-use Rattle.xpt_devices.specs.Transport.{Transport}
-use Rattle.xpt_state.specs.Calls.{refused, with_event}
+use Rattle.event_rules.specs.declared.event.Event.{Event}
+use Rattle.event_rules.specs.Legal.{history_rules, is_legal, is_legal_event}
+use Rattle.event_rules.specs.declared.refusal.Refusal.{Refusal}
+use Rattle.event_rules.proofs.LegalLemmas.{none-legal}
+use Rattle.event_rules.proofs.LimitLemmas.{legal-at}
+use Rattle.xpt_core.specs.Transport.{Transport}
+use Rattle.xpt_core.specs.Takes.{refused, with_event}
 use Rattle.xpt_state.specs.Replies.{reply_of}
 use Rattle.xpt_state.specs.Steps.{IsStep}
 use Rattle.xpt_state.specs.declared.reply.Reply.{Reply}

@@ -13,12 +13,12 @@ use Rattle.cam_types.specs.contracts.outcome.OutcomePartialEq.TheImpl as outcome
 use Rattle.cam_types.specs.contracts.sense_bytes.SenseBytesPartialEq.TheImpl as senses
 use Rattle.cam_types.specs.declared.command.Command.{Command}
 use Rattle.cam_types.specs.contracts.command.CommandPartialEq.TheImpl as commands
-use Rattle.cam_event.specs.declared.class.Class as class
-use Rattle.cam_event.specs.declared.class.Class.TheVariants.{Complete, FreeRequeue, CountedRequeue, Fail}
-use Rattle.cam_event.specs.contracts.class.ClassPartialEq.TheImpl as classes
-use Rattle.cam_event.specs.declared.class.Why as why
-use Rattle.cam_event.specs.declared.class.Why.TheVariants.{Recovered, Spent, Other}
-use Rattle.cam_event.specs.contracts.class.WhyPartialEq.TheImpl as whys
+use Rattle.sense_class.specs.declared.class.Class as class
+use Rattle.sense_class.specs.declared.class.Class.TheVariants.{Complete, FreeRequeue, CountedRequeue, Fail}
+use Rattle.sense_class.specs.contracts.class.ClassPartialEq.TheImpl as classes
+use Rattle.sense_class.specs.declared.class.Why as why
+use Rattle.sense_class.specs.declared.class.Why.TheVariants.{Recovered, Spent, Other}
+use Rattle.sense_class.specs.contracts.class.WhyPartialEq.TheImpl as whys
 use Rattle.xpt_state.specs.declared.done.Done as done
 use Rattle.xpt_state.specs.contracts.done.DonePartialEq.TheImpl as dones
 use Rattle.xpt_state.specs.declared.reply.Reply.{Reply}
@@ -26,9 +26,9 @@ use Rattle.xpt_state.specs.declared.reply.Reply.TheVariants as replies
 use Rattle.xpt_state.specs.contracts.reply.ReplyPartialEq.TheImpl as replied
 use Rattle.xpt_lock.specs.declared.receipt.Receipt.{Receipt}
 use Rattle.xpt_lock.specs.contracts.receipt.ReceiptPartialEq.TheImpl as receipts
-use Rattle.cam_event.specs.declared.event.Event.{Event}
-use Rattle.cam_event.specs.declared.event.Event.TheVariants.{Submit, Send, Done, Requeue, Finish, FreezeDev, ReleaseDev, FreezeSim, ReleaseSim, Adjust, Tick}
-use Rattle.cam_event.specs.contracts.event.EventPartialEq.TheImpl as events
+use Rattle.event_rules.specs.declared.event.Event.{Event}
+use Rattle.event_rules.specs.declared.event.Event.TheVariants.{Submit, Send, Done, Requeue, Finish, FreezeDev, ReleaseDev, FreezeSim, ReleaseSim, Adjust, Tick}
+use Rattle.event_rules.specs.contracts.event.EventPartialEq.TheImpl as events
 
 no : false ≡ true → ⊥
 no e = cc

@@ -1,10 +1,10 @@
 -- which bells an event rings
 use Rattle.std.specs.Prelude.{Bool, true, false}
-use Rattle.cam_event.specs.Event.{is_tick}
-use Rattle.cam_event.specs.declared.event.Event.{Event}
-use Rattle.cam_event.specs.declared.event.Event.TheVariants.{Submit, Requeue, Finish, ReleaseDev, ReleaseSim, Tick}
-use Rattle.cam_event.specs.declared.class.Class.{Class}
-use Rattle.cam_event.specs.declared.class.Class.TheVariants.{Complete}
+use Rattle.event_rules.specs.Event.{is_tick}
+use Rattle.event_rules.specs.declared.event.Event.{Event}
+use Rattle.event_rules.specs.declared.event.Event.TheVariants.{Submit, Requeue, Finish, ReleaseDev, ReleaseSim, Tick}
+use Rattle.sense_class.specs.declared.class.Class.{Class}
+use Rattle.sense_class.specs.declared.class.Class.TheVariants.{Complete}
 use Rattle.xpt_state.specs.declared.reply.Reply.{Reply}
 use Rattle.xpt_state.specs.declared.reply.Reply.TheVariants as replies
 use Rattle.xpt_lock.specs.declared.bell.Bell.{Bell}

@@ -1,10 +1,10 @@
 -- what the calls of a seat leave there
 use Rattle.std.specs.Prelude.{◌≡◌, ℕ, [], ◌∷◌, ◌++◌, Option, Some, None, Result, Ok, Err, MatchResult, IsTrue}
-use Rattle.cam_event.specs.Legal.{is_legal}
-use Rattle.cam_event.specs.declared.refusal.Refusal.{Refusal}
-use Rattle.cam_event.specs.declared.event.Event.{Event}
-use Rattle.cam_event.specs.declared.event.Event.TheVariants.{Send}
-use Rattle.xpt_devices.specs.Transport.{Transport}
+use Rattle.event_rules.specs.Legal.{is_legal}
+use Rattle.event_rules.specs.declared.refusal.Refusal.{Refusal}
+use Rattle.event_rules.specs.declared.event.Event.{Event}
+use Rattle.event_rules.specs.declared.event.Event.TheVariants.{Send}
+use Rattle.xpt_core.specs.Transport.{Transport}
 use Rattle.xpt_state.specs.Looks.{look, next_case}
 use Rattle.xpt_state.specs.Steps.{IsStep, IsLaneStep}
 use Rattle.xpt_state.specs.declared.look.Case.{Case}
@@ -18,24 +18,36 @@ use Rattle.xpt_lock.specs.declared.fault.SharedFault.{SharedFault}
 use Rattle.xpt_lock.specs.declared.fault.SharedFault.TheVariants.{OutOfMemory, Refused}
 use Rattle.xpt_lock.specs.declared.receipt.Receipt.{Receipt}
 
--- one receipt more, for this event and with this reply, at some place
-abbrev pub HasGained : Event → Reply → Held → Held → Type 0
-HasGained event reply old new =
-    (at : ℕ) × (new ≡ record old { receipts = old.receipts ++ record { at = at; event = event; reply = reply } ∷ [] })
+-- one receipt more, which is this one, for this event and with this reply
+abbrev pub HasGained : Receipt → Event → Reply → Held → Held → Type 0
+HasGained receipt event reply old new =
+    (receipt.event ≡ event) × (receipt.reply ≡ reply) × (new ≡ record old { receipts = old.receipts ++ receipt ∷ [] })
 
--- a call leaves one receipt, for its event and with the answer that it gave; where it fails it leaves nothing
-abbrev pub IsCall : {A : Type 0} → (A → Reply) → Event → Held → Held → Result A SharedFault → Type 0
-IsCall as_reply event old new result = MatchResult result (λ given. HasGained event (as_reply given) old new) (λ _. new ≡ old)
+-- a call leaves the receipt that it gives, for its event and with its answer; where it fails it leaves nothing
+abbrev pub IsCall : {A : Type 0} → (A → Receipt) → (A → Reply) → Event → Held → Held → Result A SharedFault → Type 0
+IsCall receipt as_reply event old new result =
+    MatchResult result (λ given. HasGained (receipt given) event (as_reply given) old new) (λ _. new ≡ old)
+
+-- what a call gives: its answer and its receipt, or its receipt alone
+abbrev pub receipt_of : {A : Type 0} → A × Receipt → Receipt
+receipt_of given = given.1
+
+abbrev pub answered : {A : Type 0} → (A → Reply) → A × Receipt → Reply
+answered as_reply given = as_reply given.0
+
+abbrev pub receipt_alone : Receipt → Receipt
+receipt_alone receipt = receipt
 
 -- the receipt of a lane's turn, at this place: one for the command that was sent, and none where the lane was idle
 abbrev pub sent_receipt : ℕ → ℕ → Sent → Option Receipt
 sent_receipt at lane (sents.Command command) = Some (record { at = at; event = Send lane command.ccb; reply = replies.Command command })
 sent_receipt at lane (sents.Idle why) = None
 
--- a command leaves a receipt, for its send by this lane; an idle answer leaves nothing
-abbrev pub IsTurn : ℕ → Held → Held → Sent → Type 0
-IsTurn lane old new (sents.Command command) = HasGained (Send lane command.ccb) (replies.Command command) old new
-IsTurn lane old new (sents.Idle why) = new ≡ old
+-- a command leaves the receipt that is given with it, for its send by this lane; an idle answer leaves nothing
+abbrev pub IsTurn : ℕ → Held → Held → Sent × Option Receipt → Type 0
+IsTurn lane old new (sents.Command command, Some receipt) = HasGained receipt (Send lane command.ccb) (replies.Command command) old new
+IsTurn lane old new (sents.Idle why, None) = new ≡ old
+IsTurn lane old new _ = ⊥
 
 -- the transport's events are legal by its rules
 abbrev pub IsSound : Transport → Type 0
@@ -63,8 +75,8 @@ abbrev pub IsLaneWhy : ℕ → SharedFault → Type 0
 IsLaneWhy lane OutOfMemory = Unit {0}
 IsLaneWhy lane (Refused why) = HasLaneStep lane (Err why)
 
-abbrev pub IsLaneAnswer : ℕ → Result Sent SharedFault → Type 0
-IsLaneAnswer lane result = MatchResult result (λ sent. HasLaneStep lane (Ok sent)) (λ fault. IsLaneWhy lane fault)
+abbrev pub IsLaneAnswer : ℕ → Result (Sent × Option Receipt) SharedFault → Type 0
+IsLaneAnswer lane result = MatchResult result (λ given. HasLaneStep lane (Ok given.0)) (λ fault. IsLaneWhy lane fault)
 
 -- there is this to see of a sound transport
 abbrev pub IsLook : Look → Type 0

@@ -4,14 +4,14 @@ use Rattle.std.proofs.Common.{refl}
 use Rattle.cam_types.specs.Topology.{Topology, unlinked}
 use Rattle.cam_types.specs.Weights.{standard_weights}
 use Rattle.cam_types.specs.declared.outcome.Outcome.{Outcome}
-use Rattle.cam_event.specs.declared.event.Event.{Event}
-use Rattle.cam_event.specs.declared.event.Event.TheVariants.{Submit, Send, Done, Tick}
-use Rattle.cam_event.specs.Counts.{submissions, round, sendings, caller_count, error_count, adapter_freezes, counted_requeues, is_recovering}
-use Rattle.cam_event.specs.Head.{openings, has_opening, adapter_has_opening, link_has_opening, is_ready, last_sent, turn, head, next}
-use Rattle.cam_event.specs.Stays.{stays_begun, waiting, has_queued, queue, first}
-use Rattle.cam_event.specs.Classes.{kind_of, scsi_kind, sense_kind}
-use Rattle.cam_event.specs.Sense.{read_sense, fixed_sense, descriptor_sense}
-use Rattle.cam_event.specs.declared.class.Class.TheVariants.{Complete}
+use Rattle.event_rules.specs.declared.event.Event.{Event}
+use Rattle.event_rules.specs.declared.event.Event.TheVariants.{Submit, Send, Done, Tick}
+use Rattle.event_rules.specs.Counts.{submissions, round, sendings, caller_count, error_count, adapter_freezes, counted_requeues, is_recovering}
+use Rattle.event_rules.specs.Head.{openings, has_opening, adapter_has_opening, link_has_opening, is_ready, last_sent, turn, head, next}
+use Rattle.event_rules.specs.Stays.{stays_begun, waiting, has_queued, queue, first}
+use Rattle.sense_class.specs.Classes.{kind_of, scsi_kind, sense_kind}
+use Rattle.sense_class.specs.Sense.{read_sense, fixed_sense, descriptor_sense}
+use Rattle.sense_class.specs.declared.class.Class.TheVariants.{Complete}
 use Rattle.xpt_state.specs.declared.reply.Reply.TheVariants as replies
 use Rattle.xpt_lock.specs.Receipts.{receipts_of, all_receipts, naming, is_rising, marks}
 use Rattle.xpt_lock.specs.Seats.{Held}

@@ -1,7 +1,7 @@
 -- what comes of gathering seats
 use Rattle.std.specs.Prelude.{◌≡◌, ℕ, ◌+◌, ◌<◌, List, [], ◌∷◌, ◌++◌, length, take, Some, Result, MatchResult, IsTrue, slice_get}
-use Rattle.cam_event.specs.Legal.{history_rules, is_legal}
-use Rattle.cam_event.specs.Past.{Past}
+use Rattle.event_rules.specs.Legal.{history_rules, is_legal}
+use Rattle.event_rules.specs.Past.{Past}
 use Rattle.xpt_lock.specs.Receipts.{receipts_of, all_receipts, naming, AreConsistent, AreInterleaved}
 use Rattle.xpt_lock.specs.Seats.{Held}
 use Rattle.xpt_lock.specs.declared.fault.GatherFault.{GatherFault}

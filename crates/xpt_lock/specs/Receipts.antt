@@ -3,7 +3,7 @@ use Rattle.std.specs.Prelude.{◌≡◌, ℕ, ◌<◌, ◌≤◌, ◌==◌, Bool
 use Rattle.std.specs.List.{list_all, flat_map, range_with_len}
 use Rattle.cam_types.specs.Lists.{moments}
 use Rattle.cam_types.specs.Topology.{Topology}
-use Rattle.cam_event.specs.declared.event.Event.{Event}
+use Rattle.event_rules.specs.declared.event.Event.{Event}
 use Rattle.xpt_state.specs.Replies.{reply_of}
 use Rattle.xpt_lock.specs.Seats.{Held}
 use Rattle.xpt_lock.specs.declared.receipt.Receipt.{Receipt}

@@ -3,7 +3,8 @@
 ghost use Rattle.std.specs.Prelude.{◌≡◌};
 ghost use Rattle.xpt_lock.specs.Bells.{gives_work, is_failure, rings};
 
-use cam_event::{Class, Event};
+use event_rules::Event;
+use sense_class::Class;
 use xpt_state::Reply;
 
 /// What a worker may sleep for.

@@ -5,7 +5,7 @@ ghost use Rattle.xpt_lock.specs.declared.fault.GatherFault.TheVariants as gather
 ghost use Rattle.xpt_lock.specs.declared.fault.SharedFault.TheVariants.{OutOfMemory, Refused};
 
 use crate::receipt::Receipt;
-use cam_event::Refusal;
+use event_rules::Refusal;
 use std::alloc::AllocError;
 use thiserror::Error;
 

@@ -7,9 +7,9 @@ use crate::fault::GatherFault;
 use crate::replay::replay;
 use crate::seat::Seat;
 use crate::shared::SharedXpt;
+use cam_event::History;
 use std::alloc::Global;
 use std::sync::ledger::Ledger;
-use xpt_state::History;
 
 impl<L: Ledger> SharedXpt<L> {
     /// The history of all that the seats did: legal, and such that one thread that makes its calls in order gets the seats'
@@ -20,8 +20,7 @@ impl<L: Ledger> SharedXpt<L> {
     pub fn gather(self, alloc: Global, seats: Vec<Seat<L>>) -> Result<History, GatherFault>
         ensures { IsGathered seats.items result }
     {
-        let history = self.into_xpt().into_history(alloc)?;
-        let due = replay(alloc, &history)?;
+        let (history, due) = replay(alloc, self.into_xpt())?;
         compare(alloc, &due, &seats)?;
         Ok(history)
     }

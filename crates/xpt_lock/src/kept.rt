@@ -14,7 +14,7 @@ use crate::moment::Moment;
 use crate::receipt::Receipt;
 use crate::rings::Rings;
 use crate::seat::{Seat, SeatName};
-use cam_event::{Event, Refusal};
+use event_rules::{Event, Refusal};
 use std::alloc::Global;
 use std::sync::ledger::{Blank, Book, Ledger, Share};
 use xpt_state::{Case, Look, Sent, Xpt};

@@ -8,6 +8,7 @@ pub use moment::Moment;
 pub use receipt::Receipt;
 pub use seat::{Seat, SeatName};
 pub use shared::SharedXpt;
+pub use xpt_state::Reply;
 
 mod bell;
 mod compare;

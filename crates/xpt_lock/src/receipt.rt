@@ -3,7 +3,7 @@
 ghost use Rattle.std.specs.Prelude.{◌≡◌};
 ghost use Rattle.xpt_lock.specs.Calls.{sent_receipt};
 
-use cam_event::Event;
+use event_rules::Event;
 use xpt_state::{Reply, Sent};
 
 /// What a call of a seat came to.

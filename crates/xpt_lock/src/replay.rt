@@ -1,31 +1,33 @@
-//! The receipts that one thread would get that made all the calls of a history.
+//! The history of a transport, and the receipts that one thread would get that made all its calls.
 
 ghost use Rattle.std.specs.Prelude.{◌≡◌, ◌≤◌, length, IfOk};
 ghost use Rattle.cam_types.specs.declared.maxima.TheConstants.{MOST_EVENTS};
-ghost use Rattle.xpt_lock.specs.Receipts.{receipts_of};
+ghost use Rattle.xpt_lock.specs.Gathers.{IsPast, due_of};
 
 use crate::receipt::Receipt;
-use cam_event::Rules;
+use cam_event::History;
+use event_rules::Rules;
 use std::alloc::{AllocError, Global};
-use xpt_state::{History, Xpt};
+use xpt_state::Xpt;
 
-// The receipts of a history's events, by a transport of one thread.
-pub(crate) fn replay(alloc: Global, history: &History) -> Result<Vec<Receipt>, AllocError>
-    ensures same { IfOk result (λ v. v.items ≡ receipts_of history.now.config history.now.events) }
-    ensures few { IfOk result (λ v. length v.items ≤ MOST_EVENTS) }
+// The history of a transport's events, with the receipts that one thread would get for them: they happen again once.
+pub(crate) fn replay(alloc: Global, xpt: Xpt) -> Result<(History, Vec<Receipt>), AllocError>
+    ensures history { IfOk result (λ both. both.0 ≡ record { config = xpt.config; events = xpt.events }) }
+    ensures past { IfOk result (λ both. IsPast both.0) }
+    ensures same { IfOk result (λ both. both.1.items ≡ due_of both.0) }
+    ensures few { IfOk result (λ both. length both.1.items ≤ MOST_EVENTS) }
 {
-    let config = history.config().copy(alloc)?;
-    let mut xpt = Xpt::by(alloc, config, Rules::of_history())?;
-    let mut receipts = Vec::new(alloc);
-    let events = history.events();
-    for event in events {
-        let at = xpt.events().len() as u32;
-        let reply = xpt.take(*event).unwrap();
+    let (config, events) = xpt.into_parts();
+    let mut again = Xpt::by(alloc, config, Rules::of_history())?;
+    let mut receipts = Vec::with_capacity(alloc, events.len())?;
+    for event in &events {
+        let at = again.events().len() as u32;
+        let reply = again.take(*event).unwrap();
         receipts.push(Receipt {
             at,
             event: *event,
             reply,
         })?;
     }
-    Ok(receipts)
+    Ok((again.into_history(alloc)?, receipts))
 }

@@ -6,7 +6,7 @@ ghost use Rattle.xpt_lock.specs.Rings.{no_rings, rings_of, rung_by, counted};
 
 use crate::bell::Bell;
 use crate::moment::Moment;
-use cam_event::Event;
+use event_rules::Event;
 use xpt_state::Reply;
 
 // How often each bell rang, again from 0 where 64 bits don't hold it.

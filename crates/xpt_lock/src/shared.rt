@@ -1,8 +1,9 @@
 //! The transport under its lock, and the calls of seats.
 
 ghost use Rattle.std.specs.Prelude.{◌≡◌, ◌≢◌, [], IfOk, MatchResult};
-ghost use Rattle.cam_event.specs.declared.event.Event.TheVariants as Event;
-ghost use Rattle.xpt_lock.specs.Calls.{IsCall, IsTurn, IsAnswer, IsLaneAnswer, IsLook, IsNextCase};
+ghost use Rattle.event_rules.specs.declared.event.Event.TheVariants as Event;
+ghost use Rattle.xpt_lock.specs.Calls.{IsCall, IsTurn, IsAnswer, IsLaneAnswer, IsLook, IsNextCase, receipt_of, receipt_alone, answered};
+ghost use Rattle.xpt_lock.specs.declared.receipt.Receipt.{Receipt};
 ghost use Rattle.xpt_state.specs.Replies.{nothing};
 ghost use Rattle.xpt_state.specs.declared.reply.Reply.TheVariants as replies;
 
@@ -10,10 +11,11 @@ use crate::bell::Bell;
 use crate::fault::{SeatsFull, SharedFault};
 use crate::kept::Kept;
 use crate::moment::Moment;
+use crate::receipt::Receipt;
 use crate::seat::{Seat, SeatName};
 use crate::sleepers::Sleepers;
-use cam_event::Event;
 use cam_types::{Flags, Outcome};
+use event_rules::Event;
 use std::alloc::Global;
 use std::sync::ledger::{Blank, Ledger};
 use std::sync::{Mutex, MutexGuard, Wait};
@@ -72,9 +74,14 @@ impl<L: Ledger> SharedXpt<L> {
     }
 
     // Takes an event of any kind but a send.
-    fn take<R: Wait>(&self, rt: &R, seat: &mut Seat<L>, event: Event) -> Result<Reply, SharedFault>
-        ensures call { IsCall (λ reply. reply) event seat.old seat.new result }
-        ensures answer { IsAnswer (λ reply. reply) event result }
+    fn take<R: Wait>(
+        &self,
+        rt: &R,
+        seat: &mut Seat<L>,
+        event: Event,
+    ) -> Result<Receipt, SharedFault>
+        ensures call { IsCall receipt_alone (λ (r : Receipt). r.reply) event seat.old seat.new result }
+        ensures answer { IsAnswer (λ (r : Receipt). r.reply) event result }
     {
         let Seat {
             name: _,
@@ -83,13 +90,12 @@ impl<L: Ledger> SharedXpt<L> {
         } = seat;
         receipts.reserve(1)?;
         let receipt = self.lock(rt).take(event, share)?;
-        let reply = receipt.reply;
         receipts.push_reserved(receipt);
-        self.sleepers.wake(&event, &reply);
-        Ok(reply)
+        self.sleepers.wake(&event, &receipt.reply);
+        Ok(receipt)
     }
 
-    /// Submits a CCB: `Xpt::submit`, with its answer and its refusals.
+    /// Submits a CCB: `Xpt::submit`, with its answer and its refusals, and the receipt that the seat keeps of it.
     pub fn submit<R: Wait>(
         &self,
         rt: &R,
@@ -99,9 +105,9 @@ impl<L: Ledger> SharedXpt<L> {
         priority: u32,
         retries: u32,
         flags: Flags,
-    ) -> Result<u32, SharedFault>
-        ensures call { IsCall replies.Ccb (Event.Submit driver device priority retries flags) seat.old seat.new result }
-        ensures answer { IsAnswer replies.Ccb (Event.Submit driver device priority retries flags) result }
+    ) -> Result<(u32, Receipt), SharedFault>
+        ensures call { IsCall receipt_of (answered replies.Ccb) (Event.Submit driver device priority retries flags) seat.old seat.new result }
+        ensures answer { IsAnswer (answered replies.Ccb) (Event.Submit driver device priority retries flags) result }
     {
         let event = Event::Submit {
             driver,
@@ -110,20 +116,22 @@ impl<L: Ledger> SharedXpt<L> {
             retries,
             flags,
         };
-        let Reply::Ccb(number) = self.take(rt, seat, event)? else {
+        let receipt = self.take(rt, seat, event)?;
+        let Reply::Ccb(number) = receipt.reply else {
             unreachable!()
         };
-        Ok(number)
+        Ok((number, receipt))
     }
 
-    /// Sends the lane's next command: `Xpt::send_next`, with its answer and its refusals. An idle lane leaves no receipt.
+    /// Sends the lane's next command: `Xpt::send_next`, with its answer and its refusals, and the receipt that the seat keeps of
+    /// it. An idle lane gets no receipt.
     pub fn send_next<R: Wait>(
         &self,
         rt: &R,
         seat: &mut Seat<L>,
         lane: u32,
-    ) -> Result<Sent, SharedFault>
-        ensures turn { MatchResult result (λ sent. IsTurn lane seat.old seat.new sent) (λ _. seat.new ≡ seat.old) }
+    ) -> Result<(Sent, Option<Receipt>), SharedFault>
+        ensures turn { MatchResult result (λ given. IsTurn lane seat.old seat.new given) (λ _. seat.new ≡ seat.old) }
         ensures answer { IsLaneAnswer lane result }
     {
         let Seat {
@@ -132,11 +140,14 @@ impl<L: Ledger> SharedXpt<L> {
             share,
         } = seat;
         receipts.reserve(1)?;
-        let (sent, receipt) = self.lock(rt).send_next(lane, share)?;
-        if let Some(receipt) = receipt {
-            receipts.push_reserved(receipt);
+        match self.lock(rt).send_next(lane, share)? {
+            (sent, Some(receipt)) => {
+                let kept = &receipt;
+                receipts.push_reserved(*kept);
+                Ok((sent, Some(receipt)))
+            }
+            (sent, None) => Ok((sent, None)),
         }
-        Ok(sent)
     }
 
     /// The CCB's command has completed with this result: `Xpt::done`, with its answer and its refusals.
@@ -146,32 +157,41 @@ impl<L: Ledger> SharedXpt<L> {
         seat: &mut Seat<L>,
         ccb: u32,
         outcome: Outcome,
-    ) -> Result<Done, SharedFault>
-        ensures call { IsCall replies.Done (Event.Done ccb outcome) seat.old seat.new result }
-        ensures answer { IsAnswer replies.Done (Event.Done ccb outcome) result }
+    ) -> Result<(Done, Receipt), SharedFault>
+        ensures call { IsCall receipt_of (answered replies.Done) (Event.Done ccb outcome) seat.old seat.new result }
+        ensures answer { IsAnswer (answered replies.Done) (Event.Done ccb outcome) result }
     {
-        let Reply::Done(done) = self.take(rt, seat, Event::Done { ccb, outcome })? else {
+        let receipt = self.take(rt, seat, Event::Done { ccb, outcome })?;
+        let Reply::Done(done) = receipt.reply else {
             unreachable!()
         };
-        Ok(done)
+        Ok((done, receipt))
     }
 
     /// Puts a CCB that failed back into its queue: `Xpt::requeue`, with its refusals.
-    pub fn requeue<R: Wait>(&self, rt: &R, seat: &mut Seat<L>, ccb: u32) -> Result<(), SharedFault>
-        ensures call { IsCall nothing (Event.Requeue ccb) seat.old seat.new result }
+    pub fn requeue<R: Wait>(
+        &self,
+        rt: &R,
+        seat: &mut Seat<L>,
+        ccb: u32,
+    ) -> Result<Receipt, SharedFault>
+        ensures call { IsCall receipt_alone nothing (Event.Requeue ccb) seat.old seat.new result }
         ensures answer { IsAnswer nothing (Event.Requeue ccb) result }
     {
-        self.take(rt, seat, Event::Requeue { ccb })?;
-        Ok(())
+        self.take(rt, seat, Event::Requeue { ccb })
     }
 
     /// Gives a CCB that failed back to its driver: `Xpt::finish`, with its refusals.
-    pub fn finish<R: Wait>(&self, rt: &R, seat: &mut Seat<L>, ccb: u32) -> Result<(), SharedFault>
-        ensures call { IsCall nothing (Event.Finish ccb) seat.old seat.new result }
+    pub fn finish<R: Wait>(
+        &self,
+        rt: &R,
+        seat: &mut Seat<L>,
+        ccb: u32,
+    ) -> Result<Receipt, SharedFault>
+        ensures call { IsCall receipt_alone nothing (Event.Finish ccb) seat.old seat.new result }
         ensures answer { IsAnswer nothing (Event.Finish ccb) result }
     {
-        self.take(rt, seat, Event::Finish { ccb })?;
-        Ok(())
+        self.take(rt, seat, Event::Finish { ccb })
     }
 
     /// Freezes a device so many times: `Xpt::freeze_dev`, with its refusals.
@@ -181,12 +201,11 @@ impl<L: Ledger> SharedXpt<L> {
         seat: &mut Seat<L>,
         device: u32,
         count: u32,
-    ) -> Result<(), SharedFault>
-        ensures call { IsCall nothing (Event.FreezeDev device count) seat.old seat.new result }
+    ) -> Result<Receipt, SharedFault>
+        ensures call { IsCall receipt_alone nothing (Event.FreezeDev device count) seat.old seat.new result }
         ensures answer { IsAnswer nothing (Event.FreezeDev device count) result }
     {
-        self.take(rt, seat, Event::FreezeDev { device, count })?;
-        Ok(())
+        self.take(rt, seat, Event::FreezeDev { device, count })
     }
 
     /// Takes so many freezes of a device away: `Xpt::release_dev`, with its refusals.
@@ -196,12 +215,11 @@ impl<L: Ledger> SharedXpt<L> {
         seat: &mut Seat<L>,
         device: u32,
         count: u32,
-    ) -> Result<(), SharedFault>
-        ensures call { IsCall nothing (Event.ReleaseDev device count) seat.old seat.new result }
+    ) -> Result<Receipt, SharedFault>
+        ensures call { IsCall receipt_alone nothing (Event.ReleaseDev device count) seat.old seat.new result }
         ensures answer { IsAnswer nothing (Event.ReleaseDev device count) result }
     {
-        self.take(rt, seat, Event::ReleaseDev { device, count })?;
-        Ok(())
+        self.take(rt, seat, Event::ReleaseDev { device, count })
     }
 
     /// Freezes an adapter so many times: `Xpt::freeze_sim`, with its refusals.
@@ -211,12 +229,11 @@ impl<L: Ledger> SharedXpt<L> {
         seat: &mut Seat<L>,
         sim: u32,
         count: u32,
-    ) -> Result<(), SharedFault>
-        ensures call { IsCall nothing (Event.FreezeSim sim count) seat.old seat.new result }
+    ) -> Result<Receipt, SharedFault>
+        ensures call { IsCall receipt_alone nothing (Event.FreezeSim sim count) seat.old seat.new result }
         ensures answer { IsAnswer nothing (Event.FreezeSim sim count) result }
     {
-        self.take(rt, seat, Event::FreezeSim { sim, count })?;
-        Ok(())
+        self.take(rt, seat, Event::FreezeSim { sim, count })
     }
 
     /// Takes one freeze of an adapter away: `Xpt::release_sim`, with its refusals.
@@ -225,12 +242,11 @@ impl<L: Ledger> SharedXpt<L> {
         rt: &R,
         seat: &mut Seat<L>,
         sim: u32,
-    ) -> Result<(), SharedFault>
-        ensures call { IsCall nothing (Event.ReleaseSim sim) seat.old seat.new result }
+    ) -> Result<Receipt, SharedFault>
+        ensures call { IsCall receipt_alone nothing (Event.ReleaseSim sim) seat.old seat.new result }
         ensures answer { IsAnswer nothing (Event.ReleaseSim sim) result }
     {
-        self.take(rt, seat, Event::ReleaseSim { sim })?;
-        Ok(())
+        self.take(rt, seat, Event::ReleaseSim { sim })
     }
 
     /// Gives a device so many openings from the next round on: `Xpt::adjust`, with its refusals.
@@ -240,23 +256,23 @@ impl<L: Ledger> SharedXpt<L> {
         seat: &mut Seat<L>,
         device: u32,
         openings: u32,
-    ) -> Result<(), SharedFault>
-        ensures call { IsCall nothing (Event.Adjust device openings) seat.old seat.new result }
+    ) -> Result<Receipt, SharedFault>
+        ensures call { IsCall receipt_alone nothing (Event.Adjust device openings) seat.old seat.new result }
         ensures answer { IsAnswer nothing (Event.Adjust device openings) result }
     {
-        self.take(rt, seat, Event::Adjust { device, openings })?;
-        Ok(())
+        self.take(rt, seat, Event::Adjust { device, openings })
     }
 
     /// Opens the next round, which is the answer: `Xpt::tick`, with its refusals.
-    pub fn tick<R: Wait>(&self, rt: &R, seat: &mut Seat<L>) -> Result<u32, SharedFault>
-        ensures call { IsCall replies.Round Event.Tick seat.old seat.new result }
-        ensures answer { IsAnswer replies.Round Event.Tick result }
+    pub fn tick<R: Wait>(&self, rt: &R, seat: &mut Seat<L>) -> Result<(u32, Receipt), SharedFault>
+        ensures call { IsCall receipt_of (answered replies.Round) Event.Tick seat.old seat.new result }
+        ensures answer { IsAnswer (answered replies.Round) Event.Tick result }
     {
-        let Reply::Round(round) = self.take(rt, seat, Event::Tick)? else {
+        let receipt = self.take(rt, seat, Event::Tick)?;
+        let Reply::Round(round) = receipt.reply else {
             unreachable!()
         };
-        Ok(round)
+        Ok((round, receipt))
     }
 
     /// Of the CCBs that wait for a decision on their error, the one that completed first: `Xpt::next_case`.

@@ -1,7 +1,7 @@
 //! Where the workers sleep, at one bell each.
 
 use crate::bell::Bell;
-use cam_event::Event;
+use event_rules::Event;
 use std::sync::Condvar;
 use xpt_state::Reply;
 

@@ -5,20 +5,20 @@ use Rattle.std.specs.List.{list_any, list_all}
 use Rattle.std.proofs.lemmas.Bool.{and_from, eq-eqb, eqb-true, or_cases}
 use Rattle.std.proofs.lemmas.List.Sums.{sum_by-cons}
 use Rattle.cam_types.specs.Topology.{Topology}
-use Rattle.cam_event.specs.Event.{is_requeue_of}
-use Rattle.cam_event.specs.Counts.{commands}
-use Rattle.cam_event.specs.Head.{head, next}
-use Rattle.cam_event.specs.Stays.{stays_begun, is_unsent, waiting, has_arrived, queue, first}
-use Rattle.cam_event.specs.declared.event.Event.{Event}
-use Rattle.cam_event.specs.declared.stay.Stay.{Stay}
-use Rattle.cam_event.proofs.TotalLaws.{unsent_count}
-use Rattle.cam_event.specs.Legal.{Rules, is_legal}
-use Rattle.cam_event.proofs.TestLemmas.{IsIn, in_found, in_filter, passes-all}
-use Rattle.xpt_ccbs.specs.Ccbs.{is_alive}
-use Rattle.xpt_stays.proofs.LatestLemmas.{AreLatest, latest-legal}
+use Rattle.event_rules.specs.Event.{is_requeue_of}
+use Rattle.event_rules.specs.Counts.{commands}
+use Rattle.event_rules.specs.Head.{head, next}
+use Rattle.event_rules.specs.Stays.{stays_begun, is_unsent, waiting, has_arrived, queue, first}
+use Rattle.event_rules.specs.declared.event.Event.{Event}
+use Rattle.event_rules.specs.declared.passage.Passage.{Passage}
+use Rattle.event_rules.proofs.TotalLaws.{unsent_count}
+use Rattle.event_rules.specs.Legal.{Rules, is_legal}
+use Rattle.event_rules.proofs.TestLemmas.{IsIn, in_found, in_filter, passes-all}
+use Rattle.xpt_core.specs.Ccbs.{is_alive}
+use Rattle.xpt_core.proofs.LatestLemmas.{AreLatest, latest-legal}
 
 -- it is its CCB's last stay
-abbrev is_last_try : List Event → Stay → Bool
+abbrev is_last_try : List Event → Passage → Bool
 is_last_try es p = p.attempt == count_by (is_requeue_of p.ccb) es
 
 -- what each place's element passes, each element that a filter keeps does
@@ -29,34 +29,34 @@ kept_pass p q (x ∷ xs) h = elim (p x) as (λ b. p x ≡ b → list_all q (cond
   | false ↦ λ _. kept_pass p q xs (λ j y at. h (suc j) y at)
 ] refl
 
-last_try : (es : List Event) → AreLatest es → (j : ℕ) (p : Stay) → slice_get (stays_begun es) j ≡ Some p → is_unsent es p ≡ true → is_last_try es p ≡ true
+last_try : (es : List Event) → AreLatest es → (j : ℕ) (p : Passage) → slice_get (stays_begun es) j ≡ Some p → is_unsent es p ≡ true → is_last_try es p ≡ true
 last_try es all j p at unsent =
     let kept = all.stays j p at in
     let latest = all.latest p.ccb kept.ccb in
     let here : Some p ≡ Some latest.stay = sym at ∙ ap (slice_get (stays_begun es)) (sym (kept.last (kept.alone unsent))) ∙ latest.there in
     let same : p ≡ latest.stay = cc in
-    eq-eqb _ _ (ap (λ (x : Stay). x.attempt) same ∙ latest.attempt)
+    eq-eqb _ _ (ap (λ (x : Passage). x.attempt) same ∙ latest.attempt)
 
 last_tries : (es : List Event) → AreLatest es → list_all (is_last_try es) (waiting es) ≡ true
 unfolding waiting
 last_tries es all = kept_pass (is_unsent es) (is_last_try es) (stays_begun es) (last_try es all)
 
 -- the next stay is one without a send
-first_in : (es : List Event) (d : ℕ) (p : Stay) → first es d ≡ Some p → IsIn p (waiting es)
+first_in : (es : List Event) (d : ℕ) (p : Passage) → first es d ≡ Some p → IsIn p (waiting es)
 unfolding first queue
 first_in es d p h =
-    let here = λ (q : Stay). (q.device == d) && has_arrived es q in
+    let here = λ (q : Passage). (q.device == d) && has_arrived es q in
     in_filter here (waiting es) p (in_found _ (filter here (waiting es)) p h).0
 
-next_cases : (es : List Event) (p : Stay) (o : Option ℕ) → option_and_then (first es) o ≡ Some p → IsIn p (waiting es)
+next_cases : (es : List Event) (p : Passage) (o : Option ℕ) → option_and_then (first es) o ≡ Some p → IsIn p (waiting es)
 next_cases es p None h = absurd (cc)
 next_cases es p (Some d) h = first_in es d p h
 
-next_in : (c : Topology) (es : List Event) (a : ℕ) (p : Stay) → next c es a ≡ Some p → IsIn p (waiting es)
+next_in : (c : Topology) (es : List Event) (a : ℕ) (p : Passage) → next c es a ≡ Some p → IsIn p (waiting es)
 unfolding next
 next_in c es a p h = next_cases es p (head c es a) h
 
-pub next_attempt : (rules : Rules) (c : Topology) (es : List Event) (a : ℕ) (p : Stay) → is_legal rules c es ≡ true → next c es a ≡ Some p → p.attempt ≡ count_by (is_requeue_of p.ccb) es
+pub next_attempt : (rules : Rules) (c : Topology) (es : List Event) (a : ℕ) (p : Passage) → is_legal rules c es ≡ true → next c es a ≡ Some p → p.attempt ≡ count_by (is_requeue_of p.ccb) es
 next_attempt rules c es a p legal is = eqb-true _ _ (passes-all p (waiting es) (is_last_try es) (next_in c es a p is) (last_tries es (latest-legal rules c es legal)))
 
 -- and its CCB is alive
@@ -67,10 +67,10 @@ counted_any q (x ∷ xs) h = elim (or_cases (q x) (list_any q xs) h) [
   | inr later ↦ omega (arith, sum_by-cons (λ y. cond {A = ℕ} (q y) 1 0) x xs, counted_any q xs later)
 ]
 
-unsent_in : (es : List Event) (p : Stay) → IsIn p (waiting es) → 1 ≤ unsent_count es p.ccb
-unsent_in es p i = counted_any (λ (q : Stay). q.ccb == p.ccb) (waiting es) (i.passes (λ (q : Stay). q.ccb == p.ccb) (eq-eqb p.ccb p.ccb refl))
+unsent_in : (es : List Event) (p : Passage) → IsIn p (waiting es) → 1 ≤ unsent_count es p.ccb
+unsent_in es p i = counted_any (λ (q : Passage). q.ccb == p.ccb) (waiting es) (i.passes (λ (q : Passage). q.ccb == p.ccb) (eq-eqb p.ccb p.ccb refl))
 
-pub next_held : (rules : Rules) (c : Topology) (es : List Event) (a : ℕ) (p : Stay) → is_legal rules c es ≡ true → next c es a ≡ Some p → (nat_lt p.ccb (commands es) && is_alive es p.ccb) ≡ true
+pub next_held : (rules : Rules) (c : Topology) (es : List Event) (a : ℕ) (p : Passage) → is_legal rules c es ≡ true → next c es a ≡ Some p → (nat_lt p.ccb (commands es) && is_alive es p.ccb) ≡ true
 next_held rules c es a p legal is =
     let place = ((latest-legal rules c es legal).states.placed p.ccb).place in
     let some = unsent_in es p (next_in c es a p is) in

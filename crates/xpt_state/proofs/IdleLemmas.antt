@@ -6,14 +6,14 @@ use Rattle.cam_types.specs.Lists.{first_answer, least_by}
 use Rattle.cam_types.specs.Topology.{Topology}
 use Rattle.std.proofs.lemmas.Bool.{and_parts, and_from}
 use Rattle.std.proofs.Math.Bool.{not-not}
-use Rattle.cam_event.specs.Counts.{freeze_count, adapter_freezes}
-use Rattle.cam_event.specs.Stays.{first}
+use Rattle.event_rules.specs.Counts.{freeze_count, adapter_freezes}
+use Rattle.event_rules.specs.Stays.{first}
 use Rattle.cam_types.specs.Questions.{is_on, devices}
-use Rattle.cam_event.specs.Head.{has_opening, adapter_has_opening, link_has_opening, is_ready, may_send, turn_key, turn, head, next}
-use Rattle.cam_event.specs.declared.event.Event.{Event}
-use Rattle.cam_event.proofs.LeastLemmas.{is_some-least_by-filter}
-use Rattle.cam_event.proofs.TestLemmas.{same_tests, list_any-weaker}
-use Rattle.cam_event.proofs.NextLemmas.{is_some-next}
+use Rattle.event_rules.specs.Head.{has_opening, adapter_has_opening, link_has_opening, is_ready, may_send, turn_key, turn, head, next}
+use Rattle.event_rules.specs.declared.event.Event.{Event}
+use Rattle.event_rules.proofs.LeastLemmas.{is_some-least_by-filter}
+use Rattle.event_rules.proofs.TestLemmas.{same_tests, list_any-weaker}
+use Rattle.event_rules.proofs.NextLemmas.{is_some-next}
 use Rattle.xpt_state.specs.declared.idle.Idle.{Idle}
 use Rattle.xpt_state.specs.declared.idle.Idle.TheVariants.{Empty, AdapterFrozen, AdapterBusy, DevicesHeld}
 use Rattle.xpt_state.specs.Idle.{has_stay_on, is_held_back, idle_causes, idle_named, idle, idle_by, takes_more}

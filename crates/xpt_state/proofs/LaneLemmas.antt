@@ -3,17 +3,17 @@ use Rattle.std.proofs.Common.{◌≡◌, ℕ, ◌<◌, Bool, true, false, List, 
 use Rattle.std.specs.Prelude.{not, nat_le, is_none}
 use Rattle.std.proofs.lemmas.Bool.{leb-false}
 use Rattle.cam_types.specs.Topology.{Topology}
-use Rattle.cam_event.specs.Head.{next}
-use Rattle.cam_event.specs.Stays.{has_queued}
-use Rattle.cam_event.specs.declared.event.Event.{Event}
-use Rattle.cam_event.specs.declared.event.Event.TheVariants.{Send}
-use Rattle.cam_event.specs.declared.stay.Stay.{Stay}
+use Rattle.event_rules.specs.Head.{next}
+use Rattle.event_rules.specs.Stays.{has_queued}
+use Rattle.event_rules.specs.declared.event.Event.{Event}
+use Rattle.event_rules.specs.declared.event.Event.TheVariants.{Send}
+use Rattle.event_rules.specs.declared.passage.Passage.{Passage}
 use Rattle.cam_types.specs.Questions.{names_lane, lane_adapter}
-use Rattle.cam_event.specs.Legal.{Rules, names_ccb}
-use Rattle.cam_event.specs.Refusals.{device_of, turn_causes, first_cause, refusal}
-use Rattle.cam_event.specs.declared.refusal.Refusal.{Refusal}
-use Rattle.cam_event.specs.declared.refusal.Refusal.TheVariants.{HistoryFull, NoLane, NoCcb, NotQueued}
-use Rattle.cam_event.proofs.LegalLemmas.{legal-unrefused}
+use Rattle.event_rules.specs.Legal.{Rules, names_ccb}
+use Rattle.event_rules.specs.Refusals.{device_of, turn_causes, first_cause, refusal}
+use Rattle.event_rules.specs.declared.refusal.Refusal.{Refusal}
+use Rattle.event_rules.specs.declared.refusal.Refusal.TheVariants.{HistoryFull, NoLane, NoCcb, NotQueued}
+use Rattle.event_rules.proofs.LegalLemmas.{legal-unrefused}
 use Rattle.xpt_state.specs.Sends.{lane_refusal}
 use Rattle.xpt_state.proofs.SendLemmas.{next_is_legal}
 
@@ -38,7 +38,7 @@ none_there : (o : Option Refusal) → is_none o ≡ true → o ≡ None
 none_there None h = refl
 none_there (Some r) h = absurd (cc)
 
-pub next_unrefused : (rules : Rules) (c : Topology) (es : List Event) (lane : ℕ) (p : Stay) → lane_refusal rules c es lane ≡ None → next c es (lane_adapter c lane) ≡ Some p → refusal rules c es (Send lane p.ccb) ≡ None
+pub next_unrefused : (rules : Rules) (c : Topology) (es : List Event) (lane : ℕ) (p : Passage) → lane_refusal rules c es lane ≡ None → next c es (lane_adapter c lane) ≡ Some p → refusal rules c es (Send lane p.ccb) ≡ None
 next_unrefused rules c es lane p free is =
     let parts = free_cases (nat_le rules.events (length es)) (names_lane c lane) (HistoryFull (length es)) free in
     let short : length es < rules.events = leb-false rules.events (length es) parts.0 in

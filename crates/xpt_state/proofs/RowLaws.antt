@@ -7,23 +7,23 @@ use Rattle.std.proofs.lemmas.Option.{slice_get-get_or}
 use Rattle.cam_types.specs.Topology.{Topology}
 use Rattle.cam_types.specs.declared.command.Command.{Command}
 use Rattle.cam_types.specs.declared.outcome.Outcome.{Outcome}
-use Rattle.cam_event.specs.Classes.{status_of}
-use Rattle.cam_event.specs.Event.{is_some_and}
-use Rattle.cam_event.specs.Counts.{submission, submissions, commands, is_in_flight, is_recovering}
-use Rattle.cam_event.specs.Head.{next}
-use Rattle.cam_event.specs.declared.event.Event.{Event}
-use Rattle.cam_event.specs.declared.event.Event.TheVariants.{Send, Done}
-use Rattle.cam_event.specs.declared.stay.Stay.{Stay}
-use Rattle.cam_event.specs.declared.submission.Submission.{Submission}
-use Rattle.cam_event.specs.Laws.{last_class, is_stay_of}
-use Rattle.cam_event.specs.Legal.{Rules, names_ccb, is_legal, is_legal_event}
+use Rattle.sense_class.specs.Classes.{status_of}
+use Rattle.event_rules.specs.Event.{is_some_and}
+use Rattle.event_rules.specs.Counts.{submission, submissions, commands, is_in_flight, is_recovering}
+use Rattle.event_rules.specs.Head.{next}
+use Rattle.event_rules.specs.declared.event.Event.{Event}
+use Rattle.event_rules.specs.declared.event.Event.TheVariants.{Send, Done}
+use Rattle.event_rules.specs.declared.passage.Passage.{Passage}
+use Rattle.event_rules.specs.declared.submission.Submission.{Submission}
+use Rattle.event_rules.specs.Laws.{last_class, is_stay_of}
+use Rattle.event_rules.specs.Legal.{Rules, names_ccb, is_legal, is_legal_event}
 use Rattle.cam_types.specs.Questions.{lane_adapter}
-use Rattle.cam_event.proofs.LawLemmas.{allowed-legal_event}
-use Rattle.cam_event.proofs.NextLemmas.{next_stands}
-use Rattle.xpt_ccbs.specs.declared.ccb.Ccb.{Ccb}
-use Rattle.xpt_ccbs.specs.Ccbs.{is_alive, ccb_by, alive_ccb}
-use Rattle.xpt_ccbs.specs.Cases.{cases}
-use Rattle.cam_event.proofs.StandLemmas.{AreStates, states-legal, in_flight_held, recovering_held}
+use Rattle.event_rules.proofs.LawLemmas.{allowed-legal_event}
+use Rattle.event_rules.proofs.NextLemmas.{next_stands}
+use Rattle.xpt_core.specs.declared.ccbs.ccb.Ccb.{Ccb}
+use Rattle.xpt_core.specs.Ccbs.{is_alive, ccb_by, alive_ccb}
+use Rattle.xpt_core.specs.Cases.{cases}
+use Rattle.event_rules.proofs.StandLemmas.{AreStates, states-legal, in_flight_held, recovering_held}
 use Rattle.xpt_state.specs.declared.reply.Reply.TheVariants as replies
 use Rattle.xpt_state.specs.Looks.{case_of, next_case}
 use Rattle.xpt_state.specs.Replies.{command_of, done_of, reply_of}
@@ -55,17 +55,17 @@ done_is_by_row es n row outcome h =
     done_row es n r.0 outcome r.1 ∙ ap (λ (x : Ccb). done_by x outcome) (sym r.2)
 
 -- a command
-stay_parts : (p : Stay) (s : Submission) → is_stay_of p s ≡ true → (s.device ≡ p.device) × (s.priority ≡ p.priority)
+stay_parts : (p : Passage) (s : Submission) → is_stay_of p s ≡ true → (s.device ≡ p.device) × (s.priority ≡ p.priority)
 stay_parts p s h = let parts = and_parts (s.device == p.device) (s.priority == p.priority) h in (eqb-true _ _ parts.0, eqb-true _ _ parts.1)
 
-command_row : (es : List Event) (p : Stay) (s : Submission) → submission es p.ccb ≡ Some s → p.attempt ≡ (ccb_by es p.ccb s).attempt → s.device ≡ p.device → s.priority ≡ p.priority → command_of es p ≡ Some (command_by p.ccb (ccb_by es p.ccb s))
+command_row : (es : List Event) (p : Passage) (s : Submission) → submission es p.ccb ≡ Some s → p.attempt ≡ (ccb_by es p.ccb s).attempt → s.device ≡ p.device → s.priority ≡ p.priority → command_of es p ≡ Some (command_by p.ccb (ccb_by es p.ccb s))
 command_row es p s is attempt device priority = rw (is, attempt, ← device, ← priority) refl
 
-its_submission : (es : List Event) (p : Stay) (o : Option Submission) → submission es p.ccb ≡ o → is_some_and (is_stay_of p) o ≡ true → (s : Submission) × (submission es p.ccb ≡ Some s) × (is_stay_of p s ≡ true)
+its_submission : (es : List Event) (p : Passage) (o : Option Submission) → submission es p.ccb ≡ o → is_some_and (is_stay_of p) o ≡ true → (s : Submission) × (submission es p.ccb ≡ Some s) × (is_stay_of p s ≡ true)
 its_submission es p None is h = absurd (cc)
 its_submission es p (Some s) is h = (s, is, h)
 
-pub command_is_by_row : (rules : Rules) (c : Topology) (es : List Event) (a : ℕ) (p : Stay) → is_legal rules c es ≡ true → next c es a ≡ Some p → (row : Ccb) × (alive_ccb es p.ccb ≡ Some row) × (command_of es p ≡ Some (command_by p.ccb row))
+pub command_is_by_row : (rules : Rules) (c : Topology) (es : List Event) (a : ℕ) (p : Passage) → is_legal rules c es ≡ true → next c es a ≡ Some p → (row : Ccb) × (alive_ccb es p.ccb ≡ Some row) × (command_of es p ≡ Some (command_by p.ccb row))
 command_is_by_row rules c es a p legal is =
     let stands = next_stands c es a p is in
     let own = its_submission es p (submission es p.ccb) refl stands.of_its_ccb in
@@ -74,11 +74,11 @@ command_is_by_row rules c es a p legal is =
     (ccb_by es p.ccb own.0, row_alive es p.ccb own.0 held.1 own.1, command_row es p own.0 own.1 (next_attempt rules c es a p legal is) parts.0 parts.1)
 
 -- what legal sends and completions answer
-answer_cases : (c : Topology) (es : List Event) (lane ccb : ℕ) (o : Option Stay) → next c es (lane_adapter c lane) ≡ o → option_map (λ (p : Stay). p.ccb) o ≡ Some ccb → (p : Stay) × (next c es (lane_adapter c lane) ≡ Some p) × (p.ccb ≡ ccb)
+answer_cases : (c : Topology) (es : List Event) (lane ccb : ℕ) (o : Option Passage) → next c es (lane_adapter c lane) ≡ o → option_map (λ (p : Passage). p.ccb) o ≡ Some ccb → (p : Passage) × (next c es (lane_adapter c lane) ≡ Some p) × (p.ccb ≡ ccb)
 answer_cases c es lane ccb None is h = absurd (cc)
 answer_cases c es lane ccb (Some p) is h = let same : p.ccb ≡ ccb = cc in (p, is, same)
 
-command_reply : (c : Topology) (es : List Event) (lane ccb : ℕ) (p : Stay) (command : Command) → next c es (lane_adapter c lane) ≡ Some p → command_of es p ≡ Some command → reply_of c es (Send lane ccb) ≡ replies.Command command
+command_reply : (c : Topology) (es : List Event) (lane ccb : ℕ) (p : Passage) (command : Command) → next c es (lane_adapter c lane) ≡ Some p → command_of es p ≡ Some command → reply_of c es (Send lane ccb) ≡ replies.Command command
 command_reply c es lane ccb p command is sends = rw (is, sends) refl
 
 pub send_answers_by_row : (rules : Rules) (c : Topology) (es : List Event) (lane ccb : ℕ) → is_legal rules c es ≡ true → is_legal_event rules c (es, Send lane ccb) ≡ true →
@@ -105,10 +105,6 @@ done_answers_by_row rules c es ccb outcome legal here =
     let own = submitted es ccb (ltb-true ccb (commands es) held.0) in
     let row = row_alive es ccb own.0 held.1 own.1 in
     (ccb_by es ccb own.0, row, done_is_by_row es ccb (ccb_by es ccb own.0) outcome row)
-
--- a CCB that is recovering is alive
-pub recovering_lives : (rules : Rules) (c : Topology) (es : List Event) (n : ℕ) → is_legal rules c es ≡ true → is_recovering es n ≡ true → is_alive es n ≡ true
-recovering_lives rules c es n legal recovers = (recovering_held es n ((states-legal rules c es legal).placed n) recovers).1
 
 -- the next case is alive, so that its class is known
 case_cases : (es : List Event) (ks : List ℕ) → IfSome (slice_get ks 0) (λ n. is_alive es n ≡ true) →

@@ -3,50 +3,50 @@ use Rattle.std.proofs.Common.{◌≡◌, ℕ, true, List, Option, Some, None, Re
 use Rattle.std.specs.Prelude.{not, is_some, option_and_then}
 use Rattle.std.specs.Option.{option_map, option_map_or}
 use Rattle.cam_types.specs.declared.command.Command.{Command}
-use Rattle.cam_event.specs.Counts.{submission}
-use Rattle.cam_event.specs.Head.{next}
-use Rattle.cam_event.specs.declared.event.Event.{Event}
-use Rattle.cam_event.specs.declared.event.Event.TheVariants.{Send}
-use Rattle.cam_event.specs.declared.stay.Stay.{Stay}
-use Rattle.cam_event.specs.declared.submission.Submission.{Submission}
+use Rattle.event_rules.specs.Counts.{submission}
+use Rattle.event_rules.specs.Head.{next}
+use Rattle.event_rules.specs.declared.event.Event.{Event}
+use Rattle.event_rules.specs.declared.event.Event.TheVariants.{Send}
+use Rattle.event_rules.specs.declared.passage.Passage.{Passage}
+use Rattle.event_rules.specs.declared.submission.Submission.{Submission}
 use Rattle.cam_types.specs.Questions.{lane_adapter}
-use Rattle.cam_event.specs.declared.refusal.Refusal.{Refusal}
-use Rattle.cam_event.proofs.LegalLemmas.{legal-none}
-use Rattle.xpt_devices.specs.Transport.{Transport}
+use Rattle.event_rules.specs.declared.refusal.Refusal.{Refusal}
+use Rattle.event_rules.proofs.LegalLemmas.{legal-none}
+use Rattle.xpt_core.specs.Transport.{Transport}
 use Rattle.xpt_state.specs.declared.idle.Idle.{Idle}
 use Rattle.xpt_state.specs.declared.reply.Reply.TheVariants as replies
 use Rattle.xpt_state.specs.declared.reply.Sent.{Sent}
 use Rattle.xpt_state.specs.declared.reply.Sent.TheVariants as sents
-use Rattle.xpt_state.specs.Calls.{refused}
+use Rattle.xpt_core.specs.Takes.{refused, IsTaken}
 use Rattle.xpt_state.specs.Idle.{idle}
 use Rattle.xpt_state.specs.Replies.{command_of}
-use Rattle.xpt_state.specs.Steps.{IsTaken, IsStep, IsLaneStep}
+use Rattle.xpt_state.specs.Steps.{IsStep, IsLaneStep}
 use Rattle.xpt_state.proofs.IdleLemmas.{idle_is_no_next}
 use Rattle.xpt_state.proofs.LaneLemmas.{lane_refused as refused_as_its_sends}
 use Rattle.xpt_state.proofs.SendLemmas.{legal_is_next}
 
 -- the next command is of the next stay's CCB
-abbrev command_by_stay : Stay → Submission → Command
+abbrev command_by_stay : Passage → Submission → Command
 command_by_stay p s = record { ccb = p.ccb; attempt = p.attempt; driver = s.driver; device = p.device; priority = p.priority }
 
-ccb_of_command : (es : List Event) (p : Stay) (s : Option Submission) (k : Command) → submission es p.ccb ≡ s → command_of es p ≡ Some k → k.ccb ≡ p.ccb
+ccb_of_command : (es : List Event) (p : Passage) (s : Option Submission) (k : Command) → submission es p.ccb ≡ s → command_of es p ≡ Some k → k.ccb ≡ p.ccb
 ccb_of_command es p None k is h = let none : ◌≡◌ {A = Option Command} None (Some k) = subst (λ (o : Option Submission). option_map (command_by_stay p) o ≡ Some k) is h in absurd (cc)
 ccb_of_command es p (Some s) k is h =
     let some : ◌≡◌ {A = Option Command} (Some (command_by_stay p s)) (Some k) = subst (λ (o : Option Submission). option_map (command_by_stay p) o ≡ Some k) is h in
     let same : command_by_stay p s ≡ k = cc in
     ap (λ (x : Command). x.ccb) (sym same)
 
-ccb_of_next : (es : List Event) (o : Option Stay) (k : Command) (ccb : ℕ) → option_and_then (command_of es) o ≡ Some k → option_map (λ (p : Stay). p.ccb) o ≡ Some ccb → k.ccb ≡ ccb
+ccb_of_next : (es : List Event) (o : Option Passage) (k : Command) (ccb : ℕ) → option_and_then (command_of es) o ≡ Some k → option_map (λ (p : Passage). p.ccb) o ≡ Some ccb → k.ccb ≡ ccb
 ccb_of_next es None k ccb h i = absurd (cc)
 ccb_of_next es (Some p) k ccb h i =
     let same : p.ccb ≡ ccb = cc in
     ccb_of_command es p (submission es p.ccb) k refl h ∙ same
 
-is_some-map : (o : Option Stay) (ccb : ℕ) → option_map (λ (p : Stay). p.ccb) o ≡ Some ccb → is_some o ≡ true
+is_some-map : (o : Option Passage) (ccb : ℕ) → option_map (λ (p : Passage). p.ccb) o ≡ Some ccb → is_some o ≡ true
 is_some-map None ccb h = absurd (cc)
 is_some-map (Some p) ccb h = refl
 
-next_sent : (old : Transport) (lane ccb : ℕ) → refused old (Send lane ccb) ≡ None → option_map (λ (p : Stay). p.ccb) (next old.config old.events (lane_adapter old.config lane)) ≡ Some ccb
+next_sent : (old : Transport) (lane ccb : ℕ) → refused old (Send lane ccb) ≡ None → option_map (λ (p : Passage). p.ccb) (next old.config old.events (lane_adapter old.config lane)) ≡ Some ccb
 next_sent old lane ccb free = legal_is_next old.rules old.config old.events lane ccb (legal-none old.rules old.config old.events (Send lane ccb) free)
 
 -- a lane with a next stay isn't idle

@@ -3,14 +3,14 @@ use Rattle.std.proofs.Common.{◌≡◌, ℕ, true, Option, Some, None, ap}
 use Rattle.std.specs.Option.{option_map_or}
 use Rattle.cam_types.specs.declared.command.Command.{Command}
 use Rattle.cam_types.specs.declared.outcome.Outcome.{Outcome}
-use Rattle.cam_event.specs.declared.event.Event.{Event}
-use Rattle.cam_event.specs.declared.event.Event.TheVariants.{Send, Done}
-use Rattle.cam_event.specs.Legal.{is_legal, is_legal_event}
-use Rattle.cam_event.proofs.LegalLemmas.{legal-none}
-use Rattle.xpt_ccbs.specs.Ccbs.{alive_ccb}
-use Rattle.xpt_ccbs.specs.declared.ccb.Ccb.{Ccb}
-use Rattle.xpt_devices.specs.Transport.{Transport}
-use Rattle.xpt_state.specs.Calls.{refused}
+use Rattle.event_rules.specs.declared.event.Event.{Event}
+use Rattle.event_rules.specs.declared.event.Event.TheVariants.{Send, Done}
+use Rattle.event_rules.specs.Legal.{is_legal, is_legal_event}
+use Rattle.event_rules.proofs.LegalLemmas.{legal-none}
+use Rattle.xpt_core.specs.Ccbs.{alive_ccb}
+use Rattle.xpt_core.specs.declared.ccbs.ccb.Ccb.{Ccb}
+use Rattle.xpt_core.specs.Transport.{Transport}
+use Rattle.xpt_core.specs.Takes.{refused}
 use Rattle.xpt_state.specs.Replies.{done_of, next_command}
 use Rattle.xpt_state.specs.Rows.{command_by, done_by}
 use Rattle.xpt_state.specs.declared.reply.Reply.{Reply}

@@ -3,11 +3,11 @@ use Rattle.std.specs.Prelude.{ℕ, ◌==◌, Bool, not, ◌&&◌, ◌||◌, if�
 use Rattle.std.specs.List.{list_any, list_all}
 use Rattle.cam_types.specs.Lists.{first_answer}
 use Rattle.cam_types.specs.Topology.{Topology}
-use Rattle.cam_event.specs.Counts.{freeze_count, adapter_freezes}
-use Rattle.cam_event.specs.Stays.{first}
+use Rattle.event_rules.specs.Counts.{freeze_count, adapter_freezes}
+use Rattle.event_rules.specs.Stays.{first}
 use Rattle.cam_types.specs.Questions.{is_on, devices}
-use Rattle.cam_event.specs.Head.{has_opening, adapter_has_opening, link_has_opening}
-use Rattle.cam_event.specs.declared.event.Event.{Event}
+use Rattle.event_rules.specs.Head.{has_opening, adapter_has_opening, link_has_opening}
+use Rattle.event_rules.specs.declared.event.Event.{Event}
 use Rattle.xpt_state.specs.declared.idle.Idle.{Idle}
 use Rattle.xpt_state.specs.declared.idle.Idle.TheVariants.{Empty, AdapterFrozen, AdapterBusy, DevicesHeld}
 

@@ -3,19 +3,19 @@ use Rattle.std.specs.Prelude.{◌≡◌, ℕ, not, List, Some, None, Ok, is_some
 use Rattle.std.specs.Option.{option_map}
 use Rattle.cam_types.specs.Topology.{Topology}
 use Rattle.cam_types.specs.declared.command.Command.{Command}
-use Rattle.cam_event.specs.Head.{next}
-use Rattle.cam_event.specs.declared.event.Event.{Event}
-use Rattle.cam_event.specs.declared.event.Event.TheVariants.{Send}
-use Rattle.cam_event.specs.declared.stay.Stay.{Stay}
-use Rattle.cam_event.specs.Legal.{Rules, is_legal_event}
+use Rattle.event_rules.specs.Head.{next}
+use Rattle.event_rules.specs.declared.event.Event.{Event}
+use Rattle.event_rules.specs.declared.event.Event.TheVariants.{Send}
+use Rattle.event_rules.specs.declared.passage.Passage.{Passage}
+use Rattle.event_rules.specs.Legal.{Rules, is_legal_event}
 use Rattle.cam_types.specs.Questions.{lane_adapter}
-use Rattle.cam_event.specs.Refusals.{refusal}
-use Rattle.cam_event.specs.declared.refusal.Refusal.{Refusal}
-use Rattle.xpt_devices.specs.Transport.{Transport}
+use Rattle.event_rules.specs.Refusals.{refusal}
+use Rattle.event_rules.specs.declared.refusal.Refusal.{Refusal}
+use Rattle.xpt_core.specs.Transport.{Transport}
 use Rattle.xpt_state.specs.declared.reply.Reply.TheVariants as replies
 use Rattle.xpt_state.specs.declared.reply.Sent.{Sent}
 use Rattle.xpt_state.specs.declared.reply.Sent.TheVariants as sents
-use Rattle.xpt_state.specs.Calls.{refused}
+use Rattle.xpt_core.specs.Takes.{refused}
 use Rattle.xpt_state.specs.Idle.{idle}
 use Rattle.xpt_state.specs.Sends.{lane_refusal}
 use Rattle.xpt_state.specs.Steps.{IsStep, IsLaneStep}
@@ -27,7 +27,7 @@ IdleIsNoNext = (c : Topology) (events : List Event) (a : ℕ) → is_some (idle 
 -- Where a lane isn't refused, no send of the next stay of its adapter is.
 abbrev pub NextIsUnrefused : Type 0
 NextIsUnrefused =
-    (rules : Rules) (c : Topology) (events : List Event) (lane : ℕ) (p : Stay)
+    (rules : Rules) (c : Topology) (events : List Event) (lane : ℕ) (p : Passage)
     → lane_refusal rules c events lane ≡ None → next c events (lane_adapter c lane) ≡ Some p
     → refusal rules c events (Send lane p.ccb) ≡ None
 
@@ -42,7 +42,7 @@ abbrev pub LegalIsNext : Type 0
 LegalIsNext =
     (rules : Rules) (c : Topology) (events : List Event) (lane ccb : ℕ)
     → IsTrue (is_legal_event rules c (events, Send lane ccb))
-    → option_map (λ (p : Stay). p.ccb) (next c events (lane_adapter c lane)) ≡ Some ccb
+    → option_map (λ (p : Passage). p.ccb) (next c events (lane_adapter c lane)) ≡ Some ccb
 
 -- Where a send isn't refused, the lane's turn is that send, and its command the reply.
 abbrev pub LegalSendIsMade : Type 0

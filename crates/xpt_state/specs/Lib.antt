@@ -6,4 +6,3 @@ pub mod Steps
 pub mod Looks
 pub mod Laws
 pub mod Calls
-pub mod Sound

@@ -4,22 +4,22 @@ use Rattle.std.specs.Option.{option_map, option_map_or}
 use Rattle.cam_types.specs.Topology.{Topology}
 use Rattle.cam_types.specs.declared.command.Command.{Command}
 use Rattle.cam_types.specs.declared.outcome.Outcome.{Outcome}
-use Rattle.cam_event.specs.Classes.{status_of, classify}
-use Rattle.cam_event.specs.Sense.{read_sense}
-use Rattle.cam_event.specs.Event.{is_some_and, is_erring}
-use Rattle.cam_event.specs.Counts.{round, commands, submission, counted_requeues, retries_of}
-use Rattle.cam_event.specs.Head.{next}
-use Rattle.cam_event.specs.declared.event.Event.{Event}
-use Rattle.cam_event.specs.declared.event.Event.TheVariants.{Submit, Send, Done, Tick}
-use Rattle.cam_event.specs.declared.stay.Stay.{Stay}
-use Rattle.cam_event.specs.declared.submission.Submission.{Submission}
+use Rattle.sense_class.specs.Classes.{status_of, classify}
+use Rattle.sense_class.specs.Sense.{read_sense}
+use Rattle.event_rules.specs.Event.{is_some_and, is_erring}
+use Rattle.event_rules.specs.Counts.{round, commands, submission, counted_requeues, retries_of}
+use Rattle.event_rules.specs.Head.{next}
+use Rattle.event_rules.specs.declared.event.Event.{Event}
+use Rattle.event_rules.specs.declared.event.Event.TheVariants.{Submit, Send, Done, Tick}
+use Rattle.event_rules.specs.declared.passage.Passage.{Passage}
+use Rattle.event_rules.specs.declared.submission.Submission.{Submission}
 use Rattle.cam_types.specs.Questions.{lane_adapter}
 use Rattle.xpt_state.specs.declared.done.Done as done
 use Rattle.xpt_state.specs.declared.reply.Reply.{Reply}
 use Rattle.xpt_state.specs.declared.reply.Reply.TheVariants as replies
 
 -- the command by which a stay's CCB is sent
-abbrev pub command_of : List Event → Stay → Option Command
+abbrev pub command_of : List Event → Passage → Option Command
 command_of before p = option_map (λ (s : Submission). record {
   ccb = p.ccb;
   attempt = p.attempt;

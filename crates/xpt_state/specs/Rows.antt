@@ -2,8 +2,8 @@
 use Rattle.std.specs.Prelude.{ℕ, not, ◌==◌, ◌&&◌}
 use Rattle.cam_types.specs.declared.command.Command.{Command}
 use Rattle.cam_types.specs.declared.outcome.Outcome.{Outcome}
-use Rattle.cam_event.specs.Classes.{status_of, classify}
-use Rattle.xpt_ccbs.specs.declared.ccb.Ccb.{Ccb}
+use Rattle.sense_class.specs.Classes.{status_of, classify}
+use Rattle.xpt_core.specs.declared.ccbs.ccb.Ccb.{Ccb}
 use Rattle.xpt_state.specs.declared.done.Done as done
 use Rattle.xpt_state.specs.Replies.{value_of}
 

@@ -1,24 +1,17 @@
 -- what the calls of a transport come to
 use Rattle.std.specs.Prelude.{◌≡◌, ℕ, Some, None, MatchResult, Result}
 use Rattle.cam_types.specs.Questions.{lane_adapter}
-use Rattle.cam_event.specs.declared.refusal.Refusal.{Refusal}
-use Rattle.cam_event.specs.declared.event.Event.{Event}
-use Rattle.cam_event.specs.declared.event.Event.TheVariants.{Send}
-use Rattle.xpt_devices.specs.Transport.{Transport}
+use Rattle.event_rules.specs.declared.refusal.Refusal.{Refusal}
+use Rattle.event_rules.specs.declared.event.Event.{Event}
+use Rattle.event_rules.specs.declared.event.Event.TheVariants.{Send}
+use Rattle.xpt_core.specs.Transport.{Transport}
 use Rattle.xpt_state.specs.declared.reply.Reply.{Reply}
 use Rattle.xpt_state.specs.declared.reply.Sent.{Sent}
 use Rattle.xpt_state.specs.declared.reply.Sent.TheVariants as sents
-use Rattle.xpt_state.specs.Calls.{refused, lane_refused, with_event}
+use Rattle.xpt_core.specs.Takes.{IsTaken, IsRefused}
+use Rattle.xpt_state.specs.Calls.{lane_refused}
 use Rattle.xpt_state.specs.Idle.{idle}
 use Rattle.xpt_state.specs.Replies.{next_command, reply_of}
-
--- the event isn't refused, and is put behind those before
-abbrev pub IsTaken : Transport → Event → Transport → Type 0
-IsTaken old event new = (refused old event ≡ None) × (new ≡ with_event old event)
-
--- the event is refused, and nothing changes
-abbrev pub IsRefused : Transport → Event → Refusal → Transport → Type 0
-IsRefused old event why new = (refused old event ≡ Some why) × (new ≡ old)
 
 -- A call takes its event and answers the event's reply, or refuses it for the first cause.
 abbrev pub IsStep : {A : Type 0} → (A → Reply) → Transport → Event → Transport → Result A Refusal → Type 0

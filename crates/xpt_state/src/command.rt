@@ -4,7 +4,7 @@ ghost use Rattle.std.specs.Prelude.{◌≡◌};
 ghost use Rattle.xpt_state.specs.Rows.{command_by};
 
 use cam_types::Command;
-use xpt_ccbs::Ccb;
+use xpt_core::Ccb;
 
 /// The command by which the CCB of this number is sent.
 pub(crate) fn command_of(ccb: u32, row: &Ccb) -> Command

@@ -4,9 +4,9 @@ ghost use Rattle.std.specs.Prelude.{◌≡◌};
 ghost use Rattle.xpt_state.specs.Replies.{has_sense, value_of};
 ghost use Rattle.xpt_state.specs.Rows.{done_by};
 
-use cam_event::{Class, classify, read_sense};
 use cam_types::Outcome;
-use xpt_ccbs::Ccb;
+use sense_class::{Class, classify, read_sense};
+use xpt_core::Ccb;
 
 /// What a completion comes to.
 #[derive(Clone, Copy, Debug, PartialEq, Eq)]

@@ -1,6 +1,6 @@
 //! What there is to see of a transport: its next case, and counts.
 
-use cam_event::Class;
+use sense_class::Class;
 
 /// A CCB that waits for a decision on its error.
 #[derive(Clone, Copy, Debug, PartialEq, Eq)]

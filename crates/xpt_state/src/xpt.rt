@@ -1,56 +1,48 @@
 //! The transport's calls.
 
 ghost use Rattle.std.specs.Prelude.{◌≡◌, ◌≤◌, [], length, None, IsTrue, IfOk, MatchResult};
+ghost use Rattle.event_rules.specs.Legal.{history_rules, is_legal};
 ghost use Rattle.xpt_state.specs.declared.reply.Reply.TheVariants as replies;
 
 use crate::answers::{command, done_of, heads, next_case, next_command};
 use crate::done::Done;
-use crate::history::History;
 use crate::look::{Case, Look};
-use crate::questions::{config, devices, has_head};
-use crate::refusals::{lane_refusal, refusal};
+use crate::questions::has_head;
+use crate::refusals::lane_refusal;
 use crate::reply::{Reply, Sent};
-use cam_event::{Event, Refusal, Rules};
+use cam_event::History;
 use cam_types::{Command, Config, Flags, Limits, Outcome};
+use event_rules::{Event, Refusal, Rules};
 use std::alloc::{AllocError, Global};
 use std::marker::Model;
-use xpt_stays::Stays;
+use xpt_core::State;
 
 /// A transport on one thread: a configuration, how far it goes, and the events so far, each legal at its place. Nothing
 /// grows after `open`.
 ///
 /// CCBs, devices, adapters and lanes are numbered from 0, rounds from 1. A call that is refused names the first cause
 /// that holds, in the order in which its documentation lists them, and changes nothing.
+#[derive(Drop)]
 pub struct Xpt {
-    state: Stays,
-}
-
-// By hand, so that to its owners a transport that ends is one call and not each of its fields.
-impl Drop for Xpt {
-    fn drop(self) {
-        let Xpt { state: _ } = self;
-    }
+    state: State,
 }
 
 impl Model for Xpt {
-    ghost use Rattle.std.specs.Prelude.{IsTrue};
-    ghost use Rattle.xpt_devices.specs.Transport.{Transport};
-    ghost use Rattle.cam_event.specs.Legal.{is_legal};
+    ghost use Rattle.xpt_core.specs.Transport.{Transport};
 
     ghost Value = { Transport };
 
     ghost view = { λ x. x.state };
-
-    ghost invariant = { λ x. IsTrue (is_legal x.state.rules x.state.config x.state.events) };
 }
 
 impl Xpt {
     ghost use Rattle.cam_types.specs.declared.maxima.TheConstants.{MOST_EVENTS};
-    ghost use Rattle.cam_event.specs.Legal.{rules_of, is_legal};
-    ghost use Rattle.xpt_state.specs.Calls.{refused, lane_refused, with_event};
+    ghost use Rattle.event_rules.specs.Legal.{history_rules, rules_of, is_legal};
+    ghost use Rattle.xpt_core.specs.Takes.{refused, with_event, IsTaken, IsRefused};
+    ghost use Rattle.xpt_state.specs.Calls.{lane_refused};
     ghost use Rattle.xpt_state.specs.Looks.{look, has_head, next_case};
     ghost use Rattle.xpt_state.specs.Replies.{nothing};
-    ghost use Rattle.xpt_state.specs.Steps.{IsTaken, IsRefused, IsStep, IsLaneStep, IsSent};
+    ghost use Rattle.xpt_state.specs.Steps.{IsStep, IsLaneStep, IsSent};
 
     /// A transport to which nothing has happened, in round 1, with memory for all that the limits let happen. All
     /// growth is here; it fails only if there is no memory.
@@ -62,12 +54,11 @@ impl Xpt {
 
     /// The same by rules instead of limits. By those of a history it takes the events of every history, however many CCBs
     /// are alive.
-    #[tactic(auto, unfolding(cam_event::specs::Legal::is_legal))]
     pub fn by(alloc: Global, config: Config, rules: Rules) -> Result<Xpt, AllocError>
         ensures { IfOk result (λ x. x ≡ record { config = config; rules = rules; events = [] }) }
     {
         Ok(Xpt {
-            state: Stays::open(alloc, config, rules)?,
+            state: State::open(alloc, config, rules)?,
         })
     }
 
@@ -75,14 +66,14 @@ impl Xpt {
     pub fn config(&self) -> &Config
         ensures { result.now ≡ self.now.config }
     {
-        config(&self.state)
+        self.state.config()
     }
 
     /// How far the transport goes: the CCBs alive at once, the rounds, the stays and the events.
     pub fn rules(&self) -> Rules
         ensures { result ≡ self.now.rules }
     {
-        devices(&self.state).rules()
+        self.state.rules()
     }
 
     /// The events so far, in order: each is legal at its place.
@@ -91,40 +82,14 @@ impl Xpt {
         ensures legal { IsTrue (is_legal self.now.rules self.now.config self.now.events) }
         ensures short { length result.now ≤ MOST_EVENTS }
     {
-        devices(&self.state).events()
-    }
-
-    // What the transport knows of its events.
-    pub(crate) fn state(&self) -> &Stays
-        ensures { result.now ≡ self.now }
-    {
-        &self.state
+        self.state.events()
     }
 
     /// Why the event would be refused now: the first cause that holds. None if `take` would accept it.
     pub fn refusal(&self, event: &Event) -> Option<Refusal>
         ensures { result ≡ refused self.now event.now }
     {
-        refusal(&self.state, event)
-    }
-
-    // Puts an event that isn't refused behind the others.
-    fn add(&mut self, event: Event)
-        requires { refused self.old event ≡ None }
-        ensures { self.new ≡ with_event self.old event }
-    {
-        self.state.append(event);
-    }
-
-    // Puts an event behind the others, if it isn't refused.
-    pub(crate) fn push(&mut self, event: Event) -> Result<(), Refusal>
-        ensures { MatchResult result (λ _. IsTaken self.old event self.new) (λ why. IsRefused self.old event why self.new) }
-    {
-        if let Some(why) = self.refusal(&event) {
-            return Err(why);
-        }
-        self.add(event);
-        Ok(())
+        self.state.refusal(event)
     }
 
     /// Takes an event of any kind and answers what the call of that kind does, with the refusals of that call.
@@ -147,7 +112,7 @@ impl Xpt {
             Event::Done { ccb, outcome } => Ok(Reply::Done(self.done(ccb, outcome)?)),
             Event::Tick => Ok(Reply::Round(self.tick()?)),
             _ => {
-                self.push(event)?;
+                self.state.take(event)?;
                 Ok(Reply::Nothing)
             }
         }
@@ -169,8 +134,8 @@ impl Xpt {
     ) -> Result<u32, Refusal>
         ensures { IsStep replies.Ccb self.old (Event.Submit driver device priority retries flags) self.new result }
     {
-        let number = devices(&self.state).commands();
-        self.push(Event::Submit {
+        let number = self.state.devices().commands();
+        self.state.take(Event::Submit {
             driver,
             device,
             priority,
@@ -189,7 +154,7 @@ impl Xpt {
             return Err(why);
         }
         let command = command(&self.state, lane, ccb);
-        self.add(event);
+        self.state.add(event);
         Ok(command)
     }
 
@@ -207,7 +172,7 @@ impl Xpt {
             return Err(why);
         }
         let done = done_of(&self.state, ccb, &outcome);
-        self.add(event);
+        self.state.add(event);
         Ok(done)
     }
 
@@ -219,7 +184,7 @@ impl Xpt {
     pub fn requeue(&mut self, ccb: u32) -> Result<(), Refusal>
         ensures { IsStep nothing self.old (Event.Requeue ccb) self.new result }
     {
-        self.push(Event::Requeue { ccb })
+        self.state.take(Event::Requeue { ccb })
     }
 
     /// Gives a CCB that failed back to its driver, which ends it. The freeze that its failure made ends too.
@@ -229,7 +194,7 @@ impl Xpt {
     pub fn finish(&mut self, ccb: u32) -> Result<(), Refusal>
         ensures { IsStep nothing self.old (Event.Finish ccb) self.new result }
     {
-        self.push(Event::Finish { ccb })
+        self.state.take(Event::Finish { ccb })
     }
 
     /// Freezes the device's queue so many times, 1 to 65,535. Commands in flight are left alone. The freezes by
@@ -239,7 +204,7 @@ impl Xpt {
     pub fn freeze_dev(&mut self, device: u32, count: u32) -> Result<(), Refusal>
         ensures { IsStep nothing self.old (Event.FreezeDev device count) self.new result }
     {
-        self.push(Event::FreezeDev { device, count })
+        self.state.take(Event::FreezeDev { device, count })
     }
 
     /// Takes so many freezes of the device away, 1 to 65,535, of those that `freeze_dev` and sends with `qfreeze` made.
@@ -249,7 +214,7 @@ impl Xpt {
     pub fn release_dev(&mut self, device: u32, count: u32) -> Result<(), Refusal>
         ensures { IsStep nothing self.old (Event.ReleaseDev device count) self.new result }
     {
-        self.push(Event::ReleaseDev { device, count })
+        self.state.take(Event::ReleaseDev { device, count })
     }
 
     /// Freezes the adapter so many times, 1 to 65,535. Commands in flight are left alone. The freezes of an adapter are
@@ -259,7 +224,7 @@ impl Xpt {
     pub fn freeze_sim(&mut self, sim: u32, count: u32) -> Result<(), Refusal>
         ensures { IsStep nothing self.old (Event.FreezeSim sim count) self.new result }
     {
-        self.push(Event::FreezeSim { sim, count })
+        self.state.take(Event::FreezeSim { sim, count })
     }
 
     /// Takes one freeze of the adapter away.
@@ -268,7 +233,7 @@ impl Xpt {
     pub fn release_sim(&mut self, sim: u32) -> Result<(), Refusal>
         ensures { IsStep nothing self.old (Event.ReleaseSim sim) self.new result }
     {
-        self.push(Event::ReleaseSim { sim })
+        self.state.take(Event::ReleaseSim { sim })
     }
 
     /// Gives the device so many openings, 1 to 255, from the next round on. This round keeps the openings that it has.
@@ -277,7 +242,7 @@ impl Xpt {
     pub fn adjust(&mut self, device: u32, openings: u32) -> Result<(), Refusal>
         ensures { IsStep nothing self.old (Event.Adjust device openings) self.new result }
     {
-        self.push(Event::Adjust { device, openings })
+        self.state.take(Event::Adjust { device, openings })
     }
 
     /// Opens the next round, which is the answer: all openings come back, adjusted ones at their new number, and what
@@ -287,15 +252,15 @@ impl Xpt {
     pub fn tick(&mut self) -> Result<u32, Refusal>
         ensures { IsStep replies.Round self.old Event.Tick self.new result }
     {
-        self.push(Event::Tick)?;
-        Ok(devices(&self.state).round())
+        self.state.take(Event::Tick)?;
+        Ok(self.state.devices().round())
     }
 
     /// Whether the lane's adapter has something to send; a lane that isn't there has nothing.
     pub fn has_head(&self, lane: u32) -> bool
         ensures { result ≡ has_head self.now.config self.now.events lane }
     {
-        match config(&self.state).lane_adapter(lane) {
+        match self.state.config().lane_adapter(lane) {
             Some(adapter) => has_head(&self.state, adapter),
             None => false,
         }
@@ -323,7 +288,7 @@ impl Xpt {
         match next_command(&self.state, lane) {
             Ok(ccb) => {
                 let command = command(&self.state, lane, ccb);
-                self.add(Event::Send { lane, ccb });
+                self.state.add(Event::Send { lane, ccb });
                 Sent::Command(command)
             }
             Err(why) => Sent::Idle(why),
@@ -342,28 +307,49 @@ impl Xpt {
     pub fn look(&self) -> Look
         ensures { result ≡ look self.now.config self.now.events }
     {
-        let devices = devices(&self.state);
+        let devices = self.state.devices();
         Look {
             length: devices.events().len() as u32,
             round: devices.round(),
-            in_flight: self.state.ccbs().in_flight_count(),
+            in_flight: self.state.in_flight_count(),
             heads: heads(&self.state),
-            cases: self.state.ccbs().case_count(),
+            cases: self.state.case_count(),
             waiting: devices.waiting_count(),
         }
     }
 
-    /// The history of the events, which are legal in it too. It takes memory of its own; if there is none, the
-    /// transport is gone.
+    /// The history of the events, which are legal in it too. It takes memory of its own, and the time of all events anew,
+    /// but where the rules are those of a history already; if there is no memory, the transport is gone.
     pub fn into_history(self, alloc: Global) -> Result<History, AllocError>
         ensures { IfOk result (λ h. h ≡ record { config = self.config; events = self.events }) }
     {
-        let Xpt { state } = self;
-        let (config, events) = state.into_parts();
-        let mut history = History::new(alloc, config)?;
-        for event in &events {
-            history.push(*event).unwrap();
+        if self.rules() == Rules::of_history() {
+            let Xpt { state } = self;
+            return History::of(alloc, state);
         }
-        Ok(history)
+        let (config, events) = self.into_parts();
+        history_of(alloc, config, &events)
     }
+
+    /// The configuration and the events, which are legal in a history.
+    pub fn into_parts(self) -> (Config, Vec<Event>)
+        ensures config { result.0 ≡ self.config }
+        ensures events { result.1.items ≡ self.events }
+        ensures legal { IsTrue (is_legal history_rules self.config self.events) }
+    {
+        let Xpt { state } = self;
+        state.into_parts()
+    }
+}
+
+// The history of events that are legal in it.
+fn history_of(alloc: Global, config: Config, events: &[Event]) -> Result<History, AllocError>
+    requires { IsTrue (is_legal history_rules config events.now) }
+    ensures { IfOk result (λ h. h ≡ record { config = config; events = events.now }) }
+{
+    let mut history = History::new(alloc, config)?;
+    for event in events {
+        history.push(*event).unwrap();
+    }
+    Ok(history)
 }

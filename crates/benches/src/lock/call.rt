@@ -1,7 +1,7 @@
 //! The calls of a seat that make the events.
 
 use crate::lock::load::{EVENTS, event};
-use cam_event::Event;
+use event_rules::Event;
 use std::sync::ledger::Ledger;
 use std::sync::{Barrier, Wait};
 use xpt_lock::{Seat, SharedFault, SharedXpt};
@@ -46,9 +46,18 @@ pub fn make<L: Ledger, R: Wait>(
             shared.send_next(rt, seat, lane)?;
             Ok(())
         }
-        Event::FreezeDev { device, count } => shared.freeze_dev(rt, seat, device, count),
-        Event::ReleaseDev { device, count } => shared.release_dev(rt, seat, device, count),
-        Event::Adjust { device, openings } => shared.adjust(rt, seat, device, openings),
+        Event::FreezeDev { device, count } => {
+            shared.freeze_dev(rt, seat, device, count)?;
+            Ok(())
+        }
+        Event::ReleaseDev { device, count } => {
+            shared.release_dev(rt, seat, device, count)?;
+            Ok(())
+        }
+        Event::Adjust { device, openings } => {
+            shared.adjust(rt, seat, device, openings)?;
+            Ok(())
+        }
         _ => Ok(()),
     }
 }

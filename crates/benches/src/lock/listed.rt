@@ -4,7 +4,7 @@ ghost use Rattle.std.specs.Prelude.{◌<◌};
 
 use crate::lock::fault::Fault;
 use crate::lock::load::{EVENTS, event};
-use cam_event::Event;
+use event_rules::Event;
 use std::sync::{Barrier, Mutex, Wait};
 use std::thread::{Threads, join};
 use std::time::{Clock, Duration, Instant};

@@ -1,7 +1,7 @@
 //! The events that the threads push.
 
-use cam_event::Event;
 use cam_types::Flags;
+use event_rules::Event;
 
 /// How many threads push events, each at an adapter with four devices of its own.
 pub const THREADS: u32 = 4;

@@ -6,7 +6,7 @@ use crate::lock::call::make;
 use crate::lock::fault::Fault;
 use crate::lock::load::event;
 use crate::lock::seated::transport;
-use cam_event::Event;
+use event_rules::Event;
 use std::marker::Brand;
 use std::sync::Wait;
 use std::sync::ledger::{Blank, Ledger};

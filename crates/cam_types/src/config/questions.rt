@@ -9,6 +9,7 @@ ghost use Rattle.cam_types.specs.Weights.{are_standard};
 ghost use Rattle.cam_types.specs.Questions.{names_device, names_adapter, names_lane, adapter_link, adapter_openings, link_openings, is_on, weight};
 
 use super::Config;
+use crate::priority::Priority;
 use crate::weight_row::{are_standard, weight_in};
 
 impl Config {
@@ -85,14 +86,14 @@ impl Config {
         self.device_adapter(device) == Some(adapter)
     }
 
-    /// What a round of waiting costs at a priority: the weight of the first row of the table whose range isn't over before it,
-    /// and 1 behind the last priority.
-    pub fn weight(&self, priority: u32) -> u32
+    /// What a round of waiting costs at a priority, 1 to 1,000: the weight of the first row of the table whose range isn't over
+    /// before it.
+    pub fn weight(&self, priority: Priority) -> u32
         ensures same { result ≡ weight self.now priority }
         ensures some { 1 ≤ result }
         ensures most { result ≤ MOST_WEIGHT }
     {
-        weight_in(&self.weights, priority)
+        weight_in(&self.weights, priority.number())
     }
 
     /// Whether the table of weights is the standard one.

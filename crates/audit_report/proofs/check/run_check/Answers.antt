@@ -1,15 +1,15 @@
 use Rattle.std.proofs.Common.{◌≡◌, ap, sym, Option, None, false}
 use Rattle.std.specs.Prelude.{is_some}
-use Rattle.cam_event.specs.Live.{live_cost}
-use Rattle.cam_event.specs.Stays.{unsent}
-use Rattle.cam_event.specs.declared.stay.StayName.{StayName}
-use Rattle.cam_event.proofs.LiveLemmas.{live_cost_sent}
+use Rattle.event_rules.specs.Live.{live_cost}
+use Rattle.event_rules.specs.Stays.{unsent}
+use Rattle.event_rules.specs.declared.stay.Stay.{Stay}
+use Rattle.event_rules.proofs.LiveLemmas.{live_cost_sent}
 use Rattle.audit_report.proofs.check.run_check.Goals as goal
 
 -- where each stay has a send there is a cost
 pub unreachable-requires : goal.unreachable-requires
 unreachable-requires g c =
-    let sent : is_some (unsent c.in-Ok.history.events) ≡ false = ap (λ (o : Option StayName). is_some o) (sym c.in_default.ensures) in
+    let sent : is_some (unsent c.in-Ok.history.events) ≡ false = ap (λ (o : Option Stay). is_some o) (sym c.in_default.ensures) in
     let some = live_cost_sent c.in-Ok.history.config c.in-Ok.history.events sent in
     let none : None ≡ live_cost c.in-Ok.history.config c.in-Ok.history.events = c.in_default-live_cost.ensures in
     cc

@@ -1,5 +1,5 @@
 use Rattle.std.proofs.Common.{ℕ, ◌∙◌, List, sym, subst}
-use Rattle.gaining_cycle.specs.Labelling.{label_of}
+use Rattle.negative_cycle.specs.Labelling.{label_of}
 use Rattle.round_net.specs.Rows.{instance_of_rows, live_of_rows}
 use Rattle.round_net.specs.Value.{ProvesBest}
 use Rattle.round_net.specs.PriceRows.{pricing_of_rows}

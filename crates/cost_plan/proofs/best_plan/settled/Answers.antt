@@ -1,6 +1,6 @@
 use Rattle.std.proofs.Common.{List, drop, sym, subst}
 use Rattle.std.specs.List.{All}
-use Rattle.gaining_cycle.specs.declared.arc.Arc.{Arc}
+use Rattle.negative_cycle.specs.declared.arc.Arc.{Arc}
 use Rattle.round_net.specs.Rows.{instance_of_rows}
 use Rattle.cost_plan.specs.Draft.{schedule_of}
 use Rattle.cost_plan.specs.Residual.{IsResidual}

@@ -1,4 +1,4 @@
-use Rattle.gaining_cycle.specs.Labelling.{label_of}
+use Rattle.negative_cycle.specs.Labelling.{label_of}
 use Rattle.round_net.specs.Rows.{instance_of_rows}
 use Rattle.round_net.specs.PriceRows.{pricing_of_rows, IsPricingFor}
 use Rattle.cost_plan.specs.RowPrices.{PricesRows}

@@ -1,5 +1,5 @@
 use Rattle.std.proofs.Common.{◌<◌, ◌∙◌, ap, sym, subst, length}
-use Rattle.gaining_cycle.specs.Labelling.{Labelling}
+use Rattle.negative_cycle.specs.Labelling.{Labelling}
 use Rattle.round_net.specs.Rows.{instance_of_rows}
 use Rattle.cost_plan.specs.Draft.{schedule_of}
 use Rattle.cost_plan.specs.Raising.{AllResidual}

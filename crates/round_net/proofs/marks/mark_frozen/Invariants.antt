@@ -1,5 +1,5 @@
 use Rattle.std.specs.Prelude.{not, ◌==◌, ◌&&◌, nat_lt}
-use Rattle.cam_event.specs.Counts.{round}
+use Rattle.event_rules.specs.Counts.{round}
 use Rattle.round_net.specs.Caps.{row_count, row_freezes}
 use Rattle.round_net.specs.Marks.{Marks}
 use Rattle.round_net.proofs.marks.mark_frozen.Given as goal

@@ -1,4 +1,4 @@
-use Rattle.cam_event.specs.Counts.{round}
+use Rattle.event_rules.specs.Counts.{round}
 use Rattle.round_net.specs.Caps.{row_count, row_openings}
 use Rattle.round_net.proofs.MarkLemmas.{SetsBelow}
 use Rattle.round_net.proofs.marks.note_openings.Given as goal

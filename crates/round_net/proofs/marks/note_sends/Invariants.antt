@@ -1,4 +1,4 @@
-use Rattle.cam_event.specs.Counts.{round}
+use Rattle.event_rules.specs.Counts.{round}
 use Rattle.round_net.specs.Caps.{row_count, sends_in}
 use Rattle.round_net.proofs.MarkLemmas.{SetsBelow}
 use Rattle.round_net.proofs.marks.note_sends.Given as goal

@@ -1,5 +1,5 @@
 use Rattle.std.proofs.Common.{◌≡◌, take}
-use Rattle.cam_event.specs.Legal.{history_rules}
+use Rattle.event_rules.specs.Legal.{history_rules}
 use Rattle.round_net.specs.Marks.{IsNoted, HasCells}
 use Rattle.round_net.proofs.walk.walk.Given as goal
 

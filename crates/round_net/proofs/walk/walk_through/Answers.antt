@@ -1,6 +1,6 @@
 use Rattle.std.proofs.Common.{◌≡◌, ◌*◌, length, ap, subst, ◌∙◌}
 use Rattle.cam_types.specs.Topology.{Topology}
-use Rattle.xpt_devices.specs.Transport.{Transport}
+use Rattle.xpt_core.specs.Transport.{Transport}
 use Rattle.round_net.specs.Marks.{IsNoted}
 use Rattle.round_net.proofs.MarkLemmas.{written_back}
 use Rattle.round_net.proofs.walk.walk_through.Goals as goal

@@ -1,6 +1,6 @@
 use Rattle.std.proofs.Common.{◌≡◌, ℕ, ◌-◌, List, length}
-use Rattle.cam_event.specs.Counts.{round}
-use Rattle.cam_event.specs.declared.event.Event.{Event}
+use Rattle.event_rules.specs.Counts.{round}
+use Rattle.event_rules.specs.declared.event.Event.{Event}
 use Rattle.sim_worker.specs.Work.{HasDone}
 use Rattle.sim_worker.proofs.able.behind_pauses.Given as goal
 

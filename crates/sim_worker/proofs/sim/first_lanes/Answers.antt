@@ -2,7 +2,7 @@ use Rattle.std.proofs.Common.{ℕ, ◌+◌, ◌∙◌, arith, ap, List, length, 
 use Rattle.sim_worker.specs.Work.{AreFresh}
 use Rattle.sim_worker.specs.declared.work.Lane.{Lane}
 use Rattle.sim_worker.proofs.OpenLemmas.{fresh_more}
-use Rattle.cam_event.proofs.LaneCount.{few_lanes}
+use Rattle.event_rules.proofs.LaneCount.{few_lanes}
 use Rattle.sim_worker.proofs.sim.first_lanes.Goals as goal
 
 pub overflow_cast-number : goal.overflow_cast-number

@@ -1,5 +1,5 @@
 use Rattle.std.proofs.Common.{◌≡◌, ap, ◌∙◌}
-use Rattle.xpt_devices.specs.Transport.{Transport}
+use Rattle.xpt_core.specs.Transport.{Transport}
 use Rattle.wait_causes.proofs.CauseLemmas.{bus_in}
 use Rattle.wait_causes.proofs.cause.cause_at.Goals as goal
 

@@ -1,5 +1,5 @@
 use Rattle.std.proofs.Common.{◌≡◌, take}
-use Rattle.cam_event.specs.Legal.{history_rules}
+use Rattle.event_rules.specs.Legal.{history_rules}
 use Rattle.wait_causes.specs.Freezes.{flag_table}
 use Rattle.wait_causes.specs.declared.freeze.FreezeKind.TheVariants.{Error, Caller, Adapter}
 use Rattle.wait_causes.proofs.frozen.frozen_in.Given as goal

@@ -1,9 +1,9 @@
 use Rattle.std.proofs.Common.{◌≡◌, ◌+◌, true, List, [], ◌∷◌, ◌++◌, take, refl, sym, ap, subst, ◌∙◌}
 use Rattle.std.proofs.lemmas.List.{take_more}
-use Rattle.cam_event.specs.declared.event.Event.{Event}
-use Rattle.cam_event.specs.Legal.{history_rules, is_legal_event}
-use Rattle.cam_event.proofs.LimitLemmas.{legal-at}
-use Rattle.xpt_devices.specs.Transport.{Transport}
+use Rattle.event_rules.specs.declared.event.Event.{Event}
+use Rattle.event_rules.specs.Legal.{history_rules, is_legal_event}
+use Rattle.event_rules.proofs.LimitLemmas.{legal-at}
+use Rattle.xpt_core.specs.Transport.{Transport}
 use Rattle.wait_causes.specs.Causes.{cause_table}
 use Rattle.wait_causes.proofs.CauseLemmas.{cause_table-none, table_step}
 use Rattle.wait_causes.proofs.replay.replay.Goals as goal

@@ -1,5 +1,5 @@
 use Rattle.std.proofs.Common.{◌≡◌, take}
-use Rattle.cam_event.specs.Legal.{history_rules}
+use Rattle.event_rules.specs.Legal.{history_rules}
 use Rattle.wait_causes.specs.Causes.{cause_table}
 use Rattle.wait_causes.proofs.replay.replay.Given as goal
 

@@ -1,9 +1,9 @@
 use Rattle.std.proofs.Common.{◌≡◌, ◌≤◌, length, map, sym, ap, ◌∙◌, refl, arith, None}
 use Rattle.cam_types.specs.Topology.{IsConfig}
 use Rattle.cam_types.specs.declared.maxima.TheConstants.{MOST_LINKS}
-use Rattle.cam_event.specs.Counts.{round}
-use Rattle.cam_event.specs.Stays.{unsent}
-use Rattle.xpt_stays.specs.Records.{records}
+use Rattle.event_rules.specs.Counts.{round}
+use Rattle.event_rules.specs.Stays.{unsent}
+use Rattle.xpt_core.specs.Records.{records}
 use Rattle.round_net.specs.Nets.{row_of}
 use Rattle.cam_types.proofs.ConfigLemmas.{few_links}
 use Rattle.round_net.proofs.FoundLemmas.{net_found}

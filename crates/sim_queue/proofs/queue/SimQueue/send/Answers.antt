@@ -1,27 +1,40 @@
-use Rattle.std.proofs.Common.{◌+◌, List, subst, ap, refl, ◌∙◌}
+use Rattle.std.proofs.Common.{◌+◌, List, Some, get_or, sym, ap, ◌∙◌}
 use Rattle.sim_queue.specs.declared.row.Row.{Row}
-use Rattle.sim_queue.specs.Adapter.{Adapter, is_named, with_send}
-use Rattle.sim_queue.specs.Winners.{IsTree}
-use Rattle.sim_queue.proofs.HeadLemmas.{named-turn}
-use Rattle.sim_queue.proofs.RowLemmas.{IsSound-written, rows_written}
+use Rattle.sim_queue.specs.Adapter.{Adapter, new_row, is_named, best_ready, with_send}
+use Rattle.sim_queue.specs.Turns.{is_ready, entry_of}
+use Rattle.sim_queue.proofs.HeadLemmas.{HasTurn-best, named-turn, turn_row}
+use Rattle.sim_queue.proofs.RowLemmas.{rows_changed}
 use Rattle.sim_queue.proofs.queue.SimQueue.send.Goals as goal
 
-pub place_of-at-requires-clause-named : goal.place_of-at-requires-clause-named
-place_of-at-requires-clause-named c =
-    let ws = c.self.inside.winners.items in
-    ap (is_named c.args.device) c.deref.ensures.value ∙ ap (λ (b : Adapter). is_named c.args.device b.rows) c.self.view_is
-    ∙ named-turn c.args.self.now ws c.args.device (subst (λ (b : Adapter). IsTree b.rows ws) c.self.view_is c.self.invariant.tree) c.requires.turn
-
-pub invariant_of-self : goal.invariant_of-self
-invariant_of-self c =
+pub row_of-at-requires : goal.row_of-at-requires
+row_of-at-requires c =
     let q = c.self.inside in
-    IsSound-written _ _ _ _ _ _ _ _ _ _ c.index.result.now _ c.self.invariant c.deref.ensures.value c.place_of-at.ensures.in_range c.index.ensures refl c.deref_mut.ensures.value c.put_row.ensures.rows
-    c.put_row.ensures.tree q.rows.ok.0 q.winners.ok.0
+    let a : Adapter = record { rows = q.rows.items; openings = q.openings; sent = q.sent; callers = q.callers } in
+    ap (is_named c.args.device) c.deref.ensures.value
+    ∙ named-turn q.rows.items q.ready c.args.device (HasTurn-best a q.ready c.args.device c.self.invariant.in_turn (ap best_ready c.self.view_is ∙ c.requires.turn))
+
+pub requeue_first-requires-clause-ready : goal.requeue_first-requires-clause-ready
+requeue_first-requires-clause-ready c =
+    let q = c.self.inside in
+    let at = c.row_of-at.result in
+    let a : Adapter = record { rows = q.rows.items; openings = q.openings; sent = q.sent; callers = q.callers } in
+    let w = HasTurn-best a q.ready c.args.device c.self.invariant.in_turn (ap best_ready c.self.view_is ∙ c.requires.turn) in
+    let own = turn_row q.rows.items _ q.ready c.args.device at c.self.invariant.in_turn.sound c.deref.ensures.value c.row_of-at.ensures.in_range c.row_of-at.ensures.device w in
+    ap (λ l. is_ready (get_or l at (new_row 0))) c.deref-2.ensures.value ∙ ap is_ready (sym own) ∙ w.ready
+
+pub requeue_first-requires-clause-first : goal.requeue_first-requires-clause-first
+requeue_first-requires-clause-first c =
+    let q = c.self.inside in
+    let at = c.row_of-at.result in
+    let a : Adapter = record { rows = q.rows.items; openings = q.openings; sent = q.sent; callers = q.callers } in
+    let w = HasTurn-best a q.ready c.args.device c.self.invariant.in_turn (ap best_ready c.self.view_is ∙ c.requires.turn) in
+    let own = turn_row q.rows.items _ q.ready c.args.device at c.self.invariant.in_turn.sound c.deref.ensures.value c.row_of-at.ensures.in_range c.row_of-at.ensures.device w in
+    w.first ∙ ap (λ z. Some (entry_of z)) own ∙ ap (λ l. Some (entry_of (get_or l at (new_row 0)))) (sym c.deref-2.ensures.value)
 
 pub returns : goal.returns
 returns c =
     let q = c.self.inside in
-    let rows = rows_written (λ r. record r { turn = c.args.place + 1 }) _ _ _ _ c.args.device _ _ _ c.self.invariant.rising c.deref.ensures.value c.place_of-at.ensures.in_range c.place_of-at.ensures.device
-    c.index.ensures c.deref_mut.ensures.value c.put_row.ensures.rows q.rows.ok.0 in
-    ap (λ (l : List Row). let a : Adapter = record { rows = l; openings = q.openings; sent = q.sent + 1; callers = q.callers } in a) rows
+    ap (λ (l : List Row). let a : Adapter = record { rows = l; openings = q.openings; sent = q.sent + 1; callers = q.callers } in a)
+    (rows_changed (λ r. record r { turn = c.args.place + 1 }) q.rows.items _ c.args.device c.row_of-at.result c.index_mut.result.now c.self.invariant.in_turn.sound c.deref.ensures.value
+    c.row_of-at.ensures.in_range c.row_of-at.ensures.device c.index_mut.ensures.value)
     ∙ ap (λ (b : Adapter). record b { rows = with_send c.args.device c.args.place b.rows; sent = b.sent + 1 }) c.self.view_is

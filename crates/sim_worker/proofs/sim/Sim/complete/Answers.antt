@@ -1,13 +1,13 @@
 use Rattle.std.proofs.Common.{◌∙◌, refl, sym, ap, length, arith}
 use Rattle.std.specs.Option.{option_map}
 use Rattle.std.specs.Prelude.{slice_get}
-use Rattle.cam_event.specs.declared.event.Event.TheVariants.{Done}
+use Rattle.event_rules.specs.declared.event.Event.TheVariants.{Done}
 use Rattle.sim_worker.specs.Work.{Work}
 use Rattle.sim_worker.specs.declared.work.Lane.{Lane}
 use Rattle.sim_worker.proofs.StepLemmas.{done_step}
 use Rattle.sim_worker.proofs.LeftLemmas.{left-event}
 use Rattle.sim_worker.proofs.TurnLemmas.{room_for, lane_with, done_full, err_case, ok_case}
-use Rattle.run_rules.proofs.ListFacts.{get_is, some_is, there_is}
+use Rattle.sim_worker.proofs.RunListFacts.{get_is, some_is, there_is}
 use Rattle.sim_worker.proofs.sim.Sim.complete.Goals as goal
 
 pub returns-then-is_err-clause-ending : goal.returns-then-is_err-clause-ending

@@ -2,12 +2,12 @@ use Rattle.std.proofs.Common.{◌≡◌, ◌∙◌, sym, ap, length, Some, true}
 use Rattle.std.specs.Prelude.{not, ◌||◌}
 use Rattle.xpt_state.specs.declared.look.Case.{Case}
 use Rattle.xpt_state.specs.Looks.{next_case}
-use Rattle.cam_event.specs.Event.{is_some_and}
-use Rattle.xpt_state.specs.Calls.{refused}
-use Rattle.run_rules.specs.Runs.{is_in_time, is_submit_by}
+use Rattle.event_rules.specs.Event.{is_some_and}
+use Rattle.xpt_core.specs.Takes.{refused}
+use Rattle.sim_worker.specs.Runs.{is_in_time, is_submit_by}
 use Rattle.sim_worker.proofs.LaneFacts.{is_lane_event}
 use Rattle.sim_worker.specs.Work.{Work, is_able}
-use Rattle.run_rules.specs.Held.{is_held_up}
+use Rattle.sim_worker.specs.Held.{is_held_up}
 use Rattle.sim_worker.specs.declared.actor.Actor.TheVariants as actors
 use Rattle.sim_worker.proofs.CaseLemmas.{decision_held, free_before}
 use Rattle.sim_worker.proofs.FullLemmas.{full_at_limit, full_is, says_full}

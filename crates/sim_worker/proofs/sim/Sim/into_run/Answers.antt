@@ -1,5 +1,5 @@
 use Rattle.std.proofs.Common.{sym, subst}
-use Rattle.run_rules.specs.Endings.{IsEnding}
+use Rattle.sim_worker.specs.Endings.{IsEnding}
 use Rattle.sim_worker.specs.SimRuns.{IsSimRun}
 use Rattle.sim_worker.specs.Work.{Work}
 use Rattle.sim_worker.proofs.RunLemmas.{run_is}

@@ -1,5 +1,5 @@
 use Rattle.std.proofs.Common.{◌≡◌, length}
-use Rattle.cam_event.specs.Counts.{round}
+use Rattle.event_rules.specs.Counts.{round}
 use Rattle.sim_worker.specs.Work.{left}
 use Rattle.sim_worker.proofs.sim.Sim.pass_pauses.Given as goal
 

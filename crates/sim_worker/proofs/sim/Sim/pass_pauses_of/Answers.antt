@@ -2,11 +2,11 @@ use Rattle.std.proofs.Common.{◌≡◌, ◌<◌, ◌∙◌, refl, sym, ap, subs
 use Rattle.std.proofs.lemmas.List.{length-map}
 use Rattle.trace_file.specs.declared.step.Step.{Step}
 use Rattle.sim_worker.specs.Work.{Work, HasDone, steps_of}
-use Rattle.cam_event.specs.Counts.{round}
+use Rattle.event_rules.specs.Counts.{round}
 use Rattle.sim_worker.proofs.StepLemmas.{driver_step}
 use Rattle.sim_worker.proofs.LeftLemmas.{left-same, same_fresh}
-use Rattle.run_rules.proofs.ListFacts.{list_at}
-use Rattle.run_rules.proofs.ListFacts.{get_is}
+use Rattle.sim_worker.proofs.RunListFacts.{list_at}
+use Rattle.sim_worker.proofs.RunListFacts.{get_is}
 use Rattle.sim_worker.proofs.sim.Sim.pass_pauses_of.Goals as goal
 
 pub invariant_of-self : goal.invariant_of-self

@@ -1,16 +1,17 @@
 use Rattle.std.proofs.Common.{◌<◌, ◌∙◌, refl, sym, ap, subst, length, arith}
 use Rattle.std.specs.Prelude.{slice_get}
-use Rattle.cam_event.specs.declared.event.Event.TheVariants.{Send}
+use Rattle.event_rules.specs.declared.event.Event.TheVariants.{Send}
 use Rattle.cam_types.specs.Questions.{lane_adapter}
 use Rattle.xpt_state.specs.Calls.{lane_refused}
 use Rattle.xpt_state.specs.Idle.{idle}
 use Rattle.xpt_state.specs.Looks.{has_head}
-use Rattle.xpt_state.specs.Steps.{IsSent, IsTaken}
+use Rattle.xpt_core.specs.Takes.{IsTaken}
+use Rattle.xpt_state.specs.Steps.{IsSent}
 use Rattle.sim_worker.specs.Work.{Work}
 use Rattle.sim_worker.specs.declared.work.Lane.{Lane}
 use Rattle.sim_worker.proofs.CaseLemmas.{lane_full, never_idle, send_grounded}
 use Rattle.sim_worker.proofs.LeftLemmas.{left-event}
-use Rattle.run_rules.proofs.ListFacts.{get_is, some_is, there_is}
+use Rattle.sim_worker.proofs.RunListFacts.{get_is, some_is, there_is}
 use Rattle.sim_worker.proofs.StepLemmas.{send_step}
 use Rattle.sim_worker.proofs.TurnLemmas.{at_limit, room_for}
 use Rattle.sim_worker.proofs.sim.Sim.send.Goals as goal

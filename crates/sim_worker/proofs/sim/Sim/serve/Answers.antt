@@ -5,7 +5,7 @@ use Rattle.sim_worker.specs.Work.{Work, is_able, left}
 use Rattle.sim_worker.specs.declared.actor.Actor.TheVariants as actors
 use Rattle.sim_worker.specs.declared.work.Lane.{Lane}
 use Rattle.sim_worker.proofs.ListFacts.{set_at}
-use Rattle.run_rules.proofs.ListFacts.{get_is, some_is, there_is}
+use Rattle.sim_worker.proofs.RunListFacts.{get_is, some_is, there_is}
 use Rattle.sim_worker.proofs.LeftLemmas.{left-same}
 use Rattle.sim_worker.proofs.StepLemmas.{port_step}
 use Rattle.sim_worker.proofs.TurnLemmas.{able_lane}

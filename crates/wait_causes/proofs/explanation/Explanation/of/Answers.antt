@@ -1,6 +1,6 @@
 use Rattle.std.proofs.Common.{◌≡◌, ap, ◌∙◌, sym, refl, length, arith}
-use Rattle.cam_event.specs.Legal.{history_rules}
-use Rattle.cam_event.proofs.LimitLemmas.{stays_most}
+use Rattle.event_rules.specs.Legal.{history_rules}
+use Rattle.event_rules.proofs.LimitLemmas.{stays_most}
 use Rattle.wait_causes.proofs.StayLemmas.{explained_found, length-records}
 use Rattle.wait_causes.proofs.explanation.Explanation.of.Goals as goal
 

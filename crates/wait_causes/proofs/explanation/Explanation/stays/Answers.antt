@@ -1,5 +1,5 @@
 use Rattle.std.proofs.Common.{◌≡◌, map, length, ap, subst, ◌∙◌}
-use Rattle.cam_event.specs.Stays.{stays_begun}
+use Rattle.event_rules.specs.Stays.{stays_begun}
 use Rattle.wait_causes.specs.Explained.{Explained}
 use Rattle.wait_causes.specs.declared.explained_stay.ExplainedStay.{ExplainedStay}
 use Rattle.wait_causes.proofs.PartLemmas.{all_stays}

@@ -3,8 +3,8 @@ use Rattle.std.specs.Prelude.{IfOk, slice_get}
 use Rattle.std.specs.List.{range_with_len}
 use Rattle.std.proofs.lemmas.Bool.{ltb-true}
 use Rattle.std.proofs.lemmas.Result.{IfOk-weaker}
-use Rattle.cam_event.specs.Stays.{stays_begun}
-use Rattle.cam_event.specs.declared.stay.Stay.{Stay}
+use Rattle.event_rules.specs.Stays.{stays_begun}
+use Rattle.event_rules.specs.declared.passage.Passage.{Passage}
 use Rattle.wait_causes.specs.Causes.{cause_in}
 use Rattle.wait_causes.specs.Explained.{Explained}
 use Rattle.wait_causes.specs.Waits.{AreWaits, AreWaitsOf}
@@ -19,7 +19,7 @@ returns-clause-waits c =
     let found = c.in-Some.ensures.lookup in
     let x = c.self.inside in
     let h = rw (c.deref-2.ensures.value, c.devices.ensures.same) at c.waits_in.ensures in
-    subst (λ (e : Explained). (p : Stay) → slice_get (stays_begun e.events) c.args.place ≡ Some p → IfOk c.waits_in.result (λ waits. AreWaitsOf e.config e.events p waits.items)) c.self.view_is (λ p at.
+    subst (λ (e : Explained). (p : Passage) → slice_get (stays_begun e.events) c.args.place ≡ Some p → IfOk c.waits_in.result (λ waits. AreWaitsOf e.config e.events p waits.items)) c.self.view_is (λ p at.
     IfOk-weaker c.waits_in.result (λ waits. AreWaits (cause_in x.causes.items (length x.config.devices) kept.device) (range_with_len kept.arrival (kept.live - kept.arrival)) waits.items) (λ waits. AreWaitsOf x.config x.events.items p waits.items)
     (λ waits are. waits_found x.config x.events.items (map (λ (s : ExplainedStay). s.best) x.stays.items) x.causes.items x.stays.items c.self.invariant c.args.place p kept waits.items at
     (found.1 ∙ ap (λ xs. get_or xs c.args.place kept) c.deref.ensures.value) are)

@@ -1,6 +1,6 @@
 use Rattle.std.proofs.Common.{◌≡◌, map, List, ℕ, sym, ap, subst, ◌∙◌}
 use Rattle.std.specs.Prelude.{IfSome}
-use Rattle.cam_event.specs.Live.{live_cost}
+use Rattle.event_rules.specs.Live.{live_cost}
 use Rattle.wait_causes.specs.Explained.{Explained}
 use Rattle.wait_causes.specs.Parts.{part_of, all_costs}
 use Rattle.wait_causes.specs.Stays.{explained_stays}

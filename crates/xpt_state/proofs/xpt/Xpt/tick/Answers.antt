@@ -1,12 +1,14 @@
-use Rattle.std.proofs.Common.{ap, ◌∙◌}
-use Rattle.cam_event.specs.Counts.{round}
-use Rattle.cam_event.specs.declared.event.Event.TheVariants.{Tick}
-use Rattle.cam_event.proofs.PushLaws.{round-push}
-use Rattle.xpt_devices.specs.Transport.{Transport}
+use Rattle.std.proofs.Common.{subst, ap, ◌∙◌}
+use Rattle.event_rules.specs.Counts.{round}
+use Rattle.event_rules.specs.declared.event.Event.TheVariants.{Tick}
+use Rattle.event_rules.proofs.PushLaws.{round-push}
+use Rattle.xpt_core.specs.Takes.{IsTaken}
+use Rattle.xpt_core.specs.Transport.{Transport}
 use Rattle.xpt_state.specs.declared.reply.Reply.TheVariants as replies
 use Rattle.xpt_state.proofs.xpt.Xpt.tick.Goals as goal
 
 pub returns : goal.returns
 returns c =
-    let opened = c.round.ensures ∙ ap (λ (t : Transport). round t.events) (c.devices.ensures ∙ c.self.view_is ∙ c.in_ok-push.ensures.1) ∙ round-push c.args.self.now.events Tick in
-    (c.in_ok-push.ensures, ap replies.Round opened)
+    let taken : IsTaken c.args.self.now Tick c.take.new.self = subst (λ (t : Transport). IsTaken t Tick c.take.new.self) c.self.view_is c.in_ok-take.ensures in
+    let opened = c.round.ensures ∙ ap (λ (t : Transport). round t.events) (c.devices.ensures ∙ taken.1) ∙ round-push c.args.self.now.events Tick in
+    (taken, ap replies.Round opened)

@@ -1,9 +1,0 @@
--- a history as its callers see it
-use Rattle.std.specs.Prelude.{List}
-use Rattle.cam_types.specs.Topology.{Topology}
-use Rattle.cam_event.specs.declared.event.Event.{Event}
-
--- a configuration, and the events so far
-pub record Past : Type 0 where
-  pub config : Topology
-  pub events : List Event

@@ -1,0 +1,10 @@
+pub mod Event
+pub mod Counts
+pub mod Stays
+pub mod Head
+pub mod Live
+pub mod Sorted
+pub mod Legal
+pub mod Refusals
+pub mod Laws
+pub mod Past

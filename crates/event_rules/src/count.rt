@@ -1,0 +1,13 @@
+//! The count of a freeze or a release.
+
+ghost use Rattle.std.specs.Prelude.{◌≡◌};
+ghost use Rattle.event_rules.specs.Legal.{is_count};
+
+use cam_types::MOST_FREEZES;
+
+/// Whether so many freezes may be made or taken away at once.
+pub fn is_count(count: u32) -> bool
+    ensures { result ≡ is_count count }
+{
+    0 < count && count <= MOST_FREEZES
+}

@@ -1,4 +1,0 @@
-use Rattle.live_worker.proofs.live.run_live.Given as goal
-
-abbrev pub ghosts-run_by : goal.ghosts-run_by
-ghosts-run_by g a = record { name = a.blank.name; parts = a.blank.parts }

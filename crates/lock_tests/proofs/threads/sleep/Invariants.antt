@@ -1,4 +1,0 @@
-use Rattle.lock_tests.proofs.threads.sleep.Given as goal
-
-abbrev pub ghosts-sleeper : goal.ghosts-sleeper
-ghosts-sleeper g a = record { name = a.blank.name; parts = a.blank.parts }

@@ -1,0 +1,14 @@
+use Rattle.std.proofs.Common.{◌≡◌, ℕ, arith, rules, ap, replicate, length}
+use Rattle.std.proofs.lemmas.List.{length-map, length-replicate}
+use Rattle.negative_cycle.specs.Labelling.{begun}
+use Rattle.negative_cycle.proofs.ForestLemmas.{IsForest-given}
+use Rattle.negative_cycle.proofs.labels.Labels.start.Goals as goal
+
+pub invariant_of-result : goal.invariant_of-result
+invariant_of-result c =
+    let given = c.args.labels.now in
+    let labels = c.in_ok-cut.ensures in
+    let places : c.in_ok-vec.field-0.items ≡ replicate (length given) 0 = search rules in (
+      IsForest-given given c.in_ok-cut.field-0.items c.in_ok-unrisen.field-0.items c.requires labels c.in_ok-unrisen.ensures,
+      omega (arith, ap length labels, length-map given begun, length-replicate {A = ℕ} (length given) 0, ap length places),
+    )

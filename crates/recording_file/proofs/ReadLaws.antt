@@ -1,0 +1,242 @@
+-- What is read is spelled so.
+use Rattle.std.proofs.Common.{◌≡◌, ◌≤◌, ◌+◌, ℕ, List, [], ◌∷◌, ◌++◌, length, drop, Bool, true, false, cond, refl, sym, ap, ◌∙◌, subst, arith, append_assoc, append-nil, rules, tests}
+use Rattle.std.specs.Prelude.{Option, Some, None, IfSome, Result, Ok, Err, ok_or, option_and_then, codes, ◌||◌, ◌&&◌, ◌==◌, not, nat_le, nat_lt, ⊤}
+use Rattle.std.proofs.lemmas.Bool.{and_parts, eqb-true, ltb-true}
+use Rattle.std.proofs.lemmas.Bool.Decides.{nat_tests}
+use Rattle.std.proofs.lemmas.List.{nil_from_length, length-drop}
+use Rattle.std.proofs.lemmas.Slice.Eq.{bytes_eq-Decides}
+use Rattle.cam_types.specs.Topology.{Topology}
+use Rattle.cam_types.proofs.TopologyLemmas.{standard_draft}
+use Rattle.recording_file.specs.declared.maxima.TheConstants.{MOST_REQUESTS}
+use Rattle.recording_file.specs.declared.recording_fault.RecordingFault.{RecordingFault}
+use Rattle.recording_file.specs.declared.recording_fault.RecordingFault.TheVariants.{BadHeader, BadRecord}
+use Rattle.recording_file.specs.declared.recording_stage.RecordingStage.{RecordingStage}
+use Rattle.recording_file.specs.declared.recording_stage.RecordingStage.TheVariants as stage
+use Rattle.recording_file.specs.declared.said.Said.{Said}
+use Rattle.recording_file.specs.declared.said.Said.TheVariants as said
+use Rattle.recording_file.specs.declared.word.Word.{Word}
+use Rattle.recording_file.specs.declared.word.Word.TheVariants as word
+use Rattle.recording_file.specs.Fields.{Row, field_of, most_number}
+use Rattle.recording_file.specs.Header.{has_letters, is_header, name_text}
+use Rattle.recording_file.specs.Names.{Label}
+use Rattle.recording_file.specs.Caps.{Cap}
+use Rattle.recording_file.specs.Reading.{add_said, add_name, add_cap, add_request, book_rank, ended, lacks_adapters, placed, reading, recorded_of, row_step, said_by, step, stands, unless_lacking, unless_illegal}
+use Rattle.recording_file.specs.Recorded.{Recorded, Request, IsKept, IsRecording, has_items, request_cause}
+use Rattle.recording_file.specs.Recordings.{IsRecordingText, WasRecording}
+use Rattle.recording_file.specs.Records.{cap_row, header, name_row, records_of, request_row, said_row, word_for, FitsSaid}
+use Rattle.recording_file.specs.Sound.{IsSound}
+use Rattle.recording_file.specs.Steps.{◌>>=◌, taken}
+use Rattle.recording_file.specs.Text.{records_in}
+use Rattle.recording_file.specs.Whole.{IsLongWhole}
+use Rattle.recording_file.specs.Words.{spelled, word_of, word_rank}
+use Rattle.recording_file.proofs.FieldLaws.{ok_or_ok, word_spelled}
+use Rattle.recording_file.proofs.PlacingLemmas.{kept_name, kept_cap, kept_request}
+use Rattle.recording_file.proofs.PushLaws.{push_name, push_cap, push_request}
+use Rattle.recording_file.proofs.SaidLaws.{ok_is, on_ok, peel, said_takes}
+use Rattle.recording_file.proofs.StageReady.{rounds_small}
+use Rattle.recording_file.proofs.StageReads.{IsRanged, Reads, ReadsWhole, all_push, next_reads, no_cause, reads_adapter, reads_config, reads_device, reads_link, reads_weight, reads_whole, rows_at}
+
+-- ---- names, caps and requests
+
+guarded : {X : Type 0} (b : Bool) (d : RecordingFault) (r : Result X RecordingFault) (x : X) → cond b (Err d) r ≡ Ok x → (b ≡ false) × (r ≡ Ok x)
+guarded true d r x e = absurd cc
+guarded false d r x e = (refl, e)
+
+-- where a name stands, no cap and no request came; where a cap stands, no request did
+no_items : {X : Type 0} (xs : List X) → has_items xs ≡ false → xs ≡ []
+no_items xs e = by (length xs == 0) refl e
+  where
+    by : (b : Bool) → (length xs == 0) ≡ b → not b ≡ false → xs ≡ []
+    by true is k = nil_from_length xs (eqb-true _ _ is)
+    by false is k = absurd cc
+
+book_none : (r : Recorded) → nat_le (book_rank r) 7 ≡ true → r.requests ≡ []
+book_none r e = by (has_items r.requests) refl e
+  where
+    by : (b : Bool) → has_items r.requests ≡ b → nat_le (cond b 8 (cond (has_items r.caps) 7 6)) 7 ≡ true → r.requests ≡ []
+    by true is k = absurd cc
+    by false is k = no_items r.requests is
+
+book_bare : (r : Recorded) → nat_le (book_rank r) 6 ≡ true → (r.caps ≡ []) × (r.requests ≡ [])
+book_bare r e = by (has_items r.requests) (has_items r.caps) refl refl e
+  where
+    by : (b d : Bool) → has_items r.requests ≡ b → has_items r.caps ≡ d → nat_le (cond b 8 (cond d 7 6)) 6 ≡ true → (r.caps ≡ []) × (r.requests ≡ [])
+    by true d is it k = absurd cc
+    by false true is it k = absurd cc
+    by false false is it k = (no_items r.caps it, no_items r.requests is)
+
+name_bare : (s : RecordingStage) → lacks_adapters s ≡ false → stands s word.Name ≡ true → ((recorded_of s).caps ≡ []) × ((recorded_of s).requests ≡ [])
+unfolding stands
+name_bare (stage.Adapters start t) l e = (refl, refl)
+name_bare (stage.Devices start t) l e = (refl, refl)
+name_bare (stage.Book r) l e = book_bare r (and_parts (nat_le (book_rank r) 6) true e).0
+name_bare _ l e = absurd cc
+
+cap_bare : (s : RecordingStage) → lacks_adapters s ≡ false → stands s word.Cap ≡ true → (recorded_of s).requests ≡ []
+unfolding stands
+cap_bare (stage.Adapters start t) l e = refl
+cap_bare (stage.Devices start t) l e = refl
+cap_bare (stage.Book r) l e = book_none r (and_parts (nat_le (book_rank r) 7) true e).0
+cap_bare _ l e = absurd cc
+
+request_few : (s : RecordingStage) → lacks_adapters s ≡ false → stands s word.Request ≡ true → nat_lt (length (recorded_of s).requests) MOST_REQUESTS ≡ true
+unfolding stands
+request_few (stage.Adapters start t) l e = refl
+request_few (stage.Devices start t) l e = refl
+request_few (stage.Book r) l e = (and_parts (nat_le (book_rank r) 8) (nat_lt (length r.requests) MOST_REQUESTS) e).1
+request_few _ l e = absurd cc
+
+reads_name : (n : ℕ) (s t : RecordingStage) (x : Label) (rows : List Row) → Reads s rows → stands s word.Name ≡ true → FitsSaid (recorded_of s) (said.Name x) → add_name n s x ≡ Ok t → Reads t (rows ++ name_row x ∷ [])
+unfolding IsSound
+reads_name n s t x rows h place fits e =
+    let g = guarded (lacks_adapters s) _ _ t e in
+    let w = reads_whole s rows g.0 h in
+    let bare = name_bare s g.0 place in
+    next_reads w.table _ t (name_row x) rows (ok_is _ t g.1) (ap (λ (l : List Row). l ++ name_row x ∷ []) w.spelled ∙ push_name w.table (recorded_of s) x bare.0 bare.1) w.held
+    (kept_name (recorded_of s) x w.kept fits) (record { unit = w.ranged.unit; targets = w.ranged.targets; drivers = w.ranged.drivers })
+
+reads_cap : (n : ℕ) (s t : RecordingStage) (x : Cap) (rows : List Row) → Reads s rows → stands s word.Cap ≡ true → FitsSaid (recorded_of s) (said.Cap x) → add_cap n s x ≡ Ok t → Reads t (rows ++ cap_row x ∷ [])
+unfolding IsSound
+reads_cap n s t x rows h place fits e =
+    let g = guarded (lacks_adapters s) _ _ t e in
+    let w = reads_whole s rows g.0 h in
+    let bare = cap_bare s g.0 place in
+    next_reads w.table _ t (cap_row x) rows (ok_is _ t g.1) (ap (λ (l : List Row). l ++ cap_row x ∷ []) w.spelled ∙ push_cap w.table (recorded_of s) x bare) w.held
+    (kept_cap (recorded_of s) x w.kept fits bare) (record { unit = w.ranged.unit; targets = w.ranged.targets; drivers = w.ranged.drivers })
+
+reads_request : (n : ℕ) (s t : RecordingStage) (q : Request) (rows : List Row) → Reads s rows → stands s word.Request ≡ true → FitsSaid (recorded_of s) (said.Request q) → add_request n s q ≡ Ok t → Reads t (rows ++ request_row q ∷ [])
+unfolding IsSound
+reads_request n s t q rows h place fits e =
+    let g = guarded (lacks_adapters s) _ _ t e in
+    let w = reads_whole s rows g.0 h in
+    let few = request_few s g.0 place in
+    let f = no_cause n _ _ t g.1 in
+    next_reads w.table _ t (request_row q) rows f.1 (ap (λ (l : List Row). l ++ request_row q ∷ []) w.spelled ∙ push_request w.table (recorded_of s) q) w.held
+    (kept_request (recorded_of s) q w.kept (ltb-true _ _ few) f.0) (record { unit = w.ranged.unit; targets = w.ranged.targets; drivers = all_push (λ (x : Request). x.driver ≤ 255) (recorded_of s).requests q w.ranged.drivers fits.driver })
+
+-- ---- any record
+
+reads_said : (n : ℕ) (s t : RecordingStage) (x : Said) (rows : List Row) → Reads s rows → stands s (word_for x) ≡ true → FitsSaid (recorded_of s) x → add_said n s x ≡ Ok t → Reads t (rows ++ said_row x ∷ [])
+unfolding add_said IsSound records_of
+reads_said n stage.First t (said.Unit u) rows h place fits e = next_reads false _ t _ rows (ok_is _ t e) (rw h.spelled refl) tt fits.0 (record { unit = fits.1; targets = tt; drivers = tt })
+reads_said n _ t (said.Unit u) rows h place fits e = absurd cc
+reads_said n stage.First t (said.Rounds k) rows h place fits e =
+    next_reads false _ t _ rows (ok_is _ t e) (rw h.spelled refl) (refl, refl)
+    (record { head = record { unit = tt; some = fits.0; rounds = fits.1 }; draft = standard_draft; adapters = refl; devices = refl; lanes = refl }, refl) (record { unit = tt; targets = tt; drivers = tt })
+reads_said n (stage.Timed u) t (said.Rounds k) rows h place fits e =
+    next_reads false _ t _ rows (ok_is _ t e) (rw h.spelled refl) (refl, refl)
+    (record { head = record { unit = h.sound; some = fits.0; rounds = fits.1 }; draft = standard_draft; adapters = refl; devices = refl; lanes = refl }, refl) (record { unit = h.ranged.unit; targets = tt; drivers = tt })
+reads_said n _ t (said.Rounds k) rows h place fits e = absurd cc
+reads_said n (stage.Weights start t0) t (said.Weight w) rows h place fits e = reads_weight n start t0 t w rows h e
+reads_said n _ t (said.Weight w) rows h place fits e = absurd cc
+reads_said n (stage.Weights start t0) t (said.Link k) rows h place fits e = reads_link n start t0 t k rows (reads_config start t0 rows h.table h.spelled h.held.0 h.held.1 h.ranged) h.sound.0 e
+reads_said n (stage.Links start t0) t (said.Link k) rows h place fits e = reads_link n start t0 t k rows (reads_config start t0 rows h.table h.spelled h.held.0 h.held.1 h.ranged) h.sound.0 e
+reads_said n _ t (said.Link k) rows h place fits e = absurd cc
+reads_said n (stage.Weights start t0) t (said.Sim a) rows h place fits e = let b = h.sound.0 in reads_adapter n start t0 t a rows (reads_config start t0 rows h.table h.spelled h.held.0 h.held.1 h.ranged) b.head b.draft b.devices b.lanes e
+reads_said n (stage.Links start t0) t (said.Sim a) rows h place fits e = let b = h.sound.0 in reads_adapter n start t0 t a rows (reads_config start t0 rows h.table h.spelled h.held.0 h.held.1 h.ranged) b.head b.draft b.devices b.lanes e
+reads_said n (stage.Adapters start t0) t (said.Sim a) rows h place fits e = let b = h.sound.0 in reads_adapter n start t0 t a rows (reads_config start t0 rows h.table h.spelled h.held.0 h.held.1 h.ranged) b.head b.draft h.sound.1 b.lanes e
+reads_said n _ t (said.Sim a) rows h place fits e = absurd cc
+reads_said n (stage.Adapters start t0) t (said.Dev d) rows h place fits e = reads_device n start t0 t d rows (reads_config start t0 rows h.table h.spelled h.held.0 h.held.1 h.ranged) h.sound.0 fits.1 e
+reads_said n (stage.Devices start t0) t (said.Dev d) rows h place fits e = reads_device n start t0 t d rows (reads_config start t0 rows h.table h.spelled h.held.0 h.held.1 h.ranged) h.sound fits.1 e
+reads_said n _ t (said.Dev d) rows h place fits e = absurd cc
+reads_said n s t (said.Name x) rows h place fits e = reads_name n s t x rows h place fits e
+reads_said n s t (said.Cap x) rows h place fits e = reads_cap n s t x rows h place fits e
+reads_said n s t (said.Request q) rows h place fits e = reads_request n s t q rows h place fits e
+
+-- what a word that stands in its place says of the record
+record IsPlaced (s : RecordingStage) (row : Row) (w : Word) : Type 0 where
+  eight : length row ≡ 8
+  word : field_of row 0 ≡ spelled w
+  place : stands s w ≡ true
+
+on_some : {A B Q : Type 0} (o : Option A) (f : A → Option B) (y : B) → option_and_then f o ≡ Some y → ((x : A) → o ≡ Some x → f x ≡ Some y → Q) → Q
+on_some None f y e k = absurd cc
+on_some (Some x) f y e k = k x refl e
+
+guard_some : {X : Type 0} (b : Bool) (o : Option X) (x : X) → cond b o None ≡ Some x → (b ≡ true) × (o ≡ Some x)
+guard_some true o x e = (refl, e)
+guard_some false o x e = absurd cc
+
+same_some : {X : Type 0} (x y : X) → ◌≡◌ {A = Option X} (Some x) (Some y) → x ≡ y
+same_some x y e = cc
+
+placed_some : (s : RecordingStage) (row : Row) (w : Word) → placed s row ≡ Some w → IsPlaced s row w
+unfolding placed
+placed_some s row w h =
+    let g = guard_some (length row == 8) _ w h in
+    on_some (word_of (field_of row 0)) _ w g.1 (λ v ev k.
+    let m = guard_some (stands s v) (Some v) w k in
+    let same = same_some v w m.1 in
+    record { eight = eqb-true _ _ g.0; word = word_spelled _ w (ev ∙ ap (λ (x : Word). Some x) same); place = ap (stands s) (sym same) ∙ m.0 })
+
+reads_behind : (n : ℕ) (s t : RecordingStage) (row : Row) (rows : List Row) → Reads s rows → row_step n s row ≡ Ok t → Reads t (rows ++ row ∷ [])
+unfolding row_step
+reads_behind n s t row rows h e =
+    on_ok (ok_or (placed s row) (BadRecord n)) _ t e (λ w ew r.
+    let p = placed_some s row w (ok_or_ok (placed s row) (BadRecord n) w ew) in
+    on_ok (said_by n (recorded_of s) w row) (add_said n s) t r (λ x ex k.
+    let took = said_takes n (recorded_of s) w row x p.eight p.word (rounds_small s h.sound) ex in
+    subst (λ (l : Row). Reads t (rows ++ l ∷ [])) (sym took.1) (reads_said n s t x rows h (ap (stands s) took.0 ∙ p.place) took.2 k)))
+
+-- ---- the header
+
+eight_fields : (row : Row) (a b c d e f g h : List ℕ) → length row ≡ 8 → field_of row 0 ≡ a → field_of row 1 ≡ b → field_of row 2 ≡ c → field_of row 3 ≡ d
+    → field_of row 4 ≡ e → field_of row 5 ≡ f → field_of row 6 ≡ g → field_of row 7 ≡ h → row ≡ a ∷ b ∷ c ∷ d ∷ e ∷ f ∷ g ∷ h ∷ []
+eight_fields row a b c d e f g h n e0 e1 e2 e3 e4 e5 e6 e7 =
+    let none : drop 8 row ≡ [] = nil_from_length (drop 8 row) (omega (arith, length-drop 8 row)) in
+    peel row 0 a _ n (omega arith) e0 (peel row 1 b _ n (omega arith) e1 (peel row 2 c _ n (omega arith) e2 (peel row 3 d _ n (omega arith) e3
+    (peel row 4 e _ n (omega arith) e4 (peel row 5 f _ n (omega arith) e5 (peel row 6 g _ n (omega arith) e6 (peel row 7 h [] n (omega arith) e7 none)))))))
+
+named_so : (name : List ℕ) (row : Row) → is_header name row ≡ true
+    → row ≡ name ∷ codes "a" ∷ codes "b" ∷ codes "c" ∷ codes "d" ∷ codes "e" ∷ codes "f" ∷ codes "g" ∷ []
+unfolding is_header has_letters
+named_so name row t =
+    eight_fields row name (codes "a") (codes "b") (codes "c") (codes "d") (codes "e") (codes "f") (codes "g") (grind (arith, nat_tests))
+    (search (rules, tests, bytes_eq-Decides)) (search (rules, tests, bytes_eq-Decides)) (search (rules, tests, bytes_eq-Decides)) (search (rules, tests, bytes_eq-Decides))
+    (search (rules, tests, bytes_eq-Decides)) (search (rules, tests, bytes_eq-Decides)) (search (rules, tests, bytes_eq-Decides)) (search (rules, tests, bytes_eq-Decides))
+
+named_header : (row : Row) → is_header name_text row ≡ true → row ≡ header
+unfolding header
+named_header row t = named_so name_text row t
+
+step_reads : (n : ℕ) (s t : RecordingStage) (row : Row) (rows : List Row) → Reads s rows → step n s row ≡ Ok t → Reads t (rows ++ row ∷ [])
+unfolding step IsSound
+step_reads n stage.Header t row rows h e = by (is_header name_text row) refl e
+  where
+    by : (b : Bool) → is_header name_text row ≡ b → cond b (Ok stage.First) (Err BadHeader) ≡ Ok t → Reads t (rows ++ row ∷ [])
+    by true named k = next_reads false stage.First t row rows (ok_is _ t k) (rw (h.spelled, named_header row named) refl) tt tt (record { unit = tt; targets = tt; drivers = tt })
+    by false named k = absurd cc
+step_reads n s t row rows h e = reads_behind n s t row rows h e
+
+taken_reads : (n : ℕ) (s t : RecordingStage) (rows more : List Row) → Reads s rows → taken step n s more ≡ Ok t → Reads t (rows ++ more)
+taken_reads n s t rows [] h e = rw (append-nil rows, ← ok_is s t e) h
+taken_reads n s t rows (row ∷ more) h e =
+    on_ok (step n s row) _ t e (λ u eu r.
+    subst (Reads t) (append_assoc rows (row ∷ []) more) (taken_reads (n + 1) u t (rows ++ row ∷ []) more (step_reads n s u row rows h eu) r))
+
+-- ---- the end
+
+ended_ok : (s : RecordingStage) (r : Recorded) → ended s ≡ Ok r → (lacks_adapters s ≡ false) × (recorded_of s ≡ r)
+unfolding ended
+ended_ok stage.Header r e = absurd cc
+ended_ok stage.First r e = absurd cc
+ended_ok (stage.Timed u) r e = absurd cc
+ended_ok (stage.Weights start t) r e = absurd cc
+ended_ok (stage.Links start t) r e = absurd cc
+ended_ok _ r e = (refl, ok_is _ r e)
+
+pub was_recording : (before after : Option (List ℕ)) (text : List ℕ) → IsLongWhole before after text → (r : Recorded) → reading (records_in text) ≡ Ok r → WasRecording before after r
+unfolding reading IsSound
+was_recording before after text whole r e =
+    on_ok (taken step 1 stage.Header (records_in text)) ended r e (λ t et k.
+    let start : Reads stage.Header [] = record { table = false; spelled = refl; held = tt; sound = tt; ranged = record { unit = tt; targets = tt; drivers = tt } } in
+    let h = taken_reads 1 stage.Header t [] (records_in text) start et in
+    let end = ended_ok t r k in
+    let w = reads_whole t (records_in text) end.0 h in
+    let made : WasRecording before after (recorded_of t) = record {
+      text = text;
+      whole = whole;
+      spelled = record { bounded = whole.bounded; table = w.table; held = w.held; spelled = w.spelled };
+      recording = record { kept = w.kept; unit = w.ranged.unit; targets = w.ranged.targets; drivers = w.ranged.drivers };
+    } in
+    subst (WasRecording before after) end.1 made)

@@ -1,0 +1,146 @@
+-- What is spelled as a record is said again.
+use Rattle.std.proofs.Common.{◌≡◌, ◌<◌, ◌≤◌, ℕ, List, [], ◌∷◌, length, Bool, true, false, refl, arith}
+use Rattle.std.specs.Prelude.{Option, Some, None, IfSome, Result, Ok, decimal, ◌&&◌, nat_le, nat_lt, ⊤}
+use Rattle.std.proofs.lemmas.Bool.{and_parts, leb-true, ltb-true}
+use Rattle.csv.specs.Records.{field_at}
+use Rattle.cam_types.specs.declared.adapter.Adapter.{Adapter}
+use Rattle.cam_types.specs.declared.weight_row.WeightRow.{WeightRow}
+use Rattle.recording_file.specs.declared.device_row.DeviceRow.{DeviceRow}
+use Rattle.recording_file.specs.declared.maxima.TheConstants.{MOST_RECORDED_ROUNDS}
+use Rattle.recording_file.specs.declared.name.NameKind.{NameKind}
+use Rattle.recording_file.specs.declared.name.NameKind.TheVariants as named
+use Rattle.recording_file.specs.declared.part.PartKind.{PartKind}
+use Rattle.recording_file.specs.declared.part.PartKind.TheVariants as part
+use Rattle.recording_file.specs.declared.said.Said.{Said}
+use Rattle.recording_file.specs.declared.said.Said.TheVariants as said
+use Rattle.recording_file.specs.Fields.{Row, most_number, unused_from}
+use Rattle.recording_file.specs.Counts.{Counts, counts_of}
+use Rattle.recording_file.specs.Names.{Label, is_name, is_name_text, is_next_name, named_count}
+use Rattle.recording_file.specs.Caps.{Cap, part_of, is_cap, is_next_cap, part_count}
+use Rattle.recording_file.specs.Recorded.{Recorded, Request, Span}
+use Rattle.recording_file.specs.Rows.{one_number, span_at, rounds_at, weight_at, adapter_at, device_at, device_of, named_at, text_at, capped_at, most_at, request_at}
+use Rattle.recording_file.specs.Records.{unit_row, rounds_row, weight_row, link_row, adapter_row, device_row, name_row, cap_row, request_row, said_row, word_for, FitsSaid, FitsRequest}
+use Rattle.recording_file.specs.Reading.{said_by, name_said, cap_said}
+use Rattle.recording_file.proofs.FieldLaws.{number_again, optional_again, within_again, below_again, time_again, named_again, part_again}
+
+-- the numbers of what there is fit a field
+pub record IsCounted (c : Counts) : Type 0 where
+  pub devices : c.devices ≤ 32
+  pub adapters : c.adapters ≤ 8
+  pub links : c.links ≤ 4
+
+named_small : (c : Counts) (k : NameKind) → IsCounted c → named_count c k ≤ most_number
+named_small c named.Driver h = omega arith
+named_small c named.Device h = let d = h.devices in omega arith
+named_small c named.Adapter h = let d = h.adapters in omega arith
+named_small c named.Link h = let d = h.links in omega arith
+
+part_small : (c : Counts) (k : PartKind) → IsCounted c → part_count c k ≤ most_number
+part_small c part.Device h = let d = h.devices in omega arith
+part_small c part.Adapter h = let d = h.adapters in omega arith
+part_small c part.Link h = let d = h.links in omega arith
+
+unit_again : (u : Span) → 1 ≤ u.count → u.count ≤ most_number → span_at (unit_row u) ≡ Ok u
+unfolding span_at unused_from field_at
+unit_again u a b = rw (within_again (unit_row u) 1 1 most_number u.count (omega arith) a b refl, time_again u.unit) refl
+
+rounds_again : (n : ℕ) → 1 ≤ n → n ≤ MOST_RECORDED_ROUNDS → rounds_at (rounds_row n) ≡ Ok n
+unfolding rounds_at unused_from field_at
+rounds_again n a b = rw (within_again (rounds_row n) 1 1 MOST_RECORDED_ROUNDS n (omega arith) a b refl) refl
+
+weight_again : (w : WeightRow) → w.last ≤ most_number → w.weight ≤ most_number → weight_at (weight_row w) ≡ Ok w
+unfolding weight_at unused_from field_at
+weight_again w a b = rw (number_again (weight_row w) 1 most_number w.last (omega arith) a refl, number_again (weight_row w) 2 most_number w.weight (omega arith) b refl) refl
+
+link_again : (n : ℕ) → n ≤ most_number → one_number (link_row n) ≡ Ok n
+unfolding one_number unused_from field_at
+link_again n h = rw (number_again (link_row n) 1 most_number n (omega arith) h refl) refl
+
+adapter_again : (a : Adapter) → a.openings ≤ most_number → IfSome a.link (λ l. l ≤ most_number) → adapter_at (adapter_row a) ≡ Ok a
+unfolding adapter_at unused_from field_at
+adapter_again a o l = rw (number_again (adapter_row a) 1 most_number a.openings (omega arith) o refl, optional_again (adapter_row a) 2 most_number a.link (omega arith) l refl) refl
+
+device_again : (d : DeviceRow) → d.bus ≤ most_number → d.target ≤ 65535 → d.lun ≤ 16383 → d.openings ≤ most_number → device_at (device_row (device_of d)) ≡ Ok d
+unfolding device_at unused_from field_at
+device_again d a b c o =
+    let row = device_row (device_of d) in
+    rw (
+      number_again row 1 most_number d.bus (omega arith) a refl,
+      number_again row 2 65535 d.target (omega arith) b refl,
+      number_again row 3 16383 d.lun (omega arith) c refl,
+      number_again row 4 most_number d.openings (omega arith) o refl,
+    ) refl
+
+request_again : (q : Request) → FitsRequest q → request_at (request_row q) ≡ Ok q
+unfolding request_at unused_from field_at
+request_again q h =
+    let row = request_row q in
+    rw (
+      number_again row 1 255 q.driver (omega arith) h.driver refl,
+      number_again row 2 most_number q.device (omega arith) h.device refl,
+      number_again row 3 most_number q.priority (omega arith) h.priority refl,
+      number_again row 4 most_number q.arrival (omega arith) h.arrival refl,
+      optional_again row 5 most_number q.last (omega arith) h.last refl,
+      number_again row 6 most_number q.sent (omega arith) h.sent refl,
+    ) refl
+
+kind_again : (c : Counts) (x : Label) → IsCounted c → x.number < named_count c x.kind → named_at c (name_row x) ≡ Ok (x.kind, x.number)
+unfolding named_at field_at
+kind_again c x h less =
+    let small = named_small c x.kind h in
+    rw (named_again x.kind, below_again (name_row x) 2 (named_count c x.kind) x.number less (omega arith) refl) refl
+
+text_again : (x : Label) → is_name_text x.text ≡ true → text_at (name_row x) ≡ Ok x.text
+unfolding text_at unused_from field_at
+text_again x e = rw e refl
+
+name_again : (n : ℕ) (r : Recorded) (x : Label) → IsCounted (counts_of r.config) → is_name (counts_of r.config) (r.names, x) ≡ true → name_said n r (name_row x) ≡ Ok (said.Name x)
+unfolding name_said is_name
+name_again n r x h e =
+    let a = and_parts (nat_lt x.number (named_count (counts_of r.config) x.kind)) _ e in
+    let b = and_parts (is_next_name r.names x.kind x.number) _ a.1 in
+    rw (kind_again (counts_of r.config) x h (ltb-true _ _ a.0), b.0, text_again x b.1) refl
+
+capped_again : (rounds : ℕ) (c : Counts) (x : Cap) → IsCounted c → rounds ≤ most_number → x.part.number < part_count c x.part.kind → 1 ≤ x.first → x.first ≤ rounds → capped_at rounds c (cap_row x) ≡ Ok (x.part, x.first)
+unfolding capped_at field_at
+capped_again rounds c x h le less some most =
+    let small = part_small c x.part.kind h in
+    rw (part_again x.part.kind, below_again (cap_row x) 2 (part_count c x.part.kind) x.part.number less (omega arith) refl, within_again (cap_row x) 3 1 rounds x.first le some most refl) refl
+
+most_again : (rounds : ℕ) (x : Cap) → rounds ≤ most_number → x.first ≤ x.last → x.last ≤ rounds → x.most ≤ 65535 → most_at rounds x.first (cap_row x) ≡ Ok (x.last, x.most)
+unfolding most_at unused_from field_at
+most_again rounds x le order last most =
+    rw (within_again (cap_row x) 4 x.first rounds x.last le order last refl, number_again (cap_row x) 5 65535 x.most (omega arith) most refl) refl
+
+cap_again : (n : ℕ) (r : Recorded) (x : Cap) → IsCounted (counts_of r.config) → r.rounds ≤ most_number → is_cap r.rounds (counts_of r.config) (r.caps, x) ≡ true → cap_said n r (cap_row x) ≡ Ok (said.Cap x)
+unfolding cap_said is_cap
+cap_again n r x h le e =
+    let a = and_parts (nat_lt x.part.number (part_count (counts_of r.config) x.part.kind)) _ e in
+    let b = and_parts (is_next_cap r.caps x.part x.first) _ a.1 in
+    let d = and_parts (nat_le 1 x.first) _ b.1 in
+    let f = and_parts (nat_le x.first x.last) _ d.1 in
+    let g = and_parts (nat_le x.last r.rounds) _ f.1 in
+    let low = leb-true _ _ d.0 in
+    let order = leb-true x.first x.last f.0 in
+    let last = leb-true x.last r.rounds g.0 in
+    let most = leb-true x.most 65535 g.1 in
+    rw (capped_again r.rounds (counts_of r.config) x h le (ltb-true _ _ a.0) low (omega arith), b.0, most_again r.rounds x le order last most) refl
+
+-- what there is can be counted in a field, where a name or a cap is read
+abbrev pub SmallFor : Recorded → Said → Type 0
+SmallFor r (said.Name x) = IsCounted (counts_of r.config) × (r.rounds ≤ most_number)
+SmallFor r (said.Cap x) = IsCounted (counts_of r.config) × (r.rounds ≤ most_number)
+SmallFor r _ = ⊤
+
+-- what is spelled so is said
+pub said_again : (n : ℕ) (r : Recorded) (x : Said) → SmallFor r x → FitsSaid r x → said_by n r (word_for x) (said_row x) ≡ Ok x
+unfolding said_by
+said_again n r (said.Unit u) h f = rw (unit_again u f.0 f.1) refl
+said_again n r (said.Rounds k) h f = rw (rounds_again k f.0 f.1) refl
+said_again n r (said.Weight w) h f = rw (weight_again w f.0 f.1) refl
+said_again n r (said.Link k) h f = rw (link_again k f) refl
+said_again n r (said.Sim a) h f = rw (adapter_again a f.0 f.1) refl
+said_again n r (said.Dev d) h f = rw (device_again d f.0 f.1 f.2 f.3) refl
+said_again n r (said.Name x) h f = name_again n r x h.0 f
+said_again n r (said.Cap x) h f = cap_again n r x h.0 h.1 f
+said_again n r (said.Request q) h f = rw (request_again q f) refl

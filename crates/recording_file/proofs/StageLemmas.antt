@@ -1,0 +1,153 @@
+-- What a record does to the configuration in the making.
+use Rattle.std.proofs.Common.{◌≡◌, ◌≢◌, ◌<◌, ◌≤◌, ℕ, List, [], ◌∷◌, ◌++◌, length, Bool, true, false, cond, min, refl, sym, ap, ◌∙◌, arith, length-append}
+use Rattle.std.specs.Prelude.{◌==◌, Option, Some, None, Result, Ok, Err, MatchOption, IsOkUnless}
+use Rattle.std.proofs.lemmas.Bool.{leb-false, ne_eqb, and_parts, leb-true, ltb-false, not-false}
+use Rattle.std.proofs.lemmas.Bool.Decides.{nat_tests}
+use Rattle.cam_types.specs.Topology.{Topology, IsDraft, address_fault, link_fault, adapter_fault, device_fault, config_fault}
+use Rattle.cam_types.specs.Weights.{weight_fault, reaches_last}
+use Rattle.cam_types.specs.declared.adapter.Adapter.{Adapter}
+use Rattle.cam_types.specs.declared.device.Device.{Device}
+use Rattle.cam_types.specs.declared.weight_row.WeightRow.{WeightRow}
+use Rattle.cam_types.specs.declared.config_fault.ConfigFault.{ConfigFault}
+use Rattle.cam_types.specs.declared.config.ConfigError.{ConfigError}
+use Rattle.cam_types.specs.declared.config.ConfigError.TheVariants as error
+use Rattle.cam_types.proofs.ListLemmas.{or_left}
+use Rattle.cam_types.proofs.TopologyLemmas.{config_fault-draft, draft_weight, draft_link, draft_adapter, draft_device}
+use Rattle.cam_types.specs.declared.maxima.TheConstants.{MOST_ADAPTERS}
+use Rattle.recording_file.specs.declared.device_row.DeviceRow.{DeviceRow}
+use Rattle.recording_file.specs.declared.recording_fault.RecordingFault.TheVariants.{BadConfig}
+use Rattle.recording_file.specs.declared.recording_stage.RecordingStage.{RecordingStage}
+use Rattle.recording_file.specs.declared.recording_stage.RecordingStage.TheVariants as stage
+use Rattle.recording_file.specs.declared.start.Start.{Start}
+use Rattle.recording_file.specs.Fields.{Row}
+use Rattle.recording_file.specs.Reading.{unless_fault, row_step, step}
+use Rattle.recording_file.specs.Rows.{device_of, clamped}
+use Rattle.recording_file.specs.Sound.{IsBare, IsBegun, IsSound, IsStart}
+
+-- an item that was added breaks no rule
+pub none_where_ok : {U : Type 0} (o : Option ConfigFault) (r : Result U ConfigError) (u : U) → MatchOption o (IsOkUnless r error.OutOfMemory) (λ f. r ≡ Err (error.Fault f)) → r ≡ Ok u → o ≡ None
+none_where_ok None r u h e = refl
+none_where_ok (Some f) r u h e = absurd (cc)
+
+-- a chain of rules that answers none has none broken
+pub cond_none : {X : Type 0} (b : Bool) (x : X) (rest : Option X) → cond b (Some x) rest ≡ None → (b ≡ false) × (rest ≡ None)
+cond_none true x rest e = absurd cc
+cond_none false x rest e = (refl, e)
+
+pub few_adapters : (links : ℕ) (adapters : List Adapter) (a : Adapter) → adapter_fault links (adapters, a) ≡ None → length adapters < MOST_ADAPTERS
+unfolding adapter_fault
+few_adapters links adapters a none = leb-false _ _ (cond_none _ _ _ (or_left _ _ none)).0
+
+-- ---- one item more
+
+pub sound_weight : (start : Start) (t t' : Topology) (w : WeightRow) → IsBare start t → t.links ≡ [] → weight_fault (t.weights, w) ≡ None
+    → t' ≡ record t { weights = t.weights ++ w ∷ [] } → IsSound (stage.Weights (record start { table = true }) t')
+unfolding IsSound
+sound_weight start t t' w h links none e =
+    rw e (
+      record {
+        head = record { unit = h.head.unit; some = h.head.some; rounds = h.head.rounds };
+        draft = draft_weight t (t.weights ++ w ∷ []) w h.draft none refl;
+        adapters = h.adapters;
+        devices = h.devices;
+        lanes = h.lanes;
+      },
+      links,
+    )
+
+pub sound_link : (start : Start) (t t' : Topology) (n : ℕ) → IsBare start t → reaches_last t.weights ≡ true → link_fault (t.links, n) ≡ None
+    → t' ≡ record t { links = t.links ++ n ∷ [] } → IsSound (stage.Links start t')
+unfolding IsSound
+sound_link start t t' n h reaches none e =
+    rw e (
+      record { head = h.head; draft = draft_link t (t.links ++ n ∷ []) n h.draft h.adapters none refl; adapters = h.adapters; devices = h.devices; lanes = h.lanes },
+      reaches,
+    )
+
+pub sound_adapter : (start : Start) (t t' : Topology) (a : Adapter) → IsStart start → IsDraft t → reaches_last t.weights ≡ true → t.devices ≡ [] → t.lanes ≡ [] → adapter_fault (length t.links) (t.adapters, a) ≡ None
+    → t' ≡ record t { adapters = t.adapters ++ a ∷ [] } → IsSound (stage.Adapters start t')
+unfolding IsSound
+sound_adapter start t t' a head d reaches devices lanes none e =
+    let few = few_adapters (length t.links) t.adapters a none in
+    let size = length-append t.adapters (a ∷ []) in
+    rw e (
+      record {
+        head = head;
+        draft = draft_adapter t (t.adapters ++ a ∷ []) a d devices lanes none refl;
+        reaches = reaches;
+        some = omega arith;
+        few = omega arith;
+        lanes = lanes;
+      },
+      devices,
+    )
+
+-- ---- devices
+
+clamped_small : (d : DeviceRow) → d.bus ≤ 255 → clamped d ≡ device_of d
+clamped_small d h =
+    let same : min d.bus 255 ≡ d.bus = omega arith in
+    ap (λ (b : ℕ). let x : Device = record { bus = b; target = d.target; lun = d.lun; openings = d.openings } in x) same
+
+-- a bus above 255 names no adapter, whichever it is
+pub clamped_fault : (n : ℕ) (before : List Device) (d : DeviceRow) → n ≤ MOST_ADAPTERS → device_fault n (before, clamped d) ≡ device_fault n (before, device_of d)
+unfolding device_fault address_fault
+clamped_fault n before d few = grind (arith, nat_tests)
+
+-- what the rules of the configuration say of a device's numbers
+pub device_small : (n : ℕ) (before : List Device) (d : Device) → device_fault n (before, d) ≡ None → (d.bus < n) × (d.lun ≤ 16383) × (d.openings ≤ 255)
+unfolding device_fault address_fault
+device_small n before d e =
+    let a = cond_none _ _ _ e in
+    let b = cond_none _ _ _ a.1 in
+    let c = cond_none _ _ _ b.1 in
+    let l = cond_none _ _ _ c.1 in
+    (leb-false _ _ c.0, ltb-false _ _ l.0, leb-true _ _ (and_parts _ _ (not-false _ b.0)).1)
+
+-- a device that breaks no rule is the one that the record spells
+pub clamped_same : (n : ℕ) (before : List Device) (d : DeviceRow) → n ≤ MOST_ADAPTERS → device_fault n (before, clamped d) ≡ None → clamped d ≡ device_of d
+clamped_same n before d few none =
+    let small = device_small n before (clamped d) none in
+    clamped_small d (omega arith)
+
+pub sound_device : (start : Start) (t t' : Topology) (d : Device) → IsBegun start t → device_fault (length t.adapters) (t.devices, d) ≡ None
+    → t' ≡ record t { devices = t.devices ++ d ∷ [] } → IsSound (stage.Devices start t')
+unfolding IsSound
+sound_device start t t' d h none e =
+    rw e record {
+      head = h.head;
+      draft = draft_device t (t.devices ++ d ∷ []) d h.draft none refl;
+      reaches = h.reaches;
+      some = h.some;
+      few = h.few;
+      lanes = h.lanes;
+    }
+
+pub device_added : (number : ℕ) (start : Start) (t t' : Topology) (d : DeviceRow) (x : Device) → IsBegun start t → x ≡ clamped d → device_fault (length t.adapters) (t.devices, x) ≡ None
+    → t' ≡ record t { devices = t.devices ++ x ∷ [] }
+    → Ok (stage.Devices start t') ≡ unless_fault number (device_fault (length t.adapters) (t.devices, device_of d)) (stage.Devices start (record t { devices = t.devices ++ device_of d ∷ [] }))
+device_added number start t t' d x begun is none e =
+    let n = length t.adapters in
+    let fine : device_fault n (t.devices, clamped d) ≡ None = ap (λ (y : Device). device_fault n (t.devices, y)) (sym is) ∙ none in
+    let same = clamped_same n t.devices d begun.few fine in
+    let spelled : device_fault n (t.devices, device_of d) ≡ None = sym (clamped_fault n t.devices d begun.few) ∙ fine in
+    rw spelled (ap (λ (u : Topology). Ok (stage.Devices start u)) (e ∙ ap (λ (y : Device). record t { devices = t.devices ++ y ∷ [] }) (is ∙ same)))
+
+pub fault_named : {U : Type 0} (number : ℕ) (o o' : Option ConfigFault) (f : ConfigFault) (r : Result U ConfigError) (s : RecordingStage) → o ≡ o'
+    → MatchOption o (IsOkUnless r error.OutOfMemory) (λ g. r ≡ Err (error.Fault g)) → r ≡ Err (error.Fault f) → Err (BadConfig number f) ≡ unless_fault number o' s
+fault_named number None o' f r s e h is = absurd (let wrong = rw is at h in cc)
+fault_named number (Some g) o' f r s e h is =
+    let same : f ≡ g = cc in
+    rw (← e) (ap (λ (x : ConfigFault). Err (BadConfig number x)) same)
+
+-- ---- a whole configuration
+
+pub config_whole : (start : Start) (t : Topology) → IsBegun start t → config_fault t ≡ None
+config_whole start t begun =
+    let some : (length t.adapters == 0) ≡ false = ne_eqb _ _ (λ e. omega arith) in
+    config_fault-draft t begun.draft ∙ rw (begun.reaches, some) refl
+
+pub step_behind : (n : ℕ) (s : RecordingStage) (row : Row) → s ≢ stage.Header → step n s row ≡ row_step n s row
+unfolding step
+step_behind n stage.Header row h = absurd (h refl)
+step_behind n _ row h = refl

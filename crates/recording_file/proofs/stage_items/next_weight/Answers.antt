@@ -1,0 +1,7 @@
+use Rattle.recording_file.proofs.StageLemmas.{none_where_ok, sound_weight}
+use Rattle.recording_file.proofs.stage_items.next_weight.Goals as goal
+
+pub returns-in-Ok-clause-sound : goal.returns-in-Ok-clause-sound
+returns-in-Ok-clause-sound c =
+    let none = none_where_ok _ _ _ c.add_weight.ensures.answer c.in-Ok.is in
+    rw c.with_table.ensures (sound_weight c.args.start c.args.draft c.add_weight.new.self c.args.row c.requires.bare c.requires.links none c.in-Ok.ensures.ok)

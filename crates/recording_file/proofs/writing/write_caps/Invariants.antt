@@ -1,0 +1,7 @@
+use Rattle.std.proofs.Common.{map, take}
+use Rattle.recording_file.specs.Records.{cap_row}
+use Rattle.recording_file.specs.Writing.{Wrote}
+use Rattle.recording_file.proofs.writing.write_caps.Given as goal
+
+abbrev pub invariant-loop-cap : goal.invariant-loop-cap
+invariant-loop-cap g l = Wrote g.W.Write.contents l.fn.writer l.writer (map cap_row (take l.cap-index l.caps))

@@ -1,0 +1,7 @@
+use Rattle.std.proofs.Common.{map, take}
+use Rattle.recording_file.specs.Records.{name_row}
+use Rattle.recording_file.specs.Writing.{Wrote}
+use Rattle.recording_file.proofs.writing.write_names.Given as goal
+
+abbrev pub invariant-loop-name : goal.invariant-loop-name
+invariant-loop-name g l = Wrote g.W.Write.contents l.fn.writer l.writer (map name_row (take l.name-index l.names))

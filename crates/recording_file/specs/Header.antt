@@ -1,0 +1,18 @@
+-- The header of a text.
+use Rattle.std.specs.Prelude.{ℕ, ◌==◌, Bool, ◌&&◌, List, length, codes, bytes_eq}
+use Rattle.recording_file.specs.Fields.{Row, field_of}
+
+-- the fields of the header that name the columns
+unfoldable pub has_letters : Row → Bool
+has_letters row =
+    bytes_eq (field_of row 1) (codes "a") && bytes_eq (field_of row 2) (codes "b") && bytes_eq (field_of row 3) (codes "c")
+    && bytes_eq (field_of row 4) (codes "d") && bytes_eq (field_of row 5) (codes "e") && bytes_eq (field_of row 6) (codes "f")
+    && bytes_eq (field_of row 7) (codes "g")
+
+-- the header of this name
+unfoldable pub is_header : List ℕ → Row → Bool
+is_header name row = (length row == 8) && bytes_eq (field_of row 0) name && has_letters row
+
+-- the word that a recording begins with
+abbrev pub name_text : List ℕ
+name_text = codes "camrecord1"

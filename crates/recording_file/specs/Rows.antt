@@ -1,0 +1,109 @@
+-- What the records of a recording say: their words' fields, in order.
+use Rattle.std.specs.Prelude.{ℕ, min, Result, Ok, Err, List, Option, Some, None, if◌then◌else◌}
+use Rattle.cam_types.specs.declared.adapter.Adapter.{Adapter}
+use Rattle.cam_types.specs.declared.device.Device.{Device}
+use Rattle.cam_types.specs.declared.weight_row.WeightRow.{WeightRow}
+use Rattle.cam_types.specs.Weights.{row_to}
+use Rattle.recording_file.specs.declared.device_row.DeviceRow.{DeviceRow}
+use Rattle.recording_file.specs.declared.maxima.TheConstants.{MOST_RECORDED_ROUNDS}
+use Rattle.recording_file.specs.declared.name.NameKind.{NameKind}
+use Rattle.recording_file.specs.Counts.{Counts}
+use Rattle.recording_file.specs.Names.{Label, named_count, is_name_text}
+use Rattle.recording_file.specs.Caps.{Cap, Part, part_of, part_count}
+use Rattle.recording_file.specs.Recorded.{Request, Span}
+use Rattle.recording_file.specs.Steps.{◌>>=◌}
+use Rattle.recording_file.specs.Fields.{Row, field_of, formed, most_number, number_at, optional_at, within_at, below_at, unused_from}
+use Rattle.recording_file.specs.Words.{time_of, named_of, part_kind_of}
+
+-- a number, and no field more
+unfoldable pub one_number : Row → Result ℕ ℕ
+one_number row = do
+  n ← number_at row 1 most_number
+  _ ← unused_from row 2
+  Ok n
+
+-- how long a round is
+unfoldable pub span_at : Row → Result Span ℕ
+span_at row = do
+  count ← within_at row 1 1 most_number
+  unit ← formed (time_of (field_of row 2)) 2
+  _ ← unused_from row 3
+  Ok (record { count = count; unit = unit })
+
+-- the last round
+unfoldable pub rounds_at : Row → Result ℕ ℕ
+rounds_at row = do
+  n ← within_at row 1 1 MOST_RECORDED_ROUNDS
+  _ ← unused_from row 2
+  Ok n
+
+-- a row of the table of weights
+unfoldable pub weight_at : Row → Result WeightRow ℕ
+weight_at row = do
+  last ← number_at row 1 most_number
+  weight ← number_at row 2 most_number
+  _ ← unused_from row 3
+  Ok (row_to last weight)
+
+-- openings, and the number of a link or none
+unfoldable pub adapter_at : Row → Result Adapter ℕ
+adapter_at row = do
+  openings ← number_at row 1 most_number
+  link ← optional_at row 2 most_number
+  _ ← unused_from row 3
+  Ok (record { openings = openings; link = link })
+
+unfoldable pub device_at : Row → Result DeviceRow ℕ
+device_at row = do
+  bus ← number_at row 1 most_number
+  target ← number_at row 2 65535
+  lun ← number_at row 3 16383
+  openings ← number_at row 4 most_number
+  _ ← unused_from row 5
+  Ok (record { bus = bus; target = target; lun = lun; openings = openings })
+
+-- what a name is for
+unfoldable pub named_at : Counts → Row → Result (NameKind × ℕ) ℕ
+named_at c row = do
+  kind ← formed (named_of (field_of row 1)) 1
+  number ← below_at row 2 (named_count c kind)
+  Ok (kind, number)
+
+-- the name itself
+unfoldable pub text_at : Row → Result (List ℕ) ℕ
+text_at row = if is_name_text (field_of row 3) then (unused_from row 4 >>= λ _. Ok (field_of row 3)) else Err 4
+
+-- what a cap is for, and its first round
+unfoldable pub capped_at : ℕ → Counts → Row → Result (Part × ℕ) ℕ
+capped_at rounds c row = do
+  kind ← formed (part_kind_of (field_of row 1)) 1
+  number ← below_at row 2 (part_count c kind)
+  first ← within_at row 3 1 rounds
+  Ok (part_of kind number, first)
+
+-- a cap's last round, and how many are taken
+unfoldable pub most_at : ℕ → ℕ → Row → Result (ℕ × ℕ) ℕ
+most_at rounds first row = do
+  last ← within_at row 4 first rounds
+  most ← number_at row 5 65535
+  _ ← unused_from row 6
+  Ok (last, most)
+
+unfoldable pub request_at : Row → Result Request ℕ
+request_at row = do
+  driver ← number_at row 1 255
+  device ← number_at row 2 most_number
+  priority ← number_at row 3 most_number
+  arrival ← number_at row 4 most_number
+  last ← optional_at row 5 most_number
+  sent ← number_at row 6 most_number
+  _ ← unused_from row 7
+  Ok (record { driver = driver; device = device; priority = priority; arrival = arrival; last = last; sent = sent })
+
+-- the device that a record spells
+abbrev pub device_of : DeviceRow → Device
+device_of d = record { bus = d.bus; target = d.target; lun = d.lun; openings = d.openings }
+
+-- the same with a bus of at most 255
+abbrev pub clamped : DeviceRow → Device
+clamped d = record { bus = min d.bus 255; target = d.target; lun = d.lun; openings = d.openings }

@@ -1,0 +1,57 @@
+//! Recordings as text: what some scheduler did with requests. What is read is spelled so, and what is spelled so is read;
+//! and recordings are written.
+#![tactic(auto)]
+
+pub use cap::Cap;
+pub use cause::Cause;
+pub use maxima::{MOST_RECORDED_ROUNDS, MOST_RECORDING_BYTES, MOST_REQUESTS};
+pub use name::{Name, NameKind};
+pub use part::{Part, PartKind};
+pub use reading::{one_recording, read_recording};
+pub use recorder::Recorder;
+pub use recording::Recording;
+pub use recording_fault::RecordingFault;
+pub use recording_text::write_recording;
+pub use request::Request;
+pub use request_error::RequestError;
+pub use span::{Span, TimeUnit};
+pub use write_fault::WriteFault;
+
+mod cap;
+mod cause;
+mod counts;
+mod device_row;
+mod fields;
+mod header;
+mod maxima;
+mod name;
+mod named_rows;
+mod next_item;
+mod part;
+mod places;
+mod placing;
+mod reading;
+mod recorder;
+mod recording;
+mod recording_fault;
+mod recording_stage;
+mod recording_text;
+mod records;
+mod request;
+mod request_error;
+mod request_rules;
+mod room;
+mod row_writer;
+mod rows;
+mod said;
+mod saying;
+mod span;
+mod stage;
+mod stage_items;
+mod start;
+mod stepping;
+mod taking;
+mod whole;
+mod word;
+mod write_fault;
+mod writing;

@@ -1,0 +1,98 @@
+//! One step of reading a recording.
+
+ghost use Rattle.std.specs.Prelude.{◌≡◌, ◌≢◌, length, Err, IfOk};
+ghost use Rattle.csv.specs.Records.{fields_of};
+ghost use Rattle.recording_file.specs.Reading.{add_row, row_step};
+ghost use Rattle.recording_file.specs.Saying.{IsAt, ready_for};
+ghost use Rattle.recording_file.specs.Sound.{IsSound};
+
+use crate::header::is_header;
+use crate::recording_fault::RecordingFault;
+use crate::recording_stage::RecordingStage;
+use crate::stage::Stage;
+use crate::word::Word;
+use csv::ByteRecord;
+use std::alloc::Global;
+
+impl RecordingStage {
+    // A record of this word, or its fault.
+    fn take_word(
+        self,
+        alloc: Global,
+        number: u32,
+        word: Word,
+        row: &ByteRecord,
+    ) -> Result<RecordingStage, RecordingFault>
+        requires sound { IsSound self }
+        requires at { IsAt self word }
+        requires eight { length (fields_of row.now) ≡ 8 }
+        ensures value { result ≢ Err RecordingFault.OutOfMemory → result ≡ add_row number self word (fields_of row.now) }
+        ensures sound { IfOk result (λ s. IsSound s) }
+    {
+        match self.said(alloc, number, word, row) {
+            Ok(said) => self.add_said(alloc, number, said),
+            Err(fault) => Err(fault),
+        }
+    }
+
+    // The stage at which a record of this word is taken.
+    fn ready_for(self, alloc: Global, word: Word) -> RecordingStage
+        requires { IsSound self }
+        ensures value { result ≡ ready_for self word }
+        ensures sound { IsSound result }
+    {
+        if word.rank() < 6 {
+            self
+        } else {
+            self.booked(alloc)
+        }
+    }
+
+    /// A record behind the header, or its fault.
+    #[tactic(auto, unfolding(crate::specs::Reading::row_step))]
+    pub(crate) fn take_row(
+        self,
+        alloc: Global,
+        number: u32,
+        row: &ByteRecord,
+    ) -> Result<RecordingStage, RecordingFault>
+        requires { IsSound self }
+        ensures value { result ≢ Err RecordingFault.OutOfMemory → result ≡ row_step number self (fields_of row.now) }
+        ensures sound { IfOk result (λ s. IsSound s) }
+    {
+        match self.placed(row) {
+            Some(word) => self
+                .ready_for(alloc, word)
+                .take_word(alloc, number, word, row),
+            None => Err(RecordingFault::BadRecord(number)),
+        }
+    }
+}
+
+impl Stage for RecordingStage {
+    ghost use Rattle.recording_file.specs.Reading.{step};
+    ghost use Rattle.recording_file.specs.Sound.{IsSound};
+
+    ghost step = { step };
+
+    ghost is_sound = { IsSound };
+
+    #[tactic(auto, using(crate::proofs::StageLemmas::step_behind), unfolding(crate::specs::Reading::step, crate::specs::Sound::IsSound))]
+    fn take(
+        self,
+        alloc: Global,
+        number: u32,
+        row: &ByteRecord,
+    ) -> Result<RecordingStage, RecordingFault> {
+        match self {
+            RecordingStage::Header => {
+                if is_header(b"camrecord1", row) {
+                    Ok(RecordingStage::First)
+                } else {
+                    Err(RecordingFault::BadHeader)
+                }
+            }
+            stage => stage.take_row(alloc, number, row),
+        }
+    }
+}

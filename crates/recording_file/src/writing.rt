@@ -1,0 +1,285 @@
+//! Writes the records of a recording.
+
+ghost use Rattle.std.specs.Prelude.{◌≡◌, ◌≤◌, ◌∷◌, ◌++◌, [], codes, decimal, map, IfSome, OnOk};
+ghost use Rattle.std.specs.List.{AllByRecursion};
+ghost use Rattle.cam_types.specs.declared.device.Device.{Device};
+ghost use Rattle.recording_file.specs.Names.{Label};
+ghost use Rattle.recording_file.specs.Recorded.{Request, Span};
+ghost use Rattle.recording_file.specs.Records.{padded, unit_rows, unit_row, weight_row, link_row, adapter_row, device_row, name_row, cap_row, request_row, optional_text};
+ghost use Rattle.recording_file.specs.Words.{time_text, named_text, part_text};
+ghost use Rattle.recording_file.specs.Writing.{IsBetween, Wrote};
+
+use crate::cap::Cap;
+use crate::name::{Name, NameKind};
+use crate::part::PartKind;
+use crate::request::Request;
+use crate::row_writer::{write_one, write_row, write_two};
+use crate::span::{Span, TimeUnit};
+use cam_types::{Adapter, Device, WeightRow};
+use csv::Writer;
+use itoa::Buffer;
+use std::alloc::AllocError;
+use std::io::Write;
+
+/// Writes how long a round is, if that is said.
+pub(crate) fn write_unit<W: Write + Drop>(
+    writer: &mut Writer<W>,
+    unit: Option<Span>,
+) -> Result<(), AllocError>
+    requires { IsBetween writer.old }
+    ensures rows { OnOk result (Wrote W.contents writer.old writer.new (unit_rows unit)) }
+    ensures fits { IfSome unit (λ (u : Span). u.count ≤ 4294967295) }
+{
+    match unit {
+        Some(unit) => write_span(writer, unit),
+        None => Ok(()),
+    }
+}
+
+fn write_span<W: Write + Drop>(writer: &mut Writer<W>, unit: Span) -> Result<(), AllocError>
+    requires { IsBetween writer.old }
+    ensures rows { OnOk result (Wrote W.contents writer.old writer.new (unit_row unit ∷ [])) }
+    ensures fits { unit.count ≤ 4294967295 }
+{
+    let mut digits = Buffer::new();
+    let count = digits.format(unit.count).as_bytes();
+    let word = time_text(unit.unit);
+    write_row(writer, &[b"unit", count, word, b"", b"", b"", b"", b""])
+}
+
+fn time_text(unit: TimeUnit) -> &'static [u8]
+    ensures { result.now ≡ time_text unit }
+{
+    match unit {
+        TimeUnit::Nanosecond => b"ns",
+        TimeUnit::Microsecond => b"us",
+        TimeUnit::Millisecond => b"ms",
+        TimeUnit::Second => b"s",
+    }
+}
+
+/// Writes a record for each row of the table of weights.
+pub(crate) fn write_weights<W: Write + Drop>(
+    writer: &mut Writer<W>,
+    weights: &[WeightRow],
+) -> Result<(), AllocError>
+    requires { IsBetween writer.old }
+    ensures { OnOk result (Wrote W.contents writer.old writer.new (map weight_row weights.now)) }
+{
+    for row in weights {
+        write_two(writer, b"weight", row.last, row.weight)?;
+    }
+    Ok(())
+}
+
+/// Writes a record for each link.
+pub(crate) fn write_links<W: Write + Drop>(
+    writer: &mut Writer<W>,
+    links: &[u32],
+) -> Result<(), AllocError>
+    requires { IsBetween writer.old }
+    ensures { OnOk result (Wrote W.contents writer.old writer.new (map link_row links.now)) }
+{
+    for openings in links {
+        write_one(writer, b"link", *openings)?;
+    }
+    Ok(())
+}
+
+/// Writes a record for each adapter.
+pub(crate) fn write_adapters<W: Write + Drop>(
+    writer: &mut Writer<W>,
+    adapters: &[Adapter],
+) -> Result<(), AllocError>
+    requires { IsBetween writer.old }
+    ensures { OnOk result (Wrote W.contents writer.old writer.new (map adapter_row adapters.now)) }
+{
+    for adapter in adapters {
+        write_adapter(writer, *adapter)?;
+    }
+    Ok(())
+}
+
+fn write_adapter<W: Write + Drop>(
+    writer: &mut Writer<W>,
+    adapter: Adapter,
+) -> Result<(), AllocError>
+    requires { IsBetween writer.old }
+    ensures { OnOk result (Wrote W.contents writer.old writer.new (adapter_row adapter ∷ [])) }
+{
+    match adapter.link {
+        None => write_one(writer, b"sim", adapter.openings),
+        Some(link) => write_two(writer, b"sim", adapter.openings, link),
+    }
+}
+
+/// Writes a record for each device.
+pub(crate) fn write_devices<W: Write + Drop>(
+    writer: &mut Writer<W>,
+    devices: &[Device],
+) -> Result<(), AllocError>
+    requires { IsBetween writer.old }
+    ensures rows { OnOk result (Wrote W.contents writer.old writer.new (map device_row devices.now)) }
+    ensures fits { OnOk result (AllByRecursion (λ (d : Device). d.target ≤ 65535) devices.now) }
+{
+    for device in devices {
+        write_device(writer, *device)?;
+    }
+    Ok(())
+}
+
+fn write_device<W: Write + Drop>(writer: &mut Writer<W>, device: Device) -> Result<(), AllocError>
+    requires { IsBetween writer.old }
+    ensures rows { OnOk result (Wrote W.contents writer.old writer.new (device_row device ∷ [])) }
+    ensures fits { device.target ≤ 65535 }
+{
+    let mut bus = Buffer::new();
+    let mut target = Buffer::new();
+    let mut lun = Buffer::new();
+    let mut openings = Buffer::new();
+    let bus = bus.format(device.bus).as_bytes();
+    let target = target.format(device.target).as_bytes();
+    let lun = lun.format(device.lun).as_bytes();
+    let openings = openings.format(device.openings).as_bytes();
+    write_row(writer, &[b"dev", bus, target, lun, openings, b"", b"", b""])
+}
+
+/// Writes a record for each name.
+pub(crate) fn write_names<W: Write + Drop>(
+    writer: &mut Writer<W>,
+    names: &[Name],
+) -> Result<(), AllocError>
+    requires { IsBetween writer.old }
+    ensures { OnOk result (Wrote W.contents writer.old writer.new (map name_row names.now)) }
+{
+    for name in names {
+        write_name(writer, name)?;
+    }
+    Ok(())
+}
+
+fn write_name<W: Write + Drop>(writer: &mut Writer<W>, name: &Name) -> Result<(), AllocError>
+    requires { IsBetween writer.old }
+    ensures { OnOk result (Wrote W.contents writer.old writer.new (name_row name.now ∷ [])) }
+{
+    let kind = named_text(name.kind());
+    write_named(writer, kind, name.number(), name.text().as_bytes())
+}
+
+fn write_named<'a, W: Write + Drop>(
+    writer: &mut Writer<W>,
+    kind: &'a [u8],
+    number: u32,
+    text: &'a [u8],
+) -> Result<(), AllocError>
+    requires { IsBetween writer.old }
+    ensures { OnOk result (Wrote W.contents writer.old writer.new (padded (codes "name" ∷ kind.now ∷ decimal number ∷ text.now ∷ []) ∷ [])) }
+{
+    let mut digits = Buffer::new();
+    let number = digits.format(number).as_bytes();
+    write_row(writer, &[b"name", kind, number, text, b"", b"", b"", b""])
+}
+
+fn named_text(kind: NameKind) -> &'static [u8]
+    ensures { result.now ≡ named_text kind }
+{
+    match kind {
+        NameKind::Driver => b"driver",
+        NameKind::Device => b"dev",
+        NameKind::Adapter => b"sim",
+        NameKind::Link => b"link",
+    }
+}
+
+/// Writes a record for each cap.
+pub(crate) fn write_caps<W: Write + Drop>(
+    writer: &mut Writer<W>,
+    caps: &[Cap],
+) -> Result<(), AllocError>
+    requires { IsBetween writer.old }
+    ensures { OnOk result (Wrote W.contents writer.old writer.new (map cap_row caps.now)) }
+{
+    for cap in caps {
+        write_cap(writer, *cap)?;
+    }
+    Ok(())
+}
+
+fn write_cap<W: Write + Drop>(writer: &mut Writer<W>, cap: Cap) -> Result<(), AllocError>
+    requires { IsBetween writer.old }
+    ensures { OnOk result (Wrote W.contents writer.old writer.new (cap_row cap ∷ [])) }
+{
+    let mut number = Buffer::new();
+    let mut first = Buffer::new();
+    let mut last = Buffer::new();
+    let mut most = Buffer::new();
+    let kind = part_text(cap.part.kind);
+    let number = number.format(cap.part.number).as_bytes();
+    let first = first.format(cap.first).as_bytes();
+    let last = last.format(cap.last).as_bytes();
+    let most = most.format(cap.most).as_bytes();
+    write_row(writer, &[b"cap", kind, number, first, last, most, b"", b""])
+}
+
+fn part_text(kind: PartKind) -> &'static [u8]
+    ensures { result.now ≡ part_text kind }
+{
+    match kind {
+        PartKind::Device => b"dev",
+        PartKind::Adapter => b"sim",
+        PartKind::Link => b"link",
+    }
+}
+
+/// Writes a record for each request.
+pub(crate) fn write_requests<W: Write + Drop>(
+    writer: &mut Writer<W>,
+    requests: &[Request],
+) -> Result<(), AllocError>
+    requires { IsBetween writer.old }
+    ensures rows { OnOk result (Wrote W.contents writer.old writer.new (map request_row requests.now)) }
+    ensures fits { OnOk result (AllByRecursion (λ (q : Request). q.driver ≤ 255) requests.now) }
+{
+    for request in requests {
+        write_request(writer, *request)?;
+    }
+    Ok(())
+}
+
+fn write_request<W: Write + Drop>(
+    writer: &mut Writer<W>,
+    request: Request,
+) -> Result<(), AllocError>
+    requires { IsBetween writer.old }
+    ensures rows { OnOk result (Wrote W.contents writer.old writer.new (request_row request ∷ [])) }
+    ensures fits { request.driver ≤ 255 }
+{
+    let mut driver = Buffer::new();
+    let mut device = Buffer::new();
+    let mut priority = Buffer::new();
+    let mut arrival = Buffer::new();
+    let mut last = Buffer::new();
+    let mut sent = Buffer::new();
+    let driver = driver.format(request.driver).as_bytes();
+    let device = device.format(request.device).as_bytes();
+    let priority = priority.format(request.priority).as_bytes();
+    let arrival = arrival.format(request.arrival).as_bytes();
+    let last = optional_text(&mut last, request.last);
+    let sent = sent.format(request.sent).as_bytes();
+    write_row(
+        writer,
+        &[
+            b"request", driver, device, priority, arrival, last, sent, b"",
+        ],
+    )
+}
+
+// A number in decimal, or no byte.
+fn optional_text(digits: &mut Buffer, number: Option<u32>) -> &[u8]
+    ensures { result.now ≡ optional_text number }
+{
+    match number {
+        Some(number) => digits.format(number).as_bytes(),
+        None => b"",
+    }
+}

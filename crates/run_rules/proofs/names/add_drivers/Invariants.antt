@@ -1,6 +1,0 @@
-use Rattle.std.proofs.Common.{◌≡◌}
-use Rattle.run_rules.specs.LiveRuns.{drivers}
-use Rattle.run_rules.proofs.names.add_drivers.Given as goal
-
-abbrev pub invariant-loop-driver : goal.invariant-loop-driver
-invariant-loop-driver l = l.names.items ≡ drivers l.script l.driver

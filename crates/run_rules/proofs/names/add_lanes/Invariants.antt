@@ -1,6 +1,0 @@
-use Rattle.std.proofs.Common.{◌≡◌, ◌++◌}
-use Rattle.run_rules.specs.LiveRuns.{lanes}
-use Rattle.run_rules.proofs.names.add_lanes.Given as goal
-
-abbrev pub invariant-loop-lane : goal.invariant-loop-lane
-invariant-loop-lane l = l.names.items ≡ l.fn.names.items ++ lanes l.lane

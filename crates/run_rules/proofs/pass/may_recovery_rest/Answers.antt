@@ -1,9 +1,0 @@
-use Rattle.std.proofs.Common.{◌∙◌, sym, Some, None, refl}
-use Rattle.run_rules.proofs.RestLemmas.{rests_held_up}
-use Rattle.run_rules.proofs.pass.may_recovery_rest.Goals as goal
-
-pub returns-in-Some : goal.returns-in-Some
-returns-in-Some c = λ is s of. rests_held_up s c.args.xpt.now (Some c.in-Some.case) of (sym c.next_case.ensures ∙ c.in-Some.is) (sym c.is_held_up.ensures ∙ is)
-
-pub returns-in-None : goal.returns-in-None
-returns-in-None c = λ is s of. rests_held_up s c.args.xpt.now None of (sym c.next_case.ensures ∙ c.in-None.is) refl

@@ -1,6 +1,0 @@
-use Rattle.std.proofs.Common.{◌∙◌, sym}
-use Rattle.xpt_lock.proofs.SameLemmas.{same_event}
-use Rattle.run_rules.proofs.same.are_same.Goals as goal
-
-pub returns : goal.returns
-returns c = λ e. same_event _ _ (sym c.eq.ensures ∙ e)

@@ -1,7 +1,0 @@
-use Rattle.std.proofs.Common.{sym, ap, ◌∙◌, length}
-use Rattle.run_rules.specs.Ports.{answer_at, PortState}
-use Rattle.run_rules.proofs.PortLemmas.{port-push}
-use Rattle.run_rules.proofs.script_port.ScriptPort.keep.Goals as goal
-
-pub invariant_of-self : goal.invariant_of-self
-invariant_of-self c = rw (c.in-Ok.ensures.items) (port-push c.self.inside.answers.items c.self.inside.served.items c.args.served (c.requires.next ∙ sym (ap (λ (v : PortState). answer_at v.answers (length v.served)) c.self.view_is)) c.self.invariant)

@@ -1,0 +1,2 @@
+pub mod Sense
+pub mod Classes

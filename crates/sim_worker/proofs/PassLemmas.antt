@@ -1,0 +1,106 @@
+-- the drivers of a run behind one event more
+use Rattle.std.proofs.Common.{◌≡◌, ℕ, zero, suc, ◌+◌, ◌<◌, ◌≤◌, true, false, List, [], ◌∷◌, ◌++◌, length, set, get_or, replicate, refl, sym, ap, ◌∙◌, subst, arith, Some, inl, inr}
+use Rattle.std.specs.Prelude.{take, slice_get, All}
+use Rattle.std.proofs.lemmas.List.Elements.{All-head, All-tail}
+use Rattle.std.specs.List.{list_all}
+use Rattle.std.proofs.lemmas.Bool.{and_from}
+use Rattle.std.proofs.lemmas.List.Folds.{list_all-append}
+use Rattle.cam_types.proofs.ListLemmas.{moments-push}
+use Rattle.cam_types.specs.Bounds.{Bounds}
+use Rattle.cam_types.specs.Lists.{moments}
+use Rattle.cam_types.specs.Topology.{Topology}
+use Rattle.event_rules.specs.Event.{is_tick}
+use Rattle.event_rules.specs.declared.event.Event.{Event}
+use Rattle.event_rules.specs.declared.event.Event.TheVariants.{Tick}
+use Rattle.trace_file.specs.Scenarios.{Scenario}
+use Rattle.xpt_core.specs.Transport.{Transport}
+use Rattle.xpt_lock.specs.Receipts.{AreInterleaved, is_rising}
+use Rattle.xpt_lock.specs.Seats.{Held}
+use Rattle.xpt_lock.specs.declared.receipt.Receipt.{Receipt}
+use Rattle.xpt_lock.specs.declared.seat.SeatName.TheVariants.{Driver}
+use Rattle.xpt_core.specs.Takes.{IsTaken}
+use Rattle.sim_worker.specs.LiveRuns.{IsLiveEnding, rows}
+use Rattle.sim_worker.specs.declared.ending.Ending.{Ending}
+use Rattle.sim_worker.proofs.WalkLemmas.{on_start}
+use Rattle.sim_worker.specs.Runs.{is_in_time, are_ticks_in_time, may_tick}
+use Rattle.sim_worker.specs.Walks.{AreOn, AreRising, IsFollowed, IsOf, IsOn}
+use Rattle.sim_worker.specs.declared.walk.Walk.{Walk}
+use Rattle.sim_worker.proofs.RunListFacts.{some_is, take_one, get_is, less_or_not, get_in_set, get_there, set_beside, there_is}
+
+-- one driver more is behind the event
+pub one_more_behind : (s : Scenario) (logs : List Held) (after : List Event) (walks : List Walk) (i : ℕ) (log : Held) (new : Walk) → i < length logs → log ≡ get_or logs i log →
+    ((d : ℕ) → log.name ≡ Driver d → IsOn s (rows s d) log.receipts after new) →
+    ((k d : ℕ) (h : Held) (w : Walk) → k < i → slice_get logs k ≡ Some h → slice_get walks k ≡ Some w → h.name ≡ Driver d → IsOn s (rows s d) h.receipts after w) →
+    (k d : ℕ) (h : Held) (w : Walk) → k < i + 1 → slice_get logs k ≡ Some h → slice_get (set walks i new) k ≡ Some w → h.name ≡ Driver d → IsOn s (rows s d) h.receipts after w
+one_more_behind s logs after walks i log new lt is one others k d h w less at there name = elim (get_in_set walks i k new w there) [
+  | inl same ↦
+      let its : log ≡ h = some_is log h (sym (get_is logs i log lt is) ∙ ap (slice_get logs) (sym same.0) ∙ at) in
+      subst (λ x. IsOn s (rows s d) x.receipts after w) its (subst (λ x. IsOn s (rows s d) log.receipts after x) (sym same.1) (one d (ap (λ (x : Held). x.name) its ∙ name)))
+  | inr other ↦ others k d h w (elim (less_or_not k i) [ inl ok ↦ ok | inr ge ↦ absurd (other.0 (omega arith)) ]) at other.1 name
+]
+
+pub still_ahead : (walks old : List Walk) (i : ℕ) (new : Walk) → ((k : ℕ) → i ≤ k → slice_get walks k ≡ slice_get old k) → (k : ℕ) → i + 1 ≤ k → slice_get (set walks i new) k ≡ slice_get old k
+still_ahead walks old i new h k le = set_beside walks i k new (λ e. omega arith) ∙ h k (omega arith)
+
+pub in_time : (c : Topology) (limits : Bounds) (before : List Event) (e : Event) → (is_tick e ≡ true → may_tick c limits before ≡ true) → is_in_time c limits (before, e) ≡ true
+in_time c limits before Tick h = h refl
+in_time c limits before _ h = refl
+
+pub ticks-push : (c : Topology) (limits : Bounds) (es : List Event) (e : Event) → is_in_time c limits (es, e) ≡ true → are_ticks_in_time c limits es ≡ true → are_ticks_in_time c limits (es ++ e ∷ []) ≡ true
+ticks-push c limits es e here h = ap (list_all (is_in_time c limits)) (moments-push es e) ∙ list_all-append (is_in_time c limits) (moments es) ((es, e) ∷ []) ∙ and_from _ _ h (and_from _ _ here refl)
+
+pub still_of : (s : Scenario) (t new : Transport) (e : Event) → IsTaken t e new → IsOf s t → IsOf s new
+still_of s t new e made of = subst (IsOf s) (sym made.1) of
+
+pub one_event_more : (es : List Event) (i : ℕ) (e : Event) → i < length es → e ≡ get_or es i e → take (i + 1) es ≡ take i es ++ e ∷ []
+one_event_more es i e lt is = (take_one es i e (get_is es i e lt is)).1
+
+-- what holds of each driver's log before a place, and of the log there, holds of each before the next
+pub each_more : (P : ℕ → Held → Type 0) (logs : List Held) (i : ℕ) (log : Held) → i < length logs → log ≡ get_or logs i log → ((d : ℕ) → log.name ≡ Driver d → P d log) →
+    ((k d : ℕ) (h : Held) → k < i → slice_get logs k ≡ Some h → h.name ≡ Driver d → P d h) → (k d : ℕ) (h : Held) → k < i + 1 → slice_get logs k ≡ Some h → h.name ≡ Driver d → P d h
+each_more P logs i log lt is one others k d h less at name = elim (less_or_not k i) [
+  | inl before ↦ others k d h before at name
+  | inr rest ↦
+      let same : k ≡ i = omega arith in
+      let its : log ≡ h = some_is log h (sym (get_is logs i log lt is) ∙ ap (slice_get logs) (sym same) ∙ at) in
+      subst (P d) its (one d (ap (λ (x : Held). x.name) its ∙ name))
+]
+
+-- the same of any logs
+pub log_more : (P : Held → Type 0) (logs : List Held) (i : ℕ) (log : Held) → i < length logs → log ≡ get_or logs i log → P log → ((k : ℕ) (h : Held) → k < i → slice_get logs k ≡ Some h → P h) →
+    (k : ℕ) (h : Held) → k < i + 1 → slice_get logs k ≡ Some h → P h
+log_more P logs i log lt is one others k h less at = elim (less_or_not k i) [
+  | inl before ↦ others k h before at
+  | inr rest ↦ let same : k ≡ i = omega arith in subst P (some_is log h (sym (get_is logs i log lt is) ∙ ap (slice_get logs) (sym same) ∙ at)) one
+]
+
+-- ---- a whole run
+
+one_of_many : {X : Type 0} → (n i : ℕ) (x w : X) → slice_get (replicate n x) i ≡ Some w → x ≡ w
+one_of_many zero i x w h = absurd (cc)
+one_of_many (suc n) zero x w h = some_is x w h
+one_of_many (suc n) (suc i) x w h = one_of_many n i x w h
+
+pub start_on : (s : Scenario) (logs : List Held) (walks : List Walk) (n : ℕ) → walks ≡ replicate n (record { row = 0; made = 0; refused = false }) → AreOn s logs [] walks
+start_on s logs walks n is i d h w at there name =
+    let first = one_of_many n i (record { row = 0; made = 0; refused = false }) w (ap (λ (ws : List Walk). slice_get ws i) (sym is) ∙ there) in
+    subst (IsOn s (rows s d) h.receipts []) first (on_start s (rows s d) h.receipts)
+
+pub followed : (s : Scenario) (events : List Event) (logs : List Held) (walks : List Walk) (t : Transport) (said : Ending) → length walks ≡ length logs →
+    IsOf s t × (t.events ≡ events) × AreOn s logs events walks × (are_ticks_in_time s.config s.limits events ≡ true) → IsLiveEnding s t.events logs said → IsFollowed s events logs said
+followed s events logs walks t said same passed over = record {
+  drivers = λ i h at d name.
+      let walk = get_there walks i (omega (arith, there_is logs i h at, same)) in
+      (passed.2 i d h walk.0 at walk.1 name).log;
+  ticks = passed.3;
+  over = subst (λ es. IsLiveEnding s es logs said) passed.1 over;
+}
+
+all_held : {X : Type 0} → (P : X → Type 0) (xs : List X) (i : ℕ) (x : X) → All P xs → slice_get xs i ≡ Some x → P x
+all_held P [] i x h at = absurd (cc)
+all_held P (y ∷ ys) zero x h at = subst P (some_is y x at) (All-head P y ys h)
+all_held P (y ∷ ys) (suc i) x h at = all_held P ys i x (All-tail P y ys h) at
+
+-- the places of consistent logs rise
+pub logs_rise : (due : List Receipt) (logs : List Held) → AreInterleaved due logs → AreRising logs
+logs_rise due logs h i log at = all_held (λ (x : Held). is_rising x.receipts ≡ true) logs i log h.consistent.rise at

@@ -1,0 +1,14 @@
+use Rattle.std.proofs.Common.{arith}
+use Rattle.sim_worker.specs.LiveRuns.{rows}
+use Rattle.sim_worker.specs.Logs.{HasDoneAll}
+use Rattle.sim_worker.proofs.RunListFacts.{get_is, there_is}
+use Rattle.sim_worker.proofs.PassLemmas.{each_more}
+use Rattle.sim_worker.proofs.endings.are_done.Goals as goal
+
+pub loop-i-preserved : goal.loop-i-preserved
+loop-i-preserved c = λ of on. each_more (λ d h. HasDoneAll (rows c.args.script.now d) h.receipts c.args.xpt.now.events) c.args.logs.now c.loop-i.i c.index-logs-i.result c.loop-i-test.true c.index-logs-i.is
+    (λ d name. c.is_done.ensures c.if-not-is_done.false d name of (on c.loop-i.i d c.index-logs-i.result c.walk_at.result (get_is c.args.logs.now c.loop-i.i c.index-logs-i.result c.loop-i-test.true c.index-logs-i.is) c.walk_at.ensures name))
+    (c.loop-i.invariant of on)
+
+pub returns : goal.returns
+returns c = λ _ of on i h at d name. c.loop-i.invariant of on i d h (omega (arith, there_is c.args.logs.now i h at, c.loop-i-test.false)) at name

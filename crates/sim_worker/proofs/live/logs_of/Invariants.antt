@@ -1,0 +1,6 @@
+use Rattle.std.proofs.Common.{◌≡◌}
+use Rattle.std.specs.Prelude.{take}
+use Rattle.sim_worker.proofs.live.logs_of.Given as goal
+
+abbrev pub invariant-loop-seat : goal.invariant-loop-seat
+invariant-loop-seat g l = l.logs.items ≡ take l.seat-index l.seats

@@ -1,0 +1,32 @@
+use Rattle.std.proofs.Common.{◌≡◌, ◌∙◌, ◌++◌, ◌∷◌, [], List, Option, None, Some, length, ap, true, false, Bool}
+use Rattle.std.specs.Prelude.{IfSome, slice_get}
+use Rattle.event_rules.specs.Event.{is_tick}
+use Rattle.event_rules.specs.declared.event.Event.{Event}
+use Rattle.trace_file.specs.Scenarios.{Scenario}
+use Rattle.trace_file.specs.declared.step.Step.{Step}
+use Rattle.xpt_lock.specs.declared.receipt.Receipt.{Receipt}
+use Rattle.sim_worker.specs.Logs.{IsDriverLog, FollowsRows, LetsRest}
+use Rattle.sim_worker.specs.Walks.{IsOn, IsWalk}
+use Rattle.sim_worker.specs.declared.walk.Walk.{Walk}
+use Rattle.sim_worker.proofs.WalkLemmas.{on_later}
+use Rattle.sim_worker.proofs.walk.Walk.behind.Goals.{else-is_tick-via-then-is_tick+else-not-rests, else-is_tick-via-else-is_tick}
+use Rattle.sim_worker.proofs.walk.Walk.behind.Goals as goal
+
+no : (b : Bool) → b ≡ false → b ≡ true → ⊥
+no true h k = cc
+no false h k = cc
+
+on_with : (s : Scenario) (steps : List Step) (log : List Receipt) (before : List Event) (e : Event) (here : Walk) (o : Option Walk) → IsDriverLog s steps log before → IsWalk s steps log before here → (is_tick e ≡ true → LetsRest s before (slice_get steps here.row)) →
+    IfSome o (λ w. IsWalk s steps log (before ++ e ∷ []) w × FollowsRows steps log (before ++ e ∷ [])) → IfSome o (λ w. IsOn s steps log (before ++ e ∷ []) w)
+on_with s steps log before e here None h w rests with = tt
+on_with s steps log before e here (Some x) h w rests with = record { log = on_later s steps log before e here h w rests with.1; walk = with.0 }
+
+pub returns : goal.returns
+returns c = λ s of rising h.
+    let here = c.settled-here.ensures s c.args.log.now of h.walk in
+    on_with s c.args.rows.now c.args.log.now c.args.xpt.now.events c.args.event.now c.settled-here.result c.with.result h.log here
+    (λ tick. elim c.else-is_tick.branch [
+      | else-is_tick-via-then-is_tick+else-not-rests w ↦ w.rests.ensures w.if-not-rests.false s c.args.log.now here
+      | else-is_tick-via-else-is_tick w ↦ absurd (no c.is_tick.result w.if-is_tick.false (c.is_tick.ensures ∙ tick))
+    ])
+    (c.with.ensures s c.args.xpt.now.events (ap length c.events.ensures.same) rising here h.log.follows)

@@ -1,0 +1,28 @@
+-- what each ending of a run says of its events
+use Rattle.std.specs.Prelude.{◌≡◌, ℕ, true, false, List, [], length, get_or}
+use Rattle.std.specs.List.{list_all, list_any}
+use Rattle.event_rules.specs.Counts.{round, ccbs, has_in_flight, is_recovering}
+use Rattle.event_rules.specs.Stays.{waiting}
+use Rattle.event_rules.specs.declared.event.Event.{Event}
+use Rattle.trace_file.specs.Scenarios.{Scenario}
+use Rattle.sim_worker.specs.Runs.{submits, submits_asked, is_over, may_tick}
+use Rattle.sim_worker.specs.declared.ending.Ending.{Ending}
+use Rattle.sim_worker.specs.declared.ending.Ending.TheVariants.{Drained, RoundsFull, HistoryFull}
+
+-- Nothing is left to do behind the drivers' rows: each stay was sent, and no CCB is in flight or waits for a decision.
+pub record IsQuiet (events : List Event) : Type 0 where
+  pub sent : waiting events ≡ []
+  pub landed : has_in_flight events ≡ false
+  pub decided : list_any (is_recovering events) (ccbs events) ≡ false
+
+-- Each row of a driver is done: each submit was made, and each pause is over. Nothing is left.
+pub record IsDrained (s : Scenario) (events : List Event) : Type 0 where
+  pub submits : (d : ℕ) → submits d events ≡ submits_asked (get_or s.drivers d [])
+  pub pauses : (d : ℕ) → list_all (is_over (round events)) (get_or s.drivers d []) ≡ true
+  pub quiet : IsQuiet events
+
+-- The rounds are as many as may be, and one more would open now; or the events are as many as may be.
+abbrev pub IsEnding : Scenario → List Event → Ending → Type 0
+IsEnding s events Drained = IsDrained s events
+IsEnding s events RoundsFull = (round events ≡ s.limits.rounds) × (may_tick s.config s.limits events ≡ true)
+IsEnding s events HistoryFull = length events ≡ s.limits.events

@@ -1,0 +1,119 @@
+-- what the logs of a run on many threads say of what each actor did
+use Rattle.std.specs.Prelude.{◌≡◌, ℕ, ◌<◌, ◌≤◌, Bool, true, false, nat_lt, List, [], ◌∷◌, ◌++◌, length, take, map, filter, slice_get, Option, Some, None}
+use Rattle.std.specs.List.{list_all, filter_map, flat_map}
+use Rattle.event_rules.specs.Event.{is_tick}
+use Rattle.event_rules.specs.Counts.{round}
+use Rattle.event_rules.specs.declared.event.Event.{Event}
+use Rattle.event_rules.specs.declared.event.Event.TheVariants.{Send, Done, Requeue, Finish, Tick}
+use Rattle.event_rules.specs.Legal.{rules_of}
+use Rattle.event_rules.specs.Refusals.{refusal}
+use Rattle.event_rules.specs.declared.refusal.Refusal.{Refusal}
+use Rattle.event_rules.specs.declared.refusal.Refusal.TheVariants.{HistoryFull}
+use Rattle.cam_types.specs.declared.command.Command.{Command}
+use Rattle.trace_file.specs.Scenarios.{Scenario}
+use Rattle.trace_file.specs.declared.step.Step.{Step}
+use Rattle.trace_file.specs.declared.step.Step.TheVariants as step
+use Rattle.xpt_lock.specs.declared.receipt.Receipt.{Receipt}
+use Rattle.xpt_state.specs.declared.reply.Reply.{Reply}
+use Rattle.xpt_state.specs.declared.reply.Reply.TheVariants as replies
+use Rattle.sim_worker.specs.Runs.{IsPrefix, is_over}
+use Rattle.sim_worker.specs.declared.served.Served.{Served}
+
+abbrev pub events_of : List Receipt → List Event
+events_of log = map (λ (r : Receipt). r.event) log
+
+-- ---- drivers
+
+-- the events that rows call for, pauses left out
+abbrev pub act : Step → Option Event
+act (step.Act event) = Some event
+act (step.Pause n) = None
+
+abbrev pub acts : List Step → List Event
+acts steps = filter_map act steps
+
+-- the events of a log that happened before the place
+abbrev pub made_before : ℕ → List Receipt → List Event
+made_before place log = events_of (filter (λ (r : Receipt). nat_lt r.at place) log)
+
+-- A driver stands at this row by a round in which it has made these events: they are those of the rows before it, and each
+-- pause among these is over.
+pub record StandsAt (steps : List Step) (events : List Event) (now row : ℕ) : Type 0 where
+  pub within : row ≤ length steps
+  pub made : events ≡ acts (take row steps)
+  pub over : list_all (is_over now) (take row steps) ≡ true
+
+-- Each event of the log is that of the row at which the driver stands there.
+abbrev pub FollowsRows : List Step → List Receipt → List Event → Type 0
+FollowsRows steps log events = (j : ℕ) (r : Receipt) → slice_get log j ≡ Some r → r.at < length events →
+    (row : ℕ) × StandsAt steps (made_before r.at log) (round (take r.at events)) row × (slice_get steps row ≡ Some (step.Act r.event))
+
+-- the refusal isn't that the history is full
+abbrev pub is_of_rules : Option Refusal → Bool
+is_of_rules None = false
+is_of_rules (Some (HistoryFull n)) = false
+is_of_rules (Some why) = true
+
+-- at some place of this round so far the event was refused
+pub record WasRefused (s : Scenario) (before : List Event) (event : Event) : Type 0 where
+  pub then : List Event
+  pub earlier : IsPrefix then before
+  pub same_round : round then ≡ round before
+  pub refused : is_of_rules (refusal (rules_of s.limits) s.config then event) ≡ true
+
+-- the row lets its driver rest: there is none, it waits for a later round, or its event was refused in this one
+abbrev pub LetsRest : Scenario → List Event → Option Step → Type 0
+LetsRest s before None = Unit {0}
+LetsRest s before (Some (step.Pause n)) = round before < n
+LetsRest s before (Some (step.Act event)) = WasRefused s before event
+
+-- behind these events a driver with these rows rests
+pub record Rests (s : Scenario) (steps : List Step) (log : List Receipt) (before : List Event) : Type 0 where
+  pub row : ℕ
+  pub stands : StandsAt steps (made_before (length before) log) (round before) row
+  pub rests : LetsRest s before (slice_get steps row)
+
+-- the driver has done all of its rows
+abbrev pub HasDoneAll : List Step → List Receipt → List Event → Type 0
+HasDoneAll steps log events = StandsAt steps (events_of log) (round events) (length steps)
+
+-- A driver follows its rows, and rests where a round opens.
+pub record IsDriverLog (s : Scenario) (steps : List Step) (log : List Receipt) (events : List Event) : Type 0 where
+  pub follows : FollowsRows steps log events
+  pub rests : (k : ℕ) → slice_get events k ≡ Some Tick → Rests s steps log (take k events)
+
+-- ---- lanes
+
+-- what a lane does for a command that its port serves: it sends it and completes it with the port's outcome
+abbrev pub calls_for : ℕ → Served → List Event
+calls_for lane one = Send lane one.command.ccb ∷ Done one.command.ccb one.outcome ∷ []
+
+-- the commands that were given for sends
+abbrev pub command_of : Receipt → Option Command
+command_of r = sent_in r.reply
+  where
+    sent_in : Reply → Option Command
+    sent_in (replies.Command c) = Some c
+    sent_in _ = None
+
+-- A lane's log is a send and a completion for each item that its port served, with that command and that outcome; of the
+-- last the completion may lack, where the history is full.
+pub record IsLaneLog (lane : ℕ) (full : Bool) (log : List Receipt) (served : List Served) : Type 0 where
+  pub lacking : List Event
+  pub events : events_of log ++ lacking ≡ flat_map (calls_for lane) served
+  pub few : length lacking ≤ 1
+  pub whole : full ≡ false → lacking ≡ []
+  pub commands : filter_map command_of log ≡ map (λ (one : Served). one.command) served
+
+-- ---- recovery and the round keeper
+
+abbrev pub is_decision : Receipt → Bool
+is_decision r = decides r.event
+  where
+    decides : Event → Bool
+    decides (Requeue ccb) = true
+    decides (Finish ccb) = true
+    decides _ = false
+
+abbrev pub is_opening : Receipt → Bool
+is_opening r = is_tick r.event

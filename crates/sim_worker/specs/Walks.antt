@@ -1,0 +1,72 @@
+-- how far a driver is behind some of a run's events
+use Rattle.std.specs.Prelude.{◌≡◌, ◌↔◌, ℕ, ◌<◌, ◌≤◌, true, List, length, map, slice_get, Some, None}
+use Rattle.std.specs.List.{filter_map, flat_map}
+use Rattle.event_rules.specs.declared.event.Event.TheVariants.{Send, Done}
+use Rattle.sim_worker.specs.declared.served.Served.{Served}
+use Rattle.event_rules.specs.Counts.{round}
+use Rattle.event_rules.specs.declared.event.Event.{Event}
+use Rattle.event_rules.specs.Legal.{rules_of}
+use Rattle.trace_file.specs.Scenarios.{Scenario}
+use Rattle.trace_file.specs.declared.step.Step.{Step}
+use Rattle.trace_file.specs.declared.step.Step.TheVariants.{Act}
+use Rattle.xpt_core.specs.Transport.{Transport}
+use Rattle.xpt_lock.specs.Receipts.{is_rising}
+use Rattle.xpt_lock.specs.Seats.{Held}
+use Rattle.xpt_lock.specs.declared.receipt.Receipt.{Receipt}
+use Rattle.xpt_lock.specs.declared.seat.SeatName.TheVariants.{Driver}
+use Rattle.sim_worker.specs.LiveRuns.{EachDriver, IsLiveEnding, rows}
+use Rattle.sim_worker.specs.Runs.{are_ticks_in_time}
+use Rattle.sim_worker.specs.declared.ending.Ending.{Ending}
+use Rattle.sim_worker.specs.Logs.{StandsAt, IsDriverLog, WasRefused, made_before, events_of, calls_for, command_of}
+use Rattle.sim_worker.specs.declared.walk.Walk.{Walk}
+
+-- the first m receipts are those of before the place
+abbrev pub IsSplit : ℕ → ℕ → List Receipt → Type 0
+IsSplit place m log = (j : ℕ) (r : Receipt) → slice_get log j ≡ Some r → (j < m) ↔ (r.at < place)
+
+-- Behind these events the driver stands at the walk's row, with so many of its log's receipts behind it. If the walk is
+-- marked, the event of its row was refused in this round.
+pub record IsWalk (s : Scenario) (steps : List Step) (log : List Receipt) (before : List Event) (w : Walk) : Type 0 where
+  pub within : w.made ≤ length log
+  pub split : IsSplit (length before) w.made log
+  pub stands : StandsAt steps (made_before (length before) log) (round before) w.row
+  pub refused : w.refused ≡ true → (event : Event) → slice_get steps w.row ≡ Some (Act event) → WasRefused s before event
+
+-- so far the driver followed its rows, and this is how far it is
+pub record IsOn (s : Scenario) (steps : List Step) (receipts : List Receipt) (before : List Event) (w : Walk) : Type 0 where
+  pub log : IsDriverLog s steps receipts before
+  pub walk : IsWalk s steps receipts before w
+
+-- the transport is one of the script's
+abbrev pub IsOf : Scenario → Transport → Type 0
+IsOf s t = (t.config ≡ s.config) × (t.rules ≡ rules_of s.limits)
+
+-- each log that is a driver's is as far as its walk says
+abbrev pub AreOn : Scenario → List Held → List Event → List Walk → Type 0
+AreOn s logs before walks = (i d : ℕ) (h : Held) (w : Walk) → slice_get logs i ≡ Some h → slice_get walks i ≡ Some w → h.name ≡ Driver d → IsOn s (rows s d) h.receipts before w
+
+-- the places of each log rise
+abbrev pub AreRising : List Held → Type 0
+AreRising logs = (i : ℕ) (h : Held) → slice_get logs i ≡ Some h → is_rising h.receipts ≡ true
+
+-- the drivers follow their rows, no round opens before it may, and this is how the run ended
+pub record IsFollowed (s : Scenario) (events : List Event) (logs : List Held) (said : Ending) : Type 0 where
+  pub drivers : EachDriver (λ d h. IsDriverLog s (rows s d) h.receipts events) logs
+  pub ticks : are_ticks_in_time s.config s.limits events ≡ true
+  pub over : IsLiveEnding s events logs said
+
+-- ---- lanes
+
+-- a receipt for the send of the command that was served, and one for its completion with its outcome
+pub record IsSent (lane : ℕ) (r : Receipt) (one : Served) : Type 0 where
+  pub event : r.event ≡ Send lane one.command.ccb
+  pub reply : command_of r ≡ Some one.command
+
+pub record IsDone (r : Receipt) (one : Served) : Type 0 where
+  pub event : r.event ≡ Done one.command.ccb one.outcome
+  pub reply : command_of r ≡ None
+
+-- a send and a completion for each item
+pub record ArePairs (lane : ℕ) (log : List Receipt) (served : List Served) : Type 0 where
+  pub events : events_of log ≡ flat_map (calls_for lane) served
+  pub commands : filter_map command_of log ≡ map (λ (one : Served). one.command) served

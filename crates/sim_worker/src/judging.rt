@@ -1,0 +1,150 @@
+//! Whether a run on many threads is one of its script.
+
+ghost use Rattle.std.specs.Prelude.{◌≡◌, ℕ, IfOk, List, map, get_or, true, []};
+ghost use Rattle.std.specs.List.{list_all};
+ghost use Rattle.xpt_lock.specs.Gathers.{IsPast, due_of};
+ghost use Rattle.xpt_lock.specs.Receipts.{AreInterleaved};
+ghost use Rattle.xpt_lock.specs.Seats.{Held};
+ghost use Rattle.xpt_lock.specs.declared.seat.SeatName.TheVariants as seats;
+ghost use Rattle.event_rules.specs.declared.event.Event.{Event};
+ghost use Rattle.trace_file.specs.Scenarios.{Scenario};
+ghost use Rattle.sim_worker.specs.LiveRuns.{EachDriver, EachLog, IsLiveRun, IsLog, is_full, rows};
+ghost use Rattle.sim_worker.specs.Logs.{IsDriverLog, is_decision, is_opening};
+
+use crate::ending::Ending;
+use crate::fault::LiveFault;
+use crate::lanes::is_lane_log;
+use crate::log::SeatLog;
+use crate::names::{actors, are_named};
+use crate::pass::follow;
+use crate::port::Port;
+use crate::served::Served;
+use cam_event::History;
+use cam_types::Config;
+use event_rules::Event;
+use std::alloc::Global;
+use trace_file::Script;
+use xpt_lock::{Receipt, SeatName};
+
+/// How the run ended whose history, logs and ports these are, if it is one of the script.
+///
+/// Otherwise the fault has the receipt of the first event that the script doesn't allow there, or else that of the last event.
+pub fn judge<P: Port>(
+    alloc: Global,
+    script: &Script,
+    history: &History,
+    logs: &[SeatLog],
+    ports: &[P],
+) -> Result<Ending, LiveFault>
+    requires legal { IsPast history.now }
+    requires together { AreInterleaved (due_of history.now) logs.now }
+    ensures { IfOk result (λ ending. IsLiveRun script.now history.now logs.now (map (λ p. P.list p) ports.now) ending) }
+{
+    let events = history.events();
+    let last = events.len().saturating_sub(1);
+    if !is_config(script.config(), history.config()) || !are_named(&actors(alloc, script)?, logs) {
+        return Err(mismatch(logs, last));
+    }
+    let said = match follow(alloc, script, events, logs)? {
+        Ok(ending) => ending,
+        Err(place) => return Err(mismatch(logs, place)),
+    };
+    if !are_as_served(logs, ports, is_full(said)) {
+        return Err(mismatch(logs, last));
+    }
+    Ok(said)
+}
+
+fn is_full(said: Ending) -> bool
+    ensures { result ≡ is_full said }
+{
+    matches!(said, Ending::HistoryFull)
+}
+
+// The fault at this place: the receipt that names it. There is one, unless nothing happened at all.
+fn mismatch(logs: &[SeatLog], place: usize) -> LiveFault {
+    for log in logs {
+        for receipt in &log.receipts {
+            if receipt.at as usize == place {
+                return LiveFault::Mismatch(*receipt);
+            }
+        }
+    }
+    LiveFault::Unnamed(0)
+}
+
+// Whether the two configurations are the same.
+fn is_config(one: &Config, other: &Config) -> bool
+    ensures { result ≡ true → other.now ≡ one.now }
+{
+    if one.weights() != other.weights() || one.links() != other.links() {
+        return false;
+    }
+    if one.adapters() != other.adapters() || one.devices() != other.devices() {
+        return false;
+    }
+    one.lanes() == other.lanes()
+}
+
+// Whether each log but a driver's is what its actor may do: what its port served, decisions, or ticks.
+fn are_as_served<P: Port>(logs: &[SeatLog], ports: &[P], full: bool) -> bool
+    ensures { result ≡ true → (s : Scenario) (events : List Event) → EachDriver (λ d h. IsDriverLog s (rows s d) h.receipts events) logs.now →
+        EachLog (λ h. IsLog s events (map (λ p. P.list p) ports.now) full h.name h) logs.now }
+{
+    for log in logs {
+        if !is_as_served(log, ports, full) {
+            return false;
+        }
+    }
+    true
+}
+
+fn is_as_served<P: Port>(log: &SeatLog, ports: &[P], full: bool) -> bool
+    ensures { result ≡ true → (s : Scenario) (events : List Event) → ((d : ℕ) → log.now.name ≡ seats.Driver d → IsDriverLog s (rows s d) log.now.receipts events) →
+        IsLog s events (map (λ p. P.list p) ports.now) full log.now.name log.now }
+{
+    match log.name {
+        SeatName::Driver(_) => true,
+        SeatName::Lane(lane) => is_lane_log(lane, full, &log.receipts, served_by(ports, lane)),
+        SeatName::Recovery => are_decisions(&log.receipts),
+        SeatName::Keeper => are_ticks(&log.receipts),
+    }
+}
+
+// What the lane's port served.
+fn served_by<P: Port>(ports: &[P], lane: u32) -> &[Served]
+    ensures { result.now ≡ get_or (map (λ p. P.list p) ports.now) lane [] }
+{
+    match ports.get(lane as usize) {
+        Some(port) => port.served(),
+        None => &[],
+    }
+}
+
+fn are_decisions(receipts: &[Receipt]) -> bool
+    ensures { result ≡ true → list_all is_decision receipts.now ≡ true }
+{
+    for receipt in receipts {
+        if !is_decision(receipt) {
+            return false;
+        }
+    }
+    true
+}
+
+fn are_ticks(receipts: &[Receipt]) -> bool
+    ensures { result ≡ true → list_all is_opening receipts.now ≡ true }
+{
+    for receipt in receipts {
+        if !receipt.event.is_tick() {
+            return false;
+        }
+    }
+    true
+}
+
+fn is_decision(receipt: &Receipt) -> bool
+    ensures { result ≡ is_decision receipt.now }
+{
+    matches!(receipt.event, Event::Requeue { .. } | Event::Finish { .. })
+}

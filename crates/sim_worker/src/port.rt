@@ -1,0 +1,33 @@
+//! What serves the commands that a lane has sent.
+
+ghost use Rattle.std.specs.Prelude.{◌≡◌, ◌<◌, ℕ, List, [], ◌∷◌, ◌++◌, IfOk, OnErr, IsTrue};
+ghost use Rattle.trace_file.specs.Scenarios.{is_answer};
+ghost use Rattle.sim_worker.specs.declared.served.Served.{Served};
+
+use crate::served::Served;
+use cam_types::{Command, Outcome};
+use std::alloc::AllocError;
+
+/// What serves a lane's commands, one after the other, and keeps a list of them.
+pub trait Port: Drop {
+    /// What was served so far, in order.
+    ghost list: { Self → List Served };
+
+    /// How many more commands can be served before room is made.
+    ghost room: { Self → ℕ };
+
+    /// Makes room for one more command. If there is no memory, nothing changes.
+    fn make_room(&mut self) -> Result<(), AllocError>
+        ensures list { list self.new ≡ list self.old }
+        ensures room { IfOk result (λ _. 0 < room self.new) };
+
+    /// Serves a command, for which there has to be room. Its outcome has a status other than 00.
+    fn serve(&mut self, command: &Command) -> Outcome
+        requires { 0 < room self.old }
+        ensures list { list self.new ≡ list self.old ++ record { command = command.now; outcome = result } ∷ [] }
+        ensures status { IsTrue (is_answer result) };
+
+    /// What was served so far, in order.
+    fn served(&self) -> &[Served]
+        ensures { result.now ≡ list self.now };
+}

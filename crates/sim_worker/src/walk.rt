@@ -1,0 +1,155 @@
+//! How far a driver is, event by event.
+
+ghost use Rattle.std.specs.Prelude.{◌≡◌, ◌≢◌, ◌+◌, ◌++◌, [], ◌∷◌, List, true, length, slice_get, Some, IfSome, IfNone};
+ghost use Rattle.event_rules.specs.Counts.{round};
+ghost use Rattle.event_rules.specs.declared.event.Event.{Event};
+ghost use Rattle.trace_file.specs.Scenarios.{Scenario};
+ghost use Rattle.trace_file.specs.declared.step.Step.TheVariants as steps;
+ghost use Rattle.xpt_lock.specs.Receipts.{is_rising};
+ghost use Rattle.xpt_lock.specs.declared.receipt.Receipt.{Receipt};
+ghost use Rattle.xpt_core.specs.Takes.{refused};
+ghost use Rattle.sim_worker.specs.Logs.{FollowsRows, LetsRest, StandsAt, is_of_rules};
+ghost use Rattle.sim_worker.specs.Walks.{IsOf, IsOn, IsWalk};
+
+use crate::same::are_same;
+use event_rules::{Event, Refusal};
+use trace_file::Step;
+use xpt_lock::Receipt;
+use xpt_state::Xpt;
+
+/// How far a driver is behind some of a run's events.
+#[derive(Clone, Copy)]
+pub(crate) struct Walk {
+    /// The row at which it stands.
+    pub(crate) row: usize,
+    /// How many receipts of its log are behind it.
+    pub(crate) made: usize,
+    /// Whether the event of its row was refused in this round.
+    pub(crate) refused: bool,
+}
+
+impl Walk {
+    /// A driver that has done nothing.
+    pub(crate) const START: Walk = Walk {
+        row: 0,
+        made: 0,
+        refused: false,
+    };
+
+    /// Behind the pauses that stand next and are over, and marked where the event of the row there is refused now.
+    pub(crate) fn settled(self, xpt: &Xpt, rows: &[Step]) -> Walk
+        ensures { (s : Scenario) (log : List Receipt) → IsOf s xpt.now → IsWalk s rows.now log xpt.now.events self → IsWalk s rows.now log xpt.now.events result }
+    {
+        let row = behind_pauses(rows, self.row, xpt.look().round);
+        let marked = row == self.row && self.refused;
+        Walk {
+            row,
+            made: self.made,
+            refused: marked || is_refused(xpt, rows, row),
+        }
+    }
+
+    /// Whether the driver rests in this round.
+    pub(crate) fn rests(&self, xpt: &Xpt, rows: &[Step]) -> bool
+        ensures { result ≡ true → (s : Scenario) (log : List Receipt) → IsWalk s rows.now log xpt.now.events self.now → LetsRest s xpt.now.events (slice_get rows.now self.now.row) }
+    {
+        match rows.get(self.row) {
+            None => true,
+            Some(Step::Pause(round)) => xpt.look().round < *round,
+            Some(Step::Act(_)) => self.refused,
+        }
+    }
+
+    /// Behind the event that the transport takes next. None if the event is of the driver's log and isn't that of its row, or
+    /// opens a round though the driver doesn't rest.
+    pub(crate) fn behind(
+        self,
+        xpt: &Xpt,
+        rows: &[Step],
+        log: &[Receipt],
+        event: &Event,
+    ) -> Option<Walk>
+        ensures { (s : Scenario) → IsOf s xpt.now → is_rising log.now ≡ true → IsOn s rows.now log.now xpt.now.events self → IfSome result (λ w. IsOn s rows.now log.now (xpt.now.events ++ event.now ∷ []) w) }
+    {
+        let here = self.settled(xpt, rows);
+        if event.is_tick() && !here.rests(xpt, rows) {
+            return None;
+        }
+        here.with(xpt.events().len(), rows, log, event)
+    }
+
+    // With the event of this place.
+    fn with(self, place: usize, rows: &[Step], log: &[Receipt], event: &Event) -> Option<Walk>
+        ensures { (s : Scenario) (before : List Event) → place ≡ length before → is_rising log.now ≡ true → IsWalk s rows.now log.now before self → FollowsRows rows.now log.now before →
+            IfSome result (λ w. IsWalk s rows.now log.now (before ++ event.now ∷ []) w × FollowsRows rows.now log.now (before ++ event.now ∷ [])) }
+    {
+        let Some((due, made)) = event_at(log, self.made, place) else {
+            return Some(Walk {
+                row: self.row,
+                made: self.made,
+                refused: self.refused && !event.is_tick(),
+            });
+        };
+        Some(Walk {
+            row: behind_call(rows, self.row, &due)?,
+            made,
+            refused: false,
+        })
+    }
+}
+
+// The event of the log's receipt of this number, and the next number, if it is of this place.
+fn event_at(log: &[Receipt], number: usize, place: usize) -> Option<(Event, usize)>
+    ensures some { IfSome result (λ found. (r : Receipt) × (slice_get log.now number ≡ Some r) × (r.at ≡ place) × (r.event ≡ found.0) × (found.1 ≡ number + 1)) }
+    ensures none { IfNone result ((r : Receipt) → slice_get log.now number ≡ Some r → r.at ≢ place) }
+{
+    let receipt = log.get(number)?;
+    if receipt.at as usize != place {
+        return None;
+    }
+    Some((receipt.event, number + 1))
+}
+
+// The row behind this one, if this one calls for the event.
+fn behind_call(rows: &[Step], row: usize, event: &Event) -> Option<usize>
+    ensures { IfSome result (λ next. (slice_get rows.now row ≡ Some (steps.Act event.now)) × (next ≡ row + 1)) }
+{
+    match rows.get(row) {
+        Some(Step::Act(due)) if are_same(due, event) => Some(row + 1),
+        _ => None,
+    }
+}
+
+// Behind the pauses that stand from a row on and are over.
+fn behind_pauses(rows: &[Step], from: usize, now: u32) -> usize
+    ensures { (events : List Event) → StandsAt rows.now events now from → StandsAt rows.now events now result }
+{
+    let mut row = from;
+    while let Some(Step::Pause(round)) = rows.get(row) {
+        if now < *round {
+            break;
+        }
+        row += 1;
+    }
+    row
+}
+
+// Whether the rules refuse the row's event now.
+fn is_refused(xpt: &Xpt, rows: &[Step], row: usize) -> bool
+    ensures { result ≡ true → (event : Event) → slice_get rows.now row ≡ Some (steps.Act event) → is_of_rules (refused xpt.now event) ≡ true }
+{
+    match rows.get(row) {
+        Some(Step::Act(event)) => is_of_rules(&xpt.refusal(event)),
+        _ => false,
+    }
+}
+
+// Whether there is a refusal, and it isn't that the history is full.
+fn is_of_rules(refusal: &Option<Refusal>) -> bool
+    ensures { result ≡ is_of_rules refusal.now }
+{
+    match refusal {
+        None | Some(Refusal::HistoryFull(_)) => false,
+        Some(_) => true,
+    }
+}

@@ -1,0 +1,4 @@
+use Rattle.surface.proofs.calls.call_recovers.Given as goal
+
+abbrev pub ghosts-recovers : goal.ghosts-recovers
+ghosts-recovers g a = record { name = a.blank.name; parts = a.blank.parts }

@@ -1,0 +1,31 @@
+//! The calls of `cam_ccb`: a table of CCBs.
+
+use anyhow::Result;
+use cam_ccb::{CcbFull, CcbTable, Handle, StaleCcb};
+use std::alloc::{AllocError, Global};
+
+/// Makes each call once, and prints a line of what they answer.
+pub fn call_cam_ccb(rt: &HostRuntime) -> Result<()> {
+    let alloc: Global = rt.alloc();
+    let made: Result<CcbTable<u32>, AllocError> = CcbTable::with_capacity(alloc, 1usize);
+    let mut table: CcbTable<u32> = made?;
+    let given: Result<Handle, CcbFull<u32>> = table.take(7u32);
+    let handle: Handle = given?;
+    let (slot, number): (usize, u32) = (handle.slot, handle.number);
+    let taken: u32 = table.taken();
+    print!(rt; "cam_ccb: slot {slot} number {number} taken {taken},")?;
+    call_held(rt, &mut table, handle)
+}
+
+fn call_held(rt: &HostRuntime, table: &mut CcbTable<u32>, handle: Handle) -> Result<()> {
+    let held: Option<&u32> = table.get(handle);
+    print!(rt; " {:?}", held.copied())?;
+    let lent: Option<&mut u32> = table.get_mut(handle);
+    if let Some(value) = lent {
+        *value = 8;
+    }
+    let back: Result<u32, StaleCcb> = table.give_back(handle);
+    let stale: Result<u32, StaleCcb> = table.give_back(handle);
+    println!(rt; " given back {}, stale {}", back?, stale.is_err())?;
+    Ok(())
+}

@@ -1,0 +1,106 @@
+//! Two lanes at work at the same time.
+
+ghost use Rattle.std.specs.Prelude.{◌≡◌, ◌<◌, ◌-◌, [], ◌∷◌, ◌++◌, length, vec_capacity, All, IfOk, IsTrue};
+ghost use Rattle.trace_file.specs.Scenarios.{is_answer};
+
+use crate::scripts::script;
+use cam_types::{Command, Outcome};
+use sim_worker::{Ending, Port, Served, run_live};
+use std::alloc::{AllocError, Global};
+use std::sync::atomic::{AtomicBool, Ordering};
+use std::test::Fail;
+use std::thread;
+
+// How often a port that waits looks whether the other one has begun.
+const MOST_TURNS: u32 = 1_000_000;
+
+// A port that holds its first command until the other port has begun with one.
+#[derive(Drop)]
+struct Meeting<'f> {
+    begun: &'f AtomicBool,
+    other: &'f AtomicBool,
+    served: Vec<Served>,
+    gave_up: bool,
+}
+
+impl<'f> Meeting<'f> {
+    fn new(alloc: Global, begun: &'f AtomicBool, other: &'f AtomicBool) -> Meeting<'f>
+        ensures { result.served.items ≡ [] }
+    {
+        Meeting {
+            begun,
+            other,
+            served: Vec::new(alloc),
+            gave_up: false,
+        }
+    }
+}
+
+impl<'f> Port for Meeting<'f> {
+    ghost list = { λ p. p.served.items };
+
+    ghost room = { λ p. vec_capacity p.served - length p.served.items };
+
+    fn make_room(&mut self) -> Result<(), AllocError>
+        ensures list { self.new.served.items ≡ self.old.served.items }
+        ensures room { IfOk result (λ _. 0 < vec_capacity self.new.served - length self.new.served.items) }
+    {
+        self.served.reserve(1)
+    }
+
+    fn serve(&mut self, command: &Command) -> Outcome
+        requires { 0 < vec_capacity self.old.served - length self.old.served.items }
+        ensures list { self.new.served.items ≡ self.old.served.items ++ record { command = command.now; outcome = result } ∷ [] }
+        ensures status { IsTrue (is_answer result) }
+    {
+        self.begun.store(true, Ordering::SeqCst);
+        if self.served.is_empty() && !comes(self.other) {
+            self.gave_up = true;
+        }
+        let outcome = Outcome::of_status(0x01);
+        let given = outcome;
+        self.served.push_reserved(Served {
+            command: *command,
+            outcome,
+        });
+        given
+    }
+
+    fn served(&self) -> &[Served]
+        ensures { result.now ≡ self.now.served.items }
+    {
+        &self.served
+    }
+}
+
+// Waits until the flag is set, but not for ever.
+fn comes(flag: &AtomicBool) -> bool {
+    for _ in 0..MOST_TURNS {
+        if flag.load(Ordering::SeqCst) {
+            return true;
+        }
+        thread::yield_now();
+    }
+    false
+}
+
+#[test]
+fn two_lanes_serve_at_the_same_time(rt: HostRuntime) -> Result<(), Fail> {
+    let alloc = rt.alloc();
+    let script = script(
+        alloc,
+        "sim,2,,,,,,\ndev,0,1,0,1,,,\ndev,0,2,0,1,,,\nlane,0,,,,,,\nlane,0,,,,,,\nsubmit,0,0:1:0,1152,4,none,,\nsubmit,0,0:2:0,1152,4,none,,\n",
+    )?;
+    let (one, other) = (AtomicBool::new(false), AtomicBool::new(false));
+    let mut ports = Vec::new(alloc);
+    ports.push(Meeting::new(alloc, &one, &other))?;
+    ports.push(Meeting::new(alloc, &other, &one))?;
+    assert_eq!(rt; script.config().lanes().len(), ports.len());
+    let run = run_live(&rt, alloc, &script, ports)?;
+    assert_eq!(rt; run.ending, Ending::Drained);
+    for port in &run.ports {
+        assert_eq!(rt; port.served.len(), 1);
+        assert!(rt; !port.gave_up);
+    }
+    Ok(())
+}

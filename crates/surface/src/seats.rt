@@ -1,0 +1,318 @@
+//! Two seats, and which of them are gathered.
+
+ghost use Rattle.std.specs.Prelude.{◌≡◌};
+
+use crate::frame::shared;
+use cam_event::History;
+use cam_types::{Command, Flags, Limits, Outcome};
+use event_rules::{Event, Refusal};
+use sense_class::Class;
+use std::alloc::Global;
+use std::marker::Brand;
+use std::process::Abort;
+use std::sync::Wait;
+use std::sync::ledger::{Blank, Ledger};
+use std::test::Fail;
+use xpt_lock::{GatherFault, Seat, SeatName, SharedFault, SharedXpt};
+use xpt_state::{Done, Idle, Reply, Sent};
+
+// Which of the two seats are gathered, and in which order.
+#[derive(Clone, Copy)]
+enum Given {
+    DriverAndLane,
+    LaneAndDriver,
+    DriverAlone,
+    LaneAlone,
+    Neither,
+}
+
+// What was gathered.
+#[derive(Clone, Copy, Debug, PartialEq, Eq)]
+enum Ended {
+    OneCommand,
+    Events(usize),
+    Unnamed(u32),
+    Otherwise,
+}
+
+fn end_of(gathered: Result<History, GatherFault>) -> Ended {
+    match gathered {
+        Ok(history) if is_one_command(history.events()) => Ended::OneCommand,
+        Ok(history) => Ended::Events(history.events().len()),
+        Err(GatherFault::Unnamed(place)) => Ended::Unnamed(place),
+        Err(_) => Ended::Otherwise,
+    }
+}
+
+// Whether the events are those of one command that is done.
+fn is_one_command(events: &[Event]) -> bool {
+    let due = [
+        Event::Submit {
+            driver: 0,
+            device: 0,
+            priority: 1152,
+            retries: 4,
+            flags: Flags::default(),
+        },
+        Event::Send { lane: 0, ccb: 0 },
+        Event::Done {
+            ccb: 0,
+            outcome: Outcome::of_status(0x01),
+        },
+    ];
+    events == due.as_slice()
+}
+
+// The driver submits, and the lane sends and completes. Answers what was gathered.
+fn two_seats<L: Ledger, R: Wait + Abort>(
+    rt: &R,
+    alloc: Global,
+    blank: Blank,
+    which: Given,
+) -> Result<Ended, Fail>
+    requires name { blank.name ≡ L.name }
+    requires parts { (blank.parts ≡ L.parts) × (blank.parts ≡ 65) }
+{
+    let shared: SharedXpt<L> = shared(alloc, Limits::most(), blank)?;
+    let mut driver = shared.seat(rt, alloc, SeatName::Driver(0))?;
+    let mut lane = shared.seat(rt, alloc, SeatName::Lane(0))?;
+    one_command(rt, &shared, &mut driver, &mut lane)?;
+    Ok(end_of(shared.gather(alloc, taken(alloc, which, driver, lane))))
+}
+
+fn one_command<L: Ledger, R: Wait + Abort>(
+    rt: &R,
+    shared: &SharedXpt<L>,
+    driver: &mut Seat<L>,
+    lane: &mut Seat<L>,
+) -> Result<(), Fail> {
+    submits(rt, shared, driver)?;
+    serves(rt, shared, lane)
+}
+
+fn submits<L: Ledger, R: Wait + Abort>(
+    rt: &R,
+    shared: &SharedXpt<L>,
+    driver: &mut Seat<L>,
+) -> Result<(), Fail> {
+    let (number, receipt) = shared.submit(rt, driver, 0, 0, 1152, 4, Flags::default())?;
+    assert_eq!(rt; (number, receipt.at, receipt.reply), (0, 0, Reply::Ccb(0)));
+    assert_eq!(rt; driver.name(), SeatName::Driver(0));
+    assert_eq!(rt; driver.receipts(), [receipt].as_slice());
+    Ok(())
+}
+
+fn serves<L: Ledger, R: Wait + Abort>(
+    rt: &R,
+    shared: &SharedXpt<L>,
+    lane: &mut Seat<L>,
+) -> Result<(), Fail> {
+    let command = Command {
+        ccb: 0,
+        attempt: 0,
+        driver: 0,
+        device: 0,
+        priority: 1152,
+    };
+    let (sent, receipt) = shared.send_next(rt, lane, 0)?;
+    assert_eq!(rt; sent, Sent::Command(command));
+    let replied = receipt.map(|receipt| (receipt.at, receipt.reply));
+    assert_eq!(rt; replied, Some((1, Reply::Command(command))));
+    let done = Done {
+        class: Class::Complete,
+        value: 0x01,
+    };
+    let (given, receipt) = shared.done(rt, lane, 0, Outcome::of_status(0x01))?;
+    assert_eq!(rt;
+        (given, receipt.at, receipt.reply),
+        (done, 2, Reply::Done(done))
+    );
+    assert_eq!(rt; lane.receipts().len(), 2);
+    assert_eq!(rt; lane.receipts().last().copied(), Some(receipt));
+    Ok(())
+}
+
+// The seats that are gathered, in order.
+fn taken<L: Ledger>(alloc: Global, which: Given, driver: Seat<L>, lane: Seat<L>) -> Vec<Seat<L>> {
+    let mut seats = Vec::new(alloc);
+    match which {
+        Given::DriverAndLane => {
+            let _ = seats.push(driver);
+            let _ = seats.push(lane);
+        }
+        Given::LaneAndDriver => {
+            let _ = seats.push(lane);
+            let _ = seats.push(driver);
+        }
+        Given::DriverAlone => {
+            let _ = seats.push(driver);
+        }
+        Given::LaneAlone => {
+            let _ = seats.push(lane);
+        }
+        Given::Neither => {}
+    }
+    seats
+}
+
+// What was gathered of the two seats.
+fn gathered<R: Wait + Abort>(rt: &R, alloc: Global, which: Given) -> Result<Ended, Fail> {
+    two_seats::<Brand, R>(rt, alloc, Blank::new(65), which)
+}
+
+#[test]
+fn both_seats_make_one_history(rt: HostRuntime) -> Result<(), Fail> {
+    for which in [Given::DriverAndLane, Given::LaneAndDriver] {
+        assert_eq!(&rt; gathered(&rt, rt.alloc(), which)?, Ended::OneCommand);
+    }
+    Ok(())
+}
+
+#[test]
+fn the_first_place_that_no_receipt_names(rt: HostRuntime) -> Result<(), Fail> {
+    for (which, place) in [
+        (Given::DriverAlone, 1),
+        (Given::LaneAlone, 0),
+        (Given::Neither, 0),
+    ] {
+        assert_eq!(&rt; gathered(&rt, rt.alloc(), which)?, Ended::Unnamed(place));
+    }
+    Ok(())
+}
+
+// A refused submit, an idle lane and two calls that only look. Answers what was gathered.
+fn nothing_happens<L: Ledger, R: Wait + Abort>(
+    rt: &R,
+    alloc: Global,
+    blank: Blank,
+) -> Result<Ended, Fail>
+    requires name { blank.name ≡ L.name }
+    requires parts { (blank.parts ≡ L.parts) × (blank.parts ≡ 65) }
+{
+    let shared: SharedXpt<L> = shared(alloc, Limits::most(), blank)?;
+    let mut seat = shared.seat(rt, alloc, SeatName::Keeper)?;
+    makes_nothing(rt, &shared, &mut seat)?;
+    let mut seats = Vec::new(alloc);
+    let _ = seats.push(seat);
+    Ok(end_of(shared.gather(alloc, seats)))
+}
+
+fn makes_nothing<L: Ledger, R: Wait + Abort>(
+    rt: &R,
+    shared: &SharedXpt<L>,
+    seat: &mut Seat<L>,
+) -> Result<(), Fail> {
+    is_refused(rt, shared, seat);
+    is_idle(rt, shared, seat)?;
+    assert_eq!(rt; seat.receipts().len(), 0);
+    Ok(())
+}
+
+fn is_refused<L: Ledger, R: Wait + Abort>(rt: &R, shared: &SharedXpt<L>, seat: &mut Seat<L>) {
+    let refused = SharedFault::Refused(Refusal::BadPriority);
+    assert_eq!(rt;
+        shared.submit(rt, seat, 0, 0, 1280, 4, Flags::default()),
+        Err(refused)
+    );
+    let no_lane = SharedFault::Refused(Refusal::NoLane);
+    assert_eq!(rt; shared.send_next(rt, seat, 1), Err(no_lane));
+}
+
+fn is_idle<L: Ledger, R: Wait + Abort>(
+    rt: &R,
+    shared: &SharedXpt<L>,
+    seat: &mut Seat<L>,
+) -> Result<(), Fail> {
+    let idle = (Sent::Idle(Idle::Empty), None);
+    assert_eq!(rt; shared.send_next(rt, seat, 0)?, idle);
+    assert_eq!(rt; shared.next_case(rt), None);
+    assert_eq!(rt; shared.look(rt).length, 0);
+    Ok(())
+}
+
+fn nothing<R: Wait + Abort>(rt: &R, alloc: Global) -> Result<Ended, Fail> {
+    nothing_happens::<Brand, R>(rt, alloc, Blank::new(65))
+}
+
+#[test]
+fn refused_and_idle_calls_leave_no_receipt(rt: HostRuntime) -> Result<(), Fail> {
+    assert_eq!(&rt; nothing(&rt, rt.alloc())?, Ended::Events(0));
+    Ok(())
+}
+
+// Answers how many seats there were before one was refused.
+fn takes_all_seats<L: Ledger, R: Wait>(rt: &R, alloc: Global, blank: Blank) -> Result<u32, Fail>
+    requires name { blank.name ≡ L.name }
+    requires parts { (blank.parts ≡ L.parts) × (blank.parts ≡ 65) }
+{
+    let shared: SharedXpt<L> = shared(alloc, Limits::most(), blank)?;
+    Ok(seats_of(rt, alloc, &shared))
+}
+
+// How many seats are taken before one is refused or has another name, 65 at most.
+fn seats_of<L: Ledger, R: Wait>(rt: &R, alloc: Global, shared: &SharedXpt<L>) -> u32 {
+    for number in 0..65 {
+        match shared.seat(rt, alloc, SeatName::Lane(number)) {
+            Ok(seat) if seat.name() == SeatName::Lane(number) => {}
+            _ => return number,
+        }
+    }
+    65
+}
+
+fn all_seats<R: Wait>(rt: &R, alloc: Global) -> Result<u32, Fail> {
+    takes_all_seats::<Brand, R>(rt, alloc, Blank::new(65))
+}
+
+#[test]
+fn there_are_64_seats(rt: HostRuntime) -> Result<(), Fail> {
+    assert_eq!(&rt; all_seats(&rt, rt.alloc())?, 64);
+    Ok(())
+}
+
+// Two ticks where there is room for two events, and one more.
+fn fills_history<L: Ledger, R: Wait + Abort>(
+    rt: &R,
+    alloc: Global,
+    blank: Blank,
+) -> Result<(), Fail>
+    requires name { blank.name ≡ L.name }
+    requires parts { (blank.parts ≡ L.parts) × (blank.parts ≡ 65) }
+{
+    let limits = Limits::new(1024, 128, 1024, 2)?;
+    let shared: SharedXpt<L> = shared(alloc, limits, blank)?;
+    let mut keeper = shared.seat(rt, alloc, SeatName::Keeper)?;
+    ticks(rt, &shared, &mut keeper)
+}
+
+fn ticks<L: Ledger, R: Wait + Abort>(
+    rt: &R,
+    shared: &SharedXpt<L>,
+    keeper: &mut Seat<L>,
+) -> Result<(), Fail> {
+    assert_eq!(rt; shared.tick(rt, keeper)?.0, 2);
+    assert_eq!(rt; shared.tick(rt, keeper)?.0, 3);
+    is_full(rt, shared, keeper);
+    assert!(rt;
+        keeper
+            .receipts()
+            .iter()
+            .all(|receipt| receipt.event == Event::Tick)
+    );
+    Ok(())
+}
+
+fn is_full<L: Ledger, R: Wait + Abort>(rt: &R, shared: &SharedXpt<L>, keeper: &mut Seat<L>) {
+    let full = SharedFault::Refused(Refusal::HistoryFull(2));
+    assert_eq!(rt; shared.tick(rt, keeper), Err(full));
+    assert_eq!(rt; shared.send_next(rt, keeper, 0), Err(full));
+}
+
+fn full<R: Wait + Abort>(rt: &R, alloc: Global) -> Result<(), Fail> {
+    fills_history::<Brand, R>(rt, alloc, Blank::new(65))
+}
+
+#[test]
+fn a_full_history_refuses_each_call(rt: HostRuntime) -> Result<(), Fail> {
+    full(&rt, rt.alloc())
+}

@@ -1,0 +1,172 @@
+//! The calls of `xpt_lock`: a transport that threads share, and its seats.
+
+ghost use Rattle.std.specs.Prelude.{◌≡◌};
+
+use crate::frame_config::frame_config;
+use anyhow::Result;
+use cam_event::{Event, History};
+use cam_types::{Flags, Limits, Outcome};
+use std::alloc::Global;
+use std::marker::Brand;
+use std::rt::Runtime;
+use std::sync::Wait;
+use std::sync::ledger::{Blank, Ledger};
+use xpt_lock::{GatherFault, Receipt, Reply, Seat, SeatName, SeatsFull, SharedFault, SharedXpt};
+use xpt_state::{Case, Done, Look, Sent, Xpt};
+
+/// Makes each call once, and prints a line of what they answer.
+pub fn call_xpt_lock<R: Runtime + AllocGlobal + Wait>(rt: &R) -> Result<()> {
+    print!(rt; "xpt_lock:")?;
+    call_shared::<Brand, R>(rt, rt.alloc(), Blank::new(65))
+}
+
+fn call_shared<L: Ledger, R: Runtime + Wait>(rt: &R, alloc: Global, blank: Blank) -> Result<()>
+    requires name { blank.name ≡ L.name }
+    requires parts { (blank.parts ≡ L.parts) × (blank.parts ≡ 65) }
+{
+    let xpt = Xpt::open(alloc, frame_config(alloc)?, Limits::most())?;
+    let shared: SharedXpt<L> = SharedXpt::new(xpt, blank);
+    let taken: Result<Seat<L>, SeatsFull> = shared.seat(rt, alloc, SeatName::Driver(0u8));
+    let mut driver: Seat<L> = taken?;
+    let mut lane = shared.seat(rt, alloc, SeatName::Lane(0u32))?;
+    let mut recovery = shared.seat(rt, alloc, SeatName::Recovery)?;
+    let mut keeper = shared.seat(rt, alloc, SeatName::Keeper)?;
+    call_refused(rt, &shared, &mut driver)?;
+    call_driver(rt, &shared, &mut driver)?;
+    call_lane(rt, &shared, &mut lane, 0x05)?;
+    call_requeue(rt, &shared, &mut recovery)?;
+    call_tick(rt, &shared, &mut keeper)?;
+    call_lane(rt, &shared, &mut lane, 0x04)?;
+    let finished: Result<Receipt, SharedFault> = shared.finish(rt, &mut recovery, 0u32);
+    print!(rt; " {}", finished?.at)?;
+    call_seat(rt, &driver)?;
+    call_look(rt, &shared)?;
+    let mut seats: Vec<Seat<L>> = Vec::new(alloc);
+    seats.push(driver)?;
+    seats.push(lane)?;
+    seats.push(recovery)?;
+    seats.push(keeper)?;
+    let gathered: Result<History, GatherFault> = shared.gather(alloc, seats);
+    match gathered {
+        Ok(history) => println!(rt; " gathered {}", history.events().len())?,
+        Err(GatherFault::Mismatch(receipt)) => println!(rt; " mismatch {}", receipt.at)?,
+        Err(GatherFault::Unnamed(place)) => println!(rt; " unnamed {place}")?,
+        Err(GatherFault::OutOfMemory) => println!(rt; " out of memory")?,
+    }
+    Ok(())
+}
+
+fn call_driver<L: Ledger, R: Runtime + Wait>(
+    rt: &R,
+    shared: &SharedXpt<L>,
+    seat: &mut Seat<L>,
+) -> Result<()> {
+    let submitted: Result<(u32, Receipt), SharedFault> = shared.submit(
+        rt,
+        seat,
+        0u8,
+        0u32,
+        1152u32,
+        4u32,
+        Flags::none(),
+    );
+    let (number, receipt): (u32, Receipt) = submitted?;
+    let (at, event, reply): (u32, Event, Reply) = (receipt.at, receipt.event, receipt.reply);
+    let is_submit: bool = matches!(&event, Event::Submit { .. });
+    print!(rt; " {at} submit {is_submit} {}", reply == Reply::Ccb(number))?;
+    let frozen: Result<Receipt, SharedFault> = shared.freeze_dev(rt, seat, 0u32, 1u32);
+    let released: Result<Receipt, SharedFault> = shared.release_dev(rt, seat, 0u32, 1u32);
+    print!(rt; " {} {}", frozen?.at, released?.at)?;
+    let frozen: Result<Receipt, SharedFault> = shared.freeze_sim(rt, seat, 0u32, 1u32);
+    let released: Result<Receipt, SharedFault> = shared.release_sim(rt, seat, 0u32);
+    print!(rt; " {} {}", frozen?.at, released?.at)?;
+    let adjusted: Result<Receipt, SharedFault> = shared.adjust(rt, seat, 0u32, 1u32);
+    let receipt: Receipt = adjusted?;
+    print!(rt; " {} reply {}", receipt.at, number_of(&receipt.reply))?;
+    Ok(())
+}
+
+fn call_lane<L: Ledger, R: Runtime + Wait>(
+    rt: &R,
+    shared: &SharedXpt<L>,
+    seat: &mut Seat<L>,
+    status: u8,
+) -> Result<()> {
+    let sent: Result<(Sent, Option<Receipt>), SharedFault> = shared.send_next(rt, seat, 0u32);
+    let (sent, receipt): (Sent, Option<Receipt>) = sent?;
+    let is_command: bool = matches!(&sent, Sent::Command(_));
+    print!(rt;
+        " {:?} sent {is_command}",
+        receipt.map(|receipt| receipt.at)
+    )?;
+    let outcome = Outcome::of_status(status);
+    let done: Result<(Done, Receipt), SharedFault> = shared.done(rt, seat, 0u32, outcome);
+    let (done, receipt): (Done, Receipt) = done?;
+    print!(rt; " {} reply {}", receipt.at, number_of(&receipt.reply))?;
+    print!(rt; " value {:02x}", done.value)?;
+    Ok(())
+}
+
+fn call_requeue<L: Ledger, R: Runtime + Wait>(
+    rt: &R,
+    shared: &SharedXpt<L>,
+    seat: &mut Seat<L>,
+) -> Result<()> {
+    let case: Option<Case> = shared.next_case(rt);
+    print!(rt; " case {:?}", case.map(|case| case.ccb))?;
+    let requeued: Result<Receipt, SharedFault> = shared.requeue(rt, seat, 0u32);
+    print!(rt; " {}", requeued?.at)?;
+    Ok(())
+}
+
+fn call_tick<L: Ledger, R: Runtime + Wait>(
+    rt: &R,
+    shared: &SharedXpt<L>,
+    seat: &mut Seat<L>,
+) -> Result<()> {
+    let ticked: Result<(u32, Receipt), SharedFault> = shared.tick(rt, seat);
+    let (round, receipt): (u32, Receipt) = ticked?;
+    print!(rt;
+        " {} reply {} round {round}",
+        receipt.at,
+        number_of(&receipt.reply)
+    )?;
+    Ok(())
+}
+
+fn call_seat<L: Ledger, R: Runtime + Wait>(rt: &R, seat: &Seat<L>) -> Result<()> {
+    let name: SeatName = seat.name();
+    let receipts: &[Receipt] = seat.receipts();
+    print!(rt; " {name:?} receipts {}", receipts.len())?;
+    Ok(())
+}
+
+fn call_look<L: Ledger, R: Runtime + Wait>(rt: &R, shared: &SharedXpt<L>) -> Result<()> {
+    let look: Look = shared.look(rt);
+    print!(rt; " look {}", look.length)?;
+    Ok(())
+}
+
+fn call_refused<L: Ledger, R: Runtime + Wait>(
+    rt: &R,
+    shared: &SharedXpt<L>,
+    seat: &mut Seat<L>,
+) -> Result<()> {
+    match shared.freeze_dev(rt, seat, 9, 1) {
+        Ok(_) => {}
+        Err(SharedFault::Refused(why)) => print!(rt; " refused {why}")?,
+        Err(SharedFault::OutOfMemory) => print!(rt; " out of memory")?,
+    }
+    Ok(())
+}
+
+// The number of a kind of reply.
+fn number_of(reply: &Reply) -> u32 {
+    match reply {
+        Reply::Ccb(_) => 1,
+        Reply::Command(_) => 2,
+        Reply::Done(_) => 3,
+        Reply::Round(_) => 4,
+        Reply::Nothing => 5,
+    }
+}

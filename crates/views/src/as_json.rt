@@ -1,0 +1,17 @@
+//! What a check, an audit, an explanation and a proof of a trace give, each as one object of JSON on one line.
+
+pub use audit::audit_json;
+pub use check::check_json;
+pub use explain::explain_json;
+pub use prove::prove_json;
+
+mod audit;
+mod check;
+mod counts;
+mod explain;
+mod freezes;
+mod line;
+mod parts;
+mod prices;
+mod prove;
+mod stays;

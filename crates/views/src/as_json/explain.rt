@@ -1,0 +1,49 @@
+//! The object of an explanation.
+
+ghost use Rattle.std.specs.Prelude.{◌≡◌, string_bytes, IfOk};
+ghost use Rattle.json.specs.Lex.{tokens};
+ghost use Rattle.json.specs.Print.{print};
+
+use crate::as_json::counts::Counts;
+use crate::as_json::freezes::{ListedFreeze, freeze_list};
+use crate::as_json::line::line;
+use crate::as_json::parts::{Costs, Tables};
+use crate::as_json::stays::{ListedStay, stay_list};
+use cam_event::History;
+use serde::Serialize;
+use std::alloc::{AllocError, Global};
+use wait_causes::Explanation;
+
+#[derive(Drop, Serialize)]
+struct Explained<'a> {
+    #[serde(flatten)]
+    counts: Counts<'a>,
+    #[serde(flatten)]
+    costs: Costs,
+    #[serde(flatten)]
+    tables: Tables,
+    freezes: Vec<ListedFreeze>,
+    list: Vec<ListedStay>,
+}
+
+/// A line without its line feed: the counts of the history, what its live schedule and the other one cost in weighted
+/// rounds, the difference, and the live cost by cause; the tables by adapter, device, driver and run level; the freezes; and
+/// all stays in order of birth, each with its waits. Any text may be the trace's name.
+pub fn explain_json(
+    alloc: Global,
+    trace: &str,
+    history: &History,
+    explanation: &Explanation,
+) -> Result<String, AllocError>
+    ensures { IfOk result (λ s. string_bytes s ≡ print (tokens (string_bytes s))) }
+{
+    let config = history.config();
+    let explained = Explained {
+        counts: Counts::of(alloc, trace, history)?,
+        costs: Costs::of(&explanation.whole(), config),
+        tables: Tables::of(alloc, config, explanation)?,
+        freezes: freeze_list(alloc, explanation)?,
+        list: stay_list(alloc, explanation)?,
+    };
+    line(alloc, &explained)
+}

@@ -1,0 +1,14 @@
+//! What there is to read of a history and its audit: the text that explains where commands waited, the same as a page for a
+//! browser, objects of JSON, and what helps to find a fault.
+#![tactic(auto)]
+
+pub use as_json::{audit_json, check_json, explain_json, prove_json};
+pub use drawing::draw;
+pub use notes::{report_note, trace_note, unsent_note};
+pub use text::page;
+
+mod as_json;
+mod drawing;
+mod making;
+mod notes;
+mod text;

@@ -1,4 +1,0 @@
-pub mod Known
-pub mod Affected
-pub mod Updated
-pub mod Next

@@ -1,5 +1,0 @@
-use Rattle.xpt_ccbs.proofs.LawLemmas as lemmas
-use Rattle.xpt_ccbs.proofs.laws.decisions_end_cases.Goals as goal
-
-pub returns : goal.returns
-returns c = lemmas.decisions_end_cases

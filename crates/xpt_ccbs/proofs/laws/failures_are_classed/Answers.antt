@@ -1,5 +1,0 @@
-use Rattle.xpt_ccbs.proofs.LawLemmas as lemmas
-use Rattle.xpt_ccbs.proofs.laws.failures_are_classed.Goals as goal
-
-pub returns : goal.returns
-returns c = lemmas.failures_are_classed

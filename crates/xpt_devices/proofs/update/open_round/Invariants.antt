@@ -1,7 +1,0 @@
-use Rattle.std.proofs.Common.{◌≡◌, ◌++◌, map, take, drop}
-use Rattle.xpt_devices.specs.Updated.{in_next_round}
-use Rattle.xpt_devices.proofs.update.open_round.Given as goal
-
-abbrev pub invariant-loop-queue : goal.invariant-loop-queue
-invariant-loop-queue l =
-    l.queue-items ≡ map in_next_round (take l.queue-index l.initial.queue-items) ++ drop l.queue-index l.initial.queue-items

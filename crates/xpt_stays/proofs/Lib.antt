@@ -1,6 +1,0 @@
-pub mod LatestLemmas
-pub mod PlaceLemmas
-pub mod QuestionLemmas
-pub mod RecordLaws
-pub mod SentLemmas
-pub mod SoundLemmas

@@ -1,4 +1,0 @@
-pub mod StayRecord
-pub mod Records
-pub mod Latest
-pub mod Sound

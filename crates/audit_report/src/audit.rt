@@ -124,7 +124,7 @@ fn audit_text(
     Ok(text)
 }
 
-// Puts the report behind its summary, where the whole of it is asked for.
+// Puts the report after its summary, where the whole of it is asked for.
 #[tactic(auto, using(crate::proofs::AuditLemmas::nothing_more))]
 fn push_rest(
     text: &mut Vec<u8>,

@@ -86,7 +86,7 @@ impl Finding {
         }
     }
 
-    /// Puts the line that says it behind the text.
+    /// Puts the line that says it after the text.
     pub fn write(self, text: &mut Vec<u8>) -> Result<(), AllocError>
         ensures { OnOk result (text.new.items ≡ text.old.items ++ finding_text self) }
     {
@@ -121,7 +121,7 @@ fn write_stay(text: &mut Vec<u8>, stay: Stay, cause: Cause) -> Result<(), AllocE
     Ok(())
 }
 
-// Puts a space, a cause and a line feed behind the text.
+// Puts a space, a cause and a line feed after the text.
 fn write_cause(text: &mut Vec<u8>, cause: Cause) -> Result<(), AllocError>
     ensures { OnOk result (text.new.items ≡ text.old.items ++ (codes " " ++ (cause_text cause ++ codes "\n"))) }
 {

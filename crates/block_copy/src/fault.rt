@@ -9,7 +9,7 @@ use thiserror::Error;
 use trace_file::WriteFault;
 use xpt_lock::{GatherFault, SeatsFull, SharedFault};
 
-/// Why the copy failed. Its text is the line on standard error, behind the program's name.
+/// Why the copy failed. Its text is the line on standard error, after the program's name.
 #[derive(Drop, Debug, Error)]
 pub enum Fault {
     /// The configuration breaks a rule.

@@ -30,12 +30,12 @@ abbrev pub ◌>>=◌ : {A B E : Type 0} → Result A E → (A → Result B E) �
 abbrev pub digits_at : List ℕ → ℕ → ℕ
 digits_at text at = prefix_len is_ascii_digit (drop at text)
 
--- the number of at most `most` that those digits spell, and the offset behind them; or else the offset at which it begins
+-- the number of at most `most` that those digits spell, and the offset after them; or else the offset at which it begins
 unfoldable pub number_at : ℕ → List ℕ → ℕ → Result (ℕ × ℕ) ℕ
 number_at most text at =
     ok_or (option_map (λ n. (n, at + digits_at text at)) (number_of most (take (digits_at text at) (drop at text)))) at
 
--- the offset behind a colon, or else the offset at which it is due
+-- the offset after a colon, or else the offset at which it is due
 unfoldable pub colon_at : List ℕ → ℕ → Result ℕ ℕ
 colon_at text at = if nat_lt at (length text) && (slice_index text at == 58) then Ok (at + 1) else Err at
 

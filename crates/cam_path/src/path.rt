@@ -53,7 +53,7 @@ impl CamPath {
         }
     }
 
-    /// Puts the path's text behind the others.
+    /// Puts the path's text after the others.
     pub fn write(&self, text: &mut Vec<u8>) -> Result<(), AllocError>
         ensures written { OnOk result (text.new.items ≡ text.old.items ++ spelled self.now) }
         ensures kept { OnErr result (text.new.items ≡ text.old.items) }
@@ -66,7 +66,7 @@ impl CamPath {
         answer
     }
 
-    // Puts the path's text behind the others, or the front of it where memory runs out.
+    // Puts the path's text after the others, or the front of it where memory runs out.
     fn append(&self, text: &mut Vec<u8>) -> Result<(), AllocError>
         ensures written { OnOk result (text.new.items ≡ text.old.items ++ spelled self.now) }
         ensures front { OnErr result (take (length text.old.items) text.new.items ≡ text.old.items) }
@@ -80,7 +80,7 @@ impl CamPath {
     }
 }
 
-// Puts a number behind the text, in decimal.
+// Puts a number after the text, in decimal.
 fn push_number(text: &mut Vec<u8>, number: u16) -> Result<(), AllocError>
     ensures written { OnOk result (text.new.items ≡ text.old.items ++ decimal number) }
     ensures kept { OnErr result (text.new.items ≡ text.old.items) }

@@ -26,7 +26,7 @@ pub(crate) fn path_in(text: &[u8]) -> Result<CamPath, usize>
     })
 }
 
-// The number of at most `most` that the digits from an offset on spell, and the offset behind them; or else the offset.
+// The number of at most `most` that the digits from an offset on spell, and the offset after them; or else the offset.
 #[tactic(auto, unfolding(crate::specs::Paths::number_at))]
 fn number_at(text: &[u8], at: usize, most: u16) -> Result<(u64, usize), usize>
     requires { at ≤ length text.now }
@@ -52,7 +52,7 @@ fn digits_from(text: &[u8], at: usize) -> usize
         .count()
 }
 
-// The offset behind the colon at this one, or else this one.
+// The offset after the colon at this one, or else this one.
 #[tactic(auto, unfolding(crate::specs::Paths::colon_at))]
 fn colon_at(text: &[u8], at: usize) -> Result<usize, usize>
     requires { at ≤ length text.now }

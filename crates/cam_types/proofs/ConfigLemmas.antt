@@ -71,7 +71,7 @@ pub lane_items : (t : Topology) → IsConfig t → first_answer (lane_fault (len
 unfolding unit_fault
 lane_items t is = or_right _ _ (or_right _ _ (behind_lack t is))
 
--- there is room for an item of so many openings behind those before it, and it hasn't too many
+-- there is room for an item of that many openings after those before it, and it hasn't too many
 openings_room : (most before n : ℕ) → openings_fault most before n ≡ None → (before < most) × (n ≤ MOST_OPENINGS)
 openings_room most before n none =
     let room = not_taken (nat_le most before) TooMany _ none in

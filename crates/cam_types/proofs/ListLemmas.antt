@@ -34,7 +34,7 @@ pub or_right : {F : Type 0} → (o p : Option F) → option_or o p ≡ None → 
 or_right None p e = e
 or_right (Some x) p e = absurd (cc)
 
--- where an answer comes at the latest behind n elements and there is none, there are at most n
+-- where an answer comes at the latest after n elements and there is none, there are at most n
 few_after : {X F : Type 0} → (f : List X × X → Option F) (n : ℕ) → ((before : List X) (x : X) → f (before, x) ≡ None → length before < n) →
     (before xs : List X) → length before ≤ n → first_answer f (moments_after before xs) ≡ None → length before + length xs ≤ n
 few_after f n h before [] le none = omega arith

@@ -26,7 +26,7 @@ is_less as' [] = false
 abbrev pub least_by : {X : Type 0} → (X → List ℕ) → List X → Option X
 least_by key xs = find (λ x. list_all (λ y. not (is_less (key y) (key x))) xs) xs
 
--- the lesser of the least so far and one more, which stands behind it
+-- the lesser of the least so far and one more, which stands after it
 abbrev pub better : {X : Type 0} → (X → List ℕ) → Option X → X → Option X
 better key None x = Some x
 better key (Some b) x = if is_less (key x) (key b) then Some x else Some b

@@ -24,15 +24,15 @@ are_openings n = nat_lt 0 n && nat_le n MOST_OPENINGS
 abbrev pub is_same_address : Device → Device → Bool
 is_same_address d e = (d.bus == e.bus) && (d.target == e.target) && (d.lun == e.lun)
 
--- an adapter of so many openings that is on no link
+-- an adapter of that many openings that is on no link
 abbrev pub unlinked : ℕ → Adapter
 unlinked openings = record { openings = openings; link = None }
 
--- an adapter is on no link, or on one of so many
+-- an adapter is on no link, or on one of that many
 abbrev pub names_link : ℕ → Option ℕ → Bool
 names_link links link = option_map_or (λ l. nat_lt l links) link true
 
--- the first rule that an item of so many openings breaks, behind so many others, where there may be so many
+-- the first rule that an item of that many openings breaks, after that many others, where there may be that many
 abbrev pub openings_fault : ℕ → ℕ → ℕ → Option ConfigFault
 openings_fault most before openings =
     if nat_le most before then Some TooMany
@@ -43,12 +43,12 @@ openings_fault most before openings =
 unfoldable pub link_fault : List ℕ × ℕ → Option ConfigFault
 link_fault m = openings_fault MOST_LINKS (length m.0) m.1
 
--- the first rule that an adapter breaks, beside those before it, where there are so many links
+-- the first rule that an adapter breaks, beside those before it, where there are that many links
 unfoldable pub adapter_fault : ℕ → List Adapter × Adapter → Option ConfigFault
 adapter_fault links m =
     option_or (openings_fault MOST_ADAPTERS (length m.0) m.1.openings) (if names_link links m.1.link then None else Some NoLink)
 
--- the first rule that a device's address breaks, beside the devices before it, where there are so many adapters
+-- the first rule that a device's address breaks, beside the devices before it, where there are that many adapters
 unfoldable pub address_fault : ℕ → List Device × Device → Option ConfigFault
 address_fault adapters m =
     if nat_le adapters m.1.bus then Some NoAdapter
@@ -56,14 +56,14 @@ address_fault adapters m =
     else if list_any (is_same_address m.1) m.0 then Some DoubleDevice
     else None
 
--- the first rule that a device breaks, beside those before it, where there are so many adapters
+-- the first rule that a device breaks, beside those before it, where there are that many adapters
 unfoldable pub device_fault : ℕ → List Device × Device → Option ConfigFault
 device_fault adapters m =
     if nat_le MOST_DEVICES (length m.0) then Some TooMany
     else if not (are_openings m.1.openings) then Some BadOpenings
     else address_fault adapters m
 
--- the first rule that a lane breaks, beside those before it, where there are so many adapters
+-- the first rule that a lane breaks, beside those before it, where there are that many adapters
 unfoldable pub lane_fault : ℕ → List ℕ × ℕ → Option ConfigFault
 lane_fault adapters m =
     if nat_le MOST_LANES (count_by (λ a. a == m.1) m.0) then Some TooMany
@@ -80,7 +80,7 @@ adapter_lack adapters = if adapters == 0 then Some NoAdapters else None
 abbrev pub lack : List WeightRow → ℕ → Option ConfigFault
 lack weights adapters = option_or (weight_lack weights) (adapter_lack adapters)
 
--- the first rule that is broken by some device or lane, in this order, where there are so many adapters
+-- the first rule that is broken by some device or lane, in this order, where there are that many adapters
 unfoldable pub unit_fault : ℕ → List Device → List ℕ → Option ConfigFault
 unit_fault adapters devices lanes =
     option_or (first_answer (device_fault adapters) (moments devices))

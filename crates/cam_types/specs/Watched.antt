@@ -9,7 +9,7 @@ device_of w = w.device
 abbrev pub has_failed : {D : Type 0} → Watched D → Bool
 has_failed w = w.failed
 
--- no write stands behind the last flush that succeeded
+-- no write stands after the last flush that succeeded
 abbrev pub is_flushed : {D : Type 0} → Watched D → Bool
 is_flushed w = w.flushed
 

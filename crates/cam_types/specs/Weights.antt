@@ -11,7 +11,7 @@ use Rattle.cam_types.specs.declared.maxima.TheConstants.{MOST_PRIORITY, MOST_WEI
 abbrev pub is_weight : ℕ → Bool
 is_weight n = nat_le 1 n && nat_le n MOST_WEIGHT
 
--- the row's range has a priority behind those of the rows before it
+-- the row's range has a priority after those of the rows before it
 abbrev pub is_behind : List WeightRow → WeightRow → Bool
 is_behind before row = list_all (λ (b : WeightRow). nat_lt b.last row.last) before
 

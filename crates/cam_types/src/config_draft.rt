@@ -92,7 +92,7 @@ impl ConfigDraft {
         reaches_last(&self.weights)
     }
 
-    /// Adds a link of so many openings, before any adapter. Refused, the draft is as it was.
+    /// Adds a link of that many openings, before any adapter. Refused, the draft is as it was.
     pub fn add_link(&mut self, openings: u32) -> Result<(), ConfigError>
         requires no_adapter { self.old.adapters ≡ [] }
         ensures answer { MatchOption (link_fault (self.old.links, openings)) (IsOkUnless result OutOfMemory) (λ f. result ≡ Err (Fault f)) }

@@ -16,7 +16,7 @@ use crate::maxima::{
 };
 use crate::weight_row::WeightRow;
 
-/// The rule that a row of the table of weights breaks, behind those before it.
+/// The rule that a row of the table of weights breaks, after those before it.
 #[tactic(auto, unfolding(crate::specs::Weights::weight_fault))]
 pub fn weight_fault(before: &[WeightRow], row: WeightRow) -> Option<ConfigFault>
     ensures { result ≡ weight_fault (before.now, row) }
@@ -51,7 +51,7 @@ pub fn reaches_last(weights: &[WeightRow]) -> bool
     weights.iter().any(|row| row.last == MOST_PRIORITY)
 }
 
-/// What a configuration of such a table and so many adapters lacks.
+/// What a configuration of such a table and that many adapters lacks.
 pub fn lack(weights: &[WeightRow], adapters: usize) -> Option<ConfigFault>
     ensures { result ≡ lack weights.now adapters }
 {
@@ -78,7 +78,7 @@ fn adapter_lack(adapters: usize) -> Option<ConfigFault>
     }
 }
 
-/// The first rule that an item of these openings breaks, behind so many others, where there may be so many.
+/// The first rule that an item of these openings breaks, after that many others, where there may be that many.
 pub fn openings_fault(most: usize, before: usize, openings: u32) -> Option<ConfigFault>
     ensures { result ≡ openings_fault most before openings }
 {
@@ -91,7 +91,7 @@ pub fn openings_fault(most: usize, before: usize, openings: u32) -> Option<Confi
     }
 }
 
-/// The first rule that a link of these openings breaks, behind those before it.
+/// The first rule that a link of these openings breaks, after those before it.
 #[tactic(auto, unfolding(crate::specs::Topology::link_fault))]
 pub fn link_fault(before: &[u32], openings: u32) -> Option<ConfigFault>
     ensures { result ≡ link_fault (before.now, openings) }
@@ -99,7 +99,7 @@ pub fn link_fault(before: &[u32], openings: u32) -> Option<ConfigFault>
     openings_fault(MOST_LINKS, before.len(), openings)
 }
 
-/// The first rule that an adapter breaks, behind those before it, where there are so many links.
+/// The first rule that an adapter breaks, after those before it, where there are that many links.
 #[tactic(auto, unfolding(crate::specs::Topology::adapter_fault))]
 pub fn adapter_fault(links: usize, before: &[Adapter], adapter: Adapter) -> Option<ConfigFault>
     ensures { result ≡ adapter_fault links (before.now, adapter) }
@@ -112,7 +112,7 @@ pub fn adapter_fault(links: usize, before: &[Adapter], adapter: Adapter) -> Opti
     openings_fault(MOST_ADAPTERS, before.len(), adapter.openings).or(link_fault)
 }
 
-// Whether an adapter is on no link, or on one of so many.
+// Whether an adapter is on no link, or on one of that many.
 fn names_link(links: usize, link: Option<u32>) -> bool
     ensures { result ≡ names_link links link }
 {
@@ -122,7 +122,7 @@ fn names_link(links: usize, link: Option<u32>) -> bool
     }
 }
 
-/// The first rule that the device breaks, behind those before it, where there are so many adapters.
+/// The first rule that the device breaks, after those before it, where there are that many adapters.
 #[tactic(auto, unfolding(crate::specs::Topology::device_fault))]
 pub fn device_fault(adapters: usize, before: &[Device], device: Device) -> Option<ConfigFault>
     ensures { result ≡ device_fault adapters (before.now, device) }
@@ -136,7 +136,7 @@ pub fn device_fault(adapters: usize, before: &[Device], device: Device) -> Optio
     }
 }
 
-// The first rule that the device's address breaks, behind the devices before it.
+// The first rule that the device's address breaks, after the devices before it.
 #[tactic(auto, unfolding(crate::specs::Topology::address_fault))]
 fn address_fault(adapters: usize, before: &[Device], device: Device) -> Option<ConfigFault>
     ensures { result ≡ address_fault adapters (before.now, device) }
@@ -152,7 +152,7 @@ fn address_fault(adapters: usize, before: &[Device], device: Device) -> Option<C
     }
 }
 
-/// The first rule that a lane on this adapter breaks, behind those before it, where there are so many adapters.
+/// The first rule that a lane on this adapter breaks, after those before it, where there are that many adapters.
 #[tactic(auto, unfolding(crate::specs::Topology::lane_fault))]
 pub fn lane_fault(adapters: usize, before: &[u32], adapter: u32) -> Option<ConfigFault>
     ensures { result ≡ lane_fault adapters (before.now, adapter) }
@@ -172,7 +172,7 @@ fn lanes_of(lanes: &[u32], adapter: u32) -> usize
     lanes.iter().filter(|other| **other == adapter).count()
 }
 
-/// Whether a device, an adapter or a link may have so many openings: 1 to 255.
+/// Whether a device, an adapter or a link may have that many openings: 1 to 255.
 pub fn are_openings(openings: u32) -> bool
     ensures { result ≡ are_openings openings }
 {
@@ -205,7 +205,7 @@ fn weights_fault(weights: &[WeightRow]) -> Option<ConfigFault>
     None
 }
 
-// The first rule that one of some items of these openings breaks, of which there may be so many.
+// The first rule that one of some items of these openings breaks, of which there may be that many.
 fn openings_faults(most: usize, items: &[u32]) -> Option<ConfigFault>
     ensures { result ≡ first_answer (λ (m : List ℕ × ℕ). openings_fault most (length m.0) m.1) (moments items.now) }
 {
@@ -232,7 +232,7 @@ pub fn unlinked_fault(adapters: &[u32]) -> Option<ConfigFault>
     openings_faults(MOST_ADAPTERS, adapters)
 }
 
-/// The first rule that one of the adapters breaks, where there are so many links.
+/// The first rule that one of the adapters breaks, where there are that many links.
 pub fn adapters_fault(links: usize, adapters: &[Adapter]) -> Option<ConfigFault>
     ensures { result ≡ first_answer (adapter_fault links) (moments adapters.now) }
 {
@@ -271,7 +271,7 @@ fn lanes_fault(adapters: usize, lanes: &[u32]) -> Option<ConfigFault>
     None
 }
 
-/// The first rule that is broken, if this is the first that one of so many adapters breaks.
+/// The first rule that is broken, if this is the first that one of that many adapters breaks.
 #[tactic(auto, unfolding(crate::specs::Topology::unit_fault))]
 pub fn config_fault(
     weights: &[WeightRow],

@@ -8,7 +8,7 @@ ghost use Rattle.cam_types.specs.Watched.{device_of, has_failed, is_flushed, too
 use std::io;
 use std::io::{Read, Write};
 
-/// A reader or writer that remembers whether a call of it has failed, and whether a flush stands behind its last write.
+/// A reader or writer that remembers whether a call of it has failed, and whether a flush stands after its last write.
 #[derive(Debug, Drop)]
 pub struct Watched<D> {
     device: D,

@@ -6,7 +6,7 @@ ghost use Rattle.cam_types.specs.Weights.{standard_weights, are_standard, weight
 ghost use Rattle.cam_types.specs.declared.maxima.TheConstants.{MOST_PRIORITY};
 
 /// A row of a table of weights: a range of priorities, and what a round of waiting costs there. The first row's range begins
-/// at priority 0, and each next one's behind that of the row before it.
+/// at priority 0, and each next one's after that of the row before it.
 #[derive(Clone, Copy, Debug, PartialEq, Eq)]
 pub struct WeightRow {
     /// The last priority of the range, at most 1279.

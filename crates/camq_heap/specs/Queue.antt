@@ -29,7 +29,7 @@ module _ {T : Type 0} where
   abbrev pub change_priority : List (Entry T) → ℕ → ℕ → List (Entry T)
   change_priority xs i priority = placed_at priority (slice_get xs i) (remove xs i)
 
-  -- an array that holds a queue of this capacity, in memory for so many entries
+  -- an array that holds a queue of this capacity, in memory for that many entries
   pub record IsSound (xs : List (Entry T)) (capacity memory : ℕ) : Type 0 where
     pub heap : IsHeap key xs
     pub apart : AllApart (λ e. e.generation) xs

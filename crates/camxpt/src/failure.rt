@@ -10,7 +10,7 @@ use std::fmt;
 use std::process::ExitCode;
 use trace_file::{TraceFault, WriteFault};
 
-/// Why the program didn't do what its words asked. Its text is the line on standard error, behind the program's name.
+/// Why the program didn't do what its words asked. Its text is the line on standard error, after the program's name.
 #[derive(Clone, Copy)]
 pub enum Failure {
     /// A word of the command line isn't UTF-8.

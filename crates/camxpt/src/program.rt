@@ -40,7 +40,7 @@ fn tell<R: Runtime>(rt: &R, failure: &Failure) -> ExitCode {
     failure.exit_code()
 }
 
-// Says why an input was refused, and behind that line where it stands and what stands there, if that is asked for.
+// Says why an input was refused, and after that line where it stands and what stands there, if that is asked for.
 fn tell_on<R: Runtime + AllocGlobal>(
     rt: &R,
     failure: &Failure,
@@ -99,7 +99,7 @@ fn obey<R: Runtime + AllocGlobal + Threads + Wait + Sync>(
     }
 }
 
-// Says that a file can't be opened, and behind that line which, if that is asked for.
+// Says that a file can't be opened, and after that line which, if that is asked for.
 fn tell_unopened<R: Runtime>(rt: &R, words: &ArgMatches<'_>, argument: Argument) -> ExitCode {
     let status = tell(rt, &Failure::CannotOpen(argument));
     if words.get_flag("verbose") {

@@ -42,7 +42,7 @@ fn prove_as_json<R: Print + AllocGlobal>(
     Ok(is_proved)
 }
 
-// Puts the line that says what comes of the report behind these bytes.
+// Puts the line that says what comes of the report after these bytes.
 fn find(
     alloc: Global,
     trace: &Named<'_>,

@@ -66,7 +66,7 @@ row_above-past net row other inside past = elim (cases_lt other net.devices) [
   ]
 ]
 
--- the row so many steps up
+-- the row that many steps up
 abbrev pub steps_up : ℕ → Instance → ℕ → ℕ
 steps_up zero net row = row
 steps_up (suc n) net row = steps_up n net (row_above net row)

@@ -28,7 +28,7 @@ row_above net row =
 abbrev pub levels : ℕ
 levels = 3
 
--- a row and those above it, the root's left out, and no more than so many in all
+-- a row and those above it, the root's left out, and no more than that many in all
 abbrev pub rows_up : ℕ → Instance → ℕ → List ℕ
 rows_up zero net row = []
 rows_up (suc n) net row = if nat_lt row (rows net) then row ∷ rows_up n net (row_above net row) else []

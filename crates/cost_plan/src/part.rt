@@ -73,7 +73,7 @@ pub fn put_labels(net: &Net, labels: &mut [u64], part: &Part)
     }
 }
 
-// The labels behind those of a row.
+// The labels after those of a row.
 fn behind_row<'a>(net: &Net, labels: &'a [u64]) -> &'a [u64] {
     let width = net.rounds() as usize + 1;
     if width <= labels.len() {

@@ -26,7 +26,7 @@ has_generation-before generation (x ∷ xs) before =
     (ne_eqb x.generation generation (λ e. absurd (omega arith)))
     (has_generation-before generation xs (All-tail (λ e. e.generation < generation) x xs before))
 
--- the newest entry goes behind those that are as urgent
+-- the newest entry goes after those that are as urgent
 pub waiting_of-place : (e : Entry ℕ) (xs : List (Entry ℕ)) → e.generation < 2 ^ 64 → AllBefore e.generation xs → waiting_of (place key e xs) ≡ enter (waiting_of xs) (record { ccb = e.item; priority = e.priority })
 waiting_of-place e [] fits before = refl
 waiting_of-place e (x ∷ xs) fits before =
@@ -58,7 +58,7 @@ pub AllBefore-place : (e : Entry ℕ) (xs : List (Entry ℕ)) → AllBefore e.ge
 AllBefore-place e xs before =
     AllBefore-placed (e.generation + 1) e xs (omega arith) (All-weaker (λ y. y.generation < e.generation) (λ y. y.generation < e.generation + 1) (λ y h. omega arith) xs before)
 
--- so many of the CCBs have entered
+-- that many of the CCBs have entered
 pub record IsEntering (old new : Queue ℕ) (entries : List Waiting) (generation next done : ℕ) : Type 0 where
   pub entered : waiting_of new.entries ≡ enter_all (waiting_of old.entries) (take done entries)
   pub before : AllBefore next new.entries

@@ -2,7 +2,7 @@
 use Rattle.std.specs.Prelude.{ℕ, ◌+◌, ◌==◌, Bool, not, ◌&&◌, nat_lt, nat_le, if◌then◌else◌, List, [], ◌∷◌, length, fold}
 use Rattle.dev_queue.specs.declared.waiting.Waiting.{Waiting}
 
--- one more CCB in the queue, behind each that is as urgent
+-- one more CCB in the queue, after each that is as urgent
 abbrev pub enter : List Waiting → Waiting → List Waiting
 enter [] w = w ∷ []
 enter (x ∷ xs) w = if nat_le x.priority w.priority then x ∷ enter xs w else w ∷ x ∷ xs

@@ -55,7 +55,7 @@ impl DevQueue {
     ghost use Rattle.std.specs.List.Sorted.{IsNonDecreasingBy};
     ghost use Rattle.dev_queue.specs.Device.{enter, enter_all, held_count, is_frozen, is_ready};
 
-    /// An empty queue, with so many openings in each round, and with memory for `capacity` CCBs.
+    /// An empty queue, with that many openings in each round, and with memory for `capacity` CCBs.
     pub fn open(alloc: Global, openings: u32, capacity: usize) -> Result<DevQueue, AllocError>
         ensures { IfOk result (λ d. d ≡ record { waiting = []; later = []; capacity = capacity; openings = openings; next_openings = openings; sent = 0; in_flight = 0; callers = 0; errors = 0; entered = 0 }) }
     {
@@ -159,7 +159,7 @@ impl DevQueue {
         !self.waiting.is_empty() && !self.frozen() && self.sent < self.openings
     }
 
-    /// The CCB that is sent next: the most urgent, and of these the one that entered first. None behind it
+    /// The CCB that is sent next: the most urgent, and of these the one that entered first. None after it
     /// in the queue is more urgent than one before.
     pub fn first(&self) -> Option<Waiting>
         ensures value { result ≡ slice_get self.now.waiting 0 }
@@ -174,7 +174,7 @@ impl DevQueue {
         }
     }
 
-    /// Puts a CCB behind all that are as urgent. Where as many wait as may, nothing changes.
+    /// Puts a CCB after all that are as urgent. Where as many wait as may, nothing changes.
     pub fn insert(&mut self, ccb: u32, priority: Priority) -> Result<(), QueueFull>
         requires { self.old.entered < 2 ^ 32 - 1 }
         ensures room { IsOk result ↔ (held_count self.old < self.old.capacity) }

@@ -1,4 +1,4 @@
-//! CCBs enter a queue, each behind those that are as urgent.
+//! CCBs enter a queue, each after those that are as urgent.
 ghost use Rattle.std.specs.Prelude.{◌≡◌, ℕ, ◌+◌, ◌^◌, ◌<◌, ◌≤◌, length};
 ghost use Rattle.dev_queue.specs.Device.{enter, enter_all};
 ghost use Rattle.dev_queue.specs.Order.{waiting_of, AllBefore};
@@ -6,7 +6,7 @@ ghost use Rattle.dev_queue.specs.Order.{waiting_of, AllBefore};
 use crate::waiting::Waiting;
 use camq_heap::Camq;
 
-/// Puts a CCB behind all that entered before it and are as urgent. A queue with room, whose generations are all below this one.
+/// Puts a CCB after all that entered before it and are as urgent. A queue with room, whose generations are all below this one.
 pub(crate) fn enter_one(queue: &mut Camq<u32>, generation: u64, entry: Waiting)
     requires room { length queue.old.entries < queue.old.capacity }
     requires before { AllBefore generation queue.old.entries }

@@ -7,7 +7,7 @@ use std::io;
 use thiserror::Error;
 use trace_file::WriteFault;
 
-/// Why the loop ended early. Its text is the line on standard error, behind the program's name.
+/// Why the loop ended early. Its text is the line on standard error, after the program's name.
 #[derive(Drop, Debug, Error)]
 pub enum Fault {
     /// A word that isn't two hexadecimal digits.

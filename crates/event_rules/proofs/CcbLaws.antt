@@ -12,7 +12,7 @@ use Rattle.event_rules.specs.declared.event.Event.{Event}
 use Rattle.event_rules.proofs.ListFacts.{count_by-push}
 use Rattle.event_rules.proofs.StateLaws.{last-push}
 
--- what holds of no events, and behind one event more, holds of all lists
+-- what holds of no events, and after one event more, holds of all lists
 induction-from : (P : List Event → Type 0) → ((es : List Event) (e : Event) → P es → P (es ++ e ∷ [])) → (before after : List Event) → P before → P (before ++ after)
 induction-from P step before [] h = rw (append-nil before) h
 induction-from P step before (e ∷ after) h = rw (← append_assoc before (e ∷ []) after) (induction-from P step (before ++ e ∷ []) after (step before e h))

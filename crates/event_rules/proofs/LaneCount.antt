@@ -11,7 +11,7 @@ use Rattle.cam_types.proofs.ConfigLemmas.{few_adapters, lane_items}
 use Rattle.event_rules.proofs.QueueLaws.{test_le}
 use Rattle.event_rules.proofs.ListFacts.{count_by-push}
 
--- what holds of no numbers, and behind one more, holds of all lists
+-- what holds of no numbers, and after one more, holds of all lists
 from_front : (P : List ℕ → Type 0) → ((xs : List ℕ) (x : ℕ) → P xs → P (xs ++ x ∷ [])) → (front back : List ℕ) → P front → P (front ++ back)
 from_front P step front [] h = rw (append-nil front) h
 from_front P step front (x ∷ back) h = rw (← append_assoc front (x ∷ []) back) (from_front P step (front ++ x ∷ []) back (step front x h))

@@ -80,7 +80,7 @@ filter-same l p q (x ∷ xs) f h =
     let parts = and_parts (l x) (list_all l xs) h in
     rw (f x parts.0, filter-same l p q xs f parts.1) refl
 
--- behind a result that asks for a requeue, it counts where its class does
+-- after a result that asks for a requeue, it counts where its class does
 last_result-last_class : (before : List Event) (ccb : ℕ) → wants_requeue before ccb ≡ true → is_some_and (λ o. is_counted (kind_of o)) (last_result before ccb) ≡ is_some_and is_counted_class (last_class before ccb)
 unfolding wants_requeue
 last_result-last_class before ccb h =

@@ -18,7 +18,7 @@ use Rattle.cam_types.specs.declared.flags.Flags.{Flags}
 use Rattle.cam_types.specs.declared.maxima.TheConstants.{MOST_PRIORITY, MOST_RETRIES, MOST_ROUNDS, MOST_STAYS}
 use Rattle.event_rules.proofs.LawLemmas.{allowed-legal_event}
 
--- what a legal event leads to, where it holds before it, holds behind all of a legal list
+-- what a legal event leads to, where it holds before it, holds after all of a legal list
 pub legal-induction : (rules : Rules) (c : Topology) (P : List Event → Type 0) → ((before : List Event) (event : Event) → is_legal_event rules c (before, event) ≡ true → P before → P (before ++ event ∷ [])) → (before after : List Event) → list_all (is_legal_event rules c) (moments_after before after) ≡ true → P before → P (before ++ after)
 legal-induction rules c P step before [] legal h = rw (append-nil before) h
 legal-induction rules c P step before (event ∷ after) legal h =
@@ -93,7 +93,7 @@ pub legal-next : (rules : Rules) (c : Topology) (front : List Event) (event : Ev
 unfolding is_legal
 legal-next rules c front event back legal = (and_parts (is_legal_event rules c (front, event)) _ (legal-parts rules c [] front (event ∷ back) legal).1).0
 
--- the event at a place of a legal list is legal behind those before it
+-- the event at a place of a legal list is legal after those before it
 pub legal-at : (rules : Rules) (c : Topology) (events : List Event) (i : ℕ) (d : Event) → i < length events → is_legal rules c events ≡ true → is_legal_event rules c (take i events, get_or events i d) ≡ true
 legal-at rules c events i d lt legal =
     let parts : events ≡ take i events ++ get_or events i d ∷ drop (i + 1) events =

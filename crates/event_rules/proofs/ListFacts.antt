@@ -33,7 +33,7 @@ filter-same p q (x ∷ xs) h =
     let rest : filter p xs ≡ filter q xs = filter-same p q xs (All-tail (λ y. p y ≡ q y) x xs h) in
     rw (here, rest) refl
 
--- one filter behind another
+-- one filter after another
 both_cases : {X : Type 0} → (b : Bool) (q : X → Bool) (x : X) (ps bs : List X) → bs ≡ filter q ps → cond (b && q x) (x ∷ bs) bs ≡ filter q (cond b (x ∷ ps) ps)
 both_cases true q x ps bs e = rw e refl
 both_cases false q x ps bs e = e

@@ -114,7 +114,7 @@ module _ (test : Passage → Bool) where
   all_begun good more holds before (x ∷ xs) g =
       kept_stay (stay_begun (before, x)) (filter_map stay_begun (moments_after (before ++ x ∷ []) xs)) (λ p e. holds before x p g e) (all_begun good more holds (before ++ x ∷ []) xs (more before x g))
 
--- the stays begin one behind another
+-- the stays begin one after another
 pub le_test : (a b : ℕ) → a ≤ b → nat_le a b ≡ true
 le_test a b h = grind (arith, nat_tests)
 
@@ -191,7 +191,7 @@ in_order-tick es d =
     ∙ sorted-parts queue_key (is_at d (round es)) (is_later d (round es)) (is_at d (round es + 1)) (waiting es)
     (parted_all d (round es) (waiting es) (arrived-waiting es)) (all_apart-waiting es)
 
--- nothing waits for the round behind the next
+-- nothing waits for the round after the next
 not_later : (a : Bool) (arrival r : ℕ) → arrival ≤ r → (a && nat_lt r arrival) ≡ false
 not_later true arrival r le = grind (arith, nat_tests)
 not_later false arrival r le = refl

@@ -108,7 +108,7 @@ flying-other es e c k is ne = is_in_flight-push es e k ∙ rw ((apart_from k e (
 pub recovering-other : (es : List Event) (e : Event) (c k : ℕ) → ccb_of e ≡ Some c → k ≢ c → is_recovering (es ++ e ∷ []) k ≡ is_recovering es k
 recovering-other es e c k is ne = is_recovering-push es e k ∙ rw (concerns-other e c k is ne) refl
 
--- the CCB of a send is in flight behind it, and that of a completion isn't
+-- the CCB of a send is in flight after it, and that of a completion isn't
 pub same_number : (k : ℕ) → (k == k) ≡ true
 same_number k = grind (arith, nat_tests)
 

@@ -32,7 +32,7 @@ slice_get-append xs ys i x h =
     let within = slice_get_within xs i x h in
     slice_get-get_or (xs ++ ys) i x (omega (arith, within, length-append xs ys)) ∙ ap Some (get_or-append xs ys x i within ∙ get_or_from_slice_get xs i x x h)
 
--- an element stands behind those before it
+-- an element stands after those before it
 slice_get-seam : {X : Type 0} → (xs ys : List X) (x : X) → slice_get (xs ++ x ∷ ys) (length xs) ≡ Some x
 slice_get-seam xs ys x =
     slice_get-get_or (xs ++ x ∷ ys) (length xs) x (omega (arith, length-append xs (x ∷ ys))) ∙ ap Some (get_or-append_seam xs x ys x)
@@ -74,7 +74,7 @@ of_its_ccb-stay_begun before after (Requeue ccb) p h =
     ] refl
 of_its_ccb-stay_begun before after _ p h = absurd cc
 
--- the stays that events begin behind others
+-- the stays that events begin after others
 of_its_ccb-after : (before after : List Event) → list_all (is_of_its_ccb (before ++ after)) (filter_map stay_begun (moments_after before after)) ≡ true
 of_its_ccb-after before [] = refl
 of_its_ccb-after before (event ∷ after) =

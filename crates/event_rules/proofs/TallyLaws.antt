@@ -33,7 +33,7 @@ sim_tally events a = record {
   taken = count_by (is_sim_release_of a) events;
 }
 
--- what an event changes of a device's freezes, behind the events before it
+-- what an event changes of a device's freezes, after the events before it
 abbrev pub device_change : List Event × Event → Option Tally
 device_change (before, FreezeDev device count) = Some (record { number = device; added = count; taken = 0 })
 device_change (before, ReleaseDev device count) = Some (record { number = device; added = 0; taken = count })

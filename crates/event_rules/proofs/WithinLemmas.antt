@@ -56,7 +56,7 @@ alive-submit es e s is =
     bit_le true = omega arith
     bit_le false = omega arith
 
--- so many are alive as are allowed, where they are counted
+-- as many are alive as are allowed, where they are counted
 abbrev IsCounted : Rules → List Event → Type 0
 IsCounted rules es = (most : ℕ) → rules.ccbs ≡ Some most → alive es ≤ most
 
@@ -85,7 +85,7 @@ counted-legal : (rules : Rules) (c : Topology) (es : List Event) → is_legal ru
 unfolding is_legal
 counted-legal rules c es legal = legal-induction rules c (IsCounted rules) (counted_step rules c) [] es legal (none_alive rules)
 
--- so many events
+-- that many events
 short_step : (rules : Rules) (c : Topology) (es : List Event) (e : Event) → is_legal_event rules c (es, e) ≡ true → length es ≤ rules.events → length (es ++ e ∷ []) ≤ rules.events
 short_step rules c es e legal h = omega (arith, (allowed-legal_event rules c es e legal).0, length-append es (e ∷ []))
 

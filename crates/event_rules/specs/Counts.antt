@@ -55,7 +55,7 @@ alive events = count_by (λ ccb. not (list_any (ends ccb) events)) (ccbs events)
 unfoldable pub last_result : List Event → ℕ → Option Outcome
 last_result events ccb = option_and_then outcome_of (last (is_done_of ccb) events)
 
--- a requeue of the CCB behind a result that counts
+-- a requeue of the CCB after a result that counts
 abbrev pub is_counted_requeue : ℕ → List Event × Event → Bool
 is_counted_requeue ccb (before, event) =
     is_requeue_of ccb event && is_some_and (λ o. is_counted (kind_of o)) (last_result before ccb)
@@ -75,7 +75,7 @@ unfoldable pub wants_finish : List Event → ℕ → Bool
 wants_finish events ccb =
     is_some_and (λ o. asks_finish (classify o (counted_requeues events ccb) (retries_of events ccb))) (last_result events ccb)
 
--- the send that an event is, behind the events before it
+-- the send that an event is, after the events before it
 abbrev pub sending_of : List Event × Event → Option Sending
 sending_of (before, Send lane ccb) = option_map (λ (s : Submission). record {
   device = s.device;

@@ -30,7 +30,7 @@ goes_now_to_adapter c events a s = goes_now events (λ (t : Sending). is_on c a 
 abbrev pub goes_now_over_link : Topology → List Event → ℕ → Sending → Bool
 goes_now_over_link c events l s = goes_now events (λ (t : Sending). is_under c l t.device) s
 
--- of so many openings one is left: each send in the place's round that passes the test uses one
+-- of that many openings one is left: each send in the place's round that passes the test uses one
 abbrev pub is_left : List Event → (Sending → Bool) → ℕ → Bool
 is_left events test openings = nat_lt (count_by (goes_now events test) (sendings events)) openings
 

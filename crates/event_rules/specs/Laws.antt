@@ -51,12 +51,12 @@ abbrev pub is_counted_class : class.Class → Bool
 is_counted_class CountedRequeue = true
 is_counted_class _ = false
 
--- a requeue of the CCB behind a result of the class that counts as a retry
+-- a requeue of the CCB after a result of the class that counts as a retry
 abbrev pub is_requeue_by_class : ℕ → List Event × Event → Bool
 is_requeue_by_class ccb (before, event) =
     is_requeue_of ccb event && is_some_and is_counted_class (last_class before ccb)
 
--- The requeues of a legal list that are counted are those behind a result whose class counts as a retry.
+-- The requeues of a legal list that are counted are those after a result whose class counts as a retry.
 abbrev pub RequeuesCountByClass : Type 0
 RequeuesCountByClass =
     (rules : Rules) (c : Topology) (events : List Event) (ccb : ℕ)
@@ -88,7 +88,7 @@ StaysAreInRange =
     (rules : Rules) (c : Topology) (events : List Event)
     → IsTrue (is_legal rules c events) → IsTrue (list_all (is_stay_in_range c events) (stays_begun events))
 
--- so many events, rounds and stays, and CCBs alive where they are counted, as the rules allow at the most
+-- as many events, rounds and stays, and CCBs alive where they are counted, as the rules allow at the most
 pub record IsWithinRules (rules : Rules) (events : List Event) : Type 0 where
   pub few_events : length events ≤ rules.events
   pub few_rounds : round events ≤ rules.rounds
@@ -101,7 +101,7 @@ LegalIsWithin =
     (rules : Rules) (c : Topology) (events : List Event)
     → 1 ≤ rules.rounds → IsTrue (is_legal rules c events) → IsWithinRules rules events
 
--- Each event of a legal list is legal behind those before it.
+-- Each event of a legal list is legal after those before it.
 abbrev pub EachIsLegal : Type 0
 EachIsLegal =
     (rules : Rules) (c : Topology) (before : List Event) (event : Event) (behind : List Event)

@@ -46,7 +46,7 @@ pub record IsWithinHistory (rules : Rules) : Type 0 where
 abbrev pub names_ccb : List Event → ℕ → Bool
 names_ccb before ccb = nat_lt ccb (commands before)
 
--- so many freezes may be made or taken away at once
+-- that many freezes may be made or taken away at once
 abbrev pub is_count : ℕ → Bool
 is_count n = nat_lt 0 n && nat_le n MOST_FREEZES
 
@@ -86,7 +86,7 @@ is_allowed rules c before (ReleaseSim sim) = names_adapter c sim && nat_le 1 (ad
 is_allowed rules c before (Adjust device openings) = names_device c device && are_openings openings
 is_allowed rules c before Tick = not (has_in_flight before) && nat_lt (round before) rules.rounds
 
--- an event is legal behind the events before it
+-- an event is legal after the events before it
 unfoldable pub is_legal_event : Rules → Topology → List Event × Event → Bool
 is_legal_event rules c (before, event) = nat_lt (length before) rules.events && is_allowed rules c before event
 

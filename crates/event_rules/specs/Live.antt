@@ -9,7 +9,7 @@ use Rattle.event_rules.specs.Stays.{stays_begun, is_unsent}
 use Rattle.event_rules.specs.declared.event.Event.{Event}
 use Rattle.event_rules.specs.declared.passage.Passage.{Passage}
 
--- the place of a stay's send: the first send of its CCB behind the event that began it, or the length without one
+-- the place of a stay's send: the first send of its CCB after the event that began it, or the length without one
 unfoldable pub send_place : List Event → Passage → ℕ
 send_place events p = p.place + 1 + position_or_len (is_send_of p.ccb) (drop (p.place + 1) events)
 

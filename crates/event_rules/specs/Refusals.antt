@@ -128,7 +128,7 @@ tick_causes rules before =
     ∷ (nat_le rules.rounds (round before), RoundsFull)
     ∷ []
 
--- the causes that may refuse an event behind the events before it
+-- the causes that may refuse an event after the events before it
 abbrev pub causes : Rules → Topology → List Event → Event → List (Bool × Refusal)
 causes rules c before (Submit driver device priority retries flags) = submit_causes rules c before device priority retries
 causes rules c before (Send lane ccb) = send_causes c before lane ccb
@@ -150,7 +150,7 @@ named m = if m.0 then Some m.1 else None
 abbrev pub first_cause : List (Bool × Refusal) → Option Refusal
 first_cause ms = first_answer named ms
 
--- why an event is refused behind the events before it: the first cause that holds
+-- why an event is refused after the events before it: the first cause that holds
 unfoldable pub refusal : Rules → Topology → List Event → Event → Option Refusal
 refusal rules c before event =
     first_cause ((nat_le rules.events (length before), HistoryFull (length before)) ∷ causes rules c before event)

@@ -11,7 +11,7 @@ use Rattle.event_rules.specs.declared.submission.Submission.{Submission}
 use Rattle.event_rules.specs.declared.passage.Passage.{Passage}
 use Rattle.event_rules.specs.declared.stay.Stay.{Stay}
 
--- the stay that an event begins, behind the events before it: a requeued CCB arrives in the next round
+-- the stay that an event begins, after the events before it: a requeued CCB arrives in the next round
 abbrev pub stay_begun : List Event × Event → Option Passage
 stay_begun (before, Submit driver device priority retries flags) = Some (record {
   ccb = commands before;
@@ -37,7 +37,7 @@ stay_begun (before, _) = None
 unfoldable pub stays_begun : List Event → List Passage
 stays_begun events = filter_map stay_begun (moments events)
 
--- no send of its CCB stands behind the event that began it
+-- no send of its CCB stands after the event that began it
 abbrev pub is_unsent : List Event → Passage → Bool
 is_unsent events p = not (list_any (is_send_of p.ccb) (drop (p.place + 1) events))
 

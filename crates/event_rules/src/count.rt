@@ -5,7 +5,7 @@ ghost use Rattle.event_rules.specs.Legal.{is_count};
 
 use cam_types::MOST_FREEZES;
 
-/// Whether so many freezes may be made or taken away at once.
+/// Whether that many freezes may be made or taken away at once.
 pub fn is_count(count: u32) -> bool
     ensures { result ≡ is_count count }
 {

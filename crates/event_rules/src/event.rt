@@ -32,17 +32,17 @@ pub enum Event {
     Finish {
         ccb: u32,
     },
-    /// A caller freezes the device's queue so many times.
+    /// A caller freezes the device's queue that many times.
     FreezeDev {
         device: u32,
         count: u32,
     },
-    /// A caller takes so many freezes of the device's queue away.
+    /// A caller takes that many freezes of the device's queue away.
     ReleaseDev {
         device: u32,
         count: u32,
     },
-    /// A caller freezes the adapter so many times.
+    /// A caller freezes the adapter that many times.
     FreezeSim {
         sim: u32,
         count: u32,
@@ -51,7 +51,7 @@ pub enum Event {
     ReleaseSim {
         sim: u32,
     },
-    /// From the next round on the device takes so many commands a round.
+    /// From the next round on the device takes that many commands a round.
     Adjust {
         device: u32,
         openings: u32,

@@ -12,7 +12,7 @@ pub fn sends_stand_free()
     ensures { SendsStandFree }
 {}
 
-/// In each legal list the requeues that count as retries are those behind a result whose class says so.
+/// In each legal list the requeues that count as retries are those after a result whose class says so.
 pub fn requeues_count_by_class()
     ensures { RequeuesCountByClass }
 {}
@@ -33,7 +33,7 @@ pub fn legal_is_within()
     ensures { LegalIsWithin }
 {}
 
-/// Each event of a legal list is legal behind those before it.
+/// Each event of a legal list is legal after those before it.
 pub fn each_is_legal()
     ensures { EachIsLegal }
 {}

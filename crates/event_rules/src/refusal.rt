@@ -6,7 +6,7 @@ use thiserror::Error;
 /// Why an event is refused: the first cause that holds, in the order of this list.
 #[derive(Clone, Copy, Debug, PartialEq, Eq, Error)]
 pub enum Refusal {
-    /// There are as many events as there may be: so many.
+    /// There are as many events as there may be: that many.
     HistoryFull(u32),
     /// There is no device of that number.
     NoDevice,

@@ -40,7 +40,7 @@ line_behind text front at e =
     let same : take at text ≡ front = append_cancel_right (take at text) front (drop at text) (take-append-drop at text ∙ e) in
     ap (λ (l : List ℕ). count_by (λ byte. byte == 10) l + 1) same
 
--- ---- values, and zeros behind them
+-- ---- values, and zeros after them
 
 abbrev pub padded : ℕ → List ℕ → List ℕ
 padded n vs = vs ++ replicate (n - length vs) 0
@@ -81,7 +81,7 @@ made net best excess stays prices = record {
   excess = excess;
 }
 
--- so many values, none above the most
+-- that many values, none above the most
 pub record Fitting (n most : ℕ) (vs : List ℕ) : Type 0 where
   pub size : length vs ≡ n
   pub small : All (λ v. v ≤ most) vs
@@ -183,7 +183,7 @@ longer text front more at end f e closed = record {
 regroup : (f t m x : List ℕ) → f ++ ((t ++ m) ++ x) ≡ (f ++ t) ++ (m ++ x)
 regroup f t m x = simp append_assoc
 
--- a section's values so far, with zeros behind them, are said behind what was read
+-- a section's values so far, with zeros after them, are said after what was read
 behind_front : (front part whole m x report : List ℕ) → report ≡ front ++ (whole ++ x) → whole ≡ part ++ m → report ≡ (front ++ part) ++ (m ++ x)
 behind_front front part whole m x report e h = e ∙ ap (λ (l : List ℕ). front ++ (l ++ x)) h ∙ regroup front part m x
 

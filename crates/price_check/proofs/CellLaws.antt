@@ -1,4 +1,4 @@
--- the prices of cells, one behind another
+-- the prices of cells, one after another
 use Rattle.std.proofs.Common.{◌≡◌, ◌<◌, ◌≤◌, ◌+◌, ◌-◌, ◌*◌, ◌/◌, ◌%◌, ◌^◌, ℕ, List, [], ◌∷◌, ◌++◌, length, drop, get_or, Bool, true, false, cond, refl, sym, ap, ◌∙◌, subst, arith, append_assoc, inl, inr}
 use Rattle.std.specs.Prelude.{◌==◌, nat_lt, Option, Some, None, Ok, decimal, codes, slice_get, All}
 use Rattle.std.specs.Option.{option_map_or}
@@ -134,7 +134,7 @@ past_devices devices row none = elim (slice_get_cases devices row).1 [
   | inr past ↦ omega (arith, past.0)
 ]
 
--- behind all devices, adapters are told from links, and each from the others of its kind
+-- after all devices, adapters are told from links, and each from the others of its kind
 same_shared : (adapters a b r r' : ℕ) (x y : List ℕ) → a < 2 ^ 64 → b < 2 ^ 64 → r < 2 ^ 64 → r' < 2 ^ 64 → front_text (shared_text adapters a) r ++ x ≡ front_text (shared_text adapters b) r' ++ y → (a ≡ b) × (r ≡ r')
 same_shared adapters a b r r' x y fits fits' few few' e = by (nat_lt a adapters) (nat_lt b adapters) refl refl e
   where

@@ -47,7 +47,7 @@ pub record IsLine (text : List ℕ) : Type 0 where
 pub line_closed : (text : List ℕ) → IsLine text → IsClosed text
 line_closed text h = rw h.whole (closed_line h.content [] tt)
 
--- ---- a closed front ends behind a line or further on
+-- ---- a closed front ends after a line or further on
 
 pub record Behind (line rest front back : List ℕ) : Type 0 where
   pub more : List ℕ
@@ -88,14 +88,14 @@ texts_closed form h (suc n) vs = closed_append (texts_of form n vs) (form n (get
     by (inl none) = rw none tt
     by (inr some) = line_closed (form n (get_or vs n 0)) some
 
--- the front ends behind one of the first n texts, which is a line
+-- the front ends after one of the first n texts, which is a line
 pub record EndsWithin (form : ℕ → ℕ → List ℕ) (n : ℕ) (vs front : List ℕ) : Type 0 where
   pub place : ℕ
   pub within : place < n
   pub line : IsLine (form place (get_or vs place 0))
   pub is : front ≡ texts_of form place vs ++ form place (get_or vs place 0)
 
--- the front goes on behind them
+-- the front goes on after them
 pub record GoesOn (form : ℕ → ℕ → List ℕ) (n : ℕ) (vs rest front back : List ℕ) : Type 0 where
   pub more : List ℕ
   pub closed : IsClosed more

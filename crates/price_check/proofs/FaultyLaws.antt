@@ -92,7 +92,7 @@ report_some : (past : Past) (net : NetRows) (live : ℕ) (claim : Claim) → IsS
 unfolding report_text summary_text line
 report_some past net live claim = tt
 
--- ---- lines that are further behind have higher numbers
+-- ---- lines that are further after have higher numbers
 
 take_none : (k : ℕ) → [] ≡ take {A = ℕ} k []
 take_none zero = refl

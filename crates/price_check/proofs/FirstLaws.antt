@@ -1,4 +1,4 @@
--- a fault of a reading stands behind lines that begin some claim's report
+-- a fault of a reading stands after lines that begin some claim's report
 use Rattle.std.proofs.Common.{◌≡◌, ◌≤◌, ℕ, List, [], ◌++◌, length, drop, replicate, Bool, true, false, cond, refl, sym, ap, ◌∙◌, arith, append_assoc, append-nil}
 use Rattle.std.specs.Prelude.{⊤, Option, Some, None, Result, Ok, Err, ok_or, codes, nat_le}
 use Rattle.event_rules.specs.Past.{Past}

@@ -15,7 +15,7 @@ bind-same : {A B : Type 0} (o : Option A) (f g : A → Option B) → ((x : A) �
 bind-same (Some x) f g h = h x
 bind-same None f g h = refl
 
--- pieces one behind another, and what is done behind them
+-- pieces one after another, and what is done after them
 module _ {X : Type 0} (k : ℕ → Option X) (text : List ℕ) where
   two : (a b : List ℕ) (at : ℕ) → (skip a text at >>= λ x. skip b text x >>= k) ≡ (skip (a ++ b) text at >>= k)
   two a b at = simp (skip_append, bind-assoc)
@@ -40,7 +40,7 @@ module _ {X : Type 0} (k : ℕ → Option X) (text : List ℕ) where
       ≡ (skip ((p ++ (s ++ a)) ++ ((s ++ r) ++ s)) text at >>= k)
   of_number p s a r at = simp (append_assoc, skip_append, bind-assoc)
 
--- the offset behind is given as it is
+-- the offset after is given as it is
 alone : {o p : Option ℕ} → (o >>= λ x. Some x) ≡ (p >>= λ x. Some x) → o ≡ p
 alone {o = o} {p = p} e = sym (by o) ∙ e ∙ by p
   where
@@ -59,7 +59,7 @@ pub stated_line-framed : (word text : List ℕ) (at : ℕ) → stated_line word 
 unfolding stated_line
 stated_line-framed word text at = two (λ begin. found_number most_stated text begin >>= λ number. skip (codes "\n") text number.1 >>= λ next. Some (number.0, next)) text word (codes " ") at
 
--- a stay's line up to the round that is best for it, and behind that
+-- a stay's line up to the round that is best for it, and after that
 abbrev pub stay_front : Stay → ℕ → ℕ → List ℕ
 stay_front name arrival live =
     codes "stay" ++ (number_text name.ccb ++ (number_text name.attempt ++ (number_text arrival ++ (number_text live ++ codes " "))))

@@ -79,7 +79,7 @@ with-length : (c : ℕ) (ls : List (List ℕ)) → IsSome ls → length (with_by
 with-length c [] h = absurd h
 with-length c (l ∷ ls) h = refl
 
--- behind a byte that is no feed more stands in a closed text
+-- after a byte that is no feed more stands in a closed text
 behind_other : (c : ℕ) (cs : List ℕ) → (c == 10) ≡ false → IsClosed (c ∷ cs) → IsSome cs
 behind_other c [] e h = absurd (let is = eq-eqb c 10 h in cc)
 behind_other c (d ∷ ds) e h = tt

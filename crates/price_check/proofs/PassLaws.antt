@@ -66,7 +66,7 @@ on_summary devices events live net text m h =
     (bind_from text m behind_all (λ (costs : ℕ × ℕ × ℕ). costs.2) (series (seven_at events live text) 7 0) _ h (λ said le. le))
     (λ costs le. on_stays devices net text costs m (series_from text (stay_at net text) (stay_steps net text) (instance_of_rows net).stays costs.2 m le)))
 
--- what stands behind the text read so far, and that a reading gets as far
+-- what stands after the text read so far, and that a reading gets as far
 pub record Passed (text rest : List ℕ) (r : Result Claim ReportFault) : Type 0 where
   pub at : ℕ
   pub behind : drop at text ≡ rest
@@ -83,7 +83,7 @@ further text one steps place n at e vs lt h =
     let same : n ≡ k + suc place = omega arith in
     rw same (series_later text one steps k (suc place) at e vs h)
 
--- in a section whose lines are read whatever is behind them
+-- in a section whose lines are read whatever is after them
 pub lines_within : (form : ℕ → ℕ → List ℕ) (text : List ℕ) (one : Reader) → Steps text one → (n : ℕ) (vs : List ℕ) → n ≤ length vs → Again form (λ _ _. ⊤) text one n vs → (at : ℕ) (rest front : List ℕ)
     → EndsWithin form n vs front → drop at text ≡ front ++ rest → PassedIn text rest (series one n at)
 lines_within form text one steps n vs le again at rest front w e =

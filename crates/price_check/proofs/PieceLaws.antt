@@ -48,7 +48,7 @@ IsApart piece text = (rest : List ℕ) → text ≡ piece ++ rest → ⊥
 pub skip_none : (piece text : List ℕ) (at : ℕ) → IsApart piece (drop at text) → skip piece text at ≡ None
 skip_none piece text at apart = none_unless (skip piece text at) (λ e is. apart (drop e text) (skip_takes piece text at e is).0)
 
--- one piece behind another is passed over like both at once
+-- one piece after another is passed over like both at once
 pub skip_append : (a b text : List ℕ) (at : ℕ) → skip (a ++ b) text at ≡ (skip a text at >>= skip b text)
 skip_append a b text at = by (skip a text at) refl
   where

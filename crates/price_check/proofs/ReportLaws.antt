@@ -87,7 +87,7 @@ price_texts devices p n =
     (λ k lt. ap (price_line (row_text devices p.adapters (k / p.rounds)) (k % p.rounds + 1)) (at_place p.rounds k p.prices))
     ∙ texts_by_row n p.rounds (λ row r. price_line (row_text devices p.adapters row) (r + 1) (slice_index p.prices (cell p.rounds row (r + 1))))
 
--- the stays and the prices of a report, one behind another
+-- the stays and the prices of a report, one after another
 pub plan_parts : (devices : List Device) (net : NetRows) (best : List ℕ) (p : PriceRows) → IsPricingFor (instance_of_rows net) p → plan_text devices net (slice_index best) (pricing_of_rows p)
     ≡ texts_of (stay_form net) (instance_of_rows net).stays best ++ (texts_of (form_of devices (instance_of_rows net).adapters (instance_of_rows net).rounds) (price_cells net) p.prices ++ codes "end\n")
 unfolding plan_text price_lines

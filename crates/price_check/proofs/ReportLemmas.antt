@@ -1,4 +1,4 @@
--- texts put behind one another
+-- texts put after one another
 use Rattle.std.proofs.Common.{◌≡◌, ℕ, suc, ◌+◌, ◌-◌, ◌≤◌, List, ◌++◌, length, refl, sym, ap, ◌∙◌, arith, append_assoc, append-nil, length-append, Some, None}
 use Rattle.std.specs.Prelude.{codes, decimal, slice_get}
 use Rattle.std.proofs.lemmas.Fmt.{length-decimal-le}
@@ -31,7 +31,7 @@ length-spelled p fits =
 pub path_behind : (p : CamPath) (before text : List ℕ) → Fits p → text ≡ before ++ spelled p → length text ≤ length before + 15
 path_behind p before text fits is = omega (arith, ap length is, length-append before (spelled p), length-spelled p fits)
 
--- two pieces behind a text
+-- two pieces after a text
 pub two_pieces : (before first second so_far : List ℕ) → so_far ≡ before ++ first → before ++ (first ++ second) ≡ so_far ++ second
 two_pieces before first second so_far is = sym (append_assoc before first second) ∙ ap (λ t. t ++ second) (sym is)
 

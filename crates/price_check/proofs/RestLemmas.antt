@@ -16,7 +16,7 @@ use Rattle.round_net.proofs.SumLemmas.{sum_below-same, sum_below-add, sum_below-
 use Rattle.price_check.proofs.LeastLemmas.{least-le_at, le-least}
 use Rattle.price_check.specs.Rests.{takes, pays, IsCheapest, AreCheapest, IsNextWeight}
 
--- behind the last round there is none
+-- after the last round there is none
 pub cheapest_none : (net : Instance) (p : Pricing) (w d : ℕ) → IsCheapest net p w d (net.rounds + 1) 0
 cheapest_none net p w d = record {
   within = omega arith;

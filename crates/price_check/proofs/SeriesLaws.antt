@@ -1,4 +1,4 @@
--- readings in a row take their texts one behind another
+-- readings in a row take their texts one after another
 use Rattle.std.proofs.Common.{◌≡◌, ℕ, zero, suc, ◌+◌, ◌*◌, ◌/◌, ◌%◌, ◌<◌, ◌≤◌, List, [], ◌∷◌, ◌++◌, length, take, drop, get_or, refl, sym, ap, ◌∙◌, subst, arith, append_assoc, append-nil}
 use Rattle.std.specs.Prelude.{Result, Ok, Err, All}
 use Rattle.std.proofs.lemmas.List.{take_more, get_or_append_left, length_push}
@@ -67,12 +67,12 @@ series_takes form most text one takes (suc n) at said e =
 
 -- ---- what stands there is read
 
--- Where the text of a value stands, and what is behind it is no text of an earlier reading, the value is read.
+-- Where the text of a value stands, and what is after it is no text of an earlier reading, the value is read.
 abbrev pub Again : (ℕ → ℕ → List ℕ) → (ℕ → List ℕ → Type 0) → List ℕ → Reader → ℕ → List ℕ → Type 0
 Again form behind text one n vs = (k at : ℕ) (rest : List ℕ) → k < n → drop at text ≡ form k (get_or vs k 0) ++ rest → behind (suc k) rest
     → (e : ℕ) × (one k at ≡ Ok (get_or vs k 0, e)) × (drop e text ≡ rest)
 
--- what may be behind the readings up to one may also be behind those before it, with the text of this one
+-- what may be after the readings up to one may also be after those before it, with the text of this one
 abbrev pub Joins : (ℕ → ℕ → List ℕ) → (ℕ → List ℕ → Type 0) → ℕ → List ℕ → Type 0
 Joins form behind n vs = (k : ℕ) (rest : List ℕ) → k < n → behind (suc k) rest → behind k (form k (get_or vs k 0) ++ rest)
 

@@ -19,7 +19,7 @@ use Rattle.price_check.proofs.FormLaws.{known_line-skip, stated_line-framed, nam
 use Rattle.price_check.proofs.SeriesLemmas.{Reader}
 use Rattle.price_check.specs.Claims.{fault_line}
 
--- a reading from an offset on goes on behind it, or names the line that stands there
+-- a reading from an offset on goes on after it, or names the line that stands there
 abbrev pub Exact : {X : Type 0} → List ℕ → ℕ → (X → ℕ) → Result X ReportFault → Type 0
 Exact text at off (Ok x) = at ≤ off x
 Exact text at off (Err e) = fault_line e ≡ line_of text at

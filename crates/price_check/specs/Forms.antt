@@ -1,4 +1,4 @@
--- the forms of a report's lines: where one stands at an offset, what it says and the offset behind it
+-- the forms of a report's lines: where one stands at an offset, what it says and the offset after it
 use Rattle.std.specs.Prelude.{ℕ, ◌-◌, nat_lt, if◌then◌else◌, List, length, Option, Some, codes, decimal, option_and_then, slice_get}
 use Rattle.std.specs.Option.{option_map_or}
 use Rattle.cam_types.specs.declared.device.Device.{Device}
@@ -83,12 +83,12 @@ number_front word n r text at = do
   space ← skip_number r text round
   skip (codes " ") text space
 
--- the same behind all devices: of an adapter's opening, and behind all adapters of a link's
+-- the same after all devices: of an adapter's opening, and after all adapters of a link's
 unfoldable pub shared_front : ℕ → ℕ → ℕ → List ℕ → ℕ → Option ℕ
 shared_front adapters n r text at =
     if nat_lt n adapters then number_front (codes "price sim") n r text at else number_front (codes "price link") (n - adapters) r text at
 
--- the same by the row: of a device's opening, and behind all devices of an adapter's or a link's
+-- the same by the row: of a device's opening, and after all devices of an adapter's or a link's
 unfoldable pub price_front : List Device → ℕ → ℕ → ℕ → List ℕ → ℕ → Option ℕ
 price_front devices adapters row r text at =
     option_map_or (λ (device : Device). dev_front device r text at) (slice_get devices row) (shared_front adapters (row - length devices) r text at)

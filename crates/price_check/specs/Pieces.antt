@@ -9,17 +9,17 @@ abbrev pub ◌>>=◌ : {A B : Type 0} → Option A → (A → Option B) → Opti
 (Some x) >>= f = f x
 None >>= f = None
 
--- the offset behind a piece that stands at this one
+-- the offset after a piece that stands at this one
 unfoldable pub skip : List ℕ → List ℕ → ℕ → Option ℕ
 skip piece text at = if bytes_eq piece (take (length piece) (drop at text)) then Some (at + length piece) else None
 
--- the offset behind a space and this number
+-- the offset after a space and this number
 unfoldable pub skip_number : ℕ → List ℕ → ℕ → Option ℕ
 skip_number n text at = do
   begin ← skip (codes " ") text at
   skip (decimal n) text begin
 
--- the number of at most `most` that stands at an offset, and the offset behind it
+-- the number of at most `most` that stands at an offset, and the offset after it
 abbrev pub found_number : ℕ → List ℕ → ℕ → Option (ℕ × ℕ)
 found_number most text at = result_ok (number_at most text at)
 

@@ -1,4 +1,4 @@
--- How a text is read as a report: line by line, each the one that is due behind those before it.
+-- How a text is read as a report: line by line, each the one that is due after those before it.
 use Rattle.std.specs.Prelude.{ℕ, zero, suc, ◌+◌, ◌-◌, ◌*◌, ◌/◌, ◌%◌, ◌==◌, Bool, not, nat_le, nat_lt, ◌&&◌, if◌then◌else◌, List, [], ◌∷◌, ◌++◌, length, take, drop, slice_index, Option, is_some, ok_or, Result, Ok, Err, codes, ⊤}
 use Rattle.std.specs.Option.{option_map_or}
 use Rattle.cam_types.specs.Number.{has_leading_zero, number_of}
@@ -16,7 +16,7 @@ use Rattle.price_check.specs.declared.claim.Claim.{Claim}
 use Rattle.price_check.specs.declared.report_fault.ReportFault.{ReportFault}
 use Rattle.price_check.specs.declared.report_fault.ReportFault.TheVariants.{BadLine, PriceRange, WrongStays}
 
--- the text with a line feed behind its last line
+-- the text with a line feed after its last line
 abbrev pub closed : List ℕ → List ℕ
 closed text = if slice_index text (length text - 1) == 10 then text else text ++ codes "\n"
 
@@ -24,7 +24,7 @@ closed text = if slice_index text (length text - 1) == 10 then text else text ++
 abbrev pub due : {X : Type 0} → Option X → List ℕ → ℕ → Result X ReportFault
 due line text at = ok_or line (BadLine (line_of text at))
 
--- the first seven lines: what is said of the cost and of the excess, and the offset behind them
+-- the first seven lines: what is said of the cost and of the excess, and the offset after them
 unfoldable pub summary_at : List Event → ℕ → List ℕ → Result (ℕ × ℕ × ℕ) ReportFault
 summary_at events live text = do
   one ← due (known_line (codes "camaudit") 1 text 0) text 0
@@ -36,7 +36,7 @@ summary_at events live text = do
   excess ← due (stated_line (codes "excess") text best.1) text best.1
   Ok (best.0, excess.0, excess.1)
 
--- the line of a stay: the round that is best for it, and the offset behind it
+-- the line of a stay: the round that is best for it, and the offset after it
 unfoldable pub stay_at : NetRows → List ℕ → ℕ → ℕ → Result (ℕ × ℕ) ReportFault
 stay_at net text s at =
     ok_or (own_stay net s text at) (if is_some (any_stay text at) then WrongStays (line_of text at) else BadLine (line_of text at))
@@ -52,7 +52,7 @@ valued text at next digits = option_map_or (λ price. if price == 0 then Ok (0, 
     (number_of MOST_PRICE digits)
     (if is_large digits && nat_le next (at + 101) then Err (PriceRange (line_of text at)) else Ok (0, at))
 
--- the price behind a front, if it stands there and digits and the line's end are behind it, and the offset behind its line
+-- the price after a front, if it stands there and digits and the line's end are after it, and the offset after its line
 unfoldable pub price_at : Option ℕ → List ℕ → ℕ → Result (ℕ × ℕ) ReportFault
 price_at front text at = option_map_or (λ begin. option_map_or (λ next. valued text at next (take (digits_at text begin) (drop begin text)))
     (skip (codes "\n") text (begin + digits_at text begin)) (Ok (0, at))) front (Ok (0, at))
@@ -61,7 +61,7 @@ price_at front text at = option_map_or (λ begin. option_map_or (λ next. valued
 unfoldable pub cell_price_at : List Device → ℕ → ℕ → List ℕ → ℕ → ℕ → Result (ℕ × ℕ) ReportFault
 cell_price_at devices adapters rounds text cell at = price_at (price_front devices adapters (cell / rounds) (cell % rounds + 1) text at) text at
 
--- what n readings in a row give, each from the offset behind the one before
+-- what n readings in a row give, each from the offset after the one before
 unfoldable pub series : (ℕ → ℕ → Result (ℕ × ℕ) ReportFault) → ℕ → ℕ → Result (List ℕ × ℕ) ReportFault
 series one zero at = Ok ([], at)
 series one (suc n) at = do
@@ -73,7 +73,7 @@ series one (suc n) at = do
 abbrev pub stops : List ℕ → ℕ → Result ⊤ ReportFault
 stops text at = if nat_le (length text) at then Ok tt else Err (BadLine (line_of text at))
 
--- the last line, and nothing behind it
+-- the last line, and nothing after it
 unfoldable pub ended : List ℕ → ℕ → Result ⊤ ReportFault
 ended text at = due (skip (codes "end\n") text at) text at >>= stops text
 

@@ -24,11 +24,11 @@ summary_text events live best excess =
     ++ line (codes "best") best
     ++ line (codes "excess") excess
 
--- a number behind a space
+-- a number after a space
 abbrev pub number_text : ℕ → List ℕ
 number_text n = codes " " ++ decimal n
 
--- the texts of the first n numbers, one behind another
+-- the texts of the first n numbers, one after another
 abbrev pub texts_below : ℕ → (ℕ → List ℕ) → List ℕ
 texts_below zero text = []
 texts_below (suc n) text = texts_below n text ++ text n
@@ -52,11 +52,11 @@ stay_line net best s =
 abbrev pub price_line : List ℕ → ℕ → ℕ → List ℕ
 price_line whose r price = if price == 0 then [] else whose ++ (number_text r ++ (number_text price ++ codes "\n"))
 
--- whose opening it is, behind all devices: an adapter by its number, and behind all adapters a link by its number
+-- whose opening it is, after all devices: an adapter by its number, and after all adapters a link by its number
 abbrev pub shared_text : ℕ → ℕ → List ℕ
 shared_text adapters n = if nat_lt n adapters then codes "price sim" ++ number_text n else codes "price link" ++ number_text (n - adapters)
 
--- the same by the row: a device by its path, and behind all devices an adapter or a link
+-- the same by the row: a device by its path, and after all devices an adapter or a link
 unfoldable pub row_text : List Device → ℕ → ℕ → List ℕ
 row_text devices adapters row =
     option_map_or (λ (device : Device). codes "price dev " ++ spelled (address_of device)) (slice_get devices row) (shared_text adapters (row - length devices))

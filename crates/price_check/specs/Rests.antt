@@ -27,7 +27,7 @@ pub record IsCheapest (net : Instance) (p : Pricing) (w d from round : ℕ) : Ty
 pub record AreCheapest (net : Instance) (p : Pricing) (w devices : ℕ) (rests : List ℕ) : Type 0 where
   pub each : (d r : ℕ) → d < devices → 1 ≤ r → r ≤ net.rounds → IsCheapest net p w d r (slice_index rests (cell net.rounds d r))
 
--- the least weight above a number, of the first so many stays; 0 if there is none
+-- the least weight above a number, of the first that many stays; 0 if there is none
 pub record IsNextWeight (net : Instance) (above n next : ℕ) : Type 0 where
   pub most : next ≤ MOST_WEIGHT
   pub above_it : 0 < next → above < next

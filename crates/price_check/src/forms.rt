@@ -15,7 +15,7 @@ const MOST_STATED: u64 = 999_999_999_999_999_999;
 /// The most that a stay's line may say.
 const MOST_ROUND: u64 = 65_535;
 
-/// The offset behind the line of this word and this number.
+/// The offset after the line of this word and this number.
 #[tactic(auto, unfolding(crate::specs::Forms::known_line))]
 pub(crate) fn known_line(text: &[u8], at: usize, word: &[u8], number: u64) -> Option<usize>
     requires { at ≤ length text.now }
@@ -27,7 +27,7 @@ pub(crate) fn known_line(text: &[u8], at: usize, word: &[u8], number: u64) -> Op
     skip(text, end, b"\n")
 }
 
-/// The number in the line of this word, and the offset behind the line.
+/// The number in the line of this word, and the offset after the line.
 #[tactic(auto, unfolding(crate::specs::Forms::stated_line))]
 pub(crate) fn stated_line(text: &[u8], at: usize, word: &[u8]) -> Option<(u64, usize)>
     requires { at ≤ length text.now }
@@ -41,7 +41,7 @@ pub(crate) fn stated_line(text: &[u8], at: usize, word: &[u8]) -> Option<(u64, u
     Some((number, next))
 }
 
-/// The round that is best for the stay by its line, and the offset behind the line.
+/// The round that is best for the stay by its line, and the offset after the line.
 #[tactic(auto, unfolding(crate::specs::Forms::own_stay))]
 pub(crate) fn own_stay(text: &[u8], at: usize, net: &Net, stay: u32) -> Option<(u32, usize)>
     requires within { at ≤ length text.now }
@@ -84,7 +84,7 @@ fn named_stay(
     Some((best as u32, next))
 }
 
-/// The offset behind the line of any stay.
+/// The offset after the line of any stay.
 #[tactic(auto, unfolding(crate::specs::Forms::any_stay))]
 pub(crate) fn any_stay(text: &[u8], at: usize) -> Option<usize>
     requires { at ≤ length text.now }
@@ -111,8 +111,8 @@ fn small_number(text: &[u8], at: usize) -> Option<usize>
     Some(end)
 }
 
-/// The offset behind the front of the line of the price of a row's opening in a round: of a device's, or behind all devices
-/// of an adapter's, or behind all adapters of a link's.
+/// The offset after the front of the line of the price of a row's opening in a round: of a device's, or after all devices
+/// of an adapter's, or after all adapters of a link's.
 #[tactic(auto, unfolding(crate::specs::Forms::price_front))]
 pub(crate) fn price_front(
     text: &[u8],

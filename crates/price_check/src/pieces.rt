@@ -7,7 +7,7 @@ ghost use Rattle.price_check.specs.Pieces.{skip, skip_number, found_number, line
 use cam_types::read_number;
 use itoa::Buffer;
 
-/// The offset behind a piece that stands at this one.
+/// The offset after a piece that stands at this one.
 #[tactic(auto, unfolding(crate::specs::Pieces::skip))]
 pub(crate) fn skip(text: &[u8], at: usize, piece: &[u8]) -> Option<usize>
     requires { at ≤ length text.now }
@@ -21,7 +21,7 @@ pub(crate) fn skip(text: &[u8], at: usize, piece: &[u8]) -> Option<usize>
     }
 }
 
-/// The offset behind this number, in decimal, that stands at this one.
+/// The offset after this number, in decimal, that stands at this one.
 pub(crate) fn skip_digits(text: &[u8], at: usize, number: u64) -> Option<usize>
     requires { at ≤ length text.now }
     ensures value { result ≡ skip (decimal number) text.now at }
@@ -31,7 +31,7 @@ pub(crate) fn skip_digits(text: &[u8], at: usize, number: u64) -> Option<usize>
     skip(text, at, digits.format(number).as_bytes())
 }
 
-/// The offset behind a space and this number.
+/// The offset after a space and this number.
 #[tactic(auto, unfolding(crate::specs::Pieces::skip_number))]
 pub(crate) fn skip_number(text: &[u8], at: usize, number: u64) -> Option<usize>
     requires { at ≤ length text.now }
@@ -54,7 +54,7 @@ pub(crate) fn digits_from(text: &[u8], at: usize) -> usize
         .count()
 }
 
-/// The number of at most `most` that stands at an offset, and the offset behind it.
+/// The number of at most `most` that stands at an offset, and the offset after it.
 #[tactic(auto, unfolding(cam_path::specs::Paths::number_at))]
 pub(crate) fn number_at(text: &[u8], at: usize, most: u64) -> Option<(u64, usize)>
     requires { at ≤ length text.now }

@@ -16,7 +16,7 @@ use std::alloc::Global;
 /// How many bytes a line may have, its line feed included.
 const MOST_LINE: usize = 101;
 
-/// The prices of all cells, by row and round, and the offset behind their lines.
+/// The prices of all cells, by row and round, and the offset after their lines.
 pub(crate) fn read_prices(
     alloc: Global,
     text: &[u8],
@@ -43,7 +43,7 @@ pub(crate) fn read_prices(
     Ok((prices, next))
 }
 
-// The price of a cell, and the offset behind its line.
+// The price of a cell, and the offset after its line.
 #[tactic(auto, unfolding(crate::specs::Reading::cell_price_at))]
 fn read_cell(
     text: &[u8],
@@ -71,7 +71,7 @@ fn read_cell(
     read_price(text, at, front)
 }
 
-// The price behind a front, and the offset behind its line; or 0 where no price stands there.
+// The price after a front, and the offset after its line; or 0 where no price stands there.
 #[tactic(auto, unfolding(crate::specs::Reading::price_at))]
 fn read_price(text: &[u8], at: usize, front: Option<usize>) -> Result<(u64, usize), ReportFault>
     requires within { at ≤ length text.now }
@@ -90,7 +90,7 @@ fn read_price(text: &[u8], at: usize, front: Option<usize>) -> Result<(u64, usiz
     }
 }
 
-// The price that these digits spell, and the offset behind its line; or 0 where they spell none.
+// The price that these digits spell, and the offset after its line; or 0 where they spell none.
 #[tactic(auto, unfolding(crate::specs::Reading::valued))]
 fn valued(text: &[u8], at: usize, next: usize, digits: &[u8]) -> Result<(u64, usize), ReportFault>
     requires within { at ≤ length text.now }

@@ -78,7 +78,7 @@ fn read_text(
     read_lines(alloc, &text, devices, history, net, live)
 }
 
-// Puts a line feed behind the last line, where it has none.
+// Puts a line feed after the last line, where it has none.
 fn close(text: &mut Vec<u8>) -> Result<(), AllocError>
     ensures { OnOk result (text.new.items ≡ closed text.old.items) }
 {
@@ -119,7 +119,7 @@ fn read_lines(
     })
 }
 
-// Whether the last line stands at an offset and nothing behind it.
+// Whether the last line stands at an offset and nothing after it.
 #[tactic(auto, unfolding(crate::specs::Reading::ended))]
 fn read_end(text: &[u8], at: usize) -> Result<(), ReportFault>
     requires within { at ≤ length text.now }

@@ -15,7 +15,7 @@ use cam_types::Device;
 use round_net::{Net, Prices, Schedule};
 use std::alloc::AllocError;
 
-/// Puts the report's first seven lines behind the text: the counts of the history, and in weighted rounds what its live
+/// Puts the report's first seven lines after the text: the counts of the history, and in weighted rounds what its live
 /// schedule cost, what a best one costs and by how much the live one is above it. It fails only if there is no memory.
 #[tactic(auto, unfolding(crate::specs::Report::summary_text))]
 pub fn push_summary(
@@ -38,7 +38,7 @@ pub fn push_summary(
     Ok(())
 }
 
-/// Puts the rest of the report behind the text: the stays, the prices that aren't 0, and the last line. It fails only if there
+/// Puts the rest of the report after the text: the stays, the prices that aren't 0, and the last line. It fails only if there
 /// is no memory.
 #[tactic(auto, unfolding(crate::specs::Report::plan_text))]
 pub fn push_plan(
@@ -92,7 +92,7 @@ fn push_stay(
     Ok(())
 }
 
-// Puts the prices behind the text, by row and round.
+// Puts the prices after the text, by row and round.
 #[tactic(auto, using(crate::proofs::ReportLemmas::no_text, crate::proofs::ReportLemmas::next_text), unfolding(crate::specs::Report::price_lines))]
 fn push_prices(
     text: &mut Vec<u8>,
@@ -110,7 +110,7 @@ fn push_prices(
     Ok(())
 }
 
-// Puts the prices of a row behind the text.
+// Puts the prices of a row after the text.
 #[tactic(auto, using(crate::proofs::ReportLemmas::no_text, crate::proofs::ReportLemmas::next_text))]
 fn push_rounds(
     text: &mut Vec<u8>,
@@ -130,7 +130,7 @@ fn push_rounds(
     Ok(())
 }
 
-// Puts the line of a price behind the text, if it isn't 0.
+// Puts the line of a price after the text, if it isn't 0.
 #[tactic(auto, unfolding(crate::specs::Report::row_line))]
 fn push_price(
     text: &mut Vec<u8>,
@@ -156,7 +156,7 @@ fn push_price(
     text.extend_from_slice(b"\n")
 }
 
-// Puts whose opening a row's is behind the text: a device's by its path, and behind all devices an adapter's or a link's.
+// Puts whose opening a row's is after the text: a device's by its path, and after all devices an adapter's or a link's.
 #[tactic(auto, unfolding(crate::specs::Report::row_text))]
 fn push_row(
     text: &mut Vec<u8>,
@@ -180,7 +180,7 @@ fn push_row(
     }
 }
 
-// Puts an adapter by its number behind the text, or behind all adapters a link by its number.
+// Puts an adapter by its number after the text, or after all adapters a link by its number.
 fn push_shared(text: &mut Vec<u8>, adapters: u32, number: u32) -> Result<(), AllocError>
     ensures text { OnOk result (text.new.items ≡ text.old.items ++ shared_text adapters number) }
     ensures short { OnOk result (length text.new.items ≤ length text.old.items + 51) }
@@ -194,7 +194,7 @@ fn push_shared(text: &mut Vec<u8>, adapters: u32, number: u32) -> Result<(), All
     }
 }
 
-// Puts the path of a device behind the text.
+// Puts the path of a device after the text.
 fn push_path(text: &mut Vec<u8>, device: &Device) -> Result<(), AllocError>
     ensures text { OnOk result (text.new.items ≡ text.old.items ++ spelled (address_of device.now)) }
     ensures short { OnOk result (length text.new.items ≤ length text.old.items + 15) }

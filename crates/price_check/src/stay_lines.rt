@@ -11,7 +11,7 @@ use crate::report_fault::ReportFault;
 use round_net::Net;
 use std::alloc::Global;
 
-/// The rounds that are best for the stays by their lines, and the offset behind these.
+/// The rounds that are best for the stays by their lines, and the offset after these.
 pub(crate) fn read_stays(
     alloc: Global,
     text: &[u8],
@@ -35,7 +35,7 @@ pub(crate) fn read_stays(
     Ok((rounds, next))
 }
 
-// The round that is best for the stay by its line, which is due, and the offset behind the line.
+// The round that is best for the stay by its line, which is due, and the offset after the line.
 #[tactic(auto, unfolding(crate::specs::Reading::stay_at))]
 fn read_stay(text: &[u8], at: usize, net: &Net, stay: u32) -> Result<(u32, usize), ReportFault>
     requires within { at ≤ length text.now }

@@ -9,7 +9,7 @@ use crate::pieces::line_of;
 use crate::report_fault::ReportFault;
 use cam_event::History;
 
-/// What the first seven lines say of the cost and of the excess, and the offset behind them.
+/// What the first seven lines say of the cost and of the excess, and the offset after them.
 #[tactic(auto, unfolding(crate::specs::Reading::summary_at))]
 pub(crate) fn read_summary(
     text: &[u8],
@@ -30,7 +30,7 @@ pub(crate) fn read_summary(
     Ok((best, excess, seven))
 }
 
-// The offset behind the line of this word and this number, which is due.
+// The offset after the line of this word and this number, which is due.
 fn read_known(text: &[u8], at: usize, word: &[u8], number: u64) -> Result<usize, ReportFault>
     requires within { at ≤ length text.now }
     requires short { length text.now < 2 ^ 31 }
@@ -43,7 +43,7 @@ fn read_known(text: &[u8], at: usize, word: &[u8], number: u64) -> Result<usize,
     }
 }
 
-// The number in the line of this word, which is due, and the offset behind the line.
+// The number in the line of this word, which is due, and the offset after the line.
 fn read_stated(text: &[u8], at: usize, word: &[u8]) -> Result<(u64, usize), ReportFault>
     requires within { at ≤ length text.now }
     requires short { length text.now < 2 ^ 31 }

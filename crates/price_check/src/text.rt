@@ -8,7 +8,7 @@ use event_rules::Stay;
 use itoa::Buffer;
 use std::alloc::AllocError;
 
-/// Puts a line of a word and a number behind the text. It fails only if there is no memory.
+/// Puts a line of a word and a number after the text. It fails only if there is no memory.
 pub fn push_line(text: &mut Vec<u8>, word: &[u8], number: u64) -> Result<(), AllocError>
     ensures text { OnOk result (text.new.items ≡ text.old.items ++ line word.now number) }
     ensures short { OnOk result (length text.new.items ≤ length text.old.items + (length word.now + 42)) }
@@ -21,7 +21,7 @@ pub fn push_line(text: &mut Vec<u8>, word: &[u8], number: u64) -> Result<(), All
     Ok(())
 }
 
-/// Puts a space and a number behind the text. It fails only if there is no memory.
+/// Puts a space and a number after the text. It fails only if there is no memory.
 pub fn push_number(text: &mut Vec<u8>, number: u64) -> Result<(), AllocError>
     ensures text { OnOk result (text.new.items ≡ text.old.items ++ number_text number) }
     ensures short { OnOk result (length text.new.items ≤ length text.old.items + 41) }
@@ -31,7 +31,7 @@ pub fn push_number(text: &mut Vec<u8>, number: u64) -> Result<(), AllocError>
     text.extend_from_slice(digits.format(number).as_bytes())
 }
 
-/// Puts a stay's CCB and try behind the text, each behind a space. It fails only if there is no memory.
+/// Puts a stay's CCB and try after the text, each after a space. It fails only if there is no memory.
 pub fn push_name(text: &mut Vec<u8>, stay: Stay) -> Result<(), AllocError>
     ensures text { OnOk result (text.new.items ≡ text.old.items ++ (number_text stay.ccb ++ number_text stay.attempt)) }
     ensures short { OnOk result (length text.new.items ≤ length text.old.items + 82) }

@@ -40,7 +40,7 @@ fn by_row(net: &Net, prices: &Prices, row: u32) -> u128
     total
 }
 
-// What so many openings are worth at a price.
+// What that many openings are worth at a price.
 fn worth(cap: u32, price: u64) -> u128
     requires cap { cap ≤ MOST_OPENINGS }
     requires price { price ≤ MOST_PRICE }

@@ -7,7 +7,7 @@ use event_rules::Stay;
 pub enum Cause {
     /// It lies before its arrival.
     Early,
-    /// It lies behind the last round of its window.
+    /// It lies after the last round of its window.
     Late,
     /// Of the stays up to it more are of its device and in its round than the device takes.
     DeviceFull,

@@ -8,7 +8,7 @@ use Rattle.std.proofs.lemmas.Grind.{common_steps}
 use Rattle.csv.specs.Records.{field_at}
 use Rattle.recording_file.specs.Fields.{Row, field_of, unused}
 
--- the fields from a place on are the field there and those behind it
+-- the fields from a place on are the field there and those after it
 pub drop_field : (row : Row) (at : ℕ) → at < length row → drop at row ≡ field_of row at ∷ drop (at + 1) row
 unfolding field_at
 drop_field [] at h = absurd (omega arith)

@@ -14,14 +14,14 @@ use Rattle.recording_file.specs.Reading.{begun, given}
 use Rattle.recording_file.specs.Recorded.{Recorded, Request}
 use Rattle.recording_file.specs.Records.{adapter_row, cap_row, device_row, header, link_row, name_row, records_of, request_row, rounds_row, unit_rows, weight_row, weight_rows}
 
--- one record more behind those of a list, and the same behind others
+-- one record more after those of a list, and the same after others
 last_more : {X : Type 0} (row : X → Row) (xs : List X) (x : X) → (map row xs ++ []) ++ row x ∷ [] ≡ map row (xs ++ x ∷ []) ++ []
 last_more row xs x = rw (append-nil (map row xs), append-nil (map row (xs ++ x ∷ []))) (sym (map-append row xs (x ∷ [])))
 
 more_behind : (front rest more : List Row) (r : Row) → rest ++ r ∷ [] ≡ more → (front ++ rest) ++ r ∷ [] ≡ front ++ more
 more_behind front rest more r e = append_assoc front rest (r ∷ []) ∙ ap (λ (l : List Row). front ++ l) e
 
--- the same behind the header, the unit and the rounds
+-- the same after the header, the unit and the rounds
 headed : (r : Recorded) (rest more : List Row) (x : Row) → rest ++ x ∷ [] ≡ more → (header ∷ (unit_rows r.unit ++ (rounds_row r.rounds ∷ rest))) ++ x ∷ [] ≡ header ∷ (unit_rows r.unit ++ (rounds_row r.rounds ∷ more))
 headed r rest more x e =
     ap (λ (l : List Row). header ∷ l) (more_behind (unit_rows r.unit) (rounds_row r.rounds ∷ rest) (rounds_row r.rounds ∷ more) x (ap (λ (l : List Row). rounds_row r.rounds ∷ l) e))

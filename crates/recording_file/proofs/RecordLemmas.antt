@@ -23,7 +23,7 @@ step_closes : (s : State) (c : ℕ) → Closes (step default_config s c)
 step_closes st.StartRecord c e = grind (arith, nat_tests)
 step_closes _ c e = grind (arith, nat_tests)
 
--- what stands behind a record
+-- what stands after a record
 abbrev Leaves : Read → ℕ → Type 0
 Leaves p n = (ends_at_end p.1 ≡ false) × (length p.2 ≤ n)
 

@@ -82,7 +82,7 @@ no_more row at n x y P eight size e made = on_ok (unused_from row at) _ y e (λ 
 
 -- ---- the forms of each row
 
--- what is said is spelled so behind its word, and fits
+-- what is said is spelled so after its word, and fits
 abbrev pub Tells : Recorded → Row → Said → Type 0
 Tells r row x = (spelled (word_for x) ∷ drop 1 row ≡ said_row x) × FitsSaid r x
 

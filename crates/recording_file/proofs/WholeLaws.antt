@@ -54,7 +54,7 @@ pub link_small : (before : List ℕ) (k : ℕ) → link_fault (before, k) ≡ No
 unfolding link_fault
 link_small before k e = leb-true _ _ (and_parts _ _ (not-false _ (cond_none _ _ _ (cond_none _ _ _ e).1).0)).1
 
--- an adapter's link is one of so many
+-- an adapter's link is one of that many
 pub adapter_link : (links : ℕ) (before : List Adapter) (a : Adapter) → adapter_fault links (before, a) ≡ None → IfSome a.link (λ l. l < links)
 unfolding adapter_fault
 adapter_link links before a e = by a.link (or_right (openings_fault MOST_ADAPTERS (length before) a.openings) _ e)
@@ -84,7 +84,7 @@ config ws ks as' ds = record { weights = ws; links = ks; adapters = as'; devices
 abbrev start_of : Option Span → ℕ → Bool → Start
 start_of unit rounds table = record { unit = unit; rounds = rounds; table = table }
 
--- behind the rounds, with these rows of weights so far
+-- after the rounds, with these rows of weights so far
 abbrev at_weights : Option Span → ℕ → List WeightRow → RecordingStage
 at_weights unit rounds [] = stage.Weights (start_of unit rounds false) standard
 at_weights unit rounds (w ∷ ws) = stage.Weights (start_of unit rounds true) (config (w ∷ ws) [] [] [])
@@ -159,7 +159,7 @@ at_book base [] [] (q ∷ qs) = stage.Book (record (recorded_of base) { names = 
 at_book base [] (c ∷ cs) qs = stage.Book (record (recorded_of base) { names = []; caps = c ∷ cs; requests = qs })
 at_book base (x ∷ xs) cs qs = stage.Book (record (recorded_of base) { names = x ∷ xs; caps = cs; requests = qs })
 
--- a stage behind the devices
+-- a stage after the devices
 pub record IsBase (r : Recorded) (base : RecordingStage) : Type 0 where
   pub behind : base ≢ stage.Header
   pub whole : lacks_adapters base ≡ false
@@ -327,7 +327,7 @@ good_requests r h =
     let few = kept.few in
     along_with (λ b (q : Request). (request_cause r.rounds r.config r.caps (b, q) ≡ None) × FitsRequest q) (λ b q. length b < MOST_REQUESTS) [] r.requests fitting (along_few MOST_REQUESTS [] r.requests (omega arith))
 
--- the rows behind the devices
+-- the rows after the devices
 taken_book : (r : Recorded) (base : RecordingStage) → IsBase r base → IsRecording r → (n : ℕ)
     → taken step n base (map name_row r.names ++ (map cap_row r.caps ++ map request_row r.requests)) ≡ Ok (at_book base r.names r.caps r.requests)
 taken_book r base h is n =

@@ -38,7 +38,7 @@ is_over a p first = is_part_before a.part p || (is_same_part a.part p && nat_lt 
 abbrev pub is_next_cap : List Cap → Part → ℕ → Bool
 is_next_cap before p first = option_map_or (λ a. is_over a p first) (latest before) true
 
--- a cap of so many rounds, beside those before it: there is such a part, it comes after them, 1 <= first <= last <= rounds,
+-- a cap of that many rounds, beside those before it: there is such a part, it comes after them, 1 <= first <= last <= rounds,
 -- and it is for at most 65,535
 unfoldable pub is_cap : ℕ → Counts → List Cap × Cap → Bool
 is_cap rounds c m =

@@ -29,11 +29,11 @@ use Rattle.recording_file.specs.Names.{Label, is_next_name}
 use Rattle.recording_file.specs.Caps.{Cap, is_next_cap}
 use Rattle.recording_file.specs.Recorded.{Recorded, Request, Span, has_items, request_cause}
 
--- the rank of the words that may come next behind names, caps and requests
+-- the rank of the words that may come next after names, caps and requests
 abbrev pub book_rank : Recorded → ℕ
 book_rank r = if has_items r.requests then 8 else if has_items r.caps then 7 else 6
 
--- the rank of the words that may come next: where the first adapter is due, of any behind the rounds
+-- the rank of the words that may come next: where the first adapter is due, of any after the rounds
 abbrev pub rank_of : RecordingStage → ℕ
 rank_of (stage.Adapters start t) = 4
 rank_of (stage.Devices start t) = 5
@@ -45,7 +45,7 @@ abbrev pub has_place : RecordingStage → Word → Bool
 has_place (stage.Book r) w = nat_lt (word_rank w) 8 || nat_lt (length r.requests) MOST_REQUESTS
 has_place _ w = true
 
--- Records stand in the order of their words. But where the first adapter is due, any word behind the rounds has a place.
+-- Records stand in the order of their words. But where the first adapter is due, any word after the rounds has a place.
 unfoldable pub stands : RecordingStage → Word → Bool
 stands stage.Header w = false
 stands stage.First w = nat_le (word_rank w) 1
@@ -107,7 +107,7 @@ said_by n r word.Name row = name_said n r row
 said_by n r word.Cap row = cap_said n r row
 said_by n r word.Request row = says n (request_at row) said.Request
 
--- what is lacking behind these weights, where no adapter has come
+-- what is lacking after these weights, where no adapter has come
 abbrev pub lacking : List WeightRow → ConfigFault
 lacking weights = if reaches_last weights then NoAdapters else BadWeight
 
@@ -188,7 +188,7 @@ add_unit n s u = Err (BadRecord n)
 abbrev pub standard : Topology
 standard = record { weights = standard_weights; links = []; adapters = []; devices = []; lanes = [] }
 
--- the rounds: behind them stand the standard weights, unless rows of weights come
+-- the rounds: after them stand the standard weights, unless rows of weights come
 abbrev pub add_rounds : ℕ → RecordingStage → ℕ → Result RecordingStage RecordingFault
 add_rounds n stage.First rounds = Ok (stage.Weights (record { unit = None; rounds = rounds; table = false }) standard)
 add_rounds n (stage.Timed u) rounds = Ok (stage.Weights (record { unit = Some u; rounds = rounds; table = false }) standard)
@@ -210,7 +210,7 @@ add_said n s (said.Request q) = add_request n s q
 abbrev pub add_row : ℕ → RecordingStage → Word → Row → Result RecordingStage RecordingFault
 add_row n s w row = said_by n (recorded_of s) w row >>= add_said n s
 
--- a record behind the header
+-- a record after the header
 unfoldable pub row_step : ℕ → RecordingStage → Row → Result RecordingStage RecordingFault
 row_step n s row = ok_or (placed s row) (BadRecord n) >>= λ w. add_row n s w row
 

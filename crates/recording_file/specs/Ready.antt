@@ -1,4 +1,4 @@
--- When a request can be put behind others.
+-- When a request can be put after others.
 use Rattle.std.specs.Prelude.{◌≡◌, ℕ, true, List, length, None}
 use Rattle.cam_types.specs.Topology.{Topology, IsConfig}
 use Rattle.cam_types.specs.Questions.{names_device}

@@ -32,7 +32,7 @@ abbrev pub FailsAt : ℕ → RecordingStage → List Row → RecordingFault → 
 FailsAt n s [] e = ended s ≡ Err e
 FailsAt n s (row ∷ rest) e = step n s row ≡ Err e
 
--- the first record that fails, behind those that don't, has this fault
+-- the first record that fails, after those that don't, has this fault
 pub record IsFirstFault (rows : List Row) (e : RecordingFault) : Type 0 where
   pub exact : (taken step 1 stage.Header rows >>= ended) ≡ Err e
   pub before : List Row

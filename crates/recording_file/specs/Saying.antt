@@ -8,7 +8,7 @@ use Rattle.recording_file.specs.declared.recording_stage.RecordingStage.TheVaria
 use Rattle.recording_file.specs.declared.word.Word.{Word}
 use Rattle.recording_file.specs.declared.word.Word.TheVariants as word
 
--- a stage behind the rounds, without an adapter or with a whole configuration
+-- a stage after the rounds, without an adapter or with a whole configuration
 abbrev pub IsOpen : RecordingStage → Type 0
 IsOpen (stage.Weights start t) = ⊤
 IsOpen (stage.Links start t) = ⊤

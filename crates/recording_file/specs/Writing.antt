@@ -8,7 +8,7 @@ use Rattle.recording_file.specs.Fields.{Row}
 use Rattle.recording_file.specs.Recorded.{Recorded}
 use Rattle.recording_file.specs.Records.{records_of, unit_rows, rounds_row, weight_row, link_row, adapter_row, device_row}
 
--- the text of these records, each by CSV's defaults: commas between its fields, a line feed behind it
+-- the text of these records, each by CSV's defaults: commas between its fields, a line feed after it
 unfoldable pub text_of : List Row → List ℕ
 text_of rows = flat_map (row_text default_writer) rows
 

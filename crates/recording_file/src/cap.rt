@@ -2,7 +2,7 @@
 
 use crate::part::Part;
 
-/// A cap: in each of these rounds the part takes at most so many requests, in place of its openings.
+/// A cap: in each of these rounds the part takes at most that many requests, in place of its openings.
 #[derive(Clone, Copy, Debug, PartialEq, Eq)]
 pub struct Cap {
     /// What takes them.

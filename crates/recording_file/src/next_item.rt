@@ -1,4 +1,4 @@
-//! Whether a name or a cap may come behind the others.
+//! Whether a name or a cap may come after the others.
 
 ghost use Rattle.std.specs.Prelude.{◌≡◌};
 ghost use Rattle.recording_file.specs.Caps.{is_cap, is_next_cap, is_over, is_part_before, is_same_part, part_rank};
@@ -48,7 +48,7 @@ pub(crate) fn is_next_name(names: &[Name], kind: NameKind, number: u32) -> bool
     }
 }
 
-/// Whether a name may come behind these.
+/// Whether a name may come after these.
 #[tactic(auto, unfolding(crate::specs::Names::is_name))]
 pub(crate) fn is_name(counts: Counts, names: &[Name], name: &Name) -> bool
     ensures { result ≡ is_name counts (names.now, name.now) }
@@ -88,7 +88,7 @@ pub(crate) fn is_next_cap(caps: &[Cap], part: Part, first: u32) -> bool
     }
 }
 
-/// Whether a cap may come behind these.
+/// Whether a cap may come after these.
 #[tactic(auto, unfolding(crate::specs::Caps::is_cap))]
 pub(crate) fn is_cap(rounds: u32, counts: Counts, caps: &[Cap], cap: Cap) -> bool
     ensures { result ≡ is_cap rounds counts (caps.now, cap) }

@@ -49,7 +49,7 @@ fn ready_places(
     }
 }
 
-/// Puts a request behind the others and takes of the room, or answers the first cause that it can't.
+/// Puts a request after the others and takes of the room, or answers the first cause that it can't.
 pub(crate) fn place_request(
     alloc: Global,
     room: &mut Vec<u32>,

@@ -47,7 +47,7 @@ impl RecordingStage {
         }
     }
 
-    // The rank of the words that may come next: where the first adapter is due, of any behind the rounds.
+    // The rank of the words that may come next: where the first adapter is due, of any after the rounds.
     fn rank(&self) -> u32
         ensures { result ≡ rank_of self.now }
     {

@@ -19,7 +19,7 @@ use csv::WriterBuilder;
 use std::alloc::{AllocError, Global};
 use std::io::Write;
 
-/// Writes a recording and flushes it: its records by CSV's defaults, with a line feed behind each, the rows of weights among
+/// Writes a recording and flushes it: its records by CSV's defaults, with a line feed after each, the rows of weights among
 /// them. The text is made whole before anything of it is written.
 pub fn write_recording<W: Write>(
     alloc: Global,

@@ -10,7 +10,7 @@ use crate::stage::Stage;
 use csv::ReaderBuilder;
 use std::alloc::Global;
 
-/// Takes the records of a text one after the other, from 1 on: the stage behind the last, or the first fault.
+/// Takes the records of a text one after the other, from 1 on: the stage after the last, or the first fault.
 pub(crate) fn take_records<S: Stage>(
     alloc: Global,
     text: &[u8],

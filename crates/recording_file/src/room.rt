@@ -70,7 +70,7 @@ fn open_room(alloc: Global, rounds: u32, config: &Config) -> Result<Vec<u32>, Al
     Ok(cells)
 }
 
-// Puts a row of these openings behind the others.
+// Puts a row of these openings after the others.
 #[tactic(auto, using(crate::proofs::RoomLemmas::one_more))]
 fn push_row(cells: &mut Vec<u32>, openings: u32, width: usize) -> Result<(), AllocError>
     ensures { OnOk result (cells.new.items ≡ cells.old.items ++ replicate width openings) }

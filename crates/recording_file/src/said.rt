@@ -7,7 +7,7 @@ use crate::request::Request;
 use crate::span::Span;
 use cam_types::{Adapter, WeightRow};
 
-/// What a record of a recording says behind the header.
+/// What a record of a recording says after the header.
 #[derive(Drop)]
 pub(crate) enum Said {
     Unit(Span),

@@ -9,7 +9,7 @@ pub enum TimeUnit {
     Second,
 }
 
-/// How long a round is: so many units of time.
+/// How long a round is: that many units of time.
 #[derive(Clone, Copy, Debug, PartialEq, Eq)]
 pub struct Span {
     /// How many, 1 to 4,294,967,295.

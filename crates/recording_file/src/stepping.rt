@@ -48,7 +48,7 @@ impl RecordingStage {
         }
     }
 
-    /// A record behind the header, or its fault.
+    /// A record after the header, or its fault.
     #[tactic(auto, unfolding(crate::specs::Reading::row_step))]
     pub(crate) fn take_row(
         self,

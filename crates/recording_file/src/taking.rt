@@ -278,7 +278,7 @@ fn start_of(unit: Option<Span>, rounds: u32) -> Start
     }
 }
 
-// How many records come before the links, where there are so many weights.
+// How many records come before the links, where there are that many weights.
 fn before_links(start: Start, weights: u32) -> u32
     requires { weights ≤ 16 }
     ensures value { result ≡ 2 + option_map_or (λ (u : Span). 1) start.unit 0 + (if start.table then weights else 0) }

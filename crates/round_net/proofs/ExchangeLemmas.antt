@@ -25,7 +25,7 @@ load_below n path f row r = count_below n (λ s. is_among (path s) row && (f s =
 abbrev pub worth : ℕ → ℕ → (ℕ → ℕ → ℕ) → (ℕ → ℕ → ℕ) → ℕ
 worth rows rounds load price = sum_below rows (λ row. sum_to rounds (λ r. load row r * price row r))
 
--- the first number of a list, or one behind it
+-- the first number of a list, or one after it
 first_or_rest : (x row : ℕ) (xs : List ℕ) (g : ℕ → ℕ) → is_among xs x ≡ false → cond ((x == row) || is_among xs row) (g row) 0 ≡ cond (x == row) (g row) 0 + cond (is_among xs row) (g row) 0
 first_or_rest x row xs g apart = elim (x == row) as (λ b. (x == row) ≡ b → cond (b || is_among xs row) (g row) 0 ≡ cond b (g row) 0 + cond (is_among xs row) (g row) 0) [
   | true ↦ λ same.

@@ -59,7 +59,7 @@ unfolding was_sent
 born_none f es e r None is = refl
 born_none f es e r (Some p) is = rw (born_unsent es e p (place-stay_begun (es, e) p is)) refl
 
--- how many were sent behind one event more
+-- how many were sent after one event more
 sent-more : (f : ℕ → Bool) (es : List Event) (e : Event) (r : ℕ) → count_by (was_sent f (es ++ e ∷ []) r) (stays_begun (es ++ e ∷ [])) ≤ count_by (was_sent f es r) (stays_begun es) + count_by (is_sending f es e r) (stays_begun es)
 sent-more f es e r =
     let parts : count_by (was_sent f (es ++ e ∷ []) r) (stays_begun (es ++ e ∷ [])) ≡ count_by (was_sent f (es ++ e ∷ []) r) (stays_begun es) + count_by (was_sent f (es ++ e ∷ []) r) (option_to_list (stay_begun (es, e))) =
@@ -116,7 +116,7 @@ one_sending f es lane ccb r s states found =
     middle_false true c = refl
     middle_false false c = refl
 
--- the sends behind one send more
+-- the sends after one send more
 goes-push : (f : ℕ → Bool) (es : List Event) (e : Event) (r : ℕ) → count_by (goes f r) (sendings (es ++ e ∷ [])) ≡ count_by (goes f r) (sendings es) + count_by (goes f r) (option_to_list (sending_of (es, e)))
 goes-push f es e r = ap (count_by (goes f r)) (sendings-push es e) ∙ count_by-append (goes f r) (sendings es) (option_to_list (sending_of (es, e)))
 

@@ -11,7 +11,7 @@ window net live sound s lt =
     let late = sound.live_admissible.not_late s lt in
     omega arith
 
--- what is on a link, if it is on one, is on one of so many where each that it can be is
+-- what is on a link, if it is on one, is on one of that many where each that it can be is
 pub within_links : (link : Option ℕ) (links : ℕ) → ((l : ℕ) → link ≡ Some l → l < links) → IfSome link (λ l. l < links)
 within_links None links h = tt
 within_links (Some l) links h = h l refl

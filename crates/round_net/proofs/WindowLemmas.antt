@@ -198,7 +198,7 @@ found-All P t (x ∷ xs) q h e = elim (t x) as (λ b. cond b (Some x) (find t xs
   | false ↦ λ g. found-All P t xs q (All-tail P x xs h) g
 ] e
 
--- no window ends behind the last round
+-- no window ends after the last round
 pub last_round-le : (es : List Event) (p : Passage) → All (λ (q : Passage). q.arrival ≤ round es + 1) (stays_begun es) → last_round es p ≤ round es
 unfolding last_round
 last_round-le es p soon = elim (next_stay (stays_begun es) p) as (λ o. next_stay (stays_begun es) p ≡ o → option_map_or (λ (q : Passage). q.arrival - 1) o (round es) ≤ round es) [

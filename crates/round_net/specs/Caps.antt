@@ -20,7 +20,7 @@ fronts events = map (λ (m : List Event × Event). m.0) (moments events) ++ even
 abbrev pub places : List Event → ℕ → List (List Event)
 places events r = filter (λ before. round before == r) (fronts events)
 
--- how many rows there are: one for each device, behind these one for each adapter, and behind these one for each link
+-- how many rows there are: one for each device, after these one for each adapter, and after these one for each link
 abbrev pub row_count : Topology → ℕ
 row_count c = length c.devices + length c.adapters + length c.links
 

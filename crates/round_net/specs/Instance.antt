@@ -3,8 +3,8 @@ use Rattle.std.specs.Prelude.{ℕ, ◌+◌, ◌==◌, Bool, List, [], ◌∷◌,
 use Rattle.std.specs.List.{list_any}
 use Rattle.std.specs.Option.{option_map_or}
 
--- Stays, devices, adapters and links are numbered from 0, rounds from 1. There is a row for each device, behind these one for
--- each adapter, and behind these one for each link.
+-- Stays, devices, adapters and links are numbered from 0, rounds from 1. There is a row for each device, after these one for
+-- each adapter, and after these one for each link.
 pub record Instance : Type 0 where
   pub stays : ℕ
   pub devices : ℕ

@@ -33,7 +33,7 @@ stay_row c events p = record {
   live = live_round events p;
 }
 
--- the same by the record of the stay, in a history of so many rounds
+-- the same by the record of the stay, in a history of that many rounds
 abbrev pub row_of : Topology → ℕ → StayRecord → StayRow
 row_of c rounds r = record {
   stay = name_of r.stay;
@@ -48,7 +48,7 @@ row_of c rounds r = record {
 unfoldable pub cells : ℕ → (ℕ → ℕ → ℕ) → ℕ → List ℕ
 cells rounds value n = map (λ at. value (at / rounds) (at % rounds + 1)) (range_with_len 0 n)
 
--- those of all rounds of so many rows
+-- those of all rounds of that many rows
 abbrev pub table : ℕ → ℕ → (ℕ → ℕ → ℕ) → List ℕ
 table rows rounds value = cells rounds value (rows * rounds)
 

@@ -5,7 +5,7 @@ ghost use Rattle.round_net.specs.Marks.{AreCaps};
 
 use std::alloc::{AllocError, Global};
 
-/// What is taken in each round of a row: so many commands as were sent if a freeze stood in the round, and else as there
+/// What is taken in each round of a row: as many commands as were sent if a freeze stood in the round, and else as there
 /// are openings.
 pub fn caps(
     alloc: Global,

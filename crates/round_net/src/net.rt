@@ -13,8 +13,8 @@ use std::marker::Model;
 
 /// What a complete history left to plan: stays with windows and weights, and caps.
 ///
-/// Stays, devices, adapters and links are numbered from 0, rounds from 1. There is a row for each device, behind these one
-/// for each adapter, and behind these one for each link. Each number that a call takes has to be within the net.
+/// Stays, devices, adapters and links are numbered from 0, rounds from 1. There is a row for each device, after these one
+/// for each adapter, and after these one for each link. Each number that a call takes has to be within the net.
 #[derive(Debug, Drop)]
 pub struct Net {
     rounds: u32,
@@ -118,7 +118,7 @@ impl Net {
         self.links
     }
 
-    /// How many rows there are: one for each device, behind these one for each adapter, and behind these one for each link.
+    /// How many rows there are: one for each device, after these one for each adapter, and after these one for each link.
     #[tactic(auto, unfolding(crate::specs::Rows::instance_of_rows))]
     pub fn rows(&self) -> u32
         ensures same { result ≡ rows (instance_of_rows self.now) }

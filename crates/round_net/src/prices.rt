@@ -8,7 +8,7 @@ use std::marker::Model;
 
 /// What one opening of each row is worth in each round, in weighted rounds.
 ///
-/// There is a row for each device, behind these one for each adapter, and behind these one for each link. Rows, devices,
+/// There is a row for each device, after these one for each adapter, and after these one for each link. Rows, devices,
 /// adapters and links are numbered from 0, rounds from 1. Each number that a call takes has to be within the net.
 #[derive(Debug, Drop)]
 pub struct Prices {

@@ -18,7 +18,7 @@ pub enum Owner {
     Link(u32),
 }
 
-/// How many rows there are: one for each device, behind these one for each adapter, and behind these one for each link.
+/// How many rows there are: one for each device, after these one for each adapter, and after these one for each link.
 pub fn row_count(config: &Config) -> u32
     ensures { result ≡ row_count config.now }
 {

@@ -11,7 +11,7 @@ use event_rules::Stay;
 use std::alloc::{AllocError, Global};
 use xpt_core::StayRecord;
 
-/// The rows of these stays of a history of so many rounds.
+/// The rows of these stays of a history of that many rounds.
 pub fn stay_rows(
     alloc: Global,
     config: &Config,

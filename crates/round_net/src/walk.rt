@@ -23,7 +23,7 @@ pub struct RoundNotes {
     pub sends: Vec<u32>,
 }
 
-/// Goes through the places of a history of so many rounds.
+/// Goes through the places of a history of that many rounds.
 pub fn walk_through(
     alloc: Global,
     config: &Config,

@@ -53,7 +53,7 @@ class_of counted retries Counted = if counted == retries then Fail whys.Spent el
 class_of counted retries Recovered = Fail whys.Recovered
 class_of counted retries Other = Fail whys.Other
 
--- the class of a result after so many counted requeues of a CCB with so many retries
+-- the class of a result after that many counted requeues of a CCB with that many retries
 abbrev pub classify : Outcome → ℕ → ℕ → class.Class
 classify outcome counted retries = class_of counted retries (kind_of outcome)
 

@@ -45,7 +45,7 @@ pub enum Kind {
     Other,
 }
 
-/// The class of a result of a CCB with so many retries, after so many counted requeues. Status 00, in progress, is no
+/// The class of a result of a CCB with that many retries, after that many counted requeues. Status 00, in progress, is no
 /// result; here it falls under what fails for another reason.
 pub fn classify(outcome: &Outcome, counted: u32, retries: u32) -> Class
     ensures { result ≡ classify outcome.now counted retries }

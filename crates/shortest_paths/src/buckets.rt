@@ -6,7 +6,7 @@ use std::alloc::Global;
 /// The most that a distance is, which is far above what nets within the limits need.
 const MOST_DISTANCE: u32 = 1_000_000;
 
-// A node, and the entry behind it in its bucket.
+// A node, and the entry after it in its bucket.
 #[derive(Clone, Copy)]
 struct Entry {
     node: u32,

@@ -1,4 +1,4 @@
-//! The cells of a problem as nodes of a network, with the root behind them.
+//! The cells of a problem as nodes of a network, with the root after them.
 
 ghost use Rattle.std.specs.Prelude.{◌≡◌, ◌+◌, ◌*◌, length, IfOk};
 

@@ -1,4 +1,4 @@
-//! The network: cells, the root behind them, and stays, which stand in cells.
+//! The network: cells, the root after them, and stays, which stand in cells.
 
 use crate::senders::Senders;
 use crate::stop::Stop;
@@ -18,7 +18,7 @@ pub struct Node {
 }
 
 impl Node {
-    /// A node that leads to another, with room for so many stays.
+    /// A node that leads to another, with room for that many stays.
     pub fn new(above: u32, cap: u32, label: u32) -> Node {
         Node {
             above,

@@ -40,7 +40,7 @@ impl Senders {
         self.links.get(node as usize)?.first
     }
 
-    /// The node behind this one in its list.
+    /// The node after this one in its list.
     pub fn next(&self, node: u32) -> Option<u32> {
         self.links.get(node as usize)?.next
     }

@@ -20,6 +20,9 @@ pub(crate) fn change_ready(
     ensures { IsInTurn (slice_set rows.now at (record (slice_index_or rows.now at (new_row 0)) { priority = priority })) ready.new }
 {
     let row = rows[at];
+    if row.priority == priority {
+        return;
+    }
     match (row.priority, priority) {
         (None, None) => {}
         (None, Some(now)) => ready.insert_reserved(now, row.generation(), row.device),

@@ -1,4 +1,4 @@
--- how far the drivers are, behind one event more or one row more
+-- how far the drivers are, after one event more or one row more
 use Rattle.std.proofs.Common.{◌≡◌, ◌≢◌, ℕ, ◌+◌, ◌<◌, ◌≤◌, Bool, true, false, List, [], ◌∷◌, ◌++◌, set, refl, sym, ap, ◌∙◌, subst, arith, Some, inl, inr, append-nil}
 use Rattle.std.specs.Prelude.{◌==◌, ◌&&◌, filter, take, slice_get, option_to_list}
 use Rattle.std.specs.List.{list_all}

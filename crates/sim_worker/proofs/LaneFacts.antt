@@ -1,4 +1,4 @@
--- what lanes have in hand and what they served, behind one event more
+-- what lanes have in hand and what they served, after one event more
 use Rattle.std.proofs.Common.{◌≡◌, ◌≢◌, ℕ, Bool, true, false, cond, List, [], ◌∷◌, ◌++◌, length, set, refl, sym, ap, ◌∙◌, subst, Option, Some, None, inl, inr, append-nil}
 use Rattle.std.specs.Prelude.{◌==◌, ◌||◌, slice_get, option_to_list, option_and_then, IfSome}
 use Rattle.std.specs.Option.{option_map}
@@ -169,7 +169,7 @@ lanes-send s es ws lane ccb w new one grounded here empty number answers served 
           has_served-other s k es (Send lane ccb) x refl (not_flying es k lane ccb x.hand grounded beside.hand) beside
     ]
 
--- what flies is in some lane's hand, behind a send and behind a completion
+-- what flies is in some lane's hand, after a send and after a completion
 pub flights-send : (es : List Event) (ws : List Lane) (lane ccb : ℕ) (w new : Lane) (o : Outcome) → slice_get ws lane ≡ Some w → w.hand ≡ None → new.hand ≡ Some (record { ccb = ccb; outcome = o }) → AreInHand es ws → AreInHand (es ++ Send lane ccb ∷ []) (set ws lane new)
 flights-send es ws lane ccb w new o here empty holds h = λ c flies. elim (ccb == c) as (λ b. (ccb == c) ≡ b → IsInHand (set ws lane new) c) [
   | true ↦ λ same. (lane, new, set_at ws lane new w here, ap (option_map (λ (x : Hand). x.ccb)) holds ∙ ap (λ n. Some n) (eqb-true ccb c same))

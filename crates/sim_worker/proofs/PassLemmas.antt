@@ -1,4 +1,4 @@
--- the drivers of a run behind one event more
+-- the drivers of a run after one event more
 use Rattle.std.proofs.Common.{◌≡◌, ℕ, zero, suc, ◌+◌, ◌<◌, ◌≤◌, true, false, List, [], ◌∷◌, ◌++◌, length, set, get_or, replicate, refl, sym, ap, ◌∙◌, subst, arith, Some, inl, inr}
 use Rattle.std.specs.Prelude.{take, slice_get, All}
 use Rattle.std.proofs.lemmas.List.Elements.{All-head, All-tail}
@@ -27,7 +27,7 @@ use Rattle.sim_worker.specs.Walks.{AreOn, AreRising, IsFollowed, IsOf, IsOn}
 use Rattle.sim_worker.specs.declared.walk.Walk.{Walk}
 use Rattle.sim_worker.proofs.RunListFacts.{some_is, take_one, get_is, less_or_not, get_in_set, get_there, set_beside, there_is}
 
--- one driver more is behind the event
+-- one driver more is after the event
 pub one_more_behind : (s : Scenario) (logs : List Held) (after : List Event) (walks : List Walk) (i : ℕ) (log : Held) (new : Walk) → i < length logs → log ≡ get_or logs i log →
     ((d : ℕ) → log.name ≡ Driver d → IsOn s (rows s d) log.receipts after new) →
     ((k d : ℕ) (h : Held) (w : Walk) → k < i → slice_get logs k ≡ Some h → slice_get walks k ≡ Some w → h.name ≡ Driver d → IsOn s (rows s d) h.receipts after w) →

@@ -1,4 +1,4 @@
--- what a script's port has served, behind one command more
+-- what a script's port has served, after one command more
 use Rattle.std.proofs.Common.{◌≡◌, ℕ, ◌+◌, true, List, [], ◌∷◌, ◌++◌, length, map, refl, sym, ap, ◌∙◌, length-append, zero-add}
 use Rattle.std.proofs.lemmas.List.{map-append}
 use Rattle.std.specs.List.{AllByRecursion, range_with_len}

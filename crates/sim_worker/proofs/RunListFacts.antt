@@ -39,7 +39,7 @@ get_pushed (z ∷ xs) x (suc i) y h = elim (get_pushed xs x i y h) [
   | inr last ↦ inr (ap (λ n. suc n) last.0, last.1)
 ]
 
--- the first elements of a list with more behind it
+-- the first elements of a list with more after it
 pub take_front : {X : Type 0} → (xs ys : List X) (n : ℕ) → n ≤ length xs → take n (xs ++ ys) ≡ take n xs
 take_front xs ys zero le = refl
 take_front [] ys (suc n) le = absurd (omega arith)
@@ -93,6 +93,6 @@ set_beside (x ∷ xs) zero (suc k) y ne = refl
 set_beside (x ∷ xs) (suc i) zero y ne = refl
 set_beside (x ∷ xs) (suc i) (suc k) y ne = set_beside xs i k y (λ e. ne (ap (λ n. suc n) e))
 
--- the list behind one of a list of vectors
+-- the list after one of a list of vectors
 pub list_at : {X : Type 0} → (all : List (Vec X Global)) (lists : List (List X)) (n : ℕ) (v : Vec X Global) → map (λ (l : Vec X Global). l.items) all ≡ lists → n < length all → v ≡ get_or all n v → v.items ≡ get_or lists n []
 list_at {X} all lists n v same lt is = sym (ap (λ (ls : List (List X)). get_or ls n []) (sym same) ∙ get_or-map (λ (l : Vec X Global). l.items) all n v [] lt ∙ ap (λ (l : Vec X Global). l.items) (sym is))

@@ -1,4 +1,4 @@
--- a run on one thread behind one event more
+-- a run on one thread after one event more
 use Rattle.std.proofs.Common.{◌≡◌, ℕ, ◌+◌, Bool, true, false, List, [], ◌∷◌, ◌++◌, length, set, map, refl, sym, ap, ◌∙◌, subst, arith, Some, None, zero, suc, inl, inr}
 use Rattle.std.specs.Prelude.{slice_get, ◌==◌, IfSome}
 use Rattle.std.specs.Option.{option_map}
@@ -71,7 +71,7 @@ call_step s t new ds ls r after d w y e here there one made h =
       ticks = ticks-push s.config s.limits t.events e (ruled_in_time s.config s.limits t.events d e ruled) h.ticks;
     })
 
--- a driver that is marked, or put behind pauses
+-- a driver that is marked, or put after pauses
 pub driver_step : (s : Scenario) (t : Transport) (ds : List Driver) (ls : List Lane) (r after : Bool) (d : ℕ) (y : Driver) → HasDone (steps_of s d) d t.events y.done →
     IsWork (record { script = s; transport = t; drivers = ds; lanes = ls; refused = r }) → IsWork (record { script = s; transport = t; drivers = set ds d y; lanes = ls; refused = after })
 driver_step s t ds ls r after d y done h = record {

@@ -44,7 +44,7 @@ get_or_is (y ∷ ys) (suc i) x d h = get_or_is ys i x d h
 pub room_for : (t : Transport) (e : Event) → refused t e ≡ None → length t.events < t.rules.events
 room_for t e none = (allowed-legal_event t.rules t.config t.events e (legal-none t.rules t.config t.events e none)).0
 
--- the step behind a call
+-- the step after a call
 pub call_is : (o : Option Step) (e : Event) → call_of o ≡ Some e → o ≡ Some (step.Act e)
 call_is None e h = absurd (cc)
 call_is (Some (step.Pause n)) e h = absurd (cc)

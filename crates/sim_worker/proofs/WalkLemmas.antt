@@ -1,4 +1,4 @@
--- a driver behind one event more
+-- a driver after one event more
 use Rattle.std.proofs.Common.{◌≡◌, ◌≢◌, ℕ, zero, suc, ◌+◌, ◌<◌, ◌≤◌, Bool, true, false, List, [], ◌∷◌, ◌++◌, length, refl, sym, ap, ◌∙◌, subst, arith, Some, inl, inr, append-nil, append_assoc}
 use Rattle.std.specs.Prelude.{◌⊎◌, nat_lt, filter, take, slice_get}
 use Rattle.std.specs.List.{list_all}
@@ -71,7 +71,7 @@ from_here log m j r x rising here there le = elim (less_or_not m j) [
   | inr rest ↦ let same : j ≡ m = omega arith in inl (some_is x r (sym there ∙ ap (slice_get log) same ∙ here))
 ]
 
--- the receipt of the place is one more that is behind it
+-- the receipt of the place is one more that is after it
 pub split_more : (place m : ℕ) (log : List Receipt) (r : Receipt) → is_rising log ≡ true → IsSplit place m log → slice_get log m ≡ Some r → r.at ≡ place → IsSplit (place + 1) (m + 1) log
 split_more place m log r rising h here at = λ j x there. (
   λ lt. elim (less_or_not j m) [

@@ -9,7 +9,7 @@ use Rattle.sim_worker.specs.Runs.{submits, submits_asked, is_over, may_tick}
 use Rattle.sim_worker.specs.declared.ending.Ending.{Ending}
 use Rattle.sim_worker.specs.declared.ending.Ending.TheVariants.{Drained, RoundsFull, HistoryFull}
 
--- Nothing is left to do behind the drivers' rows: each stay was sent, and no CCB is in flight or waits for a decision.
+-- Nothing is left to do after the drivers' rows: each stay was sent, and no CCB is in flight or waits for a decision.
 pub record IsQuiet (events : List Event) : Type 0 where
   pub sent : waiting events ≡ []
   pub landed : has_in_flight events ≡ false

@@ -67,7 +67,7 @@ LetsRest s before None = Unit {0}
 LetsRest s before (Some (step.Pause n)) = round before < n
 LetsRest s before (Some (step.Act event)) = WasRefused s before event
 
--- behind these events a driver with these rows rests
+-- after these events a driver with these rows rests
 pub record Rests (s : Scenario) (steps : List Step) (log : List Receipt) (before : List Event) : Type 0 where
   pub row : ℕ
   pub stands : StandsAt steps (made_before (length before) log) (round before) row

@@ -15,7 +15,7 @@ pub record PortState : Type 0 where
 abbrev pub completed : Outcome
 completed = record { status = 1; scsi = 0; sense = [] }
 
--- the outcome of the k-th command that is served, from 0: the lane's k-th answer, and a good completion behind the last
+-- the outcome of the k-th command that is served, from 0: the lane's k-th answer, and a good completion after the last
 abbrev pub answer_at : List Outcome → ℕ → Outcome
 answer_at answers k = get_or answers k completed
 

@@ -1,4 +1,4 @@
--- how far a driver is behind some of a run's events
+-- how far a driver is after some of a run's events
 use Rattle.std.specs.Prelude.{◌≡◌, ◌↔◌, ℕ, ◌<◌, ◌≤◌, true, List, length, map, slice_get, Some, None}
 use Rattle.std.specs.List.{filter_map, flat_map}
 use Rattle.event_rules.specs.declared.event.Event.TheVariants.{Send, Done}
@@ -24,7 +24,7 @@ use Rattle.sim_worker.specs.declared.walk.Walk.{Walk}
 abbrev pub IsSplit : ℕ → ℕ → List Receipt → Type 0
 IsSplit place m log = (j : ℕ) (r : Receipt) → slice_get log j ≡ Some r → (j < m) ↔ (r.at < place)
 
--- Behind these events the driver stands at the walk's row, with so many of its log's receipts behind it. If the walk is
+-- After these events the driver stands at the walk's row, with that many of its log's receipts taken. If the walk is
 -- marked, the event of its row was refused in this round.
 pub record IsWalk (s : Scenario) (steps : List Step) (log : List Receipt) (before : List Event) (w : Walk) : Type 0 where
   pub within : w.made ≤ length log

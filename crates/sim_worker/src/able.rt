@@ -115,7 +115,7 @@ impl<'s> Sim<'s> {
     }
 }
 
-// Behind the pauses that stand from a place of the steps on and are over.
+// After the pauses that stand from a place of the steps on and are over.
 fn behind_pauses(steps: &[Step], from: usize, now: u32) -> usize
     ensures { (d : ℕ) → (events : List Event) → now ≡ round events → HasDone steps.now d events from → HasDone steps.now d events result }
 {

@@ -8,8 +8,8 @@
 //!
 //! Suppose that all but the keeper sleep. Then nothing is in flight, no lane has anything to send, and each driver rests, as
 //! recovery does. Whoever made the last event, or was the last to write on the board that it rests, has rung the keeper's
-//! bell behind that. So the keeper has looked since, and saw all of them rest: it opened the next round, which wakes them,
-//! or stopped the run, which rings each bell behind the stop word, and each worker reads that word behind its moment.
+//! bell after that. So the keeper has looked since, and saw all of them rest: it opened the next round, which wakes them,
+//! or stopped the run, which rings each bell after the stop word, and each worker reads that word after its moment.
 //!
 //! So someone always acts, and only so often: a call makes one of at most 65,535 events or is refused, a row or a decision is
 //! refused at most once in each of at most 512 rounds, and a lane that sends nothing sleeps until there is work.
@@ -199,7 +199,7 @@ fn all_work<L: Ledger + Send + Sync, P: Port + Send, W: Progress + Sync, R: Thre
     )
 }
 
-// Puts what the threads give back behind one another, in order.
+// Puts what the threads give back after one another, in order.
 fn join_all<T: Drop, R: Threads>(
     rt: &R,
     handles: Vec<JoinHandle<T>>,

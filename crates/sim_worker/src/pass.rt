@@ -53,7 +53,7 @@ pub fn is_held_up(xpt: &Xpt, case: Case) -> bool
     case.class.asks_requeue() && xpt.refusal(&requeue) == Some(Refusal::StaysFull)
 }
 
-// How far the log's driver is behind the event that the transport takes next, if it fits. Of another actor nothing is asked.
+// How far the log's driver is after the event that the transport takes next, if it fits. Of another actor nothing is asked.
 fn walk_on(script: &Script, log: &SeatLog, walk: Walk, xpt: &Xpt, event: &Event) -> Option<Walk>
     ensures { (d : ℕ) → log.now.name ≡ names.Driver d → IsOf script.now xpt.now → is_rising log.now.receipts ≡ true → IsOn script.now (rows script.now d) log.now.receipts xpt.now.events walk →
         IfSome result (λ w. IsOn script.now (rows script.now d) log.now.receipts (xpt.now.events ++ event.now ∷ []) w) }
@@ -72,7 +72,7 @@ pub(crate) fn walk_at(walks: &[Walk], i: usize) -> Walk
     walks[i]
 }
 
-// All drivers behind the event that the transport takes next. False if one doesn't fit.
+// All drivers after the event that the transport takes next. False if one doesn't fit.
 fn walk_all(script: &Script, logs: &[SeatLog], walks: &mut [Walk], xpt: &Xpt, event: &Event) -> bool
     requires { length walks.old ≡ length logs.now }
     ensures len { length walks.new ≡ length walks.old }
@@ -167,7 +167,7 @@ pub(crate) fn follow(
     Ok(follow_all(script, events, logs, &mut walks, &mut xpt))
 }
 
-// The walks of so many actors that have done nothing.
+// The walks of that many actors that have done nothing.
 fn start(alloc: Global, count: usize) -> Result<Vec<Walk>, AllocError>
     ensures { IfOk result (λ walks. walks.items ≡ replicate count (record { row = 0; made = 0; refused = false })) }
 {

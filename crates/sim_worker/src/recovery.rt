@@ -41,7 +41,7 @@ fn decide<L: Ledger, R: Wait>(
     seat: &mut Seat<L>,
 ) -> Result<(), SharedFault> {
     let seen = place.shared.moment(rt, Bell::Round);
-    // Whoever stops all rings this bell behind the word.
+    // Whoever stops all rings this bell after the word.
     if place.is_stopped() {
         return Ok(());
     }

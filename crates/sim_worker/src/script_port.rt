@@ -75,7 +75,7 @@ impl ScriptPort {
         }
     }
 
-    // Puts what was served behind the rest.
+    // Puts what was served after the rest.
     fn keep(&mut self, served: Served)
         requires room { 0 < self.old.room }
         requires next { served.outcome ≡ answer_at self.old.answers (length self.old.served) }

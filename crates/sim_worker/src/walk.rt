@@ -17,12 +17,12 @@ use trace_file::Step;
 use xpt_lock::Receipt;
 use xpt_state::Xpt;
 
-/// How far a driver is behind some of a run's events.
+/// How far a driver is after some of a run's events.
 #[derive(Clone, Copy)]
 pub(crate) struct Walk {
     /// The row at which it stands.
     pub(crate) row: usize,
-    /// How many receipts of its log are behind it.
+    /// How many receipts of its log are after it.
     pub(crate) made: usize,
     /// Whether the event of its row was refused in this round.
     pub(crate) refused: bool,
@@ -36,7 +36,7 @@ impl Walk {
         refused: false,
     };
 
-    /// Behind the pauses that stand next and are over, and marked where the event of the row there is refused now.
+    /// After the pauses that stand next and are over, and marked where the event of the row there is refused now.
     pub(crate) fn settled(self, xpt: &Xpt, rows: &[Step]) -> Walk
         ensures { (s : Scenario) (log : List Receipt) → IsOf s xpt.now → IsWalk s rows.now log xpt.now.events self → IsWalk s rows.now log xpt.now.events result }
     {
@@ -60,7 +60,7 @@ impl Walk {
         }
     }
 
-    /// Behind the event that the transport takes next. None if the event is of the driver's log and isn't that of its row, or
+    /// After the event that the transport takes next. None if the event is of the driver's log and isn't that of its row, or
     /// opens a round though the driver doesn't rest.
     pub(crate) fn behind(
         self,
@@ -110,7 +110,7 @@ fn event_at(log: &[Receipt], number: usize, place: usize) -> Option<(Event, usiz
     Some((receipt.event, number + 1))
 }
 
-// The row behind this one, if this one calls for the event.
+// The row after this one, if this one calls for the event.
 fn behind_call(rows: &[Step], row: usize, event: &Event) -> Option<usize>
     ensures { IfSome result (λ next. (slice_get rows.now row ≡ Some (steps.Act event.now)) × (next ≡ row + 1)) }
 {
@@ -120,7 +120,7 @@ fn behind_call(rows: &[Step], row: usize, event: &Event) -> Option<usize>
     }
 }
 
-// Behind the pauses that stand from a row on and are over.
+// After the pauses that stand from a row on and are over.
 fn behind_pauses(rows: &[Step], from: usize, now: u32) -> usize
     ensures { (events : List Event) → StandsAt rows.now events now from → StandsAt rows.now events now result }
 {

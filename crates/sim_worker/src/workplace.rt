@@ -87,7 +87,7 @@ impl<L: Ledger> Workplace<L> {
         self.rest(rt, DRIVERS, until);
     }
 
-    // The bell rings behind the change, and the keeper reads the board behind the moment that it sleeps by: it misses none.
+    // The bell rings after the change, and the keeper reads the board after the moment that it sleeps by: it misses none.
     fn rest<R: Wait>(&self, rt: &R, place: usize, until: u32) {
         if let Some(flag) = self.rests.get(place) {
             flag.store(until, Ordering::SeqCst);

@@ -24,7 +24,7 @@ fn narrow(alloc: Global) -> Result<Config, Fail> {
     )?)
 }
 
-// So many lists, of which the first has these items.
+// That many lists, of which the first has these items.
 fn lists<T: Copy + Drop>(alloc: Global, count: usize, first: &[T]) -> Result<Vec<Vec<T>>, Fail> {
     let mut lists = Vec::new(alloc);
     for place in 0..count {

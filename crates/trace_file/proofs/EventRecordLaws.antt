@@ -36,7 +36,7 @@ others_first : (v : Version) (past : Past) → records_of v past ≡ others v pa
 unfolding records_of
 others_first v past = ap (λ (rows : List Row). header v ∷ rows) (simp append_assoc refl)
 
--- the records of the events are so many of all, and the rest are the others
+-- the records of the events are that many of all, and the rest are the others
 pub event_records : (text : List ℕ) (past : Past) → IsTrace text past → (k : ℕ) × (length (records_in text) ≡ k + length past.events) × ((place n : ℕ) → place < length past.events → n ≡ k + place + 1 → IsEventRecord text past place n)
 event_records text past is =
     let front = others is.version past in

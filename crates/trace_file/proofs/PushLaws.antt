@@ -7,7 +7,7 @@ use Rattle.trace_file.specs.Records.{adapter_row, device_row, event_row, header,
 use Rattle.trace_file.specs.Versions.{has_table}
 use Rattle.trace_file.specs.declared.version.Version.{Version}
 
--- one record more behind those of a list, and the same behind others
+-- one record more after those of a list, and the same after others
 last_more : {X : Type 0} (row : X → Row) (xs : List X) (x : X) → (map row xs ++ []) ++ row x ∷ [] ≡ map row (xs ++ x ∷ []) ++ []
 last_more row xs x = rw (append-nil (map row xs), append-nil (map row (xs ++ x ∷ []))) (sym (map-append row xs (x ∷ [])))
 

@@ -102,7 +102,7 @@ device_takes row d eight e =
     next_number row 4 most_number _ d eight (omega arith) (omega arith) r3 (λ openings o t4 r4.
     no_more row 5 3 _ d (Spelled row) eight refl r4 (λ rest. (t1 _ (t2 _ (t3 _ (t4 _ rest))), b))))))
 
--- the record behind its word spells the event
+-- the record after its word spells the event
 abbrev Tells : Row → Word → Event → Type 0
 Tells row w e = (spelled w ∷ drop 1 row ≡ event_row e) × FitsEvent e
 
@@ -170,7 +170,7 @@ event_tells row word.Adjust x eight e = tell_two row word.Adjust event.Adjust x 
 event_tells row word.Tick x eight e = tick_takes row x eight e
 event_tells row _ x eight e = absurd cc
 
--- a record is its first field and those behind it
+-- a record is its first field and those after it
 with_word : (row : Row) (w : Word) → length row ≡ 8 → field_of row 0 ≡ spelled w → row ≡ spelled w ∷ drop 1 row
 with_word row w eight e = peel row 0 (spelled w) (drop 1 row) eight (omega arith) e refl
 

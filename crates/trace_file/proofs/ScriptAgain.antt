@@ -43,7 +43,7 @@ put_ok (Err cause) e = absurd cc
 room_for : (b : Bool) (k a : ℕ) → k + cond (not b) 1 0 ≤ MOST_ROWS → a + cond b 1 0 ≤ MOST_ROWS → has_room b k a ≡ true
 room_for b k a p q = grind (arith, nat_tests)
 
--- a row behind others
+-- a row after others
 row_step_again : (n : ℕ) (s : Scenario) (k a : ℕ) (x : ScriptRow) → FitsRow x → is_ok (item_of s.config x) ≡ true → k + cond (not (is_answer_row x)) 1 0 ≤ MOST_ROWS → a + cond (is_answer_row x) 1 0 ≤ MOST_ROWS
     → script_step n (stage.Rows s k a) (script_row x) ≡ Ok (stage.Rows (put_row s x) (more_steps (is_answer_row x) k) (more_answers (is_answer_row x) a))
 unfolding script_step rows_step roomy_word
@@ -69,7 +69,7 @@ first_row_again n limits t x fits some ok =
 put_config : (s : Scenario) (x : ScriptRow) → (put_row s x).config ≡ s.config
 put_config s x = fold_config s (x ∷ [])
 
--- the stage behind rows
+-- the stage after rows
 pub record Ends (n : ℕ) (from : ScriptStage) (rows : List Row) (s : Scenario) : Type 0 where
   pub last : ScriptStage
   pub reached : taken script_step n from rows ≡ Ok last
@@ -138,7 +138,7 @@ header_one : script_step 1 stage.Header script_header ≡ Ok stage.First
 unfolding script_step is_header has_letters script_header field_at
 header_one = refl
 
--- the rows behind a configuration
+-- the rows after a configuration
 rows_of : (n : ℕ) (limits : Bounds) (t : TraceStage) (c : Topology) (xs : List ScriptRow) → lacks_adapters t ≡ false → config_of t ≡ c → AllByRecursion FitsRow xs → AllByRecursion (λ x. is_ok (item_of c x) ≡ true) xs
     → step_rows xs ≤ MOST_ROWS → answer_rows xs ≤ MOST_ROWS → Ends n (stage.Config limits t) (map script_row xs) (fold put_row (empty_scenario c limits) xs)
 unfolding script_ended

@@ -46,7 +46,7 @@ use Rattle.trace_file.proofs.ListLaws.{all_push}
 
 -- ---- items
 
--- so many rows of drivers, and so many answers, with one row more
+-- that many rows of drivers, and that many answers, with one row more
 abbrev pub more_steps : Bool → ℕ → ℕ
 more_steps answers k = k + cond (not answers) 1 0
 
@@ -87,7 +87,7 @@ records_push m x = ap (λ (rs : List Row). script_header ∷ rs) (simp (map-appe
 
 -- ---- what a stage has read
 
--- the header, the limits if they were given, and records of the configuration, as a trace has them behind its header
+-- the header, the limits if they were given, and records of the configuration, as a trace has them after its header
 pub record ReadsConfig (bounds : Bounds) (t : TraceStage) (rows : List Row) : Type 0 where
   pub given : Option Bounds
   pub limits : bounds ≡ unwrap_or given most_bounds
@@ -97,7 +97,7 @@ pub record ReadsConfig (bounds : Bounds) (t : TraceStage) (rows : List Row) : Ty
   pub configuring : is_configuring t ≡ true
   pub parts : rows ≡ script_header ∷ (limits_rows given ++ trace)
 
--- the records of a manuscript, of which this is the scenario, with so many rows of drivers and so many answers
+-- the records of a manuscript, of which this is the scenario, with that many rows of drivers and that many answers
 pub record ReadsRows (s : Scenario) (k a : ℕ) (rows : List Row) : Type 0 where
   pub made : Manuscript
   pub kept : IsManuscript made

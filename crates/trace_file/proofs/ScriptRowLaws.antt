@@ -73,7 +73,7 @@ by_number_takes fields x eight e =
     next_number fields 2 most_number _ x eight (omega arith) (omega arith) r1 (λ n b t2 r2.
     no_more fields 3 5 (driver, n) x (ByNumber fields) eight refl r2 (λ rest. (t1 _ (t2 _ rest), a, b))))
 
--- the record behind its word spells the row
+-- the record after its word spells the row
 abbrev Tells : Row → ScriptWord → ScriptRow → Type 0
 Tells fields w x = (spelled w ∷ drop 1 fields ≡ script_row x) × FitsRow x × (is_answer_row x ≡ is_answer_word w)
 

@@ -94,7 +94,7 @@ unfolding IsSound stands
 weight_ready v (stage.Weights w t) h i e = rw i.0 ((refl, holds_table w t i.1 h.1 h.2), refl, i.1, h)
 weight_ready v _ h i e = absurd cc
 
--- nothing stands behind the links
+-- nothing stands after the links
 abbrev NoneBehind : Topology → Type 0
 NoneBehind t = (t.adapters ≡ []) × (t.devices ≡ []) × (t.lanes ≡ [])
 
@@ -335,7 +335,7 @@ taken_keeps next P each n s t rows (row ∷ more) h e =
     on_ok (next n s row) _ t e (λ u eu r.
     subst (P t) (append_assoc rows (row ∷ []) more) (taken_keeps next P each (n + 1) u t (rows ++ row ∷ []) more (each n s u row rows h eu) r))
 
--- the end of the records behind a stage with an adapter
+-- the end of the records after a stage with an adapter
 ended_ok : (s : TraceStage) (past : Past) → ended s ≡ Ok past → (lacks_adapters s ≡ false) × (past_of s ≡ past)
 unfolding ended
 ended_ok stage.Header past e = absurd cc

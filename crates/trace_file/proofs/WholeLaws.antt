@@ -43,7 +43,7 @@ pub link_small : (before : List ℕ) (k : ℕ) → link_fault (before, k) ≡ No
 unfolding link_fault
 link_small before k e = leb-true _ _ (and_parts _ _ (not-false _ (cond_none _ _ _ (cond_none _ _ _ e).1).0)).1
 
--- an adapter's link is one of so many
+-- an adapter's link is one of that many
 pub adapter_link : (links : ℕ) (before : List Adapter) (a : Adapter) → adapter_fault links (before, a) ≡ None → IfSome a.link (λ l. l < links)
 unfolding adapter_fault
 adapter_link links before a e = by a.link (or_right (openings_fault MOST_ADAPTERS (length before) a.openings) _ e)
@@ -69,7 +69,7 @@ weight_numbers before w e = (grind (arith, nat_tests), grind (arith, nat_tests))
 abbrev pub config : List WeightRow → List ℕ → List Adapter → List Device → List ℕ → Topology
 config ws ks as' ds ls = record { weights = ws; links = ks; adapters = as'; devices = ds; lanes = ls }
 
--- a stage with these weights and links, behind which an adapter may come
+-- a stage with these weights and links, after which an adapter may come
 pub record IsBase (v : Version) (ws : List WeightRow) (ks : List ℕ) (base : TraceStage) : Type 0 where
   pub behind : base ≢ stage.Header
   pub place : stands base word.Sim ≡ true
@@ -250,7 +250,7 @@ legal_along : (c : Topology) (es : List Event) → is_legal c es ≡ true → Al
 unfolding legal_by
 legal_along c es e = true_along (is_legal_event c) [] es e
 
--- the records of adapters, devices, lanes and events, behind those of the weights
+-- the records of adapters, devices, lanes and events, after those of the weights
 pub taken_all : (v : Version) (ws : List WeightRow) (ks : List ℕ) (base : TraceStage) (as' : List Adapter) (ds : List Device) (ls : List ℕ) (es : List Event) → IsBase v ws ks base → Kept v ws ks as' ds ls → AllByRecursion (λ (d : Device). d.target ≤ 65535) ds
     → is_legal (config ws ks as' ds ls) es ≡ true → AllByRecursion FitsEvent es
     → (n : ℕ) → taken step n base (map adapter_row as' ++ (map device_row ds ++ (map lane_row ls ++ map event_row es))) ≡ Ok (at_events v ws ks as' ds ls es)
@@ -264,7 +264,7 @@ taken_all v ws ks base as' ds ls es h k targets legal fits n =
     then_taken step n2 (at_lanes v ws ks as' ds []) (at_lanes v ws ks as' ds ls) final (map lane_row ls) _ (run lane_row (at_lanes v ws ks as' ds) (λ b x. lane_fault (length as') (b, x) ≡ None) (one_lane v ws ks as' ds k.few) [] ls n2 k.lanes) (λ n3.
     run event_row (at_events v ws ks as' ds ls) (GoodEvent c) (one_event v ws ks as' ds ls) [] es n3 good_events))))
 
--- behind the header of version 1 stand the standard weights
+-- after the header of version 1 stand the standard weights
 pub first_base : IsBase version.One standard_weights [] stage.First
 unfolding stands
 first_base = record { behind = (λ k. cc); place = refl; version = refl; reaches = refl; is = refl }
@@ -288,7 +288,7 @@ header_table version.One e = absurd cc
 header_table version.Two e = refl
 header_table version.Three e = refl
 
--- the links behind the weights, and what stands behind them
+-- the links after the weights, and what stands after them
 taken_links : (v : Version) (t : Topology) → has_table v ≡ true → holds v t ≡ true → Kept v t.weights t.links t.adapters t.devices t.lanes → (n : ℕ)
     → taken step n (at_weights v t.weights) (map link_row t.links) ≡ Ok (at_links v t.weights t.links)
 taken_links version.One t table held k n = absurd cc

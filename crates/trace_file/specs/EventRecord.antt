@@ -7,7 +7,7 @@ use Rattle.trace_file.specs.Text.{records_in}
 use Rattle.trace_file.specs.declared.event_number.RecordCount.{RecordCount}
 use Rattle.trace_file.specs.declared.trace_fault.TraceFault.{TraceFault}
 
--- The records of the events stand last in a trace, behind all others, and this is the number of the record of the event at a
+-- The records of the events stand last in a trace, after all others, and this is the number of the record of the event at a
 -- place, counted from 1.
 pub record IsEventRecord (text : List ℕ) (past : Past) (place n : ℕ) : Type 0 where
   pub others : List Row
@@ -15,6 +15,6 @@ pub record IsEventRecord (text : List ℕ) (past : Past) (place n : ℕ) : Type 
   pub there : place < length past.events
   pub number : n ≡ length others + place + 1
 
--- the count behind the record of this number
+-- the count after the record of this number
 abbrev pub counted : ℕ → RecordCount → Row → Result RecordCount TraceFault
 counted n before row = Ok (record { records = n })

@@ -28,7 +28,7 @@ has_letters row =
 unfoldable pub is_header : List ℕ → Row → Bool
 is_header name row = (length row == 8) && bytes_eq (field_of row 0) name && has_letters row
 
--- the rank of the words that may come next, and of those behind them
+-- the rank of the words that may come next, and of those after them
 abbrev pub stage_rank : TraceStage → ℕ
 stage_rank (stage.Weights v t) = 0
 stage_rank (stage.Links t) = 1
@@ -37,7 +37,7 @@ stage_rank (stage.Lanes t) = 4
 stage_rank (stage.Events p) = 5
 stage_rank _ = 2
 
--- the version of a trace up to its adapters: behind them the versions are alike, and it is not kept
+-- the version of a trace up to its adapters: after them the versions are alike, and it is not kept
 abbrev pub version_of : TraceStage → Version
 version_of (stage.Weights v t) = v
 version_of (stage.Links t) = version.Three
@@ -45,7 +45,7 @@ version_of (stage.Adapters v t) = v
 version_of _ = version.One
 
 -- Rows of weights, links, adapters, devices, lanes and events stand in this order, of weights in versions 2 and 3, of links in
--- version 3. The first may have any word behind these.
+-- version 3. The first may have any word after these.
 unfoldable pub stands : TraceStage → Word → Bool
 stands stage.Header w = false
 stands s w = nat_le (stage_rank s) (word_rank w) && has_word (version_of s) w
@@ -80,7 +80,7 @@ lacks_adapters _ = false
 abbrev pub lacks_weights : TraceStage → Bool
 lacks_weights s = not (reaches_last (config_of s).weights)
 
--- what is lacking behind these weights, where no adapter has come
+-- what is lacking after these weights, where no adapter has come
 abbrev pub lacking : List WeightRow → ConfigFault
 lacking weights = if reaches_last weights then NoAdapters else BadWeight
 
@@ -144,7 +144,7 @@ add_row n s word.Dev row = in_record n (device_at row) >>= add_device n s
 add_row n s word.Lane row = in_record n (one_number row) >>= add_lane n s
 add_row n s w row = in_record n (event_at w row) >>= add_event n s
 
--- a record behind the header
+-- a record after the header
 unfoldable pub row_step : ℕ → TraceStage → Row → Result TraceStage TraceFault
 row_step n s row = do
   w ← ok_or (placed s row) (BadRecord n)

@@ -38,7 +38,7 @@ unfoldable pub script_records : Manuscript → List Row
 script_records m =
     script_header ∷ (limits_rows m.limits ++ (map adapter_row m.config.adapters ++ (map device_row m.config.devices ++ (map lane_row m.config.lanes ++ map script_row m.rows))))
 
--- a row is put behind the others of its driver, or of its lane
+-- a row is put after the others of its driver, or of its lane
 abbrev pub put_item : Scenario → Result ScriptItem Refusal → Scenario
 put_item s (Ok item) = add_item s item
 put_item s (Err cause) = s
@@ -46,7 +46,7 @@ put_item s (Err cause) = s
 abbrev pub put_row : Scenario → ScriptRow → Scenario
 put_row s said = put_item s (item_of s.config said)
 
--- the scenario: its rows in order, each behind the others of its driver or of its lane
+-- the scenario: its rows in order, each after the others of its driver or of its lane
 unfoldable pub scenario_of : Manuscript → Scenario
 scenario_of m = fold put_row (empty_scenario m.config (unwrap_or m.limits most_bounds)) m.rows
 

@@ -41,7 +41,7 @@ is_limits row = (length row == 8) && bytes_eq (field_of row 0) (codes "limits")
 unfoldable pub item_word : Row → Option ScriptWord
 item_word row = if length row == 8 then script_word_of (field_of row 0) else None
 
--- one answer more, or one row of a driver more, may come behind so many of each
+-- one answer more, or one row of a driver more, may come after that many of each
 abbrev pub has_room : Bool → ℕ → ℕ → Bool
 has_room true steps answers = nat_lt answers MOST_ROWS
 has_room false steps answers = nat_lt steps MOST_ROWS
@@ -56,7 +56,7 @@ with_item n s steps answers (Ok (item.Step driver one)) = Ok (stage.Rows (add_it
 with_item n s steps answers (Ok (item.Answer lane outcome)) = Ok (stage.Rows (add_item s (item.Answer lane outcome)) steps (answers + 1))
 with_item n s steps answers (Err r) = Err (Illegal n r)
 
--- a row behind others
+-- a row after others
 unfoldable pub rows_step : ℕ → Scenario → ℕ → ℕ → Row → Result ScriptStage TraceFault
 rows_step n s steps answers row = do
   w ← ok_or (roomy_word steps answers row) (BadRecord n)
@@ -71,7 +71,7 @@ first_row n limits t row = do
   c ← configured n t
   with_item n (empty_scenario c limits) 0 0 (item_of c said)
 
--- a record behind the header and the limits: of the configuration, as in a trace, or the first row
+-- a record after the header and the limits: of the configuration, as in a trace, or the first row
 unfoldable pub config_step : ℕ → Bounds → TraceStage → Row → Result ScriptStage TraceFault
 config_step n limits t row =
     if is_config_word (field_of row 0) then (row_step n t row >>= λ u. Ok (stage.Config limits u))

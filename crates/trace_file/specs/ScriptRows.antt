@@ -1,4 +1,4 @@
--- The records of a script behind its configuration: how each is spelled, and what it says.
+-- The records of a script after its configuration: how each is spelled, and what it says.
 use Rattle.std.specs.Prelude.{ℕ, ◌+◌, nat_le, if◌then◌else◌, List, [], ◌∷◌, Option, Result, Ok, Err, codes, decimal, find, bytes_eq}
 use Rattle.cam_types.specs.Bounds.{Bounds}
 use Rattle.cam_types.specs.declared.maxima.TheConstants.{MOST_CCBS, MOST_ROUNDS, MOST_STAYS, MOST_EVENTS}

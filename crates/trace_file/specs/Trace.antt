@@ -62,7 +62,7 @@ abbrev pub FailsAt : {S V : Type 0} → (ℕ → S → Row → Result S TraceFau
 FailsAt next end n s [] e = end s ≡ Err e
 FailsAt next end n s (row ∷ rest) e = next n s row ≡ Err e
 
--- where records are read from this first stage on, the first that fails, behind those that don't, has this fault
+-- where records are read from this first stage on, the first that fails, after those that don't, has this fault
 pub record IsFirstFault {S V : Type 0} (next : ℕ → S → Row → Result S TraceFault) (end : S → Result V TraceFault) (first : S) (rows : List Row) (e : TraceFault) : Type 0 where
   pub exact : (taken next 1 first rows >>= end) ≡ Err e
   pub before : List Row

@@ -10,7 +10,7 @@ use Rattle.trace_file.specs.Records.{least_version, records_of}
 use Rattle.trace_file.specs.declared.version.Version.{Version}
 use Rattle.trace_file.specs.declared.version.Version.TheVariants as version
 
--- the text of these records, each by CSV's defaults: commas between its fields, a line feed behind it
+-- the text of these records, each by CSV's defaults: commas between its fields, a line feed after it
 unfoldable pub text_of : List Row → List ℕ
 text_of rows = flat_map (row_text default_writer) rows
 

@@ -152,7 +152,7 @@ impl Script {
     }
 }
 
-// So many empty lists.
+// That many empty lists.
 fn empty_lists<T: Drop>(alloc: Global, count: usize) -> Result<Vec<Vec<T>>, AllocError>
     ensures { IfOk result (λ lists. map (λ l. l.items) lists.items ≡ replicate count []) }
 {

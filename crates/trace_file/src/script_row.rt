@@ -4,7 +4,7 @@ use crate::step::Step;
 use cam_path::CamPath;
 use cam_types::{Flags, Outcome};
 
-/// What a record of a script says behind the configuration, by its fields alone.
+/// What a record of a script says after the configuration, by its fields alone.
 #[derive(Clone, Copy)]
 pub(crate) enum ScriptRow {
     Submit {

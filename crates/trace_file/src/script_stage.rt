@@ -33,7 +33,7 @@ pub(crate) enum ScriptStage {
     First,
     /// The limits, or none, and a configuration in the making.
     Config(Limits, TraceStage),
-    /// A whole configuration, so many rows of drivers, and so many answers.
+    /// A whole configuration, that many rows of drivers, and that many answers.
     Rows(Script, u32, u32),
 }
 

@@ -2,7 +2,7 @@
 
 use crate::fields::is_text;
 
-/// What the first field of a script's record names, behind the configuration.
+/// What the first field of a script's record names, after the configuration.
 #[derive(Clone, Copy)]
 pub(crate) enum ScriptWord {
     Submit,

@@ -4,7 +4,7 @@ use crate::device_row::DeviceRow;
 use cam_types::{Adapter, WeightRow};
 use event_rules::Event;
 
-/// What a record of a trace says behind the header, by its word and its fields.
+/// What a record of a trace says after the header, by its word and its fields.
 #[derive(Clone, Copy)]
 pub(crate) enum TraceRow {
     Weight(WeightRow),

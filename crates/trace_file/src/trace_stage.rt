@@ -62,7 +62,7 @@ impl TraceStage {
         }
     }
 
-    // The rank of the words that may come next, and of those behind them.
+    // The rank of the words that may come next, and of those after them.
     fn rank(&self) -> u32
         ensures { result ≡ stage_rank self.now }
     {
@@ -76,7 +76,7 @@ impl TraceStage {
         }
     }
 
-    // The version of a trace up to its adapters: behind them the versions are alike, and it is not kept.
+    // The version of a trace up to its adapters: after them the versions are alike, and it is not kept.
     fn version(&self) -> Version
         ensures { result ≡ version_of self.now }
     {
@@ -239,7 +239,7 @@ impl TraceStage {
         }
     }
 
-    /// A record behind the header, or its fault.
+    /// A record after the header, or its fault.
     pub(crate) fn take_row(
         self,
         alloc: Global,

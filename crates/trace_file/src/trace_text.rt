@@ -18,7 +18,7 @@ use csv::WriterBuilder;
 use std::alloc::{AllocError, Global};
 use std::io::Write;
 
-/// Writes the trace of a history and flushes it: its records by CSV's defaults, with a line feed behind each, in the least
+/// Writes the trace of a history and flushes it: its records by CSV's defaults, with a line feed after each, in the least
 /// version that holds the history: 3 if it has links, else 2 if the weights aren't the standard ones, and else 1. The text is
 /// made whole before anything of it is written.
 pub fn write_trace<W: Write>(

@@ -54,7 +54,7 @@ impl Word {
         Some(word)
     }
 
-    // The same of the words that come behind `finish`.
+    // The same of the words that come after `finish`.
     #[tactic(auto, unfolding(crate::specs::Words::word_of))]
     fn of_rest(field: &[u8]) -> Option<Word>
         ensures { result ≡ find (λ w. bytes_eq field.now (spelled w)) (Word.Freeze ∷ Word.Release ∷ Word.FreezeSim ∷ Word.ReleaseSim ∷ Word.Adjust ∷ Word.Tick ∷ Word.Weight ∷ Word.Link ∷ []) }

@@ -1,4 +1,4 @@
-//! Behind the line on a fault, what helps to find it: the file and line, the text that stands there, and for a send that was
+//! After the line on a fault, what helps to find it: the file and line, the text that stands there, and for a send that was
 //! refused the command whose turn it was.
 
 pub use report_lines::report_note;

@@ -15,7 +15,7 @@ use Rattle.wait_causes.specs.declared.freeze.Freeze.{Freeze}
 use Rattle.wait_causes.specs.declared.freeze.FreezeKind.{FreezeKind}
 use Rattle.wait_causes.proofs.FreezeLemmas.{between-cons, between-none}
 
--- no rounds cost nothing, and rounds behind others cost more
+-- no rounds cost nothing, and rounds after others cost more
 cost-none : (causes : ℕ → ℕ → Cause) (cause : Cause) (stays : List ExplainedStay) → cost_in causes cause [] stays ≡ 0
 unfolding cost_in
 cost-none causes cause [] = refl
@@ -45,7 +45,7 @@ runs_cost kind n frozen last causes there (r ∷ rs) =
     ∙ ap (λ k. cost_in causes (cause_of kind) (run frozen last r) there + k) (runs_cost kind n frozen last causes there rs)
     ∙ sym (cost-append causes (cause_of kind) (run frozen last r) (flat_map (run frozen last) rs) there)
 
--- the round behind a freeze
+-- the round after a freeze
 behind-free : (frozen : ℕ → Bool) (last r : ℕ) → r < last → frozen r ≡ false → behind frozen last r ≡ r
 unfolding behind
 behind-free frozen last r lt free = rw (between-cons r last lt) (rw free refl)

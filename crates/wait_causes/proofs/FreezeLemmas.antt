@@ -59,7 +59,7 @@ flag_in-table kind c es n r lt =
     unwrap_or-slice_get (flag_table kind c es) ((r - 1) * numbers kind c + n) false
     ∙ row_at (is_frozen_at kind) (numbers kind c) (round_ends es) (r - 1) n false lt
 
--- the round behind a freeze: it is here, or behind this round, or none is left
+-- the round after a freeze: it is here, or after this round, or none is left
 pub behind_here : (frozen : ℕ → Bool) (first last r : ℕ) → r < last → frozen r ≡ false →
     find (λ k. not (frozen k)) (range_with_len r (last - r)) ≡ find (λ k. not (frozen k)) (range_with_len first (last - first)) → r ≡ behind frozen last first
 unfolding behind

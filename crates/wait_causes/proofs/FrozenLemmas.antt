@@ -81,7 +81,7 @@ kind_found c es best causes stays x kind f is =
     (λ s lt. fun_ext (λ r. cause_in-table c es s.device r lt)) (explained_stays c es best)
     (kept_devices c es (length c.devices) (stays_begun es) best (devices_in_range history_rules c es x.legal))))
 
--- one kind behind the other they are all
+-- one kind after the other they are all
 pub freezes_found : (c : Topology) (es : List Event) (best : List ℕ) (causes : List Cause) (stays : List ExplainedStay) → IsExplained c es best causes stays → (errors callers adapters : Frozen) → IsFrozen Error c es errors → IsFrozen Caller c es callers → IsFrozen Adapter c es adapters →
     (xs ys zs all : List Freeze) → xs ≡ [] → ys ≡ xs ++ freezes_by errors.kind (flag_in errors.flags.items errors.count) errors.count errors.last_round (cause_in causes (length c.devices)) stays →
     zs ≡ ys ++ freezes_by callers.kind (flag_in callers.flags.items callers.count) callers.count callers.last_round (cause_in causes (length c.devices)) stays →

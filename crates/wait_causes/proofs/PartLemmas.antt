@@ -52,7 +52,7 @@ find_here test r n m e passes =
     let here : n - r ≡ suc m = omega arith in
     rw here (rw passes refl)
 
--- or of those behind it, where it doesn't
+-- or of those after it, where it doesn't
 find_next : (test : ℕ → Bool) (r n m : ℕ) → r + suc m ≡ n → test r ≡ false → find test (range_with_len r (n - r)) ≡ find test (range_with_len (r + 1) (n - (r + 1)))
 find_next test r n m e fails =
     let here : n - r ≡ suc m = omega arith in

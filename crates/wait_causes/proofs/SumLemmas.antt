@@ -46,7 +46,7 @@ first_of a b e f g h =
     else if h then why.LinkFull
     else why.NotAsked
 
--- one behind these is none that a freeze has
+-- one after these is none that a freeze has
 full_or_not : (kind : FreezeKind) (f g h : Bool) → is_cause (cause_of kind) (first_of false false false f g h) ≡ true → false ≡ true
 unfolding first_of
 full_or_not Error true g h is = is

@@ -51,6 +51,6 @@ waited_causes c events p = map (round_cause c events p.device) (waited_rounds ev
 unfoldable pub cause_table : Topology → List Event → List Cause
 cause_table c events = flat_map (λ before. map (cause_at c before) (devices c)) (round_ends events)
 
--- what held up a device in a round, by such causes of so many devices
+-- what held up a device in a round, by such causes of that many devices
 abbrev pub cause_in : List Cause → ℕ → ℕ → ℕ → Cause
 cause_in causes n d r = unwrap_or (slice_get causes ((r - 1) * n + d)) NotAsked

@@ -37,7 +37,7 @@ is_frozen_in kind events n r = option_map_or (λ before. is_frozen_at kind befor
 abbrev pub begins : (ℕ → Bool) → ℕ → Bool
 begins frozen r = frozen r && (nat_le r 1 || not (frozen (r - 1)))
 
--- the round behind a freeze: the first from there on at whose end it didn't hold, or the one that didn't end
+-- the round after a freeze: the first from there on at whose end it didn't hold, or the one that didn't end
 unfoldable pub behind : (ℕ → Bool) → ℕ → ℕ → ℕ
 behind frozen last first = unwrap_or (find (λ r. not (frozen r)) (range_with_len first (last - first))) last
 
@@ -83,7 +83,7 @@ freeze_from kind n frozen last causes there r = record {
 unfoldable pub freezes_at : FreezeKind → ℕ → (ℕ → Bool) → ℕ → (ℕ → ℕ → waiting.Cause) → List ExplainedStay → List Freeze
 freezes_at kind n frozen last causes there = map (freeze_from kind n frozen last causes there) (filter (begins frozen) (rounds_between 1 last))
 
--- the freezes of a kind, by so many numbers and their rounds
+-- the freezes of a kind, by that many numbers and their rounds
 unfoldable pub freezes_by : FreezeKind → (ℕ → ℕ → Bool) → ℕ → ℕ → (ℕ → ℕ → waiting.Cause) → List ExplainedStay → List Freeze
 freezes_by kind frozen count last causes stays = flat_map (λ n. freezes_at kind n (frozen n) last causes (stays_of (grouping_of kind) stays n)) (range_with_len 0 count)
 
@@ -110,6 +110,6 @@ cost_of kind rows = sum_by (λ (f : Freeze). f.cost) (filter (λ (f : Freeze). i
 unfoldable pub flag_table : FreezeKind → Topology → List Event → List Bool
 flag_table kind c events = flat_map (λ before. map (is_frozen_at kind before) (range_with_len 0 (numbers kind c))) (round_ends events)
 
--- whether a number was frozen at the end of a round, by such flags of so many numbers
+-- whether a number was frozen at the end of a round, by such flags of that many numbers
 abbrev pub flag_in : List Bool → ℕ → ℕ → ℕ → Bool
 flag_in flags count n r = unwrap_or (slice_get flags ((r - 1) * count + n)) false

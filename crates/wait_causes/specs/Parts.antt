@@ -32,7 +32,7 @@ measure Live s = s.weight * waited s
 measure Best s = s.weight * (s.best - s.arrival)
 measure (Cost cause) s = s.weight * rounds_for cause s.rounds
 
--- so many in a hundred stays waited no more rounds than this
+-- that many in a hundred stays waited no more rounds than this
 abbrev pub is_enough : ℕ → List ExplainedStay → ℕ → Bool
 is_enough percent stays n = nat_le (percent * length stays) (100 * count_by (λ s. nat_le (waited s) n) stays)
 

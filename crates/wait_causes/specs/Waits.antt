@@ -33,7 +33,7 @@ pub record AreWaits (cause : ℕ → Cause) (rounds : List ℕ) (waits : List Wa
 abbrev pub AreWaitsOf : Topology → List Event → Passage → List Wait → Type 0
 AreWaitsOf c events p waits = AreWaits (round_cause c events p.device) (waited_rounds events p) waits
 
--- with one wait more they are those of so many rounds from the first on, and that one ends with them
+-- with one wait more they are those of that many rounds from the first on, and that one ends with them
 pub record AreBegun (cause : ℕ → Cause) (first n : ℕ) (waits : List Wait) (wait : Wait) : Type 0 where
   pub are : AreWaits cause (range_with_len first n) (waits ++ wait ∷ [])
   pub ends : wait.last + 1 ≡ first + n

@@ -13,7 +13,7 @@ use crate::replay::cause_in;
 use crate::table::stays_of;
 use std::alloc::{AllocError, Global};
 
-/// Puts the freezes of these devices or adapters behind the others, by the causes of so many devices in each round.
+/// Puts the freezes of these devices or adapters after the others, by the causes of that many devices in each round.
 #[tactic(auto, unfolding(crate::specs::Freezes::freezes_by))]
 pub(crate) fn push_freezes(
     alloc: Global,
@@ -33,7 +33,7 @@ pub(crate) fn push_freezes(
     Ok(())
 }
 
-// Puts the freezes of this device or adapter behind the others, by the stays there.
+// Puts the freezes of this device or adapter after the others, by the stays there.
 #[tactic(auto, unfolding(crate::specs::Freezes::freezes_at))]
 fn push_number(
     freezes: &mut Vec<Freeze>,

@@ -29,7 +29,7 @@ pub(crate) struct Frozen {
 }
 
 impl Frozen {
-    // The flags of this kind, behind all events.
+    // The flags of this kind, after all events.
     fn new(end: &Queues, kind: FreezeKind, flags: Vec<bool>) -> Frozen
         ensures kind { result.kind ≡ kind }
         ensures count { result.count ≡ numbers kind end.now.config }
@@ -80,7 +80,7 @@ pub(crate) fn frozen_in(
     Ok((errors, callers, adapters))
 }
 
-// If the event ends the round, puts behind the others what is frozen in this way.
+// If the event ends the round, puts after the others what is frozen in this way.
 fn push_ended(
     replay: &Queues,
     event: &Event,
@@ -96,7 +96,7 @@ fn push_ended(
     }
 }
 
-// Puts behind the others which devices or adapters are frozen at this place.
+// Puts after the others which devices or adapters are frozen at this place.
 fn push_flags(replay: &Queues, kind: FreezeKind, flags: &mut Vec<bool>) -> Result<(), AllocError>
     ensures { IfOk result (λ _. flags.new.items ≡ flags.old.items ++ map (is_frozen_at kind replay.now.events) (range_with_len 0 (numbers kind replay.now.config))) }
 {
@@ -131,7 +131,7 @@ fn is_frozen(replay: &Queues, kind: FreezeKind, number: u32) -> bool
     }
 }
 
-// Whether it was frozen at the end of the round, by the flags of so many devices or adapters in each round.
+// Whether it was frozen at the end of the round, by the flags of that many devices or adapters in each round.
 #[tactic(auto, using(crate::proofs::CauseLemmas::place_fits))]
 fn flag_in(flags: &[bool], count: u32, number: u32, round: u32) -> bool
     ensures { result ≡ flag_in flags.now count number round }

@@ -18,7 +18,7 @@ use round_net::Schedule;
 use std::alloc::{AllocError, Global};
 use xpt_core::{Devices, Queues, StayRecord};
 
-/// The stays of these records, each beside its round of the schedule. The adapters are those behind all events.
+/// The stays of these records, each beside its round of the schedule. The adapters are those after all events.
 pub(crate) fn list_stays(
     alloc: Global,
     end: &Queues,

@@ -156,7 +156,7 @@ fn total(stays: &[ExplainedStay], of: Measure) -> u64
     total
 }
 
-// The least number of rounds that so many in a hundred stays didn't pass.
+// The least number of rounds that that many in a hundred stays didn't pass.
 fn nearest_rank(stays: &[ExplainedStay], percent: usize) -> u32
     requires few { length stays.now ≤ MOST_STAYS }
     requires percent { percent ≤ 100 }

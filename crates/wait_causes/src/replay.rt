@@ -12,7 +12,7 @@ use event_rules::{Event, Rules};
 use std::alloc::{AllocError, Global};
 use xpt_core::Queues;
 
-/// The adapters behind all events, and the causes of all devices in each round that ended, one round after the other.
+/// The adapters after all events, and the causes of all devices in each round that ended, one round after the other.
 pub(crate) fn replay(
     alloc: Global,
     config: &Config,
@@ -31,7 +31,7 @@ pub(crate) fn replay(
     Ok((end, causes))
 }
 
-// If the event ends the round, puts what holds up each device behind the others.
+// If the event ends the round, puts what holds up each device after the others.
 fn push_ended(replay: &Queues, event: &Event, causes: &mut Vec<Cause>) -> Result<(), AllocError>
     ensures { IfOk result (λ _. causes.new.items ≡ causes.old.items ++ (if is_tick event.now then map (cause_at replay.now.config replay.now.events) (devices replay.now.config) else [])) }
 {
@@ -42,7 +42,7 @@ fn push_ended(replay: &Queues, event: &Event, causes: &mut Vec<Cause>) -> Result
     }
 }
 
-// Puts what holds up each device at this place behind the others.
+// Puts what holds up each device at this place after the others.
 fn push_causes(replay: &Queues, causes: &mut Vec<Cause>) -> Result<(), AllocError>
     ensures { IfOk result (λ _. causes.new.items ≡ causes.old.items ++ map (cause_at replay.now.config replay.now.events) (devices replay.now.config)) }
 {
@@ -52,7 +52,7 @@ fn push_causes(replay: &Queues, causes: &mut Vec<Cause>) -> Result<(), AllocErro
     Ok(())
 }
 
-/// What held up the stays of the device in a round that ended, by the causes of so many devices in each round.
+/// What held up the stays of the device in a round that ended, by the causes of that many devices in each round.
 #[tactic(auto, using(crate::proofs::CauseLemmas::place_fits))]
 pub(crate) fn cause_in(causes: &[Cause], devices: u32, device: u32, round: u32) -> Cause
     ensures { result ≡ cause_in causes.now devices device round }

@@ -74,7 +74,7 @@ fn greatest(stays: &[ExplainedStay], by: Grouping) -> u32
     most
 }
 
-// Puts the row of this number behind the others, if it has a stay.
+// Puts the row of this number after the others, if it has a stay.
 fn push_row(
     alloc: Global,
     rows: &mut Vec<Row>,
@@ -89,7 +89,7 @@ fn push_row(
     push_part(rows, number, &part)
 }
 
-// Puts the row of these stays behind the others, if there are some.
+// Puts the row of these stays after the others, if there are some.
 fn push_part(rows: &mut Vec<Row>, number: u32, part: &[ExplainedStay]) -> Result<(), AllocError>
     requires few { length part.now ≤ MOST_STAYS }
     ensures { IfOk result (λ _. rows.new.items ≡ rows.old.items ++ row_for number part.now) }

@@ -21,7 +21,7 @@ pub struct Wait {
     pub last: u32,
 }
 
-/// The waits in the rounds from the arrival to the one before the send, by the causes of so many devices in each round.
+/// The waits in the rounds from the arrival to the one before the send, by the causes of that many devices in each round.
 pub(crate) fn waits_in(
     alloc: Global,
     causes: &[Cause],
@@ -57,8 +57,8 @@ fn begun(cause: Cause, round: u32) -> Wait
     }
 }
 
-// The wait that stands behind one round more, which joins the last one if it has its cause. Otherwise the last one is put
-// behind the others.
+// The wait that stands after one round more, which joins the last one if it has its cause. Otherwise the last one is put
+// after the others.
 #[tactic(auto, using(crate::proofs::WaitLemmas::begun_joined, crate::proofs::WaitLemmas::begun_next))]
 fn behind(waits: &mut Vec<Wait>, wait: Wait, cause: Cause, round: u32) -> Result<Wait, AllocError>
     ensures { (f : ℕ → Causes) (first n : ℕ) → cause ≡ f round → round ≡ first + n → AreBegun f first n waits.old.items wait → IfOk result (λ next. AreBegun f first (n + 1) waits.new.items next) }

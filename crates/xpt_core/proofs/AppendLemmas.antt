@@ -1,4 +1,4 @@
--- a transport behind one event more, and its adapters' queues
+-- a transport after one event more, and its adapters' queues
 use Rattle.std.proofs.Common.{◌≡◌, ◌-◌, ◌<◌, ◌≤◌, true, List, [], ◌∷◌, ◌++◌, length, sym, ap, subst, ◌∙◌, arith, length-append}
 use Rattle.cam_types.specs.Topology.{Topology}
 use Rattle.event_rules.specs.declared.event.Event.{Event}
@@ -14,7 +14,7 @@ use Rattle.xpt_core.proofs.UpdateLaws.{unrefreshed, update-push, can-update}
 use Rattle.xpt_core.proofs.RefreshLaws.{affected-there, refresh-push}
 use Rattle.xpt_core.proofs.SimLemmas.{queues_of}
 
--- the event is legal behind the same events
+-- the event is legal after the same events
 pub legal_there : (d t : Transport) (e : Event) → d ≡ t → is_legal_event t.rules t.config (t.events, e) ≡ true → is_legal_event d.rules d.config (d.events, e) ≡ true
 legal_there d t e same legal = ap (λ (x : Transport). is_legal_event x.rules x.config (x.events, e)) same ∙ legal
 

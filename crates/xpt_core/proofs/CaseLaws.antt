@@ -189,7 +189,7 @@ case_recovers es i d lt =
     let k = get_or (cases es) i d in
     counted_recovering (is_recovering es k) (omega (arith, counted_at (cases es) i d lt, count_cases es k))
 
--- the cases behind a legal event, which finds its CCB where it is to be
+-- the cases after a legal event, which finds its CCB where it is to be
 module _ (rules : Rules) (c : Topology) (es : List Event) (legal : is_legal rules c es ≡ true) where
   states : AreStates es
   states = states-legal rules c es legal

@@ -185,7 +185,7 @@ module _ (t : Transport) (b : Ccbs) (is : IsCcbs t b) (e : Event) (legal : is_le
         room = submit_stay (submission_of e) refl;
       }
 
--- the rows behind a legal event
+-- the rows after a legal event
 updated_cases : (es : List Event) (e : Event) (o : Option ℕ) → ccb_of e ≡ o → submission_of e ≡ None → rows (es ++ e ∷ []) ≡ option_map_or (updated_at e (rows es)) o (rows es)
 updated_cases es e None is none = rows-same es e none (λ n lt. concerns-none e n is)
 updated_cases es e (Some n) is none = rows-updated es e n none is

@@ -59,7 +59,7 @@ device-same : (w w' l l' : List Waiting) (n o o' p p' s s' f f' a a' r r' k k' :
     device w l n o p s f a r k ≡ device w' l' n o' p' s' f' a' r' k'
 device-same w w' l l' n o o' p p' s s' f f' a a' r r' k k' ew el eo ep es ef ea er ek = rw (ew, el, eo, ep, es, ef, ea, er, ek) refl
 
--- the state of a device behind one event more, by its parts
+-- the state of a device after one event more, by its parts
 parts : (c : Topology) (n : ℕ) (es : List Event) (d : ℕ) (w l : List Waiting) (o p s f a r k : ℕ) → map entry (in_order es d) ≡ w → map entry (later es d) ≡ l → openings c es d ≡ o → next_openings c es d ≡ p →
     sent_now es d ≡ s → flying_count es d ≡ f → caller_count es d ≡ a → error_count es d ≡ r → entered es d ≡ k → device_state c n es d ≡ device w l n o p s f a r k
 unfolding device_state

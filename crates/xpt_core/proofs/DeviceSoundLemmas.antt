@@ -1,4 +1,4 @@
--- the parts of a transport's devices, before any event and behind one more
+-- the parts of a transport's devices, before any event and after one more
 use Rattle.std.proofs.Common.{◌≡◌, ℕ, suc, ◌+◌, ◌<◌, ◌≤◌, Bool, true, false, cond, List, [], ◌∷◌, ◌++◌, length, refl, sym, ap, subst, ◌∙◌, arith, Option, Some, None, map, get_or, zero-add}
 use Rattle.std.specs.Prelude.{not, ◌==◌, ◌||◌, count_by, slice_get, option_to_list, is_some, IfSome, is_some, vec_len, vec_capacity}
 use Rattle.std.specs.List.{list_any, range_with_len}

@@ -54,12 +54,12 @@ module _ (test : Passage → Bool) where
   pub all-sorted : (ps : List Passage) → list_all test ps ≡ true → list_all test (sorted_by queue_key ps) ≡ true
   all-sorted ps all = all-fold [] ps all refl
 
--- each is behind all before it
+-- each is after all before it
 abbrev pub are_behind : List Passage → Bool
 are_behind [] = true
 are_behind (p ∷ ps) = list_all (λ q. is_behind q p) ps && are_behind ps
 
--- each is behind all of a list
+-- each is after all of a list
 abbrev pub all_behind : List Passage → List Passage → Bool
 all_behind ps ys = list_all (λ p. list_all (is_behind p) ys) ps
 

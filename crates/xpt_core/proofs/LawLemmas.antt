@@ -52,7 +52,7 @@ first_of es (k ∷ ks) is many =
 pub first_case_recovers : (rules : Rules) (c : Topology) (es : List Event) → is_legal rules c es ≡ true → MatchOption (slice_get (cases es) 0) (list_any (is_recovering es) (ccbs es) ≡ false) (λ ccb. IsTrue (is_recovering es ccb))
 first_case_recovers rules c es legal = first_of es (cases es) refl (length_cases es (settled-legal rules c es legal))
 
--- the last failure of a CCB behind one event more
+-- the last failure of a CCB after one event more
 last-none : (es : List Event) (e : Event) (k : ℕ) → failure_of (es, e) ≡ None → last_failure (es ++ e ∷ []) k ≡ last_failure es k
 unfolding last_failure
 last-none es e k none = rw (failures-push es e, none, append-nil (failures es)) refl
@@ -206,7 +206,7 @@ decided_case es e ccb is good = not_among (es ++ e ∷ []) ccb (is_recovering-pu
 pub decisions_end_cases : (es : List Event) (ccb : ℕ) → (list_any (λ k. k == ccb) (cases (es ++ Requeue ccb ∷ [])) ≡ false) × (list_any (λ k. k == ccb) (cases (es ++ Finish ccb ∷ [])) ≡ false)
 decisions_end_cases es ccb = (decided_case es (Requeue ccb) ccb refl refl, decided_case es (Finish ccb) ccb refl refl)
 
--- the class behind a completion that errs
+-- the class after a completion that errs
 alive_behind : (es : List Event) (ccb : ℕ) (o : Outcome) → is_alive es ccb ≡ true → is_erring (Done ccb o) ≡ true → is_alive (es ++ Done ccb o ∷ []) ccb ≡ true
 alive_behind es ccb o lives errs = not_ended-push es (Done ccb o) ccb ∙ rw (lives, eq-eqb ccb ccb refl, errs) refl
 

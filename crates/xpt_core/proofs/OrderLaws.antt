@@ -70,7 +70,7 @@ queued-before es d =
     (list_all-weaker (is_at d (round es)) (λ (p : Passage). nat_le p.arrival (round es)) (queue es d) (λ p h. (and_parts (p.device == d) (nat_le p.arrival (round es)) h).1) (list_all-filter (is_at d (round es)) (waiting es)))
     (list_all-filtered (is_at d (round es)) (λ (p : Passage). nat_lt p.place (length es)) (waiting es) (places-waiting es))
 
--- the newest stay, which no requeue began, is behind those
+-- the newest stay, which no requeue began, is after those
 newest_numbers : (r n a k p : ℕ) → k ≤ 1 → (nat_le a r && nat_lt p n) ≡ true →
     not (nat_lt r a || ((r == a) && (nat_lt 1 k || ((1 == k) && (nat_lt n p || ((n == p) && false)))))) ≡ true
 newest_numbers r n a k p le h = grind (arith, nat_tests)
@@ -154,7 +154,7 @@ module _ (es : List Event) (d : ℕ) where
       ∙ later_cases (later es d) (requeued_stay es ccb s) (s.device == d)
 
 -- a tick
--- the stays begin one behind another
+-- the stays begin one after another
 abbrev are_rising : List Passage → Bool
 are_rising [] = true
 are_rising (p ∷ ps) = list_all (λ (q : Passage). nat_lt p.place q.place) ps && are_rising ps
@@ -250,7 +250,7 @@ next-later es d =
     (list_all-filtered (is_later d (round es)) (is_due (round es)) (waiting es) (due-waiting es))
     (list_all-filtered (is_later d (round es)) (λ (p : Passage). nat_le p.arrival (round es + 1)) (waiting es) (arrived-waiting es))
 
--- a stay of the next round is behind those that have arrived
+-- a stay of the next round is after those that have arrived
 behind_numbers : (r a k p a' k' p' : ℕ) → a ≡ r + 1 → nat_le a' r ≡ true →
     not (nat_lt a a' || ((a == a') && (nat_lt k k' || ((k == k') && (nat_lt p p' || ((p == p') && false)))))) ≡ true
 behind_numbers r a k p a' k' p' at le = grind (arith, nat_tests)
@@ -266,7 +266,7 @@ all_behind_arrived r n (p ∷ ps) ys h g =
     let parts = and_parts (is_next r p) (list_all (is_next r) ps) h in
     and_from _ _ (all-sorted (is_behind p) ys (list_all-weaker (came_before n r) (is_behind p) ys (λ q. behind_arrived r n p q parts.0) g)) (all_behind_arrived r n ps ys parts.1 g)
 
--- and behind those of the next round that were requeued before it
+-- and after those of the next round that were requeued before it
 rising_numbers : (r a k p a' k' p' : ℕ) → a ≡ r + 1 → a' ≡ r + 1 → k ≡ 0 → k' ≡ 0 → nat_lt p' p ≡ true →
     not (nat_lt a a' || ((a == a') && (nat_lt k k' || ((k == k') && (nat_lt p p' || ((p == p') && false)))))) ≡ true
 rising_numbers r a k p a' k' p' at at' e e' lt = grind (arith, nat_tests)
@@ -301,7 +301,7 @@ waiting-tick es d =
     ∙ entry-fold (later es d) (in_order es d) (all_behind_arrived (round es) (length es) (later es d) (queue es d) (next-later es d) (queued-before es d))
     (behind_each (round es) (later es d) (next-later es d) (rising-later es d))
 
--- the entries behind the first
+-- the entries after the first
 pub entries-drop : (ps : List Passage) → map entry (drop 1 ps) ≡ drop 1 (map entry ps)
 entries-drop [] = refl
 entries-drop (p ∷ ps) = refl

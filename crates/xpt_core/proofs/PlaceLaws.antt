@@ -1,4 +1,4 @@
--- what is known of each CCB of legal events, and where it stands: in a queue, in flight, behind an error, or nowhere
+-- what is known of each CCB of legal events, and where it stands: in a queue, in flight, after an error, or nowhere
 use Rattle.std.proofs.Common.{◌≡◌, ℕ, ◌≤◌, true, List, [], ◌∷◌, ◌++◌, refl, ◌∙◌, arith}
 use Rattle.cam_types.specs.Topology.{Topology}
 use Rattle.event_rules.specs.Counts.{commands, submissions, is_in_flight, is_recovering, last_result, counted_requeues}

@@ -79,7 +79,7 @@ module _ (es : List Event) where
   unfolding records live_cost
   cost-records c = rw (any-map (stays_begun es)) (all_sent c (list_any (stays.is_unsent es) (stays_begun es)) refl)
 
--- what is read of a CCB's latest stay, behind a transport's events
+-- what is read of a CCB's latest stay, after a transport's events
 module _ (q : Transport) (s : Stays) (is : IsStays q s) (t : Transport) (view : q ≡ t) where
   stays-there : (k n : ℕ) → slice_get s.latest.items k ≡ Some n → k < commands q.events
   stays-there k n at = omega (arith, slice_get_within s.latest.items k n at, s.latest.ok.0, len-latest q s is)

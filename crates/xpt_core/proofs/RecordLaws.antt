@@ -77,7 +77,7 @@ places-quiet es e none still =
     ap (λ n. map (latest_place (es ++ e ∷ [])) (range_with_len 0 n)) (commands-none es e still)
     ∙ map-range_same (latest_place es) (latest_place (es ++ e ∷ [])) 0 (commands es) (λ k low lt. latest.same_place es e none k)
 
--- a legal event behind legal ones
+-- a legal event after legal ones
 module _ (rules : Rules) (c : Topology) (es : List Event) (legal : is_legal rules c es ≡ true) where
   all : AreLatest es
   all = latest.latest-legal rules c es legal

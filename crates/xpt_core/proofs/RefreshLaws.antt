@@ -1,4 +1,4 @@
--- which devices are ready behind one event more
+-- which devices are ready after one event more
 use Rattle.std.proofs.Common.{◌≡◌, ◌≢◌, ℕ, ◌+◌, ◌<◌, Bool, true, false, cond, List, [], ◌∷◌, ◌++◌, length, refl, sym, ap, subst, ◌∙◌, Option, Some, None, map}
 use Rattle.std.specs.Prelude.{◌==◌, ◌&&◌, nat_le, slice_get}
 use Rattle.std.specs.Option.{option_map, option_map_or}

@@ -22,7 +22,7 @@ use Rattle.xpt_core.specs.declared.ccbs.ccb.Ccb.{Ccb}
 use Rattle.xpt_core.specs.Ccbs.{is_alive, ccb_by, alive_ccb, rows}
 use Rattle.xpt_core.specs.Change.{fresh, counts, next_ccb, next_row, updated_at, IsSmall}
 
--- the CCB behind one event more
+-- the CCB after one event more
 pub ccb_by-push : (es : List Event) (e : Event) (n : ℕ) (s : Submission) → ccb_by (es ++ e ∷ []) n s ≡ next_ccb n e (ccb_by es n s)
 ccb_by-push es e n s = rw (is_in_flight-push es e n, is_recovering-push es e n, last_result-push es e n, counted_requeues-push es e n, requeues-push es e n) refl
 
@@ -64,7 +64,7 @@ pub submission-new : (es : List Event) (e : Event) (s : Submission) → submissi
 submission-new es e s is =
     rw (submissions-push, is) (slice_get-get_or (submissions es ++ s ∷ []) (commands es) s (omega (arith, length_push (submissions es) s)) ∙ ap Some (get_or_push (submissions es) s s (commands es) refl))
 
--- the row of a CCB behind one event more
+-- the row of a CCB after one event more
 alive_cases : (alive ended : Bool) (o : Option Submission) (n : ℕ) (e : Event) (es : List Event) → ends n e ≡ ended →
     cond (alive && not ended) (option_map (ccb_by (es ++ e ∷ []) n) o) None ≡ next_row n e (cond alive (option_map (ccb_by es n) o) None)
 alive_cases true true None n e es is = refl
@@ -134,7 +134,7 @@ born es e s is blank_row lives =
     rw (not_ended-push es e (commands es), (apart (commands es) e none).ends, lives, submission-new es e s is)
     (ap Some (ccb_by-push es e (commands es) s ∙ next_ccb-other (commands es) e (ccb_by es (commands es) s) none ∙ blank_row))
 
--- a submit puts the new row behind the others
+-- a submit puts the new row after the others
 pub rows-submit : (es : List Event) (e : Event) (s : Submission) → submission_of e ≡ Some s → ccb_by es (commands es) s ≡ fresh s → is_alive es (commands es) ≡ true → rows (es ++ e ∷ []) ≡ rows es ++ Some (fresh s) ∷ []
 rows-submit es e s is blank_row lives =
     ext_get_or None (rows (es ++ e ∷ [])) (rows es ++ Some (fresh s) ∷ [])

@@ -1,4 +1,4 @@
--- the parts that hold a transport's stays, before any event and behind one more
+-- the parts that hold a transport's stays, before any event and after one more
 use Rattle.std.proofs.Common.{◌≡◌, ℕ, ◌+◌, ◌<◌, ◌≤◌, ◌^◌, true, false, List, [], ◌∷◌, ◌++◌, length, get_or, set, refl, sym, ap, ◌∙◌, arith, Some, None, subst}
 use Rattle.std.specs.Prelude.{slice_get, vec_len, vec_capacity, IfSome, nat_le, ◌&&◌}
 use Rattle.std.proofs.lemmas.Bool.{and_parts, leb-true}

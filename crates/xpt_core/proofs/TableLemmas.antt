@@ -1,4 +1,4 @@
--- what a table of rows holds behind a change
+-- what a table of rows holds after a change
 use Rattle.std.proofs.Common.{◌≡◌, ◌≢◌, ℕ, ◌+◌, ◌-◌, ◌^◌, ◌<◌, ◌≤◌, Bool, true, false, cond, List, [], ◌∷◌, ◌++◌, length, set, get_or, refl, sym, ap, subst, ◌∙◌, arith, Option, Some, None, is_some, inl, inr, option_map, add-zero, length-set}
 use Rattle.std.specs.Prelude.{unwrap_or, option_and_then, count_by, slice_get, All}
 use Rattle.std.specs.Option.{option_map_or}
@@ -130,7 +130,7 @@ sound-event slots slots' handles room flying flew flies handle old new n sound u
     table-changed slots slots' handles room flying handle new sound updates n at (flying - flew + flies) held
     (ap (λ (t : Table Ccb). t.taken) rest) (omega (arith, was_flying, flew_is, flies_is, le))
 
--- no more are in flight than there are rows, also behind a change of one
+-- no more are in flight than there are rows, also after a change of one
 pub flying-fits : (slots : Table Ccb) (handles : List Handle) (room flying flew flies n : ℕ) (old new : Option Ccb) → IsTable slots handles room flying → slice_get (rows_in slots handles) n ≡ Some old →
     flew ≡ bit (is_row_in_flight old) → flies ≡ bit (is_row_in_flight new) → flying - flew + flies < 2 ^ 32
 flying-fits slots handles room flying flew flies n old new is at flew_is flies_is =

@@ -67,7 +67,7 @@ module _ (rules : Rules) (c : Topology) (n : ℕ) (es : List Event) (legal : is_
   covered : AreCovered es
   covered = covered-legal rules c es legal
 
-  -- the queues behind an event that changes one device
+  -- the queues after an event that changes one device
   changed : (e : Event) (target : ℕ) (change : Device → Device) → ((d : ℕ) → device_state c n (es ++ e ∷ []) d ≡ cond (target == d) (change (device_state c n es d)) (device_state c n es d)) →
       map (device_state c n (es ++ e ∷ [])) (devices c) ≡ at_place target change queues
   changed e target change h = at_range (device_state c n es) (device_state c n (es ++ e ∷ [])) (length c.devices) target change h

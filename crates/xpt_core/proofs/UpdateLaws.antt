@@ -42,7 +42,7 @@ use Rattle.xpt_core.proofs.RowLemmas.{adapter, adapter-same, known-same, row-sam
 abbrev sent_on : Topology → List Event → ℕ → ℕ
 sent_on c es a = count_by (goes_now_to_adapter c es a) (sendings es)
 
--- what is known behind one event more, apart from which devices are ready
+-- what is known after one event more, apart from which devices are ready
 abbrev pub unrefreshed : Topology → List Event → Event → Known
 unrefreshed c es e = record {
   turn = last_sent (es ++ e ∷ []);

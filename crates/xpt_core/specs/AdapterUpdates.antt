@@ -18,7 +18,7 @@ abbrev pub with_turn : ℕ → Adapter → Adapter
 with_turn place s =
     option_map_or (λ d. record s { rows = with_send d place s.rows; sent = s.sent + 1 }) (best_ready s) s
 
--- so many more freezes
+-- that many more freezes
 abbrev pub with_freezes : ℕ → Adapter → Adapter
 with_freezes count s = record s { callers = s.callers + count }
 

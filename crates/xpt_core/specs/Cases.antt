@@ -20,7 +20,7 @@ failure_of (before, _) = None
 unfoldable pub failures : List Event → List Failure
 failures events = filter_map failure_of (moments events)
 
--- no event behind it concerns its CCB
+-- no event after it concerns its CCB
 abbrev pub is_undecided : List Event → Failure → Bool
 is_undecided events f = not (list_any (concerns f.ccb) (drop (f.place + 1) events))
 
@@ -39,7 +39,7 @@ times ccb cases = count_by (λ k. k == ccb) cases
 abbrev pub other_cases : ℕ → List ℕ → List ℕ
 other_cases ccb cases = filter (λ k. not (ccb == k)) cases
 
--- the cases behind an event: a requeue and a finish decide on a CCB, and one that errs is the last
+-- the cases after an event: a requeue and a finish decide on a CCB, and one that errs is the last
 abbrev pub decided : Event → List ℕ → List ℕ
 decided (Requeue ccb) cases = other_cases ccb cases
 decided (Finish ccb) cases = other_cases ccb cases

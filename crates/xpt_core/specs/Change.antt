@@ -12,7 +12,7 @@ use Rattle.xpt_core.specs.declared.ccbs.ccb.Ccb.{Ccb}
 abbrev pub fresh : Submission → Ccb
 fresh submission = record { submission = submission; in_flight = false; recovering = false; outcome = None; counted = 0; attempt = 0 }
 
--- a requeue behind its last result counts as a retry
+-- a requeue after its last result counts as a retry
 abbrev pub counts : Ccb → Bool
 counts r = is_some_and (λ o. is_counted (kind_of o)) r.outcome
 
@@ -20,7 +20,7 @@ counts r = is_some_and (λ o. is_counted (kind_of o)) r.outcome
 abbrev pub class_of_row : Ccb → Option class.Class
 class_of_row r = option_map (λ o. classify o r.counted r.submission.retries) r.outcome
 
--- the CCB of this number behind the event
+-- the CCB of this number after the event
 abbrev pub next_ccb : ℕ → Event → Ccb → Ccb
 next_ccb ccb event r = record {
   submission = r.submission;

@@ -15,7 +15,7 @@ counts_of events = record {
   in_flight = count_by (is_in_flight events) (ccbs events);
 }
 
--- behind one event more
+-- after one event more
 abbrev pub counted : Event → Counts → Counts
 counted (Submit driver device priority retries flags) n = record n { stays = n.stays + 1; waiting = n.waiting + 1 }
 counted (Requeue ccb) n = record n { stays = n.stays + 1; waiting = n.waiting + 1 }

@@ -39,11 +39,11 @@ with_requeue w frozen q = record q {
 abbrev pub with_finish : Bool → Device → Device
 with_finish frozen q = record q { errors = q.errors - (if frozen then 1 else 0) }
 
--- so many more of the callers' freezes
+-- that many more of the callers' freezes
 abbrev pub with_freezes : ℕ → Device → Device
 with_freezes count q = record q { callers = q.callers + count }
 
--- and so many fewer
+-- and that many fewer
 abbrev pub less_freezes : ℕ → Device → Device
 less_freezes count q = record q { callers = q.callers - count }
 
@@ -60,7 +60,7 @@ abbrev pub updated_ccb : List Submission → ℕ → (Submission → Device → 
 updated_ccb submissions ccb change queues =
     option_map_or (λ (s : Submission). at_place s.device (change s) queues) (slice_get submissions ccb) queues
 
--- and of all queues, behind these submissions
+-- and of all queues, after these submissions
 abbrev pub updated : List Submission → Event → List Device → List Device
 updated submissions (Submit driver device priority retries flags) queues =
     at_place device (with_stay (record { ccb = length submissions; priority = priority })) queues

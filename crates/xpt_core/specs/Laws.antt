@@ -51,14 +51,14 @@ AskedDecisionsAreTaken =
     → (IsTrue (is_some_and asks_requeue (last_class events ccb)) → IsTrue (is_for_room (refusal rules c events (Requeue ccb))))
     × (IsTrue (is_some_and asks_finish (last_class events ccb)) → IsTrue (is_for_room (refusal rules c events (Finish ccb))))
 
--- Behind a decision on a CCB it isn't among the cases.
+-- After a decision on a CCB it isn't among the cases.
 abbrev pub DecisionsEndCases : Type 0
 DecisionsEndCases =
     (events : List Event) (ccb : ℕ)
     → (list_any (λ k. k == ccb) (cases (events ++ Requeue ccb ∷ [])) ≡ false)
     × (list_any (λ k. k == ccb) (cases (events ++ Finish ccb ∷ [])) ≡ false)
 
--- Behind a completion that errs its CCB is alive, and of the class that the result comes to by the requeues before it.
+-- After a completion that errs its CCB is alive, and of the class that the result comes to by the requeues before it.
 abbrev pub FailuresAreClassed : Type 0
 FailuresAreClassed =
     (rules : Rules) (c : Topology) (events : List Event) (ccb : ℕ) (outcome : Outcome)

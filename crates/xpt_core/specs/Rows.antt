@@ -31,7 +31,7 @@ pub record IsTable (slots : Table Ccb) (handles : List Handle) (room in_flight :
   pub few : length handles ≤ room
   pub range : room < 2 ^ 32
 
--- the rows behind an event
+-- the rows after an event
 abbrev pub updated : Event → List (Option Ccb) → List (Option Ccb)
 updated event rows =
     option_map_or (λ s. rows ++ Some (fresh s) ∷ []) (submission_of event) (option_map_or (updated_at event rows) (ccb_of event) rows)

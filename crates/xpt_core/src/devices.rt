@@ -1,4 +1,4 @@
-//! The devices of a transport: how they open, and how an event is put behind the others.
+//! The devices of a transport: how they open, and how an event is put after the others.
 
 ghost use Rattle.std.specs.Prelude.{◌≡◌, ◌<◌, ◌≤◌, [], ◌∷◌, ◌++◌, length, IsTrue, IfOk, IfSome, option_to_list, vec_len, vec_capacity};
 ghost use Rattle.event_rules.specs.Event.{submission_of};
@@ -61,7 +61,7 @@ impl Devices {
         })
     }
 
-    /// Puts a legal event behind the others. It takes time that grows with the logarithm of what waits at the device;
+    /// Puts a legal event after the others. It takes time that grows with the logarithm of what waits at the device;
     /// a tick visits each device, and enters what waits for the round that opens.
     pub fn append(&mut self, event: Event)
         requires legal { IsTrue (is_legal_event (self.old.rules) self.old.config (self.old.events, event)) }

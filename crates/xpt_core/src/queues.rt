@@ -57,7 +57,7 @@ impl Queues {
         Ok(Queues { devices, sims })
     }
 
-    /// Puts a legal event behind the others. It takes the time of `Devices::append`, and time that grows with the number
+    /// Puts a legal event after the others. It takes the time of `Devices::append`, and time that grows with the number
     /// of devices on the adapter; a tick asks each device.
     pub fn append(&mut self, event: Event)
         requires legal { IsTrue (is_legal_event (self.old.rules) self.old.config (self.old.events, event)) }

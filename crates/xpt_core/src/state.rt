@@ -161,7 +161,11 @@ impl State {
         ensures events { result.1.items ≡ self.events }
         ensures legal { IsTrue (is_legal history_rules self.config self.events) }
     {
-        let State { queues, .. } = self;
+        let State {
+            queues,
+            ccbs: _ccbs,
+            stays: _stays,
+        } = self;
         queues.into_parts()
     }
 }

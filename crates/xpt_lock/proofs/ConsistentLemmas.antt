@@ -28,7 +28,7 @@ all_back : {X : Type 0} (P : X → Type 0) (xs ys : List X) → All P (xs ++ ys)
 all_back P [] ys h = h
 all_back P (x ∷ xs) ys h = all_back P xs ys (All-tail P x (xs ++ ys) h)
 
--- the least place that lies behind those of the receipts
+-- the least place that lies after those of the receipts
 abbrev pub next_place : List Receipt → ℕ
 next_place [] = 0
 next_place (r ∷ rs) = max (r.at + 1) (next_place rs)
@@ -115,7 +115,7 @@ taken_none due before named fit marked = record {
   behind = refl;
 }
 
--- one receipt more, which stands, behind the seat's others, at a place without a mark
+-- one receipt more, which stands, after the seat's others, at a place without a mark
 pub taken_more : (due : List Receipt) (before : List Held) (mine : List Receipt) (named : List Bool) (from : ℕ) (r : Receipt) → IsTaken due before mine named from →
     slice_get due r.at ≡ Some r → from ≤ r.at → naming r.at (all_receipts before ++ mine) ≡ 0 → IsTaken due before (mine ++ r ∷ []) (set named r.at true) (r.at + 1)
 taken_more due before mine named from r t stands later free =

@@ -19,7 +19,7 @@ use Rattle.xpt_state.specs.declared.reply.Reply.{Reply}
 use Rattle.xpt_lock.specs.Receipts.{receipts_of}
 use Rattle.xpt_lock.specs.declared.receipt.Receipt.{Receipt}
 
--- the transport behind the first i events
+-- the transport after the first i events
 abbrev pub at_place : Topology → List Event → ℕ → Transport
 at_place c all i = record { config = c; rules = history_rules; events = take i all }
 
@@ -36,7 +36,7 @@ takes_next c all i old new e (Err why) legal so_far lt item step =
     differ : {x : Refusal} → None ≡ Some x → ⊥
     differ same = cc
 
--- and is then behind one more, with its receipt behind the others
+-- and is then after one more, with its receipt after the others
 pub next_place : (c : Topology) (all : List Event) (i : ℕ) (old new : Transport) (e : Event) (reply : Reply) → old ≡ at_place c all i → i < length all → e ≡ slice_index_or all i e → new ≡ with_event old e → new ≡ at_place c all (i + 1)
 next_place c all i old new e reply so_far lt item made =
     let more : take i all ++ e ∷ [] ≡ take (i + 1) all = ap (λ (x : Event). take i all ++ x ∷ []) item ∙ sym (take_more all i e lt) in

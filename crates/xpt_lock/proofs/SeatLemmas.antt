@@ -11,7 +11,7 @@ use Rattle.xpt_lock.specs.Seats.{Held}
 use Rattle.xpt_lock.specs.declared.receipt.Receipt.{Receipt}
 use Rattle.xpt_lock.specs.declared.seat.SeatName.{SeatName}
 
--- a receipt for the event, behind those that the seat held
+-- a receipt for the event, after those that the seat held
 pub gained : (name : SeatName) (before kept after : List Receipt) (old : Held) (r : Receipt) (event : Event) → record { name = name; receipts = before } ≡ old → kept ≡ before → after ≡ kept ++ r ∷ [] → r.event ≡ event →
     HasGained r event r.reply old (record { name = name; receipts = after })
 gained name before kept after old r event is same more its =

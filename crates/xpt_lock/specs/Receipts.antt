@@ -20,7 +20,7 @@ all_receipts seats = flat_map (λ (h : Held). h.receipts) seats
 abbrev pub naming : ℕ → List Receipt → ℕ
 naming place rs = count_by (λ (r : Receipt). r.at == place) rs
 
--- each receipt names a place before those of the receipts behind it
+-- each receipt names a place before those of the receipts after it
 abbrev pub is_rising : List Receipt → Bool
 is_rising [] = true
 is_rising (r ∷ rs) = list_all (λ (later : Receipt). nat_lt r.at later.at) rs && is_rising rs

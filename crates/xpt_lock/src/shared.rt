@@ -22,7 +22,7 @@ use std::sync::{Mutex, MutexGuard, Wait};
 use std::thread::yield_now;
 use xpt_state::{Case, Done, Look, Reply, Sent, Xpt};
 
-// How often a thread tries for the lock before it sleeps for it. Behind each try it lets others run, twice as often as behind
+// How often a thread tries for the lock before it sleeps for it. After each try it lets others run, twice as often as after
 // the one before. A call holds the lock for less time than a sleep and a wake take, and a thread makes its next call fastest
 // while what lies under the lock is in its processor's cache.
 const TRIES: u32 = 8;
@@ -194,7 +194,7 @@ impl<L: Ledger> SharedXpt<L> {
         self.take(rt, seat, Event::Finish { ccb })
     }
 
-    /// Freezes a device so many times: `Xpt::freeze_dev`, with its refusals.
+    /// Freezes a device that many times: `Xpt::freeze_dev`, with its refusals.
     pub fn freeze_dev<R: Wait>(
         &self,
         rt: &R,
@@ -208,7 +208,7 @@ impl<L: Ledger> SharedXpt<L> {
         self.take(rt, seat, Event::FreezeDev { device, count })
     }
 
-    /// Takes so many freezes of a device away: `Xpt::release_dev`, with its refusals.
+    /// Takes that many freezes of a device away: `Xpt::release_dev`, with its refusals.
     pub fn release_dev<R: Wait>(
         &self,
         rt: &R,
@@ -222,7 +222,7 @@ impl<L: Ledger> SharedXpt<L> {
         self.take(rt, seat, Event::ReleaseDev { device, count })
     }
 
-    /// Freezes an adapter so many times: `Xpt::freeze_sim`, with its refusals.
+    /// Freezes an adapter that many times: `Xpt::freeze_sim`, with its refusals.
     pub fn freeze_sim<R: Wait>(
         &self,
         rt: &R,
@@ -249,7 +249,7 @@ impl<L: Ledger> SharedXpt<L> {
         self.take(rt, seat, Event::ReleaseSim { sim })
     }
 
-    /// Gives a device so many openings from the next round on: `Xpt::adjust`, with its refusals.
+    /// Gives a device that many openings from the next round on: `Xpt::adjust`, with its refusals.
     pub fn adjust<R: Wait>(
         &self,
         rt: &R,

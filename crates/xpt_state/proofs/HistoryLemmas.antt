@@ -17,7 +17,7 @@ pub unrefused_push : (o : Option Refusal) (r : Result (Unit {0}) PushFault) → 
 unrefused_push None r free is = rw is refl
 unrefused_push (Some x) r free is = absurd (cc)
 
--- behind the first of them the next is legal, and is one more of them; in the end all are there
+-- after the first of them the next is legal, and is one more of them; in the end all are there
 pub next_is_legal_there : (c d : Topology) (all items es : List Event) (i : ℕ) (e : Event) → is_legal history_rules c all ≡ true → d ≡ c → items ≡ all → es ≡ take i items → i < length items → e ≡ slice_index_or items i e →
     is_legal_event history_rules d (es, e) ≡ true
 next_is_legal_there c d all items es i e legal config same so_far lt item =

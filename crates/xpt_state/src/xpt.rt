@@ -197,7 +197,7 @@ impl Xpt {
         self.state.take(Event::Finish { ccb })
     }
 
-    /// Freezes the device's queue so many times, 1 to 65,535. Commands in flight are left alone. The freezes by
+    /// Freezes the device's queue that many times, 1 to 65,535. Commands in flight are left alone. The freezes by
     /// callers, with those of sends with `qfreeze`, are at most 65,535 at a time.
     ///
     /// Refused with the first of `HistoryFull`, `NoDevice`, `BadCount` and `FreezeOverflow`; then nothing changes.
@@ -207,7 +207,7 @@ impl Xpt {
         self.state.take(Event::FreezeDev { device, count })
     }
 
-    /// Takes so many freezes of the device away, 1 to 65,535, of those that `freeze_dev` and sends with `qfreeze` made.
+    /// Takes that many freezes of the device away, 1 to 65,535, of those that `freeze_dev` and sends with `qfreeze` made.
     /// The freezes by failures stay: `requeue` or `finish` of the CCB that failed ends one of these.
     ///
     /// Refused with the first of `HistoryFull`, `NoDevice`, `BadCount` and `ReleaseTooMany`; then nothing changes.
@@ -217,7 +217,7 @@ impl Xpt {
         self.state.take(Event::ReleaseDev { device, count })
     }
 
-    /// Freezes the adapter so many times, 1 to 65,535. Commands in flight are left alone. The freezes of an adapter are
+    /// Freezes the adapter that many times, 1 to 65,535. Commands in flight are left alone. The freezes of an adapter are
     /// at most 65,535 at a time.
     ///
     /// Refused with the first of `HistoryFull`, `NoAdapter`, `BadCount` and `FreezeOverflow`; then nothing changes.
@@ -236,7 +236,7 @@ impl Xpt {
         self.state.take(Event::ReleaseSim { sim })
     }
 
-    /// Gives the device so many openings, 1 to 255, from the next round on. This round keeps the openings that it has.
+    /// Gives the device that many openings, 1 to 255, from the next round on. This round keeps the openings that it has.
     ///
     /// Refused with the first of `HistoryFull`, `NoDevice` and `BadOpenings`; then nothing changes.
     pub fn adjust(&mut self, device: u32, openings: u32) -> Result<(), Refusal>

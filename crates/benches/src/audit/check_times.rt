@@ -8,7 +8,7 @@ use std::io;
 use std::process::ExitCode;
 use std::time::{CpuClock, Duration};
 
-// The least time of so many checks counts.
+// The least time of that many checks counts.
 const CHECKS: u32 = 100;
 
 /// Prints that a best plan of the net is proved, and how long the check of that took.

@@ -8,7 +8,7 @@ use std::process::ExitCode;
 use std::thread::Threads;
 use std::time::{Clock, CpuClock, Duration, Instant};
 
-// The least times of so many plans count.
+// The least times of that many plans count.
 const PLANS: u32 = 20;
 
 // The least processor time of a plan, and the least by the clock of one made alone and of one whose adapters are planned at once.

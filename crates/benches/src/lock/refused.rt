@@ -30,7 +30,7 @@ fn calls<L: Ledger, R: Wait + Print + AllocGlobal>(rt: &R, blank: Blank) -> Resu
     gather(rt, shared, seats)
 }
 
-// The two seats, behind their calls.
+// The two seats, after their calls.
 fn calling_seats<L: Ledger, R: Wait + Print + AllocGlobal>(
     rt: &R,
     shared: &SharedXpt<L>,

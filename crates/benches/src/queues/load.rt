@@ -38,7 +38,7 @@ pub struct Load {
 }
 
 impl Load {
-    /// An empty queue with room for so many entries.
+    /// An empty queue with room for that many entries.
     pub fn new(alloc: Global, capacity: u32) -> Result<Load, AllocError> {
         Ok(Load {
             queue: Camq::with_capacity(alloc, capacity as usize)?,
@@ -47,7 +47,7 @@ impl Load {
         })
     }
 
-    /// Inserts so many entries, as far as there is room.
+    /// Inserts that many entries, as far as there is room.
     pub fn insert(&mut self, count: u32, tally: &mut Tally) {
         for _ in 0..count {
             self.insert_one();
@@ -55,7 +55,7 @@ impl Load {
         }
     }
 
-    /// Removes the first entry so many times, as far as there are entries.
+    /// Removes the first entry that many times, as far as there are entries.
     pub fn remove(&mut self, count: u32, tally: &mut Tally) {
         for _ in 0..count {
             self.remove_one();

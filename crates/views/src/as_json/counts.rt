@@ -16,7 +16,7 @@ pub(crate) struct Counts<'a> {
     weights: Option<Vec<ListedWeight>>,
 }
 
-// What a round of waiting costs behind the priorities of the row before, up to the last of these.
+// What a round of waiting costs after the priorities of the row before, up to the last of these.
 #[derive(Clone, Copy, Drop, Serialize)]
 struct ListedWeight {
     last: u32,

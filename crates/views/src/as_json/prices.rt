@@ -47,7 +47,7 @@ pub(crate) fn price_list(
     Ok(list)
 }
 
-// Puts the prices of a row behind the others: those of its device, of its adapter, or of its link.
+// Puts the prices of a row after the others: those of its device, of its adapter, or of its link.
 fn push_row(list: &mut Vec<Price>, net: &Net, prices: &Prices, row: u32) -> Result<(), AllocError>
     requires prices { IsPricingFor (instance_of_rows net.now) prices.now }
     requires row { row < rows (instance_of_rows net.now) }

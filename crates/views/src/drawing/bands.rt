@@ -1,11 +1,11 @@
-//! Freezes as bands behind the bars.
+//! Freezes as bands after the bars.
 
 use crate::drawing::scale::Scale;
 use crate::drawing::words::freeze_words;
 use crate::making::Page;
 use wait_causes::{Freeze, FreezeKind};
 
-/// Puts the bands of the freezes that hold up this device of this adapter on the page, so many pixels high.
+/// Puts the bands of the freezes that hold up this device of this adapter on the page, that many pixels high.
 pub(crate) fn push_bands(
     page: &mut Page,
     scale: &Scale,

@@ -45,7 +45,7 @@ impl Owner {
     }
 }
 
-/// Puts the strip on the page, so many pixels from the top.
+/// Puts the strip on the page, that many pixels from the top.
 pub(crate) fn push_strip(
     page: &mut Page,
     scale: &Scale,

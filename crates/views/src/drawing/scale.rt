@@ -12,7 +12,7 @@ pub(crate) struct Scale {
 }
 
 impl Scale {
-    /// The sizes for so many rounds and stays: few are drawn larger.
+    /// The sizes for that many rounds and stays: few are drawn larger.
     pub(crate) fn of(rounds: u32, stays: usize) -> Scale {
         let step = match rounds {
             0..=14 => 64,
@@ -38,7 +38,7 @@ impl Scale {
         self.left(round).saturating_add(self.step / 2)
     }
 
-    /// How wide so many rounds are.
+    /// How wide that many rounds are.
     pub(crate) fn width(&self, rounds: u32) -> u64 {
         u64::from(rounds).saturating_mul(self.step)
     }
@@ -60,7 +60,7 @@ impl Scale {
             .saturating_add(self.pitch / 2)
     }
 
-    /// How high so many lanes are.
+    /// How high that many lanes are.
     pub(crate) fn height(&self, lanes: u32) -> u64 {
         u64::from(lanes).saturating_mul(self.pitch)
     }

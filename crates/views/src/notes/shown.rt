@@ -5,7 +5,7 @@ use std::alloc::{AllocError, Global};
 // How many bytes of a line are shown.
 const MOST_SHOWN: usize = 200;
 
-/// Puts the name of a file, a line's number and the line's text behind the note: at most 200 bytes, and a `?` for each that
+/// Puts the name of a file, a line's number and the line's text after the note: at most 200 bytes, and a `?` for each that
 /// isn't a printable character of ASCII.
 pub(crate) fn push_line(
     alloc: Global,

@@ -57,7 +57,7 @@ fn record_of(fault: &TraceFault) -> Option<u32> {
     }
 }
 
-// Puts the line of a record behind the note, if the record is there.
+// Puts the line of a record after the note, if the record is there.
 fn push_record(
     alloc: Global,
     note: &mut String,
@@ -72,7 +72,7 @@ fn push_record(
     Ok(())
 }
 
-// Puts a line on the CCB whose turn it was behind the note, if there was one.
+// Puts a line on the CCB whose turn it was after the note, if there was one.
 fn push_turn(alloc: Global, note: &mut String, text: &[u8], record: u32) -> Result<(), AllocError> {
     let Some(place) = place_of(alloc, text, record) else {
         return Ok(());

@@ -6,7 +6,7 @@ use cam_types::Config;
 use std::alloc::{AllocError, Global};
 use wait_causes::Grouping;
 
-/// Puts each of these widths' numbers on the page, flush right behind a space.
+/// Puts each of these widths' numbers on the page, flush right after a space.
 pub(crate) fn push_columns(page: &mut Page, columns: &[(usize, u64)]) {
     for (width, number) in columns {
         page.show(format_args!(" {number:>width$}", width = *width));

@@ -10,7 +10,7 @@ use wait_causes::{Freeze, FreezeKind, Grouping};
 const HEAD: &str = "\nThe freezes that cost most:\n\n\
 \x20 frozen            by        first  last      cost\n";
 
-/// Puts at most so many of the freezes at these places on the page.
+/// Puts at most that many of the freezes at these places on the page.
 pub(crate) fn push_freezes(
     alloc: Global,
     page: &mut Page,

@@ -11,7 +11,7 @@ use wait_causes::{ExplainedStay, Explanation, Wait};
 const HEAD: &str = "\nThe stays whose waiting cost most:\n\n\
 \x20 CCB try  path         priority arrival  sent  best      cost  waited\n";
 
-/// Puts at most so many of the stays at these places on the page, with the causes of their rounds.
+/// Puts at most that many of the stays at these places on the page, with the causes of their rounds.
 pub(crate) fn push_stays(
     alloc: Global,
     page: &mut Page,

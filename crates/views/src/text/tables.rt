@@ -6,7 +6,7 @@ use cam_types::Config;
 use std::alloc::{AllocError, Global};
 use wait_causes::{Cause, CauseCosts, Explanation, Grouping, Part};
 
-// What stands above the columns: behind these `l.full` where there are links, and then `unasked`.
+// What stands above the columns: after these `l.full` where there are links, and then `unasked`.
 const COLUMNS: &str =
     "stays  waited   p50   p90   max      live      best    excess     error    caller  a.frozen    d.full    a.full";
 

@@ -43,7 +43,7 @@ impl Ccb {
         }
     }
 
-    /// What is known of the CCB of this number behind the event.
+    /// What is known of the CCB of this number after the event.
     pub(crate) fn next(self, ccb: u32, event: &Event) -> Ccb
         requires counted { self.counted < 2 ^ 32 - 1 }
         requires attempt { self.attempt < 2 ^ 32 - 1 }

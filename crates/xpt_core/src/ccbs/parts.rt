@@ -10,7 +10,7 @@ use crate::ccbs::ccb::Ccb;
 use cam_ccb::{CcbTable, Handle};
 use event_rules::{Event, Submission};
 
-/// What is known of the CCB behind the event; nothing more where the event ends it.
+/// What is known of the CCB after the event; nothing more where the event ends it.
 pub fn next_row(row: Option<Ccb>, ccb: u32, event: &Event) -> Option<Ccb>
     requires { IsSmall row }
     ensures { result ≡ next_row ccb event.now row }

@@ -33,7 +33,7 @@ impl Rows {
     ghost use Rattle.xpt_core.specs.Change.{fresh, updated_at, IsSmall};
     ghost use Rattle.xpt_core.specs.Rows.{updated, is_row_in_flight, CanUpdate};
 
-    /// Knows of no CCB, and has memory for so many at once and in all.
+    /// Knows of no CCB, and has memory for that many at once and in all.
     pub fn open(alloc: Global, slots: u32, room: u32) -> Result<Rows, AllocError>
         ensures { IfOk result (λ r. r ≡ record { rows = []; slots = slots; room = room }) }
     {

@@ -32,7 +32,7 @@ impl Counts {
         }
     }
 
-    /// Behind one event more.
+    /// After one event more.
     pub(crate) fn behind(self, event: &Event) -> Counts
         requires found { CanCount event.now self }
         requires few { AreFew self }

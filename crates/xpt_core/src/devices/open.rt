@@ -6,7 +6,7 @@ use cam_types::Device;
 use dev_queue::DevQueue;
 use std::alloc::{AllocError, Global};
 
-/// An empty queue for each device, with memory for so many stays.
+/// An empty queue for each device, with memory for that many stays.
 pub(crate) fn open_queues(
     alloc: Global,
     devices: &[Device],

@@ -10,7 +10,7 @@ use cam_types::Priority;
 use dev_queue::DevQueue;
 use event_rules::{Event, Submission};
 
-/// Updates the devices' queues by an event, behind these submissions.
+/// Updates the devices' queues by an event, after these submissions.
 pub(crate) fn update(queues: &mut Vec<DevQueue>, submissions: &[Submission], event: &Event)
     requires { CanUpdate submissions.now event.now queues.old.items }
     ensures { queues.new.items ≡ updated submissions.now event.now queues.old.items }

@@ -22,7 +22,7 @@ answer_room : (b : Bool) (k a : ℕ) → true ≡ b → has_room b k a ≡ true 
 answer_room true k a e h = ltb-true a MOST_ROWS h
 answer_room false k a e h = absurd cc
 
--- the counts behind a step more, and behind an answer more
+-- the counts after a step more, and after an answer more
 step_counted : (s t : Scenario) (k a driver : ℕ) (one : Step) → IsScenario s → driver ≤ 7 → k ≡ sum_by length s.drivers → a ≡ sum_by length s.answers → t ≡ add_item s (item.Step driver one)
     → (k + 1 ≡ sum_by length t.drivers) × (a ≡ sum_by length t.answers)
 step_counted s t k a driver one h few steps answers e =

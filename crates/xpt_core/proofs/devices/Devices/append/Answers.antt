@@ -7,7 +7,7 @@ use Rattle.xpt_core.specs.declared.devices.Devices.TheInside.{Inside}
 use Rattle.xpt_core.proofs.DeviceSoundLemmas.{sound-update, sound-count, sound-few, sound-events, sound-keep_submission, sound-push}
 use Rattle.xpt_core.proofs.devices.Devices.append.Goals as goal
 
--- the event is legal behind those of the fields
+-- the event is legal after those of the fields
 allowed : (i : Inside) (t : Transport) (e : Event) → ◌≡◌ {A = Transport} (record { config = i.config; rules = i.rules; events = i.events.items }) t → is_legal_event t.rules t.config (t.events, e) ≡ true →
     is_legal_event i.rules i.config (i.events.items, e) ≡ true
 allowed i t e view legal = ap (λ (x : Transport). is_legal_event x.rules x.config (x.events, e)) view ∙ legal

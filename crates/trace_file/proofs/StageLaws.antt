@@ -20,7 +20,7 @@ use Rattle.trace_file.specs.declared.trace_stage.TraceStage.TheVariants as stage
 use Rattle.trace_file.specs.declared.word.Word.{Word}
 use Rattle.trace_file.specs.declared.word.Word.TheVariants as word
 use Rattle.trace_file.specs.Fields.{Row, field_of}
-use Rattle.trace_file.specs.Reading.{add_weight, add_link, add_adapter, add_device, add_event, add_lane, add_row, config_of, empty, ended, has_letters, in_record, is_header, lacks_adapters, lacks_weights, past_of, placed, row_step, stands, step, unless_fault, unless_refused, version_of}
+use Rattle.trace_file.specs.Reading.{add_weight, add_link, add_adapter, add_device, add_event, add_lane, add_row, config_of, empty, ended, has_letters, has_links, in_record, is_header, lacks_adapters, lacks_weights, past_of, placed, row_step, stands, step, unless_fault, unless_refused, version_of}
 use Rattle.trace_file.specs.Records.{weight_row, link_row, adapter_row, device_row, event_row, has_no_links, header, holds, is_unlinked, lane_row, records_of}
 use Rattle.trace_file.specs.Versions.{has_table, name_of}
 use Rattle.trace_file.specs.Rows.{adapter_at, device_at, device_of, event_at, one_number, two_numbers}
@@ -89,10 +89,10 @@ pub record Reads (v : Version) (s : TraceStage) (rows : List Row) : Type 0 where
 abbrev Ready : Version → TraceStage → Type 0
 Ready v s = (rows_at v s ≡ records_of v (record { config = config_of s; events = [] })) × (holds v (config_of s) ≡ true)
 
-weight_ready : (v : Version) (s : TraceStage) → IsSound s → IsIn s v → stands s word.Weight ≡ true → Ready v s × (v ≡ version_of s) × (has_table v ≡ true) × IsSound (stage.Weights (version_of s) (config_of s))
+weight_ready : (v : Version) (s : TraceStage) → IsSound s → IsIn s v → stands s word.Weight ≡ true → has_links s ≡ false → Ready v s × (v ≡ version_of s) × (has_table v ≡ true) × IsSound (stage.Weights (version_of s) (config_of s))
 unfolding IsSound stands
-weight_ready v (stage.Weights w t) h i e = rw i.0 ((refl, holds_table w t i.1 h.1 h.2), refl, i.1, h)
-weight_ready v _ h i e = absurd cc
+weight_ready v (stage.Weights w t) h i e l = rw i.0 ((refl, holds_table w t i.1 h.1 h.2), refl, i.1, h)
+weight_ready v _ h i e l = absurd cc
 
 -- nothing stands after the links
 abbrev NoneBehind : Topology → Type 0
@@ -169,9 +169,10 @@ reads_weight : (v : Version) (n : ℕ) (s t : TraceStage) (w : WeightRow) (rows 
 unfolding add_weight
 reads_weight v n s t w rows h place e =
     let c = config_of s in
-    let r = weight_ready v s h.sound h.held place in
+    let g = guarded (has_links s) _ _ t e in
+    let r = weight_ready v s h.sound h.held place g.0 in
     let items = sound_items (version_of s) c r.3 in
-    let k = no_fault n _ _ t e in
+    let k = no_fault n _ _ t g.1 in
     reads_next v s _ t (weight_row w) rows h k.1 (ap (λ (l : List Row). l ++ weight_row w ∷ []) r.0.0 ∙ push_weight v c w r.2 items.0 items.1.0 items.1.1 items.1.2) (r.1, rw r.1 at r.2) (sound_weight (version_of s) c _ w r.3 k.0 refl) h.targets tt
 
 reads_link : (v : Version) (n : ℕ) (s t : TraceStage) (k : ℕ) (rows : List Row) → Reads v s rows → stands s word.Link ≡ true → add_link n s k ≡ Ok t → Reads v t (rows ++ link_row k ∷ [])

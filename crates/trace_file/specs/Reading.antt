@@ -28,10 +28,10 @@ has_letters row =
 unfoldable pub is_header : List ℕ → Row → Bool
 is_header name row = (length row == 8) && bytes_eq (field_of row 0) name && has_letters row
 
--- the rank of the words that may come next, and of those after them
+-- the rank of the words that may come next, and of those after them: a row of weights after the links is known as one
 abbrev pub stage_rank : TraceStage → ℕ
 stage_rank (stage.Weights v t) = 0
-stage_rank (stage.Links t) = 1
+stage_rank (stage.Links t) = 0
 stage_rank (stage.Devices t) = 3
 stage_rank (stage.Lanes t) = 4
 stage_rank (stage.Events p) = 5
@@ -76,6 +76,11 @@ lacks_adapters (stage.Weights v t) = true
 lacks_adapters (stage.Links t) = true
 lacks_adapters _ = false
 
+-- a link has come and no adapter: a link or an adapter is due
+abbrev pub has_links : TraceStage → Bool
+has_links (stage.Links t) = true
+has_links _ = false
+
 -- the weights don't reach the last priority
 abbrev pub lacks_weights : TraceStage → Bool
 lacks_weights s = not (reaches_last (config_of s).weights)
@@ -103,7 +108,8 @@ in_record n (Err field) = Err (BadField n field)
 unfoldable pub add_weight : ℕ → TraceStage → WeightRow → Result TraceStage TraceFault
 add_weight n s w =
     let t = config_of s in
-    unless_fault n (weight_fault (t.weights, w)) (stage.Weights (version_of s) (record t { weights = t.weights ++ w ∷ [] }))
+    if has_links s then Err (BadConfig n (lacking t.weights))
+    else unless_fault n (weight_fault (t.weights, w)) (stage.Weights (version_of s) (record t { weights = t.weights ++ w ∷ [] }))
 
 unfoldable pub add_link : ℕ → TraceStage → ℕ → Result TraceStage TraceFault
 add_link n s openings =

@@ -62,13 +62,12 @@ impl TraceStage {
         }
     }
 
-    // The rank of the words that may come next, and of those after them.
+    // The rank of the words that may come next, and of those after them: a row of weights after the links is known as one.
     fn rank(&self) -> u32
         ensures { result ≡ stage_rank self.now }
     {
         match self {
-            TraceStage::Weights(_, _) => 0,
-            TraceStage::Links(_) => 1,
+            TraceStage::Weights(_, _) | TraceStage::Links(_) => 0,
             TraceStage::Header | TraceStage::First | TraceStage::Adapters(_, _) => 2,
             TraceStage::Devices(_) => 3,
             TraceStage::Lanes(_) => 4,
@@ -112,6 +111,7 @@ impl TraceStage {
     {
         match self {
             TraceStage::Weights(version, draft) => with_weight(version, draft, number, row),
+            TraceStage::Links(draft) => Err(TraceFault::BadConfig(number, lacking(&draft))),
             _ => unreachable!(),
         }
     }

@@ -56,7 +56,7 @@ def explained_line(trace):
               listed(1, 0, 0, 1, 1152, 1, 1, 5, 1, waits=[("adapter_full", 1, 1), ("caller", 2, 4)])])
 
 
-# A command of weight 4 fails and is requeued in the same round; behind it one of weight 16 waits a round, and then the second
+# A command of weight 4 fails and is requeued in the same round; after it one of weight 16 waits a round, and then the second
 # try another. No schedule costs less: the first try has to go in round 1, and two rounds of the other command cost 32.
 SECOND_TRY = HEADER + """sim,1,,,,,,
 dev,0,0,0,1,,,
@@ -218,7 +218,7 @@ LINK_FULL_EXPLAINED = dict(
     freezes=[],
     list=[listed(0, 0, 0, 0, 1152, 1, 1, 1, 2), listed(1, 0, 0, 1, 128, 16, 1, 2, 1, waits=[("link_full", 1, 1)])])
 
-# name, trace, the members of its explanation behind its name
+# name, trace, the members of its explanation after its name
 OBJECTS = [
     ("a device that is full for a second try", SECOND_TRY, SECOND_TRY_EXPLAINED),
     ("an error that comes before a caller and a frozen adapter", HELD, HELD_EXPLAINED),

@@ -4,7 +4,7 @@ threads. The same number always gives the same script."""
 SCRIPTS = 1000
 KINDS = (
     "plain",
-    # Each device is frozen before its commands and released behind them.
+    # Each device is frozen before its commands and released after them.
     "frozen",
     # Each device is frozen and stays so, in three rounds.
     "frozen for good",

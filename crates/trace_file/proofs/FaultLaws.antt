@@ -11,7 +11,7 @@ use Rattle.trace_file.specs.declared.trace_stage.TraceStage.TheVariants as stage
 use Rattle.trace_file.specs.declared.word.Word.{Word}
 use Rattle.trace_file.specs.declared.word.Word.TheVariants as word
 use Rattle.trace_file.specs.Fields.{Row}
-use Rattle.trace_file.specs.Reading.{add_weight, add_link, config_of, lacking, version_of, lacks_weights, add_adapter, add_device, add_event, add_lane, add_row, ended, in_record, is_header, lacks_adapters, placed, reading, row_step, step, unless_fault, unless_refused}
+use Rattle.trace_file.specs.Reading.{add_weight, add_link, config_of, lacking, version_of, lacks_weights, add_adapter, add_device, add_event, add_lane, add_row, ended, has_links, in_record, is_header, lacks_adapters, placed, reading, row_step, step, unless_fault, unless_refused}
 use Rattle.trace_file.specs.Versions.{name_of}
 use Rattle.trace_file.specs.declared.version.Version.TheVariants as version
 use Rattle.trace_file.specs.Rows.{adapter_at, device_at, event_at, one_number, two_numbers}
@@ -60,7 +60,7 @@ by_test false r s h k = k
 
 pub row_fails : (n : ℕ) (s : TraceStage) (w : Word) (row : Row) → FailsByText (add_row n s w row)
 unfolding add_row add_weight add_link add_adapter add_device add_lane add_event
-row_fails n s word.Weight row = bound (in_record n (two_numbers row)) _ (by_field n (two_numbers row)) (λ m. by_config n _ _)
+row_fails n s word.Weight row = bound (in_record n (two_numbers row)) _ (by_field n (two_numbers row)) (λ m. by_test (has_links s) (Err (fault.BadConfig n (lacking (config_of s).weights))) _ tt (by_config n _ _))
 row_fails n s word.Link row = bound (in_record n (one_number row)) _ (by_field n (one_number row)) (λ k. by_test (lacks_weights s) (Err (fault.BadConfig n BadWeight)) _ tt (by_config n _ _))
 row_fails n s word.Sim row = bound (in_record n (adapter_at (version_of s) row)) _ (by_field n (adapter_at (version_of s) row)) (λ a. by_test (lacks_weights s) (Err (fault.BadConfig n BadWeight)) _ tt (by_config n _ _))
 row_fails n s word.Dev row = bound (in_record n (device_at row)) _ (by_field n (device_at row)) (λ d. by_test (lacks_adapters s) (Err (fault.BadConfig n (lacking (config_of s).weights))) _ tt (by_config n _ _))

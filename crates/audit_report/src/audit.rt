@@ -21,7 +21,7 @@ use cam_event::History;
 use cam_types::{Watched, write_whole};
 use cost_plan::{BestPlan, plan};
 use price_check::{push_plan, push_summary};
-use round_net::{Net, NetFault};
+use round_net::{Net, NetFault, RoundTable};
 use std::alloc::{AllocError, Global};
 use std::io::{Read, Write};
 use trace_file::{TraceFault, read_trace};
@@ -67,6 +67,29 @@ pub fn read_net<R: Read>(
     };
     match Net::of(alloc, &history) {
         Ok(net) => Ok((history, net)),
+        Err(NetFault::Unsent(stay)) => Err(AuditFault::Unsent(stay)),
+        Err(NetFault::OutOfMemory) => Err(AuditFault::OutOfMemory),
+    }
+}
+
+/// The same with the history's table of rounds, from which an explanation is made.
+pub fn read_rounds<R: Read>(
+    alloc: Global,
+    trace: &mut Watched<R>,
+) -> Result<(History, RoundTable, Net), AuditFault>
+    requires { has_failed trace.old ≡ false }
+    ensures trace { IfOk result (λ read. WasTrace (R.remaining (device_of trace.old)) (R.remaining (device_of trace.new)) read.0) }
+    ensures rounds { IfOk result (λ read. read.1 ≡ read.0) }
+    ensures net { IfOk result (λ read. read.2 ≡ net_of read.0.config read.0.events) }
+    ensures complete { IfOk result (λ read. unsent read.0.events ≡ None) }
+{
+    let history = match read_trace(alloc, trace) {
+        Ok(history) => history,
+        Err(fault) => return Err(AuditFault::Trace(fault)),
+    };
+    let table = RoundTable::of(alloc, &history)?;
+    match Net::of_rounds(alloc, &history, &table) {
+        Ok(net) => Ok((history, table, net)),
         Err(NetFault::Unsent(stay)) => Err(AuditFault::Unsent(stay)),
         Err(NetFault::OutOfMemory) => Err(AuditFault::OutOfMemory),
     }

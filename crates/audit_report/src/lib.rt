@@ -1,7 +1,7 @@
 //! Whole runs over bytes: a trace in, a report out.
 #![tactic(auto)]
 
-pub use audit::{read_net, run_audit};
+pub use audit::{read_net, read_rounds, run_audit};
 pub use audit_at_once::run_audit_with;
 pub use audit_fault::AuditFault;
 pub use check::run_check;

@@ -3,7 +3,7 @@
 use crate::failure::Failure;
 use crate::note::Named;
 use crate::output::{closed, print};
-use audit_report::{read_net, run_audit_with, run_check, run_migrate};
+use audit_report::{read_rounds, run_audit_with, run_check, run_migrate};
 use cam_event::History;
 use cam_types::Watched;
 use cost_plan::{OpenGate, plan_with};
@@ -64,7 +64,7 @@ impl TraceRun {
         as_json: bool,
     ) -> Result<String, Failure> {
         let alloc = rt.alloc();
-        let (history, net) = read_net(alloc, &mut Watched::new(trace.text.as_slice()))?;
+        let (history, table, net) = read_rounds(alloc, &mut Watched::new(trace.text.as_slice()))?;
         if let TraceRun::Check = self {
             return closed(check_json(alloc, trace.name, &history));
         }
@@ -73,7 +73,7 @@ impl TraceRun {
             let (schedule, prices) = (&best.schedule, &best.prices);
             return closed(audit_json(alloc, trace.name, &history, &net, schedule, prices, summary));
         }
-        let explanation = Explanation::of_net(alloc, &history, &net, &best.schedule)?;
+        let explanation = Explanation::of(alloc, &history, table, &net, &best.schedule)?;
         self.explained(alloc, trace.name, &history, &net, &explanation, as_json)
     }
 

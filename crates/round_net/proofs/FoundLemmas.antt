@@ -12,7 +12,6 @@ use Rattle.event_rules.specs.Stays.{stays_begun, is_unsent}
 use Rattle.event_rules.specs.Live.{send_place, live_round}
 use Rattle.event_rules.specs.declared.event.Event.{Event}
 use Rattle.event_rules.specs.declared.passage.Passage.{Passage}
-use Rattle.event_rules.proofs.LimitLemmas.{round_first}
 use Rattle.xpt_core.specs.Records.{next_stay, record_of, records}
 use Rattle.round_net.specs.Rows.{NetRows, cell}
 use Rattle.round_net.specs.Caps.{row_count, is_free, openings_in, sends_in, cap}
@@ -31,7 +30,7 @@ live_round-unsent es p unsent =
     let past = first_past (is_send_of p.ccb) (drop (p.place + 1) es) (unsent_none es p unsent) in
     ap round (take_all (send_place es p) es (omega (arith, past, length-drop (p.place + 1) es)))
 
-live_cases : (es : List Event) (p : Passage) (b : Bool) → is_unsent es p ≡ b → unwrap_or (cond b None (Some (live_round es p))) (round es) ≡ live_round es p
+pub live_cases : (es : List Event) (p : Passage) (b : Bool) → is_unsent es p ≡ b → unwrap_or (cond b None (Some (live_round es p))) (round es) ≡ live_round es p
 live_cases es p true unsent = sym (live_round-unsent es p unsent)
 live_cases es p false sent = refl
 
@@ -47,7 +46,7 @@ map-map : {X Y Z : Type 0} (g : Y → Z) (f : X → Y) (xs : List X) → map g (
 map-map g f [] = refl
 map-map g f (x ∷ xs) = ap (λ zs. g (f x) ∷ zs) (map-map g f xs)
 
-map-same : {X Y : Type 0} (f g : X → Y) → ((x : X) → f x ≡ g x) → (xs : List X) → map f xs ≡ map g xs
+pub map-same : {X Y : Type 0} (f g : X → Y) → ((x : X) → f x ≡ g x) → (xs : List X) → map f xs ≡ map g xs
 map-same f g h [] = refl
 map-same f g h (x ∷ xs) = rw (h x, map-same f g h xs) refl
 
@@ -60,7 +59,7 @@ flipped : {X : Type 0} (b : Bool) (x y : X) → cond (not b) x y ≡ cond b y x
 flipped true x y = refl
 flipped false x y = refl
 
-caps_found : (c : Topology) (es : List Event) (rounds : ℕ) (frozen : List Bool) (openings sends caps : List ℕ) → 1 ≤ rounds → IsNoted c es rounds frozen openings sends → HasCells c rounds frozen openings sends → AreCaps frozen sends openings caps →
+pub caps_found : (c : Topology) (es : List Event) (rounds : ℕ) (frozen : List Bool) (openings sends caps : List ℕ) → 1 ≤ rounds → IsNoted c es rounds frozen openings sends → HasCells c rounds frozen openings sends → AreCaps frozen sends openings caps →
     caps ≡ table (row_count c) rounds (cap c es)
 unfolding cap
 caps_found c es rounds frozen openings sends caps some noted cells are =
@@ -69,11 +68,8 @@ caps_found c es rounds frozen openings sends caps some noted cells are =
     are.1 (cell rounds row r) lt ∙ rw (noted.marked row r within first last, noted.sent row r within first last, noted.opened row r within first last) (flipped (is_free c es row r) (sends_in c es row r) (openings_in c es row r)))
 
 -- all parts of the net
-pub net_found : (c : Topology) (es : List Event) (rounds links : ℕ) (adapter_of : List ℕ) (link_of : List (Option ℕ)) (rows : List StayRow) (frozen : List Bool) (openings sends caps : List ℕ) →
+pub net_found : (c : Topology) (es : List Event) (rounds links : ℕ) (adapter_of : List ℕ) (link_of : List (Option ℕ)) (rows : List StayRow) (caps : List ℕ) →
     rounds ≡ round es → links ≡ length c.links → adapter_of ≡ map (λ (device : Device). device.bus) c.devices → link_of ≡ map (λ (adapter : Adapter). adapter.link) c.adapters → rows ≡ map (row_of c rounds) (records es) →
-    IsNoted c es rounds frozen openings sends → HasCells c rounds frozen openings sends → AreCaps frozen sends openings caps →
-    ◌≡◌ {A = NetRows} (record { rounds = rounds; links = links; adapter_of = adapter_of; link_of = link_of; stays = rows; caps = caps }) (net_of c es)
-net_found c es rounds links adapter_of link_of rows frozen openings sends caps r l a o s noted cells are =
-    let some : 1 ≤ rounds = rw r (round_first es) in
-    net_of_parts c es rounds links adapter_of link_of rows caps r l a o (s ∙ ap (λ n. map (row_of c n) (records es)) r ∙ rows_of_records c es)
-    (caps_found c es rounds frozen openings sends caps some noted cells are ∙ ap (λ n. table (row_count c) n (cap c es)) r)
+    caps ≡ table (row_count c) (round es) (cap c es) → ◌≡◌ {A = NetRows} (record { rounds = rounds; links = links; adapter_of = adapter_of; link_of = link_of; stays = rows; caps = caps }) (net_of c es)
+net_found c es rounds links adapter_of link_of rows caps r l a o s are =
+    net_of_parts c es rounds links adapter_of link_of rows caps r l a o (s ∙ ap (λ n. map (row_of c n) (records es)) r ∙ rows_of_records c es) are

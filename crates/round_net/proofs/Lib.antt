@@ -1,5 +1,6 @@
 pub mod CellLemmas
 pub mod CountLemmas
+pub mod EndLemmas
 pub mod ExchangeLemmas
 pub mod LoadLemmas
 pub mod MarkLemmas

@@ -156,7 +156,7 @@ stay_of_net : (c : Topology) (es : List Event) (s : ℕ) → s < (instance_of c 
 stay_of_net c es s lt = element (stays_begun es) s (rw stays_of_net at lt)
 
 -- it is of a device of the configuration
-device_in_range : (c : Topology) (es : List Event) (p : Passage) → is_stay_in_range c es p ≡ true → p.device < length c.devices
+pub device_in_range : (c : Topology) (es : List Event) (p : Passage) → is_stay_in_range c es p ≡ true → p.device < length c.devices
 device_in_range c es p h = elim (submission es p.ccb) as (λ o. is_some_and (λ (s : Submission). is_in_range c s && is_stay_of p s) o ≡ true → p.device < length c.devices) [
   | None ↦ λ g. absurd cc
   | Some s ↦ λ g.

@@ -29,7 +29,7 @@ use Rattle.event_rules.proofs.StandLemmas.{AreStates, unsent-most}
 use Rattle.round_net.proofs.OpeningLemmas.{legal-send}
 
 -- no stay was sent later than in the last round
-live_round-le : (es : List Event) (p : Passage) → live_round es p ≤ round es
+pub live_round-le : (es : List Event) (p : Passage) → live_round es p ≤ round es
 live_round-le es p = round-take es (send_place es p)
 
 -- what holds of the stays so far and of one that begins holds of all

@@ -8,3 +8,5 @@ pub mod PriceRows
 pub mod Caps
 pub mod Nets
 pub mod Marks
+pub mod Ends
+pub mod RoundTables

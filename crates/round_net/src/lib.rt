@@ -1,21 +1,29 @@
 //! The net of a history: stays with windows and weights, a cap for each row in each round; schedules and prices over it.
 #![tactic(auto)]
 
+pub use cause::Cause;
 pub use flat::cell;
+pub use freeze_kind::FreezeKind;
 pub use net::Net;
 pub use net_fault::NetFault;
 pub use price_range::{MOST_PRICE, PriceRange};
 pub use prices::Prices;
+pub use round_table::RoundTable;
 pub use schedule::Schedule;
 pub use waiting::cost;
 
 mod cap_rows;
+mod cause;
+mod cause_name;
 mod flat;
+mod freeze_kind;
 mod marks;
 mod net;
 mod net_fault;
 mod price_range;
 mod prices;
+mod round_ends;
+mod round_table;
 mod row_state;
 mod schedule;
 mod stay_row;

@@ -1,11 +1,10 @@
 //! The net of a complete history.
 
-use crate::cap_rows::caps;
 use crate::flat::cell;
 use crate::net_fault::NetFault;
+use crate::round_table::RoundTable;
 use crate::stay_row::StayRow;
 use crate::stay_rows::{adapters_of, links_of, stay_rows};
-use crate::walk::walk_through;
 use cam_event::History;
 use event_rules::Stay;
 use std::alloc::Global;
@@ -57,19 +56,35 @@ impl Net {
         // Each stay was sent within its window, and no row was sent more than it takes.
         ensures live { IfOk result (λ _. IsAdmissible (instance_of history.now.config history.now.events) (live_of history.now.config history.now.events)) }
     {
+        let table = match history.unsent() {
+            Some(stay) => return Err(NetFault::Unsent(stay)),
+            None => RoundTable::of(alloc, history)?,
+        };
+        Net::of_rounds(alloc, history, &table)
+    }
+
+    /// The same where the history's table of rounds is at hand.
+    pub fn of_rounds(alloc: Global, history: &History, table: &RoundTable) -> Result<Net, NetFault>
+        requires { table.now ≡ history.now }
+        ensures answer { MatchOption (unsent history.now.events)
+            (IsOkUnless result NetFault.OutOfMemory)
+            (λ stay. result ≡ Err (NetFault.Unsent stay)) }
+        ensures net { IfOk result (λ net. net ≡ net_of history.now.config history.now.events) }
+        ensures live { IfOk result (λ _. IsAdmissible (instance_of history.now.config history.now.events) (live_of history.now.config history.now.events)) }
+    {
         if let Some(stay) = history.unsent() {
             return Err(NetFault::Unsent(stay));
         }
+        let _events = history.events();
         let config = history.config();
         let rounds = history.round();
-        let notes = walk_through(alloc, config, history.events(), rounds)?;
         Ok(Net {
             rounds,
             links: config.links().len() as u32,
             adapter_of: adapters_of(alloc, config.devices())?,
             link_of: links_of(alloc, config.adapters())?,
             stays: stay_rows(alloc, config, history.stays(), rounds)?,
-            caps: caps(alloc, &notes.frozen, &notes.sends, &notes.openings)?,
+            caps: table.caps(alloc)?,
         })
     }
 

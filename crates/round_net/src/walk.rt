@@ -1,69 +1,30 @@
 //! One pass over the places of a history.
 
-ghost use Rattle.std.specs.Prelude.{◌≡◌, ℕ, ◌≤◌, not, ◌==◌, true, false, [], length, slice_index, slice_index_or, IsTrue, IfOk, OnOk};
+ghost use Rattle.std.specs.Prelude.{◌≡◌, ℕ, ◌≤◌, not, ◌==◌, true, false, [], slice_index, slice_index_or, IsTrue, IfOk};
 ghost use Rattle.cam_types.specs.declared.maxima.TheConstants.{MOST_ROUNDS};
 ghost use Rattle.event_rules.specs.Legal.{history_rules, is_legal};
 ghost use Rattle.event_rules.specs.Counts.{round};
+ghost use Rattle.round_net.specs.Ends.{AreEnds};
 ghost use Rattle.round_net.specs.Caps.{row_count, row_freezes, row_openings, sends_in};
 ghost use Rattle.round_net.specs.Marks.{Marks, Sets, IsNoted, HasCells};
 
 use crate::marks::{mark_frozen, note_openings, note_sends};
-use crate::row_state::row_count;
-use cam_types::Config;
-use event_rules::{Event, Rules};
-use std::alloc::{AllocError, Global};
+use crate::round_ends::RoundEnds;
+use event_rules::Event;
+use std::alloc::AllocError;
 use xpt_core::Queues;
 
-/// What was found at the places of a history, in rows of rounds: whether each row was frozen in the round, how many
-/// commands it took, and how many sends used an opening of it.
-#[derive(Drop)]
-pub struct RoundNotes {
-    pub frozen: Vec<bool>,
-    pub openings: Vec<u32>,
-    pub sends: Vec<u32>,
-}
-
-/// Goes through the places of a history of that many rounds.
-pub fn walk_through(
-    alloc: Global,
-    config: &Config,
-    events: &[Event],
-    rounds: u32,
-) -> Result<RoundNotes, AllocError>
-    requires few { rounds ≤ MOST_ROUNDS }
-    requires within { round events.now ≤ rounds }
-    requires legal { IsTrue (is_legal history_rules config.now events.now) }
-    ensures noted { IfOk result (λ notes. IsNoted config.now events.now rounds notes.frozen.items notes.openings.items notes.sends.items) }
-    ensures cells { IfOk result (λ notes. HasCells config.now rounds notes.frozen.items notes.openings.items notes.sends.items) }
-{
-    let cells = row_count(config) as usize * rounds as usize;
-    let mut frozen = vec![in alloc; false; cells]?;
-    let mut openings = vec![in alloc; 0; cells]?;
-    let mut sends = vec![in alloc; 0; cells]?;
-    walk(
-        Queues::open(alloc, config.copy(alloc)?, Rules::of_history())?,
-        events,
-        rounds,
-        &mut frozen,
-        &mut openings,
-        &mut sends,
-    );
-    Ok(RoundNotes {
-        frozen,
-        openings,
-        sends,
-    })
-}
-
-// Lets the events happen again, and notes at each place what is asked of its round. The rows have to be blank.
-fn walk(
+/// Lets the events happen again, and notes at each place what is asked of its round, and at each end of a round what held.
+/// The rows have to be blank.
+pub fn walk(
     mut replay: Queues,
     events: &[Event],
     rounds: u32,
     frozen: &mut [bool],
     openings: &mut [u32],
     sends: &mut [u32],
-)
+    ends: &mut RoundEnds,
+) -> Result<Queues, AllocError>
     requires few { rounds ≤ MOST_ROUNDS }
     requires within { round events.now ≤ rounds }
     requires start { replay.events ≡ [] }
@@ -73,13 +34,18 @@ fn walk(
     requires no_mark { (i : ℕ) → slice_index_or frozen.old i false ≡ false }
     requires no_opening { (i : ℕ) → slice_index openings.old i ≡ 0 }
     requires no_send { (i : ℕ) → slice_index sends.old i ≡ 0 }
-    ensures { IsNoted replay.config events.now rounds frozen.new openings.new sends.new }
+    requires no_end { AreEnds replay.config [] ends.old }
+    ensures replayed { IfOk result (λ end. end ≡ record { config = replay.config; rules = history_rules; events = events.now }) }
+    ensures noted { IfOk result (λ _. IsNoted replay.config events.now rounds frozen.new openings.new sends.new) }
+    ensures ended { IfOk result (λ _. AreEnds replay.config events.now ends.new) }
 {
     note(&replay, rounds, true, frozen, openings, sends);
     for event in events {
+        ends.push(&replay, event)?;
         replay.append(*event);
         note(&replay, rounds, event.is_tick(), frozen, openings, sends);
     }
+    Ok(replay)
 }
 
 // Notes what there is to note at the place, which may open a round.

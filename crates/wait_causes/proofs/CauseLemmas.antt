@@ -1,106 +1,26 @@
--- the causes of the rounds so far, and of one event more
-use Rattle.std.proofs.Common.{◌≡◌, ℕ, zero, suc, ◌+◌, ◌-◌, ◌*◌, ◌^◌, ◌<◌, ◌≤◌, Bool, true, false, cond, List, [], ◌∷◌, ◌++◌, map, length, get_or, refl, sym, ap, ◌∙◌, arith, append_assoc, Some, None}
-use Rattle.std.specs.Prelude.{filter, flat_map, slice_get, if◌then◌else◌}
-use Rattle.std.specs.List.{range_with_len}
-use Rattle.std.specs.Option.{option_map, option_map_or}
-use Rattle.std.proofs.lemmas.Grind.{flat_map-append}
-use Rattle.std.proofs.lemmas.List.{map-append, get_or_append_left, get_or-append_right, append-nil}
-use Rattle.std.proofs.lemmas.List.Elements.{filter-append}
-use Rattle.std.proofs.lemmas.List.FromFn.{length-map-range_with_len, get_or-map-range_with_len}
-use Rattle.std.proofs.lemmas.Nat.{mul-le}
-use Rattle.std.proofs.lemmas.Option.{unwrap_or-slice_get, slice_get_within}
-use Rattle.cam_types.specs.Lists.{moments}
-use Rattle.cam_types.specs.Topology.{Topology, IsConfig}
-use Rattle.cam_types.specs.Questions.{devices, device_adapter}
-use Rattle.cam_types.proofs.ConfigLemmas.{bus-there}
-use Rattle.cam_types.proofs.ListLemmas.{moments-push}
-use Rattle.cam_types.specs.declared.device.Device.{Device}
-use Rattle.event_rules.proofs.ListFacts.{range_with_len-push}
-use Rattle.event_rules.specs.Event.{is_tick}
-use Rattle.xpt_core.specs.Transport.{Transport}
-use Rattle.event_rules.specs.Legal.{history_rules}
+-- the causes of a device's rounds, by the table of rounds
+use Rattle.std.proofs.Common.{◌≡◌, ℕ, ◌+◌, ◌-◌, ◌*◌, ◌<◌, List, length, ◌∙◌}
+use Rattle.std.proofs.lemmas.Option.{unwrap_or-slice_get}
+use Rattle.cam_types.specs.Topology.{Topology}
 use Rattle.event_rules.specs.declared.event.Event.{Event}
-use Rattle.wait_causes.specs.Causes.{round_ends, cause_at, round_cause, cause_table, cause_in}
-use Rattle.wait_causes.specs.declared.cause.Cause.{Cause}
-use Rattle.wait_causes.specs.declared.cause.Cause.TheVariants.{NotAsked}
-
--- a device's adapter is one of the configuration
-pub bus_in : (c : Topology) (d a : ℕ) → IsConfig c → Some a ≡ option_map (λ (device : Device). device.bus) (slice_get c.devices d) → a < length c.adapters
-bus_in c d a kept is = elim (slice_get c.devices d) as (λ o. slice_get c.devices d ≡ o → Some a ≡ option_map (λ (device : Device). device.bus) o → a < length c.adapters) [
-  | None ↦ λ at e. absurd cc
-  | Some device ↦ λ at e.
-      let same : device_adapter c d ≡ device.bus = ap (λ o. option_map_or (λ (device : Device). device.bus) o 0) at in
-      let bus : a ≡ device.bus = cc in
-      let lt = bus-there c d kept (slice_get_within c.devices d device at) in
-      omega arith
-] refl is
-
--- one device more
-pub row_step : (f : ℕ → Cause) (old xs new : List Cause) (n : ℕ) (x : Cause) → xs ≡ old ++ map f (range_with_len 0 n) → new ≡ xs ++ x ∷ [] → x ≡ f n → new ≡ old ++ map f (range_with_len 0 (n + 1))
-row_step f old xs new n x was is here =
-    let plain : 0 + n ≡ n = omega arith in
-    is ∙ rw (was, here) (append_assoc old (map f (range_with_len 0 n)) (f n ∷ []))
-    ∙ ap (λ ys. old ++ ys) (sym (ap (map f) (range_with_len-push 0 n) ∙ map-append f (range_with_len 0 n) ((0 + n) ∷ []) ∙ ap (λ k. map f (range_with_len 0 n) ++ f k ∷ []) plain))
-
--- a place in the causes of many devices fits
-pub place_fits : (r n : ℕ) → r < 2 ^ 32 → n < 2 ^ 32 → r * n ≤ 18446744065119617025
-place_fits r n rs ns =
-    let few : r ≤ 4294967295 = omega arith in
-    let small : n ≤ 4294967295 = omega arith in
-    let h = mul-le r n 4294967295 4294967295 few small in
-    omega arith
-
-ended : (es : List Event) (e : Event) (b : Bool) → map (λ (m : List Event × Event). m.0) (cond b ((es, e) ∷ []) []) ≡ cond b (es ∷ []) []
-ended es e true = refl
-ended es e false = refl
-
-pub round_ends-push : (es : List Event) (e : Event) → round_ends (es ++ e ∷ []) ≡ round_ends es ++ cond (is_tick e) (es ∷ []) []
-unfolding round_ends
-round_ends-push es e =
-    ap (λ ms. map (λ (m : List Event × Event). m.0) (filter (λ (m : List Event × Event). is_tick m.1) ms)) (moments-push es e)
-    ∙ ap (map (λ (m : List Event × Event). m.0)) (filter-append (λ (m : List Event × Event). is_tick m.1) (moments es) ((es, e) ∷ []))
-    ∙ map-append (λ (m : List Event × Event). m.0) (filter (λ (m : List Event × Event). is_tick m.1) (moments es)) (filter (λ (m : List Event × Event). is_tick m.1) ((es, e) ∷ []))
-    ∙ ap (λ xs. round_ends es ++ xs) (ended es e (is_tick e))
-
-pub cause_table-none : (c : Topology) → cause_table c [] ≡ []
-unfolding cause_table round_ends
-cause_table-none c = refl
-
-pub row_or_none : {X Y : Type 0} (f : Y → List X) (y : Y) (b : Bool) → flat_map f (cond b (y ∷ []) []) ≡ cond b (f y) []
-row_or_none f y true = append-nil (f y)
-row_or_none f y false = refl
-
-pub cause_table-push : (c : Topology) (es : List Event) (e : Event) → cause_table c (es ++ e ∷ []) ≡ cause_table c es ++ cond (is_tick e) (map (cause_at c es) (devices c)) []
-unfolding cause_table
-cause_table-push c es e =
-    ap (flat_map (λ before. map (cause_at c before) (devices c))) (round_ends-push es e)
-    ∙ flat_map-append (λ before. map (cause_at c before) (devices c)) (round_ends es) (cond (is_tick e) (es ∷ []) [])
-    ∙ ap (λ xs. cause_table c es ++ xs) (row_or_none (λ before. map (cause_at c before) (devices c)) es (is_tick e))
-
--- a place in rows of one length
-pub row_at : {X Y : Type 0} (g : Y → ℕ → X) (n : ℕ) (ys : List Y) (k d : ℕ) (x : X) → d < n → get_or (flat_map (λ y. map (g y) (range_with_len 0 n)) ys) (k * n + d) x ≡ option_map_or (λ y. g y d) (slice_get ys k) x
-row_at g n [] k d x lt = refl
-row_at g n (y ∷ ys) zero d x lt =
-    let here : d < length (map (g y) (range_with_len 0 n)) = rw (length-map-range_with_len (g y) 0 n) lt in
-    let plain : zero * n + d ≡ d = omega arith in
-    ap (λ i. get_or (flat_map (λ y. map (g y) (range_with_len 0 n)) (y ∷ ys)) i x) plain
-    ∙ get_or_append_left (map (g y) (range_with_len 0 n)) (flat_map (λ y. map (g y) (range_with_len 0 n)) ys) x d here
-    ∙ get_or-map-range_with_len (g y) 0 n d d x lt (omega arith)
-row_at g n (y ∷ ys) (suc k) d x lt =
-    let le : n ≤ suc k * n + d = omega arith in
-    let less : suc k * n + d - n ≡ k * n + d = omega arith in
-    get_or-append_right (map (g y) (range_with_len 0 n)) (flat_map (λ y. map (g y) (range_with_len 0 n)) ys) n (suc k * n + d) x (length-map-range_with_len (g y) 0 n) le
-    ∙ ap (λ i. get_or (flat_map (λ y. map (g y) (range_with_len 0 n)) ys) i x) less
-    ∙ row_at g n ys k d x lt
+use Rattle.round_net.specs.Ends.{cause_at, cause_table, cause_in, numbers, is_frozen_at, flag_table, flag_in}
+use Rattle.round_net.specs.declared.cause.Cause.TheVariants.{NotAsked}
+use Rattle.round_net.specs.declared.freeze_kind.FreezeKind.{FreezeKind}
+use Rattle.round_net.proofs.EndLemmas.{at_ends-at}
+use Rattle.std.specs.Prelude.{false}
+use Rattle.wait_causes.specs.Causes.{round_cause}
+use Rattle.wait_causes.specs.Freezes.{is_frozen_in}
 
 -- what stands for a device in a round is what held it up there
-pub cause_in-table : (c : Topology) (es : List Event) (d r : ℕ) → d < length c.devices → cause_in (cause_table c es) (length c.devices) d r ≡ round_cause c es d r
-unfolding cause_table round_cause
+pub cause_in-table : (c : Topology) (es : List Event) (d r : ℕ) → d < length c.devices → cause_in c es d r ≡ round_cause c es d r
+unfolding round_cause
 cause_in-table c es d r lt =
     unwrap_or-slice_get (cause_table c es) ((r - 1) * length c.devices + d) NotAsked
-    ∙ row_at (cause_at c) (length c.devices) (round_ends es) (r - 1) d NotAsked lt
+    ∙ at_ends-at (cause_at c) (length c.devices) es (r - 1) d NotAsked lt
 
--- the causes so far, and of one event more
-pub table_step : (t : Transport) (c : Topology) (es : List Event) (e : Event) (old new : List Cause) → t ≡ record { config = c; rules = history_rules; events = es } → old ≡ cause_table c es →
-    new ≡ old ++ (if is_tick e then map (cause_at t.config t.events) (devices t.config) else []) → new ≡ cause_table c (es ++ e ∷ [])
-table_step t c es e old new at was is = is ∙ rw (at, was) (sym (cause_table-push c es e))
+-- what stands for a number in a round is whether it was frozen there
+pub flag_in-table : (kind : FreezeKind) (c : Topology) (es : List Event) (n r : ℕ) → n < numbers kind c → flag_in kind c es n r ≡ is_frozen_in kind es n r
+unfolding is_frozen_in
+flag_in-table kind c es n r lt =
+    unwrap_or-slice_get (flag_table kind c es) ((r - 1) * numbers kind c + n) false
+    ∙ at_ends-at (is_frozen_at kind) (numbers kind c) es (r - 1) n false lt

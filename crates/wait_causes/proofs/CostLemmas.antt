@@ -9,10 +9,10 @@ use Rattle.std.proofs.lemmas.Bool.Decides.{nat_tests}
 use Rattle.std.proofs.lemmas.List.Sums.{sum_by-cons, sum_by-append}
 use Rattle.round_net.proofs.CountLemmas.{count_by-cons, count_by-append, count_by-filter}
 use Rattle.wait_causes.specs.Freezes.{begins, behind, rounds_between, cause_of, waits_for, stay_cost, cost_in, freeze_from}
-use Rattle.wait_causes.specs.declared.cause.Cause.{Cause}
+use Rattle.round_net.specs.declared.cause.Cause.{Cause}
 use Rattle.wait_causes.specs.declared.explained_stay.ExplainedStay.{ExplainedStay}
 use Rattle.wait_causes.specs.declared.freeze.Freeze.{Freeze}
-use Rattle.wait_causes.specs.declared.freeze.FreezeKind.{FreezeKind}
+use Rattle.round_net.specs.declared.freeze_kind.FreezeKind.{FreezeKind}
 use Rattle.wait_causes.proofs.FreezeLemmas.{between-cons, between-none}
 
 -- no rounds cost nothing, and rounds after others cost more

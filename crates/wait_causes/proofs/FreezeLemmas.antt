@@ -1,21 +1,11 @@
 -- the freezes so far, and of one round or number more
-use Rattle.std.proofs.Common.{◌≡◌, ℕ, suc, ◌+◌, ◌-◌, ◌*◌, ◌<◌, ◌≤◌, Bool, true, false, cond, List, [], ◌∷◌, ◌++◌, map, refl, sym, ap, ◌∙◌, arith, append_assoc, append-nil, Some}
-use Rattle.std.specs.Prelude.{filter, find, flat_map, count_by, unwrap_or, if◌then◌else◌, not}
+use Rattle.std.proofs.Common.{◌≡◌, ℕ, suc, ◌+◌, ◌-◌, ◌<◌, ◌≤◌, Bool, true, false, cond, List, [], ◌∷◌, ◌++◌, map, refl, sym, ap, ◌∙◌, arith, append_assoc, append-nil, Some}
+use Rattle.std.specs.Prelude.{filter, find, flat_map, count_by, unwrap_or, not}
 use Rattle.std.specs.List.{range_with_len}
 use Rattle.std.proofs.lemmas.Grind.{flat_map-append}
-use Rattle.std.proofs.lemmas.List.{map-append}
 use Rattle.round_net.proofs.CountLemmas.{count_by-cons}
-use Rattle.std.proofs.lemmas.Option.{unwrap_or-slice_get}
-use Rattle.cam_types.specs.Topology.{Topology}
 use Rattle.event_rules.proofs.ListFacts.{range_with_len-push}
-use Rattle.event_rules.specs.Event.{is_tick}
-use Rattle.event_rules.specs.Legal.{history_rules}
-use Rattle.event_rules.specs.declared.event.Event.{Event}
-use Rattle.xpt_core.specs.Transport.{Transport}
-use Rattle.wait_causes.specs.Causes.{round_ends}
-use Rattle.wait_causes.specs.Freezes.{numbers, is_frozen_at, is_frozen_in, behind, flag_table, flag_in}
-use Rattle.wait_causes.specs.declared.freeze.FreezeKind.{FreezeKind}
-use Rattle.wait_causes.proofs.CauseLemmas.{round_ends-push, row_at, row_or_none}
+use Rattle.wait_causes.specs.Freezes.{behind}
 
 -- the rounds from one on, where there is one more
 pub between-cons : (r n : ℕ) → r < n → range_with_len r (n - r) ≡ r ∷ range_with_len (r + 1) (n - (r + 1))
@@ -28,36 +18,6 @@ pub between-none : (r n : ℕ) → n ≤ r → range_with_len r (n - r) ≡ []
 between-none r n le =
     let none : n - r ≡ 0 = omega arith in
     rw none refl
-
--- one number more
-pub flag_step : (f : ℕ → Bool) (old xs new : List Bool) (n : ℕ) (x : Bool) → xs ≡ old ++ map f (range_with_len 0 n) → new ≡ xs ++ x ∷ [] → x ≡ f n → new ≡ old ++ map f (range_with_len 0 (n + 1))
-flag_step f old xs new n x was is here =
-    let plain : 0 + n ≡ n = omega arith in
-    is ∙ rw (was, here) (append_assoc old (map f (range_with_len 0 n)) (f n ∷ []))
-    ∙ ap (λ ys. old ++ ys) (sym (ap (map f) (range_with_len-push 0 n) ∙ map-append f (range_with_len 0 n) ((0 + n) ∷ []) ∙ ap (λ k. map f (range_with_len 0 n) ++ f k ∷ []) plain))
-
--- the flags of no events, and of one event more
-pub flag_table-none : (kind : FreezeKind) (c : Topology) → flag_table kind c [] ≡ []
-unfolding flag_table round_ends
-flag_table-none kind c = refl
-
-pub flag_table-push : (kind : FreezeKind) (c : Topology) (es : List Event) (e : Event) → flag_table kind c (es ++ e ∷ []) ≡ flag_table kind c es ++ cond (is_tick e) (map (is_frozen_at kind es) (range_with_len 0 (numbers kind c))) []
-unfolding flag_table
-flag_table-push kind c es e =
-    ap (flat_map (λ before. map (is_frozen_at kind before) (range_with_len 0 (numbers kind c)))) (round_ends-push es e)
-    ∙ flat_map-append (λ before. map (is_frozen_at kind before) (range_with_len 0 (numbers kind c))) (round_ends es) (cond (is_tick e) (es ∷ []) [])
-    ∙ ap (λ xs. flag_table kind c es ++ xs) (row_or_none (λ before. map (is_frozen_at kind before) (range_with_len 0 (numbers kind c))) es (is_tick e))
-
-pub flags_step : (kind : FreezeKind) (t : Transport) (c : Topology) (es : List Event) (e : Event) (old new : List Bool) → t ≡ record { config = c; rules = history_rules; events = es } → old ≡ flag_table kind c es →
-    new ≡ old ++ (if is_tick e then map (is_frozen_at kind t.events) (range_with_len 0 (numbers kind t.config)) else []) → new ≡ flag_table kind c (es ++ e ∷ [])
-flags_step kind t c es e old new at was is = is ∙ rw (at, was) (sym (flag_table-push kind c es e))
-
--- what stands for a number in a round is whether it was frozen there
-pub flag_in-table : (kind : FreezeKind) (c : Topology) (es : List Event) (n r : ℕ) → n < numbers kind c → flag_in (flag_table kind c es) (numbers kind c) n r ≡ is_frozen_in kind es n r
-unfolding flag_table is_frozen_in
-flag_in-table kind c es n r lt =
-    unwrap_or-slice_get (flag_table kind c es) ((r - 1) * numbers kind c + n) false
-    ∙ row_at (is_frozen_at kind) (numbers kind c) (round_ends es) (r - 1) n false lt
 
 -- the round after a freeze: it is here, or after this round, or none is left
 pub behind_here : (frozen : ℕ → Bool) (first last r : ℕ) → r < last → frozen r ≡ false →

@@ -11,21 +11,21 @@ use Rattle.event_rules.specs.Legal.{history_rules}
 use Rattle.event_rules.specs.Stays.{stays_begun}
 use Rattle.event_rules.specs.declared.event.Event.{Event}
 use Rattle.event_rules.specs.declared.passage.Passage.{Passage}
-use Rattle.wait_causes.specs.Causes.{round_cause, cause_table, cause_in}
-use Rattle.wait_causes.specs.Freezes.{numbers, is_frozen_in, begins, behind, rounds_between, cause_of, grouping_of, stay_cost, cost_in, freeze_from, freezes_at, freezes_by, freezes_of, freezes, flag_table, flag_in}
-use Rattle.wait_causes.specs.Frozen.{IsFrozen}
+use Rattle.wait_causes.specs.Causes.{round_cause}
+use Rattle.round_net.specs.Ends.{cause_in, flag_in}
+use Rattle.round_net.specs.Ends.{numbers, is_cause}
+use Rattle.wait_causes.specs.Freezes.{is_frozen_in, begins, behind, rounds_between, cause_of, grouping_of, stay_cost, cost_in, freeze_from, freezes_at, freezes_by, freezes_of, freezes}
 use Rattle.wait_causes.specs.Sound.{IsExplained}
-use Rattle.wait_causes.specs.Stays.{is_cause, explained_stay, explained_stays}
+use Rattle.wait_causes.specs.Stays.{explained_stay, explained_stays}
 use Rattle.wait_causes.specs.Tables.{number, stays_of}
-use Rattle.wait_causes.specs.declared.cause.Cause.{Cause}
+use Rattle.round_net.specs.declared.cause.Cause.{Cause}
 use Rattle.wait_causes.specs.declared.explained_stay.ExplainedStay.{ExplainedStay}
 use Rattle.wait_causes.specs.declared.freeze.Freeze.{Freeze}
-use Rattle.wait_causes.specs.declared.freeze.FreezeKind.{FreezeKind}
-use Rattle.wait_causes.specs.declared.freeze.FreezeKind.TheVariants.{Error, Caller, Adapter}
-use Rattle.wait_causes.specs.declared.frozen.Frozen.{Frozen}
-use Rattle.wait_causes.proofs.CauseLemmas.{cause_in-table}
-use Rattle.wait_causes.proofs.FreezeLemmas.{flag_in-table}
-use Rattle.wait_causes.proofs.StayLemmas.{devices_in_range, map-same}
+use Rattle.round_net.specs.declared.freeze_kind.FreezeKind.{FreezeKind}
+use Rattle.round_net.specs.declared.freeze_kind.FreezeKind.TheVariants.{Error, Caller, Adapter}
+use Rattle.wait_causes.proofs.CauseLemmas.{cause_in-table, flag_in-table}
+use Rattle.wait_causes.proofs.StayLemmas.{devices_in_range}
+use Rattle.round_net.proofs.FoundLemmas.{map-same}
 
 -- the causes of a stay's device are the same
 abbrev Agree : (ℕ → ℕ → Cause) → (ℕ → ℕ → Cause) → ExplainedStay → Type 0
@@ -70,26 +70,26 @@ kept_devices c es most (p ∷ ps) (b ∷ bs) all =
     All-cons (λ (s : ExplainedStay). s.device < most) (explained_stay c es p b) (map (λ (m : Passage × ℕ). explained_stay c es m.0 m.1) (zip ps bs)) (all 0 p (omega arith))
     (kept_devices c es most ps bs (λ k d lt. all (suc k) d (omega arith)))
 
-kind_found : (c : Topology) (es : List Event) (best : List ℕ) (causes : List Cause) (stays : List ExplainedStay) → IsExplained c es best causes stays → (kind : FreezeKind) (f : Frozen) → IsFrozen kind c es f →
-    freezes_by f.kind (flag_in f.flags.items f.count) f.count f.last_round (cause_in causes (length c.devices)) stays ≡ freezes_of kind c es (explained_stays c es best)
+pub kind_found : (c : Topology) (es : List Event) (best : List ℕ) (stays : List ExplainedStay) → IsExplained c es best stays → (kind : FreezeKind) →
+    freezes_by kind (flag_in kind c es) (numbers kind c) (round es) (cause_in c es) stays ≡ freezes_of kind c es (explained_stays c es best)
 unfolding explained_stays
-kind_found c es best causes stays x kind f is =
-    rw (is.kind_is, is.table, is.all, is.last_is, x.table, x.rows)
-    (by_same kind (flag_in (flag_table kind c es) (numbers kind c)) (is_frozen_in kind es) (numbers kind c) (round es) (cause_in (cause_table c es) (length c.devices)) (round_cause c es) (explained_stays c es best)
+kind_found c es best stays x kind =
+    rw x.rows
+    (by_same kind (flag_in kind c es) (is_frozen_in kind es) (numbers kind c) (round es) (cause_in c es) (round_cause c es) (explained_stays c es best)
     (λ n lt. fun_ext (λ r. flag_in-table kind c es n r lt))
-    (All-weaker (λ (s : ExplainedStay). s.device < length c.devices) (Agree (cause_in (cause_table c es) (length c.devices)) (round_cause c es))
+    (All-weaker (λ (s : ExplainedStay). s.device < length c.devices) (Agree (cause_in c es) (round_cause c es))
     (λ s lt. fun_ext (λ r. cause_in-table c es s.device r lt)) (explained_stays c es best)
     (kept_devices c es (length c.devices) (stays_begun es) best (devices_in_range history_rules c es x.legal))))
 
 -- one kind after the other they are all
-pub freezes_found : (c : Topology) (es : List Event) (best : List ℕ) (causes : List Cause) (stays : List ExplainedStay) → IsExplained c es best causes stays → (errors callers adapters : Frozen) → IsFrozen Error c es errors → IsFrozen Caller c es callers → IsFrozen Adapter c es adapters →
-    (xs ys zs all : List Freeze) → xs ≡ [] → ys ≡ xs ++ freezes_by errors.kind (flag_in errors.flags.items errors.count) errors.count errors.last_round (cause_in causes (length c.devices)) stays →
-    zs ≡ ys ++ freezes_by callers.kind (flag_in callers.flags.items callers.count) callers.count callers.last_round (cause_in causes (length c.devices)) stays →
-    all ≡ zs ++ freezes_by adapters.kind (flag_in adapters.flags.items adapters.count) adapters.count adapters.last_round (cause_in causes (length c.devices)) stays → all ≡ freezes c es (explained_stays c es best)
+pub freezes_found : (c : Topology) (es : List Event) (best : List ℕ) (stays : List ExplainedStay) → IsExplained c es best stays → (xs ys zs all : List Freeze) → xs ≡ [] →
+    ys ≡ xs ++ freezes_by Error (flag_in Error c es) (numbers Error c) (round es) (cause_in c es) stays →
+    zs ≡ ys ++ freezes_by Caller (flag_in Caller c es) (numbers Caller c) (round es) (cause_in c es) stays →
+    all ≡ zs ++ freezes_by Adapter (flag_in Adapter c es) (numbers Adapter c) (round es) (cause_in c es) stays → all ≡ freezes c es (explained_stays c es best)
 unfolding freezes
-freezes_found c es best causes stays x errors callers adapters of_errors of_callers of_adapters xs ys zs all none first second third =
-    let a = kind_found c es best causes stays x Error errors of_errors in
-    let b = kind_found c es best causes stays x Caller callers of_callers in
-    let d = kind_found c es best causes stays x Adapter adapters of_adapters in
+freezes_found c es best stays x xs ys zs all none first second third =
+    let a = kind_found c es best stays x Error in
+    let b = kind_found c es best stays x Caller in
+    let d = kind_found c es best stays x Adapter in
     let stays_are = explained_stays c es best in
     third ∙ ap (λ r. zs ++ r) d ∙ ap (λ r. r ++ freezes_of Adapter c es stays_are) (second ∙ ap (λ r. ys ++ r) b ∙ ap (λ r. r ++ freezes_of Caller c es stays_are) (first ∙ ap (λ r. xs ++ r) a ∙ ap (λ r. r ++ freezes_of Error c es stays_are) none))

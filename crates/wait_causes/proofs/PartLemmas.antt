@@ -19,14 +19,13 @@ use Rattle.event_rules.specs.Stays.{stays_begun, unsent}
 use Rattle.event_rules.proofs.LiveLemmas.{live_cost_unsent, live_cost_sent}
 use Rattle.event_rules.proofs.LimitLemmas.{stays_most}
 use Rattle.wait_causes.specs.Sound.{IsExplained}
-use Rattle.wait_causes.specs.declared.cause.Cause.{Cause}
 use Rattle.std.proofs.lemmas.Slice.Zip.{length-zip}
 use Rattle.event_rules.specs.declared.event.Event.{Event}
 use Rattle.event_rules.specs.declared.passage.Passage.{Passage}
 use Rattle.wait_causes.specs.Causes.{waited_causes, round_cause}
 use Rattle.wait_causes.specs.Stays.{all_rounds, explained_stay, explained_stays}
 use Rattle.wait_causes.specs.Parts.{waited, measure, is_enough, nearest_rank, part_of, costs_of, all_costs}
-use Rattle.wait_causes.specs.declared.cause.Cause.TheVariants.{Error, Caller, AdapterFrozen, DeviceFull, AdapterFull, LinkFull, NotAsked}
+use Rattle.round_net.specs.declared.cause.Cause.TheVariants.{Error, Caller, AdapterFrozen, DeviceFull, AdapterFull, LinkFull, NotAsked}
 use Rattle.wait_causes.specs.declared.explained_stay.ExplainedStay.{ExplainedStay}
 use Rattle.wait_causes.specs.declared.part.Measure.TheVariants.{Waited, Live, Best, Cost}
 use Rattle.wait_causes.proofs.StayLemmas.{rounds_add_up}
@@ -203,14 +202,14 @@ part_is_live c es best same = elim (is_some (unsent es)) as (λ b. is_some (unse
 ] refl
 
 -- there are no more stays than a history may have
-pub few_stays : (c : Topology) (es : List Event) (best : List ℕ) (causes : List Cause) (stays : List ExplainedStay) → IsExplained c es best causes stays → length stays ≤ MOST_STAYS
+pub few_stays : (c : Topology) (es : List Event) (best : List ℕ) (stays : List ExplainedStay) → IsExplained c es best stays → length stays ≤ MOST_STAYS
 unfolding explained_stays
-few_stays c es best causes stays x =
+few_stays c es best stays x =
     let most = stays_most c es x.legal in
     omega (arith, ap length x.rows, length-map (zip (stays_begun es) best) (λ (m : Passage × ℕ). explained_stay c es m.0 m.1), length-zip (stays_begun es) best, most)
 
 -- each stay has a row
-pub all_stays : (c : Topology) (es : List Event) (best : List ℕ) (causes : List Cause) (stays : List ExplainedStay) → IsExplained c es best causes stays → length stays ≡ length (stays_begun es)
+pub all_stays : (c : Topology) (es : List Event) (best : List ℕ) (stays : List ExplainedStay) → IsExplained c es best stays → length stays ≡ length (stays_begun es)
 unfolding explained_stays
-all_stays c es best causes stays x =
+all_stays c es best stays x =
     omega (arith, ap length x.rows, length-map (zip (stays_begun es) best) (λ (m : Passage × ℕ). explained_stay c es m.0 m.1), length-zip (stays_begun es) best, x.all)

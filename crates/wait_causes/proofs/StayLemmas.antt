@@ -1,24 +1,22 @@
 -- what stands in the row of a stay, and how many rounds have each cause
-use Rattle.std.proofs.Common.{◌≡◌, ℕ, zero, suc, ◌+◌, ◌-◌, ◌<◌, ◌≤◌, Bool, true, false, cond, List, [], ◌∷◌, ◌++◌, map, length, drop, take, get_or, None, Some, refl, sym, ap, subst, ◌∙◌, arith, length-drop}
+use Rattle.std.proofs.Common.{◌≡◌, ℕ, zero, suc, ◌+◌, ◌-◌, ◌<◌, ◌≤◌, true, List, [], ◌∷◌, ◌++◌, map, length, take, get_or, Some, refl, sym, ap, subst, ◌∙◌, arith}
 use mathlib.Core.Path.{Path}
-use Rattle.std.specs.Prelude.{zip, unwrap_or, All, slice_get, ◌==◌, ◌&&◌, nat_le}
+use Rattle.std.specs.Prelude.{zip, All, slice_get}
 use Rattle.std.specs.List.{range_with_len}
 use Rattle.std.specs.Option.{option_map_or}
-use Rattle.std.proofs.lemmas.Bool.{and_parts, eqb-true, ltb-true}
 use Rattle.std.proofs.lemmas.List.{length-map, take_all, map-append, get_or-map, take_more}
 use Rattle.std.proofs.lemmas.Slice.Zip.{get_or-zip, seconds-zip, length-zip}
 use Rattle.std.proofs.lemmas.Option.{get_or_from_slice_get, slice_get_within}
 use Rattle.std.proofs.lemmas.List.Sums.{AllPass-from_list_all}
 use Rattle.std.proofs.lemmas.List.Elements.{All-weaker}
 use Rattle.cam_types.specs.Topology.{Topology}
-use Rattle.cam_types.specs.Questions.{names_device, device_adapter, weight}
+use Rattle.cam_types.specs.Questions.{device_adapter, weight}
 use Rattle.cam_types.specs.Priority.{run_level}
 use Rattle.event_rules.specs.Legal.{Rules, history_rules, is_legal}
-use Rattle.event_rules.specs.Laws.{is_in_range, is_stay_of, is_stay_in_range}
+use Rattle.event_rules.specs.Laws.{is_stay_in_range}
 use Rattle.event_rules.proofs.RangeLemmas.{stays_in_range}
-use Rattle.event_rules.specs.Event.{is_some_and, is_send_of}
-use Rattle.event_rules.specs.Counts.{round, submission}
-use Rattle.event_rules.specs.Live.{send_place, live_round}
+use Rattle.event_rules.specs.Counts.{submission}
+use Rattle.event_rules.specs.Live.{live_round}
 use Rattle.event_rules.specs.Stays.{stays_begun, is_unsent}
 use Rattle.event_rules.specs.declared.event.Event.{Event}
 use Rattle.event_rules.specs.declared.passage.Passage.{Passage}
@@ -26,16 +24,18 @@ use Rattle.event_rules.specs.declared.submission.Submission.{Submission}
 use Rattle.event_rules.proofs.ListFacts.{count_by-push, range_with_len-push}
 use Rattle.xpt_core.specs.Records.{records, record_of}
 use Rattle.xpt_core.specs.declared.stays.stay_record.StayRecord.{StayRecord}
-use Rattle.xpt_core.proofs.SentLemmas.{first_past, unsent_none}
-use Rattle.wait_causes.specs.Causes.{round_cause, cause_table, cause_in, waited_causes}
+use Rattle.wait_causes.specs.Causes.{round_cause, waited_causes}
+use Rattle.round_net.specs.Ends.{cause_in}
 use Rattle.wait_causes.specs.Stays.{rounds_by, all_rounds, with_round, explained_stay, explained_stays, row_by, sent_in}
-use Rattle.wait_causes.specs.declared.cause.Cause.{Cause}
-use Rattle.wait_causes.specs.declared.cause.Cause.TheVariants.{Error, Caller, AdapterFrozen, DeviceFull, AdapterFull, LinkFull, NotAsked}
+use Rattle.round_net.specs.declared.cause.Cause.{Cause}
+use Rattle.round_net.specs.declared.cause.Cause.TheVariants.{Error, Caller, AdapterFrozen, DeviceFull, AdapterFull, LinkFull, NotAsked}
 use Rattle.wait_causes.specs.declared.explained_stay.CauseRounds.{CauseRounds}
 use Rattle.wait_causes.specs.declared.explained_stay.ExplainedStay.{ExplainedStay}
 use Rattle.wait_causes.specs.declared.wait.Wait.{Wait}
 use Rattle.wait_causes.specs.Sound.{IsExplained}
 use Rattle.wait_causes.specs.Waits.{beside, AreWaits, AreWaitsOf}
+use Rattle.round_net.proofs.FoundLemmas.{live_cases, map-same}
+use Rattle.round_net.proofs.NetLemmas.{device_in_range}
 use Rattle.wait_causes.proofs.CauseLemmas.{cause_in-table}
 
 same_rounds : (a b c d e f g a' b' c' d' e' f' g' : ℕ) → a ≡ a' → b ≡ b' → c ≡ c' → d ≡ d' → e ≡ e' → f ≡ f' → g ≡ g' →
@@ -79,17 +79,10 @@ rounds_step f a n old new x was is here =
     is ∙ rw (was, here) (sym (rounds_by-push (map f (range_with_len a n)) (f (a + n))))
     ∙ ap rounds_by (sym (ap (map f) (range_with_len-push a n) ∙ map-append f (range_with_len a n) ((a + n) ∷ [])))
 
--- a stay without a send counts as sent in the last round
-live_round-unsent : (es : List Event) (p : Passage) → is_unsent es p ≡ true → live_round es p ≡ round es
-unfolding send_place
-live_round-unsent es p unsent =
-    let past = first_past (is_send_of p.ccb) (drop (p.place + 1) es) (unsent_none es p unsent) in
-    ap round (take_all (send_place es p) es (omega (arith, past, length-drop (p.place + 1) es)))
-
 -- a row by its parts
-pub row_of_parts : (c : Topology) (es : List Event) (causes : List Cause) (r : StayRecord) (best driver adapter w live : ℕ) (rounds : CauseRounds) →
+pub row_of_parts : (c : Topology) (es : List Event) (r : StayRecord) (best driver adapter w live : ℕ) (rounds : CauseRounds) →
     driver ≡ option_map_or (λ (s : Submission). s.driver) (submission es r.stay.ccb) 0 → adapter ≡ device_adapter c r.stay.device → w ≡ weight c r.stay.priority → live ≡ sent_in es r →
-    rounds ≡ rounds_by (map (cause_in causes (length c.devices) r.stay.device) (range_with_len r.stay.arrival (live - r.stay.arrival))) →
+    rounds ≡ rounds_by (map (cause_in c es r.stay.device) (range_with_len r.stay.arrival (live - r.stay.arrival))) →
     Path ExplainedStay (record {
       ccb = r.stay.ccb;
       attempt = r.stay.attempt;
@@ -103,24 +96,9 @@ pub row_of_parts : (c : Topology) (es : List Event) (causes : List Cause) (r : S
       live = live;
       best = best;
       rounds = rounds;
-    }) (row_by c es causes (r, best))
+    }) (row_by c es (r, best))
 unfolding row_by
-row_of_parts c es causes r best driver adapter w live rounds driver_is adapter_is weight_is live_is rounds_is = rw (rounds_is, driver_is, adapter_is, weight_is, live_is) refl
-
-live_cases : (es : List Event) (p : Passage) (b : Bool) → is_unsent es p ≡ b → unwrap_or (cond b None (Some (live_round es p))) (round es) ≡ live_round es p
-live_cases es p true unsent = sym (live_round-unsent es p unsent)
-live_cases es p false sent = refl
-
-device_in_range : (c : Topology) (es : List Event) (p : Passage) → is_stay_in_range c es p ≡ true → p.device < length c.devices
-device_in_range c es p h = elim (submission es p.ccb) as (λ o. is_some_and (λ (s : Submission). is_in_range c s && is_stay_of p s) o ≡ true → p.device < length c.devices) [
-  | None ↦ λ g. absurd cc
-  | Some s ↦ λ g.
-      let parts = and_parts (is_in_range c s) (is_stay_of p s) g in
-      let named : names_device c s.device ≡ true = (and_parts (names_device c s.device) _ (and_parts (names_device c s.device && nat_le s.priority _) _ parts.0).0).0 in
-      let same : s.device ≡ p.device = eqb-true s.device p.device (and_parts (s.device == p.device) (s.priority == p.priority) parts.1).0 in
-      let lt = ltb-true s.device (length c.devices) named in
-      omega arith
-] h
+row_of_parts c es r best driver adapter w live rounds driver_is adapter_is weight_is live_is rounds_is = rw (rounds_is, driver_is, adapter_is, weight_is, live_is) refl
 
 -- each stay is of a device of the configuration
 pub devices_in_range : (rules : Rules) (c : Topology) (es : List Event) → is_legal rules c es ≡ true → All (λ (p : Passage). p.device < length c.devices) (stays_begun es)
@@ -128,26 +106,22 @@ devices_in_range rules c es legal =
     All-weaker (λ p. is_stay_in_range c es p ≡ true) (λ (p : Passage). p.device < length c.devices) (device_in_range c es) (stays_begun es)
     (AllPass-from_list_all (is_stay_in_range c es) (stays_begun es) (stays_in_range rules c es legal))
 
-pub map-same : {X Y : Type 0} (f g : X → Y) → ((x : X) → f x ≡ g x) → (xs : List X) → map f xs ≡ map g xs
-map-same f g h [] = refl
-map-same f g h (x ∷ xs) = rw (h x, map-same f g h xs) refl
-
 -- the causes of a device's rounds by the causes of all devices
-pub causes_found : (c : Topology) (es : List Event) (d : ℕ) (rounds : List ℕ) → d < length c.devices → map (cause_in (cause_table c es) (length c.devices) d) rounds ≡ map (round_cause c es d) rounds
-causes_found c es d rounds lt = map-same (cause_in (cause_table c es) (length c.devices) d) (round_cause c es d) (λ r. cause_in-table c es d r lt) rounds
+pub causes_found : (c : Topology) (es : List Event) (d : ℕ) (rounds : List ℕ) → d < length c.devices → map (cause_in c es d) rounds ≡ map (round_cause c es d) rounds
+causes_found c es d rounds lt = map-same (cause_in c es d) (round_cause c es d) (λ r. cause_in-table c es d r lt) rounds
 
-row_found : (c : Topology) (es : List Event) (p : Passage) (best : ℕ) → p.device < length c.devices → row_by c es (cause_table c es) (record_of es p, best) ≡ explained_stay c es p best
+row_found : (c : Topology) (es : List Event) (p : Passage) (best : ℕ) → p.device < length c.devices → row_by c es (record_of es p, best) ≡ explained_stay c es p best
 unfolding row_by explained_stay waited_causes
 row_found c es p best lt = rw (live_cases es p (is_unsent es p) refl, causes_found c es p.device (range_with_len p.arrival (live_round es p - p.arrival)) lt) refl
 
 rows_found : (c : Topology) (es : List Event) (ps : List Passage) (best : List ℕ) → All (λ (p : Passage). p.device < length c.devices) ps →
-    map (row_by c es (cause_table c es)) (zip (map (record_of es) ps) best) ≡ map (λ (m : Passage × ℕ). explained_stay c es m.0 m.1) (zip ps best)
+    map (row_by c es) (zip (map (record_of es) ps) best) ≡ map (λ (m : Passage × ℕ). explained_stay c es m.0 m.1) (zip ps best)
 rows_found c es [] best all = refl
 rows_found c es (p ∷ ps) [] all = refl
 rows_found c es (p ∷ ps) (b ∷ bs) all = rw (row_found c es p b (all 0 p (omega arith)), rows_found c es ps bs (λ k d lt. all (suc k) d (omega arith))) refl
 
 -- the rows by all records are the stays
-pub stays_found : (rules : Rules) (c : Topology) (es : List Event) (best : List ℕ) → is_legal rules c es ≡ true → map (row_by c es (cause_table c es)) (zip (records es) best) ≡ explained_stays c es best
+pub stays_found : (rules : Rules) (c : Topology) (es : List Event) (best : List ℕ) → is_legal rules c es ≡ true → map (row_by c es) (zip (records es) best) ≡ explained_stays c es best
 unfolding records explained_stays
 stays_found rules c es best legal = rows_found c es (stays_begun es) best (devices_in_range rules c es legal)
 
@@ -177,18 +151,18 @@ unfolding explained_stays
 best_kept c es best all = bests c es (zip (stays_begun es) best) ∙ seconds-zip (stays_begun es) best all
 
 -- what was found of a history explains it
-pub record IsFound (c : Topology) (es : List Event) (best : List ℕ) (causes : List Cause) (stays : List ExplainedStay) : Type 0 where
+pub record IsFound (c : Topology) (es : List Event) (best : List ℕ) (stays : List ExplainedStay) : Type 0 where
   pub best_is : map (λ (s : ExplainedStay). s.best) stays ≡ best
-  pub sound : IsExplained c es (map (λ (s : ExplainedStay). s.best) stays) causes stays
+  pub sound : IsExplained c es (map (λ (s : ExplainedStay). s.best) stays) stays
 
-pub explained_found : (c : Topology) (es : List Event) (best : List ℕ) (causes : List Cause) (stays : List ExplainedStay) → is_legal history_rules c es ≡ true → length best ≡ length (stays_begun es) →
-    causes ≡ cause_table c es → stays ≡ map (row_by c es causes) (zip (records es) best) → IsFound c es best causes stays
-explained_found c es best causes stays legal all table rows =
-    let are : stays ≡ explained_stays c es best = rows ∙ ap (λ xs. map (row_by c es xs) (zip (records es) best)) table ∙ stays_found history_rules c es best legal in
+pub explained_found : (c : Topology) (es : List Event) (best : List ℕ) (stays : List ExplainedStay) → is_legal history_rules c es ≡ true → length best ≡ length (stays_begun es) →
+    stays ≡ map (row_by c es) (zip (records es) best) → IsFound c es best stays
+explained_found c es best stays legal all rows =
+    let are : stays ≡ explained_stays c es best = rows ∙ stays_found history_rules c es best legal in
     let back : map (λ (s : ExplainedStay). s.best) stays ≡ best = ap (map (λ (s : ExplainedStay). s.best)) are ∙ best_kept c es best all in
     record {
       best_is = back;
-      sound = rw back (record { legal = legal; all = all; table = table; rows = are });
+      sound = rw back (record { legal = legal; all = all; rows = are });
     }
 
 -- the row of a stay
@@ -210,13 +184,12 @@ same_waits f g rounds waits same are = record {
 }
 
 -- the waits by the row of a stay are the stay's
-pub waits_found : (c : Topology) (es : List Event) (best : List ℕ) (causes : List Cause) (stays : List ExplainedStay) → IsExplained c es best causes stays → (s : ℕ) (p : Passage) (kept : ExplainedStay) (waits : List Wait) → slice_get (stays_begun es) s ≡ Some p → kept ≡ get_or stays s kept →
-    AreWaits (cause_in causes (length c.devices) kept.device) (range_with_len kept.arrival (kept.live - kept.arrival)) waits → AreWaitsOf c es p waits
+pub waits_found : (c : Topology) (es : List Event) (best : List ℕ) (stays : List ExplainedStay) → IsExplained c es best stays → (s : ℕ) (p : Passage) (kept : ExplainedStay) (waits : List Wait) → slice_get (stays_begun es) s ≡ Some p → kept ≡ get_or stays s kept →
+    AreWaits (cause_in c es kept.device) (range_with_len kept.arrival (kept.live - kept.arrival)) waits → AreWaitsOf c es p waits
 unfolding explained_stay
-waits_found c es best causes stays x s p kept waits at is are =
+waits_found c es best stays x s p kept waits at is are =
     let row : kept ≡ explained_stay c es p (get_or best s 0) = is ∙ ap (λ xs. get_or xs s kept) x.rows ∙ row_of_stay c es best s p kept x.all at in
     let lt = slice_get_within (stays_begun es) s p at in
     let within : p.device < length c.devices = rw (get_or_from_slice_get (stays_begun es) s p p at) at (devices_in_range history_rules c es x.legal s p lt) in
-    let moved = subst (λ (k : ExplainedStay). AreWaits (cause_in causes (length c.devices) k.device) (range_with_len k.arrival (k.live - k.arrival)) waits) row are in
-    same_waits (cause_in causes (length c.devices) p.device) (round_cause c es p.device) (range_with_len p.arrival (live_round es p - p.arrival)) waits
-    (λ r. ap (λ xs. cause_in xs (length c.devices) p.device r) x.table ∙ cause_in-table c es p.device r within) moved
+    let moved = subst (λ (k : ExplainedStay). AreWaits (cause_in c es k.device) (range_with_len k.arrival (k.live - k.arrival)) waits) row are in
+    same_waits (cause_in c es p.device) (round_cause c es p.device) (range_with_len p.arrival (live_round es p - p.arrival)) waits (λ r. cause_in-table c es p.device r within) moved

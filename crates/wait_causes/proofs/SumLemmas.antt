@@ -1,10 +1,9 @@
 -- what the freezes of a kind cost is what stays waited for its cause
-use Rattle.std.proofs.Common.{◌≡◌, ℕ, suc, ◌+◌, ◌-◌, ◌*◌, ◌<◌, ◌≤◌, Bool, true, false, cond, List, [], ◌∷◌, ◌++◌, map, length, take, drop, refl, sym, ap, ◌∙◌, arith, append-nil, Some, None}
+use Rattle.std.proofs.Common.{◌≡◌, ℕ, suc, ◌+◌, ◌-◌, ◌*◌, ◌<◌, ◌≤◌, Bool, true, false, cond, List, [], ◌∷◌, ◌++◌, map, length, refl, sym, ap, ◌∙◌, arith, append-nil, Some, None}
 use Rattle.std.specs.Prelude.{zip, filter, flat_map, count_by, sum_by, slice_get, ◌==◌, ◌&&◌, nat_le, nat_lt, All, if◌then◌else◌}
 use Rattle.std.specs.List.{range_with_len}
 use Rattle.std.specs.Option.{option_map_or}
 use Rattle.std.proofs.lemmas.Bool.{and_parts, eqb-true}
-use Rattle.std.proofs.lemmas.List.{take-append-drop}
 use Rattle.std.proofs.lemmas.List.Elements.{All-cons, filter-append}
 use Rattle.std.proofs.lemmas.List.Sums.{sum_by-cons}
 use Rattle.round_net.proofs.CountLemmas.{count_by-cons}
@@ -13,24 +12,25 @@ use Rattle.cam_types.specs.Topology.{Topology, IsConfig}
 use Rattle.cam_types.specs.Questions.{device_adapter}
 use Rattle.cam_types.proofs.ConfigLemmas.{bus-there}
 use Rattle.event_rules.proofs.LimitLemmas.{round_first}
-use Rattle.event_rules.proofs.TurnLaws.{round-more}
 use Rattle.event_rules.specs.Counts.{round}
 use Rattle.event_rules.specs.Legal.{history_rules, is_legal}
-use Rattle.event_rules.specs.Live.{send_place, live_round}
+use Rattle.event_rules.specs.Live.{live_round}
 use Rattle.event_rules.specs.Stays.{stays_begun}
 use Rattle.event_rules.specs.declared.event.Event.{Event}
 use Rattle.event_rules.specs.declared.passage.Passage.{Passage}
-use Rattle.wait_causes.specs.Causes.{round_ends, cause_at, round_cause, waited_causes}
-use Rattle.wait_causes.specs.Freezes.{numbers, is_frozen_at, is_frozen_in, begins, rounds_between, cause_of, grouping_of, waits_for, stay_cost, cost_in, freeze_from, freezes_at, freezes_by, freezes_of, freezes, is_kind, cost_of}
+use Rattle.round_net.proofs.WindowLemmas.{live_round-le}
+use Rattle.wait_causes.specs.Causes.{round_cause, waited_causes}
+use Rattle.round_net.specs.Ends.{round_ends, cause_at, numbers, is_frozen_at, is_cause}
+use Rattle.wait_causes.specs.Freezes.{is_frozen_in, begins, rounds_between, cause_of, grouping_of, waits_for, stay_cost, cost_in, freeze_from, freezes_at, freezes_by, freezes_of, freezes, is_kind, cost_of}
 use Rattle.wait_causes.specs.Parts.{rounds_for, measure}
-use Rattle.wait_causes.specs.Stays.{is_cause, explained_stay, explained_stays}
+use Rattle.wait_causes.specs.Stays.{explained_stay, explained_stays}
 use Rattle.wait_causes.specs.Tables.{number, stays_of}
-use Rattle.wait_causes.specs.declared.cause.Cause as waiting
-use Rattle.wait_causes.specs.declared.cause.Cause.TheVariants as why
+use Rattle.round_net.specs.declared.cause.Cause as waiting
+use Rattle.round_net.specs.declared.cause.Cause.TheVariants as why
 use Rattle.wait_causes.specs.declared.explained_stay.ExplainedStay.{ExplainedStay}
 use Rattle.wait_causes.specs.declared.freeze.Freeze.{Freeze}
-use Rattle.wait_causes.specs.declared.freeze.FreezeKind.{FreezeKind}
-use Rattle.wait_causes.specs.declared.freeze.FreezeKind.TheVariants.{Error, Caller, Adapter}
+use Rattle.round_net.specs.declared.freeze_kind.FreezeKind.{FreezeKind}
+use Rattle.round_net.specs.declared.freeze_kind.FreezeKind.TheVariants.{Error, Caller, Adapter}
 use Rattle.wait_causes.specs.declared.part.Measure.TheVariants.{Cost}
 use Rattle.wait_causes.proofs.CostLemmas.{runs_cost, written_out, count_passed, count_waits, sum_flat, sum_same, sum_numbers}
 use Rattle.wait_causes.proofs.StayLemmas.{devices_in_range}
@@ -124,9 +124,6 @@ rounds_are Error c es p best = refl
 rounds_are Caller c es p best = refl
 rounds_are Adapter c es p best = refl
 
-live-le : (es : List Event) (p : Passage) → live_round es p ≤ round es
-live-le es p = omega (arith, round-more (take (send_place es p) es) (drop (send_place es p) es), ap round (take-append-drop (send_place es p) es))
-
 -- what is counted of a stay in the rounds at whose ends its device or adapter was frozen
 abbrev pub Counted : FreezeKind → Topology → List Event → ExplainedStay → Type 0
 Counted kind c es s =
@@ -139,7 +136,7 @@ counted kind c es p best some =
     count_passed (waits_for (round_cause c es) (cause_of kind) s) (is_frozen_in kind es (number (grouping_of kind) s)) (rounds_between 1 (round es))
     (λ r e. ap (λ n. is_frozen_in kind es n r) (number_is kind c es p best)
     ∙ held_in kind c es p.device r (and_parts (nat_lt r s.live) (is_cause (cause_of kind) (round_cause c es p.device r)) (and_parts (nat_le s.arrival r) (nat_lt r s.live && is_cause (cause_of kind) (round_cause c es p.device r)) e).1).1)
-    ∙ count_waits (λ r. is_cause (cause_of kind) (round_cause c es p.device r)) p.arrival (live_round es p) 1 (round es - 1) some (omega (arith, live-le es p, round_first es))
+    ∙ count_waits (λ r. is_cause (cause_of kind) (round_cause c es p.device r)) p.arrival (live_round es p) 1 (round es - 1) some (omega (arith, live_round-le es p, round_first es))
     ∙ sym (count-map (is_cause (cause_of kind)) (round_cause c es p.device) (range_with_len p.arrival (live_round es p - p.arrival)))
     ∙ rounds_are kind c es p best
 

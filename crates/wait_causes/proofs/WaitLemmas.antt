@@ -7,10 +7,10 @@ use Rattle.std.proofs.lemmas.Grind.{flat_map-append}
 use Rattle.std.proofs.lemmas.List.{map-append}
 use Rattle.std.proofs.lemmas.List.Folds.{list_all-append}
 use Rattle.event_rules.proofs.ListFacts.{range_with_len-push}
-use Rattle.wait_causes.specs.Stays.{is_cause}
+use Rattle.round_net.specs.Ends.{is_cause}
 use Rattle.wait_causes.specs.Waits.{beside, rounds_of, are_apart, AreBegun}
-use Rattle.wait_causes.specs.declared.cause.Cause.{Cause}
-use Rattle.wait_causes.specs.declared.cause.Cause.TheVariants.{Error, Caller, AdapterFrozen, DeviceFull, AdapterFull, LinkFull, NotAsked}
+use Rattle.round_net.specs.declared.cause.Cause.{Cause}
+use Rattle.round_net.specs.declared.cause.Cause.TheVariants.{Error, Caller, AdapterFrozen, DeviceFull, AdapterFull, LinkFull, NotAsked}
 use Rattle.wait_causes.specs.declared.wait.Wait.{Wait}
 
 pub same_cause : (a b : Cause) → is_cause a b ≡ true → a ≡ b

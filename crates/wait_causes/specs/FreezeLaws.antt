@@ -6,7 +6,7 @@ use Rattle.event_rules.specs.declared.event.Event.{Event}
 use Rattle.wait_causes.specs.Freezes.{freezes, cause_of, cost_of}
 use Rattle.wait_causes.specs.Parts.{measure}
 use Rattle.wait_causes.specs.Stays.{explained_stays}
-use Rattle.wait_causes.specs.declared.freeze.FreezeKind.{FreezeKind}
+use Rattle.round_net.specs.declared.freeze_kind.FreezeKind.{FreezeKind}
 use Rattle.wait_causes.specs.declared.part.Measure.TheVariants.{Cost}
 
 -- in every legal history the freezes of a kind cost what its stays waited for the kind's cause, by weight

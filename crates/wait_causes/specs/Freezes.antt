@@ -1,35 +1,23 @@
 -- the freezes of a history: rounds in a row at whose ends a device or an adapter was frozen
-use Rattle.std.specs.Prelude.{ℕ, ◌+◌, ◌-◌, ◌*◌, ◌==◌, Bool, true, false, not, ◌&&◌, ◌||◌, List, ◌++◌, map, filter, flat_map, length, slice_get, unwrap_or, find, count_by, sum_by, nat_le, nat_lt}
+use Rattle.std.specs.Prelude.{ℕ, ◌-◌, ◌*◌, Bool, true, false, not, ◌&&◌, ◌||◌, List, ◌++◌, map, filter, flat_map, slice_get, unwrap_or, find, count_by, sum_by, nat_le, nat_lt}
 use Rattle.std.specs.List.{range_with_len}
 use Rattle.std.specs.Option.{option_map_or}
 use Rattle.cam_types.specs.Topology.{Topology}
-use Rattle.event_rules.specs.Counts.{round, error_count, caller_count, adapter_freezes}
+use Rattle.event_rules.specs.Counts.{round}
 use Rattle.event_rules.specs.declared.event.Event.{Event}
-use Rattle.wait_causes.specs.Causes.{round_ends, round_cause}
-use Rattle.wait_causes.specs.Stays.{is_cause}
+use Rattle.wait_causes.specs.Causes.{round_cause}
+use Rattle.round_net.specs.Ends.{round_ends, is_cause, numbers, is_frozen_at}
 use Rattle.wait_causes.specs.Tables.{stays_of}
-use Rattle.wait_causes.specs.declared.cause.Cause as waiting
-use Rattle.wait_causes.specs.declared.cause.Cause.TheVariants as why
+use Rattle.round_net.specs.declared.cause.Cause as waiting
+use Rattle.round_net.specs.declared.cause.Cause.TheVariants as why
 use Rattle.wait_causes.specs.declared.explained_stay.ExplainedStay.{ExplainedStay}
 use Rattle.wait_causes.specs.declared.freeze.Freeze.{Freeze}
-use Rattle.wait_causes.specs.declared.freeze.FreezeKind.{FreezeKind}
-use Rattle.wait_causes.specs.declared.freeze.FreezeKind.TheVariants.{Error, Caller, Adapter}
+use Rattle.round_net.specs.declared.freeze_kind.FreezeKind.{FreezeKind}
+use Rattle.round_net.specs.declared.freeze_kind.FreezeKind.TheVariants.{Error, Caller, Adapter}
 use Rattle.wait_causes.specs.declared.table.Grouping.{Grouping}
 use Rattle.wait_causes.specs.declared.table.Grouping.TheVariants as by
 
--- how many devices there are, or adapters
-abbrev pub numbers : FreezeKind → Topology → ℕ
-numbers Error c = length c.devices
-numbers Caller c = length c.devices
-numbers Adapter c = length c.adapters
-
--- whether a device or an adapter is frozen at a place
-abbrev pub is_frozen_at : FreezeKind → List Event → ℕ → Bool
-is_frozen_at Error events d = not (error_count events d == 0)
-is_frozen_at Caller events d = not (caller_count events d == 0)
-is_frozen_at Adapter events a = not (adapter_freezes events a == 0)
-
--- whether it was at the end of a round that ended
+-- whether a device or an adapter was frozen at the end of a round that ended
 unfoldable pub is_frozen_in : FreezeKind → List Event → ℕ → ℕ → Bool
 is_frozen_in kind events n r = option_map_or (λ before. is_frozen_at kind before n) (slice_get (round_ends events) (r - 1)) false
 
@@ -105,11 +93,3 @@ is_kind _ _ = false
 -- what the freezes of a kind cost, all together
 unfoldable pub cost_of : FreezeKind → List Freeze → ℕ
 cost_of kind rows = sum_by (λ (f : Freeze). f.cost) (filter (λ (f : Freeze). is_kind kind f.kind) rows)
-
--- what was frozen at the end of each round that ended, one round after the other
-unfoldable pub flag_table : FreezeKind → Topology → List Event → List Bool
-flag_table kind c events = flat_map (λ before. map (is_frozen_at kind before) (range_with_len 0 (numbers kind c))) (round_ends events)
-
--- whether a number was frozen at the end of a round, by such flags of that many numbers
-abbrev pub flag_in : List Bool → ℕ → ℕ → ℕ → Bool
-flag_in flags count n r = unwrap_or (slice_get flags ((r - 1) * count + n)) false

@@ -7,5 +7,4 @@ pub mod Parts
 pub mod Tables
 pub mod TableLaws
 pub mod Freezes
-pub mod Frozen
 pub mod FreezeLaws

@@ -2,8 +2,8 @@
 use Rattle.std.specs.Prelude.{ℕ, ◌+◌, ◌-◌, ◌*◌, Bool, nat_le, List, [], ◌∷◌, length, count_by, sum_by, find, unwrap_or}
 use Rattle.std.specs.List.{range_with_len}
 use Rattle.cam_types.specs.declared.maxima.TheConstants.{MOST_ROUNDS}
-use Rattle.wait_causes.specs.declared.cause.Cause.{Cause}
-use Rattle.wait_causes.specs.declared.cause.Cause.TheVariants.{Error, Caller, AdapterFrozen, DeviceFull, AdapterFull, LinkFull, NotAsked}
+use Rattle.round_net.specs.declared.cause.Cause.{Cause}
+use Rattle.round_net.specs.declared.cause.Cause.TheVariants.{Error, Caller, AdapterFrozen, DeviceFull, AdapterFull, LinkFull, NotAsked}
 use Rattle.wait_causes.specs.declared.explained_stay.CauseRounds.{CauseRounds}
 use Rattle.wait_causes.specs.declared.explained_stay.ExplainedStay.{ExplainedStay}
 use Rattle.wait_causes.specs.declared.part.Measure.{Measure}

@@ -4,14 +4,11 @@ use Rattle.cam_types.specs.Topology.{Topology}
 use Rattle.event_rules.specs.Legal.{history_rules, is_legal}
 use Rattle.event_rules.specs.Stays.{stays_begun}
 use Rattle.event_rules.specs.declared.event.Event.{Event}
-use Rattle.wait_causes.specs.Causes.{cause_table}
 use Rattle.wait_causes.specs.Stays.{explained_stays}
-use Rattle.wait_causes.specs.declared.cause.Cause.{Cause}
 use Rattle.wait_causes.specs.declared.explained_stay.ExplainedStay.{ExplainedStay}
 
--- the causes and the stays are those of a history and of a schedule with a round for each of its stays
-pub record IsExplained (c : Topology) (events : List Event) (best : List ℕ) (causes : List Cause) (stays : List ExplainedStay) : Type 0 where
+-- the stays are those of a history and of a schedule with a round for each of its stays
+pub record IsExplained (c : Topology) (events : List Event) (best : List ℕ) (stays : List ExplainedStay) : Type 0 where
   pub legal : IsTrue (is_legal history_rules c events)
   pub all : length best ≡ length (stays_begun events)
-  pub table : causes ≡ cause_table c events
   pub rows : stays ≡ explained_stays c events best

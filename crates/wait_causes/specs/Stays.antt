@@ -1,5 +1,5 @@
 -- the stays of a history, each with the causes of its waiting, beside another schedule
-use Rattle.std.specs.Prelude.{ℕ, ◌+◌, ◌-◌, Bool, true, false, List, map, zip, length, count_by, unwrap_or}
+use Rattle.std.specs.Prelude.{ℕ, ◌+◌, ◌-◌, List, map, zip, count_by, unwrap_or}
 use Rattle.std.specs.List.{range_with_len}
 use Rattle.std.specs.Option.{option_map_or}
 use Rattle.cam_types.specs.Topology.{Topology}
@@ -12,22 +12,12 @@ use Rattle.event_rules.specs.declared.event.Event.{Event}
 use Rattle.event_rules.specs.declared.passage.Passage.{Passage}
 use Rattle.event_rules.specs.declared.submission.Submission.{Submission}
 use Rattle.xpt_core.specs.declared.stays.stay_record.StayRecord.{StayRecord}
-use Rattle.wait_causes.specs.Causes.{waited_causes, cause_in}
-use Rattle.wait_causes.specs.declared.cause.Cause.{Cause}
-use Rattle.wait_causes.specs.declared.cause.Cause.TheVariants.{Error, Caller, AdapterFrozen, DeviceFull, AdapterFull, LinkFull, NotAsked}
+use Rattle.wait_causes.specs.Causes.{waited_causes}
+use Rattle.round_net.specs.Ends.{is_cause, cause_in}
+use Rattle.round_net.specs.declared.cause.Cause.{Cause}
+use Rattle.round_net.specs.declared.cause.Cause.TheVariants.{Error, Caller, AdapterFrozen, DeviceFull, AdapterFull, LinkFull, NotAsked}
 use Rattle.wait_causes.specs.declared.explained_stay.CauseRounds.{CauseRounds}
 use Rattle.wait_causes.specs.declared.explained_stay.ExplainedStay.{ExplainedStay}
-
--- two causes are the same
-abbrev pub is_cause : Cause → Cause → Bool
-is_cause Error Error = true
-is_cause Caller Caller = true
-is_cause AdapterFrozen AdapterFrozen = true
-is_cause DeviceFull DeviceFull = true
-is_cause AdapterFull AdapterFull = true
-is_cause LinkFull LinkFull = true
-is_cause NotAsked NotAsked = true
-is_cause _ _ = false
 
 -- how many of some rounds have each cause
 abbrev pub rounds_by : List Cause → CauseRounds
@@ -84,9 +74,9 @@ with_round n NotAsked = record n { not_asked = n.not_asked + 1 }
 abbrev pub sent_in : List Event → StayRecord → ℕ
 sent_in events r = unwrap_or r.sent (round events)
 
--- the same stay by its record and the causes of all devices in each round
-unfoldable pub row_by : Topology → List Event → List Cause → StayRecord × ℕ → ExplainedStay
-row_by c events causes (r, best) = record {
+-- the same stay by its record and the table of rounds
+unfoldable pub row_by : Topology → List Event → StayRecord × ℕ → ExplainedStay
+row_by c events (r, best) = record {
   ccb = r.stay.ccb;
   attempt = r.stay.attempt;
   driver = option_map_or (λ (s : Submission). s.driver) (submission events r.stay.ccb) 0;
@@ -98,5 +88,5 @@ row_by c events causes (r, best) = record {
   arrival = r.stay.arrival;
   live = sent_in events r;
   best = best;
-  rounds = rounds_by (map (cause_in causes (length c.devices) r.stay.device) (range_with_len r.stay.arrival (sent_in events r - r.stay.arrival)));
+  rounds = rounds_by (map (cause_in c events r.stay.device) (range_with_len r.stay.arrival (sent_in events r - r.stay.arrival)));
 }

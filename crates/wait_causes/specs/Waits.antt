@@ -5,8 +5,8 @@ use Rattle.cam_types.specs.Topology.{Topology}
 use Rattle.event_rules.specs.declared.event.Event.{Event}
 use Rattle.event_rules.specs.declared.passage.Passage.{Passage}
 use Rattle.wait_causes.specs.Causes.{round_cause, waited_rounds}
-use Rattle.wait_causes.specs.Stays.{is_cause}
-use Rattle.wait_causes.specs.declared.cause.Cause.{Cause}
+use Rattle.round_net.specs.Ends.{is_cause}
+use Rattle.round_net.specs.declared.cause.Cause.{Cause}
 use Rattle.wait_causes.specs.declared.wait.Wait.{Wait}
 
 -- a round with its cause

@@ -5,7 +5,7 @@ ghost use Rattle.wait_causes.specs.Parts.{waited, measure};
 ghost use Rattle.wait_causes.specs.declared.part.Measure.TheVariants.{Live};
 ghost use Rattle.wait_causes.specs.Stays.{with_round, all_rounds, no_rounds};
 
-use crate::cause::Cause;
+use round_net::Cause;
 
 /// Rounds of waiting by cause.
 #[derive(Clone, Copy, Debug, PartialEq, Eq)]

@@ -1,28 +1,21 @@
 //! Where the stays of a history waited, and why.
 
-use crate::cause::Cause;
 use crate::explained_stay::ExplainedStay;
 use crate::freeze::Freeze;
 use crate::freeze_list::push_freezes;
-use crate::frozen::frozen_in;
 use crate::listing::list_stays;
 use crate::part::{Part, part_of};
-use crate::replay::replay;
 use crate::table::{Grouping, Row, table_of};
 use crate::wait::{Wait, waits_in};
 use cam_event::History;
-use cam_types::Config;
-use event_rules::Event;
-use round_net::{Net, Schedule};
+use round_net::{FreezeKind, Net, RoundTable, Schedule};
 use std::alloc::{AllocError, Global};
 use std::marker::Model;
 
 /// Where the stays of a history waited, and why, beside another schedule.
 #[derive(Drop)]
 pub struct Explanation {
-    config: Config,
-    events: Vec<Event>,
-    causes: Vec<Cause>,
+    table: RoundTable,
     stays: Vec<ExplainedStay>,
 }
 
@@ -34,9 +27,9 @@ impl Model for Explanation {
 
     ghost Value = { Explained };
 
-    ghost view = { λ x. record { config = x.config; events = x.events.items; best = map (λ (s : Listed). s.best) x.stays.items } };
+    ghost view = { λ x. record { config = x.table.config; events = x.table.events; best = map (λ (s : Listed). s.best) x.stays.items } };
 
-    ghost invariant = { λ x. IsExplained x.config x.events.items (map (λ (s : Listed). s.best) x.stays.items) x.causes.items x.stays.items };
+    ghost invariant = { λ x. IsExplained x.table.config x.table.events (map (λ (s : Listed). s.best) x.stays.items) x.stays.items };
 }
 
 impl Explanation {
@@ -52,34 +45,22 @@ impl Explanation {
     ghost use Rattle.wait_causes.specs.Freezes.{freezes};
     ghost use Rattle.wait_causes.specs.Waits.{AreWaitsOf};
 
-    /// Explains the history beside a schedule of its stays.
-    pub fn of(alloc: Global, history: &History, best: &Schedule) -> Result<Explanation, AllocError>
-        requires { length best.now ≡ length (stays_begun history.now.events) }
-        ensures { IfOk result (λ x. x ≡ record { config = history.now.config; events = history.now.events; best = best.now }) }
-    {
-        let (end, causes) = replay(alloc, history.config(), history.events())?;
-        let stays = list_stays(alloc, &end, &causes, history.stays(), best)?;
-        let (config, events) = end.into_parts();
-        Ok(Explanation {
-            config,
-            events,
-            causes,
-            stays,
-        })
-    }
-
-    /// Explains the history beside a schedule of its net.
-    pub fn of_net(
+    /// Explains the history of this table of rounds beside a schedule of its net.
+    pub fn of(
         alloc: Global,
         history: &History,
+        table: RoundTable,
         net: &Net,
         best: &Schedule,
     ) -> Result<Explanation, AllocError>
+        requires table { table ≡ history.now }
         requires net { net.now ≡ net_of history.now.config history.now.events }
         requires stays { length best.now ≡ (instance_of_rows net.now).stays }
         ensures { IfOk result (λ x. x ≡ record { config = history.now.config; events = history.now.events; best = best.now }) }
     {
-        Explanation::of(alloc, history, best)
+        let _events = history.events();
+        let stays = list_stays(alloc, &table, history.stays(), best)?;
+        Ok(Explanation { table, stays })
     }
 
     /// All stays, in order of birth.
@@ -98,14 +79,7 @@ impl Explanation {
         let Some(kept) = self.stays.get(place) else {
             return Ok(Vec::new(alloc));
         };
-        waits_in(
-            alloc,
-            &self.causes,
-            self.config.devices().len() as u32,
-            kept.device,
-            kept.arrival,
-            kept.live,
-        )
+        waits_in(alloc, &self.table, kept.device, kept.arrival, kept.live)
     }
 
     /// What all stays waited, and what that cost: the costs by cause add up to `live`, which is the cost of the live
@@ -129,31 +103,26 @@ impl Explanation {
     pub fn freezes(&self, alloc: Global) -> Result<Vec<Freeze>, AllocError>
         ensures { IfOk result (λ rows. rows.items ≡ freezes self.now.config self.now.events (explained_stays self.now.config self.now.events self.now.best)) }
     {
-        let (errors, callers, adapters) = frozen_in(alloc, &self.config, &self.events)?;
-        let devices = self.config.devices().len() as u32;
         let mut rows = Vec::new(alloc);
         push_freezes(
             alloc,
             &mut rows,
-            &errors,
-            devices,
-            &self.causes,
+            FreezeKind::Error,
+            &self.table,
             &self.stays,
         )?;
         push_freezes(
             alloc,
             &mut rows,
-            &callers,
-            devices,
-            &self.causes,
+            FreezeKind::Caller,
+            &self.table,
             &self.stays,
         )?;
         push_freezes(
             alloc,
             &mut rows,
-            &adapters,
-            devices,
-            &self.causes,
+            FreezeKind::Adapter,
+            &self.table,
             &self.stays,
         )?;
         Ok(rows)

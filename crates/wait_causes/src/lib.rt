@@ -2,25 +2,21 @@
 //! which another schedule sends them.
 #![tactic(auto)]
 
-pub use cause::Cause;
 pub use explained_stay::{CauseRounds, ExplainedStay};
 pub use explanation::Explanation;
-pub use freeze::{Freeze, FreezeKind};
+pub use freeze::Freeze;
 pub use laws::{freezes_add_up, rows_add_up};
 pub use part::{CauseCosts, Part};
+pub use round_net::{Cause, FreezeKind};
 pub use table::{Grouping, Row};
 pub use wait::Wait;
 
-mod cause;
-mod cause_name;
 mod explained_stay;
 mod explanation;
 mod freeze;
 mod freeze_list;
-mod frozen;
 mod laws;
 mod listing;
 mod part;
-mod replay;
 mod table;
 mod wait;

@@ -7,41 +7,38 @@ ghost use Rattle.std.specs.Option.{option_map_or};
 ghost use Rattle.cam_types.specs.Questions.{device_adapter};
 ghost use Rattle.event_rules.specs.Counts.{submission};
 ghost use Rattle.event_rules.specs.declared.submission.Submission.{Submission};
-ghost use Rattle.wait_causes.specs.Causes.{cause_in};
+ghost use Rattle.round_net.specs.Ends.{cause_in};
 ghost use Rattle.wait_causes.specs.Stays.{rounds_by, row_by};
 
-use crate::cause::Cause;
 use crate::explained_stay::{CauseRounds, ExplainedStay};
-use crate::replay::cause_in;
 use cam_types::Config;
-use round_net::Schedule;
+use round_net::{RoundTable, Schedule};
 use std::alloc::{AllocError, Global};
-use xpt_core::{Devices, Queues, StayRecord};
+use xpt_core::{Devices, StayRecord};
 
-/// The stays of these records, each beside its round of the schedule. The adapters are those after all events.
+/// The stays of these records, each beside its round of the schedule.
 pub(crate) fn list_stays(
     alloc: Global,
-    end: &Queues,
-    causes: &[Cause],
+    table: &RoundTable,
     records: &[StayRecord],
     best: &Schedule,
 ) -> Result<Vec<ExplainedStay>, AllocError>
     requires same { length best.now ≡ length records.now }
     requires few { length records.now ≤ MOST_STAYS }
-    ensures { IfOk result (λ rows. rows.items ≡ map (row_by end.now.config end.now.events causes.now) (zip records.now best.now)) }
+    ensures { IfOk result (λ rows. rows.items ≡ map (row_by table.now.config table.now.events) (zip records.now best.now)) }
 {
     let mut rows = Vec::new(alloc);
     for (stay, kept) in records.iter().enumerate() {
-        rows.push(explain(end, causes, kept, best.round(stay as u32)))?;
+        rows.push(explain(table, kept, best.round(stay as u32)))?;
     }
     Ok(rows)
 }
 
 // The stay of this record, sent in this round by the schedule.
-fn explain(end: &Queues, causes: &[Cause], kept: &StayRecord, best: u32) -> ExplainedStay
-    ensures { result ≡ row_by end.now.config end.now.events causes.now (kept.now, best) }
+fn explain(table: &RoundTable, kept: &StayRecord, best: u32) -> ExplainedStay
+    ensures { result ≡ row_by table.now.config table.now.events (kept.now, best) }
 {
-    let devices = end.devices();
+    let devices = table.end().devices();
     let config = devices.config();
     let stay = &kept.stay;
     let live = kept.sent.unwrap_or(devices.round());
@@ -57,13 +54,7 @@ fn explain(end: &Queues, causes: &[Cause], kept: &StayRecord, best: u32) -> Expl
         arrival: stay.arrival,
         live,
         best,
-        rounds: rounds_by(
-            causes,
-            config.devices().len() as u32,
-            stay.device,
-            stay.arrival,
-            live,
-        ),
+        rounds: rounds_by(table, stay.device, stay.arrival, live),
     }
 }
 
@@ -88,12 +79,12 @@ fn adapter_of(config: &Config, device: u32) -> u32
 }
 
 // For how many of the rounds from the arrival to the one before the send the stays of the device waited for each cause.
-fn rounds_by(causes: &[Cause], devices: u32, device: u32, arrival: u32, live: u32) -> CauseRounds
-    ensures { result ≡ rounds_by (map (cause_in causes.now devices device) (range_with_len arrival (live - arrival))) }
+fn rounds_by(table: &RoundTable, device: u32, arrival: u32, live: u32) -> CauseRounds
+    ensures { result ≡ rounds_by (map (cause_in table.now.config table.now.events device) (range_with_len arrival (live - arrival))) }
 {
     let mut rounds = CauseRounds::none();
     for more in 0..live.saturating_sub(arrival) {
-        rounds.add(cause_in(causes, devices, device, arrival + more));
+        rounds.add(table.cause(device, arrival + more));
     }
     rounds
 }

@@ -4,9 +4,9 @@ ghost use Rattle.std.specs.Prelude.{◌≡◌, ◌≤◌, ◌*◌, ◌-ℤ◌, p
 ghost use Rattle.cam_types.specs.declared.maxima.TheConstants.{MOST_STAYS};
 ghost use Rattle.wait_causes.specs.Parts.{rounds_for, waited, measure, nearest_rank, part_of};
 
-use crate::cause::Cause;
 use crate::explained_stay::{CauseRounds, ExplainedStay};
 use cam_types::MOST_ROUNDS;
+use round_net::Cause;
 
 /// Weighted rounds by cause.
 #[derive(Clone, Copy, Debug, PartialEq, Eq)]

@@ -2,12 +2,11 @@
 
 ghost use Rattle.std.specs.Prelude.{◌≡◌, ◌+◌, ◌-◌, ℕ, IfOk};
 ghost use Rattle.std.specs.List.{range_with_len};
-ghost use Rattle.wait_causes.specs.Causes.{cause_in};
+ghost use Rattle.round_net.specs.Ends.{cause_in};
 ghost use Rattle.wait_causes.specs.Waits.{AreWaits, AreBegun};
-ghost use Rattle.wait_causes.specs.declared.cause.Cause.{Cause as Causes};
+ghost use Rattle.round_net.specs.declared.cause.Cause.{Cause as Causes};
 
-use crate::cause::Cause;
-use crate::replay::cause_in;
+use round_net::{Cause, RoundTable};
 use std::alloc::{AllocError, Global};
 
 /// Rounds in a row that a stay waited for one cause.
@@ -21,25 +20,24 @@ pub struct Wait {
     pub last: u32,
 }
 
-/// The waits in the rounds from the arrival to the one before the send, by the causes of that many devices in each round.
+/// The waits in the rounds from the arrival to the one before the send.
 pub(crate) fn waits_in(
     alloc: Global,
-    causes: &[Cause],
-    devices: u32,
+    table: &RoundTable,
     device: u32,
     arrival: u32,
     live: u32,
 ) -> Result<Vec<Wait>, AllocError>
-    ensures { IfOk result (λ waits. AreWaits (cause_in causes.now devices device) (range_with_len arrival (live - arrival)) waits.items) }
+    ensures { IfOk result (λ waits. AreWaits (cause_in table.now.config table.now.events device) (range_with_len arrival (live - arrival)) waits.items) }
 {
     let mut waits = Vec::new(alloc);
     if live <= arrival {
         return Ok(waits);
     }
-    let mut wait = begun(cause_in(causes, devices, device, arrival), arrival);
+    let mut wait = begun(table.cause(device, arrival), arrival);
     for more in 1..live - arrival {
         let round = arrival + more;
-        let cause = cause_in(causes, devices, device, round);
+        let cause = table.cause(device, round);
         wait = behind(&mut waits, wait, cause, round)?;
     }
     waits.push(wait)?;

@@ -19,6 +19,7 @@ loop-event-init c =
     let now = c.note.ensures in
     record {
       replay = started c.args.replay c.requires.rules c.requires.start;
+      ended = c.requires.no_end;
       cells = record { marked = c.note.auto.frozen ∙ c.requires.cells.marked; opened = c.note.auto.openings ∙ c.requires.cells.opened; sent = c.note.auto.sends ∙ c.requires.cells.sent };
       noted = noted-first c.args.replay.config c.args.rounds c.args.frozen.now c.note.new.frozen c.args.openings.now c.note.new.openings c.args.sends.now c.note.new.sends
           c.requires.no_mark c.requires.no_opening c.requires.no_send (rw c.requires.start at now.marked) (rw c.requires.start at (now.opened refl)) (rw c.requires.start at now.sent);
@@ -53,6 +54,7 @@ loop-event-preserved c =
     let was = c.loop-event.invariant.cells in
     let kept = c.note-in-loop-event.auto in
     record {
+      ended = rw more (rw c.loop-event.invariant.replay at c.in_ok-push.ensures);
       replay = there ∙ ap (λ es. record { config = c.args.replay.config; rules = history_rules; events = es }) (sym more);
       cells = record { marked = kept.frozen ∙ was.marked; opened = kept.openings ∙ was.opened; sent = kept.sends ∙ was.sent };
       noted = rw more (noted-step c.args.replay.config (take i events) event c.args.rounds c.loop-event.frozen c.note-in-loop-event.new.frozen c.loop-event.openings c.note-in-loop-event.new.openings

@@ -1,16 +1,17 @@
 use Rattle.cam_types.specs.declared.maxima.TheConstants.{MOST_STAYS}
-use Rattle.wait_causes.specs.Causes.{cause_in}
-use Rattle.wait_causes.specs.Freezes.{freezes_at, grouping_of, flag_in}
+use Rattle.round_net.specs.Ends.{cause_in, flag_in}
+use Rattle.wait_causes.specs.Freezes.{freezes_at, grouping_of}
 use Rattle.wait_causes.specs.Tables.{stays_of}
+use Rattle.event_rules.specs.Counts.{round}
 use Rattle.wait_causes.proofs.FreezeLemmas.{numbers_step}
 use Rattle.wait_causes.proofs.TableLemmas.{few_of}
 use Rattle.wait_causes.proofs.freeze_list.push_freezes.Goals as goal
 
 pub push_number-requires : goal.push_number-requires
-push_number-requires c = record { few = rw (c.deref.ensures.value, c.in_ok-there.ensures) (few_of c.grouping.result c.args.stays.now c.loop-number.number MOST_STAYS c.requires.few) }
+push_number-requires c = record { few = rw (c.deref.ensures.value, c.in_ok-there.ensures) (few_of c.grouping_of.result c.args.stays.now c.loop-number.number MOST_STAYS c.requires.few) }
 
 pub loop-number-preserved : goal.loop-number-preserved
 loop-number-preserved c =
-    numbers_step (λ n. freezes_at c.args.frozen.now.kind n (flag_in c.args.frozen.now.flags.items c.args.frozen.now.count n) c.args.frozen.now.last_round (cause_in c.args.causes.now c.args.devices) (stays_of (grouping_of c.args.frozen.now.kind) c.args.stays.now n))
+    numbers_step (λ n. freezes_at c.args.kind n (flag_in c.args.kind c.args.table.now.config c.args.table.now.events n) (round c.args.table.now.events) (cause_in c.args.table.now.config c.args.table.now.events) (stays_of (grouping_of c.args.kind) c.args.stays.now n))
     c.args.freezes.now.items c.loop-number.freezes.items c.push_number.new.freezes.items c.loop-number.number c.loop-number.invariant
-    (rw (c.deref.ensures.value, c.in_ok-there.ensures, c.grouping.ensures) at c.in_ok-push_number.ensures)
+    (rw (c.deref.ensures.value, c.in_ok-there.ensures, c.grouping_of.ensures) at c.in_ok-push_number.ensures)

@@ -1,14 +1,15 @@
 use Rattle.std.proofs.Common.{◌≡◌, ◌-◌, ◌++◌, map}
 use Rattle.std.specs.Prelude.{filter}
 use Rattle.std.specs.List.{range_with_len}
-use Rattle.wait_causes.specs.Causes.{cause_in}
-use Rattle.wait_causes.specs.Freezes.{begins, freeze_from, flag_in}
+use Rattle.round_net.specs.Ends.{cause_in, flag_in}
+use Rattle.wait_causes.specs.Freezes.{begins, freeze_from}
+use Rattle.event_rules.specs.Counts.{round}
 use Rattle.wait_causes.proofs.freeze_list.push_number.Given as goal
 
 -- the freezes so far and those left are all
 abbrev pub invariant-loop-round : goal.invariant-loop-round
 invariant-loop-round l =
-    l.freezes.items ++ map (freeze_from l.frozen.kind l.number (flag_in l.frozen.flags.items l.frozen.count l.number) l.frozen.last_round (cause_in l.causes l.devices) l.there)
-    (filter (begins (flag_in l.frozen.flags.items l.frozen.count l.number)) (range_with_len l.round (l.frozen.last_round - l.round)))
-    ≡ l.fn.freezes.items ++ map (freeze_from l.frozen.kind l.number (flag_in l.frozen.flags.items l.frozen.count l.number) l.frozen.last_round (cause_in l.causes l.devices) l.there)
-    (filter (begins (flag_in l.frozen.flags.items l.frozen.count l.number)) (range_with_len 1 (l.frozen.last_round - 1)))
+    l.freezes.items ++ map (freeze_from l.kind l.number (flag_in l.kind l.table.config l.table.events l.number) (round l.table.events) (cause_in l.table.config l.table.events) l.there)
+    (filter (begins (flag_in l.kind l.table.config l.table.events l.number)) (range_with_len l.round (round l.table.events - l.round)))
+    ≡ l.fn.freezes.items ++ map (freeze_from l.kind l.number (flag_in l.kind l.table.config l.table.events l.number) (round l.table.events) (cause_in l.table.config l.table.events) l.there)
+    (filter (begins (flag_in l.kind l.table.config l.table.events l.number)) (range_with_len 1 (round l.table.events - 1)))

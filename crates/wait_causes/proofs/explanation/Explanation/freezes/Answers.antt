@@ -10,26 +10,23 @@ use Rattle.wait_causes.proofs.explanation.Explanation.freezes.Goals as goal
 pub push_freezes-requires : goal.push_freezes-requires
 push_freezes-requires c =
     let x = c.self.inside in
-    record { few = rw c.deref-3.ensures.value (few_stays x.config x.events.items (map (λ (s : ExplainedStay). s.best) x.stays.items) x.causes.items x.stays.items c.self.invariant) }
+    record { few = rw c.deref.ensures.value (few_stays x.table.config x.table.events (map (λ (s : ExplainedStay). s.best) x.stays.items) x.stays.items c.self.invariant) }
 
 pub push_freezes-requires-2 : goal.push_freezes-requires-2
 push_freezes-requires-2 c =
     let x = c.self.inside in
-    record { few = rw c.deref-5.ensures.value (few_stays x.config x.events.items (map (λ (s : ExplainedStay). s.best) x.stays.items) x.causes.items x.stays.items c.self.invariant) }
+    record { few = rw c.deref-2.ensures.value (few_stays x.table.config x.table.events (map (λ (s : ExplainedStay). s.best) x.stays.items) x.stays.items c.self.invariant) }
 
 pub push_freezes-requires-3 : goal.push_freezes-requires-3
 push_freezes-requires-3 c =
     let x = c.self.inside in
-    record { few = rw c.deref-7.ensures.value (few_stays x.config x.events.items (map (λ (s : ExplainedStay). s.best) x.stays.items) x.causes.items x.stays.items c.self.invariant) }
+    record { few = rw c.deref-3.ensures.value (few_stays x.table.config x.table.events (map (λ (s : ExplainedStay). s.best) x.stays.items) x.stays.items c.self.invariant) }
 
 pub returns : goal.returns
 returns c =
     let x = c.self.inside in
     let best : List ℕ = map (λ (s : ExplainedStay). s.best) x.stays.items in
     subst (λ (e : Explained). c.push_freezes-3.new.freezes.items ≡ freezes e.config e.events (explained_stays e.config e.events e.best)) c.self.view_is
-    (freezes_found x.config x.events.items best x.causes.items x.stays.items c.self.invariant c.in_ok-errors.errors c.in_ok-errors.callers c.in_ok-errors.adapters
-    (rw c.deref.ensures.value at c.in_ok-errors.ensures.errors) (rw c.deref.ensures.value at c.in_ok-errors.ensures.callers) (rw c.deref.ensures.value at c.in_ok-errors.ensures.adapters)
+    (freezes_found x.table.config x.table.events best x.stays.items c.self.invariant
     c.new-rows.result.items c.push_freezes.new.freezes.items c.push_freezes-2.new.freezes.items c.push_freezes-3.new.freezes.items c.new-rows.ensures.items
-    (rw (c.deref-2.ensures.value, c.deref-3.ensures.value, c.devices.ensures.same) at c.in_ok-push_freezes.ensures)
-    (rw (c.deref-4.ensures.value, c.deref-5.ensures.value, c.devices.ensures.same) at c.in_ok-push_freezes-2.ensures)
-    (rw (c.deref-6.ensures.value, c.deref-7.ensures.value, c.devices.ensures.same) at c.in_ok-push_freezes-3.ensures))
+    (rw c.deref.ensures.value at c.in_ok-push_freezes.ensures) (rw c.deref-2.ensures.value at c.in_ok-push_freezes-2.ensures) (rw c.deref-3.ensures.value at c.in_ok-push_freezes-3.ensures))

@@ -9,4 +9,4 @@ pub returns-clause-all : goal.returns-clause-all
 returns-clause-all c =
     let x = c.self.inside in
     subst (λ (e : Explained). length c.deref.result.now ≡ length (stays_begun e.events)) c.self.view_is
-    (ap length c.deref.ensures.value ∙ all_stays x.config x.events.items (map (λ (s : ExplainedStay). s.best) x.stays.items) x.causes.items x.stays.items c.self.invariant)
+    (ap length c.deref.ensures.value ∙ all_stays x.table.config x.table.events (map (λ (s : ExplainedStay). s.best) x.stays.items) x.stays.items c.self.invariant)

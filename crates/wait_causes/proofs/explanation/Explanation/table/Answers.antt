@@ -10,7 +10,7 @@ use Rattle.wait_causes.proofs.explanation.Explanation.table.Goals as goal
 pub table_of-requires : goal.table_of-requires
 table_of-requires c =
     let x = c.self.inside in
-    record { few = rw c.deref.ensures.value (few_stays x.config x.events.items (map (λ (s : ExplainedStay). s.best) x.stays.items) x.causes.items x.stays.items c.self.invariant) }
+    record { few = rw c.deref.ensures.value (few_stays x.table.config x.table.events (map (λ (s : ExplainedStay). s.best) x.stays.items) x.stays.items c.self.invariant) }
 
 pub returns : goal.returns
 returns c =

@@ -5,7 +5,7 @@ use Rattle.std.proofs.lemmas.Bool.{ltb-true}
 use Rattle.std.proofs.lemmas.Result.{IfOk-weaker}
 use Rattle.event_rules.specs.Stays.{stays_begun}
 use Rattle.event_rules.specs.declared.passage.Passage.{Passage}
-use Rattle.wait_causes.specs.Causes.{cause_in}
+use Rattle.round_net.specs.Ends.{cause_in}
 use Rattle.wait_causes.specs.Explained.{Explained}
 use Rattle.wait_causes.specs.Waits.{AreWaits, AreWaitsOf}
 use Rattle.wait_causes.specs.declared.explained_stay.ExplainedStay.{ExplainedStay}
@@ -18,16 +18,15 @@ returns-clause-waits c =
     let kept = c.in-Some.kept.now in
     let found = c.in-Some.ensures.lookup in
     let x = c.self.inside in
-    let h = rw (c.deref-2.ensures.value, c.devices.ensures.same) at c.waits_in.ensures in
     subst (λ (e : Explained). (p : Passage) → slice_get (stays_begun e.events) c.args.place ≡ Some p → IfOk c.waits_in.result (λ waits. AreWaitsOf e.config e.events p waits.items)) c.self.view_is (λ p at.
-    IfOk-weaker c.waits_in.result (λ waits. AreWaits (cause_in x.causes.items (length x.config.devices) kept.device) (range_with_len kept.arrival (kept.live - kept.arrival)) waits.items) (λ waits. AreWaitsOf x.config x.events.items p waits.items)
-    (λ waits are. waits_found x.config x.events.items (map (λ (s : ExplainedStay). s.best) x.stays.items) x.causes.items x.stays.items c.self.invariant c.args.place p kept waits.items at
+    IfOk-weaker c.waits_in.result (λ waits. AreWaits (cause_in x.table.config x.table.events kept.device) (range_with_len kept.arrival (kept.live - kept.arrival)) waits.items) (λ waits. AreWaitsOf x.table.config x.table.events p waits.items)
+    (λ waits are. waits_found x.table.config x.table.events (map (λ (s : ExplainedStay). s.best) x.stays.items) x.stays.items c.self.invariant c.args.place p kept waits.items at
     (found.1 ∙ ap (λ xs. get_or xs c.args.place kept) c.deref.ensures.value) are)
-    h)
+    c.waits_in.ensures)
 
 pub returns-clause-none : goal.returns-clause-none
 returns-clause-none c =
     let x = c.self.inside in
     let here = ltb-true _ _ (sym c.in-Some.ensures.lookup.0) in
     subst (λ (e : Explained). length (stays_begun e.events) ≤ c.args.place → IfOk c.waits_in.result (λ waits. waits.items ≡ [])) c.self.view_is
-    (λ le. absurd (omega (arith, le, here, ap length c.deref.ensures.value, all_stays x.config x.events.items (map (λ (s : ExplainedStay). s.best) x.stays.items) x.causes.items x.stays.items c.self.invariant)))
+    (λ le. absurd (omega (arith, le, here, ap length c.deref.ensures.value, all_stays x.table.config x.table.events (map (λ (s : ExplainedStay). s.best) x.stays.items) x.stays.items c.self.invariant)))

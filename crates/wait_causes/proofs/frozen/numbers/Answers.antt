@@ -1,8 +1,0 @@
-use Rattle.std.proofs.Common.{ap, arith, length}
-use Rattle.cam_types.proofs.ConfigLemmas.{few_adapters}
-use Rattle.wait_causes.proofs.frozen.numbers.Goals as goal
-
-pub overflow_cast-result-in-Adapter : goal.overflow_cast-result-in-Adapter
-overflow_cast-result-in-Adapter c =
-    let few = few_adapters c.args.config.now c.adapters.ensures.kept in
-    omega (arith, ap length c.adapters.ensures.same, few)

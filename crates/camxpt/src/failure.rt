@@ -2,7 +2,6 @@
 
 use crate::source::Argument;
 use audit_report::AuditFault;
-use cam_types::WholeFault;
 use price_check::ReportFault;
 use sim_worker::LiveFault;
 use std::alloc::AllocError;
@@ -99,16 +98,6 @@ impl From<WriteFault> for Failure {
         Failure::Audit(match fault {
             WriteFault::WriteFailed => AuditFault::WriteFailed,
             WriteFault::OutOfMemory => AuditFault::OutOfMemory,
-        })
-    }
-}
-
-impl From<WholeFault> for Failure {
-    fn from(fault: WholeFault) -> Failure {
-        Failure::from(match fault {
-            WholeFault::TooLong => TraceFault::TooLong,
-            WholeFault::ReadFailed => TraceFault::ReadFailed,
-            WholeFault::OutOfMemory => TraceFault::OutOfMemory,
         })
     }
 }

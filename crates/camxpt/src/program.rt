@@ -1,17 +1,17 @@
 //! Runs the subcommand that the command line asks for.
 
+use crate::completion::script;
 use crate::failure::Failure;
-use crate::note::{Named, note_on};
+use crate::note::note_on;
 use crate::output::print;
 use crate::proof_run::prove;
 use crate::script_run::ScriptRun;
 use crate::shell::Shell;
-use crate::source::{Argument, STANDARD_INPUT, Source, read, read_input};
+use crate::source::{Argument, STANDARD_INPUT, Source, input, open};
 use crate::subcommands::command;
 use crate::trace_run::TraceRun;
 use crate::words::words;
-use audit_report::{AuditFault, read_net};
-use cam_types::{Watched, WholeFault};
+use audit_report::AuditFault;
 use clap::ArgMatches;
 use clap::error::ErrorKind;
 use std::process::ExitCode;
@@ -41,18 +41,14 @@ fn tell<R: Runtime>(rt: &R, failure: &Failure) -> ExitCode {
 }
 
 // Says why an input was refused, and after that line where it stands and what stands there, if that is asked for.
-fn tell_on<R: Runtime + AllocGlobal>(
+fn tell_on<R: Runtime + AllocGlobal, D>(
     rt: &R,
     failure: &Failure,
-    is_verbose: bool,
-    input: &Named<'_>,
-    report: Option<&Named<'_>>,
+    input: &Source<'_, D>,
 ) -> ExitCode {
     let status = tell(rt, failure);
-    if is_verbose {
-        if let Ok(note) = note_on(rt.alloc(), failure, input, report) {
-            let _ = rt.eprint(&note);
-        }
+    if let Some(note) = note_on(rt.alloc(), failure, input) {
+        let _ = rt.eprint(&note);
     }
     status
 }
@@ -157,8 +153,7 @@ fn script_run(name: &str, words: &ArgMatches<'_>, on_terminal: bool) -> Option<S
 
 // Prints the summary of the audit of the trace on standard input.
 fn over_input<R: Runtime + AllocGlobal + Threads + Sync>(rt: &R) -> Result<ExitCode, Failure> {
-    let trace = read_input(rt)?;
-    TraceRun::Audit { summary: true }.over(rt, &trace, false)?;
+    TraceRun::Audit { summary: true }.over(rt, &mut input(rt), false)?;
     Ok(ExitCode::SUCCESS)
 }
 
@@ -167,14 +162,14 @@ fn over_trace<R: Runtime + AllocGlobal + Threads + Sync>(
     words: &ArgMatches<'_>,
     run: TraceRun,
 ) -> Result<ExitCode, Failure> {
-    let trace = read(rt, words, Argument::Trace)?;
-    let as_json = words.get_flag("json");
-    match run.over(rt, &trace, as_json) {
+    let mut trace = open(rt, words, Argument::Trace)?;
+    match run.over(rt, &mut trace, words.get_flag("json")) {
         Ok(()) => Ok(ExitCode::SUCCESS),
-        Err(failure) => Ok(tell_on(rt, &failure, words.get_flag("verbose"), &trace, None)),
+        Err(failure) => Ok(tell_on(rt, &failure, &trace)),
     }
 }
 
+// The status is 1 for a report that isn't proved.
 fn over_report<R: Runtime + AllocGlobal + Threads + Sync>(
     rt: &R,
     words: &ArgMatches<'_>,
@@ -187,47 +182,17 @@ fn over_report<R: Runtime + AllocGlobal + Threads + Sync>(
         return Err(Failure::StandardInputTwice);
     }
     // Both files are opened before one is read.
-    let source = Source::open(rt, words, Argument::Trace)?;
-    let behind = Source::open(rt, words, Argument::Report)?;
-    let trace = Named {
-        name: trace,
-        text: source.read(rt)?,
-    };
-    match behind.read(rt) {
-        Ok(text) => over_texts(rt, words, &trace, &Named { name: report, text }),
-        Err(fault) => refuse(rt, words, &trace, fault),
-    }
-}
-
-// The status is 1 for a report that isn't proved.
-fn over_texts<R: Runtime + AllocGlobal + Threads + Sync>(
-    rt: &R,
-    words: &ArgMatches<'_>,
-    trace: &Named<'_>,
-    report: &Named<'_>,
-) -> Result<ExitCode, Failure> {
-    match prove(rt, trace, report, words.get_flag("json")) {
+    let mut trace = open(rt, words, Argument::Trace)?;
+    let mut report = open(rt, words, Argument::Report)?;
+    match prove(rt, &mut trace, &mut report, words.get_flag("json")) {
         Ok(true) => Ok(ExitCode::SUCCESS),
         Ok(false) => Ok(ExitCode::FAILURE),
         Err(failure) => {
-            let is_verbose = words.get_flag("verbose");
-            Ok(tell_on(rt, &failure, is_verbose, trace, Some(report)))
+            let is_of_report = matches!(failure, Failure::Audit(AuditFault::Report(_)));
+            let input = if is_of_report { &report } else { &trace };
+            Ok(tell_on(rt, &failure, input))
         }
     }
-}
-
-// A report that wasn't read is told only if nothing is wrong with the trace.
-fn refuse<R: Runtime + AllocGlobal>(
-    rt: &R,
-    words: &ArgMatches<'_>,
-    trace: &Named<'_>,
-    fault: WholeFault,
-) -> Result<ExitCode, Failure> {
-    let failure = match read_net(rt.alloc(), &mut Watched::new(trace.text.as_slice())) {
-        Ok(_) => Failure::from(fault),
-        Err(fault) => Failure::from(fault),
-    };
-    Ok(tell_on(rt, &failure, words.get_flag("verbose"), trace, None))
 }
 
 fn over_script<R: Runtime + AllocGlobal + Threads + Wait + Sync>(
@@ -235,20 +200,20 @@ fn over_script<R: Runtime + AllocGlobal + Threads + Wait + Sync>(
     words: &ArgMatches<'_>,
     run: ScriptRun,
 ) -> Result<ExitCode, Failure> {
-    let script = read(rt, words, Argument::Script)?;
-    match run.over(rt, &script) {
+    let mut script = open(rt, words, Argument::Script)?;
+    match run.over(rt, &mut script) {
         Ok(ending) => {
             let _ = rt.eprintln(format_args!("ending {ending}"));
             Ok(ExitCode::SUCCESS)
         }
-        Err(failure) => Ok(tell_on(rt, &failure, words.get_flag("verbose"), &script, None)),
+        Err(failure) => Ok(tell_on(rt, &failure, &script)),
     }
 }
 
-fn complete<R: Runtime>(rt: &R, name: &str) -> Result<ExitCode, Failure> {
+fn complete<R: Runtime + AllocGlobal>(rt: &R, name: &str) -> Result<ExitCode, Failure> {
     let Some(shell) = Shell::named(name) else {
         return Err(Failure::NoShell);
     };
-    print(rt, shell.completion())?;
+    print(rt, &script(rt.alloc(), shell)?)?;
     Ok(ExitCode::SUCCESS)
 }

@@ -1,56 +1,54 @@
 //! Says whether a report on a trace is proved.
 
 use crate::failure::Failure;
-use crate::note::Named;
 use crate::output::{closed, print};
+use crate::source::Source;
 use audit_report::run_prove;
 use cam_types::Watched;
 use std::alloc::Global;
 use std::io;
+use std::io::{Read, Write};
 use views::prove_json;
 
 // More bytes than the line has that says what comes of a report.
 const MOST_FINDING: usize = 256;
 
 /// Prints whether the report's prices prove its schedule, as one line of JSON if that is asked for, and answers it.
-pub fn prove<R: Print + AllocGlobal>(
+pub fn prove<R: Print + AllocGlobal, D: Read>(
     rt: &R,
-    trace: &Named<'_>,
-    report: &Named<'_>,
+    trace: &mut Source<'_, D>,
+    report: &mut Source<'_, D>,
     as_json: bool,
 ) -> Result<bool, Failure> {
     if as_json {
         return prove_as_json(rt, trace, report);
     }
-    let mut trace = Watched::new(trace.text.as_slice());
-    let mut report = Watched::new(report.text.as_slice());
-    let mut out = Watched::new(io::writer(rt));
-    Ok(run_prove(rt.alloc(), &mut trace, &mut report, &mut out)?)
+    find(rt.alloc(), trace, report, io::writer(rt))
 }
 
-fn prove_as_json<R: Print + AllocGlobal>(
+fn prove_as_json<R: Print + AllocGlobal, D: Read>(
     rt: &R,
-    trace: &Named<'_>,
-    report: &Named<'_>,
+    trace: &mut Source<'_, D>,
+    report: &mut Source<'_, D>,
 ) -> Result<bool, Failure> {
     let alloc = rt.alloc();
+    let (trace_name, report_name) = (trace.name, report.name);
     let mut finding = Vec::with_capacity(alloc, MOST_FINDING)?;
     let is_proved = find(alloc, trace, report, &mut finding)?;
     let finding = str::from_utf8(&finding).unwrap_or("").trim_end();
-    let line = closed(prove_json(alloc, trace.name, report.name, finding))?;
+    let line = closed(prove_json(alloc, trace_name, report_name, finding))?;
     print(rt, &line)?;
     Ok(is_proved)
 }
 
-// Puts the line that says what comes of the report after these bytes.
-fn find(
+// Writes the line that says what comes of the report.
+fn find<D: Read, W: Write + Drop>(
     alloc: Global,
-    trace: &Named<'_>,
-    report: &Named<'_>,
-    finding: &mut Vec<u8>,
+    trace: &mut Source<'_, D>,
+    report: &mut Source<'_, D>,
+    out: W,
 ) -> Result<bool, Failure> {
-    let mut trace = Watched::new(trace.text.as_slice());
-    let mut report = Watched::new(report.text.as_slice());
-    let mut out = Watched::new(finding);
-    Ok(run_prove(alloc, &mut trace, &mut report, &mut out)?)
+    let mut trace = Watched::new(trace);
+    let mut report = Watched::new(report);
+    Ok(run_prove(alloc, &mut trace, &mut report, &mut Watched::new(out))?)
 }

@@ -1,12 +1,13 @@
 //! Runs a script, on one thread or on many, and writes the trace of the run.
 
 use crate::failure::Failure;
-use crate::note::Named;
 use crate::progress::ProgressLine;
+use crate::source::Source;
 use cam_event::History;
 use cam_types::Watched;
 use sim_worker::{Ending, ScriptPort, run_live_with, sim_run};
 use std::io;
+use std::io::Read;
 use std::rt::Runtime;
 use std::sync::Wait;
 use std::thread::Threads;
@@ -29,12 +30,12 @@ pub enum ScriptRun {
 
 impl ScriptRun {
     /// Runs the script, writes the trace to standard output and answers how the run ended.
-    pub fn over<R: Runtime + AllocGlobal + Threads + Wait + Sync>(
+    pub fn over<R: Runtime + AllocGlobal + Threads + Wait + Sync, D: Read>(
         self,
         rt: &R,
-        script: &Named<'_>,
+        script: &mut Source<'_, D>,
     ) -> Result<Ending, Failure> {
-        let script = read_script(rt.alloc(), &mut Watched::new(script.text.as_slice()))?;
+        let script = read_script(rt.alloc(), &mut Watched::new(script))?;
         match self {
             ScriptRun::Sim { seed } => over_seed(rt, &script, seed),
             ScriptRun::Live { on_terminal } => over_threads(rt, &script, on_terminal),

@@ -1,6 +1,7 @@
 //! The shells that complete the program's words.
 
-use crate::completion::{BASH, FISH, ZSH};
+/// The names of the shells that complete the program's words.
+pub(crate) const SHELLS: &str = "bash zsh fish";
 
 /// A shell that completes the program's words.
 #[derive(Clone, Copy)]
@@ -21,15 +22,6 @@ impl Shell {
             "zsh" => Some(Shell::Zsh),
             "fish" => Some(Shell::Fish),
             _ => None,
-        }
-    }
-
-    /// The script by which the shell completes the program's words.
-    pub fn completion(self) -> &'static str {
-        match self {
-            Shell::Bash => BASH,
-            Shell::Zsh => ZSH,
-            Shell::Fish => FISH,
         }
     }
 }

@@ -1,10 +1,10 @@
 //! Where a text comes from: a file, or standard input.
 
 use crate::failure::Failure;
-use crate::note::Named;
-use cam_types::{Watched, WholeFault, read_whole};
 use clap::ArgMatches;
+use either::{Either, Left, Right};
 use std::fs::File;
+use std::io;
 use std::io::Read;
 use std::rt::Files;
 
@@ -34,58 +34,66 @@ impl Argument {
     }
 }
 
-/// An open file, or standard input.
+/// A file or standard input, to be read once. What is read is kept if a fault in it is to be shown.
 #[derive(Drop)]
-pub enum Source<F> {
-    /// A file.
-    File(F),
-    /// Standard input.
-    Input,
+pub struct Source<'a, D> {
+    /// The name of the file; `-` is standard input.
+    pub name: &'a str,
+    device: D,
+    kept: Option<Vec<u8>>,
 }
 
-impl<F: Read + Drop> Source<F> {
-    /// Opens the file that an argument names; `-` is standard input.
-    pub fn open<R: Files<File = F>>(
-        rt: &R,
-        words: &ArgMatches<'_>,
-        argument: Argument,
-    ) -> Result<Source<F>, Failure> {
-        let name = argument.file_name(words);
-        if name == STANDARD_INPUT {
-            return Ok(Source::Input);
-        }
-        match File::open(rt, name) {
-            Ok(file) => Ok(Source::File(file)),
-            Err(_) => Err(Failure::CannotOpen(argument)),
-        }
-    }
-
-    /// The text, to its end.
-    pub fn read<R: Input + AllocGlobal>(self, rt: &R) -> Result<Vec<u8>, WholeFault> {
-        match self {
-            Source::File(file) => read_whole(rt.alloc(), &mut Watched::new(file)),
-            Source::Input => read_whole(rt.alloc(), &mut Watched::new(rt.reader())),
-        }
+impl<D> Source<'_, D> {
+    /// What was read so far, if that is kept.
+    pub fn kept(&self) -> Option<&[u8]> {
+        self.kept.as_deref()
     }
 }
 
-/// Reads the text in the file that an argument names.
-pub fn read<'a, R: Files + Input + AllocGlobal>(
+impl<D: Read> Read for Source<'_, D> {
+    ghost remaining = { λ s. D.remaining s.device };
+
+    /// Reads as the file does.
+    fn read(&mut self, buf: &mut [u8]) -> io::Result<usize> {
+        let count = self.device.read(buf)?;
+        if let Some(kept) = &mut self.kept {
+            // Without memory for them nothing is kept any more.
+            if kept.extend_from_slice(&buf[..count]).is_err() {
+                self.kept = None;
+            }
+        }
+        Ok(count)
+    }
+}
+
+/// Opens the file that an argument names; `-` is standard input. What is read of it is kept if the words ask for `--verbose`.
+pub fn open<'a, R: Files + Input + AllocGlobal>(
     rt: &R,
     words: &ArgMatches<'a>,
     argument: Argument,
-) -> Result<Named<'a>, Failure> {
-    let text = Source::open(rt, words, argument)?.read(rt)?;
-    Ok(Named {
-        name: argument.file_name(words),
-        text,
-    })
+) -> Result<Source<'a, Either<R::File, R::Reader>>, Failure> {
+    let name = argument.file_name(words);
+    let device = if name == STANDARD_INPUT {
+        Right(rt.reader())
+    } else {
+        match File::open(rt, name) {
+            Ok(file) => Left(file),
+            Err(_) => return Err(Failure::CannotOpen(argument)),
+        }
+    };
+    let kept = if words.get_flag("verbose") {
+        Some(Vec::new(rt.alloc()))
+    } else {
+        None
+    };
+    Ok(Source { name, device, kept })
 }
 
-/// Reads the text on standard input.
-pub fn read_input<R: Input + AllocGlobal>(rt: &R) -> Result<Named<'static>, Failure> {
-    Ok(Named {
+/// Standard input, of which nothing is kept.
+pub fn input<R: Input>(rt: &R) -> Source<'static, R::Reader> {
+    Source {
         name: STANDARD_INPUT,
-        text: read_whole(rt.alloc(), &mut Watched::new(rt.reader()))?,
-    })
+        device: rt.reader(),
+        kept: None,
+    }
 }

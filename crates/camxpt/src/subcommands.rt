@@ -4,15 +4,18 @@ use crate::word::Word;
 use clap::Command;
 use std::alloc::{AllocError, Global};
 
-// A subcommand.
-struct Subcommand {
-    name: &'static str,
+/// A subcommand.
+pub(crate) struct Subcommand {
+    /// Its name.
+    pub(crate) name: &'static str,
     about: &'static str,
     example: &'static str,
-    words: &'static [Word],
+    /// Its arguments.
+    pub(crate) words: &'static [Word],
 }
 
-const SUBCOMMANDS: [Subcommand; 9] = [
+/// The subcommands, in the order of the help.
+pub(crate) const SUBCOMMANDS: [Subcommand; 9] = [
     Subcommand {
         name: "check",
         about: "Tests a trace and prints its counts and what its waiting cost",

@@ -1,8 +1,8 @@
 //! Checks, audits, explains, draws or migrates a trace.
 
 use crate::failure::Failure;
-use crate::note::Named;
 use crate::output::{closed, print};
+use crate::source::Source;
 use audit_report::{read_rounds, run_audit_with, run_check, run_migrate};
 use cam_event::History;
 use cam_types::Watched;
@@ -10,6 +10,7 @@ use cost_plan::{OpenGate, plan_with};
 use round_net::Net;
 use std::alloc::{AllocError, Global};
 use std::io;
+use std::io::Read;
 use std::thread::Threads;
 use views::{audit_json, check_json, draw, explain_json, page};
 use wait_causes::Explanation;
@@ -37,44 +38,52 @@ pub enum TraceRun {
 
 impl TraceRun {
     /// Prints what comes of the trace, as one line of JSON if that is asked for.
-    pub fn over<R: Print + AllocGlobal + Threads + Sync>(
+    pub fn over<R: Print + AllocGlobal + Threads + Sync, D: Read>(
         self,
         rt: &R,
-        trace: &Named<'_>,
+        trace: &mut Source<'_, D>,
         as_json: bool,
     ) -> Result<(), Failure> {
         let alloc = rt.alloc();
-        let mut text = Watched::new(trace.text.as_slice());
         let mut out = Watched::new(io::writer(rt));
         match self {
-            TraceRun::Check if !as_json => Ok(run_check(alloc, &mut text, &mut out)?),
-            TraceRun::Migrate => Ok(run_migrate(alloc, &mut text, &mut out)?),
+            TraceRun::Check if !as_json => Ok(run_check(
+                alloc,
+                &mut Watched::new(trace),
+                &mut out,
+            )?),
+            TraceRun::Migrate => Ok(run_migrate(alloc, &mut Watched::new(trace), &mut out)?),
             TraceRun::Audit { summary } if !as_json => Ok(run_audit_with(
-                rt, alloc, &mut text, &mut out, summary, &OpenGate,
+                rt,
+                alloc,
+                &mut Watched::new(trace),
+                &mut out,
+                summary,
+                &OpenGate,
             )?),
             _ => print(rt, &self.text_on(rt, trace, as_json)?),
         }
     }
 
     // What is printed of the trace where it is none of a report's lines.
-    fn text_on<R: AllocGlobal + Threads + Sync>(
+    fn text_on<R: AllocGlobal + Threads + Sync, D: Read>(
         self,
         rt: &R,
-        trace: &Named<'_>,
+        trace: &mut Source<'_, D>,
         as_json: bool,
     ) -> Result<String, Failure> {
-        let alloc = rt.alloc();
-        let (history, table, net) = read_rounds(alloc, &mut Watched::new(trace.text.as_slice()))?;
+        let (alloc, name) = (rt.alloc(), trace.name);
+        let (history, table, net) = read_rounds(alloc, &mut Watched::new(trace))?;
         if let TraceRun::Check = self {
-            return closed(check_json(alloc, trace.name, &history));
+            return closed(check_json(alloc, name, &history));
         }
         let best = plan_with(rt, alloc, &net, &OpenGate)?;
         if let TraceRun::Audit { summary } = self {
             let (schedule, prices) = (&best.schedule, &best.prices);
-            return closed(audit_json(alloc, trace.name, &history, &net, schedule, prices, summary));
+            return closed(audit_json(alloc, name, &history, &net, schedule, prices, summary));
         }
         let explanation = Explanation::of(alloc, &history, table, &net, &best.schedule)?;
-        self.explained(alloc, trace.name, &history, &net, &explanation, as_json)
+        self.explained(alloc, name, &history, &net, &explanation, as_json)
     }
 
     // What is printed of an explanation of the trace.

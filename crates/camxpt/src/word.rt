@@ -4,7 +4,7 @@ use clap::{Arg, ArgAction, value_parser};
 use std::alloc::Global;
 
 /// An argument of a subcommand.
-#[derive(Clone, Copy)]
+#[derive(Clone, Copy, PartialEq)]
 pub(crate) enum Word {
     Summary,
     Top,
@@ -33,7 +33,7 @@ impl Word {
             Word::Verbose => flag(
                 alloc,
                 "verbose",
-                "Says behind a fault where it stands and what stands there",
+                "Says after a fault where it stands and what stands there",
             ),
             Word::Trace => named(
                 alloc,

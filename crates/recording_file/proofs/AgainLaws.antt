@@ -1,6 +1,6 @@
 -- The records of a recording are read as that recording.
-use Rattle.std.proofs.Common.{◌≡◌, ◌≢◌, ◌<◌, ◌≤◌, ◌+◌, ℕ, List, [], ◌∷◌, ◌++◌, length, map, Bool, true, false, cond, refl, sym, ap, ◌∙◌, subst, append_assoc, append-nil, arith}
-use Rattle.std.specs.Prelude.{Option, Some, None, Result, Ok, ⊤, IfSome, nat_le, nat_lt, ◌&&◌, ◌||◌, ◌==◌}
+use Rattle.std.proofs.Common.{◌≡◌, ◌≢◌, ◌<◌, ◌≤◌, ◌+◌, ℕ, List, [], ◌∷◌, ◌++◌, length, map, Bool, true, refl, sym, ap, ◌∙◌, append_assoc, append-nil, arith, length-append}
+use Rattle.std.specs.Prelude.{Option, None, Result, Ok, ⊤}
 use Rattle.std.specs.List.{AllByRecursion, list_all}
 use Rattle.std.proofs.lemmas.Bool.{and_parts}
 use Rattle.csv.specs.Records.{field_at}
@@ -19,7 +19,7 @@ use Rattle.recording_file.specs.Words.{spelled}
 use Rattle.recording_file.proofs.FieldLaws.{word_again}
 use Rattle.recording_file.proofs.SaidAgain.{SmallFor, said_again}
 use Rattle.recording_file.proofs.SaidLaws.{ok_is, on_ok}
-use Rattle.recording_file.proofs.StageLemmas.{step_behind}
+use Rattle.recording_file.proofs.StageLemmas.{step_after_header}
 
 -- ---- a fact of each element beside those before it
 
@@ -43,6 +43,21 @@ none_along f before (x ∷ xs) e = (or_left (f (before, x)) _ e, none_along f (b
 pub true_along : {X : Type 0} (p : List X × X → Bool) (before xs : List X) → list_all p (moments_after before xs) ≡ true → Along (λ b x. p (b, x) ≡ true) before xs
 true_along p before [] e = tt
 true_along p before (x ∷ xs) e = let n = and_parts _ _ e in (n.0, true_along p (before ++ x ∷ []) xs n.1)
+
+-- each has at most so many before it
+pub along_few : {X : Type 0} (most : ℕ) (before xs : List X) → length before + length xs ≤ most → Along (λ b x. length b < most) before xs
+along_few most before [] h = tt
+along_few most before (x ∷ xs) h =
+    let more = length-append before (x ∷ []) in
+    (omega arith, along_few most (before ++ x ∷ []) xs (omega arith))
+
+pub along_with : {X : Type 0} (P Q : List X → X → Type 0) (before xs : List X) → Along P before xs → Along Q before xs → Along (λ b x. P b x × Q b x) before xs
+along_with P Q before [] h k = tt
+along_with P Q before (x ∷ xs) h k = ((h.0, k.0), along_with P Q (before ++ x ∷ []) xs h.1 k.1)
+
+pub along_to : {X : Type 0} (P Q : List X → X → Type 0) → ((b : List X) (x : X) → P b x → Q b x) → (before xs : List X) → Along P before xs → Along Q before xs
+along_to P Q f before [] h = tt
+along_to P Q f before (x ∷ xs) h = (f before x h.0, along_to P Q f (before ++ x ∷ []) xs h.1)
 
 -- ---- records one after the other
 
@@ -74,6 +89,6 @@ spelled_row _ = (refl, refl)
 
 pub said_step : (n : ℕ) (s : RecordingStage) (x : Said) → s ≢ stage.Header → SmallFor (recorded_of s) x → stands s (word_for x) ≡ true → FitsSaid (recorded_of s) x → step n s (said_row x) ≡ add_said n s x
 unfolding row_step placed
-said_step n s x behind small place fits =
+said_step n s x headed small place fits =
     let r = spelled_row x in
-    step_behind n s (said_row x) behind ∙ rw (r.0, r.1, word_again (word_for x), place, said_again n (recorded_of s) x small fits) refl
+    step_after_header n s (said_row x) headed ∙ rw (r.0, r.1, word_again (word_for x), place, said_again n (recorded_of s) x small fits) refl

@@ -1,10 +1,9 @@
 -- The first record that fails, and its fault.
-use Rattle.std.proofs.Common.{◌≡◌, ◌≢◌, ◌≤◌, ◌+◌, ℕ, List, [], ◌∷◌, ◌++◌, length, Bool, true, false, cond, refl, sym, ap, ◌∙◌, subst, arith, add-zero}
+use Rattle.std.proofs.Common.{◌≡◌, ◌≢◌, ◌+◌, ℕ, List, [], ◌∷◌, ◌++◌, length, Bool, true, false, cond, refl, sym, ap, ◌∙◌, subst, arith, add-zero}
 use Rattle.std.specs.Prelude.{Option, Some, None, Result, Ok, Err, ok_or, ⊤, IfSome, IfOk, IfErr}
 use Rattle.std.proofs.lemmas.List.{append-nil}
 use Rattle.cam_types.specs.Weights.{reaches_last}
 use Rattle.cam_types.specs.declared.config_fault.ConfigFault.{ConfigFault}
-use Rattle.cam_types.specs.declared.config_fault.ConfigFault.TheVariants.{BadWeight}
 use Rattle.recording_file.specs.declared.cause.Cause.{Cause}
 use Rattle.recording_file.specs.declared.recording_fault.RecordingFault.{RecordingFault}
 use Rattle.recording_file.specs.declared.recording_fault.RecordingFault.TheVariants as fault
@@ -21,8 +20,8 @@ use Rattle.recording_file.specs.Fields.{Row}
 use Rattle.recording_file.specs.Header.{is_header, name_text}
 use Rattle.recording_file.specs.Rows.{one_number, span_at, rounds_at, weight_at, adapter_at, device_at, named_at, text_at, capped_at, most_at, request_at}
 use Rattle.recording_file.specs.Recorded.{Recorded}
-use Rattle.recording_file.specs.Reading.{add_said, add_row, cap_said, ended, in_record, lacks_adapters, name_said, placed, reading, recorded_of, row_step, said_by, says, step, unless_fault, unless_illegal}
-use Rattle.recording_file.specs.Recordings.{Explains, FailsAt, IsFirstFault, IsRecordingText}
+use Rattle.recording_file.specs.Reading.{add_said, cap_said, ended, in_record, lacks_adapters, name_said, placed, recorded_of, row_step, said_by, says, step, unless_fault, unless_illegal}
+use Rattle.recording_file.specs.Recordings.{Explains, FailsAt, IsFirstFault}
 use Rattle.recording_file.specs.Steps.{◌>>=◌, taken}
 use Rattle.recording_file.specs.Text.{records_in}
 use Rattle.recording_file.specs.Whole.{IsLongWhole}
@@ -101,14 +100,14 @@ add_fails n s (said.Name x) = by_test (lacks_adapters s) _ _ tt tt
 add_fails n s (said.Cap x) = by_test (lacks_adapters s) _ _ tt tt
 add_fails n s (said.Request q) = by_test (lacks_adapters s) _ _ tt (by_cause n _ _)
 
-behind_fails : (n : ℕ) (s : RecordingStage) (row : Row) → FailsByText (row_step n s row)
+row_fails : (n : ℕ) (s : RecordingStage) (row : Row) → FailsByText (row_step n s row)
 unfolding row_step
-behind_fails n s row = bound (ok_or (placed s row) (fault.BadRecord n)) _ (by_word n (placed s row)) (λ w. bound (said_by n (recorded_of s) w row) _ (said_fails n (recorded_of s) w row) (add_fails n s))
+row_fails n s row = bound (ok_or (placed s row) (fault.BadRecord n)) _ (by_word n (placed s row)) (λ w. bound (said_by n (recorded_of s) w row) _ (said_fails n (recorded_of s) w row) (add_fails n s))
 
 step_fails : (n : ℕ) (s : RecordingStage) (row : Row) → FailsByText (step n s row)
 unfolding step
 step_fails n stage.Header row = by_test (is_header name_text row) (Ok stage.First) (Err fault.BadHeader) tt tt
-step_fails n s row = behind_fails n s row
+step_fails n s row = row_fails n s row
 
 end_fails : (s : RecordingStage) → FailsByText (ended s)
 unfolding ended

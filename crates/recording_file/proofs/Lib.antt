@@ -1,7 +1,11 @@
 pub mod AgainLaws
+pub mod BookLaws
 pub mod FaultLaws
 pub mod FieldLaws
 pub mod FieldLemmas
+pub mod GoodRecords
+pub mod HeadLaws
+pub mod ItemCounts
 pub mod LongLemmas
 pub mod NameLemmas
 pub mod PlaceLemmas
@@ -10,11 +14,13 @@ pub mod PushLaws
 pub mod ReadLaws
 pub mod RecordLemmas
 pub mod RoomLemmas
+pub mod RowSizes
 pub mod SaidAgain
 pub mod SaidLaws
 pub mod StageLemmas
 pub mod StageReads
 pub mod StageReady
 pub mod TakenLemmas
+pub mod TextLaws
 pub mod WholeLaws
 pub mod WritingLemmas

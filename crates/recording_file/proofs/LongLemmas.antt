@@ -1,6 +1,6 @@
 -- How many bytes a text may have.
-use Rattle.std.proofs.Common.{◌≡◌, ◌≢◌, ◌<◌, ◌≤◌, ◌+◌, ℕ, List, [], ◌∷◌, ◌++◌, length, take, Bool, true, false, cond, refl, sym, ap, ◌∙◌, arith, length-append, append-nil}
-use Rattle.std.specs.Prelude.{Option, Some, None, IfSome, bytes_eq, Result, Ok, Err}
+use Rattle.std.proofs.Common.{◌≡◌, ◌<◌, ◌≤◌, ℕ, List, ◌++◌, length, take, Bool, true, false, cond, ap, arith, length-append}
+use Rattle.std.specs.Prelude.{Option, Some, None, IfSome, bytes_eq}
 use Rattle.std.proofs.lemmas.List.{take-append-le}
 use Rattle.cam_types.specs.declared.maxima.TheConstants.{MOST_BYTES}
 use Rattle.recording_file.specs.declared.maxima.TheConstants.{MOST_RECORDING_BYTES}

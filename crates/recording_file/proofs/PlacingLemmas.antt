@@ -1,12 +1,10 @@
 -- A request's place among the others.
-use Rattle.std.proofs.Common.{◌≡◌, ◌≢◌, ◌<◌, ◌≤◌, ◌+◌, ◌*◌, ℕ, List, [], ◌∷◌, ◌++◌, ◌⊎◌, inl, inr, length, Bool, true, false, cond, refl, sym, ap, ◌∙◌, subst, arith, length-append, append-nil}
-use Rattle.std.specs.Prelude.{◌&&◌, ◌==◌, not, nat_le, nat_lt, Option, Some, None, Result, Ok, Err, ⊤, IfSome, OnOk, OnErr}
+use Rattle.std.proofs.Common.{◌≡◌, ◌≢◌, ◌<◌, ◌≤◌, ℕ, List, [], ◌∷◌, ◌++◌, inl, inr, length, Bool, true, false, cond, refl, sym, ap, ◌∙◌, arith, length-append}
+use Rattle.std.specs.Prelude.{◌&&◌, ◌==◌, not, nat_le, nat_lt, Option, Some, None, Result, Ok, Err, ⊤, OnOk, OnErr}
 use Rattle.std.specs.List.{AllByRecursion, list_all}
-use Rattle.std.specs.Option.{option_or}
 use Rattle.std.proofs.lemmas.Bool.{and_parts, ltb-true, leb-true, not-false, ltb-false, eqb-true, eqb-false}
-use Rattle.std.proofs.lemmas.Bool.Decides.{nat_tests}
 use Rattle.std.proofs.lemmas.List.Folds.{list_all-append}
-use Rattle.cam_types.specs.Lists.{moments, moments_after, first_answer}
+use Rattle.cam_types.specs.Lists.{moments, moments_after}
 use Rattle.cam_types.specs.Topology.{Topology, IsConfig}
 use Rattle.cam_types.specs.Questions.{names_device}
 use Rattle.cam_types.specs.declared.maxima.TheConstants.{MOST_PRIORITY}
@@ -18,7 +16,7 @@ use Rattle.recording_file.specs.declared.cause.Cause.TheVariants.{NoDevice, BadP
 use Rattle.recording_file.specs.declared.part.PartKind.{PartKind}
 use Rattle.recording_file.specs.declared.part.PartKind.TheVariants as kind
 use Rattle.recording_file.specs.declared.request_error.RequestError.{RequestError}
-use Rattle.recording_file.specs.Counts.{Counts, counts_of}
+use Rattle.recording_file.specs.Counts.{counts_of}
 use Rattle.recording_file.specs.Names.{Label, is_name}
 use Rattle.recording_file.specs.Caps.{Cap, is_cap, part_count}
 use Rattle.recording_file.specs.Recorded.{Recorded, Request, IsHead, IsKept, last_of, plain_cause, window_cause, crowd_cause, request_cause}

@@ -1,11 +1,10 @@
 -- What is read is spelled so.
 use Rattle.std.proofs.Common.{◌≡◌, ◌≤◌, ◌+◌, ℕ, List, [], ◌∷◌, ◌++◌, length, drop, Bool, true, false, cond, refl, sym, ap, ◌∙◌, subst, arith, append_assoc, append-nil, rules, tests}
-use Rattle.std.specs.Prelude.{Option, Some, None, IfSome, Result, Ok, Err, ok_or, option_and_then, codes, ◌||◌, ◌&&◌, ◌==◌, not, nat_le, nat_lt, ⊤}
+use Rattle.std.specs.Prelude.{Option, Some, None, Result, Ok, Err, ok_or, option_and_then, codes, ◌==◌, not, nat_le, nat_lt}
 use Rattle.std.proofs.lemmas.Bool.{and_parts, eqb-true, ltb-true}
 use Rattle.std.proofs.lemmas.Bool.Decides.{nat_tests}
 use Rattle.std.proofs.lemmas.List.{nil_from_length, length-drop}
 use Rattle.std.proofs.lemmas.Slice.Eq.{bytes_eq-Decides}
-use Rattle.cam_types.specs.Topology.{Topology}
 use Rattle.cam_types.proofs.TopologyLemmas.{standard_draft}
 use Rattle.recording_file.specs.declared.maxima.TheConstants.{MOST_REQUESTS}
 use Rattle.recording_file.specs.declared.recording_fault.RecordingFault.{RecordingFault}
@@ -16,25 +15,25 @@ use Rattle.recording_file.specs.declared.said.Said.{Said}
 use Rattle.recording_file.specs.declared.said.Said.TheVariants as said
 use Rattle.recording_file.specs.declared.word.Word.{Word}
 use Rattle.recording_file.specs.declared.word.Word.TheVariants as word
-use Rattle.recording_file.specs.Fields.{Row, field_of, most_number}
+use Rattle.recording_file.specs.Fields.{Row, field_of}
 use Rattle.recording_file.specs.Header.{has_letters, is_header, name_text}
 use Rattle.recording_file.specs.Names.{Label}
 use Rattle.recording_file.specs.Caps.{Cap}
-use Rattle.recording_file.specs.Reading.{add_said, add_name, add_cap, add_request, book_rank, ended, lacks_adapters, placed, reading, recorded_of, row_step, said_by, step, stands, unless_lacking, unless_illegal}
-use Rattle.recording_file.specs.Recorded.{Recorded, Request, IsKept, IsRecording, has_items, request_cause}
-use Rattle.recording_file.specs.Recordings.{IsRecordingText, WasRecording}
+use Rattle.recording_file.specs.Reading.{add_said, add_name, add_cap, add_request, book_rank, ended, lacks_adapters, placed, reading, recorded_of, row_step, said_by, step, stands}
+use Rattle.recording_file.specs.Recorded.{Recorded, Request, has_items}
+use Rattle.recording_file.specs.Recordings.{WasRecording}
 use Rattle.recording_file.specs.Records.{cap_row, header, name_row, records_of, request_row, said_row, word_for, FitsSaid}
 use Rattle.recording_file.specs.Sound.{IsSound}
-use Rattle.recording_file.specs.Steps.{◌>>=◌, taken}
+use Rattle.recording_file.specs.Steps.{taken}
 use Rattle.recording_file.specs.Text.{records_in}
 use Rattle.recording_file.specs.Whole.{IsLongWhole}
-use Rattle.recording_file.specs.Words.{spelled, word_of, word_rank}
+use Rattle.recording_file.specs.Words.{spelled, word_of}
 use Rattle.recording_file.proofs.FieldLaws.{ok_or_ok, word_spelled}
 use Rattle.recording_file.proofs.PlacingLemmas.{kept_name, kept_cap, kept_request}
 use Rattle.recording_file.proofs.PushLaws.{push_name, push_cap, push_request}
 use Rattle.recording_file.proofs.SaidLaws.{ok_is, on_ok, peel, said_takes}
 use Rattle.recording_file.proofs.StageReady.{rounds_small}
-use Rattle.recording_file.proofs.StageReads.{IsRanged, Reads, ReadsWhole, all_push, next_reads, no_cause, reads_adapter, reads_config, reads_device, reads_link, reads_weight, reads_whole, rows_at}
+use Rattle.recording_file.proofs.StageReads.{Reads, all_push, next_reads, no_cause, reads_adapter, reads_config, reads_device, reads_link, reads_weight, reads_whole}
 
 -- ---- names, caps and requests
 
@@ -169,9 +168,9 @@ placed_some s row w h =
     let same = same_some v w m.1 in
     record { eight = eqb-true _ _ g.0; word = word_spelled _ w (ev ∙ ap (λ (x : Word). Some x) same); place = ap (stands s) (sym same) ∙ m.0 })
 
-reads_behind : (n : ℕ) (s t : RecordingStage) (row : Row) (rows : List Row) → Reads s rows → row_step n s row ≡ Ok t → Reads t (rows ++ row ∷ [])
+reads_after : (n : ℕ) (s t : RecordingStage) (row : Row) (rows : List Row) → Reads s rows → row_step n s row ≡ Ok t → Reads t (rows ++ row ∷ [])
 unfolding row_step
-reads_behind n s t row rows h e =
+reads_after n s t row rows h e =
     on_ok (ok_or (placed s row) (BadRecord n)) _ t e (λ w ew r.
     let p = placed_some s row w (ok_or_ok (placed s row) (BadRecord n) w ew) in
     on_ok (said_by n (recorded_of s) w row) (add_said n s) t r (λ x ex k.
@@ -206,7 +205,7 @@ step_reads n stage.Header t row rows h e = by (is_header name_text row) refl e
     by : (b : Bool) → is_header name_text row ≡ b → cond b (Ok stage.First) (Err BadHeader) ≡ Ok t → Reads t (rows ++ row ∷ [])
     by true named k = next_reads false stage.First t row rows (ok_is _ t k) (rw (h.spelled, named_header row named) refl) tt tt (record { unit = tt; targets = tt; drivers = tt })
     by false named k = absurd cc
-step_reads n s t row rows h e = reads_behind n s t row rows h e
+step_reads n s t row rows h e = reads_after n s t row rows h e
 
 taken_reads : (n : ℕ) (s t : RecordingStage) (rows more : List Row) → Reads s rows → taken step n s more ≡ Ok t → Reads t (rows ++ more)
 taken_reads n s t rows [] h e = rw (append-nil rows, ← ok_is s t e) h

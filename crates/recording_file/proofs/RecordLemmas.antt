@@ -31,11 +31,11 @@ at_end : (b : Bool) (fields : List (List ℕ)) (p : Read) (n : ℕ) → cond b (
 at_end true fields p n e = rw (← same_Some _ _ e) (refl, omega arith)
 at_end false fields p n e = absurd cc
 
-behind_byte : (s : State) (fields : List (List ℕ)) (field : List ℕ) (c : ℕ) (rest : List ℕ) (p : Read)
+after_byte : (s : State) (fields : List (List ℕ)) (field : List ℕ) (c : ℕ) (rest : List ℕ) (p : Read)
     → ((t : State) (fs : List (List ℕ)) (f : List ℕ) → next_record default_config t fs f rest ≡ Some p → Leaves p (length rest))
     → next_record default_config s fields field (c ∷ rest) ≡ Some p → Leaves p (length rest)
 unfolding next_record
-behind_byte s fields field c rest p more e = by (is_end (step default_config s c).1) refl e
+after_byte s fields field c rest p more e = by (is_end (step default_config s c).1) refl e
   where
     by : (b : Bool) → is_end (step default_config s c).1 ≡ b
         → cond (is_end (step default_config s c).1) (Some (fields_after (step default_config s c).1 fields field, (step default_config s c).0, rest))
@@ -48,7 +48,7 @@ shorter : (s : State) (fields : List (List ℕ)) (field xs : List ℕ) (p : Read
 unfolding next_record
 shorter s fields field [] p e = at_end (ends_at_end s) (fields ++ (field ∷ [])) p 0 e
 shorter s fields field (c ∷ rest) p e =
-    let h = behind_byte s fields field c rest p (λ t fs f. shorter t fs f rest p) e in
+    let h = after_byte s fields field c rest p (λ t fs f. shorter t fs f rest p) e in
     (h.0, omega arith)
 
 -- and less, where no record was open
@@ -57,7 +57,7 @@ pub next_shorter : (s : State) (xs : List ℕ) (p : Read) → ends_at_end s ≡ 
 unfolding next_record
 next_shorter s [] p idle e = absurd (let wrong = rw idle at e in cc)
 next_shorter s (c ∷ rest) p idle e =
-    let h = behind_byte s [] [] c rest p (λ t fs f. shorter t fs f rest p) e in
+    let h = after_byte s [] [] c rest p (λ t fs f. shorter t fs f rest p) e in
     (h.0, omega arith)
 
 -- enough turns give every record

@@ -1,6 +1,6 @@
 -- What is spelled as a record is said again.
-use Rattle.std.proofs.Common.{◌≡◌, ◌<◌, ◌≤◌, ℕ, List, [], ◌∷◌, length, Bool, true, false, refl, arith}
-use Rattle.std.specs.Prelude.{Option, Some, None, IfSome, Result, Ok, decimal, ◌&&◌, nat_le, nat_lt, ⊤}
+use Rattle.std.proofs.Common.{◌≡◌, ◌<◌, ◌≤◌, ℕ, true, refl, arith}
+use Rattle.std.specs.Prelude.{IfSome, Ok, nat_le, nat_lt, ⊤}
 use Rattle.std.proofs.lemmas.Bool.{and_parts, leb-true, ltb-true}
 use Rattle.csv.specs.Records.{field_at}
 use Rattle.cam_types.specs.declared.adapter.Adapter.{Adapter}
@@ -13,10 +13,10 @@ use Rattle.recording_file.specs.declared.part.PartKind.{PartKind}
 use Rattle.recording_file.specs.declared.part.PartKind.TheVariants as part
 use Rattle.recording_file.specs.declared.said.Said.{Said}
 use Rattle.recording_file.specs.declared.said.Said.TheVariants as said
-use Rattle.recording_file.specs.Fields.{Row, most_number, unused_from}
+use Rattle.recording_file.specs.Fields.{most_number, unused_from}
 use Rattle.recording_file.specs.Counts.{Counts, counts_of}
 use Rattle.recording_file.specs.Names.{Label, is_name, is_name_text, is_next_name, named_count}
-use Rattle.recording_file.specs.Caps.{Cap, part_of, is_cap, is_next_cap, part_count}
+use Rattle.recording_file.specs.Caps.{Cap, is_cap, is_next_cap, part_count}
 use Rattle.recording_file.specs.Recorded.{Recorded, Request, Span}
 use Rattle.recording_file.specs.Rows.{one_number, span_at, rounds_at, weight_at, adapter_at, device_at, device_of, named_at, text_at, capped_at, most_at, request_at}
 use Rattle.recording_file.specs.Records.{unit_row, rounds_row, weight_row, link_row, adapter_row, device_row, name_row, cap_row, request_row, said_row, word_for, FitsSaid, FitsRequest}
@@ -29,7 +29,7 @@ pub record IsCounted (c : Counts) : Type 0 where
   pub adapters : c.adapters ≤ 8
   pub links : c.links ≤ 4
 
-named_small : (c : Counts) (k : NameKind) → IsCounted c → named_count c k ≤ most_number
+pub named_small : (c : Counts) (k : NameKind) → IsCounted c → named_count c k ≤ most_number
 named_small c named.Driver h = omega arith
 named_small c named.Device h = let d = h.devices in omega arith
 named_small c named.Adapter h = let d = h.adapters in omega arith

@@ -147,7 +147,7 @@ config_whole start t begun =
     let some : (length t.adapters == 0) ≡ false = ne_eqb _ _ (λ e. omega arith) in
     config_fault-draft t begun.draft ∙ rw (begun.reaches, some) refl
 
-pub step_behind : (n : ℕ) (s : RecordingStage) (row : Row) → s ≢ stage.Header → step n s row ≡ row_step n s row
+pub step_after_header : (n : ℕ) (s : RecordingStage) (row : Row) → s ≢ stage.Header → step n s row ≡ row_step n s row
 unfolding step
-step_behind n stage.Header row h = absurd (h refl)
-step_behind n _ row h = refl
+step_after_header n stage.Header row h = absurd (h refl)
+step_after_header n _ row h = refl

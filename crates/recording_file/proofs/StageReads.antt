@@ -1,40 +1,27 @@
 -- What the stages of reading have read is spelled so.
-use Rattle.std.proofs.Common.{◌≡◌, ◌≤◌, ℕ, List, [], ◌∷◌, ◌++◌, length, Bool, true, false, cond, refl, sym, ap, ◌∙◌, subst, arith}
-use Rattle.std.specs.Prelude.{Option, Some, None, IfSome, Result, Ok, Err, ◌||◌, ◌&&◌, ◌==◌, not, nat_le, nat_lt, if◌then◌else◌, ⊤}
+use Rattle.std.proofs.Common.{◌≡◌, ◌≤◌, ℕ, List, [], ◌∷◌, ◌++◌, Bool, true, false, refl, ap, ◌∙◌, subst, arith}
+use Rattle.std.specs.Prelude.{Option, Some, None, IfSome, Ok, ◌||◌, if◌then◌else◌, ⊤}
 use Rattle.std.specs.List.{AllByRecursion}
-use Rattle.std.proofs.lemmas.Bool.{and_parts, eqb-true, ltb-true}
-use Rattle.std.proofs.lemmas.List.{nil_from_length}
-use Rattle.cam_types.specs.Topology.{Topology, IsDraft, link_fault, adapter_fault, device_fault}
+use Rattle.cam_types.specs.Topology.{Topology, IsDraft}
 use Rattle.cam_types.specs.Weights.{are_standard, reaches_last, weight_fault}
 use Rattle.cam_types.specs.declared.adapter.Adapter.{Adapter}
 use Rattle.cam_types.specs.declared.device.Device.{Device}
 use Rattle.cam_types.specs.declared.weight_row.WeightRow.{WeightRow}
 use Rattle.cam_types.specs.declared.config_fault.ConfigFault.{ConfigFault}
 use Rattle.cam_types.specs.declared.config_fault.ConfigFault.TheVariants.{BadWeight}
-use Rattle.cam_types.proofs.TopologyLemmas.{standard_draft}
 use Rattle.recording_file.specs.declared.cause.Cause.{Cause}
 use Rattle.recording_file.specs.declared.device_row.DeviceRow.{DeviceRow}
-use Rattle.recording_file.specs.declared.maxima.TheConstants.{MOST_REQUESTS}
-use Rattle.recording_file.specs.declared.recording_fault.RecordingFault.{RecordingFault}
 use Rattle.recording_file.specs.declared.recording_fault.RecordingFault.TheVariants.{BadConfig}
 use Rattle.recording_file.specs.declared.recording_stage.RecordingStage.{RecordingStage}
 use Rattle.recording_file.specs.declared.recording_stage.RecordingStage.TheVariants as stage
-use Rattle.recording_file.specs.declared.said.Said.{Said}
-use Rattle.recording_file.specs.declared.said.Said.TheVariants as said
 use Rattle.recording_file.specs.declared.start.Start.{Start}
-use Rattle.recording_file.specs.declared.word.Word.TheVariants as word
-use Rattle.recording_file.specs.Fields.{Row, most_number}
-use Rattle.recording_file.specs.Counts.{counts_of}
-use Rattle.recording_file.specs.Names.{Label}
-use Rattle.recording_file.specs.Caps.{Cap}
-use Rattle.recording_file.specs.Reading.{add_said, adapter_added, begun, book_rank, device_added, given, lacks_adapters, link_added, recorded_of, standard, stands, unless_fault, unless_illegal}
-use Rattle.recording_file.specs.Recorded.{Recorded, Request, Span, IsHead, IsKept, has_items, request_cause}
-use Rattle.recording_file.specs.Records.{adapter_row, cap_row, device_row, header, link_row, name_row, records_of, request_row, said_row, unit_row, weight_row, word_for, FitsSaid}
+use Rattle.recording_file.specs.Fields.{Row}
+use Rattle.recording_file.specs.Reading.{adapter_added, begun, device_added, given, lacks_adapters, link_added, recorded_of, unless_fault, unless_illegal}
+use Rattle.recording_file.specs.Recorded.{Recorded, Request, Span, IsKept}
+use Rattle.recording_file.specs.Records.{adapter_row, device_row, header, link_row, records_of, unit_row, weight_row}
 use Rattle.recording_file.specs.Rows.{device_of}
 use Rattle.recording_file.specs.Sound.{IsBare, IsBegun, IsSound, IsStart}
-use Rattle.recording_file.proofs.PlacingLemmas.{kept_name, kept_cap, kept_request}
-use Rattle.recording_file.proofs.PushLaws.{push_weight, push_link, push_adapter, push_device, push_name, push_cap, push_request}
-use Rattle.recording_file.proofs.RoomLemmas.{all_at}
+use Rattle.recording_file.proofs.PushLaws.{push_weight, push_link, push_adapter, push_device}
 use Rattle.recording_file.proofs.SaidLaws.{if_ok, ok_is}
 use Rattle.recording_file.proofs.StageLemmas.{config_whole, sound_weight, sound_link, sound_adapter, sound_device}
 

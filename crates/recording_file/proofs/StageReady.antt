@@ -1,8 +1,7 @@
 -- Where a record is placed, it can be taken.
-use Rattle.std.proofs.Common.{◌≡◌, ◌≢◌, ◌<◌, ◌≤◌, ℕ, List, [], ◌∷◌, ◌++◌, length, Bool, true, false, cond, refl, sym, ap, ◌∙◌, subst, arith}
-use Rattle.std.specs.Prelude.{◌==◌, ◌&&◌, ◌||◌, not, nat_le, nat_lt, Option, Some, None, Result, Ok, Err, option_and_then, ok_or}
-use Rattle.std.proofs.lemmas.Bool.{and_parts, eqb-true, leb-true, ltb-true, not-false}
-use Rattle.std.proofs.lemmas.Bool.Decides.{nat_tests}
+use Rattle.std.proofs.Common.{◌≡◌, ◌≤◌, ℕ, [], length, Bool, true, false, cond, refl, sym, ap, ◌∙◌, subst, arith}
+use Rattle.std.specs.Prelude.{◌==◌, ◌&&◌, ◌||◌, not, nat_le, nat_lt, Result, Ok, Err}
+use Rattle.std.proofs.lemmas.Bool.{and_parts, eqb-true, ltb-true}
 use Rattle.std.proofs.lemmas.List.{nil_from_length}
 use Rattle.recording_file.specs.declared.maxima.TheConstants.{MOST_REQUESTS}
 use Rattle.recording_file.specs.declared.recording_fault.RecordingFault.{RecordingFault}
@@ -20,7 +19,7 @@ use Rattle.recording_file.specs.Caps.{Cap, is_next_cap}
 use Rattle.recording_file.specs.Names.{Label, is_next_name}
 use Rattle.recording_file.specs.Rows.{named_at, text_at, capped_at, most_at, request_at}
 use Rattle.recording_file.specs.Counts.{counts_of}
-use Rattle.recording_file.specs.Saying.{IsAt, IsNaming, IsOpen, booked, ready_for}
+use Rattle.recording_file.specs.Saying.{IsAt, IsNaming, booked, ready_for}
 use Rattle.recording_file.specs.Sound.{IsSound}
 use Rattle.recording_file.specs.Steps.{◌>>=◌}
 use Rattle.recording_file.specs.Words.{word_rank}

@@ -1,14 +1,12 @@
 -- A request takes of the room of its device, its adapter and its link, in its round.
-use Rattle.std.proofs.Common.{◌≡◌, ◌≢◌, ◌<◌, ◌≤◌, ◌+◌, ◌-◌, ◌*◌, ℕ, List, [], ◌∷◌, ◌++◌, length, get_or, Bool, true, false, cond, refl, sym, ap, ◌∙◌, subst, arith, length-set}
-use Rattle.std.specs.Prelude.{◌==◌, ◌&&◌, nat_le, slice_index, slice_get, Option, Some, None, option_map, find, IfSome, count_by}
+use Rattle.std.proofs.Common.{◌≡◌, ◌<◌, ◌≤◌, ◌+◌, ◌-◌, ◌*◌, ℕ, List, [], ◌∷◌, ◌++◌, length, get_or, Bool, true, false, cond, refl, sym, ap, ◌∙◌, arith, length-set}
+use Rattle.std.specs.Prelude.{◌==◌, ◌&&◌, slice_index, Option, Some, None, option_map, IfSome}
 use Rattle.std.specs.Option.{option_map_or}
-use Rattle.std.proofs.lemmas.Bool.{and_parts, eq-eqb, eqb-true, eqb-false}
+use Rattle.std.proofs.lemmas.Bool.{eqb-true, eqb-false}
 use Rattle.cam_types.specs.Topology.{Topology}
 use Rattle.cam_types.specs.Questions.{device_adapter, adapter_link}
-use Rattle.cam_types.specs.declared.device.Device.{Device}
 use Rattle.recording_file.specs.declared.part.PartKind.{PartKind}
 use Rattle.recording_file.specs.declared.part.PartKind.TheVariants as kind
-use Rattle.recording_file.specs.declared.cause.Cause.{Cause}
 use Rattle.recording_file.specs.declared.cause.Cause.TheVariants.{DeviceFull, AdapterFull, LinkFull}
 use Rattle.recording_file.specs.Caps.{Part, Cap, part_of, is_same_part, cap_in}
 use Rattle.recording_file.specs.Recorded.{Request, takes_of, load, crowd_cause}

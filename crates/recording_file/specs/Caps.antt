@@ -1,5 +1,5 @@
 -- Caps: how many requests a device, an adapter or a link takes in a round.
-use Rattle.std.specs.Prelude.{ℕ, ◌==◌, Bool, true, false, nat_lt, nat_le, ◌&&◌, ◌||◌, List, Option, find}
+use Rattle.std.specs.Prelude.{ℕ, ◌==◌, Bool, true, nat_lt, nat_le, ◌&&◌, ◌||◌, List, find}
 use Rattle.std.specs.Option.{option_map_or}
 use Rattle.cam_types.specs.Topology.{Topology}
 use Rattle.cam_types.specs.Questions.{device_openings, adapter_openings, link_openings}

@@ -1,5 +1,5 @@
 -- How many devices, adapters and links there are.
-use Rattle.std.specs.Prelude.{ℕ, length}
+use Rattle.std.specs.Prelude.{length}
 use Rattle.cam_types.specs.Topology.{Topology}
 pub use Rattle.recording_file.specs.declared.counts.Counts.{Counts}
 

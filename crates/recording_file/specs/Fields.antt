@@ -1,5 +1,5 @@
 -- A record's fields, each read by its form.
-use Rattle.std.specs.Prelude.{ℕ, ◌+◌, ◌==◌, Bool, ⊤, nat_le, nat_lt, if◌then◌else◌, List, [], ◌∷◌, length, drop, Option, Some, None, unwrap_or, Result, Ok, Err, ok_or}
+use Rattle.std.specs.Prelude.{ℕ, ◌+◌, ◌==◌, ⊤, nat_le, nat_lt, if◌then◌else◌, List, [], ◌∷◌, length, drop, Option, Some, None, unwrap_or, Result, Ok, Err, ok_or}
 use Rattle.csv.specs.Records.{field_at}
 use Rattle.cam_types.specs.Number.{number_of}
 use Rattle.recording_file.specs.Steps.{◌>>=◌}

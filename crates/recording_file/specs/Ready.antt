@@ -1,7 +1,6 @@
 -- When a request can be put after others.
-use Rattle.std.specs.Prelude.{◌≡◌, ℕ, true, List, length, None}
+use Rattle.std.specs.Prelude.{◌≡◌, ℕ, List, length, None}
 use Rattle.cam_types.specs.Topology.{Topology, IsConfig}
-use Rattle.cam_types.specs.Questions.{names_device}
 use Rattle.recording_file.specs.declared.places.Places.{Places}
 use Rattle.recording_file.specs.Caps.{Cap}
 use Rattle.recording_file.specs.Places.{places_of, AreWithin}

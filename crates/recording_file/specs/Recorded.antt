@@ -1,5 +1,5 @@
 -- What is recorded, and when it is a recording.
-use Rattle.std.specs.Prelude.{◌≡◌, ℕ, ◌+◌, ◌-◌, ◌==◌, ◌≤◌, Bool, true, false, not, nat_lt, nat_le, ◌&&◌, if◌then◌else◌, List, [], ◌∷◌, length, count_by, find, Option, Some, None, option_map, IfSome}
+use Rattle.std.specs.Prelude.{◌≡◌, ℕ, ◌==◌, ◌≤◌, Bool, true, not, nat_lt, nat_le, ◌&&◌, if◌then◌else◌, List, [], ◌∷◌, length, count_by, find, Option, Some, None, option_map, IfSome}
 use Rattle.std.specs.List.{AllByRecursion, list_all}
 use Rattle.std.specs.Option.{option_or, option_map_or}
 use Rattle.cam_types.specs.Lists.{moments, first_answer}

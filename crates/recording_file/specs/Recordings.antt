@@ -1,5 +1,5 @@
 -- Texts of recordings, and what a reader of recordings answers.
-use Rattle.std.specs.Prelude.{◌≡◌, ℕ, ◌+◌, ◌≤◌, ◌||◌, ◌++◌, ◌∷◌, [], true, ⊤, List, length, Option, Result, Ok, Err, Bool}
+use Rattle.std.specs.Prelude.{◌≡◌, ℕ, ◌+◌, ◌≤◌, ◌||◌, ◌++◌, ◌∷◌, [], true, ⊤, List, length, Option, Ok, Err, Bool}
 use Rattle.cam_types.specs.Weights.{are_standard}
 use Rattle.recording_file.specs.declared.recording_fault.RecordingFault.{RecordingFault}
 use Rattle.recording_file.specs.declared.recording_fault.RecordingFault.TheVariants as fault

@@ -1,10 +1,9 @@
 -- The records of a recording.
-use Rattle.std.specs.Prelude.{◌≡◌, ◌≤◌, ℕ, ◌-◌, Bool, true, false, if◌then◌else◌, List, [], ◌∷◌, ◌++◌, length, map, replicate, Option, Some, None, IfSome, codes, decimal}
+use Rattle.std.specs.Prelude.{◌≡◌, ◌≤◌, ℕ, ◌-◌, Bool, true, if◌then◌else◌, List, [], ◌∷◌, ◌++◌, length, map, replicate, Option, Some, None, IfSome, codes, decimal}
 use Rattle.std.specs.Option.{option_map_or}
 use Rattle.cam_types.specs.declared.adapter.Adapter.{Adapter}
 use Rattle.cam_types.specs.declared.device.Device.{Device}
 use Rattle.cam_types.specs.declared.weight_row.WeightRow.{WeightRow}
-use Rattle.recording_file.specs.declared.device_row.DeviceRow.{DeviceRow}
 use Rattle.recording_file.specs.declared.maxima.TheConstants.{MOST_RECORDED_ROUNDS}
 use Rattle.recording_file.specs.declared.said.Said.{Said}
 use Rattle.recording_file.specs.declared.said.Said.TheVariants as said
@@ -13,7 +12,7 @@ use Rattle.recording_file.specs.declared.word.Word.TheVariants as word
 use Rattle.recording_file.specs.Counts.{counts_of}
 use Rattle.recording_file.specs.Fields.{Row, most_number}
 use Rattle.recording_file.specs.Header.{name_text}
-use Rattle.recording_file.specs.Names.{Label, is_name, named_count}
+use Rattle.recording_file.specs.Names.{Label, is_name}
 use Rattle.recording_file.specs.Caps.{Cap, is_cap}
 use Rattle.recording_file.specs.Recorded.{Recorded, Request, Span}
 use Rattle.recording_file.specs.Rows.{device_of}

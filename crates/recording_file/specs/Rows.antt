@@ -1,5 +1,5 @@
 -- What the records of a recording say: their words' fields, in order.
-use Rattle.std.specs.Prelude.{ℕ, min, Result, Ok, Err, List, Option, Some, None, if◌then◌else◌}
+use Rattle.std.specs.Prelude.{ℕ, min, Result, Ok, Err, List, if◌then◌else◌}
 use Rattle.cam_types.specs.declared.adapter.Adapter.{Adapter}
 use Rattle.cam_types.specs.declared.device.Device.{Device}
 use Rattle.cam_types.specs.declared.weight_row.WeightRow.{WeightRow}
@@ -8,8 +8,8 @@ use Rattle.recording_file.specs.declared.device_row.DeviceRow.{DeviceRow}
 use Rattle.recording_file.specs.declared.maxima.TheConstants.{MOST_RECORDED_ROUNDS}
 use Rattle.recording_file.specs.declared.name.NameKind.{NameKind}
 use Rattle.recording_file.specs.Counts.{Counts}
-use Rattle.recording_file.specs.Names.{Label, named_count, is_name_text}
-use Rattle.recording_file.specs.Caps.{Cap, Part, part_of, part_count}
+use Rattle.recording_file.specs.Names.{named_count, is_name_text}
+use Rattle.recording_file.specs.Caps.{Part, part_of, part_count}
 use Rattle.recording_file.specs.Recorded.{Request, Span}
 use Rattle.recording_file.specs.Steps.{◌>>=◌}
 use Rattle.recording_file.specs.Fields.{Row, field_of, formed, most_number, number_at, optional_at, within_at, below_at, unused_from}

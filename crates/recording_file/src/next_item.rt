@@ -1,6 +1,6 @@
 //! Whether a name or a cap may come after the others.
 
-ghost use Rattle.std.specs.Prelude.{◌≡◌};
+ghost use Rattle.std.specs.Prelude.{◌≡◌, nat_le, ◌&&◌};
 ghost use Rattle.recording_file.specs.Caps.{is_cap, is_next_cap, is_over, is_part_before, is_same_part, part_rank};
 ghost use Rattle.recording_file.specs.Names.{is_name, is_named_before, is_next_name, name_rank, is_name_text};
 
@@ -103,5 +103,3 @@ fn is_span(rounds: u32, cap: Cap) -> bool
 {
     1 <= cap.first && cap.first <= cap.last && cap.last <= rounds && cap.most <= 65535
 }
-
-ghost use Rattle.std.specs.Prelude.{nat_le, ◌&&◌};

@@ -84,7 +84,7 @@ impl Recorder {
         Counts::of(&self.config)
     }
 
-    /// How many names there are.
+    /// Whether there are names.
     pub fn has_names(&self) -> bool
         ensures { result ≡ has_items self.now.names }
     {

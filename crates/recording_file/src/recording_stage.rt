@@ -2,7 +2,7 @@
 
 ghost use Rattle.std.specs.Prelude.{◌≡◌, length, IfSome, true};
 ghost use Rattle.csv.specs.Records.{fields_of};
-ghost use Rattle.recording_file.specs.Reading.{has_place, placed, rank_of, stands};
+ghost use Rattle.recording_file.specs.Reading.{has_place, placed, rank_of, stands, book_rank};
 
 use crate::fields::field;
 use crate::recorder::Recorder;
@@ -95,5 +95,3 @@ fn book_rank(recorder: &Recorder) -> u32
         6
     }
 }
-
-ghost use Rattle.recording_file.specs.Reading.{book_rank};

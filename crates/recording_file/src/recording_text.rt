@@ -1,11 +1,14 @@
 //! Writes a recording.
 
-ghost use Rattle.std.specs.Prelude.{◌≡◌, ◌≢◌, false, true, Err, OnOk, IfOk};
+ghost use Rattle.std.specs.Prelude.{◌≡◌, ◌≢◌, false, true, Err, OnOk, IfOk, ◌≤◌, IfSome};
 ghost use Rattle.cam_types.specs.Watched.{device_of, has_failed, is_flushed};
 ghost use Rattle.cam_types.specs.Whole.{AppendsFront};
 ghost use Rattle.std.specs.Io.KnownBytes.{Appends};
-ghost use Rattle.recording_file.specs.Recorded.{IsRecording};
-ghost use Rattle.recording_file.specs.Writing.{recording_text};
+ghost use Rattle.recording_file.specs.Recorded.{IsRecording, Span};
+ghost use Rattle.recording_file.specs.Recordings.{IsRecordingText};
+ghost use Rattle.recording_file.specs.Writing.{recording_text, IsBetween, Wrote, head_rows};
+ghost use Rattle.std.specs.List.{AllByRecursion};
+ghost use Rattle.cam_types.specs.declared.device.Device.{Device};
 
 use crate::recording::Recording;
 use crate::row_writer::{write_one, write_row};
@@ -15,7 +18,7 @@ use crate::writing::{
     write_unit, write_weights,
 };
 use cam_types::{Watched, write_whole};
-use csv::WriterBuilder;
+use csv::{Writer, WriterBuilder};
 use std::alloc::{AllocError, Global};
 use std::io::Write;
 
@@ -29,6 +32,8 @@ pub fn write_recording<W: Write>(
     requires { has_failed writer.old ≡ false }
     ensures written { OnOk result (Appends (W.contents (device_of writer.old)) (W.contents (device_of writer.new)) (recording_text recording.now)) }
     ensures flushed { OnOk result (is_flushed writer.new ≡ true) }
+    // What is written is a text of the recording, and so read_recording gives the recording back.
+    ensures text { result ≢ Err WriteFault.OutOfMemory → IsRecordingText (recording_text recording.now) recording.now }
     ensures recording { result ≢ Err WriteFault.OutOfMemory → IsRecording recording.now }
     ensures failed { result ≡ Err WriteFault.WriteFailed → has_failed writer.new ≡ true }
     ensures calm { result ≢ Err WriteFault.WriteFailed → has_failed writer.new ≡ false }
@@ -44,7 +49,8 @@ pub fn write_recording<W: Write>(
 
 // The text of a recording's records.
 fn recording_text(alloc: Global, recording: &Recording) -> Result<Vec<u8>, AllocError>
-    ensures text { IfOk result (λ t. t.items ≡ recording_text recording.now) }
+    ensures written { IfOk result (λ t. t.items ≡ recording_text recording.now) }
+    ensures text { OnOk result (IsRecordingText (recording_text recording.now) recording.now) }
     ensures recording { OnOk result (IsRecording recording.now) }
 {
     let mut writer = WriterBuilder::new().from_writer(Vec::new(alloc));
@@ -80,11 +86,3 @@ fn write_head<W: Write + Drop>(
     write_adapters(writer, config.adapters())?;
     write_devices(writer, config.devices())
 }
-
-ghost use Rattle.std.specs.Prelude.{◌≤◌, IfSome};
-ghost use Rattle.recording_file.specs.Recorded.{Span};
-ghost use Rattle.std.specs.List.{AllByRecursion};
-ghost use Rattle.cam_types.specs.declared.device.Device.{Device};
-ghost use Rattle.recording_file.specs.Writing.{IsBetween, Wrote, head_rows};
-
-use csv::Writer;

@@ -1,10 +1,12 @@
 //! How many requests more each device, adapter and link could take in each round.
 
-ghost use Rattle.std.specs.Prelude.{◌≡◌, ◌+◌, ◌-◌, ◌*◌, ◌<◌, ◌≤◌, [], true, length, IfOk, OnOk, OnErr, slice_index};
-ghost use Rattle.cam_types.specs.Topology.{IsConfig};
+ghost use Rattle.std.specs.Prelude.{◌≡◌, ◌+◌, ◌-◌, ◌*◌, ◌<◌, ◌≤◌, [], true, length, IfOk, OnOk, OnErr, slice_index, ℕ, if◌then◌else◌, ◌++◌, replicate, List};
+ghost use Rattle.cam_types.specs.Topology.{IsConfig, Topology};
 ghost use Rattle.recording_file.specs.Caps.{Part, openings, cap_in, covers};
-ghost use Rattle.recording_file.specs.Room.{IsCell, IsRoom, Holds, cell_of, rows_by, row_of, part_in};
+ghost use Rattle.recording_file.specs.Room.{IsCell, IsRoom, Holds, cell_of, rows_by, row_of, part_in, IsLaid, IsSized, IsTable};
 ghost use Rattle.recording_file.specs.declared.maxima.TheConstants.{MOST_RECORDED_ROUNDS};
+ghost use Rattle.std.specs.List.{AllByRecursion};
+ghost use Rattle.recording_file.specs.Recorded.{Request};
 
 use crate::cap::Cap;
 use crate::maxima::MOST_RECORDED_ROUNDS;
@@ -150,9 +152,3 @@ pub(crate) fn fill_room(
     }
     Ok(())
 }
-
-ghost use Rattle.std.specs.Prelude.{ℕ, if◌then◌else◌, ◌++◌, replicate, List};
-ghost use Rattle.std.specs.List.{AllByRecursion};
-ghost use Rattle.cam_types.specs.Topology.{Topology};
-ghost use Rattle.recording_file.specs.Room.{IsLaid, IsSized, IsTable};
-ghost use Rattle.recording_file.specs.Recorded.{Request};

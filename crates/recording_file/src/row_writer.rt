@@ -23,17 +23,6 @@ pub(crate) fn write_row<W: Write + Drop>(
     Ok(())
 }
 
-/// Writes a record of a word alone.
-pub(crate) fn write_word<W: Write + Drop>(
-    writer: &mut Writer<W>,
-    word: &[u8],
-) -> Result<(), AllocError>
-    requires { IsBetween writer.old }
-    ensures { OnOk result (Wrote W.contents writer.old writer.new (padded (word.now ∷ []) ∷ [])) }
-{
-    write_row(writer, &[word, b"", b"", b"", b"", b"", b"", b""])
-}
-
 /// Writes a record of a word and a number.
 pub(crate) fn write_one<W: Write + Drop>(
     writer: &mut Writer<W>,

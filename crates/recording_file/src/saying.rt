@@ -6,10 +6,11 @@ ghost use Rattle.recording_file.specs.Counts.{counts_of};
 ghost use Rattle.recording_file.specs.Caps.{is_next_cap, is_cap};
 ghost use Rattle.recording_file.specs.Fields.{field_of};
 ghost use Rattle.recording_file.specs.Names.{is_name_text, is_next_name, is_name};
-ghost use Rattle.recording_file.specs.Reading.{in_record, recorded_of, said_by, name_said, cap_said, lacks_adapters};
+ghost use Rattle.recording_file.specs.Reading.{in_record, recorded_of, said_by, name_said, cap_said, lacks_adapters, says};
 ghost use Rattle.recording_file.specs.Recorded.{Recorded};
-ghost use Rattle.recording_file.specs.Rows.{text_at};
+ghost use Rattle.recording_file.specs.Rows.{text_at, span_at, rounds_at, weight_at, one_number, adapter_at, device_at, request_at};
 ghost use Rattle.recording_file.specs.Sound.{IsSound};
+ghost use Rattle.recording_file.specs.Saying.{IsNaming};
 
 use crate::cap::Cap;
 use crate::counts::Counts;
@@ -235,7 +236,3 @@ fn name_at(
     in_record(number, unused_from(row, 4))?;
     Ok(Said::Name(name))
 }
-
-ghost use Rattle.recording_file.specs.Reading.{says};
-ghost use Rattle.recording_file.specs.Rows.{span_at, rounds_at, weight_at, one_number, adapter_at, device_at, request_at};
-ghost use Rattle.recording_file.specs.Saying.{IsNaming};

@@ -1,9 +1,9 @@
 //! What one record adds to a configuration in the making.
 
-ghost use Rattle.std.specs.Prelude.{◌≡◌, ◌≢◌, true, length, [], ◌∷◌, ◌++◌, Err, IfOk, IfErr};
-ghost use Rattle.cam_types.specs.Topology.{IsConfig, link_fault, adapter_fault, device_fault};
+ghost use Rattle.std.specs.Prelude.{◌≡◌, ◌≢◌, true, length, [], ◌∷◌, ◌++◌, Err, IfOk, IfErr, Ok};
+ghost use Rattle.cam_types.specs.Topology.{IsConfig, link_fault, adapter_fault, device_fault, IsDraft};
 ghost use Rattle.cam_types.specs.Weights.{reaches_last, weight_fault};
-ghost use Rattle.recording_file.specs.Reading.{lacking, unless_fault, standard, begun, given};
+ghost use Rattle.recording_file.specs.Reading.{lacking, unless_fault, standard, begun, given, link_added, adapter_added, device_added};
 ghost use Rattle.recording_file.specs.Rows.{device_of};
 ghost use Rattle.recording_file.specs.Sound.{IsBare, IsBegun, IsSound, IsStart};
 
@@ -165,7 +165,3 @@ pub(crate) fn begun(alloc: Global, start: Start, draft: ConfigDraft) -> Recorder
 {
     Recorder::new(alloc, start.unit, start.rounds, finished(start, draft))
 }
-
-ghost use Rattle.std.specs.Prelude.{Ok};
-ghost use Rattle.cam_types.specs.Topology.{IsDraft};
-ghost use Rattle.recording_file.specs.Reading.{link_added, adapter_added, device_added};

@@ -77,7 +77,7 @@ impl Stage for RecordingStage {
 
     ghost is_sound = { IsSound };
 
-    #[tactic(auto, using(crate::proofs::StageLemmas::step_behind), unfolding(crate::specs::Reading::step, crate::specs::Sound::IsSound))]
+    #[tactic(auto, using(crate::proofs::StageLemmas::step_after_header), unfolding(crate::specs::Reading::step, crate::specs::Sound::IsSound))]
     fn take(
         self,
         alloc: Global,

@@ -74,6 +74,8 @@ mod price_check_calls;
 mod prices;
 #[cfg(test)]
 mod recorded;
+#[cfg(test)]
+mod recordings;
 mod round_net_calls;
 #[cfg(test)]
 mod scripts;

@@ -1,7 +1,4 @@
-use Rattle.std.proofs.Common.{◌≡◌, ◌∙◌, sym, refl, ap, length}
-use Rattle.std.specs.Prelude.{None}
-use Rattle.recording_file.specs.Recorded.{plain_cause}
-use Rattle.recording_file.specs.Requests.{placed_unless}
+use Rattle.std.proofs.Common.{◌∙◌, sym, refl}
 use Rattle.recording_file.proofs.PlaceLemmas.{are_cells, full_is_crowd}
 use Rattle.recording_file.proofs.PlacingLemmas.{cause_crowd, cause_plain, plain_none}
 use Rattle.recording_file.proofs.placing.ready_places.Goals as goal

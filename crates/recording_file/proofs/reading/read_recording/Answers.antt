@@ -1,5 +1,5 @@
-use Rattle.std.proofs.Common.{◌≡◌, ◌≢◌, ◌<◌, ◌≤◌, ◌∙◌, ap, arith, List, ℕ, length, refl, subst}
-use Rattle.std.specs.Prelude.{Option, Some, None, IfSome, Result, Ok, Err}
+use Rattle.std.proofs.Common.{◌<◌, ◌∙◌, ap, arith, List, ℕ, length}
+use Rattle.std.specs.Prelude.{Option, Some, None, IfSome, Err}
 use Rattle.recording_file.specs.Reading.{reading}
 use Rattle.recording_file.specs.Recorded.{Recorded}
 use Rattle.recording_file.specs.Recordings.{IsRecordingText}

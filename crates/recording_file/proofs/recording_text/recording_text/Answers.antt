@@ -1,8 +1,9 @@
 use Rattle.std.proofs.Common.{◌≡◌, ◌∙◌, ◌++◌, ◌∷◌, List, [], ap, append_assoc, map, refl, true}
 use Rattle.recording_file.specs.Fields.{Row}
-use Rattle.recording_file.specs.Recorded.{Recorded}
-use Rattle.recording_file.specs.Records.{adapter_row, cap_row, device_row, header, link_row, name_row, records_of, request_row, rounds_row, unit_rows, weight_row}
+use Rattle.recording_file.specs.Recorded.{Recorded, IsRecording}
+use Rattle.recording_file.specs.Records.{cap_row, header, name_row, records_of, request_row}
 use Rattle.recording_file.specs.Writing.{head_rows, recording_text}
+use Rattle.recording_file.proofs.TextLaws.{is_text}
 use Rattle.recording_file.proofs.WritingLemmas.{wrote_both}
 use Rattle.recording_file.proofs.recording_text.recording_text.Goals as goal
 
@@ -11,9 +12,9 @@ head_first : (r : Recorded) → header ∷ (head_rows r ++ (map name_row r.names
 unfolding records_of
 head_first r = ap (λ (l : List Row). header ∷ l) (simp append_assoc refl)
 
-pub returns-in-Ok-clause-text : goal.returns-in-Ok-clause-text
+pub returns-in-Ok-clause-written : goal.returns-in-Ok-clause-written
 unfolding recording_text header
-returns-in-Ok-clause-text c =
+returns-in-Ok-clause-written c =
     let r = c.args.recording.now in
     let names = rw c.names.ensures.same at c.in_ok-write_names.ensures in
     let caps = rw c.caps.ensures.same at c.in_ok-write_caps.ensures in
@@ -31,3 +32,13 @@ returns-in-Ok-clause-recording c = record {
   targets = c.in_ok-write_head.ensures.fits;
   drivers = rw c.requests.ensures.same at c.in_ok-write_requests.ensures.fits;
 }
+
+pub returns-in-Ok-clause-text : goal.returns-in-Ok-clause-text
+returns-in-Ok-clause-text c =
+    let h : IsRecording c.args.recording.now = record {
+      kept = c.names.ensures.kept;
+      unit = c.in_ok-write_head.ensures.unit;
+      targets = c.in_ok-write_head.ensures.fits;
+      drivers = rw c.requests.ensures.same at c.in_ok-write_requests.ensures.fits;
+    } in
+    is_text c.args.recording.now h

@@ -1,6 +1,6 @@
 use Rattle.std.proofs.Common.{◌∷◌, [], map}
 use Rattle.std.proofs.lemmas.Result.{on_ok_weaker}
-use Rattle.recording_file.specs.Records.{adapter_row, device_row, link_row, rounds_row, unit_rows, weight_row}
+use Rattle.recording_file.specs.Records.{adapter_row, link_row, rounds_row, unit_rows, weight_row}
 use Rattle.recording_file.proofs.WritingLemmas.{wrote_both}
 use Rattle.recording_file.proofs.recording_text.write_head.Goals as goal
 

@@ -1,6 +1,6 @@
-use Rattle.std.proofs.Common.{◌≡◌, ◌≤◌, ◌+◌, arith, subst, ap, ◌∙◌, ℕ}
+use Rattle.std.proofs.Common.{◌≡◌, ◌≤◌, ◌+◌, arith}
 use Rattle.recording_file.specs.Room.{cell_of}
-use Rattle.recording_file.proofs.RoomLemmas.{IsLaidTo, cap_laid}
+use Rattle.recording_file.proofs.RoomLemmas.{cap_laid}
 use Rattle.recording_file.proofs.room.lay_cap.Goals as goal
 
 pub returns : goal.returns

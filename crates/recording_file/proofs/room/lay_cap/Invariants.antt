@@ -1,4 +1,3 @@
-use Rattle.std.proofs.Common.{◌≡◌, ◌≤◌}
 use Rattle.recording_file.proofs.RoomLemmas.{IsLaidTo}
 use Rattle.recording_file.proofs.room.lay_cap.Given as goal
 

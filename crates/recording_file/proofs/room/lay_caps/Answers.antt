@@ -1,5 +1,5 @@
-use Rattle.std.proofs.Common.{◌≡◌, ◌+◌, ◌-◌, ◌<◌, ◌≤◌, ℕ, arith, get_or, length, drop, refl}
-use Rattle.recording_file.proofs.RoomLemmas.{AreLaid, caps_more, caps_start}
+use Rattle.std.proofs.Common.{◌≡◌, ◌+◌, ◌-◌, ◌<◌, arith, length}
+use Rattle.recording_file.proofs.RoomLemmas.{caps_more}
 use Rattle.recording_file.proofs.room.lay_caps.Goals as goal
 
 pub loop-left-preserved : goal.loop-left-preserved

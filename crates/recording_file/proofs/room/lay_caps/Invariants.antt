@@ -1,5 +1,4 @@
-use Rattle.std.proofs.Common.{◌≡◌, ◌≤◌, ◌*◌, length, drop}
-use Rattle.std.specs.List.{AllByRecursion}
+use Rattle.std.proofs.Common.{◌≤◌, length, drop}
 use Rattle.recording_file.proofs.RoomLemmas.{AreLaid}
 use Rattle.recording_file.proofs.room.lay_caps.Given as goal
 

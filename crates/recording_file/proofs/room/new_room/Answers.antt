@@ -1,4 +1,4 @@
-use Rattle.std.proofs.Common.{arith, sym, ap, ◌∙◌, length}
+use Rattle.std.proofs.Common.{sym, ap, ◌∙◌, length}
 use Rattle.recording_file.proofs.RoomLemmas.{room_of, written_back}
 use Rattle.recording_file.proofs.room.new_room.Goals as goal
 

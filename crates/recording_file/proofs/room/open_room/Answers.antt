@@ -1,4 +1,3 @@
-use Rattle.std.proofs.Common.{arith}
 use Rattle.recording_file.proofs.RoomLemmas.{row_more}
 use Rattle.recording_file.proofs.room.open_room.Goals as goal
 

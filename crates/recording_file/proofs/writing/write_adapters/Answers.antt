@@ -1,4 +1,4 @@
-use Rattle.std.proofs.Common.{◌≤◌, arith, ℕ, get_or, sym}
+use Rattle.std.proofs.Common.{arith}
 use Rattle.std.proofs.lemmas.List.{get_or_default}
 use Rattle.recording_file.specs.Records.{adapter_row}
 use Rattle.recording_file.proofs.WritingLemmas.{wrote_more, wrote_none}

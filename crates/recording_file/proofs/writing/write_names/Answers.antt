@@ -1,5 +1,4 @@
-use Rattle.std.proofs.Common.{◌≤◌, arith, ℕ, get_or, sym}
-use Rattle.std.proofs.lemmas.List.{get_or_default}
+use Rattle.std.proofs.Common.{arith, sym}
 use Rattle.recording_file.specs.Records.{name_row}
 use Rattle.recording_file.proofs.WritingLemmas.{wrote_more, wrote_none}
 use Rattle.recording_file.proofs.writing.write_names.Goals as goal

@@ -1,9 +1,5 @@
-use Rattle.std.proofs.Common.{◌≡◌, ◌∙◌}
-use Rattle.std.specs.Prelude.{IfSome, ◌<◌}
+use Rattle.std.proofs.Common.{◌≡◌}
 use Rattle.cam_types.specs.Questions.{device_adapter}
-use Rattle.recording_file.specs.Caps.{part_of}
-use Rattle.recording_file.specs.Room.{IsCell}
-use Rattle.recording_file.specs.declared.part.PartKind.TheVariants as kind
 use Rattle.recording_file.proofs.PlaceLemmas.{are_cells, link_there, adapter_is}
 use Rattle.recording_file.proofs.places.Places.of.Goals as goal
 

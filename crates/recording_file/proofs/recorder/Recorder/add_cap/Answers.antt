@@ -1,4 +1,3 @@
-use Rattle.std.proofs.Common.{◌∙◌, sym}
 use Rattle.recording_file.proofs.PlacingLemmas.{cap_kept}
 use Rattle.recording_file.proofs.recorder.Recorder.add_cap.Goals as goal
 

@@ -1,4 +1,3 @@
-use Rattle.std.proofs.Common.{◌∙◌, sym}
 use Rattle.recording_file.proofs.PlacingLemmas.{name_kept}
 use Rattle.recording_file.proofs.recorder.Recorder.add_name.Goals as goal
 

@@ -1,4 +1,3 @@
-use Rattle.std.proofs.Common.{◌∙◌, sym}
 use Rattle.recording_file.proofs.PlacingLemmas.{caps_laid, placed_kept}
 use Rattle.recording_file.specs.declared.request_error.RequestError.TheVariants.{OutOfMemory}
 use Rattle.recording_file.proofs.recorder.Recorder.add_request.Goals as goal

@@ -1,0 +1,177 @@
+-- The records before the names are read as the head of the recording.
+use Rattle.std.proofs.Common.{◌≡◌, ◌<◌, ◌≤◌, ◌+◌, ℕ, List, [], ◌∷◌, ◌++◌, length, map, Bool, true, false, cond, refl, ◌∙◌, subst, arith}
+use Rattle.std.specs.Prelude.{Option, Some, None, IfSome, Ok, ◌==◌, ◌||◌, nat_lt}
+use Rattle.std.proofs.lemmas.Bool.{and_parts, leb-true, ltb-true, not-false}
+use Rattle.std.proofs.lemmas.Bool.Decides.{nat_tests}
+use Rattle.cam_types.specs.Topology.{Topology, IsConfig, names_link, openings_fault, link_fault, adapter_fault, device_fault}
+use Rattle.cam_types.specs.Weights.{are_standard, reaches_last, weight_fault}
+use Rattle.cam_types.specs.declared.adapter.Adapter.{Adapter}
+use Rattle.cam_types.specs.declared.device.Device.{Device}
+use Rattle.cam_types.specs.declared.weight_row.WeightRow.{WeightRow}
+use Rattle.cam_types.specs.declared.config_fault.ConfigFault.TheVariants.{NoLink}
+use Rattle.cam_types.specs.declared.maxima.TheConstants.{MOST_ADAPTERS, MOST_LINKS}
+use Rattle.cam_types.proofs.ConfigLemmas.{adapter_items, device_items, few_adapters, few_links, link_items, reaches, some_adapter}
+use Rattle.cam_types.proofs.ListLemmas.{or_left, or_right}
+use Rattle.cam_types.proofs.WeightLemmas.{standard_is}
+use Rattle.recording_file.specs.declared.device_row.DeviceRow.{DeviceRow}
+use Rattle.recording_file.specs.declared.recording_stage.RecordingStage.{RecordingStage}
+use Rattle.recording_file.specs.declared.recording_stage.RecordingStage.TheVariants as stage
+use Rattle.recording_file.specs.declared.said.Said.TheVariants as said
+use Rattle.recording_file.specs.declared.start.Start.{Start}
+use Rattle.recording_file.specs.declared.maxima.TheConstants.{MOST_RECORDED_ROUNDS}
+use Rattle.recording_file.specs.Fields.{Row, most_number}
+use Rattle.recording_file.specs.Reading.{add_said, stands, standard, step}
+use Rattle.recording_file.specs.Recorded.{Recorded, Span, IsRecording}
+use Rattle.recording_file.specs.Records.{adapter_row, device_row, link_row, rounds_row, unit_rows, weight_row, weight_rows}
+use Rattle.recording_file.specs.Steps.{taken}
+use Rattle.recording_file.proofs.AgainLaws.{Along, along_both, none_along, then_taken, run, said_step}
+use Rattle.recording_file.proofs.StageLemmas.{cond_none, device_small}
+
+-- ---- what the rules of the configuration say of its numbers
+
+pub adapter_small : (links : ℕ) (before : List Adapter) (a : Adapter) → adapter_fault links (before, a) ≡ None → a.openings ≤ 255
+unfolding adapter_fault
+adapter_small links before a e = leb-true _ _ (and_parts _ _ (not-false _ (cond_none _ _ _ (cond_none _ _ _ (or_left _ _ e)).1).0)).1
+
+pub link_small : (before : List ℕ) (k : ℕ) → link_fault (before, k) ≡ None → k ≤ 255
+unfolding link_fault
+link_small before k e = leb-true _ _ (and_parts _ _ (not-false _ (cond_none _ _ _ (cond_none _ _ _ e).1).0)).1
+
+-- an adapter's link is one of that many
+pub adapter_link : (links : ℕ) (before : List Adapter) (a : Adapter) → adapter_fault links (before, a) ≡ None → IfSome a.link (λ l. l < links)
+unfolding adapter_fault
+adapter_link links before a e = by a.link (or_right (openings_fault MOST_ADAPTERS (length before) a.openings) _ e)
+  where
+    passed : (b : Bool) → cond b None (Some NoLink) ≡ None → b ≡ true
+    passed true e = refl
+    passed false e = absurd cc
+
+    by : (link : Option ℕ) → cond (names_link links link) None (Some NoLink) ≡ None → IfSome link (λ l. l < links)
+    by None e = tt
+    by (Some l) e = ltb-true _ _ (passed (nat_lt l links) e)
+
+pub weight_numbers : (before : List WeightRow) (w : WeightRow) → weight_fault (before, w) ≡ None → (w.last ≤ 1279) × (w.weight ≤ 1000)
+unfolding weight_fault
+weight_numbers before w e = (grind (arith, nat_tests), grind (arith, nat_tests))
+
+-- an adapter's link is a number
+pub link_number : (links : ℕ) (link : Option ℕ) → links ≤ MOST_LINKS → IfSome link (λ l. l < links) → IfSome link (λ l. l ≤ most_number)
+link_number links None few h = tt
+link_number links (Some l) few h = omega arith
+
+-- ---- the stages that the records lead through
+
+abbrev pub config : List WeightRow → List ℕ → List Adapter → List Device → Topology
+config ws ks as' ds = record { weights = ws; links = ks; adapters = as'; devices = ds; lanes = [] }
+
+abbrev pub start_of : Option Span → ℕ → Bool → Start
+start_of unit rounds table = record { unit = unit; rounds = rounds; table = table }
+
+-- after the rounds, with these rows of weights so far
+abbrev pub at_weights : Option Span → ℕ → List WeightRow → RecordingStage
+at_weights unit rounds [] = stage.Weights (start_of unit rounds false) standard
+at_weights unit rounds (w ∷ ws) = stage.Weights (start_of unit rounds true) (config (w ∷ ws) [] [] [])
+
+abbrev pub at_links : Start → List WeightRow → List ℕ → RecordingStage
+at_links start ws [] = stage.Weights start (config ws [] [] [])
+at_links start ws (k ∷ ks) = stage.Links start (config ws (k ∷ ks) [] [])
+
+abbrev pub at_adapters : Start → List WeightRow → List ℕ → List Adapter → RecordingStage
+at_adapters start ws ks [] = at_links start ws ks
+at_adapters start ws ks (a ∷ as') = stage.Adapters start (config ws ks (a ∷ as') [])
+
+abbrev pub at_devices : Start → List WeightRow → List ℕ → List Adapter → List Device → RecordingStage
+at_devices start ws ks as' [] = stage.Adapters start (config ws ks as' [])
+at_devices start ws ks as' (d ∷ ds) = stage.Devices start (config ws ks as' (d ∷ ds))
+
+one_weight : (unit : Option Span) (rounds : ℕ) (n : ℕ) (before : List WeightRow) (w : WeightRow) → weight_fault (before, w) ≡ None
+    → step n (at_weights unit rounds before) (weight_row w) ≡ Ok (at_weights unit rounds (before ++ w ∷ []))
+unfolding add_said stands
+one_weight unit rounds n [] w e =
+    let s = weight_numbers [] w e in
+    said_step n (at_weights unit rounds []) (said.Weight w) (λ k. cc) tt refl (omega arith, omega arith) ∙ rw e refl
+one_weight unit rounds n (b ∷ bs) w e =
+    let s = weight_numbers (b ∷ bs) w e in
+    said_step n (at_weights unit rounds (b ∷ bs)) (said.Weight w) (λ k. cc) tt refl (omega arith, omega arith) ∙ rw e refl
+
+one_link : (start : Start) (ws : List WeightRow) → reaches_last ws ≡ true → (n : ℕ) (before : List ℕ) (k : ℕ) → link_fault (before, k) ≡ None
+    → step n (at_links start ws before) (link_row k) ≡ Ok (at_links start ws (before ++ k ∷ []))
+unfolding add_said stands
+one_link start ws reaches n [] k e =
+    let s = link_small [] k e in
+    said_step n (at_links start ws []) (said.Link k) (λ z. cc) tt refl (omega arith) ∙ rw (reaches, e) refl
+one_link start ws reaches n (b ∷ bs) k e =
+    let s = link_small (b ∷ bs) k e in
+    said_step n (at_links start ws (b ∷ bs)) (said.Link k) (λ z. cc) tt refl (omega arith) ∙ rw (reaches, e) refl
+
+one_adapter : (start : Start) (ws : List WeightRow) (ks : List ℕ) → reaches_last ws ≡ true → length ks ≤ MOST_LINKS → (n : ℕ) (before : List Adapter) (a : Adapter) → adapter_fault (length ks) (before, a) ≡ None
+    → step n (at_adapters start ws ks before) (adapter_row a) ≡ Ok (at_adapters start ws ks (before ++ a ∷ []))
+unfolding add_said stands
+one_adapter start ws [] reaches few n [] a e =
+    let s = adapter_small 0 [] a e in
+    said_step n (at_links start ws []) (said.Sim a) (λ z. cc) tt refl (omega arith, link_number 0 a.link few (adapter_link 0 [] a e)) ∙ rw (reaches, e) refl
+one_adapter start ws (k ∷ ks) reaches few n [] a e =
+    let s = adapter_small (length (k ∷ ks)) [] a e in
+    said_step n (at_links start ws (k ∷ ks)) (said.Sim a) (λ z. cc) tt refl (omega arith, link_number (length (k ∷ ks)) a.link few (adapter_link (length (k ∷ ks)) [] a e)) ∙ rw (reaches, e) refl
+one_adapter start ws ks reaches few n (b ∷ bs) a e =
+    let s = adapter_small (length ks) (b ∷ bs) a e in
+    said_step n (at_adapters start ws ks (b ∷ bs)) (said.Sim a) (λ z. cc) tt refl (omega arith, link_number (length ks) a.link few (adapter_link (length ks) (b ∷ bs) a e)) ∙ rw (reaches, e) refl
+
+abbrev pub GoodDevice : List Adapter → List Device → Device → Type 0
+GoodDevice as' before d = (device_fault (length as') (before, d) ≡ None) × (d.target ≤ 65535)
+
+abbrev row_for : Device → DeviceRow
+row_for d = record { bus = d.bus; target = d.target; lun = d.lun; openings = d.openings }
+
+one_device : (start : Start) (ws : List WeightRow) (ks : List ℕ) (as' : List Adapter) → length as' ≤ MOST_ADAPTERS → (n : ℕ) (before : List Device) (d : Device) → GoodDevice as' before d
+    → step n (at_devices start ws ks as' before) (device_row d) ≡ Ok (at_devices start ws ks as' (before ++ d ∷ []))
+unfolding add_said stands
+one_device start ws ks as' few n [] d h =
+    let s = device_small (length as') [] d h.0 in
+    said_step n (at_devices start ws ks as' []) (said.Dev (row_for d)) (λ k. cc) tt refl (omega arith, h.1, s.1, omega arith) ∙ rw h.0 refl
+one_device start ws ks as' few n (b ∷ bs) d h =
+    let s = device_small (length as') (b ∷ bs) d h.0 in
+    said_step n (at_devices start ws ks as' (b ∷ bs)) (said.Dev (row_for d)) (λ k. cc) tt refl (omega arith, h.1, s.1, omega arith) ∙ rw h.0 refl
+
+-- ---- the records before the names
+
+-- the unit and the rounds
+pub taken_start : (unit : Option Span) (rounds : ℕ) (rest : List Row) (u : RecordingStage) → IfSome unit (λ (s : Span). 1 ≤ s.count) → IfSome unit (λ (s : Span). s.count ≤ 4294967295) → 1 ≤ rounds → rounds ≤ MOST_RECORDED_ROUNDS
+    → ((m : ℕ) → taken step m (at_weights unit rounds []) rest ≡ Ok u) → (n : ℕ) → taken step n stage.First (unit_rows unit ++ (rounds_row rounds ∷ rest)) ≡ Ok u
+unfolding add_said stands
+taken_start None rounds rest u some few low high k n = rw (said_step n stage.First (said.Rounds rounds) (λ z. cc) tt refl (low, high)) (k (n + 1))
+taken_start (Some s) rounds rest u some few low high k n =
+    rw (said_step n stage.First (said.Unit s) (λ z. cc) tt refl (some, few), said_step (n + 1) (stage.Timed s) (said.Rounds rounds) (λ z. cc) tt refl (low, high)) (k (n + 1 + 1))
+
+-- the rows of weights, or none where they are the standard ones
+pub taken_weights : (table : Bool) (unit : Option Span) (rounds : ℕ) (ws : List WeightRow) (rest : List Row) (u : RecordingStage) → reaches_last ws ≡ true → (table || are_standard ws) ≡ true → Along (λ b w. weight_fault (b, w) ≡ None) [] ws
+    → ((m : ℕ) → taken step m (at_links (start_of unit rounds table) ws []) rest ≡ Ok u) → (n : ℕ) → taken step n (at_weights unit rounds []) (weight_rows table ws ++ rest) ≡ Ok u
+taken_weights false unit rounds ws rest u reaches held along k n =
+    let start = start_of unit rounds false in
+    subst (λ (x : List WeightRow). taken step n (stage.Weights start (config x [] [] [])) rest ≡ Ok u) (standard_is ws held) (k n)
+taken_weights true unit rounds [] rest u reaches held along k n = absurd cc
+taken_weights true unit rounds (w ∷ ws) rest u reaches held along k n =
+    then_taken step n (at_weights unit rounds []) (at_weights unit rounds (w ∷ ws)) u (map weight_row (w ∷ ws)) rest (run weight_row (at_weights unit rounds) (λ b x. weight_fault (b, x) ≡ None) (one_weight unit rounds) [] (w ∷ ws) n along) k
+
+-- an adapter has come
+some_came : (start : Start) (ws : List WeightRow) (ks : List ℕ) (as' : List Adapter) → (length as' == 0) ≡ false → at_adapters start ws ks as' ≡ at_devices start ws ks as' []
+some_came start ws ks [] e = absurd cc
+some_came start ws ks (a ∷ as') e = refl
+
+unfoldable pub base_of : Bool → Recorded → RecordingStage
+base_of table r = let t = r.config in at_devices (start_of r.unit r.rounds table) t.weights t.links t.adapters t.devices
+
+pub taken_config : (table : Bool) (r : Recorded) → IsRecording r → (rest : List Row) (u : RecordingStage) → ((m : ℕ) → taken step m (base_of table r) rest ≡ Ok u)
+    → (n : ℕ) → taken step n (at_links (start_of r.unit r.rounds table) r.config.weights []) (map link_row r.config.links ++ (map adapter_row r.config.adapters ++ (map device_row r.config.devices ++ rest))) ≡ Ok u
+unfolding base_of
+taken_config table r h rest u k n =
+    let t = r.config in
+    let start = start_of r.unit r.rounds table in
+    let is : IsConfig t = record { kept = h.kept.head.config } in
+    let links = none_along link_fault [] t.links (link_items t is) in
+    let adapters = none_along (adapter_fault (length t.links)) [] t.adapters (adapter_items t is) in
+    let devices = along_both (λ b x. device_fault (length t.adapters) (b, x) ≡ None) (λ (d : Device). d.target ≤ 65535) [] t.devices (none_along (device_fault (length t.adapters)) [] t.devices (device_items t is)) h.targets in
+    then_taken step n (at_links start t.weights []) (at_links start t.weights t.links) u (map link_row t.links) _ (run link_row (at_links start t.weights) (λ b x. link_fault (b, x) ≡ None) (one_link start t.weights (reaches t is)) [] t.links n links) (λ n1.
+    then_taken step n1 (at_links start t.weights t.links) (at_adapters start t.weights t.links t.adapters) u (map adapter_row t.adapters) _ (run adapter_row (at_adapters start t.weights t.links) (λ b x. adapter_fault (length t.links) (b, x) ≡ None) (one_adapter start t.weights t.links (reaches t is) (few_links t is)) [] t.adapters n1 adapters) (λ n2.
+    rw (some_came start t.weights t.links t.adapters (some_adapter t is))
+    (then_taken step n2 (at_devices start t.weights t.links t.adapters []) (at_devices start t.weights t.links t.adapters t.devices) u (map device_row t.devices) rest (run device_row (at_devices start t.weights t.links t.adapters) (GoodDevice t.adapters) (one_device start t.weights t.links t.adapters (few_adapters t is)) [] t.devices n2 devices) k)))

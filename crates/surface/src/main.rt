@@ -1,7 +1,7 @@
 //! Makes each public call of the crates once, crate by crate, and prints a line for each crate, of what its calls answer: who
 //! changes a call breaks this program. The tests beside it are those by code: of a transport's slots, heap and sense data, of
 //! runs on many threads, and of what only code can see where traces are read, planned and audited. They stand here so that no
-//! crate is proved twice for its tests.
+//! crate is proved twice for its tests. With the word `refused` it makes calls that take memory, each once more if it got none.
 #![tactic(auto)]
 
 use anyhow::Result;
@@ -14,10 +14,12 @@ use camq_heap_calls::call_camq_heap;
 use cost_plan_calls::call_cost_plan;
 use dev_queue_calls::call_dev_queue;
 use price_check_calls::call_price_check;
+use refused_memory::call_refused;
 use round_net_calls::call_round_net;
 use sense_class_calls::call_sense_class;
 use sim_queue_calls::call_sim_queue;
 use sim_worker_calls::call_sim_worker;
+use std::env;
 use trace_file_calls::call_trace_file;
 use xpt_lock_calls::call_xpt_lock;
 use xpt_state_calls::call_xpt_state;
@@ -76,6 +78,7 @@ mod prices;
 mod recorded;
 #[cfg(test)]
 mod recordings;
+mod refused_memory;
 mod round_net_calls;
 #[cfg(test)]
 mod scripts;
@@ -102,6 +105,9 @@ mod xpt_lock_calls;
 mod xpt_state_calls;
 
 fn main(rt: HostRuntime) -> Result<()> {
+    if is_of_refused_memory(&rt)? {
+        return call_refused(&rt);
+    }
     call_cam_types(&rt)?;
     call_cam_path(&rt)?;
     call_cam_ccb(&rt)?;
@@ -118,4 +124,13 @@ fn main(rt: HostRuntime) -> Result<()> {
     call_cost_plan(&rt)?;
     call_price_check(&rt)?;
     call_audit_report(&rt)
+}
+
+// Whether the first word asks for the calls for which memory may be refused.
+fn is_of_refused_memory(rt: &HostRuntime) -> Result<bool> {
+    let words: Vec<String> = env::args(rt)?.collect(rt.alloc())?;
+    match words.get(1) {
+        Some(word) => Ok(word.as_str() == "refused"),
+        None => Ok(false),
+    }
 }

@@ -83,20 +83,22 @@ fn call_steps(rt: &HostRuntime, steps: &[Step]) -> Result<()> {
 }
 
 fn make_script(rt: &HostRuntime, alloc: Global) -> Result<()> {
-    let mut drivers: Vec<Vec<Step>> = Vec::new(alloc);
-    for driver in 0..8u32 {
-        let mut steps: Vec<Step> = Vec::new(alloc);
-        if driver == 0 {
-            steps.push(Step::Pause(3u32))?;
-        }
-        drivers.push(steps)?;
-    }
-    let mut answers: Vec<Vec<Outcome>> = Vec::new(alloc);
-    answers.push(Vec::new(alloc))?;
+    let drivers: Vec<Vec<Step>> = lists(alloc, 8, &[Step::Pause(3u32)])?;
+    let answers: Vec<Vec<Outcome>> = lists(alloc, 1, &[])?;
     let config: Config = frame_config(alloc)?;
     let made: Option<Script> = Script::new(config, Limits::most(), drivers, answers);
     println!(rt; " made {}", made.is_some())?;
     Ok(())
+}
+
+// That many lists, of which the first has these items.
+fn lists<T: Copy + Drop>(alloc: Global, count: usize, first: &[T]) -> Result<Vec<Vec<T>>> {
+    let mut lists = Vec::new(alloc);
+    for place in 0..count {
+        let items = if place == 0 { first } else { &[] };
+        lists.push(items.to_vec(alloc)?)?;
+    }
+    Ok(lists)
 }
 
 // The number of a fault, in the order of their names.

@@ -95,16 +95,21 @@ fn call_lane<L: Ledger, R: Runtime + Wait>(
     let sent: Result<(Sent, Option<Receipt>), SharedFault> = shared.send_next(rt, seat, 0u32);
     let (sent, receipt): (Sent, Option<Receipt>) = sent?;
     let is_command: bool = matches!(&sent, Sent::Command(_));
-    print!(rt;
-        " {:?} sent {is_command}",
-        receipt.map(|receipt| receipt.at)
-    )?;
+    print!(rt; " {:?} sent {is_command}", place_of(&receipt))?;
     let outcome = Outcome::of_status(status);
     let done: Result<(Done, Receipt), SharedFault> = shared.done(rt, seat, 0u32, outcome);
     let (done, receipt): (Done, Receipt) = done?;
     print!(rt; " {} reply {}", receipt.at, number_of(&receipt.reply))?;
     print!(rt; " value {:02x}", done.value)?;
     Ok(())
+}
+
+// Where the event of the receipt stands, if there is one.
+fn place_of(receipt: &Option<Receipt>) -> Option<u32> {
+    match receipt {
+        Some(receipt) => Some(receipt.at),
+        None => None,
+    }
 }
 
 fn call_requeue<L: Ledger, R: Runtime + Wait>(

@@ -13,7 +13,7 @@ use std::process::Abort;
 use std::sync::Wait;
 use std::sync::ledger::{Blank, Ledger};
 use std::test::Fail;
-use xpt_lock::{GatherFault, Seat, SeatName, SharedFault, SharedXpt};
+use xpt_lock::{GatherFault, Receipt, Seat, SeatName, SharedFault, SharedXpt};
 use xpt_state::{Done, Idle, Reply, Sent};
 
 // Which of the two seats are gathered, and in which order.
@@ -116,8 +116,7 @@ fn serves<L: Ledger, R: Wait + Abort>(
     };
     let (sent, receipt) = shared.send_next(rt, lane, 0)?;
     assert_eq!(rt; sent, Sent::Command(command));
-    let replied = receipt.map(|receipt| (receipt.at, receipt.reply));
-    assert_eq!(rt; replied, Some((1, Reply::Command(command))));
+    assert_eq!(rt; placed(&receipt), Some((1, Reply::Command(command))));
     let done = Done {
         class: Class::Complete,
         value: 0x01,
@@ -130,6 +129,14 @@ fn serves<L: Ledger, R: Wait + Abort>(
     assert_eq!(rt; lane.receipts().len(), 2);
     assert_eq!(rt; lane.receipts().last().copied(), Some(receipt));
     Ok(())
+}
+
+// Where the event of the receipt stands, if there is one, and the reply to it.
+fn placed(receipt: &Option<Receipt>) -> Option<(u32, Reply)> {
+    match receipt {
+        Some(receipt) => Some((receipt.at, receipt.reply)),
+        None => None,
+    }
 }
 
 // The seats that are gathered, in order.

@@ -1,29 +1,10 @@
 -- what is written of a history with a best plan of its net
-use Rattle.std.proofs.Common.{◌≡◌, ℕ, ◌*◌, ◌-◌, ◌<◌, ◌≤◌, Bool, true, false, List, [], ◌++◌, length, refl, sym, ap, subst, ◌∙◌, arith, append-nil, Option, Some, None}
-use Rattle.std.specs.Prelude.{is_some, slice_index, if◌then◌else◌, All}
+use Rattle.std.proofs.Common.{◌≡◌, ℕ, ◌*◌, ◌-◌, ◌<◌, ◌≤◌, Bool, true, false, List, [], ◌++◌, length, refl, sym, ap, subst, ◌∙◌, arith, append-nil, Option, Some, None, is_some, slice_index, if◌then◌else◌, All}
 use Rattle.std.proofs.lemmas.List.Elements.{All-from_get_or}
-use Rattle.cam_types.specs.Topology.{Topology}
-use Rattle.cam_types.specs.declared.maxima.TheConstants.{MOST_BYTES, MOST_STAYS, MOST_ROUNDS, MOST_WEIGHT}
-use Rattle.event_rules.specs.Stays.{unsent}
-use Rattle.event_rules.specs.Live.{live_cost}
-use Rattle.event_rules.specs.declared.event.Event.{Event}
-use Rattle.event_rules.specs.declared.stay.Stay.{Stay}
+use Rattle.audit_report.specs.Words.{Topology, MOST_BYTES, MOST_STAYS, MOST_ROUNDS, MOST_WEIGHT, unsent, live_cost, Event, Stay, Past, history_rules, is_legal, NetRows, instance_of_rows, live_of_rows, Instance, IsSound, IsAdmissible, cost, ProvesBest, net_of, instance_of, live_of, pricing_of_rows, IsPriced, IsPricingFor, IsBest, report_text, summary_text, plan_text, Claim}
 use Rattle.event_rules.proofs.LiveLemmas.{live_cost_sent}
-use Rattle.event_rules.specs.Past.{Past}
-use Rattle.event_rules.specs.Legal.{history_rules, is_legal}
 use Rattle.event_rules.proofs.LawLemmas.{sends_stand_free}
-use Rattle.round_net.specs.Rows.{NetRows, instance_of_rows, live_of_rows}
-use Rattle.round_net.specs.Instance.{Instance}
-use Rattle.round_net.specs.Sound.{IsSound}
-use Rattle.round_net.specs.Schedules.{IsAdmissible, cost}
-use Rattle.round_net.specs.Value.{ProvesBest}
-use Rattle.round_net.specs.Nets.{net_of, instance_of, live_of}
-use Rattle.round_net.specs.PriceRows.{pricing_of_rows, IsPriced, IsPricingFor}
 use Rattle.price_check.proofs.DualityLemmas.{best_where_proved}
-use Rattle.price_check.specs.Verdicts.{IsBest}
-use Rattle.price_check.specs.Claims.{report_text}
-use Rattle.price_check.specs.Report.{summary_text, plan_text}
-use Rattle.price_check.specs.declared.claim.Claim.{Claim}
 use Rattle.audit_report.specs.Audit.{audit_text, IsAudit}
 use Rattle.audit_report.proofs.CostLemmas.{cost-live}
 

@@ -1,22 +1,9 @@
 -- what the live schedule costs, by the net and by the events
-use Rattle.std.proofs.Common.{◌≡◌, ℕ, ◌+◌, ◌*◌, ◌-◌, ◌≤◌, List, [], ◌∷◌, length, map, refl, sym, ap, ◌∙◌, arith}
-use Rattle.std.specs.Prelude.{sum_by}
+use Rattle.std.proofs.Common.{◌≡◌, ℕ, ◌+◌, ◌*◌, ◌-◌, ◌≤◌, List, [], ◌∷◌, length, map, refl, sym, ap, ◌∙◌, arith, sum_by}
 use Rattle.std.proofs.lemmas.List.Sums.{sum_by-cons}
 use Rattle.std.proofs.lemmas.Nat.{mul-le}
-use Rattle.cam_types.specs.Topology.{Topology}
-use Rattle.cam_types.specs.declared.maxima.TheConstants.{MOST_STAYS, MOST_ROUNDS, MOST_WEIGHT}
-use Rattle.event_rules.specs.Stays.{stays_begun}
-use Rattle.event_rules.specs.Live.{live_part}
-use Rattle.event_rules.specs.declared.event.Event.{Event}
-use Rattle.event_rules.specs.declared.passage.Passage.{Passage}
+use Rattle.audit_report.specs.Words.{Topology, MOST_STAYS, MOST_ROUNDS, MOST_WEIGHT, stays_begun, live_part, Event, Passage, sum_below, of_stay, instance_of_rows, live_of_rows, IsAdmissible, cost, Instance, IsSound, stay_row, net_of, instance_of, live_of, StayRow}
 use Rattle.trace_file.proofs.ScriptRules.{sum_by-map}
-use Rattle.round_net.specs.Sums.{sum_below}
-use Rattle.round_net.specs.Rows.{of_stay, instance_of_rows, live_of_rows}
-use Rattle.round_net.specs.Schedules.{IsAdmissible, cost}
-use Rattle.round_net.specs.Instance.{Instance}
-use Rattle.round_net.specs.Sound.{IsSound}
-use Rattle.round_net.specs.Nets.{stay_row, net_of, instance_of, live_of}
-use Rattle.round_net.specs.declared.stay_row.StayRow.{StayRow}
 use Rattle.round_net.proofs.SumLemmas.{sum_below-shift, sum_below-most}
 
 -- what a stay's row costs

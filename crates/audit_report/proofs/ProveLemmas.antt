@@ -1,18 +1,10 @@
 -- a report that an audit of the trace wrote is proved
-use Rattle.std.proofs.Common.{◌≡◌, ℕ, false, List, refl, sym, ap, subst, Option, Some, None}
-use Rattle.std.specs.Prelude.{is_some, Result, Ok, Err, IfSome, IsErrAnd, Bool}
-use Rattle.cam_types.specs.Topology.{Topology}
-use Rattle.event_rules.specs.Live.{live_cost}
-use Rattle.event_rules.specs.Stays.{unsent}
-use Rattle.event_rules.specs.declared.stay.Stay.{Stay}
+use Rattle.std.proofs.Common.{◌≡◌, ℕ, false, List, refl, sym, ap, subst, Option, Some, None, is_some, Result, Ok, Err, IfSome, IsErrAnd, Bool}
+use Rattle.audit_report.specs.Words.{Topology, live_cost, unsent, Stay, Past, NetRows, IsTrace, IsHistory}
 use Rattle.event_rules.proofs.LiveLemmas.{live_cost_unsent}
-use Rattle.event_rules.specs.Past.{Past}
-use Rattle.round_net.specs.Rows.{NetRows}
-use Rattle.trace_file.specs.Trace.{IsTrace, IsHistory}
 use Rattle.audit_report.specs.Audit.{IsAudit}
 use Rattle.audit_report.specs.Prove.{IsProvedOrFailed}
-use Rattle.audit_report.specs.declared.audit_fault.AuditFault.{AuditFault}
-use Rattle.audit_report.specs.Runs.{IsFailure, IsReadOrFailed}
+use Rattle.audit_report.specs.Runs.{IsFailure, IsReadOrFailed, AuditFault}
 
 -- what a reader of the trace of a complete history promises
 abbrev pub ReadsTrace : Option (List ℕ) → Result (Past × NetRows) AuditFault → Type 0

@@ -1,17 +1,7 @@
 -- what an audit of a trace writes
 use Rattle.std.specs.Prelude.{◌≡◌, ℕ, ◌≤◌, Bool, if◌then◌else◌, List, length, Some, IsTrue}
 use Rattle.std.specs.List.{list_all}
-use Rattle.cam_types.specs.Lists.{moments}
-use Rattle.cam_types.specs.declared.maxima.TheConstants.{MOST_BYTES}
-use Rattle.event_rules.specs.Live.{live_cost}
-use Rattle.event_rules.specs.Past.{Past}
-use Rattle.event_rules.specs.Laws.{stands_free}
-use Rattle.round_net.specs.Schedules.{IsAdmissible, cost}
-use Rattle.round_net.specs.Rows.{NetRows}
-use Rattle.round_net.specs.Nets.{net_of, instance_of, live_of}
-use Rattle.price_check.specs.Claims.{IsClaim, report_text}
-use Rattle.price_check.specs.Report.{summary_text}
-use Rattle.price_check.specs.declared.claim.Claim.{Claim}
+use Rattle.audit_report.specs.Words.{moments, MOST_BYTES, live_cost, Past, stands_free, IsAdmissible, cost, NetRows, net_of, instance_of, live_of, IsClaim, report_text, summary_text, Claim}
 use Rattle.audit_report.specs.Findings.{IsRight}
 
 -- the report of a claim on a history whose live schedule costs so much, or its summary alone

@@ -1,11 +1,6 @@
 -- what a check of a trace writes
 use Rattle.std.specs.Prelude.{◌≡◌, ℕ, ◌++◌, List, length, Some, codes}
-use Rattle.event_rules.specs.Past.{Past}
-use Rattle.event_rules.specs.Counts.{round, commands}
-use Rattle.event_rules.specs.Stays.{stays_begun}
-use Rattle.event_rules.specs.Live.{live_cost}
-use Rattle.event_rules.specs.declared.event.Event.{Event}
-use Rattle.price_check.specs.Lines.{line}
+use Rattle.audit_report.specs.Words.{Past, round, commands, stays_begun, live_cost, Event, line}
 
 -- the five lines of a complete history, whose live schedule costs so much
 unfoldable pub check_text : List Event → ℕ → List ℕ

@@ -1,18 +1,7 @@
 -- what comes of a claim about a history, and the line that says so
 use Rattle.std.specs.Prelude.{◌≡◌, ◌≢◌, ℕ, ◌-◌, ◌++◌, Bool, true, false, List, slice_index, codes, decimal}
-use Rattle.event_rules.specs.declared.stay.Stay.{Stay}
-use Rattle.event_rules.specs.Past.{Past}
-use Rattle.round_net.specs.Schedules.{cost}
-use Rattle.round_net.specs.Value.{ProvesBest}
-use Rattle.round_net.specs.Rows.{names_of_rows}
-use Rattle.round_net.specs.PriceRows.{pricing_of_rows}
-use Rattle.round_net.specs.Nets.{net_of, instance_of, live_of}
-use Rattle.price_check.specs.Report.{number_text}
-use Rattle.price_check.specs.Verdicts.{IsGap, IsRefused}
-use Rattle.price_check.specs.declared.claim.Claim.{Claim}
-use Rattle.price_check.specs.declared.verdict.Cause.{Cause}
-use Rattle.price_check.specs.declared.verdict.Cause.TheVariants.{Early, Late, DeviceFull, AdapterFull, LinkFull}
-use Rattle.audit_report.specs.declared.finding.Finding.{Finding}
+use Rattle.audit_report.specs.Words.{Stay, Past, cost, ProvesBest, names_of_rows, pricing_of_rows, net_of, instance_of, live_of, number_text, IsGap, IsRefused, Claim, Cause, Early, Late, DeviceFull, AdapterFull, LinkFull}
+pub use Rattle.audit_report.specs.declared.finding.Finding.{Finding}
 use Rattle.audit_report.specs.declared.finding.Finding.TheVariants.{Proved, Gap, NotAdmissible, WrongBest, WrongExcess}
 
 module _ (past : Past) (claim : Claim) where

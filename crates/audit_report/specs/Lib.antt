@@ -1,3 +1,4 @@
+pub mod Words
 pub mod Audit
 pub mod Check
 pub mod Findings

@@ -1,8 +1,6 @@
 -- what a migration of a trace writes
 use Rattle.std.specs.Prelude.{◌≡◌, ℕ, List}
-use Rattle.event_rules.specs.Past.{Past}
-use Rattle.trace_file.specs.Trace.{IsTrace}
-use Rattle.trace_file.specs.Writing.{migrated_text}
+use Rattle.audit_report.specs.Words.{Past, IsTrace, migrated_text}
 
 -- the text of the history's records in the newest version, which is a trace of the same history
 pub record IsMigration (past : Past) (text : List ℕ) : Type 0 where

@@ -1,19 +1,10 @@
 -- how a run over a trace and a report on it ends
 use Rattle.std.specs.Prelude.{◌≡◌, ℕ, Bool, true, List, Option, None, Result, Ok, Err}
 use Rattle.std.specs.Io.KnownBytes.{Appends}
-use Rattle.cam_types.specs.Whole.{AppendsFront}
-use Rattle.event_rules.specs.Past.{Past}
-use Rattle.event_rules.specs.Stays.{unsent}
-use Rattle.trace_file.specs.Trace.{WasTrace, Explains}
-use Rattle.round_net.specs.Nets.{net_of}
+use Rattle.audit_report.specs.Words.{AppendsFront, Past, unsent, WasTrace, Explains, net_of, Claim, ReportFault}
 use Rattle.price_check.specs.Claims as claims
-use Rattle.price_check.specs.declared.claim.Claim.{Claim}
-use Rattle.price_check.specs.declared.report_fault.ReportFault.{ReportFault}
-use Rattle.audit_report.specs.Runs.{WasUnsent, IsFailure}
-use Rattle.audit_report.specs.Findings.{Says, is_proved, finding_text}
-use Rattle.audit_report.specs.declared.audit_fault.AuditFault.{AuditFault}
-use Rattle.audit_report.specs.declared.audit_fault.AuditFault.TheVariants.{Trace, Unsent, Report, WriteFailed, OutOfMemory}
-use Rattle.audit_report.specs.declared.finding.Finding.{Finding}
+use Rattle.audit_report.specs.Runs.{WasUnsent, IsFailure, AuditFault, Trace, Unsent, Report, WriteFailed, OutOfMemory}
+use Rattle.audit_report.specs.Findings.{Says, is_proved, finding_text, Finding}
 
 -- what the readers still have, what the writer took, and whether a call of each failed
 pub record Streams : Type 0 where

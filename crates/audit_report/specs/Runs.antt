@@ -1,16 +1,11 @@
 -- how a run over a trace ends
 use Rattle.std.specs.Prelude.{◌≡◌, ℕ, Bool, true, List, Option, Some, Result, Ok, Err, ⊤}
 use Rattle.std.specs.Io.KnownBytes.{Appends}
-use Rattle.cam_types.specs.Whole.{AppendsFront}
-use Rattle.event_rules.specs.Past.{Past}
-use Rattle.event_rules.specs.Stays.{unsent}
-use Rattle.event_rules.specs.declared.stay.Stay.{Stay}
-use Rattle.round_net.specs.Rows.{NetRows}
+use Rattle.audit_report.specs.Words.{AppendsFront, Past, unsent, Stay, NetRows, WasTrace, Explains}
 use Rattle.price_check.specs.declared.report_fault.ReportFault.TheVariants as report_fault
-use Rattle.trace_file.specs.Trace.{WasTrace, Explains}
 use Rattle.trace_file.specs.declared.trace_fault.TraceFault.TheVariants as trace_fault
-use Rattle.audit_report.specs.declared.audit_fault.AuditFault.{AuditFault}
-use Rattle.audit_report.specs.declared.audit_fault.AuditFault.TheVariants.{Trace, Unsent, Report, WriteFailed, OutOfMemory}
+pub use Rattle.audit_report.specs.declared.audit_fault.AuditFault.{AuditFault}
+pub use Rattle.audit_report.specs.declared.audit_fault.AuditFault.TheVariants.{Trace, Unsent, Report, WriteFailed, OutOfMemory}
 
 -- a trace was read, and this is the first of its stays that has no send
 pub record WasUnsent (before after : Option (List ℕ)) (s : Stay) : Type 0 where

@@ -1,19 +1,9 @@
 //! The audit of a trace: the report on it, or the report's first seven lines.
 
 ghost use Rattle.std.specs.Prelude.{◌≡◌, ◌≢◌, ℕ, ◌+◌, ◌*◌, ◌≤◌, Bool, true, false, if◌then◌else◌, Option, None, Err, List, [], ◌++◌, length, slice_index, IfOk, IfErr, IfSome, OnOk};
-ghost use Rattle.cam_types.specs.Watched.{device_of, has_failed, is_flushed};
-ghost use Rattle.event_rules.specs.Past.{Past};
-ghost use Rattle.event_rules.specs.Stays.{unsent};
-ghost use Rattle.round_net.specs.Rows.{instance_of_rows};
-ghost use Rattle.round_net.specs.PriceRows.{pricing_of_rows, IsPricingFor};
-ghost use Rattle.round_net.specs.Value.{ProvesBest};
-ghost use Rattle.round_net.specs.Nets.{net_of};
-ghost use Rattle.event_rules.specs.Legal.{history_rules, is_legal};
-ghost use Rattle.price_check.specs.Report.{plan_text};
+ghost use Rattle.audit_report.specs.Words.{device_of, has_failed, is_flushed, Past, unsent, instance_of_rows, pricing_of_rows, IsPricingFor, ProvesBest, net_of, history_rules, is_legal, plan_text, IsTrace, IsHistory, WasTrace, MOST_STAYS, MOST_ROUNDS, MOST_DEVICES, MOST_ADAPTERS, MOST_LINKS};
 ghost use Rattle.audit_report.specs.Audit.{IsAudit};
-ghost use Rattle.trace_file.specs.Trace.{IsTrace, IsHistory, WasTrace};
 ghost use Rattle.audit_report.specs.Runs.{Ended, IsReadOrFailed, WhyNoNet};
-ghost use Rattle.cam_types.specs.declared.maxima.TheConstants.{MOST_STAYS, MOST_ROUNDS, MOST_DEVICES, MOST_ADAPTERS, MOST_LINKS};
 
 use crate::audit_fault::AuditFault;
 use crate::costs::Costs;

@@ -1,7 +1,7 @@
 //! Why a check, an audit or a proof ended without its output.
 
 ghost use Rattle.std.specs.Prelude.{◌≡◌};
-ghost use Rattle.audit_report.specs.declared.audit_fault.AuditFault.TheVariants.{OutOfMemory};
+ghost use Rattle.audit_report.specs.Runs.{OutOfMemory};
 
 use event_rules::Stay;
 use price_check::ReportFault;

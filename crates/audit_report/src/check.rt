@@ -1,9 +1,7 @@
 //! The check of a trace: its counts, and what its live schedule cost.
 
 ghost use Rattle.std.specs.Prelude.{◌≡◌, ◌≢◌, Some, true, false, Ok, Err, IfOk, OnOk};
-ghost use Rattle.cam_types.specs.Watched.{device_of, has_failed, is_flushed};
-ghost use Rattle.event_rules.specs.Past.{Past};
-ghost use Rattle.event_rules.specs.Live.{live_cost};
+ghost use Rattle.audit_report.specs.Words.{device_of, has_failed, is_flushed, Past, live_cost};
 ghost use Rattle.audit_report.specs.Check.{check_text, IsCheck};
 ghost use Rattle.audit_report.specs.Runs.{Ended};
 

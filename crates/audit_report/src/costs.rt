@@ -1,13 +1,7 @@
 //! What the live schedule cost, what a best one costs, and the excess.
 
 ghost use Rattle.std.specs.Prelude.{◌≡◌, ◌-◌, ◌*◌, ◌^◌, ◌≤◌, None, Some, length, slice_index};
-ghost use Rattle.event_rules.specs.Live.{live_cost};
-ghost use Rattle.event_rules.specs.Stays.{unsent};
-ghost use Rattle.round_net.specs.Rows.{instance_of_rows, live_of_rows};
-ghost use Rattle.round_net.specs.Nets.{net_of};
-ghost use Rattle.round_net.specs.Schedules.{IsAdmissible, cost};
-ghost use Rattle.price_check.specs.Verdicts.{IsBest};
-ghost use Rattle.cam_types.specs.declared.maxima.TheConstants.{MOST_STAYS, MOST_ROUNDS, MOST_WEIGHT};
+ghost use Rattle.audit_report.specs.Words.{live_cost, unsent, instance_of_rows, live_of_rows, net_of, IsAdmissible, cost, IsBest, MOST_STAYS, MOST_ROUNDS, MOST_WEIGHT};
 
 use cam_event::History;
 use round_net::{Net, Schedule, cost};

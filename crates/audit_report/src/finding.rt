@@ -1,11 +1,7 @@
 //! What comes of a claim about a history, and the line that says so.
 
 ghost use Rattle.std.specs.Prelude.{◌≡◌, ◌≢◌, ◌++◌, None, length, slice_index, codes, IfOk, OnOk};
-ghost use Rattle.event_rules.specs.Stays.{unsent};
-ghost use Rattle.round_net.specs.Rows.{instance_of_rows};
-ghost use Rattle.round_net.specs.PriceRows.{IsPricingFor};
-ghost use Rattle.round_net.specs.Nets.{net_of};
-ghost use Rattle.price_check.specs.Verdicts.{IsBest};
+ghost use Rattle.audit_report.specs.Words.{unsent, instance_of_rows, IsPricingFor, net_of, IsBest};
 ghost use Rattle.audit_report.specs.Findings.{IsProved, IsRight, Says, is_proved, cause_text, gap_text, stay_text, finding_text};
 
 use crate::costs::Costs;

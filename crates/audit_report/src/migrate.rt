@@ -1,8 +1,7 @@
 //! The migration of a trace to the newest version.
 
 ghost use Rattle.std.specs.Prelude.{◌≡◌, ◌≢◌, false, true, Ok, Err, OnOk};
-ghost use Rattle.cam_types.specs.Watched.{device_of, has_failed, is_flushed};
-ghost use Rattle.event_rules.specs.declared.stay.Stay.{Stay};
+ghost use Rattle.audit_report.specs.Words.{device_of, has_failed, is_flushed, Stay};
 ghost use Rattle.audit_report.specs.Migration.{IsMigration};
 ghost use Rattle.audit_report.specs.Runs.{Ended};
 

@@ -1,11 +1,7 @@
 //! Whether a report on a trace is proved, whoever made it.
 
 ghost use Rattle.std.specs.Prelude.{◌≡◌, ◌≢◌, ℕ, Bool, true, false, Err, List, Option, None, IfSome, OnOk};
-ghost use Rattle.cam_types.specs.Watched.{device_of, has_failed, is_flushed};
-ghost use Rattle.event_rules.specs.Past.{Past};
-ghost use Rattle.event_rules.specs.Stays.{unsent};
-ghost use Rattle.round_net.specs.Nets.{net_of};
-ghost use Rattle.trace_file.specs.Trace.{IsTrace, IsHistory, WasTrace};
+ghost use Rattle.audit_report.specs.Words.{device_of, has_failed, is_flushed, Past, unsent, net_of, IsTrace, IsHistory, WasTrace};
 ghost use Rattle.audit_report.specs.Audit.{IsAudit};
 ghost use Rattle.audit_report.specs.Prove.{Proving, IsProvedOrFailed};
 

@@ -1,11 +1,9 @@
 -- What a write through `get_mut` does to the map.
-use Rattle.std.proofs.Common.{◌≡◌, ◌≢◌, ℕ, ◌<◌, ◌==◌, Option, Some, None, IsSome, length, get_or, inl, inr, ap, sym, refl, subst, ◌∙◌}
+use Rattle.std.proofs.Common.{◌≡◌, ◌≢◌, ℕ, ◌<◌, ◌==◌, Option, Some, None, IsSome, length, get_or, inl, inr, ap, sym, refl, subst, ◌∙◌, set}
 use Rattle.std.proofs.lemmas.Bool.{cases_lt, cases_eq, eq-eqb, ne_eqb, cond-true, cond-false, false≢true}
 use Rattle.std.proofs.lemmas.List.{get_or_past, get_or-set_same, get_or-set_other}
-use Rattle.std.proofs.Math.ListN.{set}
-use Rattle.cam_ccb.specs.declared.handle.Handle.{Handle}
+use Rattle.cam_ccb.specs.Table.{Table, value_numbered, find, with_value, Updates, Handle}
 use Rattle.cam_ccb.specs.declared.table.Held.{Held}
-use Rattle.cam_ccb.specs.Table.{Table, value_numbered, find, with_value, Updates}
 
 -- a slot and a number make one handle
 same_handle : (a b : Handle) → a.slot ≡ b.slot → a.number ≡ b.number → a ≡ b

@@ -1,6 +1,6 @@
 -- What contracts see of a `CcbTable`: a finite map from handles to values.
 use Rattle.std.specs.Prelude.{◌≡◌, ◌≢◌, ℕ, ◌<◌, ◌≤◌, ◌==◌, if◌then◌else◌, List, Option, Some, None, is_some, count_by, slice_index_or, slice_set}
-use Rattle.cam_ccb.specs.declared.handle.Handle.{Handle}
+pub use Rattle.cam_ccb.specs.declared.handle.Handle.{Handle}
 use Rattle.cam_ccb.specs.declared.table.Held.{Held}
 
 -- what each slot holds, how many values there may be, and how many were taken in so far

@@ -1,6 +1,5 @@
 -- whose turn it is on a lane
-use Rattle.std.specs.Prelude.{ℕ, List, Option, option_and_then, slice_get}
-use Rattle.std.specs.Option.{option_map}
+use Rattle.std.specs.Prelude.{ℕ, List, Option, option_and_then, slice_get, option_map}
 use Rattle.cam_types.specs.Topology.{Topology}
 use Rattle.event_rules.specs.Head.{next}
 use Rattle.event_rules.specs.declared.event.Event.{Event}

@@ -11,8 +11,7 @@ use Rattle.std.specs.Str.Parse.{digits_value}
 use Rattle.std.proofs.lemmas.Str.Parse.{IsNumeralModel, numerals_by_value}
 use Rattle.cam_types.specs.Number.{number_of}
 use Rattle.cam_types.proofs.NumberLemmas.{number_of-decimal, number_of-spelled, number_of-within}
-use Rattle.cam_path.specs.declared.path.CamPath.{CamPath}
-use Rattle.cam_path.specs.Paths.{Fits, colon_at, digits_at, end_at, number_at, reading, spelled, ◌>>=◌}
+use Rattle.cam_path.specs.Paths.{Fits, colon_at, digits_at, end_at, number_at, reading, spelled, ◌>>=◌, CamPath}
 
 -- the value of a step that didn't fail
 on_ok : {A B E Q : Type 0} (r : Result A E) (f : A → Result B E) (y : B) → (r >>= f) ≡ Ok y → ((x : A) → r ≡ Ok x → f x ≡ Ok y → Q) → Q

@@ -4,7 +4,7 @@ use Rattle.std.specs.Char.{is_ascii_digit}
 use Rattle.std.specs.List.{prefix_len}
 use Rattle.cam_types.specs.Number.{number_of}
 use Rattle.cam_types.specs.declared.device.Device.{Device}
-use Rattle.cam_path.specs.declared.path.CamPath.{CamPath}
+pub use Rattle.cam_path.specs.declared.path.CamPath.{CamPath}
 
 -- a device's bus, target and lun
 abbrev pub address_of : Device → CamPath

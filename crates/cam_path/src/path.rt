@@ -1,8 +1,7 @@
 //! A device's path, read and written.
 
 ghost use Rattle.std.specs.Prelude.{◌≡◌, ◌++◌, length, take, Ok, Err, IfOk, OnOk, OnErr, MatchResult};
-ghost use Rattle.cam_path.specs.Paths.{address_of, spelled, reading, Fits};
-ghost use Rattle.cam_path.specs.declared.path.CamPath.{CamPath};
+ghost use Rattle.cam_path.specs.Paths.{address_of, spelled, reading, Fits, CamPath};
 
 use crate::reading::path_in;
 use cam_types::Device;

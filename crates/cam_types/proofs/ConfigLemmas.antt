@@ -1,19 +1,13 @@
 -- what the rules of a configuration say of its items
-use Rattle.std.proofs.Common.{◌≡◌, ℕ, ◌<◌, ◌≤◌, Bool, true, false, cond, List, [], ◌∷◌, ◌++◌, length, get_or, refl, ap, arith, Option, Some, None, inl, inr}
-use Rattle.std.specs.Prelude.{not, ◌==◌, nat_le, find, All}
+use Rattle.std.proofs.Common.{◌≡◌, ℕ, ◌<◌, ◌≤◌, Bool, true, false, cond, List, [], ◌∷◌, ◌++◌, length, get_or, refl, ap, arith, Option, Some, None, inl, inr, not, ◌==◌, nat_le, find, All}
 use Rattle.std.specs.Option.{option_or, option_map_or}
 use Rattle.std.proofs.lemmas.Bool.Decides.{nat_tests}
 use Rattle.std.proofs.lemmas.Option.{slice_get_cases, slice_get-get_or}
 use Rattle.std.proofs.lemmas.List.Elements.{All-nil, All-cons}
 use Rattle.cam_types.specs.Lists.{moments, moments_after, first_answer}
 use Rattle.cam_types.specs.Questions.{device_adapter, weight}
-use Rattle.cam_types.specs.Topology.{Topology, IsConfig, are_openings, openings_fault, names_link, link_fault, adapter_fault, address_fault, device_fault, lane_fault, weight_lack, adapter_lack, unit_fault}
-use Rattle.cam_types.specs.Weights.{reaches_last, weight_fault, weight_in}
-use Rattle.cam_types.specs.declared.weight_row.WeightRow.{WeightRow}
-use Rattle.cam_types.specs.declared.config_fault.ConfigFault.TheVariants.{NoAdapters, TooMany, BadOpenings, NoAdapter, BadWeight, NoLink}
-use Rattle.cam_types.specs.declared.maxima.TheConstants.{MOST_LINKS, MOST_ADAPTERS, MOST_DEVICES, MOST_OPENINGS, MOST_WEIGHT, MOST_WEIGHT_ROWS}
-use Rattle.cam_types.specs.declared.adapter.Adapter.{Adapter}
-use Rattle.cam_types.specs.declared.device.Device.{Device}
+use Rattle.cam_types.specs.Topology.{Topology, IsConfig, are_openings, openings_fault, names_link, link_fault, adapter_fault, address_fault, device_fault, lane_fault, weight_lack, adapter_lack, unit_fault, NoAdapters, TooMany, BadOpenings, NoAdapter, BadWeight, NoLink, MOST_LINKS, MOST_ADAPTERS, MOST_DEVICES, MOST_OPENINGS, MOST_WEIGHT, MOST_WEIGHT_ROWS, Adapter, Device}
+use Rattle.cam_types.specs.Weights.{reaches_last, weight_fault, weight_in, WeightRow}
 use Rattle.cam_types.proofs.ListLemmas.{few_where_none, or_left, or_right}
 use Rattle.cam_types.proofs.TopologyLemmas.{few_rows}
 

@@ -1,14 +1,10 @@
 -- the adapter of a lane
-use Rattle.std.proofs.Common.{◌≡◌, ℕ, zero, suc, ◌<◌, Bool, true, false, cond, List, [], ◌∷◌, ◌++◌, length, get_or, Option, Some, None, refl, sym, ap, slice_get, ◌∙◌}
-use Rattle.std.specs.Prelude.{◌==◌, nat_le, count_by}
+use Rattle.std.proofs.Common.{◌≡◌, ℕ, zero, suc, ◌<◌, Bool, true, false, cond, List, [], ◌∷◌, ◌++◌, length, get_or, Option, Some, None, refl, sym, ap, slice_get, ◌∙◌, ◌==◌, nat_le, count_by, leb-false, ltb-true}
 use Rattle.std.specs.Option.{option_map_or, option_or}
-use Rattle.std.proofs.lemmas.Bool.{leb-false, ltb-true}
 use Rattle.std.proofs.lemmas.Option.{slice_get-get_or}
 use Rattle.cam_types.specs.Lists.{moments_after, first_answer}
 use Rattle.cam_types.specs.Questions.{names_lane, lane_adapter}
-use Rattle.cam_types.specs.Topology.{Topology, IsConfig, lane_fault}
-use Rattle.cam_types.specs.declared.config_fault.ConfigFault.TheVariants.{TooMany, NoAdapter}
-use Rattle.cam_types.specs.declared.maxima.TheConstants.{MOST_LANES}
+use Rattle.cam_types.specs.Topology.{Topology, IsConfig, lane_fault, TooMany, NoAdapter, MOST_LANES}
 use Rattle.cam_types.proofs.ConfigLemmas.{lane_items}
 
 pub lane_named : (c : Topology) (lane : ℕ) → names_lane c lane ≡ true → slice_get c.lanes lane ≡ Some (lane_adapter c lane)
@@ -22,9 +18,8 @@ or_none None p h = (refl, h)
 or_none (Some f) p h = absurd (cc)
 
 fault_cases : (full past : Bool) → cond full (Some TooMany) (cond past (Some NoAdapter) None) ≡ None → past ≡ false
-fault_cases true past h = absurd (cc)
-fault_cases false true h = absurd (cc)
 fault_cases false false h = refl
+fault_cases _ _ h = absurd (cc)
 
 without_fault : (n : ℕ) (earlier : List ℕ) (a : ℕ) → lane_fault n (earlier, a) ≡ None → a < n
 unfolding lane_fault

@@ -1,6 +1,5 @@
 -- the least of a list with one element more
-use Rattle.std.proofs.Common.{◌≡◌, ℕ, Bool, true, false, cond, List, [], ◌∷◌, ◌++◌, refl, sym, ap, ◌∙◌, arith, Option, Some, None, append_assoc, append-nil, inl, inr}
-use Rattle.std.specs.Prelude.{◌⊎◌, not, ◌&&◌, ◌||◌, find, nat_lt, ◌==◌}
+use Rattle.std.proofs.Common.{◌≡◌, ℕ, Bool, true, false, cond, List, [], ◌∷◌, ◌++◌, refl, sym, ap, ◌∙◌, arith, Option, Some, None, append_assoc, append-nil, inl, inr, ◌⊎◌, not, ◌&&◌, ◌||◌, find, nat_lt, ◌==◌}
 use Rattle.std.specs.List.{list_all}
 use Rattle.std.specs.Option.{option_or}
 use Rattle.std.proofs.lemmas.Bool.Decides.{nat_tests}
@@ -12,24 +11,19 @@ asym_step a b true s h e = let f : s ≡ false = h refl in rw f (grind (arith, n
 asym_step a b false s h e = grind (arith, nat_tests)
 
 pub is_less-asym : (xs ys : List ℕ) → is_less xs ys ≡ true → is_less ys xs ≡ false
-is_less-asym [] [] e = refl
-is_less-asym [] (y ∷ ys) e = refl
 is_less-asym (x ∷ xs) [] e = absurd (cc)
 is_less-asym (x ∷ xs) (y ∷ ys) e = asym_step x y (is_less xs ys) (is_less ys xs) (is_less-asym xs ys) e
+is_less-asym [] _ e = refl
 
 -- x < y, and not z < y, so x < z
 below_step : (a b c : ℕ) (r s t : Bool) → (r ≡ true → s ≡ false → t ≡ true) → (nat_lt a b || ((a == b) && r)) ≡ true → (nat_lt c b || ((c == b) && s)) ≡ false → (nat_lt a c || ((a == c) && t)) ≡ true
 below_step a b c true false t h e n = let f : t ≡ true = h refl refl in rw f (grind (arith, nat_tests))
-below_step a b c true true t h e n = grind (arith, nat_tests)
-below_step a b c false s t h e n = grind (arith, nat_tests)
+below_step a b c _ _ t h e n = grind (arith, nat_tests)
 
 pub is_less-below : (xs ys zs : List ℕ) → is_less xs ys ≡ true → is_less zs ys ≡ false → is_less xs zs ≡ true
-is_less-below [] [] zs e n = absurd (cc)
-is_less-below (x ∷ xs) [] zs e n = absurd (cc)
-is_less-below [] (y ∷ ys) [] e n = absurd (cc)
 is_less-below [] (y ∷ ys) (z ∷ zs) e n = refl
-is_less-below (x ∷ xs) (y ∷ ys) [] e n = absurd (cc)
 is_less-below (x ∷ xs) (y ∷ ys) (z ∷ zs) e n = below_step x y z (is_less xs ys) (is_less zs ys) (is_less xs zs) (is_less-below xs ys zs) e n
+is_less-below _ _ _ e n = absurd (cc)
 
 -- the first that passes both tests is the first that passes the one, where that passes the other
 both_found : {X : Type 0} → (p q : Bool) (x b : X) (f g : Option X) → cond p (Some x) f ≡ Some b → (x ≡ b → q ≡ true) → (f ≡ Some b → g ≡ Some b) → cond (p && q) (Some x) g ≡ Some b

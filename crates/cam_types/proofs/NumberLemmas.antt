@@ -1,6 +1,5 @@
 -- The decimal spelling of a number, and the number that a text spells.
-use Rattle.std.proofs.Common.{◌≡◌, ◌<◌, ◌≤◌, ◌^◌, ◌+◌, ◌*◌, ◌-◌, ℕ, List, [], ◌∷◌, Bool, true, false, take, length, get_or, Option, Some, None, refl, sym, ◌∙◌, ap, arith, rules, zero, suc}
-use Rattle.std.specs.Prelude.{IfSome, if◌then◌else◌, decimal, nat_lt, nat_le, not, ◌&&◌}
+use Rattle.std.proofs.Common.{◌≡◌, ◌<◌, ◌≤◌, ◌^◌, ◌+◌, ◌*◌, ◌-◌, ℕ, List, [], ◌∷◌, Bool, true, false, take, length, get_or, Option, Some, None, refl, sym, ◌∙◌, ap, arith, rules, zero, suc, IfSome, if◌then◌else◌, decimal, nat_lt, nat_le, not, ◌&&◌}
 use Rattle.std.specs.Char.{is_ascii_digit}
 use Rattle.std.specs.List.{list_all}
 use Rattle.std.specs.Str.Parse.{digits_value}

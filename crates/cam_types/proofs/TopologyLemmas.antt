@@ -1,15 +1,10 @@
-use Rattle.std.proofs.Common.{◌≡◌, ℕ, ◌<◌, ◌≤◌, List, [], ◌∷◌, ◌++◌, length, map, refl, ap, ◌∙◌, arith}
+use Rattle.std.proofs.Common.{◌≡◌, ℕ, ◌<◌, ◌≤◌, List, [], ◌∷◌, ◌++◌, length, map, refl, ap, ◌∙◌, arith, Option, Some, None}
 use Rattle.std.proofs.lemmas.List.{length-map, map-append}
-use Rattle.std.specs.Prelude.{Option, Some, None}
 use Rattle.std.specs.Option.{option_or}
 use Rattle.std.proofs.lemmas.Bool.Decides.{nat_tests}
 use Rattle.cam_types.specs.Lists.{first_answer, moments, moments_after}
-use Rattle.cam_types.specs.Topology.{Topology, IsDraft, unlinked, openings_fault, link_fault, adapter_fault, device_fault, lane_fault, weight_lack, adapter_lack, lack, unit_fault, config_fault}
-use Rattle.cam_types.specs.Weights.{weight_fault, standard_weights}
-use Rattle.cam_types.specs.declared.adapter.Adapter.{Adapter}
-use Rattle.cam_types.specs.declared.device.Device.{Device}
-use Rattle.cam_types.specs.declared.maxima.TheConstants.{MOST_ADAPTERS, MOST_WEIGHT_ROWS}
-use Rattle.cam_types.specs.declared.weight_row.WeightRow.{WeightRow}
+use Rattle.cam_types.specs.Topology.{Topology, IsDraft, unlinked, openings_fault, link_fault, adapter_fault, device_fault, lane_fault, weight_lack, adapter_lack, lack, unit_fault, config_fault, Adapter, Device, MOST_ADAPTERS, MOST_WEIGHT_ROWS}
+use Rattle.cam_types.specs.Weights.{weight_fault, standard_weights, WeightRow}
 use Rattle.cam_types.proofs.ListLemmas.{first_answer-push, few_where_none}
 
 -- a draft that lacks nothing breaks no rule, and otherwise what it lacks is the first rule that it breaks

@@ -1,9 +1,7 @@
 -- what tables of weights say
-use Rattle.std.proofs.Common.{◌≡◌, ℕ, true, List, ap, ◌∙◌}
-use Rattle.std.specs.Prelude.{◌==◌}
+use Rattle.std.proofs.Common.{◌≡◌, ℕ, true, List, ap, ◌∙◌, ◌==◌}
 use Rattle.std.proofs.lemmas.Bool.{and_parts, eqb-true}
-use Rattle.cam_types.specs.Weights.{are_standard, is_same_row, row_to, standard_weights}
-use Rattle.cam_types.specs.declared.weight_row.WeightRow.{WeightRow}
+use Rattle.cam_types.specs.Weights.{are_standard, is_same_row, row_to, standard_weights, WeightRow}
 use Rattle.cam_types.proofs.ListLemmas.{same_lists}
 
 pub same_row : (a b : WeightRow) → is_same_row a b ≡ true → a ≡ b

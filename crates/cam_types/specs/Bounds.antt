@@ -1,5 +1,5 @@
 use Rattle.std.specs.Prelude.{ℕ, ◌≤◌, Bool, nat_le, ◌&&◌}
-use Rattle.cam_types.specs.declared.maxima.TheConstants.{MOST_CCBS, MOST_ROUNDS, MOST_STAYS, MOST_EVENTS}
+use Rattle.cam_types.specs.Topology.{MOST_CCBS, MOST_ROUNDS, MOST_STAYS, MOST_EVENTS}
 
 -- how many CCBs may be alive at once, and how many rounds, stays and events there may be
 pub record Bounds : Type 0 where

@@ -2,10 +2,8 @@
 use Rattle.std.specs.Prelude.{ℕ, ◌==◌, Bool, false, nat_lt, List, Option, length, slice_get, option_and_then}
 use Rattle.std.specs.List.{range_with_len}
 use Rattle.std.specs.Option.{option_map_or}
-use Rattle.cam_types.specs.Topology.{Topology}
+use Rattle.cam_types.specs.Topology.{Topology, Adapter, Device}
 use Rattle.cam_types.specs.Weights.{weight_in}
-use Rattle.cam_types.specs.declared.adapter.Adapter.{Adapter}
-use Rattle.cam_types.specs.declared.device.Device.{Device}
 
 -- there is a device, an adapter, a lane of that number
 abbrev pub names_device : Topology → ℕ → Bool

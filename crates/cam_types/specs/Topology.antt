@@ -2,13 +2,12 @@ use Rattle.std.specs.Prelude.{◌≡◌, ℕ, ◌==◌, Bool, true, nat_lt, nat_
 use Rattle.std.specs.List.{list_any}
 use Rattle.std.specs.Option.{option_or, option_map_or}
 use Rattle.cam_types.specs.Lists.{moments, first_answer}
-use Rattle.cam_types.specs.Weights.{weight_fault, reaches_last}
-use Rattle.cam_types.specs.declared.adapter.Adapter.{Adapter}
-use Rattle.cam_types.specs.declared.device.Device.{Device}
-use Rattle.cam_types.specs.declared.weight_row.WeightRow.{WeightRow}
+use Rattle.cam_types.specs.Weights.{weight_fault, reaches_last, WeightRow}
+pub use Rattle.cam_types.specs.declared.adapter.Adapter.{Adapter}
+pub use Rattle.cam_types.specs.declared.device.Device.{Device}
 use Rattle.cam_types.specs.declared.config_fault.ConfigFault.{ConfigFault}
-use Rattle.cam_types.specs.declared.config_fault.ConfigFault.TheVariants.{NoAdapters, TooMany, BadOpenings, NoAdapter, BadAddress, DoubleDevice, BadWeight, NoLink}
-use Rattle.cam_types.specs.declared.maxima.TheConstants.{MOST_LINKS, MOST_ADAPTERS, MOST_DEVICES, MOST_LANES, MOST_OPENINGS, MOST_LUN}
+pub use Rattle.cam_types.specs.declared.config_fault.ConfigFault.TheVariants.{NoAdapters, TooMany, BadOpenings, NoAdapter, BadAddress, DoubleDevice, BadWeight, NoLink}
+pub use Rattle.cam_types.specs.declared.maxima.TheConstants.{MOST_LINKS, MOST_ADAPTERS, MOST_DEVICES, MOST_LANES, MOST_OPENINGS, MOST_LUN, MOST_BYTES, MOST_CCBS, MOST_EVENTS, MOST_FREEZES, MOST_PRIORITY, MOST_RETRIES, MOST_ROUNDS, MOST_SENSE, MOST_STAYS, MOST_WEIGHT, MOST_WEIGHT_ROWS}
 
 -- what there is: the table of weights, each link's openings, the adapters, the devices, and each lane's adapter
 pub record Topology : Type 0 where

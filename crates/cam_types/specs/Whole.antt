@@ -1,6 +1,6 @@
 use Rattle.std.specs.Prelude.{ℕ, ◌<◌, ◌≤◌, List, length, take, Option}
 use Rattle.std.specs.Io.KnownBytes.{Appends, Consumes, IsAtEnd}
-use Rattle.cam_types.specs.declared.maxima.TheConstants.{MOST_BYTES}
+use Rattle.cam_types.specs.Topology.{MOST_BYTES}
 
 -- a reader's bytes before and after the text was read, which is all of them and within the bound
 pub record IsWhole (before after : Option (List ℕ)) (text : List ℕ) : Type 0 where

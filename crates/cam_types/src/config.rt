@@ -1,10 +1,9 @@
 //! Configurations: weights, links, adapters, devices and lanes that keep the rules.
 
 ghost use Rattle.std.specs.Prelude.{◌≡◌, [], ◌≤◌, length, map, IfOk};
-ghost use Rattle.cam_types.specs.Topology.{unlinked, IsConfig};
+ghost use Rattle.cam_types.specs.Topology.{unlinked, IsConfig, MOST_DEVICES};
 ghost use Rattle.cam_types.specs.Weights.{standard_weights};
 ghost use Rattle.cam_types.specs.Made.{MadeFrom};
-ghost use Rattle.cam_types.specs.declared.maxima.TheConstants.{MOST_DEVICES};
 ghost use Rattle.cam_types.specs.declared.config.ConfigError.TheVariants.{OutOfMemory};
 
 mod questions;

@@ -1,9 +1,8 @@
 //! A configuration in the making.
 
 ghost use Rattle.std.specs.Prelude.{◌≡◌, [], ◌∷◌, ◌++◌, ◌≤◌, length, IfOk, OnOk, OnErr, MatchOption, IsOkUnless};
-ghost use Rattle.cam_types.specs.Topology.{link_fault, adapter_fault, device_fault, lane_fault, config_fault};
+ghost use Rattle.cam_types.specs.Topology.{link_fault, adapter_fault, device_fault, lane_fault, config_fault, MOST_LINKS, MOST_WEIGHT_ROWS};
 ghost use Rattle.cam_types.specs.Weights.{reaches_last, standard_weights, weight_fault};
-ghost use Rattle.cam_types.specs.declared.maxima.TheConstants.{MOST_LINKS, MOST_WEIGHT_ROWS};
 ghost use Rattle.cam_types.specs.declared.config.ConfigError.TheVariants.{Fault, OutOfMemory};
 
 use crate::adapter::Adapter;

@@ -1,8 +1,7 @@
 //! The rules of a configuration's items, each tested beside the items before it.
 
 ghost use Rattle.std.specs.Prelude.{◌≡◌, ℕ, ◌==◌, List, length, count_by, map};
-ghost use Rattle.cam_types.specs.Topology.{unlinked, are_openings, openings_fault, names_link, is_same_address, link_fault, adapter_fault, address_fault, device_fault, lane_fault, weight_lack, adapter_lack, lack, config_fault};
-ghost use Rattle.cam_types.specs.declared.adapter.Adapter.{Adapter};
+ghost use Rattle.cam_types.specs.Topology.{unlinked, are_openings, openings_fault, names_link, is_same_address, link_fault, adapter_fault, address_fault, device_fault, lane_fault, weight_lack, adapter_lack, lack, config_fault, Adapter};
 ghost use Rattle.cam_types.specs.Weights.{is_behind, is_weight, reaches_last, weight_fault};
 ghost use Rattle.cam_types.specs.Lists.{moments, first_answer};
 ghost use Rattle.std.specs.List.{list_any};

@@ -2,7 +2,7 @@
 
 ghost use Rattle.std.specs.Prelude.{◌≡◌, ℕ, ◌<◌, ◌≤◌, MatchResult};
 ghost use Rattle.cam_types.specs.Priority.{run_level};
-ghost use Rattle.cam_types.specs.declared.maxima.TheConstants.{MOST_PRIORITY};
+ghost use Rattle.cam_types.specs.Topology.{MOST_PRIORITY};
 
 use crate::maxima::MOST_PRIORITY;
 use std::marker::Model;

@@ -1,7 +1,7 @@
 //! The bytes of sense data that a result keeps.
 
 ghost use Rattle.std.specs.Prelude.{◌≡◌, ℕ, ◌≤◌, List, length, take};
-ghost use Rattle.cam_types.specs.declared.maxima.TheConstants.{MOST_SENSE};
+ghost use Rattle.cam_types.specs.Topology.{MOST_SENSE};
 
 use crate::maxima::MOST_SENSE;
 use std::marker::Model;

@@ -3,7 +3,7 @@
 ghost use Rattle.std.specs.Prelude.{◌≡◌, ℕ, ◌≤◌};
 ghost use Rattle.cam_types.specs.Priority.{run_level, level_weight};
 ghost use Rattle.cam_types.specs.Weights.{standard_weights, are_standard, weight_in};
-ghost use Rattle.cam_types.specs.declared.maxima.TheConstants.{MOST_PRIORITY};
+ghost use Rattle.cam_types.specs.Topology.{MOST_PRIORITY};
 
 /// A row of a table of weights: a range of priorities, and what a round of waiting costs there. The first row's range begins
 /// at priority 0, and each next one's after that of the row before it.

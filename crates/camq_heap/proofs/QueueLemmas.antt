@@ -1,14 +1,11 @@
 -- What the changes of the array are to the queue.
-use Rattle.std.proofs.Common.{◌≡◌, ◌≢◌, ℕ, zero, suc, ◌^◌, ◌<◌, ◌≤◌, ◌==◌, ◌||◌, Bool, true, false, List, [], ◌∷◌, length, get_or, drop, inl, inr, ap, sym, subst, refl, ◌∙◌, arith}
+use Rattle.std.proofs.Common.{◌≡◌, ◌≢◌, ℕ, zero, suc, ◌^◌, ◌<◌, ◌≤◌, ◌==◌, ◌||◌, Bool, true, false, List, [], ◌∷◌, length, get_or, drop, inl, inr, ap, sym, subst, refl, ◌∙◌, arith, All, slice_get, remove, IsPermutation}
 use Rattle.std.proofs.lemmas.Bool.{cases_lt, or_parts, eqb-false}
 use Rattle.std.proofs.lemmas.List.Elements.{All-contains, All-cons, All-tail}
 use Rattle.std.proofs.lemmas.List.Sorted.{All-permutation, length_permutation, IsPermutation-remove}
-use Rattle.std.specs.List.{All, slice_get, remove}
-use Rattle.std.specs.List.Sorted.{IsPermutation}
-use Rattle.camq_heap.specs.declared.entry.Entry.{Entry}
+use Rattle.camq_heap.specs.Queue.{Queue, key, has_generation, change_priority, IsSound, Entry}
 use Rattle.camq_heap.specs.Order.{place, in_order, rank, AllApart}
 use Rattle.camq_heap.specs.Heap.{IsHeap}
-use Rattle.camq_heap.specs.Queue.{Queue, key, has_generation, change_priority, IsSound}
 use Rattle.camq_heap.proofs.EditLemmas.{IsHeap-short}
 use Rattle.camq_heap.proofs.OrderLemmas.{place-after, place-before, IsAmong, Contains-from_among, AllApart-head, AllApart-tail, AllApart-cons, AllApart-permutation, in_order-has, in_order-permutation}
 use Rattle.camq_heap.proofs.RankLemmas.{HasAt, HasAt-from, slice_get-heap, rank-root}

@@ -1,7 +1,7 @@
 -- What contracts see of a `Camq`.
 use Rattle.std.specs.Prelude.{ℕ, ◌+◌, ◌*◌, ◌^◌, ◌<◌, ◌≤◌, ◌==◌, Bool, List, Option, Some, None, length, slice_get, remove}
 use Rattle.std.specs.List.{list_any, All}
-use Rattle.camq_heap.specs.declared.entry.Entry.{Entry}
+pub use Rattle.camq_heap.specs.declared.entry.Entry.{Entry}
 use Rattle.camq_heap.specs.Order.{place, AllApart}
 use Rattle.camq_heap.specs.Heap.{IsHeap}
 

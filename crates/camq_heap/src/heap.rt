@@ -3,8 +3,7 @@ ghost use Rattle.std.specs.Prelude.{◌≡◌, ℕ, ◌+◌, ◌*◌, ◌^◌, �
 ghost use Rattle.std.specs.List.Sorted.{IsPermutation};
 ghost use Rattle.camq_heap.specs.Heap.{IsHeap};
 ghost use Rattle.camq_heap.specs.Order.{IsAtMostDigits};
-ghost use Rattle.camq_heap.specs.Queue.{key};
-ghost use Rattle.camq_heap.specs.declared.entry.Entry.{Entry};
+ghost use Rattle.camq_heap.specs.Queue.{key, Entry};
 
 use crate::entry::Entry;
 use crate::sift::{rise, settle, sink};

@@ -1,10 +1,7 @@
 -- What one arc of what can be changed does to a cell and the cells under it.
 use Rattle.std.proofs.Common.{◌≡◌, ℕ, ◌+◌, ◌/◌, ◌%◌, ◌<◌, ◌≤◌, ◌==◌, ◌&&◌, ◌||◌, ◌⊎◌, Bool, true, false, cond, None, refl, sym, ap, ◌∙◌, subst, inl, inr, arith}
 use Rattle.std.proofs.lemmas.Bool.{cases_lt, cases_Bool, eq-eqb, eqb-true, and_left, and_parts}
-use Rattle.negative_cycle.specs.declared.arc.Arc.{Arc}
-use Rattle.round_net.specs.Instance.{Instance, rows}
-use Rattle.round_net.specs.Sound.{IsSound}
-use Rattle.round_net.specs.Schedules.{IsAdmissible, load}
+use Rattle.cost_plan.specs.Words.{Arc, Instance, rows, IsSound, IsAdmissible, load}
 use Rattle.cost_plan.specs.Cells.{cell, row_above, above, covers, stands}
 use Rattle.cost_plan.specs.Residual.{IsResidual, move_arc, take_arc, give_arc}
 use Rattle.cost_plan.proofs.CellLemmas.{cell-row, cell-round, node_of-row, node_of-past, covers-uses, covers-past, covers-above}

@@ -4,8 +4,7 @@ use Rattle.std.specs.List.{list_any}
 use Rattle.std.specs.Option.{option_map_or}
 use Rattle.std.proofs.lemmas.Bool.{cases_lt, eq-eqb, ne_eqb, lt-ltb, le-ltb, cond-true, cond-false, or_from, or_left}
 use Rattle.std.proofs.lemmas.Nat.{div-mul-add, mod-mul-add}
-use Rattle.round_net.specs.Instance.{Instance, rows, adapter, adapter_row, link_row, link_rows, path, uses}
-use Rattle.round_net.specs.Sound.{IsSound}
+use Rattle.cost_plan.specs.Words.{Instance, rows, adapter, adapter_row, link_row, link_rows, path, uses, IsSound}
 use Rattle.cost_plan.specs.Cells.{cell, root, adapter_above, row_above, levels, rows_up, covers, node_of}
 
 -- the row and the round of a cell

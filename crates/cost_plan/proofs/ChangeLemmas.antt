@@ -1,12 +1,8 @@
 -- What changes along arcs do to sums over the stays.
-use Rattle.std.proofs.Common.{◌≡◌, ◌≢◌, ℕ, ◌+◌, ◌%◌, ◌<◌, ◌≤◌, List, [], ◌∷◌, length, Option, Some, None, refl, ap, ◌∙◌, arith}
-use Rattle.std.specs.List.{All, sum_by}
-use Rattle.std.proofs.lemmas.List.{length-set, get_or-set_other}
+use Rattle.std.proofs.Common.{◌≡◌, ◌≢◌, ℕ, ◌+◌, ◌%◌, ◌<◌, ◌≤◌, List, [], ◌∷◌, length, Option, Some, None, refl, ap, ◌∙◌, arith, All, sum_by, length-set, get_or-set_other}
 use Rattle.std.proofs.lemmas.List.Sums.{sum_by-cons}
 use Rattle.std.proofs.lemmas.List.Elements.{All-head, All-tail}
-use Rattle.negative_cycle.specs.declared.arc.Arc.{Arc}
-use Rattle.round_net.specs.Sums.{sum_below}
-use Rattle.round_net.specs.Instance.{Instance}
+use Rattle.cost_plan.specs.Words.{Arc, sum_below, Instance}
 use Rattle.cost_plan.specs.Cells.{rounds_of}
 use Rattle.cost_plan.specs.Residual.{put_in, changed, changed_all, MarksWithin}
 use Rattle.round_net.proofs.SumLemmas.{sum_below-set}

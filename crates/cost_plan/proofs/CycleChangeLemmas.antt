@@ -1,16 +1,10 @@
 -- A gaining cycle of changes, once made, keeps a schedule admissible and lowers its cost.
-use Rattle.std.proofs.Common.{◌≡◌, ℕ, zero, suc, ◌+◌, ◌-◌, ◌*◌, ◌%◌, ◌<◌, ◌≤◌, ◌==◌, Bool, cond, List, [], ◌∷◌, length, get_or, set, Option, Some, None, refl, sym, ap, ◌∙◌, subst, inl, inr, arith}
-use Rattle.std.specs.List.{All, sum_by, count_by}
+use Rattle.std.proofs.Common.{◌≡◌, ℕ, zero, suc, ◌+◌, ◌-◌, ◌*◌, ◌%◌, ◌<◌, ◌≤◌, ◌==◌, Bool, cond, List, [], ◌∷◌, length, get_or, set, Option, Some, None, refl, sym, ap, ◌∙◌, subst, inl, inr, arith, All, sum_by, count_by, get_or-set_same, get_or-set_other}
 use Rattle.std.proofs.lemmas.Bool.{cases_eq, eq-eqb}
-use Rattle.std.proofs.lemmas.List.{get_or-set_same, get_or-set_other}
 use Rattle.std.proofs.lemmas.List.Sums.{sum_by-cons}
 use Rattle.std.proofs.lemmas.List.Elements.{All-head, All-tail}
-use Rattle.negative_cycle.specs.declared.arc.Arc.{Arc}
-use Rattle.negative_cycle.specs.Walks.{IsGainingCycle}
+use Rattle.cost_plan.specs.Words.{Arc, IsGainingCycle, Instance, rows, IsAdmissible, load, cost, IsSound}
 use Rattle.negative_cycle.proofs.CycleLemmas.{telescope}
-use Rattle.round_net.specs.Instance.{Instance, rows}
-use Rattle.round_net.specs.Schedules.{IsAdmissible, load, cost}
-use Rattle.round_net.specs.Sound.{IsSound}
 use Rattle.cost_plan.specs.Cells.{cell, stands, rounds_of}
 use Rattle.cost_plan.specs.Residual.{IsResidual, IsMove, put_in, changed, changed_all, move_arc, MarksWithin}
 use Rattle.cost_plan.proofs.CellLemmas.{cell-round}

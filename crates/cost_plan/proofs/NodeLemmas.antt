@@ -2,11 +2,7 @@
 use Rattle.std.proofs.Common.{ℕ, ◌+◌, ◌*◌, ◌<◌, ◌≤◌, inl, inr, arith}
 use Rattle.std.proofs.lemmas.Bool.{cases_lt}
 use Rattle.std.proofs.lemmas.Nat.{mul-add-lt, mul-le}
-use Rattle.cam_types.specs.declared.maxima.TheConstants.{MOST_ADAPTERS, MOST_DEVICES, MOST_LINKS, MOST_ROUNDS, MOST_WEIGHT}
-use Rattle.negative_cycle.specs.declared.labels.TheConstants.{MOST_NODES}
-use Rattle.negative_cycle.specs.declared.arc.TheConstants.{MOST_UP}
-use Rattle.round_net.specs.Instance.{Instance, rows}
-use Rattle.round_net.specs.Sound.{IsSound}
+use Rattle.cost_plan.specs.Words.{MOST_ADAPTERS, MOST_DEVICES, MOST_LINKS, MOST_ROUNDS, MOST_WEIGHT, MOST_NODES, MOST_UP, Instance, rows, IsSound}
 use Rattle.cost_plan.specs.Cells.{cell, node_of, node_count}
 use Rattle.cost_plan.proofs.CellLemmas.{node_of-row, node_of-past}
 

@@ -4,11 +4,7 @@ use Rattle.std.specs.List.{All, list_any, sum_by}
 use Rattle.std.proofs.lemmas.Bool.{cases_lt, eq-eqb, lt-ltb, ltb-true, cond-true, and_from, or_left, or_right}
 use Rattle.std.proofs.lemmas.List.Sums.{sum_by-cons, AllPass-from_list_all, list_all-from_AllPass}
 use Rattle.std.proofs.lemmas.List.Elements.{All-head, All-tail}
-use Rattle.round_net.specs.Sums.{sum_below, least}
-use Rattle.round_net.specs.Instance.{Instance, rows, path, uses}
-use Rattle.round_net.specs.Schedules.{IsAdmissible, load}
-use Rattle.round_net.specs.Value.{is_open, allowed, priced, paid, offered, ProvesBest}
-use Rattle.round_net.specs.Sound.{IsSound}
+use Rattle.cost_plan.specs.Words.{sum_below, least, Instance, rows, path, uses, IsAdmissible, load, is_open, allowed, priced, paid, offered, ProvesBest, IsSound}
 use Rattle.cost_plan.specs.Cells.{cell, root, row_above, levels, rows_up, node_of, above}
 use Rattle.cost_plan.specs.Residual.{move_arc, take_arc, give_arc}
 use Rattle.cost_plan.specs.RowPrices.{SettlesAll, row_price}

@@ -1,14 +1,9 @@
 -- Prices that are set one by one.
-use Rattle.std.proofs.Common.{◌≡◌, ◌≢◌, ℕ, ◌+◌, ◌-◌, ◌*◌, ◌<◌, ◌≤◌, ◌==◌, List, [], ◌∷◌, get_or, map, refl, sym, ap, ◌∙◌, subst, inl, inr, arith}
-use Rattle.std.specs.List.{All, sum_by}
+use Rattle.std.proofs.Common.{◌≡◌, ◌≢◌, ℕ, ◌+◌, ◌-◌, ◌*◌, ◌<◌, ◌≤◌, ◌==◌, List, [], ◌∷◌, get_or, map, refl, sym, ap, ◌∙◌, subst, inl, inr, arith, All, sum_by}
 use Rattle.std.proofs.lemmas.Bool.{cases_eq, eq-eqb, ne_eqb, cond-true, cond-false, and_from, and_left, and_right}
 use Rattle.std.proofs.lemmas.List.Sums.{sum_by-cons}
 use Rattle.std.proofs.lemmas.List.Elements.{All-head, All-tail}
-use Rattle.round_net.specs.Sums.{least}
-use Rattle.round_net.specs.Instance.{Instance, rows, path}
-use Rattle.round_net.specs.Sound.{IsSound}
-use Rattle.round_net.specs.PriceRows.{PriceRows, pricing_of_rows, IsPricingFor, IsSameSize, SetsPrice}
-use Rattle.round_net.specs.Value.{Pricing, is_open, allowed, paid, offered, ProvesBest}
+use Rattle.cost_plan.specs.Words.{least, Instance, rows, path, IsSound, PriceRows, pricing_of_rows, IsPricingFor, IsSameSize, SetsPrice, Pricing, is_open, allowed, paid, offered, ProvesBest}
 use Rattle.cost_plan.specs.RowPrices.{row_price, IsPrice, PricesRow, PricesRows}
 use Rattle.round_net.proofs.SumLemmas.{sum_below-same}
 use Rattle.round_net.proofs.PathLemmas.{path-inside}

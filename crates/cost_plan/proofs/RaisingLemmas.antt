@@ -3,12 +3,7 @@ use Rattle.std.proofs.Common.{◌≡◌, ℕ, ◌+◌, ◌*◌, ◌<◌, ◌≤�
 use Rattle.std.specs.Option.{option_or}
 use Rattle.std.proofs.lemmas.Bool.{cases_eq, cases_lt, leb-true, leb-false, cond-true, cond-false}
 use Rattle.std.proofs.lemmas.List.{length-set, get_or-set_same, get_or-set_other, set_past}
-use Rattle.negative_cycle.specs.declared.labels.TheConstants.{MOST_NODES}
-use Rattle.negative_cycle.specs.declared.arc.TheConstants.{MOST_UP}
-use Rattle.negative_cycle.specs.declared.arc.Arc.{Arc}
-use Rattle.negative_cycle.specs.Walks.{came_by}
-use Rattle.negative_cycle.specs.Labelling.{Labelling, highest, settles, needed, relaxed, raised, IsSettled}
-use Rattle.round_net.specs.Instance.{Instance}
+use Rattle.cost_plan.specs.Words.{MOST_NODES, MOST_UP, Arc, came_by, Labelling, highest, settles, needed, relaxed, raised, IsSettled, Instance}
 use Rattle.cost_plan.specs.Cells.{cell}
 use Rattle.cost_plan.specs.Residual.{IsResidual, move_arc}
 use Rattle.cost_plan.specs.Raising.{Raises, IsRaising}

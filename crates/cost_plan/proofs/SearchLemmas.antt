@@ -1,13 +1,8 @@
 -- Raising labels ends.
-use Rattle.std.proofs.Common.{◌≡◌, ℕ, zero, suc, ◌+◌, ◌-◌, ◌*◌, ◌<◌, ◌≤◌, List, [], ◌∷◌, length, get_or, replicate, Option, Some, None, sym, ap, ◌∙◌, inl, inr, arith}
-use Rattle.std.specs.List.{All, sum_by}
+use Rattle.std.proofs.Common.{◌≡◌, ℕ, zero, suc, ◌+◌, ◌-◌, ◌*◌, ◌<◌, ◌≤◌, List, [], ◌∷◌, length, get_or, replicate, Option, Some, None, sym, ap, ◌∙◌, inl, inr, arith, All, sum_by}
 use Rattle.std.proofs.lemmas.List.Sums.{sum_by-cons}
-use Rattle.negative_cycle.specs.declared.arc.TheConstants.{MOST_UP}
-use Rattle.negative_cycle.specs.declared.arc.Arc.{Arc}
-use Rattle.negative_cycle.specs.Walks.{came_by, AllCameBy}
-use Rattle.negative_cycle.specs.Labelling.{Labelling, label_of, limit}
+use Rattle.cost_plan.specs.Words.{MOST_UP, Arc, came_by, AllCameBy, Labelling, label_of, limit, Instance}
 use Rattle.negative_cycle.proofs.ForestLemmas.{came_by-none}
-use Rattle.round_net.specs.Instance.{Instance}
 use Rattle.cost_plan.specs.Residual.{IsResidual}
 use Rattle.cost_plan.specs.Raising.{Raises, AllResidual}
 

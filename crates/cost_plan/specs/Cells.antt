@@ -2,8 +2,7 @@
 use Rattle.std.specs.Prelude.{ℕ, zero, suc, ◌+◌, ◌*◌, ◌==◌, ◌-◌, nat_lt, Bool, cond, ◌&&◌, if◌then◌else◌, List, [], ◌∷◌, slice_index}
 use Rattle.std.specs.List.{list_any}
 use Rattle.std.specs.Option.{option_map_or}
-use Rattle.round_net.specs.Sums.{count_below}
-use Rattle.round_net.specs.Instance.{Instance, rows, adapter_row, link_row, uses}
+use Rattle.cost_plan.specs.Words.{count_below, Instance, rows, adapter_row, link_row, uses}
 
 -- the node of a row and a round, where rounds begin at 1
 abbrev pub cell : Instance → ℕ → ℕ → ℕ

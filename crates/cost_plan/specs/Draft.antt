@@ -1,7 +1,6 @@
 -- What a schedule and its loads are while it is made better.
 use Rattle.std.specs.Prelude.{◌≡◌, ℕ, ◌+◌, ◌*◌, ◌<◌, ◌≤◌, List, length, slice_index}
-use Rattle.round_net.specs.Instance.{Instance, rows}
-use Rattle.round_net.specs.Schedules.{load}
+use Rattle.cost_plan.specs.Words.{Instance, rows, load}
 use Rattle.cost_plan.specs.declared.draft.Draft.{Draft}
 use Rattle.cost_plan.specs.Cells.{cell, part_load, rounds_of}
 

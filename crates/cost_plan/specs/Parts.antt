@@ -3,8 +3,7 @@
 use Rattle.std.specs.Prelude.{◌≡◌, ℕ, ◌<◌, ◌==◌, nat_lt, Bool, false, List, length, filter, slice_index, unwrap_or}
 use Rattle.std.specs.List.{find, range_with_len}
 use Rattle.std.specs.Option.{option_map_or}
-use Rattle.round_net.specs.Sums.{count_below}
-use Rattle.round_net.specs.Instance.{Instance, adapter}
+use Rattle.cost_plan.specs.Words.{count_below, Instance, adapter}
 
 -- whether an adapter is on a link
 abbrev pub is_on : Instance → ℕ → ℕ → Bool

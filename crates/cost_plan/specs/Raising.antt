@@ -1,10 +1,6 @@
 -- What raising labels by what can be changed does.
 use Rattle.std.specs.Prelude.{◌≡◌, ℕ, ◌<◌, ◌≤◌, ◌⊎◌, Option, Some, None, length}
-use Rattle.negative_cycle.specs.declared.arc.Arc.{Arc}
-use Rattle.negative_cycle.specs.Walks.{came_by}
-use Rattle.negative_cycle.specs.Labelling.{Labelling, label_of, limit, IsSettled}
-use Rattle.round_net.specs.Instance.{Instance}
-use Rattle.round_net.specs.Schedules.{load}
+use Rattle.cost_plan.specs.Words.{Arc, came_by, Labelling, label_of, limit, IsSettled, Instance, load}
 use Rattle.cost_plan.specs.Residual.{IsResidual, move_arc, take_arc, give_arc}
 
 -- Labels rise, by arcs of what can be changed alone. Where no node is named they are as they were; a node that is named rose,

@@ -1,10 +1,7 @@
 -- What can be changed in a schedule, as arcs between cells: a stay moves to another round, a cell takes one stay more, or
 -- gives one up.
-use Rattle.std.specs.Prelude.{◌≡◌, ℕ, ◌+◌, ◌*◌, ◌%◌, ◌<◌, ◌≤◌, ◌⊎◌, List, Option, Some, None, fold, slice_set}
-use Rattle.std.specs.List.{All}
-use Rattle.negative_cycle.specs.declared.arc.Arc.{Arc}
-use Rattle.round_net.specs.Instance.{Instance, rows}
-use Rattle.round_net.specs.Schedules.{load}
+use Rattle.std.specs.Prelude.{◌≡◌, ℕ, ◌+◌, ◌*◌, ◌%◌, ◌<◌, ◌≤◌, ◌⊎◌, List, Option, Some, None, fold, slice_set, All}
+use Rattle.cost_plan.specs.Words.{Arc, Instance, rows, load}
 use Rattle.cost_plan.specs.Cells.{cell, above}
 
 -- a stay moves from its round to another: what it waited is gained, what it will wait is lost

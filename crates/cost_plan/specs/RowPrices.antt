@@ -1,8 +1,6 @@
 -- prices out of labels on cells
 use Rattle.std.specs.Prelude.{◌≡◌, ℕ, ◌+◌, ◌-◌, ◌<◌, ◌≤◌, nat_lt, if◌then◌else◌}
-use Rattle.negative_cycle.specs.declared.arc.Arc.{Arc}
-use Rattle.round_net.specs.Instance.{Instance, rows}
-use Rattle.round_net.specs.Value.{Pricing}
+use Rattle.cost_plan.specs.Words.{Arc, Instance, rows, Pricing}
 use Rattle.cost_plan.specs.Cells.{cell, above}
 use Rattle.cost_plan.specs.Residual.{IsResidual}
 

@@ -1,15 +1,10 @@
 //! What can be changed in a draft, as arcs. Proved: each arc is the one that the definitions name, between nodes of the graph.
 
 ghost use Rattle.std.specs.Prelude.{◌≡◌, ◌<◌, ◌≤◌};
-ghost use Rattle.round_net.specs.Instance.{rows};
-ghost use Rattle.round_net.specs.Rows.{instance_of_rows, live_of_rows};
-ghost use Rattle.round_net.specs.Schedules.{load};
-ghost use Rattle.round_net.specs.Sound.{IsSound};
+ghost use Rattle.cost_plan.specs.Words.{rows, instance_of_rows, live_of_rows, load, IsSound, MOST_UP, MOST_NODES};
 ghost use Rattle.cost_plan.specs.Cells.{row_above, node_count};
 ghost use Rattle.cost_plan.specs.Draft.{IsDraftOf, schedule_of};
 ghost use Rattle.cost_plan.specs.Residual.{move_arc, take_arc, give_arc};
-ghost use Rattle.negative_cycle.specs.declared.arc.TheConstants.{MOST_UP};
-ghost use Rattle.negative_cycle.specs.declared.labels.TheConstants.{MOST_NODES};
 
 use crate::cells::{node, node_above};
 use crate::draft::Draft;

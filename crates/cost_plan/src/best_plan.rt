@@ -4,13 +4,7 @@
 ghost use Rattle.std.specs.Prelude.{◌≡◌, ◌+◌, ◌<◌, ◌≤◌, length, drop, slice_index, IfOk};
 ghost use Rattle.std.specs.List.{All};
 ghost use Rattle.std.specs.Option.{IfSome};
-ghost use Rattle.negative_cycle.specs.Walks.{IsGainingCycle};
-ghost use Rattle.negative_cycle.specs.Labelling.{label_of};
-ghost use Rattle.round_net.specs.Rows.{instance_of_rows, live_of_rows};
-ghost use Rattle.round_net.specs.Sound.{IsSound};
-ghost use Rattle.round_net.specs.Schedules.{IsAdmissible, cost};
-ghost use Rattle.round_net.specs.Value.{ProvesBest};
-ghost use Rattle.round_net.specs.PriceRows.{pricing_of_rows, IsPricingFor};
+ghost use Rattle.cost_plan.specs.Words.{IsGainingCycle, label_of, instance_of_rows, live_of_rows, IsSound, IsAdmissible, cost, ProvesBest, pricing_of_rows, IsPricingFor};
 ghost use Rattle.cost_plan.specs.Cells.{node_count};
 ghost use Rattle.cost_plan.specs.Draft.{IsDraftOf, schedule_of};
 ghost use Rattle.cost_plan.specs.Residual.{IsResidual};

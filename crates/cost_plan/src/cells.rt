@@ -2,11 +2,8 @@
 //! one that the definitions name.
 
 ghost use Rattle.std.specs.Prelude.{◌≡◌, ◌+◌, ◌<◌, ◌≤◌};
-ghost use Rattle.round_net.specs.Instance.{rows};
-ghost use Rattle.round_net.specs.Rows.{instance_of_rows, live_of_rows};
-ghost use Rattle.round_net.specs.Sound.{IsSound};
+ghost use Rattle.cost_plan.specs.Words.{rows, instance_of_rows, live_of_rows, IsSound, MOST_NODES};
 ghost use Rattle.cost_plan.specs.Cells.{cell, adapter_above, row_above, node_of, node_count};
-ghost use Rattle.negative_cycle.specs.declared.labels.TheConstants.{MOST_NODES};
 
 use round_net::Net;
 

@@ -3,15 +3,10 @@
 
 ghost use Rattle.std.specs.Prelude.{◌≡◌, ℕ, ◌+◌, ◌*◌, ◌<◌, ◌≤◌, Some, length, slice_index, slice_set, IfOk};
 ghost use Rattle.std.specs.Option.{IfSome, IfNone};
-ghost use Rattle.negative_cycle.specs.declared.arc.Arc.{Arc};
-ghost use Rattle.round_net.specs.Instance.{rows};
-ghost use Rattle.round_net.specs.Rows.{instance_of_rows, live_of_rows};
-ghost use Rattle.round_net.specs.Schedules.{IsAdmissible};
-ghost use Rattle.round_net.specs.Sound.{IsSound};
+ghost use Rattle.cost_plan.specs.Words.{Arc, rows, instance_of_rows, live_of_rows, IsAdmissible, IsSound, MOST_STAYS};
 ghost use Rattle.cost_plan.specs.Cells.{cell, stands, rounds_of};
 ghost use Rattle.cost_plan.specs.Draft.{AreLoads, IsDraftOf, schedule_of};
 ghost use Rattle.cost_plan.specs.Residual.{changed, changed_all, MarksWithin};
-ghost use Rattle.cam_types.specs.declared.maxima.TheConstants.{MOST_STAYS};
 
 use crate::cells::{node, row_above};
 use crate::keeping::{keep_caps, keep_windows};

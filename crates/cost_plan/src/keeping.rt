@@ -1,9 +1,7 @@
 //! Whether a schedule keeps windows and caps. Proved: it is said of each exactly.
 
 ghost use Rattle.std.specs.Prelude.{◌≡◌, ◌↔◌, ◌+◌, ◌<◌, length, true};
-ghost use Rattle.round_net.specs.Instance.{rows};
-ghost use Rattle.round_net.specs.Rows.{instance_of_rows, live_of_rows};
-ghost use Rattle.round_net.specs.Sound.{IsSound};
+ghost use Rattle.cost_plan.specs.Words.{rows, instance_of_rows, live_of_rows, IsSound};
 ghost use Rattle.cost_plan.specs.Cells.{rounds_of};
 ghost use Rattle.cost_plan.specs.Draft.{IsDraftOf, schedule_of, KeepWindows, KeepsRow, KeepRows};
 

@@ -3,8 +3,7 @@
 
 ghost use Rattle.std.specs.Prelude.{◌≡◌, ℕ, ◌<◌, length, slice_index, IfOk};
 ghost use Rattle.std.specs.Option.{IfSome};
-ghost use Rattle.round_net.specs.Instance.{rows};
-ghost use Rattle.round_net.specs.Rows.{instance_of_rows};
+ghost use Rattle.cost_plan.specs.Words.{rows, instance_of_rows};
 ghost use Rattle.cost_plan.specs.Cells.{node_count};
 ghost use Rattle.cost_plan.specs.Parts.{IsPutIn};
 

@@ -2,8 +2,7 @@
 //! its least adapter. Proved: it is the one that the definitions name.
 
 ghost use Rattle.std.specs.Prelude.{◌≡◌, ◌<◌, nat_lt};
-ghost use Rattle.round_net.specs.Instance.{rows};
-ghost use Rattle.round_net.specs.Rows.{instance_of_rows};
+ghost use Rattle.cost_plan.specs.Words.{rows, instance_of_rows};
 ghost use Rattle.cost_plan.specs.Parts.{is_on, least_on, part_of, part_of_stay, before};
 
 use round_net::Net;

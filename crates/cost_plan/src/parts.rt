@@ -3,9 +3,7 @@
 
 ghost use Rattle.std.specs.Prelude.{◌≡◌, length, IfOk};
 ghost use Rattle.std.specs.Option.{IfSome};
-ghost use Rattle.round_net.specs.Rows.{instance_of_rows, live_of_rows};
-ghost use Rattle.round_net.specs.Sound.{IsSound};
-ghost use Rattle.round_net.specs.Schedules.{IsAdmissible};
+ghost use Rattle.cost_plan.specs.Words.{instance_of_rows, live_of_rows, IsSound, IsAdmissible};
 ghost use Rattle.cost_plan.specs.Cells.{node_count};
 ghost use Rattle.cost_plan.specs.Parts.{busy_parts};
 ghost use Rattle.cost_plan.specs.Draft.{IsDraftOf, schedule_of};

@@ -2,10 +2,7 @@
 //! 1,000,000,000,000.
 
 ghost use Rattle.std.specs.Prelude.{◌≡◌, ◌+◌, ◌<◌, ◌≤◌, length, IfOk};
-ghost use Rattle.negative_cycle.specs.Labelling.{label_of};
-ghost use Rattle.round_net.specs.Instance.{rows};
-ghost use Rattle.round_net.specs.Rows.{instance_of_rows};
-ghost use Rattle.round_net.specs.PriceRows.{pricing_of_rows, IsPricingFor};
+ghost use Rattle.cost_plan.specs.Words.{label_of, rows, instance_of_rows, pricing_of_rows, IsPricingFor};
 ghost use Rattle.cost_plan.specs.Cells.{row_above, node_count};
 ghost use Rattle.cost_plan.specs.RowPrices.{row_price, PricesRows};
 

@@ -2,9 +2,7 @@
 //! rows and rounds there are.
 
 ghost use Rattle.std.specs.Prelude.{◌≡◌, ◌+◌, ◌<◌, length, IfOk};
-ghost use Rattle.round_net.specs.Instance.{rows};
-ghost use Rattle.round_net.specs.Rows.{instance_of_rows, live_of_rows};
-ghost use Rattle.round_net.specs.Sound.{IsSound};
+ghost use Rattle.cost_plan.specs.Words.{rows, instance_of_rows, live_of_rows, IsSound};
 
 use crate::cells::row_above;
 use crate::part_name::{part_of_row, part_of_stay};

@@ -1,10 +1,8 @@
 //! Raises labels by everything that can be changed in a draft, once. Where no label rises, they settle all of it.
 
 ghost use Rattle.std.specs.Prelude.{◌≡◌, ℕ, ◌+◌, ◌<◌, ◌≤◌, None, length};
-ghost use Rattle.round_net.specs.Instance.{rows};
-ghost use Rattle.round_net.specs.Rows.{instance_of_rows};
+ghost use Rattle.cost_plan.specs.Words.{rows, instance_of_rows, label_of};
 ghost use Rattle.cost_plan.specs.Cells.{row_above, node_count};
-ghost use Rattle.negative_cycle.specs.Labelling.{label_of};
 ghost use Rattle.cost_plan.specs.RowPrices.{SettlesAll};
 ghost use Rattle.cost_plan.specs.Draft.{IsDraftOf, schedule_of};
 ghost use Rattle.cost_plan.specs.Raising.{Raises, SettlesMoves, SettlesTake, SettlesGive, SettlesCell, SettlesRow};

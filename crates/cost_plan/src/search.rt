@@ -3,9 +3,7 @@
 ghost use Rattle.std.specs.Prelude.{◌≡◌, length, drop, IfOk};
 ghost use Rattle.std.specs.List.{All};
 ghost use Rattle.std.specs.Option.{IfSome, IfNone};
-ghost use Rattle.negative_cycle.specs.Walks.{IsGainingCycle};
-ghost use Rattle.negative_cycle.specs.Labelling.{label_of};
-ghost use Rattle.round_net.specs.Rows.{instance_of_rows};
+ghost use Rattle.cost_plan.specs.Words.{IsGainingCycle, label_of, instance_of_rows};
 ghost use Rattle.cost_plan.specs.Cells.{node_count};
 ghost use Rattle.cost_plan.specs.Draft.{IsDraftOf, schedule_of};
 ghost use Rattle.cost_plan.specs.Residual.{IsResidual};

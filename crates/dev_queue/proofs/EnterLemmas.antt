@@ -1,16 +1,14 @@
 -- What an insert into the heap is to the queue of a device.
-use Rattle.std.proofs.Common.{◌≡◌, ℕ, ◌+◌, ◌^◌, ◌<◌, ◌≤◌, ◌==◌, nat_le, false, List, [], ◌∷◌, length, get_or, take, option_map, inl, inr, ap, sym, subst, refl, ◌∙◌, arith}
+use Rattle.std.proofs.Common.{◌≡◌, ℕ, ◌+◌, ◌^◌, ◌<◌, ◌≤◌, ◌==◌, nat_le, false, List, [], ◌∷◌, length, get_or, take, option_map, inl, inr, ap, sym, subst, refl, ◌∙◌, arith, slice_get}
 use Rattle.std.proofs.lemmas.Bool.{cases_eq, cases_lt, or_from, ne_eqb, lt-leb, le-leb, cond-true, cond-false}
 use Rattle.std.proofs.lemmas.List.{length-map, get_or-map}
-use Rattle.std.specs.List.{slice_get}
 use Rattle.std.specs.List.Sorted.{IsNonDecreasingBy}
 use Rattle.std.proofs.lemmas.List.Elements.{All-cons, All-head, All-tail, All-weaker}
 use Rattle.camq_heap.specs.declared.entry.Entry.{Entry}
 use Rattle.camq_heap.specs.Order.{place, IsRising}
 use Rattle.camq_heap.specs.Queue.{Queue, key, has_generation}
 use Rattle.camq_heap.proofs.OrderLemmas.{place-after, place-before}
-use Rattle.dev_queue.specs.declared.waiting.Waiting.{Waiting}
-use Rattle.dev_queue.specs.Device.{enter, enter_all}
+use Rattle.dev_queue.specs.Device.{enter, enter_all, Waiting}
 use Rattle.dev_queue.specs.Order.{waiting_of, AllBefore}
 
 -- the CCB of an entry

@@ -1,6 +1,6 @@
 -- What contracts see of a `DevQueue`: the queue of one device.
 use Rattle.std.specs.Prelude.{ℕ, ◌+◌, ◌==◌, Bool, not, ◌&&◌, nat_lt, nat_le, if◌then◌else◌, List, [], ◌∷◌, length, fold}
-use Rattle.dev_queue.specs.declared.waiting.Waiting.{Waiting}
+pub use Rattle.dev_queue.specs.declared.waiting.Waiting.{Waiting}
 
 -- one more CCB in the queue, after each that is as urgent
 abbrev pub enter : List Waiting → Waiting → List Waiting

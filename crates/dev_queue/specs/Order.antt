@@ -1,8 +1,7 @@
 -- A device's queue as a `Camq` whose generations rise with each entry.
-use Rattle.std.specs.Prelude.{ℕ, ◌<◌, List, map}
-use Rattle.std.specs.List.{All}
+use Rattle.std.specs.Prelude.{ℕ, ◌<◌, List, map, All}
 use Rattle.camq_heap.specs.declared.entry.Entry.{Entry}
-use Rattle.dev_queue.specs.declared.waiting.Waiting.{Waiting}
+use Rattle.dev_queue.specs.Device.{Waiting}
 
 -- the CCBs that wait, in order
 abbrev pub waiting_of : List (Entry ℕ) → List Waiting

@@ -1,7 +1,7 @@
 -- The parts that hold a device's queue.
 use Rattle.std.specs.Prelude.{◌≡◌, ℕ, ◌+◌, ◌-◌, ◌^◌, ◌<◌, ◌≤◌, List, length}
 use Rattle.camq_heap.specs.Queue.{Queue}
-use Rattle.dev_queue.specs.declared.waiting.Waiting.{Waiting}
+use Rattle.dev_queue.specs.Device.{Waiting}
 use Rattle.dev_queue.specs.Order.{AllBefore}
 
 -- the entries of both kinds fit; generations count what entered the queue; each CCB that waits, is in flight or freezes the device was entered

@@ -1,14 +1,12 @@
 -- what one event more makes of a CCB's results, requeues and end
-use Rattle.std.proofs.Common.{◌≡◌, ℕ, ◌+◌, ◌≤◌, Bool, true, false, cond, List, [], ◌∷◌, ◌++◌, refl, ap, ◌∙◌, arith, Option, Some, append-nil, append_assoc}
-use Rattle.std.specs.Prelude.{◌&&◌, ◌||◌, not, count_by, option_and_then}
+use Rattle.std.proofs.Common.{◌≡◌, ℕ, ◌+◌, ◌≤◌, Bool, true, false, cond, List, [], ◌∷◌, ◌++◌, refl, ap, ◌∙◌, arith, Option, Some, append-nil, append_assoc, ◌&&◌, ◌||◌, not, count_by, option_and_then}
 use Rattle.std.specs.List.{list_any}
 use Rattle.std.proofs.lemmas.List.Folds.{list_any-append}
 use Rattle.cam_types.specs.Lists.{moments}
 use Rattle.cam_types.proofs.ListLemmas.{moments-push}
 use Rattle.sense_class.specs.Classes.{is_counted, kind_of}
-use Rattle.event_rules.specs.Event.{is_some_and, is_done_of, is_requeue_of, outcome_of, ends}
+use Rattle.event_rules.specs.Event.{is_some_and, is_done_of, is_requeue_of, outcome_of, ends, Event}
 use Rattle.event_rules.specs.Counts.{last, last_result, is_counted_requeue, counted_requeues}
-use Rattle.event_rules.specs.declared.event.Event.{Event}
 use Rattle.event_rules.proofs.ListFacts.{count_by-push}
 use Rattle.event_rules.proofs.StateLaws.{last-push}
 

@@ -1,11 +1,8 @@
 -- which CCB an event concerns
-use Rattle.std.proofs.Common.{◌≡◌, ◌≢◌, ℕ, false, refl, sym, ◌∙◌, Some, None}
-use Rattle.std.specs.Prelude.{◌==◌, ◌||◌, not}
+use Rattle.std.proofs.Common.{◌≡◌, ◌≢◌, ℕ, false, refl, sym, ◌∙◌, Some, None, ◌==◌, ◌||◌, not}
 use Rattle.std.proofs.lemmas.Bool.{or_parts, and_left, or_from, ne_eqb}
-use Rattle.event_rules.specs.Event.{is_send_of, is_done_of, is_send_or_done_of, is_requeue_of, is_finish_of, concerns, ccb_of, is_erring, ends, submission_of}
-use Rattle.event_rules.specs.declared.event.Event.{Event}
-use Rattle.event_rules.specs.declared.event.Event.TheVariants.{Send, Done, Requeue, Finish}
-use Rattle.event_rules.specs.declared.submission.Submission.{Submission}
+use Rattle.event_rules.specs.Event.{is_send_of, is_done_of, is_send_or_done_of, is_requeue_of, is_finish_of, concerns, ccb_of, is_erring, ends, submission_of, Event, Send, Done, Requeue, Finish}
+use Rattle.event_rules.specs.Counts.{Submission}
 
 -- an event changes no CCB that it doesn't concern
 pub record IsApart (n : ℕ) (e : Event) : Type 0 where

@@ -1,13 +1,10 @@
 -- what one event more changes of a device's freezes by callers
-use Rattle.std.proofs.Common.{◌≡◌, ℕ, ◌+◌, ◌-◌, ◌≤◌, Bool, true, false, cond, List, [], ◌∷◌, ◌++◌, refl, sym, ap, subst, ◌∙◌, arith, Option, Some, None}
-use Rattle.std.specs.Prelude.{◌==◌, ◌&&◌, nat_le, option_and_then}
+use Rattle.std.proofs.Common.{◌≡◌, ℕ, ◌+◌, ◌-◌, ◌≤◌, Bool, true, false, cond, List, [], ◌∷◌, ◌++◌, refl, sym, ap, subst, ◌∙◌, arith, Option, Some, None, ◌==◌, ◌&&◌, nat_le, option_and_then}
 use Rattle.std.specs.Option.{option_map_or}
 use Rattle.std.proofs.lemmas.Bool.{and_parts, leb-true, eqb-true}
 use Rattle.cam_types.specs.Topology.{Topology}
-use Rattle.event_rules.specs.Counts.{sendings, sending_of, caller_count}
-use Rattle.event_rules.specs.declared.event.Event.{Event}
-use Rattle.event_rules.specs.declared.event.Event.TheVariants.{Send, FreezeDev, ReleaseDev}
-use Rattle.event_rules.specs.declared.sending.Sending.{Sending}
+use Rattle.event_rules.specs.Counts.{sendings, sending_of, caller_count, Sending}
+use Rattle.event_rules.specs.Event.{Event, Send, FreezeDev, ReleaseDev}
 use Rattle.event_rules.proofs.TallyLaws.{Tally, device_tally, device_change, with_change, tallied, device_tally-push}
 use Rattle.cam_types.specs.Questions.{names_device}
 use Rattle.event_rules.specs.Legal.{Rules, is_count, is_legal_event, is_legal}

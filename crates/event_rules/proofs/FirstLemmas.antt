@@ -1,19 +1,15 @@
 -- what a send changes of the stays that wait at a device
-use Rattle.std.proofs.Common.{◌≡◌, ◌≢◌, ℕ, ◌+◌, ◌≤◌, Bool, true, false, cond, List, [], ◌∷◌, ◌++◌, refl, sym, ap, ◌∙◌, arith, Some, None, append-nil, zero-add, drop}
-use Rattle.std.specs.Prelude.{not, ◌==◌, ◌&&◌, nat_lt, nat_le, filter, fold, slice_get, count_by, option_and_then}
+use Rattle.std.proofs.Common.{◌≡◌, ◌≢◌, ℕ, ◌+◌, ◌≤◌, Bool, true, false, cond, List, [], ◌∷◌, ◌++◌, refl, sym, ap, ◌∙◌, arith, Some, None, append-nil, zero-add, drop, not, ◌==◌, ◌&&◌, nat_lt, nat_le, filter, fold, slice_get, count_by, option_and_then}
 use Rattle.std.proofs.lemmas.Bool.{and_parts, eqb-true}
 use Rattle.std.proofs.lemmas.Bool.Decides.{nat_tests}
 use Rattle.std.proofs.lemmas.List.Sums.{sum_by-cons}
 use Rattle.cam_types.specs.Lists.{is_less}
 use Rattle.cam_types.specs.Topology.{Topology}
-use Rattle.event_rules.specs.Event.{is_some_and}
+use Rattle.event_rules.specs.Event.{is_some_and, Event, Send}
 use Rattle.event_rules.specs.Counts.{round}
-use Rattle.event_rules.specs.Stays.{waiting, is_at, queue, queue_key, first}
+use Rattle.event_rules.specs.Stays.{waiting, is_at, queue, queue_key, first, Passage}
 use Rattle.event_rules.specs.Head.{is_ready, head, next}
 use Rattle.event_rules.specs.Sorted.{insert_by, sorted_by}
-use Rattle.event_rules.specs.declared.event.Event.{Event}
-use Rattle.event_rules.specs.declared.event.Event.TheVariants.{Send}
-use Rattle.event_rules.specs.declared.passage.Passage.{Passage}
 use Rattle.event_rules.proofs.QueueLaws.{in_order, is_later, later, in_order-send, first-in_order, later-push}
 use Rattle.event_rules.proofs.TotalLaws.{is_of, not_of, unsent_count}
 use Rattle.event_rules.specs.Legal.{is_next}

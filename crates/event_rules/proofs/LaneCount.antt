@@ -1,7 +1,5 @@
 -- a configuration has few lanes
-use Rattle.std.proofs.Common.{◌≡◌, ℕ, zero, suc, ◌+◌, ◌*◌, ◌<◌, ◌≤◌, Bool, true, false, cond, List, [], ◌∷◌, ◌++◌, length, refl, sym, ap, ◌∙◌, arith, Some, None, append-nil, append_assoc, length-append}
-use Rattle.std.specs.Prelude.{◌==◌, nat_le, count_by}
-use Rattle.std.proofs.lemmas.Bool.{eqb-true, eq-eqb, ne_eqb, leb-false}
+use Rattle.std.proofs.Common.{◌≡◌, ℕ, zero, suc, ◌+◌, ◌*◌, ◌<◌, ◌≤◌, Bool, true, false, cond, List, [], ◌∷◌, ◌++◌, length, refl, sym, ap, ◌∙◌, arith, Some, None, append-nil, append_assoc, length-append, ◌==◌, nat_le, count_by, eqb-true, eq-eqb, ne_eqb, leb-false}
 use Rattle.cam_types.specs.Lists.{moments, first_answer}
 use Rattle.cam_types.specs.Topology.{Topology, IsConfig, lane_fault}
 use Rattle.cam_types.specs.declared.config_fault.ConfigFault.TheVariants.{TooMany, NoAdapter}

@@ -1,8 +1,6 @@
 -- what holds at each place of a legal list
-use Rattle.std.proofs.Common.{◌≡◌, ℕ, ◌<◌, ◌≤◌, Bool, true, false, List, [], ◌∷◌, ◌++◌, length, refl, arith, Some, None}
-use Rattle.std.specs.Prelude.{not, ◌&&◌, ◌==◌, nat_lt, nat_le, filter, if◌then◌else◌}
+use Rattle.std.proofs.Common.{◌≡◌, ℕ, ◌<◌, ◌≤◌, Bool, true, false, List, [], ◌∷◌, ◌++◌, length, refl, arith, Some, None, not, ◌&&◌, ◌==◌, nat_lt, nat_le, filter, if◌then◌else◌, option_map}
 use Rattle.std.specs.List.{list_all}
-use Rattle.std.specs.Option.{option_map}
 use Rattle.std.proofs.lemmas.Bool.{and_parts, and_from, eqb-true, ltb-true, lt-ltb}
 use Rattle.std.proofs.lemmas.List.Folds.{list_all-append}
 use Rattle.cam_types.specs.Lists.{moments}
@@ -13,10 +11,8 @@ use Rattle.sense_class.specs.declared.class.Kind.{Kind}
 use Rattle.sense_class.specs.declared.class.Kind.TheVariants.{Good, Free, Counted, Recovered, Other}
 use Rattle.sense_class.specs.declared.class.Class.TheVariants.{CountedRequeue, Fail}
 use Rattle.sense_class.specs.declared.class.Why.TheVariants as whys
-use Rattle.event_rules.specs.Event.{is_some_and}
+use Rattle.event_rules.specs.Event.{is_some_and, Event, Submit, Send, Requeue, Tick}
 use Rattle.event_rules.specs.Counts.{last_result, is_counted_requeue, counted_requeues, retries_of, wants_requeue, is_recovering, round, has_in_flight}
-use Rattle.event_rules.specs.declared.event.Event.{Event}
-use Rattle.event_rules.specs.declared.event.Event.TheVariants.{Submit, Send, Done, Requeue, Finish, FreezeDev, ReleaseDev, FreezeSim, ReleaseSim, Adjust, Tick}
 use Rattle.cam_types.specs.Questions.{names_device, names_lane}
 use Rattle.event_rules.specs.Legal.{Rules, history_rules, IsWithinHistory, names_ccb, has_ccb, has_stay, is_next, is_allowed, is_legal_event, is_legal}
 use Rattle.cam_types.specs.declared.flags.Flags.{Flags}
@@ -47,16 +43,7 @@ free_send rules c before lane ccb h =
 
 free_legal : (rules : Rules) (c : Topology) (m : List Event × Event) → is_legal_event rules c m ≡ true → stands_free c m ≡ true
 free_legal rules c (before, Send lane ccb) h = free_send rules c before lane ccb h
-free_legal rules c (before, Submit driver device priority retries flags) h = refl
-free_legal rules c (before, Done ccb outcome) h = refl
-free_legal rules c (before, Requeue ccb) h = refl
-free_legal rules c (before, Finish ccb) h = refl
-free_legal rules c (before, FreezeDev device count) h = refl
-free_legal rules c (before, ReleaseDev device count) h = refl
-free_legal rules c (before, FreezeSim sim count) h = refl
-free_legal rules c (before, ReleaseSim sim) h = refl
-free_legal rules c (before, Adjust device openings) h = refl
-free_legal rules c (before, Tick) h = refl
+free_legal rules c (before, _) h = refl
 
 pub sends_stand_free : (rules : Rules) (c : Topology) (events : List Event) → is_legal rules c events ≡ true → list_all (stands_free c) (moments events) ≡ true
 unfolding is_legal
@@ -102,16 +89,7 @@ requeue_by_class rules c ccb before n h =
 
 counted_by_class : (rules : Rules) (c : Topology) (ccb : ℕ) (m : List Event × Event) → is_legal_event rules c m ≡ true → is_counted_requeue ccb m ≡ is_requeue_by_class ccb m
 counted_by_class rules c ccb (before, Requeue n) h = requeue_by_class rules c ccb before n h
-counted_by_class rules c ccb (before, Submit driver device priority retries flags) h = refl
-counted_by_class rules c ccb (before, Send lane n) h = refl
-counted_by_class rules c ccb (before, Done n outcome) h = refl
-counted_by_class rules c ccb (before, Finish n) h = refl
-counted_by_class rules c ccb (before, FreezeDev device count) h = refl
-counted_by_class rules c ccb (before, ReleaseDev device count) h = refl
-counted_by_class rules c ccb (before, FreezeSim sim count) h = refl
-counted_by_class rules c ccb (before, ReleaseSim sim) h = refl
-counted_by_class rules c ccb (before, Adjust device openings) h = refl
-counted_by_class rules c ccb (before, Tick) h = refl
+counted_by_class rules c ccb (before, _) h = refl
 
 pub requeues_count_by_class : (rules : Rules) (c : Topology) (events : List Event) (ccb : ℕ) → is_legal rules c events ≡ true → filter (is_counted_requeue ccb) (moments events) ≡ filter (is_requeue_by_class ccb) (moments events)
 unfolding is_legal

@@ -1,6 +1,5 @@
 -- a list that isn't empty has a least element
-use Rattle.std.proofs.Common.{◌≡◌, ℕ, Bool, true, false, cond, List, [], ◌∷◌, ◌++◌, refl, ◌∙◌, Option, Some, None, append_assoc}
-use Rattle.std.specs.Prelude.{◌&&◌, filter, is_some}
+use Rattle.std.proofs.Common.{◌≡◌, ℕ, Bool, true, false, cond, List, [], ◌∷◌, ◌++◌, refl, ◌∙◌, Option, Some, None, append_assoc, ◌&&◌, filter, is_some}
 use Rattle.std.specs.List.{list_any}
 use Rattle.std.proofs.Math.Bool.{and-true}
 use Rattle.cam_types.specs.Lists.{is_less, least_by, better}

@@ -1,6 +1,5 @@
 -- what is legal is what isn't refused
-use Rattle.std.proofs.Common.{Option, ◌≡◌, ℕ, Bool, true, false, List, [], ◌∷◌, length, refl, sym, ap, ◌∙◌, arith, Some, None}
-use Rattle.std.specs.Prelude.{not, ◌&&◌, nat_lt, nat_le, is_none}
+use Rattle.std.proofs.Common.{Option, ◌≡◌, ℕ, Bool, true, false, List, [], ◌∷◌, length, refl, sym, ap, ◌∙◌, arith, Some, None, not, ◌&&◌, nat_lt, nat_le, is_none}
 use Rattle.std.specs.List.{list_all}
 use Rattle.std.specs.Option.{option_map_or}
 use Rattle.std.proofs.lemmas.Bool.Decides.{nat_tests}
@@ -8,14 +7,10 @@ use Rattle.std.proofs.Math.Bool.{not-not, and-true, and_assoc}
 use Rattle.cam_types.specs.declared.flags.Flags.{Flags}
 use Rattle.event_rules.specs.Counts.{alive}
 use Rattle.cam_types.specs.Topology.{Topology}
-use Rattle.event_rules.specs.Event.{is_some_and}
-use Rattle.event_rules.specs.declared.event.Event.{Event}
-use Rattle.event_rules.specs.declared.event.Event.TheVariants.{Submit, Send, ReleaseSim, Adjust, Tick}
+use Rattle.event_rules.specs.Event.{is_some_and, Event, Submit, Send, ReleaseSim, Adjust, Tick}
 use Rattle.cam_types.specs.Questions.{names_lane, lane_adapter}
 use Rattle.event_rules.specs.Legal.{Rules, is_legal_event, is_allowed, has_ccb, names_ccb, is_next}
-use Rattle.event_rules.specs.Refusals.{device_of, are_ccbs_full, causes, first_cause, refusal}
-use Rattle.event_rules.specs.declared.refusal.Refusal.{Refusal}
-use Rattle.event_rules.specs.declared.refusal.Refusal.TheVariants.{HistoryFull}
+use Rattle.event_rules.specs.Refusals.{device_of, are_ccbs_full, causes, first_cause, refusal, Refusal, HistoryFull}
 use Rattle.event_rules.proofs.SendLemmas.{is_sendable, is_next-is_sendable}
 
 -- there is no first cause where none holds

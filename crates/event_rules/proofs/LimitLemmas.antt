@@ -1,16 +1,13 @@
 -- what legal events come to
-use Rattle.std.proofs.Common.{◌≡◌, ℕ, ◌+◌, ◌<◌, ◌≤◌, true, List, [], ◌∷◌, ◌++◌, length, take, drop, get_or, refl, sym, ap, ◌∙◌, arith, append_assoc, append-nil, length-append, Option, Some, None}
-use Rattle.std.specs.Prelude.{◌&&◌, not, nat_lt, nat_le, option_to_list}
+use Rattle.std.proofs.Common.{◌≡◌, ℕ, ◌+◌, ◌<◌, ◌≤◌, true, List, [], ◌∷◌, ◌++◌, length, take, drop, get_or, refl, sym, ap, ◌∙◌, arith, append_assoc, append-nil, length-append, Option, Some, None, ◌&&◌, not, nat_lt, nat_le, option_to_list}
 use Rattle.std.specs.List.{list_all}
 use Rattle.std.proofs.lemmas.Bool.{and_parts, and_from, ltb-true}
 use Rattle.std.proofs.lemmas.List.{take-append-drop, drop_more}
 use Rattle.cam_types.specs.Lists.{moments_after}
 use Rattle.cam_types.specs.Topology.{Topology}
 use Rattle.event_rules.specs.Counts.{round, has_in_flight, is_recovering, wants_requeue}
-use Rattle.event_rules.specs.Stays.{stays_begun, stay_begun}
-use Rattle.event_rules.specs.declared.event.Event.{Event}
-use Rattle.event_rules.specs.declared.event.Event.TheVariants.{Submit, Requeue, Tick}
-use Rattle.event_rules.specs.declared.passage.Passage.{Passage}
+use Rattle.event_rules.specs.Stays.{stays_begun, stay_begun, Passage}
+use Rattle.event_rules.specs.Event.{Event, Submit, Requeue, Tick}
 use Rattle.event_rules.proofs.PushLaws.{round-push, stays_begun-push}
 use Rattle.cam_types.specs.Questions.{names_device}
 use Rattle.event_rules.specs.Legal.{Rules, history_rules, names_ccb, has_ccb, has_stay, is_legal_event, is_legal}

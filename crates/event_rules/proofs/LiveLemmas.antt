@@ -1,12 +1,10 @@
 -- the live cost, by whether a stay is without a send
-use Rattle.std.proofs.Common.{◌≡◌, Bool, true, false, cond, List, [], ◌∷◌, refl, sym, Some, None}
-use Rattle.std.specs.Prelude.{find, sum_by, is_some, ◌||◌}
+use Rattle.std.proofs.Common.{◌≡◌, Bool, true, false, cond, List, [], ◌∷◌, refl, sym, Some, None, find, sum_by, is_some, ◌||◌, option_map}
 use Rattle.std.specs.List.{list_any}
-use Rattle.std.specs.Option.{option_map}
 use Rattle.cam_types.specs.Topology.{Topology}
 use Rattle.event_rules.specs.Stays.{stays_begun, is_unsent, name_of, unsent}
 use Rattle.event_rules.specs.Live.{live_part, live_cost}
-use Rattle.event_rules.specs.declared.event.Event.{Event}
+use Rattle.event_rules.specs.Event.{Event}
 
 some_cases : {X Y : Type 0} → (f : X → Y) (p : X → Bool) (t : Bool) (x : X) (xs : List X) → is_some (option_map f (find p xs)) ≡ list_any p xs → is_some (option_map f (cond t (Some x) (find p xs))) ≡ (t || list_any p xs)
 some_cases f p true x xs e = refl

@@ -1,6 +1,5 @@
 -- whose turn it is on an adapter
-use Rattle.std.proofs.Common.{◌≡◌, ℕ, ◌<◌, true, false, cond, List, length, get_or, zero-add, refl, sym, ap, ◌∙◌, arith, Some, None, slice_get}
-use Rattle.std.specs.Prelude.{◌&&◌, ◌==◌, filter, is_some, option_and_then}
+use Rattle.std.proofs.Common.{◌≡◌, ℕ, ◌<◌, true, false, cond, List, length, get_or, zero-add, refl, sym, ap, ◌∙◌, arith, Some, None, slice_get, ◌&&◌, ◌==◌, filter, is_some, option_and_then}
 use Rattle.std.specs.List.{list_all}
 use Rattle.std.specs.Option.{option_map_or}
 use Rattle.std.proofs.lemmas.Bool.{and_parts, and_from, eqb-true, eq-eqb}
@@ -10,14 +9,11 @@ use Rattle.std.proofs.lemmas.Option.{slice_get_within}
 use Rattle.cam_types.specs.Lists.{least_by}
 use Rattle.cam_types.specs.Topology.{Topology}
 use Rattle.cam_types.specs.declared.device.Device.{Device}
-use Rattle.event_rules.specs.Event.{is_some_and}
-use Rattle.event_rules.specs.Counts.{submission, freeze_count, adapter_freezes}
-use Rattle.event_rules.specs.Stays.{stays_begun, waiting, is_unsent, has_arrived, has_queued, queue, queue_key, first}
+use Rattle.event_rules.specs.Event.{is_some_and, Event}
+use Rattle.event_rules.specs.Counts.{submission, freeze_count, adapter_freezes, Submission}
+use Rattle.event_rules.specs.Stays.{stays_begun, waiting, is_unsent, has_arrived, has_queued, queue, queue_key, first, Passage}
 use Rattle.cam_types.specs.Questions.{is_on, devices}
 use Rattle.event_rules.specs.Head.{has_opening, adapter_has_opening, link_has_opening, is_ready, turn_key, turn, head, next}
-use Rattle.event_rules.specs.declared.event.Event.{Event}
-use Rattle.event_rules.specs.declared.submission.Submission.{Submission}
-use Rattle.event_rules.specs.declared.passage.Passage.{Passage}
 use Rattle.event_rules.specs.Laws.{is_stay_of}
 use Rattle.event_rules.specs.Refusals.{device_of}
 use Rattle.event_rules.proofs.TestLemmas.{IsIn, in_found, in_filter, passes-all, list_any-with, list_all-filter, list_all-filtered}

@@ -1,6 +1,5 @@
 -- what stands before the last element that passes a test, with one element more
-use Rattle.std.proofs.Common.{◌≡◌, ℕ, ◌+◌, ◌-◌, Bool, true, false, cond, List, [], ◌∷◌, ◌++◌, length, take, refl, ap, ◌∙◌, arith, length-append}
-use Rattle.std.specs.Prelude.{not}
+use Rattle.std.proofs.Common.{◌≡◌, ℕ, ◌+◌, ◌-◌, Bool, true, false, cond, List, [], ◌∷◌, ◌++◌, length, take, refl, ap, ◌∙◌, arith, length-append, not}
 use Rattle.std.specs.List.{before_last, suffix_len, prefix_len}
 use Rattle.std.proofs.lemmas.List.{reverse-append, take-append-le}
 use Rattle.std.proofs.Math.Seq.{take-append_seam}

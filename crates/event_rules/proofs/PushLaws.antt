@@ -1,22 +1,16 @@
 -- what one event more changes
-use Rattle.std.proofs.Common.{◌≡◌, ℕ, ◌+◌, ◌<◌, ◌≤◌, Bool, true, false, cond, List, [], ◌∷◌, ◌++◌, length, drop, refl, sym, ap, ◌∙◌, arith, Option, Some, None, length-append}
-use Rattle.std.specs.Prelude.{not, ◌&&◌, ◌||◌, filter, option_to_list, All}
+use Rattle.std.proofs.Common.{◌≡◌, ℕ, ◌+◌, ◌<◌, ◌≤◌, Bool, true, false, cond, List, [], ◌∷◌, ◌++◌, length, drop, refl, sym, ap, ◌∙◌, arith, Option, Some, None, length-append, not, ◌&&◌, ◌||◌, filter, option_to_list, All, option_map}
 use Rattle.std.specs.List.{list_any}
-use Rattle.std.specs.Option.{option_map}
 use Rattle.std.proofs.lemmas.List.{drop-append-le, drop_all}
 use Rattle.std.proofs.lemmas.List.Elements.{filter-append, All-weaker}
 use Rattle.std.proofs.lemmas.List.Folds.{list_any-append}
 use Rattle.std.proofs.lemmas.List.Sums.{count_by-le-length}
 use Rattle.cam_types.specs.Lists.{moments}
 use Rattle.cam_types.proofs.ListLemmas.{moments-push}
-use Rattle.event_rules.specs.Event.{is_tick, is_send_of, submission_of}
-use Rattle.event_rules.specs.Counts.{round, submissions, submission, sendings, sending_of}
-use Rattle.event_rules.specs.Stays.{stays_begun, stay_begun, is_unsent, waiting}
+use Rattle.event_rules.specs.Event.{is_tick, is_send_of, submission_of, Event, Submit, Requeue}
+use Rattle.event_rules.specs.Counts.{round, submissions, submission, sendings, sending_of, Submission}
+use Rattle.event_rules.specs.Stays.{stays_begun, stay_begun, is_unsent, waiting, Passage}
 use Rattle.event_rules.proofs.ListFacts.{filter_map-push, count_by-push, filter-same, filter-both, All-filter_map-moments, length-filter_map, length-moments_after}
-use Rattle.event_rules.specs.declared.event.Event.{Event}
-use Rattle.event_rules.specs.declared.event.Event.TheVariants.{Submit, Send, Done, Requeue, Finish, FreezeDev, ReleaseDev, FreezeSim, ReleaseSim, Adjust, Tick}
-use Rattle.event_rules.specs.declared.submission.Submission.{Submission}
-use Rattle.event_rules.specs.declared.passage.Passage.{Passage}
 
 pub submissions-push : (es : List Event) (e : Event) → submissions (es ++ e ∷ []) ≡ submissions es ++ option_to_list (submission_of e)
 unfolding submissions
@@ -45,15 +39,7 @@ submitted-place before q p h e = let e' : q ≡ p = cc in ap (λ (r : Passage). 
 pub place-stay_begun : (m : List Event × Event) (p : Passage) → stay_begun m ≡ Some p → p.place ≡ length m.0
 place-stay_begun (before, Submit driver device priority retries flags) p e = submitted-place before _ p refl e
 place-stay_begun (before, Requeue ccb) p e = requeued-place (submission before ccb) _ (length before) p (λ x. refl) e
-place-stay_begun (before, Send lane ccb) p e = absurd (cc)
-place-stay_begun (before, Done ccb outcome) p e = absurd (cc)
-place-stay_begun (before, Finish ccb) p e = absurd (cc)
-place-stay_begun (before, FreezeDev device count) p e = absurd (cc)
-place-stay_begun (before, ReleaseDev device count) p e = absurd (cc)
-place-stay_begun (before, FreezeSim sim count) p e = absurd (cc)
-place-stay_begun (before, ReleaseSim sim) p e = absurd (cc)
-place-stay_begun (before, Adjust device openings) p e = absurd (cc)
-place-stay_begun (before, Tick) p e = absurd (cc)
+place-stay_begun (before, _) p e = absurd (cc)
 
 -- each stay begins at a place of the history
 pub places-stays_begun : (es : List Event) → All (λ (p : Passage). p.place < length es) (stays_begun es)

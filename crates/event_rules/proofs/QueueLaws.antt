@@ -1,24 +1,18 @@
 -- what one event more changes of a device's queue
-use Rattle.std.proofs.Common.{◌≡◌, ℕ, ◌+◌, ◌<◌, ◌≤◌, Bool, true, false, cond, List, [], ◌∷◌, ◌++◌, length, refl, sym, ap, ◌∙◌, arith, Option, Some, None, append-nil, append_assoc, length-append, add-zero}
-use Rattle.std.specs.Prelude.{not, ◌==◌, ◌&&◌, ◌||◌, if◌then◌else◌, nat_le, nat_lt, filter, option_to_list, fold, slice_get}
+use Rattle.std.proofs.Common.{◌≡◌, ℕ, ◌+◌, ◌<◌, ◌≤◌, Bool, true, false, cond, List, [], ◌∷◌, ◌++◌, length, refl, sym, ap, ◌∙◌, arith, Option, Some, None, append-nil, append_assoc, length-append, add-zero, not, ◌==◌, ◌&&◌, ◌||◌, if◌then◌else◌, nat_le, nat_lt, filter, option_to_list, fold, slice_get, option_map}
 use Rattle.std.proofs.lemmas.List.Elements.{filter-append}
-use Rattle.event_rules.specs.Event.{is_tick, is_send_of}
-use Rattle.event_rules.specs.Counts.{round, submission}
+use Rattle.event_rules.specs.Event.{is_tick, is_send_of, Event, Submit, Send, Requeue, Tick}
+use Rattle.event_rules.specs.Counts.{round, submission, Submission}
 use Rattle.std.specs.List.{list_all, filter_map, cons_option}
-use Rattle.std.specs.Option.{option_map}
 use Rattle.std.proofs.lemmas.Bool.{and_parts, and_from}
 use Rattle.std.proofs.lemmas.Bool.Decides.{nat_tests}
 use Rattle.cam_types.specs.Lists.{moments, moments_after}
-use Rattle.event_rules.specs.Stays.{stays_begun, stay_begun, is_unsent, waiting, is_at, queue, queue_key, first}
+use Rattle.event_rules.specs.Stays.{stays_begun, stay_begun, is_unsent, waiting, is_at, queue, queue_key, first, Passage}
 use Rattle.event_rules.specs.Sorted.{insert_by, sorted_by}
 use Rattle.event_rules.proofs.PushLaws.{round-push, waiting-push, place-stay_begun}
 use Rattle.event_rules.proofs.ListFacts.{filter-all}
 use Rattle.event_rules.proofs.TurnLaws.{round-more}
 use Rattle.event_rules.proofs.SortedLemmas.{filter-sorted_by, first-sorted_by, are_apart, all_apart, all-filter, apart-filter, is_parted, sorted-parts}
-use Rattle.event_rules.specs.declared.event.Event.{Event}
-use Rattle.event_rules.specs.declared.event.Event.TheVariants.{Submit, Send, Done, Requeue, Finish, FreezeDev, ReleaseDev, FreezeSim, ReleaseSim, Adjust, Tick}
-use Rattle.event_rules.specs.declared.passage.Passage.{Passage}
-use Rattle.event_rules.specs.declared.submission.Submission.{Submission}
 
 -- a device's queue, the first in front
 abbrev pub in_order : List Event → ℕ → List Passage
@@ -91,15 +85,7 @@ submitted-arrival q p n h e = let same : q ≡ p = cc in ap (λ (x : Passage). x
 arrival-stay_begun : (m : List Event × Event) (p : Passage) → stay_begun m ≡ Some p → p.arrival ≤ round m.0 + 1
 arrival-stay_begun (before, Submit driver device priority retries flags) p e = let at : p.arrival ≡ round before = submitted-arrival _ p (round before) refl e in omega arith
 arrival-stay_begun (before, Requeue ccb) p e = let at : p.arrival ≡ round before + 1 = arrival_cases (submission before ccb) _ (round before + 1) (λ x. refl) p e in omega arith
-arrival-stay_begun (before, Send lane ccb) p e = absurd (cc)
-arrival-stay_begun (before, Done ccb outcome) p e = absurd (cc)
-arrival-stay_begun (before, Finish ccb) p e = absurd (cc)
-arrival-stay_begun (before, FreezeDev device count) p e = absurd (cc)
-arrival-stay_begun (before, ReleaseDev device count) p e = absurd (cc)
-arrival-stay_begun (before, FreezeSim sim count) p e = absurd (cc)
-arrival-stay_begun (before, ReleaseSim sim) p e = absurd (cc)
-arrival-stay_begun (before, Adjust device openings) p e = absurd (cc)
-arrival-stay_begun (before, Tick) p e = absurd (cc)
+arrival-stay_begun (before, _) p e = absurd (cc)
 
 -- what holds of each stay that begins holds of all
 module _ (test : Passage → Bool) where

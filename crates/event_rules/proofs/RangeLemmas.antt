@@ -1,19 +1,14 @@
 -- what a legal list submits is within the ranges, and so are its stays
-use Rattle.std.proofs.Common.{zero, suc, ◌≡◌, ℕ, Bool, true, List, [], ◌∷◌, ◌++◌, refl, append-nil, Some, None, slice_get}
-use Rattle.std.specs.Prelude.{◌&&◌, nat_le}
+use Rattle.std.proofs.Common.{zero, suc, ◌≡◌, ℕ, Bool, true, List, [], ◌∷◌, ◌++◌, refl, append-nil, Some, None, slice_get, ◌&&◌, nat_le}
 use Rattle.std.specs.List.{list_all}
 use Rattle.std.proofs.lemmas.Bool.{and_parts, and_from}
 use Rattle.std.proofs.lemmas.List.Folds.{list_all-append}
 use Rattle.cam_types.specs.Topology.{Topology}
 use Rattle.cam_types.specs.declared.flags.Flags.{Flags}
 use Rattle.cam_types.specs.declared.maxima.TheConstants.{MOST_PRIORITY, MOST_RETRIES}
-use Rattle.event_rules.specs.Event.{is_some_and}
-use Rattle.event_rules.specs.Counts.{submissions, submission}
-use Rattle.event_rules.specs.Stays.{stays_begun}
-use Rattle.event_rules.specs.declared.event.Event.{Event}
-use Rattle.event_rules.specs.declared.event.Event.TheVariants.{Submit}
-use Rattle.event_rules.specs.declared.submission.Submission.{Submission}
-use Rattle.event_rules.specs.declared.passage.Passage.{Passage}
+use Rattle.event_rules.specs.Event.{is_some_and, Event, Submit}
+use Rattle.event_rules.specs.Counts.{submissions, submission, Submission}
+use Rattle.event_rules.specs.Stays.{stays_begun, Passage}
 use Rattle.event_rules.proofs.PushLaws.{submissions-push}
 use Rattle.cam_types.specs.Questions.{names_device}
 use Rattle.event_rules.specs.Legal.{Rules, has_ccb, has_stay, is_legal_event, is_legal}

@@ -1,17 +1,14 @@
 -- a send is of the stay whose turn it is where no cause refuses it
-use Rattle.std.proofs.Common.{◌≡◌, ℕ, Bool, true, false, List, length, get_or, refl, sym, ap, ◌∙◌, Some, None, slice_get}
-use Rattle.std.specs.Prelude.{not, ◌&&◌, ◌==◌, is_some}
+use Rattle.std.proofs.Common.{◌≡◌, ℕ, Bool, true, false, List, length, get_or, refl, sym, ap, ◌∙◌, Some, None, slice_get, not, ◌&&◌, ◌==◌, is_some}
 use Rattle.std.specs.Option.{option_map_or}
 use Rattle.std.proofs.lemmas.Bool.{and_parts, and_from, eqb-true, ltb-true, not-true, not-false, not_from_false, not_from_true}
 use Rattle.std.proofs.lemmas.Option.{slice_get-get_or}
 use Rattle.cam_types.specs.Topology.{Topology}
-use Rattle.event_rules.specs.Event.{is_some_and}
+use Rattle.event_rules.specs.Event.{is_some_and, Event}
 use Rattle.event_rules.specs.Counts.{freeze_count, adapter_freezes}
-use Rattle.event_rules.specs.Stays.{has_queued}
+use Rattle.event_rules.specs.Stays.{has_queued, Passage}
 use Rattle.cam_types.specs.Questions.{names_lane, is_on, lane_adapter}
 use Rattle.event_rules.specs.Head.{has_opening, adapter_has_opening, link_has_opening, next}
-use Rattle.event_rules.specs.declared.event.Event.{Event}
-use Rattle.event_rules.specs.declared.passage.Passage.{Passage}
 use Rattle.event_rules.specs.Legal.{is_next}
 use Rattle.event_rules.specs.Refusals.{device_of, have_openings, is_other_next}
 use Rattle.event_rules.proofs.TestLemmas.{same_tests}

@@ -1,15 +1,11 @@
 -- counts of the CCBs that stand in some way, where one event more changes how one of them stands
-use Rattle.std.proofs.Common.{◌≡◌, ◌≢◌, ℕ, zero, suc, ◌+◌, ◌-◌, ◌<◌, ◌≤◌, Bool, true, false, cond, List, [], ◌∷◌, ◌++◌, length, refl, sym, ap, ◌∙◌, arith, Some, None, append-nil, add-zero, zero-add, length-append}
-use Rattle.std.specs.Prelude.{not, ◌==◌, ◌&&◌, ◌||◌, count_by, option_to_list, slice_get}
+use Rattle.std.proofs.Common.{◌≡◌, ◌≢◌, ℕ, zero, suc, ◌+◌, ◌-◌, ◌<◌, ◌≤◌, Bool, true, false, cond, List, [], ◌∷◌, ◌++◌, length, refl, sym, ap, ◌∙◌, arith, Some, None, append-nil, add-zero, zero-add, length-append, not, ◌==◌, ◌&&◌, ◌||◌, count_by, option_to_list, slice_get}
 use Rattle.std.specs.List.{range_with_len}
 use Rattle.std.proofs.lemmas.Bool.Decides.{nat_tests}
 use Rattle.std.proofs.lemmas.List.Sums.{sum_by-cons}
 use Rattle.cam_types.specs.declared.outcome.Outcome.{Outcome}
-use Rattle.event_rules.specs.Event.{is_some_and, ccb_of, submission_of}
-use Rattle.event_rules.specs.Counts.{commands, ccbs, submission, submissions, is_in_flight, is_recovering, error_count}
-use Rattle.event_rules.specs.declared.event.Event.{Event}
-use Rattle.event_rules.specs.declared.event.Event.TheVariants.{Send, Done}
-use Rattle.event_rules.specs.declared.submission.Submission.{Submission}
+use Rattle.event_rules.specs.Event.{is_some_and, ccb_of, submission_of, Event, Send, Done}
+use Rattle.event_rules.specs.Counts.{commands, ccbs, submission, submissions, is_in_flight, is_recovering, error_count, Submission}
 use Rattle.event_rules.proofs.PushLaws.{submissions-push}
 use Rattle.event_rules.proofs.ListFacts.{range_with_len-push, count_by-push}
 use Rattle.event_rules.proofs.ConcernLaws.{apart as apart_from, concerns-other}

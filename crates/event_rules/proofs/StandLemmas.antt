@@ -1,6 +1,5 @@
 -- where each CCB of a legal list stands: one that was submitted and hasn't ended has an unsent stay, is in flight or recovers, and each other does none of these
-use Rattle.std.proofs.Common.{◌≡◌, ◌≢◌, ℕ, ◌+◌, ◌<◌, ◌≤◌, Bool, true, false, cond, List, [], ◌∷◌, ◌++◌, refl, sym, ap, ◌∙◌, arith, Option, Some, None, inl, inr, add-zero, zero-add}
-use Rattle.std.specs.Prelude.{not, ◌==◌, ◌&&◌, ◌||◌, nat_lt, filter, count_by, option_to_list}
+use Rattle.std.proofs.Common.{◌≡◌, ◌≢◌, ℕ, ◌+◌, ◌<◌, ◌≤◌, Bool, true, false, cond, List, [], ◌∷◌, ◌++◌, refl, sym, ap, ◌∙◌, arith, Option, Some, None, inl, inr, add-zero, zero-add, not, ◌==◌, ◌&&◌, ◌||◌, nat_lt, filter, count_by, option_to_list}
 use Rattle.std.specs.List.{list_any}
 use Rattle.std.proofs.lemmas.Bool.{cases_lt, cases_eq, and_parts, ltb-true, lt-ltb, le-ltb, eq-eqb, ne_eqb, eqb-true, or_cases}
 use Rattle.std.proofs.lemmas.Option.{slice_get-get_or}
@@ -9,13 +8,9 @@ use Rattle.std.proofs.Math.Bool.{and-true}
 use Rattle.cam_types.specs.Topology.{Topology}
 use Rattle.cam_types.specs.declared.outcome.Outcome.{Outcome}
 use Rattle.sense_class.specs.Classes.{status_of}
-use Rattle.event_rules.specs.Event.{is_send_of, concerns, ccb_of, is_erring, ends, submission_of}
-use Rattle.event_rules.specs.Counts.{commands, submission, submissions, is_in_flight, is_recovering, wants_requeue, wants_finish}
-use Rattle.event_rules.specs.Stays.{stays_begun, waiting, stay_begun, has_arrived, has_queued}
-use Rattle.event_rules.specs.declared.event.Event.{Event}
-use Rattle.event_rules.specs.declared.event.Event.TheVariants.{Submit, Send, Done, Requeue, Finish}
-use Rattle.event_rules.specs.declared.submission.Submission.{Submission}
-use Rattle.event_rules.specs.declared.passage.Passage.{Passage}
+use Rattle.event_rules.specs.Event.{is_send_of, concerns, ccb_of, is_erring, ends, submission_of, Event, Submit, Send, Done, Requeue, Finish}
+use Rattle.event_rules.specs.Counts.{commands, submission, submissions, is_in_flight, is_recovering, wants_requeue, wants_finish, Submission}
+use Rattle.event_rules.specs.Stays.{stays_begun, waiting, stay_begun, has_arrived, has_queued, Passage}
 use Rattle.event_rules.proofs.PushLaws.{waiting-push}
 use Rattle.event_rules.proofs.ListFacts.{count_by-kept, count_by-dropped}
 use Rattle.event_rules.proofs.ConcernLaws.{apart, concerns-none, concerns-other, submit_concerns_none}

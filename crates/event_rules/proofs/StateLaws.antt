@@ -1,11 +1,9 @@
 -- what one event more makes of each CCB's state
-use Rattle.std.proofs.Common.{◌≡◌, ◌≢◌, ℕ, zero, suc, ◌+◌, ◌<◌, ◌≤◌, Bool, true, false, cond, List, [], ◌∷◌, ◌++◌, set, map, refl, sym, ap, ◌∙◌, arith, Option, Some, None}
-use Rattle.std.specs.Prelude.{slice_get}
+use Rattle.std.proofs.Common.{◌≡◌, ◌≢◌, ℕ, zero, suc, ◌+◌, ◌<◌, ◌≤◌, Bool, true, false, cond, List, [], ◌∷◌, ◌++◌, set, map, refl, sym, ap, ◌∙◌, arith, Option, Some, None, slice_get}
 use Rattle.std.specs.List.{range_with_len}
 use Rattle.std.proofs.lemmas.List.{reverse-append}
-use Rattle.event_rules.specs.Event.{is_some_and, is_send_of, is_send_or_done_of, concerns, is_erring}
+use Rattle.event_rules.specs.Event.{is_some_and, is_send_of, is_send_or_done_of, concerns, is_erring, Event}
 use Rattle.event_rules.specs.Counts.{last, is_in_flight, is_recovering}
-use Rattle.event_rules.specs.declared.event.Event.{Event}
 
 pub last-push : (test : Event → Bool) (es : List Event) (e : Event) → last test (es ++ e ∷ []) ≡ cond (test e) (Some e) (last test es)
 last-push test es e = rw (reverse-append es (e ∷ [])) refl

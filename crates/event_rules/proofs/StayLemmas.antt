@@ -9,13 +9,9 @@ use Rattle.std.proofs.Math.Seq.{get_or-append_seam}
 use Rattle.std.proofs.lemmas.Option.{slice_get_within, slice_get-get_or, get_or_from_slice_get}
 use Rattle.std.proofs.lemmas.Bool.{and_from, eq-eqb}
 use Rattle.cam_types.specs.Lists.{moments_after}
-use Rattle.event_rules.specs.Event.{is_some_and, submission_of}
-use Rattle.event_rules.specs.Counts.{submissions, submission, commands}
-use Rattle.event_rules.specs.Stays.{stays_begun, stay_begun}
-use Rattle.event_rules.specs.declared.event.Event.{Event}
-use Rattle.event_rules.specs.declared.event.Event.TheVariants.{Submit, Requeue}
-use Rattle.event_rules.specs.declared.submission.Submission.{Submission}
-use Rattle.event_rules.specs.declared.passage.Passage.{Passage}
+use Rattle.event_rules.specs.Event.{is_some_and, submission_of, Event, Submit, Requeue}
+use Rattle.event_rules.specs.Counts.{submissions, submission, commands, Submission}
+use Rattle.event_rules.specs.Stays.{stays_begun, stay_begun, Passage}
 use Rattle.event_rules.specs.Laws.{is_stay_of}
 
 -- the stay's CCB was submitted with the stay's device and priority

@@ -1,15 +1,11 @@
 -- what one event more changes of the freezes that callers added and took away
-use Rattle.std.proofs.Common.{◌≡◌, ℕ, ◌+◌, Bool, true, false, cond, List, [], ◌∷◌, ◌++◌, refl, sym, ap, ◌∙◌, arith, Option, Some, None, add-zero, zero-add, append-nil}
-use Rattle.std.specs.Prelude.{◌==◌, ◌&&◌, sum_by, count_by, option_to_list, option_and_then, if◌then◌else◌}
+use Rattle.std.proofs.Common.{◌≡◌, ℕ, ◌+◌, Bool, true, false, cond, List, [], ◌∷◌, ◌++◌, refl, sym, ap, ◌∙◌, arith, Option, Some, None, add-zero, zero-add, append-nil, ◌==◌, ◌&&◌, sum_by, count_by, option_to_list, option_and_then, if◌then◌else◌}
 use Rattle.std.specs.Option.{option_map_or}
 use Rattle.std.proofs.lemmas.List.Sums.{sum_by-append}
-use Rattle.event_rules.specs.Event.{freezes, releases, sim_freezes, is_sim_release_of}
-use Rattle.event_rules.specs.Counts.{sendings, sending_of, freezes_by_send}
+use Rattle.event_rules.specs.Event.{freezes, releases, sim_freezes, is_sim_release_of, Event, Send, FreezeDev, ReleaseDev, FreezeSim, ReleaseSim}
+use Rattle.event_rules.specs.Counts.{sendings, sending_of, freezes_by_send, Sending}
 use Rattle.event_rules.proofs.PushLaws.{sendings-push}
 use Rattle.event_rules.proofs.ListFacts.{count_by-push}
-use Rattle.event_rules.specs.declared.event.Event.{Event}
-use Rattle.event_rules.specs.declared.event.Event.TheVariants.{Send, FreezeDev, ReleaseDev, FreezeSim, ReleaseSim}
-use Rattle.event_rules.specs.declared.sending.Sending.{Sending}
 
 -- how many freezes of a device or an adapter callers added and took away
 pub record Tally : Type 0 where

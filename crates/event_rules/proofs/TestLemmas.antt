@@ -1,6 +1,5 @@
 -- tests on the elements of lists
-use Rattle.std.proofs.Common.{inl, inr, ◌≡◌, Bool, true, false, List, [], ◌∷◌, refl, cond, sym, ap, ◌∙◌, Some}
-use Rattle.std.specs.Prelude.{not, ◌&&◌, ◌||◌, find, filter}
+use Rattle.std.proofs.Common.{inl, inr, ◌≡◌, Bool, true, false, List, [], ◌∷◌, refl, cond, sym, ap, ◌∙◌, Some, not, ◌&&◌, ◌||◌, find, filter}
 use Rattle.std.specs.List.{list_all, list_any}
 use Rattle.std.proofs.lemmas.Bool.{and_parts, and_from, or_left, or_right, or_cases}
 

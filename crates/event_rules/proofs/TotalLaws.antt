@@ -1,18 +1,12 @@
 -- what one event more changes of all stays, of those that wait, and of the CCBs in flight
-use Rattle.std.proofs.Common.{◌≡◌, ◌≢◌, ℕ, ◌+◌, ◌-◌, ◌<◌, ◌≤◌, Bool, true, false, cond, List, [], ◌∷◌, ◌++◌, length, refl, sym, ap, ◌∙◌, arith, Some, None, append-nil, add-zero, zero-add, length-append}
-use Rattle.std.specs.Prelude.{not, ◌==◌, filter, count_by, option_to_list}
+use Rattle.std.proofs.Common.{◌≡◌, ◌≢◌, ℕ, ◌+◌, ◌-◌, ◌<◌, ◌≤◌, Bool, true, false, cond, List, [], ◌∷◌, ◌++◌, length, refl, sym, ap, ◌∙◌, arith, Some, None, append-nil, add-zero, zero-add, length-append, not, ◌==◌, filter, count_by, option_to_list, option_map}
 use Rattle.std.specs.List.{range_with_len, filter_map, cons_option}
-use Rattle.std.specs.Option.{option_map}
 use Rattle.std.proofs.lemmas.Bool.Decides.{nat_tests}
 use Rattle.std.proofs.lemmas.List.Sums.{sum_by-cons, length-filter, count_by-le-length}
 use Rattle.cam_types.specs.Lists.{moments_after}
-use Rattle.event_rules.specs.Event.{is_send_of, is_requeue_of, submission_of}
-use Rattle.event_rules.specs.Counts.{round, commands, ccbs, submission, submissions, is_in_flight}
-use Rattle.event_rules.specs.Stays.{stays_begun, stay_begun, waiting, is_unsent}
-use Rattle.event_rules.specs.declared.event.Event.{Event}
-use Rattle.event_rules.specs.declared.event.Event.TheVariants.{Submit, Send, Requeue}
-use Rattle.event_rules.specs.declared.submission.Submission.{Submission}
-use Rattle.event_rules.specs.declared.passage.Passage.{Passage}
+use Rattle.event_rules.specs.Event.{is_send_of, is_requeue_of, submission_of, Event, Submit, Send, Requeue}
+use Rattle.event_rules.specs.Counts.{round, commands, ccbs, submission, submissions, is_in_flight, Submission}
+use Rattle.event_rules.specs.Stays.{stays_begun, stay_begun, waiting, is_unsent, Passage}
 use Rattle.event_rules.proofs.PushLaws.{stays_begun-push, waiting-push, submissions-push}
 use Rattle.event_rules.proofs.ListFacts.{filter-all, range_with_len-push, count_by-push}
 use Rattle.event_rules.proofs.ShareLaws.{count-range_same, count-range_but}

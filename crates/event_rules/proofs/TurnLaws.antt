@@ -1,6 +1,5 @@
 -- what one event more changes of the sends: those of this round, and the last to a device
-use Rattle.std.proofs.Common.{◌≡◌, ℕ, ◌+◌, ◌≤◌, Bool, true, false, cond, List, [], ◌∷◌, ◌++◌, length, reverse, refl, sym, ap, ◌∙◌, arith, Option, Some, None, append-nil, append_assoc, add-zero}
-use Rattle.std.specs.Prelude.{◌==◌, ◌&&◌, find, count_by, option_to_list, All}
+use Rattle.std.proofs.Common.{◌≡◌, ℕ, ◌+◌, ◌≤◌, Bool, true, false, cond, List, [], ◌∷◌, ◌++◌, length, reverse, refl, sym, ap, ◌∙◌, arith, Option, Some, None, append-nil, append_assoc, add-zero, ◌==◌, ◌&&◌, find, count_by, option_to_list, All}
 use Rattle.std.specs.List.{filter_map, cons_option}
 use Rattle.std.specs.Option.{option_map, option_map_or}
 use Rattle.std.proofs.lemmas.Bool.Decides.{nat_tests}
@@ -9,15 +8,11 @@ use Rattle.std.proofs.lemmas.List.Elements.{All-nil, All-cons, All-head, All-tai
 use Rattle.std.proofs.lemmas.List.Sums.{sum_by-append, sum_by-cons}
 use Rattle.std.proofs.Math.Bool.{and-false, and-true}
 use Rattle.cam_types.specs.Lists.{moments_after}
-use Rattle.event_rules.specs.Event.{is_some_and, is_tick}
-use Rattle.event_rules.specs.Counts.{round, submission, sendings, sending_of, goes_to}
+use Rattle.event_rules.specs.Event.{is_some_and, is_tick, Event, Send, Tick}
+use Rattle.event_rules.specs.Counts.{round, submission, sendings, sending_of, goes_to, Submission, Sending}
 use Rattle.event_rules.specs.Head.{last_sent}
 use Rattle.event_rules.proofs.PushLaws.{sendings-push, round-push}
 use Rattle.event_rules.proofs.ListFacts.{count_by-push}
-use Rattle.event_rules.specs.declared.event.Event.{Event}
-use Rattle.event_rules.specs.declared.event.Event.TheVariants.{Submit, Send, Done, Requeue, Finish, FreezeDev, ReleaseDev, FreezeSim, ReleaseSim, Adjust, Tick}
-use Rattle.event_rules.specs.declared.submission.Submission.{Submission}
-use Rattle.event_rules.specs.declared.sending.Sending.{Sending}
 
 -- a send stands at its place, in its place's round
 module _ {F : Type 0} (f : Sending → F) where
@@ -27,29 +22,11 @@ module _ {F : Type 0} (f : Sending → F) where
 
 pub place-sending_of : (m : List Event × Event) (s : Sending) → sending_of m ≡ Some s → s.place ≡ length m.0
 place-sending_of (before, Send lane ccb) s e = sent_cases (λ (x : Sending). x.place) (submission before ccb) _ (length before) (λ x. refl) s e
-place-sending_of (before, Submit driver device priority retries flags) s e = absurd (cc)
-place-sending_of (before, Done ccb outcome) s e = absurd (cc)
-place-sending_of (before, Requeue ccb) s e = absurd (cc)
-place-sending_of (before, Finish ccb) s e = absurd (cc)
-place-sending_of (before, FreezeDev device count) s e = absurd (cc)
-place-sending_of (before, ReleaseDev device count) s e = absurd (cc)
-place-sending_of (before, FreezeSim sim count) s e = absurd (cc)
-place-sending_of (before, ReleaseSim sim) s e = absurd (cc)
-place-sending_of (before, Adjust device openings) s e = absurd (cc)
-place-sending_of (before, Tick) s e = absurd (cc)
+place-sending_of (before, _) s e = absurd (cc)
 
 pub round-sending_of : (m : List Event × Event) (s : Sending) → sending_of m ≡ Some s → s.round ≡ round m.0
 round-sending_of (before, Send lane ccb) s e = sent_cases (λ (x : Sending). x.round) (submission before ccb) _ (round before) (λ x. refl) s e
-round-sending_of (before, Submit driver device priority retries flags) s e = absurd (cc)
-round-sending_of (before, Done ccb outcome) s e = absurd (cc)
-round-sending_of (before, Requeue ccb) s e = absurd (cc)
-round-sending_of (before, Finish ccb) s e = absurd (cc)
-round-sending_of (before, FreezeDev device count) s e = absurd (cc)
-round-sending_of (before, ReleaseDev device count) s e = absurd (cc)
-round-sending_of (before, FreezeSim sim count) s e = absurd (cc)
-round-sending_of (before, ReleaseSim sim) s e = absurd (cc)
-round-sending_of (before, Adjust device openings) s e = absurd (cc)
-round-sending_of (before, Tick) s e = absurd (cc)
+round-sending_of (before, _) s e = absurd (cc)
 
 -- the last send to a device, which is the event where that is one
 last_cases : (ss : List Sending) (d n : ℕ) (o : Option Sending) → ((s : Sending) → o ≡ Some s → s.place ≡ n) →

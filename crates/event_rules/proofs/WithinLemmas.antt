@@ -1,17 +1,13 @@
 -- legal events go no further than their rules
-use Rattle.std.proofs.Common.{◌≡◌, ℕ, ◌+◌, ◌<◌, ◌≤◌, Bool, true, false, cond, List, [], ◌∷◌, ◌++◌, length, refl, sym, ap, ◌∙◌, arith, Option, Some, None, length-append}
-use Rattle.std.specs.Prelude.{not, ◌&&◌, nat_lt, nat_le, count_by, IfSome}
+use Rattle.std.proofs.Common.{◌≡◌, ℕ, ◌+◌, ◌<◌, ◌≤◌, Bool, true, false, cond, List, [], ◌∷◌, ◌++◌, length, refl, sym, ap, ◌∙◌, arith, Option, Some, None, length-append, not, ◌&&◌, nat_lt, nat_le, count_by, IfSome}
 use Rattle.std.specs.List.{list_any, range_with_len}
 use Rattle.std.specs.Option.{option_map_or}
 use Rattle.std.proofs.lemmas.Bool.{and_parts, ltb-true}
 use Rattle.std.proofs.lemmas.List.Sums.{sum_by-cons}
 use Rattle.cam_types.specs.Topology.{Topology}
 use Rattle.cam_types.specs.declared.maxima.TheConstants.{MOST_PRIORITY, MOST_RETRIES}
-use Rattle.event_rules.specs.Event.{ends, submission_of}
-use Rattle.event_rules.specs.Counts.{commands, submissions, ccbs, alive}
-use Rattle.event_rules.specs.declared.event.Event.{Event}
-use Rattle.event_rules.specs.declared.event.Event.TheVariants.{Submit}
-use Rattle.event_rules.specs.declared.submission.Submission.{Submission}
+use Rattle.event_rules.specs.Event.{ends, submission_of, Event, Submit}
+use Rattle.event_rules.specs.Counts.{commands, submissions, ccbs, alive, Submission}
 use Rattle.event_rules.proofs.CcbLaws.{not_ended-push}
 use Rattle.event_rules.proofs.ListFacts.{range_with_len-push, count_by-push}
 use Rattle.event_rules.proofs.TotalLaws.{commands-submit, commands-none}

@@ -5,11 +5,9 @@ use Rattle.std.specs.Option.{option_map, option_map_or}
 use Rattle.cam_types.specs.Lists.{moments}
 use Rattle.cam_types.specs.declared.outcome.Outcome.{Outcome}
 use Rattle.sense_class.specs.Classes.{kind_of, is_counted, classify, asks_requeue, asks_finish}
-use Rattle.event_rules.specs.Event.{is_some_and, is_tick, submission_of, is_send_of, is_done_of, is_send_or_done_of, is_requeue_of, concerns, outcome_of, is_erring, ends, freezes, releases, sim_freezes, is_sim_release_of}
-use Rattle.event_rules.specs.declared.event.Event.{Event}
-use Rattle.event_rules.specs.declared.event.Event.TheVariants.{Send}
-use Rattle.event_rules.specs.declared.submission.Submission.{Submission}
-use Rattle.event_rules.specs.declared.sending.Sending.{Sending}
+use Rattle.event_rules.specs.Event.{is_some_and, is_tick, submission_of, is_send_of, is_done_of, is_send_or_done_of, is_requeue_of, concerns, outcome_of, is_erring, ends, freezes, releases, sim_freezes, is_sim_release_of, Event, Send}
+pub use Rattle.event_rules.specs.declared.submission.Submission.{Submission}
+pub use Rattle.event_rules.specs.declared.sending.Sending.{Sending}
 
 -- the place's round, the first of which is 1
 unfoldable pub round : List Event → ℕ

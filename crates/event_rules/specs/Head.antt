@@ -5,12 +5,9 @@ use Rattle.std.specs.Option.{option_map_or}
 use Rattle.cam_types.specs.Lists.{least_by}
 use Rattle.cam_types.specs.Questions.{is_on, is_under, device_openings, adapter_openings, link_openings, adapter_link, devices}
 use Rattle.cam_types.specs.Topology.{Topology}
-use Rattle.event_rules.specs.Event.{is_tick, is_adjust_of, adjusts_to}
-use Rattle.event_rules.specs.Counts.{round, last, sendings, goes_to, freeze_count, adapter_freezes}
-use Rattle.event_rules.specs.Stays.{first}
-use Rattle.event_rules.specs.declared.event.Event.{Event}
-use Rattle.event_rules.specs.declared.passage.Passage.{Passage}
-use Rattle.event_rules.specs.declared.sending.Sending.{Sending}
+use Rattle.event_rules.specs.Event.{is_tick, is_adjust_of, adjusts_to, Event}
+use Rattle.event_rules.specs.Counts.{round, last, sendings, goes_to, freeze_count, adapter_freezes, Sending}
+use Rattle.event_rules.specs.Stays.{first, Passage}
 
 -- how many commands a device takes in the place's round: the last adjustment before the round opened says so, or else
 -- the configuration

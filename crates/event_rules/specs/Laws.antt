@@ -1,21 +1,16 @@
 -- what holds of all legal events
-use Rattle.std.specs.Prelude.{◌≡◌, ℕ, ◌≤◌, ◌==◌, Bool, true, false, ◌&&◌, nat_le, List, ◌∷◌, ◌++◌, length, Option, filter, is_none, IsTrue, IfSome}
+use Rattle.std.specs.Prelude.{◌≡◌, ℕ, ◌≤◌, ◌==◌, Bool, true, false, ◌&&◌, nat_le, List, ◌∷◌, ◌++◌, length, Option, filter, is_none, IsTrue, IfSome, option_map}
 use Rattle.std.specs.List.{list_all}
-use Rattle.std.specs.Option.{option_map}
 use Rattle.cam_types.specs.Lists.{moments}
 use Rattle.cam_types.specs.Topology.{Topology}
 use Rattle.sense_class.specs.Classes.{classify}
 use Rattle.sense_class.specs.declared.class.Class as class
 use Rattle.sense_class.specs.declared.class.Class.TheVariants.{CountedRequeue}
-use Rattle.event_rules.specs.Event.{is_some_and, is_requeue_of}
-use Rattle.event_rules.specs.Stays.{stays_begun}
-use Rattle.event_rules.specs.Counts.{round, submission, alive, last_result, is_counted_requeue, counted_requeues, retries_of, freeze_count, adapter_freezes}
+use Rattle.event_rules.specs.Event.{is_some_and, is_requeue_of, Event, Send}
+use Rattle.event_rules.specs.Stays.{stays_begun, Passage}
+use Rattle.event_rules.specs.Counts.{round, submission, alive, last_result, is_counted_requeue, counted_requeues, retries_of, freeze_count, adapter_freezes, Submission}
 use Rattle.cam_types.specs.Questions.{names_device, names_lane, is_on, lane_adapter}
 use Rattle.cam_types.specs.declared.maxima.TheConstants.{MOST_PRIORITY, MOST_RETRIES}
-use Rattle.event_rules.specs.declared.submission.Submission.{Submission}
-use Rattle.event_rules.specs.declared.passage.Passage.{Passage}
-use Rattle.event_rules.specs.declared.event.Event.{Event}
-use Rattle.event_rules.specs.declared.event.Event.TheVariants.{Send}
 use Rattle.event_rules.specs.Legal.{Rules, history_rules, IsWithinHistory, names_ccb, is_legal_event, is_legal}
 use Rattle.event_rules.specs.Refusals.{device_of, have_openings, refusal}
 

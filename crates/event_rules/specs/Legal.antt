@@ -8,13 +8,10 @@ use Rattle.cam_types.specs.Topology.{Topology, are_openings}
 use Rattle.cam_types.specs.Bounds.{Bounds}
 use Rattle.cam_types.specs.declared.maxima.TheConstants.{MOST_ROUNDS, MOST_STAYS, MOST_EVENTS, MOST_PRIORITY, MOST_RETRIES, MOST_FREEZES}
 use Rattle.sense_class.specs.Classes.{status_of}
-use Rattle.event_rules.specs.Event.{is_some_and}
+use Rattle.event_rules.specs.Event.{is_some_and, Event, Submit, Send, Done, Requeue, Finish, FreezeDev, ReleaseDev, FreezeSim, ReleaseSim, Adjust, Tick}
 use Rattle.event_rules.specs.Counts.{round, commands, alive, is_in_flight, has_in_flight, is_recovering, wants_requeue, wants_finish, caller_count, adapter_freezes}
-use Rattle.event_rules.specs.Stays.{stays_begun}
+use Rattle.event_rules.specs.Stays.{stays_begun, Passage}
 use Rattle.event_rules.specs.Head.{next}
-use Rattle.event_rules.specs.declared.event.Event.{Event}
-use Rattle.event_rules.specs.declared.event.Event.TheVariants.{Submit, Send, Done, Requeue, Finish, FreezeDev, ReleaseDev, FreezeSim, ReleaseSim, Adjust, Tick}
-use Rattle.event_rules.specs.declared.passage.Passage.{Passage}
 
 -- how far events may go: how many CCBs may be alive at once, where they are counted, and how many rounds, stays and
 -- events there may be

@@ -3,11 +3,9 @@ use Rattle.std.specs.Prelude.{ℕ, ◌+◌, ◌-◌, ◌*◌, if◌then◌else�
 use Rattle.std.specs.List.{list_any, position_or_len}
 use Rattle.cam_types.specs.Topology.{Topology}
 use Rattle.cam_types.specs.Questions.{weight}
-use Rattle.event_rules.specs.Event.{is_send_of}
+use Rattle.event_rules.specs.Event.{is_send_of, Event}
 use Rattle.event_rules.specs.Counts.{round}
-use Rattle.event_rules.specs.Stays.{stays_begun, is_unsent}
-use Rattle.event_rules.specs.declared.event.Event.{Event}
-use Rattle.event_rules.specs.declared.passage.Passage.{Passage}
+use Rattle.event_rules.specs.Stays.{stays_begun, is_unsent, Passage}
 
 -- the place of a stay's send: the first send of its CCB after the event that began it, or the length without one
 unfoldable pub send_place : List Event → Passage → ℕ

@@ -6,18 +6,14 @@ use Rattle.cam_types.specs.Topology.{Topology, are_openings}
 use Rattle.cam_types.specs.declared.outcome.Outcome.{Outcome}
 use Rattle.cam_types.specs.declared.maxima.TheConstants.{MOST_PRIORITY, MOST_RETRIES, MOST_FREEZES}
 use Rattle.sense_class.specs.Classes.{status_of}
-use Rattle.event_rules.specs.Event.{is_some_and}
-use Rattle.event_rules.specs.Counts.{round, submission, alive, is_in_flight, has_in_flight, is_recovering, wants_requeue, wants_finish, caller_count, freeze_count, adapter_freezes}
-use Rattle.event_rules.specs.Stays.{stays_begun, has_queued}
+use Rattle.event_rules.specs.Event.{is_some_and, Event, Submit, Send, Done, Requeue, Finish, FreezeDev, ReleaseDev, FreezeSim, ReleaseSim, Adjust, Tick}
+use Rattle.event_rules.specs.Counts.{round, submission, alive, is_in_flight, has_in_flight, is_recovering, wants_requeue, wants_finish, caller_count, freeze_count, adapter_freezes, Submission}
+use Rattle.event_rules.specs.Stays.{stays_begun, has_queued, Passage}
 use Rattle.cam_types.specs.Questions.{names_device, names_adapter, names_lane, is_on, lane_adapter}
 use Rattle.event_rules.specs.Head.{has_opening, adapter_has_opening, link_has_opening, next}
-use Rattle.event_rules.specs.declared.event.Event.{Event}
-use Rattle.event_rules.specs.declared.event.Event.TheVariants.{Submit, Send, Done, Requeue, Finish, FreezeDev, ReleaseDev, FreezeSim, ReleaseSim, Adjust, Tick}
-use Rattle.event_rules.specs.declared.submission.Submission.{Submission}
-use Rattle.event_rules.specs.declared.passage.Passage.{Passage}
 use Rattle.event_rules.specs.Legal.{Rules, names_ccb, is_count}
-use Rattle.event_rules.specs.declared.refusal.Refusal.{Refusal}
-use Rattle.event_rules.specs.declared.refusal.Refusal.TheVariants.{HistoryFull, NoDevice, NoAdapter, NoLane, NoCcb, BadPriority, BadRetries, BadCount, BadOpenings, BadStatus, CcbFull, StaysFull, NotQueued, WrongLane, DeviceFrozen, AdapterFrozen, NoOpening, NotHead, NotInFlight, NotRecovering, WrongDecision, FreezeOverflow, ReleaseTooMany, InFlight, RoundsFull}
+pub use Rattle.event_rules.specs.declared.refusal.Refusal.{Refusal}
+pub use Rattle.event_rules.specs.declared.refusal.Refusal.TheVariants.{HistoryFull, NoDevice, NoAdapter, NoLane, NoCcb, BadPriority, BadRetries, BadCount, BadOpenings, BadStatus, CcbFull, StaysFull, NotQueued, WrongLane, DeviceFrozen, AdapterFrozen, NoOpening, NotHead, NotInFlight, NotRecovering, WrongDecision, FreezeOverflow, ReleaseTooMany, InFlight, RoundsFull}
 
 -- the CCB's device, and 0 where there is no such CCB
 abbrev pub device_of : List Event → ℕ → ℕ

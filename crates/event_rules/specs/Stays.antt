@@ -1,14 +1,10 @@
 -- stays and the queues that they stand in, by the events before a place
-use Rattle.std.specs.Prelude.{ℕ, ◌+◌, ◌==◌, Bool, true, false, not, ◌&&◌, if◌then◌else◌, nat_le, List, [], ◌∷◌, length, filter, drop, Option, Some, None, count_by, find}
+use Rattle.std.specs.Prelude.{ℕ, ◌+◌, ◌==◌, Bool, true, false, not, ◌&&◌, if◌then◌else◌, nat_le, List, [], ◌∷◌, length, filter, drop, Option, Some, None, count_by, find, option_map}
 use Rattle.std.specs.List.{list_any, filter_map}
-use Rattle.std.specs.Option.{option_map}
 use Rattle.cam_types.specs.Lists.{moments, least_by}
-use Rattle.event_rules.specs.Event.{is_send_of, is_requeue_of}
-use Rattle.event_rules.specs.Counts.{round, commands, submission}
-use Rattle.event_rules.specs.declared.event.Event.{Event}
-use Rattle.event_rules.specs.declared.event.Event.TheVariants.{Submit, Requeue}
-use Rattle.event_rules.specs.declared.submission.Submission.{Submission}
-use Rattle.event_rules.specs.declared.passage.Passage.{Passage}
+use Rattle.event_rules.specs.Event.{is_send_of, is_requeue_of, Event, Submit, Requeue}
+use Rattle.event_rules.specs.Counts.{round, commands, submission, Submission}
+pub use Rattle.event_rules.specs.declared.passage.Passage.{Passage}
 use Rattle.event_rules.specs.declared.stay.Stay.{Stay}
 
 -- the stay that an event begins, after the events before it: a requeued CCB arrives in the next round

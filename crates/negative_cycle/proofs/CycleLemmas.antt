@@ -1,13 +1,9 @@
 -- A closed walk along the arcs by which labels rose gains; a walk that ends bounds the label that it began at.
-use Rattle.std.proofs.Common.{◌≡◌, ℕ, ◌+◌, ◌*◌, ◌<◌, ◌≤◌, ◌⊎◌, List, [], ◌∷◌, length, get_or, drop, Option, Some, None, Result, Ok, Err, IfOk, ap, inl, inr, arith}
-use Rattle.std.specs.Option.{IfSome, IfNone}
-use Rattle.std.specs.List.{All, sum_by}
+use Rattle.std.proofs.Common.{◌≡◌, ℕ, ◌+◌, ◌*◌, ◌<◌, ◌≤◌, ◌⊎◌, List, [], ◌∷◌, length, get_or, drop, Option, Some, None, Result, Ok, IfOk, ap, inl, inr, arith, IfSome, IfNone, All, sum_by}
 use Rattle.std.proofs.lemmas.List.Sums.{sum_by-cons}
 use Rattle.std.proofs.lemmas.List.Elements.{All-head, All-tail}
-use Rattle.negative_cycle.specs.declared.arc.TheConstants.{MOST_UP}
-use Rattle.negative_cycle.specs.declared.arc.Arc.{Arc}
-use Rattle.negative_cycle.specs.Walks.{LeadsBack, AllCameBy, IsLoop, IsGainingCycle, EndsAtRoot}
-use Rattle.negative_cycle.specs.Labelling.{IsRisenBy, IsForest, highest_root}
+use Rattle.negative_cycle.specs.Labelling.{IsRisenBy, IsForest, highest_root, MOST_UP}
+use Rattle.negative_cycle.specs.Walks.{LeadsBack, AllCameBy, IsLoop, IsGainingCycle, EndsAtRoot, Arc}
 
 -- what nodes have, summed over the tails and over the heads of a walk
 pub telescope : (h : ℕ → ℕ) (from : ℕ) (arcs : List Arc) (to : ℕ) → LeadsBack from arcs to → h from + sum_by (λ a. h a.tail) arcs ≡ sum_by (λ a. h a.head) arcs + h to
@@ -76,15 +72,12 @@ label-le-limit labels preds start arcs f ends =
 -- the same for what a walk back answers
 pub gains-from_found : (labels : List ℕ) (preds : List (Option Arc)) {E : Type 0} (r : Result (Option ℕ) E) (path : List Arc) → IsForest labels preds → IfOk r (λ found. IfSome found (λ k. IsLoop preds (drop k path))) → IfOk r (λ found. IfSome found (λ k. IsGainingCycle (drop k path)))
 gains-from_found labels preds (Ok (Some k)) path f found = IsGainingCycle-from_loop labels preds (drop k path) f found
-gains-from_found labels preds (Ok None) path f found = found
-gains-from_found labels preds (Err e) path f found = found
+gains-from_found labels preds _ path f found = found
 
 pub came-from_found : (preds : List (Option Arc)) {E : Type 0} (r : Result (Option ℕ) E) (path : List Arc) → IfOk r (λ found. IfSome found (λ k. IsLoop preds (drop k path))) → IfOk r (λ found. IfSome found (λ k. AllCameBy preds (drop k path)))
 came-from_found preds (Ok (Some k)) path found = found.came
-came-from_found preds (Ok None) path found = found
-came-from_found preds (Err e) path found = found
+came-from_found preds _ path found = found
 
 pub ends-from_found : (labels : List ℕ) (preds : List (Option Arc)) (start : ℕ) {E : Type 0} (r : Result (Option ℕ) E) (path : List Arc) → IsForest labels preds → IfOk r (λ found. IfNone found (EndsAtRoot preds start path)) → IfOk r (λ found. IfNone found (get_or labels start 0 ≤ highest_root + MOST_UP * length labels))
-ends-from_found labels preds start (Ok (Some k)) path f found = found
 ends-from_found labels preds start (Ok None) path f found = label-le-limit labels preds start path f found
-ends-from_found labels preds start (Err e) path f found = found
+ends-from_found labels preds start _ path f found = found

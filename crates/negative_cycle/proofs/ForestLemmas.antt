@@ -1,13 +1,10 @@
 -- How labels that rise by arcs lie.
-use Rattle.negative_cycle.specs.declared.arc.TheConstants.{MOST_UP}
-use Rattle.negative_cycle.specs.declared.labels.TheConstants.{MOST_NODES}
+use Rattle.negative_cycle.specs.Labelling.{IsRisenBy, IsForest, begun, highest, highest_root, MOST_UP, MOST_NODES}
 use Rattle.std.proofs.Common.{◌≡◌, ◌≢◌, ℕ, zero, suc, ◌+◌, ◌<◌, ◌≤◌, ◌==◌, false, cond, ltb, leb, List, [], ◌∷◌, length, get_or, set, map, replicate, Option, Some, None, refl, sym, ap, ◌∙◌, subst, inl, inr, arith}
 use Rattle.std.proofs.lemmas.Bool.{cases_eq, cases_lt, eq-eqb, ne_eqb, cond-true, cond-false, le-leb, lt-leb, ltb-false, or_parts}
 use Rattle.std.specs.List.{list_any}
 use Rattle.std.proofs.lemmas.List.{length-map, length-set, length-replicate, get_or-set_same, get_or-set_other, get_or-replicate, get_or_past}
-use Rattle.negative_cycle.specs.declared.arc.Arc.{Arc}
-use Rattle.negative_cycle.specs.Walks.{came_by}
-use Rattle.negative_cycle.specs.Labelling.{IsRisenBy, IsForest, begun, highest, highest_root}
+use Rattle.negative_cycle.specs.Walks.{came_by, Arc}
 
 -- no label has risen
 pub came_by-none : (n node : ℕ) → came_by (replicate n None) node ≡ None

@@ -1,13 +1,11 @@
 -- The walk back along the arcs by which labels rose.
-use Rattle.std.proofs.Common.{◌≡◌, ◌≢◌, ℕ, zero, suc, ◌+◌, ◌-◌, ◌<◌, ◌≤◌, ◌==◌, cond, List, [], ◌∷◌, ◌++◌, length, get_or, set, drop, Option, Some, None, refl, sym, ap, ◌∙◌, subst, inl, inr, arith}
-use Rattle.std.specs.List.{count_by}
+use Rattle.std.proofs.Common.{◌≡◌, ◌≢◌, ℕ, zero, suc, ◌+◌, ◌-◌, ◌<◌, ◌≤◌, ◌==◌, cond, List, [], ◌∷◌, ◌++◌, length, get_or, set, drop, Option, Some, None, refl, sym, ap, ◌∙◌, subst, inl, inr, arith, count_by}
 use Rattle.std.proofs.lemmas.Bool.{cases_eq}
 use Rattle.std.proofs.lemmas.Bool.Decides.{nat_tests}
 use Rattle.std.proofs.lemmas.List.{length-set, length_push, get_or-set_same, get_or-set_other, get_or_append_left, get_or_push, length-drop}
 use Rattle.std.proofs.lemmas.List.Sums.{sum_by_push, sum_by-set, sum_by-take-drop}
 use Rattle.std.proofs.lemmas.List.Elements.{All-push, All-drop}
-use Rattle.negative_cycle.specs.declared.arc.Arc.{Arc}
-use Rattle.negative_cycle.specs.Walks.{LeadsBack, came_by, AllCameBy, IsLoop, EndsAtRoot}
+use Rattle.negative_cycle.specs.Walks.{LeadsBack, came_by, AllCameBy, IsLoop, EndsAtRoot, Arc}
 
 -- one arc more at the end of a walk
 pub LeadsBack-push : (from : ℕ) (arcs : List Arc) (arc : Arc) → LeadsBack from arcs arc.head → LeadsBack from (arcs ++ arc ∷ []) arc.tail

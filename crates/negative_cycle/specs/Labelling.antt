@@ -1,9 +1,8 @@
 -- labels on the nodes of a graph
 use Rattle.std.specs.Prelude.{◌≡◌, ℕ, ◌+◌, ◌-◌, ◌*◌, ◌<◌, ◌≤◌, nat_le, Bool, if◌then◌else◌, List, Option, Some, None, length, slice_index, slice_set, ◌⊎◌}
-use Rattle.negative_cycle.specs.declared.arc.Arc.{Arc}
-use Rattle.negative_cycle.specs.declared.arc.TheConstants.{MOST_UP}
-use Rattle.negative_cycle.specs.declared.labels.TheConstants.{MOST_NODES}
-use Rattle.negative_cycle.specs.Walks.{came_by}
+use Rattle.negative_cycle.specs.Walks.{came_by, Arc}
+pub use Rattle.negative_cycle.specs.declared.arc.TheConstants.{MOST_UP}
+pub use Rattle.negative_cycle.specs.declared.labels.TheConstants.{MOST_NODES}
 
 -- a label for each node, and the arc by which it last rose
 pub record Labelling : Type 0 where

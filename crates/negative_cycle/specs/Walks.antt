@@ -1,7 +1,6 @@
 -- walks along arcs
-use Rattle.std.specs.Prelude.{◌≡◌, ℕ, ◌<◌, ◌≤◌, ◌==◌, List, [], ◌∷◌, Option, Some, None, length, slice_index_or}
-use Rattle.std.specs.List.{All, sum_by, count_by}
-use Rattle.negative_cycle.specs.declared.arc.Arc.{Arc}
+use Rattle.std.specs.Prelude.{◌≡◌, ℕ, ◌<◌, ◌≤◌, ◌==◌, List, [], ◌∷◌, Option, Some, None, length, slice_index_or, All, sum_by, count_by}
+pub use Rattle.negative_cycle.specs.declared.arc.Arc.{Arc}
 
 -- the arcs, each of which ends where the one before it begins: walked backwards, from one node to another
 abbrev pub LeadsBack : ℕ → List Arc → ℕ → Type 0

@@ -5,9 +5,7 @@ ghost use Rattle.std.specs.Prelude.{◌≡◌, ℕ, ◌+◌, ◌*◌, ◌<◌, �
 ghost use Rattle.std.specs.List.{list_any};
 ghost use Rattle.std.specs.Option.{IfSome, IfNone};
 ghost use Rattle.negative_cycle.specs.Walks.{IsGainingCycle, AllCameBy};
-ghost use Rattle.negative_cycle.specs.declared.arc.TheConstants.{MOST_UP};
-ghost use Rattle.negative_cycle.specs.declared.labels.TheConstants.{MOST_NODES};
-ghost use Rattle.negative_cycle.specs.Labelling.{label_of, limit, relaxed, raised, begun, highest_root};
+ghost use Rattle.negative_cycle.specs.Labelling.{label_of, limit, relaxed, raised, begun, highest_root, MOST_UP, MOST_NODES};
 
 use crate::arc::Arc;
 use crate::begin::{any_high, cut, forget, lower, unrisen};

@@ -2,8 +2,7 @@
 
 ghost use Rattle.std.specs.Prelude.{◌≡◌, ℕ, ◌<◌, length, drop, Some, IfOk};
 ghost use Rattle.std.specs.Option.{IfSome, IfNone};
-ghost use Rattle.negative_cycle.specs.declared.arc.Arc.{Arc};
-ghost use Rattle.negative_cycle.specs.Walks.{came_by, IsLoop, EndsAtRoot};
+ghost use Rattle.negative_cycle.specs.Walks.{came_by, IsLoop, EndsAtRoot, Arc};
 
 use crate::arc::Arc;
 use std::alloc::AllocError;

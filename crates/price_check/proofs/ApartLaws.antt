@@ -8,13 +8,8 @@ use Rattle.std.specs.Str.Parse.{digits_value}
 use Rattle.std.proofs.lemmas.Bool.{and_parts, leb-true, leb-false, ltb-false, eq-eqb, cases_lt, or_parts}
 use Rattle.std.proofs.lemmas.Fmt.{digits_decimal}
 use Rattle.std.proofs.lemmas.Str.Parse.{IsNumeralModel, numerals_by_value}
-use Rattle.cam_types.specs.Lists.{moments_after, first_answer}
-use Rattle.cam_types.specs.Topology.{Topology, IsConfig, device_fault, address_fault, config_fault, is_same_address, are_openings}
-use Rattle.cam_types.specs.declared.device.Device.{Device}
-use Rattle.cam_types.specs.declared.maxima.TheConstants.{MOST_DEVICES}
+use Rattle.price_check.specs.Words.{moments_after, first_answer, Topology, IsConfig, device_fault, address_fault, config_fault, is_same_address, are_openings, Device, MOST_DEVICES, CamPath, Fits, spelled, address_of}
 use Rattle.cam_types.proofs.ConfigLemmas.{device_items, few_adapters}
-use Rattle.cam_path.specs.declared.path.CamPath.{CamPath}
-use Rattle.cam_path.specs.Paths.{Fits, spelled, address_of}
 use Rattle.cam_path.proofs.PathLaws.{reading_again}
 
 -- ---- words end at the first space

@@ -1,23 +1,16 @@
 -- the lines before a fault are the first ones of some claim's report
-use Rattle.std.proofs.Common.{◌≡◌, ◌≤◌, ◌<◌, ◌+◌, ◌-◌, ℕ, zero, suc, List, [], ◌++◌, length, take, drop, get_or, replicate, refl, sym, ap, ◌∙◌, subst, arith, append_assoc, append-nil}
-use Rattle.std.specs.Prelude.{◌==◌, Result, Ok, Err, codes, All, count_by}
+use Rattle.std.proofs.Common.{◌≡◌, ◌≤◌, ◌<◌, ◌+◌, ◌-◌, ℕ, zero, suc, List, [], ◌++◌, length, take, drop, get_or, replicate, refl, sym, ap, ◌∙◌, subst, arith, append_assoc, append-nil, ◌==◌, Result, Ok, Err, codes, All, count_by}
 use Rattle.std.proofs.lemmas.List.{append_cancel_right, take-append-drop, get_or_append_left, length-replicate, length-append}
 use Rattle.std.proofs.lemmas.List.Elements.{All-append, All-replicate, All-get_or}
-use Rattle.event_rules.specs.Past.{Past}
-use Rattle.round_net.specs.Rows.{NetRows, instance_of_rows, live_of_rows}
-use Rattle.round_net.specs.Sound.{IsSound}
-use Rattle.round_net.specs.declared.price_range.TheConstants.{MOST_PRICE}
+use Rattle.price_check.specs.Words.{Past, NetRows, instance_of_rows, live_of_rows, IsSound, MOST_PRICE}
 use Rattle.price_check.specs.Pieces.{line_of}
 use Rattle.price_check.specs.Forms.{most_stated}
-use Rattle.price_check.specs.Reading.{series}
-use Rattle.price_check.specs.Claims.{IsClaim, report_text}
-use Rattle.price_check.specs.declared.claim.Claim.{Claim}
-use Rattle.price_check.specs.declared.report_fault.ReportFault.{ReportFault}
+use Rattle.price_check.specs.Reading.{series, ReportFault}
+use Rattle.price_check.specs.Claims.{IsClaim, report_text, fault_line, Claim}
 use Rattle.price_check.proofs.SeriesLemmas.{Reader}
 use Rattle.price_check.proofs.SeriesLaws.{texts_of, texts_below-same, series_takes, Takes}
 use Rattle.price_check.proofs.CellLaws.{price_cells, form_of}
 use Rattle.price_check.proofs.LineLaws.{stay_form}
-use Rattle.price_check.specs.Claims.{fault_line}
 use Rattle.price_check.proofs.LinesLemmas.{IsClosed, closed_append}
 use Rattle.price_check.proofs.CutLaws.{AreLines, texts_closed}
 use Rattle.price_check.proofs.StepLaws.{Exact, Steps, series_broken, behind_one}

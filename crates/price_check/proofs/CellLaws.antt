@@ -1,20 +1,12 @@
 -- the prices of cells, one after another
-use Rattle.std.proofs.Common.{◌≡◌, ◌<◌, ◌≤◌, ◌+◌, ◌-◌, ◌*◌, ◌/◌, ◌%◌, ◌^◌, ℕ, List, [], ◌∷◌, ◌++◌, length, drop, get_or, Bool, true, false, cond, refl, sym, ap, ◌∙◌, subst, arith, append_assoc, inl, inr}
-use Rattle.std.specs.Prelude.{◌==◌, nat_lt, Option, Some, None, Ok, decimal, codes, slice_get, All}
+use Rattle.std.proofs.Common.{◌≡◌, ◌<◌, ◌≤◌, ◌+◌, ◌-◌, ◌*◌, ◌/◌, ◌%◌, ◌^◌, ℕ, List, [], ◌∷◌, ◌++◌, length, drop, get_or, Bool, true, false, cond, refl, sym, ap, ◌∙◌, subst, arith, append_assoc, inl, inr, ◌==◌, nat_lt, Option, Some, None, Ok, decimal, codes, slice_get, All, eqb-true, ltb-false}
 use Rattle.std.specs.Option.{option_map_or}
-use Rattle.std.proofs.lemmas.Bool.{eqb-true, ltb-false}
 use Rattle.std.proofs.lemmas.List.{append_cancel_left}
 use Rattle.std.proofs.lemmas.List.Elements.{All-get_or}
 use Rattle.std.proofs.lemmas.Fmt.{decimal_injective}
 use Rattle.std.proofs.lemmas.Option.{slice_get_cases}
 use Rattle.std.proofs.Math.Nat.{div-add-mod, div-lt_iff_lt-mul, mod-lt}
-use Rattle.cam_types.specs.declared.device.Device.{Device}
-use Rattle.cam_types.specs.declared.maxima.TheConstants.{MOST_ROUNDS, MOST_DEVICES, MOST_ADAPTERS, MOST_LINKS}
-use Rattle.cam_path.specs.Paths.{spelled, address_of}
-use Rattle.round_net.specs.Instance.{Instance, rows}
-use Rattle.round_net.specs.PriceRows.{PriceRows, IsPriced, IsPricingFor}
-use Rattle.round_net.specs.Rows.{NetRows, instance_of_rows}
-use Rattle.round_net.specs.declared.price_range.TheConstants.{MOST_PRICE}
+use Rattle.price_check.specs.Words.{Device, MOST_ROUNDS, MOST_DEVICES, MOST_ADAPTERS, MOST_LINKS, spelled, address_of, Instance, rows, PriceRows, IsPriced, IsPricingFor, NetRows, instance_of_rows, MOST_PRICE}
 use Rattle.price_check.specs.Pieces.{skip}
 use Rattle.price_check.specs.Report.{number_text, price_line, shared_text, row_text}
 use Rattle.price_check.specs.Reading.{price_at, cell_price_at}

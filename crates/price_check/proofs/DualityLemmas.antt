@@ -1,13 +1,6 @@
 -- no admissible schedule costs less than the value of any prices
-use Rattle.std.proofs.Common.{◌≡◌, ℕ, ◌+◌, ◌-◌, ◌*◌, ◌<◌, ◌≤◌, true, arith}
-use Rattle.std.specs.Prelude.{nat_lt, map, sum_by}
-use Rattle.std.proofs.lemmas.Bool.{lt-ltb}
-use Rattle.std.proofs.Math.Nat.{mul-le-mul_right}
-use Rattle.round_net.specs.Sums.{sum_below, sum_to, least}
-use Rattle.round_net.specs.Instance.{Instance, rows, path, uses}
-use Rattle.round_net.specs.Schedules.{load, IsAdmissible, cost}
-use Rattle.round_net.specs.Sound.{IsSound}
-use Rattle.round_net.specs.Value.{Pricing, is_open, allowed, priced, paid, offered, ProvesBest}
+use Rattle.std.proofs.Common.{◌≡◌, ℕ, ◌+◌, ◌-◌, ◌*◌, ◌<◌, ◌≤◌, true, arith, nat_lt, map, sum_by, lt-ltb, mul-le-mul_right}
+use Rattle.price_check.specs.Words.{sum_below, sum_to, least, Instance, rows, path, uses, load, IsAdmissible, cost, IsSound, Pricing, is_open, allowed, priced, paid, offered, ProvesBest}
 use Rattle.price_check.specs.Faults.{at_row}
 use Rattle.price_check.specs.Verdicts.{IsBest}
 use Rattle.round_net.proofs.SumLemmas.{sum_below-le, sum_below-add, sum_to-le}

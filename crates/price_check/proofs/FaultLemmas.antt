@@ -1,18 +1,12 @@
 -- a schedule is admissible where it has no fault, and not where it has one
-use Rattle.std.proofs.Common.{◌≡◌, ℕ, zero, suc, ◌+◌, ◌<◌, ◌≤◌, Bool, true, false, cond, List, [], ◌∷◌, refl, arith, Option, Some, None}
-use Rattle.std.specs.Prelude.{◌==◌, ◌&&◌, nat_lt, All}
+use Rattle.std.proofs.Common.{◌≡◌, ℕ, zero, suc, ◌+◌, ◌<◌, ◌≤◌, Bool, true, false, cond, List, [], ◌∷◌, refl, arith, Option, Some, None, ◌==◌, ◌&&◌, nat_lt, All}
 use Rattle.std.specs.List.{list_any}
 use Rattle.std.proofs.lemmas.Bool.{and_parts, or_parts, or_left, or_right, eqb-true, eq-eqb, ltb-true}
 use Rattle.std.proofs.lemmas.Bool.Decides.{nat_tests}
 use Rattle.std.proofs.lemmas.List.Elements.{All-nil, All-cons}
-use Rattle.round_net.specs.Sums.{count_below}
-use Rattle.round_net.specs.Instance.{Instance, adapter, adapter_row, link_rows, path, uses}
-use Rattle.round_net.specs.Schedules.{IsAdmissible, load}
-use Rattle.round_net.specs.Sound.{IsSound}
+use Rattle.price_check.specs.Words.{count_below, Instance, adapter, adapter_row, link_rows, path, uses, IsAdmissible, load, IsSound}
 use Rattle.round_net.proofs.PathLemmas.{uses-device, uses-adapter}
-use Rattle.price_check.specs.Faults.{at_row, is_over, is_link_over, fault_at, IsFaultlessBelow, IsFirstFault}
-use Rattle.price_check.specs.declared.verdict.Cause.{Cause}
-use Rattle.price_check.specs.declared.verdict.Cause.TheVariants.{Early, Late, DeviceFull, AdapterFull, LinkFull}
+use Rattle.price_check.specs.Faults.{at_row, is_over, is_link_over, fault_at, IsFaultlessBelow, IsFirstFault, Cause, Early, Late, DeviceFull, AdapterFull, LinkFull}
 use Rattle.price_check.proofs.TallyLemmas.{count_below-more}
 use Rattle.price_check.proofs.UsedLemmas.{of_used, used_within}
 

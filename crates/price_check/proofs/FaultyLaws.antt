@@ -1,29 +1,17 @@
 -- the line that a reader's fault names is the first faulty one
-use Rattle.std.proofs.Common.{◌≡◌, ◌≤◌, ◌<◌, ◌+◌, ◌-◌, ℕ, zero, suc, List, [], ◌∷◌, ◌++◌, length, take, drop, get_or, ◌≢◌, Bool, true, false, cond, refl, sym, ap, ◌∙◌, subst, arith, append_assoc}
-use Rattle.std.specs.Prelude.{◌==◌, Option, None, Result, Ok, Err, codes, count_by, slice_index, IfErr}
-use Rattle.std.proofs.lemmas.Bool.{eqb-true}
-use Rattle.std.proofs.lemmas.List.{take_all, length-take}
-use Rattle.cam_types.specs.Topology.{IsConfig}
-use Rattle.cam_types.specs.Whole.{IsWhole}
-use Rattle.event_rules.specs.Past.{Past}
-use Rattle.event_rules.specs.Stays.{unsent}
-use Rattle.round_net.specs.Nets.{net_of}
-use Rattle.round_net.specs.Rows.{NetRows, instance_of_rows, live_of_rows}
-use Rattle.round_net.specs.Sound.{IsSound}
+use Rattle.std.proofs.Common.{◌≡◌, ◌≤◌, ◌<◌, ◌+◌, ◌-◌, ℕ, zero, suc, List, [], ◌∷◌, ◌++◌, length, take, drop, get_or, ◌≢◌, Bool, true, false, cond, refl, sym, ap, ◌∙◌, subst, arith, append_assoc, ◌==◌, Option, None, Result, Ok, Err, codes, count_by, slice_index, IfErr, eqb-true, take_all, length-take}
+use Rattle.price_check.specs.Words.{IsConfig, IsWhole, Past, unsent, net_of, NetRows, instance_of_rows, live_of_rows, IsSound}
 use Rattle.round_net.proofs.CountLemmas.{count_by-append}
 use Rattle.price_check.specs.Lines.{line}
 use Rattle.price_check.specs.Pieces.{line_of}
 use Rattle.price_check.specs.Report.{summary_text}
-use Rattle.price_check.specs.Reading.{closed, reading}
-use Rattle.price_check.specs.Claims.{report_text, WasFaulty, Explains}
-use Rattle.price_check.specs.declared.claim.Claim.{Claim}
-use Rattle.price_check.specs.declared.report_fault.ReportFault.{ReportFault}
+use Rattle.price_check.specs.Reading.{closed, reading, ReportFault}
+use Rattle.price_check.specs.Claims.{report_text, WasFaulty, Explains, fault_line, IsFirstFaulty, Claim}
 use Rattle.price_check.specs.declared.report_fault.ReportFault.TheVariants as fault
 use Rattle.price_check.proofs.ApartLaws.{named_devices}
 use Rattle.price_check.proofs.OutcomeLaws.{ends, last_byte, some_rounds, live_is_known, IsOfText, FailsByText, Gives, reading_fails}
 use Rattle.price_check.proofs.ReadingLaws.{reading_again}
 use Rattle.price_check.specs.TextLines.{lines, with_byte}
-use Rattle.price_check.specs.Claims.{fault_line, IsFirstFaulty}
 use Rattle.price_check.proofs.LinesLemmas.{IsClosed, IsSome, closed_line, lines_some, none_first, lines-count, parted, first_lines, same_lines}
 use Rattle.price_check.proofs.BeginLaws.{FailsBehind, line_behind}
 use Rattle.price_check.proofs.FirstLaws.{fails_behind}

@@ -1,15 +1,11 @@
 -- a fault of a reading stands after lines that begin some claim's report
 use Rattle.std.proofs.Common.{◌≡◌, ◌≤◌, ℕ, List, [], ◌++◌, length, drop, replicate, Bool, true, false, cond, refl, sym, ap, ◌∙◌, arith, append_assoc, append-nil}
 use Rattle.std.specs.Prelude.{⊤, Option, Some, None, Result, Ok, Err, ok_or, codes, nat_le}
-use Rattle.event_rules.specs.Past.{Past}
-use Rattle.round_net.specs.Rows.{NetRows, instance_of_rows, live_of_rows}
-use Rattle.round_net.specs.Sound.{IsSound}
-use Rattle.round_net.specs.declared.price_range.TheConstants.{MOST_PRICE}
+use Rattle.price_check.specs.Words.{Past, NetRows, instance_of_rows, live_of_rows, IsSound, MOST_PRICE}
 use Rattle.price_check.specs.Pieces.{skip, line_of}
 use Rattle.price_check.specs.Forms.{most_stated}
-use Rattle.price_check.specs.Reading.{due, summary_at, stay_at, cell_price_at, series, stops, ended, reading}
+use Rattle.price_check.specs.Reading.{due, summary_at, stay_at, cell_price_at, series, stops, ended, reading, ReportFault}
 use Rattle.price_check.specs.Claims.{report_text}
-use Rattle.price_check.specs.declared.report_fault.ReportFault.{ReportFault}
 use Rattle.price_check.specs.declared.report_fault.ReportFault.TheVariants as fault
 use Rattle.price_check.proofs.PieceLaws.{skip_takes}
 use Rattle.price_check.proofs.SeriesLaws.{texts_of, series_takes}

@@ -1,10 +1,7 @@
 -- the forms of lines by their whole pieces
-use Rattle.std.proofs.Common.{◌≡◌, ◌-◌, ℕ, Bool, true, false, cond, List, ◌++◌, length, refl, sym, ◌∙◌, append_assoc}
-use Rattle.std.specs.Prelude.{nat_lt, Option, Some, None, decimal, codes, slice_get}
+use Rattle.std.proofs.Common.{◌≡◌, ◌-◌, ℕ, Bool, true, false, cond, List, ◌++◌, length, refl, sym, ◌∙◌, append_assoc, nat_lt, Option, Some, None, decimal, codes, slice_get}
 use Rattle.std.specs.Option.{option_map_or}
-use Rattle.cam_types.specs.declared.device.Device.{Device}
-use Rattle.cam_path.specs.Paths.{address_of, spelled}
-use Rattle.event_rules.specs.declared.stay.Stay.{Stay}
+use Rattle.price_check.specs.Words.{Device, address_of, spelled, Stay}
 use Rattle.price_check.specs.Pieces.{◌>>=◌, skip, skip_number, found_number}
 use Rattle.price_check.specs.Lines.{line}
 use Rattle.price_check.specs.Report.{number_text, shared_text, row_text}

@@ -1,19 +1,14 @@
 -- a line that is read stands there, and one that stands there is read
-use Rattle.std.proofs.Common.{◌≡◌, ◌<◌, ◌≤◌, ◌+◌, ℕ, List, [], ◌++◌, length, drop, get_or, Bool, true, false, cond, refl, sym, ap, ◌∙◌, arith, append_assoc, inl, inr}
+use Rattle.std.proofs.Common.{◌≡◌, ◌<◌, ◌≤◌, ◌+◌, ℕ, List, [], ◌++◌, length, drop, get_or, Bool, true, false, cond, refl, sym, ap, ◌∙◌, arith, append_assoc, inl, inr, leb-true, le-leb}
 use Rattle.std.specs.Prelude.{⊤, Option, Some, None, ok_or, Result, Ok, Err, decimal, codes, slice_get, nat_le, is_some}
-use Rattle.std.proofs.lemmas.Bool.{leb-true, le-leb}
 use Rattle.std.proofs.lemmas.List.{drop_all, length-drop, length-map}
 use Rattle.std.proofs.lemmas.Option.{slice_get_cases}
-use Rattle.event_rules.specs.declared.stay.Stay.{Stay}
-use Rattle.round_net.specs.Rows.{NetRows, instance_of_rows, live_of_rows, names_of_rows}
-use Rattle.round_net.specs.declared.stay_row.StayRow.{StayRow}
+use Rattle.price_check.specs.Words.{Stay, NetRows, instance_of_rows, live_of_rows, names_of_rows, StayRow}
 use Rattle.price_check.specs.Pieces.{skip, line_of}
 use Rattle.price_check.specs.Lines.{line}
 use Rattle.price_check.specs.Report.{number_text, name_text, stay_line}
 use Rattle.price_check.specs.Forms.{known_line, stated_line, most_stated, own_stay, any_stay}
-use Rattle.price_check.specs.Reading.{due, stay_at, stops, ended}
-use Rattle.price_check.specs.declared.report_fault.ReportFault.{ReportFault}
-use Rattle.price_check.specs.declared.report_fault.ReportFault.TheVariants.{BadLine, WrongStays}
+use Rattle.price_check.specs.Reading.{due, stay_at, stops, ended, ReportFault, BadLine, WrongStays}
 use Rattle.price_check.proofs.PieceLaws.{skip_takes, skip_again, framed, framed_takes, framed_again}
 use Rattle.price_check.proofs.FormLaws.{known_line-skip, stated_line-framed, stay_front, stay_back, named_stay-framed}
 use Rattle.price_check.proofs.SeriesLaws.{Takes, Again, on_ok}

@@ -1,34 +1,16 @@
 -- what a reader of reports answers
-use Rattle.std.proofs.Common.{◌≡◌, ◌≢◌, ◌≤◌, ◌+◌, ◌-◌, ℕ, zero, suc, List, ◌++◌, length, get_or, Bool, true, false, cond, refl, sym, ap, ◌∙◌, subst, arith, append_assoc, append-nil, length-append, inl, inr}
+use Rattle.std.proofs.Common.{◌≡◌, ◌≢◌, ◌≤◌, ◌+◌, ◌-◌, ℕ, zero, suc, List, ◌++◌, length, get_or, Bool, true, false, cond, refl, sym, ap, ◌∙◌, subst, arith, append_assoc, append-nil, length-append, inl, inr, eq-eqb, ne_eqb}
 use Rattle.std.specs.Prelude.{◌==◌, ◌&&◌, ◌⊎◌, ⊤, nat_le, Option, Some, None, Result, Ok, Err, ok_or, codes, slice_index, sum_by, is_some, IfOk, IfSome}
 use Rattle.std.specs.List.{AllByRecursion}
 use Rattle.std.specs.Option.{option_map_or}
-use Rattle.std.proofs.lemmas.Bool.{eq-eqb, ne_eqb}
 use Rattle.std.proofs.lemmas.List.{append_cancel_right, get_or-append-add}
-use Rattle.cam_types.specs.Topology.{Topology, IsConfig}
-use Rattle.cam_types.specs.Whole.{IsWhole}
-use Rattle.cam_types.specs.Number.{number_of}
-use Rattle.cam_types.specs.declared.device.Device.{Device}
-use Rattle.cam_path.specs.Paths.{◌>>=◌, digits_at}
-use Rattle.event_rules.specs.Past.{Past}
-use Rattle.event_rules.specs.Counts.{round, commands}
-use Rattle.event_rules.specs.Live.{live_cost, live_part}
-use Rattle.event_rules.specs.Stays.{stays_begun, unsent}
-use Rattle.event_rules.specs.declared.event.Event.{Event}
-use Rattle.event_rules.specs.declared.stay.Stay.{Stay}
+use Rattle.price_check.specs.Words.{Topology, IsConfig, IsWhole, number_of, Device, ◌>>=◌, digits_at, Past, round, commands, live_cost, live_part, stays_begun, unsent, Event, Stay, net_of, pricing_of_rows, NetRows, instance_of_rows, live_of_rows, IsSound, MOST_PRICE}
 use Rattle.event_rules.proofs.LiveLemmas.{live_cost_sent}
-use Rattle.round_net.specs.Nets.{net_of}
-use Rattle.round_net.specs.PriceRows.{pricing_of_rows}
-use Rattle.round_net.specs.Rows.{NetRows, instance_of_rows, live_of_rows}
-use Rattle.round_net.specs.Sound.{IsSound}
-use Rattle.round_net.specs.declared.price_range.TheConstants.{MOST_PRICE}
 use Rattle.price_check.specs.Pieces.{skip, line_of}
 use Rattle.price_check.specs.Report.{texts_below, summary_text, plan_text, stay_line, price_lines}
 use Rattle.price_check.specs.Forms.{known_line, stated_line, own_stay, any_stay}
-use Rattle.price_check.specs.Reading.{closed, due, stops, ended, summary_at, stay_at, is_large, valued, price_at, cell_price_at, series, reading}
-use Rattle.price_check.specs.Claims.{IsClaim, IsReport, WasReport, report_text}
-use Rattle.price_check.specs.declared.claim.Claim.{Claim}
-use Rattle.price_check.specs.declared.report_fault.ReportFault.{ReportFault}
+use Rattle.price_check.specs.Reading.{closed, due, stops, ended, summary_at, stay_at, is_large, valued, price_at, cell_price_at, series, reading, ReportFault}
+use Rattle.price_check.specs.Claims.{IsClaim, IsReport, WasReport, report_text, Claim}
 use Rattle.price_check.specs.declared.report_fault.ReportFault.TheVariants as fault
 use Rattle.price_check.proofs.SeriesLemmas.{Reader}
 use Rattle.price_check.proofs.ApartLaws.{named_devices}

@@ -2,15 +2,10 @@
 use Rattle.std.proofs.Common.{◌≡◌, ◌≤◌, ◌<◌, ◌+◌, ◌-◌, ◌/◌, ◌%◌, ℕ, suc, List, [], ◌∷◌, ◌++◌, length, take, drop, get_or, Bool, true, false, refl, sym, ap, ◌∙◌, subst, arith, append_assoc}
 use Rattle.std.specs.Prelude.{◌==◌, ⊤, Result, Ok, All}
 use Rattle.std.proofs.lemmas.List.Elements.{All-get_or}
-use Rattle.cam_types.specs.declared.device.Device.{Device}
-use Rattle.cam_path.specs.Paths.{◌>>=◌}
-use Rattle.event_rules.specs.declared.event.Event.{Event}
-use Rattle.round_net.specs.Rows.{NetRows, instance_of_rows}
-use Rattle.round_net.specs.declared.price_range.TheConstants.{MOST_PRICE}
+use Rattle.price_check.specs.Words.{Device, ◌>>=◌, Event, NetRows, instance_of_rows, MOST_PRICE}
 use Rattle.price_check.specs.Report.{price_line, row_text}
-use Rattle.price_check.specs.Reading.{summary_at, stay_at, cell_price_at, series, ended, reading}
-use Rattle.price_check.specs.declared.claim.Claim.{Claim}
-use Rattle.price_check.specs.declared.report_fault.ReportFault.{ReportFault}
+use Rattle.price_check.specs.Reading.{summary_at, stay_at, cell_price_at, series, ended, reading, ReportFault}
+use Rattle.price_check.specs.Claims.{Claim}
 use Rattle.price_check.proofs.PriceLaws.{price_some}
 use Rattle.price_check.proofs.SeriesLemmas.{Reader, series-more}
 use Rattle.price_check.proofs.SeriesLaws.{texts_of, series_again, Again}

@@ -1,16 +1,11 @@
 -- a price that is read stands there, and one that stands there is read
-use Rattle.std.proofs.Common.{◌≡◌, ◌≤◌, ◌+◌, ℕ, List, ◌++◌, length, take, drop, Bool, true, false, cond, refl, sym, ap, ◌∙◌, subst, arith, append_assoc, inl, inr}
-use Rattle.std.specs.Prelude.{◌⊎◌, ◌==◌, Option, Some, None, option_map, ok_or, Result, Ok, Err, decimal, codes, nat_le, ◌&&◌}
+use Rattle.std.proofs.Common.{◌≡◌, ◌≤◌, ◌+◌, ℕ, List, ◌++◌, length, take, drop, Bool, true, false, cond, refl, sym, ap, ◌∙◌, subst, arith, append_assoc, inl, inr, ◌⊎◌, ◌==◌, Option, Some, None, option_map, ok_or, Result, Ok, Err, decimal, codes, nat_le, ◌&&◌}
 use Rattle.std.specs.Option.{option_map_or}
 use Rattle.std.specs.Result.{result_ok}
-use Rattle.cam_types.specs.Number.{number_of}
-use Rattle.cam_path.specs.Paths.{number_at, digits_at}
-use Rattle.round_net.specs.declared.price_range.TheConstants.{MOST_PRICE}
+use Rattle.price_check.specs.Words.{number_of, number_at, digits_at, MOST_PRICE}
 use Rattle.price_check.specs.Pieces.{skip, found_number, line_of}
 use Rattle.price_check.specs.Report.{number_text, price_line}
-use Rattle.price_check.specs.Reading.{price_at, valued, is_large}
-use Rattle.price_check.specs.declared.report_fault.ReportFault.{ReportFault}
-use Rattle.price_check.specs.declared.report_fault.ReportFault.TheVariants.{PriceRange}
+use Rattle.price_check.specs.Reading.{price_at, valued, is_large, ReportFault, PriceRange}
 use Rattle.price_check.proofs.PieceLaws.{skip_takes, skip_again, skip_none, IsApart, number_found, number_found_again}
 use Rattle.price_check.proofs.FormLaws.{front_text}
 

@@ -2,12 +2,9 @@
 use Rattle.std.proofs.Common.{◌≡◌, ◌≤◌, ◌+◌, ℕ, List, [], ◌∷◌, ◌++◌, length, take, drop, refl, sym, ap, ◌∙◌, arith, append_assoc, append-nil, inl, inr}
 use Rattle.std.specs.Prelude.{⊤, Ok, codes}
 use Rattle.std.proofs.lemmas.List.Elements.{All-get_or}
-use Rattle.cam_path.specs.Paths.{◌>>=◌}
-use Rattle.event_rules.specs.Past.{Past}
-use Rattle.round_net.specs.Rows.{NetRows, instance_of_rows}
+use Rattle.price_check.specs.Words.{◌>>=◌, Past, NetRows, instance_of_rows}
 use Rattle.price_check.specs.Reading.{summary_at, stay_at, cell_price_at, ended, reading}
-use Rattle.price_check.specs.Claims.{IsClaim, report_text}
-use Rattle.price_check.specs.declared.claim.Claim.{Claim}
+use Rattle.price_check.specs.Claims.{IsClaim, report_text, Claim}
 use Rattle.price_check.proofs.PieceLaws.{skip_again}
 use Rattle.price_check.proofs.SeriesLaws.{texts_of, series_again}
 use Rattle.price_check.proofs.ApartLaws.{AreNamed}

@@ -1,18 +1,11 @@
 -- the text of a claim's report is read as that claim, and no other text is
-use Rattle.std.proofs.Common.{◌≡◌, ◌≤◌, ℕ, List, [], ◌++◌, take, drop, refl, sym, ap, ◌∙◌, subst, arith}
+use Rattle.std.proofs.Common.{◌≡◌, ◌≤◌, ℕ, List, [], ◌++◌, take, drop, refl, sym, ap, ◌∙◌, subst, arith, take_all}
 use Rattle.std.specs.Prelude.{⊤, Result, Ok, codes, slice_index}
-use Rattle.std.proofs.lemmas.List.{take_all}
 use Rattle.std.proofs.lemmas.List.Elements.{All-get_or}
-use Rattle.event_rules.specs.Past.{Past}
-use Rattle.round_net.specs.PriceRows.{PriceRows, pricing_of_rows, IsPricingFor}
-use Rattle.round_net.specs.Rows.{NetRows, instance_of_rows, live_of_rows}
-use Rattle.round_net.specs.Sound.{IsSound}
-use Rattle.round_net.specs.declared.price_range.TheConstants.{MOST_PRICE}
+use Rattle.price_check.specs.Words.{Past, PriceRows, pricing_of_rows, IsPricingFor, NetRows, instance_of_rows, live_of_rows, IsSound, MOST_PRICE}
 use Rattle.price_check.specs.Report.{summary_text, plan_text}
-use Rattle.price_check.specs.Reading.{summary_at, stay_at, cell_price_at, series, ended, reading}
-use Rattle.price_check.specs.Claims.{IsClaim, report_text}
-use Rattle.price_check.specs.declared.claim.Claim.{Claim}
-use Rattle.price_check.specs.declared.report_fault.ReportFault.{ReportFault}
+use Rattle.price_check.specs.Reading.{summary_at, stay_at, cell_price_at, series, ended, reading, ReportFault}
+use Rattle.price_check.specs.Claims.{IsClaim, report_text, Claim}
 use Rattle.price_check.proofs.SeriesLaws.{on_ok, series_takes, series_again}
 use Rattle.price_check.proofs.ApartLaws.{AreNamed}
 use Rattle.price_check.proofs.CellLaws.{price_cells, form_of, front_of, NoneBefore, cells_take, cells_again, cells_join, pricing_cells, net_apart, none_at_end}

@@ -1,13 +1,7 @@
 -- a report that is read is spelled so, and what is spelled so is read
-use Rattle.std.proofs.Common.{◌≡◌, ◌≤◌, ◌+◌, ◌*◌, ◌/◌, ◌%◌, ℕ, List, ◌++◌, length, drop, get_or, refl, sym, ap, ◌∙◌, subst, arith, append_assoc}
-use Rattle.std.specs.Prelude.{Ok, codes, slice_index}
+use Rattle.std.proofs.Common.{◌≡◌, ◌≤◌, ◌+◌, ◌*◌, ◌/◌, ◌%◌, ℕ, List, ◌++◌, length, drop, get_or, refl, sym, ap, ◌∙◌, subst, arith, append_assoc, Ok, codes, slice_index}
 use Rattle.std.proofs.Math.Nat.{div-add-mod}
-use Rattle.cam_types.specs.declared.device.Device.{Device}
-use Rattle.event_rules.specs.Counts.{round, commands}
-use Rattle.event_rules.specs.Stays.{stays_begun}
-use Rattle.event_rules.specs.declared.event.Event.{Event}
-use Rattle.round_net.specs.PriceRows.{PriceRows, pricing_of_rows, IsPricingFor}
-use Rattle.round_net.specs.Rows.{NetRows, cell, instance_of_rows}
+use Rattle.price_check.specs.Words.{Device, round, commands, stays_begun, Event, PriceRows, pricing_of_rows, IsPricingFor, NetRows, cell, instance_of_rows}
 use Rattle.price_check.specs.Lines.{line}
 use Rattle.price_check.specs.Report.{texts_below, summary_text, plan_text, price_lines, stay_line, price_line, row_text, row_line}
 use Rattle.price_check.specs.Forms.{known_line, stated_line, most_stated}

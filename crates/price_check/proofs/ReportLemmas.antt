@@ -1,10 +1,7 @@
 -- texts put after one another
-use Rattle.std.proofs.Common.{◌≡◌, ℕ, suc, ◌+◌, ◌-◌, ◌≤◌, List, ◌++◌, length, refl, sym, ap, ◌∙◌, arith, append_assoc, append-nil, length-append, Some, None}
-use Rattle.std.specs.Prelude.{codes, decimal, slice_get}
+use Rattle.std.proofs.Common.{◌≡◌, ℕ, suc, ◌+◌, ◌-◌, ◌≤◌, List, ◌++◌, length, refl, sym, ap, ◌∙◌, arith, append_assoc, append-nil, length-append, Some, None, codes, decimal, slice_get}
 use Rattle.std.proofs.lemmas.Fmt.{length-decimal-le}
-use Rattle.cam_types.specs.declared.device.Device.{Device}
-use Rattle.cam_path.specs.Paths.{Fits, address_of, spelled}
-use Rattle.cam_path.specs.declared.path.CamPath.{CamPath}
+use Rattle.price_check.specs.Words.{Device, Fits, address_of, spelled, CamPath}
 use Rattle.price_check.specs.Report.{texts_below, shared_text, row_text}
 
 pub no_text : (text : ℕ → List ℕ) (before : List ℕ) → before ≡ before ++ texts_below 0 text

@@ -1,16 +1,10 @@
 -- the cheapest round of the rest of all rounds
-use Rattle.std.proofs.Common.{◌≡◌, ◌≢◌, ℕ, zero, suc, ◌+◌, ◌-◌, ◌*◌, ◌<◌, ◌≤◌, Bool, true, false, cond, List, length, refl, sym, ap, subst, ◌∙◌, arith, inl, inr, mul-add}
-use Rattle.std.specs.Prelude.{◌==◌, nat_le, map, filter, slice_index, slice_set}
+use Rattle.std.proofs.Common.{◌≡◌, ◌≢◌, ℕ, zero, suc, ◌+◌, ◌-◌, ◌*◌, ◌<◌, ◌≤◌, Bool, true, false, cond, List, length, refl, sym, ap, subst, ◌∙◌, arith, inl, inr, mul-add, ◌==◌, nat_le, map, filter, slice_index, slice_set, get_or-set_same, get_or-set_other}
 use Rattle.std.specs.List.{range_with_len}
 use Rattle.std.proofs.lemmas.Bool.{cases_lt, cases_eq}
 use Rattle.std.proofs.lemmas.Nat.{mul-le}
 use Rattle.std.proofs.lemmas.Bool.Decides.{nat_tests}
-use Rattle.std.proofs.lemmas.List.{get_or-set_same, get_or-set_other}
-use Rattle.cam_types.specs.declared.maxima.TheConstants.{MOST_ROUNDS, MOST_WEIGHT}
-use Rattle.round_net.specs.Sums.{sum_below, least}
-use Rattle.round_net.specs.Instance.{Instance}
-use Rattle.round_net.specs.Rows.{cell}
-use Rattle.round_net.specs.Value.{Pricing, priced, is_open, allowed}
+use Rattle.price_check.specs.Words.{MOST_ROUNDS, MOST_WEIGHT, sum_below, least, Instance, cell, Pricing, priced, is_open, allowed}
 use Rattle.round_net.proofs.CellLemmas.{cell-injective}
 use Rattle.round_net.proofs.SumLemmas.{sum_below-same, sum_below-add, sum_below-zero}
 use Rattle.price_check.proofs.LeastLemmas.{least-le_at, le-least}

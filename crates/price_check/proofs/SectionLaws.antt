@@ -4,22 +4,12 @@ use Rattle.std.specs.Prelude.{◌==◌, ◌⊎◌, ⊤, nat_lt, not, Option, Som
 use Rattle.std.specs.List.{list_all}
 use Rattle.std.specs.Option.{option_map_or}
 use Rattle.std.proofs.lemmas.Bool.{and_parts, eq-eqb}
-use Rattle.cam_types.specs.declared.device.Device.{Device}
-use Rattle.cam_path.specs.Paths.{◌>>=◌, spelled, address_of}
-use Rattle.event_rules.specs.Past.{Past}
-use Rattle.event_rules.specs.Counts.{round, commands}
-use Rattle.event_rules.specs.Stays.{stays_begun}
-use Rattle.event_rules.specs.declared.event.Event.{Event}
-use Rattle.event_rules.specs.declared.stay.Stay.{Stay}
-use Rattle.round_net.specs.PriceRows.{pricing_of_rows, IsPricingFor}
-use Rattle.round_net.specs.Rows.{NetRows, instance_of_rows, live_of_rows, names_of_rows}
+use Rattle.price_check.specs.Words.{Device, ◌>>=◌, spelled, address_of, Past, round, commands, stays_begun, Event, Stay, pricing_of_rows, IsPricingFor, NetRows, instance_of_rows, live_of_rows, names_of_rows}
 use Rattle.price_check.specs.Lines.{line}
 use Rattle.price_check.specs.Report.{summary_text, plan_text, number_text, name_text, stay_line, price_line, shared_text, row_text}
 use Rattle.price_check.specs.Forms.{known_line, stated_line, most_stated}
-use Rattle.price_check.specs.Reading.{due, summary_at, series}
-use Rattle.price_check.specs.Claims.{report_text}
-use Rattle.price_check.specs.declared.claim.Claim.{Claim}
-use Rattle.price_check.specs.declared.report_fault.ReportFault.{ReportFault}
+use Rattle.price_check.specs.Reading.{due, summary_at, series, ReportFault}
+use Rattle.price_check.specs.Claims.{report_text, Claim}
 use Rattle.price_check.proofs.SeriesLemmas.{Reader}
 use Rattle.price_check.proofs.SeriesLaws.{on_ok, texts_of, Takes, Again}
 use Rattle.price_check.proofs.CellLaws.{price_cells, form_of}

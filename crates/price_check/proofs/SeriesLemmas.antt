@@ -1,8 +1,6 @@
 -- readings in a row
-use Rattle.std.proofs.Common.{◌≡◌, ℕ, zero, suc, ◌+◌, ◌<◌, ◌-◌, List, [], ◌∷◌, ◌++◌, refl, arith}
-use Rattle.std.specs.Prelude.{Result, Ok, Err}
-use Rattle.price_check.specs.Reading.{series}
-use Rattle.price_check.specs.declared.report_fault.ReportFault.{ReportFault}
+use Rattle.std.proofs.Common.{◌≡◌, ℕ, zero, suc, ◌+◌, ◌<◌, ◌-◌, List, [], ◌∷◌, ◌++◌, refl, arith, Result, Ok, Err}
+use Rattle.price_check.specs.Reading.{series, ReportFault}
 
 abbrev pub Reader : Type 0
 Reader = ℕ → ℕ → Result (ℕ × ℕ) ReportFault

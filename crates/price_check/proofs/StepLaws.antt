@@ -3,16 +3,10 @@ use Rattle.std.proofs.Common.{◌≡◌, ◌≤◌, ◌<◌, ◌+◌, ◌/◌, �
 use Rattle.std.specs.Prelude.{◌==◌, ◌&&◌, ⊤, Option, Some, None, Result, Ok, Err, ok_or, option_map, codes, slice_get, is_some, nat_le}
 use Rattle.std.specs.Option.{option_map_or, option_and_then}
 use Rattle.std.specs.Result.{result_ok}
-use Rattle.cam_types.specs.Number.{number_of}
-use Rattle.cam_types.specs.declared.device.Device.{Device}
-use Rattle.cam_path.specs.Paths.{◌>>=◌, number_at, digits_at}
-use Rattle.event_rules.specs.declared.stay.Stay.{Stay}
-use Rattle.round_net.specs.Rows.{NetRows, instance_of_rows, live_of_rows, names_of_rows}
-use Rattle.round_net.specs.declared.price_range.TheConstants.{MOST_PRICE}
+use Rattle.price_check.specs.Words.{number_of, Device, ◌>>=◌, number_at, digits_at, Stay, NetRows, instance_of_rows, live_of_rows, names_of_rows, MOST_PRICE}
 use Rattle.price_check.specs.Pieces.{skip, found_number, line_of}
 use Rattle.price_check.specs.Forms.{known_line, stated_line, own_stay, any_stay, named_stay, most_stated}
-use Rattle.price_check.specs.Reading.{due, stay_at, is_large, valued, price_at, cell_price_at, series, stops, ended}
-use Rattle.price_check.specs.declared.report_fault.ReportFault.{ReportFault}
+use Rattle.price_check.specs.Reading.{due, stay_at, is_large, valued, price_at, cell_price_at, series, stops, ended, ReportFault}
 use Rattle.price_check.specs.declared.report_fault.ReportFault.TheVariants as fault
 use Rattle.price_check.proofs.PieceLaws.{skip_takes, on_some, framed}
 use Rattle.price_check.proofs.FormLaws.{known_line-skip, stated_line-framed, named_stay-framed, stay_front, stay_back, price_front-skip}

@@ -1,13 +1,9 @@
 -- one stay more in the counts of cells
-use Rattle.std.proofs.Common.{◌≡◌, ◌≢◌, ℕ, zero, suc, ◌+◌, ◌*◌, ◌^◌, ◌<◌, ◌≤◌, Bool, true, false, cond, List, [], ◌∷◌, ◌++◌, length, refl, sym, ap, ◌∙◌, arith, add-one, get_or, eq-eqb, Some, None}
-use Rattle.std.specs.Prelude.{◌==◌, ◌&&◌, ◌||◌, nat_lt, slice_index, slice_set}
+use Rattle.std.proofs.Common.{◌≡◌, ◌≢◌, ℕ, zero, suc, ◌+◌, ◌*◌, ◌^◌, ◌<◌, ◌≤◌, Bool, true, false, cond, List, [], ◌∷◌, ◌++◌, length, refl, sym, ap, ◌∙◌, arith, add-one, get_or, eq-eqb, Some, None, ◌==◌, ◌&&◌, ◌||◌, nat_lt, slice_index, slice_set, get_or-set_same, get_or-set_other, length-set}
 use Rattle.std.specs.List.{list_any}
 use Rattle.std.proofs.lemmas.Bool.{eqb-true, ne_eqb, and_parts}
-use Rattle.std.proofs.lemmas.List.{get_or-set_same, get_or-set_other, length-set}
 use Rattle.std.proofs.lemmas.List.Folds.{list_any-append}
-use Rattle.round_net.specs.Sums.{count_below}
-use Rattle.round_net.specs.Instance.{Instance, rows, adapter, link, adapter_row, link_row, path, uses}
-use Rattle.round_net.specs.Rows.{cell}
+use Rattle.price_check.specs.Words.{count_below, Instance, rows, adapter, link, adapter_row, link_row, path, uses, cell}
 use Rattle.round_net.proofs.CellLemmas.{cell_within, cell-injective}
 use Rattle.round_net.proofs.PathLemmas.{uses-device, uses-adapter}
 use Rattle.price_check.specs.Faults.{at_row, is_over, is_link_over}

@@ -1,11 +1,9 @@
 -- the rows that a stay uses are those of its path
-use Rattle.std.proofs.Common.{◌≡◌, ℕ, ◌<◌, Bool, true, List, [], ◌∷◌, refl, subst, inl, inr}
-use Rattle.std.specs.Prelude.{◌==◌, All}
+use Rattle.std.proofs.Common.{◌≡◌, ℕ, ◌<◌, Bool, true, List, [], ◌∷◌, refl, subst, inl, inr, ◌==◌, All}
 use Rattle.std.specs.List.{list_all, list_any}
 use Rattle.std.proofs.lemmas.Bool.{or_cases, or_left, or_right, and_from, eqb-true, eq-eqb}
 use Rattle.std.proofs.lemmas.List.Elements.{All-head, All-tail}
-use Rattle.round_net.specs.Instance.{Instance, rows, path, uses}
-use Rattle.round_net.specs.Sound.{IsSound}
+use Rattle.price_check.specs.Words.{Instance, rows, path, uses, IsSound}
 use Rattle.round_net.proofs.PathLemmas.{path-inside}
 
 -- what holds of each number of a list holds of one that is among them

@@ -1,20 +1,12 @@
 -- Reports of claims, and what a reader of reports answers.
 use Rattle.std.specs.Prelude.{◌≡◌, ℕ, ◌≤◌, ◌-◌, ◌⊎◌, ⊤, Bool, true, List, ◌++◌, length, take, slice_index, All, Option, Some, Err, codes}
 use Rattle.std.specs.List.{AllByRecursion}
-use Rattle.cam_types.specs.Whole.{IsWhole, IsTooLong}
-use Rattle.cam_types.specs.declared.maxima.TheConstants.{MOST_BYTES}
-use Rattle.cam_types.specs.declared.device.Device.{Device}
-use Rattle.event_rules.specs.Past.{Past}
-use Rattle.event_rules.specs.Live.{live_cost}
-use Rattle.round_net.specs.Instance.{Instance}
-use Rattle.round_net.specs.PriceRows.{pricing_of_rows, IsPriced, IsPricingFor}
-use Rattle.round_net.specs.Rows.{NetRows, instance_of_rows}
+use Rattle.price_check.specs.Words.{IsWhole, IsTooLong, MOST_BYTES, Device, Past, live_cost, Instance, pricing_of_rows, IsPriced, IsPricingFor, NetRows, instance_of_rows}
 use Rattle.price_check.specs.Forms.{most_stated}
 use Rattle.price_check.specs.Report.{summary_text, plan_text}
-use Rattle.price_check.specs.Reading.{closed, reading}
+use Rattle.price_check.specs.Reading.{closed, reading, ReportFault}
 use Rattle.price_check.specs.TextLines.{lines}
-use Rattle.price_check.specs.declared.claim.Claim.{Claim}
-use Rattle.price_check.specs.declared.report_fault.ReportFault.{ReportFault}
+pub use Rattle.price_check.specs.declared.claim.Claim.{Claim}
 use Rattle.price_check.specs.declared.report_fault.ReportFault.TheVariants as fault
 
 -- a round of at most 65,535 for each stay, a price for each round of each row, none above the most, and costs of at most 18

@@ -1,10 +1,9 @@
 -- the first fault of a schedule
 use Rattle.std.specs.Prelude.{◌≡◌, ℕ, ◌+◌, ◌==◌, ◌<◌, Bool, ◌&&◌, nat_lt, if◌then◌else◌, Option, Some, None}
 use Rattle.std.specs.List.{list_any}
-use Rattle.round_net.specs.Sums.{count_below}
-use Rattle.round_net.specs.Instance.{Instance, adapter, adapter_row, link_rows, uses}
-use Rattle.price_check.specs.declared.verdict.Cause.{Cause}
-use Rattle.price_check.specs.declared.verdict.Cause.TheVariants.{Early, Late, DeviceFull, AdapterFull, LinkFull}
+use Rattle.price_check.specs.Words.{count_below, Instance, adapter, adapter_row, link_rows, uses}
+pub use Rattle.price_check.specs.declared.verdict.Cause.{Cause}
+pub use Rattle.price_check.specs.declared.verdict.Cause.TheVariants.{Early, Late, DeviceFull, AdapterFull, LinkFull}
 
 -- how many stays, up to and including this one, use a row in its round
 abbrev pub at_row : Instance → (ℕ → ℕ) → ℕ → ℕ → ℕ

@@ -1,3 +1,4 @@
+pub mod Words
 pub mod Claims
 pub mod Faults
 pub mod Forms

@@ -1,20 +1,12 @@
 -- How a text is read as a report: line by line, each the one that is due after those before it.
 use Rattle.std.specs.Prelude.{ℕ, zero, suc, ◌+◌, ◌-◌, ◌*◌, ◌/◌, ◌%◌, ◌==◌, Bool, not, nat_le, nat_lt, ◌&&◌, if◌then◌else◌, List, [], ◌∷◌, ◌++◌, length, take, drop, slice_index, Option, is_some, ok_or, Result, Ok, Err, codes, ⊤}
 use Rattle.std.specs.Option.{option_map_or}
-use Rattle.cam_types.specs.Number.{has_leading_zero, number_of}
-use Rattle.cam_types.specs.declared.device.Device.{Device}
-use Rattle.cam_path.specs.Paths.{◌>>=◌, digits_at}
-use Rattle.event_rules.specs.Counts.{round, commands}
-use Rattle.event_rules.specs.Stays.{stays_begun}
-use Rattle.event_rules.specs.declared.event.Event.{Event}
-use Rattle.round_net.specs.Instance.{rows}
-use Rattle.round_net.specs.Rows.{NetRows, instance_of_rows}
-use Rattle.round_net.specs.declared.price_range.TheConstants.{MOST_PRICE}
+use Rattle.price_check.specs.Words.{has_leading_zero, number_of, Device, ◌>>=◌, digits_at, round, commands, stays_begun, Event, rows, NetRows, instance_of_rows, MOST_PRICE}
 use Rattle.price_check.specs.Pieces.{skip, line_of}
 use Rattle.price_check.specs.Forms.{known_line, stated_line, own_stay, any_stay, price_front}
 use Rattle.price_check.specs.declared.claim.Claim.{Claim}
-use Rattle.price_check.specs.declared.report_fault.ReportFault.{ReportFault}
-use Rattle.price_check.specs.declared.report_fault.ReportFault.TheVariants.{BadLine, PriceRange, WrongStays}
+pub use Rattle.price_check.specs.declared.report_fault.ReportFault.{ReportFault}
+pub use Rattle.price_check.specs.declared.report_fault.ReportFault.TheVariants.{BadLine, PriceRange, WrongStays, OutOfMemory}
 
 -- the text with a line feed after its last line
 abbrev pub closed : List ℕ → List ℕ

@@ -1,15 +1,7 @@
 -- the report on a history: a schedule, what it costs, and the prices that prove it
 use Rattle.std.specs.Prelude.{ℕ, zero, suc, ◌+◌, ◌-◌, ◌==◌, nat_lt, if◌then◌else◌, List, [], ◌++◌, length, slice_get, codes, decimal}
 use Rattle.std.specs.Option.{option_map_or}
-use Rattle.cam_types.specs.declared.device.Device.{Device}
-use Rattle.cam_path.specs.Paths.{address_of, spelled}
-use Rattle.event_rules.specs.Counts.{round, commands}
-use Rattle.event_rules.specs.Stays.{stays_begun}
-use Rattle.event_rules.specs.declared.event.Event.{Event}
-use Rattle.event_rules.specs.declared.stay.Stay.{Stay}
-use Rattle.round_net.specs.Instance.{Instance, rows}
-use Rattle.round_net.specs.Rows.{NetRows, instance_of_rows, live_of_rows, names_of_rows}
-use Rattle.round_net.specs.Value.{Pricing}
+use Rattle.price_check.specs.Words.{Device, address_of, spelled, round, commands, stays_begun, Event, Stay, Instance, rows, NetRows, instance_of_rows, live_of_rows, names_of_rows, Pricing}
 use Rattle.price_check.specs.Lines.{line}
 
 -- the first seven lines: what the history has, what its live schedule cost, and what is said of a best one's cost and of

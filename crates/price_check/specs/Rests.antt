@@ -1,10 +1,7 @@
 -- which round of the rest of all rounds is cheapest for stays of one device and one weight
 use Rattle.std.specs.Prelude.{◌≡◌, ℕ, ◌+◌, ◌*◌, ◌<◌, ◌≤◌, Bool, true, false, nat_lt, List, slice_index, sum_by}
 use Rattle.std.specs.List.{list_all}
-use Rattle.cam_types.specs.declared.maxima.TheConstants.{MOST_WEIGHT}
-use Rattle.round_net.specs.Instance.{Instance, path_of}
-use Rattle.round_net.specs.Rows.{cell}
-use Rattle.round_net.specs.Value.{Pricing}
+use Rattle.price_check.specs.Words.{MOST_WEIGHT, Instance, path_of, cell, Pricing}
 
 -- each row of which a command to the device takes an opening takes commands in the round
 abbrev pub takes : Instance → ℕ → ℕ → Bool

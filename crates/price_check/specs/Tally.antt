@@ -1,9 +1,7 @@
 -- how many stays use each row in each round so far
 use Rattle.std.specs.Prelude.{◌≡◌, ℕ, ◌+◌, ◌==◌, ◌<◌, ◌≤◌, ◌&&◌, cond, List, slice_index}
 use Rattle.std.specs.List.{list_any}
-use Rattle.round_net.specs.Sums.{count_below}
-use Rattle.round_net.specs.Instance.{Instance, rows, uses}
-use Rattle.round_net.specs.Rows.{cell}
+use Rattle.price_check.specs.Words.{count_below, Instance, rows, uses, cell}
 
 -- The list has a count for each round of each row: of the stays before this one, those that use the row and are in the round.
 pub record IsTally (net : Instance) (f : ℕ → ℕ) (counts : List ℕ) (s : ℕ) : Type 0 where

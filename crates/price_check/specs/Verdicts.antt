@@ -1,11 +1,7 @@
 -- what a checker answers
 use Rattle.std.specs.Prelude.{◌≡◌, ℕ, ◌+◌, ◌<◌, ◌≤◌, List, Some, slice_get}
-use Rattle.event_rules.specs.declared.stay.Stay.{Stay}
-use Rattle.round_net.specs.Instance.{Instance}
-use Rattle.round_net.specs.Schedules.{IsAdmissible, cost}
-use Rattle.round_net.specs.Value.{Pricing, paid, offered, ProvesBest}
-use Rattle.price_check.specs.Faults.{IsFirstFault}
-use Rattle.price_check.specs.declared.verdict.Cause.{Cause}
+use Rattle.price_check.specs.Words.{Stay, Instance, IsAdmissible, cost, Pricing, paid, offered, ProvesBest}
+use Rattle.price_check.specs.Faults.{IsFirstFault, Cause}
 use Rattle.price_check.specs.declared.verdict.Verdict.{Verdict}
 use Rattle.price_check.specs.declared.verdict.Verdict.TheVariants.{Proved, Gap, NotAdmissible}
 

@@ -1,10 +1,7 @@
 //! The check of a schedule and its prices.
 
 ghost use Rattle.std.specs.Prelude.{◌≡◌, ◌*◌, ◌≤◌, length, slice_index};
-ghost use Rattle.round_net.specs.Instance.{rows};
-ghost use Rattle.round_net.specs.Rows.{instance_of_rows, names_of_rows};
-ghost use Rattle.round_net.specs.PriceRows.{pricing_of_rows, IsPricingFor};
-ghost use Rattle.round_net.specs.Value.{ProvesBest};
+ghost use Rattle.price_check.specs.Words.{rows, instance_of_rows, names_of_rows, pricing_of_rows, IsPricingFor, ProvesBest};
 ghost use Rattle.price_check.specs.Verdicts.{Means, IsBest};
 
 use crate::faults::first_fault;

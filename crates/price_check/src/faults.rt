@@ -1,10 +1,7 @@
 //! The first stay that makes a schedule inadmissible.
 
 ghost use Rattle.std.specs.Prelude.{◌≡◌, ℕ, ◌+◌, ◌*◌, ◌^◌, ◌<◌, ◌≤◌, [], ◌∷◌, length, slice_index, slice_set, MatchOption, IfNone};
-ghost use Rattle.round_net.specs.Instance.{rows, adapter, adapter_row};
-ghost use Rattle.round_net.specs.Rows.{instance_of_rows, live_of_rows};
-ghost use Rattle.round_net.specs.Sound.{IsSound};
-ghost use Rattle.round_net.specs.Schedules.{IsAdmissible};
+ghost use Rattle.price_check.specs.Words.{rows, adapter, adapter_row, instance_of_rows, live_of_rows, IsSound, IsAdmissible};
 ghost use Rattle.price_check.specs.Faults.{at_row, is_link_over, fault_at, IsFirstFault};
 ghost use Rattle.price_check.specs.Tally.{IsTally, IsCounted};
 

@@ -1,11 +1,7 @@
 //! What all stays pay, each in the round that is cheapest for it.
 
 ghost use Rattle.std.specs.Prelude.{◌≡◌, ℕ, ◌+◌, ◌*◌, ◌^◌, ◌<◌, ◌≤◌, ◌==◌, Some, None, cond, map, length};
-ghost use Rattle.round_net.specs.Sums.{sum_below, least};
-ghost use Rattle.round_net.specs.Rows.{instance_of_rows, live_of_rows};
-ghost use Rattle.round_net.specs.Sound.{IsSound};
-ghost use Rattle.round_net.specs.PriceRows.{pricing_of_rows, IsPricingFor};
-ghost use Rattle.round_net.specs.Value.{is_open, allowed, priced, paid};
+ghost use Rattle.price_check.specs.Words.{sum_below, least, instance_of_rows, live_of_rows, IsSound, pricing_of_rows, IsPricingFor, is_open, allowed, priced, paid};
 ghost use Rattle.price_check.specs.Least.{cheaper};
 ghost use Rattle.price_check.specs.Rests.{AreCheapest, IsNextWeight};
 

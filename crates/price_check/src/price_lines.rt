@@ -1,10 +1,8 @@
 //! Reads the price lines of a report, cell by cell.
 
 ghost use Rattle.std.specs.Prelude.{◌≡◌, ◌≢◌, ◌*◌, ◌<◌, ◌≤◌, ◌^◌, length, Ok, Err, IfOk, IfErr, IfSome};
-ghost use Rattle.round_net.specs.Instance.{rows};
-ghost use Rattle.round_net.specs.Rows.{instance_of_rows};
+ghost use Rattle.price_check.specs.Words.{rows, instance_of_rows, MOST_PRICE};
 ghost use Rattle.price_check.specs.Reading.{series, cell_price_at, price_at, valued, is_large};
-ghost use Rattle.round_net.specs.declared.price_range.TheConstants.{MOST_PRICE};
 
 use crate::forms::price_front;
 use crate::pieces::{digits_from, line_of, skip};

@@ -2,18 +2,9 @@
 
 ghost use Rattle.std.specs.Prelude.{◌≡◌, ◌≢◌, ℕ, ◌<◌, ◌≤◌, ◌^◌, false, None, Some, Ok, Err, length, IfOk, IfErr, IfSome, OnOk};
 ghost use Rattle.std.specs.List.{AllByRecursion};
-ghost use Rattle.cam_types.specs.Topology.{IsConfig};
-ghost use Rattle.cam_types.specs.Watched.{device_of, has_failed};
-ghost use Rattle.cam_types.specs.declared.device.Device.{Device};
-ghost use Rattle.cam_types.specs.declared.maxima.TheConstants.{MOST_BYTES};
-ghost use Rattle.event_rules.specs.Live.{live_cost};
-ghost use Rattle.event_rules.specs.Stays.{unsent};
-ghost use Rattle.round_net.specs.Nets.{net_of};
-ghost use Rattle.round_net.specs.Rows.{instance_of_rows, live_of_rows};
-ghost use Rattle.round_net.specs.Sound.{IsSound};
-ghost use Rattle.price_check.specs.Claims.{IsClaim, IsReport, WasReport, Explains};
+ghost use Rattle.price_check.specs.Words.{IsConfig, device_of, has_failed, Device, MOST_BYTES, live_cost, unsent, net_of, instance_of_rows, live_of_rows, IsSound};
+ghost use Rattle.price_check.specs.Claims.{IsClaim, IsReport, WasReport, Explains, Claim};
 ghost use Rattle.price_check.specs.Reading.{closed, ended, reading};
-ghost use Rattle.price_check.specs.declared.claim.Claim.{Claim};
 
 use crate::claim::Claim;
 use crate::pieces::{line_of, skip};

@@ -1,12 +1,8 @@
 //! The text of a report: its first seven lines, its stays and its prices.
 
 ghost use Rattle.std.specs.Prelude.{◌≡◌, ◌+◌, ◌-◌, ◌*◌, ◌<◌, ◌≤◌, ◌++◌, length, slice_index, codes, OnOk, IfOk};
-ghost use Rattle.cam_path.specs.Paths.{address_of, spelled};
-ghost use Rattle.round_net.specs.Instance.{rows};
-ghost use Rattle.round_net.specs.Rows.{instance_of_rows};
-ghost use Rattle.round_net.specs.PriceRows.{pricing_of_rows, IsPricingFor};
+ghost use Rattle.price_check.specs.Words.{address_of, spelled, rows, instance_of_rows, pricing_of_rows, IsPricingFor, MOST_STAYS, MOST_ROUNDS, MOST_DEVICES, MOST_ADAPTERS, MOST_LINKS};
 ghost use Rattle.price_check.specs.Report.{summary_text, number_text, texts_below, stay_line, shared_text, row_text, row_line, price_lines, plan_text};
-ghost use Rattle.cam_types.specs.declared.maxima.TheConstants.{MOST_STAYS, MOST_ROUNDS, MOST_DEVICES, MOST_ADAPTERS, MOST_LINKS};
 
 use crate::text::{push_line, push_name, push_number};
 use cam_event::History;

@@ -1,7 +1,7 @@
 //! Why a text isn't a report on a history.
 
 ghost use Rattle.std.specs.Prelude.{◌≡◌};
-ghost use Rattle.price_check.specs.declared.report_fault.ReportFault.TheVariants.{OutOfMemory};
+ghost use Rattle.price_check.specs.Reading.{OutOfMemory};
 
 use std::alloc::{AllocError, AllocFailed};
 use thiserror::Error;

@@ -2,12 +2,8 @@
 
 ghost use Rattle.std.specs.Prelude.{◌≡◌, ℕ, ◌+◌, ◌-◌, ◌*◌, ◌<◌, ◌≤◌, ◌∷◌, nat_lt, sum_by, length, slice_index, slice_set};
 ghost use Rattle.std.specs.List.{list_all};
-ghost use Rattle.round_net.specs.Instance.{adapter_row, link_rows, path_of};
-ghost use Rattle.round_net.specs.Rows.{instance_of_rows, cell};
-ghost use Rattle.round_net.specs.PriceRows.{pricing_of_rows, IsPricingFor};
+ghost use Rattle.price_check.specs.Words.{adapter_row, link_rows, path_of, instance_of_rows, cell, pricing_of_rows, IsPricingFor, MOST_ROUNDS, MOST_WEIGHT, MOST_PRICE};
 ghost use Rattle.price_check.specs.Rests.{takes, pays, IsCheapest, AreCheapest};
-ghost use Rattle.cam_types.specs.declared.maxima.TheConstants.{MOST_ROUNDS, MOST_WEIGHT};
-ghost use Rattle.round_net.specs.declared.price_range.TheConstants.{MOST_PRICE};
 
 use round_net::{Net, Prices, cell};
 

@@ -1,8 +1,7 @@
 //! Reads the stay lines of a report.
 
 ghost use Rattle.std.specs.Prelude.{◌≡◌, ◌≢◌, ◌<◌, ◌≤◌, ◌^◌, length, Ok, Err, IfOk, IfErr};
-ghost use Rattle.round_net.specs.Rows.{instance_of_rows, live_of_rows};
-ghost use Rattle.round_net.specs.Sound.{IsSound};
+ghost use Rattle.price_check.specs.Words.{instance_of_rows, live_of_rows, IsSound};
 ghost use Rattle.price_check.specs.Reading.{stay_at, series};
 
 use crate::forms::{any_stay, own_stay};

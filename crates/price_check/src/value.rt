@@ -1,13 +1,7 @@
 //! What all openings are worth.
 
 ghost use Rattle.std.specs.Prelude.{◌≡◌, ◌*◌, ◌^◌, ◌<◌, ◌≤◌};
-ghost use Rattle.round_net.specs.Sums.{sum_to};
-ghost use Rattle.round_net.specs.Instance.{rows};
-ghost use Rattle.round_net.specs.Rows.{instance_of_rows};
-ghost use Rattle.round_net.specs.PriceRows.{pricing_of_rows, IsPricingFor};
-ghost use Rattle.round_net.specs.Value.{offered};
-ghost use Rattle.cam_types.specs.declared.maxima.TheConstants.{MOST_OPENINGS};
-ghost use Rattle.round_net.specs.declared.price_range.TheConstants.{MOST_PRICE};
+ghost use Rattle.price_check.specs.Words.{sum_to, rows, instance_of_rows, pricing_of_rows, IsPricingFor, offered, MOST_OPENINGS, MOST_PRICE};
 
 use round_net::{Net, Prices};
 

@@ -6,13 +6,10 @@ use Rattle.std.proofs.lemmas.Bool.{and_parts}
 use Rattle.csv.specs.Records.{field_at}
 use Rattle.cam_types.specs.Lists.{first_answer, moments_after}
 use Rattle.cam_types.proofs.ListLemmas.{or_left, or_right}
-use Rattle.recording_file.specs.declared.recording_fault.RecordingFault.{RecordingFault}
-use Rattle.recording_file.specs.declared.recording_stage.RecordingStage.{RecordingStage}
+use Rattle.recording_file.specs.Reading.{add_said, placed, recorded_of, row_step, stands, step, RecordingFault, RecordingStage, Said}
 use Rattle.recording_file.specs.declared.recording_stage.RecordingStage.TheVariants as stage
-use Rattle.recording_file.specs.declared.said.Said.{Said}
 use Rattle.recording_file.specs.declared.said.Said.TheVariants as said
 use Rattle.recording_file.specs.Fields.{Row, field_of}
-use Rattle.recording_file.specs.Reading.{add_said, placed, recorded_of, row_step, stands, step}
 use Rattle.recording_file.specs.Records.{said_row, word_for, FitsSaid}
 use Rattle.recording_file.specs.Steps.{taken}
 use Rattle.recording_file.specs.Words.{spelled}

@@ -1,6 +1,5 @@
 -- The records of names, caps and requests are read as those of the recording.
-use Rattle.std.proofs.Common.{◌≡◌, ◌≢◌, ◌<◌, ◌≤◌, ℕ, List, [], ◌∷◌, ◌++◌, length, map, Bool, true, false, cond, refl, sym, ap, ◌∙◌, arith}
-use Rattle.std.specs.Prelude.{Option, Some, None, IfSome, Ok, ◌&&◌, not, nat_lt, nat_le}
+use Rattle.std.proofs.Common.{◌≡◌, ◌≢◌, ◌<◌, ◌≤◌, ℕ, List, [], ◌∷◌, ◌++◌, length, map, Bool, true, false, cond, refl, sym, ap, ◌∙◌, arith, Option, Some, None, IfSome, Ok, ◌&&◌, not, nat_lt, nat_le}
 use Rattle.std.specs.Option.{option_map_or}
 use Rattle.std.proofs.lemmas.Bool.{and_parts, leb-true, ltb-false, lt-ltb, not-false}
 use Rattle.cam_types.specs.Topology.{Topology, IsConfig}
@@ -11,20 +10,16 @@ use Rattle.cam_types.specs.declared.maxima.TheConstants.{MOST_PRIORITY}
 use Rattle.cam_types.proofs.ConfigLemmas.{few_adapters, few_devices, few_links}
 use Rattle.cam_types.proofs.ListLemmas.{or_left}
 use Rattle.cam_types.specs.Questions.{names_device}
-use Rattle.recording_file.specs.declared.cause.Cause.TheVariants.{NoDevice, BadPriority, BadWindow}
+use Rattle.recording_file.specs.Recorded.{Recorded, Request, IsRecording, has_items, last_of, request_cause, plain_cause, window_cause, NoDevice, BadPriority, BadWindow, MOST_REQUESTS, MOST_RECORDED_ROUNDS}
 use Rattle.recording_file.proofs.PlaceLemmas.{device_there}
-use Rattle.recording_file.specs.declared.recording_stage.RecordingStage.{RecordingStage}
+use Rattle.recording_file.specs.Reading.{add_said, add_name, add_cap, add_request, begun, lacks_adapters, recorded_of, stands, step, RecordingStage, Start}
 use Rattle.recording_file.specs.declared.recording_stage.RecordingStage.TheVariants as stage
 use Rattle.recording_file.specs.declared.said.Said.TheVariants as said
-use Rattle.recording_file.specs.declared.start.Start.{Start}
 use Rattle.recording_file.specs.declared.word.Word.TheVariants as word
-use Rattle.recording_file.specs.declared.maxima.TheConstants.{MOST_REQUESTS, MOST_RECORDED_ROUNDS}
 use Rattle.recording_file.specs.Caps.{Cap, is_cap}
 use Rattle.recording_file.specs.Counts.{counts_of}
 use Rattle.recording_file.specs.Names.{Label, is_name}
 use Rattle.recording_file.specs.Fields.{most_number}
-use Rattle.recording_file.specs.Reading.{add_said, add_name, add_cap, add_request, begun, lacks_adapters, recorded_of, stands, step}
-use Rattle.recording_file.specs.Recorded.{Recorded, Request, IsRecording, has_items, last_of, request_cause, plain_cause, window_cause}
 use Rattle.recording_file.specs.Records.{cap_row, name_row, request_row, FitsRequest}
 use Rattle.recording_file.specs.Steps.{taken}
 use Rattle.recording_file.proofs.AgainLaws.{Along, along_both, along_few, along_to, along_with, none_along, true_along, then_taken, run, said_step}

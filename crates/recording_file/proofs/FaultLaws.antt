@@ -1,17 +1,14 @@
 -- The first record that fails, and its fault.
-use Rattle.std.proofs.Common.{◌≡◌, ◌≢◌, ◌+◌, ℕ, List, [], ◌∷◌, ◌++◌, length, Bool, true, false, cond, refl, sym, ap, ◌∙◌, subst, arith, add-zero}
+use Rattle.std.proofs.Common.{◌≡◌, ◌≢◌, ◌+◌, ℕ, List, [], ◌∷◌, ◌++◌, length, Bool, true, false, cond, refl, sym, ap, ◌∙◌, subst, arith, add-zero, append-nil}
 use Rattle.std.specs.Prelude.{Option, Some, None, Result, Ok, Err, ok_or, ⊤, IfSome, IfOk, IfErr}
-use Rattle.std.proofs.lemmas.List.{append-nil}
 use Rattle.cam_types.specs.Weights.{reaches_last}
 use Rattle.cam_types.specs.declared.config_fault.ConfigFault.{ConfigFault}
-use Rattle.recording_file.specs.declared.cause.Cause.{Cause}
-use Rattle.recording_file.specs.declared.recording_fault.RecordingFault.{RecordingFault}
+use Rattle.recording_file.specs.Recorded.{Recorded, Cause}
+use Rattle.recording_file.specs.Reading.{add_said, cap_said, ended, in_record, lacks_adapters, name_said, placed, recorded_of, row_step, said_by, says, step, unless_fault, unless_illegal, RecordingFault, RecordingStage, Said}
 use Rattle.recording_file.specs.declared.recording_fault.RecordingFault.TheVariants as fault
-use Rattle.recording_file.specs.declared.recording_stage.RecordingStage.{RecordingStage}
 use Rattle.recording_file.specs.declared.recording_stage.RecordingStage.TheVariants as stage
-use Rattle.recording_file.specs.declared.said.Said.{Said}
 use Rattle.recording_file.specs.declared.said.Said.TheVariants as said
-use Rattle.recording_file.specs.declared.word.Word.{Word}
+use Rattle.recording_file.specs.Words.{Word}
 use Rattle.recording_file.specs.declared.word.Word.TheVariants as word
 use Rattle.recording_file.specs.Counts.{counts_of}
 use Rattle.recording_file.specs.Names.{is_next_name}
@@ -19,8 +16,6 @@ use Rattle.recording_file.specs.Caps.{is_next_cap}
 use Rattle.recording_file.specs.Fields.{Row}
 use Rattle.recording_file.specs.Header.{is_header, name_text}
 use Rattle.recording_file.specs.Rows.{one_number, span_at, rounds_at, weight_at, adapter_at, device_at, named_at, text_at, capped_at, most_at, request_at}
-use Rattle.recording_file.specs.Recorded.{Recorded}
-use Rattle.recording_file.specs.Reading.{add_said, cap_said, ended, in_record, lacks_adapters, name_said, placed, recorded_of, row_step, said_by, says, step, unless_fault, unless_illegal}
 use Rattle.recording_file.specs.Recordings.{Explains, FailsAt, IsFirstFault}
 use Rattle.recording_file.specs.Steps.{◌>>=◌, taken}
 use Rattle.recording_file.specs.Text.{records_in}

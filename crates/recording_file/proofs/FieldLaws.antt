@@ -1,22 +1,18 @@
 -- A field that is read is spelled so, and what is spelled so is read.
-use Rattle.std.proofs.Common.{◌≡◌, ◌<◌, ◌≤◌, ◌+◌, ℕ, List, [], ◌∷◌, length, Bool, true, false, cond, refl, ap, ◌∙◌, arith, rules}
-use Rattle.std.specs.Prelude.{◌==◌, nat_le, nat_lt, Option, Some, None, Result, Ok, Err, ok_or, find, bytes_eq, decimal, IfSome}
-use Rattle.std.proofs.lemmas.Bool.{eqb-true, ne_eqb, leb-true, le-leb, ltb-true, lt-ltb}
+use Rattle.std.proofs.Common.{◌≡◌, ◌<◌, ◌≤◌, ◌+◌, ℕ, List, [], ◌∷◌, length, Bool, true, false, cond, refl, ap, ◌∙◌, arith, rules, ◌==◌, nat_le, nat_lt, Option, Some, None, Result, Ok, Err, ok_or, find, bytes_eq, decimal, IfSome, eqb-true, ne_eqb, leb-true, le-leb, ltb-true, lt-ltb}
 use Rattle.std.proofs.lemmas.Fmt.{decimal_nonempty}
 use Rattle.std.proofs.lemmas.List.{nil_from_length}
 use Rattle.std.proofs.lemmas.Slice.Eq.{bytes_eq-Decides}
 use Rattle.cam_types.specs.Number.{number_of}
 use Rattle.cam_types.proofs.NumberLemmas.{number_of-spelled, number_of-decimal, number_of-within}
 use Rattle.cam_types.proofs.LeastLemmas.{find_passes}
-use Rattle.recording_file.specs.declared.word.Word.{Word}
+use Rattle.recording_file.specs.Words.{spelled, word_of, all_words, time_text, time_of, named_text, named_of, part_text, part_kind_of, Word, TimeUnit}
 use Rattle.recording_file.specs.declared.word.Word.TheVariants as word
-use Rattle.recording_file.specs.declared.name.NameKind.{NameKind}
+use Rattle.recording_file.specs.Names.{NameKind}
 use Rattle.recording_file.specs.declared.name.NameKind.TheVariants as named
-use Rattle.recording_file.specs.declared.part.PartKind.{PartKind}
+use Rattle.recording_file.specs.Caps.{PartKind}
 use Rattle.recording_file.specs.declared.part.PartKind.TheVariants as part
-use Rattle.recording_file.specs.declared.span.TimeUnit.{TimeUnit}
 use Rattle.recording_file.specs.declared.span.TimeUnit.TheVariants as time
-use Rattle.recording_file.specs.Words.{spelled, word_of, all_words, time_text, time_of, named_text, named_of, part_text, part_kind_of}
 use Rattle.recording_file.specs.Records.{optional_text}
 use Rattle.recording_file.specs.Steps.{◌>>=◌}
 use Rattle.recording_file.specs.Fields.{Row, field_of, formed, most_number, number_at, optional_at, within_at, below_at}

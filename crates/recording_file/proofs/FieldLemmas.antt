@@ -1,7 +1,5 @@
 -- Fields of a record.
-use Rattle.std.proofs.Common.{◌≡◌, ◌≢◌, ◌<◌, ◌+◌, ℕ, zero, suc, [], ◌∷◌, length, drop, refl, ap, ◌∙◌, arith, add-one}
-use Rattle.std.specs.Prelude.{Err}
-use Rattle.std.proofs.lemmas.Bool.{eq-eqb, ne_eqb}
+use Rattle.std.proofs.Common.{◌≡◌, ◌≢◌, ◌<◌, ◌+◌, ℕ, zero, suc, [], ◌∷◌, length, drop, refl, ap, ◌∙◌, arith, add-one, Err, eq-eqb, ne_eqb}
 use Rattle.csv.specs.Records.{field_at}
 use Rattle.recording_file.specs.Fields.{Row, field_of, unused}
 

@@ -1,8 +1,6 @@
 -- Each record of a recording is read as it was written, and is short.
-use Rattle.std.proofs.Common.{◌≡◌, ◌≤◌, ◌+◌, ◌*◌, ℕ, List, [], ◌∷◌, ◌++◌, length, map, true, refl, ap, arith, length-append}
-use Rattle.std.specs.Prelude.{Option, Some, None, IfSome, decimal, codes, nat_le, nat_lt}
+use Rattle.std.proofs.Common.{◌≡◌, ◌≤◌, ◌+◌, ◌*◌, ℕ, List, [], ◌∷◌, ◌++◌, length, map, true, refl, ap, arith, length-append, Option, Some, None, IfSome, decimal, codes, nat_le, nat_lt, add-mul}
 use Rattle.std.specs.List.{AllByRecursion, flat_map}
-use Rattle.std.proofs.Math.Nat.{add-mul}
 use Rattle.std.proofs.lemmas.Bool.{and_parts, leb-true, ltb-true}
 use Rattle.std.proofs.lemmas.List.Concat.{flat_map-append}
 use Rattle.csv.specs.Writing.{default_writer, escaped, read_back, row_text}
@@ -12,23 +10,18 @@ use Rattle.cam_types.specs.declared.adapter.Adapter.{Adapter}
 use Rattle.cam_types.specs.declared.device.Device.{Device}
 use Rattle.cam_types.specs.declared.weight_row.WeightRow.{WeightRow}
 use Rattle.cam_types.specs.declared.maxima.TheConstants.{MOST_ADAPTERS, MOST_LINKS}
-use Rattle.recording_file.specs.declared.name.NameKind.{NameKind}
+use Rattle.recording_file.specs.Names.{Label, is_name, is_name_text, is_next_name, named_count, NameKind}
 use Rattle.recording_file.specs.declared.name.NameKind.TheVariants as named
-use Rattle.recording_file.specs.declared.part.PartKind.{PartKind}
+use Rattle.recording_file.specs.Caps.{Cap, is_cap, is_next_cap, part_count, PartKind}
 use Rattle.recording_file.specs.declared.part.PartKind.TheVariants as part
-use Rattle.recording_file.specs.declared.span.TimeUnit.{TimeUnit}
+use Rattle.recording_file.specs.Words.{named_text, part_text, spelled, time_text, TimeUnit, Word}
 use Rattle.recording_file.specs.declared.span.TimeUnit.TheVariants as time
-use Rattle.recording_file.specs.declared.word.Word.{Word}
 use Rattle.recording_file.specs.declared.word.Word.TheVariants as word
-use Rattle.recording_file.specs.declared.maxima.TheConstants.{MOST_RECORDED_ROUNDS}
-use Rattle.recording_file.specs.Caps.{Cap, is_cap, is_next_cap, part_count}
+use Rattle.recording_file.specs.Recorded.{Request, Span, MOST_RECORDED_ROUNDS}
 use Rattle.recording_file.specs.Counts.{Counts}
 use Rattle.recording_file.specs.Fields.{Row, most_number}
 use Rattle.recording_file.specs.Header.{name_text}
-use Rattle.recording_file.specs.Names.{Label, is_name, is_name_text, is_next_name, named_count}
-use Rattle.recording_file.specs.Recorded.{Request, Span}
 use Rattle.recording_file.specs.Records.{adapter_row, cap_row, device_row, header, link_row, name_row, optional_text, request_row, unit_row, unit_rows, weight_row, FitsRequest}
-use Rattle.recording_file.specs.Words.{named_text, part_text, spelled, time_text}
 use Rattle.recording_file.specs.Writing.{text_of}
 use Rattle.recording_file.proofs.AgainLaws.{Along}
 use Rattle.recording_file.proofs.HeadLaws.{GoodDevice, adapter_link, adapter_small, link_number, link_small, weight_numbers}
@@ -90,34 +83,22 @@ each_good P row most before (x ∷ xs) f h =
 word_in : (w : Word) → FitsIn 7 (spelled w)
 unfolding escaped
 word_in word.Unit = omega arith
-word_in word.Rounds = omega arith
-word_in word.Weight = omega arith
-word_in word.Link = omega arith
-word_in word.Sim = omega arith
-word_in word.Dev = omega arith
-word_in word.Name = omega arith
-word_in word.Cap = omega arith
-word_in word.Request = omega arith
+word_in _ = omega arith
 
 time_in : (u : TimeUnit) → FitsIn 2 (time_text u)
 unfolding escaped
 time_in time.Nanosecond = omega arith
-time_in time.Microsecond = omega arith
-time_in time.Millisecond = omega arith
-time_in time.Second = omega arith
+time_in _ = omega arith
 
 named_in : (k : NameKind) → FitsIn 6 (named_text k)
 unfolding escaped
 named_in named.Driver = omega arith
-named_in named.Device = omega arith
-named_in named.Adapter = omega arith
-named_in named.Link = omega arith
+named_in _ = omega arith
 
 part_in : (k : PartKind) → FitsIn 4 (part_text k)
 unfolding escaped
 part_in part.Device = omega arith
-part_in part.Adapter = omega arith
-part_in part.Link = omega arith
+part_in _ = omega arith
 
 optional_in : (o : Option ℕ) → IfSome o (λ n. n ≤ most_number) → FitsIn 10 (optional_text o)
 optional_in None h = let none = nothing_in in omega arith

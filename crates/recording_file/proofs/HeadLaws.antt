@@ -1,6 +1,5 @@
 -- The records before the names are read as the head of the recording.
-use Rattle.std.proofs.Common.{◌≡◌, ◌<◌, ◌≤◌, ◌+◌, ℕ, List, [], ◌∷◌, ◌++◌, length, map, Bool, true, false, cond, refl, ◌∙◌, subst, arith}
-use Rattle.std.specs.Prelude.{Option, Some, None, IfSome, Ok, ◌==◌, ◌||◌, nat_lt}
+use Rattle.std.proofs.Common.{◌≡◌, ◌<◌, ◌≤◌, ◌+◌, ℕ, List, [], ◌∷◌, ◌++◌, length, map, Bool, true, false, cond, refl, ◌∙◌, subst, arith, Option, Some, None, IfSome, Ok, ◌==◌, ◌||◌, nat_lt}
 use Rattle.std.proofs.lemmas.Bool.{and_parts, leb-true, ltb-true, not-false}
 use Rattle.std.proofs.lemmas.Bool.Decides.{nat_tests}
 use Rattle.cam_types.specs.Topology.{Topology, IsConfig, names_link, openings_fault, link_fault, adapter_fault, device_fault}
@@ -13,15 +12,12 @@ use Rattle.cam_types.specs.declared.maxima.TheConstants.{MOST_ADAPTERS, MOST_LIN
 use Rattle.cam_types.proofs.ConfigLemmas.{adapter_items, device_items, few_adapters, few_links, link_items, reaches, some_adapter}
 use Rattle.cam_types.proofs.ListLemmas.{or_left, or_right}
 use Rattle.cam_types.proofs.WeightLemmas.{standard_is}
-use Rattle.recording_file.specs.declared.device_row.DeviceRow.{DeviceRow}
-use Rattle.recording_file.specs.declared.recording_stage.RecordingStage.{RecordingStage}
+use Rattle.recording_file.specs.Rows.{DeviceRow}
+use Rattle.recording_file.specs.Reading.{add_said, stands, standard, step, RecordingStage, Start}
 use Rattle.recording_file.specs.declared.recording_stage.RecordingStage.TheVariants as stage
 use Rattle.recording_file.specs.declared.said.Said.TheVariants as said
-use Rattle.recording_file.specs.declared.start.Start.{Start}
-use Rattle.recording_file.specs.declared.maxima.TheConstants.{MOST_RECORDED_ROUNDS}
+use Rattle.recording_file.specs.Recorded.{Recorded, Span, IsRecording, MOST_RECORDED_ROUNDS}
 use Rattle.recording_file.specs.Fields.{Row, most_number}
-use Rattle.recording_file.specs.Reading.{add_said, stands, standard, step}
-use Rattle.recording_file.specs.Recorded.{Recorded, Span, IsRecording}
 use Rattle.recording_file.specs.Records.{adapter_row, device_row, link_row, rounds_row, unit_rows, weight_row, weight_rows}
 use Rattle.recording_file.specs.Steps.{taken}
 use Rattle.recording_file.proofs.AgainLaws.{Along, along_both, none_along, then_taken, run, said_step}

@@ -1,16 +1,13 @@
 -- How many names and caps a recording has at most.
-use Rattle.std.proofs.Common.{◌≡◌, ◌<◌, ◌≤◌, ◌+◌, ◌-◌, ◌*◌, ℕ, List, [], ◌∷◌, ◌++◌, length, Bool, true, false, refl, ap, ◌∙◌, arith, length-append}
-use Rattle.std.specs.Prelude.{Option, Some, None, IfSome, ◌==◌, ◌&&◌, ◌||◌, nat_lt, slice_get}
+use Rattle.std.proofs.Common.{◌≡◌, ◌<◌, ◌≤◌, ◌+◌, ◌-◌, ◌*◌, ℕ, List, [], ◌∷◌, ◌++◌, length, Bool, true, false, refl, ap, ◌∙◌, arith, length-append, Option, Some, None, IfSome, ◌==◌, ◌&&◌, ◌||◌, nat_lt, slice_get}
 use Rattle.std.specs.Option.{option_map_or}
 use Rattle.std.proofs.lemmas.Bool.{and_parts, ltb-true}
 use Rattle.std.proofs.lemmas.Bool.Decides.{nat_tests}
-use Rattle.recording_file.specs.declared.name.NameKind.{NameKind}
+use Rattle.recording_file.specs.Names.{Label, is_name, is_named_before, is_next_name, latest, name_rank, named_count, NameKind}
 use Rattle.recording_file.specs.declared.name.NameKind.TheVariants as named
-use Rattle.recording_file.specs.declared.part.PartKind.{PartKind}
+use Rattle.recording_file.specs.Caps.{Cap, is_cap, is_next_cap, is_over, is_part_before, is_same_part, part_count, part_rank, PartKind}
 use Rattle.recording_file.specs.declared.part.PartKind.TheVariants as part
-use Rattle.recording_file.specs.Caps.{Cap, is_cap, is_next_cap, is_over, is_part_before, is_same_part, part_count, part_rank}
 use Rattle.recording_file.specs.Counts.{Counts, counts_of}
-use Rattle.recording_file.specs.Names.{Label, is_name, is_named_before, is_next_name, latest, name_rank, named_count}
 use Rattle.recording_file.specs.Recorded.{Recorded, IsHead}
 use Rattle.recording_file.specs.Room.{IsLaid, cell_of, row_by, row_of, rows_by}
 use Rattle.recording_file.proofs.AgainLaws.{Along, along_both, along_to, true_along}

@@ -1,9 +1,8 @@
 -- How many bytes a text may have.
-use Rattle.std.proofs.Common.{◌≡◌, ◌<◌, ◌≤◌, ℕ, List, ◌++◌, length, take, Bool, true, false, cond, ap, arith, length-append}
-use Rattle.std.specs.Prelude.{Option, Some, None, IfSome, bytes_eq}
+use Rattle.std.proofs.Common.{◌≡◌, ◌<◌, ◌≤◌, ℕ, List, ◌++◌, length, take, Bool, true, false, cond, ap, arith, length-append, Option, Some, None, IfSome, bytes_eq}
 use Rattle.std.proofs.lemmas.List.{take-append-le}
 use Rattle.cam_types.specs.declared.maxima.TheConstants.{MOST_BYTES}
-use Rattle.recording_file.specs.declared.maxima.TheConstants.{MOST_RECORDING_BYTES}
+use Rattle.recording_file.specs.Recorded.{MOST_RECORDING_BYTES}
 use Rattle.recording_file.specs.Header.{name_text}
 use Rattle.recording_file.specs.Whole.{most_bytes, IsTooLong}
 

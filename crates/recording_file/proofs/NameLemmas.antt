@@ -1,6 +1,5 @@
 -- The test for UTF-8 agrees with `IsUtf8`.
-use Rattle.std.proofs.Common.{◌≡◌, ℕ, Bool, true, false, List, refl}
-use Rattle.std.specs.Prelude.{IsUtf8, chars}
+use Rattle.std.proofs.Common.{◌≡◌, ℕ, Bool, true, false, List, refl, IsUtf8, chars}
 use Rattle.std.proofs.lemmas.Bool.{and_parts}
 use Rattle.std.proofs.lemmas.Str.{encodes-chars, scalars-chars}
 use Rattle.std.proofs.lemmas.Slice.Eq.{bytes_eq-Decides}

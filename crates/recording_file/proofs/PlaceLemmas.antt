@@ -1,26 +1,21 @@
 -- Where a request stands in the table of room, and what that says.
-use Rattle.std.proofs.Common.{◌≡◌, ◌≢◌, ◌<◌, ◌≤◌, ◌+◌, ◌-◌, ◌*◌, ℕ, List, [], ◌∷◌, ◌++◌, ◌⊎◌, inl, inr, length, get_or, Bool, true, false, cond, refl, sym, ap, ◌∙◌, arith, zero, suc}
-use Rattle.std.specs.Prelude.{◌==◌, ◌&&◌, nat_le, slice_index, slice_get, Option, Some, None, option_map, option_and_then, unwrap_or, find, IfSome, count_by}
+use Rattle.std.proofs.Common.{◌≡◌, ◌≢◌, ◌<◌, ◌≤◌, ◌+◌, ◌-◌, ◌*◌, ℕ, List, [], ◌∷◌, ◌++◌, ◌⊎◌, inl, inr, length, get_or, Bool, true, false, cond, refl, sym, ap, ◌∙◌, arith, zero, suc, ◌==◌, ◌&&◌, nat_le, slice_index, slice_get, Option, Some, None, option_map, option_and_then, unwrap_or, find, IfSome, count_by, sum_by, get_or-set_same, get_or-set_other}
 use Rattle.std.specs.List.{AllByRecursion}
 use Rattle.std.proofs.lemmas.List.Elements.{recursion_from_All}
 use Rattle.std.specs.Option.{option_map_or, option_map as map_some}
-use Rattle.std.specs.List.{sum_by}
 use Rattle.std.proofs.lemmas.List.Sums.{sum_by-append}
 use Rattle.std.proofs.lemmas.Option.{slice_get_cases}
 use Rattle.recording_file.proofs.RoomLemmas.{same_row, one_part, one_kind}
 use Rattle.std.proofs.lemmas.Bool.{and_parts, eq-eqb, eqb-true, ltb-true}
 use Rattle.std.proofs.lemmas.Bool.Decides.{nat_tests}
-use Rattle.std.proofs.lemmas.List.{get_or-set_same, get_or-set_other}
 use Rattle.cam_types.specs.Topology.{Topology, IsConfig, names_link}
 use Rattle.cam_types.specs.Questions.{names_device, device_adapter, adapter_link}
 use Rattle.cam_types.specs.declared.adapter.Adapter.{Adapter}
 use Rattle.cam_types.specs.declared.device.Device.{Device}
 use Rattle.cam_types.proofs.ConfigLemmas.{few_devices, few_adapters, few_links, bus-there, adapters_on_links}
-use Rattle.recording_file.specs.declared.part.PartKind.{PartKind}
+use Rattle.recording_file.specs.Caps.{Part, Cap, part_of, part_rank, is_same_part, PartKind}
 use Rattle.recording_file.specs.declared.part.PartKind.TheVariants as kind
-use Rattle.recording_file.specs.declared.cause.Cause.TheVariants.{DeviceFull, AdapterFull, LinkFull}
-use Rattle.recording_file.specs.Caps.{Part, Cap, part_of, part_rank, is_same_part}
-use Rattle.recording_file.specs.Recorded.{Request, link_parts, is_full, full_cause, crowd_cause}
+use Rattle.recording_file.specs.Recorded.{Request, link_parts, is_full, full_cause, crowd_cause, DeviceFull, AdapterFull, LinkFull}
 use Rattle.recording_file.specs.Room.{row_of, row_by, cell_of, IsCell, IsRoom}
 use Rattle.recording_file.specs.Places.{places_of, full_at, one_less, link_full}
 

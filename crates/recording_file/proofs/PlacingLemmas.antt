@@ -10,17 +10,12 @@ use Rattle.cam_types.specs.Questions.{names_device}
 use Rattle.cam_types.specs.declared.maxima.TheConstants.{MOST_PRIORITY}
 use Rattle.cam_types.proofs.ConfigLemmas.{few_devices, few_adapters, few_links}
 use Rattle.cam_types.proofs.ListLemmas.{moments-push, first_answer-push}
-use Rattle.recording_file.specs.declared.maxima.TheConstants.{MOST_REQUESTS}
-use Rattle.recording_file.specs.declared.cause.Cause.{Cause}
-use Rattle.recording_file.specs.declared.cause.Cause.TheVariants.{NoDevice, BadPriority, BadWindow, Early, Late}
-use Rattle.recording_file.specs.declared.part.PartKind.{PartKind}
+use Rattle.recording_file.specs.Recorded.{Recorded, Request, IsHead, IsKept, last_of, plain_cause, window_cause, crowd_cause, request_cause, MOST_REQUESTS, Cause, NoDevice, BadPriority, BadWindow, Early, Late}
+use Rattle.recording_file.specs.Caps.{Cap, is_cap, part_count, PartKind}
 use Rattle.recording_file.specs.declared.part.PartKind.TheVariants as kind
-use Rattle.recording_file.specs.declared.request_error.RequestError.{RequestError}
+use Rattle.recording_file.specs.Requests.{unless_cause, RequestError}
 use Rattle.recording_file.specs.Counts.{counts_of}
 use Rattle.recording_file.specs.Names.{Label, is_name}
-use Rattle.recording_file.specs.Caps.{Cap, is_cap, part_count}
-use Rattle.recording_file.specs.Recorded.{Recorded, Request, IsHead, IsKept, last_of, plain_cause, window_cause, crowd_cause, request_cause}
-use Rattle.recording_file.specs.Requests.{unless_cause}
 use Rattle.recording_file.specs.Room.{IsLaid, IsRecorder, IsRoom, IsSized, IsTable, rows_by}
 
 -- ---- causes

@@ -1,16 +1,14 @@
 -- The records of a recording with one item more.
-use Rattle.std.proofs.Common.{◌≡◌, ℕ, List, [], ◌∷◌, ◌++◌, map, Bool, true, false, refl, sym, ap, ◌∙◌, append_assoc, append-nil}
-use Rattle.std.specs.Prelude.{if◌then◌else◌}
+use Rattle.std.proofs.Common.{◌≡◌, ℕ, List, [], ◌∷◌, ◌++◌, map, Bool, true, false, refl, sym, ap, ◌∙◌, append_assoc, append-nil, if◌then◌else◌}
 use Rattle.std.proofs.lemmas.List.{map-append}
 use Rattle.cam_types.specs.Topology.{Topology}
 use Rattle.cam_types.specs.declared.adapter.Adapter.{Adapter}
 use Rattle.cam_types.specs.declared.device.Device.{Device}
 use Rattle.cam_types.specs.declared.weight_row.WeightRow.{WeightRow}
-use Rattle.recording_file.specs.declared.start.Start.{Start}
+use Rattle.recording_file.specs.Reading.{begun, given, Start}
 use Rattle.recording_file.specs.Caps.{Cap}
 use Rattle.recording_file.specs.Names.{Label}
 use Rattle.recording_file.specs.Fields.{Row}
-use Rattle.recording_file.specs.Reading.{begun, given}
 use Rattle.recording_file.specs.Recorded.{Recorded, Request}
 use Rattle.recording_file.specs.Records.{adapter_row, cap_row, device_row, header, link_row, name_row, records_of, request_row, rounds_row, unit_rows, weight_row, weight_rows}
 

@@ -1,33 +1,26 @@
 -- What is read is spelled so.
-use Rattle.std.proofs.Common.{◌≡◌, ◌≤◌, ◌+◌, ℕ, List, [], ◌∷◌, ◌++◌, length, drop, Bool, true, false, cond, refl, sym, ap, ◌∙◌, subst, arith, append_assoc, append-nil, rules, tests}
-use Rattle.std.specs.Prelude.{Option, Some, None, Result, Ok, Err, ok_or, option_and_then, codes, ◌==◌, not, nat_le, nat_lt}
+use Rattle.std.proofs.Common.{◌≡◌, ◌≤◌, ◌+◌, ℕ, List, [], ◌∷◌, ◌++◌, length, drop, Bool, true, false, cond, refl, sym, ap, ◌∙◌, subst, arith, append_assoc, append-nil, rules, tests, Option, Some, None, Result, Ok, Err, ok_or, option_and_then, codes, ◌==◌, not, nat_le, nat_lt}
 use Rattle.std.proofs.lemmas.Bool.{and_parts, eqb-true, ltb-true}
 use Rattle.std.proofs.lemmas.Bool.Decides.{nat_tests}
 use Rattle.std.proofs.lemmas.List.{nil_from_length, length-drop}
 use Rattle.std.proofs.lemmas.Slice.Eq.{bytes_eq-Decides}
 use Rattle.cam_types.proofs.TopologyLemmas.{standard_draft}
-use Rattle.recording_file.specs.declared.maxima.TheConstants.{MOST_REQUESTS}
-use Rattle.recording_file.specs.declared.recording_fault.RecordingFault.{RecordingFault}
-use Rattle.recording_file.specs.declared.recording_fault.RecordingFault.TheVariants.{BadHeader, BadRecord}
-use Rattle.recording_file.specs.declared.recording_stage.RecordingStage.{RecordingStage}
+use Rattle.recording_file.specs.Recorded.{Recorded, Request, has_items, MOST_REQUESTS}
+use Rattle.recording_file.specs.Reading.{add_said, add_name, add_cap, add_request, book_rank, ended, lacks_adapters, placed, reading, recorded_of, row_step, said_by, step, stands, RecordingFault, BadHeader, BadRecord, RecordingStage, Said}
 use Rattle.recording_file.specs.declared.recording_stage.RecordingStage.TheVariants as stage
-use Rattle.recording_file.specs.declared.said.Said.{Said}
 use Rattle.recording_file.specs.declared.said.Said.TheVariants as said
-use Rattle.recording_file.specs.declared.word.Word.{Word}
+use Rattle.recording_file.specs.Words.{spelled, word_of, Word}
 use Rattle.recording_file.specs.declared.word.Word.TheVariants as word
 use Rattle.recording_file.specs.Fields.{Row, field_of}
 use Rattle.recording_file.specs.Header.{has_letters, is_header, name_text}
 use Rattle.recording_file.specs.Names.{Label}
 use Rattle.recording_file.specs.Caps.{Cap}
-use Rattle.recording_file.specs.Reading.{add_said, add_name, add_cap, add_request, book_rank, ended, lacks_adapters, placed, reading, recorded_of, row_step, said_by, step, stands}
-use Rattle.recording_file.specs.Recorded.{Recorded, Request, has_items}
 use Rattle.recording_file.specs.Recordings.{WasRecording}
 use Rattle.recording_file.specs.Records.{cap_row, header, name_row, records_of, request_row, said_row, word_for, FitsSaid}
 use Rattle.recording_file.specs.Sound.{IsSound}
 use Rattle.recording_file.specs.Steps.{taken}
 use Rattle.recording_file.specs.Text.{records_in}
 use Rattle.recording_file.specs.Whole.{IsLongWhole}
-use Rattle.recording_file.specs.Words.{spelled, word_of}
 use Rattle.recording_file.proofs.FieldLaws.{ok_or_ok, word_spelled}
 use Rattle.recording_file.proofs.PlacingLemmas.{kept_name, kept_cap, kept_request}
 use Rattle.recording_file.proofs.PushLaws.{push_name, push_cap, push_request}

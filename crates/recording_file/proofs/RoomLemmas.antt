@@ -1,16 +1,13 @@
 -- Places in the table of room.
-use Rattle.std.proofs.Common.{◌≡◌, ◌≢◌, ◌<◌, ◌≤◌, ◌+◌, ◌-◌, ◌*◌, ℕ, List, [], ◌∷◌, ◌++◌, length, get_or, set, drop, drop-cons, add-one, append_assoc, append-nil, take, zero, suc, replicate, Bool, true, false, cond, refl, sym, ap, ◌∙◌, subst, arith, length-append, length-set}
+use Rattle.std.proofs.Common.{◌≡◌, ◌≢◌, ◌<◌, ◌≤◌, ◌+◌, ◌-◌, ◌*◌, ℕ, List, [], ◌∷◌, ◌++◌, length, get_or, set, drop, drop-cons, add-one, append_assoc, append-nil, take, zero, suc, replicate, Bool, true, false, cond, refl, sym, ap, ◌∙◌, subst, arith, length-append, length-set, Some, find, ◌==◌, ◌&&◌, nat_le, nat_lt, if◌then◌else◌, add-mul}
 use Rattle.std.specs.List.{AllByRecursion}
 use Rattle.std.specs.Option.{option_map_or}
-use Rattle.std.specs.Prelude.{Some, find, ◌==◌, ◌&&◌, nat_le, nat_lt, if◌then◌else◌}
-use Rattle.std.proofs.Math.Nat.{add-mul}
 use Rattle.std.proofs.lemmas.Bool.{and_parts, eq-eqb, eqb-true, leb-true, ltb-true, le-leb, lt-ltb}
 use Rattle.std.proofs.lemmas.Bool.Decides.{nat_tests}
 use Rattle.std.proofs.lemmas.List.{get_or_append_left, get_or-append-add, get_or-replicate, length-replicate, get_or-set_same, get_or-set_other, drop_all, take_all, replicate-append-replicate}
 use Rattle.cam_types.specs.Topology.{Topology}
-use Rattle.recording_file.specs.declared.part.PartKind.{PartKind}
+use Rattle.recording_file.specs.Caps.{Part, Cap, part_of, part_rank, is_same_part, covers, openings, cap_in, PartKind}
 use Rattle.recording_file.specs.declared.part.PartKind.TheVariants as kind
-use Rattle.recording_file.specs.Caps.{Part, Cap, part_of, part_rank, is_same_part, covers, openings, cap_in}
 use Rattle.recording_file.specs.Room.{row_of, row_by, rows_by, part_in, cell_of, IsCell, IsRoom, Holds}
 
 -- ---- places by row and column
@@ -38,13 +35,11 @@ row_between a b x f l w h k lower upper = grind (arith, apart a b w, apart b a w
 
 pub row_few : (k : PartKind) (n : ℕ) → n < rows_by k → row_by k n < 44
 row_few kind.Device n h = omega arith
-row_few kind.Adapter n h = omega arith
-row_few kind.Link n h = omega arith
+row_few _ n h = omega arith
 
 pub part_there : (k : PartKind) (n : ℕ) → n < rows_by k → part_in (row_by k n) ≡ part_of k n
 part_there kind.Device n h = grind (arith, nat_tests)
-part_there kind.Adapter n h = grind (arith, nat_tests)
-part_there kind.Link n h = grind (arith, nat_tests)
+part_there _ n h = grind (arith, nat_tests)
 
 -- two parts in one row are the same
 pub one_part : (k l : PartKind) (n m : ℕ) → n < rows_by k → m < rows_by l → row_by k n ≡ row_by l m → (part_rank k ≡ part_rank l) × (n ≡ m)

@@ -5,22 +5,17 @@ use Rattle.std.proofs.lemmas.Bool.{and_parts, leb-true, ltb-true}
 use Rattle.csv.specs.Records.{field_at}
 use Rattle.cam_types.specs.declared.adapter.Adapter.{Adapter}
 use Rattle.cam_types.specs.declared.weight_row.WeightRow.{WeightRow}
-use Rattle.recording_file.specs.declared.device_row.DeviceRow.{DeviceRow}
-use Rattle.recording_file.specs.declared.maxima.TheConstants.{MOST_RECORDED_ROUNDS}
-use Rattle.recording_file.specs.declared.name.NameKind.{NameKind}
+use Rattle.recording_file.specs.Rows.{one_number, span_at, rounds_at, weight_at, adapter_at, device_at, device_of, named_at, text_at, capped_at, most_at, request_at, DeviceRow}
+use Rattle.recording_file.specs.Recorded.{Recorded, Request, Span, MOST_RECORDED_ROUNDS}
+use Rattle.recording_file.specs.Names.{Label, is_name, is_name_text, is_next_name, named_count, NameKind}
 use Rattle.recording_file.specs.declared.name.NameKind.TheVariants as named
-use Rattle.recording_file.specs.declared.part.PartKind.{PartKind}
+use Rattle.recording_file.specs.Caps.{Cap, is_cap, is_next_cap, part_count, PartKind}
 use Rattle.recording_file.specs.declared.part.PartKind.TheVariants as part
-use Rattle.recording_file.specs.declared.said.Said.{Said}
+use Rattle.recording_file.specs.Reading.{said_by, name_said, cap_said, Said}
 use Rattle.recording_file.specs.declared.said.Said.TheVariants as said
 use Rattle.recording_file.specs.Fields.{most_number, unused_from}
 use Rattle.recording_file.specs.Counts.{Counts, counts_of}
-use Rattle.recording_file.specs.Names.{Label, is_name, is_name_text, is_next_name, named_count}
-use Rattle.recording_file.specs.Caps.{Cap, is_cap, is_next_cap, part_count}
-use Rattle.recording_file.specs.Recorded.{Recorded, Request, Span}
-use Rattle.recording_file.specs.Rows.{one_number, span_at, rounds_at, weight_at, adapter_at, device_at, device_of, named_at, text_at, capped_at, most_at, request_at}
 use Rattle.recording_file.specs.Records.{unit_row, rounds_row, weight_row, link_row, adapter_row, device_row, name_row, cap_row, request_row, said_row, word_for, FitsSaid, FitsRequest}
-use Rattle.recording_file.specs.Reading.{said_by, name_said, cap_said}
 use Rattle.recording_file.proofs.FieldLaws.{number_again, optional_again, within_again, below_again, time_again, named_again, part_again}
 
 -- the numbers of what there is fit a field

@@ -1,28 +1,21 @@
 -- What a record says is spelled so, and what is spelled so is said.
-use Rattle.std.proofs.Common.{◌≡◌, ◌<◌, ◌≤◌, ◌+◌, ℕ, subst, List, [], ◌∷◌, length, drop, replicate, Bool, true, false, cond, refl, sym, ap, ◌∙◌, arith}
+use Rattle.std.proofs.Common.{◌≡◌, ◌<◌, ◌≤◌, ◌+◌, ℕ, subst, List, [], ◌∷◌, length, drop, replicate, Bool, true, false, cond, refl, sym, ap, ◌∙◌, arith, eqb-true, le-leb, lt-ltb}
 use Rattle.std.specs.Prelude.{IfSome, Result, Ok, Err, decimal, ◌==◌, ⊤}
-use Rattle.std.proofs.lemmas.Bool.{eqb-true, le-leb, lt-ltb}
 use Rattle.std.proofs.lemmas.List.{length-drop, nil_from_length}
 use Rattle.cam_types.specs.declared.adapter.Adapter.{Adapter}
 use Rattle.cam_types.specs.declared.weight_row.WeightRow.{WeightRow}
-use Rattle.recording_file.specs.declared.device_row.DeviceRow.{DeviceRow}
-use Rattle.recording_file.specs.declared.maxima.TheConstants.{MOST_RECORDED_ROUNDS}
-use Rattle.recording_file.specs.declared.name.NameKind.{NameKind}
-use Rattle.recording_file.specs.declared.recording_fault.RecordingFault.TheVariants.{BadRecord}
-use Rattle.recording_file.specs.declared.said.Said.{Said}
+use Rattle.recording_file.specs.Rows.{one_number, span_at, rounds_at, weight_at, adapter_at, device_at, named_at, text_at, capped_at, most_at, request_at, DeviceRow}
+use Rattle.recording_file.specs.Recorded.{Recorded, Request, Span, MOST_RECORDED_ROUNDS}
+use Rattle.recording_file.specs.Names.{is_name, is_name_text, is_next_name, named_count, NameKind}
+use Rattle.recording_file.specs.Reading.{in_record, says, said_by, name_said, cap_said, BadRecord, Said}
 use Rattle.recording_file.specs.declared.said.Said.TheVariants as said
-use Rattle.recording_file.specs.declared.word.Word.{Word}
+use Rattle.recording_file.specs.Words.{spelled, time_text, time_of, named_text, named_of, part_text, part_kind_of, Word}
 use Rattle.recording_file.specs.declared.word.Word.TheVariants as word
 use Rattle.recording_file.specs.Steps.{◌>>=◌}
 use Rattle.recording_file.specs.Fields.{Row, field_of, formed, most_number, number_at, optional_at, within_at, below_at, unused, unused_from}
 use Rattle.recording_file.specs.Counts.{Counts, counts_of}
-use Rattle.recording_file.specs.Names.{is_name, is_name_text, is_next_name, named_count}
 use Rattle.recording_file.specs.Caps.{Part, part_of, is_cap, is_next_cap, part_count}
-use Rattle.recording_file.specs.Recorded.{Recorded, Request, Span}
-use Rattle.recording_file.specs.Words.{spelled, time_text, time_of, named_text, named_of, part_text, part_kind_of}
-use Rattle.recording_file.specs.Rows.{one_number, span_at, rounds_at, weight_at, adapter_at, device_at, named_at, text_at, capped_at, most_at, request_at}
 use Rattle.recording_file.specs.Records.{optional_text, said_row, word_for, FitsSaid}
-use Rattle.recording_file.specs.Reading.{in_record, says, said_by, name_said, cap_said}
 use Rattle.recording_file.proofs.FieldLemmas.{drop_field}
 use Rattle.recording_file.proofs.FieldLaws.{formed_takes, number_takes, optional_takes, within_takes, below_takes, time_spelled, named_spelled, part_spelled}
 

@@ -1,6 +1,5 @@
 -- What a record does to the configuration in the making.
-use Rattle.std.proofs.Common.{◌≡◌, ◌≢◌, ◌<◌, ◌≤◌, ℕ, List, [], ◌∷◌, ◌++◌, length, Bool, true, false, cond, min, refl, sym, ap, ◌∙◌, arith, length-append}
-use Rattle.std.specs.Prelude.{◌==◌, Option, Some, None, Result, Ok, Err, MatchOption, IsOkUnless}
+use Rattle.std.proofs.Common.{◌≡◌, ◌≢◌, ◌<◌, ◌≤◌, ℕ, List, [], ◌∷◌, ◌++◌, length, Bool, true, false, cond, min, refl, sym, ap, ◌∙◌, arith, length-append, ◌==◌, Option, Some, None, Result, Ok, Err, MatchOption, IsOkUnless}
 use Rattle.std.proofs.lemmas.Bool.{leb-false, ne_eqb, and_parts, leb-true, ltb-false, not-false}
 use Rattle.std.proofs.lemmas.Bool.Decides.{nat_tests}
 use Rattle.cam_types.specs.Topology.{Topology, IsDraft, address_fault, link_fault, adapter_fault, device_fault, config_fault}
@@ -14,14 +13,10 @@ use Rattle.cam_types.specs.declared.config.ConfigError.TheVariants as error
 use Rattle.cam_types.proofs.ListLemmas.{or_left}
 use Rattle.cam_types.proofs.TopologyLemmas.{config_fault-draft, draft_weight, draft_link, draft_adapter, draft_device}
 use Rattle.cam_types.specs.declared.maxima.TheConstants.{MOST_ADAPTERS}
-use Rattle.recording_file.specs.declared.device_row.DeviceRow.{DeviceRow}
-use Rattle.recording_file.specs.declared.recording_fault.RecordingFault.TheVariants.{BadConfig}
-use Rattle.recording_file.specs.declared.recording_stage.RecordingStage.{RecordingStage}
+use Rattle.recording_file.specs.Rows.{device_of, clamped, DeviceRow}
+use Rattle.recording_file.specs.Reading.{unless_fault, row_step, step, BadConfig, RecordingStage, Start}
 use Rattle.recording_file.specs.declared.recording_stage.RecordingStage.TheVariants as stage
-use Rattle.recording_file.specs.declared.start.Start.{Start}
 use Rattle.recording_file.specs.Fields.{Row}
-use Rattle.recording_file.specs.Reading.{unless_fault, row_step, step}
-use Rattle.recording_file.specs.Rows.{device_of, clamped}
 use Rattle.recording_file.specs.Sound.{IsBare, IsBegun, IsSound, IsStart}
 
 -- an item that was added breaks no rule

@@ -9,17 +9,12 @@ use Rattle.cam_types.specs.declared.device.Device.{Device}
 use Rattle.cam_types.specs.declared.weight_row.WeightRow.{WeightRow}
 use Rattle.cam_types.specs.declared.config_fault.ConfigFault.{ConfigFault}
 use Rattle.cam_types.specs.declared.config_fault.ConfigFault.TheVariants.{BadWeight}
-use Rattle.recording_file.specs.declared.cause.Cause.{Cause}
-use Rattle.recording_file.specs.declared.device_row.DeviceRow.{DeviceRow}
-use Rattle.recording_file.specs.declared.recording_fault.RecordingFault.TheVariants.{BadConfig}
-use Rattle.recording_file.specs.declared.recording_stage.RecordingStage.{RecordingStage}
+use Rattle.recording_file.specs.Recorded.{Recorded, Request, Span, IsKept, Cause}
+use Rattle.recording_file.specs.Rows.{device_of, DeviceRow}
+use Rattle.recording_file.specs.Reading.{adapter_added, begun, device_added, given, lacks_adapters, link_added, recorded_of, unless_fault, unless_illegal, BadConfig, RecordingStage, Start}
 use Rattle.recording_file.specs.declared.recording_stage.RecordingStage.TheVariants as stage
-use Rattle.recording_file.specs.declared.start.Start.{Start}
 use Rattle.recording_file.specs.Fields.{Row}
-use Rattle.recording_file.specs.Reading.{adapter_added, begun, device_added, given, lacks_adapters, link_added, recorded_of, unless_fault, unless_illegal}
-use Rattle.recording_file.specs.Recorded.{Recorded, Request, Span, IsKept}
 use Rattle.recording_file.specs.Records.{adapter_row, device_row, header, link_row, records_of, unit_row, weight_row}
-use Rattle.recording_file.specs.Rows.{device_of}
 use Rattle.recording_file.specs.Sound.{IsBare, IsBegun, IsSound, IsStart}
 use Rattle.recording_file.proofs.PushLaws.{push_weight, push_link, push_adapter, push_device}
 use Rattle.recording_file.proofs.SaidLaws.{if_ok, ok_is}

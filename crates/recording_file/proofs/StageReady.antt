@@ -1,20 +1,14 @@
 -- Where a record is placed, it can be taken.
-use Rattle.std.proofs.Common.{◌≡◌, ◌≤◌, ℕ, [], length, Bool, true, false, cond, refl, sym, ap, ◌∙◌, subst, arith}
-use Rattle.std.specs.Prelude.{◌==◌, ◌&&◌, ◌||◌, not, nat_le, nat_lt, Result, Ok, Err}
+use Rattle.std.proofs.Common.{◌≡◌, ◌≤◌, ℕ, [], length, Bool, true, false, cond, refl, sym, ap, ◌∙◌, subst, arith, ◌==◌, ◌&&◌, ◌||◌, not, nat_le, nat_lt, Result, Ok, Err}
 use Rattle.std.proofs.lemmas.Bool.{and_parts, eqb-true, ltb-true}
 use Rattle.std.proofs.lemmas.List.{nil_from_length}
-use Rattle.recording_file.specs.declared.maxima.TheConstants.{MOST_REQUESTS}
-use Rattle.recording_file.specs.declared.recording_fault.RecordingFault.{RecordingFault}
-use Rattle.recording_file.specs.declared.recording_fault.RecordingFault.TheVariants.{BadRecord}
-use Rattle.recording_file.specs.declared.recording_stage.RecordingStage.{RecordingStage}
+use Rattle.recording_file.specs.Recorded.{Recorded, Request, has_items, MOST_REQUESTS}
+use Rattle.recording_file.specs.Reading.{add_row, add_said, add_name, add_cap, add_request, book_rank, in_record, says, name_said, cap_said, said_by, recorded_of, stands, RecordingFault, BadRecord, RecordingStage, Said}
 use Rattle.recording_file.specs.declared.recording_stage.RecordingStage.TheVariants as stage
-use Rattle.recording_file.specs.declared.said.Said.{Said}
-use Rattle.recording_file.specs.declared.word.Word.{Word}
+use Rattle.recording_file.specs.Words.{word_rank, Word}
 use Rattle.recording_file.specs.declared.word.Word.TheVariants as word
 use Rattle.recording_file.specs.Fields.{Row, most_number}
 use Rattle.recording_file.specs.Records.{FitsSaid, word_for}
-use Rattle.recording_file.specs.Recorded.{Recorded, Request, has_items}
-use Rattle.recording_file.specs.Reading.{add_row, add_said, add_name, add_cap, add_request, book_rank, in_record, says, name_said, cap_said, said_by, recorded_of, stands}
 use Rattle.recording_file.specs.Caps.{Cap, is_next_cap}
 use Rattle.recording_file.specs.Names.{Label, is_next_name}
 use Rattle.recording_file.specs.Rows.{named_at, text_at, capped_at, most_at, request_at}
@@ -22,7 +16,6 @@ use Rattle.recording_file.specs.Counts.{counts_of}
 use Rattle.recording_file.specs.Saying.{IsAt, IsNaming, booked, ready_for}
 use Rattle.recording_file.specs.Sound.{IsSound}
 use Rattle.recording_file.specs.Steps.{◌>>=◌}
-use Rattle.recording_file.specs.Words.{word_rank}
 use Rattle.recording_file.proofs.SaidLaws.{said_tells}
 
 pub at_naming : (s : RecordingStage) (w : Word) → IsAt s w → IsNaming s w
@@ -130,11 +123,9 @@ unfolding IsSound
 rounds_small stage.Header h = omega arith
 rounds_small stage.First h = omega arith
 rounds_small (stage.Timed u) h = omega arith
-rounds_small (stage.Weights start t) h = let k = h.0.head.rounds in omega arith
-rounds_small (stage.Links start t) h = let k = h.0.head.rounds in omega arith
-rounds_small (stage.Adapters start t) h = let k = h.0.head.rounds in omega arith
 rounds_small (stage.Devices start t) h = let k = h.head.rounds in omega arith
 rounds_small (stage.Book r) h = let k = h.head.rounds in omega arith
+rounds_small _ h = let k = h.0.head.rounds in omega arith
 
 pub said_ready : (n : ℕ) (s : RecordingStage) (w : Word) (row : Row) (x : Said) → IsSound s → IsAt s w → length row ≡ 8 → said_by n (recorded_of s) w row ≡ Ok x → IsAt s (word_for x) × FitsSaid (recorded_of s) x
 said_ready n s w row x sound at eight e =

@@ -1,15 +1,12 @@
 -- A request takes of the room of its device, its adapter and its link, in its round.
-use Rattle.std.proofs.Common.{◌≡◌, ◌<◌, ◌≤◌, ◌+◌, ◌-◌, ◌*◌, ℕ, List, [], ◌∷◌, ◌++◌, length, get_or, Bool, true, false, cond, refl, sym, ap, ◌∙◌, arith, length-set}
-use Rattle.std.specs.Prelude.{◌==◌, ◌&&◌, slice_index, Option, Some, None, option_map, IfSome}
+use Rattle.std.proofs.Common.{◌≡◌, ◌<◌, ◌≤◌, ◌+◌, ◌-◌, ◌*◌, ℕ, List, [], ◌∷◌, ◌++◌, length, get_or, Bool, true, false, cond, refl, sym, ap, ◌∙◌, arith, length-set, ◌==◌, ◌&&◌, slice_index, Option, Some, None, option_map, IfSome}
 use Rattle.std.specs.Option.{option_map_or}
 use Rattle.std.proofs.lemmas.Bool.{eqb-true, eqb-false}
 use Rattle.cam_types.specs.Topology.{Topology}
 use Rattle.cam_types.specs.Questions.{device_adapter, adapter_link}
-use Rattle.recording_file.specs.declared.part.PartKind.{PartKind}
+use Rattle.recording_file.specs.Caps.{Part, Cap, part_of, is_same_part, cap_in, PartKind}
 use Rattle.recording_file.specs.declared.part.PartKind.TheVariants as kind
-use Rattle.recording_file.specs.declared.cause.Cause.TheVariants.{DeviceFull, AdapterFull, LinkFull}
-use Rattle.recording_file.specs.Caps.{Part, Cap, part_of, is_same_part, cap_in}
-use Rattle.recording_file.specs.Recorded.{Request, takes_of, load, crowd_cause}
+use Rattle.recording_file.specs.Recorded.{Request, takes_of, load, crowd_cause, DeviceFull, AdapterFull, LinkFull}
 use Rattle.recording_file.specs.Room.{row_of, cell_of, IsCell, IsRoom}
 use Rattle.recording_file.specs.Places.{places_of, full_at, taken_at, one_less, link_full, link_taken}
 use Rattle.recording_file.proofs.RoomLemmas.{apart, row_few}
@@ -53,8 +50,7 @@ same_by c d kind.Link n = option_map_or (λ k. k == n) (adapter_link c (device_a
 
 takes_same : (c : Topology) (d : ℕ) (k : PartKind) (n : ℕ) → IsDevice c d → takes_of c (part_of k n) d ≡ same_by c d k n
 takes_same c d kind.Device n w = refl
-takes_same c d kind.Adapter n w = rw w.1 refl
-takes_same c d kind.Link n w = rw w.1 refl
+takes_same c d _ n w = rw w.1 refl
 
 -- what is taken is there
 not_full : (cells : List ℕ) (d a : ℕ) (o : Option ℕ) → full_at cells (record { device = d; adapter = a; link = o }) ≡ None

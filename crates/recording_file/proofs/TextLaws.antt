@@ -1,6 +1,5 @@
 -- The text of a recording's records is a text of the recording, and within its bound.
-use Rattle.std.proofs.Common.{◌≡◌, ◌≤◌, ◌+◌, ◌*◌, ℕ, List, [], ◌∷◌, ◌++◌, length, map, true, refl, ap, ◌∙◌, arith}
-use Rattle.std.specs.Prelude.{None}
+use Rattle.std.proofs.Common.{◌≡◌, ◌≤◌, ◌+◌, ◌*◌, ℕ, List, [], ◌∷◌, ◌++◌, length, map, true, refl, ap, ◌∙◌, arith, None}
 use Rattle.std.specs.List.{AllByRecursion}
 use Rattle.csv.specs.Machine.{next_record}
 use Rattle.csv.specs.Reading.{default_config, records, strip_bom}
@@ -12,12 +11,11 @@ use Rattle.cam_types.specs.Weights.{weight_fault}
 use Rattle.cam_types.specs.declared.device.Device.{Device}
 use Rattle.cam_types.proofs.ConfigLemmas.{adapter_items, device_items, few_adapters, few_devices, few_links, few_weights, link_items, weight_items}
 use Rattle.recording_file.specs.declared.word.Word.TheVariants as word
-use Rattle.recording_file.specs.declared.maxima.TheConstants.{MOST_RECORDING_BYTES}
+use Rattle.recording_file.specs.Recorded.{Recorded, IsRecording, MOST_RECORDING_BYTES}
 use Rattle.recording_file.specs.Caps.{is_cap}
 use Rattle.recording_file.specs.Counts.{counts_of}
 use Rattle.recording_file.specs.Fields.{Row}
 use Rattle.recording_file.specs.Names.{is_name}
-use Rattle.recording_file.specs.Recorded.{Recorded, IsRecording}
 use Rattle.recording_file.specs.Recordings.{IsRecordingText}
 use Rattle.recording_file.specs.Records.{adapter_row, cap_row, device_row, header, link_row, name_row, records_of, request_row, rounds_row, unit_rows, weight_row}
 use Rattle.recording_file.specs.Whole.{most_bytes}

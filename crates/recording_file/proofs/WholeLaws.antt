@@ -1,15 +1,12 @@
 -- The records of a whole recording are read as that recording.
-use Rattle.std.proofs.Common.{◌≡◌, [], Bool, true, false, refl, sym, ap, ◌∙◌}
-use Rattle.std.specs.Prelude.{Result, Ok, ◌||◌}
+use Rattle.std.proofs.Common.{◌≡◌, [], Bool, true, false, refl, sym, ap, ◌∙◌, Result, Ok, ◌||◌}
 use Rattle.csv.specs.Records.{field_at}
 use Rattle.cam_types.specs.Topology.{IsConfig}
 use Rattle.cam_types.specs.Weights.{are_standard, weight_fault}
 use Rattle.cam_types.proofs.ConfigLemmas.{reaches, weight_items}
-use Rattle.recording_file.specs.declared.recording_fault.RecordingFault.{RecordingFault}
-use Rattle.recording_file.specs.declared.recording_stage.RecordingStage.{RecordingStage}
+use Rattle.recording_file.specs.Reading.{ended, lacks_adapters, reading, recorded_of, step, RecordingFault, RecordingStage}
 use Rattle.recording_file.specs.declared.recording_stage.RecordingStage.TheVariants as stage
 use Rattle.recording_file.specs.Header.{has_letters, is_header}
-use Rattle.recording_file.specs.Reading.{ended, lacks_adapters, reading, recorded_of, step}
 use Rattle.recording_file.specs.Recorded.{Recorded, IsRecording}
 use Rattle.recording_file.specs.Records.{header, records_of}
 use Rattle.recording_file.specs.Steps.{taken}

@@ -3,7 +3,7 @@ use Rattle.std.specs.Prelude.{ℕ, ◌==◌, Bool, true, nat_lt, nat_le, ◌&&�
 use Rattle.std.specs.Option.{option_map_or}
 use Rattle.cam_types.specs.Topology.{Topology}
 use Rattle.cam_types.specs.Questions.{device_openings, adapter_openings, link_openings}
-use Rattle.recording_file.specs.declared.part.PartKind.{PartKind}
+pub use Rattle.recording_file.specs.declared.part.PartKind.{PartKind}
 use Rattle.recording_file.specs.declared.part.PartKind.TheVariants as kind
 pub use Rattle.recording_file.specs.declared.part.Part.{Part}
 pub use Rattle.recording_file.specs.declared.cap.Cap.{Cap}

@@ -4,7 +4,7 @@ use lib.Utf8.{scalars}
 use Rattle.std.specs.Char.{is_control}
 use Rattle.std.specs.List.{list_all}
 use Rattle.std.specs.Option.{option_map_or}
-use Rattle.recording_file.specs.declared.name.NameKind.{NameKind}
+pub use Rattle.recording_file.specs.declared.name.NameKind.{NameKind}
 use Rattle.recording_file.specs.declared.name.NameKind.TheVariants as kind
 use Rattle.recording_file.specs.Counts.{Counts}
 

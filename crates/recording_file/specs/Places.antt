@@ -1,12 +1,10 @@
 -- Where a request stands in the table of room.
-use Rattle.std.specs.Prelude.{ℕ, ◌-◌, ◌==◌, ◌<◌, if◌then◌else◌, List, slice_index, slice_set, Option, Some, None, IfSome}
-use Rattle.std.specs.Option.{option_map}
+use Rattle.std.specs.Prelude.{ℕ, ◌-◌, ◌==◌, ◌<◌, if◌then◌else◌, List, slice_index, slice_set, Option, Some, None, IfSome, option_map}
 use Rattle.cam_types.specs.Topology.{Topology}
 use Rattle.cam_types.specs.Questions.{device_adapter, adapter_link}
 use Rattle.recording_file.specs.declared.part.PartKind.TheVariants as kind
-use Rattle.recording_file.specs.declared.cause.Cause.{Cause}
-use Rattle.recording_file.specs.declared.cause.Cause.TheVariants.{DeviceFull, AdapterFull, LinkFull}
-use Rattle.recording_file.specs.declared.places.Places.{Places}
+use Rattle.recording_file.specs.Recorded.{Cause, DeviceFull, AdapterFull, LinkFull}
+pub use Rattle.recording_file.specs.declared.places.Places.{Places}
 use Rattle.recording_file.specs.Caps.{part_of}
 use Rattle.recording_file.specs.Room.{cell_of}
 

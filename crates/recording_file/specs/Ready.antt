@@ -1,9 +1,8 @@
 -- When a request can be put after others.
 use Rattle.std.specs.Prelude.{◌≡◌, ℕ, List, length, None}
 use Rattle.cam_types.specs.Topology.{Topology, IsConfig}
-use Rattle.recording_file.specs.declared.places.Places.{Places}
+use Rattle.recording_file.specs.Places.{places_of, AreWithin, Places}
 use Rattle.recording_file.specs.Caps.{Cap}
-use Rattle.recording_file.specs.Places.{places_of, AreWithin}
 use Rattle.recording_file.specs.Recorded.{Request, crowd_cause, plain_cause}
 use Rattle.recording_file.specs.Room.{IsRoom}
 

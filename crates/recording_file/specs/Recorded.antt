@@ -7,16 +7,15 @@ use Rattle.cam_types.specs.Topology.{Topology, config_fault}
 use Rattle.cam_types.specs.Questions.{names_device, device_adapter, adapter_link, is_on, is_under}
 use Rattle.cam_types.specs.declared.device.Device.{Device}
 use Rattle.cam_types.specs.declared.maxima.TheConstants.{MOST_PRIORITY}
-use Rattle.recording_file.specs.declared.maxima.TheConstants.{MOST_RECORDED_ROUNDS, MOST_REQUESTS}
-use Rattle.recording_file.specs.declared.part.PartKind.{PartKind}
+pub use Rattle.recording_file.specs.declared.maxima.TheConstants.{MOST_RECORDED_ROUNDS, MOST_REQUESTS, MOST_RECORDING_BYTES}
+use Rattle.recording_file.specs.Caps.{Part, Cap, part_of, is_cap, cap_in, PartKind}
 use Rattle.recording_file.specs.declared.part.PartKind.TheVariants as kind
-use Rattle.recording_file.specs.declared.cause.Cause.{Cause}
-use Rattle.recording_file.specs.declared.cause.Cause.TheVariants.{NoDevice, BadPriority, BadWindow, Early, Late, DeviceFull, AdapterFull, LinkFull}
+pub use Rattle.recording_file.specs.declared.cause.Cause.{Cause}
+pub use Rattle.recording_file.specs.declared.cause.Cause.TheVariants.{NoDevice, BadPriority, BadWindow, Early, Late, DeviceFull, AdapterFull, LinkFull}
 pub use Rattle.recording_file.specs.declared.request.Request.{Request}
 pub use Rattle.recording_file.specs.declared.span.Span.{Span}
 use Rattle.recording_file.specs.Counts.{counts_of}
 use Rattle.recording_file.specs.Names.{Label, is_name}
-use Rattle.recording_file.specs.Caps.{Part, Cap, part_of, is_cap, cap_in}
 
 -- a list has an item
 abbrev pub has_items : {X : Type 0} → List X → Bool

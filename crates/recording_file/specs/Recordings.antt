@@ -1,12 +1,10 @@
 -- Texts of recordings, and what a reader of recordings answers.
 use Rattle.std.specs.Prelude.{◌≡◌, ℕ, ◌+◌, ◌≤◌, ◌||◌, ◌++◌, ◌∷◌, [], true, ⊤, List, length, Option, Ok, Err, Bool}
 use Rattle.cam_types.specs.Weights.{are_standard}
-use Rattle.recording_file.specs.declared.recording_fault.RecordingFault.{RecordingFault}
+use Rattle.recording_file.specs.Reading.{ended, step, RecordingFault, RecordingStage}
 use Rattle.recording_file.specs.declared.recording_fault.RecordingFault.TheVariants as fault
-use Rattle.recording_file.specs.declared.recording_stage.RecordingStage.{RecordingStage}
 use Rattle.recording_file.specs.declared.recording_stage.RecordingStage.TheVariants as stage
 use Rattle.recording_file.specs.Fields.{Row}
-use Rattle.recording_file.specs.Reading.{ended, step}
 use Rattle.recording_file.specs.Recorded.{Recorded, IsRecording}
 use Rattle.recording_file.specs.Records.{records_of}
 use Rattle.recording_file.specs.Steps.{◌>>=◌, taken}

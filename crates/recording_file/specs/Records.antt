@@ -4,19 +4,17 @@ use Rattle.std.specs.Option.{option_map_or}
 use Rattle.cam_types.specs.declared.adapter.Adapter.{Adapter}
 use Rattle.cam_types.specs.declared.device.Device.{Device}
 use Rattle.cam_types.specs.declared.weight_row.WeightRow.{WeightRow}
-use Rattle.recording_file.specs.declared.maxima.TheConstants.{MOST_RECORDED_ROUNDS}
-use Rattle.recording_file.specs.declared.said.Said.{Said}
+use Rattle.recording_file.specs.Recorded.{Recorded, Request, Span, MOST_RECORDED_ROUNDS}
+use Rattle.recording_file.specs.Reading.{Said}
 use Rattle.recording_file.specs.declared.said.Said.TheVariants as said
-use Rattle.recording_file.specs.declared.word.Word.{Word}
+use Rattle.recording_file.specs.Words.{spelled, time_text, named_text, part_text, Word}
 use Rattle.recording_file.specs.declared.word.Word.TheVariants as word
 use Rattle.recording_file.specs.Counts.{counts_of}
 use Rattle.recording_file.specs.Fields.{Row, most_number}
 use Rattle.recording_file.specs.Header.{name_text}
 use Rattle.recording_file.specs.Names.{Label, is_name}
 use Rattle.recording_file.specs.Caps.{Cap, is_cap}
-use Rattle.recording_file.specs.Recorded.{Recorded, Request, Span}
 use Rattle.recording_file.specs.Rows.{device_of}
-use Rattle.recording_file.specs.Words.{spelled, time_text, named_text, part_text}
 
 -- these fields, and empty ones up to eight
 abbrev pub padded : List (List ℕ) → Row

@@ -1,9 +1,9 @@
 -- What a recorder answers to a request.
 use Rattle.std.specs.Prelude.{⊤, Option, Some, None, Result, Ok, Err}
-use Rattle.recording_file.specs.declared.cause.Cause.{Cause}
-use Rattle.recording_file.specs.declared.places.Places.{Places}
-use Rattle.recording_file.specs.declared.request_error.RequestError.{RequestError}
-use Rattle.recording_file.specs.declared.request_error.RequestError.TheVariants.{Illegal}
+use Rattle.recording_file.specs.Recorded.{Cause}
+use Rattle.recording_file.specs.Places.{Places}
+pub use Rattle.recording_file.specs.declared.request_error.RequestError.{RequestError}
+pub use Rattle.recording_file.specs.declared.request_error.RequestError.TheVariants.{Illegal, OutOfMemory}
 
 abbrev pub unless_cause : Option Cause → Result ⊤ RequestError
 unless_cause None = Ok tt

@@ -1,9 +1,8 @@
 -- How many requests more each device, adapter and link could take in each round.
 use Rattle.std.specs.Prelude.{◌≡◌, ℕ, ◌+◌, ◌-◌, ◌*◌, ◌<◌, ◌≤◌, ◌⊎◌, nat_lt, if◌then◌else◌, List, [], length, slice_index}
 use Rattle.cam_types.specs.Topology.{Topology}
-use Rattle.recording_file.specs.declared.part.PartKind.{PartKind}
+use Rattle.recording_file.specs.Caps.{Part, Cap, part_of, cap_in, PartKind}
 use Rattle.recording_file.specs.declared.part.PartKind.TheVariants as kind
-use Rattle.recording_file.specs.Caps.{Part, Cap, part_of, cap_in}
 use Rattle.recording_file.specs.Recorded.{Recorded, Request, IsKept, load}
 
 -- the row of a part in the table: 32 rows of devices, 8 of adapters, 4 of links

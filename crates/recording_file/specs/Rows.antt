@@ -4,13 +4,11 @@ use Rattle.cam_types.specs.declared.adapter.Adapter.{Adapter}
 use Rattle.cam_types.specs.declared.device.Device.{Device}
 use Rattle.cam_types.specs.declared.weight_row.WeightRow.{WeightRow}
 use Rattle.cam_types.specs.Weights.{row_to}
-use Rattle.recording_file.specs.declared.device_row.DeviceRow.{DeviceRow}
-use Rattle.recording_file.specs.declared.maxima.TheConstants.{MOST_RECORDED_ROUNDS}
-use Rattle.recording_file.specs.declared.name.NameKind.{NameKind}
+pub use Rattle.recording_file.specs.declared.device_row.DeviceRow.{DeviceRow}
+use Rattle.recording_file.specs.Recorded.{Request, Span, MOST_RECORDED_ROUNDS}
+use Rattle.recording_file.specs.Names.{named_count, is_name_text, NameKind}
 use Rattle.recording_file.specs.Counts.{Counts}
-use Rattle.recording_file.specs.Names.{named_count, is_name_text}
 use Rattle.recording_file.specs.Caps.{Part, part_of, part_count}
-use Rattle.recording_file.specs.Recorded.{Request, Span}
 use Rattle.recording_file.specs.Steps.{◌>>=◌}
 use Rattle.recording_file.specs.Fields.{Row, field_of, formed, most_number, number_at, optional_at, within_at, below_at, unused_from}
 use Rattle.recording_file.specs.Words.{time_of, named_of, part_kind_of}

@@ -1,11 +1,9 @@
 -- The stages at which a record is read.
 use Rattle.std.specs.Prelude.{◌≡◌, ◌<◌, true, nat_lt, if◌then◌else◌, length, [], ⊤}
-use Rattle.recording_file.specs.declared.maxima.TheConstants.{MOST_REQUESTS}
-use Rattle.recording_file.specs.Words.{word_rank}
-use Rattle.recording_file.specs.Reading.{begun, recorded_of, stands}
-use Rattle.recording_file.specs.declared.recording_stage.RecordingStage.{RecordingStage}
+use Rattle.recording_file.specs.Recorded.{MOST_REQUESTS}
+use Rattle.recording_file.specs.Words.{word_rank, Word}
+use Rattle.recording_file.specs.Reading.{begun, recorded_of, stands, RecordingStage}
 use Rattle.recording_file.specs.declared.recording_stage.RecordingStage.TheVariants as stage
-use Rattle.recording_file.specs.declared.word.Word.{Word}
 use Rattle.recording_file.specs.declared.word.Word.TheVariants as word
 
 -- a stage after the rounds, without an adapter or with a whole configuration

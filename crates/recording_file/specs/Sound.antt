@@ -3,11 +3,9 @@ use Rattle.std.specs.Prelude.{◌≡◌, ◌<◌, ◌≤◌, ⊤, true, [], leng
 use Rattle.cam_types.specs.Topology.{Topology, IsDraft}
 use Rattle.cam_types.specs.Weights.{reaches_last}
 use Rattle.cam_types.specs.declared.maxima.TheConstants.{MOST_ADAPTERS}
-use Rattle.recording_file.specs.declared.maxima.TheConstants.{MOST_RECORDED_ROUNDS}
-use Rattle.recording_file.specs.declared.recording_stage.RecordingStage.{RecordingStage}
+use Rattle.recording_file.specs.Recorded.{Span, IsKept, MOST_RECORDED_ROUNDS}
+use Rattle.recording_file.specs.Reading.{RecordingStage, Start}
 use Rattle.recording_file.specs.declared.recording_stage.RecordingStage.TheVariants as stage
-use Rattle.recording_file.specs.declared.start.Start.{Start}
-use Rattle.recording_file.specs.Recorded.{Span, IsKept}
 
 pub record IsStart (start : Start) : Type 0 where
   pub unit : IfSome start.unit (λ (u : Span). 1 ≤ u.count)

@@ -2,7 +2,7 @@
 use Rattle.std.specs.Prelude.{ℕ, ◌<◌, ◌≤◌, List, length, take, Option, bytes_eq, if◌then◌else◌}
 use Rattle.std.specs.Io.KnownBytes.{Consumes, IsAtEnd}
 use Rattle.cam_types.specs.declared.maxima.TheConstants.{MOST_BYTES}
-use Rattle.recording_file.specs.declared.maxima.TheConstants.{MOST_RECORDING_BYTES}
+use Rattle.recording_file.specs.Recorded.{MOST_RECORDING_BYTES}
 use Rattle.recording_file.specs.Header.{name_text}
 
 -- how many bytes a text may have

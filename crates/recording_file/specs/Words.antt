@@ -1,12 +1,12 @@
 -- The words of a recording's records, and those of its fields.
 use Rattle.std.specs.Prelude.{ℕ, List, [], ◌∷◌, Option, codes, bytes_eq, find}
-use Rattle.recording_file.specs.declared.word.Word.{Word}
+pub use Rattle.recording_file.specs.declared.word.Word.{Word}
 use Rattle.recording_file.specs.declared.word.Word.TheVariants as word
-use Rattle.recording_file.specs.declared.name.NameKind.{NameKind}
+use Rattle.recording_file.specs.Names.{NameKind}
 use Rattle.recording_file.specs.declared.name.NameKind.TheVariants as named
-use Rattle.recording_file.specs.declared.part.PartKind.{PartKind}
+use Rattle.recording_file.specs.Caps.{PartKind}
 use Rattle.recording_file.specs.declared.part.PartKind.TheVariants as part
-use Rattle.recording_file.specs.declared.span.TimeUnit.{TimeUnit}
+pub use Rattle.recording_file.specs.declared.span.TimeUnit.{TimeUnit}
 use Rattle.recording_file.specs.declared.span.TimeUnit.TheVariants as time
 
 -- how a word is spelled

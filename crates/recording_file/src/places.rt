@@ -7,7 +7,7 @@ ghost use Rattle.cam_types.specs.Questions.{names_device};
 ghost use Rattle.recording_file.specs.Caps.{part_of};
 ghost use Rattle.recording_file.specs.Room.{cell_of};
 ghost use Rattle.recording_file.specs.Places.{AreWithin, places_of, full_at, taken_at, one_less};
-ghost use Rattle.recording_file.specs.declared.maxima.TheConstants.{MOST_RECORDED_ROUNDS};
+ghost use Rattle.recording_file.specs.Recorded.{MOST_RECORDED_ROUNDS};
 
 use crate::cause::Cause;
 use crate::part::{Part, PartKind};

@@ -4,12 +4,10 @@ ghost use Rattle.std.specs.Prelude.{◌≡◌, ◌≢◌, ◌<◌, ◌≤◌, �
 ghost use Rattle.std.specs.List.{AllByRecursion};
 ghost use Rattle.cam_types.specs.Topology.{IsConfig};
 ghost use Rattle.recording_file.specs.Places.{places_of};
-ghost use Rattle.recording_file.specs.Recorded.{Request, request_cause};
-ghost use Rattle.recording_file.specs.Requests.{unless_cause, placed_unless};
+ghost use Rattle.recording_file.specs.Recorded.{Request, request_cause, MOST_RECORDED_ROUNDS};
+ghost use Rattle.recording_file.specs.Requests.{unless_cause, placed_unless, OutOfMemory};
 ghost use Rattle.recording_file.specs.Room.{IsLaid, IsSized, IsTable};
 ghost use Rattle.recording_file.specs.Ready.{IsReady};
-ghost use Rattle.recording_file.specs.declared.maxima.TheConstants.{MOST_RECORDED_ROUNDS};
-ghost use Rattle.recording_file.specs.declared.request_error.RequestError.TheVariants.{OutOfMemory};
 
 use crate::cap::Cap;
 use crate::places::Places;

@@ -1,10 +1,9 @@
 //! Reads a recording.
 
 ghost use Rattle.std.specs.Prelude.{◌≡◌, ◌≢◌, ◌≤◌, ◌||◌, Bool, false, true, length, Ok, Err, IfOk, IfErr, IfSome};
-ghost use Rattle.recording_file.specs.declared.maxima.TheConstants.{MOST_RECORDING_BYTES};
+ghost use Rattle.recording_file.specs.Recorded.{Recorded, IsRecording, MOST_RECORDING_BYTES};
 ghost use Rattle.cam_types.specs.Watched.{device_of, has_failed};
 ghost use Rattle.recording_file.specs.Reading.{reading};
-ghost use Rattle.recording_file.specs.Recorded.{Recorded, IsRecording};
 ghost use Rattle.recording_file.specs.Records.{records_of};
 ghost use Rattle.cam_types.specs.Weights.{are_standard};
 ghost use Rattle.recording_file.specs.Text.{records_in};

@@ -5,10 +5,8 @@ ghost use Rattle.cam_types.specs.Topology.{IsConfig};
 ghost use Rattle.recording_file.specs.Caps.{is_cap, is_next_cap};
 ghost use Rattle.recording_file.specs.Counts.{counts_of};
 ghost use Rattle.recording_file.specs.Names.{is_name, is_next_name};
-ghost use Rattle.recording_file.specs.Recorded.{Span, IsKept, request_cause, has_items};
-ghost use Rattle.recording_file.specs.Requests.{unless_cause};
-ghost use Rattle.recording_file.specs.declared.maxima.TheConstants.{MOST_RECORDED_ROUNDS, MOST_REQUESTS};
-ghost use Rattle.recording_file.specs.declared.request_error.RequestError.TheVariants.{OutOfMemory};
+ghost use Rattle.recording_file.specs.Recorded.{Span, IsKept, request_cause, has_items, MOST_RECORDED_ROUNDS, MOST_REQUESTS};
+ghost use Rattle.recording_file.specs.Requests.{unless_cause, OutOfMemory};
 
 use crate::cap::Cap;
 use crate::counts::Counts;

@@ -1,7 +1,7 @@
 //! Takes the records of a text in order, up to the first fault.
 
 ghost use Rattle.std.specs.Prelude.{◌≡◌, ◌≢◌, ◌≤◌, length, Err, IfOk};
-ghost use Rattle.recording_file.specs.declared.maxima.TheConstants.{MOST_RECORDING_BYTES};
+ghost use Rattle.recording_file.specs.Recorded.{MOST_RECORDING_BYTES};
 ghost use Rattle.recording_file.specs.Steps.{taken};
 ghost use Rattle.recording_file.specs.Text.{records_in};
 

@@ -1,7 +1,7 @@
 //! Why a request wasn't added.
 
 ghost use Rattle.std.specs.Prelude.{◌≡◌};
-ghost use Rattle.recording_file.specs.declared.request_error.RequestError.TheVariants.{OutOfMemory};
+ghost use Rattle.recording_file.specs.Requests.{OutOfMemory};
 
 use crate::cause::Cause;
 use std::alloc::AllocError;

@@ -4,9 +4,8 @@ ghost use Rattle.std.specs.Prelude.{◌≡◌, ◌+◌, ◌-◌, ◌*◌, ◌<�
 ghost use Rattle.cam_types.specs.Topology.{IsConfig, Topology};
 ghost use Rattle.recording_file.specs.Caps.{Part, openings, cap_in, covers};
 ghost use Rattle.recording_file.specs.Room.{IsCell, IsRoom, Holds, cell_of, rows_by, row_of, part_in, IsLaid, IsSized, IsTable};
-ghost use Rattle.recording_file.specs.declared.maxima.TheConstants.{MOST_RECORDED_ROUNDS};
+ghost use Rattle.recording_file.specs.Recorded.{Request, MOST_RECORDED_ROUNDS};
 ghost use Rattle.std.specs.List.{AllByRecursion};
-ghost use Rattle.recording_file.specs.Recorded.{Request};
 
 use crate::cap::Cap;
 use crate::maxima::MOST_RECORDED_ROUNDS;

@@ -5,7 +5,7 @@ ghost use Rattle.csv.specs.Records.{fields_of};
 ghost use Rattle.recording_file.specs.Fields.{field_of, formed};
 ghost use Rattle.recording_file.specs.Rows.{one_number, span_at, rounds_at, weight_at, adapter_at, device_at, request_at};
 ghost use Rattle.recording_file.specs.Words.{time_of};
-ghost use Rattle.recording_file.specs.declared.maxima.TheConstants.{MOST_RECORDED_ROUNDS};
+ghost use Rattle.recording_file.specs.Recorded.{MOST_RECORDED_ROUNDS};
 
 use crate::device_row::DeviceRow;
 use crate::fields::{field, is_text, number_at, optional_at, unused_from, within_at};

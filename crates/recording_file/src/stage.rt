@@ -2,7 +2,7 @@
 
 ghost use Rattle.std.specs.Prelude.{◌≡◌, ◌≢◌, ℕ, List, Result, Err, IfOk};
 ghost use Rattle.csv.specs.Records.{fields_of};
-ghost use Rattle.recording_file.specs.declared.recording_fault.RecordingFault.{RecordingFault};
+ghost use Rattle.recording_file.specs.Reading.{RecordingFault};
 
 use crate::recording_fault::RecordingFault;
 use csv::ByteRecord;

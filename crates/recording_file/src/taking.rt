@@ -6,12 +6,11 @@ ghost use Rattle.recording_file.specs.Names.{is_name};
 ghost use Rattle.recording_file.specs.Caps.{is_cap};
 ghost use Rattle.recording_file.specs.Counts.{counts_of};
 ghost use Rattle.recording_file.specs.Reading.{add_unit, add_rounds, add_weight, add_link, add_adapter, add_device, add_name, add_cap, add_request, add_said, add_row, row_step, ended, stands, recorded_of, unless_illegal, lacks_adapters};
-ghost use Rattle.recording_file.specs.Recorded.{IsKept, Span, request_cause};
+ghost use Rattle.recording_file.specs.Recorded.{IsKept, Span, request_cause, MOST_RECORDED_ROUNDS, MOST_REQUESTS};
 ghost use Rattle.recording_file.specs.Records.{FitsSaid, word_for};
 ghost use Rattle.recording_file.specs.Saying.{IsAt, IsOpen, booked};
 ghost use Rattle.recording_file.specs.Sound.{IsSound};
 ghost use Rattle.std.specs.Option.{option_map_or};
-ghost use Rattle.recording_file.specs.declared.maxima.TheConstants.{MOST_RECORDED_ROUNDS, MOST_REQUESTS};
 
 use crate::cap::Cap;
 use crate::device_row::DeviceRow;

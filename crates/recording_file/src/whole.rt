@@ -3,7 +3,7 @@
 ghost use Rattle.std.specs.Prelude.{◌≡◌, ◌≢◌, ◌≤◌, false, true, Err, IfOk};
 ghost use Rattle.cam_types.specs.Watched.{device_of, has_failed};
 ghost use Rattle.recording_file.specs.Whole.{most_bytes, IsLongWhole, IsTooLong};
-ghost use Rattle.recording_file.specs.declared.maxima.TheConstants.{MOST_RECORDING_BYTES};
+ghost use Rattle.recording_file.specs.Recorded.{MOST_RECORDING_BYTES};
 
 use crate::maxima::MOST_RECORDING_BYTES;
 use cam_types::{MOST_BYTES, Watched};

@@ -1,6 +1,5 @@
 -- what held where rounds ended, so far and after one event more
-use Rattle.std.proofs.Common.{◌≡◌, ℕ, zero, suc, ◌+◌, ◌-◌, ◌*◌, ◌^◌, ◌<◌, ◌≤◌, Bool, true, false, cond, List, [], ◌∷◌, ◌++◌, map, length, get_or, refl, sym, ap, ◌∙◌, arith, append_assoc, append-nil, Some, None}
-use Rattle.std.specs.Prelude.{filter, flat_map, slice_get}
+use Rattle.std.proofs.Common.{◌≡◌, ℕ, zero, suc, ◌+◌, ◌-◌, ◌*◌, ◌^◌, ◌<◌, ◌≤◌, Bool, true, false, cond, List, [], ◌∷◌, ◌++◌, map, length, get_or, refl, sym, ap, ◌∙◌, arith, append_assoc, append-nil, Some, None, filter, flat_map, slice_get}
 use Rattle.std.specs.List.{range_with_len}
 use Rattle.std.specs.Option.{option_map, option_map_or}
 use Rattle.std.proofs.lemmas.Grind.{flat_map-append}
@@ -9,15 +8,10 @@ use Rattle.std.proofs.lemmas.List.Elements.{filter-append}
 use Rattle.std.proofs.lemmas.List.FromFn.{length-map-range_with_len, get_or-map-range_with_len}
 use Rattle.std.proofs.lemmas.Nat.{mul-le}
 use Rattle.std.proofs.lemmas.Option.{slice_get_within}
-use Rattle.cam_types.specs.Lists.{moments}
-use Rattle.cam_types.specs.Topology.{Topology, IsConfig}
-use Rattle.cam_types.specs.Questions.{device_adapter}
+use Rattle.round_net.specs.Words.{moments, Topology, IsConfig, device_adapter, Device, is_tick, Event}
 use Rattle.cam_types.proofs.ConfigLemmas.{bus-there}
 use Rattle.cam_types.proofs.ListLemmas.{moments-push}
-use Rattle.cam_types.specs.declared.device.Device.{Device}
 use Rattle.event_rules.proofs.ListFacts.{range_with_len-push}
-use Rattle.event_rules.specs.Event.{is_tick}
-use Rattle.event_rules.specs.declared.event.Event.{Event}
 use Rattle.round_net.specs.Ends.{round_ends, at_ends}
 
 -- a device's adapter is one of the configuration

@@ -1,23 +1,11 @@
 -- what was found at the places of a history makes its net
-use Rattle.std.proofs.Common.{◌≡◌, ℕ, ◌+◌, ◌-◌, ◌<◌, ◌≤◌, Bool, true, false, cond, List, [], ◌∷◌, length, map, drop, refl, sym, ap, ◌∙◌, arith, length-drop, Option, Some, None}
-use Rattle.std.specs.Prelude.{not, unwrap_or}
+use Rattle.std.proofs.Common.{◌≡◌, ℕ, ◌+◌, ◌-◌, ◌<◌, ◌≤◌, Bool, true, false, cond, List, [], ◌∷◌, length, map, drop, refl, sym, ap, ◌∙◌, arith, length-drop, Option, Some, None, not, unwrap_or, take_all}
 use Rattle.std.specs.Option.{option_map, option_map_or}
-use Rattle.std.proofs.lemmas.List.{take_all}
-use Rattle.cam_types.specs.Topology.{Topology}
-use Rattle.cam_types.specs.declared.adapter.Adapter.{Adapter}
-use Rattle.cam_types.specs.declared.device.Device.{Device}
-use Rattle.event_rules.specs.Event.{is_send_of}
-use Rattle.event_rules.specs.Counts.{round}
-use Rattle.event_rules.specs.Stays.{stays_begun, is_unsent}
-use Rattle.event_rules.specs.Live.{send_place, live_round}
-use Rattle.event_rules.specs.declared.event.Event.{Event}
-use Rattle.event_rules.specs.declared.passage.Passage.{Passage}
-use Rattle.xpt_core.specs.Records.{next_stay, record_of, records}
-use Rattle.round_net.specs.Rows.{NetRows, cell}
+use Rattle.round_net.specs.Words.{Topology, Adapter, Device, is_send_of, round, stays_begun, is_unsent, send_place, live_round, Event, Passage, next_stay, record_of, records}
+use Rattle.round_net.specs.Rows.{NetRows, cell, StayRow}
 use Rattle.round_net.specs.Caps.{row_count, is_free, openings_in, sends_in, cap}
 use Rattle.round_net.specs.Nets.{last_round, stay_row, row_of, table, net_of}
 use Rattle.round_net.specs.Marks.{AreCaps, IsNoted, HasCells}
-use Rattle.round_net.specs.declared.stay_row.StayRow.{StayRow}
 use Rattle.round_net.proofs.NetLemmas.{net_of_parts}
 use Rattle.round_net.proofs.CellLemmas.{cell_within}
 use Rattle.xpt_core.proofs.SentLemmas.{first_past, unsent_none}

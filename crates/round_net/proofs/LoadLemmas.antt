@@ -1,23 +1,11 @@
 -- no more stays were sent to a device, or to an adapter, in a round than there were sends
-use Rattle.std.proofs.Common.{◌≡◌, ℕ, ◌+◌, ◌<◌, ◌≤◌, Bool, true, false, cond, List, [], ◌∷◌, ◌++◌, length, get_or, refl, sym, ap, ◌∙◌, arith, Option, Some, None, zero-add}
-use Rattle.std.specs.Prelude.{not, ◌==◌, ◌&&◌, ◌||◌, count_by, option_to_list, All, slice_get}
+use Rattle.std.proofs.Common.{◌≡◌, ℕ, ◌+◌, ◌<◌, ◌≤◌, Bool, true, false, cond, List, [], ◌∷◌, ◌++◌, length, get_or, refl, sym, ap, ◌∙◌, arith, Option, Some, None, zero-add, not, ◌==◌, ◌&&◌, ◌||◌, count_by, option_to_list, All, slice_get}
 use Rattle.std.proofs.lemmas.Bool.{and_parts, eqb-true, eq-eqb}
 use Rattle.std.proofs.lemmas.Option.{slice_get-get_or}
 use Rattle.std.proofs.lemmas.List.Sums.{AllPass-from_list_all}
 use Rattle.std.proofs.Math.Bool.{and-false}
-use Rattle.cam_types.specs.Topology.{Topology}
-use Rattle.event_rules.specs.Event.{is_some_and, is_send_of}
-use Rattle.event_rules.specs.Counts.{round, commands, submissions, submission, sendings, sending_of}
-use Rattle.event_rules.specs.Stays.{stays_begun, stay_begun, is_unsent, waiting}
-use Rattle.event_rules.specs.Live.{live_round}
-use Rattle.event_rules.specs.declared.event.Event.{Event}
-use Rattle.event_rules.specs.declared.event.Event.TheVariants.{Send}
-use Rattle.event_rules.specs.declared.submission.Submission.{Submission}
-use Rattle.event_rules.specs.declared.passage.Passage.{Passage}
-use Rattle.event_rules.specs.declared.sending.Sending.{Sending}
+use Rattle.round_net.specs.Words.{Topology, is_some_and, is_send_of, round, commands, submissions, submission, sendings, sending_of, stays_begun, stay_begun, is_unsent, waiting, live_round, Event, Send, Submission, Passage, Sending, Rules, is_legal_event, is_legal, is_stay_of}
 use Rattle.event_rules.proofs.PushLaws.{is_unsent-push, born_unsent, stays_begun-push, sendings-push, places-stays_begun, place-stay_begun}
-use Rattle.event_rules.specs.Legal.{Rules, is_legal_event, is_legal}
-use Rattle.event_rules.specs.Laws.{is_stay_of}
 use Rattle.event_rules.proofs.LimitLemmas.{legal-induction}
 use Rattle.event_rules.proofs.StayLemmas.{is_of_its_ccb, of_its_ccb-stays_begun}
 use Rattle.round_net.proofs.CountLemmas.{count_by-append, count_by-same, count_by-none, count_by-either, count_by-weaker, count_by-filter}

@@ -1,36 +1,21 @@
 -- the net of a complete history is sound
-use Rattle.std.proofs.Common.{◌≡◌, ℕ, zero, suc, ◌+◌, ◌-◌, ◌*◌, ◌<◌, ◌≤◌, Bool, true, false, cond, List, [], ◌∷◌, length, map, take, get_or, refl, sym, ap, ◌∙◌, arith, Option, Some, None, inl, inr}
-use Rattle.std.specs.Prelude.{◌==◌, ◌&&◌, All, slice_get, slice_index, nat_le, nat_lt, find, count_by, option_and_then}
+use Rattle.std.proofs.Common.{◌≡◌, ℕ, zero, suc, ◌+◌, ◌-◌, ◌*◌, ◌<◌, ◌≤◌, Bool, true, false, cond, List, [], ◌∷◌, length, map, take, get_or, refl, sym, ap, ◌∙◌, arith, Option, Some, None, inl, inr, ◌==◌, ◌&&◌, All, slice_get, slice_index, nat_le, nat_lt, find, count_by, option_and_then}
 use Rattle.std.specs.Option.{option_map, option_map_or}
 use Rattle.std.proofs.lemmas.Bool.{and_parts, eqb-true, ltb-true, ltb-false}
 use Rattle.std.proofs.lemmas.Option.{slice_get_cases, slice_get_within, get_or_from_slice_get}
 use Rattle.std.proofs.lemmas.List.{length-map, take_all}
 use Rattle.std.proofs.lemmas.List.Elements.{All-nil, All-cons}
 use Rattle.std.proofs.lemmas.List.Sums.{sum_by_more, AllPass-from_list_all}
-use Rattle.cam_types.specs.Topology.{Topology, IsConfig, names_link}
-use Rattle.cam_types.specs.declared.adapter.Adapter.{Adapter}
-use Rattle.cam_types.specs.declared.device.Device.{Device}
-use Rattle.cam_types.specs.declared.maxima.TheConstants.{MOST_OPENINGS}
-use Rattle.event_rules.specs.Event.{is_some_and}
-use Rattle.event_rules.specs.Counts.{round, submission}
-use Rattle.event_rules.specs.Stays.{stays_begun, is_unsent, unsent, name_of}
-use Rattle.event_rules.specs.Live.{live_round}
-use Rattle.cam_types.specs.Questions.{names_device, is_on, is_under, adapter_link, weight}
-use Rattle.event_rules.specs.declared.event.Event.{Event}
-use Rattle.event_rules.specs.declared.submission.Submission.{Submission}
-use Rattle.event_rules.specs.declared.passage.Passage.{Passage}
-use Rattle.event_rules.specs.Legal.{history_rules, is_legal}
-use Rattle.event_rules.specs.Laws.{is_in_range, is_stay_of, is_stay_in_range}
+use Rattle.round_net.specs.Words.{Topology, IsConfig, names_link, Adapter, Device, MOST_OPENINGS, is_some_and, round, submission, stays_begun, is_unsent, unsent, name_of, live_round, names_device, is_on, is_under, adapter_link, weight, Event, Submission, Passage, history_rules, is_legal, is_in_range, is_stay_of, is_stay_in_range}
 use Rattle.event_rules.proofs.RangeLemmas.{stays_in_range}
 use Rattle.event_rules.proofs.LimitLemmas.{round_first, round_most, stays_most}
 use Rattle.round_net.specs.Sums.{count_below}
 use Rattle.round_net.specs.Instance.{Instance, rows, adapter, link, adapter_row, link_row, uses}
 use Rattle.round_net.specs.Schedules.{IsAdmissible, load}
-use Rattle.round_net.specs.Rows.{NetRows, cell, of_stay, instance_of_rows, live_of_rows}
+use Rattle.round_net.specs.Rows.{NetRows, cell, of_stay, instance_of_rows, live_of_rows, StayRow}
 use Rattle.round_net.specs.Sound.{IsSound, IsNet}
 use Rattle.round_net.specs.Caps.{row_count, carries, sends_in, cap}
 use Rattle.round_net.specs.Nets.{last_round, stay_row, table, net_of, instance_of, live_of}
-use Rattle.round_net.specs.declared.stay_row.StayRow.{StayRow}
 use Rattle.cam_types.proofs.ConfigLemmas.{few_adapters, few_links, adapters_on_links, devices_on_adapters, few_devices, weight_small}
 use Rattle.round_net.proofs.LoadLemmas.{covered-legal, sent-complete}
 use Rattle.round_net.proofs.OpeningLemmas.{sends_in-cap}

@@ -1,18 +1,8 @@
 -- no more commands are sent in a round than there are openings, and openings are few
-use Rattle.std.proofs.Common.{◌≡◌, ℕ, ◌+◌, ◌-◌, ◌<◌, ◌≤◌, true, false, cond, List, [], ◌∷◌, ◌++◌, length, refl, sym, ap, ◌∙◌, arith, Option, Some, None}
-use Rattle.std.specs.Prelude.{◌==◌, ◌&&◌, nat_lt, count_by, slice_get}
+use Rattle.std.proofs.Common.{◌≡◌, ℕ, ◌+◌, ◌-◌, ◌<◌, ◌≤◌, true, false, cond, List, [], ◌∷◌, ◌++◌, length, refl, sym, ap, ◌∙◌, arith, Option, Some, None, ◌==◌, ◌&&◌, nat_lt, count_by, slice_get}
 use Rattle.std.specs.Option.{option_map_or}
 use Rattle.std.proofs.lemmas.Bool.{and_parts, eqb-true, ltb-true}
-use Rattle.cam_types.specs.Topology.{Topology}
-use Rattle.cam_types.specs.declared.device.Device.{Device}
-use Rattle.event_rules.specs.Counts.{round, submission, sendings, sending_of}
-use Rattle.cam_types.specs.Questions.{names_lane, is_on, is_under, lane_adapter, adapter_link, adapter_openings, link_openings}
-use Rattle.event_rules.specs.Head.{openings, goes_now_to, goes_now_to_adapter, goes_now_over_link, has_opening, adapter_has_opening, link_has_opening}
-use Rattle.event_rules.specs.declared.event.Event.{Event}
-use Rattle.event_rules.specs.declared.event.Event.TheVariants.{Send}
-use Rattle.event_rules.specs.declared.submission.Submission.{Submission}
-use Rattle.event_rules.specs.Legal.{Rules, is_next, is_legal_event, is_legal, names_ccb}
-use Rattle.event_rules.specs.Refusals.{device_of}
+use Rattle.round_net.specs.Words.{Topology, Device, round, submission, sendings, sending_of, names_lane, is_on, is_under, lane_adapter, adapter_link, adapter_openings, link_openings, openings, goes_now_to, goes_now_to_adapter, goes_now_over_link, has_opening, adapter_has_opening, link_has_opening, Event, Send, Submission, Rules, is_next, is_legal_event, is_legal, names_ccb, device_of}
 use Rattle.event_rules.proofs.SendLemmas.{IsSend, send_from_next}
 use Rattle.event_rules.proofs.LawLemmas.{allowed-legal_event}
 use Rattle.event_rules.proofs.LimitLemmas.{legal-induction}

@@ -1,26 +1,15 @@
 -- the places of a round, and one place more
-use Rattle.std.proofs.Common.{◌≡◌, ◌≢◌, ℕ, ◌<◌, ◌≤◌, Bool, true, false, cond, List, [], ◌∷◌, ◌++◌, length, take, refl, sym, ap, ◌∙◌, arith, append-nil, append_assoc, length-append, Option, Some, None}
-use Rattle.std.specs.Prelude.{not, ◌==◌, ◌&&◌, ◌||◌, filter, if◌then◌else◌, count_by, option_to_list, slice_get, slice_index, slice_index_or}
+use Rattle.std.proofs.Common.{◌≡◌, ◌≢◌, ℕ, ◌<◌, ◌≤◌, Bool, true, false, cond, List, [], ◌∷◌, ◌++◌, length, take, refl, sym, ap, ◌∙◌, arith, append-nil, append_assoc, length-append, Option, Some, None, not, ◌==◌, ◌&&◌, ◌||◌, filter, if◌then◌else◌, count_by, option_to_list, slice_get, slice_index, slice_index_or, eqb-true, eq-eqb, ne_eqb}
 use Rattle.std.specs.List.{list_all, before_last}
 use Rattle.std.specs.Option.{option_map, option_map_or}
-use Rattle.std.proofs.lemmas.Bool.{eqb-true, eq-eqb, ne_eqb}
 use Rattle.std.proofs.lemmas.Bool.Decides.{nat_tests}
 use Rattle.std.proofs.lemmas.List.{map-append}
 use Rattle.std.proofs.lemmas.List.Sums.{sum_by-take-le}
 use Rattle.std.proofs.lemmas.List.Elements.{filter-append}
 use Rattle.std.proofs.lemmas.List.Folds.{list_all-append}
 use Rattle.std.proofs.Math.Bool.{and-false}
-use Rattle.cam_types.specs.Lists.{moments}
-use Rattle.cam_types.specs.Topology.{Topology}
+use Rattle.round_net.specs.Words.{moments, Topology, is_tick, is_adjust_of, adjusts_to, round, submission, sending_of, sendings, last, device_openings, adapter_openings, link_openings, openings, Event, Send, Submission, Sending}
 use Rattle.cam_types.proofs.ListLemmas.{moments-push}
-use Rattle.event_rules.specs.Event.{is_tick, is_adjust_of, adjusts_to}
-use Rattle.event_rules.specs.Counts.{round, submission, sending_of, sendings, last}
-use Rattle.cam_types.specs.Questions.{device_openings, adapter_openings, link_openings}
-use Rattle.event_rules.specs.Head.{openings}
-use Rattle.event_rules.specs.declared.event.Event.{Event}
-use Rattle.event_rules.specs.declared.event.Event.TheVariants.{Send}
-use Rattle.event_rules.specs.declared.submission.Submission.{Submission}
-use Rattle.event_rules.specs.declared.sending.Sending.{Sending}
 use Rattle.event_rules.proofs.PushLaws.{round-push, sendings-push}
 use Rattle.round_net.proofs.CountLemmas.{count_by-append}
 use Rattle.event_rules.proofs.OpeningLaws.{before_last-push}

@@ -1,7 +1,5 @@
 -- one price more in a flat list
-use Rattle.std.proofs.Common.{◌≡◌, ◌≢◌, ℕ, ◌+◌, ◌<◌, ◌≤◌, refl, true, false}
-use Rattle.std.specs.Prelude.{slice_set, ◌==◌, ◌&&◌, if◌then◌else◌}
-use Rattle.std.proofs.lemmas.List.{get_or-set_same, get_or-set_other}
+use Rattle.std.proofs.Common.{◌≡◌, ◌≢◌, ℕ, ◌+◌, ◌<◌, ◌≤◌, refl, true, false, slice_set, ◌==◌, ◌&&◌, if◌then◌else◌, get_or-set_same, get_or-set_other}
 use Rattle.std.proofs.lemmas.Bool.{and_parts, eqb-true, eq-eqb}
 use Rattle.round_net.specs.Rows.{cell}
 use Rattle.round_net.specs.PriceRows.{PriceRows, IsPriced, SetsPrice, pricing_of_rows}

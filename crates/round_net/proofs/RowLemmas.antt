@@ -1,9 +1,7 @@
 -- what stands in the row of a stay
-use Rattle.std.proofs.Common.{◌≡◌, ℕ, ap, Some}
-use Rattle.std.specs.Prelude.{slice_get}
+use Rattle.std.proofs.Common.{◌≡◌, ℕ, ap, Some, slice_get}
 use Rattle.std.specs.Option.{option_map_or}
-use Rattle.round_net.specs.Rows.{NetRows, instance_of_rows}
-use Rattle.round_net.specs.declared.stay_row.StayRow.{StayRow}
+use Rattle.round_net.specs.Rows.{NetRows, instance_of_rows, StayRow}
 
 pub device-row : (n : NetRows) (s : ℕ) (row : StayRow) → slice_get n.stays s ≡ Some row → (instance_of_rows n).device s ≡ row.device
 unfolding instance_of_rows

@@ -1,23 +1,12 @@
 -- openings and weights are small
-use Rattle.std.proofs.Common.{◌≡◌, ℕ, ◌+◌, ◌-◌, ◌≤◌, true, false, cond, List, [], ◌∷◌, ◌++◌, length, get_or, refl, ap, arith, Some, None}
-use Rattle.std.specs.Prelude.{◌==◌, All, slice_get, nat_lt, nat_le}
+use Rattle.std.proofs.Common.{◌≡◌, ℕ, ◌+◌, ◌-◌, ◌≤◌, true, false, cond, List, [], ◌∷◌, ◌++◌, length, get_or, refl, ap, arith, Some, None, ◌==◌, All, slice_get, nat_lt, nat_le}
 use Rattle.std.specs.List.{before_last}
 use Rattle.std.specs.Option.{option_map_or}
 use Rattle.std.proofs.lemmas.Bool.{and_parts, leb-true}
 use Rattle.std.proofs.lemmas.Option.{slice_get_within, get_or_from_slice_get}
-use Rattle.cam_types.specs.Topology.{Topology, IsConfig, are_openings}
-use Rattle.cam_types.specs.declared.adapter.Adapter.{Adapter}
-use Rattle.cam_types.specs.declared.device.Device.{Device}
-use Rattle.cam_types.specs.declared.maxima.TheConstants.{MOST_OPENINGS}
-use Rattle.event_rules.specs.Event.{is_tick, is_adjust_of, adjusts_to}
-use Rattle.event_rules.specs.Counts.{round, last}
-use Rattle.cam_types.specs.Questions.{names_device, device_openings, adapter_openings, link_openings}
-use Rattle.event_rules.specs.Head.{openings}
-use Rattle.event_rules.specs.declared.event.Event.{Event}
-use Rattle.event_rules.specs.declared.event.Event.TheVariants.{Adjust}
+use Rattle.round_net.specs.Words.{Topology, IsConfig, are_openings, Adapter, Device, MOST_OPENINGS, is_tick, is_adjust_of, adjusts_to, round, last, names_device, device_openings, adapter_openings, link_openings, openings, Event, Adjust, Rules, is_legal_event, is_legal}
 use Rattle.event_rules.proofs.OpeningLaws.{before_last-push}
 use Rattle.event_rules.proofs.StateLaws.{last-push}
-use Rattle.event_rules.specs.Legal.{Rules, is_legal_event, is_legal}
 use Rattle.event_rules.proofs.LawLemmas.{allowed-legal_event}
 use Rattle.event_rules.proofs.LimitLemmas.{legal-induction}
 use Rattle.round_net.specs.Caps.{row_openings, is_free, openings_in, sends_in, cap}

@@ -1,6 +1,5 @@
 -- what a sound net gives
-use Rattle.std.proofs.Common.{◌≡◌, ℕ, ◌<◌, ◌≤◌, refl, arith, Option, Some, None}
-use Rattle.std.specs.Prelude.{IfSome}
+use Rattle.std.proofs.Common.{◌≡◌, ℕ, ◌<◌, ◌≤◌, refl, arith, Option, Some, None, IfSome}
 use Rattle.round_net.specs.Instance.{Instance}
 use Rattle.round_net.specs.Sound.{IsSound}
 

@@ -1,24 +1,13 @@
 -- each stay was sent within its window
-use Rattle.std.proofs.Common.{◌≡◌, ℕ, ◌+◌, ◌-◌, ◌<◌, ◌≤◌, Bool, true, false, cond, List, [], ◌∷◌, ◌++◌, length, get_or, refl, sym, ap, ◌∙◌, arith, Option, Some, None}
-use Rattle.std.specs.Prelude.{◌==◌, filter, find, option_to_list, All, nat_lt}
+use Rattle.std.proofs.Common.{◌≡◌, ℕ, ◌+◌, ◌-◌, ◌<◌, ◌≤◌, Bool, true, false, cond, List, [], ◌∷◌, ◌++◌, length, get_or, refl, sym, ap, ◌∙◌, arith, Option, Some, None, ◌==◌, filter, find, option_to_list, All, nat_lt}
 use Rattle.std.specs.Option.{option_map, option_map_or, option_or}
 use Rattle.std.proofs.lemmas.Bool.{and_parts, eqb-true, eq-eqb, leb-true}
 use Rattle.std.proofs.lemmas.Option.{slice_get-get_or}
 use Rattle.std.proofs.lemmas.List.Elements.{All-nil, All-cons, All-head, All-tail, All-append}
 use Rattle.std.proofs.lemmas.List.Folds.{find-append}
-use Rattle.cam_types.specs.Topology.{Topology}
-use Rattle.event_rules.specs.Event.{is_send_of}
-use Rattle.event_rules.specs.Counts.{round, commands, submission}
-use Rattle.event_rules.specs.Stays.{stays_begun, stay_begun, is_unsent, waiting, has_arrived, has_queued}
-use Rattle.event_rules.specs.Live.{send_place, live_round}
-use Rattle.event_rules.specs.declared.event.Event.{Event}
-use Rattle.event_rules.specs.declared.event.Event.TheVariants.{Submit, Send, Requeue}
-use Rattle.event_rules.specs.declared.submission.Submission.{Submission}
-use Rattle.event_rules.specs.declared.passage.Passage.{Passage}
+use Rattle.round_net.specs.Words.{Topology, is_send_of, round, commands, submission, stays_begun, stay_begun, is_unsent, waiting, has_arrived, has_queued, send_place, live_round, Event, Submit, Send, Requeue, Submission, Passage, Rules, is_legal_event, is_legal, follows, next_stay}
 use Rattle.event_rules.proofs.PushLaws.{is_unsent-push, born_unsent, stays_begun-push, places-stays_begun, place-stay_begun}
-use Rattle.event_rules.specs.Legal.{Rules, is_legal_event, is_legal}
 use Rattle.event_rules.proofs.LimitLemmas.{legal-induction, round_first}
-use Rattle.xpt_core.specs.Records.{follows, next_stay}
 use Rattle.xpt_core.proofs.LatestLemmas.{AreLatest, latest_step, none_latest}
 use Rattle.round_net.specs.Nets.{last_round}
 use Rattle.round_net.proofs.CountLemmas.{all_where_one}

@@ -2,13 +2,7 @@
 use Rattle.std.specs.Prelude.{◌≡◌, ℕ, ◌+◌, ◌-◌, ◌<◌, ◌==◌, Bool, ◌&&◌, if◌then◌else◌, nat_lt, List, [], ◌∷◌, ◌++◌, length, map, filter, count_by, slice_get}
 use Rattle.std.specs.List.{list_all}
 use Rattle.std.specs.Option.{option_map_or}
-use Rattle.cam_types.specs.Lists.{moments}
-use Rattle.cam_types.specs.Topology.{Topology}
-use Rattle.event_rules.specs.Counts.{round, sendings, freeze_count, adapter_freezes}
-use Rattle.cam_types.specs.Questions.{is_on, is_under, adapter_openings, link_openings}
-use Rattle.event_rules.specs.Head.{openings}
-use Rattle.event_rules.specs.declared.event.Event.{Event}
-use Rattle.event_rules.specs.declared.sending.Sending.{Sending}
+use Rattle.round_net.specs.Words.{moments, Topology, round, sendings, freeze_count, adapter_freezes, is_on, is_under, adapter_openings, link_openings, openings, Event, Sending}
 use Rattle.round_net.specs.declared.row_state.Owner.{Owner}
 use Rattle.round_net.specs.declared.row_state.Owner.TheVariants.{Device, Adapter, Link}
 

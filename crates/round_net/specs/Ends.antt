@@ -1,17 +1,11 @@
 -- what held where the rounds of a history ended
 use Rattle.std.specs.Prelude.{◌≡◌, ℕ, ◌+◌, ◌-◌, ◌*◌, ◌==◌, Bool, true, false, not, if◌then◌else◌, nat_lt, List, length, map, filter, flat_map, slice_get, unwrap_or}
 use Rattle.std.specs.List.{range_with_len}
-use Rattle.cam_types.specs.Lists.{moments}
-use Rattle.cam_types.specs.Topology.{Topology}
-use Rattle.cam_types.specs.Questions.{device_adapter}
-use Rattle.event_rules.specs.Event.{is_tick}
-use Rattle.event_rules.specs.Counts.{error_count, caller_count, adapter_freezes}
-use Rattle.event_rules.specs.Head.{has_opening, adapter_has_opening, link_has_opening}
-use Rattle.event_rules.specs.declared.event.Event.{Event}
+use Rattle.round_net.specs.Words.{moments, Topology, device_adapter, is_tick, error_count, caller_count, adapter_freezes, has_opening, adapter_has_opening, link_has_opening, Event}
 use Rattle.round_net.specs.declared.cause.Cause as waiting
 use Rattle.round_net.specs.declared.cause.Cause.TheVariants as why
 use Rattle.round_net.specs.declared.freeze_kind.FreezeKind.{FreezeKind}
-use Rattle.round_net.specs.declared.freeze_kind.FreezeKind.TheVariants.{Error, Caller, Adapter}
+pub use Rattle.round_net.specs.declared.freeze_kind.FreezeKind.TheVariants.{Error, Caller, Adapter}
 use Rattle.round_net.specs.declared.round_ends.RoundEnds.{RoundEnds}
 
 -- the places where a round ended, in order: each by the events before its tick

@@ -1,3 +1,4 @@
+pub mod Words
 pub mod Sums
 pub mod Instance
 pub mod Schedules

@@ -1,7 +1,6 @@
 -- what is noted of each round while the places of a history are gone through
 use Rattle.std.specs.Prelude.{◌≡◌, ℕ, ◌*◌, ◌<◌, ◌≤◌, Bool, false, not, ◌&&◌, ◌||◌, ◌==◌, if◌then◌else◌, List, length, slice_index, slice_index_or}
-use Rattle.cam_types.specs.Topology.{Topology}
-use Rattle.event_rules.specs.declared.event.Event.{Event}
+use Rattle.round_net.specs.Words.{Topology, Event}
 use Rattle.round_net.specs.Rows.{cell}
 use Rattle.round_net.specs.Caps.{row_count, is_free, openings_in, sends_in}
 

@@ -2,21 +2,10 @@
 use Rattle.std.specs.Prelude.{ℕ, ◌+◌, ◌-◌, ◌*◌, ◌/◌, ◌%◌, List, length, map, unwrap_or}
 use Rattle.std.specs.List.{range_with_len}
 use Rattle.std.specs.Option.{option_map_or}
-use Rattle.cam_types.specs.Topology.{Topology}
-use Rattle.cam_types.specs.declared.adapter.Adapter.{Adapter}
-use Rattle.cam_types.specs.declared.device.Device.{Device}
-use Rattle.cam_types.specs.Questions.{weight}
-use Rattle.event_rules.specs.Counts.{round}
-use Rattle.event_rules.specs.Stays.{stays_begun, name_of}
-use Rattle.event_rules.specs.Live.{live_round}
-use Rattle.event_rules.specs.declared.event.Event.{Event}
-use Rattle.event_rules.specs.declared.passage.Passage.{Passage}
-use Rattle.xpt_core.specs.Records.{next_stay}
-use Rattle.xpt_core.specs.declared.stays.stay_record.StayRecord.{StayRecord}
+use Rattle.round_net.specs.Words.{Topology, Adapter, Device, weight, round, stays_begun, name_of, live_round, Event, Passage, next_stay, StayRecord}
 use Rattle.round_net.specs.Instance.{Instance}
-use Rattle.round_net.specs.Rows.{NetRows, instance_of_rows, live_of_rows}
+use Rattle.round_net.specs.Rows.{NetRows, instance_of_rows, live_of_rows, StayRow}
 use Rattle.round_net.specs.Caps.{row_count, cap}
-use Rattle.round_net.specs.declared.stay_row.StayRow.{StayRow}
 
 -- the last round of a stay: the one before its CCB's next stay arrives, or else the last round of all
 unfoldable pub last_round : List Event → Passage → ℕ

@@ -1,8 +1,6 @@
 -- what a table of rounds keeps
 use Rattle.std.specs.Prelude.{◌≡◌, ℕ, Bool, List}
-use Rattle.event_rules.specs.Counts.{round}
-use Rattle.event_rules.specs.Legal.{history_rules}
-use Rattle.xpt_core.specs.Transport.{Transport}
+use Rattle.round_net.specs.Words.{round, history_rules, Transport}
 use Rattle.round_net.specs.Ends.{AreEnds}
 use Rattle.round_net.specs.Marks.{IsNoted, HasCells}
 use Rattle.round_net.specs.declared.round_ends.RoundEnds.{RoundEnds}

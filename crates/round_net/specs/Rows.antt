@@ -3,7 +3,7 @@ use Rattle.std.specs.Prelude.{ℕ, ◌+◌, ◌-◌, ◌*◌, List, length, map,
 use Rattle.std.specs.Option.{option_map_or}
 use Rattle.event_rules.specs.declared.stay.Stay.{Stay}
 use Rattle.round_net.specs.Instance.{Instance}
-use Rattle.round_net.specs.declared.stay_row.StayRow.{StayRow}
+pub use Rattle.round_net.specs.declared.stay_row.StayRow.{StayRow}
 
 -- each device's adapter, each adapter's link, each stay, and the caps of rows: those of the first row's rounds, then
 -- those of the second one's, and so on

@@ -1,8 +1,7 @@
 //! What is noted at a place of a history, of the place's round.
 
 ghost use Rattle.std.specs.Prelude.{◌≡◌, ◌<◌, ◌≤◌, ◌*◌, ◌||◌, not, ◌==◌, false, length, slice_set, slice_index_or};
-ghost use Rattle.cam_types.specs.declared.maxima.TheConstants.{MOST_ROUNDS};
-ghost use Rattle.event_rules.specs.Counts.{round};
+ghost use Rattle.round_net.specs.Words.{MOST_ROUNDS, round};
 ghost use Rattle.round_net.specs.Caps.{row_count, row_freezes, row_openings, sends_in};
 ghost use Rattle.round_net.specs.Marks.{Marks, Sets};
 

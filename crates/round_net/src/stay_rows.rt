@@ -1,8 +1,7 @@
 //! The stays of a history with their windows.
 
 ghost use Rattle.std.specs.Prelude.{◌≡◌, map, IfOk};
-ghost use Rattle.cam_types.specs.declared.adapter.Adapter.{Adapter};
-ghost use Rattle.cam_types.specs.declared.device.Device.{Device};
+ghost use Rattle.round_net.specs.Words.{Adapter, Device};
 ghost use Rattle.round_net.specs.Nets.{row_of};
 
 use crate::stay_row::StayRow;

@@ -1,9 +1,7 @@
 //! One pass over the places of a history.
 
 ghost use Rattle.std.specs.Prelude.{◌≡◌, ℕ, ◌≤◌, not, ◌==◌, true, false, [], slice_index, slice_index_or, IsTrue, IfOk};
-ghost use Rattle.cam_types.specs.declared.maxima.TheConstants.{MOST_ROUNDS};
-ghost use Rattle.event_rules.specs.Legal.{history_rules, is_legal};
-ghost use Rattle.event_rules.specs.Counts.{round};
+ghost use Rattle.round_net.specs.Words.{MOST_ROUNDS, history_rules, is_legal, round};
 ghost use Rattle.round_net.specs.Ends.{AreEnds};
 ghost use Rattle.round_net.specs.Caps.{row_count, row_freezes, row_openings, sends_in};
 ghost use Rattle.round_net.specs.Marks.{Marks, Sets, IsNoted, HasCells};

@@ -1,7 +1,6 @@
 use Rattle.std.specs.Prelude.{ℕ, ◌%◌, ◌==◌, Bool, true, false, ◌||◌, if◌then◌else◌, nat_lt, List, [], ◌∷◌, Option, Some, None}
 use Rattle.cam_types.specs.declared.outcome.Outcome.{Outcome}
-use Rattle.sense_class.specs.Sense.{read_sense}
-use Rattle.sense_class.specs.declared.sense.Sense.{Sense}
+use Rattle.sense_class.specs.Sense.{read_sense, Sense}
 use Rattle.sense_class.specs.declared.class.Kind.{Kind}
 use Rattle.sense_class.specs.declared.class.Kind.TheVariants.{Good, Free, Counted, Recovered, Other}
 use Rattle.sense_class.specs.declared.class.Why.TheVariants as whys

@@ -1,6 +1,5 @@
-use Rattle.std.specs.Prelude.{ℕ, ◌%◌, ◌==◌, Bool, true, false, if◌then◌else◌, List, Option, None, slice_get, unwrap_or, option_and_then}
-use Rattle.std.specs.Option.{option_map}
-use Rattle.sense_class.specs.declared.sense.Sense.{Sense}
+use Rattle.std.specs.Prelude.{ℕ, ◌%◌, ◌==◌, Bool, true, false, if◌then◌else◌, List, Option, None, slice_get, unwrap_or, option_and_then, option_map}
+pub use Rattle.sense_class.specs.declared.sense.Sense.{Sense}
 
 -- the byte at a place, and 0 where there is none
 abbrev pub byte_at : List ℕ → ℕ → ℕ

@@ -1,20 +1,17 @@
 -- Rows as entries: their keys, which of them are ready, and one row taken to the front.
-use Rattle.std.proofs.Common.{◌≡◌, ◌≢◌, ℕ, zero, suc, ◌+◌, ◌^◌, ◌<◌, ◌≤◌, ◌==◌, ◌&&◌, ◌||◌, nat_lt, cond, Bool, true, false, List, [], ◌∷◌, length, get_or, count_by, inl, inr, ap, sym, subst, refl, ◌∙◌, arith}
+use Rattle.std.proofs.Common.{◌≡◌, ◌≢◌, ℕ, zero, suc, ◌+◌, ◌^◌, ◌<◌, ◌≤◌, ◌==◌, ◌&&◌, ◌||◌, nat_lt, cond, Bool, true, false, List, [], ◌∷◌, length, get_or, count_by, inl, inr, ap, sym, subst, refl, ◌∙◌, arith, remove, IsPermutation}
 use Rattle.std.proofs.lemmas.Bool.{cases_Bool, cases_order, lt-ltb, le-ltb, ne_eqb}
 use Rattle.std.proofs.lemmas.Bool.Decides.{nat_tests}
 use Rattle.std.proofs.lemmas.List.Elements.{All-contains}
 use Rattle.std.proofs.lemmas.List.Sums.{sum_by-cons}
 use Rattle.std.proofs.lemmas.List.Sorted.{IsPermutation-refl, IsPermutation-trans, IsPermutation-cons, IsPermutation-middle}
-use Rattle.std.specs.List.{remove}
-use Rattle.std.specs.List.Sorted.{IsPermutation}
 use Rattle.cam_types.specs.Lists.{is_less}
 use Rattle.camq_heap.specs.declared.entry.Entry.{Entry}
 use Rattle.camq_heap.specs.Order.{in_order, rank, AllApart}
 use Rattle.camq_heap.specs.Queue.{key, has_generation}
 use Rattle.camq_heap.proofs.OrderLemmas.{IsAmong, Contains-from_among, AllApart-head, AllApart-tail, AllApart-cons}
 use Rattle.camq_heap.proofs.QueueLemmas.{has_generation-in_order}
-use Rattle.sim_queue.specs.declared.row.Row.{Row}
-use Rattle.sim_queue.specs.Adapter.{turn_key}
+use Rattle.sim_queue.specs.Adapter.{turn_key, Row}
 use Rattle.sim_queue.specs.Turns.{is_ready, goes_before, entry_of, ready_entries, AreRows}
 
 module _ (a b : ℕ) (rest : Bool) where

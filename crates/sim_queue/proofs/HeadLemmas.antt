@@ -10,8 +10,7 @@ use Rattle.camq_heap.specs.declared.entry.Entry.{Entry}
 use Rattle.camq_heap.specs.Order.{in_order, AllApart}
 use Rattle.camq_heap.specs.Queue.{Queue, key}
 use Rattle.camq_heap.proofs.OrderLemmas.{IsAmong, IsAmong-get_or, AllRising, AllApart-head, AllApart-tail, AllRising-in_order, IsAmong-in_order, in_order-has, length-in_order}
-use Rattle.sim_queue.specs.declared.row.Row.{Row}
-use Rattle.sim_queue.specs.Adapter.{Adapter, new_row, is_named, turn_key, head, can_send, best_ready}
+use Rattle.sim_queue.specs.Adapter.{Adapter, new_row, is_named, turn_key, head, can_send, best_ready, Row}
 use Rattle.sim_queue.specs.Turns.{is_ready, entry_of, ready_entries, AreRows, IsInTurn}
 use Rattle.sim_queue.proofs.EntryLemmas.{AllFit, AllFit-from, key_less, same_device, IsEntryOf-among, entry-among, entries-apart}
 

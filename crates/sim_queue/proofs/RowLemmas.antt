@@ -1,18 +1,15 @@
 -- Rows of different devices, of which one is changed.
-use Rattle.std.proofs.Common.{◌≡◌, ◌≢◌, ℕ, zero, suc, ◌+◌, ◌^◌, ◌<◌, ◌≤◌, ◌==◌, cond, Bool, true, List, [], ◌∷◌, length, get_or, map, inl, inr, ap, sym, subst, refl, ◌∙◌, arith}
+use Rattle.std.proofs.Common.{◌≡◌, ◌≢◌, ℕ, zero, suc, ◌+◌, ◌^◌, ◌<◌, ◌≤◌, ◌==◌, cond, Bool, true, List, [], ◌∷◌, length, get_or, map, inl, inr, ap, sym, subst, refl, ◌∙◌, arith, set, filter}
 use Rattle.std.proofs.lemmas.Bool.{eq-eqb, ne_eqb, eqb-true, cond-true, cond-false}
 use Rattle.std.proofs.lemmas.List.Elements.{All-map}
 use Rattle.std.proofs.lemmas.List.Folds.{Any-from_list_any}
 use Rattle.std.proofs.lemmas.List.FromFn.{get_or-range_with_len, length-range_with_len}
 use Rattle.std.proofs.lemmas.List.Kept.{AllPairs-from_increasing, IsStrictlyIncreasing-filter}
-use Rattle.std.proofs.Math.ListN.{set}
-use Rattle.std.specs.Prelude.{filter}
 use Rattle.std.specs.List.{All, AllPairs, range_with_len}
 use Rattle.std.specs.List.Sorted.{IsStrictlyIncreasing}
 use Rattle.camq_heap.specs.Order.{AllApart}
 use Rattle.camq_heap.proofs.OrderLemmas.{IsAmong, IsAmong-get_or, AllApart-head, AllApart-tail, AllApart-cons}
-use Rattle.sim_queue.specs.declared.row.Row.{Row}
-use Rattle.sim_queue.specs.Adapter.{new_row, is_named}
+use Rattle.sim_queue.specs.Adapter.{new_row, is_named, Row}
 use Rattle.sim_queue.specs.Turns.{AreRows}
 
 -- numbers in a range rise, and so do those of them that pass a test

@@ -1,23 +1,18 @@
 -- What a write to one row does to the order of the ready devices.
-use Rattle.std.proofs.Common.{◌≡◌, ℕ, zero, suc, ◌^◌, ◌<◌, ◌≤◌, true, false, List, [], ◌∷◌, length, get_or, drop, Some, unwrap_or, count_by, inl, inr, ap, sym, subst, refl, ◌∙◌, arith}
+use Rattle.std.proofs.Common.{◌≡◌, ℕ, zero, suc, ◌^◌, ◌<◌, ◌≤◌, true, false, List, [], ◌∷◌, length, get_or, drop, Some, unwrap_or, count_by, inl, inr, ap, sym, subst, refl, ◌∙◌, arith, set, map, filter, slice_get, remove, IsPermutation}
 use Rattle.std.proofs.lemmas.Bool.{cases_lt}
 use Rattle.std.proofs.lemmas.List.{get_or_read, get_or-set_same, length-set, length-map}
 use Rattle.std.proofs.lemmas.List.Elements.{All-set}
 use Rattle.std.proofs.lemmas.List.Sums.{count_by-le-length, length-filter}
 use Rattle.std.proofs.lemmas.List.Sorted.{length_permutation, IsPermutation-refl, IsPermutation-sym, IsPermutation-remove}
 use Rattle.std.proofs.lemmas.Option.{slice_get_within}
-use Rattle.std.proofs.Math.ListN.{set}
-use Rattle.std.specs.Prelude.{map, filter}
-use Rattle.std.specs.List.{slice_get, remove}
-use Rattle.std.specs.List.Sorted.{IsPermutation}
 use Rattle.camq_heap.specs.declared.entry.Entry.{Entry}
 use Rattle.camq_heap.specs.Order.{place, in_order, AllApart}
 use Rattle.camq_heap.specs.Queue.{Queue, key, has_generation, placed_at, change_priority}
 use Rattle.camq_heap.proofs.OrderLemmas.{IsAmong, IsAmong-get_or, IsAmong-permutation, place-after, place-before, AllApart-head, AllApart-tail, AllApart-cons, AllApart-permutation, in_order-permutation, length-in_order}
 use Rattle.camq_heap.proofs.RankLemmas.{HasAt, HasAt-from}
 use Rattle.camq_heap.proofs.EditLemmas.{IsPermutation-changed}
-use Rattle.sim_queue.specs.declared.row.Row.{Row}
-use Rattle.sim_queue.specs.Adapter.{new_row}
+use Rattle.sim_queue.specs.Adapter.{new_row, Row}
 use Rattle.sim_queue.specs.Turns.{is_ready, goes_before, generation, entry_of, ready_entries, AreRows, IsInTurn}
 use Rattle.sim_queue.proofs.EntryLemmas.{Fits, AllFit, AllFit-from, entries-ready, entries-unready, entries-apart, entries-at, absent, counted}
 

@@ -2,7 +2,7 @@
 use Rattle.std.specs.Prelude.{ℕ, ◌+◌, ◌==◌, Bool, ◌&&◌, nat_lt, if◌then◌else◌, List, [], ◌∷◌, Option, None, is_some, unwrap_or, option_map, map, filter}
 use Rattle.std.specs.List.{list_any}
 use Rattle.cam_types.specs.Lists.{least_by}
-use Rattle.sim_queue.specs.declared.row.Row.{Row}
+pub use Rattle.sim_queue.specs.declared.row.Row.{Row}
 
 -- the devices, each once, in the order in which they were named; the openings of each round; how many were used in this one; the freezes
 pub record Adapter : Type 0 where

@@ -1,12 +1,10 @@
 -- The ready devices of an adapter in the order of their turns, as entries of a `Camq`.
-use Rattle.std.specs.Prelude.{◌≡◌, ℕ, ◌+◌, ◌*◌, ◌^◌, ◌<◌, ◌≤◌, Bool, ◌&&◌, List, length, is_some, unwrap_or, map, filter}
-use Rattle.std.specs.List.{All}
+use Rattle.std.specs.Prelude.{◌≡◌, ℕ, ◌+◌, ◌*◌, ◌^◌, ◌<◌, ◌≤◌, Bool, ◌&&◌, List, length, is_some, unwrap_or, map, filter, All}
 use Rattle.cam_types.specs.Lists.{is_less}
 use Rattle.camq_heap.specs.declared.entry.Entry.{Entry}
 use Rattle.camq_heap.specs.Order.{in_order, AllApart}
 use Rattle.camq_heap.specs.Queue.{Queue, key}
-use Rattle.sim_queue.specs.declared.row.Row.{Row}
-use Rattle.sim_queue.specs.Adapter.{turn_key}
+use Rattle.sim_queue.specs.Adapter.{turn_key, Row}
 
 -- the device has something to send
 abbrev pub is_ready : Row → Bool

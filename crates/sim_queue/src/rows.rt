@@ -1,8 +1,7 @@
 //! The rows of an adapter's devices, in the order in which they were named.
 ghost use Rattle.std.specs.Prelude.{◌≡◌, ℕ, ◌^◌, ◌<◌, true, length, slice_index_or, map, IfOk};
 ghost use Rattle.std.specs.List.{All};
-ghost use Rattle.sim_queue.specs.Adapter.{new_row, is_named};
-ghost use Rattle.sim_queue.specs.declared.row.Row.{Row};
+ghost use Rattle.sim_queue.specs.Adapter.{new_row, is_named, Row};
 
 use crate::row::Row;
 use std::alloc::{AllocError, Global};

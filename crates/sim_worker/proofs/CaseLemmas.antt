@@ -1,45 +1,17 @@
 -- decisions that are refused, and commands that a lane sends
-use Rattle.std.proofs.Common.{◌≡◌, ℕ, zero, suc, ◌<◌, ◌≤◌, Bool, true, false, cond, List, [], ◌∷◌, length, refl, sym, ap, ◌∙◌, subst, arith, Option, Some, None}
-use Rattle.std.specs.Prelude.{not, nat_lt, ◌==◌, ◌&&◌, ◌||◌, nat_le, slice_get, option_and_then, is_some, MatchOption}
-use Rattle.std.specs.Option.{option_map}
+use Rattle.std.proofs.Common.{◌≡◌, ℕ, zero, suc, ◌<◌, ◌≤◌, Bool, true, false, cond, List, [], ◌∷◌, length, refl, sym, ap, ◌∙◌, subst, arith, Option, Some, None, not, nat_lt, ◌==◌, ◌&&◌, ◌||◌, nat_le, slice_get, option_and_then, is_some, MatchOption, option_map, lt-ltb}
 use Rattle.std.specs.List.{list_any}
-use Rattle.std.proofs.lemmas.Bool.{lt-ltb}
-use Rattle.cam_types.specs.Topology.{Topology}
-use Rattle.cam_types.specs.Questions.{lane_adapter, names_lane}
-use Rattle.cam_types.specs.declared.outcome.Outcome.{Outcome}
-use Rattle.sense_class.specs.Classes.{status_of, is_one_of, sense_kind, scsi_kind, kind_of, class_of, classify, asks_requeue, asks_finish}
-use Rattle.sense_class.specs.Sense.{read_sense}
-use Rattle.sense_class.specs.declared.sense.Sense.{Sense}
-use Rattle.sense_class.specs.declared.class.Kind.{Kind}
+use Rattle.sim_worker.specs.Words.{Topology, lane_adapter, names_lane, Outcome, status_of, is_one_of, sense_kind, scsi_kind, kind_of, class_of, classify, asks_requeue, asks_finish, read_sense, Sense, Kind, CountedRequeue, Fail, is_some_and, is_done_of, concerns, outcome_of, is_erring, ccbs, last_result, counted_requeues, retries_of, is_recovering, is_in_flight, head, next, Event, Send, Done, Requeue, Finish, Rules, is_legal, last_class, first_cause, refusal, Refusal, cases, is_for_room, Transport, refused, lane_refused, idle, next_case, case_of, has_head, Idle, Case}
 use Rattle.sense_class.specs.declared.class.Kind.TheVariants as kinds
 use Rattle.sense_class.specs.declared.class.Why.TheVariants as whys
 use Rattle.sense_class.specs.declared.class.Class as class
-use Rattle.sense_class.specs.declared.class.Class.TheVariants.{CountedRequeue, Fail}
-use Rattle.event_rules.specs.Event.{is_some_and, is_done_of, concerns, outcome_of, is_erring}
-use Rattle.event_rules.specs.Counts.{ccbs, last_result, counted_requeues, retries_of, is_recovering, is_in_flight}
-use Rattle.event_rules.specs.Head.{head, next}
-use Rattle.event_rules.specs.declared.event.Event.{Event}
-use Rattle.event_rules.specs.declared.event.Event.TheVariants.{Send, Done, Requeue, Finish}
 use Rattle.event_rules.proofs.CcbLaws.{event-induction, last_result-push}
 use Rattle.event_rules.proofs.StateLaws.{is_recovering-push}
-use Rattle.event_rules.specs.Legal.{Rules, is_legal}
-use Rattle.event_rules.specs.Laws.{last_class}
-use Rattle.event_rules.specs.Refusals.{first_cause, refusal}
-use Rattle.event_rules.specs.declared.refusal.Refusal.{Refusal}
 use Rattle.event_rules.specs.declared.refusal.Refusal.TheVariants as refusals
 use Rattle.event_rules.proofs.LegalLemmas.{legal-none}
 use Rattle.event_rules.proofs.StandLemmas.{asks-send, states-legal}
 use Rattle.event_rules.proofs.FirstLemmas.{first-legal, stands}
-use Rattle.xpt_core.specs.Cases.{cases}
-use Rattle.xpt_core.specs.Laws.{is_for_room}
 use Rattle.xpt_core.proofs.LawLemmas.{first_case_recovers, asked_decisions_are_taken}
-use Rattle.xpt_core.specs.Transport.{Transport}
-use Rattle.xpt_core.specs.Takes.{refused}
-use Rattle.xpt_state.specs.Calls.{lane_refused}
-use Rattle.xpt_state.specs.Idle.{idle}
-use Rattle.xpt_state.specs.Looks.{next_case, case_of, has_head}
-use Rattle.xpt_state.specs.declared.idle.Idle.{Idle}
-use Rattle.xpt_state.specs.declared.look.Case.{Case}
 use Rattle.xpt_state.proofs.IdleLemmas.{idle_is_no_next, is_some-next_head}
 use Rattle.cam_types.proofs.LaneLemmas.{lane_named}
 use Rattle.event_rules.proofs.QueueLaws.{test_le}

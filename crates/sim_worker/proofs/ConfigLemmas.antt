@@ -1,14 +1,10 @@
 -- equal configurations
-use Rattle.std.proofs.Common.{◌≡◌, ℕ, true, List, refl, ap}
-use Rattle.std.specs.Prelude.{◌==◌, ◌&&◌, nat_eq, Option, Some, None}
+use Rattle.std.proofs.Common.{◌≡◌, ℕ, true, List, refl, ap, ◌==◌, ◌&&◌, nat_eq, Option, Some, None}
 use Rattle.std.specs.Option.{option_eq}
 use lib.Dec.{eqb}
 use Rattle.std.proofs.lemmas.Bool.{and_parts, eqb-true}
 use lib.Pointwise.{pointwise}
-use Rattle.cam_types.specs.Topology.{Topology}
-use Rattle.cam_types.specs.declared.adapter.Adapter.{Adapter}
-use Rattle.cam_types.specs.declared.device.Device.{Device}
-use Rattle.cam_types.specs.declared.weight_row.WeightRow.{WeightRow}
+use Rattle.sim_worker.specs.Words.{Topology, Adapter, Device, WeightRow}
 use Rattle.cam_types.specs.contracts.adapter.AdapterPartialEq.TheImpl as adapters
 use Rattle.cam_types.specs.contracts.device.DevicePartialEq.TheImpl as devices
 use Rattle.cam_types.specs.contracts.weight_row.WeightRowPartialEq.TheImpl as rows

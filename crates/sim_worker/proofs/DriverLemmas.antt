@@ -1,24 +1,17 @@
 -- how far the drivers are, after one event more or one row more
-use Rattle.std.proofs.Common.{◌≡◌, ◌≢◌, ℕ, ◌+◌, ◌<◌, ◌≤◌, Bool, true, false, List, [], ◌∷◌, ◌++◌, set, refl, sym, ap, ◌∙◌, subst, arith, Some, inl, inr, append-nil}
-use Rattle.std.specs.Prelude.{◌==◌, ◌&&◌, filter, take, slice_get, option_to_list}
+use Rattle.std.proofs.Common.{◌≡◌, ◌≢◌, ℕ, ◌+◌, ◌<◌, ◌≤◌, Bool, true, false, List, [], ◌∷◌, ◌++◌, set, refl, sym, ap, ◌∙◌, subst, arith, Some, inl, inr, append-nil, ◌==◌, ◌&&◌, filter, take, slice_get, option_to_list}
 use Rattle.std.specs.List.{list_all}
 use Rattle.std.proofs.lemmas.Bool.{and_from, ne_eqb, eqb-true}
 use Rattle.std.proofs.lemmas.List.Elements.{filter-append}
 use Rattle.std.proofs.lemmas.List.Folds.{list_all-append}
-use Rattle.event_rules.specs.Counts.{round}
-use Rattle.event_rules.specs.declared.event.Event.{Event}
-use Rattle.event_rules.specs.declared.event.Event.TheVariants.{Submit, Send, Done, Requeue, Finish, FreezeDev, ReleaseDev, FreezeSim, ReleaseSim, Adjust, Tick}
+use Rattle.sim_worker.specs.Words.{round, Event, Submit, Topology, Scenario, is_ruled, Step}
 use Rattle.event_rules.proofs.ListFacts.{filter_map-push}
 use Rattle.event_rules.proofs.QueueLaws.{le_test, test_le}
 use Rattle.event_rules.proofs.TurnLaws.{round-more}
-use Rattle.cam_types.specs.Topology.{Topology}
 use Rattle.event_rules.proofs.TestLemmas.{list_all-weaker}
-use Rattle.trace_file.specs.Scenarios.{Scenario, is_ruled}
-use Rattle.trace_file.specs.declared.step.Step.{Step}
 use Rattle.trace_file.specs.declared.step.Step.TheVariants as step
 use Rattle.sim_worker.specs.Runs.{is_submit_by, submits, submit_asked, submits_asked, is_over}
-use Rattle.sim_worker.specs.Work.{HasDone, AreDriversAt, steps_of}
-use Rattle.sim_worker.specs.declared.work.Driver.{Driver}
+use Rattle.sim_worker.specs.Work.{HasDone, AreDriversAt, steps_of, Driver}
 use Rattle.sim_worker.proofs.RunListFacts.{get_in_set, take_one}
 
 -- a pause that is over stays so
@@ -54,16 +47,7 @@ first_of_four false b c d h = absurd (cc)
 -- what a driver may ask for is a submit of its own or no submit
 asked : (c : Topology) (d : ℕ) (e : Event) → is_ruled c d (step.Act e) ≡ true → filter (is_submit_by d) (e ∷ []) ≡ option_to_list (submit_asked (step.Act e))
 asked c d (Submit by device priority retries flags) ruled = rw (first_of_four (by == d) _ _ _ ruled) refl
-asked c d (Send lane ccb) ruled = refl
-asked c d (Done ccb outcome) ruled = refl
-asked c d (Requeue ccb) ruled = refl
-asked c d (Finish ccb) ruled = refl
-asked c d (FreezeDev device count) ruled = refl
-asked c d (ReleaseDev device count) ruled = refl
-asked c d (FreezeSim sim count) ruled = refl
-asked c d (ReleaseSim sim) ruled = refl
-asked c d (Adjust device openings) ruled = refl
-asked c d Tick ruled = refl
+asked c d _ ruled = refl
 
 -- a call of the driver's next row is one row more that it has done
 pub has_done-call : (c : Topology) (steps : List Step) (d : ℕ) (es : List Event) (e : Event) (n : ℕ) → is_ruled c d (step.Act e) ≡ true → slice_get steps n ≡ Some (step.Act e) → HasDone steps d es n → HasDone steps d (es ++ e ∷ []) (n + 1)

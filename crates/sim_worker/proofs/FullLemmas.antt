@@ -1,17 +1,9 @@
 -- refusals where the history is full, and where it isn't
-use Rattle.std.proofs.Common.{◌≡◌, ◌≤◌, Bool, true, false, List, [], ◌∷◌, length, refl, sym, ap, ◌∙◌, Option, Some}
-use Rattle.std.specs.Prelude.{not, nat_le, nat_lt, is_none}
+use Rattle.std.proofs.Common.{◌≡◌, ◌≤◌, Bool, true, false, List, [], ◌∷◌, length, refl, sym, ap, ◌∙◌, Option, Some, not, nat_le, nat_lt, is_none}
 use Rattle.std.specs.List.{list_all}
 use Rattle.std.proofs.lemmas.Bool.{and_parts, and_from, ltb-false}
-use Rattle.cam_types.specs.Topology.{Topology}
-use Rattle.event_rules.specs.Counts.{has_in_flight, round}
+use Rattle.sim_worker.specs.Words.{Topology, has_in_flight, round, Event, Submit, Tick, Rules, is_legal_event, is_allowed, causes, first_cause, refusal, Refusal, HistoryFull, RoundsFull, InFlight}
 use Rattle.event_rules.proofs.QueueLaws.{test_le}
-use Rattle.event_rules.specs.declared.event.Event.{Event}
-use Rattle.event_rules.specs.declared.event.Event.TheVariants.{Submit, Send, Done, Requeue, Finish, FreezeDev, ReleaseDev, FreezeSim, ReleaseSim, Adjust, Tick}
-use Rattle.event_rules.specs.Legal.{Rules, is_legal_event, is_allowed}
-use Rattle.event_rules.specs.Refusals.{causes, first_cause, refusal}
-use Rattle.event_rules.specs.declared.refusal.Refusal.{Refusal}
-use Rattle.event_rules.specs.declared.refusal.Refusal.TheVariants.{HistoryFull, RoundsFull, InFlight}
 use Rattle.sim_worker.specs.Work.{is_full}
 use Rattle.event_rules.proofs.LegalLemmas.{legal-unrefused}
 
@@ -38,16 +30,7 @@ not_full ((holds, why) ∷ ms) h =
 
 own_causes : (rules : Rules) (c : Topology) (es : List Event) (e : Event) → list_all (λ m. not (is_full m.1)) (causes rules c es e) ≡ true
 own_causes rules c es (Submit driver device priority retries flags) = refl
-own_causes rules c es (Send lane ccb) = refl
-own_causes rules c es (Done ccb outcome) = refl
-own_causes rules c es (Requeue ccb) = refl
-own_causes rules c es (Finish ccb) = refl
-own_causes rules c es (FreezeDev device count) = refl
-own_causes rules c es (ReleaseDev device count) = refl
-own_causes rules c es (FreezeSim sim count) = refl
-own_causes rules c es (ReleaseSim sim) = refl
-own_causes rules c es (Adjust device openings) = refl
-own_causes rules c es Tick = refl
+own_causes rules c es _ = refl
 
 -- HistoryFull is answered where the events are as many as may be
 pub full_at_limit : (rules : Rules) (c : Topology) (es : List Event) (e : Event) → says_full (refusal rules c es e) ≡ true → rules.events ≤ length es

@@ -1,28 +1,15 @@
 -- where no one is able to act
-use Rattle.std.proofs.Common.{◌≡◌, ℕ, zero, suc, ◌+◌, ◌-◌, ◌<◌, ◌≤◌, Bool, true, false, List, [], ◌∷◌, ◌++◌, length, get_or, refl, sym, ap, ◌∙◌, arith, Option, Some, None}
-use Rattle.std.specs.Prelude.{not, ◌||◌, nat_le, nat_lt, slice_get, is_some, take, drop}
+use Rattle.std.proofs.Common.{◌≡◌, ℕ, zero, suc, ◌+◌, ◌-◌, ◌<◌, ◌≤◌, Bool, true, false, List, [], ◌∷◌, ◌++◌, length, get_or, refl, sym, ap, ◌∙◌, arith, Option, Some, None, not, ◌||◌, nat_le, nat_lt, slice_get, is_some, take, drop}
 use Rattle.std.specs.Option.{option_map, option_map_or}
 use Rattle.std.specs.List.{list_any, list_all}
 use Rattle.std.proofs.lemmas.Bool.{and_parts, and_from, lt-ltb, ltb-true, ltb-false}
 use Rattle.std.proofs.lemmas.List.Elements.{filter_map-append}
-use Rattle.cam_types.specs.Topology.{Topology}
-use Rattle.sense_class.specs.Classes.{asks_requeue}
-use Rattle.event_rules.specs.Event.{is_some_and}
-use Rattle.event_rules.specs.Counts.{round, ccbs, has_in_flight, is_in_flight}
-use Rattle.event_rules.specs.Head.{head}
-use Rattle.event_rules.specs.Stays.{stays_begun}
-use Rattle.event_rules.specs.declared.event.Event.TheVariants.{Requeue}
-use Rattle.event_rules.specs.Legal.{Rules}
-use Rattle.trace_file.specs.declared.step.Step.{Step}
-use Rattle.xpt_core.specs.Takes.{refused}
-use Rattle.xpt_state.specs.Looks.{next_case, has_head}
+use Rattle.sim_worker.specs.Words.{Topology, asks_requeue, is_some_and, round, ccbs, has_in_flight, is_in_flight, head, stays_begun, Requeue, Rules, Step, refused, next_case, has_head}
 use Rattle.sim_worker.specs.Endings.{IsDrained}
 use Rattle.sim_worker.specs.Runs.{submits, submit_asked, submits_asked, is_over, are_lanes_idle, is_stuck, may_recovery_rest, may_tick, IsPrefix}
-use Rattle.sim_worker.specs.Work.{Work, IsWork, IsAtEnd, actor_at, is_able, steps_of}
+use Rattle.sim_worker.specs.Work.{Work, IsWork, IsAtEnd, actor_at, is_able, steps_of, Hand, Lane}
 use Rattle.sim_worker.specs.Held.{is_for_stays, is_held_up}
 use Rattle.sim_worker.specs.declared.actor.Actor.TheVariants as actors
-use Rattle.sim_worker.specs.declared.work.Hand.{Hand}
-use Rattle.sim_worker.specs.declared.work.Lane.{Lane}
 use Rattle.sim_worker.proofs.CaseLemmas.{none_recovers}
 use Rattle.sim_worker.proofs.FullLemmas.{false_true}
 use Rattle.sim_worker.proofs.ListFacts.{any_some, none_any, take_and_drop}

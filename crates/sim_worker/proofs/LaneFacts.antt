@@ -1,28 +1,15 @@
 -- what lanes have in hand and what they served, after one event more
-use Rattle.std.proofs.Common.{◌≡◌, ◌≢◌, ℕ, Bool, true, false, cond, List, [], ◌∷◌, ◌++◌, length, set, refl, sym, ap, ◌∙◌, subst, Option, Some, None, inl, inr, append-nil}
-use Rattle.std.specs.Prelude.{◌==◌, ◌||◌, slice_get, option_to_list, option_and_then, IfSome}
-use Rattle.std.specs.Option.{option_map}
-use Rattle.std.specs.List.{filter_map}
-use Rattle.std.proofs.lemmas.Bool.{eq-eqb, ne_eqb, eqb-true}
+use Rattle.std.proofs.Common.{◌≡◌, ◌≢◌, ℕ, Bool, true, false, cond, List, [], ◌∷◌, ◌++◌, length, set, refl, sym, ap, ◌∙◌, subst, Option, Some, None, inl, inr, append-nil, ◌==◌, ◌||◌, slice_get, option_to_list, option_and_then, IfSome, option_map, filter_map, eq-eqb, ne_eqb, eqb-true}
 use Rattle.cam_types.proofs.ListLemmas.{moments-push}
-use Rattle.cam_types.specs.Lists.{moments}
-use Rattle.cam_types.specs.declared.outcome.Outcome.{Outcome}
-use Rattle.event_rules.specs.Event.{is_some_and, is_send_of, is_done_of, is_send_or_done_of}
-use Rattle.event_rules.specs.Counts.{last, is_in_flight}
-use Rattle.event_rules.specs.declared.event.Event.{Event}
-use Rattle.event_rules.specs.declared.event.Event.TheVariants.{Send, Done}
+use Rattle.sim_worker.specs.Words.{moments, Outcome, is_some_and, is_send_of, is_done_of, is_send_or_done_of, last, is_in_flight, Event, Send, Done, Scenario, is_answer}
 use Rattle.event_rules.proofs.ListFacts.{filter_map-push}
 use Rattle.event_rules.proofs.StateLaws.{last-push, is_in_flight-push}
 use Rattle.std.proofs.lemmas.List.{map-append}
-use Rattle.trace_file.specs.Scenarios.{Scenario, is_answer}
-use Rattle.sim_worker.specs.declared.served.Served.{Served}
+use Rattle.sim_worker.specs.Ports.{PortState, answer_at, first_answers, outcomes, Served}
 use Rattle.event_rules.proofs.ShareLaws.{same_number, flies-send}
-use Rattle.sim_worker.specs.Ports.{PortState, answer_at, first_answers, outcomes}
 use Rattle.sim_worker.proofs.PortLemmas.{given-push}
 use Rattle.sim_worker.specs.Runs.{lane_of, sender, outcome_by, outcomes_by}
-use Rattle.sim_worker.specs.Work.{HasServed, AreLanesAt, IsInHand, AreInHand, outcome_in_hand}
-use Rattle.sim_worker.specs.declared.work.Hand.{Hand}
-use Rattle.sim_worker.specs.declared.work.Lane.{Lane}
+use Rattle.sim_worker.specs.Work.{HasServed, AreLanesAt, IsInHand, AreInHand, outcome_in_hand, Hand, Lane}
 use Rattle.sim_worker.proofs.ListFacts.{set_at}
 use Rattle.sim_worker.proofs.RunListFacts.{get_in_set, set_beside}
 

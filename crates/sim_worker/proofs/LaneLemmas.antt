@@ -1,15 +1,12 @@
 -- what a lane's log says, a send and a completion at a time
-use Rattle.std.proofs.Common.{◌≡◌, ℕ, ◌+◌, ◌*◌, ◌≤◌, true, false, List, [], ◌∷◌, ◌++◌, length, map, refl, sym, ap, ◌∙◌, subst, arith, Some, append-nil, append_assoc}
-use Rattle.std.specs.Prelude.{take, slice_get, option_to_list}
-use Rattle.std.specs.List.{filter_map, flat_map}
+use Rattle.std.proofs.Common.{◌≡◌, ℕ, ◌+◌, ◌*◌, ◌≤◌, true, false, List, [], ◌∷◌, ◌++◌, length, map, refl, sym, ap, ◌∙◌, subst, arith, Some, append-nil, append_assoc, take, slice_get, option_to_list, filter_map, flat_map}
 use Rattle.std.proofs.lemmas.List.{map-append}
 use Rattle.std.proofs.lemmas.List.Concat.{flat_map-append}
-use Rattle.event_rules.specs.declared.event.Event.TheVariants.{Send, Done}
+use Rattle.sim_worker.specs.Words.{Send, Done, Receipt}
 use Rattle.event_rules.proofs.ListFacts.{filter_map-push}
-use Rattle.xpt_lock.specs.declared.receipt.Receipt.{Receipt}
 use Rattle.sim_worker.specs.Logs.{IsLaneLog, calls_for, command_of, events_of}
 use Rattle.sim_worker.specs.Walks.{ArePairs, IsDone, IsSent}
-use Rattle.sim_worker.specs.declared.served.Served.{Served}
+use Rattle.sim_worker.specs.Ports.{Served}
 use Rattle.sim_worker.proofs.RunListFacts.{take_one, take_whole}
 
 events_push : (log : List Receipt) (r : Receipt) → events_of (log ++ r ∷ []) ≡ events_of log ++ r.event ∷ []

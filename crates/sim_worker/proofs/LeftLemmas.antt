@@ -1,14 +1,8 @@
 -- how much there may be to come: less after each turn
-use Rattle.std.proofs.Common.{◌≡◌, ℕ, zero, suc, ◌+◌, ◌<◌, ◌≤◌, Bool, true, false, List, [], ◌∷◌, length, set, sym, ap, ◌∙◌, subst, arith, Some, length-append}
-use Rattle.std.specs.Prelude.{slice_get}
+use Rattle.std.proofs.Common.{◌≡◌, ℕ, zero, suc, ◌+◌, ◌<◌, ◌≤◌, Bool, true, false, List, [], ◌∷◌, length, set, sym, ap, ◌∙◌, subst, arith, Some, length-append, slice_get}
 use Rattle.std.proofs.lemmas.List.Sums.{sum_by-cons}
-use Rattle.event_rules.specs.declared.event.Event.{Event}
-use Rattle.trace_file.specs.Scenarios.{Scenario}
-use Rattle.xpt_core.specs.Transport.{Transport}
-use Rattle.xpt_core.specs.Takes.{IsTaken}
-use Rattle.sim_worker.specs.declared.work.Lane.{Lane}
-use Rattle.sim_worker.specs.Work.{Work, fresh, fresh_drivers, left}
-use Rattle.sim_worker.specs.declared.work.Driver.{Driver}
+use Rattle.sim_worker.specs.Words.{Event, Scenario, Transport, IsTaken}
+use Rattle.sim_worker.specs.Work.{Work, fresh, fresh_drivers, left, Lane, Driver}
 
 fresh_most : (b : Bool) → fresh b ≤ 1
 fresh_most true = omega arith

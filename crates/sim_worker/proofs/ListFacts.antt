@@ -1,6 +1,5 @@
 -- facts on lists that std lacks
-use Rattle.std.proofs.Common.{◌≡◌, ℕ, zero, suc, ◌<◌, Bool, true, false, List, [], ◌∷◌, ◌++◌, length, set, get_or, map, refl, sym, ap, ◌∙◌, arith, Some}
-use Rattle.std.specs.Prelude.{◌||◌, take, drop, slice_get}
+use Rattle.std.proofs.Common.{◌≡◌, ℕ, zero, suc, ◌<◌, Bool, true, false, List, [], ◌∷◌, ◌++◌, length, set, get_or, map, refl, sym, ap, ◌∙◌, arith, Some, ◌||◌, take, drop, slice_get}
 use Rattle.std.specs.List.{list_any}
 use Rattle.sim_worker.proofs.RunListFacts.{some_is}
 

@@ -1,13 +1,10 @@
 -- the names of actors, one more at a time
-use Rattle.std.proofs.Common.{◌≡◌, ℕ, ◌+◌, Bool, true, false, cond, List, [], ◌∷◌, ◌++◌, map, refl, sym, ap, ◌∙◌, append-nil, append_assoc, arith}
-use Rattle.std.specs.Prelude.{filter}
+use Rattle.std.proofs.Common.{◌≡◌, ℕ, ◌+◌, Bool, true, false, cond, List, [], ◌∷◌, ◌++◌, map, refl, sym, ap, ◌∙◌, append-nil, append_assoc, arith, filter}
 use Rattle.std.specs.List.{range_with_len}
 use Rattle.std.proofs.lemmas.List.{map-append}
 use Rattle.std.proofs.lemmas.List.Elements.{filter-append}
 use Rattle.event_rules.proofs.ListFacts.{range_with_len-push}
-use Rattle.trace_file.specs.Scenarios.{Scenario}
-use Rattle.xpt_lock.specs.declared.seat.SeatName.{SeatName}
-use Rattle.xpt_lock.specs.declared.seat.SeatName.TheVariants.{Driver, Lane}
+use Rattle.sim_worker.specs.Words.{Scenario, SeatName, Driver, Lane}
 use Rattle.sim_worker.specs.LiveRuns.{drivers, is_some_row, lanes, rows}
 
 ranges : (n : ℕ) → range_with_len 0 (n + 1) ≡ range_with_len 0 n ++ n ∷ []

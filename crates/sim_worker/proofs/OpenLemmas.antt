@@ -1,16 +1,9 @@
 -- a run on one thread before its first turn
-use Rattle.std.proofs.Common.{◌≡◌, ℕ, zero, suc, ◌≤◌, true, false, List, [], ◌∷◌, ◌++◌, length, get_or, replicate, inl, inr, refl, sym, ap, ◌∙◌, subst, arith, Some, None}
-use Rattle.std.specs.Prelude.{slice_get}
-use Rattle.event_rules.specs.Counts.{is_in_flight}
-use Rattle.cam_types.specs.Topology.{Topology}
-use Rattle.event_rules.specs.Legal.{Rules, rules_of, is_legal}
-use Rattle.trace_file.specs.Scenarios.{Scenario, IsScenario}
-use Rattle.xpt_core.specs.Transport.{Transport}
+use Rattle.std.proofs.Common.{◌≡◌, ℕ, zero, suc, ◌≤◌, true, false, List, [], ◌∷◌, ◌++◌, length, get_or, replicate, inl, inr, refl, sym, ap, ◌∙◌, subst, arith, Some, None, slice_get}
+use Rattle.sim_worker.specs.Words.{is_in_flight, Topology, Rules, rules_of, is_legal, Scenario, IsScenario, Transport}
 use Rattle.sim_worker.specs.Ports.{first_answers, outcomes}
 use Rattle.sim_worker.specs.Runs.{outcomes_by}
-use Rattle.sim_worker.specs.Work.{IsWork, AreFresh, HasDone, steps_of}
-use Rattle.sim_worker.specs.declared.work.Driver.{Driver}
-use Rattle.sim_worker.specs.declared.work.Lane.{Lane}
+use Rattle.sim_worker.specs.Work.{IsWork, AreFresh, HasDone, steps_of, Driver, Lane}
 use Rattle.sim_worker.proofs.FullLemmas.{false_true}
 use Rattle.sim_worker.proofs.RunListFacts.{get_pushed, some_is}
 

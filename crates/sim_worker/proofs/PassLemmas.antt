@@ -1,30 +1,16 @@
 -- the drivers of a run after one event more
-use Rattle.std.proofs.Common.{◌≡◌, ℕ, zero, suc, ◌+◌, ◌<◌, ◌≤◌, true, false, List, [], ◌∷◌, ◌++◌, length, set, get_or, replicate, refl, sym, ap, ◌∙◌, subst, arith, Some, inl, inr}
-use Rattle.std.specs.Prelude.{take, slice_get, All}
+use Rattle.std.proofs.Common.{◌≡◌, ℕ, zero, suc, ◌+◌, ◌<◌, ◌≤◌, true, false, List, [], ◌∷◌, ◌++◌, length, set, get_or, replicate, refl, sym, ap, ◌∙◌, subst, arith, Some, inl, inr, take, slice_get, All}
 use Rattle.std.proofs.lemmas.List.Elements.{All-head, All-tail}
 use Rattle.std.specs.List.{list_all}
 use Rattle.std.proofs.lemmas.Bool.{and_from}
 use Rattle.std.proofs.lemmas.List.Folds.{list_all-append}
 use Rattle.cam_types.proofs.ListLemmas.{moments-push}
-use Rattle.cam_types.specs.Bounds.{Bounds}
-use Rattle.cam_types.specs.Lists.{moments}
-use Rattle.cam_types.specs.Topology.{Topology}
-use Rattle.event_rules.specs.Event.{is_tick}
-use Rattle.event_rules.specs.declared.event.Event.{Event}
-use Rattle.event_rules.specs.declared.event.Event.TheVariants.{Tick}
-use Rattle.trace_file.specs.Scenarios.{Scenario}
-use Rattle.xpt_core.specs.Transport.{Transport}
-use Rattle.xpt_lock.specs.Receipts.{AreInterleaved, is_rising}
-use Rattle.xpt_lock.specs.Seats.{Held}
-use Rattle.xpt_lock.specs.declared.receipt.Receipt.{Receipt}
-use Rattle.xpt_lock.specs.declared.seat.SeatName.TheVariants.{Driver}
-use Rattle.xpt_core.specs.Takes.{IsTaken}
+use Rattle.sim_worker.specs.Words.{Bounds, moments, Topology, is_tick, Event, Tick, Scenario, Transport, AreInterleaved, is_rising, Held, Receipt, Driver, IsTaken}
 use Rattle.sim_worker.specs.LiveRuns.{IsLiveEnding, rows}
-use Rattle.sim_worker.specs.declared.ending.Ending.{Ending}
+use Rattle.sim_worker.specs.Endings.{Ending}
 use Rattle.sim_worker.proofs.WalkLemmas.{on_start}
 use Rattle.sim_worker.specs.Runs.{is_in_time, are_ticks_in_time, may_tick}
-use Rattle.sim_worker.specs.Walks.{AreOn, AreRising, IsFollowed, IsOf, IsOn}
-use Rattle.sim_worker.specs.declared.walk.Walk.{Walk}
+use Rattle.sim_worker.specs.Walks.{AreOn, AreRising, IsFollowed, IsOf, IsOn, Walk}
 use Rattle.sim_worker.proofs.RunListFacts.{some_is, take_one, get_is, less_or_not, get_in_set, get_there, set_beside, there_is}
 
 -- one driver more is after the event

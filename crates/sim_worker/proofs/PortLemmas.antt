@@ -2,11 +2,9 @@
 use Rattle.std.proofs.Common.{◌≡◌, ℕ, ◌+◌, true, List, [], ◌∷◌, ◌++◌, length, map, refl, sym, ap, ◌∙◌, length-append, zero-add}
 use Rattle.std.proofs.lemmas.List.{map-append}
 use Rattle.std.specs.List.{AllByRecursion, range_with_len}
-use Rattle.cam_types.specs.declared.outcome.Outcome.{Outcome}
+use Rattle.sim_worker.specs.Words.{Outcome, is_answer}
 use Rattle.event_rules.proofs.ListFacts.{range_with_len-push}
-use Rattle.trace_file.specs.Scenarios.{is_answer}
-use Rattle.sim_worker.specs.Ports.{answer_at, first_answers, outcomes, IsPort}
-use Rattle.sim_worker.specs.declared.served.Served.{Served}
+use Rattle.sim_worker.specs.Ports.{answer_at, first_answers, outcomes, IsPort, Served}
 
 pub first_answers-push : (answers : List Outcome) (n : ℕ) → first_answers answers (n + 1) ≡ first_answers answers n ++ answer_at answers n ∷ []
 first_answers-push answers n = ap (map (answer_at answers)) (range_with_len-push 0 n) ∙ map-append (answer_at answers) (range_with_len 0 n) ((0 + n) ∷ []) ∙ ap (λ k. first_answers answers n ++ answer_at answers k ∷ []) (zero-add n)

@@ -1,25 +1,11 @@
 -- what a transport's looks say of its events
-use Rattle.std.proofs.Common.{◌≡◌, ℕ, ◌+◌, Bool, true, false, cond, List, [], ◌∷◌, length, refl, sym, ap, ◌∙◌, arith, Option, Some, None}
-use Rattle.std.specs.Prelude.{not, ◌||◌, nat_le, count_by}
+use Rattle.std.proofs.Common.{◌≡◌, ℕ, ◌+◌, Bool, true, false, cond, List, [], ◌∷◌, length, refl, sym, ap, ◌∙◌, arith, Option, Some, None, not, ◌||◌, nat_le, count_by}
 use Rattle.std.specs.List.{list_any}
 use Rattle.std.specs.Option.{option_map_or}
 use Rattle.std.proofs.lemmas.Bool.{and_from, and_parts}
 use Rattle.std.proofs.lemmas.List.Sums.{sum_by-cons}
-use Rattle.cam_types.specs.Topology.{Topology}
-use Rattle.sense_class.specs.Classes.{asks_requeue}
-use Rattle.event_rules.specs.Counts.{ccbs, is_in_flight, has_in_flight, is_recovering}
-use Rattle.event_rules.specs.Stays.{stays_begun, waiting}
-use Rattle.event_rules.specs.declared.event.Event.{Event}
-use Rattle.event_rules.specs.declared.event.Event.TheVariants.{Requeue}
-use Rattle.event_rules.specs.Legal.{Rules}
-use Rattle.event_rules.specs.Refusals.{first_cause, refusal, are_stays_full}
+use Rattle.sim_worker.specs.Words.{Topology, asks_requeue, ccbs, is_in_flight, has_in_flight, is_recovering, stays_begun, waiting, Event, Requeue, Rules, first_cause, refusal, are_stays_full, Scenario, Transport, refused, look, next_case, Case, Look}
 use Rattle.event_rules.specs.declared.refusal.Refusal.TheVariants as refusals
-use Rattle.trace_file.specs.Scenarios.{Scenario}
-use Rattle.xpt_core.specs.Transport.{Transport}
-use Rattle.xpt_core.specs.Takes.{refused}
-use Rattle.xpt_state.specs.Looks.{look, next_case}
-use Rattle.xpt_state.specs.declared.look.Case.{Case}
-use Rattle.xpt_state.specs.declared.look.Look.{Look}
 use Rattle.sim_worker.specs.Endings.{IsQuiet}
 use Rattle.sim_worker.specs.Held.{is_for_stays, is_held_up}
 use Rattle.sim_worker.specs.Runs.{is_stuck, may_recovery_rest, may_tick}

@@ -3,17 +3,12 @@ use Rattle.std.proofs.Common.{◌≡◌, ℕ, ◌+◌, true, List, [], ◌∷◌
 use Rattle.std.specs.List.{range_with_len}
 use Rattle.std.proofs.lemmas.List.{length-map}
 use Rattle.std.proofs.lemmas.List.FromFn.{length-range_with_len}
-use Rattle.cam_types.specs.declared.outcome.Outcome.{Outcome}
-use Rattle.event_rules.specs.Legal.{Rules, is_legal}
-use Rattle.event_rules.specs.Past.{Past}
-use Rattle.cam_types.specs.Topology.{Topology}
-use Rattle.sim_worker.specs.Endings.{IsEnding}
+use Rattle.sim_worker.specs.Words.{Outcome, Rules, is_legal, Past, Topology}
+use Rattle.sim_worker.specs.Endings.{IsEnding, Ending}
 use Rattle.sim_worker.specs.Ports.{answer_at, first_answers}
 use Rattle.sim_worker.specs.Runs.{outcomes_by}
 use Rattle.sim_worker.specs.SimRuns.{IsSimRun}
-use Rattle.sim_worker.specs.Work.{Work, IsWork, outcome_in_hand}
-use Rattle.sim_worker.specs.declared.ending.Ending.{Ending}
-use Rattle.sim_worker.specs.declared.work.Hand.{Hand}
+use Rattle.sim_worker.specs.Work.{Work, IsWork, outcome_in_hand, Hand}
 use Rattle.sim_worker.proofs.KeepLemmas.{prefixes}
 use Rattle.sim_worker.proofs.ListFacts.{heads, tails}
 use Rattle.sim_worker.proofs.RunListFacts.{get_there}

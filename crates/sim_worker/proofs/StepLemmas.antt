@@ -1,29 +1,13 @@
 -- a run on one thread after one event more
-use Rattle.std.proofs.Common.{◌≡◌, ℕ, ◌+◌, Bool, true, false, List, [], ◌∷◌, ◌++◌, length, set, map, refl, sym, ap, ◌∙◌, subst, arith, Some, None, zero, suc, inl, inr}
-use Rattle.std.specs.Prelude.{slice_get, ◌==◌, IfSome}
-use Rattle.std.specs.Option.{option_map}
+use Rattle.std.proofs.Common.{◌≡◌, ℕ, ◌+◌, Bool, true, false, List, [], ◌∷◌, ◌++◌, length, set, map, refl, sym, ap, ◌∙◌, subst, arith, Some, None, zero, suc, inl, inr, slice_get, ◌==◌, IfSome, option_map, eqb-true, eq-eqb, length-set}
 use Rattle.std.specs.List.{AllByRecursion}
-use Rattle.std.proofs.lemmas.Bool.{eqb-true, eq-eqb}
-use Rattle.std.proofs.lemmas.List.{length-set}
-use Rattle.cam_types.specs.Bounds.{Bounds}
-use Rattle.cam_types.specs.Topology.{Topology}
-use Rattle.event_rules.specs.Counts.{is_in_flight}
-use Rattle.event_rules.specs.declared.event.Event.{Event}
-use Rattle.event_rules.specs.declared.event.Event.TheVariants.{Send, Done, Tick}
-use Rattle.trace_file.specs.Scenarios.{Scenario, is_ruled, is_answer}
+use Rattle.sim_worker.specs.Words.{Bounds, Topology, is_in_flight, Event, Send, Done, Tick, Scenario, is_ruled, is_answer, Transport, is_legal, IsTaken}
 use Rattle.trace_file.specs.declared.step.Step.TheVariants as step
-use Rattle.xpt_core.specs.Transport.{Transport}
-use Rattle.event_rules.specs.Legal.{is_legal}
 use Rattle.event_rules.proofs.LawLemmas.{legal-push}
 use Rattle.event_rules.proofs.LegalLemmas.{legal-none}
-use Rattle.xpt_core.specs.Takes.{IsTaken}
-use Rattle.sim_worker.specs.Ports.{answer_at, first_answers, outcomes}
+use Rattle.sim_worker.specs.Ports.{answer_at, first_answers, outcomes, Served}
 use Rattle.sim_worker.specs.Runs.{outcomes_by, is_in_time, is_submit_by, may_tick}
-use Rattle.sim_worker.specs.Work.{IsWork, HasDone, HasServed, AreLanesAt, AreInHand, IsInHand, outcome_in_hand, steps_of}
-use Rattle.sim_worker.specs.declared.work.Driver.{Driver}
-use Rattle.sim_worker.specs.declared.work.Hand.{Hand}
-use Rattle.sim_worker.specs.declared.work.Lane.{Lane}
-use Rattle.sim_worker.specs.declared.served.Served.{Served}
+use Rattle.sim_worker.specs.Work.{IsWork, HasDone, HasServed, AreLanesAt, AreInHand, IsInHand, outcome_in_hand, steps_of, Driver, Hand, Lane}
 use Rattle.sim_worker.proofs.ListFacts.{map_at, set_at}
 use Rattle.sim_worker.proofs.PassLemmas.{ticks-push}
 use Rattle.sim_worker.proofs.RunListFacts.{get_in_set, set_beside, some_is, there_is}

@@ -1,37 +1,17 @@
 -- what a turn finds
-use Rattle.std.proofs.Common.{◌≡◌, ℕ, zero, suc, ◌<◌, ◌≤◌, Bool, true, false, List, [], ◌∷◌, length, get_or, refl, sym, ap, ◌∙◌, subst, arith, Option, Some, None, Vec, Global, map}
+use Rattle.std.proofs.Common.{◌≡◌, ℕ, zero, suc, ◌<◌, ◌≤◌, Bool, true, false, List, [], ◌∷◌, length, get_or, refl, sym, ap, ◌∙◌, subst, arith, Option, Some, None, Vec, Global, map, slice_get, Result, Ok, Err, is_err, MatchResult, IfSome, option_map, not, sum_by, cond}
 use Rattle.std.proofs.lemmas.List.{get_or-map}
-use Rattle.std.specs.Prelude.{slice_get}
-use Rattle.cam_types.specs.Topology.{Topology}
-use Rattle.event_rules.specs.declared.event.Event.{Event}
-use Rattle.event_rules.specs.Legal.{Rules}
-use Rattle.event_rules.specs.declared.refusal.Refusal.{Refusal}
+use Rattle.sim_worker.specs.Words.{Topology, Event, Rules, Refusal, Step, Transport, refused, Bounds, asks_requeue, is_some_and, Case, is_in_flight, Done, Requeue, Finish, Scenario, is_answer}
 use Rattle.event_rules.proofs.LegalLemmas.{legal-none}
 use Rattle.event_rules.proofs.LawLemmas.{allowed-legal_event}
-use Rattle.trace_file.specs.declared.step.Step.{Step}
 use Rattle.trace_file.specs.declared.step.Step.TheVariants as step
-use Rattle.xpt_core.specs.Transport.{Transport}
-use Rattle.xpt_core.specs.Takes.{refused}
-use Rattle.std.specs.Prelude.{Result, Ok, Err, is_err, MatchResult, IfSome}
-use Rattle.std.specs.Option.{option_map}
-use Rattle.std.specs.Prelude.{not, sum_by, cond}
 use Rattle.std.proofs.lemmas.Bool.{and_from, and_parts}
 use Rattle.std.proofs.lemmas.List.Sums.{sum_by-cons}
-use Rattle.cam_types.specs.Bounds.{Bounds}
-use Rattle.sense_class.specs.Classes.{asks_requeue}
-use Rattle.event_rules.specs.Event.{is_some_and}
-use Rattle.xpt_state.specs.declared.look.Case.{Case}
-use Rattle.sim_worker.specs.declared.work.Driver.{Driver}
+use Rattle.sim_worker.specs.Work.{Work, IsWork, call_of, is_driver_able, is_lane_able, decision_of, Driver, Hand, Lane}
 use Rattle.sim_worker.proofs.LaneFacts.{is_lane_event}
-use Rattle.event_rules.specs.Counts.{is_in_flight}
-use Rattle.event_rules.specs.declared.event.Event.TheVariants.{Done, Requeue, Finish}
 use Rattle.event_rules.proofs.WithinLemmas.{short-legal}
 use Rattle.event_rules.proofs.StandLemmas.{in_flight_held, states-legal}
-use Rattle.trace_file.specs.Scenarios.{Scenario, is_answer}
 use Rattle.sim_worker.specs.Runs.{sender, is_submit_by, is_in_time}
-use Rattle.sim_worker.specs.Work.{Work, IsWork, call_of, is_driver_able, is_lane_able, decision_of}
-use Rattle.sim_worker.specs.declared.work.Hand.{Hand}
-use Rattle.sim_worker.specs.declared.work.Lane.{Lane}
 use Rattle.sim_worker.proofs.FullLemmas.{allowed_at_limit}
 use Rattle.sim_worker.proofs.RunListFacts.{some_is}
 

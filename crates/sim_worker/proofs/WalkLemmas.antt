@@ -1,35 +1,19 @@
 -- a driver after one event more
-use Rattle.std.proofs.Common.{◌≡◌, ◌≢◌, ℕ, zero, suc, ◌+◌, ◌<◌, ◌≤◌, Bool, true, false, List, [], ◌∷◌, ◌++◌, length, refl, sym, ap, ◌∙◌, subst, arith, Some, inl, inr, append-nil, append_assoc}
-use Rattle.std.specs.Prelude.{◌⊎◌, nat_lt, filter, take, slice_get}
+use Rattle.std.proofs.Common.{◌≡◌, ◌≢◌, ℕ, zero, suc, ◌+◌, ◌<◌, ◌≤◌, Bool, true, false, List, [], ◌∷◌, ◌++◌, length, refl, sym, ap, ◌∙◌, subst, arith, Some, inl, inr, append-nil, append_assoc, ◌⊎◌, nat_lt, filter, take, slice_get, length-append}
 use Rattle.std.specs.List.{list_all}
 use Rattle.std.proofs.lemmas.Bool.{and_from, and_parts, lt-ltb, ltb-true}
 use Rattle.std.proofs.lemmas.List.Folds.{list_all-append}
 use Rattle.std.proofs.lemmas.List.{map-append}
-use Rattle.event_rules.specs.Counts.{round}
-use Rattle.event_rules.specs.declared.event.Event.{Event}
-use Rattle.event_rules.specs.declared.event.Event.TheVariants.{Tick}
+use Rattle.sim_worker.specs.Words.{round, Event, Tick, rules_of, Scenario, Step, Transport, is_rising, Receipt, Rules, refusal, Topology, refused, is_tick}
 use Rattle.event_rules.proofs.ListFacts.{filter_map-push}
 use Rattle.event_rules.proofs.QueueLaws.{le_test, test_le}
 use Rattle.event_rules.proofs.TurnLaws.{round-more}
 use Rattle.event_rules.proofs.TestLemmas.{list_all-weaker}
-use Rattle.event_rules.specs.Legal.{rules_of}
-use Rattle.trace_file.specs.Scenarios.{Scenario}
-use Rattle.trace_file.specs.declared.step.Step.{Step}
 use Rattle.trace_file.specs.declared.step.Step.TheVariants as step
-use Rattle.xpt_core.specs.Transport.{Transport}
-use Rattle.xpt_lock.specs.Receipts.{is_rising}
-use Rattle.xpt_lock.specs.declared.receipt.Receipt.{Receipt}
 use Rattle.sim_worker.specs.Logs.{StandsAt, FollowsRows, IsDriverLog, LetsRest, Rests, WasRefused, act, acts, events_of, made_before}
 use Rattle.sim_worker.specs.Runs.{is_over}
-use Rattle.sim_worker.specs.Walks.{IsOf, IsOn, IsSplit, IsWalk}
-use Rattle.sim_worker.specs.declared.walk.Walk.{Walk}
-use Rattle.event_rules.specs.Legal.{Rules}
-use Rattle.event_rules.specs.Refusals.{refusal}
-use Rattle.cam_types.specs.Topology.{Topology}
-use Rattle.xpt_core.specs.Takes.{refused}
-use Rattle.event_rules.specs.Event.{is_tick}
+use Rattle.sim_worker.specs.Walks.{IsOf, IsOn, IsSplit, IsWalk, Walk}
 use Rattle.event_rules.proofs.QueueLaws.{round-still}
-use Rattle.std.proofs.lemmas.List.{length-append}
 use Rattle.sim_worker.specs.Logs.{is_of_rules, HasDoneAll}
 use Rattle.xpt_lock.specs.declared.seat.SeatName.TheVariants as names
 use Rattle.sim_worker.proofs.RunListFacts.{some_is, take_one, all_at, there_is, get_there, get_pushed, take_front, take_whole, less_or_not}

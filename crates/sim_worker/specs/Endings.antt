@@ -1,13 +1,10 @@
 -- what each ending of a run says of its events
 use Rattle.std.specs.Prelude.{◌≡◌, ℕ, true, false, List, [], length, get_or}
 use Rattle.std.specs.List.{list_all, list_any}
-use Rattle.event_rules.specs.Counts.{round, ccbs, has_in_flight, is_recovering}
-use Rattle.event_rules.specs.Stays.{waiting}
-use Rattle.event_rules.specs.declared.event.Event.{Event}
-use Rattle.trace_file.specs.Scenarios.{Scenario}
+use Rattle.sim_worker.specs.Words.{round, ccbs, has_in_flight, is_recovering, waiting, Event, Scenario}
 use Rattle.sim_worker.specs.Runs.{submits, submits_asked, is_over, may_tick}
-use Rattle.sim_worker.specs.declared.ending.Ending.{Ending}
-use Rattle.sim_worker.specs.declared.ending.Ending.TheVariants.{Drained, RoundsFull, HistoryFull}
+pub use Rattle.sim_worker.specs.declared.ending.Ending.{Ending}
+pub use Rattle.sim_worker.specs.declared.ending.Ending.TheVariants.{Drained, RoundsFull, HistoryFull}
 
 -- Nothing is left to do after the drivers' rows: each stay was sent, and no CCB is in flight or waits for a decision.
 pub record IsQuiet (events : List Event) : Type 0 where

@@ -1,12 +1,6 @@
 -- a decision that the limit of stays holds up
 use Rattle.std.specs.Prelude.{Bool, true, false, ◌&&◌, Option, Some}
-use Rattle.sense_class.specs.Classes.{asks_requeue}
-use Rattle.event_rules.specs.declared.event.Event.TheVariants.{Requeue}
-use Rattle.event_rules.specs.declared.refusal.Refusal.{Refusal}
-use Rattle.event_rules.specs.declared.refusal.Refusal.TheVariants.{StaysFull}
-use Rattle.xpt_core.specs.Transport.{Transport}
-use Rattle.xpt_core.specs.Takes.{refused}
-use Rattle.xpt_state.specs.declared.look.Case.{Case}
+use Rattle.sim_worker.specs.Words.{asks_requeue, Requeue, Refusal, StaysFull, Transport, refused, Case}
 
 abbrev pub is_for_stays : Option Refusal → Bool
 is_for_stays (Some StaysFull) = true

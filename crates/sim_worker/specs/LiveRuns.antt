@@ -1,22 +1,11 @@
 -- what a run on many threads gives
 use Rattle.std.specs.Prelude.{◌≡◌, ℕ, Bool, true, false, List, [], ◌∷◌, ◌++◌, length, map, filter, get_or, slice_get, Some, IsTrue}
 use Rattle.std.specs.List.{list_all, range_with_len}
-use Rattle.event_rules.specs.Past.{Past}
-use Rattle.event_rules.specs.Counts.{round}
-use Rattle.event_rules.specs.declared.event.Event.{Event}
-use Rattle.trace_file.specs.Scenarios.{Scenario}
-use Rattle.trace_file.specs.declared.step.Step.{Step}
-use Rattle.xpt_lock.specs.Gathers.{IsPast, due_of}
-use Rattle.xpt_lock.specs.Receipts.{AreInterleaved}
-use Rattle.xpt_lock.specs.Seats.{Held}
-use Rattle.xpt_lock.specs.declared.seat.SeatName.{SeatName}
-use Rattle.xpt_lock.specs.declared.seat.SeatName.TheVariants.{Driver, Lane, Recovery, Keeper}
-use Rattle.sim_worker.specs.Endings.{IsQuiet}
+use Rattle.sim_worker.specs.Words.{Past, round, Event, Scenario, Step, IsPast, due_of, AreInterleaved, Held, SeatName, Driver, Lane, Recovery, Keeper}
+use Rattle.sim_worker.specs.Endings.{IsQuiet, Ending, Drained, RoundsFull, HistoryFull}
 use Rattle.sim_worker.specs.Logs.{IsDriverLog, IsLaneLog, Rests, HasDoneAll, is_decision, is_opening}
 use Rattle.sim_worker.specs.Runs.{may_tick, are_ticks_in_time}
-use Rattle.sim_worker.specs.declared.ending.Ending.{Ending}
-use Rattle.sim_worker.specs.declared.ending.Ending.TheVariants.{Drained, RoundsFull, HistoryFull}
-use Rattle.sim_worker.specs.declared.served.Served.{Served}
+use Rattle.sim_worker.specs.Ports.{Served}
 
 -- a driver's rows
 abbrev pub rows : Scenario → ℕ → List Step

@@ -1,23 +1,11 @@
 -- what the logs of a run on many threads say of what each actor did
 use Rattle.std.specs.Prelude.{◌≡◌, ℕ, ◌<◌, ◌≤◌, Bool, true, false, nat_lt, List, [], ◌∷◌, ◌++◌, length, take, map, filter, slice_get, Option, Some, None}
 use Rattle.std.specs.List.{list_all, filter_map, flat_map}
-use Rattle.event_rules.specs.Event.{is_tick}
-use Rattle.event_rules.specs.Counts.{round}
-use Rattle.event_rules.specs.declared.event.Event.{Event}
-use Rattle.event_rules.specs.declared.event.Event.TheVariants.{Send, Done, Requeue, Finish, Tick}
-use Rattle.event_rules.specs.Legal.{rules_of}
-use Rattle.event_rules.specs.Refusals.{refusal}
-use Rattle.event_rules.specs.declared.refusal.Refusal.{Refusal}
-use Rattle.event_rules.specs.declared.refusal.Refusal.TheVariants.{HistoryFull}
-use Rattle.cam_types.specs.declared.command.Command.{Command}
-use Rattle.trace_file.specs.Scenarios.{Scenario}
-use Rattle.trace_file.specs.declared.step.Step.{Step}
+use Rattle.sim_worker.specs.Words.{is_tick, round, Event, Send, Done, Requeue, Finish, Tick, rules_of, refusal, Refusal, HistoryFull, Command, Scenario, Step, Receipt, Reply}
 use Rattle.trace_file.specs.declared.step.Step.TheVariants as step
-use Rattle.xpt_lock.specs.declared.receipt.Receipt.{Receipt}
-use Rattle.xpt_state.specs.declared.reply.Reply.{Reply}
 use Rattle.xpt_state.specs.declared.reply.Reply.TheVariants as replies
 use Rattle.sim_worker.specs.Runs.{IsPrefix, is_over}
-use Rattle.sim_worker.specs.declared.served.Served.{Served}
+use Rattle.sim_worker.specs.Ports.{Served}
 
 abbrev pub events_of : List Receipt → List Event
 events_of log = map (λ (r : Receipt). r.event) log

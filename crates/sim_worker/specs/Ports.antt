@@ -1,9 +1,8 @@
 -- what a script's ports answer
 use Rattle.std.specs.Prelude.{◌≡◌, ℕ, true, List, [], length, get_or, map}
 use Rattle.std.specs.List.{AllByRecursion, range_with_len}
-use Rattle.cam_types.specs.declared.outcome.Outcome.{Outcome}
-use Rattle.trace_file.specs.Scenarios.{is_answer}
-use Rattle.sim_worker.specs.declared.served.Served.{Served}
+use Rattle.sim_worker.specs.Words.{Outcome, is_answer}
+pub use Rattle.sim_worker.specs.declared.served.Served.{Served}
 
 -- a script's port as its callers see it: the answers of its lane, what it has served, and for how many more it has room
 pub record PortState : Type 0 where

@@ -2,21 +2,8 @@
 use Rattle.std.specs.Prelude.{◌≡◌, ℕ, ◌==◌, Bool, true, false, not, ◌&&◌, nat_le, List, ◌++◌, length, filter, Option, Some, None, is_some, option_and_then, if◌then◌else◌}
 use Rattle.std.specs.List.{list_any, list_all, filter_map}
 use Rattle.std.specs.Option.{option_map_or}
-use Rattle.cam_types.specs.Bounds.{Bounds}
-use Rattle.cam_types.specs.Lists.{moments}
-use Rattle.cam_types.specs.Topology.{Topology}
-use Rattle.cam_types.specs.declared.outcome.Outcome.{Outcome}
-use Rattle.sense_class.specs.Classes.{asks_requeue}
-use Rattle.event_rules.specs.Event.{is_some_and, is_send_of}
-use Rattle.event_rules.specs.Counts.{last}
-use Rattle.event_rules.specs.Head.{head}
-use Rattle.event_rules.specs.Stays.{stays_begun}
-use Rattle.event_rules.specs.declared.event.Event.{Event}
-use Rattle.event_rules.specs.declared.event.Event.TheVariants.{Submit, Send, Done, Tick}
-use Rattle.trace_file.specs.declared.step.Step.{Step}
+use Rattle.sim_worker.specs.Words.{Bounds, moments, Topology, Outcome, asks_requeue, is_some_and, is_send_of, last, head, stays_begun, Event, Submit, Send, Done, Tick, Step, next_case, Case}
 use Rattle.trace_file.specs.declared.step.Step.TheVariants as step
-use Rattle.xpt_state.specs.Looks.{next_case}
-use Rattle.xpt_state.specs.declared.look.Case.{Case}
 
 -- ---- drivers
 

@@ -1,12 +1,9 @@
 -- what a run on one thread gives
 use Rattle.std.specs.Prelude.{◌≡◌, ℕ, ◌<◌, [], length, get_or, IsTrue}
-use Rattle.event_rules.specs.Legal.{rules_of, is_legal}
-use Rattle.event_rules.specs.Past.{Past}
-use Rattle.trace_file.specs.Scenarios.{Scenario}
-use Rattle.sim_worker.specs.Endings.{IsEnding}
+use Rattle.sim_worker.specs.Words.{rules_of, is_legal, Past, Scenario}
+use Rattle.sim_worker.specs.Endings.{IsEnding, Ending}
 use Rattle.sim_worker.specs.Ports.{first_answers}
 use Rattle.sim_worker.specs.Runs.{submits, submits_asked, outcomes_by, IsPrefix, are_ticks_in_time}
-use Rattle.sim_worker.specs.declared.ending.Ending.{Ending}
 
 -- The history is of the script's configuration and legal by its limits. What a driver submitted are the first of its
 -- rows' submits, and what a lane's commands came to the first of its port's answers. No round opened before it might.

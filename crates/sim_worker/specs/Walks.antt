@@ -1,24 +1,12 @@
 -- how far a driver is after some of a run's events
-use Rattle.std.specs.Prelude.{◌≡◌, ◌↔◌, ℕ, ◌<◌, ◌≤◌, true, List, length, map, slice_get, Some, None}
-use Rattle.std.specs.List.{filter_map, flat_map}
-use Rattle.event_rules.specs.declared.event.Event.TheVariants.{Send, Done}
-use Rattle.sim_worker.specs.declared.served.Served.{Served}
-use Rattle.event_rules.specs.Counts.{round}
-use Rattle.event_rules.specs.declared.event.Event.{Event}
-use Rattle.event_rules.specs.Legal.{rules_of}
-use Rattle.trace_file.specs.Scenarios.{Scenario}
-use Rattle.trace_file.specs.declared.step.Step.{Step}
-use Rattle.trace_file.specs.declared.step.Step.TheVariants.{Act}
-use Rattle.xpt_core.specs.Transport.{Transport}
-use Rattle.xpt_lock.specs.Receipts.{is_rising}
-use Rattle.xpt_lock.specs.Seats.{Held}
-use Rattle.xpt_lock.specs.declared.receipt.Receipt.{Receipt}
-use Rattle.xpt_lock.specs.declared.seat.SeatName.TheVariants.{Driver}
+use Rattle.std.specs.Prelude.{◌≡◌, ◌↔◌, ℕ, ◌<◌, ◌≤◌, true, List, length, map, slice_get, Some, None, filter_map, flat_map}
+use Rattle.sim_worker.specs.Words.{Send, Done, round, Event, rules_of, Scenario, Step, Act, Transport, is_rising, Held, Receipt, Driver}
+use Rattle.sim_worker.specs.Ports.{Served}
 use Rattle.sim_worker.specs.LiveRuns.{EachDriver, IsLiveEnding, rows}
 use Rattle.sim_worker.specs.Runs.{are_ticks_in_time}
-use Rattle.sim_worker.specs.declared.ending.Ending.{Ending}
+use Rattle.sim_worker.specs.Endings.{Ending}
 use Rattle.sim_worker.specs.Logs.{StandsAt, IsDriverLog, WasRefused, made_before, events_of, calls_for, command_of}
-use Rattle.sim_worker.specs.declared.walk.Walk.{Walk}
+pub use Rattle.sim_worker.specs.declared.walk.Walk.{Walk}
 
 -- the first m receipts are those of before the place
 abbrev pub IsSplit : ℕ → ℕ → List Receipt → Type 0

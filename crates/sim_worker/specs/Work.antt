@@ -1,32 +1,16 @@
 -- how far a run on one thread is
-use Rattle.std.specs.Prelude.{◌≡◌, ℕ, ◌+◌, ◌*◌, ◌-◌, ◌≤◌, ◌<◌, Bool, true, false, not, ◌&&◌, ◌||◌, List, [], ◌∷◌, ◌++◌, length, take, get_or, slice_get, sum_by, Option, Some, None, is_some, IfSome, if◌then◌else◌, nat_lt}
+use Rattle.std.specs.Prelude.{◌≡◌, ℕ, ◌+◌, ◌*◌, ◌-◌, ◌≤◌, ◌<◌, Bool, true, false, not, ◌&&◌, ◌||◌, List, [], ◌∷◌, ◌++◌, length, take, get_or, slice_get, sum_by, Option, Some, None, is_some, IfSome, if◌then◌else◌, nat_lt, option_map}
 use Rattle.std.specs.List.{list_all}
-use Rattle.std.specs.Option.{option_map}
-use Rattle.cam_types.specs.declared.outcome.Outcome.{Outcome}
-use Rattle.event_rules.specs.Legal.{rules_of, is_legal}
-use Rattle.event_rules.specs.Event.{is_some_and}
-use Rattle.event_rules.specs.Counts.{round, is_in_flight}
-use Rattle.event_rules.specs.declared.event.Event.{Event}
-use Rattle.trace_file.specs.Scenarios.{Scenario, IsScenario, is_answer}
-use Rattle.trace_file.specs.declared.step.Step.{Step}
+use Rattle.sim_worker.specs.Words.{Outcome, rules_of, is_legal, is_some_and, round, is_in_flight, Event, Scenario, IsScenario, is_answer, Step, Transport, next_case, has_head, Case, asks_requeue, Refusal, HistoryFull, Requeue, Finish, waiting, refused}
 use Rattle.trace_file.specs.declared.step.Step.TheVariants as step
-use Rattle.xpt_core.specs.Transport.{Transport}
-use Rattle.xpt_state.specs.Looks.{next_case, has_head}
-use Rattle.xpt_state.specs.declared.look.Case.{Case}
-use Rattle.sense_class.specs.Classes.{asks_requeue}
-use Rattle.event_rules.specs.declared.refusal.Refusal.{Refusal}
-use Rattle.event_rules.specs.declared.refusal.Refusal.TheVariants.{HistoryFull}
-use Rattle.event_rules.specs.declared.event.Event.TheVariants.{Requeue, Finish}
-use Rattle.event_rules.specs.Stays.{waiting}
-use Rattle.xpt_core.specs.Takes.{refused}
 use Rattle.sim_worker.specs.Ports.{first_answers, outcomes}
 use Rattle.sim_worker.specs.Held.{is_held_up}
 use Rattle.sim_worker.specs.Runs.{submits, submits_asked, is_over, sender, outcomes_by, are_ticks_in_time}
 use Rattle.sim_worker.specs.declared.actor.Actor.{Actor}
 use Rattle.sim_worker.specs.declared.actor.Actor.TheVariants as actor
-use Rattle.sim_worker.specs.declared.work.Driver.{Driver}
-use Rattle.sim_worker.specs.declared.work.Hand.{Hand}
-use Rattle.sim_worker.specs.declared.work.Lane.{Lane}
+pub use Rattle.sim_worker.specs.declared.work.Driver.{Driver}
+pub use Rattle.sim_worker.specs.declared.work.Hand.{Hand}
+pub use Rattle.sim_worker.specs.declared.work.Lane.{Lane}
 
 -- the script, the transport, how far each driver is, what each lane has in hand, and whether recovery's decision was refused
 -- in this round

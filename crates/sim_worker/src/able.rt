@@ -1,8 +1,7 @@
 //! Who is able to act in a run on one thread.
 
 ghost use Rattle.std.specs.Prelude.{◌≡◌, ℕ, List, ◌<◌, ◌≤◌, ◌+◌, [], true, false, length, slice_get, All, IfOk};
-ghost use Rattle.event_rules.specs.Counts.{round};
-ghost use Rattle.event_rules.specs.declared.event.Event.{Event};
+ghost use Rattle.sim_worker.specs.Words.{round, Event};
 ghost use Rattle.sim_worker.specs.Work.{Work, HasDone, actor_at, call_of, is_able, left, steps_of};
 ghost use Rattle.sim_worker.specs.declared.actor.Actor.TheVariants as actors;
 

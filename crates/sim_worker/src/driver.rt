@@ -2,8 +2,7 @@
 
 ghost use Rattle.std.specs.Prelude.{◌≡◌, ℕ, true};
 ghost use Rattle.std.specs.List.{AllByRecursion};
-ghost use Rattle.cam_types.specs.Topology.{Topology};
-ghost use Rattle.trace_file.specs.Scenarios.{is_ruled};
+ghost use Rattle.sim_worker.specs.Words.{Topology, is_ruled};
 ghost use Rattle.trace_file.specs.declared.step.Step.TheVariants as step;
 
 use crate::workplace::{FOR_GOOD, Workplace};

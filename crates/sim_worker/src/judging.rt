@@ -2,12 +2,8 @@
 
 ghost use Rattle.std.specs.Prelude.{◌≡◌, ℕ, IfOk, List, map, get_or, true, []};
 ghost use Rattle.std.specs.List.{list_all};
-ghost use Rattle.xpt_lock.specs.Gathers.{IsPast, due_of};
-ghost use Rattle.xpt_lock.specs.Receipts.{AreInterleaved};
-ghost use Rattle.xpt_lock.specs.Seats.{Held};
+ghost use Rattle.sim_worker.specs.Words.{IsPast, due_of, AreInterleaved, Held, Event, Scenario};
 ghost use Rattle.xpt_lock.specs.declared.seat.SeatName.TheVariants as seats;
-ghost use Rattle.event_rules.specs.declared.event.Event.{Event};
-ghost use Rattle.trace_file.specs.Scenarios.{Scenario};
 ghost use Rattle.sim_worker.specs.LiveRuns.{EachDriver, EachLog, IsLiveRun, IsLog, is_full, rows};
 ghost use Rattle.sim_worker.specs.Logs.{IsDriverLog, is_decision, is_opening};
 

@@ -1,9 +1,8 @@
 //! A run's history, gone through beside a transport of its own.
 
 ghost use Rattle.std.specs.Prelude.{◌≡◌, ℕ, ◌++◌, [], ◌∷◌, ◌<◌, true, false, length, replicate, slice_get, Some, IfOk, IfSome};
-ghost use Rattle.xpt_lock.specs.Receipts.{is_rising};
+ghost use Rattle.sim_worker.specs.Words.{is_rising, Scenario};
 ghost use Rattle.xpt_lock.specs.declared.seat.SeatName.TheVariants as names;
-ghost use Rattle.trace_file.specs.Scenarios.{Scenario};
 ghost use Rattle.sim_worker.specs.LiveRuns.{rows};
 ghost use Rattle.sim_worker.specs.Runs.{is_in_time, are_ticks_in_time, may_recovery_rest, may_tick};
 ghost use Rattle.sim_worker.specs.Held.{is_held_up};

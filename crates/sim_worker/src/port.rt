@@ -2,7 +2,7 @@
 
 ghost use Rattle.std.specs.Prelude.{◌≡◌, ◌<◌, ℕ, List, [], ◌∷◌, ◌++◌, IfOk, OnErr, IsTrue};
 ghost use Rattle.trace_file.specs.Scenarios.{is_answer};
-ghost use Rattle.sim_worker.specs.declared.served.Served.{Served};
+ghost use Rattle.sim_worker.specs.Ports.{Served};
 
 use crate::served::Served;
 use cam_types::{Command, Outcome};

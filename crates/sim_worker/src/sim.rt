@@ -5,12 +5,9 @@ ghost use Rattle.std.specs.List.{list_all};
 ghost use Rattle.sim_worker.specs.Endings.{IsEnding};
 ghost use Rattle.sim_worker.specs.SimRuns.{IsSimRun};
 ghost use Rattle.std.specs.Option.{option_map};
-ghost use Rattle.event_rules.specs.Counts.{round};
-ghost use Rattle.sim_worker.specs.Work.{Work, AreFresh, HasDone, IsAtEnd, IsToSend, actor_at, call_of, decision_of, is_able, is_full, left, steps_of};
+ghost use Rattle.sim_worker.specs.Words.{round, Event};
+ghost use Rattle.sim_worker.specs.Work.{Work, AreFresh, HasDone, IsAtEnd, IsToSend, actor_at, call_of, decision_of, is_able, is_full, left, steps_of, Lane, Driver};
 ghost use Rattle.sim_worker.specs.declared.actor.Actor.TheVariants as actors;
-ghost use Rattle.sim_worker.specs.declared.work.Lane.{Lane};
-ghost use Rattle.sim_worker.specs.declared.work.Driver.{Driver};
-ghost use Rattle.event_rules.specs.declared.event.Event.{Event};
 
 use crate::actor::Actor;
 use crate::ending::Ending;

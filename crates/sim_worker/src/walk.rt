@@ -1,13 +1,8 @@
 //! How far a driver is, event by event.
 
 ghost use Rattle.std.specs.Prelude.{◌≡◌, ◌≢◌, ◌+◌, ◌++◌, [], ◌∷◌, List, true, length, slice_get, Some, IfSome, IfNone};
-ghost use Rattle.event_rules.specs.Counts.{round};
-ghost use Rattle.event_rules.specs.declared.event.Event.{Event};
-ghost use Rattle.trace_file.specs.Scenarios.{Scenario};
+ghost use Rattle.sim_worker.specs.Words.{round, Event, Scenario, is_rising, Receipt, refused};
 ghost use Rattle.trace_file.specs.declared.step.Step.TheVariants as steps;
-ghost use Rattle.xpt_lock.specs.Receipts.{is_rising};
-ghost use Rattle.xpt_lock.specs.declared.receipt.Receipt.{Receipt};
-ghost use Rattle.xpt_core.specs.Takes.{refused};
 ghost use Rattle.sim_worker.specs.Logs.{FollowsRows, LetsRest, StandsAt, is_of_rules};
 ghost use Rattle.sim_worker.specs.Walks.{IsOf, IsOn, IsWalk};
 

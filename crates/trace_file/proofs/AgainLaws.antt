@@ -8,21 +8,16 @@ use Rattle.cam_types.specs.Lists.{first_answer, moments_after}
 use Rattle.event_rules.specs.declared.event.Event.TheVariants as event
 use Rattle.cam_types.proofs.ListLemmas.{or_left, or_right}
 use Rattle.trace_file.specs.Histories.{Adapter, Device, Event}
-use Rattle.trace_file.specs.declared.device_row.DeviceRow.{DeviceRow}
-use Rattle.trace_file.specs.declared.trace_fault.TraceFault.{TraceFault}
-use Rattle.trace_file.specs.declared.trace_stage.TraceStage.{TraceStage}
+use Rattle.trace_file.specs.Rows.{most_number, DeviceRow, Word}
+use Rattle.trace_file.specs.Reading.{add_weight, add_link, add_adapter, add_device, add_event, add_lane, add_row, placed, row_step, stage_rank, stands, step, version_of, TraceFault, TraceStage}
 use Rattle.trace_file.specs.declared.trace_stage.TraceStage.TheVariants as stage
-use Rattle.trace_file.specs.declared.version.Version.{Version}
-use Rattle.trace_file.specs.declared.word.Word.{Word}
+use Rattle.trace_file.specs.Versions.{has_word, Version}
 use Rattle.trace_file.specs.declared.word.Word.TheVariants as word
 use Rattle.trace_file.specs.Fields.{Row, field_of}
-use Rattle.trace_file.specs.Reading.{add_weight, add_link, add_adapter, add_device, add_event, add_lane, add_row, placed, row_step, stage_rank, stands, step, version_of}
 use Rattle.trace_file.specs.Histories.{WeightRow}
 use Rattle.trace_file.specs.Records.{weight_row, link_row, adapter_row, device_row, event_row, lane_row}
-use Rattle.trace_file.specs.Rows.{most_number}
 use Rattle.trace_file.specs.Steps.{taken}
 use Rattle.trace_file.specs.Trace.{FitsEvent}
-use Rattle.trace_file.specs.Versions.{has_word}
 use Rattle.trace_file.specs.Words.{spelled, word_rank}
 use Rattle.trace_file.proofs.FieldLaws.{word_again}
 use Rattle.trace_file.proofs.RowsAgain.{adapter_again, device_again, event_again, one_again, two_again, word_for}

@@ -1,6 +1,5 @@
 -- How many records there are, and how many of them are events'.
-use Rattle.std.proofs.Common.{◌≡◌, ◌<◌, ◌+◌, ℕ, List, [], ◌∷◌, ◌++◌, length, map, refl, ap, ◌∙◌, arith, append_assoc, length-append}
-use Rattle.std.specs.Prelude.{Ok}
+use Rattle.std.proofs.Common.{◌≡◌, ◌<◌, ◌+◌, ℕ, List, [], ◌∷◌, ◌++◌, length, map, refl, ap, ◌∙◌, arith, append_assoc, length-append, Ok}
 use Rattle.std.proofs.lemmas.List.{length-map}
 use Rattle.trace_file.specs.EventRecord.{IsEventRecord, counted}
 use Rattle.trace_file.specs.Fields.{Row}
@@ -10,7 +9,7 @@ use Rattle.trace_file.specs.Steps.{taken}
 use Rattle.trace_file.specs.Text.{records_in}
 use Rattle.trace_file.specs.Trace.{IsTrace}
 use Rattle.trace_file.specs.declared.event_number.RecordCount.{RecordCount}
-use Rattle.trace_file.specs.declared.version.Version.{Version}
+use Rattle.trace_file.specs.Versions.{Version}
 
 abbrev count_of : ℕ → RecordCount
 count_of n = record { records = n }

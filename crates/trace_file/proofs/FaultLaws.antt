@@ -1,20 +1,16 @@
 -- The first record that fails, and its fault.
-use Rattle.std.proofs.Common.{◌≡◌, ◌≢◌, ◌+◌, ℕ, List, [], ◌∷◌, ◌++◌, length, Bool, true, false, cond, refl, sym, ap, ◌∙◌, subst, arith, add-zero}
+use Rattle.std.proofs.Common.{◌≡◌, ◌≢◌, ◌+◌, ℕ, List, [], ◌∷◌, ◌++◌, length, Bool, true, false, cond, refl, sym, ap, ◌∙◌, subst, arith, add-zero, append-nil}
 use Rattle.std.specs.Prelude.{Option, Some, None, Result, Ok, Err, ok_or, ⊤, IfSome, IfOk, IfErr}
-use Rattle.std.proofs.lemmas.List.{append-nil}
 use Rattle.cam_types.specs.Whole.{IsWhole}
 use Rattle.trace_file.specs.Histories.{ConfigFault, BadWeight, Past, Refusal}
-use Rattle.trace_file.specs.declared.trace_fault.TraceFault.{TraceFault}
+use Rattle.trace_file.specs.Reading.{add_weight, add_link, config_of, lacking, version_of, lacks_weights, add_adapter, add_device, add_event, add_lane, add_row, ended, has_links, in_record, is_header, lacks_adapters, placed, reading, row_step, step, unless_fault, unless_refused, TraceFault, TraceStage}
 use Rattle.trace_file.specs.declared.trace_fault.TraceFault.TheVariants as fault
-use Rattle.trace_file.specs.declared.trace_stage.TraceStage.{TraceStage}
 use Rattle.trace_file.specs.declared.trace_stage.TraceStage.TheVariants as stage
-use Rattle.trace_file.specs.declared.word.Word.{Word}
+use Rattle.trace_file.specs.Rows.{adapter_at, device_at, event_at, one_number, two_numbers, Word}
 use Rattle.trace_file.specs.declared.word.Word.TheVariants as word
 use Rattle.trace_file.specs.Fields.{Row}
-use Rattle.trace_file.specs.Reading.{add_weight, add_link, config_of, lacking, version_of, lacks_weights, add_adapter, add_device, add_event, add_lane, add_row, ended, has_links, in_record, is_header, lacks_adapters, placed, reading, row_step, step, unless_fault, unless_refused}
 use Rattle.trace_file.specs.Versions.{name_of}
 use Rattle.trace_file.specs.declared.version.Version.TheVariants as version
-use Rattle.trace_file.specs.Rows.{adapter_at, device_at, event_at, one_number, two_numbers}
 use Rattle.trace_file.specs.Sound.{IsSound}
 use Rattle.trace_file.specs.Steps.{◌>>=◌, taken}
 use Rattle.trace_file.specs.Text.{records_in}

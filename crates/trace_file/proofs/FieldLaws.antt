@@ -1,7 +1,5 @@
 -- A field that is read is spelled so, and what is spelled so is read.
-use Rattle.std.proofs.Common.{◌≡◌, ◌≤◌, ◌+◌, ℕ, List, [], ◌∷◌, length, Bool, true, false, cond, refl, ap, ◌∙◌, arith, rules}
-use Rattle.std.specs.Prelude.{◌==◌, Option, Some, None, Result, Ok, Err, ok_or, find, bytes_eq, decimal, IfSome}
-use Rattle.std.proofs.lemmas.Bool.{eqb-true, ne_eqb}
+use Rattle.std.proofs.Common.{◌≡◌, ◌≤◌, ◌+◌, ℕ, List, [], ◌∷◌, length, Bool, true, false, cond, refl, ap, ◌∙◌, arith, rules, ◌==◌, Option, Some, None, Result, Ok, Err, ok_or, find, bytes_eq, decimal, IfSome, eqb-true, ne_eqb}
 use Rattle.std.proofs.lemmas.Fmt.{decimal_nonempty}
 use Rattle.std.proofs.lemmas.List.{nil_from_length}
 use Rattle.std.proofs.lemmas.Slice.Eq.{bytes_eq-Decides}
@@ -9,10 +7,9 @@ use Rattle.cam_types.specs.Number.{number_of}
 use Rattle.cam_types.proofs.NumberLemmas.{number_of-spelled, number_of-decimal, number_of-within}
 use Rattle.cam_types.proofs.LeastLemmas.{find_passes}
 use Rattle.trace_file.specs.Histories.{Flags}
-use Rattle.trace_file.specs.declared.word.Word.{Word}
+use Rattle.trace_file.specs.Rows.{most_number, Word}
 use Rattle.trace_file.specs.declared.word.Word.TheVariants as word
 use Rattle.trace_file.specs.Words.{spelled, word_of, all_words}
-use Rattle.trace_file.specs.Rows.{most_number}
 use Rattle.trace_file.specs.Records.{link_text}
 use Rattle.trace_file.specs.Steps.{◌>>=◌}
 use Rattle.trace_file.specs.Fields.{Row, field_of, number_at, optional_at, flags_at, flags_of, flags_text, flags_by}

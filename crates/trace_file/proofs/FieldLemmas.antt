@@ -1,9 +1,6 @@
 -- Fields of a record, and the bytes that a field spells.
-use Rattle.std.proofs.Common.{◌≡◌, ◌≢◌, ◌<◌, ◌≤◌, ◌+◌, ◌*◌, ◌%◌, ℕ, zero, suc, List, [], ◌∷◌, ◌++◌, length, take, drop, get_or, set, refl, sym, ap, ◌∙◌, arith, append_assoc, add-one}
-use Rattle.std.specs.Prelude.{Option, Some, None, option_map, option_and_then, Err}
-use Rattle.std.proofs.lemmas.Bool.{eq-eqb, ne_eqb}
+use Rattle.std.proofs.Common.{◌≡◌, ◌≢◌, ◌<◌, ◌≤◌, ◌+◌, ◌*◌, ◌%◌, ℕ, zero, suc, List, [], ◌∷◌, ◌++◌, length, take, drop, get_or, set, refl, sym, ap, ◌∙◌, arith, append_assoc, add-one, Option, Some, None, option_map, option_and_then, Err, eq-eqb, ne_eqb, drop-cons}
 use Rattle.std.proofs.lemmas.List.{append-nil, drop_all, take_more_set}
-use Rattle.std.proofs.Math.Seq.{drop-cons}
 use Rattle.std.proofs.lemmas.Grind.{common_steps}
 use Rattle.csv.specs.Records.{field_at}
 use Rattle.trace_file.specs.Fields.{Row, field_of, unused, hex_byte, bytes_of}

@@ -4,8 +4,7 @@ use Rattle.std.proofs.lemmas.List.{map-append}
 use Rattle.trace_file.specs.Fields.{Row}
 use Rattle.trace_file.specs.Histories.{Adapter, Device, Event, Past, Topology, WeightRow}
 use Rattle.trace_file.specs.Records.{adapter_row, device_row, event_row, header, lane_row, link_row, records_of, weight_row, weight_rows}
-use Rattle.trace_file.specs.Versions.{has_table}
-use Rattle.trace_file.specs.declared.version.Version.{Version}
+use Rattle.trace_file.specs.Versions.{has_table, Version}
 
 -- one record more after those of a list, and the same after others
 last_more : {X : Type 0} (row : X → Row) (xs : List X) (x : X) → (map row xs ++ []) ++ row x ∷ [] ≡ map row (xs ++ x ∷ []) ++ []

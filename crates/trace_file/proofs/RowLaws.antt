@@ -1,22 +1,18 @@
 -- A record that is read is spelled so, and what is spelled so is read.
-use Rattle.std.proofs.Common.{◌≡◌, ◌<◌, ◌≤◌, ◌+◌, ℕ, subst, List, [], ◌∷◌, length, drop, replicate, Bool, true, false, cond, refl, sym, ap, ◌∙◌, arith}
+use Rattle.std.proofs.Common.{◌≡◌, ◌<◌, ◌≤◌, ◌+◌, ℕ, subst, List, [], ◌∷◌, length, drop, replicate, Bool, true, false, cond, refl, sym, ap, ◌∙◌, arith, eqb-true}
 use Rattle.std.specs.Prelude.{Result, Ok, Err, decimal, ◌==◌, ⊤, if◌then◌else◌}
-use Rattle.std.proofs.lemmas.Bool.{eqb-true}
 use Rattle.std.proofs.lemmas.List.{length-drop, nil_from_length}
 use Rattle.event_rules.specs.declared.event.Event.TheVariants as event
 use Rattle.trace_file.specs.Histories.{Adapter, Event, Outcome, unlinked}
-use Rattle.trace_file.specs.declared.device_row.DeviceRow.{DeviceRow}
-use Rattle.trace_file.specs.declared.version.Version.{Version}
+use Rattle.trace_file.specs.Rows.{most_number, one_number, two_numbers, linked_at, adapter_at, device_at, submit_at, outcome_at, tick_at, event_at, device_of, DeviceRow, Word}
+use Rattle.trace_file.specs.Versions.{has_links, Version}
 use Rattle.trace_file.specs.declared.version.Version.TheVariants as version
-use Rattle.trace_file.specs.declared.word.Word.{Word}
 use Rattle.trace_file.specs.declared.word.Word.TheVariants as word
 use Rattle.trace_file.specs.Steps.{◌>>=◌}
 use Rattle.trace_file.specs.Fields.{Row, field_of, number_at, optional_at, byte_at, sense_at, flags_at, flags_text, unused, unused_from}
 use Rattle.cam_types.specs.Weights.{row_to}
 use Rattle.trace_file.specs.Records.{hex, weight_row, link_row, link_text, adapter_row, device_row, is_unlinked, lane_row, event_row}
-use Rattle.trace_file.specs.Rows.{most_number, one_number, two_numbers, linked_at, adapter_at, device_at, submit_at, outcome_at, tick_at, event_at, device_of}
 use Rattle.trace_file.specs.Trace.{FitsEvent, FitsOutcome}
-use Rattle.trace_file.specs.Versions.{has_links}
 use Rattle.trace_file.specs.Words.{spelled}
 use Rattle.trace_file.proofs.FieldLaws.{number_takes, optional_takes, flags_takes}
 use Rattle.trace_file.proofs.FieldLemmas.{drop_field}

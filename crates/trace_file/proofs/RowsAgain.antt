@@ -1,19 +1,16 @@
 -- What is spelled as a record is read again.
-use Rattle.std.proofs.Common.{◌≡◌, ◌≤◌, ℕ, List, [], ◌∷◌, true, false, refl, arith}
-use Rattle.std.specs.Prelude.{Option, Some, None, Ok, IfSome, decimal}
+use Rattle.std.proofs.Common.{◌≡◌, ◌≤◌, ℕ, List, [], ◌∷◌, true, false, refl, arith, Option, Some, None, Ok, IfSome, decimal}
 use Rattle.std.specs.Option.{option_map_or}
 use Rattle.csv.specs.Records.{field_at}
 use Rattle.event_rules.specs.declared.event.Event.TheVariants as event
 use Rattle.trace_file.specs.Histories.{Adapter, Event, unlinked}
-use Rattle.trace_file.specs.declared.device_row.DeviceRow.{DeviceRow}
-use Rattle.trace_file.specs.declared.version.Version.{Version}
+use Rattle.trace_file.specs.Rows.{most_number, one_number, two_numbers, linked_at, adapter_at, device_at, submit_at, outcome_at, tick_at, event_at, DeviceRow, Word}
+use Rattle.trace_file.specs.Versions.{Version}
 use Rattle.trace_file.specs.declared.version.Version.TheVariants as version
-use Rattle.trace_file.specs.declared.word.Word.{Word}
 use Rattle.trace_file.specs.declared.word.Word.TheVariants as word
 use Rattle.trace_file.specs.Fields.{unused_from}
 use Rattle.trace_file.specs.Records.{padded, adapter_row, event_row, is_unlinked}
 use Rattle.trace_file.specs.Steps.{◌>>=◌}
-use Rattle.trace_file.specs.Rows.{most_number, one_number, two_numbers, linked_at, adapter_at, device_at, submit_at, outcome_at, tick_at, event_at}
 use Rattle.trace_file.specs.Trace.{FitsEvent}
 use Rattle.trace_file.specs.Words.{spelled}
 use Rattle.trace_file.proofs.FieldLaws.{number_again, optional_again, flags_again}

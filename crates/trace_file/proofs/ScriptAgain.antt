@@ -1,6 +1,5 @@
 -- The records of a script are read as its scenario.
-use Rattle.std.proofs.Common.{◌≡◌, ◌≢◌, ◌≤◌, ◌+◌, ℕ, List, [], ◌∷◌, ◌++◌, length, map, Bool, true, false, cond, refl, sym, ap, ◌∙◌, arith, subst, append_assoc}
-use Rattle.std.specs.Prelude.{Option, Some, None, IfSome, Result, Ok, Err, is_ok, not, unwrap_or}
+use Rattle.std.proofs.Common.{◌≡◌, ◌≢◌, ◌≤◌, ◌+◌, ℕ, List, [], ◌∷◌, ◌++◌, length, map, Bool, true, false, cond, refl, sym, ap, ◌∙◌, arith, subst, append_assoc, Option, Some, None, IfSome, Result, Ok, Err, is_ok, not, unwrap_or}
 use Rattle.std.specs.List.{AllByRecursion, fold}
 use Rattle.std.proofs.lemmas.Bool.{false≢true, eq-eqb}
 use Rattle.std.proofs.lemmas.List.Sums.{sum_by-cons}
@@ -8,23 +7,18 @@ use Rattle.std.proofs.lemmas.List.Elements.{All-append, All-map, All-nil, recurs
 use Rattle.std.proofs.lemmas.Bool.Decides.{nat_tests}
 use Rattle.csv.specs.Records.{field_at}
 use Rattle.cam_types.specs.Bounds.{Bounds, are_within, most_bounds}
-use Rattle.trace_file.specs.declared.script_row.ScriptRow.{ScriptRow}
-use Rattle.trace_file.specs.declared.script_row.ScriptItem.{ScriptItem}
-use Rattle.trace_file.specs.declared.script_stage.ScriptStage.{ScriptStage}
+use Rattle.trace_file.specs.ScriptRows.{script_header, script_row, ScriptRow}
+use Rattle.trace_file.specs.ScriptReading.{config_step, first_row, has_room, is_config_word, is_configuring, is_limits, limits_step, roomy_word, rows_step, script_ended, script_reading, script_step, ScriptItem, ScriptStage}
 use Rattle.trace_file.specs.declared.script_stage.ScriptStage.TheVariants as stage
-use Rattle.trace_file.specs.declared.trace_stage.TraceStage.{TraceStage}
+use Rattle.trace_file.specs.Reading.{config_of, has_letters, is_header, lacks_adapters, row_step, step, TraceStage}
 use Rattle.trace_file.specs.declared.trace_stage.TraceStage.TheVariants as trace
 use Rattle.trace_file.specs.Fields.{Row, field_of}
 use Rattle.trace_file.specs.Histories.{Adapter, Past, Refusal, Topology}
-use Rattle.trace_file.specs.Reading.{config_of, has_letters, is_header, lacks_adapters, row_step, step}
 use Rattle.trace_file.specs.Records.{adapter_row, device_row, holds, lane_row}
 use Rattle.trace_file.specs.declared.version.Version.TheVariants as version
-use Rattle.trace_file.specs.Scenarios.{Scenario, empty_scenario, is_answer_row, is_answer_word, item_of}
+use Rattle.trace_file.specs.Scenarios.{Scenario, empty_scenario, is_answer_row, is_answer_word, item_of, MOST_ROWS}
 use Rattle.trace_file.specs.Script.{FitsRow, IsManuscript, Manuscript, answer_rows, limits_rows, put_row, scenario_of, script_records, step_rows}
-use Rattle.trace_file.specs.ScriptReading.{config_step, first_row, has_room, is_config_word, is_configuring, is_limits, limits_step, roomy_word, rows_step, script_ended, script_reading, script_step}
-use Rattle.trace_file.specs.ScriptRows.{script_header, script_row}
 use Rattle.trace_file.specs.Steps.{taken}
-use Rattle.trace_file.specs.declared.script_stage.TheConstants.{MOST_ROWS}
 use Rattle.trace_file.proofs.RowLaws.{ok_is, on_ok}
 use Rattle.trace_file.proofs.ScriptItems.{item_kind}
 use Rattle.trace_file.proofs.ScriptLaws.{fold_config, item_added, more_answers, more_steps}

@@ -1,19 +1,15 @@
 -- The first record of a script that fails, and its fault.
-use Rattle.std.proofs.Common.{ℕ, List}
-use Rattle.std.specs.Prelude.{Result, Ok, Err, ok_or, codes}
+use Rattle.std.proofs.Common.{ℕ, List, Result, Ok, Err, ok_or, codes}
 use Rattle.cam_types.specs.Bounds.{Bounds, most_bounds}
 use Rattle.trace_file.specs.Histories.{NoAdapters, Refusal}
-use Rattle.trace_file.specs.declared.script_row.ScriptItem.{ScriptItem}
+use Rattle.trace_file.specs.ScriptReading.{config_step, configured, first_row, is_config_word, is_limits, item_word, limits_step, roomy_word, rows_step, script_ended, script_step, with_item, ScriptItem, ScriptStage}
 use Rattle.trace_file.specs.declared.script_row.ScriptItem.TheVariants as item
-use Rattle.trace_file.specs.declared.script_stage.ScriptStage.{ScriptStage}
 use Rattle.trace_file.specs.declared.script_stage.ScriptStage.TheVariants as stage
 use Rattle.trace_file.specs.declared.trace_fault.TraceFault.TheVariants as fault
-use Rattle.trace_file.specs.declared.trace_stage.TraceStage.{TraceStage}
+use Rattle.trace_file.specs.Reading.{config_of, in_record, is_header, lacks_adapters, row_step, TraceStage}
 use Rattle.trace_file.specs.declared.trace_stage.TraceStage.TheVariants as trace
 use Rattle.trace_file.specs.Fields.{Row, field_of}
-use Rattle.trace_file.specs.Reading.{config_of, in_record, is_header, lacks_adapters, row_step}
 use Rattle.trace_file.specs.Scenarios.{Scenario, empty_scenario, item_of}
-use Rattle.trace_file.specs.ScriptReading.{config_step, configured, first_row, is_config_word, is_limits, item_word, limits_step, roomy_word, rows_step, script_ended, script_step, with_item}
 use Rattle.trace_file.specs.ScriptRows.{limits_at, script_row_at}
 use Rattle.trace_file.specs.Steps.{◌>>=◌, taken}
 use Rattle.trace_file.proofs.FaultLaws.{FailsByText, behind_fails, bound, by_field, taken_fails, by_test, by_word}

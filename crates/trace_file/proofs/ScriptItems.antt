@@ -10,9 +10,9 @@ use Rattle.sense_class.specs.Classes.{status_of}
 use Rattle.event_rules.specs.Legal.{is_count}
 use Rattle.event_rules.specs.declared.refusal.Refusal.TheVariants.{NoDevice, NoAdapter, NoLane, BadPriority, BadRetries, BadCount, BadOpenings, BadStatus}
 use Rattle.cam_path.specs.declared.path.CamPath.{CamPath}
-use Rattle.trace_file.specs.declared.script_row.ScriptRow.{ScriptRow}
+use Rattle.trace_file.specs.ScriptRows.{ScriptRow}
 use Rattle.trace_file.specs.declared.script_row.ScriptRow.TheVariants as row
-use Rattle.trace_file.specs.declared.script_row.ScriptItem.{ScriptItem}
+use Rattle.trace_file.specs.ScriptReading.{ScriptItem}
 use Rattle.trace_file.specs.Histories.{Device, Refusal, Topology}
 use Rattle.trace_file.specs.Scenarios.{device_number, is_answer_item, is_answer_row, is_at, is_ruled_item, item_of, names_driver, refused_if}
 use Rattle.trace_file.proofs.FieldLaws.{ok_or_ok}

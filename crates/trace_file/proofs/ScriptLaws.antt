@@ -1,7 +1,5 @@
 -- What the stages of a script have read is spelled so.
-use Rattle.std.proofs.Common.{◌≡◌, ◌≤◌, ◌+◌, ℕ, List, [], ◌∷◌, ◌++◌, map, Bool, true, false, cond, refl, sym, ap, ◌∙◌, subst, arith, append_assoc, append-nil}
-use Rattle.std.specs.Prelude.{Option, Some, None, IfSome, Result, Ok, Err, ok_or, codes, is_ok, not, option_and_then, unwrap_or}
-use Rattle.std.specs.List.{fold}
+use Rattle.std.proofs.Common.{◌≡◌, ◌≤◌, ◌+◌, ℕ, List, [], ◌∷◌, ◌++◌, map, Bool, true, false, cond, refl, sym, ap, ◌∙◌, subst, arith, append_assoc, append-nil, Option, Some, None, IfSome, Result, Ok, Err, ok_or, codes, is_ok, not, option_and_then, unwrap_or, fold}
 use Rattle.std.proofs.lemmas.List.{map-append}
 use Rattle.std.proofs.lemmas.Option.{cond_some}
 use Rattle.std.proofs.lemmas.Bool.{and_parts}
@@ -10,30 +8,23 @@ use Rattle.std.proofs.lemmas.List.Sums.{fold_push}
 use Rattle.cam_types.specs.Bounds.{Bounds, are_within, most_bounds}
 use Rattle.cam_types.specs.Whole.{IsWhole}
 use Rattle.event_rules.proofs.ListFacts.{count_by-push}
-use Rattle.trace_file.specs.declared.script_row.ScriptRow.{ScriptRow}
-use Rattle.trace_file.specs.declared.script_row.ScriptItem.{ScriptItem}
+use Rattle.trace_file.specs.ScriptRows.{limits_at, script_header, script_row, script_row_at, ScriptRow, ScriptWord}
+use Rattle.trace_file.specs.ScriptReading.{config_step, configured, first_row, has_room, is_config_word, is_configuring, is_limits, item_word, limits_step, roomy_word, rows_step, script_ended, script_reading, script_step, with_item, ScriptItem, ScriptStage}
 use Rattle.trace_file.specs.declared.script_row.ScriptItem.TheVariants as item
-use Rattle.trace_file.specs.declared.script_stage.ScriptStage.{ScriptStage}
 use Rattle.trace_file.specs.declared.script_stage.ScriptStage.TheVariants as stage
-use Rattle.trace_file.specs.declared.script_word.ScriptWord.{ScriptWord}
-use Rattle.trace_file.specs.declared.trace_fault.TraceFault.TheVariants.{BadConfig, BadHeader, BadRecord}
-use Rattle.trace_file.specs.declared.trace_stage.TraceStage.{TraceStage}
+use Rattle.trace_file.specs.Reading.{config_of, in_record, is_header, lacks_adapters, past_of, row_step, BadConfig, BadHeader, BadRecord, TraceStage}
 use Rattle.trace_file.specs.declared.trace_stage.TraceStage.TheVariants as trace
 use Rattle.trace_file.specs.Fields.{Row, field_of}
 use Rattle.trace_file.specs.Histories.{NoAdapters, Past, Refusal, Topology}
-use Rattle.trace_file.specs.Reading.{config_of, in_record, is_header, lacks_adapters, past_of, row_step}
 use Rattle.cam_types.specs.Weights.{are_standard}
 use Rattle.cam_types.proofs.WeightLemmas.{standard_is}
 use Rattle.trace_file.specs.declared.version.Version.TheVariants as version
 use Rattle.trace_file.specs.Records.{adapter_row, device_row, has_no_links, header, lane_row, records_of}
-use Rattle.trace_file.specs.Scenarios.{Scenario, add_item, empty_scenario, is_answer_item, is_answer_row, is_answer_word, item_of}
+use Rattle.trace_file.specs.Scenarios.{Scenario, add_item, empty_scenario, is_answer_item, is_answer_row, is_answer_word, item_of, MOST_ROWS}
 use Rattle.trace_file.specs.Script.{FitsRow, IsManuscript, Manuscript, WasScript, answer_rows, limits_rows, put_item, put_row, scenario_of, script_records, step_rows}
-use Rattle.trace_file.specs.ScriptReading.{config_step, configured, first_row, has_room, is_config_word, is_configuring, is_limits, item_word, limits_step, roomy_word, rows_step, script_ended, script_reading, script_step, with_item}
-use Rattle.trace_file.specs.ScriptRows.{limits_at, script_header, script_row, script_row_at}
 use Rattle.trace_file.specs.Sound.{IsSound}
 use Rattle.trace_file.specs.Steps.{◌>>=◌, taken}
 use Rattle.trace_file.specs.Text.{records_in}
-use Rattle.trace_file.specs.declared.script_stage.TheConstants.{MOST_ROWS}
 use Rattle.trace_file.proofs.RowLaws.{ok_is, on_ok, if_ok}
 use Rattle.trace_file.proofs.ScriptItems.{item_kind}
 use Rattle.trace_file.proofs.ScriptRowLaws.{limits_take, row_takes}

@@ -5,11 +5,9 @@ use Rattle.std.proofs.lemmas.Bool.{cases_Bool, eqb-true, ltb-true}
 use Rattle.std.proofs.lemmas.List.{map-set, get_or-map}
 use Rattle.std.proofs.lemmas.Bool.Decides.{nat_tests}
 use Rattle.std.proofs.lemmas.Grind.{common_steps}
-use Rattle.trace_file.specs.declared.step.Step.{Step}
+use Rattle.trace_file.specs.Scenarios.{IsScenario, Scenario, is_answer, is_ruled, push_at, Step, MOST_ROWS}
 use Rattle.cam_types.specs.Questions.{names_lane}
 use Rattle.trace_file.specs.Histories.{Outcome}
-use Rattle.trace_file.specs.Scenarios.{IsScenario, Scenario, is_answer, is_ruled, push_at}
-use Rattle.trace_file.specs.declared.script_stage.TheConstants.{MOST_ROWS}
 use Rattle.trace_file.proofs.ListLaws.{all_push}
 
 -- one list grows by an item

@@ -1,15 +1,12 @@
 -- A scenario's lists are the rows in order.
-use Rattle.std.proofs.Common.{◌≡◌, ◌<◌, ℕ, List, [], ◌∷◌, ◌++◌, length, get_or, refl, sym, ap, ◌∙◌, arith, append-nil, append_assoc}
-use Rattle.std.specs.Prelude.{Result, Ok, unwrap_or}
-use Rattle.std.specs.List.{flat_map, fold}
+use Rattle.std.proofs.Common.{◌≡◌, ◌<◌, ℕ, List, [], ◌∷◌, ◌++◌, length, get_or, refl, sym, ap, ◌∙◌, arith, append-nil, append_assoc, Result, Ok, unwrap_or, flat_map, fold}
 use Rattle.std.proofs.lemmas.List.{get_or-replicate, length-replicate}
 use Rattle.cam_types.specs.Bounds.{most_bounds}
-use Rattle.trace_file.specs.declared.script_row.ScriptRow.{ScriptRow}
-use Rattle.trace_file.specs.declared.script_row.ScriptItem.{ScriptItem}
+use Rattle.trace_file.specs.ScriptRows.{ScriptRow}
+use Rattle.trace_file.specs.ScriptReading.{ScriptItem}
 use Rattle.trace_file.specs.declared.script_row.ScriptItem.TheVariants as item
-use Rattle.trace_file.specs.declared.step.Step.{Step}
+use Rattle.trace_file.specs.Scenarios.{Scenario, empty_scenario, item_of, Step}
 use Rattle.trace_file.specs.Histories.{Outcome, Refusal, Topology}
-use Rattle.trace_file.specs.Scenarios.{Scenario, empty_scenario, item_of}
 use Rattle.trace_file.specs.Script.{Manuscript, answer_said, answers_of, put_item, put_row, scenario_of, step_said, steps_of}
 use Rattle.trace_file.proofs.ScriptLaws.{put_config}
 use Rattle.trace_file.proofs.ScriptLists.{length-pushed, grown}

@@ -10,9 +10,8 @@ use Rattle.cam_path.specs.declared.path.CamPath.{CamPath}
 use Rattle.cam_path.proofs.PathLaws.{reading_again, reading_fits, reading_takes}
 use Rattle.cam_types.proofs.LeastLemmas.{find_passes}
 use Rattle.cam_types.specs.declared.maxima.TheConstants.{MOST_CCBS, MOST_ROUNDS, MOST_STAYS, MOST_EVENTS}
-use Rattle.trace_file.specs.declared.script_row.ScriptRow.{ScriptRow}
+use Rattle.trace_file.specs.ScriptRows.{adapter_freeze_at, all_words, by_number_at, by_path_at, driver_at, formed_path, limit_at, limits_at, limits_row, path_at, script_row, script_row_at, script_word_of, spelled, submission_at, ScriptRow, ScriptWord}
 use Rattle.trace_file.specs.declared.script_row.ScriptRow.TheVariants as row
-use Rattle.trace_file.specs.declared.script_word.ScriptWord.{ScriptWord}
 use Rattle.trace_file.specs.declared.script_word.ScriptWord.TheVariants as word
 use Rattle.trace_file.specs.Fields.{Row, field_of, flags_at, flags_text, number_at, unused_from}
 use Rattle.trace_file.specs.Records.{padded}
@@ -20,7 +19,6 @@ use Rattle.trace_file.specs.Rows.{most_number, outcome_at}
 use Rattle.trace_file.specs.Scenarios.{is_answer_row, is_answer_word}
 use Rattle.trace_file.specs.Script.{FitsRow}
 use Rattle.trace_file.specs.ScriptReading.{is_config_word, is_limits, item_word}
-use Rattle.trace_file.specs.ScriptRows.{adapter_freeze_at, all_words, by_number_at, by_path_at, driver_at, formed_path, limit_at, limits_at, limits_row, path_at, script_row, script_row_at, script_word_of, spelled, submission_at}
 use Rattle.trace_file.specs.Steps.{◌>>=◌}
 use Rattle.trace_file.proofs.FieldLaws.{flags_again, flags_takes, number_again, number_takes, same_bytes}
 use Rattle.trace_file.proofs.HexLaws.{byte_at_again, sense_at_again, guard_some}

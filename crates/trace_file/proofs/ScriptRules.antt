@@ -1,6 +1,5 @@
 -- lists of steps and of answers that keep the rules of a script
-use Rattle.std.proofs.Common.{◌≡◌, ℕ, zero, suc, ◌+◌, ◌<◌, ◌≤◌, Bool, true, false, List, [], ◌∷◌, length, map, get_or, nat_le, Vec, Global, refl, sym, ap, ◌∙◌, arith}
-use Rattle.std.specs.Prelude.{sum_by}
+use Rattle.std.proofs.Common.{◌≡◌, ℕ, zero, suc, ◌+◌, ◌<◌, ◌≤◌, Bool, true, false, List, [], ◌∷◌, length, map, get_or, nat_le, Vec, Global, refl, sym, ap, ◌∙◌, arith, sum_by}
 use Rattle.std.specs.List.{AllByRecursion, list_all}
 use Rattle.std.proofs.lemmas.Bool.{and_parts, leb-false, leb-true, le-leb}
 use Rattle.std.proofs.lemmas.List.{get_or-map, get_or_past, length-map}
@@ -9,9 +8,7 @@ use Rattle.std.proofs.lemmas.List.Sums.{sum_by-cons}
 use Rattle.cam_types.specs.Bounds.{Bounds}
 use Rattle.trace_file.proofs.AgainLaws.{all_true}
 use Rattle.trace_file.specs.Histories.{Outcome, Topology}
-use Rattle.trace_file.specs.Scenarios.{IsScenario, scenario_by, is_ruled, is_answer}
-use Rattle.trace_file.specs.declared.script_stage.TheConstants.{MOST_ROWS}
-use Rattle.trace_file.specs.declared.step.Step.{Step}
+use Rattle.trace_file.specs.Scenarios.{IsScenario, scenario_by, is_ruled, is_answer, MOST_ROWS, Step}
 
 -- a vector of a list, as contracts see it
 pub items_at : {X : Type 0} (xs : List (Vec X Global)) (i : ℕ) (x : Vec X Global) (here : List X) → i < length xs → x ≡ get_or xs i x → here ≡ x.items → get_or (map (λ l. l.items) xs) i [] ≡ here

@@ -1,14 +1,10 @@
 -- A record of the configuration leaves a configuration in the making.
-use Rattle.std.proofs.Common.{◌≡◌, ℕ, true, sym, ap, ◌∙◌}
-use Rattle.std.specs.Prelude.{Ok, ok_or}
+use Rattle.std.proofs.Common.{◌≡◌, ℕ, true, sym, ap, ◌∙◌, Ok, ok_or}
 use Rattle.std.proofs.lemmas.Bool.{false≢true}
-use Rattle.trace_file.specs.declared.trace_fault.TraceFault.TheVariants.{BadRecord}
-use Rattle.trace_file.specs.declared.trace_stage.TraceStage.{TraceStage}
-use Rattle.trace_file.specs.declared.word.Word.{Word}
+use Rattle.trace_file.specs.Reading.{add_adapter, add_device, add_lane, add_row, in_record, lacks_adapters, lacks_weights, placed, row_step, version_of, BadRecord, TraceStage}
+use Rattle.trace_file.specs.Rows.{adapter_at, device_at, one_number, Word}
 use Rattle.trace_file.specs.declared.word.Word.TheVariants as word
 use Rattle.trace_file.specs.Fields.{Row, field_of}
-use Rattle.trace_file.specs.Reading.{add_adapter, add_device, add_lane, add_row, in_record, lacks_adapters, lacks_weights, placed, row_step, version_of}
-use Rattle.trace_file.specs.Rows.{adapter_at, device_at, one_number}
 use Rattle.trace_file.specs.ScriptReading.{is_config_word, is_configuring}
 use Rattle.trace_file.specs.Words.{spelled}
 use Rattle.trace_file.proofs.RowLaws.{on_ok}

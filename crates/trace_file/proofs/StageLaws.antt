@@ -12,19 +12,13 @@ use Rattle.cam_types.specs.Topology.{IsDraft}
 use Rattle.event_rules.specs.Legal.{history_rules}
 use Rattle.event_rules.proofs.LegalLemmas.{legal-none}
 use Rattle.trace_file.specs.Histories.{Adapter, Topology, WeightRow, reaches_last, Device, Event, Past, ConfigFault, Refusal}
-use Rattle.trace_file.specs.declared.device_row.DeviceRow.{DeviceRow}
-use Rattle.trace_file.specs.declared.trace_fault.TraceFault.{TraceFault}
-use Rattle.trace_file.specs.declared.trace_fault.TraceFault.TheVariants.{BadHeader, BadRecord}
-use Rattle.trace_file.specs.declared.trace_stage.TraceStage.{TraceStage}
+use Rattle.trace_file.specs.Rows.{adapter_at, device_at, device_of, event_at, one_number, two_numbers, DeviceRow, Word}
+use Rattle.trace_file.specs.Reading.{add_weight, add_link, add_adapter, add_device, add_event, add_lane, add_row, config_of, empty, ended, has_letters, has_links, in_record, is_header, lacks_adapters, lacks_weights, past_of, placed, row_step, stands, step, unless_fault, unless_refused, version_of, TraceFault, BadHeader, BadRecord, TraceStage}
 use Rattle.trace_file.specs.declared.trace_stage.TraceStage.TheVariants as stage
-use Rattle.trace_file.specs.declared.word.Word.{Word}
 use Rattle.trace_file.specs.declared.word.Word.TheVariants as word
 use Rattle.trace_file.specs.Fields.{Row, field_of}
-use Rattle.trace_file.specs.Reading.{add_weight, add_link, add_adapter, add_device, add_event, add_lane, add_row, config_of, empty, ended, has_letters, has_links, in_record, is_header, lacks_adapters, lacks_weights, past_of, placed, row_step, stands, step, unless_fault, unless_refused, version_of}
 use Rattle.trace_file.specs.Records.{weight_row, link_row, adapter_row, device_row, event_row, has_no_links, header, holds, is_unlinked, lane_row, records_of}
-use Rattle.trace_file.specs.Versions.{has_table, name_of}
-use Rattle.trace_file.specs.Rows.{adapter_at, device_at, device_of, event_at, one_number, two_numbers}
-use Rattle.trace_file.specs.declared.version.Version.{Version}
+use Rattle.trace_file.specs.Versions.{has_table, name_of, Version}
 use Rattle.trace_file.specs.declared.version.Version.TheVariants as version
 use Rattle.cam_types.specs.Weights.{are_standard, row_to}
 use Rattle.trace_file.specs.Sound.{IsBegun, IsKept, IsSound}

@@ -1,6 +1,5 @@
 -- What a record does to the configuration in the making, and to the history.
-use Rattle.std.proofs.Common.{◌≡◌, ◌≢◌, ◌<◌, ◌≤◌, ℕ, List, [], ◌∷◌, ◌++◌, length, Bool, true, false, cond, min, refl, sym, ap, ◌∙◌, arith, length-append}
-use Rattle.std.specs.Prelude.{◌==◌, Option, Some, None, Result, Ok, Err, MatchOption, IsOkUnless}
+use Rattle.std.proofs.Common.{◌≡◌, ◌≢◌, ◌<◌, ◌≤◌, ℕ, List, [], ◌∷◌, ◌++◌, length, Bool, true, false, cond, min, refl, sym, ap, ◌∙◌, arith, length-append, ◌==◌, Option, Some, None, Result, Ok, Err, MatchOption, IsOkUnless}
 use Rattle.std.proofs.lemmas.Bool.{leb-false, ne_eqb, and_parts, leb-true, ltb-false, not-false}
 use Rattle.std.proofs.lemmas.Bool.Decides.{nat_tests}
 use Rattle.cam_types.specs.Topology.{IsDraft, address_fault}
@@ -12,17 +11,13 @@ use Rattle.cam_types.specs.declared.maxima.TheConstants.{MOST_ADAPTERS}
 use Rattle.event_rules.specs.Legal.{history_rules, is_legal as legal_by}
 use Rattle.event_rules.proofs.LawLemmas.{legal-push}
 use Rattle.trace_file.specs.Histories.{Adapter, Topology, WeightRow, reaches_last, weight_fault, Device, Event, Past, ConfigFault, link_fault, adapter_fault, device_fault, lane_fault, config_fault, is_legal_event, is_legal}
-use Rattle.trace_file.specs.declared.device_row.DeviceRow.{DeviceRow}
-use Rattle.trace_file.specs.declared.trace_fault.TraceFault.TheVariants.{BadConfig}
-use Rattle.trace_file.specs.declared.trace_stage.TraceStage.{TraceStage}
+use Rattle.trace_file.specs.Rows.{device_of, clamped, event_at, DeviceRow, Word}
+use Rattle.trace_file.specs.Reading.{unless_fault, in_record, add_event, add_row, row_step, step, BadConfig, TraceStage}
 use Rattle.trace_file.specs.declared.trace_stage.TraceStage.TheVariants as stage
-use Rattle.trace_file.specs.declared.version.Version.{Version}
-use Rattle.trace_file.specs.declared.word.Word.{Word}
+use Rattle.trace_file.specs.Versions.{Version}
 use Rattle.trace_file.specs.declared.word.Word.TheVariants as word
 use Rattle.trace_file.specs.Fields.{Row}
 use Rattle.trace_file.specs.Steps.{◌>>=◌}
-use Rattle.trace_file.specs.Reading.{unless_fault, in_record, add_event, add_row, row_step, step}
-use Rattle.trace_file.specs.Rows.{device_of, clamped, event_at}
 use Rattle.trace_file.specs.Sound.{IsBegun, IsKept, IsSound}
 
 -- an item that was added breaks no rule

@@ -1,6 +1,5 @@
 -- The text of a history's records is a trace of the history.
-use Rattle.std.proofs.Common.{◌≡◌, ◌≤◌, ◌+◌, ◌*◌, ℕ, List, [], ◌∷◌, ◌++◌, length, map, Bool, true, false, cond, refl, ap, ◌∙◌, arith, length-append, suc}
-use Rattle.std.specs.Prelude.{Option, Some, None, IfSome, decimal, codes, if◌then◌else◌}
+use Rattle.std.proofs.Common.{◌≡◌, ◌≤◌, ◌+◌, ◌*◌, ℕ, List, [], ◌∷◌, ◌++◌, length, map, Bool, true, false, cond, refl, ap, ◌∙◌, arith, length-append, suc, Option, Some, None, IfSome, decimal, codes, if◌then◌else◌}
 use Rattle.std.specs.List.{AllByRecursion, flat_map, All}
 use Rattle.std.proofs.lemmas.Bool.Decides.{nat_tests}
 use Rattle.std.proofs.lemmas.Fmt.{length-decimal-le}
@@ -14,9 +13,8 @@ use Rattle.csv.proofs.RoundTrip.{read-write}
 use Rattle.event_rules.specs.declared.event.Event.TheVariants as event
 use Rattle.trace_file.specs.Fields.{Row, flags_text, flags_word}
 use Rattle.trace_file.specs.Histories.{Adapter, WeightRow, weight_fault, Device, Event, Past, link_fault, adapter_fault, device_fault, lane_fault}
-use Rattle.trace_file.specs.Versions.{has_table}
+use Rattle.trace_file.specs.Versions.{has_table, Version}
 use Rattle.trace_file.specs.Records.{weight_row, weight_rows, link_row, adapter_row, device_row, event_row, header, hex, holds, lane_row, records_of}
-use Rattle.trace_file.specs.declared.version.Version.{Version}
 use Rattle.trace_file.specs.declared.version.Version.TheVariants as version
 use Rattle.trace_file.specs.Rows.{most_number}
 use Rattle.trace_file.specs.Trace.{FitsEvent, IsHistory, IsTrace}

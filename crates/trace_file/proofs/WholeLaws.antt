@@ -1,6 +1,5 @@
 -- The records of a whole history are read as that history.
-use Rattle.std.proofs.Common.{◌≡◌, ◌≢◌, ◌<◌, ◌≤◌, ℕ, List, [], ◌∷◌, ◌++◌, length, map, Bool, true, false, cond, refl, sym, ap, ◌∙◌, arith}
-use Rattle.std.specs.Prelude.{Option, Some, None, IfSome, Result, Ok, ◌==◌, nat_lt, if◌then◌else◌}
+use Rattle.std.proofs.Common.{◌≡◌, ◌≢◌, ◌<◌, ◌≤◌, ℕ, List, [], ◌∷◌, ◌++◌, length, map, Bool, true, false, cond, refl, sym, ap, ◌∙◌, arith, Option, Some, None, IfSome, Result, Ok, ◌==◌, nat_lt, if◌then◌else◌}
 use Rattle.std.specs.List.{AllByRecursion, list_all}
 use Rattle.std.proofs.lemmas.Bool.{and_parts, eqb-true, leb-true, leb-false, ltb-true, not-false}
 use Rattle.std.proofs.lemmas.List.{nil_from_length}
@@ -16,15 +15,12 @@ use Rattle.cam_types.specs.declared.maxima.TheConstants.{MOST_ADAPTERS, MOST_LIN
 use Rattle.event_rules.specs.Legal.{history_rules, is_legal as legal_by}
 use Rattle.event_rules.proofs.LegalLemmas.{none-legal}
 use Rattle.trace_file.specs.Histories.{Adapter, Topology, WeightRow, weight_fault, reaches_last, standard_weights, Device, Event, Past, link_fault, adapter_fault, device_fault, lane_fault, refusal, config_fault, is_legal, is_legal_event}
-use Rattle.trace_file.specs.declared.trace_fault.TraceFault.{TraceFault}
-use Rattle.trace_file.specs.declared.trace_stage.TraceStage.{TraceStage}
+use Rattle.trace_file.specs.Reading.{add_weight, add_link, add_adapter, add_device, add_event, add_lane, config_of, ended, has_letters, is_header, lacks_adapters, past_of, reading, stands, step, version_of, TraceFault, TraceStage}
 use Rattle.trace_file.specs.declared.trace_stage.TraceStage.TheVariants as stage
-use Rattle.trace_file.specs.Reading.{add_weight, add_link, add_adapter, add_device, add_event, add_lane, config_of, ended, has_letters, is_header, lacks_adapters, past_of, reading, stands, step, version_of}
 use Rattle.trace_file.specs.Records.{weight_row, link_row, adapter_row, device_row, event_row, has_no_links, header, holds, is_unlinked, lane_row, least_version, records_of}
 use Rattle.trace_file.specs.Rows.{most_number}
-use Rattle.trace_file.specs.Versions.{has_table, name_of}
+use Rattle.trace_file.specs.Versions.{has_table, name_of, Version}
 use Rattle.trace_file.specs.Fields.{Row}
-use Rattle.trace_file.specs.declared.version.Version.{Version}
 use Rattle.trace_file.specs.declared.version.Version.TheVariants as version
 use Rattle.trace_file.specs.declared.word.Word.TheVariants as word
 use Rattle.trace_file.specs.Steps.{taken}

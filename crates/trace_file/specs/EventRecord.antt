@@ -5,7 +5,7 @@ use Rattle.trace_file.specs.Histories.{Past}
 use Rattle.trace_file.specs.Records.{event_row}
 use Rattle.trace_file.specs.Text.{records_in}
 use Rattle.trace_file.specs.declared.event_number.RecordCount.{RecordCount}
-use Rattle.trace_file.specs.declared.trace_fault.TraceFault.{TraceFault}
+use Rattle.trace_file.specs.Reading.{TraceFault}
 
 -- The records of the events stand last in a trace, after all others, and this is the number of the record of the event at a
 -- place, counted from 1.

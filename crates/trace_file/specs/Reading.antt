@@ -2,20 +2,18 @@
 use Rattle.std.specs.Prelude.{ℕ, ◌+◌, ◌==◌, Bool, true, false, not, nat_le, ◌&&◌, if◌then◌else◌, List, [], ◌∷◌, ◌++◌, length, Option, Some, None, option_and_then, ok_or, Result, Ok, Err, codes, bytes_eq}
 use Rattle.trace_file.specs.Histories.{Adapter, Topology, Past, Event, WeightRow, ConfigFault, NoAdapters, BadWeight, weight_fault, reaches_last, standard_weights, link_fault, adapter_fault, device_fault, lane_fault, Refusal, refusal}
 use Rattle.cam_types.specs.Weights.{row_to}
-use Rattle.trace_file.specs.declared.device_row.DeviceRow.{DeviceRow}
-use Rattle.trace_file.specs.declared.trace_fault.TraceFault.{TraceFault}
-use Rattle.trace_file.specs.declared.trace_fault.TraceFault.TheVariants.{BadHeader, BadRecord, BadField, BadConfig, Illegal}
-use Rattle.trace_file.specs.declared.trace_stage.TraceStage.{TraceStage}
+use Rattle.trace_file.specs.Rows.{one_number, two_numbers, adapter_at, device_at, device_of, event_at, DeviceRow, Word}
+pub use Rattle.trace_file.specs.declared.trace_fault.TraceFault.{TraceFault}
+pub use Rattle.trace_file.specs.declared.trace_fault.TraceFault.TheVariants.{BadHeader, BadRecord, BadField, BadConfig, Illegal}
+pub use Rattle.trace_file.specs.declared.trace_stage.TraceStage.{TraceStage}
 use Rattle.trace_file.specs.declared.trace_stage.TraceStage.TheVariants as stage
-use Rattle.trace_file.specs.declared.version.Version.{Version}
+use Rattle.trace_file.specs.Versions.{has_word, name_of, Version}
 use Rattle.trace_file.specs.declared.version.Version.TheVariants as version
-use Rattle.trace_file.specs.Versions.{has_word, name_of}
-use Rattle.trace_file.specs.declared.word.Word.{Word}
 use Rattle.trace_file.specs.declared.word.Word.TheVariants as word
 use Rattle.trace_file.specs.Steps.{◌>>=◌, taken}
 use Rattle.trace_file.specs.Fields.{Row, field_of}
 use Rattle.trace_file.specs.Words.{word_of, word_rank}
-use Rattle.trace_file.specs.Rows.{one_number, two_numbers, adapter_at, device_at, device_of, event_at}
+pub use Rattle.trace_file.specs.declared.trace_stage.TraceStage.TheVariants.{Header}
 
 -- the fields of the header that name the columns
 unfoldable pub has_letters : Row → Bool

@@ -7,10 +7,9 @@ use Rattle.event_rules.specs.declared.event.Event.TheVariants as event
 use Rattle.trace_file.specs.declared.word.Word.TheVariants as word
 use Rattle.cam_types.specs.Weights.{are_standard}
 use Rattle.trace_file.specs.Histories.{Adapter, Device, Event, Past, Topology, WeightRow}
-use Rattle.trace_file.specs.declared.version.Version.{Version}
+use Rattle.trace_file.specs.Versions.{has_table, name_of, Version}
 use Rattle.trace_file.specs.declared.version.Version.TheVariants as version
 use Rattle.trace_file.specs.Fields.{Row, flags_text}
-use Rattle.trace_file.specs.Versions.{has_table, name_of}
 use Rattle.trace_file.specs.Words.{spelled}
 
 -- these fields, and empty ones up to eight

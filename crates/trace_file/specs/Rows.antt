@@ -2,13 +2,12 @@
 use Rattle.std.specs.Prelude.{ℕ, min, if◌then◌else◌, Result, Ok, Err}
 use Rattle.trace_file.specs.Histories.{Adapter, Device, Event, Outcome, unlinked}
 use Rattle.event_rules.specs.declared.event.Event.TheVariants as event
-use Rattle.trace_file.specs.declared.device_row.DeviceRow.{DeviceRow}
-use Rattle.trace_file.specs.declared.version.Version.{Version}
-use Rattle.trace_file.specs.declared.word.Word.{Word}
+pub use Rattle.trace_file.specs.declared.device_row.DeviceRow.{DeviceRow}
+use Rattle.trace_file.specs.Versions.{has_links, Version}
+pub use Rattle.trace_file.specs.declared.word.Word.{Word}
 use Rattle.trace_file.specs.declared.word.Word.TheVariants as word
 use Rattle.trace_file.specs.Steps.{◌>>=◌}
 use Rattle.trace_file.specs.Fields.{Row, number_at, optional_at, byte_at, sense_at, flags_at, unused_from}
-use Rattle.trace_file.specs.Versions.{has_links}
 
 -- the largest number of a record
 abbrev pub most_number : ℕ

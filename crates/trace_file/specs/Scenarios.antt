@@ -10,17 +10,16 @@ use Rattle.cam_types.specs.Questions.{names_device, names_adapter, names_lane}
 use Rattle.event_rules.specs.Legal.{is_count}
 use Rattle.event_rules.specs.declared.refusal.Refusal.TheVariants.{NoDevice, NoAdapter, NoLane, BadPriority, BadRetries, BadCount, BadOpenings, BadStatus}
 use Rattle.cam_path.specs.declared.path.CamPath.{CamPath}
-use Rattle.trace_file.specs.declared.script_row.ScriptRow.{ScriptRow}
+use Rattle.trace_file.specs.ScriptRows.{ScriptRow, ScriptWord}
 use Rattle.trace_file.specs.declared.script_row.ScriptRow.TheVariants as row
 use Rattle.trace_file.specs.declared.script_row.ScriptItem.{ScriptItem}
 use Rattle.trace_file.specs.declared.script_row.ScriptItem.TheVariants as item
-use Rattle.trace_file.specs.declared.script_word.ScriptWord.{ScriptWord}
 use Rattle.trace_file.specs.declared.script_word.ScriptWord.TheVariants as word
-use Rattle.trace_file.specs.declared.step.Step.{Step}
+pub use Rattle.trace_file.specs.declared.step.Step.{Step}
 use Rattle.trace_file.specs.declared.step.Step.TheVariants as step
 use Rattle.trace_file.specs.Histories.{Device, Outcome, Refusal, Topology}
 use Rattle.trace_file.specs.Steps.{◌>>=◌}
-use Rattle.trace_file.specs.declared.script_stage.TheConstants.{MOST_ROWS}
+pub use Rattle.trace_file.specs.declared.script_stage.TheConstants.{MOST_ROWS}
 
 -- the configuration and the limits, eight lists of steps by the driver's number, and a list of outcomes for each lane
 pub record Scenario : Type 0 where

@@ -5,23 +5,19 @@ use Rattle.cam_types.specs.Bounds.{Bounds, are_within, most_bounds}
 use Rattle.cam_types.specs.Whole.{IsWhole}
 use Rattle.cam_types.specs.declared.maxima.TheConstants.{MOST_BYTES}
 use Rattle.cam_path.specs.Paths.{Fits}
-use Rattle.trace_file.specs.declared.script_row.ScriptRow.{ScriptRow}
+use Rattle.trace_file.specs.ScriptRows.{limits_row, script_header, script_row, ScriptRow}
 use Rattle.trace_file.specs.declared.script_row.ScriptRow.TheVariants as row
-use Rattle.trace_file.specs.declared.script_row.ScriptItem.{ScriptItem}
+use Rattle.trace_file.specs.ScriptReading.{script_ended, script_step, ScriptItem}
 use Rattle.trace_file.specs.declared.script_row.ScriptItem.TheVariants as item
-use Rattle.trace_file.specs.declared.step.Step.{Step}
+use Rattle.trace_file.specs.Scenarios.{Scenario, add_item, empty_scenario, is_answer_row, item_of, Step, MOST_ROWS}
 use Rattle.trace_file.specs.declared.script_stage.ScriptStage.TheVariants as stage
-use Rattle.trace_file.specs.declared.trace_fault.TraceFault.{TraceFault}
+use Rattle.trace_file.specs.Reading.{TraceFault}
 use Rattle.trace_file.specs.Fields.{Row}
 use Rattle.trace_file.specs.Histories.{Device, Outcome, Refusal, Topology, config_fault, standard_weights}
 use Rattle.trace_file.specs.Records.{adapter_row, device_row, has_no_links, lane_row}
 use Rattle.trace_file.specs.Rows.{most_number}
-use Rattle.trace_file.specs.Scenarios.{Scenario, add_item, empty_scenario, is_answer_row, item_of}
-use Rattle.trace_file.specs.ScriptReading.{script_ended, script_step}
-use Rattle.trace_file.specs.ScriptRows.{limits_row, script_header, script_row}
 use Rattle.trace_file.specs.Text.{records_in}
 use Rattle.trace_file.specs.Trace.{FitsOutcome, ExplainsBy}
-use Rattle.trace_file.specs.declared.script_stage.TheConstants.{MOST_ROWS}
 
 -- what the records of a script say: limits, if they are given, a configuration, and rows
 pub record Manuscript : Type 0 where

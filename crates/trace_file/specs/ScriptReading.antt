@@ -2,21 +2,17 @@
 use Rattle.std.specs.Prelude.{ℕ, ◌+◌, ◌==◌, Bool, true, false, nat_lt, ◌&&◌, ◌||◌, if◌then◌else◌, List, length, Option, Some, None, option_and_then, ok_or, Result, Ok, Err, codes, bytes_eq}
 use Rattle.cam_types.specs.Bounds.{Bounds, most_bounds}
 use Rattle.trace_file.specs.Histories.{NoAdapters, Refusal, Topology}
-use Rattle.trace_file.specs.declared.script_row.ScriptItem.{ScriptItem}
+pub use Rattle.trace_file.specs.declared.script_row.ScriptItem.{ScriptItem}
 use Rattle.trace_file.specs.declared.script_row.ScriptItem.TheVariants as item
-use Rattle.trace_file.specs.declared.script_stage.ScriptStage.{ScriptStage}
+pub use Rattle.trace_file.specs.declared.script_stage.ScriptStage.{ScriptStage}
 use Rattle.trace_file.specs.declared.script_stage.ScriptStage.TheVariants as stage
-use Rattle.trace_file.specs.declared.script_word.ScriptWord.{ScriptWord}
-use Rattle.trace_file.specs.declared.trace_fault.TraceFault.{TraceFault}
-use Rattle.trace_file.specs.declared.trace_fault.TraceFault.TheVariants.{BadHeader, BadRecord, BadConfig, Illegal}
-use Rattle.trace_file.specs.declared.trace_stage.TraceStage.{TraceStage}
+use Rattle.trace_file.specs.ScriptRows.{limits_at, script_row_at, script_word_of, ScriptWord}
+use Rattle.trace_file.specs.Reading.{config_of, in_record, is_header, lacks_adapters, row_step, TraceFault, BadHeader, BadRecord, BadConfig, Illegal, TraceStage}
 use Rattle.trace_file.specs.declared.trace_stage.TraceStage.TheVariants as trace
 use Rattle.trace_file.specs.Fields.{Row, field_of}
-use Rattle.trace_file.specs.Reading.{config_of, in_record, is_header, lacks_adapters, row_step}
-use Rattle.trace_file.specs.Scenarios.{Scenario, add_item, empty_scenario, is_answer_word, item_of}
-use Rattle.trace_file.specs.ScriptRows.{limits_at, script_row_at, script_word_of}
+use Rattle.trace_file.specs.Scenarios.{Scenario, add_item, empty_scenario, is_answer_word, item_of, MOST_ROWS}
 use Rattle.trace_file.specs.Steps.{◌>>=◌, taken}
-use Rattle.trace_file.specs.declared.script_stage.TheConstants.{MOST_ROWS}
+pub use Rattle.trace_file.specs.declared.script_stage.ScriptStage.TheVariants.{Header}
 
 -- a configuration with the standard weights is in the making, or an adapter is due
 abbrev pub is_configuring : TraceStage → Bool

@@ -4,9 +4,9 @@ use Rattle.cam_types.specs.Bounds.{Bounds}
 use Rattle.cam_types.specs.declared.maxima.TheConstants.{MOST_CCBS, MOST_ROUNDS, MOST_STAYS, MOST_EVENTS}
 use Rattle.cam_path.specs.Paths as path
 use Rattle.cam_path.specs.declared.path.CamPath.{CamPath}
-use Rattle.trace_file.specs.declared.script_row.ScriptRow.{ScriptRow}
+pub use Rattle.trace_file.specs.declared.script_row.ScriptRow.{ScriptRow}
 use Rattle.trace_file.specs.declared.script_row.ScriptRow.TheVariants as row
-use Rattle.trace_file.specs.declared.script_word.ScriptWord.{ScriptWord}
+pub use Rattle.trace_file.specs.declared.script_word.ScriptWord.{ScriptWord}
 use Rattle.trace_file.specs.declared.script_word.ScriptWord.TheVariants as word
 use Rattle.trace_file.specs.Fields.{Row, field_of, flags_at, flags_text, number_at, unused_from}
 use Rattle.trace_file.specs.Records.{padded, hex}

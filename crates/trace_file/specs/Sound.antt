@@ -1,13 +1,11 @@
 -- What each stage of reading keeps.
-use Rattle.std.specs.Prelude.{◌≡◌, ◌<◌, ◌≤◌, ⊤, true, [], length, None}
-use Rattle.std.specs.List.{sum_by}
+use Rattle.std.specs.Prelude.{◌≡◌, ◌<◌, ◌≤◌, ⊤, true, [], length, None, sum_by}
 use Rattle.cam_types.specs.Topology.{IsDraft}
 use Rattle.cam_types.specs.declared.maxima.TheConstants.{MOST_ADAPTERS}
 use Rattle.trace_file.specs.Histories.{Topology, Past, config_fault, is_legal, reaches_last}
-use Rattle.trace_file.specs.declared.script_stage.ScriptStage.{ScriptStage}
+use Rattle.trace_file.specs.ScriptReading.{is_configuring, ScriptStage}
 use Rattle.trace_file.specs.declared.script_stage.ScriptStage.TheVariants as script
-use Rattle.trace_file.specs.ScriptReading.{is_configuring}
-use Rattle.trace_file.specs.declared.trace_stage.TraceStage.{TraceStage}
+use Rattle.trace_file.specs.Reading.{TraceStage}
 use Rattle.trace_file.specs.declared.trace_stage.TraceStage.TheVariants as stage
 
 -- a configuration in the making that has an adapter

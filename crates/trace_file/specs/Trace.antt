@@ -5,13 +5,12 @@ use Rattle.event_rules.specs.declared.event.Event.TheVariants as event
 use Rattle.cam_types.specs.declared.maxima.TheConstants.{MOST_BYTES}
 use Rattle.cam_types.specs.Whole.{IsWhole, IsTooLong}
 use Rattle.trace_file.specs.Histories.{Device, Event, Outcome, Past, config_fault, is_legal}
-use Rattle.trace_file.specs.declared.trace_fault.TraceFault.{TraceFault}
+use Rattle.trace_file.specs.Reading.{ended, step, TraceFault}
 use Rattle.trace_file.specs.declared.trace_fault.TraceFault.TheVariants as fault
 use Rattle.trace_file.specs.declared.trace_stage.TraceStage.TheVariants as stage
 use Rattle.trace_file.specs.Fields.{Row}
-use Rattle.trace_file.specs.Reading.{ended, step}
 use Rattle.trace_file.specs.Records.{holds, records_of}
-use Rattle.trace_file.specs.declared.version.Version.{Version}
+use Rattle.trace_file.specs.Versions.{Version}
 use Rattle.trace_file.specs.Rows.{most_number}
 use Rattle.trace_file.specs.Steps.{◌>>=◌, taken}
 use Rattle.trace_file.specs.Text.{records_in}

@@ -1,11 +1,9 @@
 -- What a record of a trace says by its word and its fields, and what becomes of a stage by it.
 use Rattle.std.specs.Prelude.{ℕ, Bool, true, Result}
-use Rattle.trace_file.specs.declared.trace_fault.TraceFault.{TraceFault}
+use Rattle.trace_file.specs.Reading.{add_adapter, add_device, add_event, add_lane, add_link, add_weight, stands, TraceFault, TraceStage}
 use Rattle.trace_file.specs.declared.trace_row.TraceRow.{TraceRow}
 use Rattle.trace_file.specs.declared.trace_row.TraceRow.TheVariants as said
-use Rattle.trace_file.specs.declared.trace_stage.TraceStage.{TraceStage}
 use Rattle.trace_file.specs.declared.word.Word.TheVariants as word
-use Rattle.trace_file.specs.Reading.{add_adapter, add_device, add_event, add_lane, add_link, add_weight, stands}
 
 -- what it says is added
 abbrev pub add_said : ℕ → TraceStage → TraceRow → Result TraceStage TraceFault

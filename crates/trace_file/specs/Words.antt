@@ -1,5 +1,5 @@
 use Rattle.std.specs.Prelude.{ℕ, List, [], ◌∷◌, Option, codes, bytes_eq, find}
-use Rattle.trace_file.specs.declared.word.Word.{Word}
+use Rattle.trace_file.specs.Rows.{Word}
 use Rattle.trace_file.specs.declared.word.Word.TheVariants as word
 
 -- how a word is spelled

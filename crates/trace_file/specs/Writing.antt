@@ -1,13 +1,12 @@
 -- How records are written.
-use Rattle.std.specs.Prelude.{◌≡◌, ℕ, false, List, Option}
-use Rattle.std.specs.List.{flat_map}
+use Rattle.std.specs.Prelude.{◌≡◌, ℕ, false, List, Option, flat_map}
 use Rattle.std.specs.Io.KnownBytes.{Appends}
 use Rattle.csv.specs.Writing.{default_writer, fields_written, has_written, row_text, text_written, writer_setup}
 use Rattle.csv.specs.declared.writer.Writer.{Writer}
 use Rattle.trace_file.specs.Fields.{Row}
 use Rattle.trace_file.specs.Histories.{Past}
 use Rattle.trace_file.specs.Records.{least_version, records_of}
-use Rattle.trace_file.specs.declared.version.Version.{Version}
+use Rattle.trace_file.specs.Versions.{Version}
 use Rattle.trace_file.specs.declared.version.Version.TheVariants as version
 
 -- the text of these records, each by CSV's defaults: commas between its fields, a line feed after it

@@ -6,7 +6,7 @@ ghost use Rattle.cam_types.specs.Watched.{device_of, has_failed};
 ghost use Rattle.trace_file.specs.Histories.{Past};
 ghost use Rattle.trace_file.specs.Reading.{reading};
 ghost use Rattle.trace_file.specs.Records.{holds, records_of};
-ghost use Rattle.trace_file.specs.declared.version.Version.{Version};
+ghost use Rattle.trace_file.specs.Versions.{Version};
 ghost use Rattle.trace_file.specs.Text.{records_in};
 ghost use Rattle.trace_file.specs.Trace.{IsTrace, IsHistory, WasTrace, Explains};
 

@@ -2,10 +2,9 @@
 
 ghost use Rattle.std.specs.Prelude.{◌≡◌, ◌<◌, ◌≤◌, [], length, map, replicate, IfOk, IsTrue};
 ghost use Rattle.std.specs.List.{sum_by};
-ghost use Rattle.trace_file.specs.Scenarios.{Scenario, add_item, empty_scenario, is_answer, is_ruled, push_at};
+ghost use Rattle.trace_file.specs.Scenarios.{Scenario, add_item, empty_scenario, is_answer, is_ruled, push_at, MOST_ROWS};
 ghost use Rattle.cam_types.specs.Questions.{names_lane};
 ghost use Rattle.trace_file.specs.declared.script_row.ScriptItem.TheVariants as item;
-ghost use Rattle.trace_file.specs.declared.script_stage.TheConstants.{MOST_ROWS};
 
 use crate::script_rules::keep_rules;
 use crate::step::Step;

@@ -3,8 +3,7 @@
 ghost use Rattle.std.specs.Prelude.{◌≡◌, ◌≤◌, ◌<◌, ℕ, true, false, length, map, get_or, [], nat_le};
 ghost use Rattle.std.specs.List.{list_all, sum_by};
 ghost use Rattle.cam_types.specs.Bounds.{Bounds};
-ghost use Rattle.trace_file.specs.Scenarios.{IsScenario, scenario_by, is_ruled, is_answer};
-ghost use Rattle.trace_file.specs.declared.script_stage.TheConstants.{MOST_ROWS};
+ghost use Rattle.trace_file.specs.Scenarios.{IsScenario, scenario_by, is_ruled, is_answer, MOST_ROWS};
 ghost use Rattle.trace_file.specs.declared.step.Step.TheVariants as Step;
 
 use crate::script::DRIVERS;

@@ -3,7 +3,7 @@
 ghost use Rattle.std.specs.Prelude.{◌≡◌, ◌≢◌, Err, IfOk, IfSome, IsTrue, length};
 ghost use Rattle.csv.specs.Records.{fields_of};
 ghost use Rattle.trace_file.specs.Fields.{field_of};
-ghost use Rattle.trace_file.specs.Scenarios.{is_answer_row, is_answer_word, item_of, names_driver};
+ghost use Rattle.trace_file.specs.Scenarios.{is_answer_row, is_answer_word, item_of, names_driver, MOST_ROWS};
 ghost use Rattle.trace_file.specs.ScriptReading.{config_step, first_row, has_room, is_config_word, is_configuring, is_limits, item_word, limits_step, roomy_word, rows_step, script_ended, script_step, with_item};
 ghost use Rattle.trace_file.specs.Sound.{IsSound, IsSoundScript};
 
@@ -234,4 +234,3 @@ fn roomy_word(row: &ByteRecord, steps: u32, answers: u32) -> Option<ScriptWord>
 }
 
 ghost use Rattle.std.specs.Prelude.{◌≤◌};
-ghost use Rattle.trace_file.specs.declared.script_stage.TheConstants.{MOST_ROWS};

@@ -2,7 +2,7 @@
 
 ghost use Rattle.std.specs.Prelude.{◌≡◌, ◌≢◌, ℕ, List, Result, Err, IfOk};
 ghost use Rattle.csv.specs.Records.{fields_of};
-ghost use Rattle.trace_file.specs.declared.trace_fault.TraceFault.{TraceFault};
+ghost use Rattle.trace_file.specs.Reading.{TraceFault};
 
 use crate::trace_fault::TraceFault;
 use csv::ByteRecord;

@@ -1,13 +1,8 @@
 -- the causes of a device's rounds, by the table of rounds
-use Rattle.std.proofs.Common.{◌≡◌, ℕ, ◌+◌, ◌-◌, ◌*◌, ◌<◌, List, length, ◌∙◌}
+use Rattle.std.proofs.Common.{◌≡◌, ℕ, ◌+◌, ◌-◌, ◌*◌, ◌<◌, List, length, ◌∙◌, false}
 use Rattle.std.proofs.lemmas.Option.{unwrap_or-slice_get}
-use Rattle.cam_types.specs.Topology.{Topology}
-use Rattle.event_rules.specs.declared.event.Event.{Event}
-use Rattle.round_net.specs.Ends.{cause_at, cause_table, cause_in, numbers, is_frozen_at, flag_table, flag_in}
-use Rattle.round_net.specs.declared.cause.Cause.TheVariants.{NotAsked}
-use Rattle.round_net.specs.declared.freeze_kind.FreezeKind.{FreezeKind}
+use Rattle.wait_causes.specs.Words.{Topology, Event, cause_at, cause_table, cause_in, numbers, is_frozen_at, flag_table, flag_in, NotAsked, FreezeKind}
 use Rattle.round_net.proofs.EndLemmas.{at_ends-at}
-use Rattle.std.specs.Prelude.{false}
 use Rattle.wait_causes.specs.Causes.{round_cause}
 use Rattle.wait_causes.specs.Freezes.{is_frozen_in}
 

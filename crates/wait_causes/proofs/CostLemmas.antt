@@ -1,18 +1,13 @@
 -- the costs of the freezes of a kind add up
 use mathlib.Core.Path.{fun_ext}
-use Rattle.std.proofs.Common.{◌≡◌, ℕ, zero, suc, ◌+◌, ◌-◌, ◌*◌, ◌<◌, ◌≤◌, Bool, true, false, cond, not, List, [], ◌∷◌, ◌++◌, map, refl, sym, ap, ◌∙◌, arith}
-use Rattle.std.specs.Prelude.{filter, flat_map, count_by, sum_by, ◌==◌, ◌&&◌, ◌||◌, nat_le, nat_lt, All}
+use Rattle.std.proofs.Common.{◌≡◌, ℕ, zero, suc, ◌+◌, ◌-◌, ◌*◌, ◌<◌, ◌≤◌, Bool, true, false, cond, not, List, [], ◌∷◌, ◌++◌, map, refl, sym, ap, ◌∙◌, arith, filter, flat_map, count_by, sum_by, ◌==◌, ◌&&◌, ◌||◌, nat_le, nat_lt, All, mul-add, le-leb, lt-ltb, eqb-true}
 use Rattle.std.specs.List.{range_with_len}
-use Rattle.std.proofs.Math.Nat.{mul-add}
-use Rattle.std.proofs.lemmas.Bool.{le-leb, lt-ltb, eqb-true}
 use Rattle.std.proofs.lemmas.Bool.Decides.{nat_tests}
 use Rattle.std.proofs.lemmas.List.Sums.{sum_by-cons, sum_by-append}
 use Rattle.round_net.proofs.CountLemmas.{count_by-cons, count_by-append, count_by-filter}
-use Rattle.wait_causes.specs.Freezes.{begins, behind, rounds_between, cause_of, waits_for, stay_cost, cost_in, freeze_from}
-use Rattle.round_net.specs.declared.cause.Cause.{Cause}
-use Rattle.wait_causes.specs.declared.explained_stay.ExplainedStay.{ExplainedStay}
-use Rattle.wait_causes.specs.declared.freeze.Freeze.{Freeze}
-use Rattle.round_net.specs.declared.freeze_kind.FreezeKind.{FreezeKind}
+use Rattle.wait_causes.specs.Freezes.{begins, behind, rounds_between, cause_of, waits_for, stay_cost, cost_in, freeze_from, Freeze}
+use Rattle.wait_causes.specs.Words.{Cause, FreezeKind}
+use Rattle.wait_causes.specs.Stays.{ExplainedStay}
 use Rattle.wait_causes.proofs.FreezeLemmas.{between-cons, between-none}
 
 -- no rounds cost nothing, and rounds after others cost more

@@ -1,27 +1,15 @@
 -- the freezes by what was found of a history are its freezes
 use mathlib.Core.Path.{fun_ext}
-use Rattle.std.proofs.Common.{◌≡◌, ℕ, zero, suc, ◌+◌, ◌-◌, ◌*◌, ◌<◌, Bool, List, [], ◌∷◌, ◌++◌, map, length, refl, sym, ap, ◌∙◌, arith}
-use Rattle.std.specs.Prelude.{zip, filter, flat_map, count_by, sum_by, ◌==◌, ◌&&◌, nat_le, nat_lt, All}
+use Rattle.std.proofs.Common.{◌≡◌, ℕ, zero, suc, ◌+◌, ◌-◌, ◌*◌, ◌<◌, Bool, List, [], ◌∷◌, ◌++◌, map, length, refl, sym, ap, ◌∙◌, arith, zip, filter, flat_map, count_by, sum_by, ◌==◌, ◌&&◌, nat_le, nat_lt, All}
 use Rattle.std.specs.List.{range_with_len}
 use Rattle.std.proofs.lemmas.List.Sums.{sum_by-cons}
 use Rattle.std.proofs.lemmas.List.Elements.{All-cons, All-filter, All-weaker}
-use Rattle.cam_types.specs.Topology.{Topology}
-use Rattle.event_rules.specs.Counts.{round}
-use Rattle.event_rules.specs.Legal.{history_rules}
-use Rattle.event_rules.specs.Stays.{stays_begun}
-use Rattle.event_rules.specs.declared.event.Event.{Event}
-use Rattle.event_rules.specs.declared.passage.Passage.{Passage}
+use Rattle.wait_causes.specs.Words.{Topology, round, history_rules, stays_begun, Event, Passage, cause_in, flag_in, numbers, is_cause, Cause, FreezeKind}
 use Rattle.wait_causes.specs.Causes.{round_cause}
-use Rattle.round_net.specs.Ends.{cause_in, flag_in}
-use Rattle.round_net.specs.Ends.{numbers, is_cause}
-use Rattle.wait_causes.specs.Freezes.{is_frozen_in, begins, behind, rounds_between, cause_of, grouping_of, stay_cost, cost_in, freeze_from, freezes_at, freezes_by, freezes_of, freezes}
+use Rattle.wait_causes.specs.Freezes.{is_frozen_in, begins, behind, rounds_between, cause_of, grouping_of, stay_cost, cost_in, freeze_from, freezes_at, freezes_by, freezes_of, freezes, Freeze}
 use Rattle.wait_causes.specs.Sound.{IsExplained}
-use Rattle.wait_causes.specs.Stays.{explained_stay, explained_stays}
+use Rattle.wait_causes.specs.Stays.{explained_stay, explained_stays, ExplainedStay}
 use Rattle.wait_causes.specs.Tables.{number, stays_of}
-use Rattle.round_net.specs.declared.cause.Cause.{Cause}
-use Rattle.wait_causes.specs.declared.explained_stay.ExplainedStay.{ExplainedStay}
-use Rattle.wait_causes.specs.declared.freeze.Freeze.{Freeze}
-use Rattle.round_net.specs.declared.freeze_kind.FreezeKind.{FreezeKind}
 use Rattle.round_net.specs.declared.freeze_kind.FreezeKind.TheVariants.{Error, Caller, Adapter}
 use Rattle.wait_causes.proofs.CauseLemmas.{cause_in-table, flag_in-table}
 use Rattle.wait_causes.proofs.StayLemmas.{devices_in_range}

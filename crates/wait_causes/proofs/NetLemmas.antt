@@ -1,11 +1,7 @@
 -- a net has the stays of its history
 use Rattle.std.proofs.Common.{◌≡◌, List, length}
 use Rattle.std.proofs.lemmas.List.{length-map}
-use Rattle.cam_types.specs.Topology.{Topology}
-use Rattle.event_rules.specs.Stays.{stays_begun}
-use Rattle.event_rules.specs.declared.event.Event.{Event}
-use Rattle.round_net.specs.Nets.{net_of, stay_row}
-use Rattle.round_net.specs.Rows.{instance_of_rows}
+use Rattle.wait_causes.specs.Words.{Topology, stays_begun, Event, net_of, stay_row, instance_of_rows}
 
 pub all_stays : (c : Topology) (events : List Event) → (instance_of_rows (net_of c events)).stays ≡ length (stays_begun events)
 unfolding instance_of_rows net_of

@@ -1,33 +1,22 @@
 -- sums over stays
 use mathlib.Core.Path.{Path}
-use Rattle.std.proofs.Common.{◌≡◌, ℕ, zero, suc, ◌+◌, ◌-◌, ◌*◌, ◌/◌, ◌^◌, ◌<◌, ◌≤◌, Bool, true, false, cond, List, [], ◌∷◌, ◌++◌, map, length, refl, sym, ap, ◌∙◌, arith, Some}
-use Rattle.std.specs.Prelude.{zip, filter, find, flat_map, sum_by, count_by, nat_le, unwrap_or, is_some, IfSome, All}
+use Rattle.std.proofs.Common.{◌≡◌, ℕ, zero, suc, ◌+◌, ◌-◌, ◌*◌, ◌/◌, ◌^◌, ◌<◌, ◌≤◌, Bool, true, false, cond, List, [], ◌∷◌, ◌++◌, map, length, refl, sym, ap, ◌∙◌, arith, Some, zip, filter, find, flat_map, sum_by, count_by, nat_le, unwrap_or, is_some, IfSome, All, mul-add}
 use Rattle.std.specs.List.{range_with_len}
-use Rattle.std.proofs.Math.Nat.{mul-add}
 use Rattle.std.proofs.lemmas.Bool.Decides.{nat_tests}
-use Rattle.cam_types.specs.declared.maxima.TheConstants.{MOST_ROUNDS, MOST_STAYS}
-use Rattle.wait_causes.specs.declared.part.Part.{Part}
+use Rattle.wait_causes.specs.Words.{MOST_ROUNDS, MOST_STAYS, Topology, live_round, live_part, live_cost, stays_begun, unsent, Event, Passage, Error, Caller, AdapterFrozen, DeviceFull, AdapterFull, LinkFull, NotAsked}
+use Rattle.wait_causes.specs.Parts.{waited, measure, is_enough, nearest_rank, part_of, costs_of, all_costs, Part, Waited, Live, Best, Cost}
 use Rattle.std.proofs.lemmas.Grind.{flat_map-append}
 use Rattle.std.proofs.lemmas.List.{append-nil, length-map}
 use Rattle.std.proofs.lemmas.Nat.{mul-le}
 use Rattle.std.proofs.lemmas.List.Sums.{sum_by-cons}
 use Rattle.round_net.proofs.CountLemmas.{count_by-weaker}
 use Rattle.event_rules.proofs.ListFacts.{range_with_len-push}
-use Rattle.cam_types.specs.Topology.{Topology}
-use Rattle.event_rules.specs.Live.{live_round, live_part, live_cost}
-use Rattle.event_rules.specs.Stays.{stays_begun, unsent}
 use Rattle.event_rules.proofs.LiveLemmas.{live_cost_unsent, live_cost_sent}
 use Rattle.event_rules.proofs.LimitLemmas.{stays_most}
 use Rattle.wait_causes.specs.Sound.{IsExplained}
 use Rattle.std.proofs.lemmas.Slice.Zip.{length-zip}
-use Rattle.event_rules.specs.declared.event.Event.{Event}
-use Rattle.event_rules.specs.declared.passage.Passage.{Passage}
 use Rattle.wait_causes.specs.Causes.{waited_causes, round_cause}
-use Rattle.wait_causes.specs.Stays.{all_rounds, explained_stay, explained_stays}
-use Rattle.wait_causes.specs.Parts.{waited, measure, is_enough, nearest_rank, part_of, costs_of, all_costs}
-use Rattle.round_net.specs.declared.cause.Cause.TheVariants.{Error, Caller, AdapterFrozen, DeviceFull, AdapterFull, LinkFull, NotAsked}
-use Rattle.wait_causes.specs.declared.explained_stay.ExplainedStay.{ExplainedStay}
-use Rattle.wait_causes.specs.declared.part.Measure.TheVariants.{Waited, Live, Best, Cost}
+use Rattle.wait_causes.specs.Stays.{all_rounds, explained_stay, explained_stays, ExplainedStay}
 use Rattle.wait_causes.proofs.StayLemmas.{rounds_add_up}
 
 -- rounds by weight make no large number

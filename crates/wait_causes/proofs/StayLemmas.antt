@@ -1,7 +1,6 @@
 -- what stands in the row of a stay, and how many rounds have each cause
-use Rattle.std.proofs.Common.{◌≡◌, ℕ, zero, suc, ◌+◌, ◌-◌, ◌<◌, ◌≤◌, true, List, [], ◌∷◌, ◌++◌, map, length, take, get_or, Some, refl, sym, ap, subst, ◌∙◌, arith}
+use Rattle.std.proofs.Common.{◌≡◌, ℕ, zero, suc, ◌+◌, ◌-◌, ◌<◌, ◌≤◌, true, List, [], ◌∷◌, ◌++◌, map, length, take, get_or, Some, refl, sym, ap, subst, ◌∙◌, arith, zip, All, slice_get}
 use mathlib.Core.Path.{Path}
-use Rattle.std.specs.Prelude.{zip, All, slice_get}
 use Rattle.std.specs.List.{range_with_len}
 use Rattle.std.specs.Option.{option_map_or}
 use Rattle.std.proofs.lemmas.List.{length-map, take_all, map-append, get_or-map, take_more}
@@ -9,31 +8,14 @@ use Rattle.std.proofs.lemmas.Slice.Zip.{get_or-zip, seconds-zip, length-zip}
 use Rattle.std.proofs.lemmas.Option.{get_or_from_slice_get, slice_get_within}
 use Rattle.std.proofs.lemmas.List.Sums.{AllPass-from_list_all}
 use Rattle.std.proofs.lemmas.List.Elements.{All-weaker}
-use Rattle.cam_types.specs.Topology.{Topology}
-use Rattle.cam_types.specs.Questions.{device_adapter, weight}
-use Rattle.cam_types.specs.Priority.{run_level}
-use Rattle.event_rules.specs.Legal.{Rules, history_rules, is_legal}
-use Rattle.event_rules.specs.Laws.{is_stay_in_range}
+use Rattle.wait_causes.specs.Words.{Topology, device_adapter, weight, run_level, Rules, history_rules, is_legal, is_stay_in_range, submission, live_round, stays_begun, is_unsent, Event, Passage, Submission, records, record_of, StayRecord, cause_in, Cause, Error}
 use Rattle.event_rules.proofs.RangeLemmas.{stays_in_range}
-use Rattle.event_rules.specs.Counts.{submission}
-use Rattle.event_rules.specs.Live.{live_round}
-use Rattle.event_rules.specs.Stays.{stays_begun, is_unsent}
-use Rattle.event_rules.specs.declared.event.Event.{Event}
-use Rattle.event_rules.specs.declared.passage.Passage.{Passage}
-use Rattle.event_rules.specs.declared.submission.Submission.{Submission}
 use Rattle.event_rules.proofs.ListFacts.{count_by-push, range_with_len-push}
-use Rattle.xpt_core.specs.Records.{records, record_of}
-use Rattle.xpt_core.specs.declared.stays.stay_record.StayRecord.{StayRecord}
 use Rattle.wait_causes.specs.Causes.{round_cause, waited_causes}
-use Rattle.round_net.specs.Ends.{cause_in}
-use Rattle.wait_causes.specs.Stays.{rounds_by, all_rounds, with_round, explained_stay, explained_stays, row_by, sent_in}
-use Rattle.round_net.specs.declared.cause.Cause.{Cause}
-use Rattle.round_net.specs.declared.cause.Cause.TheVariants.{Error, Caller, AdapterFrozen, DeviceFull, AdapterFull, LinkFull, NotAsked}
+use Rattle.wait_causes.specs.Stays.{rounds_by, all_rounds, with_round, explained_stay, explained_stays, row_by, sent_in, ExplainedStay}
 use Rattle.wait_causes.specs.declared.explained_stay.CauseRounds.{CauseRounds}
-use Rattle.wait_causes.specs.declared.explained_stay.ExplainedStay.{ExplainedStay}
-use Rattle.wait_causes.specs.declared.wait.Wait.{Wait}
+use Rattle.wait_causes.specs.Waits.{beside, AreWaits, AreWaitsOf, Wait}
 use Rattle.wait_causes.specs.Sound.{IsExplained}
-use Rattle.wait_causes.specs.Waits.{beside, AreWaits, AreWaitsOf}
 use Rattle.round_net.proofs.FoundLemmas.{live_cases, map-same}
 use Rattle.round_net.proofs.NetLemmas.{device_in_range}
 use Rattle.wait_causes.proofs.CauseLemmas.{cause_in-table}
@@ -47,21 +29,11 @@ same_rounds a b c d e f g a' b' c' d' e' f' g' ea eb ec ed ee ef eg = rw (ea, eb
 -- one round more counts for its cause alone
 pub rounds_by-push : (xs : List Cause) (x : Cause) → rounds_by (xs ++ x ∷ []) ≡ with_round (rounds_by xs) x
 rounds_by-push xs Error = simp (count_by-push) (same_rounds _ _ _ _ _ _ _ _ _ _ _ _ _ _ (omega arith) (omega arith) (omega arith) (omega arith) (omega arith) (omega arith) (omega arith))
-rounds_by-push xs Caller = simp (count_by-push) (same_rounds _ _ _ _ _ _ _ _ _ _ _ _ _ _ (omega arith) (omega arith) (omega arith) (omega arith) (omega arith) (omega arith) (omega arith))
-rounds_by-push xs AdapterFrozen = simp (count_by-push) (same_rounds _ _ _ _ _ _ _ _ _ _ _ _ _ _ (omega arith) (omega arith) (omega arith) (omega arith) (omega arith) (omega arith) (omega arith))
-rounds_by-push xs DeviceFull = simp (count_by-push) (same_rounds _ _ _ _ _ _ _ _ _ _ _ _ _ _ (omega arith) (omega arith) (omega arith) (omega arith) (omega arith) (omega arith) (omega arith))
-rounds_by-push xs AdapterFull = simp (count_by-push) (same_rounds _ _ _ _ _ _ _ _ _ _ _ _ _ _ (omega arith) (omega arith) (omega arith) (omega arith) (omega arith) (omega arith) (omega arith))
-rounds_by-push xs LinkFull = simp (count_by-push) (same_rounds _ _ _ _ _ _ _ _ _ _ _ _ _ _ (omega arith) (omega arith) (omega arith) (omega arith) (omega arith) (omega arith) (omega arith))
-rounds_by-push xs NotAsked = simp (count_by-push) (same_rounds _ _ _ _ _ _ _ _ _ _ _ _ _ _ (omega arith) (omega arith) (omega arith) (omega arith) (omega arith) (omega arith) (omega arith))
+rounds_by-push xs _ = simp (count_by-push) (same_rounds _ _ _ _ _ _ _ _ _ _ _ _ _ _ (omega arith) (omega arith) (omega arith) (omega arith) (omega arith) (omega arith) (omega arith))
 
 all_rounds-more : (n : CauseRounds) (x : Cause) → all_rounds (with_round n x) ≡ all_rounds n + 1
 all_rounds-more n Error = omega arith
-all_rounds-more n Caller = omega arith
-all_rounds-more n AdapterFrozen = omega arith
-all_rounds-more n DeviceFull = omega arith
-all_rounds-more n AdapterFull = omega arith
-all_rounds-more n LinkFull = omega arith
-all_rounds-more n NotAsked = omega arith
+all_rounds-more n _ = omega arith
 
 -- each round counts once
 pub rounds_add_up : (f : ℕ → Cause) (a n : ℕ) → all_rounds (rounds_by (map f (range_with_len a n))) ≡ n

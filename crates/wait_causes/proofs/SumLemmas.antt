@@ -1,6 +1,5 @@
 -- what the freezes of a kind cost is what stays waited for its cause
-use Rattle.std.proofs.Common.{◌≡◌, ℕ, suc, ◌+◌, ◌-◌, ◌*◌, ◌<◌, ◌≤◌, Bool, true, false, cond, List, [], ◌∷◌, ◌++◌, map, length, refl, sym, ap, ◌∙◌, arith, append-nil, Some, None}
-use Rattle.std.specs.Prelude.{zip, filter, flat_map, count_by, sum_by, slice_get, ◌==◌, ◌&&◌, nat_le, nat_lt, All, if◌then◌else◌}
+use Rattle.std.proofs.Common.{◌≡◌, ℕ, suc, ◌+◌, ◌-◌, ◌*◌, ◌<◌, ◌≤◌, Bool, true, false, cond, List, [], ◌∷◌, ◌++◌, map, length, refl, sym, ap, ◌∙◌, arith, append-nil, Some, None, zip, filter, flat_map, count_by, sum_by, slice_get, ◌==◌, ◌&&◌, nat_le, nat_lt, All, if◌then◌else◌}
 use Rattle.std.specs.List.{range_with_len}
 use Rattle.std.specs.Option.{option_map_or}
 use Rattle.std.proofs.lemmas.Bool.{and_parts, eqb-true}
@@ -8,30 +7,18 @@ use Rattle.std.proofs.lemmas.List.Elements.{All-cons, filter-append}
 use Rattle.std.proofs.lemmas.List.Sums.{sum_by-cons}
 use Rattle.round_net.proofs.CountLemmas.{count_by-cons}
 use Rattle.round_net.proofs.WindowLemmas.{IsInWindow, windows-legal}
-use Rattle.cam_types.specs.Topology.{Topology, IsConfig}
-use Rattle.cam_types.specs.Questions.{device_adapter}
+use Rattle.wait_causes.specs.Words.{Topology, IsConfig, device_adapter, round, history_rules, is_legal, live_round, stays_begun, Event, Passage, round_ends, cause_at, numbers, is_frozen_at, is_cause, FreezeKind}
 use Rattle.cam_types.proofs.ConfigLemmas.{bus-there}
 use Rattle.event_rules.proofs.LimitLemmas.{round_first}
-use Rattle.event_rules.specs.Counts.{round}
-use Rattle.event_rules.specs.Legal.{history_rules, is_legal}
-use Rattle.event_rules.specs.Live.{live_round}
-use Rattle.event_rules.specs.Stays.{stays_begun}
-use Rattle.event_rules.specs.declared.event.Event.{Event}
-use Rattle.event_rules.specs.declared.passage.Passage.{Passage}
 use Rattle.round_net.proofs.WindowLemmas.{live_round-le}
 use Rattle.wait_causes.specs.Causes.{round_cause, waited_causes}
-use Rattle.round_net.specs.Ends.{round_ends, cause_at, numbers, is_frozen_at, is_cause}
-use Rattle.wait_causes.specs.Freezes.{is_frozen_in, begins, rounds_between, cause_of, grouping_of, waits_for, stay_cost, cost_in, freeze_from, freezes_at, freezes_by, freezes_of, freezes, is_kind, cost_of}
-use Rattle.wait_causes.specs.Parts.{rounds_for, measure}
-use Rattle.wait_causes.specs.Stays.{explained_stay, explained_stays}
+use Rattle.wait_causes.specs.Freezes.{is_frozen_in, begins, rounds_between, cause_of, grouping_of, waits_for, stay_cost, cost_in, freeze_from, freezes_at, freezes_by, freezes_of, freezes, is_kind, cost_of, Freeze}
+use Rattle.wait_causes.specs.Parts.{rounds_for, measure, Cost}
+use Rattle.wait_causes.specs.Stays.{explained_stay, explained_stays, ExplainedStay}
 use Rattle.wait_causes.specs.Tables.{number, stays_of}
 use Rattle.round_net.specs.declared.cause.Cause as waiting
 use Rattle.round_net.specs.declared.cause.Cause.TheVariants as why
-use Rattle.wait_causes.specs.declared.explained_stay.ExplainedStay.{ExplainedStay}
-use Rattle.wait_causes.specs.declared.freeze.Freeze.{Freeze}
-use Rattle.round_net.specs.declared.freeze_kind.FreezeKind.{FreezeKind}
 use Rattle.round_net.specs.declared.freeze_kind.FreezeKind.TheVariants.{Error, Caller, Adapter}
-use Rattle.wait_causes.specs.declared.part.Measure.TheVariants.{Cost}
 use Rattle.wait_causes.proofs.CostLemmas.{runs_cost, written_out, count_passed, count_waits, sum_flat, sum_same, sum_numbers}
 use Rattle.wait_causes.proofs.StayLemmas.{devices_in_range}
 

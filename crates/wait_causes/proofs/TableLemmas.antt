@@ -1,14 +1,10 @@
 -- the rows of a table
-use Rattle.std.proofs.Common.{◌≡◌, ℕ, ◌+◌, ◌≤◌, true, false, List, [], ◌∷◌, ◌++◌, length, refl, sym, ap, ◌∙◌, arith}
-use Rattle.std.specs.Prelude.{◌==◌, flat_map}
+use Rattle.std.proofs.Common.{◌≡◌, ℕ, ◌+◌, ◌≤◌, true, false, List, [], ◌∷◌, ◌++◌, length, refl, sym, ap, ◌∙◌, arith, ◌==◌, flat_map, append-nil}
 use Rattle.std.specs.List.{range_with_len}
-use Rattle.std.proofs.lemmas.List.{append-nil}
-use Rattle.wait_causes.specs.Parts.{part_of}
-use Rattle.wait_causes.specs.Tables.{number, stays_of, row_for, row_of, greatest, table_of}
-use Rattle.wait_causes.specs.declared.part.Part.{Part}
+use Rattle.wait_causes.specs.Parts.{part_of, Part}
+use Rattle.wait_causes.specs.Tables.{number, stays_of, row_for, row_of, greatest, table_of, Grouping}
 use Rattle.wait_causes.proofs.PartLemmas.{no_longer}
-use Rattle.wait_causes.specs.declared.explained_stay.ExplainedStay.{ExplainedStay}
-use Rattle.wait_causes.specs.declared.table.Grouping.{Grouping}
+use Rattle.wait_causes.specs.Stays.{ExplainedStay}
 use Rattle.wait_causes.specs.declared.table.Row as table
 
 -- no stays have no row

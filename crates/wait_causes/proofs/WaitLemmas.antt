@@ -1,17 +1,13 @@
 -- the waits so far, and of one round more
-use Rattle.std.proofs.Common.{◌≡◌, ℕ, ◌+◌, ◌-◌, ◌≤◌, true, false, List, [], ◌∷◌, ◌++◌, map, refl, sym, ap, ◌∙◌, arith, append-nil, append_assoc}
-use Rattle.std.specs.Prelude.{flat_map, not, ◌&&◌, nat_le}
+use Rattle.std.proofs.Common.{◌≡◌, ℕ, ◌+◌, ◌-◌, ◌≤◌, true, false, List, [], ◌∷◌, ◌++◌, map, refl, sym, ap, ◌∙◌, arith, append-nil, append_assoc, flat_map, not, ◌&&◌, nat_le}
 use Rattle.std.specs.List.{range_with_len, list_all}
 use Rattle.std.proofs.lemmas.Bool.{and_parts, leb-true, le-leb}
 use Rattle.std.proofs.lemmas.Grind.{flat_map-append}
 use Rattle.std.proofs.lemmas.List.{map-append}
 use Rattle.std.proofs.lemmas.List.Folds.{list_all-append}
 use Rattle.event_rules.proofs.ListFacts.{range_with_len-push}
-use Rattle.round_net.specs.Ends.{is_cause}
-use Rattle.wait_causes.specs.Waits.{beside, rounds_of, are_apart, AreBegun}
-use Rattle.round_net.specs.declared.cause.Cause.{Cause}
-use Rattle.round_net.specs.declared.cause.Cause.TheVariants.{Error, Caller, AdapterFrozen, DeviceFull, AdapterFull, LinkFull, NotAsked}
-use Rattle.wait_causes.specs.declared.wait.Wait.{Wait}
+use Rattle.wait_causes.specs.Words.{is_cause, Cause, Error, Caller, AdapterFrozen, DeviceFull, AdapterFull, LinkFull, NotAsked}
+use Rattle.wait_causes.specs.Waits.{beside, rounds_of, are_apart, AreBegun, Wait}
 
 pub same_cause : (a b : Cause) → is_cause a b ≡ true → a ≡ b
 same_cause Error Error e = refl

@@ -2,13 +2,7 @@
 use Rattle.std.specs.Prelude.{ℕ, ◌-◌, List, map, slice_get}
 use Rattle.std.specs.List.{range_with_len}
 use Rattle.std.specs.Option.{option_map_or}
-use Rattle.cam_types.specs.Topology.{Topology}
-use Rattle.event_rules.specs.Live.{live_round}
-use Rattle.event_rules.specs.declared.event.Event.{Event}
-use Rattle.event_rules.specs.declared.passage.Passage.{Passage}
-use Rattle.round_net.specs.Ends.{round_ends, cause_at}
-use Rattle.round_net.specs.declared.cause.Cause.{Cause}
-use Rattle.round_net.specs.declared.cause.Cause.TheVariants.{NotAsked}
+use Rattle.wait_causes.specs.Words.{Topology, live_round, Event, Passage, round_ends, cause_at, Cause, NotAsked}
 
 -- what held them up in a round that ended
 unfoldable pub round_cause : Topology → List Event → ℕ → ℕ → Cause

@@ -1,7 +1,6 @@
 -- an explanation as its callers see it
 use Rattle.std.specs.Prelude.{ℕ, List}
-use Rattle.cam_types.specs.Topology.{Topology}
-use Rattle.event_rules.specs.declared.event.Event.{Event}
+use Rattle.wait_causes.specs.Words.{Topology, Event}
 
 -- a history, and the round of each of its stays in another schedule
 pub record Explained : Type 0 where

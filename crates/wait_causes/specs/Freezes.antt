@@ -2,19 +2,14 @@
 use Rattle.std.specs.Prelude.{ℕ, ◌-◌, ◌*◌, Bool, true, false, not, ◌&&◌, ◌||◌, List, ◌++◌, map, filter, flat_map, slice_get, unwrap_or, find, count_by, sum_by, nat_le, nat_lt}
 use Rattle.std.specs.List.{range_with_len}
 use Rattle.std.specs.Option.{option_map_or}
-use Rattle.cam_types.specs.Topology.{Topology}
-use Rattle.event_rules.specs.Counts.{round}
-use Rattle.event_rules.specs.declared.event.Event.{Event}
+use Rattle.wait_causes.specs.Words.{Topology, round, Event, round_ends, is_cause, numbers, is_frozen_at, FreezeKind}
 use Rattle.wait_causes.specs.Causes.{round_cause}
-use Rattle.round_net.specs.Ends.{round_ends, is_cause, numbers, is_frozen_at}
-use Rattle.wait_causes.specs.Tables.{stays_of}
+use Rattle.wait_causes.specs.Tables.{stays_of, Grouping}
 use Rattle.round_net.specs.declared.cause.Cause as waiting
 use Rattle.round_net.specs.declared.cause.Cause.TheVariants as why
-use Rattle.wait_causes.specs.declared.explained_stay.ExplainedStay.{ExplainedStay}
-use Rattle.wait_causes.specs.declared.freeze.Freeze.{Freeze}
-use Rattle.round_net.specs.declared.freeze_kind.FreezeKind.{FreezeKind}
+use Rattle.wait_causes.specs.Stays.{ExplainedStay}
+pub use Rattle.wait_causes.specs.declared.freeze.Freeze.{Freeze}
 use Rattle.round_net.specs.declared.freeze_kind.FreezeKind.TheVariants.{Error, Caller, Adapter}
-use Rattle.wait_causes.specs.declared.table.Grouping.{Grouping}
 use Rattle.wait_causes.specs.declared.table.Grouping.TheVariants as by
 
 -- whether a device or an adapter was frozen at the end of a round that ended

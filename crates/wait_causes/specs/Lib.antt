@@ -1,3 +1,4 @@
+pub mod Words
 pub mod Causes
 pub mod Stays
 pub mod Explained

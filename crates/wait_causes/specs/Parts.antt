@@ -1,15 +1,13 @@
 -- what some stays waited, and what that cost
 use Rattle.std.specs.Prelude.{ℕ, ◌+◌, ◌-◌, ◌*◌, Bool, nat_le, List, [], ◌∷◌, length, count_by, sum_by, find, unwrap_or}
 use Rattle.std.specs.List.{range_with_len}
-use Rattle.cam_types.specs.declared.maxima.TheConstants.{MOST_ROUNDS}
-use Rattle.round_net.specs.declared.cause.Cause.{Cause}
-use Rattle.round_net.specs.declared.cause.Cause.TheVariants.{Error, Caller, AdapterFrozen, DeviceFull, AdapterFull, LinkFull, NotAsked}
+use Rattle.wait_causes.specs.Words.{MOST_ROUNDS, Cause, Error, Caller, AdapterFrozen, DeviceFull, AdapterFull, LinkFull, NotAsked}
 use Rattle.wait_causes.specs.declared.explained_stay.CauseRounds.{CauseRounds}
-use Rattle.wait_causes.specs.declared.explained_stay.ExplainedStay.{ExplainedStay}
-use Rattle.wait_causes.specs.declared.part.Measure.{Measure}
-use Rattle.wait_causes.specs.declared.part.Measure.TheVariants.{Waited, Live, Best, Cost}
+use Rattle.wait_causes.specs.Stays.{ExplainedStay}
+pub use Rattle.wait_causes.specs.declared.part.Measure.{Measure}
+pub use Rattle.wait_causes.specs.declared.part.Measure.TheVariants.{Waited, Live, Best, Cost}
 use Rattle.wait_causes.specs.declared.part.CauseCosts.{CauseCosts}
-use Rattle.wait_causes.specs.declared.part.Part.{Part}
+pub use Rattle.wait_causes.specs.declared.part.Part.{Part}
 
 -- the rounds of a cause
 abbrev pub rounds_for : Cause → CauseRounds → ℕ

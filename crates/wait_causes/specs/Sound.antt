@@ -1,11 +1,7 @@
 -- what holds of every explanation
 use Rattle.std.specs.Prelude.{◌≡◌, ℕ, List, length, IsTrue}
-use Rattle.cam_types.specs.Topology.{Topology}
-use Rattle.event_rules.specs.Legal.{history_rules, is_legal}
-use Rattle.event_rules.specs.Stays.{stays_begun}
-use Rattle.event_rules.specs.declared.event.Event.{Event}
-use Rattle.wait_causes.specs.Stays.{explained_stays}
-use Rattle.wait_causes.specs.declared.explained_stay.ExplainedStay.{ExplainedStay}
+use Rattle.wait_causes.specs.Words.{Topology, history_rules, is_legal, stays_begun, Event}
+use Rattle.wait_causes.specs.Stays.{explained_stays, ExplainedStay}
 
 -- the stays are those of a history and of a schedule with a round for each of its stays
 pub record IsExplained (c : Topology) (events : List Event) (best : List ℕ) (stays : List ExplainedStay) : Type 0 where

@@ -2,22 +2,10 @@
 use Rattle.std.specs.Prelude.{ℕ, ◌+◌, ◌-◌, List, map, zip, count_by, unwrap_or}
 use Rattle.std.specs.List.{range_with_len}
 use Rattle.std.specs.Option.{option_map_or}
-use Rattle.cam_types.specs.Topology.{Topology}
-use Rattle.cam_types.specs.Questions.{device_adapter, weight}
-use Rattle.cam_types.specs.Priority.{run_level}
-use Rattle.event_rules.specs.Counts.{round, submission}
-use Rattle.event_rules.specs.Stays.{stays_begun}
-use Rattle.event_rules.specs.Live.{live_round}
-use Rattle.event_rules.specs.declared.event.Event.{Event}
-use Rattle.event_rules.specs.declared.passage.Passage.{Passage}
-use Rattle.event_rules.specs.declared.submission.Submission.{Submission}
-use Rattle.xpt_core.specs.declared.stays.stay_record.StayRecord.{StayRecord}
+use Rattle.wait_causes.specs.Words.{Topology, device_adapter, weight, run_level, round, submission, stays_begun, live_round, Event, Passage, Submission, StayRecord, is_cause, cause_in, Cause, Error, Caller, AdapterFrozen, DeviceFull, AdapterFull, LinkFull, NotAsked}
 use Rattle.wait_causes.specs.Causes.{waited_causes}
-use Rattle.round_net.specs.Ends.{is_cause, cause_in}
-use Rattle.round_net.specs.declared.cause.Cause.{Cause}
-use Rattle.round_net.specs.declared.cause.Cause.TheVariants.{Error, Caller, AdapterFrozen, DeviceFull, AdapterFull, LinkFull, NotAsked}
 use Rattle.wait_causes.specs.declared.explained_stay.CauseRounds.{CauseRounds}
-use Rattle.wait_causes.specs.declared.explained_stay.ExplainedStay.{ExplainedStay}
+pub use Rattle.wait_causes.specs.declared.explained_stay.ExplainedStay.{ExplainedStay}
 
 -- how many of some rounds have each cause
 abbrev pub rounds_by : List Cause → CauseRounds

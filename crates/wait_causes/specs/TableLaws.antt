@@ -1,13 +1,9 @@
 -- the rows of a table and the whole
 use Rattle.std.specs.Prelude.{◌≡◌, ℕ, List, sum_by}
-use Rattle.wait_causes.specs.Parts.{part_of}
-use Rattle.wait_causes.specs.Tables.{table_of}
+use Rattle.wait_causes.specs.Parts.{part_of, Measure, Waited, Live, Best, Cost, Part}
+use Rattle.wait_causes.specs.Tables.{table_of, Grouping}
 use Rattle.round_net.specs.declared.cause.Cause.TheVariants.{Error, Caller, AdapterFrozen, DeviceFull, AdapterFull, LinkFull, NotAsked}
-use Rattle.wait_causes.specs.declared.explained_stay.ExplainedStay.{ExplainedStay}
-use Rattle.wait_causes.specs.declared.part.Measure.{Measure}
-use Rattle.wait_causes.specs.declared.part.Measure.TheVariants.{Waited, Live, Best, Cost}
-use Rattle.wait_causes.specs.declared.part.Part.{Part}
-use Rattle.wait_causes.specs.declared.table.Grouping.{Grouping}
+use Rattle.wait_causes.specs.Stays.{ExplainedStay}
 use Rattle.wait_causes.specs.declared.table.Row as table
 
 -- what a part has of a measure

@@ -2,8 +2,8 @@
 use Rattle.std.specs.Prelude.{ℕ, ◌+◌, ◌==◌, max, if◌then◌else◌, List, [], ◌∷◌, filter, flat_map, fold, length}
 use Rattle.std.specs.List.{range_with_len}
 use Rattle.wait_causes.specs.Parts.{part_of}
-use Rattle.wait_causes.specs.declared.explained_stay.ExplainedStay.{ExplainedStay}
-use Rattle.wait_causes.specs.declared.table.Grouping.{Grouping}
+use Rattle.wait_causes.specs.Stays.{ExplainedStay}
+pub use Rattle.wait_causes.specs.declared.table.Grouping.{Grouping}
 use Rattle.wait_causes.specs.declared.table.Grouping.TheVariants.{Adapter, Device, Driver, Level}
 use Rattle.wait_causes.specs.declared.table.Row as table
 

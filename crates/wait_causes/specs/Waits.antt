@@ -1,13 +1,9 @@
 -- the waits of a stay: runs of rounds with one cause
 use Rattle.std.specs.Prelude.{◌≡◌, ℕ, ◌+◌, ◌-◌, Bool, true, not, ◌&&◌, List, [], ◌∷◌, ◌++◌, map, flat_map, nat_le}
 use Rattle.std.specs.List.{range_with_len, list_all}
-use Rattle.cam_types.specs.Topology.{Topology}
-use Rattle.event_rules.specs.declared.event.Event.{Event}
-use Rattle.event_rules.specs.declared.passage.Passage.{Passage}
+use Rattle.wait_causes.specs.Words.{Topology, Event, Passage, is_cause, Cause}
 use Rattle.wait_causes.specs.Causes.{round_cause, waited_rounds}
-use Rattle.round_net.specs.Ends.{is_cause}
-use Rattle.round_net.specs.declared.cause.Cause.{Cause}
-use Rattle.wait_causes.specs.declared.wait.Wait.{Wait}
+pub use Rattle.wait_causes.specs.declared.wait.Wait.{Wait}
 
 -- a round with its cause
 abbrev pub beside : (ℕ → Cause) → ℕ → ℕ × Cause

@@ -1,8 +1,7 @@
 //! A stay with the causes of its waiting.
 
 ghost use Rattle.std.specs.Prelude.{◌≡◌, ◌+◌, ◌<◌, ◌≤◌, ◌^◌};
-ghost use Rattle.wait_causes.specs.Parts.{waited, measure};
-ghost use Rattle.wait_causes.specs.declared.part.Measure.TheVariants.{Live};
+ghost use Rattle.wait_causes.specs.Parts.{waited, measure, Live};
 ghost use Rattle.wait_causes.specs.Stays.{with_round, all_rounds, no_rounds};
 
 use round_net::Cause;

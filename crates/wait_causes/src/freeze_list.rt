@@ -1,9 +1,7 @@
 //! The freezes of a history, each with its rounds and what it cost.
 
 ghost use Rattle.std.specs.Prelude.{◌≡◌, ◌≤◌, ◌++◌, length, count_by, sum_by, IfOk};
-ghost use Rattle.cam_types.specs.declared.maxima.TheConstants.{MOST_STAYS};
-ghost use Rattle.event_rules.specs.Counts.{round};
-ghost use Rattle.round_net.specs.Ends.{numbers, cause_in, flag_in};
+ghost use Rattle.wait_causes.specs.Words.{MOST_STAYS, round, numbers, cause_in, flag_in};
 ghost use Rattle.wait_causes.specs.Freezes.{begins, behind, rounds_between, waits_for, stay_cost, cost_in, freeze_from, freezes_at, freezes_by};
 
 use crate::explained_stay::ExplainedStay;

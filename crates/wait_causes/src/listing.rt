@@ -2,12 +2,8 @@
 
 ghost use Rattle.std.specs.Prelude.{◌≡◌, ◌≤◌, ◌-◌, map, length, zip, IfOk};
 ghost use Rattle.std.specs.List.{range_with_len};
-ghost use Rattle.cam_types.specs.declared.maxima.TheConstants.{MOST_STAYS};
+ghost use Rattle.wait_causes.specs.Words.{MOST_STAYS, device_adapter, submission, Submission, cause_in};
 ghost use Rattle.std.specs.Option.{option_map_or};
-ghost use Rattle.cam_types.specs.Questions.{device_adapter};
-ghost use Rattle.event_rules.specs.Counts.{submission};
-ghost use Rattle.event_rules.specs.declared.submission.Submission.{Submission};
-ghost use Rattle.round_net.specs.Ends.{cause_in};
 ghost use Rattle.wait_causes.specs.Stays.{rounds_by, row_by};
 
 use crate::explained_stay::{CauseRounds, ExplainedStay};

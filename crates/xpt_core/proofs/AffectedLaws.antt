@@ -1,24 +1,11 @@
 -- the devices that an event leaves as they were
-use Rattle.std.proofs.Common.{◌≡◌, ◌≢◌, ℕ, true, false, cond, List, [], ◌∷◌, ◌++◌, sym, ap, ◌∙◌, arith, Option, Some, None}
-use Rattle.std.specs.Prelude.{◌==◌, slice_get}
-use Rattle.std.specs.Option.{option_map}
+use Rattle.std.proofs.Common.{◌≡◌, ◌≢◌, ℕ, true, false, cond, List, [], ◌∷◌, ◌++◌, sym, ap, ◌∙◌, arith, Option, Some, None, ◌==◌, slice_get, option_map}
 use Rattle.std.proofs.lemmas.Bool.Decides.{nat_tests}
-use Rattle.cam_types.specs.Topology.{Topology}
-use Rattle.event_rules.specs.Event.{is_tick}
-use Rattle.event_rules.specs.Counts.{submission}
-use Rattle.event_rules.specs.Stays.{first}
-use Rattle.event_rules.specs.Head.{is_ready}
-use Rattle.event_rules.specs.declared.event.Event.{Event}
-use Rattle.event_rules.specs.declared.event.Event.TheVariants.{Submit, Send, Done, Requeue, Finish, FreezeDev, ReleaseDev, FreezeSim, ReleaseSim, Adjust, Tick}
-use Rattle.event_rules.specs.declared.submission.Submission.{Submission}
-use Rattle.event_rules.specs.declared.passage.Passage.{Passage}
-use Rattle.event_rules.specs.Legal.{Rules, is_legal_event, is_legal}
+use Rattle.xpt_core.specs.Words.{Topology, is_tick, submission, first, is_ready, Event, Submit, Send, Done, Requeue, Finish, FreezeDev, ReleaseDev, FreezeSim, ReleaseSim, Adjust, Tick, Submission, Passage, Rules, is_legal_event, is_legal, Device, Waiting}
 use Rattle.event_rules.proofs.StandLemmas.{AreStates, states-legal, asks-send, asks-done, asks-requeue, asks-finish}
 use Rattle.event_rules.proofs.CoverLemmas.{AreCovered, covered-legal}
 use Rattle.event_rules.proofs.FirstLemmas.{first-legal}
-use Rattle.dev_queue.specs.Device.{Device}
 use Rattle.dev_queue.specs.Device as dev
-use Rattle.dev_queue.specs.declared.waiting.Waiting.{Waiting}
 use Rattle.xpt_core.specs.Device.{device_state, entry}
 use Rattle.xpt_core.specs.Ready.{ready_priority}
 use Rattle.xpt_core.proofs.DeviceLaws.{state-submit, state-send, state-done, state-requeue, state-finish, state-freeze, state-release, state-adjust, state-freeze_sim, state-release_sim}

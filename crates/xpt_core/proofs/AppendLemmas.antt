@@ -1,15 +1,11 @@
 -- a transport after one event more, and its adapters' queues
 use Rattle.std.proofs.Common.{◌≡◌, ◌-◌, ◌<◌, ◌≤◌, true, List, [], ◌∷◌, ◌++◌, length, sym, ap, subst, ◌∙◌, arith, length-append}
-use Rattle.cam_types.specs.Topology.{Topology}
-use Rattle.event_rules.specs.declared.event.Event.{Event}
-use Rattle.event_rules.specs.Legal.{is_legal_event, is_legal}
+use Rattle.xpt_core.specs.Words.{Topology, Event, is_legal_event, is_legal, Adapter}
 use Rattle.event_rules.proofs.LimitLemmas.{legal-front}
-use Rattle.sim_queue.specs.Adapter.{Adapter}
 use Rattle.xpt_core.specs.Transport.{Transport}
 use Rattle.xpt_core.specs.Known.{adapters_of}
-use Rattle.xpt_core.specs.Affected.{affected_by}
+use Rattle.xpt_core.specs.Affected.{affected_by, Affected}
 use Rattle.xpt_core.specs.AdapterUpdates.{updated, CanUpdate, refreshed, AreAdapters, IsThere}
-use Rattle.xpt_core.specs.declared.queues.affected.Affected.{Affected}
 use Rattle.xpt_core.proofs.UpdateLaws.{unrefreshed, update-push, can-update}
 use Rattle.xpt_core.proofs.RefreshLaws.{affected-there, refresh-push}
 use Rattle.xpt_core.proofs.SimLemmas.{queues_of}

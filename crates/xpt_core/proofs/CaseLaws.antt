@@ -1,28 +1,18 @@
 -- what one event more makes of the cases
-use Rattle.std.proofs.Common.{◌≡◌, ℕ, zero, suc, ◌+◌, ◌<◌, ◌≤◌, Bool, true, false, cond, List, [], ◌∷◌, ◌++◌, length, drop, map, get_or, refl, sym, ap, ◌∙◌, arith, Option, Some, None, append-nil, length-append}
-use Rattle.std.specs.Prelude.{◌==◌, ◌&&◌, ◌||◌, not, filter, count_by, option_to_list, All}
+use Rattle.std.proofs.Common.{◌≡◌, ℕ, zero, suc, ◌+◌, ◌<◌, ◌≤◌, Bool, true, false, cond, List, [], ◌∷◌, ◌++◌, length, drop, map, get_or, refl, sym, ap, ◌∙◌, arith, Option, Some, None, append-nil, length-append, ◌==◌, ◌&&◌, ◌||◌, not, filter, count_by, option_to_list, All, option_map, eq-eqb}
 use Rattle.std.specs.List.{list_any}
-use Rattle.std.specs.Option.{option_map}
-use Rattle.std.proofs.lemmas.Bool.{eq-eqb}
 use Rattle.std.proofs.lemmas.Bool.Decides.{nat_tests}
 use Rattle.std.proofs.lemmas.List.{drop-append-le, drop_all, map-append}
 use Rattle.std.proofs.lemmas.List.Elements.{filter-append, filter_agree, All-weaker}
 use Rattle.std.proofs.lemmas.List.Folds.{list_any-append}
 use Rattle.std.proofs.lemmas.List.Sums.{sum_by-append, sum_by-cons}
-use Rattle.cam_types.specs.Lists.{moments}
+use Rattle.xpt_core.specs.Words.{moments, concerns, ccb_of, is_erring, is_recovering, Event, Send, Done, Requeue, Finish, Topology, Outcome, Rules, is_legal_event, is_legal}
 use Rattle.cam_types.proofs.ListLemmas.{moments-push}
-use Rattle.event_rules.specs.Event.{concerns, ccb_of, is_erring}
-use Rattle.event_rules.specs.Counts.{is_recovering}
-use Rattle.event_rules.specs.declared.event.Event.{Event}
-use Rattle.event_rules.specs.declared.event.Event.TheVariants.{Submit, Send, Done, Requeue, Finish, FreezeDev, ReleaseDev, FreezeSim, ReleaseSim, Adjust, Tick}
 use Rattle.event_rules.proofs.PushLaws.{not_both}
 use Rattle.event_rules.proofs.ListFacts.{count_by-kept, count_by-dropped, filter_map-push, filter-same, filter-both, filter-all, All-filter_map-moments}
 use Rattle.event_rules.proofs.StateLaws.{is_recovering-push}
 use Rattle.event_rules.proofs.CcbLaws.{event-induction}
 use Rattle.event_rules.proofs.TotalLaws.{commands-stays}
-use Rattle.cam_types.specs.Topology.{Topology}
-use Rattle.cam_types.specs.declared.outcome.Outcome.{Outcome}
-use Rattle.event_rules.specs.Legal.{Rules, is_legal_event, is_legal}
 use Rattle.event_rules.proofs.LimitLemmas.{stays-legal}
 use Rattle.event_rules.proofs.StandLemmas.{AreStates, states-legal, asks-send, asks-done, asks-requeue, asks-finish, flying-states}
 use Rattle.event_rules.proofs.FirstLemmas.{first-legal, stands}
@@ -42,16 +32,7 @@ placed false f g n is e = absurd (cc)
 
 pub place-failure_of : (m : List Event × Event) (f : Failure) → failure_of m ≡ Some f → f.place ≡ length m.0
 place-failure_of (before, Done ccb outcome) f e = placed (is_erring (Done ccb outcome)) _ f (length before) refl e
-place-failure_of (before, Submit driver device priority retries flags) f e = absurd (cc)
-place-failure_of (before, Send lane ccb) f e = absurd (cc)
-place-failure_of (before, Requeue ccb) f e = absurd (cc)
-place-failure_of (before, Finish ccb) f e = absurd (cc)
-place-failure_of (before, FreezeDev device count) f e = absurd (cc)
-place-failure_of (before, ReleaseDev device count) f e = absurd (cc)
-place-failure_of (before, FreezeSim sim count) f e = absurd (cc)
-place-failure_of (before, ReleaseSim sim) f e = absurd (cc)
-place-failure_of (before, Adjust device openings) f e = absurd (cc)
-place-failure_of (before, Tick) f e = absurd (cc)
+place-failure_of (before, _) f e = absurd (cc)
 
 places-failures : (es : List Event) → All (λ (f : Failure). f.place < length es) (failures es)
 unfolding failures

@@ -1,6 +1,5 @@
 -- what the parts of a transport's CCBs say of its events
-use Rattle.std.proofs.Common.{◌≡◌, ℕ, ◌<◌, ◌≤◌, Bool, true, false, cond, List, [], ◌∷◌, ◌++◌, length, get_or, refl, sym, ap, subst, ◌∙◌, arith, Option, Some, None, is_some, inl, inr}
-use Rattle.std.specs.Prelude.{not, ◌&&◌, nat_lt, nat_le, count_by, option_and_then, slice_get, IfSome, All, IsTrue, vec_len, vec_capacity}
+use Rattle.std.proofs.Common.{◌≡◌, ℕ, ◌<◌, ◌≤◌, Bool, true, false, cond, List, [], ◌∷◌, ◌++◌, length, get_or, refl, sym, ap, subst, ◌∙◌, arith, Option, Some, None, is_some, inl, inr, not, ◌&&◌, nat_lt, nat_le, count_by, option_and_then, slice_get, IfSome, All, IsTrue, vec_len, vec_capacity}
 use Rattle.std.specs.List.{list_any}
 use Rattle.std.specs.Option.{option_map, option_map_or}
 use Rattle.std.proofs.lemmas.Bool.{cases_lt, and_parts, ltb-true, lt-ltb}
@@ -8,30 +7,17 @@ use Rattle.std.proofs.lemmas.Option.{slice_get-get_or}
 use Rattle.std.proofs.lemmas.List.Elements.{All-from_get_or}
 use Rattle.std.proofs.lemmas.List.FromFn.{length-range_with_len}
 use Rattle.std.proofs.lemmas.List.Sums.{count_by-le-length}
-use Rattle.cam_types.specs.Topology.{Topology}
-use Rattle.cam_types.specs.declared.outcome.Outcome.{Outcome}
-use Rattle.cam_types.specs.declared.maxima.TheConstants.{MOST_PRIORITY, MOST_RETRIES, MOST_STAYS}
-use Rattle.sense_class.specs.Classes.{classify, asks_requeue, asks_finish}
+use Rattle.xpt_core.specs.Words.{Topology, Outcome, MOST_PRIORITY, MOST_RETRIES, MOST_STAYS, classify, asks_requeue, asks_finish, is_some_and, ccb_of, ends, submission_of, submission, submissions, commands, ccbs, alive, is_in_flight, is_recovering, last_result, counted_requeues, retries_of, wants_requeue, wants_finish, stays_begun, Event, Submit, Submission, names_device, Rules, IsWithinHistory, most_alive, has_ccb, has_stay, is_legal_event, is_legal, last_class}
 use Rattle.sense_class.specs.declared.class.Class as class
-use Rattle.event_rules.specs.Event.{is_some_and, ccb_of, ends, submission_of}
-use Rattle.event_rules.specs.Counts.{submission, submissions, commands, ccbs, alive, is_in_flight, is_recovering, last_result, counted_requeues, retries_of, wants_requeue, wants_finish}
-use Rattle.event_rules.specs.Stays.{stays_begun}
-use Rattle.event_rules.specs.declared.event.Event.{Event}
-use Rattle.event_rules.specs.declared.event.Event.TheVariants.{Submit}
-use Rattle.event_rules.specs.declared.submission.Submission.{Submission}
 use Rattle.event_rules.proofs.ConcernLaws.{concerns-none}
 use Rattle.event_rules.proofs.TotalLaws.{commands-stays}
 use Rattle.event_rules.proofs.LimitLemmas.{stays-legal}
-use Rattle.cam_types.specs.Questions.{names_device}
-use Rattle.event_rules.specs.Legal.{Rules, IsWithinHistory, most_alive, has_ccb, has_stay, is_legal_event, is_legal}
-use Rattle.event_rules.specs.Laws.{last_class}
 use Rattle.event_rules.proofs.LawLemmas.{allowed-legal_event, legal-push}
 use Rattle.xpt_core.specs.Transport.{Transport}
-use Rattle.xpt_core.specs.declared.ccbs.ccb.Ccb.{Ccb}
+use Rattle.xpt_core.specs.Change.{fresh, class_of_row, updated_at, IsSmall, Ccb}
 use Rattle.xpt_core.specs.declared.ccbs.Ccbs.{Ccbs}
 use Rattle.xpt_core.specs.Ccbs.{is_alive, ccb_by, alive_ccb, rows}
 use Rattle.xpt_core.specs.Cases.{cases, failures, times, decided}
-use Rattle.xpt_core.specs.Change.{fresh, class_of_row, updated_at, IsSmall}
 use Rattle.xpt_core.specs.Rows.{RowTable, is_row_in_flight, updated, CanUpdate}
 use Rattle.xpt_core.specs.PartsSound.{IsCcbs}
 use Rattle.xpt_core.proofs.ListFacts.{count_by-range, length-by_number, sum_by-same}

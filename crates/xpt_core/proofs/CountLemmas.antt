@@ -1,19 +1,10 @@
 -- what one legal event more changes of what is counted of all devices
-use Rattle.std.proofs.Common.{◌≡◌, ℕ, ◌+◌, ◌≤◌, true, false, cond, List, [], ◌∷◌, ◌++◌, length, refl, ap, ◌∙◌, arith, Some, None, add-zero, zero-add}
-use Rattle.std.specs.Prelude.{not}
-use Rattle.std.specs.Option.{option_map}
+use Rattle.std.proofs.Common.{◌≡◌, ℕ, ◌+◌, ◌≤◌, true, false, cond, List, [], ◌∷◌, ◌++◌, length, refl, ap, ◌∙◌, arith, Some, None, add-zero, zero-add, not, option_map}
 use Rattle.std.proofs.lemmas.List.FromFn.{length-range_with_len}
 use Rattle.std.proofs.lemmas.List.Sums.{count_by-le-length}
-use Rattle.cam_types.specs.Topology.{Topology}
-use Rattle.event_rules.specs.Event.{is_tick, is_send_of, submission_of}
-use Rattle.event_rules.specs.Counts.{round, commands, ccbs, is_in_flight}
-use Rattle.event_rules.specs.Stays.{stays_begun, stay_begun, waiting}
-use Rattle.event_rules.specs.declared.event.Event.{Event}
-use Rattle.event_rules.specs.declared.event.Event.TheVariants.{Submit, Send, Done, Requeue, Tick}
-use Rattle.event_rules.specs.declared.passage.Passage.{Passage}
+use Rattle.xpt_core.specs.Words.{Topology, is_tick, is_send_of, submission_of, round, commands, ccbs, is_in_flight, stays_begun, stay_begun, waiting, Event, Submit, Send, Done, Requeue, Tick, Passage, Rules, is_legal_event, is_legal}
 use Rattle.event_rules.proofs.PushLaws.{round-push, few_rounds, few_stays, few_commands}
 use Rattle.event_rules.proofs.StateLaws.{is_in_flight-push}
-use Rattle.event_rules.specs.Legal.{Rules, is_legal_event, is_legal}
 use Rattle.event_rules.proofs.ShareLaws.{some-range, flying-other, flies-send, lands-done}
 use Rattle.event_rules.proofs.TotalLaws.{submitted_stay, requeued_stay, flying, flying-same, flying-at, flying-submit, begun-none, begun-one, waiting-none, waiting-one, waiting-send, some_waits, few_waiting}
 use Rattle.event_rules.proofs.StandLemmas.{AreStates, states-legal, asks-send, asks-done, asks-requeue, new-states, IsWaiting}

@@ -1,25 +1,10 @@
 -- what one event more makes of each device's state
-use Rattle.std.proofs.Common.{◌≡◌, ℕ, ◌+◌, ◌-◌, ◌<◌, Bool, true, false, cond, List, [], ◌∷◌, ◌++◌, length, refl, sym, ap, ◌∙◌, arith, Some, None, add-zero, map, drop}
-use Rattle.std.specs.Prelude.{not, ◌==◌, ◌&&◌, ◌||◌, count_by}
+use Rattle.std.proofs.Common.{◌≡◌, ℕ, ◌+◌, ◌-◌, ◌<◌, Bool, true, false, cond, List, [], ◌∷◌, ◌++◌, length, refl, sym, ap, ◌∙◌, arith, Some, None, add-zero, map, drop, not, ◌==◌, ◌&&◌, ◌||◌, count_by}
 use Rattle.std.proofs.lemmas.Bool.{eqb-true, eqb-false}
 use Rattle.std.specs.Option.{option_map, option_map_or}
-use Rattle.cam_types.specs.Topology.{Topology}
-use Rattle.cam_types.specs.declared.flags.Flags.{Flags}
-use Rattle.cam_types.specs.declared.outcome.Outcome.{Outcome}
-use Rattle.event_rules.specs.Event.{is_some_and, is_tick, is_send_of, is_erring, submission_of}
-use Rattle.event_rules.specs.Counts.{round, commands, ccbs, submission, is_in_flight, is_recovering, sending_of, goes_to, caller_count, error_count}
-use Rattle.event_rules.specs.Stays.{stay_begun}
-use Rattle.event_rules.specs.Head.{openings}
-use Rattle.event_rules.specs.declared.event.Event.{Event}
-use Rattle.event_rules.specs.declared.event.Event.TheVariants.{Submit, Send, Done, Requeue, Finish, FreezeDev, ReleaseDev, FreezeSim, ReleaseSim, Adjust, Tick}
-use Rattle.event_rules.specs.declared.submission.Submission.{Submission}
-use Rattle.event_rules.specs.declared.passage.Passage.{Passage}
-use Rattle.event_rules.specs.declared.sending.Sending.{Sending}
+use Rattle.xpt_core.specs.Words.{Topology, Flags, Outcome, is_some_and, is_tick, is_send_of, is_erring, submission_of, round, commands, ccbs, submission, is_in_flight, is_recovering, sending_of, goes_to, caller_count, error_count, stay_begun, openings, Event, Submit, Send, Done, Requeue, Finish, FreezeDev, ReleaseDev, FreezeSim, ReleaseSim, Adjust, Tick, Submission, Passage, Sending, device_of, Device, enter, Waiting}
 use Rattle.event_rules.proofs.StateLaws.{is_in_flight-push, is_recovering-push}
 use Rattle.event_rules.proofs.QueueLaws.{later-tick}
-use Rattle.event_rules.specs.Refusals.{device_of}
-use Rattle.dev_queue.specs.Device.{Device, enter}
-use Rattle.dev_queue.specs.declared.waiting.Waiting.{Waiting}
 use Rattle.event_rules.proofs.ShareLaws.{error_count-share, share-same, share-submit, share-gain, share-lose, flying-other, recovering-other, same_number, flies-send, lands-done}
 use Rattle.event_rules.proofs.TotalLaws.{submitted_stay, requeued_stay}
 use Rattle.event_rules.proofs.StandLemmas.{AreStates, new-states, flying-states}

@@ -1,32 +1,19 @@
 -- the parts of a transport's devices, before any event and after one more
-use Rattle.std.proofs.Common.{◌≡◌, ℕ, suc, ◌+◌, ◌<◌, ◌≤◌, Bool, true, false, cond, List, [], ◌∷◌, ◌++◌, length, refl, sym, ap, subst, ◌∙◌, arith, Option, Some, None, map, get_or, zero-add}
-use Rattle.std.specs.Prelude.{not, ◌==◌, ◌||◌, count_by, slice_get, option_to_list, is_some, IfSome, is_some, vec_len, vec_capacity}
+use Rattle.std.proofs.Common.{◌≡◌, ℕ, suc, ◌+◌, ◌<◌, ◌≤◌, Bool, true, false, cond, List, [], ◌∷◌, ◌++◌, length, refl, sym, ap, subst, ◌∙◌, arith, Option, Some, None, map, get_or, zero-add, not, ◌==◌, ◌||◌, count_by, slice_get, option_to_list, is_some, IfSome, vec_len, vec_capacity, option_map}
 use Rattle.std.specs.List.{list_any, range_with_len}
-use Rattle.std.specs.Option.{option_map}
 use Rattle.std.proofs.lemmas.List.{length-map}
 use Rattle.std.proofs.lemmas.List.FromFn.{length-range_with_len}
 use Rattle.std.proofs.lemmas.Option.{slice_get_read}
 use Rattle.std.proofs.lemmas.List.Sums.{sum_by-cons}
 use Rattle.std.proofs.lemmas.Bool.Decides.{nat_tests}
-use Rattle.cam_types.specs.Topology.{Topology}
+use Rattle.xpt_core.specs.Words.{Topology, submission_of, submissions, ccbs, sendings, is_in_flight, has_in_flight, caller_count, error_count, stays_begun, waiting, queue, first, devices, openings, Event, Submit, Passage, Rules, IsWithinHistory, is_legal_event, is_legal, Device, Waiting}
 use Rattle.cam_types.specs.declared.device.Device as config
-use Rattle.event_rules.specs.Event.{submission_of}
-use Rattle.event_rules.specs.Counts.{submissions, ccbs, sendings, is_in_flight, has_in_flight, caller_count, error_count}
-use Rattle.event_rules.specs.Stays.{stays_begun, waiting, queue, first}
-use Rattle.cam_types.specs.Questions.{devices}
-use Rattle.event_rules.specs.Head.{openings}
-use Rattle.event_rules.specs.declared.event.Event.{Event}
-use Rattle.event_rules.specs.declared.event.Event.TheVariants.{Submit}
-use Rattle.event_rules.specs.declared.passage.Passage.{Passage}
 use Rattle.event_rules.proofs.QueueLaws.{first-in_order}
 use Rattle.event_rules.proofs.PushLaws.{submissions-push, few_commands}
 use Rattle.event_rules.proofs.StateLaws.{slice_get-range}
-use Rattle.event_rules.specs.Legal.{Rules, IsWithinHistory, is_legal_event, is_legal}
 use Rattle.event_rules.proofs.LawLemmas.{allowed-legal_event, legal-push}
 use Rattle.event_rules.proofs.LimitLemmas.{room_submit}
 use Rattle.event_rules.proofs.WithinLemmas.{short-legal}
-use Rattle.dev_queue.specs.Device.{Device}
-use Rattle.dev_queue.specs.declared.waiting.Waiting.{Waiting}
 use Rattle.event_rules.proofs.TotalLaws.{commands-stays}
 use Rattle.xpt_core.specs.Device.{entry, in_order, device_state, new_device}
 use Rattle.xpt_core.specs.DeviceUpdates.{updated, CanUpdate}

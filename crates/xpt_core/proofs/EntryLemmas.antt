@@ -1,15 +1,9 @@
 -- a stay is inserted into a queue in order where an entry enters
-use Rattle.std.proofs.Common.{◌≡◌, ℕ, Bool, true, false, cond, List, [], ◌∷◌, refl, ap, ◌∙◌, arith}
-use Rattle.std.specs.Prelude.{not, ◌==◌, ◌&&◌, ◌||◌, nat_lt, nat_le, fold, map}
+use Rattle.std.proofs.Common.{◌≡◌, ℕ, Bool, true, false, cond, List, [], ◌∷◌, refl, ap, ◌∙◌, arith, not, ◌==◌, ◌&&◌, ◌||◌, nat_lt, nat_le, fold, map}
 use Rattle.std.specs.List.{list_all}
 use Rattle.std.proofs.lemmas.Bool.{and_parts, and_from}
 use Rattle.std.proofs.lemmas.Bool.Decides.{nat_tests}
-use Rattle.cam_types.specs.Lists.{is_less}
-use Rattle.event_rules.specs.Stays.{queue_key, earlier_key}
-use Rattle.event_rules.specs.Sorted.{insert_by, sorted_by}
-use Rattle.event_rules.specs.declared.passage.Passage.{Passage}
-use Rattle.dev_queue.specs.Device.{enter, enter_all}
-use Rattle.dev_queue.specs.declared.waiting.Waiting.{Waiting}
+use Rattle.xpt_core.specs.Words.{is_less, queue_key, earlier_key, insert_by, sorted_by, Passage, enter, enter_all, Waiting}
 use Rattle.xpt_core.specs.Device.{entry}
 
 -- the one stay isn't earlier than the other, of one priority

@@ -1,17 +1,8 @@
 -- what one event more changes of each part of a device's state
-use Rattle.std.proofs.Common.{◌≡◌, ℕ, ◌+◌, Bool, true, false, cond, List, [], ◌∷◌, ◌++◌, refl, sym, ap, ◌∙◌, Option, Some, None, append-nil, add-zero}
-use Rattle.std.specs.Prelude.{◌==◌, count_by, option_to_list}
+use Rattle.std.proofs.Common.{◌≡◌, ℕ, ◌+◌, Bool, true, false, cond, List, [], ◌∷◌, ◌++◌, refl, sym, ap, ◌∙◌, Option, Some, None, append-nil, add-zero, ◌==◌, count_by, option_to_list}
 use Rattle.std.specs.List.{before_last}
 use Rattle.std.specs.Option.{option_map_or}
-use Rattle.cam_types.specs.Topology.{Topology}
-use Rattle.event_rules.specs.Event.{is_some_and, is_tick, is_adjust_of, adjusts_to}
-use Rattle.event_rules.specs.Counts.{last, sendings, sending_of, goes_to}
-use Rattle.event_rules.specs.Stays.{stays_begun, stay_begun}
-use Rattle.cam_types.specs.Questions.{device_openings}
-use Rattle.event_rules.specs.Head.{openings, goes_now_to}
-use Rattle.event_rules.specs.declared.event.Event.{Event}
-use Rattle.event_rules.specs.declared.event.Event.TheVariants.{Tick}
-use Rattle.event_rules.specs.declared.passage.Passage.{Passage}
+use Rattle.xpt_core.specs.Words.{Topology, is_some_and, is_tick, is_adjust_of, adjusts_to, last, sendings, sending_of, goes_to, stays_begun, stay_begun, device_openings, openings, goes_now_to, Event, Tick, Passage}
 use Rattle.event_rules.proofs.PushLaws.{stays_begun-push}
 use Rattle.event_rules.proofs.ListFacts.{count_by-push}
 use Rattle.event_rules.proofs.StateLaws.{last-push}

@@ -1,20 +1,11 @@
 -- the device whose turn it is by an adapter's rows is the one by the events
-use Rattle.std.proofs.Common.{◌≡◌, ℕ, Bool, true, false, cond, List, [], ◌∷◌, refl, sym, ap, ◌∙◌, Option, Some, None, map}
-use Rattle.std.specs.Prelude.{not, ◌&&◌, ◌==◌, filter, find, is_some, unwrap_or, All}
+use Rattle.std.proofs.Common.{◌≡◌, ℕ, Bool, true, false, cond, List, [], ◌∷◌, refl, sym, ap, ◌∙◌, Option, Some, None, map, not, ◌&&◌, ◌==◌, filter, find, is_some, unwrap_or, All}
 use Rattle.std.specs.List.{list_all}
 use Rattle.std.specs.Option.{option_map, option_map_or}
 use Rattle.std.proofs.lemmas.List.Elements.{All-nil, All-cons, All-head, All-tail, All-weaker}
-use Rattle.cam_types.specs.Lists.{is_less, least_by}
-use Rattle.cam_types.specs.Topology.{Topology}
-use Rattle.event_rules.specs.Counts.{freeze_count, adapter_freezes}
-use Rattle.event_rules.specs.Stays.{first}
-use Rattle.cam_types.specs.Questions.{is_on, devices}
-use Rattle.event_rules.specs.Head.{is_ready, has_opening, adapter_has_opening, turn_key, may_send, turn, head, link_has_opening}
-use Rattle.event_rules.specs.declared.event.Event.{Event}
-use Rattle.event_rules.specs.declared.passage.Passage.{Passage}
+use Rattle.xpt_core.specs.Words.{is_less, least_by, Topology, freeze_count, adapter_freezes, first, is_on, devices, is_ready, has_opening, adapter_has_opening, turn_key, may_send, turn, head, link_has_opening, Event, Passage, Row}
 use Rattle.event_rules.proofs.ListFacts.{filter-both, filter-same}
 use Rattle.sim_queue.specs.Adapter as sim
-use Rattle.sim_queue.specs.declared.row.Row.{Row}
 use Rattle.xpt_core.specs.Ready.{ready_priority}
 use Rattle.xpt_core.specs.Known.{known, devices_on, row_of, adapter_of}
 

@@ -1,6 +1,5 @@
 -- the latest stay of each CCB of a legal list: none follows it, and no other is without a send
-use Rattle.std.proofs.Common.{◌≡◌, ◌≢◌, ℕ, ◌+◌, ◌-◌, ◌<◌, ◌≤◌, Bool, true, false, cond, List, [], ◌∷◌, ◌++◌, length, refl, sym, ap, ◌∙◌, arith, Option, Some, None, inl, inr, append-nil, length-append}
-use Rattle.std.specs.Prelude.{not, ◌==◌, ◌&&◌, slice_get, reverse, count_by, option_to_list}
+use Rattle.std.proofs.Common.{◌≡◌, ◌≢◌, ℕ, ◌+◌, ◌-◌, ◌<◌, ◌≤◌, Bool, true, false, cond, List, [], ◌∷◌, ◌++◌, length, refl, sym, ap, ◌∙◌, arith, Option, Some, None, inl, inr, append-nil, length-append, not, ◌==◌, ◌&&◌, slice_get, reverse, count_by, option_to_list}
 use Rattle.std.specs.List.{list_any, position_or_len}
 use Rattle.std.specs.Option.{option_or}
 use Rattle.std.proofs.lemmas.Bool.{and_parts, cases_eq, eq-eqb, ne_eqb, lt-ltb, le-ltb, or_cases}
@@ -8,19 +7,10 @@ use Rattle.std.proofs.lemmas.List.{reverse-append}
 use Rattle.std.proofs.lemmas.List.Folds.{find-append}
 use Rattle.std.proofs.lemmas.List.Sums.{sum_by-cons}
 use Rattle.std.proofs.Math.Bool.{and-false}
-use Rattle.cam_types.specs.Topology.{Topology}
-use Rattle.event_rules.specs.Event.{is_send_of, is_requeue_of, submission_of}
-use Rattle.cam_types.specs.declared.flags.Flags.{Flags}
-use Rattle.event_rules.specs.Counts.{commands, submission, submissions, is_recovering}
-use Rattle.event_rules.specs.Stays.{stays_begun, stay_begun, is_unsent, waiting}
-use Rattle.event_rules.specs.declared.event.Event.{Event}
-use Rattle.event_rules.specs.declared.event.Event.TheVariants.{Submit, Send, Done, Requeue, Finish, FreezeDev, ReleaseDev, FreezeSim, ReleaseSim, Adjust, Tick}
-use Rattle.event_rules.specs.declared.passage.Passage.{Passage}
-use Rattle.event_rules.specs.declared.submission.Submission.{Submission}
+use Rattle.xpt_core.specs.Words.{Topology, is_send_of, is_requeue_of, submission_of, Flags, commands, submission, submissions, is_recovering, stays_begun, stay_begun, is_unsent, waiting, Event, Submit, Send, Done, Requeue, Finish, FreezeDev, ReleaseDev, FreezeSim, ReleaseSim, Adjust, Tick, Passage, Submission, Rules, is_legal_event, is_legal}
 use Rattle.event_rules.proofs.PushLaws.{stays_begun-push, place-stay_begun, places-stays_begun, is_unsent-push}
 use Rattle.event_rules.proofs.CcbLaws.{requeues-push}
 use Rattle.event_rules.proofs.TotalLaws.{unsent_count, submitted_stay, requeued_stay, commands-submit, commands-none}
-use Rattle.event_rules.specs.Legal.{Rules, is_legal_event, is_legal}
 use Rattle.event_rules.proofs.LimitLemmas.{legal-induction}
 use Rattle.event_rules.proofs.StandLemmas.{AreStates, asks-requeue, commands-grow, waiting-states, states_step, states_none}
 use Rattle.event_rules.proofs.TestLemmas.{list_any-filter}

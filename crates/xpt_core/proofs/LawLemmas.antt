@@ -1,29 +1,17 @@
 -- what holds of the cases of all legal events
-use Rattle.std.proofs.Common.{◌≡◌, ◌≢◌, ℕ, ◌+◌, ◌<◌, Bool, true, false, cond, List, [], ◌∷◌, ◌++◌, length, get_or, refl, sym, ap, subst, ◌∙◌, arith, Option, Some, None, append-nil, length-append, add-zero}
-use Rattle.std.specs.Prelude.{◌==◌, ◌||◌, not, filter, find, reverse, count_by, nat_le, option_to_list, slice_get, All, IsTrue, MatchOption}
+use Rattle.std.proofs.Common.{◌≡◌, ◌≢◌, ℕ, ◌+◌, ◌<◌, Bool, true, false, cond, List, [], ◌∷◌, ◌++◌, length, get_or, refl, sym, ap, subst, ◌∙◌, arith, Option, Some, None, append-nil, length-append, add-zero, ◌==◌, ◌||◌, not, filter, find, reverse, count_by, nat_le, option_to_list, slice_get, All, IsTrue, MatchOption, eq-eqb, eqb-true}
 use Rattle.std.specs.List.{list_any, AllPairs}
 use Rattle.std.specs.Option.{option_map, option_map_or}
 use Rattle.std.proofs.Math.Seq.{get_or-append_seam}
-use Rattle.std.proofs.lemmas.Bool.{eq-eqb, eqb-true}
 use Rattle.std.proofs.lemmas.List.{reverse-append}
 use Rattle.std.proofs.lemmas.List.Elements.{All-nil, All-cons, All-append, All-filter, filter_passes}
 use Rattle.std.proofs.lemmas.List.Kept.{AllPairs-filter}
 use Rattle.std.proofs.lemmas.List.Quantifiers.{all_pairs_push}
 use Rattle.std.proofs.lemmas.List.Sums.{sum_by-cons}
-use Rattle.cam_types.specs.Topology.{Topology}
-use Rattle.cam_types.specs.declared.outcome.Outcome.{Outcome}
-use Rattle.sense_class.specs.Classes.{classify, asks_requeue, asks_finish}
+use Rattle.xpt_core.specs.Words.{Topology, Outcome, classify, asks_requeue, asks_finish, is_some_and, concerns, ccb_of, is_erring, ccbs, commands, is_recovering, last_result, counted_requeues, retries_of, wants_requeue, wants_finish, Event, Done, Requeue, Finish, Rules, names_ccb, is_legal_event, is_legal, last_class, refusal, first_cause, are_stays_full, HistoryFull, StaysFull, NoCcb, NotRecovering, WrongDecision}
 use Rattle.sense_class.specs.declared.class.Class as class
-use Rattle.event_rules.specs.Event.{is_some_and, concerns, ccb_of, is_erring}
-use Rattle.event_rules.specs.Counts.{ccbs, commands, is_recovering, last_result, counted_requeues, retries_of, wants_requeue, wants_finish}
-use Rattle.event_rules.specs.declared.event.Event.{Event}
-use Rattle.event_rules.specs.declared.event.Event.TheVariants.{Done, Requeue, Finish}
 use Rattle.event_rules.proofs.CcbLaws.{event-induction, last_result-push, counted_requeues-push, not_ended-push}
 use Rattle.event_rules.proofs.StateLaws.{is_recovering-push}
-use Rattle.event_rules.specs.Legal.{Rules, names_ccb, is_legal_event, is_legal}
-use Rattle.event_rules.specs.Laws.{last_class}
-use Rattle.event_rules.specs.Refusals.{refusal, first_cause, are_stays_full}
-use Rattle.event_rules.specs.declared.refusal.Refusal.TheVariants.{HistoryFull, StaysFull, NoCcb, NotRecovering, WrongDecision}
 use Rattle.event_rules.proofs.StandLemmas.{states-legal, asks-done, in_flight_held, recovering_held}
 use Rattle.xpt_core.specs.Ccbs.{is_alive}
 use Rattle.xpt_core.specs.Cases.{Failure, failure_of, failures, failed_ccb, cases}

@@ -1,19 +1,12 @@
 -- the sends over a link are those of the adapters on it
-use Rattle.std.proofs.Common.{◌≡◌, ℕ, ◌+◌, ◌≤◌, Bool, true, false, cond, List, [], ◌∷◌, length, refl, sym, ap, ◌∙◌, arith, inl, inr, Option, Some, None}
-use Rattle.std.specs.Prelude.{◌==◌, ◌&&◌, nat_lt, count_by, slice_get}
+use Rattle.std.proofs.Common.{◌≡◌, ℕ, ◌+◌, ◌≤◌, Bool, true, false, cond, List, [], ◌∷◌, length, refl, sym, ap, ◌∙◌, arith, inl, inr, Option, Some, None, ◌==◌, ◌&&◌, nat_lt, count_by, slice_get}
 use Rattle.std.specs.Option.{option_map_or, option_eq}
 use lib.Dec.{eqb}
 use Rattle.std.proofs.lemmas.Bool.{cases_eq, cases_lt, eq-eqb, ne_eqb, lt-ltb, le-ltb}
 use Rattle.std.proofs.lemmas.List.Sums.{sum_by-cons, count_by-le-length}
-use Rattle.cam_types.specs.Topology.{Topology, IsConfig}
-use Rattle.cam_types.specs.Questions.{is_on, is_under, adapter_link, device_adapter}
+use Rattle.xpt_core.specs.Words.{Topology, IsConfig, is_on, is_under, adapter_link, device_adapter, moments, sendings, sending_of, goes_now, goes_now_to_adapter, goes_now_over_link, Event, Sending}
 use Rattle.cam_types.specs.declared.device.Device.{Device}
-use Rattle.cam_types.specs.Lists.{moments}
-use Rattle.event_rules.specs.Counts.{sendings, sending_of}
 use Rattle.event_rules.proofs.ListFacts.{length-filter_map, length-moments_after}
-use Rattle.event_rules.specs.Head.{goes_now, goes_now_to_adapter, goes_now_over_link}
-use Rattle.event_rules.specs.declared.event.Event.{Event}
-use Rattle.event_rules.specs.declared.sending.Sending.{Sending}
 use Rattle.cam_types.proofs.ConfigLemmas.{bus-there}
 use Rattle.std.proofs.lemmas.Option.{slice_get_within}
 

@@ -1,17 +1,9 @@
 -- the first stay of the device whose turn it is
-use Rattle.std.proofs.Common.{◌≡◌, ℕ, List, refl, ap, ◌∙◌, Option, Some, None}
-use Rattle.std.specs.Prelude.{option_and_then}
-use Rattle.std.specs.Option.{option_map}
-use Rattle.cam_types.specs.Topology.{Topology}
-use Rattle.event_rules.specs.Stays.{first}
-use Rattle.event_rules.specs.Head.{head, next}
-use Rattle.event_rules.specs.declared.event.Event.{Event}
-use Rattle.event_rules.specs.declared.passage.Passage.{Passage}
+use Rattle.std.proofs.Common.{◌≡◌, ℕ, List, refl, ap, ◌∙◌, Option, Some, None, option_and_then, option_map}
+use Rattle.xpt_core.specs.Words.{Topology, first, head, next, Event, Passage, Waiting}
 use Rattle.event_rules.proofs.NextLemmas.{queued-first}
-use Rattle.dev_queue.specs.declared.waiting.Waiting.{Waiting}
 use Rattle.xpt_core.specs.Device.{entry}
-use Rattle.xpt_core.specs.Next.{next_of}
-use Rattle.xpt_core.specs.declared.queues.next.Next.{Next}
+use Rattle.xpt_core.specs.Next.{next_of, Next}
 
 pub next-none : (c : Topology) (es : List Event) (a : ℕ) → head c es a ≡ None → option_map next_of (next c es a) ≡ None
 unfolding next

@@ -1,22 +1,16 @@
 -- the adapters' queues before any event
-use Rattle.std.proofs.Common.{◌≡◌, ℕ, ◌+◌, ◌<◌, Bool, true, false, cond, List, [], ◌∷◌, ◌++◌, length, get_or, refl, sym, ap, ◌∙◌, arith, map, append-nil, zero-add}
-use Rattle.std.specs.Prelude.{◌==◌, filter, slice_get}
+use Rattle.std.proofs.Common.{◌≡◌, ℕ, ◌+◌, ◌<◌, Bool, true, false, cond, List, [], ◌∷◌, ◌++◌, length, get_or, refl, sym, ap, ◌∙◌, arith, map, append-nil, zero-add, ◌==◌, filter, slice_get}
 use Rattle.std.specs.List.{range_with_len}
 use Rattle.std.specs.Option.{option_map_or}
 use Rattle.std.proofs.lemmas.Bool.Decides.{nat_tests}
 use Rattle.std.proofs.lemmas.List.{map-append}
 use Rattle.std.proofs.lemmas.List.Elements.{filter-append}
 use Rattle.std.proofs.lemmas.Option.{slice_get-get_or}
-use Rattle.cam_types.specs.Topology.{Topology}
+use Rattle.xpt_core.specs.Words.{Topology, sendings, adapter_freezes, first, queue, waiting, stays_begun, is_on, adapter_openings, is_ready, last_sent, Adapter, new_row}
 use Rattle.cam_types.specs.declared.adapter.Adapter as cam
 use Rattle.cam_types.specs.declared.device.Device.{Device}
-use Rattle.event_rules.specs.Counts.{sendings, adapter_freezes}
-use Rattle.event_rules.specs.Stays.{first, queue, waiting, stays_begun}
-use Rattle.cam_types.specs.Questions.{is_on, adapter_openings}
-use Rattle.event_rules.specs.Head.{is_ready, last_sent}
 use Rattle.event_rules.proofs.ListFacts.{range_with_len-push}
 use Rattle.event_rules.proofs.StateLaws.{map-range_same}
-use Rattle.sim_queue.specs.Adapter.{Adapter, new_row}
 use Rattle.xpt_core.specs.Known.{known, nothing, devices_on, adapter_of, adapters_of}
 use Rattle.xpt_core.proofs.RowLemmas.{adapter, known-same}
 

@@ -1,29 +1,17 @@
 -- what one event more changes of the stays that wait at a device
-use Rattle.std.proofs.Common.{◌≡◌, ℕ, ◌+◌, ◌<◌, ◌≤◌, Bool, true, false, cond, List, [], ◌∷◌, ◌++◌, length, refl, ap, ◌∙◌, arith, Option, Some, None, append-nil, append_assoc, length-append, map, drop}
-use Rattle.std.specs.Prelude.{not, ◌==◌, ◌&&◌, ◌||◌, if◌then◌else◌, nat_lt, nat_le, filter, option_to_list, All}
+use Rattle.std.proofs.Common.{◌≡◌, ℕ, ◌+◌, ◌<◌, ◌≤◌, Bool, true, false, cond, List, [], ◌∷◌, ◌++◌, length, refl, ap, ◌∙◌, arith, Option, Some, None, append-nil, append_assoc, length-append, map, drop, not, ◌==◌, ◌&&◌, ◌||◌, if◌then◌else◌, nat_lt, nat_le, filter, option_to_list, All, option_map}
 use Rattle.std.specs.List.{list_all, filter_map, cons_option}
-use Rattle.std.specs.Option.{option_map}
-use Rattle.cam_types.specs.declared.flags.Flags.{Flags}
+use Rattle.xpt_core.specs.Words.{Flags, moments, moments_after, is_tick, is_send_of, round, submission, stays_begun, waiting, stay_begun, is_unsent, is_at, queue, queue_key, sorted_by, Event, Submit, Requeue, Tick, Submission, Passage, enter, enter_all}
 use Rattle.std.proofs.lemmas.Bool.{and_parts, and_from, lt-ltb, ltb-true, eqb-true}
 use Rattle.std.proofs.lemmas.Bool.Decides.{nat_tests}
 use Rattle.std.proofs.lemmas.List.{map-append}
 use Rattle.std.proofs.lemmas.List.Elements.{All-head, All-tail}
-use Rattle.cam_types.specs.Lists.{moments, moments_after}
-use Rattle.event_rules.specs.Event.{is_tick, is_send_of}
-use Rattle.event_rules.specs.Counts.{round, submission}
-use Rattle.event_rules.specs.Stays.{stays_begun, waiting, stay_begun, is_unsent, is_at, queue, queue_key}
-use Rattle.event_rules.specs.Sorted.{sorted_by}
-use Rattle.event_rules.specs.declared.event.Event.{Event}
-use Rattle.event_rules.specs.declared.event.Event.TheVariants.{Submit, Send, Done, Requeue, Finish, FreezeDev, ReleaseDev, FreezeSim, ReleaseSim, Adjust, Tick}
-use Rattle.event_rules.specs.declared.submission.Submission.{Submission}
-use Rattle.event_rules.specs.declared.passage.Passage.{Passage}
 use Rattle.event_rules.proofs.PushLaws.{places-stays_begun, place-stay_begun}
 use Rattle.event_rules.proofs.ListFacts.{filter-all}
 use Rattle.event_rules.proofs.TurnLaws.{round-more}
 use Rattle.event_rules.proofs.SortedLemmas.{sorted_by-push}
 use Rattle.event_rules.proofs.QueueLaws.{queue-push, later-push, in_order-tick, arrived-waiting, begun_from, kept_stay, le_test, test_le}
 use Rattle.event_rules.proofs.TestLemmas.{list_all-filter, list_all-filtered, list_all-weaker}
-use Rattle.dev_queue.specs.Device.{enter, enter_all}
 use Rattle.event_rules.proofs.TotalLaws.{submitted_stay, requeued_stay}
 use Rattle.xpt_core.specs.Device.{entry, in_order, is_later, later}
 use Rattle.xpt_core.proofs.EntryLemmas.{is_behind, all_behind, are_behind, all-sorted, entry-insert, entry-fold}
@@ -202,15 +190,7 @@ submitted_due q p r h e =
 due-stay_begun : (m : List Event × Event) (r : ℕ) (p : Passage) → round m.0 ≤ r → stay_begun m ≡ Some p → is_due r p ≡ true
 due-stay_begun (before, Submit driver device priority retries flags) r p le e = submitted_due (submitted_stay before device priority) p r le e
 due-stay_begun (before, Requeue ccb) r p le e = requeued_cases (submission before ccb) (requeued_stay before ccb) r (λ x. refl) p e
-due-stay_begun (before, Send lane ccb) r p le e = absurd (cc)
-due-stay_begun (before, Done ccb outcome) r p le e = absurd (cc)
-due-stay_begun (before, Finish ccb) r p le e = absurd (cc)
-due-stay_begun (before, FreezeDev device count) r p le e = absurd (cc)
-due-stay_begun (before, ReleaseDev device count) r p le e = absurd (cc)
-due-stay_begun (before, FreezeSim sim count) r p le e = absurd (cc)
-due-stay_begun (before, ReleaseSim sim) r p le e = absurd (cc)
-due-stay_begun (before, Adjust device openings) r p le e = absurd (cc)
-due-stay_begun (before, Tick) r p le e = absurd (cc)
+due-stay_begun (before, _) r p le e = absurd (cc)
 
 due_after : (es xs : List Event) (r : ℕ) → round (es ++ xs) ≤ r → list_all (is_due r) (filter_map stay_begun (moments_after es xs)) ≡ true
 due_after es [] r le = refl

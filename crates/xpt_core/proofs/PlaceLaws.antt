@@ -1,10 +1,6 @@
 -- what is known of each CCB of legal events, and where it stands: in a queue, in flight, after an error, or nowhere
 use Rattle.std.proofs.Common.{◌≡◌, ℕ, ◌≤◌, true, List, [], ◌∷◌, ◌++◌, refl, ◌∙◌, arith}
-use Rattle.cam_types.specs.Topology.{Topology}
-use Rattle.event_rules.specs.Counts.{commands, submissions, is_in_flight, is_recovering, last_result, counted_requeues}
-use Rattle.event_rules.specs.declared.event.Event.{Event}
-use Rattle.event_rules.specs.declared.submission.Submission.{Submission}
-use Rattle.event_rules.specs.Legal.{Rules, is_legal_event, is_legal}
+use Rattle.xpt_core.specs.Words.{Topology, commands, submissions, is_in_flight, is_recovering, last_result, counted_requeues, Event, Submission, Rules, is_legal_event, is_legal}
 use Rattle.event_rules.proofs.LimitLemmas.{legal-induction}
 use Rattle.event_rules.proofs.StandLemmas.{AreStates, concerns-past, commands-grow, states_step, states_none}
 use Rattle.xpt_core.specs.Ccbs.{ccb_by}

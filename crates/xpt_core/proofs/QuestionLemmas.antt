@@ -1,28 +1,16 @@
 -- what is asked of the stays, by their records
-use Rattle.std.proofs.Common.{◌≡◌, ℕ, ◌+◌, ◌<◌, ◌≤◌, ◌*◌, ◌-◌, Bool, true, false, cond, List, [], ◌∷◌, get_or, map, inl, inr, refl, sym, ap, ◌∙◌, arith, Option, Some, None}
-use Rattle.std.specs.Prelude.{◌&&◌, slice_get, find, sum_by, is_none, unwrap_or, vec_len}
+use Rattle.std.proofs.Common.{◌≡◌, ℕ, ◌+◌, ◌<◌, ◌≤◌, ◌*◌, ◌-◌, Bool, true, false, cond, List, [], ◌∷◌, get_or, map, inl, inr, refl, sym, ap, ◌∙◌, arith, Option, Some, None, ◌&&◌, slice_get, find, sum_by, is_none, unwrap_or, vec_len, option_map}
 use Rattle.std.specs.List.{list_any}
-use Rattle.std.specs.Option.{option_map}
 use Rattle.std.proofs.lemmas.List.Sums.{sum_by-cons}
 use Rattle.std.proofs.lemmas.Option.{slice_get_within, slice_get_cases, get_or_from_slice_get}
 use Rattle.std.proofs.lemmas.Bool.{cases_lt, or_parts}
-use Rattle.cam_types.specs.Topology.{Topology}
-use Rattle.cam_types.specs.Questions.{weight}
-use Rattle.event_rules.specs.Counts.{round, commands}
-use Rattle.event_rules.specs.Event.{is_some_and}
-use Rattle.event_rules.specs.Stays.{stays_begun, name_of, unsent, has_arrived, has_queued}
+use Rattle.xpt_core.specs.Words.{Topology, weight, round, commands, is_some_and, stays_begun, name_of, unsent, has_arrived, has_queued, live_part, live_cost, live_round, Event, Passage, Stay}
 use Rattle.event_rules.specs.Stays as stays
-use Rattle.event_rules.specs.Live.{live_part, live_cost, live_round}
-use Rattle.event_rules.specs.declared.event.Event.{Event}
-use Rattle.event_rules.specs.declared.passage.Passage.{Passage}
-use Rattle.event_rules.specs.declared.stay.Stay.{Stay}
 use Rattle.xpt_core.specs.Transport.{Transport}
-use Rattle.xpt_core.specs.StayRecord.{is_unsent, is_queued, waiting_cost}
+use Rattle.xpt_core.specs.StayRecord.{is_unsent, is_queued, waiting_cost, StayRecord}
 use Rattle.xpt_core.specs.Latest.{latest_stay}
 use Rattle.xpt_core.specs.Records.{record_of, records}
-use Rattle.xpt_core.specs.PartsSound.{IsStays}
-use Rattle.xpt_core.specs.declared.stays.stay_record.StayRecord.{StayRecord}
-use Rattle.xpt_core.specs.declared.stays.Stays.{Stays}
+use Rattle.xpt_core.specs.PartsSound.{IsStays, Stays}
 use Rattle.xpt_core.proofs.LatestLemmas.{latest-legal}
 use Rattle.xpt_core.proofs.RecordLaws.{queued-latest, queued-none}
 use Rattle.xpt_core.proofs.StaySoundLemmas.{len-latest, held-latest, held-place, held-record, held-within}

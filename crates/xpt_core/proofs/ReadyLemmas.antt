@@ -1,6 +1,5 @@
 -- the devices' readiness, set one after another
-use Rattle.std.proofs.Common.{◌≡◌, ℕ, ◌+◌, ◌<◌, ◌≤◌, Bool, true, false, cond, List, [], ◌∷◌, length, get_or, refl, sym, ap, ◌∙◌, arith, Option, Some, None, map, zero-add}
-use Rattle.std.specs.Prelude.{◌==◌, ◌&&◌, ◌||◌, nat_lt, filter, slice_get}
+use Rattle.std.proofs.Common.{◌≡◌, ℕ, ◌+◌, ◌<◌, ◌≤◌, Bool, true, false, cond, List, [], ◌∷◌, length, get_or, refl, sym, ap, ◌∙◌, arith, Option, Some, None, map, zero-add, ◌==◌, ◌&&◌, ◌||◌, nat_lt, filter, slice_get}
 use Rattle.std.specs.List.{list_any}
 use Rattle.std.specs.Option.{option_map, option_map_or}
 use Rattle.std.proofs.lemmas.Bool.{and_from, eqb-true, lt-ltb}
@@ -8,13 +7,9 @@ use Rattle.std.proofs.lemmas.List.Folds.{list_any_at}
 use Rattle.std.proofs.lemmas.Bool.Decides.{nat_tests}
 use Rattle.std.proofs.lemmas.List.{length-map}
 use Rattle.std.proofs.lemmas.List.FromFn.{length-range_with_len, get_or-range_with_len}
-use Rattle.cam_types.specs.Topology.{Topology, IsConfig}
+use Rattle.xpt_core.specs.Words.{Topology, IsConfig, is_on, device_adapter, adapter_openings, devices, Event, Adapter, is_named, Row}
 use Rattle.cam_types.specs.declared.device.Device.{Device}
-use Rattle.cam_types.specs.Questions.{is_on, device_adapter, adapter_openings, devices}
-use Rattle.event_rules.specs.declared.event.Event.{Event}
 use Rattle.event_rules.proofs.StateLaws.{map-range_same}
-use Rattle.sim_queue.specs.Adapter.{Adapter, is_named}
-use Rattle.sim_queue.specs.declared.row.Row.{Row}
 use Rattle.xpt_core.specs.Ready.{ready_priority}
 use Rattle.xpt_core.specs.Known.{Known, row_of, adapter_of, adapters_of, adapters, set_at}
 use Rattle.xpt_core.specs.AdapterUpdates.{with_ready, all_ready, AreAdapters}

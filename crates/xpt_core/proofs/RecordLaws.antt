@@ -1,27 +1,16 @@
 -- what one legal event more makes of the records and of the latest stays
-use Rattle.std.proofs.Common.{◌≡◌, ◌≢◌, ℕ, ◌+◌, ◌<◌, ◌≤◌, Bool, true, false, cond, List, [], ◌∷◌, ◌++◌, length, map, set, refl, sym, ap, ◌∙◌, arith, Option, Some, None, inl, inr, zero-add}
-use Rattle.std.specs.Prelude.{◌==◌, ◌&&◌, ◌⊎◌, slice_get}
+use Rattle.std.proofs.Common.{◌≡◌, ◌≢◌, ℕ, ◌+◌, ◌<◌, ◌≤◌, Bool, true, false, cond, List, [], ◌∷◌, ◌++◌, length, map, set, refl, sym, ap, ◌∙◌, arith, Option, Some, None, inl, inr, zero-add, ◌==◌, ◌&&◌, ◌⊎◌, slice_get}
 use Rattle.std.specs.List.{list_any, range_with_len}
 use Rattle.std.specs.Option.{option_map, option_or}
 use Rattle.std.proofs.lemmas.Bool.{and_parts, and_from, eq-eqb, eqb-true, ne_eqb, cases_eq}
 use Rattle.std.proofs.lemmas.List.{map-append}
 use Rattle.std.proofs.lemmas.List.Sums.{AllPass-from_list_all}
 use Rattle.std.proofs.Math.Bool.{and-false}
-use Rattle.cam_types.specs.Topology.{Topology}
-use Rattle.cam_types.specs.declared.flags.Flags.{Flags}
-use Rattle.event_rules.specs.Event.{is_some_and, is_send_of, submission_of}
-use Rattle.event_rules.specs.Counts.{round, commands, submission, ccbs}
-use Rattle.event_rules.specs.Stays.{stays_begun, stay_begun, is_unsent, waiting, has_arrived, has_queued}
-use Rattle.event_rules.specs.declared.event.Event.{Event}
-use Rattle.event_rules.specs.declared.event.Event.TheVariants.{Submit, Send, Requeue}
-use Rattle.event_rules.specs.declared.passage.Passage.{Passage}
-use Rattle.event_rules.specs.declared.submission.Submission.{Submission}
+use Rattle.xpt_core.specs.Words.{Topology, Flags, is_some_and, is_send_of, submission_of, round, commands, submission, ccbs, stays_begun, stay_begun, is_unsent, waiting, has_arrived, has_queued, Event, Submit, Send, Requeue, Passage, Submission, is_stay_of, Rules, is_legal_event, is_legal}
 use Rattle.event_rules.proofs.PushLaws.{place-stay_begun, born_unsent}
 use Rattle.event_rules.proofs.ListFacts.{range_with_len-push}
 use Rattle.event_rules.proofs.StateLaws.{map-range_same, map-range_but}
 use Rattle.event_rules.proofs.TotalLaws.{submitted_stay, requeued_stay, commands-submit, commands-none}
-use Rattle.event_rules.specs.Laws.{is_stay_of}
-use Rattle.event_rules.specs.Legal.{Rules, is_legal_event, is_legal}
 use Rattle.event_rules.proofs.SendLemmas.{send_from_next}
 use Rattle.event_rules.proofs.StandLemmas.{asks-send, asks-requeue}
 use Rattle.event_rules.proofs.StayLemmas.{is_of_its_ccb, of_its_ccb-stays_begun}
@@ -29,9 +18,8 @@ use Rattle.event_rules.proofs.TestLemmas.{list_any-filter}
 use Rattle.xpt_core.specs.Places.{at_place}
 use Rattle.xpt_core.proofs.RoomLemmas.{submitted}
 use Rattle.xpt_core.specs.Latest.{latest_place, latest_places}
-use Rattle.xpt_core.specs.StayRecord.{begun, sent_in, followed_in, requeued_in}
+use Rattle.xpt_core.specs.StayRecord.{begun, sent_in, followed_in, requeued_in, StayRecord}
 use Rattle.xpt_core.specs.Records.{next_stay, sent_round, record_of, records}
-use Rattle.xpt_core.specs.declared.stays.stay_record.StayRecord.{StayRecord}
 use Rattle.xpt_core.proofs.LatestLemmas as latest
 use Rattle.xpt_core.proofs.LatestLemmas.{HasLatest, AreLatest, place_at, next-other, next-own, born_last, latest_place-own, latest_place-other, quiet}
 use Rattle.xpt_core.proofs.StayPlaceLemmas.{all_at, any_at, any_none_at, map-same, map-at}

@@ -1,30 +1,14 @@
 -- which devices are ready after one event more
-use Rattle.std.proofs.Common.{◌≡◌, ◌≢◌, ℕ, ◌+◌, ◌<◌, Bool, true, false, cond, List, [], ◌∷◌, ◌++◌, length, refl, sym, ap, subst, ◌∙◌, Option, Some, None, map}
-use Rattle.std.specs.Prelude.{◌==◌, ◌&&◌, nat_le, slice_get}
+use Rattle.std.proofs.Common.{◌≡◌, ◌≢◌, ℕ, ◌+◌, ◌<◌, Bool, true, false, cond, List, [], ◌∷◌, ◌++◌, length, refl, sym, ap, subst, ◌∙◌, Option, Some, None, map, ◌==◌, ◌&&◌, nat_le, slice_get}
 use Rattle.std.specs.Option.{option_map, option_map_or}
 use Rattle.std.proofs.lemmas.Bool.{and_parts, eqb-true, eqb-false, ltb-true}
-use Rattle.cam_types.specs.Topology.{Topology}
-use Rattle.cam_types.specs.declared.maxima.TheConstants.{MOST_PRIORITY, MOST_RETRIES, MOST_FREEZES}
-use Rattle.event_rules.specs.Event.{is_tick}
-use Rattle.event_rules.specs.Counts.{commands, submission, caller_count}
-use Rattle.cam_types.specs.Questions.{names_device, device_adapter, adapter_openings}
-use Rattle.event_rules.specs.declared.event.Event.{Event}
-use Rattle.event_rules.specs.declared.event.Event.TheVariants.{Submit, Send, Done, Requeue, Finish, FreezeDev, ReleaseDev, FreezeSim, ReleaseSim, Adjust, Tick}
-use Rattle.event_rules.specs.declared.submission.Submission.{Submission}
+use Rattle.xpt_core.specs.Words.{Topology, MOST_PRIORITY, MOST_RETRIES, MOST_FREEZES, is_tick, commands, submission, caller_count, names_device, device_adapter, adapter_openings, Event, Submit, Send, Done, Requeue, Finish, FreezeDev, ReleaseDev, FreezeSim, ReleaseSim, Adjust, Tick, Submission, Rules, is_count, is_legal_event, is_legal, prioritized, Row, Device, Waiting, first, is_ready, Passage}
 use Rattle.event_rules.proofs.StateLaws.{map-range_same}
-use Rattle.event_rules.specs.Legal.{Rules, is_count, is_legal_event, is_legal}
 use Rattle.event_rules.proofs.LawLemmas.{allowed-legal_event}
 use Rattle.event_rules.proofs.RangeLemmas.{range_submit}
 use Rattle.event_rules.proofs.StandLemmas.{asks-send, asks-done, asks-requeue, asks-finish}
-use Rattle.sim_queue.specs.Adapter.{prioritized}
-use Rattle.sim_queue.specs.declared.row.Row.{Row}
 use Rattle.xpt_core.specs.Ready.{ready_priority}
 use Rattle.dev_queue.specs.Device as dev
-use Rattle.dev_queue.specs.Device.{Device}
-use Rattle.dev_queue.specs.declared.waiting.Waiting.{Waiting}
-use Rattle.event_rules.specs.Stays.{first}
-use Rattle.event_rules.specs.Head.{is_ready}
-use Rattle.event_rules.specs.declared.passage.Passage.{Passage}
 use Rattle.xpt_core.specs.Device.{device_state, entry}
 use Rattle.xpt_core.specs.DeviceUpdates.{with_openings}
 use Rattle.xpt_core.proofs.DeviceLaws.{state-adjust}
@@ -34,11 +18,9 @@ use Rattle.xpt_core.proofs.DeviceSoundLemmas.{entry_priority, first-state}
 use Rattle.xpt_core.proofs.AffectedLaws as device
 use Rattle.xpt_core.proofs.AffectedLaws.{ready_priority-unaffected}
 use Rattle.xpt_core.specs.Known.{Known, known, devices_on, adapter_of, adapters_of, set_at}
-use Rattle.xpt_core.specs.Affected.{affected_by, affected_ccb}
+use Rattle.xpt_core.specs.Affected.{affected_by, affected_ccb, Affected, Nothing, One, All}
 use Rattle.xpt_core.specs.AdapterUpdates.{with_ready, fresh_row, all_ready, refreshed, IsThere}
 use Rattle.xpt_core.specs.Places.{at_place}
-use Rattle.xpt_core.specs.declared.queues.affected.Affected.{Affected}
-use Rattle.xpt_core.specs.declared.queues.affected.Affected.TheVariants.{Nothing, One, All}
 use Rattle.xpt_core.proofs.UpdateLaws.{unrefreshed}
 use Rattle.xpt_core.proofs.PlaceLemmas.{at_range, all_range}
 use Rattle.xpt_core.proofs.RowLemmas.{adapter, known-same, row-same, row-ready, rows_all, rows_change, on-bus}

@@ -1,22 +1,12 @@
 -- what the devices' queues have room for, and what they hold
-use Rattle.std.proofs.Common.{◌≡◌, ℕ, ◌+◌, ◌<◌, ◌≤◌, Bool, true, false, cond, List, [], ◌∷◌, length, refl, ap, ◌∙◌, arith, Some, inl, inr, map}
-use Rattle.std.specs.Prelude.{not, ◌==◌, ◌&&◌, nat_lt, nat_le, filter, fold, count_by, slice_get, is_some}
+use Rattle.std.proofs.Common.{◌≡◌, ℕ, ◌+◌, ◌<◌, ◌≤◌, Bool, true, false, cond, List, [], ◌∷◌, length, refl, ap, ◌∙◌, arith, Some, inl, inr, map, not, ◌==◌, ◌&&◌, nat_lt, nat_le, filter, fold, count_by, slice_get, is_some}
 use Rattle.std.specs.List.{list_any}
 use Rattle.std.proofs.lemmas.Bool.Decides.{nat_tests}
 use Rattle.std.proofs.lemmas.List.{length-map}
 use Rattle.std.proofs.lemmas.List.Sums.{sum_by-cons, length-filter, count_by-le-length}
 use Rattle.std.proofs.lemmas.Option.{slice_get_cases}
 use Rattle.std.proofs.lemmas.Bool.{or_parts}
-use Rattle.cam_types.specs.Lists.{is_less}
-use Rattle.cam_types.specs.Topology.{Topology}
-use Rattle.event_rules.specs.Event.{is_some_and}
-use Rattle.event_rules.specs.Counts.{round, commands, ccbs, submission, submissions, is_in_flight, freeze_count, has_in_flight}
-use Rattle.event_rules.specs.Stays.{stays_begun, waiting, is_at, queue, queue_key, first}
-use Rattle.event_rules.specs.Sorted.{insert_by}
-use Rattle.event_rules.specs.Head.{is_ready, has_opening, openings}
-use Rattle.event_rules.specs.declared.event.Event.{Event}
-use Rattle.event_rules.specs.declared.submission.Submission.{Submission}
-use Rattle.event_rules.specs.declared.passage.Passage.{Passage}
+use Rattle.xpt_core.specs.Words.{is_less, Topology, is_some_and, round, commands, ccbs, submission, submissions, is_in_flight, freeze_count, has_in_flight, stays_begun, waiting, is_at, queue, queue_key, first, insert_by, is_ready, has_opening, openings, Event, Submission, Passage}
 use Rattle.event_rules.proofs.QueueLaws.{first-in_order}
 use Rattle.dev_queue.specs.Device.{Device, held_count}
 use Rattle.dev_queue.specs.Device as dev

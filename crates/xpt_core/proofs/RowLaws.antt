@@ -1,26 +1,19 @@
 -- what one event more makes of each CCB's row
-use Rattle.std.proofs.Common.{◌≡◌, ℕ, ◌+◌, ◌-◌, ◌^◌, ◌<◌, ◌≤◌, Bool, true, false, cond, List, [], ◌∷◌, ◌++◌, length, set, map, get_or, refl, sym, ap, ◌∙◌, arith, Option, Some, None, inl, inr, add-zero, zero-add, length-append, length-set, slice_get}
-use Rattle.std.specs.Prelude.{◌&&◌, not, option_to_list, All}
-use Rattle.std.specs.Option.{option_map}
+use Rattle.std.proofs.Common.{◌≡◌, ℕ, ◌+◌, ◌-◌, ◌^◌, ◌<◌, ◌≤◌, Bool, true, false, cond, List, [], ◌∷◌, ◌++◌, length, set, map, get_or, refl, sym, ap, ◌∙◌, arith, Option, Some, None, inl, inr, add-zero, zero-add, length-append, length-set, slice_get, ◌&&◌, not, option_to_list, All, option_map}
 use Rattle.std.proofs.lemmas.Bool.{cases_lt, cases_eq}
 use Rattle.std.proofs.lemmas.Option.{slice_get-get_or, slice_get_past}
 use Rattle.std.proofs.lemmas.List.{get_or_past, get_or-set_same, get_or-set_other, get_or_append_left, get_or_push, ext_get_or, length_push}
 use Rattle.std.proofs.lemmas.List.Elements.{All-from_get_or}
 use Rattle.std.proofs.lemmas.List.FromFn.{length-map-range_with_len, get_or-map-range_with_len}
 use Rattle.std.proofs.lemmas.List.Sums.{count_by-le-length}
-use Rattle.cam_types.specs.declared.outcome.Outcome.{Outcome}
-use Rattle.event_rules.specs.Event.{is_send_of, is_done_of, is_send_or_done_of, is_requeue_of, concerns, ccb_of, outcome_of, is_erring, ends, submission_of}
-use Rattle.event_rules.specs.Counts.{submission, submissions, commands, ccbs}
-use Rattle.event_rules.specs.declared.event.Event.{Event}
-use Rattle.event_rules.specs.declared.submission.Submission.{Submission}
+use Rattle.xpt_core.specs.Words.{Outcome, is_send_of, is_done_of, is_send_or_done_of, is_requeue_of, concerns, ccb_of, outcome_of, is_erring, ends, submission_of, submission, submissions, commands, ccbs, Event, Submission}
 use Rattle.event_rules.proofs.PushLaws.{submissions-push}
 use Rattle.event_rules.proofs.StateLaws.{is_in_flight-push, is_recovering-push}
 use Rattle.event_rules.proofs.CcbLaws.{last_result-push, counted_requeues-push, requeues-push, not_ended-push, few_counted}
 use Rattle.event_rules.proofs.ConcernLaws.{apart, concerns-other, concerns-none, submit_concerns_none}
 use Rattle.event_rules.proofs.TotalLaws.{commands-submit, commands-none}
-use Rattle.xpt_core.specs.declared.ccbs.ccb.Ccb.{Ccb}
+use Rattle.xpt_core.specs.Change.{fresh, counts, next_ccb, next_row, updated_at, IsSmall, Ccb}
 use Rattle.xpt_core.specs.Ccbs.{is_alive, ccb_by, alive_ccb, rows}
-use Rattle.xpt_core.specs.Change.{fresh, counts, next_ccb, next_row, updated_at, IsSmall}
 
 -- the CCB after one event more
 pub ccb_by-push : (es : List Event) (e : Event) (n : ℕ) (s : Submission) → ccb_by (es ++ e ∷ []) n s ≡ next_ccb n e (ccb_by es n s)

@@ -1,15 +1,11 @@
 -- what a change of one device's row makes of the adapters' queues
-use Rattle.std.proofs.Common.{◌≡◌, ℕ, ◌+◌, ◌<◌, Bool, true, false, cond, List, [], ◌∷◌, length, refl, sym, ap, ◌∙◌, arith, Option, Some, None, inl, inr, map}
-use Rattle.std.specs.Prelude.{◌==◌, filter, slice_get}
+use Rattle.std.proofs.Common.{◌≡◌, ℕ, ◌+◌, ◌<◌, Bool, true, false, cond, List, [], ◌∷◌, length, refl, sym, ap, ◌∙◌, arith, Option, Some, None, inl, inr, map, ◌==◌, filter, slice_get}
 use Rattle.std.specs.Option.{option_map_or}
 use Rattle.std.proofs.lemmas.Option.{slice_get_within, slice_get_cases}
 use Rattle.std.proofs.lemmas.Bool.{eqb-true, false≢true}
 use Rattle.std.proofs.lemmas.Bool.Decides.{nat_tests}
-use Rattle.cam_types.specs.Topology.{Topology}
+use Rattle.xpt_core.specs.Words.{Topology, is_on, device_adapter, adapter_openings, devices, Adapter, prioritized, sent_at, Row}
 use Rattle.cam_types.specs.declared.device.Device.{Device}
-use Rattle.cam_types.specs.Questions.{is_on, device_adapter, adapter_openings, devices}
-use Rattle.sim_queue.specs.Adapter.{Adapter, prioritized, sent_at}
-use Rattle.sim_queue.specs.declared.row.Row.{Row}
 use Rattle.xpt_core.specs.Known.{Known, devices_on, row_of, adapter_of}
 
 -- a row by its parts

@@ -1,17 +1,10 @@
 -- where stays were sent, and one event more
-use Rattle.std.proofs.Common.{◌≡◌, ◌+◌, ◌<◌, ◌≤◌, Bool, true, false, cond, List, [], ◌∷◌, ◌++◌, length, take, drop, refl, sym, ap, ◌∙◌, arith, length-drop, Some, None}
-use Rattle.std.specs.Prelude.{not, ◌&&◌, ◌||◌}
+use Rattle.std.proofs.Common.{◌≡◌, ◌+◌, ◌<◌, ◌≤◌, Bool, true, false, cond, List, [], ◌∷◌, ◌++◌, length, take, drop, refl, sym, ap, ◌∙◌, arith, length-drop, Some, None, not, ◌&&◌, ◌||◌, eq-eqb, ne_eqb}
 use Rattle.std.specs.List.{list_any, position_or_len, prefix_len}
-use Rattle.std.proofs.lemmas.Bool.{eq-eqb, ne_eqb}
 use Rattle.std.proofs.lemmas.List.{drop-append-le, take-append-le}
 use Rattle.std.proofs.lemmas.List.Folds.{prefix_len-append}
 use Rattle.std.proofs.Math.Seq.{take-append_seam}
-use Rattle.event_rules.specs.Event.{is_send_of}
-use Rattle.event_rules.specs.Counts.{round}
-use Rattle.event_rules.specs.Stays.{is_unsent}
-use Rattle.event_rules.specs.Live.{send_place, live_round}
-use Rattle.event_rules.specs.declared.event.Event.{Event}
-use Rattle.event_rules.specs.declared.passage.Passage.{Passage}
+use Rattle.xpt_core.specs.Words.{is_send_of, round, is_unsent, send_place, live_round, Event, Passage}
 use Rattle.event_rules.proofs.PushLaws.{is_unsent-push}
 use Rattle.xpt_core.specs.Records.{sent_round}
 

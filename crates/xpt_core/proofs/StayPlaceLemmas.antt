@@ -1,6 +1,5 @@
 -- lists by their places
-use Rattle.std.proofs.Common.{◌≡◌, ◌≢◌, ℕ, zero, suc, Bool, true, false, List, [], ◌∷◌, ◌++◌, length, map, set, subst, refl, ap, ◌∙◌, arith, Some, None, inl, inr, length-append}
-use Rattle.std.specs.Prelude.{◌⊎◌, slice_get, find, All}
+use Rattle.std.proofs.Common.{◌≡◌, ◌≢◌, ℕ, zero, suc, Bool, true, false, List, [], ◌∷◌, ◌++◌, length, map, set, subst, refl, ap, ◌∙◌, arith, Some, None, inl, inr, length-append, ◌⊎◌, slice_get, find, All}
 use Rattle.std.specs.List.{list_any}
 use Rattle.std.proofs.lemmas.Bool.{or_left, or_right}
 use Rattle.std.proofs.lemmas.Option.{slice_get_within, slice_get-get_or, get_or_from_slice_get, slice_get-map}

@@ -1,26 +1,14 @@
 -- the parts that hold a transport's stays, before any event and after one more
-use Rattle.std.proofs.Common.{◌≡◌, ℕ, ◌+◌, ◌<◌, ◌≤◌, ◌^◌, true, false, List, [], ◌∷◌, ◌++◌, length, get_or, set, refl, sym, ap, ◌∙◌, arith, Some, None, subst}
-use Rattle.std.specs.Prelude.{slice_get, vec_len, vec_capacity, IfSome, nat_le, ◌&&◌}
+use Rattle.std.proofs.Common.{◌≡◌, ℕ, ◌+◌, ◌<◌, ◌≤◌, ◌^◌, true, false, List, [], ◌∷◌, ◌++◌, length, get_or, set, refl, sym, ap, ◌∙◌, arith, Some, None, subst, slice_get, vec_len, vec_capacity, IfSome, nat_le, ◌&&◌, option_map}
 use Rattle.std.proofs.lemmas.Bool.{and_parts, leb-true}
-use Rattle.cam_types.specs.Questions.{names_device}
+use Rattle.xpt_core.specs.Words.{names_device, Topology, Flags, MOST_STAYS, MOST_PRIORITY, MOST_RETRIES, submission_of, is_send_of, is_requeue_of, round, commands, ccbs, submissions, stays_begun, stay_begun, Event, Submit, Send, Requeue, Passage, Rules, IsWithinHistory, is_legal_event, is_legal}
 use Rattle.event_rules.proofs.RangeLemmas.{range_submit}
-use Rattle.std.specs.Option.{option_map}
 use Rattle.std.proofs.lemmas.List.{length-map}
 use Rattle.std.proofs.lemmas.List.FromFn.{length-range_with_len}
 use Rattle.std.proofs.lemmas.Option.{slice_get_within, slice_get-map}
 use Rattle.std.proofs.lemmas.List.Sums.{count_by-le-length}
-use Rattle.cam_types.specs.Topology.{Topology}
-use Rattle.cam_types.specs.declared.flags.Flags.{Flags}
-use Rattle.cam_types.specs.declared.maxima.TheConstants.{MOST_STAYS, MOST_PRIORITY, MOST_RETRIES}
-use Rattle.event_rules.specs.Event.{submission_of, is_send_of, is_requeue_of}
-use Rattle.event_rules.specs.Counts.{round, commands, ccbs, submissions}
-use Rattle.event_rules.specs.Stays.{stays_begun, stay_begun}
-use Rattle.event_rules.specs.declared.event.Event.{Event}
-use Rattle.event_rules.specs.declared.event.Event.TheVariants.{Submit, Send, Requeue}
-use Rattle.event_rules.specs.declared.passage.Passage.{Passage}
 use Rattle.event_rules.proofs.PushLaws.{few_rounds}
 use Rattle.event_rules.proofs.TotalLaws.{commands-stays, submitted_stay}
-use Rattle.event_rules.specs.Legal.{Rules, IsWithinHistory, is_legal_event, is_legal}
 use Rattle.event_rules.proofs.LawLemmas.{legal-push}
 use Rattle.event_rules.proofs.LimitLemmas.{room_submit, room_requeue, stays-legal}
 use Rattle.event_rules.proofs.StandLemmas.{asks-send, asks-requeue}
@@ -28,12 +16,10 @@ use Rattle.xpt_core.specs.Places.{at_place, HasAt}
 use Rattle.xpt_core.proofs.PlaceLemmas.{value_at}
 use Rattle.event_rules.proofs.WithinLemmas.{short-legal}
 use Rattle.xpt_core.specs.Latest.{latest_place, latest_places}
-use Rattle.xpt_core.specs.StayRecord.{submitted_in, begun, sent_in, followed_in, requeued_in}
+use Rattle.xpt_core.specs.StayRecord.{submitted_in, begun, sent_in, followed_in, requeued_in, StayRecord}
 use Rattle.xpt_core.specs.Records.{record_of, records}
 use Rattle.xpt_core.specs.Transport.{Transport}
-use Rattle.xpt_core.specs.PartsSound.{IsStays}
-use Rattle.xpt_core.specs.declared.stays.stay_record.StayRecord.{StayRecord}
-use Rattle.xpt_core.specs.declared.stays.Stays.{Stays}
+use Rattle.xpt_core.specs.PartsSound.{IsStays, Stays}
 use Rattle.xpt_core.proofs.LatestLemmas.{HasLatest, AreLatest, latest-legal}
 use Rattle.xpt_core.proofs.RecordLaws.{records-quiet, records-submit, records-send, records-requeue, places-quiet, places-submit, places-requeue}
 

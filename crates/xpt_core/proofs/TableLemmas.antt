@@ -1,17 +1,13 @@
 -- what a table of rows holds after a change
-use Rattle.std.proofs.Common.{◌≡◌, ◌≢◌, ℕ, ◌+◌, ◌-◌, ◌^◌, ◌<◌, ◌≤◌, Bool, true, false, cond, List, [], ◌∷◌, ◌++◌, length, set, get_or, refl, sym, ap, subst, ◌∙◌, arith, Option, Some, None, is_some, inl, inr, option_map, add-zero, length-set}
-use Rattle.std.specs.Prelude.{unwrap_or, option_and_then, count_by, slice_get, All}
+use Rattle.std.proofs.Common.{◌≡◌, ◌≢◌, ℕ, ◌+◌, ◌-◌, ◌^◌, ◌<◌, ◌≤◌, Bool, true, false, cond, List, [], ◌∷◌, ◌++◌, length, set, get_or, refl, sym, ap, subst, ◌∙◌, arith, Option, Some, None, is_some, inl, inr, option_map, add-zero, length-set, unwrap_or, option_and_then, count_by, slice_get, All}
 use Rattle.std.specs.Option.{option_map_or}
 use Rattle.std.proofs.lemmas.Bool.{cases_lt}
 use Rattle.std.proofs.lemmas.Option.{slice_get_within, get_or_from_slice_get, slice_get-map, unwrap_or-slice_get}
 use Rattle.std.proofs.lemmas.List.{length-map, get_or-map, get_or_append_left, get_or_push, map-append, length_push}
 use Rattle.std.proofs.lemmas.List.Elements.{All-get_or}
 use Rattle.std.proofs.lemmas.List.Sums.{sum_by-set, sum_by_push, sum_by_more_le, count_by-le-length}
-use Rattle.cam_ccb.specs.declared.handle.Handle.{Handle}
-use Rattle.cam_ccb.specs.Table.{Table, find, held_count, Updates}
-use Rattle.event_rules.specs.declared.event.Event.{Event}
-use Rattle.xpt_core.specs.declared.ccbs.ccb.Ccb.{Ccb}
-use Rattle.xpt_core.specs.Change.{next_row, updated_at, IsSmall}
+use Rattle.xpt_core.specs.Words.{Handle, Table, find, held_count, Updates, Event}
+use Rattle.xpt_core.specs.Change.{next_row, updated_at, IsSmall, Ccb}
 use Rattle.xpt_core.specs.Rows.{rows_in, is_row_in_flight, IsTable}
 use Rattle.xpt_core.proofs.ListFacts.{map-same, map-but}
 

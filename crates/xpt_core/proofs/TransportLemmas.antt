@@ -1,23 +1,9 @@
 -- what one legal event more makes of a transport's devices
-use Rattle.std.proofs.Common.{◌≡◌, ℕ, ◌+◌, ◌<◌, ◌≤◌, true, cond, List, [], ◌∷◌, ◌++◌, length, refl, sym, ap, subst, ◌∙◌, arith, Some, map}
-use Rattle.std.specs.Prelude.{not, ◌==◌, ◌&&◌, nat_lt, nat_le}
+use Rattle.std.proofs.Common.{◌≡◌, ℕ, ◌+◌, ◌<◌, ◌≤◌, true, cond, List, [], ◌∷◌, ◌++◌, length, refl, sym, ap, subst, ◌∙◌, arith, Some, map, not, ◌==◌, ◌&&◌, nat_lt, nat_le}
 use Rattle.std.specs.Option.{option_map_or}
 use Rattle.std.proofs.lemmas.Bool.{and_parts, and_from, eq-eqb, ltb-true, leb-true, not-true}
-use Rattle.cam_types.specs.Topology.{Topology, are_openings}
-use Rattle.cam_types.specs.declared.maxima.TheConstants.{MOST_PRIORITY, MOST_RETRIES, MOST_FREEZES}
-use Rattle.event_rules.specs.Event.{is_some_and, is_erring}
-use Rattle.event_rules.specs.Counts.{round, commands, submission, submissions, is_in_flight, is_recovering, has_in_flight, caller_count}
-use Rattle.cam_types.specs.Questions.{names_device, devices}
-use Rattle.event_rules.specs.Head.{is_ready}
-use Rattle.event_rules.specs.Stays.{stays_begun}
-use Rattle.event_rules.specs.declared.event.Event.{Event}
-use Rattle.event_rules.specs.declared.event.Event.TheVariants.{Submit, Send, Done, Requeue, Finish, FreezeDev, ReleaseDev, FreezeSim, ReleaseSim, Adjust, Tick}
-use Rattle.event_rules.specs.declared.submission.Submission.{Submission}
-use Rattle.event_rules.specs.declared.passage.Passage.{Passage}
+use Rattle.xpt_core.specs.Words.{Topology, are_openings, MOST_PRIORITY, MOST_RETRIES, MOST_FREEZES, is_some_and, is_erring, round, commands, submission, submissions, is_in_flight, is_recovering, has_in_flight, caller_count, names_device, devices, is_ready, stays_begun, Event, Submit, Send, Done, Requeue, Finish, FreezeDev, ReleaseDev, FreezeSim, ReleaseSim, Adjust, Tick, Submission, Passage, Rules, IsWithinHistory, is_count, is_legal_event, is_legal, is_in_range, device_of}
 use Rattle.event_rules.proofs.PushLaws.{few_commands}
-use Rattle.event_rules.specs.Legal.{Rules, IsWithinHistory, is_count, is_legal_event, is_legal}
-use Rattle.event_rules.specs.Laws.{is_in_range}
-use Rattle.event_rules.specs.Refusals.{device_of}
 use Rattle.event_rules.proofs.LawLemmas.{allowed-legal_event}
 use Rattle.event_rules.proofs.LimitLemmas.{room_submit, room_requeue}
 use Rattle.event_rules.proofs.RangeLemmas.{range_submit, submissions_in_range, passes-slice_get}

@@ -1,34 +1,18 @@
 -- what one event more makes of what adapters know, apart from which devices are ready
-use Rattle.std.proofs.Common.{◌≡◌, ℕ, ◌+◌, ◌-◌, ◌<◌, ◌≤◌, Bool, true, false, cond, List, [], ◌∷◌, ◌++◌, length, refl, sym, ap, subst, ◌∙◌, arith, Some, None, map, add-zero}
-use Rattle.std.specs.Prelude.{◌==◌, ◌&&◌, nat_le, nat_lt, count_by, slice_get, is_some, option_and_then}
+use Rattle.std.proofs.Common.{◌≡◌, ℕ, ◌+◌, ◌-◌, ◌<◌, ◌≤◌, Bool, true, false, cond, List, [], ◌∷◌, ◌++◌, length, refl, sym, ap, subst, ◌∙◌, arith, Some, None, map, add-zero, ◌==◌, ◌&&◌, nat_le, nat_lt, count_by, slice_get, is_some, option_and_then}
 use Rattle.std.specs.Option.{option_map, option_map_or}
 use Rattle.std.proofs.lemmas.Bool.{and_parts, eqb-true, ltb-true, leb-true}
 use Rattle.std.proofs.lemmas.Option.{slice_get_within}
-use Rattle.cam_types.specs.Topology.{Topology}
+use Rattle.xpt_core.specs.Words.{Topology, is_some_and, is_tick, round, submission, sendings, sending_of, goes_to, adapter_freezes, first, names_adapter, is_on, device_adapter, lane_adapter, adapter_openings, goes_now_to_adapter, adapter_has_opening, last_sent, head, next, Event, Send, FreezeSim, ReleaseSim, Tick, Passage, Sending, Submission, Rules, is_count, is_next, is_legal_event, is_legal, device_of, MOST_FREEZES, sent_at, with_send, best_ready, Row}
 use Rattle.cam_types.specs.declared.adapter.Adapter as cam
-use Rattle.event_rules.specs.Event.{is_some_and, is_tick}
-use Rattle.event_rules.specs.Counts.{round, submission, sendings, sending_of, goes_to, adapter_freezes}
-use Rattle.event_rules.specs.Stays.{first}
-use Rattle.cam_types.specs.Questions.{names_adapter, is_on, device_adapter, lane_adapter, adapter_openings}
 use Rattle.event_rules.specs.Head as Head
-use Rattle.event_rules.specs.Head.{goes_now_to_adapter, adapter_has_opening, last_sent, head, next}
-use Rattle.event_rules.specs.declared.event.Event.{Event}
-use Rattle.event_rules.specs.declared.event.Event.TheVariants.{Send, FreezeSim, ReleaseSim, Tick}
-use Rattle.event_rules.specs.declared.passage.Passage.{Passage}
-use Rattle.event_rules.specs.declared.sending.Sending.{Sending}
-use Rattle.event_rules.specs.declared.submission.Submission.{Submission}
 use Rattle.event_rules.proofs.StateLaws.{map-range_same}
 use Rattle.event_rules.proofs.TallyLaws.{Tally, sim_tally, sim_change, tallied, sim_tally-push}
 use Rattle.event_rules.proofs.TurnLaws.{last_sent-push, sends_now-push, sends_now-tick}
-use Rattle.event_rules.specs.Legal.{Rules, is_count, is_next, is_legal_event, is_legal}
-use Rattle.event_rules.specs.Refusals.{device_of}
-use Rattle.cam_types.specs.declared.maxima.TheConstants.{MOST_FREEZES}
 use Rattle.event_rules.proofs.LawLemmas.{allowed-legal_event}
 use Rattle.event_rules.proofs.LimitLemmas.{legal-induction}
 use Rattle.event_rules.proofs.NextLemmas.{head_stands, queued-first, device-of_its_ccb}
 use Rattle.event_rules.proofs.StandLemmas.{asks-send}
-use Rattle.sim_queue.specs.Adapter.{sent_at, with_send, best_ready}
-use Rattle.sim_queue.specs.declared.row.Row.{Row}
 use Rattle.xpt_core.specs.Ready.{ready_priority}
 use Rattle.xpt_core.proofs.RoomLemmas.{submitted}
 use Rattle.xpt_core.specs.Known.{Known, known, devices_on, row_of, adapter_of, adapters_of}

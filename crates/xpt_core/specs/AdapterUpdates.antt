@@ -1,17 +1,11 @@
 -- what an event makes of the adapters' queues
 use Rattle.std.specs.Prelude.{◌≡◌, ℕ, ◌+◌, ◌-◌, ◌<◌, ◌≤◌, true, List, length, map, is_some}
 use Rattle.std.specs.Option.{option_map_or}
-use Rattle.cam_types.specs.Questions.{device_adapter, lane_adapter}
-use Rattle.cam_types.specs.Topology.{Topology}
-use Rattle.event_rules.specs.declared.event.Event.{Event}
-use Rattle.event_rules.specs.declared.event.Event.TheVariants.{Send, FreezeSim, ReleaseSim, Tick}
-use Rattle.sim_queue.specs.Adapter.{Adapter, with_priority, with_send, best_ready}
-use Rattle.sim_queue.specs.declared.row.Row.{Row}
+use Rattle.xpt_core.specs.Words.{device_adapter, lane_adapter, Topology, Event, Send, FreezeSim, ReleaseSim, Tick, Adapter, with_priority, with_send, best_ready, Row}
 use Rattle.xpt_core.specs.Ready.{ready_priority}
 use Rattle.xpt_core.specs.Places.{at_place, HasAt}
 use Rattle.xpt_core.specs.Known.{Known, adapters_of}
-use Rattle.xpt_core.specs.declared.queues.affected.Affected.{Affected}
-use Rattle.xpt_core.specs.declared.queues.affected.Affected.TheVariants.{Nothing, One, All}
+use Rattle.xpt_core.specs.Affected.{Affected, Nothing, One, All}
 
 -- a send at this place to the device whose turn it is
 abbrev pub with_turn : ℕ → Adapter → Adapter

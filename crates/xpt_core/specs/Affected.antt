@@ -1,12 +1,9 @@
 -- the devices whose readiness an event may change
 use Rattle.std.specs.Prelude.{ℕ, List}
 use Rattle.std.specs.Option.{option_map_or}
-use Rattle.event_rules.specs.Counts.{submission}
-use Rattle.event_rules.specs.declared.event.Event.{Event}
-use Rattle.event_rules.specs.declared.event.Event.TheVariants.{Submit, Send, Done, Requeue, Finish, FreezeDev, ReleaseDev, FreezeSim, ReleaseSim, Adjust, Tick}
-use Rattle.event_rules.specs.declared.submission.Submission.{Submission}
-use Rattle.xpt_core.specs.declared.queues.affected.Affected.{Affected}
-use Rattle.xpt_core.specs.declared.queues.affected.Affected.TheVariants.{Nothing, One, All}
+use Rattle.xpt_core.specs.Words.{submission, Event, Submit, Send, Done, Requeue, Finish, FreezeDev, ReleaseDev, FreezeSim, ReleaseSim, Adjust, Tick, Submission}
+pub use Rattle.xpt_core.specs.declared.queues.affected.Affected.{Affected}
+pub use Rattle.xpt_core.specs.declared.queues.affected.Affected.TheVariants.{Nothing, One, All}
 
 -- the device that a CCB was submitted to
 abbrev pub affected_ccb : List Event → ℕ → Affected

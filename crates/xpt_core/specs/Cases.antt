@@ -1,10 +1,7 @@
 -- the CCBs that wait for a decision, in the order of completion
 use Rattle.std.specs.Prelude.{ℕ, ◌+◌, ◌==◌, Bool, not, List, [], ◌∷◌, ◌++◌, length, map, filter, count_by, drop, Option, Some, None, if◌then◌else◌}
 use Rattle.std.specs.List.{list_any, filter_map}
-use Rattle.cam_types.specs.Lists.{moments}
-use Rattle.event_rules.specs.Event.{concerns, is_erring}
-use Rattle.event_rules.specs.declared.event.Event.{Event}
-use Rattle.event_rules.specs.declared.event.Event.TheVariants.{Done, Requeue, Finish}
+use Rattle.xpt_core.specs.Words.{moments, concerns, is_erring, Event, Done, Requeue, Finish}
 
 -- a completion that erred: its CCB and its place
 pub record Failure : Type 0 where

@@ -1,12 +1,8 @@
 -- what the events so far say of each CCB
-use Rattle.std.specs.Prelude.{ℕ, Bool, not, List, map, Option, None, count_by, if◌then◌else◌}
+use Rattle.std.specs.Prelude.{ℕ, Bool, not, List, map, Option, None, count_by, if◌then◌else◌, option_map}
 use Rattle.std.specs.List.{list_any}
-use Rattle.std.specs.Option.{option_map}
-use Rattle.event_rules.specs.Event.{ends, is_requeue_of}
-use Rattle.event_rules.specs.Counts.{submission, ccbs, is_in_flight, is_recovering, last_result, counted_requeues}
-use Rattle.event_rules.specs.declared.event.Event.{Event}
-use Rattle.event_rules.specs.declared.submission.Submission.{Submission}
-use Rattle.xpt_core.specs.declared.ccbs.ccb.Ccb.{Ccb}
+use Rattle.xpt_core.specs.Words.{ends, is_requeue_of, submission, ccbs, is_in_flight, is_recovering, last_result, counted_requeues, Event, Submission}
+use Rattle.xpt_core.specs.Change.{Ccb}
 
 -- no event ended the CCB
 abbrev pub is_alive : List Event → ℕ → Bool

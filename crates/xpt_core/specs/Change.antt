@@ -1,12 +1,9 @@
 -- what an event makes of a row
 use Rattle.std.specs.Prelude.{ℕ, ◌+◌, ◌-◌, ◌^◌, ◌<◌, Bool, false, ◌&&◌, List, Option, Some, None, if◌then◌else◌, slice_get, slice_set}
 use Rattle.std.specs.Option.{option_map, option_map_or}
-use Rattle.sense_class.specs.Classes.{kind_of, is_counted, classify}
+use Rattle.xpt_core.specs.Words.{kind_of, is_counted, classify, is_some_and, is_send_of, is_done_of, is_send_or_done_of, is_requeue_of, concerns, outcome_of, is_erring, ends, Event, Submission}
 use Rattle.sense_class.specs.declared.class.Class as class
-use Rattle.event_rules.specs.Event.{is_some_and, is_send_of, is_done_of, is_send_or_done_of, is_requeue_of, concerns, outcome_of, is_erring, ends}
-use Rattle.event_rules.specs.declared.event.Event.{Event}
-use Rattle.event_rules.specs.declared.submission.Submission.{Submission}
-use Rattle.xpt_core.specs.declared.ccbs.ccb.Ccb.{Ccb}
+pub use Rattle.xpt_core.specs.declared.ccbs.ccb.Ccb.{Ccb}
 
 -- a CCB that was submitted just now
 abbrev pub fresh : Submission → Ccb

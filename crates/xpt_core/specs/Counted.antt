@@ -1,10 +1,7 @@
 -- what is counted of all devices together
 use Rattle.std.specs.Prelude.{◌+◌, ◌-◌, ◌<◌, ◌≤◌, List, length, count_by}
-use Rattle.event_rules.specs.Counts.{round, ccbs, is_in_flight}
-use Rattle.event_rules.specs.Stays.{stays_begun, waiting}
-use Rattle.event_rules.specs.declared.event.Event.{Event}
-use Rattle.event_rules.specs.declared.event.Event.TheVariants.{Submit, Send, Done, Requeue, Tick}
-use Rattle.xpt_core.specs.declared.devices.counts.Counts.{Counts}
+use Rattle.xpt_core.specs.Words.{round, ccbs, is_in_flight, stays_begun, waiting, Event, Submit, Send, Done, Requeue, Tick}
+pub use Rattle.xpt_core.specs.declared.devices.counts.Counts.{Counts}
 
 -- the round, the stays so far, those without a send, and the CCBs in flight
 unfoldable pub counts_of : List Event → Counts

@@ -1,19 +1,8 @@
 -- the queue of a device, by the events so far
 use Rattle.std.specs.Prelude.{ℕ, ◌==◌, Bool, ◌&&◌, nat_lt, List, [], map, filter, count_by}
 use Rattle.std.specs.Option.{option_map_or}
-use Rattle.cam_types.specs.Topology.{Topology}
+use Rattle.xpt_core.specs.Words.{Topology, Device, Waiting, is_some_and, is_adjust_of, adjusts_to, round, ccbs, submission, last, is_in_flight, sendings, caller_count, error_count, stays_begun, waiting, queue, queue_key, sorted_by, device_openings, openings, goes_now_to, Event, Submission, Passage}
 use Rattle.cam_types.specs.declared.device.Device as config
-use Rattle.dev_queue.specs.Device.{Device}
-use Rattle.dev_queue.specs.declared.waiting.Waiting.{Waiting}
-use Rattle.event_rules.specs.Event.{is_some_and, is_adjust_of, adjusts_to}
-use Rattle.event_rules.specs.Counts.{round, ccbs, submission, last, is_in_flight, sendings, caller_count, error_count}
-use Rattle.event_rules.specs.Stays.{stays_begun, waiting, queue, queue_key}
-use Rattle.event_rules.specs.Sorted.{sorted_by}
-use Rattle.cam_types.specs.Questions.{device_openings}
-use Rattle.event_rules.specs.Head.{openings, goes_now_to}
-use Rattle.event_rules.specs.declared.event.Event.{Event}
-use Rattle.event_rules.specs.declared.submission.Submission.{Submission}
-use Rattle.event_rules.specs.declared.passage.Passage.{Passage}
 
 -- a stay as it waits at its device
 abbrev pub entry : Passage → Waiting

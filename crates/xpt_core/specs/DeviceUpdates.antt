@@ -2,13 +2,8 @@
 use Rattle.std.specs.Prelude.{◌≡◌, ℕ, ◌+◌, ◌-◌, ◌^◌, ◌<◌, ◌≤◌, Bool, true, not, ◌&&◌, if◌then◌else◌, List, [], ◌∷◌, ◌++◌, length, map, drop, Some, slice_get, slice_set, All}
 use Rattle.std.specs.Option.{option_map_or}
 use Rattle.xpt_core.specs.Places.{at_place, HasAt}
-use Rattle.cam_types.specs.declared.maxima.TheConstants.{MOST_PRIORITY}
+use Rattle.xpt_core.specs.Words.{MOST_PRIORITY, Waiting, is_erring, Event, Submit, Send, Done, Requeue, Finish, FreezeDev, ReleaseDev, Adjust, Tick, Submission}
 use Rattle.dev_queue.specs.Device.{Device, enter, enter_all, held_count, is_ready}
-use Rattle.dev_queue.specs.declared.waiting.Waiting.{Waiting}
-use Rattle.event_rules.specs.Event.{is_erring}
-use Rattle.event_rules.specs.declared.event.Event.{Event}
-use Rattle.event_rules.specs.declared.event.Event.TheVariants.{Submit, Send, Done, Requeue, Finish, FreezeDev, ReleaseDev, Adjust, Tick}
-use Rattle.event_rules.specs.declared.submission.Submission.{Submission}
 
 -- one more stay in the queue
 abbrev pub with_stay : Waiting → Device → Device

@@ -1,8 +1,6 @@
 -- the parts that hold a transport's devices
 use Rattle.std.specs.Prelude.{◌≡◌, ◌≤◌, map, IsTrue, vec_capacity}
-use Rattle.event_rules.specs.Counts.{submissions}
-use Rattle.cam_types.specs.Questions.{devices}
-use Rattle.event_rules.specs.Legal.{IsWithinHistory, is_legal}
+use Rattle.xpt_core.specs.Words.{submissions, devices, IsWithinHistory, is_legal}
 use Rattle.xpt_core.specs.Device.{device_state}
 use Rattle.xpt_core.specs.Counted.{counts_of}
 use Rattle.xpt_core.specs.declared.devices.Devices.TheInside.{Inside}

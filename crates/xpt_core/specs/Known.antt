@@ -1,13 +1,7 @@
 -- what a transport's adapters hold
 use Rattle.std.specs.Prelude.{ℕ, ◌==◌, if◌then◌else◌, List, length, map, filter, Option, None, count_by}
 use Rattle.std.specs.List.{range_with_len}
-use Rattle.cam_types.specs.Topology.{Topology}
-use Rattle.event_rules.specs.Counts.{sendings, adapter_freezes}
-use Rattle.cam_types.specs.Questions.{is_on, adapter_openings, devices}
-use Rattle.event_rules.specs.Head.{goes_now_to_adapter, last_sent}
-use Rattle.event_rules.specs.declared.event.Event.{Event}
-use Rattle.sim_queue.specs.Adapter.{Adapter}
-use Rattle.sim_queue.specs.declared.row.Row.{Row}
+use Rattle.xpt_core.specs.Words.{Topology, sendings, adapter_freezes, is_on, adapter_openings, devices, goes_now_to_adapter, last_sent, Event, Adapter, Row}
 use Rattle.xpt_core.specs.Ready.{ready_priority}
 
 -- of each device, by its number: the last send to it, and its priority where it is ready;

@@ -1,10 +1,7 @@
 -- the latest stay of each CCB
 use Rattle.std.specs.Prelude.{ℕ, ◌-◌, ◌==◌, Bool, List, length, map, find, reverse, Option}
 use Rattle.std.specs.List.{position_or_len}
-use Rattle.event_rules.specs.Counts.{ccbs}
-use Rattle.event_rules.specs.Stays.{stays_begun}
-use Rattle.event_rules.specs.declared.event.Event.{Event}
-use Rattle.event_rules.specs.declared.passage.Passage.{Passage}
+use Rattle.xpt_core.specs.Words.{ccbs, stays_begun, Event, Passage}
 
 abbrev pub is_of : ℕ → Passage → Bool
 is_of ccb p = p.ccb == ccb

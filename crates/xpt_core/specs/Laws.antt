@@ -2,18 +2,7 @@
 use Rattle.std.specs.Prelude.{◌≡◌, ◌≢◌, ℕ, ◌<◌, ◌==◌, Bool, true, false, List, [], ◌∷◌, ◌++◌, Option, Some, None, find, reverse, slice_get, if◌then◌else◌, IsTrue, MatchOption}
 use Rattle.std.specs.List.{list_any}
 use Rattle.std.specs.Option.{option_map_or}
-use Rattle.cam_types.specs.Topology.{Topology}
-use Rattle.cam_types.specs.declared.outcome.Outcome.{Outcome}
-use Rattle.sense_class.specs.Classes.{classify, asks_requeue, asks_finish}
-use Rattle.event_rules.specs.Event.{is_some_and, is_erring}
-use Rattle.event_rules.specs.Counts.{ccbs, is_recovering, counted_requeues, retries_of}
-use Rattle.event_rules.specs.declared.event.Event.{Event}
-use Rattle.event_rules.specs.declared.event.Event.TheVariants.{Done, Requeue, Finish}
-use Rattle.event_rules.specs.Legal.{Rules, is_legal_event, is_legal}
-use Rattle.event_rules.specs.Laws.{last_class}
-use Rattle.event_rules.specs.Refusals.{refusal}
-use Rattle.event_rules.specs.declared.refusal.Refusal.{Refusal}
-use Rattle.event_rules.specs.declared.refusal.Refusal.TheVariants.{HistoryFull, StaysFull}
+use Rattle.xpt_core.specs.Words.{Topology, Outcome, classify, asks_requeue, asks_finish, is_some_and, is_erring, ccbs, is_recovering, counted_requeues, retries_of, Event, Done, Requeue, Finish, Rules, is_legal_event, is_legal, last_class, refusal, Refusal, HistoryFull, StaysFull}
 use Rattle.xpt_core.specs.Ccbs.{is_alive}
 use Rattle.xpt_core.specs.Cases.{Failure, failures, cases}
 

@@ -1,3 +1,4 @@
+pub mod Words
 pub mod Transport
 pub mod Takes
 pub mod Places

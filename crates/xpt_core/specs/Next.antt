@@ -1,6 +1,6 @@
 -- whose turn it is
 use Rattle.event_rules.specs.declared.passage.Passage.{Passage}
-use Rattle.xpt_core.specs.declared.queues.next.Next.{Next}
+pub use Rattle.xpt_core.specs.declared.queues.next.Next.{Next}
 
 -- a stay as the one that is next
 abbrev pub next_of : Passage → Next

@@ -7,7 +7,7 @@ use Rattle.xpt_core.specs.Cases.{cases}
 use Rattle.xpt_core.specs.Records.{records}
 use Rattle.xpt_core.specs.Latest.{latest_places}
 use Rattle.xpt_core.specs.declared.ccbs.Ccbs.{Ccbs}
-use Rattle.xpt_core.specs.declared.stays.Stays.{Stays}
+pub use Rattle.xpt_core.specs.declared.stays.Stays.{Stays}
 
 -- rows and cases are those of the events, which are legal by the rules, and there is memory for all that may come
 pub record IsCcbs (t : Transport) (b : Ccbs) : Type 0 where

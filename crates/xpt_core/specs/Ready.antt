@@ -1,11 +1,6 @@
 -- what a choice among devices asks of each
-use Rattle.std.specs.Prelude.{ℕ, if◌then◌else◌, List, Option, None}
-use Rattle.std.specs.Option.{option_map}
-use Rattle.cam_types.specs.Topology.{Topology}
-use Rattle.event_rules.specs.Stays.{first}
-use Rattle.event_rules.specs.Head.{is_ready}
-use Rattle.event_rules.specs.declared.event.Event.{Event}
-use Rattle.event_rules.specs.declared.passage.Passage.{Passage}
+use Rattle.std.specs.Prelude.{ℕ, if◌then◌else◌, List, Option, None, option_map}
+use Rattle.xpt_core.specs.Words.{Topology, first, is_ready, Event, Passage}
 
 -- the priority of the device's first stay, where the device is ready
 abbrev pub ready_priority : Topology → List Event → ℕ → Option ℕ

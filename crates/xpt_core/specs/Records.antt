@@ -1,11 +1,7 @@
 -- stays with their sends and with the stays that follow them
-use Rattle.std.specs.Prelude.{ℕ, ◌==◌, Bool, ◌&&◌, nat_lt, if◌then◌else◌, List, map, find, Option, Some, None}
-use Rattle.std.specs.Option.{option_map}
-use Rattle.event_rules.specs.Stays.{stays_begun, is_unsent}
-use Rattle.event_rules.specs.Live.{live_round}
-use Rattle.event_rules.specs.declared.event.Event.{Event}
-use Rattle.event_rules.specs.declared.passage.Passage.{Passage}
-use Rattle.xpt_core.specs.declared.stays.stay_record.StayRecord.{StayRecord}
+use Rattle.std.specs.Prelude.{ℕ, ◌==◌, Bool, ◌&&◌, nat_lt, if◌then◌else◌, List, map, find, Option, Some, None, option_map}
+use Rattle.xpt_core.specs.Words.{stays_begun, is_unsent, live_round, Event, Passage}
+use Rattle.xpt_core.specs.StayRecord.{StayRecord}
 
 -- a later stay of the same CCB
 abbrev pub follows : Passage → Passage → Bool

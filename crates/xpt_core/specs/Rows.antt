@@ -1,12 +1,8 @@
 -- the rows of the CCBs by number: a slot for each that is alive, and the handle of each that was submitted
 use Rattle.std.specs.Prelude.{◌≡◌, ℕ, ◌^◌, ◌<◌, ◌≤◌, Bool, List, [], ◌∷◌, ◌++◌, length, map, Option, Some, is_some, count_by, get_or, All, IfSome}
 use Rattle.std.specs.Option.{option_map_or}
-use Rattle.cam_ccb.specs.declared.handle.Handle.{Handle}
-use Rattle.cam_ccb.specs.Table.{Table, find, held_count}
-use Rattle.event_rules.specs.Event.{is_some_and, ccb_of, submission_of}
-use Rattle.event_rules.specs.declared.event.Event.{Event}
-use Rattle.xpt_core.specs.declared.ccbs.ccb.Ccb.{Ccb}
-use Rattle.xpt_core.specs.Change.{fresh, updated_at, IsSmall}
+use Rattle.xpt_core.specs.Words.{Handle, Table, find, held_count, is_some_and, ccb_of, submission_of, Event}
+use Rattle.xpt_core.specs.Change.{fresh, updated_at, IsSmall, Ccb}
 
 -- the rows, for how many CCBs at once there are slots, and for how many in all there is memory
 pub record RowTable : Type 0 where

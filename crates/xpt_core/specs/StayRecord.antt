@@ -1,9 +1,7 @@
 -- what a stay's record says, and what it becomes
 use Rattle.std.specs.Prelude.{ℕ, ◌+◌, ◌-◌, ◌*◌, Bool, true, false, ◌&&◌, nat_le, Some, None, is_none, unwrap_or}
-use Rattle.cam_types.specs.Topology.{Topology}
-use Rattle.cam_types.specs.Questions.{weight}
-use Rattle.event_rules.specs.declared.passage.Passage.{Passage}
-use Rattle.xpt_core.specs.declared.stays.stay_record.StayRecord.{StayRecord}
+use Rattle.xpt_core.specs.Words.{Topology, weight, Passage}
+pub use Rattle.xpt_core.specs.declared.stays.stay_record.StayRecord.{StayRecord}
 
 -- it has no send
 abbrev pub is_unsent : StayRecord → Bool

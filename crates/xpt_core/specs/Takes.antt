@@ -1,8 +1,6 @@
 -- why a transport refuses an event, and what it is after one
 use Rattle.std.specs.Prelude.{◌≡◌, [], ◌∷◌, ◌++◌, Option, Some, None}
-use Rattle.event_rules.specs.declared.event.Event.{Event}
-use Rattle.event_rules.specs.Refusals.{refusal}
-use Rattle.event_rules.specs.declared.refusal.Refusal.{Refusal}
+use Rattle.xpt_core.specs.Words.{Event, refusal, Refusal}
 use Rattle.xpt_core.specs.Transport.{Transport}
 
 -- the first cause that refuses the event after those of the transport

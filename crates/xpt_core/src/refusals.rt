@@ -1,10 +1,7 @@
 //! Why an event is refused: for each kind the first of its causes that holds.
 
 ghost use Rattle.std.specs.Prelude.{◌≡◌, ◌<◌, true, nat_le, [], ◌∷◌, length, IsTrue};
-ghost use Rattle.event_rules.specs.declared.refusal.Refusal.TheVariants.{HistoryFull};
-ghost use Rattle.event_rules.specs.Counts.{is_recovering, wants_requeue, wants_finish};
-ghost use Rattle.event_rules.specs.Refusals.{refusal, first_cause, causes, submit_causes, turn_causes, send_causes, done_causes, requeue_causes, finish_causes, freeze_dev_causes, release_dev_causes, freeze_sim_causes, release_sim_causes, adjust_causes, tick_causes, device_of, are_ccbs_full, are_stays_full, have_openings, is_other_next};
-ghost use Rattle.event_rules.specs.Legal.{names_ccb, is_legal};
+ghost use Rattle.xpt_core.specs.Words.{HistoryFull, is_recovering, wants_requeue, wants_finish, refusal, first_cause, causes, submit_causes, turn_causes, send_causes, done_causes, requeue_causes, finish_causes, freeze_dev_causes, release_dev_causes, freeze_sim_causes, release_sim_causes, adjust_causes, tick_causes, device_of, are_ccbs_full, are_stays_full, have_openings, is_other_next, names_ccb, is_legal};
 
 use crate::state::State;
 use cam_types::{MOST_FREEZES, MOST_PRIORITY, MOST_RETRIES, Outcome, are_openings};

@@ -1,9 +1,7 @@
 //! The working state of a transport: its parts beside each other.
 
 ghost use Rattle.std.specs.Prelude.{◌≡◌, ◌≤◌, nat_le, [], ◌∷◌, ◌++◌, length, None, IsTrue, IfOk, MatchResult};
-ghost use Rattle.cam_types.specs.declared.maxima.TheConstants.{MOST_EVENTS};
-ghost use Rattle.event_rules.specs.declared.refusal.Refusal.TheVariants.{HistoryFull};
-ghost use Rattle.event_rules.specs.Refusals.{first_cause};
+ghost use Rattle.xpt_core.specs.Words.{MOST_EVENTS, HistoryFull, first_cause};
 
 use crate::ccbs::Ccbs;
 use crate::devices::Devices;

@@ -1,6 +1,5 @@
 -- receipts that are taken one by one, seat by seat
-use Rattle.std.proofs.Common.{◌≡◌, ◌≢◌, ◌↔◌, ℕ, zero, suc, ◌+◌, ◌<◌, ◌≤◌, Bool, true, false, cond, max, List, [], ◌∷◌, ◌++◌, length, take, set, map, get_or, Some, None, refl, sym, ap, subst, ◌∙◌, arith, append_assoc, append-nil, replicate}
-use Rattle.std.specs.Prelude.{◌==◌, nat_lt, All, MatchBool, count_by, sum_by, slice_get}
+use Rattle.std.proofs.Common.{◌≡◌, ◌≢◌, ◌↔◌, ℕ, zero, suc, ◌+◌, ◌<◌, ◌≤◌, Bool, true, false, cond, max, List, [], ◌∷◌, ◌++◌, length, take, set, map, get_or, Some, None, refl, sym, ap, subst, ◌∙◌, arith, append_assoc, append-nil, replicate, ◌==◌, nat_lt, All, MatchBool, count_by, sum_by, slice_get}
 use Rattle.std.specs.List.{list_all, range_with_len}
 use Rattle.std.proofs.lemmas.Bool.{and_parts, and_from, ltb-true, ltb-false, lt-ltb, eq-eqb, ne_eqb, eqb-true, eqb-false}
 use Rattle.std.proofs.lemmas.Grind.{flat_map-append}
@@ -15,9 +14,8 @@ use Rattle.xpt_core.proofs.ListFacts.{length-by_number}
 use Rattle.event_rules.proofs.ListFacts.{count_by-push}
 use Rattle.event_rules.proofs.StateLaws.{map-range_but, slice_get-range}
 use Rattle.xpt_lock.specs.Gathers.{IsMisfit, IsUnnamed}
-use Rattle.xpt_lock.specs.Receipts.{all_receipts, naming, is_rising, marks, AreConsistent, AreInterleaved}
+use Rattle.xpt_lock.specs.Receipts.{all_receipts, naming, is_rising, marks, AreConsistent, AreInterleaved, Receipt}
 use Rattle.xpt_lock.specs.Seats.{Held}
-use Rattle.xpt_lock.specs.declared.receipt.Receipt.{Receipt}
 
 -- what holds of a list holds of its parts
 all_front : {X : Type 0} (P : X → Type 0) (xs ys : List X) → All P (xs ++ ys) → All P xs

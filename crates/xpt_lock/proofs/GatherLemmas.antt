@@ -1,12 +1,9 @@
 -- where there was no memory, any history will do
-use Rattle.std.proofs.Common.{◌≡◌, List, [], Result, Ok, Err, refl, sym, subst}
-use Rattle.std.specs.Prelude.{IsErrAnd}
+use Rattle.std.proofs.Common.{◌≡◌, List, [], Result, Ok, Err, refl, sym, subst, IsErrAnd}
 use Rattle.event_rules.specs.Legal.{is_legal}
 use Rattle.event_rules.specs.Past.{Past}
-use Rattle.xpt_lock.specs.Gathers.{IsPast, IsGathered, IsFault, due_of}
+use Rattle.xpt_lock.specs.Gathers.{IsPast, IsGathered, IsFault, due_of, GatherFault, OutOfMemory}
 use Rattle.xpt_lock.specs.Seats.{Held}
-use Rattle.xpt_lock.specs.declared.fault.GatherFault.{GatherFault}
-use Rattle.xpt_lock.specs.declared.fault.GatherFault.TheVariants.{OutOfMemory}
 
 abbrev empty : Past
 empty = record { config = record { weights = []; links = []; adapters = []; devices = []; lanes = [] }; events = [] }

@@ -1,6 +1,5 @@
 -- a transport by the rules of histories takes each event of a history, and so gets the receipts of one thread
-use Rattle.std.proofs.Common.{◌≡◌, ℕ, ◌+◌, ◌<◌, ◌≤◌, true, List, [], ◌∷◌, ◌++◌, length, take, map, Some, None, Result, Ok, Err, refl, sym, ap, subst, ◌∙◌, arith, length-take}
-use Rattle.std.specs.Prelude.{IsOk, slice_index_or}
+use Rattle.std.proofs.Common.{◌≡◌, ℕ, ◌+◌, ◌<◌, ◌≤◌, true, List, [], ◌∷◌, ◌++◌, length, take, map, Some, None, Result, Ok, Err, refl, sym, ap, subst, ◌∙◌, arith, length-take, IsOk, slice_index_or}
 use Rattle.std.proofs.lemmas.List.{take_more, map_push, length-map}
 use Rattle.event_rules.proofs.ListFacts.{length-moments_after}
 use Rattle.cam_types.proofs.ListLemmas.{moments-push}
@@ -16,8 +15,7 @@ use Rattle.xpt_core.specs.Takes.{refused, with_event}
 use Rattle.xpt_state.specs.Replies.{reply_of}
 use Rattle.xpt_state.specs.Steps.{IsStep}
 use Rattle.xpt_state.specs.declared.reply.Reply.{Reply}
-use Rattle.xpt_lock.specs.Receipts.{receipts_of}
-use Rattle.xpt_lock.specs.declared.receipt.Receipt.{Receipt}
+use Rattle.xpt_lock.specs.Receipts.{receipts_of, Receipt}
 
 -- the transport after the first i events
 abbrev pub at_place : Topology → List Event → ℕ → Transport

@@ -1,7 +1,6 @@
 -- what the tests of equality on events, replies and receipts say
-use Rattle.std.proofs.Common.{◌≡◌, ℕ, Bool, true, false, List, ◌++◌, length, take, replicate, ◌-◌, refl, sym, ap, ◌∙◌}
+use Rattle.std.proofs.Common.{◌≡◌, ℕ, Bool, true, false, List, ◌++◌, length, take, replicate, ◌-◌, refl, sym, ap, ◌∙◌, ◌==◌, ◌&&◌, nat_eq}
 use mathlib.Core.Bool.{beq}
-use Rattle.std.specs.Prelude.{◌==◌, ◌&&◌, nat_eq}
 use Rattle.std.specs.Cmp.Lexicographic.{same_text}
 use Rattle.std.proofs.Math.Seq.{take-append_seam}
 use lib.Pointwise.{pointwise}
@@ -24,7 +23,7 @@ use Rattle.xpt_state.specs.contracts.done.DonePartialEq.TheImpl as dones
 use Rattle.xpt_state.specs.declared.reply.Reply.{Reply}
 use Rattle.xpt_state.specs.declared.reply.Reply.TheVariants as replies
 use Rattle.xpt_state.specs.contracts.reply.ReplyPartialEq.TheImpl as replied
-use Rattle.xpt_lock.specs.declared.receipt.Receipt.{Receipt}
+use Rattle.xpt_lock.specs.Receipts.{Receipt}
 use Rattle.xpt_lock.specs.contracts.receipt.ReceiptPartialEq.TheImpl as receipts
 use Rattle.event_rules.specs.declared.event.Event.{Event}
 use Rattle.event_rules.specs.declared.event.Event.TheVariants.{Submit, Send, Done, Requeue, Finish, FreezeDev, ReleaseDev, FreezeSim, ReleaseSim, Adjust, Tick}

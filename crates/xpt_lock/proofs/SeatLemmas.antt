@@ -1,15 +1,13 @@
 -- what a seat gains
-use Rattle.std.proofs.Common.{◌≡◌, ℕ, List, [], ◌∷◌, ◌++◌, Option, Some, None, refl, ap, append-nil}
-use Rattle.std.specs.Option.{option_to_list}
+use Rattle.std.proofs.Common.{◌≡◌, ℕ, List, [], ◌∷◌, ◌++◌, Option, Some, None, refl, ap, append-nil, option_to_list}
 use Rattle.event_rules.specs.declared.event.Event.{Event}
 use Rattle.event_rules.specs.declared.event.Event.TheVariants.{Send}
 use Rattle.xpt_state.specs.declared.reply.Reply.TheVariants as replies
 use Rattle.xpt_state.specs.declared.reply.Sent.{Sent}
 use Rattle.xpt_state.specs.declared.reply.Sent.TheVariants as sents
 use Rattle.xpt_lock.specs.Calls.{HasGained, IsTurn, sent_receipt}
-use Rattle.xpt_lock.specs.Seats.{Held}
-use Rattle.xpt_lock.specs.declared.receipt.Receipt.{Receipt}
-use Rattle.xpt_lock.specs.declared.seat.SeatName.{SeatName}
+use Rattle.xpt_lock.specs.Seats.{Held, SeatName}
+use Rattle.xpt_lock.specs.Receipts.{Receipt}
 
 -- a receipt for the event, after those that the seat held
 pub gained : (name : SeatName) (before kept after : List Receipt) (old : Held) (r : Receipt) (event : Event) → record { name = name; receipts = before } ≡ old → kept ≡ before → after ≡ kept ++ r ∷ [] → r.event ≡ event →

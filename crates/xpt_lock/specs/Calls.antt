@@ -16,7 +16,7 @@ use Rattle.xpt_state.specs.declared.reply.Sent.TheVariants as sents
 use Rattle.xpt_lock.specs.Seats.{Held}
 use Rattle.xpt_lock.specs.declared.fault.SharedFault.{SharedFault}
 use Rattle.xpt_lock.specs.declared.fault.SharedFault.TheVariants.{OutOfMemory, Refused}
-use Rattle.xpt_lock.specs.declared.receipt.Receipt.{Receipt}
+use Rattle.xpt_lock.specs.Receipts.{Receipt}
 
 -- one receipt more, which is this one, for this event and with this reply
 abbrev pub HasGained : Receipt → Event → Reply → Held → Held → Type 0

@@ -1,6 +1,5 @@
 -- the definitions at one history: a driver submits a CCB, and a lane sends it and completes it
-use Rattle.std.specs.Prelude.{◌≡◌, true, false, List, [], ◌∷◌, map, Some, slice_get}
-use Rattle.std.proofs.Common.{refl}
+use Rattle.std.specs.Prelude.{◌≡◌, true, false, List, [], ◌∷◌, map, Some, slice_get, refl}
 use Rattle.cam_types.specs.Topology.{Topology, unlinked}
 use Rattle.cam_types.specs.Weights.{standard_weights}
 use Rattle.cam_types.specs.declared.outcome.Outcome.{Outcome}
@@ -13,9 +12,8 @@ use Rattle.sense_class.specs.Classes.{kind_of, scsi_kind, sense_kind}
 use Rattle.sense_class.specs.Sense.{read_sense, fixed_sense, descriptor_sense}
 use Rattle.sense_class.specs.declared.class.Class.TheVariants.{Complete}
 use Rattle.xpt_state.specs.declared.reply.Reply.TheVariants as replies
-use Rattle.xpt_lock.specs.Receipts.{receipts_of, all_receipts, naming, is_rising, marks}
+use Rattle.xpt_lock.specs.Receipts.{receipts_of, all_receipts, naming, is_rising, marks, Receipt}
 use Rattle.xpt_lock.specs.Seats.{Held}
-use Rattle.xpt_lock.specs.declared.receipt.Receipt.{Receipt}
 use Rattle.xpt_lock.specs.declared.seat.SeatName.TheVariants as names
 
 -- one adapter, one device and one lane, each of one opening

@@ -2,11 +2,10 @@
 use Rattle.std.specs.Prelude.{◌≡◌, ℕ, ◌+◌, ◌<◌, List, [], ◌∷◌, ◌++◌, length, take, Some, Result, MatchResult, IsTrue, slice_get}
 use Rattle.event_rules.specs.Legal.{history_rules, is_legal}
 use Rattle.event_rules.specs.Past.{Past}
-use Rattle.xpt_lock.specs.Receipts.{receipts_of, all_receipts, naming, AreConsistent, AreInterleaved}
+use Rattle.xpt_lock.specs.Receipts.{receipts_of, all_receipts, naming, AreConsistent, AreInterleaved, Receipt}
 use Rattle.xpt_lock.specs.Seats.{Held}
-use Rattle.xpt_lock.specs.declared.fault.GatherFault.{GatherFault}
-use Rattle.xpt_lock.specs.declared.fault.GatherFault.TheVariants.{Mismatch, Unnamed, OutOfMemory}
-use Rattle.xpt_lock.specs.declared.receipt.Receipt.{Receipt}
+pub use Rattle.xpt_lock.specs.declared.fault.GatherFault.{GatherFault}
+pub use Rattle.xpt_lock.specs.declared.fault.GatherFault.TheVariants.{Mismatch, Unnamed, OutOfMemory}
 
 -- the first i seats, and the first j receipts of one more
 abbrev pub up_to : List Held → ℕ → Held → ℕ → List Held

@@ -6,7 +6,7 @@ use Rattle.cam_types.specs.Topology.{Topology}
 use Rattle.event_rules.specs.declared.event.Event.{Event}
 use Rattle.xpt_state.specs.Replies.{reply_of}
 use Rattle.xpt_lock.specs.Seats.{Held}
-use Rattle.xpt_lock.specs.declared.receipt.Receipt.{Receipt}
+pub use Rattle.xpt_lock.specs.declared.receipt.Receipt.{Receipt}
 
 -- what one thread would get that made all the calls: each place with its event, and the transport's reply to it there
 abbrev pub receipts_of : Topology → List Event → List Receipt

@@ -3,7 +3,7 @@
 ghost use Rattle.std.specs.Prelude.{◌≡◌, ◌≢◌, [], IfOk, MatchResult};
 ghost use Rattle.event_rules.specs.declared.event.Event.TheVariants as Event;
 ghost use Rattle.xpt_lock.specs.Calls.{IsCall, IsTurn, IsAnswer, IsLaneAnswer, IsLook, IsNextCase, receipt_of, receipt_alone, answered};
-ghost use Rattle.xpt_lock.specs.declared.receipt.Receipt.{Receipt};
+ghost use Rattle.xpt_lock.specs.Receipts.{Receipt};
 ghost use Rattle.xpt_state.specs.Replies.{nothing};
 ghost use Rattle.xpt_state.specs.declared.reply.Reply.TheVariants as replies;
 

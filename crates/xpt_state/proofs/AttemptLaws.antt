@@ -1,20 +1,11 @@
 -- a stay without a send is its CCB's last: its try is the count of the CCB's requeues
-use Rattle.std.proofs.Common.{◌≡◌, ℕ, suc, ◌≤◌, Bool, true, false, cond, List, [], ◌∷◌, refl, sym, ap, ◌∙◌, arith, Option, Some, None, inl, inr, slice_get}
-use Rattle.std.specs.Prelude.{◌==◌, ◌&&◌, nat_lt, filter, count_by, option_and_then}
+use Rattle.std.proofs.Common.{◌≡◌, ℕ, suc, ◌≤◌, Bool, true, false, cond, List, [], ◌∷◌, refl, sym, ap, ◌∙◌, arith, Option, Some, None, inl, inr, slice_get, ◌==◌, ◌&&◌, nat_lt, filter, count_by, option_and_then}
 use Rattle.std.specs.List.{list_any, list_all}
 use Rattle.std.proofs.lemmas.Bool.{and_from, eq-eqb, eqb-true, or_cases}
 use Rattle.std.proofs.lemmas.List.Sums.{sum_by-cons}
-use Rattle.cam_types.specs.Topology.{Topology}
-use Rattle.event_rules.specs.Event.{is_requeue_of}
-use Rattle.event_rules.specs.Counts.{commands}
-use Rattle.event_rules.specs.Head.{head, next}
-use Rattle.event_rules.specs.Stays.{stays_begun, is_unsent, waiting, has_arrived, queue, first}
-use Rattle.event_rules.specs.declared.event.Event.{Event}
-use Rattle.event_rules.specs.declared.passage.Passage.{Passage}
+use Rattle.xpt_state.specs.Words.{Topology, is_requeue_of, commands, head, next, stays_begun, is_unsent, waiting, has_arrived, queue, first, Event, Passage, Rules, is_legal, is_alive}
 use Rattle.event_rules.proofs.TotalLaws.{unsent_count}
-use Rattle.event_rules.specs.Legal.{Rules, is_legal}
 use Rattle.event_rules.proofs.TestLemmas.{IsIn, in_found, in_filter, passes-all}
-use Rattle.xpt_core.specs.Ccbs.{is_alive}
 use Rattle.xpt_core.proofs.LatestLemmas.{AreLatest, latest-legal}
 
 -- it is its CCB's last stay

@@ -1,16 +1,9 @@
 -- a transport's events one by one into a history
-use Rattle.std.proofs.Common.{◌≡◌, ℕ, ◌+◌, ◌<◌, ◌≤◌, true, List, [], ◌∷◌, ◌++◌, length, take, get_or, Option, Some, None, Result, Ok, Err, refl, sym, ap, subst, ◌∙◌}
-use Rattle.std.specs.Prelude.{MatchOption, MatchResult, OnOk, IsOk, IsTrue, slice_index_or}
+use Rattle.std.proofs.Common.{◌≡◌, ℕ, ◌+◌, ◌<◌, ◌≤◌, true, List, [], ◌∷◌, ◌++◌, length, take, get_or, Option, Some, None, Result, Ok, Err, refl, sym, ap, subst, ◌∙◌, MatchOption, MatchResult, OnOk, IsOk, IsTrue, slice_index_or}
 use Rattle.std.proofs.lemmas.List.{take_more, take_all}
-use Rattle.cam_types.specs.Topology.{Topology}
-use Rattle.event_rules.specs.declared.event.Event.{Event}
-use Rattle.event_rules.specs.Past.{Past}
-use Rattle.event_rules.specs.Legal.{history_rules, is_legal, is_legal_event}
-use Rattle.event_rules.specs.declared.refusal.Refusal.{Refusal}
+use Rattle.xpt_state.specs.Words.{Topology, Event, Past, history_rules, is_legal, is_legal_event, Refusal, PushFault, Refused}
 use Rattle.event_rules.proofs.LawLemmas.{legal-push}
 use Rattle.event_rules.proofs.LimitLemmas.{legal-at}
-use Rattle.cam_event.specs.declared.history.PushFault.{PushFault}
-use Rattle.cam_event.specs.declared.history.PushFault.TheVariants.{Refused}
 
 -- what isn't refused is pushed
 pub unrefused_push : (o : Option Refusal) (r : Result (Unit {0}) PushFault) → o ≡ None → MatchOption o (r ≡ Ok tt) (λ x. r ≡ Err (Refused x)) → IsOk r

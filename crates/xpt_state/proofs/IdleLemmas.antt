@@ -1,22 +1,13 @@
 -- an adapter is idle exactly where it has no next stay
-use Rattle.std.proofs.Common.{◌≡◌, ℕ, Bool, true, false, cond, List, [], ◌∷◌, Option, Some, None, refl, sym, ap, ◌∙◌, is_some}
-use Rattle.std.specs.Prelude.{◌==◌, not, ◌&&◌, ◌||◌, filter, option_and_then}
+use Rattle.std.proofs.Common.{◌≡◌, ℕ, Bool, true, false, cond, List, [], ◌∷◌, Option, Some, None, refl, sym, ap, ◌∙◌, is_some, ◌==◌, not, ◌&&◌, ◌||◌, filter, option_and_then}
 use Rattle.std.specs.List.{list_any, list_all}
-use Rattle.cam_types.specs.Lists.{first_answer, least_by}
-use Rattle.cam_types.specs.Topology.{Topology}
+use Rattle.xpt_state.specs.Words.{first_answer, least_by, Topology, freeze_count, adapter_freezes, first, is_on, devices, has_opening, adapter_has_opening, link_has_opening, is_ready, may_send, turn_key, turn, head, next, Event}
 use Rattle.std.proofs.lemmas.Bool.{and_parts, and_from}
 use Rattle.std.proofs.Math.Bool.{not-not}
-use Rattle.event_rules.specs.Counts.{freeze_count, adapter_freezes}
-use Rattle.event_rules.specs.Stays.{first}
-use Rattle.cam_types.specs.Questions.{is_on, devices}
-use Rattle.event_rules.specs.Head.{has_opening, adapter_has_opening, link_has_opening, is_ready, may_send, turn_key, turn, head, next}
-use Rattle.event_rules.specs.declared.event.Event.{Event}
 use Rattle.event_rules.proofs.LeastLemmas.{is_some-least_by-filter}
 use Rattle.event_rules.proofs.TestLemmas.{same_tests, list_any-weaker}
 use Rattle.event_rules.proofs.NextLemmas.{is_some-next}
-use Rattle.xpt_state.specs.declared.idle.Idle.{Idle}
-use Rattle.xpt_state.specs.declared.idle.Idle.TheVariants.{Empty, AdapterFrozen, AdapterBusy, DevicesHeld}
-use Rattle.xpt_state.specs.Idle.{has_stay_on, is_held_back, idle_causes, idle_named, idle, idle_by, takes_more}
+use Rattle.xpt_state.specs.Idle.{has_stay_on, is_held_back, idle_causes, idle_named, idle, idle_by, takes_more, Idle, Empty, AdapterFrozen, AdapterBusy, DevicesHeld}
 
 -- there is a first cause where one holds
 is_some-first : (ms : List (Bool × Idle)) → is_some (first_answer idle_named ms) ≡ list_any (λ m. m.0) ms

@@ -1,18 +1,6 @@
 -- why a lane that asks for the next command is refused
-use Rattle.std.proofs.Common.{◌≡◌, ℕ, ◌<◌, Bool, true, false, List, [], ◌∷◌, length, Option, Some, None, refl, sym, ◌∙◌}
-use Rattle.std.specs.Prelude.{not, nat_le, is_none}
-use Rattle.std.proofs.lemmas.Bool.{leb-false}
-use Rattle.cam_types.specs.Topology.{Topology}
-use Rattle.event_rules.specs.Head.{next}
-use Rattle.event_rules.specs.Stays.{has_queued}
-use Rattle.event_rules.specs.declared.event.Event.{Event}
-use Rattle.event_rules.specs.declared.event.Event.TheVariants.{Send}
-use Rattle.event_rules.specs.declared.passage.Passage.{Passage}
-use Rattle.cam_types.specs.Questions.{names_lane, lane_adapter}
-use Rattle.event_rules.specs.Legal.{Rules, names_ccb}
-use Rattle.event_rules.specs.Refusals.{device_of, turn_causes, first_cause, refusal}
-use Rattle.event_rules.specs.declared.refusal.Refusal.{Refusal}
-use Rattle.event_rules.specs.declared.refusal.Refusal.TheVariants.{HistoryFull, NoLane, NoCcb, NotQueued}
+use Rattle.std.proofs.Common.{◌≡◌, ℕ, ◌<◌, Bool, true, false, List, [], ◌∷◌, length, Option, Some, None, refl, sym, ◌∙◌, not, nat_le, is_none, leb-false}
+use Rattle.xpt_state.specs.Words.{Topology, next, has_queued, Event, Send, Passage, names_lane, lane_adapter, Rules, names_ccb, device_of, turn_causes, first_cause, refusal, Refusal, HistoryFull, NoLane, NoCcb, NotQueued}
 use Rattle.event_rules.proofs.LegalLemmas.{legal-unrefused}
 use Rattle.xpt_state.specs.Sends.{lane_refusal}
 use Rattle.xpt_state.proofs.SendLemmas.{next_is_legal}

@@ -1,26 +1,11 @@
 -- the adapter of a lane, and the send whose turn it is there
-use Rattle.std.proofs.Common.{◌≡◌, ℕ, zero, suc, ◌<◌, ◌≤◌, Bool, true, false, cond, List, [], ◌∷◌, ◌++◌, length, Option, Some, None, refl, sym, ap, slice_get, arith, ◌∙◌}
-use Rattle.std.specs.Prelude.{◌==◌, ◌&&◌, nat_le, is_some, count_by}
+use Rattle.std.proofs.Common.{◌≡◌, ℕ, zero, suc, ◌<◌, ◌≤◌, Bool, true, false, cond, List, [], ◌∷◌, ◌++◌, length, Option, Some, None, refl, sym, ap, slice_get, arith, ◌∙◌, ◌==◌, ◌&&◌, nat_le, is_some, count_by}
 use Rattle.std.specs.List.{list_any}
 use Rattle.std.specs.Option.{option_map, option_or}
 use Rattle.std.proofs.lemmas.Bool.{and_left, leb-false, le-ltb}
 use Rattle.std.proofs.lemmas.Option.{slice_get_past}
-use Rattle.cam_types.specs.Lists.{moments_after, first_answer}
+use Rattle.xpt_state.specs.Words.{moments_after, first_answer, Topology, IsConfig, lane_fault, TooMany, NoAdapter, MOST_LANES, adapter_freezes, names_lane, lane_adapter, devices, adapter_has_opening, link_has_opening, head, may_send, next, Event, Send, Passage, HistoryFull, next_of, Next, Transport, refused}
 use Rattle.cam_types.proofs.ConfigLemmas.{lane_items}
-use Rattle.cam_types.specs.Topology.{Topology, IsConfig, lane_fault}
-use Rattle.cam_types.specs.declared.config_fault.ConfigFault.TheVariants.{TooMany, NoAdapter}
-use Rattle.cam_types.specs.declared.maxima.TheConstants.{MOST_LANES}
-use Rattle.event_rules.specs.Counts.{adapter_freezes}
-use Rattle.cam_types.specs.Questions.{names_lane, lane_adapter, devices}
-use Rattle.event_rules.specs.Head.{adapter_has_opening, link_has_opening, head, may_send, next}
-use Rattle.event_rules.specs.declared.event.Event.{Event}
-use Rattle.event_rules.specs.declared.event.Event.TheVariants.{Send}
-use Rattle.event_rules.specs.declared.passage.Passage.{Passage}
-use Rattle.event_rules.specs.declared.refusal.Refusal.TheVariants.{HistoryFull}
-use Rattle.xpt_core.specs.Next.{next_of}
-use Rattle.xpt_core.specs.declared.queues.next.Next.{Next}
-use Rattle.xpt_core.specs.Transport.{Transport}
-use Rattle.xpt_core.specs.Takes.{refused}
 use Rattle.xpt_state.specs.Idle.{takes_more}
 use Rattle.xpt_state.specs.Sends.{lane_refusal}
 use Rattle.xpt_state.proofs.IdleLemmas.{is_some-head, is_some-next_head}

@@ -1,28 +1,10 @@
 -- commands and completions are what the CCB's row says
-use Rattle.std.proofs.Common.{◌≡◌, ℕ, Bool, true, false, cond, List, [], ◌∷◌, Option, Some, None, refl, sym, ap, ◌∙◌, slice_get, ◌<◌, get_or}
-use Rattle.std.specs.Prelude.{◌==◌, ◌&&◌, not, nat_lt, option_and_then, IfSome, IsTrue}
-use Rattle.std.specs.Option.{option_map}
+use Rattle.std.proofs.Common.{◌≡◌, ℕ, Bool, true, false, cond, List, [], ◌∷◌, Option, Some, None, refl, sym, ap, ◌∙◌, slice_get, ◌<◌, get_or, ◌==◌, ◌&&◌, not, nat_lt, option_and_then, IfSome, IsTrue, option_map}
 use Rattle.std.proofs.lemmas.Bool.{and_parts, eqb-true, ltb-true}
 use Rattle.std.proofs.lemmas.Option.{slice_get-get_or}
-use Rattle.cam_types.specs.Topology.{Topology}
-use Rattle.cam_types.specs.declared.command.Command.{Command}
-use Rattle.cam_types.specs.declared.outcome.Outcome.{Outcome}
-use Rattle.sense_class.specs.Classes.{status_of}
-use Rattle.event_rules.specs.Event.{is_some_and}
-use Rattle.event_rules.specs.Counts.{submission, submissions, commands, is_in_flight, is_recovering}
-use Rattle.event_rules.specs.Head.{next}
-use Rattle.event_rules.specs.declared.event.Event.{Event}
-use Rattle.event_rules.specs.declared.event.Event.TheVariants.{Send, Done}
-use Rattle.event_rules.specs.declared.passage.Passage.{Passage}
-use Rattle.event_rules.specs.declared.submission.Submission.{Submission}
-use Rattle.event_rules.specs.Laws.{last_class, is_stay_of}
-use Rattle.event_rules.specs.Legal.{Rules, names_ccb, is_legal, is_legal_event}
-use Rattle.cam_types.specs.Questions.{lane_adapter}
+use Rattle.xpt_state.specs.Words.{Topology, Command, Outcome, status_of, is_some_and, submission, submissions, commands, is_in_flight, is_recovering, next, Event, Send, Done, Passage, Submission, last_class, is_stay_of, Rules, names_ccb, is_legal, is_legal_event, lane_adapter, Ccb, is_alive, ccb_by, alive_ccb, cases}
 use Rattle.event_rules.proofs.LawLemmas.{allowed-legal_event}
 use Rattle.event_rules.proofs.NextLemmas.{next_stands}
-use Rattle.xpt_core.specs.declared.ccbs.ccb.Ccb.{Ccb}
-use Rattle.xpt_core.specs.Ccbs.{is_alive, ccb_by, alive_ccb}
-use Rattle.xpt_core.specs.Cases.{cases}
 use Rattle.event_rules.proofs.StandLemmas.{AreStates, states-legal, in_flight_held, recovering_held}
 use Rattle.xpt_state.specs.declared.reply.Reply.TheVariants as replies
 use Rattle.xpt_state.specs.Looks.{case_of, next_case}

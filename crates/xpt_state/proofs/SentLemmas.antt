@@ -1,26 +1,13 @@
 -- a send that isn't refused is what the lane's turn comes to
-use Rattle.std.proofs.Common.{◌≡◌, ℕ, true, List, Option, Some, None, Result, Ok, Err, refl, sym, ap, subst, ◌∙◌}
-use Rattle.std.specs.Prelude.{not, is_some, option_and_then}
+use Rattle.std.proofs.Common.{◌≡◌, ℕ, true, List, Option, Some, None, Result, Ok, Err, refl, sym, ap, subst, ◌∙◌, not, is_some, option_and_then}
 use Rattle.std.specs.Option.{option_map, option_map_or}
-use Rattle.cam_types.specs.declared.command.Command.{Command}
-use Rattle.event_rules.specs.Counts.{submission}
-use Rattle.event_rules.specs.Head.{next}
-use Rattle.event_rules.specs.declared.event.Event.{Event}
-use Rattle.event_rules.specs.declared.event.Event.TheVariants.{Send}
-use Rattle.event_rules.specs.declared.passage.Passage.{Passage}
-use Rattle.event_rules.specs.declared.submission.Submission.{Submission}
-use Rattle.cam_types.specs.Questions.{lane_adapter}
-use Rattle.event_rules.specs.declared.refusal.Refusal.{Refusal}
+use Rattle.xpt_state.specs.Words.{Command, submission, next, Event, Send, Passage, Submission, lane_adapter, Refusal, Transport, refused, IsTaken}
 use Rattle.event_rules.proofs.LegalLemmas.{legal-none}
-use Rattle.xpt_core.specs.Transport.{Transport}
-use Rattle.xpt_state.specs.declared.idle.Idle.{Idle}
+use Rattle.xpt_state.specs.Idle.{idle, Idle}
 use Rattle.xpt_state.specs.declared.reply.Reply.TheVariants as replies
-use Rattle.xpt_state.specs.declared.reply.Sent.{Sent}
+use Rattle.xpt_state.specs.Steps.{IsStep, IsLaneStep, Sent}
 use Rattle.xpt_state.specs.declared.reply.Sent.TheVariants as sents
-use Rattle.xpt_core.specs.Takes.{refused, IsTaken}
-use Rattle.xpt_state.specs.Idle.{idle}
 use Rattle.xpt_state.specs.Replies.{command_of}
-use Rattle.xpt_state.specs.Steps.{IsStep, IsLaneStep}
 use Rattle.xpt_state.proofs.IdleLemmas.{idle_is_no_next}
 use Rattle.xpt_state.proofs.LaneLemmas.{lane_refused as refused_as_its_sends}
 use Rattle.xpt_state.proofs.SendLemmas.{legal_is_next}

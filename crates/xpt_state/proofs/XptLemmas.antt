@@ -1,19 +1,10 @@
 -- what an event that isn't refused finds
 use Rattle.std.proofs.Common.{◌≡◌, ℕ, true, Option, Some, None, ap}
 use Rattle.std.specs.Option.{option_map_or}
-use Rattle.cam_types.specs.declared.command.Command.{Command}
-use Rattle.cam_types.specs.declared.outcome.Outcome.{Outcome}
-use Rattle.event_rules.specs.declared.event.Event.{Event}
-use Rattle.event_rules.specs.declared.event.Event.TheVariants.{Send, Done}
-use Rattle.event_rules.specs.Legal.{is_legal, is_legal_event}
+use Rattle.xpt_state.specs.Words.{Command, Outcome, Event, Send, Done, is_legal, is_legal_event, alive_ccb, Ccb, Transport, refused}
 use Rattle.event_rules.proofs.LegalLemmas.{legal-none}
-use Rattle.xpt_core.specs.Ccbs.{alive_ccb}
-use Rattle.xpt_core.specs.declared.ccbs.ccb.Ccb.{Ccb}
-use Rattle.xpt_core.specs.Transport.{Transport}
-use Rattle.xpt_core.specs.Takes.{refused}
-use Rattle.xpt_state.specs.Replies.{done_of, next_command}
+use Rattle.xpt_state.specs.Replies.{done_of, next_command, Reply}
 use Rattle.xpt_state.specs.Rows.{command_by, done_by}
-use Rattle.xpt_state.specs.declared.reply.Reply.{Reply}
 use Rattle.xpt_state.specs.declared.reply.Reply.TheVariants as replies
 use Rattle.xpt_state.proofs.RowLaws.{send_answers_by_row, done_answers_by_row}
 

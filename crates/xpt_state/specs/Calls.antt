@@ -1,7 +1,6 @@
 -- why a lane is refused
 use Rattle.std.specs.Prelude.{ℕ, Option}
-use Rattle.event_rules.specs.declared.refusal.Refusal.{Refusal}
-use Rattle.xpt_core.specs.Transport.{Transport}
+use Rattle.xpt_state.specs.Words.{Refusal, Transport}
 use Rattle.xpt_state.specs.Sends.{lane_refusal}
 
 -- the first cause that refuses a lane that asks for the next command

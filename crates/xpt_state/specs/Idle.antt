@@ -1,15 +1,9 @@
 -- why a lane of an adapter has nothing to send
 use Rattle.std.specs.Prelude.{ℕ, ◌==◌, Bool, not, ◌&&◌, ◌||◌, if◌then◌else◌, List, [], ◌∷◌, Option, Some, None, is_some}
 use Rattle.std.specs.List.{list_any, list_all}
-use Rattle.cam_types.specs.Lists.{first_answer}
-use Rattle.cam_types.specs.Topology.{Topology}
-use Rattle.event_rules.specs.Counts.{freeze_count, adapter_freezes}
-use Rattle.event_rules.specs.Stays.{first}
-use Rattle.cam_types.specs.Questions.{is_on, devices}
-use Rattle.event_rules.specs.Head.{has_opening, adapter_has_opening, link_has_opening}
-use Rattle.event_rules.specs.declared.event.Event.{Event}
-use Rattle.xpt_state.specs.declared.idle.Idle.{Idle}
-use Rattle.xpt_state.specs.declared.idle.Idle.TheVariants.{Empty, AdapterFrozen, AdapterBusy, DevicesHeld}
+use Rattle.xpt_state.specs.Words.{first_answer, Topology, freeze_count, adapter_freezes, first, is_on, devices, has_opening, adapter_has_opening, link_has_opening, Event}
+pub use Rattle.xpt_state.specs.declared.idle.Idle.{Idle}
+pub use Rattle.xpt_state.specs.declared.idle.Idle.TheVariants.{Empty, AdapterFrozen, AdapterBusy, DevicesHeld}
 
 -- the device is on the adapter, and a stay is queued at it
 abbrev pub has_stay_on : Topology → List Event → ℕ → ℕ → Bool

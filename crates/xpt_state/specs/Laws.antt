@@ -1,24 +1,11 @@
 -- what holds of sends and of idle lanes
-use Rattle.std.specs.Prelude.{◌≡◌, ℕ, not, List, Some, None, Ok, is_some, IsTrue, Result}
-use Rattle.std.specs.Option.{option_map}
-use Rattle.cam_types.specs.Topology.{Topology}
-use Rattle.cam_types.specs.declared.command.Command.{Command}
-use Rattle.event_rules.specs.Head.{next}
-use Rattle.event_rules.specs.declared.event.Event.{Event}
-use Rattle.event_rules.specs.declared.event.Event.TheVariants.{Send}
-use Rattle.event_rules.specs.declared.passage.Passage.{Passage}
-use Rattle.event_rules.specs.Legal.{Rules, is_legal_event}
-use Rattle.cam_types.specs.Questions.{lane_adapter}
-use Rattle.event_rules.specs.Refusals.{refusal}
-use Rattle.event_rules.specs.declared.refusal.Refusal.{Refusal}
-use Rattle.xpt_core.specs.Transport.{Transport}
+use Rattle.std.specs.Prelude.{◌≡◌, ℕ, not, List, Some, None, Ok, is_some, IsTrue, Result, option_map}
+use Rattle.xpt_state.specs.Words.{Topology, Command, next, Event, Send, Passage, Rules, is_legal_event, lane_adapter, refusal, Refusal, Transport, refused}
 use Rattle.xpt_state.specs.declared.reply.Reply.TheVariants as replies
-use Rattle.xpt_state.specs.declared.reply.Sent.{Sent}
+use Rattle.xpt_state.specs.Steps.{IsStep, IsLaneStep, Sent}
 use Rattle.xpt_state.specs.declared.reply.Sent.TheVariants as sents
-use Rattle.xpt_core.specs.Takes.{refused}
 use Rattle.xpt_state.specs.Idle.{idle}
 use Rattle.xpt_state.specs.Sends.{lane_refusal}
-use Rattle.xpt_state.specs.Steps.{IsStep, IsLaneStep}
 
 -- An adapter has a cause to be idle exactly where it has no next stay.
 abbrev pub IdleIsNoNext : Type 0

@@ -1,15 +1,7 @@
 -- what there is to see of a transport
-use Rattle.std.specs.Prelude.{ℕ, Bool, List, length, Option, is_some, count_by, slice_get, option_and_then}
-use Rattle.std.specs.Option.{option_map}
-use Rattle.cam_types.specs.Topology.{Topology}
+use Rattle.std.specs.Prelude.{ℕ, Bool, List, length, Option, is_some, count_by, slice_get, option_and_then, option_map}
+use Rattle.xpt_state.specs.Words.{Topology, is_some_and, round, ccbs, is_in_flight, is_recovering, waiting, head, Event, last_class, cases}
 use Rattle.sense_class.specs.declared.class.Class as class
-use Rattle.event_rules.specs.Event.{is_some_and}
-use Rattle.event_rules.specs.Counts.{round, ccbs, is_in_flight, is_recovering}
-use Rattle.event_rules.specs.Stays.{waiting}
-use Rattle.event_rules.specs.Head.{head}
-use Rattle.event_rules.specs.declared.event.Event.{Event}
-use Rattle.event_rules.specs.Laws.{last_class}
-use Rattle.xpt_core.specs.Cases.{cases}
 use Rattle.xpt_state.specs.declared.look.Case.{Case}
 use Rattle.xpt_state.specs.declared.look.Look.{Look}
 

@@ -1,21 +1,9 @@
 -- what a transport answers to each event, by the events before it
 use Rattle.std.specs.Prelude.{ℕ, ◌+◌, Bool, not, ◌&&◌, if◌then◌else◌, List, Option, is_some, option_and_then}
 use Rattle.std.specs.Option.{option_map, option_map_or}
-use Rattle.cam_types.specs.Topology.{Topology}
-use Rattle.cam_types.specs.declared.command.Command.{Command}
-use Rattle.cam_types.specs.declared.outcome.Outcome.{Outcome}
-use Rattle.sense_class.specs.Classes.{status_of, classify}
-use Rattle.sense_class.specs.Sense.{read_sense}
-use Rattle.event_rules.specs.Event.{is_some_and, is_erring}
-use Rattle.event_rules.specs.Counts.{round, commands, submission, counted_requeues, retries_of}
-use Rattle.event_rules.specs.Head.{next}
-use Rattle.event_rules.specs.declared.event.Event.{Event}
-use Rattle.event_rules.specs.declared.event.Event.TheVariants.{Submit, Send, Done, Tick}
-use Rattle.event_rules.specs.declared.passage.Passage.{Passage}
-use Rattle.event_rules.specs.declared.submission.Submission.{Submission}
-use Rattle.cam_types.specs.Questions.{lane_adapter}
+use Rattle.xpt_state.specs.Words.{Topology, Command, Outcome, status_of, classify, read_sense, is_some_and, is_erring, round, commands, submission, counted_requeues, retries_of, next, Event, Submit, Send, Done, Tick, Passage, Submission, lane_adapter}
 use Rattle.xpt_state.specs.declared.done.Done as done
-use Rattle.xpt_state.specs.declared.reply.Reply.{Reply}
+pub use Rattle.xpt_state.specs.declared.reply.Reply.{Reply}
 use Rattle.xpt_state.specs.declared.reply.Reply.TheVariants as replies
 
 -- the command by which a stay's CCB is sent

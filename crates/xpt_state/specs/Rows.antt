@@ -1,9 +1,6 @@
 -- what a CCB's row says of its command and of its completion
 use Rattle.std.specs.Prelude.{ℕ, not, ◌==◌, ◌&&◌}
-use Rattle.cam_types.specs.declared.command.Command.{Command}
-use Rattle.cam_types.specs.declared.outcome.Outcome.{Outcome}
-use Rattle.sense_class.specs.Classes.{status_of, classify}
-use Rattle.xpt_core.specs.declared.ccbs.ccb.Ccb.{Ccb}
+use Rattle.xpt_state.specs.Words.{Command, Outcome, status_of, classify, Ccb}
 use Rattle.xpt_state.specs.declared.done.Done as done
 use Rattle.xpt_state.specs.Replies.{value_of}
 

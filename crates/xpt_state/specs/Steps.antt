@@ -1,17 +1,11 @@
 -- what the calls of a transport come to
 use Rattle.std.specs.Prelude.{◌≡◌, ℕ, Some, None, MatchResult, Result}
-use Rattle.cam_types.specs.Questions.{lane_adapter}
-use Rattle.event_rules.specs.declared.refusal.Refusal.{Refusal}
-use Rattle.event_rules.specs.declared.event.Event.{Event}
-use Rattle.event_rules.specs.declared.event.Event.TheVariants.{Send}
-use Rattle.xpt_core.specs.Transport.{Transport}
-use Rattle.xpt_state.specs.declared.reply.Reply.{Reply}
-use Rattle.xpt_state.specs.declared.reply.Sent.{Sent}
+use Rattle.xpt_state.specs.Words.{lane_adapter, Refusal, Event, Send, Transport, IsTaken, IsRefused}
+use Rattle.xpt_state.specs.Replies.{next_command, reply_of, Reply}
+pub use Rattle.xpt_state.specs.declared.reply.Sent.{Sent}
 use Rattle.xpt_state.specs.declared.reply.Sent.TheVariants as sents
-use Rattle.xpt_core.specs.Takes.{IsTaken, IsRefused}
 use Rattle.xpt_state.specs.Calls.{lane_refused}
 use Rattle.xpt_state.specs.Idle.{idle}
-use Rattle.xpt_state.specs.Replies.{next_command, reply_of}
 
 -- A call takes its event and answers the event's reply, or refuses it for the first cause.
 abbrev pub IsStep : {A : Type 0} → (A → Reply) → Transport → Event → Transport → Result A Refusal → Type 0

@@ -2,12 +2,9 @@
 
 ghost use Rattle.std.specs.Prelude.{◌≡◌, ◌<◌, length, None, Some, IsTrue, IfOk, IfErr, count_by, is_some};
 ghost use Rattle.std.specs.List.{list_any, range_with_len};
-ghost use Rattle.event_rules.specs.Legal.{is_legal};
-ghost use Rattle.event_rules.specs.Head.{next, head};
+ghost use Rattle.xpt_state.specs.Words.{is_legal, next, head, refused, lane_adapter};
 ghost use Rattle.event_rules.specs.declared.event.Event.TheVariants as events;
-ghost use Rattle.xpt_core.specs.Takes.{refused};
 ghost use Rattle.xpt_state.specs.Calls.{lane_refused};
-ghost use Rattle.cam_types.specs.Questions.{lane_adapter};
 ghost use Rattle.xpt_state.specs.Idle.{idle, has_stay_on};
 ghost use Rattle.xpt_state.specs.Looks.{next_case, case_of};
 ghost use Rattle.xpt_state.specs.Replies.{done_of, next_command};

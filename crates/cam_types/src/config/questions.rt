@@ -2,9 +2,7 @@
 
 ghost use Rattle.std.specs.Prelude.{◌≡◌, ◌≤◌, slice_get};
 ghost use Rattle.std.specs.Option.{option_map};
-ghost use Rattle.cam_types.specs.declared.device.Device.{Device};
-ghost use Rattle.cam_types.specs.declared.maxima.TheConstants.{MOST_WEIGHT};
-ghost use Rattle.cam_types.specs.Topology.{IsConfig};
+ghost use Rattle.cam_types.specs.Topology.{IsConfig, Device, MOST_WEIGHT};
 ghost use Rattle.cam_types.specs.Weights.{are_standard};
 ghost use Rattle.cam_types.specs.Questions.{names_device, names_adapter, names_lane, adapter_link, adapter_openings, link_openings, is_on, weight};
 

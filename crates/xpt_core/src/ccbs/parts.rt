@@ -1,8 +1,7 @@
 //! The parts of the rows.
 
 ghost use Rattle.std.specs.Prelude.{◌≡◌, ◌+◌, ◌-◌, ◌^◌, ◌<◌, ◌≤◌, slice_get, cond, is_some, IsSome};
-ghost use Rattle.cam_ccb.specs.Table.{find, held_count, Updates};
-ghost use Rattle.event_rules.specs.Event.{ends};
+ghost use Rattle.xpt_core.specs.Words.{find, held_count, Updates, ends};
 ghost use Rattle.xpt_core.specs.Change.{fresh, next_row, IsSmall};
 ghost use Rattle.xpt_core.specs.Rows.{is_row_in_flight};
 

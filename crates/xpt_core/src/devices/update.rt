@@ -1,8 +1,7 @@
 //! What an event makes of the devices' queues.
 ghost use Rattle.std.specs.Prelude.{◌≡◌, ◌+◌, ◌<◌, ◌≤◌, ◌&&◌, ◌^◌, true, not, length, All, map};
-ghost use Rattle.cam_types.specs.declared.maxima.TheConstants.{MOST_PRIORITY};
+ghost use Rattle.xpt_core.specs.Words.{MOST_PRIORITY, is_erring};
 ghost use Rattle.dev_queue.specs.Device.{is_ready};
-ghost use Rattle.event_rules.specs.Event.{is_erring};
 ghost use Rattle.xpt_core.specs.Places.{at_place, HasAt};
 ghost use Rattle.xpt_core.specs.DeviceUpdates.{with_stay, with_send, with_done, with_requeue, with_finish, with_freezes, less_freezes, with_openings, in_next_round, updated, CanUpdate, HasRoom, HasError};
 

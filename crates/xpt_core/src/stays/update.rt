@@ -1,9 +1,8 @@
 //! What an event makes of the stays' records.
 ghost use Rattle.std.specs.Prelude.{◌≡◌, ◌+◌, ◌<◌, ◌≤◌, ◌^◌, [], ◌∷◌, ◌++◌, length, slice_get, IsTrue, IfSome, vec_len, vec_capacity};
-ghost use Rattle.event_rules.specs.Legal.{is_legal_event};
+ghost use Rattle.xpt_core.specs.Words.{is_legal_event, MOST_PRIORITY};
 ghost use Rattle.xpt_core.specs.Places.{at_place, HasAt};
 ghost use Rattle.xpt_core.specs.StayRecord.{submitted_in, sent_in, followed_in, requeued_in};
-ghost use Rattle.cam_types.specs.declared.maxima.TheConstants.{MOST_PRIORITY};
 ghost use Rattle.xpt_core.specs.PartsSound.{IsStays};
 
 use crate::queues::Queues;

@@ -1,8 +1,5 @@
-use Rattle.std.proofs.Common.{◌≡◌, ap, sym, Option, None, false}
-use Rattle.std.specs.Prelude.{is_some}
-use Rattle.event_rules.specs.Live.{live_cost}
-use Rattle.event_rules.specs.Stays.{unsent}
-use Rattle.event_rules.specs.declared.stay.Stay.{Stay}
+use Rattle.std.proofs.Common.{◌≡◌, ap, sym, Option, None, false, is_some}
+use Rattle.audit_report.specs.Words.{live_cost, unsent, Stay}
 use Rattle.event_rules.proofs.LiveLemmas.{live_cost_sent}
 use Rattle.audit_report.proofs.check.run_check.Goals as goal
 

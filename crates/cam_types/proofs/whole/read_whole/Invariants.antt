@@ -1,7 +1,7 @@
 use Rattle.std.proofs.Common.{◌≡◌, ◌+◌, ◌-◌, false, vec_len}
 use Rattle.std.specs.Io.KnownBytes.{Consumes}
 use Rattle.cam_types.specs.Watched.{device_of, has_failed}
-use Rattle.cam_types.specs.declared.maxima.TheConstants.{MOST_BYTES}
+use Rattle.cam_types.specs.Topology.{MOST_BYTES}
 use Rattle.cam_types.proofs.whole.read_whole.Given as goal
 
 abbrev pub invariant-loop-piece : goal.invariant-loop-piece

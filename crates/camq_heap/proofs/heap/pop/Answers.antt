@@ -1,6 +1,4 @@
-use Rattle.std.proofs.Common.{sym, subst, arith}
-use Rattle.std.proofs.lemmas.Bool.{eqb-true}
-use Rattle.std.specs.List.Sorted.{IsPermutation}
+use Rattle.std.proofs.Common.{sym, subst, arith, eqb-true, IsPermutation}
 use Rattle.camq_heap.specs.Heap.{CanSink}
 use Rattle.camq_heap.specs.Queue.{key}
 use Rattle.camq_heap.proofs.SiftLemmas.{few_exchanges}

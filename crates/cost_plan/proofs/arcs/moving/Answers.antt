@@ -1,7 +1,6 @@
 use Rattle.std.proofs.Common.{ℕ, ◌≡◌, ◌<◌, ◌≤◌, ◌*◌, sym, subst, arith, length, get_or}
 use Rattle.std.proofs.lemmas.List.{get_or_read}
-use Rattle.negative_cycle.specs.declared.arc.TheConstants.{MOST_UP}
-use Rattle.round_net.specs.Rows.{instance_of_rows, live_of_rows}
+use Rattle.cost_plan.specs.Words.{MOST_UP, instance_of_rows, live_of_rows}
 use Rattle.cost_plan.specs.Draft.{schedule_of}
 use Rattle.cost_plan.proofs.NodeLemmas.{up-le}
 use Rattle.cost_plan.proofs.arcs.moving.Goals as goal

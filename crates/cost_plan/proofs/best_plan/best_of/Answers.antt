@@ -1,8 +1,5 @@
 use Rattle.std.proofs.Common.{ℕ, ◌∙◌, List, sym, subst}
-use Rattle.negative_cycle.specs.Labelling.{label_of}
-use Rattle.round_net.specs.Rows.{instance_of_rows, live_of_rows}
-use Rattle.round_net.specs.Value.{ProvesBest}
-use Rattle.round_net.specs.PriceRows.{pricing_of_rows}
+use Rattle.cost_plan.specs.Words.{label_of, instance_of_rows, live_of_rows, ProvesBest, pricing_of_rows}
 use Rattle.cost_plan.specs.Cells.{rounds_of}
 use Rattle.cost_plan.specs.Draft.{schedule_of}
 use Rattle.cost_plan.proofs.PriceLemmas.{ProvesBest-from_labels}

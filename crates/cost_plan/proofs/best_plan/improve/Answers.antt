@@ -1,7 +1,6 @@
 use Rattle.std.proofs.Common.{ℕ, ◌∙◌, ◌<◌, List, drop, sym, ap, subst, arith}
 use Rattle.std.proofs.lemmas.List.{take_rest}
-use Rattle.round_net.specs.Rows.{instance_of_rows, live_of_rows}
-use Rattle.round_net.specs.Schedules.{IsAdmissible, cost}
+use Rattle.cost_plan.specs.Words.{instance_of_rows, live_of_rows, IsAdmissible, cost}
 use Rattle.cost_plan.specs.Cells.{rounds_of}
 use Rattle.cost_plan.specs.Residual.{changed_all}
 use Rattle.cost_plan.proofs.CycleChangeLemmas.{IsAdmissible-changed_all, cost-changed_all}

@@ -1,7 +1,5 @@
-use Rattle.std.proofs.Common.{List, drop, sym, subst}
-use Rattle.std.specs.List.{All}
-use Rattle.negative_cycle.specs.declared.arc.Arc.{Arc}
-use Rattle.round_net.specs.Rows.{instance_of_rows}
+use Rattle.std.proofs.Common.{List, drop, sym, subst, All}
+use Rattle.cost_plan.specs.Words.{Arc, instance_of_rows}
 use Rattle.cost_plan.specs.Draft.{schedule_of}
 use Rattle.cost_plan.specs.Residual.{IsResidual}
 use Rattle.cost_plan.proofs.best_plan.settled.Goals as goal

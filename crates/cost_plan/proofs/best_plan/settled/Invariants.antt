@@ -1,6 +1,5 @@
 use Rattle.std.proofs.Common.{◌≡◌, length}
-use Rattle.round_net.specs.Rows.{instance_of_rows}
-use Rattle.round_net.specs.Schedules.{IsAdmissible, cost}
+use Rattle.cost_plan.specs.Words.{instance_of_rows, IsAdmissible, cost}
 use Rattle.cost_plan.specs.Cells.{node_count}
 use Rattle.cost_plan.specs.Draft.{IsDraftOf, schedule_of}
 use Rattle.cost_plan.proofs.best_plan.settled.Given as goal

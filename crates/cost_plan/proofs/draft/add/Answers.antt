@@ -1,7 +1,6 @@
 use Rattle.std.proofs.Common.{ℕ, ◌≡◌, ◌<◌, ◌+◌, ◌&&◌, ◌==◌, ap, arith, length, get_or, set, subst, sym}
 use Rattle.std.proofs.lemmas.List.{get_or_read}
-use Rattle.round_net.specs.Instance.{rows, uses}
-use Rattle.round_net.specs.Rows.{instance_of_rows, live_of_rows}
+use Rattle.cost_plan.specs.Words.{rows, uses, instance_of_rows, live_of_rows}
 use Rattle.cost_plan.proofs.BalanceLemmas.{at_most_one}
 use Rattle.cost_plan.proofs.LoadLemmas.{IsAdding, IsAdding-begun, IsAdding-step, IsAdding-ended}
 use Rattle.cost_plan.proofs.NodeLemmas.{cell-in}

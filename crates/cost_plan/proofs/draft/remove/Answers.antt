@@ -1,7 +1,6 @@
 use Rattle.std.proofs.Common.{ℕ, ◌≡◌, ◌<◌, ◌-◌, ap, arith, length, get_or, set, subst, sym}
 use Rattle.std.proofs.lemmas.List.{get_or_read}
-use Rattle.round_net.specs.Instance.{rows}
-use Rattle.round_net.specs.Rows.{instance_of_rows, live_of_rows}
+use Rattle.cost_plan.specs.Words.{rows, instance_of_rows, live_of_rows}
 use Rattle.cost_plan.proofs.LoadLemmas.{IsRemoving, IsRemoving-begun, IsRemoving-some, IsRemoving-step, IsRemoving-ended}
 use Rattle.cost_plan.proofs.NodeLemmas.{cell-in}
 use Rattle.cost_plan.proofs.draft.remove.Goals as goal

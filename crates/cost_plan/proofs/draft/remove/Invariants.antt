@@ -1,6 +1,5 @@
 use Rattle.std.proofs.Common.{◌-◌}
-use Rattle.round_net.specs.Instance.{rows}
-use Rattle.round_net.specs.Rows.{instance_of_rows}
+use Rattle.cost_plan.specs.Words.{rows, instance_of_rows}
 use Rattle.cost_plan.proofs.LoadLemmas.{IsRemoving}
 use Rattle.cost_plan.proofs.draft.remove.Given as goal
 

@@ -1,5 +1,4 @@
-use Rattle.std.proofs.Common.{◌≡◌, nat_lt}
-use Rattle.std.specs.Prelude.{filter}
+use Rattle.std.proofs.Common.{◌≡◌, nat_lt, filter}
 use Rattle.std.specs.List.{range_with_len}
 use Rattle.round_net.specs.Rows.{instance_of_rows}
 use Rattle.cost_plan.specs.Parts.{before}

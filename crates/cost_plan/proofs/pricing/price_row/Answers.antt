@@ -1,7 +1,5 @@
 use Rattle.std.proofs.Common.{arith}
-use Rattle.negative_cycle.specs.Labelling.{label_of}
-use Rattle.round_net.specs.Rows.{instance_of_rows}
-use Rattle.round_net.specs.PriceRows.{pricing_of_rows}
+use Rattle.cost_plan.specs.Words.{label_of, instance_of_rows, pricing_of_rows}
 use Rattle.cost_plan.proofs.PricedLemmas.{IsPricingFor-kept, PricesRow-step, PricesRows-step, PricesRows-more}
 use Rattle.cost_plan.proofs.pricing.price_row.Goals as goal
 

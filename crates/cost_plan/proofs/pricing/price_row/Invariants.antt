@@ -1,6 +1,4 @@
-use Rattle.negative_cycle.specs.Labelling.{label_of}
-use Rattle.round_net.specs.Rows.{instance_of_rows}
-use Rattle.round_net.specs.PriceRows.{pricing_of_rows, IsPricingFor}
+use Rattle.cost_plan.specs.Words.{label_of, instance_of_rows, pricing_of_rows, IsPricingFor}
 use Rattle.cost_plan.specs.RowPrices.{PricesRow, PricesRows}
 use Rattle.cost_plan.proofs.pricing.price_row.Given as goal
 

@@ -1,8 +1,6 @@
 use Rattle.std.proofs.Common.{◌≡◌, ◌+◌, ◌*◌, ◌<◌, ◌≤◌, ◌∙◌, length, ap, arith, inl}
 use Rattle.std.proofs.lemmas.Nat.{mul-le}
-use Rattle.cam_types.specs.declared.maxima.TheConstants.{MOST_ROUNDS, MOST_WEIGHT}
-use Rattle.negative_cycle.specs.declared.arc.Arc.{Arc}
-use Rattle.round_net.specs.Rows.{instance_of_rows, live_of_rows}
+use Rattle.cost_plan.specs.Words.{MOST_ROUNDS, MOST_WEIGHT, Arc, instance_of_rows, live_of_rows}
 use Rattle.cost_plan.specs.Cells.{node_count}
 use Rattle.cost_plan.specs.Draft.{schedule_of}
 use Rattle.cost_plan.specs.Residual.{IsResidual, move_arc}

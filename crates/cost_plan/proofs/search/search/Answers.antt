@@ -1,6 +1,5 @@
 use Rattle.std.proofs.Common.{◌<◌, ◌∙◌, ap, sym, subst, length}
-use Rattle.negative_cycle.specs.Labelling.{Labelling}
-use Rattle.round_net.specs.Rows.{instance_of_rows}
+use Rattle.cost_plan.specs.Words.{Labelling, instance_of_rows}
 use Rattle.cost_plan.specs.Draft.{schedule_of}
 use Rattle.cost_plan.specs.Raising.{AllResidual}
 use Rattle.cost_plan.proofs.SearchLemmas.{room, room-falls, AllResidual-raised, residual-from_came}

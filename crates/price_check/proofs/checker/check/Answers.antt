@@ -1,9 +1,5 @@
-use Rattle.std.proofs.Common.{◌≡◌, ◌+◌, ◌≤◌}
-use Rattle.std.specs.Prelude.{slice_index}
-use Rattle.round_net.specs.Rows.{instance_of_rows, live_of_rows}
-use Rattle.round_net.specs.PriceRows.{pricing_of_rows}
-use Rattle.round_net.specs.Schedules.{cost}
-use Rattle.round_net.specs.Value.{paid, offered}
+use Rattle.std.proofs.Common.{◌≡◌, ◌+◌, ◌≤◌, slice_index}
+use Rattle.price_check.specs.Words.{instance_of_rows, live_of_rows, pricing_of_rows, cost, paid, offered}
 use Rattle.price_check.proofs.DualityLemmas.{weak_duality, best_where_proved, proof_without_gap}
 use Rattle.price_check.proofs.FaultLemmas.{faulty_not_admissible}
 use Rattle.price_check.proofs.checker.check.Goals as goal

@@ -1,4 +1,4 @@
-use Rattle.std.specs.Prelude.{slice_index}
+use Rattle.std.proofs.Common.{slice_index}
 use Rattle.round_net.specs.Rows.{instance_of_rows}
 use Rattle.price_check.specs.Faults.{IsFaultlessBelow}
 use Rattle.price_check.specs.Tally.{IsTally}

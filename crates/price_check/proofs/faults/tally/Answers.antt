@@ -1,7 +1,5 @@
-use Rattle.std.proofs.Common.{◌≡◌, ◌∙◌, [], ◌∷◌, refl, arith}
-use Rattle.std.specs.Prelude.{slice_index}
-use Rattle.round_net.specs.Instance.{rows, adapter, adapter_row}
-use Rattle.round_net.specs.Rows.{instance_of_rows, cell}
+use Rattle.std.proofs.Common.{◌≡◌, ◌∙◌, [], ◌∷◌, refl, arith, slice_index}
+use Rattle.price_check.specs.Words.{rows, adapter, adapter_row, instance_of_rows, cell}
 use Rattle.round_net.proofs.CellLemmas.{cell_room}
 use Rattle.price_check.specs.Tally.{IsCounted}
 use Rattle.price_check.proofs.TallyLemmas.{IsPlaced, counted_none, counted_more, few_here, device_place, adapter_place, adapter_new, tallied}

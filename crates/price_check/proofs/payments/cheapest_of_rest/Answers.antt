@@ -1,7 +1,5 @@
-use Rattle.std.proofs.Common.{◌≡◌, ◌<◌, refl, ◌∙◌, arith}
-use Rattle.std.specs.Prelude.{slice_index}
-use Rattle.round_net.specs.Rows.{instance_of_rows, cell}
-use Rattle.round_net.specs.PriceRows.{pricing_of_rows}
+use Rattle.std.proofs.Common.{◌≡◌, ◌<◌, refl, ◌∙◌, arith, slice_index}
+use Rattle.price_check.specs.Words.{instance_of_rows, cell, pricing_of_rows}
 use Rattle.price_check.specs.Rests.{IsCheapest}
 use Rattle.price_check.proofs.RestLemmas.{rest-at, least-of_rest, none-of_rest}
 use Rattle.price_check.proofs.payments.cheapest_of_rest.Goals as goal

@@ -1,8 +1,5 @@
-use Rattle.std.proofs.Common.{◌≡◌, ◌+◌, ◌-◌, ap, arith, ◌∙◌}
-use Rattle.std.specs.Prelude.{map, unwrap_or}
-use Rattle.round_net.specs.Rows.{instance_of_rows}
-use Rattle.round_net.specs.PriceRows.{pricing_of_rows}
-use Rattle.round_net.specs.Value.{priced, is_open, allowed}
+use Rattle.std.proofs.Common.{◌≡◌, ◌+◌, ◌-◌, ap, arith, ◌∙◌, map, unwrap_or}
+use Rattle.price_check.specs.Words.{instance_of_rows, pricing_of_rows, priced, is_open, allowed}
 use Rattle.price_check.proofs.LeastLemmas.{least_of-next, unwrap_or-least_of}
 use Rattle.price_check.proofs.payments.cheapest_within.Goals as goal
 

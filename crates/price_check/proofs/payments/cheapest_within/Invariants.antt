@@ -1,9 +1,6 @@
-use Rattle.std.proofs.Common.{◌≡◌, ◌≤◌, ◌-◌}
-use Rattle.std.specs.Prelude.{map, filter}
+use Rattle.std.proofs.Common.{◌≡◌, ◌≤◌, ◌-◌, map, filter}
 use Rattle.std.specs.List.{range_with_len}
-use Rattle.round_net.specs.Rows.{instance_of_rows}
-use Rattle.round_net.specs.PriceRows.{pricing_of_rows}
-use Rattle.round_net.specs.Value.{priced, is_open}
+use Rattle.price_check.specs.Words.{instance_of_rows, pricing_of_rows, priced, is_open}
 use Rattle.price_check.proofs.LeastLemmas.{least_of}
 use Rattle.price_check.proofs.payments.cheapest_within.Given as goal
 

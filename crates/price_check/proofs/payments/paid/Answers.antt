@@ -1,9 +1,5 @@
-use Rattle.std.proofs.Common.{ℕ, ◌*◌, ◌^◌, ◌<◌, ◌≤◌, sym, arith}
-use Rattle.std.specs.Prelude.{map}
-use Rattle.round_net.specs.Sums.{least}
-use Rattle.round_net.specs.Rows.{instance_of_rows}
-use Rattle.round_net.specs.PriceRows.{pricing_of_rows}
-use Rattle.round_net.specs.Value.{priced, allowed}
+use Rattle.std.proofs.Common.{ℕ, ◌*◌, ◌^◌, ◌<◌, ◌≤◌, sym, arith, map}
+use Rattle.price_check.specs.Words.{least, instance_of_rows, pricing_of_rows, priced, allowed}
 use Rattle.price_check.proofs.RestLemmas.{up_to_step}
 use Rattle.price_check.proofs.payments.paid.Goals as goal
 

@@ -1,10 +1,5 @@
-use Rattle.std.proofs.Common.{◌≡◌, ◌-◌, ◌≤◌, ◌*◌, ◌^◌}
-use Rattle.std.specs.Prelude.{map}
-use Rattle.cam_types.specs.declared.maxima.TheConstants.{MOST_WEIGHT}
-use Rattle.round_net.specs.Sums.{least}
-use Rattle.round_net.specs.Rows.{instance_of_rows}
-use Rattle.round_net.specs.PriceRows.{pricing_of_rows}
-use Rattle.round_net.specs.Value.{priced, allowed}
+use Rattle.std.proofs.Common.{◌≡◌, ◌-◌, ◌≤◌, ◌*◌, ◌^◌, map}
+use Rattle.price_check.specs.Words.{MOST_WEIGHT, least, instance_of_rows, pricing_of_rows, priced, allowed}
 use Rattle.price_check.specs.Rests.{IsNextWeight}
 use Rattle.price_check.proofs.RestLemmas.{up_to}
 use Rattle.price_check.proofs.payments.paid.Given as goal

@@ -1,9 +1,5 @@
-use Rattle.std.proofs.Common.{◌≡◌, ◌≤◌, ◌*◌, ◌^◌, cond}
-use Rattle.std.specs.Prelude.{◌==◌, map}
-use Rattle.round_net.specs.Sums.{sum_below, least}
-use Rattle.round_net.specs.Rows.{instance_of_rows}
-use Rattle.round_net.specs.PriceRows.{pricing_of_rows}
-use Rattle.round_net.specs.Value.{priced, allowed}
+use Rattle.std.proofs.Common.{◌≡◌, ◌≤◌, ◌*◌, ◌^◌, cond, ◌==◌, map}
+use Rattle.price_check.specs.Words.{sum_below, least, instance_of_rows, pricing_of_rows, priced, allowed}
 use Rattle.price_check.proofs.payments.paid_by.Given as goal
 
 abbrev pub invariant-loop-stay : goal.invariant-loop-stay

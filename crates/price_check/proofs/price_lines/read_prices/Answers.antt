@@ -1,7 +1,6 @@
 use Rattle.std.proofs.Common.{◌∙◌, ◌≡◌, ◌<◌, ◌*◌, sym, ap, arith}
 use Rattle.std.proofs.lemmas.Result.{err_from_is_err_and}
-use Rattle.round_net.specs.Instance.{rows}
-use Rattle.round_net.specs.Rows.{instance_of_rows}
+use Rattle.price_check.specs.Words.{rows, instance_of_rows}
 use Rattle.price_check.specs.Reading.{cell_price_at}
 use Rattle.price_check.proofs.SeriesLemmas.{series-none, series-more, series-fails}
 use Rattle.price_check.proofs.price_lines.read_prices.Goals as goal

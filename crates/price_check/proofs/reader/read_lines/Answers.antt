@@ -1,5 +1,4 @@
-use Rattle.round_net.specs.Rows.{instance_of_rows}
-use Rattle.round_net.specs.declared.price_range.TheConstants.{MOST_PRICE}
+use Rattle.price_check.specs.Words.{instance_of_rows, MOST_PRICE}
 use Rattle.price_check.specs.Reading.{cell_price_at}
 use Rattle.price_check.proofs.SeriesLaws.{series_takes}
 use Rattle.price_check.proofs.CellLaws.{price_cells, form_of, cells_take}

@@ -1,7 +1,5 @@
 use Rattle.std.proofs.Common.{length, ◌≡◌, ◌+◌, ◌++◌, ◌*◌, ◌≤◌}
-use Rattle.cam_types.specs.declared.maxima.TheConstants.{MOST_ROUNDS}
-use Rattle.round_net.specs.Rows.{instance_of_rows}
-use Rattle.round_net.specs.PriceRows.{pricing_of_rows}
+use Rattle.price_check.specs.Words.{MOST_ROUNDS, instance_of_rows, pricing_of_rows}
 use Rattle.price_check.specs.Report.{texts_below, row_line}
 use Rattle.price_check.proofs.report.push_prices.Given as goal
 

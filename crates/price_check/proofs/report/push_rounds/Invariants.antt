@@ -1,6 +1,5 @@
 use Rattle.std.proofs.Common.{length, ◌≡◌, ◌+◌, ◌++◌, ◌*◌, ◌≤◌}
-use Rattle.round_net.specs.Rows.{instance_of_rows}
-use Rattle.round_net.specs.PriceRows.{pricing_of_rows}
+use Rattle.price_check.specs.Words.{instance_of_rows, pricing_of_rows}
 use Rattle.price_check.specs.Report.{texts_below, row_line}
 use Rattle.price_check.proofs.report.push_rounds.Given as goal
 

@@ -1,8 +1,6 @@
-use Rattle.std.proofs.Common.{rules, ◌≡◌, ◌-◌, ◌++◌, length, Some, None, sym, ap, ◌∙◌}
+use Rattle.std.proofs.Common.{rules, ◌≡◌, ◌-◌, ◌++◌, length, Some, None, sym, ap, ◌∙◌, codes, slice_get}
 use Rattle.std.proofs.lemmas.Option.{slice_get-get_or, slice_get_past}
-use Rattle.cam_types.specs.declared.device.Device.{Device}
-use Rattle.std.specs.Prelude.{codes, slice_get}
-use Rattle.cam_path.specs.Paths.{address_of, spelled}
+use Rattle.price_check.specs.Words.{Device, address_of, spelled}
 use Rattle.price_check.proofs.ReportLemmas.{two_pieces, row_text-device, row_text-shared}
 use Rattle.price_check.proofs.report.push_row.Goals as goal
 

@@ -1,5 +1,4 @@
-use Rattle.std.proofs.Common.{◌≡◌, ◌++◌, ◌+◌, ◌*◌, ◌≤◌}
-use Rattle.std.specs.Prelude.{length, slice_index}
+use Rattle.std.proofs.Common.{◌≡◌, ◌++◌, ◌+◌, ◌*◌, ◌≤◌, length, slice_index}
 use Rattle.price_check.specs.Report.{texts_below, stay_line}
 use Rattle.price_check.proofs.report.push_stays.Given as goal
 

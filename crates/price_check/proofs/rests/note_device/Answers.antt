@@ -1,6 +1,5 @@
 use Rattle.std.proofs.Common.{◌≡◌, ◌+◌, ◌-◌, ◌<◌, length, ◌∙◌, refl, arith}
-use Rattle.round_net.specs.Rows.{instance_of_rows, cell}
-use Rattle.round_net.specs.PriceRows.{pricing_of_rows}
+use Rattle.price_check.specs.Words.{instance_of_rows, cell, pricing_of_rows}
 use Rattle.round_net.proofs.CellLemmas.{cell_room}
 use Rattle.price_check.specs.Rests.{IsCheapest}
 use Rattle.price_check.proofs.RestLemmas.{noted_step}

@@ -1,6 +1,5 @@
 use Rattle.std.proofs.Common.{◌+◌, ◌-◌}
-use Rattle.round_net.specs.Rows.{instance_of_rows}
-use Rattle.round_net.specs.PriceRows.{pricing_of_rows}
+use Rattle.price_check.specs.Words.{instance_of_rows, pricing_of_rows}
 use Rattle.price_check.specs.Rests.{IsCheapest}
 use Rattle.price_check.proofs.RestLemmas.{AreNoted}
 use Rattle.price_check.proofs.rests.note_device.Given as goal

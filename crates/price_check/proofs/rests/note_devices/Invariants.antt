@@ -1,5 +1,4 @@
-use Rattle.round_net.specs.Rows.{instance_of_rows}
-use Rattle.round_net.specs.PriceRows.{pricing_of_rows}
+use Rattle.price_check.specs.Words.{instance_of_rows, pricing_of_rows}
 use Rattle.price_check.specs.Rests.{AreCheapest}
 use Rattle.price_check.proofs.rests.note_devices.Given as goal
 

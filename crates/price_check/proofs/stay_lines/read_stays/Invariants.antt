@@ -1,5 +1,4 @@
-use Rattle.std.proofs.Common.{◌≡◌, ◌≤◌, length}
-use Rattle.std.specs.Prelude.{Ok}
+use Rattle.std.proofs.Common.{◌≡◌, ◌≤◌, length, Ok}
 use Rattle.price_check.specs.Reading.{series, stay_at}
 use Rattle.price_check.proofs.stay_lines.read_stays.Given as goal
 

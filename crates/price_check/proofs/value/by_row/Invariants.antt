@@ -1,7 +1,5 @@
 use Rattle.std.proofs.Common.{◌≡◌, ◌≤◌, ◌*◌, ◌^◌}
-use Rattle.round_net.specs.Sums.{sum_to}
-use Rattle.round_net.specs.Rows.{instance_of_rows}
-use Rattle.round_net.specs.PriceRows.{pricing_of_rows}
+use Rattle.price_check.specs.Words.{sum_to, instance_of_rows, pricing_of_rows}
 use Rattle.price_check.proofs.value.by_row.Given as goal
 
 abbrev pub invariant-loop-passed : goal.invariant-loop-passed

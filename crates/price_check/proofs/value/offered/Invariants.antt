@@ -1,7 +1,5 @@
 use Rattle.std.proofs.Common.{◌≡◌, ◌≤◌, ◌*◌, ◌^◌}
-use Rattle.round_net.specs.Sums.{sum_below, sum_to}
-use Rattle.round_net.specs.Rows.{instance_of_rows}
-use Rattle.round_net.specs.PriceRows.{pricing_of_rows}
+use Rattle.price_check.specs.Words.{sum_below, sum_to, instance_of_rows, pricing_of_rows}
 use Rattle.price_check.proofs.value.offered.Given as goal
 
 abbrev pub invariant-loop-row : goal.invariant-loop-row

@@ -1,5 +1,4 @@
-use Rattle.std.proofs.Common.{◌<◌, ◌∙◌, ap, arith, List, ℕ, length}
-use Rattle.std.specs.Prelude.{Option, Some, None, IfSome, Err}
+use Rattle.std.proofs.Common.{◌<◌, ◌∙◌, ap, arith, List, ℕ, length, Option, Some, None, IfSome, Err}
 use Rattle.recording_file.specs.Reading.{reading}
 use Rattle.recording_file.specs.Recorded.{Recorded}
 use Rattle.recording_file.specs.Recordings.{IsRecordingText}

@@ -1,8 +1,6 @@
-use Rattle.std.proofs.Common.{◌∙◌, ap, refl}
-use Rattle.std.specs.Prelude.{Err}
+use Rattle.std.proofs.Common.{◌∙◌, ap, refl, Err}
 use Rattle.std.proofs.lemmas.Result.{err_from_is_err_and}
-use Rattle.recording_file.specs.declared.recording_fault.RecordingFault.{RecordingFault}
-use Rattle.recording_file.specs.Reading.{reading}
+use Rattle.recording_file.specs.Reading.{reading, RecordingFault}
 use Rattle.recording_file.specs.Sound.{IsSound}
 use Rattle.recording_file.proofs.RecordLemmas.{took_err, took_ok}
 use Rattle.recording_file.proofs.reading.read_text.Goals as goal

@@ -1,10 +1,9 @@
-use Rattle.std.proofs.Common.{◌∙◌, sym, refl, ap, inl, inr, Some, List, ℕ, Bor, length, []}
-use Rattle.std.specs.Prelude.{Err}
+use Rattle.std.proofs.Common.{◌∙◌, sym, refl, ap, inl, inr, Some, List, ℕ, Bor, length, [], Err}
 use Rattle.std.proofs.lemmas.Result.{err_from_is_err_and}
 use Rattle.csv.specs.Reading.{strip_bom}
 use Rattle.csv.specs.Records.{fields_of}
 use Rattle.csv.proofs.ReadFacts.{rows-end}
-use Rattle.recording_file.specs.declared.recording_fault.RecordingFault.{RecordingFault}
+use Rattle.recording_file.specs.Reading.{RecordingFault}
 use Rattle.recording_file.specs.Text.{records_in}
 use Rattle.recording_file.proofs.RecordLemmas.{left_first, left_more, left_fault, left_end, record_more, took_ok, took_err}
 use Rattle.recording_file.proofs.records.take_records.Goals as goal

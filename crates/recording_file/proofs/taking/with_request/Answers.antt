@@ -1,5 +1,5 @@
 use Rattle.recording_file.specs.Sound.{IsSound}
-use Rattle.recording_file.specs.declared.request_error.RequestError.TheVariants.{OutOfMemory}
+use Rattle.recording_file.specs.Requests.{OutOfMemory}
 use Rattle.recording_file.proofs.PlacingLemmas.{kept_request, no_cause_where_ok}
 use Rattle.recording_file.proofs.taking.with_request.Goals as goal
 

@@ -1,7 +1,7 @@
 use Rattle.std.proofs.Common.{◌≡◌, ◌+◌, ◌-◌, false, vec_len}
 use Rattle.std.specs.Io.KnownBytes.{Consumes}
 use Rattle.cam_types.specs.Watched.{device_of, has_failed}
-use Rattle.recording_file.specs.declared.maxima.TheConstants.{MOST_RECORDING_BYTES}
+use Rattle.recording_file.specs.Recorded.{MOST_RECORDING_BYTES}
 use Rattle.recording_file.proofs.whole.read_long.Given as goal
 
 abbrev pub invariant-loop-piece : goal.invariant-loop-piece

@@ -1,5 +1,4 @@
-use Rattle.std.proofs.Common.{◌≡◌, ℕ, ◌<◌, false, length}
-use Rattle.std.specs.Prelude.{if◌then◌else◌, slice_index, slice_index_or}
+use Rattle.std.proofs.Common.{◌≡◌, ℕ, ◌<◌, false, length, if◌then◌else◌, slice_index, slice_index_or}
 use Rattle.round_net.proofs.cap_rows.caps.Given as goal
 
 -- the cells so far

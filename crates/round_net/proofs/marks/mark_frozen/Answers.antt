@@ -1,8 +1,6 @@
-use Rattle.std.proofs.Common.{◌≡◌, ◌<◌, ap, ◌∙◌, arith}
-use Rattle.std.specs.Prelude.{not, ◌==◌}
-use Rattle.event_rules.specs.Counts.{round}
+use Rattle.std.proofs.Common.{◌≡◌, ◌<◌, ap, ◌∙◌, arith, not, ◌==◌}
+use Rattle.round_net.specs.Words.{round, Transport}
 use Rattle.event_rules.proofs.LimitLemmas.{round_first}
-use Rattle.xpt_core.specs.Transport.{Transport}
 use Rattle.round_net.specs.Rows.{cell}
 use Rattle.round_net.specs.Caps.{row_count, row_freezes}
 use Rattle.round_net.proofs.CellLemmas.{cell_room}

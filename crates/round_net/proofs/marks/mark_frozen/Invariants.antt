@@ -1,4 +1,4 @@
-use Rattle.std.specs.Prelude.{not, ◌==◌, ◌&&◌, nat_lt}
+use Rattle.std.proofs.Common.{not, ◌==◌, ◌&&◌, nat_lt}
 use Rattle.event_rules.specs.Counts.{round}
 use Rattle.round_net.specs.Caps.{row_count, row_freezes}
 use Rattle.round_net.specs.Marks.{Marks}

@@ -1,7 +1,6 @@
 use Rattle.std.proofs.Common.{◌≡◌, ◌<◌, refl, ap, ◌∙◌, arith}
-use Rattle.event_rules.specs.Counts.{round}
+use Rattle.round_net.specs.Words.{round, Transport}
 use Rattle.event_rules.proofs.LimitLemmas.{round_first}
-use Rattle.xpt_core.specs.Transport.{Transport}
 use Rattle.round_net.specs.Rows.{cell}
 use Rattle.round_net.specs.Caps.{row_count, row_openings}
 use Rattle.round_net.proofs.CellLemmas.{cell_room}

@@ -1,5 +1,4 @@
-use Rattle.std.proofs.Common.{◌≡◌, ℕ, ◌<◌, ◌≤◌, ◌*◌, ◌-◌, ◌^◌}
-use Rattle.std.specs.Prelude.{slice_index}
+use Rattle.std.proofs.Common.{◌≡◌, ℕ, ◌<◌, ◌≤◌, ◌*◌, ◌-◌, ◌^◌, slice_index}
 use Rattle.round_net.specs.Sums.{sum_below}
 use Rattle.round_net.specs.Rows.{instance_of_rows}
 use Rattle.round_net.proofs.waiting.cost.Given as goal

@@ -1,10 +1,7 @@
 use Rattle.std.proofs.Common.{◌≡◌, ◌+◌, ◌≤◌, true, List, [], ◌∷◌, ◌++◌, take, refl, sym, ap, subst, ◌∙◌, arith}
 use Rattle.std.proofs.lemmas.List.{take_more}
-use Rattle.event_rules.specs.Counts.{round}
-use Rattle.event_rules.specs.declared.event.Event.{Event}
-use Rattle.event_rules.specs.Legal.{history_rules, is_legal_event}
+use Rattle.round_net.specs.Words.{round, Event, history_rules, is_legal_event, Transport}
 use Rattle.event_rules.proofs.LimitLemmas.{legal-at}
-use Rattle.xpt_core.specs.Transport.{Transport}
 use Rattle.round_net.proofs.PlaceLemmas.{round-take, noted-first, noted-step}
 use Rattle.round_net.proofs.walk.walk.Goals as goal
 

@@ -1,7 +1,7 @@
 use Rattle.std.proofs.Common.{is_some, unwrap_or, length, sym, ap, refl, ◌∙◌, arith}
 use Rattle.camq_heap.specs.Order.{place}
 use Rattle.camq_heap.specs.Queue.{key, has_generation}
-use Rattle.sim_queue.specs.declared.row.Row.{Row}
+use Rattle.sim_queue.specs.Adapter.{Row}
 use Rattle.sim_queue.specs.Turns.{entry_of}
 use Rattle.sim_queue.proofs.TurnLemmas.{IsRowAt, row-fits, rest-unready, rest-new, rest-room, found-within, rest-removed, rest-changed, IsWritten-placed, IsWritten-left, entry_made}
 use Rattle.sim_queue.proofs.ready.change_ready.Goals as goal

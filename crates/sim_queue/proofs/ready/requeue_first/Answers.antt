@@ -1,7 +1,7 @@
 use Rattle.std.proofs.Common.{◌≡◌, Some, length, sym, ap, refl, ◌∙◌, arith}
 use Rattle.camq_heap.specs.Order.{place}
 use Rattle.camq_heap.specs.Queue.{key, has_generation}
-use Rattle.sim_queue.specs.declared.row.Row.{Row}
+use Rattle.sim_queue.specs.Adapter.{Row}
 use Rattle.sim_queue.specs.Turns.{entry_of}
 use Rattle.sim_queue.proofs.TurnLemmas.{IsRowAt, first_read, rest-first, rest-new, rest-room, IsWritten-placed, entry_made}
 use Rattle.sim_queue.proofs.ready.requeue_first.Goals as goal

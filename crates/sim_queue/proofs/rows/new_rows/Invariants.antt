@@ -1,5 +1,4 @@
-use Rattle.std.proofs.Common.{◌≡◌, ◌^◌, ◌<◌, ◌≤◌, length, map, take, vec_capacity}
-use Rattle.std.specs.List.{All}
+use Rattle.std.proofs.Common.{◌≡◌, ◌^◌, ◌<◌, ◌≤◌, length, map, take, vec_capacity, All}
 use Rattle.sim_queue.specs.Adapter.{new_row}
 use Rattle.sim_queue.proofs.rows.new_rows.Given as goal
 

@@ -1,5 +1,5 @@
 use Rattle.std.proofs.Common.{◌≢◌, ℕ, ◌<◌, get_or}
-use Rattle.sim_queue.specs.declared.row.Row.{Row}
+use Rattle.sim_queue.specs.Adapter.{Row}
 use Rattle.sim_queue.proofs.rows.row_of.Given as goal
 
 -- no row so far is the device's

@@ -1,6 +1,5 @@
 use Rattle.std.proofs.Common.{◌≡◌, ℕ, ◌-◌, List, length}
-use Rattle.event_rules.specs.Counts.{round}
-use Rattle.event_rules.specs.declared.event.Event.{Event}
+use Rattle.sim_worker.specs.Words.{round, Event}
 use Rattle.sim_worker.specs.Work.{HasDone}
 use Rattle.sim_worker.proofs.able.behind_pauses.Given as goal
 

@@ -1,7 +1,5 @@
-use Rattle.std.proofs.Common.{◌≡◌, ℕ, ◌<◌, Some}
-use Rattle.std.specs.Prelude.{slice_get}
-use Rattle.xpt_lock.specs.Seats.{Held}
-use Rattle.xpt_lock.specs.declared.seat.SeatName.TheVariants.{Driver}
+use Rattle.std.proofs.Common.{◌≡◌, ℕ, ◌<◌, Some, slice_get}
+use Rattle.sim_worker.specs.Words.{Held, Driver}
 use Rattle.sim_worker.specs.LiveRuns.{rows}
 use Rattle.sim_worker.specs.Logs.{HasDoneAll}
 use Rattle.sim_worker.specs.Walks.{AreOn, IsOf}

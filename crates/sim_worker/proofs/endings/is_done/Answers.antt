@@ -1,5 +1,4 @@
-use Rattle.std.proofs.Common.{◌≡◌, ◌∙◌, length, sym, ap, subst}
-use Rattle.std.proofs.lemmas.Bool.{eqb-true}
+use Rattle.std.proofs.Common.{◌≡◌, ◌∙◌, length, sym, ap, subst, eqb-true}
 use Rattle.xpt_lock.specs.Seats.{Held}
 use Rattle.sim_worker.specs.LiveRuns.{rows}
 use Rattle.sim_worker.specs.Logs.{HasDoneAll}

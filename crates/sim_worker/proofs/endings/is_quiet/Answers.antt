@@ -1,4 +1,4 @@
-use Rattle.std.proofs.lemmas.Bool.{eqb-true}
+use Rattle.std.proofs.Common.{eqb-true}
 use Rattle.sim_worker.proofs.RestLemmas.{quiet}
 use Rattle.sim_worker.proofs.endings.is_quiet.Goals as goal
 

@@ -1,8 +1,5 @@
-use Rattle.std.proofs.Common.{◌≡◌, ℕ, ◌<◌, List, map, Some}
-use Rattle.std.specs.Prelude.{slice_get}
-use Rattle.event_rules.specs.declared.event.Event.{Event}
-use Rattle.trace_file.specs.Scenarios.{Scenario}
-use Rattle.xpt_lock.specs.Seats.{Held}
+use Rattle.std.proofs.Common.{◌≡◌, ℕ, ◌<◌, List, map, Some, slice_get}
+use Rattle.sim_worker.specs.Words.{Event, Scenario, Held}
 use Rattle.sim_worker.specs.LiveRuns.{EachDriver, IsLog, rows}
 use Rattle.sim_worker.specs.Logs.{IsDriverLog}
 use Rattle.sim_worker.proofs.judging.are_as_served.Given as goal

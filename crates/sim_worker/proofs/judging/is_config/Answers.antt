@@ -1,5 +1,4 @@
-use Rattle.std.proofs.Common.{◌≡◌, ◌∙◌, Bool, true, false, sym, refl}
-use Rattle.std.specs.Prelude.{not}
+use Rattle.std.proofs.Common.{◌≡◌, ◌∙◌, Bool, true, false, sym, refl, not}
 use Rattle.cam_types.proofs.ListLemmas.{same_lists}
 use Rattle.sim_worker.proofs.ConfigLemmas.{same_numbers, same_adapter, same_device, same_rows, same_config}
 use Rattle.sim_worker.proofs.judging.is_config.Goals as goal

@@ -1,5 +1,4 @@
-use Rattle.std.proofs.Common.{◌∙◌, map, sym, subst, refl}
-use Rattle.std.specs.Prelude.{IfOk}
+use Rattle.std.proofs.Common.{◌∙◌, map, sym, subst, refl, IfOk}
 use Rattle.sim_worker.specs.LiveRuns.{EachLog, IsLog}
 use Rattle.sim_worker.specs.Walks.{IsFollowed}
 use Rattle.sim_worker.proofs.PassLemmas.{logs_rise}

@@ -1,5 +1,4 @@
-use Rattle.std.proofs.Common.{◌≡◌, ◌∙◌, ◌+◌, ◌*◌, ◌<◌, take, Some, ap, sym, subst, arith}
-use Rattle.std.specs.Prelude.{slice_get}
+use Rattle.std.proofs.Common.{◌≡◌, ◌∙◌, ◌+◌, ◌*◌, ◌<◌, take, Some, ap, sym, subst, arith, slice_get}
 use Rattle.sim_worker.specs.Walks.{ArePairs, IsDone}
 use Rattle.sim_worker.proofs.RunListFacts.{get_is, some_is}
 use Rattle.sim_worker.proofs.LaneLemmas.{pairs_more, no_pairs}

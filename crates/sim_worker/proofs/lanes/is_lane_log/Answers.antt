@@ -1,5 +1,4 @@
-use Rattle.std.proofs.Common.{◌≡◌, ◌∙◌, ◌+◌, ◌*◌, ◌/◌, length, Some, sym, ap, subst, refl, arith}
-use Rattle.std.specs.Prelude.{slice_get}
+use Rattle.std.proofs.Common.{◌≡◌, ◌∙◌, ◌+◌, ◌*◌, ◌/◌, length, Some, sym, ap, subst, refl, arith, slice_get}
 use Rattle.sim_worker.specs.Logs.{IsLaneLog}
 use Rattle.sim_worker.proofs.RunListFacts.{get_is}
 use Rattle.sim_worker.proofs.LaneLemmas.{half_log}

@@ -1,5 +1,4 @@
-use Rattle.std.proofs.Common.{◌≡◌}
-use Rattle.std.specs.Prelude.{take}
+use Rattle.std.proofs.Common.{◌≡◌, take}
 use Rattle.sim_worker.proofs.live.logs_of.Given as goal
 
 abbrev pub invariant-loop-seat : goal.invariant-loop-seat

@@ -1,5 +1,4 @@
-use Rattle.std.proofs.Common.{◌∙◌, sym, arith}
-use Rattle.std.proofs.lemmas.List.{length-set}
+use Rattle.std.proofs.Common.{◌∙◌, sym, arith, length-set}
 use Rattle.sim_worker.proofs.RunListFacts.{there_is, get_is}
 use Rattle.sim_worker.proofs.PassLemmas.{one_more_behind, still_ahead}
 use Rattle.sim_worker.proofs.pass.walk_all.Goals as goal

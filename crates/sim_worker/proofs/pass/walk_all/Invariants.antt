@@ -1,10 +1,7 @@
-use Rattle.std.proofs.Common.{◌≡◌, ℕ, ◌<◌, ◌≤◌, ◌++◌, [], ◌∷◌, Some, length}
-use Rattle.std.specs.Prelude.{slice_get}
-use Rattle.xpt_lock.specs.Seats.{Held}
-use Rattle.xpt_lock.specs.declared.seat.SeatName.TheVariants.{Driver}
+use Rattle.std.proofs.Common.{◌≡◌, ℕ, ◌<◌, ◌≤◌, ◌++◌, [], ◌∷◌, Some, length, slice_get}
+use Rattle.sim_worker.specs.Words.{Held, Driver}
 use Rattle.sim_worker.specs.LiveRuns.{rows}
-use Rattle.sim_worker.specs.Walks.{AreOn, AreRising, IsOf, IsOn}
-use Rattle.sim_worker.specs.declared.walk.Walk.{Walk}
+use Rattle.sim_worker.specs.Walks.{AreOn, AreRising, IsOf, IsOn, Walk}
 use Rattle.sim_worker.proofs.pass.walk_all.Given as goal
 
 abbrev pub invariant-loop-i : goal.invariant-loop-i

@@ -1,6 +1,5 @@
 use Rattle.std.proofs.Common.{ℕ, ◌+◌, ◌∙◌, arith, ap, List, length, length-append, refl, subst, sym}
-use Rattle.sim_worker.specs.Work.{AreFresh}
-use Rattle.sim_worker.specs.declared.work.Lane.{Lane}
+use Rattle.sim_worker.specs.Work.{AreFresh, Lane}
 use Rattle.sim_worker.proofs.OpenLemmas.{fresh_more}
 use Rattle.event_rules.proofs.LaneCount.{few_lanes}
 use Rattle.sim_worker.proofs.sim.first_lanes.Goals as goal

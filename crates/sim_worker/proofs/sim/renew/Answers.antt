@@ -1,5 +1,5 @@
 use Rattle.std.proofs.Common.{◌∙◌, refl, false, arith}
-use Rattle.sim_worker.specs.declared.work.Driver.{Driver}
+use Rattle.sim_worker.specs.Work.{Driver}
 use Rattle.sim_worker.proofs.ListFacts.{map_kept}
 use Rattle.sim_worker.proofs.sim.renew.Goals as goal
 

@@ -1,5 +1,5 @@
 use Rattle.std.proofs.Common.{◌≡◌, map}
-use Rattle.sim_worker.specs.declared.work.Driver.{Driver}
+use Rattle.sim_worker.specs.Work.{Driver}
 use Rattle.sim_worker.proofs.sim.renew.Given as goal
 
 abbrev pub invariant-loop-driver : goal.invariant-loop-driver

@@ -1,5 +1,4 @@
-use Rattle.std.proofs.Common.{◌∙◌, ap, sym, refl, Some}
-use Rattle.std.proofs.lemmas.Bool.{ltb-true}
+use Rattle.std.proofs.Common.{◌∙◌, ap, sym, refl, Some, ltb-true}
 use Rattle.event_rules.specs.declared.event.Event.{Event}
 use Rattle.trace_file.specs.declared.step.Step.TheVariants as steps
 use Rattle.sim_worker.proofs.RunListFacts.{get_is}

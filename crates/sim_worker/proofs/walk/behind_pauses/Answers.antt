@@ -1,5 +1,4 @@
-use Rattle.std.proofs.Common.{◌∙◌, arith, sym, ap, Some}
-use Rattle.std.proofs.lemmas.Bool.{ltb-true}
+use Rattle.std.proofs.Common.{◌∙◌, arith, sym, ap, Some, ltb-true}
 use Rattle.sim_worker.proofs.RunListFacts.{get_is}
 use Rattle.sim_worker.proofs.WalkLemmas.{stands_behind_pause}
 use Rattle.sim_worker.proofs.walk.behind_pauses.Goals as goal

@@ -1,6 +1,4 @@
-use Rattle.std.proofs.Common.{◌≡◌, ◌≤◌, ◌/◌, ◌∙◌, sym, ap, refl, arith, List, ℕ, take, length, Some, length-set}
-use Rattle.std.proofs.lemmas.Bool.{le-leb}
-use Rattle.std.proofs.lemmas.List.{take_all, length-take}
+use Rattle.std.proofs.Common.{◌≡◌, ◌≤◌, ◌/◌, ◌∙◌, sym, ap, refl, arith, List, ℕ, take, length, Some, length-set, le-leb, take_all, length-take}
 use Rattle.trace_file.specs.Fields.{bytes_of, sense_of}
 use Rattle.trace_file.proofs.FieldLemmas.{bytes_of-odd, bytes_step, bytes_stop, bytes_end}
 use Rattle.trace_file.proofs.fields.sense_of.Goals as goal

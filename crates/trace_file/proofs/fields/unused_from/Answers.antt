@@ -1,5 +1,4 @@
-use Rattle.std.proofs.Common.{◌∙◌, sym, arith}
-use Rattle.std.proofs.lemmas.Bool.{eqb-true}
+use Rattle.std.proofs.Common.{◌∙◌, sym, arith, eqb-true}
 use Rattle.csv.specs.Records.{fields_of}
 use Rattle.trace_file.proofs.FieldLemmas.{unused_step}
 use Rattle.trace_file.proofs.fields.unused_from.Goals as goal

@@ -1,8 +1,6 @@
-use Rattle.std.proofs.Common.{◌∙◌, ap, refl}
-use Rattle.std.specs.Prelude.{Err}
+use Rattle.std.proofs.Common.{◌∙◌, ap, refl, Err}
 use Rattle.std.proofs.lemmas.Result.{err_from_is_err_and}
-use Rattle.trace_file.specs.declared.trace_fault.TraceFault.{TraceFault}
-use Rattle.trace_file.specs.Reading.{reading}
+use Rattle.trace_file.specs.Reading.{reading, TraceFault}
 use Rattle.trace_file.specs.Sound.{IsSound}
 use Rattle.trace_file.proofs.RecordLemmas.{took_err, took_ok}
 use Rattle.trace_file.proofs.reading.read_text.Goals as goal

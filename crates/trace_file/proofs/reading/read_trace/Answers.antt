@@ -1,7 +1,6 @@
 use Rattle.std.proofs.Common.{◌∙◌, ap}
-use Rattle.trace_file.specs.Reading.{ended, reading, step}
+use Rattle.trace_file.specs.Reading.{ended, reading, step, Header}
 use Rattle.trace_file.specs.Trace.{IsTrace}
-use Rattle.trace_file.specs.declared.trace_stage.TraceStage.TheVariants.{Header}
 use Rattle.trace_file.proofs.FaultLaws.{faults_law, found_law, only_law, reading_fails, was_trace}
 use Rattle.trace_file.proofs.WholeLaws.{reading_again}
 use Rattle.trace_file.proofs.reading.read_trace.Goals as goal

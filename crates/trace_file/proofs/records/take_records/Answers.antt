@@ -1,10 +1,9 @@
-use Rattle.std.proofs.Common.{◌∙◌, sym, refl, ap, inl, inr, Some, List, ℕ, Bor, length, []}
-use Rattle.std.specs.Prelude.{Err}
+use Rattle.std.proofs.Common.{◌∙◌, sym, refl, ap, inl, inr, Some, List, ℕ, Bor, length, [], Err}
 use Rattle.std.proofs.lemmas.Result.{err_from_is_err_and}
 use Rattle.csv.specs.Reading.{strip_bom}
 use Rattle.csv.specs.Records.{fields_of}
 use Rattle.csv.proofs.ReadFacts.{rows-end}
-use Rattle.trace_file.specs.declared.trace_fault.TraceFault.{TraceFault}
+use Rattle.trace_file.specs.Reading.{TraceFault}
 use Rattle.trace_file.specs.Text.{records_in}
 use Rattle.trace_file.proofs.RecordLemmas.{left_first, left_more, left_fault, left_end, record_more, took_ok, took_err}
 use Rattle.trace_file.proofs.records.take_records.Goals as goal

@@ -1,5 +1,4 @@
-use Rattle.std.proofs.Common.{◌≡◌, [], map}
-use Rattle.std.specs.Prelude.{replicate}
+use Rattle.std.proofs.Common.{◌≡◌, [], map, replicate}
 use Rattle.trace_file.proofs.script.empty_lists.Given as goal
 
 abbrev pub invariant-loop : goal.invariant-loop

@@ -1,7 +1,6 @@
 use Rattle.std.proofs.Common.{◌∙◌, ap}
-use Rattle.trace_file.specs.ScriptReading.{script_ended, script_reading, script_step}
+use Rattle.trace_file.specs.ScriptReading.{script_ended, script_reading, script_step, Header}
 use Rattle.trace_file.specs.Script.{IsScript, scenario_of}
-use Rattle.trace_file.specs.declared.script_stage.ScriptStage.TheVariants.{Header}
 use Rattle.trace_file.proofs.ScriptAgain.{script_again}
 use Rattle.trace_file.proofs.ScriptFaults.{reading_fails}
 use Rattle.trace_file.proofs.ScriptLaws.{was_script}

@@ -1,7 +1,6 @@
-use Rattle.std.proofs.Common.{◌∙◌, ap, refl}
-use Rattle.std.specs.Prelude.{Err}
+use Rattle.std.proofs.Common.{◌∙◌, ap, refl, Err}
 use Rattle.std.proofs.lemmas.Result.{err_from_is_err_and}
-use Rattle.trace_file.specs.declared.trace_fault.TraceFault.{TraceFault}
+use Rattle.trace_file.specs.Reading.{TraceFault}
 use Rattle.trace_file.specs.ScriptReading.{script_reading}
 use Rattle.trace_file.specs.Sound.{IsSoundScript}
 use Rattle.trace_file.proofs.RecordLemmas.{took_err, took_ok}

@@ -1,6 +1,5 @@
-use Rattle.std.proofs.Common.{◌≡◌, ◌+◌, length, take}
-use Rattle.std.specs.List.{sum_by}
-use Rattle.trace_file.specs.declared.script_stage.TheConstants.{MOST_ROWS}
+use Rattle.std.proofs.Common.{◌≡◌, ◌+◌, length, take, sum_by}
+use Rattle.trace_file.specs.Scenarios.{MOST_ROWS}
 use Rattle.trace_file.proofs.script_rules.are_few.Given as goal
 
 abbrev pub invariant-loop-list : goal.invariant-loop-list

@@ -1,14 +1,9 @@
-use Rattle.std.proofs.Common.{◌≡◌, ◌<◌, ◌≤◌, ◌+◌, ◌∙◌, ℕ, Bool, true, false, ap, arith, sym, subst, length}
-use Rattle.std.specs.List.{sum_by}
-use Rattle.std.specs.Prelude.{Ok}
+use Rattle.std.proofs.Common.{◌≡◌, ◌<◌, ◌≤◌, ◌+◌, ◌∙◌, ℕ, Bool, true, false, ap, arith, sym, subst, length, sum_by, Ok}
 use Rattle.std.proofs.lemmas.Bool.{and_parts, leb-true, ltb-true}
-use Rattle.trace_file.specs.declared.script_row.ScriptItem.{ScriptItem}
+use Rattle.trace_file.specs.ScriptReading.{has_room, ScriptItem}
 use Rattle.trace_file.specs.declared.script_row.ScriptItem.TheVariants as item
-use Rattle.trace_file.specs.declared.script_stage.TheConstants.{MOST_ROWS}
-use Rattle.trace_file.specs.declared.step.Step.{Step}
+use Rattle.trace_file.specs.Scenarios.{IsScenario, Scenario, add_item, MOST_ROWS, Step}
 use Rattle.trace_file.specs.Histories.{Outcome}
-use Rattle.trace_file.specs.Scenarios.{IsScenario, Scenario, add_item}
-use Rattle.trace_file.specs.ScriptReading.{has_room}
 use Rattle.trace_file.specs.Sound.{IsSoundScript}
 use Rattle.trace_file.proofs.ScriptItems.{asked}
 use Rattle.trace_file.proofs.ScriptLists.{sum_pushed}

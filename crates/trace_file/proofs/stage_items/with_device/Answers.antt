@@ -1,5 +1,4 @@
-use Rattle.std.proofs.Common.{◌∙◌, ap, length}
-use Rattle.std.specs.Prelude.{Err}
+use Rattle.std.proofs.Common.{◌∙◌, ap, length, Err}
 use Rattle.cam_types.specs.declared.config.ConfigError.{ConfigError}
 use Rattle.trace_file.specs.Histories.{Device, device_fault}
 use Rattle.trace_file.proofs.StageLemmas.{none_where_ok, device_added, sound_device, clamped_fault, fault_named}

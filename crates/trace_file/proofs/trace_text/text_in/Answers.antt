@@ -1,5 +1,5 @@
 use Rattle.std.proofs.Common.{◌≡◌, ◌∙◌, ◌++◌, ◌∷◌, List, [], ap, append_assoc, map, refl}
-use Rattle.trace_file.specs.declared.version.Version.{Version}
+use Rattle.trace_file.specs.Versions.{Version}
 use Rattle.trace_file.specs.Fields.{Row}
 use Rattle.trace_file.specs.Histories.{Past}
 use Rattle.trace_file.specs.Records.{adapter_row, device_row, event_row, header, lane_row, link_row, records_of, weight_rows}

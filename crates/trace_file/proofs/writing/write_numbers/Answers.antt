@@ -1,5 +1,4 @@
-use Rattle.std.proofs.Common.{ℕ, ◌∷◌, [], arith, get_or}
-use Rattle.std.specs.Prelude.{decimal}
+use Rattle.std.proofs.Common.{ℕ, ◌∷◌, [], arith, get_or, decimal}
 use Rattle.std.proofs.lemmas.List.{get_or_default}
 use Rattle.trace_file.specs.Records.{padded}
 use Rattle.trace_file.proofs.WritingLemmas.{wrote_more, wrote_none}

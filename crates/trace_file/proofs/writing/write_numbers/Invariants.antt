@@ -1,5 +1,4 @@
-use Rattle.std.proofs.Common.{[], ◌∷◌, map, take}
-use Rattle.std.specs.Prelude.{decimal}
+use Rattle.std.proofs.Common.{[], ◌∷◌, map, take, decimal}
 use Rattle.trace_file.specs.Records.{padded}
 use Rattle.trace_file.specs.Writing.{Wrote}
 use Rattle.trace_file.proofs.writing.write_numbers.Given as goal

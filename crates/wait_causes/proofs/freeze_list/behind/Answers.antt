@@ -1,7 +1,5 @@
 use Rattle.std.proofs.Common.{◌≡◌, sym, ap, ◌∙◌}
-use Rattle.round_net.specs.Ends.{flag_in}
-use Rattle.event_rules.specs.Counts.{round}
-use Rattle.xpt_core.specs.Transport.{Transport}
+use Rattle.wait_causes.specs.Words.{flag_in, round, Transport}
 use Rattle.wait_causes.proofs.FreezeLemmas.{behind_here, behind_next, behind_none}
 use Rattle.wait_causes.proofs.freeze_list.behind.Goals as goal
 

@@ -1,8 +1,6 @@
-use Rattle.std.proofs.Common.{◌≡◌, ◌-◌}
-use Rattle.std.specs.Prelude.{find, not}
+use Rattle.std.proofs.Common.{◌≡◌, ◌-◌, find, not}
 use Rattle.std.specs.List.{range_with_len}
-use Rattle.round_net.specs.Ends.{flag_in}
-use Rattle.event_rules.specs.Counts.{round}
+use Rattle.wait_causes.specs.Words.{flag_in, round}
 use Rattle.wait_causes.proofs.freeze_list.behind.Given as goal
 
 -- what is left has the same answer

@@ -1,5 +1,4 @@
-use Rattle.std.proofs.Common.{◌≡◌, ◌*◌, ◌≤◌, take}
-use Rattle.std.specs.Prelude.{sum_by}
+use Rattle.std.proofs.Common.{◌≡◌, ◌*◌, ◌≤◌, take, sum_by}
 use Rattle.round_net.specs.Ends.{cause_in}
 use Rattle.wait_causes.specs.Freezes.{stay_cost, rounds_between}
 use Rattle.wait_causes.proofs.freeze_list.cost_in.Given as goal

@@ -1,8 +1,6 @@
-use Rattle.cam_types.specs.declared.maxima.TheConstants.{MOST_STAYS}
-use Rattle.round_net.specs.Ends.{cause_in, flag_in}
+use Rattle.wait_causes.specs.Words.{MOST_STAYS, cause_in, flag_in, round}
 use Rattle.wait_causes.specs.Freezes.{freezes_at, grouping_of}
 use Rattle.wait_causes.specs.Tables.{stays_of}
-use Rattle.event_rules.specs.Counts.{round}
 use Rattle.wait_causes.proofs.FreezeLemmas.{numbers_step}
 use Rattle.wait_causes.proofs.TableLemmas.{few_of}
 use Rattle.wait_causes.proofs.freeze_list.push_freezes.Goals as goal

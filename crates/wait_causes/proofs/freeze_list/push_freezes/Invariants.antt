@@ -1,10 +1,8 @@
-use Rattle.std.proofs.Common.{◌≡◌, ◌++◌}
-use Rattle.std.specs.Prelude.{flat_map}
+use Rattle.std.proofs.Common.{◌≡◌, ◌++◌, flat_map}
 use Rattle.std.specs.List.{range_with_len}
-use Rattle.round_net.specs.Ends.{cause_in, flag_in}
+use Rattle.wait_causes.specs.Words.{cause_in, flag_in, round}
 use Rattle.wait_causes.specs.Freezes.{freezes_at, grouping_of}
 use Rattle.wait_causes.specs.Tables.{stays_of}
-use Rattle.event_rules.specs.Counts.{round}
 use Rattle.wait_causes.proofs.freeze_list.push_freezes.Given as goal
 
 abbrev pub invariant-loop-number : goal.invariant-loop-number

@@ -1,8 +1,6 @@
 use Rattle.std.proofs.Common.{◌≡◌, sym, ap, ◌∙◌}
-use Rattle.round_net.specs.Ends.{cause_in, flag_in}
+use Rattle.wait_causes.specs.Words.{cause_in, flag_in, round, Transport}
 use Rattle.wait_causes.specs.Freezes.{begins, freeze_from, freezes_at}
-use Rattle.event_rules.specs.Counts.{round}
-use Rattle.xpt_core.specs.Transport.{Transport}
 use Rattle.wait_causes.proofs.FreezeLemmas.{rows_here, rows_next, rows_none}
 use Rattle.wait_causes.proofs.freeze_list.push_number.Goals as goal
 use Rattle.wait_causes.proofs.freeze_list.push_number.Goals.{then-begins+in_ok-push, else-begins}

@@ -1,9 +1,7 @@
-use Rattle.std.proofs.Common.{◌≡◌, ◌-◌, ◌++◌, map}
-use Rattle.std.specs.Prelude.{filter}
+use Rattle.std.proofs.Common.{◌≡◌, ◌-◌, ◌++◌, map, filter}
 use Rattle.std.specs.List.{range_with_len}
-use Rattle.round_net.specs.Ends.{cause_in, flag_in}
+use Rattle.wait_causes.specs.Words.{cause_in, flag_in, round}
 use Rattle.wait_causes.specs.Freezes.{begins, freeze_from}
-use Rattle.event_rules.specs.Counts.{round}
 use Rattle.wait_causes.proofs.freeze_list.push_number.Given as goal
 
 -- the freezes so far and those left are all

@@ -1,5 +1,4 @@
-use Rattle.std.proofs.Common.{◌≡◌, map, take}
-use Rattle.std.specs.Prelude.{zip}
+use Rattle.std.proofs.Common.{◌≡◌, map, take, zip}
 use Rattle.wait_causes.specs.Stays.{row_by}
 use Rattle.wait_causes.proofs.listing.list_stays.Given as goal
 

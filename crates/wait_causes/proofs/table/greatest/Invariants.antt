@@ -1,5 +1,4 @@
-use Rattle.std.proofs.Common.{◌≡◌, take}
-use Rattle.std.specs.Prelude.{fold, max}
+use Rattle.std.proofs.Common.{◌≡◌, take, fold, max}
 use Rattle.wait_causes.specs.Tables.{number}
 use Rattle.wait_causes.proofs.table.greatest.Given as goal
 

@@ -1,6 +1,5 @@
 use Rattle.std.proofs.Common.{◌+◌, List, subst, sym, ◌∙◌}
-use Rattle.wait_causes.specs.Waits.{AreBegun}
-use Rattle.wait_causes.specs.declared.wait.Wait.{Wait}
+use Rattle.wait_causes.specs.Waits.{AreBegun, Wait}
 use Rattle.wait_causes.proofs.WaitLemmas.{begun_joined, begun_next}
 use Rattle.wait_causes.proofs.wait.behind.Goals as goal
 

@@ -1,7 +1,6 @@
 use Rattle.std.proofs.Common.{refl, subst, sym, List, ◌∙◌}
 use Rattle.round_net.specs.Ends.{cause_in}
-use Rattle.wait_causes.specs.Waits.{AreBegun}
-use Rattle.wait_causes.specs.declared.wait.Wait.{Wait}
+use Rattle.wait_causes.specs.Waits.{AreBegun, Wait}
 use Rattle.wait_causes.proofs.WaitLemmas.{begun_first}
 use Rattle.wait_causes.proofs.wait.waits_in.Goals as goal
 

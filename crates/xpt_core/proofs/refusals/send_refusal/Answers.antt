@@ -1,6 +1,5 @@
 use Rattle.std.proofs.Common.{ap, sym, ◌∙◌}
-use Rattle.cam_types.specs.Topology.{Topology}
-use Rattle.cam_types.specs.Questions.{names_lane}
+use Rattle.xpt_core.specs.Words.{Topology, names_lane}
 use Rattle.cam_types.proofs.LaneLemmas.{named_lane_within}
 use Rattle.xpt_core.proofs.refusals.send_refusal.Goals as goal
 

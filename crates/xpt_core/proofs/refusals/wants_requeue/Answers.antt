@@ -1,5 +1,4 @@
-use Rattle.std.proofs.Common.{ap, ◌∙◌}
-use Rattle.std.specs.Prelude.{◌&&◌}
+use Rattle.std.proofs.Common.{ap, ◌∙◌, ◌&&◌}
 use Rattle.event_rules.specs.Counts.{wants_requeue}
 use Rattle.xpt_core.proofs.CcbLemmas.{recovering_lives}
 use Rattle.xpt_core.proofs.refusals.wants_requeue.Goals as goal

@@ -1,4 +1,4 @@
-use Rattle.std.specs.Prelude.{◌≡◌, length, take}
+use Rattle.std.proofs.Common.{◌≡◌, length, take}
 use Rattle.xpt_lock.specs.Receipts.{all_receipts, marks, AreConsistent}
 use Rattle.xpt_lock.proofs.compare.compare.Given as goal
 

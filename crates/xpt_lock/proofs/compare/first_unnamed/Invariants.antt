@@ -1,4 +1,4 @@
-use Rattle.std.specs.Prelude.{◌≡◌, ℕ, ◌<◌, true, Some, slice_get}
+use Rattle.std.proofs.Common.{◌≡◌, ℕ, ◌<◌, true, Some, slice_get}
 use Rattle.xpt_lock.proofs.compare.first_unnamed.Given as goal
 
 abbrev pub invariant-loop-place : goal.invariant-loop-place

@@ -1,6 +1,6 @@
 use Rattle.std.proofs.Common.{◌≡◌, true, sym, subst, ◌∙◌}
 use Rattle.xpt_lock.proofs.SameLemmas.{same_receipt}
-use Rattle.xpt_lock.specs.declared.receipt.Receipt.{Receipt}
+use Rattle.xpt_lock.specs.Receipts.{Receipt}
 use Rattle.xpt_lock.specs.contracts.receipt.ReceiptPartialEq.TheImpl as receipts
 use Rattle.xpt_lock.specs.contracts.receipt.ReceiptEq.TheImpl.Laws.{laws-law}
 use Rattle.xpt_lock.proofs.compare.is_same.Goals as goal

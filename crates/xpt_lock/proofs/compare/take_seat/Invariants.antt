@@ -1,4 +1,4 @@
-use Rattle.std.specs.Prelude.{take}
+use Rattle.std.proofs.Common.{take}
 use Rattle.xpt_lock.proofs.ConsistentLemmas.{IsTaken}
 use Rattle.xpt_lock.proofs.compare.take_seat.Given as goal
 

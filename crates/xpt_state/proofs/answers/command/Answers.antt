@@ -1,8 +1,5 @@
-use Rattle.std.proofs.Common.{◌≡◌, Option, Some, None, ap, sym, ◌∙◌}
-use Rattle.std.specs.Option.{option_copied}
-use Rattle.xpt_core.specs.Ccbs.{alive_ccb}
-use Rattle.xpt_core.specs.declared.ccbs.ccb.Ccb.{Ccb}
-use Rattle.xpt_core.specs.Transport.{Transport}
+use Rattle.std.proofs.Common.{◌≡◌, Option, Some, None, ap, sym, ◌∙◌, option_copied}
+use Rattle.xpt_state.specs.Words.{alive_ccb, Ccb, Transport}
 use Rattle.xpt_state.specs.Rows.{command_by}
 use Rattle.xpt_state.proofs.XptLemmas.{send_row}
 use Rattle.xpt_state.proofs.answers.command.Goals as goal

@@ -1,7 +1,5 @@
-use Rattle.std.proofs.Common.{Some, ap, sym, ◌∙◌}
-use Rattle.std.specs.Prelude.{not, ◌==◌}
-use Rattle.event_rules.specs.Counts.{adapter_freezes}
-use Rattle.xpt_core.specs.Transport.{Transport}
+use Rattle.std.proofs.Common.{Some, ap, sym, ◌∙◌, not, ◌==◌}
+use Rattle.xpt_state.specs.Words.{adapter_freezes, Transport}
 use Rattle.xpt_state.proofs.IdleLemmas.{idle_found}
 use Rattle.xpt_state.proofs.answers.idle.Goals as goal
 

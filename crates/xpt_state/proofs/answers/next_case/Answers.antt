@@ -1,10 +1,5 @@
-use Rattle.std.proofs.Common.{◌∙◌, ap, sym, subst, cond, None, option_and_then, slice_get}
-use Rattle.std.specs.Prelude.{IfSome, IsTrue}
-use Rattle.event_rules.specs.Counts.{is_recovering}
-use Rattle.event_rules.specs.Laws.{last_class}
-use Rattle.xpt_core.specs.Cases.{cases}
-use Rattle.xpt_core.specs.Ccbs.{is_alive}
-use Rattle.xpt_core.specs.Transport.{Transport}
+use Rattle.std.proofs.Common.{◌∙◌, ap, sym, subst, cond, None, option_and_then, slice_get, IfSome, IsTrue}
+use Rattle.xpt_state.specs.Words.{is_recovering, last_class, cases, is_alive, Transport}
 use Rattle.xpt_state.specs.Looks.{case_of}
 use Rattle.xpt_state.proofs.RowLaws.{next_case_alive}
 use Rattle.xpt_state.proofs.answers.next_case.Goals as goal

@@ -1,10 +1,5 @@
-use Rattle.std.proofs.Common.{length, ap, sym, subst, ◌<◌, ◌∙◌}
-use Rattle.std.specs.Option.{option_map}
-use Rattle.cam_types.specs.Topology.{Topology, IsConfig}
-use Rattle.event_rules.specs.Head.{next}
-use Rattle.cam_types.specs.Questions.{lane_adapter}
-use Rattle.xpt_core.specs.Next.{next_of}
-use Rattle.xpt_core.specs.Transport.{Transport}
+use Rattle.std.proofs.Common.{length, ap, sym, subst, ◌<◌, ◌∙◌, option_map}
+use Rattle.xpt_state.specs.Words.{Topology, IsConfig, next, lane_adapter, next_of, Transport}
 use Rattle.xpt_state.proofs.NextLemmas.{free_lane_within, turn_free}
 use Rattle.xpt_state.proofs.answers.next_command.Goals as goal
 

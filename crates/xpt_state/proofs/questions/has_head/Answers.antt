@@ -1,11 +1,5 @@
-use Rattle.std.proofs.Common.{length, ap, sym, subst, ◌≤◌, ◌∙◌}
-use Rattle.std.specs.Prelude.{is_some}
-use Rattle.std.specs.Option.{option_map}
-use Rattle.std.proofs.lemmas.Bool.{le-ltb}
-use Rattle.cam_types.specs.Topology.{Topology}
-use Rattle.event_rules.specs.Head.{next}
-use Rattle.xpt_core.specs.Next.{next_of}
-use Rattle.xpt_core.specs.Transport.{Transport}
+use Rattle.std.proofs.Common.{length, ap, sym, subst, ◌≤◌, ◌∙◌, is_some, option_map, le-ltb}
+use Rattle.xpt_state.specs.Words.{Topology, next, next_of, Transport}
 use Rattle.xpt_state.proofs.NextLemmas.{head_where_next, no_head}
 use Rattle.xpt_state.proofs.questions.has_head.Goals as goal
 

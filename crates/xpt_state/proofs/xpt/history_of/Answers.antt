@@ -1,6 +1,5 @@
 use Rattle.std.proofs.Common.{ap, arith, refl, ◌∙◌}
-use Rattle.event_rules.specs.Legal.{history_rules}
-use Rattle.event_rules.specs.Past.{Past}
+use Rattle.xpt_state.specs.Words.{history_rules, Past}
 use Rattle.event_rules.proofs.LegalLemmas.{none-legal}
 use Rattle.xpt_state.proofs.HistoryLemmas.{next_is_legal_there, one_more_there, all_there, unrefused_push}
 use Rattle.xpt_state.proofs.xpt.history_of.Goals as goal

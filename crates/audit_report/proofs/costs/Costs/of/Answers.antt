@@ -1,6 +1,5 @@
 use Rattle.std.proofs.Common.{◌≡◌, sym, ◌∙◌, arith}
-use Rattle.round_net.specs.Rows.{instance_of_rows, live_of_rows}
-use Rattle.round_net.specs.Schedules.{cost}
+use Rattle.audit_report.specs.Words.{instance_of_rows, live_of_rows, cost}
 use Rattle.audit_report.proofs.AuditLemmas.{live_is_known, live_is, least_le_live}
 use Rattle.audit_report.proofs.CostLemmas.{cost-most}
 use Rattle.audit_report.proofs.costs.Costs.of.Goals as goal

@@ -1,5 +1,4 @@
-use Rattle.std.proofs.Common.{◌≡◌, ℕ, List, ◌++◌, append_assoc}
-use Rattle.std.specs.Prelude.{codes, decimal}
+use Rattle.std.proofs.Common.{◌≡◌, ℕ, List, ◌++◌, append_assoc, codes, decimal}
 use Rattle.cam_path.specs.Paths.{spelled}
 use Rattle.cam_path.proofs.path.CamPath.append.Goals as goal
 

@@ -1,5 +1,4 @@
-use Rattle.std.proofs.Common.{◌≡◌, rules, refl, ◌∙◌}
-use Rattle.std.specs.Prelude.{None, length}
+use Rattle.std.proofs.Common.{◌≡◌, rules, refl, ◌∙◌, None, length}
 use Rattle.cam_types.specs.Topology.{lack}
 use Rattle.cam_types.proofs.TopologyLemmas.{config_fault-draft}
 use Rattle.cam_types.proofs.config_draft.ConfigDraft.finish.Goals as goal

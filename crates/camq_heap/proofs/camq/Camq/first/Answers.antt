@@ -1,5 +1,4 @@
-use Rattle.std.proofs.Common.{sym, ap, subst, ◌∙◌}
-use Rattle.std.specs.List.{slice_get}
+use Rattle.std.proofs.Common.{sym, ap, subst, ◌∙◌, slice_get}
 use Rattle.camq_heap.specs.Order.{IsRising}
 use Rattle.camq_heap.specs.Queue.{key}
 use Rattle.camq_heap.proofs.OrderLemmas.{AllRising-in_order, IsRising-from}

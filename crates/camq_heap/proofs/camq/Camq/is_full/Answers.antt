@@ -1,5 +1,4 @@
-use Rattle.std.proofs.Common.{length, ap, arith}
-use Rattle.std.proofs.lemmas.Bool.{leb-true, le-leb}
+use Rattle.std.proofs.Common.{length, ap, arith, leb-true, le-leb}
 use Rattle.camq_heap.specs.Queue.{key}
 use Rattle.camq_heap.proofs.OrderLemmas.{length-in_order}
 use Rattle.camq_heap.proofs.camq.Camq.is_full.Goals as goal

@@ -1,5 +1,4 @@
-use Rattle.std.proofs.Common.{length, sym, ap, subst, ◌∙◌, arith}
-use Rattle.std.specs.List.{slice_get, remove}
+use Rattle.std.proofs.Common.{length, sym, ap, subst, ◌∙◌, arith, slice_get, remove}
 use Rattle.camq_heap.specs.Order.{AllApart}
 use Rattle.camq_heap.specs.Queue.{key}
 use Rattle.camq_heap.proofs.OrderLemmas.{length-in_order}

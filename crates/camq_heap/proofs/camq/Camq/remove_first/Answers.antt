@@ -1,6 +1,5 @@
-use Rattle.std.proofs.Common.{length, drop, sym, ap, ◌∙◌, arith}
+use Rattle.std.proofs.Common.{length, drop, sym, ap, ◌∙◌, arith, slice_get}
 use Rattle.std.proofs.lemmas.Bool.{eqb-false}
-use Rattle.std.specs.List.{slice_get}
 use Rattle.camq_heap.specs.Queue.{key}
 use Rattle.camq_heap.proofs.OrderLemmas.{length-in_order}
 use Rattle.camq_heap.proofs.QueueLemmas.{IsSound-take, HasAt-pop, in_order-pop, queue_moved}

@@ -1,5 +1,4 @@
-use Rattle.std.proofs.Common.{option_map, subst, ap, ◌∙◌, arith}
-use Rattle.std.specs.List.{slice_get}
+use Rattle.std.proofs.Common.{option_map, subst, ap, ◌∙◌, arith, slice_get}
 use Rattle.std.specs.List.Sorted.{IsNonDecreasingBy}
 use Rattle.dev_queue.proofs.EnterLemmas.{waiting_from, slice_get-waiting_of, waiting_of-sorted}
 use Rattle.dev_queue.proofs.device.DevQueue.first.Goals as goal

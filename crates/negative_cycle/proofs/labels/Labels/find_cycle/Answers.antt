@@ -1,7 +1,5 @@
-use Rattle.std.proofs.Common.{◌∙◌, subst, sym, ap, length, List, Option, IfOk, arith, drop}
-use Rattle.std.specs.Option.{IfSome, IfNone}
-use Rattle.negative_cycle.specs.declared.arc.Arc.{Arc}
-use Rattle.negative_cycle.specs.Walks.{came_by, IsLoop, EndsAtRoot}
+use Rattle.std.proofs.Common.{◌∙◌, subst, sym, ap, length, List, Option, IfOk, arith, drop, IfSome, IfNone}
+use Rattle.negative_cycle.specs.Walks.{came_by, IsLoop, EndsAtRoot, Arc}
 use Rattle.negative_cycle.proofs.CycleLemmas.{gains-from_found, ends-from_found}
 use Rattle.negative_cycle.proofs.labels.Labels.find_cycle.Goals as goal
 

@@ -1,7 +1,7 @@
 use Rattle.std.proofs.Common.{ℕ, ◌≡◌, ◌∙◌, arith, sym, ap, length, Option, None, replicate, ltb}
 use Rattle.std.specs.List.{list_any}
 use Rattle.std.proofs.lemmas.List.{length-replicate}
-use Rattle.negative_cycle.specs.declared.arc.Arc.{Arc}
+use Rattle.negative_cycle.specs.Walks.{Arc}
 use Rattle.negative_cycle.specs.Labelling.{highest_root}
 use Rattle.negative_cycle.specs.declared.labels.Labels.TheInside.{Inside}
 use Rattle.negative_cycle.proofs.ForestLemmas.{IsForest-begun, IsForest-low}

@@ -1,5 +1,5 @@
 use Rattle.recording_file.proofs.PlacingLemmas.{caps_laid, placed_kept}
-use Rattle.recording_file.specs.declared.request_error.RequestError.TheVariants.{OutOfMemory}
+use Rattle.recording_file.specs.Requests.{OutOfMemory}
 use Rattle.recording_file.proofs.recorder.Recorder.add_request.Goals as goal
 
 pub place_request-requires-clause-caps : goal.place_request-requires-clause-caps

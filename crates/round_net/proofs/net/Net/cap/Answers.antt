@@ -1,5 +1,4 @@
-use Rattle.std.proofs.Common.{rules, ◌≡◌, length, refl, ap, arith, ◌∙◌}
-use Rattle.std.specs.Prelude.{slice_index}
+use Rattle.std.proofs.Common.{rules, ◌≡◌, length, refl, ap, arith, ◌∙◌, slice_index}
 use Rattle.std.proofs.lemmas.List.{get_or_read_under}
 use Rattle.round_net.specs.Rows.{instance_of_rows}
 use Rattle.round_net.proofs.CellLemmas.{cap_in}

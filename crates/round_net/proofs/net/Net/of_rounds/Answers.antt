@@ -1,9 +1,5 @@
 use Rattle.std.proofs.Common.{◌≡◌, ◌≤◌, length, sym, ap, ◌∙◌, refl, arith, None}
-use Rattle.cam_types.specs.Topology.{IsConfig}
-use Rattle.cam_types.specs.declared.maxima.TheConstants.{MOST_LINKS}
-use Rattle.event_rules.specs.Counts.{round}
-use Rattle.event_rules.specs.Past.{Past}
-use Rattle.event_rules.specs.Stays.{unsent}
+use Rattle.round_net.specs.Words.{IsConfig, MOST_LINKS, round, Past, unsent}
 use Rattle.round_net.specs.Caps.{row_count, cap}
 use Rattle.round_net.specs.Nets.{table}
 use Rattle.cam_types.proofs.ConfigLemmas.{few_links}

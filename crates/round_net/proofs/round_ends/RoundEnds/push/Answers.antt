@@ -1,6 +1,5 @@
 use Rattle.std.proofs.Common.{sym, ◌∙◌, length}
-use Rattle.round_net.specs.Ends.{cause_at, is_frozen_at, numbers}
-use Rattle.round_net.specs.declared.freeze_kind.FreezeKind.TheVariants.{Error, Caller, Adapter}
+use Rattle.round_net.specs.Ends.{cause_at, is_frozen_at, numbers, Error, Caller, Adapter}
 use Rattle.round_net.proofs.EndLemmas.{at_ends-tick, at_ends-still}
 use Rattle.round_net.proofs.round_ends.RoundEnds.push.Goals as goal
 

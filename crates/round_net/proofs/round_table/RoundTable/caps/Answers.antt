@@ -1,8 +1,6 @@
-use Rattle.std.proofs.Common.{◌≡◌, subst}
-use Rattle.std.specs.Prelude.{IfOk}
+use Rattle.std.proofs.Common.{◌≡◌, subst, IfOk}
 use Rattle.std.proofs.lemmas.Result.{IfOk-weaker}
-use Rattle.event_rules.specs.Counts.{round}
-use Rattle.event_rules.specs.Past.{Past}
+use Rattle.round_net.specs.Words.{round, Past}
 use Rattle.event_rules.proofs.LimitLemmas.{round_first}
 use Rattle.round_net.specs.Caps.{row_count, cap}
 use Rattle.round_net.specs.Marks.{AreCaps}

@@ -1,7 +1,5 @@
 use Rattle.std.proofs.Common.{◌≡◌, ◌*◌, length, ap, refl, sym, ◌∙◌}
-use Rattle.event_rules.specs.Counts.{round}
-use Rattle.event_rules.specs.Legal.{history_rules}
-use Rattle.xpt_core.specs.Transport.{Transport}
+use Rattle.round_net.specs.Words.{round, history_rules, Transport}
 use Rattle.round_net.specs.Caps.{row_count}
 use Rattle.round_net.proofs.MarkLemmas.{written_back}
 use Rattle.round_net.proofs.round_table.RoundTable.of.Goals as goal

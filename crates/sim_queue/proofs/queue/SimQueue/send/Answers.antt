@@ -1,6 +1,5 @@
 use Rattle.std.proofs.Common.{◌+◌, List, Some, get_or, sym, ap, ◌∙◌}
-use Rattle.sim_queue.specs.declared.row.Row.{Row}
-use Rattle.sim_queue.specs.Adapter.{Adapter, new_row, is_named, best_ready, with_send}
+use Rattle.sim_queue.specs.Adapter.{Adapter, new_row, is_named, best_ready, with_send, Row}
 use Rattle.sim_queue.specs.Turns.{is_ready, entry_of}
 use Rattle.sim_queue.proofs.HeadLemmas.{HasTurn-best, named-turn, turn_row}
 use Rattle.sim_queue.proofs.RowLemmas.{rows_changed}

@@ -1,6 +1,5 @@
 use Rattle.std.proofs.Common.{List, ap, ◌∙◌}
-use Rattle.sim_queue.specs.declared.row.Row.{Row}
-use Rattle.sim_queue.specs.Adapter.{Adapter, with_priority}
+use Rattle.sim_queue.specs.Adapter.{Adapter, with_priority, Row}
 use Rattle.sim_queue.proofs.RowLemmas.{rows_changed}
 use Rattle.sim_queue.proofs.queue.SimQueue.set_ready.Goals as goal
 

@@ -1,9 +1,7 @@
-use Rattle.std.proofs.Common.{◌≡◌, ◌<◌, ◌∙◌, ◌+◌, ℕ, List, [], ◌∷◌, ◌++◌, length, map, arith, ap, sym, subst, length-append}
-use Rattle.std.specs.Prelude.{All, take}
+use Rattle.std.proofs.Common.{◌≡◌, ◌<◌, ◌∙◌, ◌+◌, ℕ, List, [], ◌∷◌, ◌++◌, length, map, arith, ap, sym, subst, length-append, All, take}
 use Rattle.std.proofs.lemmas.List.{map-append, take_all, take_more}
 use Rattle.std.proofs.lemmas.List.Elements.{All-push}
-use Rattle.cam_types.specs.Topology.{Topology}
-use Rattle.cam_types.specs.declared.outcome.Outcome.{Outcome}
+use Rattle.sim_worker.specs.Words.{Topology, Outcome}
 use Rattle.sim_worker.specs.declared.script_port.ScriptPort.{ScriptPort}
 use Rattle.event_rules.proofs.LaneCount.{few_lanes}
 use Rattle.sim_worker.proofs.script_port.ScriptPort.for_lanes.Goals as goal

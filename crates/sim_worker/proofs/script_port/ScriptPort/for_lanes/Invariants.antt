@@ -1,5 +1,4 @@
-use Rattle.std.proofs.Common.{◌≡◌, [], length, map}
-use Rattle.std.specs.Prelude.{All, take}
+use Rattle.std.proofs.Common.{◌≡◌, [], length, map, All, take}
 use Rattle.sim_worker.proofs.script_port.ScriptPort.for_lanes.Given as goal
 
 abbrev pub invariant-loop-lane : goal.invariant-loop-lane

@@ -1,7 +1,5 @@
-use Rattle.std.proofs.Common.{◌≡◌, ℕ, ◌≤◌, ◌<◌, length, Some}
-use Rattle.std.specs.Prelude.{slice_get}
-use Rattle.sim_worker.specs.Work.{steps_of}
-use Rattle.sim_worker.specs.declared.work.Driver.{Driver}
+use Rattle.std.proofs.Common.{◌≡◌, ℕ, ◌≤◌, ◌<◌, length, Some, slice_get}
+use Rattle.sim_worker.specs.Work.{steps_of, Driver}
 use Rattle.sim_worker.proofs.sim.Sim.are_drivers_done.Given as goal
 
 abbrev pub invariant-loop-d : goal.invariant-loop-d

@@ -1,14 +1,11 @@
-use Rattle.std.proofs.Common.{◌≡◌, ◌∙◌, refl, sym, ap, length, Some, arith}
-use Rattle.std.specs.Prelude.{slice_get}
-use Rattle.sim_worker.specs.Work.{Work, is_able, steps_of, call_of}
+use Rattle.std.proofs.Common.{◌≡◌, ◌∙◌, refl, sym, ap, length, Some, arith, slice_get, length-set}
+use Rattle.sim_worker.specs.Work.{Work, is_able, steps_of, call_of, Driver}
 use Rattle.sim_worker.specs.declared.actor.Actor.TheVariants as actors
-use Rattle.sim_worker.specs.declared.work.Driver.{Driver}
 use Rattle.sim_worker.proofs.FullLemmas.{full_at_limit, says_full}
 use Rattle.sim_worker.proofs.RunListFacts.{get_is, some_is, there_is}
 use Rattle.sim_worker.proofs.LeftLemmas.{left-event, left-driver, fewer_fresh}
 use Rattle.sim_worker.proofs.StepLemmas.{call_step, driver_step}
 use Rattle.sim_worker.proofs.TurnLemmas.{able_driver, at_limit, call_is, few_at, room_for}
-use Rattle.std.proofs.lemmas.List.{length-set}
 use Rattle.sim_worker.proofs.sim.Sim.call.Goals as goal
 
 pub overflow_add-index_mut : goal.overflow_add-index_mut

@@ -1,9 +1,6 @@
-use Rattle.std.proofs.Common.{◌∙◌, refl, sym, ap, length, arith}
-use Rattle.std.specs.Option.{option_map}
-use Rattle.std.specs.Prelude.{slice_get}
+use Rattle.std.proofs.Common.{◌∙◌, refl, sym, ap, length, arith, option_map, slice_get}
 use Rattle.event_rules.specs.declared.event.Event.TheVariants.{Done}
-use Rattle.sim_worker.specs.Work.{Work}
-use Rattle.sim_worker.specs.declared.work.Lane.{Lane}
+use Rattle.sim_worker.specs.Work.{Work, Lane}
 use Rattle.sim_worker.proofs.StepLemmas.{done_step}
 use Rattle.sim_worker.proofs.LeftLemmas.{left-event}
 use Rattle.sim_worker.proofs.TurnLemmas.{room_for, lane_with, done_full, err_case, ok_case}

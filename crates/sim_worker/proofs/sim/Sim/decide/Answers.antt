@@ -1,9 +1,5 @@
-use Rattle.std.proofs.Common.{◌≡◌, ◌∙◌, sym, ap, length, Some, true}
-use Rattle.std.specs.Prelude.{not, ◌||◌}
-use Rattle.xpt_state.specs.declared.look.Case.{Case}
-use Rattle.xpt_state.specs.Looks.{next_case}
-use Rattle.event_rules.specs.Event.{is_some_and}
-use Rattle.xpt_core.specs.Takes.{refused}
+use Rattle.std.proofs.Common.{◌≡◌, ◌∙◌, sym, ap, length, Some, true, not, ◌||◌}
+use Rattle.sim_worker.specs.Words.{Case, next_case, is_some_and, refused}
 use Rattle.sim_worker.specs.Runs.{is_in_time, is_submit_by}
 use Rattle.sim_worker.proofs.LaneFacts.{is_lane_event}
 use Rattle.sim_worker.specs.Work.{Work, is_able}

@@ -1,12 +1,9 @@
 use Rattle.std.proofs.Common.{◌≡◌, ◌∙◌, sym, ap, subst, List, length, map, false, arith}
-use Rattle.event_rules.specs.Legal.{Rules}
-use Rattle.event_rules.specs.Counts.{round}
-use Rattle.event_rules.specs.declared.event.Event.TheVariants.{Tick}
+use Rattle.sim_worker.specs.Words.{Rules, round, Tick}
 use Rattle.event_rules.proofs.LimitLemmas.{round-legal}
 use Rattle.sim_worker.specs.Endings.{IsDrained}
 use Rattle.sim_worker.specs.Runs.{may_tick}
-use Rattle.sim_worker.specs.Work.{Work, IsAtEnd}
-use Rattle.sim_worker.specs.declared.work.Driver.{Driver}
+use Rattle.sim_worker.specs.Work.{Work, IsAtEnd, Driver}
 use Rattle.sim_worker.proofs.FullLemmas.{full_at_limit, full_is, last_round, says_full}
 use Rattle.sim_worker.proofs.KeepLemmas.{AllRest, drained, landed, round_may_open}
 use Rattle.sim_worker.proofs.LeftLemmas.{left-event}

@@ -1,5 +1,4 @@
-use Rattle.std.proofs.Common.{◌≡◌, ℕ, ◌<◌, length, [], true, false}
-use Rattle.std.specs.Prelude.{All}
+use Rattle.std.proofs.Common.{◌≡◌, ℕ, ◌<◌, length, [], true, false, All}
 use Rattle.sim_worker.specs.Work.{actor_at, is_able, left}
 use Rattle.sim_worker.specs.declared.actor.Actor.{Actor}
 use Rattle.sim_worker.proofs.sim.Sim.list_able.Given as goal

@@ -1,7 +1,5 @@
 use Rattle.std.proofs.Common.{◌≤◌, [], ◌∙◌, ap, subst}
-use Rattle.cam_types.specs.Topology.{Topology}
-use Rattle.cam_types.specs.Bounds.{Bounds}
-use Rattle.event_rules.specs.Legal.{rules_of}
+use Rattle.sim_worker.specs.Words.{Topology, Bounds, rules_of}
 use Rattle.sim_worker.proofs.OpenLemmas.{opened}
 use Rattle.sim_worker.proofs.sim.Sim.open.Goals as goal
 

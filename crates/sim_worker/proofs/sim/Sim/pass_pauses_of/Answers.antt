@@ -1,8 +1,7 @@
 use Rattle.std.proofs.Common.{◌≡◌, ◌<◌, ◌∙◌, refl, sym, ap, subst, List, length, arith, Vec, Global}
 use Rattle.std.proofs.lemmas.List.{length-map}
-use Rattle.trace_file.specs.declared.step.Step.{Step}
+use Rattle.sim_worker.specs.Words.{Step, round}
 use Rattle.sim_worker.specs.Work.{Work, HasDone, steps_of}
-use Rattle.event_rules.specs.Counts.{round}
 use Rattle.sim_worker.proofs.StepLemmas.{driver_step}
 use Rattle.sim_worker.proofs.LeftLemmas.{left-same, same_fresh}
 use Rattle.sim_worker.proofs.RunListFacts.{list_at}

@@ -1,14 +1,6 @@
-use Rattle.std.proofs.Common.{◌<◌, ◌∙◌, refl, sym, ap, subst, length, arith}
-use Rattle.std.specs.Prelude.{slice_get}
-use Rattle.event_rules.specs.declared.event.Event.TheVariants.{Send}
-use Rattle.cam_types.specs.Questions.{lane_adapter}
-use Rattle.xpt_state.specs.Calls.{lane_refused}
-use Rattle.xpt_state.specs.Idle.{idle}
-use Rattle.xpt_state.specs.Looks.{has_head}
-use Rattle.xpt_core.specs.Takes.{IsTaken}
-use Rattle.xpt_state.specs.Steps.{IsSent}
-use Rattle.sim_worker.specs.Work.{Work}
-use Rattle.sim_worker.specs.declared.work.Lane.{Lane}
+use Rattle.std.proofs.Common.{◌<◌, ◌∙◌, refl, sym, ap, subst, length, arith, slice_get}
+use Rattle.sim_worker.specs.Words.{Send, lane_adapter, lane_refused, idle, has_head, IsTaken, IsSent}
+use Rattle.sim_worker.specs.Work.{Work, Lane}
 use Rattle.sim_worker.proofs.CaseLemmas.{lane_full, never_idle, send_grounded}
 use Rattle.sim_worker.proofs.LeftLemmas.{left-event}
 use Rattle.sim_worker.proofs.RunListFacts.{get_is, some_is, there_is}

@@ -1,9 +1,7 @@
-use Rattle.std.proofs.Common.{◌<◌, ◌∙◌, refl, sym, ap, subst}
-use Rattle.std.specs.Prelude.{◌||◌, is_some, IfNone}
+use Rattle.std.proofs.Common.{◌<◌, ◌∙◌, refl, sym, ap, subst, ◌||◌, is_some, IfNone}
 use Rattle.xpt_state.specs.Looks.{has_head}
-use Rattle.sim_worker.specs.Work.{Work, is_able, left}
+use Rattle.sim_worker.specs.Work.{Work, is_able, left, Lane}
 use Rattle.sim_worker.specs.declared.actor.Actor.TheVariants as actors
-use Rattle.sim_worker.specs.declared.work.Lane.{Lane}
 use Rattle.sim_worker.proofs.ListFacts.{set_at}
 use Rattle.sim_worker.proofs.RunListFacts.{get_is, some_is, there_is}
 use Rattle.sim_worker.proofs.LeftLemmas.{left-same}

@@ -1,5 +1,4 @@
-use Rattle.std.proofs.Common.{◌∙◌, sym, arith}
-use Rattle.std.proofs.lemmas.Bool.{eqb-true}
+use Rattle.std.proofs.Common.{◌∙◌, sym, arith, eqb-true}
 use Rattle.sim_worker.proofs.ListFacts.{none_there}
 use Rattle.sim_worker.proofs.sim.Sim.turn.Goals as goal
 

@@ -1,13 +1,7 @@
-use Rattle.std.proofs.Common.{◌≡◌, ◌∙◌, ◌++◌, ◌∷◌, [], List, Option, None, Some, length, ap, true, false, Bool}
-use Rattle.std.specs.Prelude.{IfSome, slice_get}
-use Rattle.event_rules.specs.Event.{is_tick}
-use Rattle.event_rules.specs.declared.event.Event.{Event}
-use Rattle.trace_file.specs.Scenarios.{Scenario}
-use Rattle.trace_file.specs.declared.step.Step.{Step}
-use Rattle.xpt_lock.specs.declared.receipt.Receipt.{Receipt}
+use Rattle.std.proofs.Common.{◌≡◌, ◌∙◌, ◌++◌, ◌∷◌, [], List, Option, None, Some, length, ap, true, false, Bool, IfSome, slice_get}
+use Rattle.sim_worker.specs.Words.{is_tick, Event, Scenario, Step, Receipt}
 use Rattle.sim_worker.specs.Logs.{IsDriverLog, FollowsRows, LetsRest}
-use Rattle.sim_worker.specs.Walks.{IsOn, IsWalk}
-use Rattle.sim_worker.specs.declared.walk.Walk.{Walk}
+use Rattle.sim_worker.specs.Walks.{IsOn, IsWalk, Walk}
 use Rattle.sim_worker.proofs.WalkLemmas.{on_later}
 use Rattle.sim_worker.proofs.walk.Walk.behind.Goals.{else-is_tick-via-then-is_tick+else-not-rests, else-is_tick-via-else-is_tick}
 use Rattle.sim_worker.proofs.walk.Walk.behind.Goals as goal

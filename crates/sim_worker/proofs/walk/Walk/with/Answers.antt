@@ -1,5 +1,4 @@
-use Rattle.std.proofs.Common.{◌≡◌, ◌∙◌, sym, refl, true, false, Bool}
-use Rattle.std.specs.Prelude.{not}
+use Rattle.std.proofs.Common.{◌≡◌, ◌∙◌, sym, refl, true, false, Bool, not}
 use Rattle.sim_worker.proofs.WalkLemmas.{walk_beside, walk_made}
 use Rattle.sim_worker.proofs.walk.Walk.with.Goals as goal
 

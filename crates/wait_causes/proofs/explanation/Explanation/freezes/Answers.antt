@@ -1,8 +1,7 @@
 use Rattle.std.proofs.Common.{◌≡◌, map, List, ℕ, subst}
 use Rattle.wait_causes.specs.Explained.{Explained}
 use Rattle.wait_causes.specs.Freezes.{freezes}
-use Rattle.wait_causes.specs.Stays.{explained_stays}
-use Rattle.wait_causes.specs.declared.explained_stay.ExplainedStay.{ExplainedStay}
+use Rattle.wait_causes.specs.Stays.{explained_stays, ExplainedStay}
 use Rattle.wait_causes.proofs.FrozenLemmas.{freezes_found}
 use Rattle.wait_causes.proofs.PartLemmas.{few_stays}
 use Rattle.wait_causes.proofs.explanation.Explanation.freezes.Goals as goal

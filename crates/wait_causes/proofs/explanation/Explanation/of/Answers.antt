@@ -1,7 +1,6 @@
 use Rattle.std.proofs.Common.{◌≡◌, ap, ◌∙◌, sym, refl, length, arith}
-use Rattle.event_rules.specs.Stays.{stays_begun}
+use Rattle.wait_causes.specs.Words.{stays_begun, instance_of_rows, NetRows}
 use Rattle.event_rules.proofs.LimitLemmas.{stays_most}
-use Rattle.round_net.specs.Rows.{instance_of_rows, NetRows}
 use Rattle.wait_causes.proofs.NetLemmas.{all_stays}
 use Rattle.wait_causes.proofs.StayLemmas.{explained_found, length-records}
 use Rattle.wait_causes.proofs.explanation.Explanation.of.Goals as goal

@@ -1,7 +1,7 @@
 use Rattle.std.proofs.Common.{◌≡◌, map, length, ap, subst, ◌∙◌}
 use Rattle.event_rules.specs.Stays.{stays_begun}
 use Rattle.wait_causes.specs.Explained.{Explained}
-use Rattle.wait_causes.specs.declared.explained_stay.ExplainedStay.{ExplainedStay}
+use Rattle.wait_causes.specs.Stays.{ExplainedStay}
 use Rattle.wait_causes.proofs.PartLemmas.{all_stays}
 use Rattle.wait_causes.proofs.explanation.Explanation.stays.Goals as goal
 

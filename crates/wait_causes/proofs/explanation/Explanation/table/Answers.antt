@@ -1,9 +1,7 @@
-use Rattle.std.proofs.Common.{◌≡◌, map, subst}
-use Rattle.std.specs.Prelude.{IfOk}
+use Rattle.std.proofs.Common.{◌≡◌, map, subst, IfOk}
 use Rattle.wait_causes.specs.Explained.{Explained}
-use Rattle.wait_causes.specs.Stays.{explained_stays}
+use Rattle.wait_causes.specs.Stays.{explained_stays, ExplainedStay}
 use Rattle.wait_causes.specs.Tables.{table_of}
-use Rattle.wait_causes.specs.declared.explained_stay.ExplainedStay.{ExplainedStay}
 use Rattle.wait_causes.proofs.PartLemmas.{few_stays}
 use Rattle.wait_causes.proofs.explanation.Explanation.table.Goals as goal
 

@@ -1,14 +1,10 @@
-use Rattle.std.proofs.Common.{◌≡◌, ◌≤◌, ◌-◌, [], get_or, sym, subst, map, Some, length, arith, ap, ◌∙◌}
-use Rattle.std.specs.Prelude.{IfOk, slice_get}
+use Rattle.std.proofs.Common.{◌≡◌, ◌≤◌, ◌-◌, [], get_or, sym, subst, map, Some, length, arith, ap, ◌∙◌, IfOk, slice_get, ltb-true}
 use Rattle.std.specs.List.{range_with_len}
-use Rattle.std.proofs.lemmas.Bool.{ltb-true}
 use Rattle.std.proofs.lemmas.Result.{IfOk-weaker}
-use Rattle.event_rules.specs.Stays.{stays_begun}
-use Rattle.event_rules.specs.declared.passage.Passage.{Passage}
-use Rattle.round_net.specs.Ends.{cause_in}
+use Rattle.wait_causes.specs.Words.{stays_begun, Passage, cause_in}
 use Rattle.wait_causes.specs.Explained.{Explained}
 use Rattle.wait_causes.specs.Waits.{AreWaits, AreWaitsOf}
-use Rattle.wait_causes.specs.declared.explained_stay.ExplainedStay.{ExplainedStay}
+use Rattle.wait_causes.specs.Stays.{ExplainedStay}
 use Rattle.wait_causes.proofs.PartLemmas.{all_stays}
 use Rattle.wait_causes.proofs.StayLemmas.{waits_found}
 use Rattle.wait_causes.proofs.explanation.Explanation.waits.Goals as goal

@@ -1,11 +1,8 @@
-use Rattle.std.proofs.Common.{◌≡◌, map, List, ℕ, sym, ap, subst, ◌∙◌}
-use Rattle.std.specs.Prelude.{IfSome}
+use Rattle.std.proofs.Common.{◌≡◌, map, List, ℕ, sym, ap, subst, ◌∙◌, IfSome}
 use Rattle.event_rules.specs.Live.{live_cost}
 use Rattle.wait_causes.specs.Explained.{Explained}
-use Rattle.wait_causes.specs.Parts.{part_of, all_costs}
-use Rattle.wait_causes.specs.Stays.{explained_stays}
-use Rattle.wait_causes.specs.declared.explained_stay.ExplainedStay.{ExplainedStay}
-use Rattle.wait_causes.specs.declared.part.Part.{Part}
+use Rattle.wait_causes.specs.Parts.{part_of, all_costs, Part}
+use Rattle.wait_causes.specs.Stays.{explained_stays, ExplainedStay}
 use Rattle.wait_causes.proofs.PartLemmas.{few_stays, part_adds_up, part_is_live}
 use Rattle.wait_causes.proofs.explanation.Explanation.whole.Goals as goal
 

@@ -1,6 +1,5 @@
 use Rattle.std.proofs.Common.{◌≡◌, true, refl, ap, sym, subst, ◌∙◌}
-use Rattle.event_rules.specs.declared.event.Event.{Event}
-use Rattle.event_rules.specs.Legal.{is_legal_event}
+use Rattle.xpt_core.specs.Words.{Event, is_legal_event}
 use Rattle.xpt_core.specs.DeviceUpdates.{CanUpdate, updated}
 use Rattle.xpt_core.specs.Transport.{Transport}
 use Rattle.xpt_core.specs.declared.devices.Devices.TheInside.{Inside}

@@ -1,5 +1,4 @@
-use Rattle.std.proofs.Common.{ap, ◌∙◌}
-use Rattle.std.specs.Prelude.{slice_get}
+use Rattle.std.proofs.Common.{ap, ◌∙◌, slice_get}
 use Rattle.dev_queue.specs.Device.{Device}
 use Rattle.xpt_core.proofs.DeviceSoundLemmas.{first-state}
 use Rattle.xpt_core.proofs.devices.Devices.first.Goals as goal

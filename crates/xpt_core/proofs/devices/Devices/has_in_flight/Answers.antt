@@ -1,8 +1,7 @@
-use Rattle.std.proofs.Common.{ap, ◌∙◌}
-use Rattle.std.specs.Prelude.{not, ◌==◌}
+use Rattle.std.proofs.Common.{ap, ◌∙◌, not, ◌==◌}
 use Rattle.event_rules.specs.Counts.{has_in_flight}
 use Rattle.xpt_core.specs.Transport.{Transport}
-use Rattle.xpt_core.specs.declared.devices.counts.Counts.{Counts}
+use Rattle.xpt_core.specs.Counted.{Counts}
 use Rattle.xpt_core.proofs.DeviceSoundLemmas.{flying-counts}
 use Rattle.xpt_core.proofs.devices.Devices.has_in_flight.Goals as goal
 

@@ -1,5 +1,4 @@
-use Rattle.std.proofs.Common.{ap, ◌∙◌}
-use Rattle.std.specs.Prelude.{is_some}
+use Rattle.std.proofs.Common.{ap, ◌∙◌, is_some}
 use Rattle.event_rules.specs.Stays.{first}
 use Rattle.xpt_core.proofs.DeviceSoundLemmas.{some_entry}
 use Rattle.xpt_core.proofs.devices.Devices.has_queued_stay.Goals as goal

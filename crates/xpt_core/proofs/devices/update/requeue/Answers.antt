@@ -1,4 +1,4 @@
-use Rattle.std.specs.Prelude.{not}
+use Rattle.std.proofs.Common.{not}
 use Rattle.xpt_core.specs.DeviceUpdates.{HasRoom, HasError}
 use Rattle.xpt_core.proofs.PlaceLemmas.{has_at, written_at}
 use Rattle.xpt_core.proofs.devices.update.requeue.Goals as goal

@@ -1,9 +1,7 @@
-use Rattle.std.proofs.Common.{◌<◌, length, ap, sym, subst, ◌∙◌, Some}
-use Rattle.std.specs.Option.{option_map}
-use Rattle.event_rules.specs.Stays.{first}
+use Rattle.std.proofs.Common.{◌<◌, length, ap, sym, subst, ◌∙◌, Some, option_map}
+use Rattle.xpt_core.specs.Words.{first, best_ready}
 use Rattle.xpt_core.specs.Device.{entry}
 use Rattle.event_rules.proofs.NextLemmas.{head_stands}
-use Rattle.sim_queue.specs.Adapter.{best_ready}
 use Rattle.xpt_core.specs.Transport.{Transport}
 use Rattle.xpt_core.proofs.HeadLaws.{best_ready-turn, head-open, head-closed}
 use Rattle.xpt_core.proofs.NextLemmas.{next-none, next-empty, next-some}

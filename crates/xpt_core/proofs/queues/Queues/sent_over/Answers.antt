@@ -1,10 +1,7 @@
 use lib.Dec.{eqb}
 use Rattle.std.specs.Option.{option_eq}
-use Rattle.std.proofs.lemmas.Bool.{eqb-true}
-use Rattle.std.proofs.Common.{◌+◌, ◌≤◌, length, Some, ap, sym, subst, ◌∙◌, arith}
-use Rattle.cam_types.specs.Questions.{adapter_link}
-use Rattle.cam_types.specs.Topology.{Topology, IsConfig}
-use Rattle.cam_types.specs.declared.maxima.TheConstants.{MOST_EVENTS}
+use Rattle.std.proofs.Common.{◌+◌, ◌≤◌, length, Some, ap, sym, subst, ◌∙◌, arith, eqb-true}
+use Rattle.xpt_core.specs.Words.{adapter_link, Topology, IsConfig, MOST_EVENTS}
 use Rattle.cam_types.proofs.ConfigLemmas.{few_adapters}
 use Rattle.xpt_core.specs.Transport.{Transport}
 use Rattle.xpt_core.proofs.LinkLemmas.{sent_by-none, sent_by-on, sent_by-within, sent_by-off, all_sent, nothing_sent}

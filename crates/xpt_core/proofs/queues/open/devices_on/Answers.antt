@@ -1,5 +1,4 @@
-use Rattle.std.proofs.Common.{arith, ap, length, length-append, vec_capacity, ◌∙◌, ◌∷◌, []}
-use Rattle.std.proofs.lemmas.Bool.{ne_eqb}
+use Rattle.std.proofs.Common.{arith, ap, length, length-append, vec_capacity, ◌∙◌, ◌∷◌, [], ne_eqb}
 use Rattle.xpt_core.proofs.OpenLemmas.{one_more, none_more}
 use Rattle.xpt_core.proofs.queues.open.devices_on.Goals as goal
 use Rattle.xpt_core.proofs.queues.open.devices_on.Goals.{then-from-adapter, else-from-adapter}

@@ -1,5 +1,4 @@
-use Rattle.std.proofs.Common.{◌≡◌, ◌≤◌, length, vec_capacity}
-use Rattle.std.specs.Prelude.{filter}
+use Rattle.std.proofs.Common.{◌≡◌, ◌≤◌, length, vec_capacity, filter}
 use Rattle.std.specs.List.{range_with_len}
 use Rattle.cam_types.specs.Questions.{is_on}
 use Rattle.xpt_core.proofs.queues.open.devices_on.Given as goal

@@ -1,6 +1,5 @@
 use Rattle.std.proofs.Common.{refl, ap, subst, ◌∙◌}
-use Rattle.cam_types.specs.Topology.{IsConfig}
-use Rattle.sim_queue.specs.Adapter.{with_priority}
+use Rattle.xpt_core.specs.Words.{IsConfig, with_priority}
 use Rattle.xpt_core.specs.AdapterUpdates.{with_ready}
 use Rattle.xpt_core.specs.Places.{at_place}
 use Rattle.xpt_core.proofs.PlaceLemmas.{written_at}

@@ -1,5 +1,4 @@
-use Rattle.std.proofs.Common.{sym, ap, ◌∙◌}
-use Rattle.std.specs.Prelude.{slice_set}
+use Rattle.std.proofs.Common.{sym, ap, ◌∙◌, slice_set}
 use Rattle.std.proofs.lemmas.List.Edits.{map_over_more}
 use Rattle.xpt_core.specs.AdapterUpdates.{in_next_round}
 use Rattle.xpt_core.proofs.queues.update.open_round.Goals as goal

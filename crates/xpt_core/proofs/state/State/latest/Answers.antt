@@ -1,5 +1,4 @@
-use Rattle.std.proofs.Common.{ap, sym, ◌∙◌}
-use Rattle.std.specs.Prelude.{slice_get}
+use Rattle.std.proofs.Common.{ap, sym, ◌∙◌, slice_get}
 use Rattle.xpt_core.proofs.QuestionLemmas.{latest-none, latest-within, latest-some}
 use Rattle.xpt_core.proofs.state.State.latest.Goals as goal
 

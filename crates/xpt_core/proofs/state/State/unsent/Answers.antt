@@ -1,5 +1,4 @@
-use Rattle.std.proofs.Common.{ap, sym, ◌∙◌}
-use Rattle.std.specs.Prelude.{find}
+use Rattle.std.proofs.Common.{ap, sym, ◌∙◌, find}
 use Rattle.xpt_core.specs.StayRecord.{is_unsent}
 use Rattle.xpt_core.proofs.QuestionLemmas.{found-none, found-some}
 use Rattle.xpt_core.proofs.state.State.unsent.Goals as goal

@@ -1,5 +1,4 @@
-use Rattle.std.proofs.Common.{◌≡◌, ◌≤◌, ◌*◌, ◌^◌, false, take}
-use Rattle.std.specs.Prelude.{sum_by}
+use Rattle.std.proofs.Common.{◌≡◌, ◌≤◌, ◌*◌, ◌^◌, false, take, sum_by}
 use Rattle.std.specs.List.{list_any}
 use Rattle.xpt_core.specs.StayRecord.{is_unsent, waiting_cost}
 use Rattle.xpt_core.proofs.stays.questions.live_sum.Given as goal

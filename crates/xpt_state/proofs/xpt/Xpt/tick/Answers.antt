@@ -1,9 +1,6 @@
 use Rattle.std.proofs.Common.{subst, ap, ◌∙◌}
-use Rattle.event_rules.specs.Counts.{round}
-use Rattle.event_rules.specs.declared.event.Event.TheVariants.{Tick}
+use Rattle.xpt_state.specs.Words.{round, Tick, IsTaken, Transport}
 use Rattle.event_rules.proofs.PushLaws.{round-push}
-use Rattle.xpt_core.specs.Takes.{IsTaken}
-use Rattle.xpt_core.specs.Transport.{Transport}
 use Rattle.xpt_state.specs.declared.reply.Reply.TheVariants as replies
 use Rattle.xpt_state.proofs.xpt.Xpt.tick.Goals as goal
 

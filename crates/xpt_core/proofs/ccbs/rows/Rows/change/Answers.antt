@@ -1,7 +1,6 @@
 use Rattle.std.proofs.Common.{arith, sym, ap, subst, ◌∙◌, Some, All, slice_get, vec_capacity}
 use Rattle.cam_ccb.specs.Table.{Table}
-use Rattle.xpt_core.specs.declared.ccbs.ccb.Ccb.{Ccb}
-use Rattle.xpt_core.specs.Change.{IsSmall}
+use Rattle.xpt_core.specs.Change.{IsSmall, Ccb}
 use Rattle.xpt_core.specs.Rows.{RowTable, rows_in}
 use Rattle.xpt_core.proofs.TableLemmas.{small_at, row_at, flying_at, flying-fits, rows-event, sound-event}
 use Rattle.xpt_core.proofs.ccbs.rows.Rows.change.Goals as goal

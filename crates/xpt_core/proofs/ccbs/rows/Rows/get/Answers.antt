@@ -1,5 +1,4 @@
-use Rattle.std.proofs.Common.{◌∙◌, ap, sym, None, get_or, slice_get, option_and_then}
-use Rattle.std.specs.Option.{option_copied}
+use Rattle.std.proofs.Common.{◌∙◌, ap, sym, None, get_or, slice_get, option_and_then, option_copied}
 use Rattle.cam_ccb.specs.Table.{find}
 use Rattle.xpt_core.specs.Rows.{RowTable}
 use Rattle.xpt_core.proofs.TableLemmas.{row_under}

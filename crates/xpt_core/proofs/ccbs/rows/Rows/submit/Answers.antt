@@ -1,8 +1,7 @@
 use Rattle.std.proofs.Common.{arith, ap, sym, subst, refl, ◌<◌, Some, length, vec_capacity}
 use Rattle.std.proofs.lemmas.List.{length-map}
 use Rattle.cam_ccb.specs.Table.{Table, find}
-use Rattle.xpt_core.specs.declared.ccbs.ccb.Ccb.{Ccb}
-use Rattle.xpt_core.specs.Change.{fresh}
+use Rattle.xpt_core.specs.Change.{fresh, Ccb}
 use Rattle.xpt_core.specs.Rows.{RowTable}
 use Rattle.xpt_core.proofs.TableLemmas.{table-taken, rows-taken}
 use Rattle.xpt_core.proofs.ccbs.rows.Rows.submit.Goals as goal

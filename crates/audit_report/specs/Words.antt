@@ -1,0 +1,38 @@
+-- The words of the crates below that most clauses and proofs cite, passed on from one place. Declares nothing.
+pub use Rattle.cam_types.specs.Lists.{moments}
+pub use Rattle.cam_types.specs.Topology.{Topology}
+pub use Rattle.cam_types.specs.Watched.{device_of, has_failed, is_flushed}
+pub use Rattle.cam_types.specs.Whole.{AppendsFront}
+pub use Rattle.cam_types.specs.declared.maxima.TheConstants.{MOST_ADAPTERS, MOST_BYTES, MOST_DEVICES, MOST_LINKS, MOST_ROUNDS, MOST_STAYS, MOST_WEIGHT}
+pub use Rattle.event_rules.specs.Counts.{commands, round}
+pub use Rattle.event_rules.specs.Laws.{stands_free}
+pub use Rattle.event_rules.specs.Legal.{history_rules, is_legal}
+pub use Rattle.event_rules.specs.Live.{live_cost}
+unfoldable pub use Rattle.event_rules.specs.Live.{live_part}
+pub use Rattle.event_rules.specs.Past.{Past}
+pub use Rattle.event_rules.specs.Stays.{stays_begun, unsent}
+pub use Rattle.event_rules.specs.declared.event.Event.{Event}
+pub use Rattle.event_rules.specs.declared.passage.Passage.{Passage}
+pub use Rattle.event_rules.specs.declared.stay.Stay.{Stay}
+pub use Rattle.price_check.specs.Claims.{IsClaim}
+unfoldable pub use Rattle.price_check.specs.Claims.{report_text}
+pub use Rattle.price_check.specs.Lines.{line}
+pub use Rattle.price_check.specs.Report.{number_text, plan_text, summary_text}
+pub use Rattle.price_check.specs.Verdicts.{IsBest, IsGap, IsRefused}
+pub use Rattle.price_check.specs.declared.claim.Claim.{Claim}
+pub use Rattle.price_check.specs.declared.report_fault.ReportFault.{ReportFault}
+pub use Rattle.price_check.specs.declared.verdict.Cause.{Cause}
+pub use Rattle.price_check.specs.declared.verdict.Cause.TheVariants.{AdapterFull, DeviceFull, Early, Late, LinkFull}
+pub use Rattle.round_net.specs.Instance.{Instance}
+pub use Rattle.round_net.specs.Nets.{instance_of, live_of}
+unfoldable pub use Rattle.round_net.specs.Nets.{net_of, stay_row}
+pub use Rattle.round_net.specs.PriceRows.{IsPriced, IsPricingFor, pricing_of_rows}
+pub use Rattle.round_net.specs.Rows.{NetRows, names_of_rows, of_stay}
+unfoldable pub use Rattle.round_net.specs.Rows.{instance_of_rows, live_of_rows}
+pub use Rattle.round_net.specs.Schedules.{IsAdmissible, cost}
+pub use Rattle.round_net.specs.Sound.{IsSound}
+pub use Rattle.round_net.specs.Sums.{sum_below}
+pub use Rattle.round_net.specs.Value.{ProvesBest}
+pub use Rattle.round_net.specs.declared.stay_row.StayRow.{StayRow}
+pub use Rattle.trace_file.specs.Trace.{Explains, IsHistory, IsTrace, WasTrace}
+pub use Rattle.trace_file.specs.Writing.{migrated_text}

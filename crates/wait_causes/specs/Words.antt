@@ -1,0 +1,27 @@
+-- The words of the crates below that most clauses and proofs cite, passed on from one place. Declares nothing.
+pub use Rattle.cam_types.specs.Priority.{run_level}
+pub use Rattle.cam_types.specs.Questions.{device_adapter, weight}
+pub use Rattle.cam_types.specs.Topology.{IsConfig, Topology}
+pub use Rattle.cam_types.specs.declared.maxima.TheConstants.{MOST_ROUNDS, MOST_STAYS}
+pub use Rattle.event_rules.specs.Counts.{round, submission}
+pub use Rattle.event_rules.specs.Laws.{is_stay_in_range}
+pub use Rattle.event_rules.specs.Legal.{Rules, history_rules, is_legal}
+pub use Rattle.event_rules.specs.Live.{live_cost, live_round}
+unfoldable pub use Rattle.event_rules.specs.Live.{live_part}
+pub use Rattle.event_rules.specs.Stays.{is_unsent, stays_begun, unsent}
+pub use Rattle.event_rules.specs.declared.event.Event.{Event}
+pub use Rattle.event_rules.specs.declared.passage.Passage.{Passage}
+pub use Rattle.event_rules.specs.declared.submission.Submission.{Submission}
+pub use Rattle.round_net.specs.Ends.{cause_in, cause_table, flag_in, flag_table, is_cause, is_frozen_at, numbers, round_ends}
+unfoldable pub use Rattle.round_net.specs.Ends.{cause_at}
+pub use Rattle.round_net.specs.Nets.{stay_row}
+unfoldable pub use Rattle.round_net.specs.Nets.{net_of}
+pub use Rattle.round_net.specs.Rows.{NetRows}
+unfoldable pub use Rattle.round_net.specs.Rows.{instance_of_rows}
+pub use Rattle.round_net.specs.declared.cause.Cause.{Cause}
+pub use Rattle.round_net.specs.declared.cause.Cause.TheVariants.{AdapterFrozen, AdapterFull, Caller, DeviceFull, Error, LinkFull, NotAsked}
+pub use Rattle.round_net.specs.declared.freeze_kind.FreezeKind.{FreezeKind}
+pub use Rattle.xpt_core.specs.Records.{record_of}
+unfoldable pub use Rattle.xpt_core.specs.Records.{records}
+pub use Rattle.xpt_core.specs.Transport.{Transport}
+pub use Rattle.xpt_core.specs.declared.stays.stay_record.StayRecord.{StayRecord}

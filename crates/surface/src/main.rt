@@ -1,7 +1,5 @@
 //! Makes each public call of the crates once, crate by crate, and prints a line for each crate, of what its calls answer: who
-//! changes a call breaks this program. The tests beside it are those by code: of a transport's slots, heap and sense data, of
-//! runs on many threads, and of what only code can see where traces are read, planned and audited. They stand here so that no
-//! crate is proved twice for its tests. With the word `refused` it makes calls that take memory, each once more if it got none.
+//! changes a call breaks this program. With the word `refused` it makes calls that take memory, each once more if it got none.
 #![tactic(auto)]
 
 use anyhow::Result;
@@ -24,83 +22,23 @@ use trace_file_calls::call_trace_file;
 use xpt_lock_calls::call_xpt_lock;
 use xpt_state_calls::call_xpt_state;
 
-#[cfg(test)]
-mod any_answer;
-#[cfg(test)]
-mod at_once;
 mod audit_report_calls;
-#[cfg(test)]
-mod bells;
-#[cfg(test)]
-mod calls;
 mod cam_ccb_calls;
 mod cam_event_calls;
 mod cam_path_calls;
 mod cam_types_calls;
 mod camq_heap_calls;
-#[cfg(test)]
-mod ccb_slots;
-#[cfg(test)]
-mod config;
 mod cost_plan_calls;
 mod dev_queue_calls;
-#[cfg(test)]
-mod events;
-#[cfg(test)]
-mod failing_devices;
-#[cfg(test)]
-mod fakes;
-#[cfg(test)]
-mod frame;
 mod frame_config;
-#[cfg(test)]
-mod full_devices;
-#[cfg(test)]
-mod full_history;
-#[cfg(test)]
-mod guesses;
-#[cfg(test)]
-mod heap;
-#[cfg(test)]
-mod linked;
-#[cfg(test)]
-mod made;
-#[cfg(test)]
-mod meeting;
-#[cfg(test)]
-mod object;
-#[cfg(test)]
-mod own_reports;
 mod price_check_calls;
-#[cfg(test)]
-mod prices;
-#[cfg(test)]
-mod recorded;
-#[cfg(test)]
-mod recordings;
 mod refused_memory;
 mod round_net_calls;
-#[cfg(test)]
-mod scripts;
-#[cfg(test)]
-mod search;
-#[cfg(test)]
-mod seats;
-#[cfg(test)]
-mod sense;
 mod sense_class_calls;
 mod sim_queue_calls;
 mod sim_worker_calls;
-#[cfg(test)]
-mod small;
-#[cfg(test)]
-mod telling;
 mod texts;
-#[cfg(test)]
-mod threads;
 mod trace_file_calls;
-#[cfg(test)]
-mod whole;
 mod xpt_lock_calls;
 mod xpt_state_calls;
 

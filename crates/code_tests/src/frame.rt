@@ -16,7 +16,7 @@ const DEVICE: Device = Device {
     openings: 1,
 };
 
-/// The transport without events, under a lock.
+/// The transport under a lock.
 pub fn shared<L: Ledger>(alloc: Global, limits: Limits, blank: Blank) -> Result<SharedXpt<L>, Fail>
     requires name { blank.name ≡ L.name }
     requires parts { (blank.parts ≡ L.parts) × (blank.parts ≡ 65) }
@@ -24,7 +24,8 @@ pub fn shared<L: Ledger>(alloc: Global, limits: Limits, blank: Blank) -> Result<
     Ok(SharedXpt::new(frame(alloc, limits)?, blank))
 }
 
-fn frame(alloc: Global, limits: Limits) -> Result<Xpt, Fail>
+/// The transport without events.
+pub fn frame(alloc: Global, limits: Limits) -> Result<Xpt, Fail>
     ensures { IfOk result (λ x. x.events ≡ []) }
 {
     let config = Config::new(alloc, &[1], &[DEVICE], &[0])?;

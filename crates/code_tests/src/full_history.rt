@@ -1,7 +1,7 @@
 //! A transport whose history has as many events as it may.
 
 use crate::events::{PLAIN, outcome};
-use crate::frame_config::frame_config;
+use crate::frame::frame;
 use cam_types::{Command, Limits};
 use event_rules::{Event, Refusal};
 use std::alloc::Global;
@@ -22,7 +22,7 @@ const COMMAND: Command = Command {
 // A transport for two events, which are a submit and a send.
 fn full(alloc: Global) -> Result<Xpt, Fail> {
     let limits = Limits::new(1024, 512, 4096, 2)?;
-    let mut xpt = Xpt::open(alloc, frame_config(alloc)?, limits)?;
+    let mut xpt = frame(alloc, limits)?;
     xpt.submit(0, 0, 1152, 4, PLAIN)?;
     if xpt.send_next(0)? != Sent::Command(COMMAND) {
         return Err(Fail::new("another command"));

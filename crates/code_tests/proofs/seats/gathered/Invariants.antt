@@ -1,4 +1,4 @@
-use Rattle.surface.proofs.seats.gathered.Given as goal
+use Rattle.code_tests.proofs.seats.gathered.Given as goal
 
 abbrev pub ghosts-two_seats : goal.ghosts-two_seats
 ghosts-two_seats g a = record { name = a.blank.name; parts = a.blank.parts }

@@ -1,4 +1,4 @@
-use Rattle.surface.proofs.threads.sleep.Given as goal
+use Rattle.code_tests.proofs.threads.sleep.Given as goal
 
 abbrev pub ghosts-sleeper : goal.ghosts-sleeper
 ghosts-sleeper g a = record { name = a.blank.name; parts = a.blank.parts }

@@ -1,0 +1,66 @@
+//! Tests by code: of a transport's slots, heap and sense data, of runs on many threads, and of what only code can see where
+//! traces are read, planned and audited. They stand here so that no crate is proved twice for its tests.
+#![tactic(auto)]
+
+#[cfg(test)]
+mod any_answer;
+#[cfg(test)]
+mod at_once;
+#[cfg(test)]
+mod bells;
+#[cfg(test)]
+mod calls;
+#[cfg(test)]
+mod ccb_slots;
+#[cfg(test)]
+mod config;
+#[cfg(test)]
+mod events;
+#[cfg(test)]
+mod failing_devices;
+#[cfg(test)]
+mod fakes;
+#[cfg(test)]
+mod frame;
+#[cfg(test)]
+mod full_devices;
+#[cfg(test)]
+mod full_history;
+#[cfg(test)]
+mod guesses;
+#[cfg(test)]
+mod heap;
+#[cfg(test)]
+mod linked;
+#[cfg(test)]
+mod made;
+#[cfg(test)]
+mod meeting;
+#[cfg(test)]
+mod object;
+#[cfg(test)]
+mod own_reports;
+#[cfg(test)]
+mod prices;
+#[cfg(test)]
+mod recorded;
+#[cfg(test)]
+mod recordings;
+#[cfg(test)]
+mod scripts;
+#[cfg(test)]
+mod search;
+#[cfg(test)]
+mod seats;
+#[cfg(test)]
+mod sense;
+#[cfg(test)]
+mod small;
+#[cfg(test)]
+mod telling;
+#[cfg(test)]
+mod texts;
+#[cfg(test)]
+mod threads;
+#[cfg(test)]
+mod whole;

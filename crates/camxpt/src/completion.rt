@@ -49,6 +49,9 @@ complete -c camxpt -l help\n",
 // What stands before the subcommand's name in a line of fish on an argument.
 const FISH_WORD: &str = "complete -c camxpt -n \"__fish_seen_subcommand_from ";
 
+// The same of `help`, with the names of subcommands.
+const FISH_HELP: &str = "complete -c camxpt -n \"__fish_seen_subcommand_from help\" -f -a \"";
+
 /// The script by which a shell completes the program's words.
 pub(crate) fn script(alloc: Global, shell: Shell) -> Result<String, AllocError> {
     let [head, middle, tail] = match shell {
@@ -63,6 +66,7 @@ pub(crate) fn script(alloc: Global, shell: Shell) -> Result<String, AllocError> 
     for subcommand in &SUBCOMMANDS {
         push_lines(alloc, &mut script, shell, subcommand)?;
     }
+    push_help(&mut script, shell)?;
     script.push_str(tail)?;
     Ok(script)
 }
@@ -72,7 +76,19 @@ fn push_names(script: &mut String) -> Result<(), AllocError> {
     for subcommand in &SUBCOMMANDS {
         write!(script, "{} ", subcommand.name)?;
     }
-    Ok(())
+    script.push_str("help ")
+}
+
+// Puts the line on `help` after the script, which takes the name of a subcommand.
+fn push_help(script: &mut String, shell: Shell) -> Result<(), AllocError> {
+    let (head, tail) = match shell {
+        Shell::Bash => ("            help) words=\"", "\" files= ;;\n"),
+        Shell::Zsh => ("            help) compadd -- ", "; return ;;\n"),
+        Shell::Fish => (FISH_HELP, "\"\n"),
+    };
+    script.push_str(head)?;
+    push_names(script)?;
+    script.push_str(tail)
 }
 
 // Puts the lines on a subcommand after the script. Files complete the arguments of each that takes no shell's name.

@@ -5,8 +5,8 @@ use audit_report::AuditFault;
 use price_check::ReportFault;
 use sim_worker::LiveFault;
 use std::alloc::AllocError;
-use std::fmt;
 use std::process::ExitCode;
+use std::{fmt, io};
 use trace_file::{TraceFault, WriteFault};
 
 /// Why the program didn't do what its words asked. Its text is the line on standard error, after the program's name.
@@ -18,8 +18,8 @@ pub enum Failure {
     StandardInputTwice,
     /// No words are completed for a shell of this name.
     NoShell,
-    /// A file that can't be opened: the one that this argument names.
-    CannotOpen(Argument),
+    /// A file that can't be opened: the one that this argument names, and the system's reason.
+    CannotOpen(Argument, io::Error),
     /// A text that isn't what it has to be, a read or write that failed, or no memory.
     Audit(AuditFault),
     /// A run on many threads that gave nothing.
@@ -33,7 +33,7 @@ impl Failure {
     pub fn exit_code(&self) -> ExitCode {
         ExitCode::from(match self {
             Failure::WordNotUtf8 | Failure::StandardInputTwice | Failure::NoShell => 2,
-            Failure::CannotOpen(_) => 4,
+            Failure::CannotOpen(_, _) => 4,
             Failure::Audit(AuditFault::Trace(fault)) => trace_status(fault),
             Failure::Audit(AuditFault::Unsent(_)) => 3,
             Failure::Audit(AuditFault::Report(fault)) => report_status(fault),
@@ -60,6 +60,22 @@ fn report_status(fault: &ReportFault) -> u8 {
     }
 }
 
+impl Failure {
+    /// Whether a read failed.
+    pub fn is_of_read(&self) -> bool {
+        matches!(
+            self,
+            Failure::Audit(AuditFault::Trace(TraceFault::ReadFailed))
+                | Failure::Audit(AuditFault::Report(ReportFault::ReadFailed))
+        )
+    }
+
+    /// Whether a write failed.
+    pub fn is_of_write(&self) -> bool {
+        matches!(self, Failure::Audit(AuditFault::WriteFailed))
+    }
+}
+
 impl fmt::Display for Failure {
     fn fmt<W: fmt::Write>(&self, f: &mut fmt::Formatter<W>) -> fmt::Result {
         match self {
@@ -68,7 +84,7 @@ impl fmt::Display for Failure {
                 f.write_str("only one of TRACE and REPORT can be standard input")
             }
             Failure::NoShell => f.write_str("only bash, zsh and fish complete words"),
-            Failure::CannotOpen(_) => f.write_str("cannot open"),
+            Failure::CannotOpen(_, _) => f.write_str("cannot open"),
             Failure::Audit(fault) => fault.fmt(f),
             Failure::Live(fault) => fault.fmt(f),
         }

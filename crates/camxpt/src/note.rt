@@ -1,15 +1,19 @@
-//! What helps to find the fault of an input.
+//! What helps to find the fault of an input, and a file that can't be read or written.
 
 use crate::failure::Failure;
 use crate::source::{STANDARD_INPUT, Source};
 use audit_report::AuditFault;
-use std::alloc::Global;
-use views::{report_note, trace_note, unsent_note};
+use std::alloc::{AllocError, Global};
+use std::io;
+use views::{report_note, shown_name, trace_note, unsent_note};
 
-/// Some lines on where a failure stands in the trace, script or report that it is of, and what stands there. There are none
-/// if nothing was kept of it, or the failure is none of a record or a line.
+/// Some lines on where a failure stands in the trace, script or report that it is of, and what stands there; or on why a read
+/// of it failed. There are none if nothing was kept of it, or the failure is another.
 pub fn note_on<D>(alloc: Global, failure: &Failure, input: &Source<'_, D>) -> Option<String> {
-    let (name, text) = (shown(input.name), input.kept()?);
+    let (name, text) = (title(input.name), input.kept()?);
+    if failure.is_of_read() {
+        return reason_note(alloc, input.name, input.failed()?).ok();
+    }
     match failure {
         Failure::Audit(AuditFault::Trace(fault)) => trace_note(alloc, name, text, fault).ok(),
         Failure::Audit(AuditFault::Unsent(stay)) => unsent_note(alloc, name, text, *stay).ok(),
@@ -18,8 +22,16 @@ pub fn note_on<D>(alloc: Global, failure: &Failure, input: &Source<'_, D>) -> Op
     }
 }
 
-// The name of a file as a reader knows it.
-fn shown(name: &str) -> &str {
+/// A line with the name of a file and the system's reason.
+pub fn reason_note(alloc: Global, name: &str, error: io::Error) -> Result<String, AllocError> {
+    let mut note = String::new(alloc);
+    let shown = shown_name(alloc, title(name))?;
+    writeln!(note, "  {shown}: {error}")?;
+    Ok(note)
+}
+
+/// The name of a file as a reader knows it.
+pub fn title(name: &str) -> &str {
     if name == STANDARD_INPUT {
         "standard input"
     } else {

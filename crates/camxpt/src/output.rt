@@ -1,14 +1,63 @@
-//! What the program prints.
+//! Where the program prints.
 
 use crate::failure::Failure;
 use audit_report::AuditFault;
 use cam_types::{Watched, write_whole};
 use std::alloc::AllocError;
 use std::io;
+use std::io::Write;
 
-/// Writes a text to standard output.
-pub fn print<R: Print>(rt: &R, text: &str) -> Result<(), Failure> {
-    match write_whole(&mut Watched::new(io::writer(rt)), text.as_bytes()) {
+/// Standard output, which keeps why a write failed.
+#[derive(Drop)]
+pub struct Output<W> {
+    device: W,
+    failed: Option<io::Error>,
+}
+
+impl<W> Output<W> {
+    /// Why a write failed, if one did.
+    pub fn failed(&self) -> Option<io::Error> {
+        self.failed
+    }
+}
+
+impl<W: Write> Write for Output<W> {
+    ghost contents = { λ o. W.contents o.device };
+
+    /// Writes as the device does.
+    fn write(&mut self, buf: &[u8]) -> io::Result<usize> {
+        match self.device.write(buf) {
+            Ok(count) => Ok(count),
+            Err(error) => {
+                self.failed = Some(error);
+                Err(error)
+            }
+        }
+    }
+
+    /// Flushes as the device does.
+    fn flush(&mut self) -> io::Result<()> {
+        match self.device.flush() {
+            Ok(()) => Ok(()),
+            Err(error) => {
+                self.failed = Some(error);
+                Err(error)
+            }
+        }
+    }
+}
+
+/// Standard output, to which nothing was written yet.
+pub fn standard_output<R: Print>(rt: &R) -> Output<io::Printer<'_, R>> {
+    Output {
+        device: io::writer(rt),
+        failed: None,
+    }
+}
+
+/// Writes a text.
+pub fn print<W: Write>(out: &mut Output<W>, text: &str) -> Result<(), Failure> {
+    match write_whole(&mut Watched::new(out), text.as_bytes()) {
         Ok(()) => Ok(()),
         Err(_) => Err(Failure::Audit(AuditFault::WriteFailed)),
     }

@@ -2,18 +2,21 @@
 
 use crate::completion::script;
 use crate::failure::Failure;
-use crate::note::note_on;
-use crate::output::print;
+use crate::note::{note_on, reason_note};
+use crate::output::{Output, print, standard_output};
 use crate::proof_run::prove;
 use crate::script_run::ScriptRun;
 use crate::shell::Shell;
-use crate::source::{Argument, STANDARD_INPUT, Source, input, open};
+use crate::source::{Argument, STANDARD_INPUT, Source, input, is_verbose, open};
 use crate::subcommands::command;
 use crate::trace_run::TraceRun;
 use crate::words::words;
 use audit_report::AuditFault;
 use clap::ArgMatches;
 use clap::error::ErrorKind;
+use sim_worker::Ending;
+use std::fs::File;
+use std::io;
 use std::process::ExitCode;
 use std::rt::Runtime;
 use std::sync::Wait;
@@ -21,6 +24,9 @@ use std::thread::Threads;
 
 /// How many stays and freezes are listed where no number is given.
 const TOP: usize = 10;
+
+/// The exit status of a run that ended before all was done, where that is asked for.
+const NOT_DRAINED: u8 = 7;
 
 /// Does what the words of the command line ask, and says on standard error why it didn't. If that is a terminal, a long run
 /// shows there how far it is.
@@ -40,14 +46,22 @@ fn tell<R: Runtime>(rt: &R, failure: &Failure) -> ExitCode {
     failure.exit_code()
 }
 
-// Says why an input was refused, and after that line where it stands and what stands there, if that is asked for.
-fn tell_on<R: Runtime + AllocGlobal, D>(
+// Says why the program failed, and after that line what helps to find the fault, if that is asked for: where it stands and what
+// stands there, or why a read or write failed.
+fn tell_on<R: Runtime + AllocGlobal, D, W>(
     rt: &R,
     failure: &Failure,
     input: &Source<'_, D>,
+    out: &Output<W>,
 ) -> ExitCode {
     let status = tell(rt, failure);
-    if let Some(note) = note_on(rt.alloc(), failure, input) {
+    let note = match out.failed() {
+        Some(error) if failure.is_of_write() && input.kept().is_some() => {
+            reason_note(rt.alloc(), "standard output", error).ok()
+        }
+        _ => note_on(rt.alloc(), failure, input),
+    };
+    if let Some(note) = note {
         let _ = rt.eprint(&note);
     }
     status
@@ -90,16 +104,25 @@ fn obey<R: Runtime + AllocGlobal + Threads + Wait + Sync>(
         return over_input(rt);
     };
     match obey_words(rt, name, words, on_terminal) {
-        Err(Failure::CannotOpen(argument)) => Ok(tell_unopened(rt, words, argument)),
+        Err(Failure::CannotOpen(argument, error)) => {
+            Ok(tell_unopened(rt, words, argument, error))
+        }
         done => done,
     }
 }
 
-// Says that a file can't be opened, and after that line which, if that is asked for.
-fn tell_unopened<R: Runtime>(rt: &R, words: &ArgMatches<'_>, argument: Argument) -> ExitCode {
-    let status = tell(rt, &Failure::CannotOpen(argument));
-    if words.get_flag("verbose") {
-        let _ = rt.eprintln(format_args!("  {}", argument.file_name(words)));
+// Says that a file can't be opened, and after that line which, and why, if that is asked for.
+fn tell_unopened<R: Runtime + AllocGlobal>(
+    rt: &R,
+    words: &ArgMatches<'_>,
+    argument: Argument,
+    error: io::Error,
+) -> ExitCode {
+    let status = tell(rt, &Failure::CannotOpen(argument, error));
+    if is_verbose(rt, words) {
+        if let Ok(note) = reason_note(rt.alloc(), argument.file_name(words), error) {
+            let _ = rt.eprint(&note);
+        }
     }
     status
 }
@@ -153,8 +176,11 @@ fn script_run(name: &str, words: &ArgMatches<'_>, on_terminal: bool) -> Option<S
 
 // Prints the summary of the audit of the trace on standard input.
 fn over_input<R: Runtime + AllocGlobal + Threads + Sync>(rt: &R) -> Result<ExitCode, Failure> {
-    TraceRun::Audit { summary: true }.over(rt, &mut input(rt), false)?;
-    Ok(ExitCode::SUCCESS)
+    let (mut trace, mut out) = (input(rt), standard_output(rt));
+    match (TraceRun::Audit { summary: true }).over(rt, &mut trace, &mut out, false) {
+        Ok(()) => Ok(ExitCode::SUCCESS),
+        Err(failure) => Ok(tell_on(rt, &failure, &trace, &out)),
+    }
 }
 
 fn over_trace<R: Runtime + AllocGlobal + Threads + Sync>(
@@ -163,9 +189,10 @@ fn over_trace<R: Runtime + AllocGlobal + Threads + Sync>(
     run: TraceRun,
 ) -> Result<ExitCode, Failure> {
     let mut trace = open(rt, words, Argument::Trace)?;
-    match run.over(rt, &mut trace, words.get_flag("json")) {
+    let mut out = standard_output(rt);
+    match run.over(rt, &mut trace, &mut out, words.get_flag("json")) {
         Ok(()) => Ok(ExitCode::SUCCESS),
-        Err(failure) => Ok(tell_on(rt, &failure, &trace)),
+        Err(failure) => Ok(tell_on(rt, &failure, &trace, &out)),
     }
 }
 
@@ -181,16 +208,26 @@ fn over_report<R: Runtime + AllocGlobal + Threads + Sync>(
     if trace == STANDARD_INPUT && report == STANDARD_INPUT {
         return Err(Failure::StandardInputTwice);
     }
+    // If standard input was closed, the next file would get its descriptor and be read in its place. A folder takes it, which
+    // can't be read.
+    let _folder = File::open(rt, "/");
     // Both files are opened before one is read.
     let mut trace = open(rt, words, Argument::Trace)?;
     let mut report = open(rt, words, Argument::Report)?;
-    match prove(rt, &mut trace, &mut report, words.get_flag("json")) {
+    let mut out = standard_output(rt);
+    match prove(
+        rt.alloc(),
+        &mut trace,
+        &mut report,
+        &mut out,
+        words.get_flag("json"),
+    ) {
         Ok(true) => Ok(ExitCode::SUCCESS),
         Ok(false) => Ok(ExitCode::FAILURE),
         Err(failure) => {
             let is_of_report = matches!(failure, Failure::Audit(AuditFault::Report(_)));
             let input = if is_of_report { &report } else { &trace };
-            Ok(tell_on(rt, &failure, input))
+            Ok(tell_on(rt, &failure, input, &out))
         }
     }
 }
@@ -201,12 +238,19 @@ fn over_script<R: Runtime + AllocGlobal + Threads + Wait + Sync>(
     run: ScriptRun,
 ) -> Result<ExitCode, Failure> {
     let mut script = open(rt, words, Argument::Script)?;
-    match run.over(rt, &mut script) {
+    let mut out = standard_output(rt);
+    match run.over(rt, &mut script, &mut out) {
         Ok(ending) => {
             let _ = rt.eprintln(format_args!("ending {ending}"));
-            Ok(ExitCode::SUCCESS)
+            let has_to_drain = words.get_flag("require-drained");
+            Ok(match ending {
+                Ending::RoundsFull | Ending::HistoryFull if has_to_drain => {
+                    ExitCode::from(NOT_DRAINED)
+                }
+                _ => ExitCode::SUCCESS,
+            })
         }
-        Err(failure) => Ok(tell_on(rt, &failure, &script)),
+        Err(failure) => Ok(tell_on(rt, &failure, &script, &out)),
     }
 }
 
@@ -214,6 +258,6 @@ fn complete<R: Runtime + AllocGlobal>(rt: &R, name: &str) -> Result<ExitCode, Fa
     let Some(shell) = Shell::named(name) else {
         return Err(Failure::NoShell);
     };
-    print(rt, &script(rt.alloc(), shell)?)?;
+    print(&mut standard_output(rt), &script(rt.alloc(), shell)?)?;
     Ok(ExitCode::SUCCESS)
 }

@@ -1,12 +1,11 @@
 //! Says whether a report on a trace is proved.
 
 use crate::failure::Failure;
-use crate::output::{closed, print};
+use crate::output::{Output, closed, print};
 use crate::source::Source;
 use audit_report::run_prove;
 use cam_types::Watched;
 use std::alloc::Global;
-use std::io;
 use std::io::{Read, Write};
 use views::prove_json;
 
@@ -14,30 +13,31 @@ use views::prove_json;
 const MOST_FINDING: usize = 256;
 
 /// Prints whether the report's prices prove its schedule, as one line of JSON if that is asked for, and answers it.
-pub fn prove<R: Print + AllocGlobal, D: Read>(
-    rt: &R,
+pub fn prove<D: Read, W: Write>(
+    alloc: Global,
     trace: &mut Source<'_, D>,
     report: &mut Source<'_, D>,
+    out: &mut Output<W>,
     as_json: bool,
 ) -> Result<bool, Failure> {
     if as_json {
-        return prove_as_json(rt, trace, report);
+        return prove_as_json(alloc, trace, report, out);
     }
-    find(rt.alloc(), trace, report, io::writer(rt))
+    find(alloc, trace, report, out)
 }
 
-fn prove_as_json<R: Print + AllocGlobal, D: Read>(
-    rt: &R,
+fn prove_as_json<D: Read, W: Write>(
+    alloc: Global,
     trace: &mut Source<'_, D>,
     report: &mut Source<'_, D>,
+    out: &mut Output<W>,
 ) -> Result<bool, Failure> {
-    let alloc = rt.alloc();
     let (trace_name, report_name) = (trace.name, report.name);
     let mut finding = Vec::with_capacity(alloc, MOST_FINDING)?;
     let is_proved = find(alloc, trace, report, &mut finding)?;
     let finding = str::from_utf8(&finding).unwrap_or("").trim_end();
     let line = closed(prove_json(alloc, trace_name, report_name, finding))?;
-    print(rt, &line)?;
+    print(out, &line)?;
     Ok(is_proved)
 }
 

@@ -3,10 +3,11 @@
 use crate::failure::Failure;
 use clap::ArgMatches;
 use either::{Either, Left, Right};
+use std::env::Env;
 use std::fs::File;
-use std::io;
 use std::io::Read;
 use std::rt::Files;
+use std::{env, io};
 
 /// The name of a file that means standard input.
 pub const STANDARD_INPUT: &str = "-";
@@ -41,12 +42,18 @@ pub struct Source<'a, D> {
     pub name: &'a str,
     device: D,
     kept: Option<Vec<u8>>,
+    failed: Option<io::Error>,
 }
 
 impl<D> Source<'_, D> {
     /// What was read so far, if that is kept.
     pub fn kept(&self) -> Option<&[u8]> {
         self.kept.as_deref()
+    }
+
+    /// Why a read failed, if one did.
+    pub fn failed(&self) -> Option<io::Error> {
+        self.failed
     }
 }
 
@@ -55,7 +62,13 @@ impl<D: Read> Read for Source<'_, D> {
 
     /// Reads as the file does.
     fn read(&mut self, buf: &mut [u8]) -> io::Result<usize> {
-        let count = self.device.read(buf)?;
+        let count = match self.device.read(buf) {
+            Ok(count) => count,
+            Err(error) => {
+                self.failed = Some(error);
+                return Err(error);
+            }
+        };
         if let Some(kept) = &mut self.kept {
             // Without memory for them nothing is kept any more.
             if kept.extend_from_slice(&buf[..count]).is_err() {
@@ -66,8 +79,30 @@ impl<D: Read> Read for Source<'_, D> {
     }
 }
 
-/// Opens the file that an argument names; `-` is standard input. What is read of it is kept if the words ask for `--verbose`.
-pub fn open<'a, R: Files + Input + AllocGlobal>(
+/// Whether more is to be said of a fault than its line: by `--verbose`, or by the environment.
+pub fn is_verbose<R: Env + AllocGlobal>(rt: &R, words: &ArgMatches<'_>) -> bool {
+    words.get_flag("verbose") || asks_more(rt)
+}
+
+/// Whether `CAMXPT_VERBOSE=1` stands in the environment.
+pub fn asks_more<R: Env + AllocGlobal>(rt: &R) -> bool {
+    match env::var(rt, "CAMXPT_VERBOSE") {
+        Ok(value) => value.as_str() == "1",
+        Err(_) => false,
+    }
+}
+
+// What is read is kept in here, where it is kept at all.
+fn room<R: AllocGlobal>(rt: &R, is_kept: bool) -> Option<Vec<u8>> {
+    if is_kept {
+        Some(Vec::new(rt.alloc()))
+    } else {
+        None
+    }
+}
+
+/// Opens the file that an argument names; `-` is standard input. What is read of it is kept if more is to be said of a fault.
+pub fn open<'a, R: Files + Input + Env + AllocGlobal>(
     rt: &R,
     words: &ArgMatches<'a>,
     argument: Argument,
@@ -78,22 +113,23 @@ pub fn open<'a, R: Files + Input + AllocGlobal>(
     } else {
         match File::open(rt, name) {
             Ok(file) => Left(file),
-            Err(_) => return Err(Failure::CannotOpen(argument)),
+            Err(error) => return Err(Failure::CannotOpen(argument, error)),
         }
     };
-    let kept = if words.get_flag("verbose") {
-        Some(Vec::new(rt.alloc()))
-    } else {
-        None
-    };
-    Ok(Source { name, device, kept })
+    Ok(Source {
+        name,
+        device,
+        kept: room(rt, is_verbose(rt, words)),
+        failed: None,
+    })
 }
 
-/// Standard input, of which nothing is kept.
-pub fn input<R: Input>(rt: &R) -> Source<'static, R::Reader> {
+/// Standard input, which is kept if the environment asks for more on a fault.
+pub fn input<R: Input + Env + AllocGlobal>(rt: &R) -> Source<'static, R::Reader> {
     Source {
         name: STANDARD_INPUT,
         device: rt.reader(),
-        kept: None,
+        kept: room(rt, asks_more(rt)),
+        failed: None,
     }
 }

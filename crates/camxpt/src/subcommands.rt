@@ -50,13 +50,18 @@ pub(crate) const SUBCOMMANDS: [Subcommand; 9] = [
         name: "sim",
         about: "Runs a script on one thread and prints the trace, and on standard error how the run ended",
         example: "Example: camxpt sim examples/script-timeout-requeued.csv 1",
-        words: &[Word::Verbose, Word::Script, Word::Seed],
+        words: &[
+            Word::RequireDrained,
+            Word::Verbose,
+            Word::Script,
+            Word::Seed,
+        ],
     },
     Subcommand {
         name: "run",
         about: "Runs a script with a thread for each actor and prints the trace, and on standard error how the run ended",
         example: "Example: camxpt run examples/script-timeout-requeued.csv",
-        words: &[Word::Verbose, Word::Script],
+        words: &[Word::RequireDrained, Word::Verbose, Word::Script],
     },
     Subcommand {
         name: "migrate",
@@ -80,7 +85,7 @@ pub fn command<'a>(alloc: Global) -> Result<Command<'a>, AllocError> {
             "Audits recorded traces of a CAM transport, and runs scripts that record them. With no arguments it prints the summary of the audit of the trace on standard input.",
         )
         .after_help(
-            "Exit status: 0 done, 1 not proved, 2 refused words, 3 refused input, 4 a file, read or write that failed, 5 no memory, 6 no thread, or threads that did what the script doesn't allow",
+            "Exit status: 0 done, 1 not proved, 2 refused words, 3 refused input, 4 a file, read or write that failed, 5 no memory, 6 no thread, or threads that did what the script doesn't allow, 7 a run that didn't drain, with --require-drained",
         );
     for subcommand in &SUBCOMMANDS {
         command = command.subcommand(subcommand.command(alloc)?)?;

@@ -1,7 +1,8 @@
 //! Checks, audits, explains, draws or migrates a trace.
 
 use crate::failure::Failure;
-use crate::output::{closed, print};
+use crate::note::title;
+use crate::output::{Output, closed, print};
 use crate::source::Source;
 use audit_report::{read_rounds, run_audit_with, run_check, run_migrate};
 use cam_event::History;
@@ -9,8 +10,7 @@ use cam_types::Watched;
 use cost_plan::{OpenGate, plan_with};
 use round_net::Net;
 use std::alloc::{AllocError, Global};
-use std::io;
-use std::io::Read;
+use std::io::{Read, Write};
 use std::thread::Threads;
 use views::{audit_json, check_json, draw, explain_json, page};
 use wait_causes::Explanation;
@@ -38,30 +38,34 @@ pub enum TraceRun {
 
 impl TraceRun {
     /// Prints what comes of the trace, as one line of JSON if that is asked for.
-    pub fn over<R: Print + AllocGlobal + Threads + Sync, D: Read>(
+    pub fn over<R: AllocGlobal + Threads + Sync, D: Read, W: Write>(
         self,
         rt: &R,
         trace: &mut Source<'_, D>,
+        out: &mut Output<W>,
         as_json: bool,
     ) -> Result<(), Failure> {
         let alloc = rt.alloc();
-        let mut out = Watched::new(io::writer(rt));
         match self {
             TraceRun::Check if !as_json => Ok(run_check(
                 alloc,
                 &mut Watched::new(trace),
-                &mut out,
+                &mut Watched::new(out),
             )?),
-            TraceRun::Migrate => Ok(run_migrate(alloc, &mut Watched::new(trace), &mut out)?),
+            TraceRun::Migrate => Ok(run_migrate(
+                alloc,
+                &mut Watched::new(trace),
+                &mut Watched::new(out),
+            )?),
             TraceRun::Audit { summary } if !as_json => Ok(run_audit_with(
                 rt,
                 alloc,
                 &mut Watched::new(trace),
-                &mut out,
+                &mut Watched::new(out),
                 summary,
                 &OpenGate,
             )?),
-            _ => print(rt, &self.text_on(rt, trace, as_json)?),
+            _ => print(out, &self.text_on(rt, trace, as_json)?),
         }
     }
 
@@ -100,7 +104,7 @@ impl TraceRun {
             TraceRun::Explain { top } if !as_json => {
                 made(page(alloc, history.config(), explanation, top))
             }
-            TraceRun::Draw => made(draw(alloc, name, history.config(), net, explanation)),
+            TraceRun::Draw => made(draw(alloc, title(name), history.config(), net, explanation)),
             _ => closed(explain_json(alloc, name, history, explanation)),
         }
     }

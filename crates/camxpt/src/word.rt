@@ -10,6 +10,7 @@ pub(crate) enum Word {
     Top,
     Json,
     Verbose,
+    RequireDrained,
     Trace,
     // The trace of `prove`, which can't be left out.
     ProvedTrace,
@@ -33,7 +34,12 @@ impl Word {
             Word::Verbose => flag(
                 alloc,
                 "verbose",
-                "Says after a fault where it stands and what stands there",
+                "Says after a fault where it stands and what stands there, or why a file failed",
+            ),
+            Word::RequireDrained => flag(
+                alloc,
+                "require-drained",
+                "Ends with status 7 if the run ended before all was done",
             ),
             Word::Trace => named(
                 alloc,

@@ -2,8 +2,10 @@
 //! refused the command whose turn it was.
 
 pub use report_lines::report_note;
+pub use shown::shown_name;
 pub use trace_records::{trace_note, unsent_note};
 
+mod bad_record;
 mod place;
 mod report_lines;
 mod shown;

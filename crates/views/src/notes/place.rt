@@ -1,6 +1,6 @@
 //! Where a record of a text stands.
 
-use csv::{ByteRecord, ReaderBuilder};
+use csv::{ByteRecord, ByteRecordsIntoIter, ReaderBuilder};
 use std::alloc::Global;
 
 /// Where a record begins.
@@ -14,19 +14,29 @@ pub(crate) struct Place {
 
 /// Where the record of this number begins, counted from 1. There is none if the text has fewer, or no memory is left.
 pub(crate) fn place_of(alloc: Global, text: &[u8], record: u32) -> Option<Place> {
-    let reader = ReaderBuilder::new()
-        .has_headers(false)
-        .flexible(true)
-        .from_reader(alloc, text);
+    begins(text, &record_at(alloc, text, record)?)
+}
+
+/// The record of this number, counted from 1. There is none if the text has fewer, or no memory is left.
+pub(crate) fn record_at(alloc: Global, text: &[u8], record: u32) -> Option<ByteRecord> {
     let mut left = record;
-    for row in reader.into_byte_records() {
+    for row in records(alloc, text) {
         let row = row.ok()?;
         left = left.saturating_sub(1);
         if left == 0 {
-            return begins(text, &row);
+            return Some(row);
         }
     }
     None
+}
+
+/// The records of a text, with any number of fields.
+pub(crate) fn records(alloc: Global, text: &[u8]) -> ByteRecordsIntoIter<&[u8]> {
+    ReaderBuilder::new()
+        .has_headers(false)
+        .flexible(true)
+        .from_reader(alloc, text)
+        .into_byte_records()
 }
 
 // Where a record of the text begins.

@@ -14,8 +14,23 @@ pub(crate) fn push_line(
     number: u64,
     line: &[u8],
 ) -> Result<(), AllocError> {
-    let shown = shown(alloc, line)?;
+    let (name, shown) = (shown_name(alloc, name)?, shown(alloc, line)?);
     writeln!(note, "  {name}, line {number}: {shown}")
+}
+
+/// The name of a file as it is shown: control characters are written as Rust escapes them, as `\n` and `\u{1b}`.
+pub fn shown_name(alloc: Global, name: &str) -> Result<String, AllocError> {
+    let mut shown = String::new(alloc);
+    for character in name.chars() {
+        if character.is_control() {
+            for escaped in character.escape_default() {
+                shown.push(escaped)?;
+            }
+        } else {
+            shown.push(character)?;
+        }
+    }
+    Ok(shown)
 }
 
 fn shown(alloc: Global, line: &[u8]) -> Result<String, AllocError> {

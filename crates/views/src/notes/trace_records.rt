@@ -3,6 +3,7 @@
 ghost use Rattle.std.specs.Prelude.{◌≡◌, IfSome, find};
 ghost use Rattle.views.specs.Beginnings.{BeginsAt, is_named};
 
+use crate::notes::bad_record::push_reason;
 use crate::notes::place::place_of;
 use crate::notes::shown::{first_line, push_line};
 use crate::notes::turn::turn_at;
@@ -12,8 +13,8 @@ use std::alloc::{AllocError, Global};
 use trace_file::{TraceFault, event_record, read_trace};
 use xpt_core::StayRecord;
 
-/// The line of the record that the fault names, with its text, and for a send out of turn a line on the CCB whose turn it
-/// was. The note is empty if the fault is none of a record, or the record isn't there.
+/// The line of the record that the fault names, with its text; for a bad record a line on the rule that it breaks, and for a
+/// send out of turn one on the CCB whose turn it was. The note is empty if the fault is none of a record, or the record isn't there.
 pub fn trace_note(
     alloc: Global,
     name: &str,
@@ -25,8 +26,10 @@ pub fn trace_note(
         return Ok(note);
     };
     push_record(alloc, &mut note, name, text, record)?;
-    if let TraceFault::Illegal(_, Refusal::NotHead) = fault {
-        push_turn(alloc, &mut note, text, record)?;
+    match fault {
+        TraceFault::BadRecord(_) => push_reason(alloc, &mut note, text, record)?,
+        TraceFault::Illegal(_, Refusal::NotHead) => push_turn(alloc, &mut note, text, record)?,
+        _ => {}
     }
     Ok(note)
 }

@@ -1,0 +1,114 @@
+//! Why a record of a trace or a script is a bad one.
+
+use crate::notes::place::{record_at, records};
+use csv::ByteRecord;
+use std::alloc::{AllocError, Global};
+use trace_file::MOST_ROWS;
+
+// How many fields a record has.
+const FIELDS: usize = 8;
+
+// The words that records begin with.
+const OF_TRACES: [&[u8]; 16] = [
+    b"weight",
+    b"link",
+    b"sim",
+    b"dev",
+    b"lane",
+    b"submit",
+    b"send",
+    b"done",
+    b"requeue",
+    b"finish",
+    b"freeze",
+    b"release",
+    b"sfreeze",
+    b"srelease",
+    b"adjust",
+    b"tick",
+];
+
+const OF_SCRIPTS: [&[u8]; 4] = [b"limits", b"sim", b"dev", b"lane"];
+
+const OF_DRIVERS: [&[u8]; 7] = [
+    b"submit",
+    b"freeze",
+    b"release",
+    b"sfreeze",
+    b"srelease",
+    b"adjust",
+    b"pause",
+];
+
+const OF_ANSWERS: [&[u8]; 1] = [b"answer"];
+
+/// Puts a line after the note that says which rule the record of this number breaks: of its fields, its word, how many records
+/// of its word there may be, or else its place.
+pub(crate) fn push_reason(
+    alloc: Global,
+    note: &mut String,
+    text: &[u8],
+    record: u32,
+) -> Result<(), AllocError> {
+    let Some(row) = record_at(alloc, text, record) else {
+        return Ok(());
+    };
+    let fields = row.len();
+    if fields != FIELDS {
+        return writeln!(note, "  it has {fields} fields, and not 8");
+    }
+    if text.starts_with(b"camscript1") {
+        push_of_script(alloc, note, text, &row, record)
+    } else if begins_with(&row, &OF_TRACES) {
+        note.push_str("  no record of this word can stand here\n")
+    } else {
+        note.push_str("  no record of a trace begins with this word\n")
+    }
+}
+
+// The same of a record of eight fields in a script.
+fn push_of_script(
+    alloc: Global,
+    note: &mut String,
+    text: &[u8],
+    row: &ByteRecord,
+    record: u32,
+) -> Result<(), AllocError> {
+    let (of_driver, of_answer) = (begins_with(row, &OF_DRIVERS), begins_with(row, &OF_ANSWERS));
+    if of_driver && count(alloc, text, record, &OF_DRIVERS) > MOST_ROWS {
+        writeln!(
+            note,
+            "  there are {MOST_ROWS} records of drivers before it, the most"
+        )
+    } else if of_answer && count(alloc, text, record, &OF_ANSWERS) > MOST_ROWS {
+        writeln!(note, "  there are {MOST_ROWS} answers before it, the most")
+    } else if of_driver || of_answer || begins_with(row, &OF_SCRIPTS) {
+        note.push_str("  no record of this word can stand here\n")
+    } else {
+        note.push_str("  no record of a script begins with this word\n")
+    }
+}
+
+// How many of the first records, of this number, begin with one of the words.
+fn count(alloc: Global, text: &[u8], number: u32, words: &[&[u8]]) -> u32 {
+    let (mut left, mut count) = (number, 0u32);
+    for row in records(alloc, text) {
+        let Ok(row) = row else {
+            return count;
+        };
+        if left == 0 {
+            return count;
+        }
+        left -= 1;
+        if begins_with(&row, words) {
+            count = count.saturating_add(1);
+        }
+    }
+    count
+}
+
+// Whether the record begins with one of the words.
+fn begins_with(row: &ByteRecord, words: &[&[u8]]) -> bool {
+    let first = row.get(0).unwrap_or(&[]);
+    words.iter().any(|word| *word == first)
+}

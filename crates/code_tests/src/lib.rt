@@ -31,6 +31,8 @@ mod guesses;
 #[cfg(test)]
 mod heap;
 #[cfg(test)]
+mod levels;
+#[cfg(test)]
 mod linked;
 #[cfg(test)]
 mod made;

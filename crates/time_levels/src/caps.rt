@@ -1,0 +1,162 @@
+//! The caps of units by round, lowered to what the units below and above them let through.
+
+use crate::columns::Columns;
+use crate::level::Level;
+use crate::network::Network;
+use crate::parts::Part;
+use std::alloc::{AllocError, Global};
+
+/// The caps of one round by column. Those of rows are the most that there is.
+#[derive(Drop)]
+pub struct RoundCaps {
+    /// As the network has them, up to one more than all requests of the part.
+    pub own: Vec<u32>,
+    /// Lowered to what the units right below have together.
+    pub narrowed: Vec<u32>,
+    /// Lowered then to what the unit above has.
+    pub tight: Vec<u32>,
+    sums: Vec<u64>,
+    most: u32,
+}
+
+impl RoundCaps {
+    /// Caps of 0.
+    pub fn new(alloc: Global, part: &Part) -> Result<RoundCaps, AllocError> {
+        let width = part.columns.len() as usize;
+        Ok(RoundCaps {
+            own: vec![in alloc; 0; width]?,
+            narrowed: vec![in alloc; 0; width]?,
+            tight: vec![in alloc; 0; width]?,
+            sums: vec![in alloc; 0; width]?,
+            most: part.requests().saturating_add(1),
+        })
+    }
+
+    /// Takes the caps of a round.
+    pub fn load(&mut self, network: &Network, columns: &Columns, round: u32) {
+        self.take_own(network, columns, round);
+        self.narrow(columns);
+        self.tighten(columns);
+    }
+
+    fn take_own(&mut self, network: &Network, columns: &Columns, round: u32) {
+        for number in 0..columns.len() {
+            let column = columns.column(number);
+            let cap = if column.is_row() {
+                u32::MAX
+            } else {
+                network.cap(column.number, round).min(self.most)
+            };
+            put(&mut self.own, number, cap);
+            put_sum(&mut self.sums, number, 0);
+        }
+    }
+
+    // From the last column to the first, so that what is below a unit is done before it.
+    fn narrow(&mut self, columns: &Columns) {
+        for number in (0..columns.len()).rev() {
+            let column = columns.column(number);
+            let cap = if column.is_row() {
+                u32::MAX
+            } else {
+                let sum = sum_at(&self.sums, number);
+                u32::try_from(sum)
+                    .unwrap_or(u32::MAX)
+                    .min(cap_at(&self.own, number))
+            };
+            put(&mut self.narrowed, number, cap);
+            if let Some(above) = column.above {
+                let sum = sum_at(&self.sums, above).saturating_add(u64::from(cap));
+                put_sum(&mut self.sums, above, sum);
+            }
+        }
+    }
+
+    // From the first column to the last, so that what is above a unit is done before it.
+    fn tighten(&mut self, columns: &Columns) {
+        for number in 0..columns.len() {
+            let column = columns.column(number);
+            let cap = cap_at(&self.narrowed, number);
+            let cap = match column.above {
+                Some(above) if !column.is_row() => cap.min(cap_at(&self.tight, above)),
+                _ => cap,
+            };
+            put(&mut self.tight, number, cap);
+        }
+    }
+}
+
+/// The lowered caps of all rounds.
+#[derive(Drop)]
+pub struct Caps {
+    caps: Vec<u32>,
+    rounds: u32,
+}
+
+impl Caps {
+    /// The caps of a part of a network.
+    pub fn of(alloc: Global, network: &Network, part: &Part) -> Result<Caps, AllocError> {
+        let mut round_caps = RoundCaps::new(alloc, part)?;
+        let mut caps = Vec::new(alloc);
+        for round in 0..network.rounds {
+            round_caps.load(network, &part.columns, round);
+            caps.extend_from_slice(&round_caps.tight)?;
+        }
+        Ok(Caps {
+            caps,
+            rounds: network.rounds,
+        })
+    }
+
+    /// How many rounds there are.
+    pub fn rounds(&self) -> u32 {
+        self.rounds
+    }
+
+    /// Adds the caps of all rounds to those of their blocks, which have two to this power of rounds.
+    pub fn fill(&self, level: &mut Level, power: u32) {
+        for round in 0..self.rounds {
+            let block = round.checked_shr(power).unwrap_or(0);
+            self.fill_round(level, round, block);
+        }
+    }
+
+    fn fill_round(&self, level: &mut Level, round: u32, block: u32) {
+        let from = (round as usize).saturating_mul(level.width as usize);
+        let to = level.at(block, 0);
+        for column in 0..level.width {
+            let cap = self
+                .caps
+                .get(from.saturating_add(column as usize))
+                .copied()
+                .unwrap_or(0);
+            let number = to.saturating_add(column);
+            level.set_cap(number, level.node(number).cap.saturating_add(cap));
+        }
+    }
+}
+
+/// A cap in a list.
+#[inline]
+pub fn cap_at(caps: &[u32], place: u32) -> u32 {
+    caps.get(place as usize).copied().unwrap_or(0)
+}
+
+#[inline]
+fn put(caps: &mut [u32], place: u32, cap: u32) {
+    if let Some(old) = caps.get_mut(place as usize) {
+        *old = cap;
+    }
+}
+
+#[inline]
+fn sum_at(sums: &[u64], place: u32) -> u64 {
+    sums.get(place as usize).copied().unwrap_or(0)
+}
+
+#[inline]
+fn put_sum(sums: &mut [u64], place: u32, sum: u64) {
+    if let Some(old) = sums.get_mut(place as usize) {
+        *old = sum;
+    }
+}

@@ -1,0 +1,117 @@
+//! The nodes that a search has reached, and those from which it has still to look on.
+
+use crate::level::{Level, UNREACHED};
+use std::alloc::{AllocError, Global};
+use std::cmp::Reverse;
+use std::collections::BinaryHeap;
+
+/// Nodes by their distance, which is kept in the nodes.
+#[derive(Drop)]
+pub struct Frontier {
+    reached: Vec<u32>,
+    // Nodes at the distance up to which the search has come, of which those before `next` are done, and nodes that are farther.
+    here: Vec<u32>,
+    next: usize,
+    farther: BinaryHeap<Reverse<(u32, u32)>>,
+    /// How far the search has come.
+    pub distance: u32,
+    /// How far the nearest goal is that it has reached.
+    pub best: u32,
+}
+
+impl Frontier {
+    /// No nodes.
+    pub fn new(alloc: Global) -> Frontier {
+        Frontier {
+            reached: Vec::new(alloc),
+            here: Vec::new(alloc),
+            next: 0,
+            farther: BinaryHeap::new(alloc),
+            distance: 0,
+            best: UNREACHED,
+        }
+    }
+
+    /// Begins again with one node.
+    pub fn begin(&mut self, level: &mut Level, start: u32) -> Result<(), AllocError> {
+        self.here.clear();
+        self.next = 0;
+        self.farther.clear();
+        self.distance = 0;
+        self.best = UNREACHED;
+        self.mark(level, start, 0, start)?;
+        self.add(start, 0)
+    }
+
+    /// The nodes that were reached.
+    pub fn reached(&self) -> &[u32] {
+        &self.reached
+    }
+
+    /// Takes out the nearest node from which no look was taken at its distance, if it is nearer than the goal.
+    pub fn nearest(&mut self, level: &Level) -> Option<u32> {
+        let most = self.here.len().saturating_add(self.farther.len());
+        for _ in 0..most {
+            let number = self.take()?;
+            if level.node(number).distance == self.distance {
+                return Some(number);
+            }
+        }
+        None
+    }
+
+    // Takes out a nearest node, which may meanwhile have been reached by a shorter way.
+    fn take(&mut self) -> Option<u32> {
+        if self.best <= self.distance {
+            return None;
+        }
+        if let Some(number) = self.here.get(self.next).copied() {
+            self.next = self.next.saturating_add(1);
+            return Some(number);
+        }
+        self.here.clear();
+        self.next = 0;
+        let Reverse((distance, number)) = self.farther.pop()?;
+        if distance >= self.best {
+            return None;
+        }
+        self.distance = distance;
+        Some(number)
+    }
+
+    /// Marks a node with the way by which it was reached.
+    #[inline]
+    pub fn mark(
+        &mut self,
+        level: &mut Level,
+        number: u32,
+        distance: u32,
+        from: u32,
+    ) -> Result<(), AllocError> {
+        let was = level.node(number).distance;
+        if was == UNREACHED {
+            self.reached.push(number)?;
+        }
+        level.set_distance(number, distance, from);
+        Ok(())
+    }
+
+    /// Adds a node from which to look on.
+    #[inline]
+    pub fn add(&mut self, number: u32, distance: u32) -> Result<(), AllocError> {
+        if distance == self.distance {
+            self.here.push(number)?;
+        } else {
+            self.farther.push(Reverse((distance, number)))?;
+        }
+        Ok(())
+    }
+
+    /// Takes back how nodes were reached.
+    pub fn forget(&mut self, level: &mut Level) {
+        for number in &self.reached {
+            level.set_distance(*number, UNREACHED, 0);
+        }
+        self.reached.clear();
+    }
+}

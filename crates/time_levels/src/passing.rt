@@ -1,0 +1,139 @@
+//! One pass over all blocks, which carries excess along queues to where it is needed.
+
+use crate::columns::{Columns, Span};
+use crate::course::Course;
+use crate::level::{Level, as_excess};
+use crate::search::{Ends, Search, is_queue};
+use std::alloc::AllocError;
+
+/// How many nodes a search may take on the way.
+const BUDGET: u64 = 64;
+
+/// The direction of a pass.
+#[derive(Clone, Copy)]
+pub enum Direction {
+    /// From the first block to the last.
+    Forward,
+    /// From the last to the first.
+    Backward,
+}
+
+/// Goes over all blocks.
+pub fn pass(
+    level: &mut Level,
+    columns: &Columns,
+    search: &mut Search,
+    direction: Direction,
+) -> Result<(), AllocError> {
+    for turn in 0..level.blocks.saturating_sub(1) {
+        let block = match direction {
+            Direction::Forward => turn,
+            Direction::Backward => level.blocks.saturating_sub(1).saturating_sub(turn),
+        };
+        pass_block(level, columns, search, direction, block)?;
+    }
+    Ok(())
+}
+
+fn pass_block(
+    level: &mut Level,
+    columns: &Columns,
+    search: &mut Search,
+    direction: Direction,
+    block: u32,
+) -> Result<(), AllocError> {
+    let first = level.at(block, 0);
+    let span = Span {
+        first,
+        end: first.saturating_add(columns.len()),
+    };
+    let pushes = any_starts(level, span, Course::Push);
+    let pulls = any_starts(level, span, Course::Pull);
+    if pushes && pulls {
+        meet(level, columns, search, span)?;
+    }
+    if pushes || pulls {
+        carry_all(level, columns, span, direction);
+    }
+    Ok(())
+}
+
+// Whether a search of this course starts at any of these nodes.
+fn any_starts(level: &Level, span: Span, course: Course) -> bool {
+    for number in span.first..span.end {
+        if course.starts(&level.node(number)) {
+            return true;
+        }
+    }
+    false
+}
+
+// Moves what excess there is to nodes nearby that need it.
+fn meet(
+    level: &mut Level,
+    columns: &Columns,
+    search: &mut Search,
+    span: Span,
+) -> Result<(), AllocError> {
+    for number in span.first..span.end {
+        search.move_all(level, columns, number, Course::Push, Ends::AtNeed, BUDGET)?;
+    }
+    Ok(())
+}
+
+// Carries the excess of these rows one block on.
+fn carry_all(level: &mut Level, columns: &Columns, span: Span, direction: Direction) {
+    for number in span.first..span.end {
+        if level.node(number).excess == 0 || !is_queue(level, number) {
+            continue;
+        }
+        let column = columns.column(number.saturating_sub(span.first));
+        match direction {
+            Direction::Forward => carry_on(level, number, i64::from(column.weight)),
+            Direction::Backward => carry_back(level, number, i64::from(column.weight)),
+        }
+    }
+}
+
+// Carries a row's excess to the next block.
+fn carry_on(level: &mut Level, number: u32, weight: i64) {
+    let Some(next) = level.next(number) else {
+        return;
+    };
+    let node = level.node(number);
+    if node.excess > 0 {
+        if level.node(next).label.saturating_add(weight) == node.label {
+            let count = node.excess.unsigned_abs();
+            level.set_wait(number, node.wait.saturating_add(count));
+            level.set_excess(number, 0);
+            level.add_excess(next, node.excess);
+        }
+        return;
+    }
+    let count = node.excess.unsigned_abs().min(node.wait);
+    level.set_wait(number, node.wait.saturating_sub(count));
+    level.add_excess(number, as_excess(count));
+    level.add_excess(next, as_excess(count).saturating_neg());
+}
+
+// Carries a row's excess to the block before.
+fn carry_back(level: &mut Level, number: u32, weight: i64) {
+    let Some(previous) = level.previous(number) else {
+        return;
+    };
+    let node = level.node(number);
+    let before = level.node(previous);
+    if node.excess < 0 {
+        if node.label.saturating_add(weight) == before.label {
+            let count = node.excess.unsigned_abs();
+            level.set_wait(previous, before.wait.saturating_add(count));
+            level.set_excess(number, 0);
+            level.add_excess(previous, node.excess);
+        }
+        return;
+    }
+    let count = node.excess.unsigned_abs().min(before.wait);
+    level.set_wait(previous, before.wait.saturating_sub(count));
+    level.add_excess(number, as_excess(count).saturating_neg());
+    level.add_excess(previous, as_excess(count));
+}

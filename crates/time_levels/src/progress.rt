@@ -1,0 +1,26 @@
+//! Who is told how far a plan is.
+
+/// How far a plan is.
+#[derive(Clone, Copy, Debug)]
+pub struct Done {
+    /// How many parts there are: units with none above them, each with all that is below.
+    pub parts: u32,
+    /// How many of them are planned.
+    pub planned: u32,
+    /// How many levels of time are left of the next one. Each takes about twice as long as the one before.
+    pub levels_left: u32,
+}
+
+/// Is told how far a plan is, on the thread that plans.
+pub trait Progress {
+    /// A level of a part is planned.
+    fn level_planned(&self, done: Done);
+}
+
+/// Nobody is told.
+#[derive(Clone, Copy, Debug, Drop)]
+pub struct Untold;
+
+impl Progress for Untold {
+    fn level_planned(&self, _done: Done) {}
+}

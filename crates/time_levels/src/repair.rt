@@ -1,0 +1,195 @@
+//! Moves the excess of nodes to where it is needed, by cheapest ways.
+
+use crate::columns::Columns;
+use crate::course::Course;
+use crate::level::Level;
+use crate::passing::{Direction, pass};
+use crate::search::{Ends, Found, Search, is_queue};
+use std::alloc::{AllocError, Global};
+
+/// How often excess is moved to queues and carried along them.
+const PASSES: u32 = 4;
+
+/// From the third time on, that is done only if there are so many nodes with excess.
+const ENOUGH: usize = 6;
+
+/// How many nodes a search to a queue may take, the first time.
+const QUEUE_BUDGET: u64 = 256;
+
+/// How many nodes other searches may take, the first time.
+const BUDGET: u64 = 64;
+
+/// By how much each time these budgets are multiplied.
+const GROWTH: u64 = 4;
+
+/// From this budget on there is none any more if fewer than so many nodes are left.
+const LATE_BUDGET: u64 = 1024;
+
+const FEW: usize = 50;
+
+/// How many nodes a search may take without a budget, for each node that there is. With good labels it takes about one.
+const TURNS: u64 = 64;
+
+/// How often budgets are multiplied at most, which is more than what it takes to reach the most that there is.
+const BUDGETS: u32 = 32;
+
+// Nodes with an excess above 0, and below.
+#[derive(Drop)]
+struct Needs {
+    pushes: Vec<u32>,
+    pulls: Vec<u32>,
+}
+
+impl Needs {
+    fn of(alloc: Global, level: &Level) -> Result<Needs, AllocError> {
+        let mut needs = Needs {
+            pushes: Vec::new(alloc),
+            pulls: Vec::new(alloc),
+        };
+        for number in 0..level.len() {
+            let excess = level.node(number).excess;
+            if excess > 0 {
+                needs.pushes.push(number)?;
+            }
+            if excess < 0 {
+                needs.pulls.push(number)?;
+            }
+        }
+        Ok(needs)
+    }
+
+    // Those of them that still have one.
+    fn left(&self, alloc: Global, level: &Level) -> Result<Needs, AllocError> {
+        Ok(Needs {
+            pushes: left(alloc, level, &self.pushes, Course::Push)?,
+            pulls: left(alloc, level, &self.pulls, Course::Pull)?,
+        })
+    }
+
+    fn len(&self) -> usize {
+        self.pushes.len().saturating_add(self.pulls.len())
+    }
+}
+
+/// Moves all excess of a refined level, on which there are queues, and says whether it could.
+pub fn repair(
+    alloc: Global,
+    level: &mut Level,
+    columns: &Columns,
+    search: &mut Search,
+) -> Result<bool, AllocError> {
+    let mut budget = QUEUE_BUDGET;
+    for turn in 0..PASSES {
+        let needs = Needs::of(alloc, level)?;
+        if needs.len() == 0 || (turn >= 2 && needs.len() < ENOUGH) {
+            break;
+        }
+        to_queues(level, columns, search, &needs.pushes, Course::Push, budget)?;
+        to_queues(level, columns, search, &needs.pulls, Course::Pull, budget)?;
+        let direction = if turn % 2 == 0 {
+            Direction::Forward
+        } else {
+            Direction::Backward
+        };
+        pass(level, columns, search, direction)?;
+        budget = budget.saturating_mul(GROWTH);
+    }
+    finish(alloc, level, columns, search)
+}
+
+// Moves the excess of these nodes to where it is needed, or to queues.
+fn to_queues(
+    level: &mut Level,
+    columns: &Columns,
+    search: &mut Search,
+    needs: &[u32],
+    course: Course,
+    budget: u64,
+) -> Result<(), AllocError> {
+    for number in needs.iter().rev() {
+        if !is_queue(level, *number) {
+            search.move_all(level, columns, *number, course, Ends::AtQueue, budget)?;
+        }
+    }
+    Ok(())
+}
+
+/// Moves all excess of a level, and says whether it could.
+pub fn finish(
+    alloc: Global,
+    level: &mut Level,
+    columns: &Columns,
+    search: &mut Search,
+) -> Result<bool, AllocError> {
+    let mut needs = Needs::of(alloc, level)?;
+    let mut budget = BUDGET;
+    for _ in 0..BUDGETS {
+        let last = is_last(level, &needs, budget);
+        if last {
+            budget = u64::from(level.len()).saturating_mul(TURNS);
+        }
+        if !move_some(level, columns, search, &needs, budget)? {
+            return Ok(false);
+        }
+        needs = needs.left(alloc, level)?;
+        if last || needs.len() == 0 {
+            break;
+        }
+        budget = budget.saturating_mul(GROWTH);
+    }
+    Ok(needs.len() == 0)
+}
+
+// Whether a budget is so large, or so few nodes are left, that there need not be one.
+fn is_last(level: &Level, needs: &Needs, budget: u64) -> bool {
+    let most = u64::from(level.len()).saturating_mul(GROWTH);
+    budget > most || (budget >= LATE_BUDGET && needs.len() < FEW)
+}
+
+// Moves what it can of the excess of these nodes. Says whether there may be a way for all that is left.
+fn move_some(
+    level: &mut Level,
+    columns: &Columns,
+    search: &mut Search,
+    needs: &Needs,
+    budget: u64,
+) -> Result<bool, AllocError> {
+    Ok(
+        to_needs(level, columns, search, &needs.pushes, Course::Push, budget)?
+            && to_needs(level, columns, search, &needs.pulls, Course::Pull, budget)?,
+    )
+}
+
+// Moves the excess of these nodes to where it is needed. Says whether there may be a way for all that is left.
+fn to_needs(
+    level: &mut Level,
+    columns: &Columns,
+    search: &mut Search,
+    needs: &[u32],
+    course: Course,
+    budget: u64,
+) -> Result<bool, AllocError> {
+    for number in needs.iter().rev() {
+        let found = search.move_all(level, columns, *number, course, Ends::AtNeed, budget)?;
+        if matches!(&found, Found::NoWay) {
+            return Ok(false);
+        }
+    }
+    Ok(true)
+}
+
+// Those of the nodes from which a search of this course still starts.
+fn left(
+    alloc: Global,
+    level: &Level,
+    needs: &[u32],
+    course: Course,
+) -> Result<Vec<u32>, AllocError> {
+    let mut left = Vec::new(alloc);
+    for number in needs {
+        if course.starts(&level.node(*number)) {
+            left.push(*number)?;
+        }
+    }
+    Ok(left)
+}

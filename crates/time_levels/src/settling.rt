@@ -1,0 +1,79 @@
+//! Flows and waits of a refined level, changed to what its labels ask for. What then comes and doesn't go on, or goes on and
+//! didn't come, is a node's excess.
+
+use crate::columns::{Column, Columns};
+use crate::level::{Level, as_excess};
+
+/// Changes the flow and the wait of each node.
+pub fn settle(level: &mut Level, columns: &Columns) {
+    for block in 0..level.blocks {
+        settle_block(level, columns, block);
+    }
+}
+
+fn settle_block(level: &mut Level, columns: &Columns, block: u32) {
+    for number in 0..columns.len() {
+        let column = columns.column(number);
+        if column.is_row() {
+            settle_flow_of_row(level, block, number, &column);
+            settle_wait(level, block, number, &column);
+        } else {
+            settle_unit(level, block, number, &column);
+        }
+    }
+}
+
+// Nothing goes on from a row where that isn't its cheapest way.
+fn settle_flow_of_row(level: &mut Level, block: u32, number: u32, column: &Column) {
+    let row = level.at(block, number);
+    let node = level.node(row);
+    let Some(unit) = level.above(block, column) else {
+        return;
+    };
+    let above = level.node(unit);
+    if node.flow > 0 && (above.label > node.label || above.cap == 0) {
+        level.set_flow(row, 0);
+        level.add_excess(row, as_excess(node.flow));
+        level.add_excess(unit, as_excess(node.flow).saturating_neg());
+    }
+}
+
+// Nothing waits in a row where that isn't its cheapest way.
+fn settle_wait(level: &mut Level, block: u32, number: u32, column: &Column) {
+    let row = level.at(block, number);
+    let node = level.node(row);
+    let waits = match level.label_of_waiting(row, column) {
+        Some(label) => label <= node.label,
+        None => false,
+    };
+    if node.wait > 0 && !waits {
+        level.set_wait(row, 0);
+        level.add_excess(row, as_excess(node.wait));
+        if let Some(next) = level.next(row) {
+            level.add_excess(next, as_excess(node.wait).saturating_neg());
+        }
+    }
+}
+
+// As much as may goes on from a unit that costs more than the one above it, and nothing from one that costs less.
+fn settle_unit(level: &mut Level, block: u32, number: u32, column: &Column) {
+    let unit = level.at(block, number);
+    let node = level.node(unit);
+    let label = level.label_above(block, column);
+    let flow = if node.label > label {
+        node.cap
+    } else if node.label < label {
+        0
+    } else {
+        node.flow.min(node.cap)
+    };
+    if flow == node.flow {
+        return;
+    }
+    let more = as_excess(flow).saturating_sub(as_excess(node.flow));
+    level.set_flow(unit, flow);
+    level.add_excess(unit, more.saturating_neg());
+    if let Some(above) = level.above(block, column) {
+        level.add_excess(above, more);
+    }
+}

@@ -1,9 +1,9 @@
 -- how a run over a trace and a report on it ends
-use Rattle.std.specs.Prelude.{◌≡◌, ℕ, Bool, true, List, Option, None, Result, Ok, Err}
+use Rattle.std.specs.Prelude.{◌≡◌, ◌⊎◌, ℕ, Bool, true, List, Option, None, Result, Ok, Err}
 use Rattle.std.specs.Io.KnownBytes.{Appends}
 use Rattle.audit_report.specs.Words.{AppendsFront, Past, unsent, WasTrace, Explains, net_of, Claim, ReportFault}
 use Rattle.price_check.specs.Claims as claims
-use Rattle.audit_report.specs.Runs.{WasUnsent, IsFailure, AuditFault, Trace, Unsent, Report, WriteFailed, OutOfMemory}
+use Rattle.audit_report.specs.Runs.{WasUnsent, WasComplete, IsFailure, AuditFault, Trace, Unsent, Report, WriteFailed, OutOfMemory}
 use Rattle.audit_report.specs.Findings.{Says, is_proved, finding_text, Finding}
 
 -- what the readers still have, what the writer took, and whether a call of each failed
@@ -45,6 +45,17 @@ module _ (before after : Streams) where
     pub complete : unsent past.events ≡ None
     pub why : claims.Explains past (net_of past.config past.events) before.report after.report after.report_failed fault
 
+  -- a trace and a report on it were read to their ends
+  pub record WasClaimed : Type 0 where
+    pub past : Past
+    pub claim : Claim
+    pub trace : WasTrace before.trace after.trace past
+    pub report : claims.WasReport past (net_of past.config past.events) before.report after.report claim
+
+  -- memory was wanting for what was read: for a complete history, of whose report nothing was read yet, or for a claim
+  abbrev pub WasShort : Type 0
+  WasShort = (WasComplete before.trace after.trace × (after.report ≡ before.report)) ⊎ WasClaimed
+
   -- how the run ended: with an answer, or with a fault for its cause and nothing written, or with a failed write; nothing
   -- of the report was read where no complete history was
   abbrev pub Proving : Result Bool AuditFault → Type 0
@@ -53,7 +64,7 @@ module _ (before after : Streams) where
   Proving (Err (Unsent s)) = WasUnsent before.trace after.trace s × (after.report ≡ before.report) × (after.out ≡ before.out)
   Proving (Err (Report fault)) = WasNoReport fault × (after.out ≡ before.out)
   Proving (Err WriteFailed) = AnsweredFront
-  Proving (Err OutOfMemory) = after.out ≡ before.out
+  Proving (Err OutOfMemory) = WasShort × (after.out ≡ before.out)
 
 -- the report was proved, unless memory was wanting or a read or a write failed
 abbrev pub IsProvedOrFailed : Result Bool AuditFault → Type 0

@@ -1,5 +1,5 @@
 -- how a run over a trace ends
-use Rattle.std.specs.Prelude.{◌≡◌, ℕ, Bool, true, List, Option, Some, Result, Ok, Err, ⊤}
+use Rattle.std.specs.Prelude.{◌≡◌, ℕ, Bool, true, List, Option, Some, None, Result, Ok, Err, ⊤}
 use Rattle.std.specs.Io.KnownBytes.{Appends}
 use Rattle.audit_report.specs.Words.{AppendsFront, Past, unsent, Stay, NetRows, WasTrace, Explains}
 use Rattle.price_check.specs.declared.report_fault.ReportFault.TheVariants as report_fault
@@ -13,13 +13,19 @@ pub record WasUnsent (before after : Option (List ℕ)) (s : Stay) : Type 0 wher
   pub trace : WasTrace before after past
   pub first : unsent past.events ≡ Some s
 
--- why a trace gave no net to plan
+-- a trace was read to its end, and each of its stays has a send
+pub record WasComplete (before after : Option (List ℕ)) : Type 0 where
+  pub past : Past
+  pub trace : WasTrace before after past
+  pub complete : unsent past.events ≡ None
+
+-- why a trace gave no net to plan; memory is wanting only where a complete history was read, apart from what the reading wants
 abbrev pub WhyNoNet : Option (List ℕ) → Option (List ℕ) → Bool → AuditFault → Type 0
 WhyNoNet before after failed (Trace fault) = Explains before after failed fault
 WhyNoNet before after failed (Unsent s) = WasUnsent before after s
 WhyNoNet before after failed (Report fault) = ⊥
 WhyNoNet before after failed WriteFailed = ⊥
-WhyNoNet before after failed OutOfMemory = ⊤
+WhyNoNet before after failed OutOfMemory = WasComplete before after
 
 -- memory was wanting, or a read or a write failed
 abbrev pub IsFailure : AuditFault → Type 0

@@ -3,7 +3,7 @@
 ghost use Rattle.std.specs.Prelude.{◌≡◌, ◌≢◌, ℕ, ◌+◌, ◌*◌, ◌≤◌, Bool, true, false, if◌then◌else◌, Option, None, Err, List, [], ◌++◌, length, slice_index, IfOk, IfErr, IfSome, OnOk};
 ghost use Rattle.audit_report.specs.Words.{device_of, has_failed, is_flushed, Past, unsent, instance_of_rows, pricing_of_rows, IsPricingFor, ProvesBest, net_of, history_rules, is_legal, plan_text, IsTrace, IsHistory, WasTrace, MOST_STAYS, MOST_ROUNDS, MOST_DEVICES, MOST_ADAPTERS, MOST_LINKS};
 ghost use Rattle.audit_report.specs.Audit.{IsAudit};
-ghost use Rattle.audit_report.specs.Runs.{Ended, IsReadOrFailed, WhyNoNet};
+ghost use Rattle.audit_report.specs.Runs.{Ended, WasComplete, IsReadOrFailed, WhyNoNet};
 
 use crate::audit_fault::AuditFault;
 use crate::costs::Costs;
@@ -29,6 +29,7 @@ pub fn run_audit<R: Read, W: Write>(
     requires trace_calm { has_failed trace.old ≡ false }
     requires out_calm { has_failed out.old ≡ false }
     ensures ended { Ended (IsAudit summary) (R.remaining (device_of trace.old)) (R.remaining (device_of trace.new)) (has_failed trace.new) (W.contents (device_of out.old)) (W.contents (device_of out.new)) (has_failed out.new) result }
+    ensures memory { result ≡ Err AuditFault.OutOfMemory → WasComplete (R.remaining (device_of trace.old)) (R.remaining (device_of trace.new)) }
     ensures flushed { OnOk result (is_flushed out.new ≡ true) }
     ensures trace_calm { result ≢ Err (AuditFault.Trace TraceFault.ReadFailed) → has_failed trace.new ≡ false }
     ensures out_calm { result ≢ Err AuditFault.WriteFailed → has_failed out.new ≡ false }
@@ -72,11 +73,16 @@ pub fn read_rounds<R: Read>(
     ensures rounds { IfOk result (λ read. read.1 ≡ read.0) }
     ensures net { IfOk result (λ read. read.2 ≡ net_of read.0.config read.0.events) }
     ensures complete { IfOk result (λ read. unsent read.0.events ≡ None) }
+    ensures faults { IfErr result (WhyNoNet (R.remaining (device_of trace.old)) (R.remaining (device_of trace.new)) (has_failed trace.new)) }
+    ensures calm { result ≢ Err (AuditFault.Trace TraceFault.ReadFailed) → has_failed trace.new ≡ false }
 {
     let history = match read_trace(alloc, trace) {
         Ok(history) => history,
         Err(fault) => return Err(AuditFault::Trace(fault)),
     };
+    if let Some(stay) = history.unsent() {
+        return Err(AuditFault::Unsent(stay));
+    }
     let table = RoundTable::of(alloc, &history)?;
     match Net::of_rounds(alloc, &history, &table) {
         Ok(net) => Ok((history, table, net)),

@@ -3,7 +3,7 @@
 ghost use Rattle.std.specs.Prelude.{◌≡◌, ◌≢◌, Some, true, false, Ok, Err, IfOk, OnOk};
 ghost use Rattle.audit_report.specs.Words.{device_of, has_failed, is_flushed, Past, live_cost};
 ghost use Rattle.audit_report.specs.Check.{check_text, IsCheck};
-ghost use Rattle.audit_report.specs.Runs.{Ended};
+ghost use Rattle.audit_report.specs.Runs.{Ended, WasComplete};
 
 use crate::audit_fault::AuditFault;
 use cam_event::History;
@@ -23,6 +23,7 @@ pub fn run_check<R: Read, W: Write>(
     requires trace_calm { has_failed trace.old ≡ false }
     requires out_calm { has_failed out.old ≡ false }
     ensures ended { Ended IsCheck (R.remaining (device_of trace.old)) (R.remaining (device_of trace.new)) (has_failed trace.new) (W.contents (device_of out.old)) (W.contents (device_of out.new)) (has_failed out.new) result }
+    ensures memory { result ≡ Err AuditFault.OutOfMemory → WasComplete (R.remaining (device_of trace.old)) (R.remaining (device_of trace.new)) }
     ensures flushed { OnOk result (is_flushed out.new ≡ true) }
     ensures trace_calm { result ≢ Err (AuditFault.Trace TraceFault.ReadFailed) → has_failed trace.new ≡ false }
     ensures out_calm { result ≢ Err AuditFault.WriteFailed → has_failed out.new ≡ false }

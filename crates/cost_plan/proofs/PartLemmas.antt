@@ -1,12 +1,22 @@
 -- Parts by name, and a part that is put into a plan stay by stay.
-use Rattle.std.proofs.Common.{◌≡◌, ◌≢◌, ℕ, zero, suc, ◌+◌, ◌<◌, ◌≤◌, ◌==◌, Bool, true, false, cond, nat_lt, List, [], ◌∷◌, ◌++◌, Some, None, refl, sym, ap, ◌∙◌, inl, inr, arith, filter, unwrap_or, append-nil}
+use Rattle.std.proofs.Common.{◌≡◌, ◌≢◌, ℕ, zero, suc, ◌+◌, ◌-◌, ◌*◌, ◌<◌, ◌≤◌, ◌==◌, Bool, true, false, cond, nat_lt, List, [], ◌∷◌, ◌++◌, Option, Some, None, refl, sym, ap, ◌∙◌, inl, inr, arith, filter, unwrap_or, append-nil, length, drop, get_or, set, All, Contains, subst, drop-drop, length-drop}
 use Rattle.std.specs.List.{find, range_with_len}
+use Rattle.std.specs.List.Sorted.{IsStrictlyIncreasing}
+use Rattle.std.specs.Option.{option_map_or}
 use Rattle.std.proofs.lemmas.Bool.{cases_eq, eq-eqb, ne_eqb, lt-ltb, cond-true, cond-false}
-use Rattle.std.proofs.lemmas.List.Elements.{filter-append}
+use Rattle.std.proofs.lemmas.Bool.{ltb-true}
+use Rattle.std.proofs.lemmas.List.{get_or-drop, get_or-set_same, get_or-set_other}
+use Rattle.std.proofs.lemmas.List.Elements.{filter-append, filter_passes, All-weaker, Contains-push, Contains-append_left}
+use Rattle.std.proofs.lemmas.List.FromFn.{length-range_with_len, get_or-range_with_len}
+use Rattle.std.proofs.lemmas.List.Kept.{IsStrictlyIncreasing-filter}
 use Rattle.round_net.specs.Instance.{Instance}
 use Rattle.round_net.proofs.SumLemmas.{sum_below-more, term-le-sum_below}
-use Rattle.cost_plan.specs.Parts.{is_on, least_on, part_of_stay, before}
+use Rattle.cost_plan.specs.Words.{rows, adapter, IsSound}
+use Rattle.cost_plan.specs.Cells.{cell, root}
+use Rattle.cost_plan.specs.Parts.{is_on, least_on, part_of, part_of_stay, part_of_row, before, rows_before, label_place, busy_parts, HasStay, IsRowLabelled, IsLabelled}
 use Rattle.cost_plan.proofs.BalanceLemmas.{at_most_one}
+use Rattle.cost_plan.proofs.CellLemmas.{cell-apart}
+use Rattle.cost_plan.proofs.NodeLemmas.{cell-in}
 
 -- the first number of a range that passes a test, and none where none does
 find-first : (test : ℕ → Bool) (a n k : ℕ) → a ≤ k → k < a + n → ((b : ℕ) → a ≤ b → b < k → test b ≡ false) → test k ≡ true → find test (range_with_len a n) ≡ Some k
@@ -61,3 +71,157 @@ filter-range_yes test n xs is passes = ap (λ (ys : List ℕ). ys ++ n ∷ []) i
 
 pub filter-range_no : (test : ℕ → Bool) (n : ℕ) (xs : List ℕ) → xs ≡ filter test (range_with_len 0 n) → test n ≡ false → xs ≡ filter test (range_with_len 0 (n + 1))
 filter-range_no test n xs is fails = is ∙ sym (filter-range_more test n ∙ ap (λ (b : Bool). filter test (range_with_len 0 n) ++ cond b (n ∷ []) []) fails ∙ append-nil (filter test (range_with_len 0 n)))
+
+-- ---- the parts that have a stay
+
+before-has : (net : Instance) (a n : ℕ) → n ≤ net.stays → 0 < before net a n → HasStay net a
+before-has net a zero le some = absurd (omega arith)
+before-has net a (suc n) le some = elim (cases_eq (part_of_stay net n) a) [
+  | inl same ↦ record { stay = n; within = omega arith; is = same }
+  | inr other ↦
+      let out : cond {A = ℕ} (part_of_stay net n == a) 1 0 ≡ 0 = ap (λ (b : Bool). cond {A = ℕ} b 1 0) (ne_eqb (part_of_stay net n) a other) in
+      before-has net a n (omega arith) (omega (arith, out, some))
+]
+
+pub busy-some : (net : Instance) → All (HasStay net) (busy_parts net)
+busy-some net = All-weaker (λ a. nat_lt 0 (before net a net.stays) ≡ true) (HasStay net) (λ a passes. before-has net a net.stays (omega arith) (ltb-true 0 (before net a net.stays) passes)) (busy_parts net) (filter_passes (λ a. nat_lt 0 (before net a net.stays)) (range_with_len 0 net.adapters))
+
+pub busy-rising : (net : Instance) → IsStrictlyIncreasing (busy_parts net)
+busy-rising net = IsStrictlyIncreasing-filter (λ a. nat_lt 0 (before net a net.stays)) (range_with_len 0 net.adapters) (rising net.adapters)
+  where
+    rising : (n : ℕ) → IsStrictlyIncreasing (range_with_len 0 n)
+    rising n k lt =
+        let size = length-range_with_len 0 n in
+        omega (arith, get_or-range_with_len 0 n k 0 (omega arith), get_or-range_with_len 0 n (k + 1) 0 (omega arith))
+
+found-lt : (test : ℕ → Bool) (a n k d : ℕ) → a ≤ k → k < a + n → test k ≡ true → unwrap_or (find test (range_with_len a n)) d < a + n
+found-lt test a zero k d low high here = absurd (omega arith)
+found-lt test a (suc n) k d low high here = by (test a) refl (λ other. found-lt test (a + 1) n k d (omega arith) (omega arith) here)
+  where
+    by : (b : Bool) → test a ≡ b → (a ≢ k → unwrap_or (find test (range_with_len (a + 1) n)) d < a + 1 + n) → unwrap_or (cond b (Some a) (find test (range_with_len (a + 1) n))) d < a + suc n
+    by true e later = omega arith
+    by false e later = elim (cases_eq a k) [
+      | inl same ↦ let wrong : true ≡ false = sym here ∙ ap test (sym same) ∙ e in absurd cc
+      | inr other ↦ let rest = later other in omega arith
+    ]
+
+part_of-lt : (net : Instance) (a : ℕ) → a < net.adapters → part_of net a < net.adapters
+part_of-lt net a within = by (net.link_of a) refl
+  where
+    by : (o : Option ℕ) → net.link_of a ≡ o → option_map_or (least_on net) o a < net.adapters
+    by None e = within
+    by (Some l) e =
+        let on : is_on net l a ≡ true = ap (λ (o : Option ℕ). option_map_or (λ k. k == l) o false) e ∙ eq-eqb l l refl in
+        let found : unwrap_or (find (is_on net l) (range_with_len 0 net.adapters)) net.adapters < 0 + net.adapters = found-lt (is_on net l) 0 net.adapters a net.adapters (omega arith) (omega arith) on in
+        omega arith
+
+range-contains : (test : ℕ → Bool) (n x : ℕ) → x < n → test x ≡ true → Contains (filter test (range_with_len 0 n)) x
+range-contains test zero x lt passes = absurd (omega arith)
+range-contains test (suc n) x lt passes =
+    let step : n + 1 ≡ suc n = omega arith in
+    let more = ap (λ (k : ℕ). filter test (range_with_len 0 k)) (sym step) ∙ filter-range_more test n in
+    elim (cases_eq x n) [
+      | inl same ↦
+          let last : cond (test n) (n ∷ []) [] ≡ n ∷ [] = ap (λ (b : Bool). cond b (n ∷ []) []) (ap test (sym same) ∙ passes) in
+          subst (λ (xs : List ℕ). Contains xs x) (sym (more ∙ ap (λ (ys : List ℕ). filter test (range_with_len 0 n) ++ ys) last))
+          (subst (λ (k : ℕ). Contains (filter test (range_with_len 0 n) ++ n ∷ []) k) (sym same) (Contains-push (filter test (range_with_len 0 n)) n))
+      | inr other ↦
+          subst (λ (xs : List ℕ). Contains xs x) (sym more)
+          (Contains-append_left (filter test (range_with_len 0 n)) (cond (test n) (n ∷ []) []) x (range-contains test n x (omega arith) passes))
+    ]
+
+pub busy-all : (net : Instance) (live : ℕ → ℕ) (s : ℕ) → IsSound net live → s < net.stays → Contains (busy_parts net) (part_of_stay net s)
+busy-all net live s sound within =
+    range-contains (λ a. nat_lt 0 (before net a net.stays)) net.adapters (part_of_stay net s) (part_of-lt net (adapter net s) (sound.on_adapter (net.device s) (sound.on_device s within)))
+    (before-some net (part_of_stay net s) net.stays s within refl)
+
+-- ---- labels that are put in
+
+pub IsRowLabelled-none : (net : Instance) (row : ℕ) (labels old : List ℕ) → IsRowLabelled net row 0 labels old old
+IsRowLabelled-none net row labels old = record { own = λ round low. absurd (omega arith); others = λ node apart. refl }
+
+pub IsRowLabelled-set : (net : Instance) (row n label place : ℕ) (labels old mid : List ℕ) → n ≤ net.rounds → n < length labels → place ≡ cell net row n → place < length mid → label ≡ get_or labels n 0
+    → IsRowLabelled net row n labels old mid → IsRowLabelled net row (n + 1) labels old (set mid place label)
+IsRowLabelled-set net row n label place labels old mid last some is inside here h = record {
+  own = λ round low known. elim (cases_eq round n) [
+    | inl same ↦
+        let at : cell net row round ≡ place = ap (cell net row) same ∙ sym is in
+        ap (λ (k : ℕ). get_or (set mid place label) k 0) at ∙ get_or-set_same mid place label 0 inside ∙ here ∙ ap (λ (k : ℕ). get_or labels k 0) (sym same)
+    | inr other ↦
+        get_or-set_other mid place (cell net row round) label 0 (λ e. other ((cell-apart net row round row n (omega arith) last (e ∙ is)).1))
+        ∙ h.own round (omega arith) known
+  ];
+  others = λ node apart. get_or-set_other mid place node label 0 (λ e. apart n (omega arith) some (e ∙ is)) ∙ h.others node (λ round low. apart round (omega arith));
+}
+
+pub IsRowLabelled-past : (net : Instance) (row n : ℕ) (labels old new : List ℕ) → length labels ≤ n → IsRowLabelled net row n labels old new → IsRowLabelled net row (n + 1) labels old new
+IsRowLabelled-past net row n labels old new past h = record {
+  own = λ round low known. h.own round (omega arith) known;
+  others = λ node apart. h.others node (λ round low. apart round (omega arith));
+}
+
+pub IsLabelled-none : (net : Instance) (a : ℕ) (labels old : List ℕ) → IsLabelled net a 0 labels old old
+IsLabelled-none net a labels old = record { own = λ row round low. absurd (omega arith); others = λ row round inside last apart. refl; root = refl }
+
+-- a row of the part gets its labels
+pub IsLabelled-own : (net : Instance) (a n : ℕ) (labels from old mid new : List ℕ) → n < rows net → part_of_row net n ≡ a → from ≡ drop (rows_before net a n * (net.rounds + 1)) labels
+    → IsRowLabelled net n (net.rounds + 1) from mid new → IsLabelled net a n labels old mid → IsLabelled net a (n + 1) labels old new
+IsLabelled-own net a n labels from old mid new inside is rest row h = record {
+  own = λ r round low last own some. elim (cases_eq r n) [
+    | inl same ↦
+        let here : place r round ≡ skipped + round = ap (λ (k : ℕ). place k round) same in
+        ap (λ (k : ℕ). get_or new (cell net k round) 0) same
+        ∙ row.own round (omega arith) (omega (arith, size, here, some))
+        ∙ ap (λ (ls : List ℕ). get_or ls round 0) rest
+        ∙ get_or-drop skipped labels round 0
+        ∙ ap (λ (k : ℕ). get_or labels k 0) (sym here)
+    | inr other ↦ row.others (cell net r round) (λ q low' some' e. other ((cell-apart net r round n q last (omega arith) e).0)) ∙ h.own r round (omega arith) last own some
+  ];
+  others = λ r round inside' last apart. elim (cases_eq r n) [
+    | inl same ↦
+        let here : place r round ≡ skipped + round = ap (λ (k : ℕ). place k round) same in
+        let past = apart (ap (part_of_row net) same ∙ is) in
+        row.others (cell net r round) (λ q low some' e. let equal = (cell-apart net r round n q last (omega arith) e).1 in absurd (omega (arith, size, here, past, equal, some')))
+        ∙ h.others r round inside' last apart
+    | inr other ↦ row.others (cell net r round) (λ q low' some' e. other ((cell-apart net r round n q last (omega arith) e).0)) ∙ h.others r round inside' last apart
+  ];
+  root = row.others (root net) (λ q low some e. let lt = cell-in net n q inside (omega arith) in absurd (omega (arith, lt, e))) ∙ h.root;
+}
+  where
+    place : ℕ → ℕ → ℕ
+    place = label_place net a
+
+    skipped : ℕ
+    skipped = rows_before net a n * (net.rounds + 1)
+
+    size : length from ≡ length labels - skipped
+    size = ap (length {A = ℕ}) rest ∙ length-drop skipped labels
+
+-- a row of another part is left
+pub IsLabelled-other : (net : Instance) (a n : ℕ) (labels old new : List ℕ) → part_of_row net n ≢ a → IsLabelled net a n labels old new → IsLabelled net a (n + 1) labels old new
+IsLabelled-other net a n labels old new apart h = record {
+  own = λ row round low last own some. elim (cases_eq row n) [
+    | inl same ↦ absurd (apart (ap (part_of_row net) (sym same) ∙ own))
+    | inr other ↦ h.own row round (omega arith) last own some
+  ];
+  others = h.others;
+  root = h.root;
+}
+
+-- how many rows of a part there are so far
+pub rows_before-own : (net : Instance) (a n : ℕ) → part_of_row net n ≡ a → rows_before net a (n + 1) ≡ rows_before net a n + 1
+rows_before-own net a n is =
+    let one : cond {A = ℕ} (part_of_row net n == a) 1 0 ≡ 1 = ap (λ (b : Bool). cond {A = ℕ} b 1 0) (eq-eqb (part_of_row net n) a is) in
+    omega (arith, sum_below-more n (λ row. cond (part_of_row net row == a) 1 0), one)
+
+pub rows_before-other : (net : Instance) (a n : ℕ) → part_of_row net n ≢ a → rows_before net a (n + 1) ≡ rows_before net a n
+rows_before-other net a n apart =
+    let none : cond {A = ℕ} (part_of_row net n == a) 1 0 ≡ 0 = ap (λ (b : Bool). cond {A = ℕ} b 1 0) (ne_eqb (part_of_row net n) a apart) in
+    omega (arith, sum_below-more n (λ row. cond (part_of_row net row == a) 1 0), none)
+
+-- the labels of the rows after one
+pub labels_behind : (net : Instance) (a n : ℕ) (labels from : List ℕ) → part_of_row net n ≡ a → from ≡ drop (rows_before net a n * (net.rounds + 1)) labels → drop (net.rounds + 1) from ≡ drop (rows_before net a (n + 1) * (net.rounds + 1)) labels
+labels_behind net a n labels from is rest =
+    let more = rows_before-own net a n is in
+    let place : rows_before net a n * (net.rounds + 1) + (net.rounds + 1) ≡ rows_before net a (n + 1) * (net.rounds + 1) = omega (arith, ap (λ (k : ℕ). k * (net.rounds + 1)) more) in
+    ap (drop (net.rounds + 1)) rest ∙ drop-drop (net.rounds + 1) (rows_before net a n * (net.rounds + 1)) labels ∙ ap (λ (k : ℕ). drop k labels) place

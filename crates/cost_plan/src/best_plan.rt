@@ -87,6 +87,9 @@ fn settled(alloc: Global, net: &Net, begun: Start) -> Result<BestPlan, AllocErro
 /// there is such a guess isn't promised.
 pub fn guessed_plan(alloc: Global, net: &Net) -> Result<Option<BestPlan>, AllocError>
     ensures proved { IfOk result (λ found. IfSome found (λ best. ProvesBest (instance_of_rows net.now) (slice_index best.schedule) (pricing_of_rows best.prices))) }
+    ensures stays { IfOk result (λ found. IfSome found (λ best. length best.schedule ≡ (instance_of_rows net.now).stays)) }
+    ensures cells { IfOk result (λ found. IfSome found (λ best. IsPricingFor (instance_of_rows net.now) best.prices)) }
+    ensures small { IfOk result (λ found. IfSome found (λ best. IsAtMost (instance_of_rows net.now) (pricing_of_rows best.prices) 1000000000000)) }
 {
     match guessed(alloc, net)? {
         Some(start) => unchanged(alloc, net, start),
@@ -102,6 +105,9 @@ pub fn guessed_plan_with<G: Gate + Sync, R: Threads + Sync>(
     gate: &G,
 ) -> Result<Option<BestPlan>, AllocError>
     ensures proved { IfOk result (λ found. IfSome found (λ best. ProvesBest (instance_of_rows net.now) (slice_index best.schedule) (pricing_of_rows best.prices))) }
+    ensures stays { IfOk result (λ found. IfSome found (λ best. length best.schedule ≡ (instance_of_rows net.now).stays)) }
+    ensures cells { IfOk result (λ found. IfSome found (λ best. IsPricingFor (instance_of_rows net.now) best.prices)) }
+    ensures small { IfOk result (λ found. IfSome found (λ best. IsAtMost (instance_of_rows net.now) (pricing_of_rows best.prices) 1000000000000)) }
 {
     match guessed_at_once(rt, alloc, net, gate)? {
         Some(start) => unchanged(alloc, net, start),
@@ -116,6 +122,9 @@ fn unchanged(alloc: Global, net: &Net, begun: Start) -> Result<Option<BestPlan>,
     requires admissible { IsAdmissible (instance_of_rows net.now) (schedule_of begun.draft) }
     requires size { length begun.labels.labels ≡ node_count (instance_of_rows net.now) }
     ensures proved { IfOk result (λ found. IfSome found (λ best. ProvesBest (instance_of_rows net.now) (slice_index best.schedule) (pricing_of_rows best.prices))) }
+    ensures stays { IfOk result (λ found. IfSome found (λ best. length best.schedule ≡ (instance_of_rows net.now).stays)) }
+    ensures cells { IfOk result (λ found. IfSome found (λ best. IsPricingFor (instance_of_rows net.now) best.prices)) }
+    ensures small { IfOk result (λ found. IfSome found (λ best. IsAtMost (instance_of_rows net.now) (pricing_of_rows best.prices) 1000000000000)) }
 {
     let mut start = begun;
     if relax_all(net, &start.draft, &mut start.labels).is_some() {

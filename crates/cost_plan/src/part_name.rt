@@ -3,7 +3,7 @@
 
 ghost use Rattle.std.specs.Prelude.{◌≡◌, ◌<◌, nat_lt};
 ghost use Rattle.cost_plan.specs.Words.{rows, instance_of_rows};
-ghost use Rattle.cost_plan.specs.Parts.{is_on, least_on, part_of, part_of_stay, before};
+ghost use Rattle.cost_plan.specs.Parts.{is_on, least_on, part_of, part_of_stay, part_of_row, before};
 
 use round_net::Net;
 
@@ -29,6 +29,7 @@ pub fn part_of_stay(net: &Net, stay: u32) -> u32
 /// The part of a row. That of a link on which no adapter is, is no adapter's.
 pub fn part_of_row(net: &Net, row: u32) -> u32
     requires { row < rows (instance_of_rows net.now) }
+    ensures { result ≡ part_of_row (instance_of_rows net.now) row }
 {
     let devices = net.devices();
     if row < devices {

@@ -1,11 +1,12 @@
 //! The guess of a plan, made for all parts at once. Proved: if there is one, its draft is admissible, and it has a label for
 //! each node; and which parts there are.
 
-ghost use Rattle.std.specs.Prelude.{◌≡◌, length, IfOk};
-ghost use Rattle.std.specs.Option.{IfSome};
-ghost use Rattle.cost_plan.specs.Words.{instance_of_rows, live_of_rows, IsSound, IsAdmissible};
+ghost use Rattle.std.specs.Prelude.{◌≡◌, ℕ, ◌+◌, ◌*◌, ◌<◌, length, All, Contains, IfOk};
+ghost use Rattle.std.specs.List.Sorted.{IsStrictlyIncreasing};
+ghost use Rattle.std.specs.Option.{IfSome, IfNone};
+ghost use Rattle.cost_plan.specs.Words.{rows, instance_of_rows, live_of_rows, IsSound, IsAdmissible};
 ghost use Rattle.cost_plan.specs.Cells.{node_count};
-ghost use Rattle.cost_plan.specs.Parts.{busy_parts};
+ghost use Rattle.cost_plan.specs.Parts.{part_of_stay, before, rows_before, busy_parts, HasStay, IsPutIn, IsLabelled};
 ghost use Rattle.cost_plan.specs.Draft.{IsDraftOf, schedule_of};
 
 use crate::begin::Start;
@@ -71,6 +72,10 @@ fn put(net: &Net, rounds: &mut [u32], labels: &mut [u64], part: Option<Part>)
     requires labels { length labels.old ≡ node_count (instance_of_rows net.now) }
     ensures rounds { length rounds.new ≡ length rounds.old }
     ensures labels { length labels.new ≡ length labels.old }
+    ensures own_rounds { let net = instance_of_rows net.now in IfSome part (λ part. IsPutIn net part.adapter net.stays part.guess.rounds.items rounds.old rounds.new) }
+    ensures own_labels { let net = instance_of_rows net.now in IfSome part (λ part. IsLabelled net part.adapter (rows net) part.guess.labels.items labels.old labels.new) }
+    ensures same_rounds { IfNone part (rounds.new ≡ rounds.old) }
+    ensures same_labels { IfNone part (labels.new ≡ labels.old) }
 {
     if let Some(part) = part {
         put_rounds(net, rounds, &part);
@@ -85,15 +90,20 @@ fn part_behind<G: Gate>(
     gate: &G,
     adapter: u32,
 ) -> Result<Option<Part>, AllocError>
-    ensures { IfOk result (λ found. IfSome found (λ part. part.adapter ≡ adapter)) }
+    ensures own { IfOk result (λ found. IfSome found (λ part. part.adapter ≡ adapter)) }
+    ensures rounds { let net = instance_of_rows net.now in IfOk result (λ found. IfSome found (λ part. length part.guess.rounds.items ≡ before net adapter net.stays)) }
+    ensures labels { let net = instance_of_rows net.now in IfOk result (λ found. IfSome found (λ part. length part.guess.labels.items ≡ rows_before net adapter (rows net) * (net.rounds + 1) + 1)) }
 {
     gate.begun(adapter);
     guess_part(alloc, net, adapter)
 }
 
-// The parts that have a stay, each by its least adapter.
+// The parts that have a stay, each by its least adapter, and once.
 fn busy_parts(alloc: Global, net: &Net) -> Result<Vec<u32>, AllocError>
     ensures parts { IfOk result (λ busy. busy.items ≡ busy_parts (instance_of_rows net.now)) }
+    ensures rising { IfOk result (λ busy. IsStrictlyIncreasing busy.items) }
+    ensures some { IfOk result (λ busy. All (HasStay (instance_of_rows net.now)) busy.items) }
+    ensures all { let net = instance_of_rows net.now in IfOk result (λ busy. (stay : ℕ) → stay < net.stays → Contains busy.items (part_of_stay net stay)) }
     ensures sound { IsSound (instance_of_rows net.now) (live_of_rows net.now) }
 {
     let mut busy = Vec::new(alloc);

@@ -3,6 +3,7 @@
 
 ghost use Rattle.std.specs.Prelude.{◌≡◌, ◌+◌, ◌<◌, length, IfOk};
 ghost use Rattle.cost_plan.specs.Words.{rows, instance_of_rows, live_of_rows, IsSound};
+ghost use Rattle.cost_plan.specs.Parts.{before, rows_before};
 
 use crate::cells::row_above;
 use crate::part_name::{part_of_row, part_of_stay};
@@ -70,7 +71,11 @@ pub fn all_stays(alloc: Global, net: &Net) -> Result<Vec<Stay>, AllocError>
 }
 
 /// What there is to plan of a part alone: a row for each of its rows, in order.
-pub fn problem_of_part(alloc: Global, net: &Net, part: u32) -> Result<Problem, AllocError> {
+pub fn problem_of_part(alloc: Global, net: &Net, part: u32) -> Result<Problem, AllocError>
+    ensures rounds { IfOk result (λ problem. problem.rounds ≡ (instance_of_rows net.now).rounds) }
+    ensures rows { let net = instance_of_rows net.now in IfOk result (λ problem. length problem.above.items ≡ rows_before net part (rows net)) }
+    ensures stays { let net = instance_of_rows net.now in IfOk result (λ problem. length problem.stays.items ≡ before net part net.stays) }
+{
     let places = places_of(alloc, net, part)?;
     let (above, caps) = own_rows(alloc, net, part, &places)?;
     let mut stays = Vec::new(alloc);
@@ -114,6 +119,7 @@ fn own_rows(
     places: &[u32],
 ) -> Result<(Vec<u32>, Vec<u32>), AllocError>
     requires { length places.now ≡ rows (instance_of_rows net.now) + 1 }
+    ensures { let net = instance_of_rows net.now in IfOk result (λ made. length made.0.items ≡ rows_before net part (rows net)) }
 {
     let (mut above, mut caps) = (Vec::new(alloc), Vec::new(alloc));
     for row in 0..net.rows() {

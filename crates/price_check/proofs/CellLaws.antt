@@ -42,7 +42,7 @@ NoneBefore front k rest = (j : ℕ) → j < k → IsApart (front j) rest
 abbrev pub AreApart : (ℕ → List ℕ) → ℕ → Type 0
 AreApart front n = (j k : ℕ) (x y : List ℕ) → j < n → k < n → front j ++ x ≡ front k ++ y → j ≡ k
 
-begins : (whose : List ℕ) (r v : ℕ) (rest : List ℕ) → (v == 0) ≡ false → price_line whose r v ++ rest ≡ front_text whose r ++ (decimal v ++ (codes "\n" ++ rest))
+pub begins : (whose : List ℕ) (r v : ℕ) (rest : List ℕ) → (v == 0) ≡ false → price_line whose r v ++ rest ≡ front_text whose r ++ (decimal v ++ (codes "\n" ++ rest))
 begins whose r v rest some = rw some (sym (regroup whose (number_text r) (codes " ") (decimal v) (codes "\n") rest))
 
 nothing : (whose : List ℕ) (r v : ℕ) (rest : List ℕ) → (v == 0) ≡ true → price_line whose r v ++ rest ≡ rest
@@ -93,7 +93,7 @@ no_front_at_end : (whose : List ℕ) (r : ℕ) (rest tail : List ℕ) → get_or
 no_front_at_end [] r rest tail first some e = absurd (omega arith)
 no_front_at_end (c ∷ cs) r rest tail first some e = let wrong : ◌≡◌ {A = ℕ} 101 c = at_byte 0 _ _ e in absurd (omega (arith, first))
 
-row_text-first : (devices : List Device) (adapters row : ℕ) → (get_or (row_text devices adapters row) 0 0 ≡ 112) × (0 < length (row_text devices adapters row))
+pub row_text-first : (devices : List Device) (adapters row : ℕ) → (get_or (row_text devices adapters row) 0 0 ≡ 112) × (0 < length (row_text devices adapters row))
 unfolding row_text
 row_text-first devices adapters row = by (slice_get devices row)
   where

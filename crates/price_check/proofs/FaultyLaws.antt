@@ -1,12 +1,13 @@
 -- the line that a reader's fault names is the first faulty one
 use Rattle.std.proofs.Common.{◌≡◌, ◌≤◌, ◌<◌, ◌+◌, ◌-◌, ℕ, zero, suc, List, [], ◌∷◌, ◌++◌, length, take, drop, get_or, ◌≢◌, Bool, true, false, cond, refl, sym, ap, ◌∙◌, subst, arith, append_assoc, ◌==◌, Option, None, Result, Ok, Err, codes, count_by, slice_index, IfErr, eqb-true, take_all, length-take}
-use Rattle.price_check.specs.Words.{IsConfig, IsWhole, Past, unsent, net_of, NetRows, instance_of_rows, live_of_rows, IsSound}
+use Rattle.std.specs.List.{AllByRecursion}
+use Rattle.price_check.specs.Words.{IsConfig, IsWhole, Device, Past, unsent, net_of, NetRows, instance_of_rows, live_of_rows, IsSound}
 use Rattle.round_net.proofs.CountLemmas.{count_by-append}
 use Rattle.price_check.specs.Lines.{line}
 use Rattle.price_check.specs.Pieces.{line_of}
 use Rattle.price_check.specs.Report.{summary_text}
 use Rattle.price_check.specs.Reading.{closed, reading, ReportFault}
-use Rattle.price_check.specs.Claims.{report_text, WasFaulty, Explains, fault_line, IsFirstFaulty, Claim}
+use Rattle.price_check.specs.Claims.{IsClaim, report_text, WasFaulty, Explains, fault_line, IsFirstFaulty, IsOfKind, Claim}
 use Rattle.price_check.specs.declared.report_fault.ReportFault.TheVariants as fault
 use Rattle.price_check.proofs.ApartLaws.{named_devices}
 use Rattle.price_check.proofs.OutcomeLaws.{ends, last_byte, some_rounds, live_is_known, IsOfText, FailsByText, Gives, reading_fails}
@@ -17,6 +18,7 @@ use Rattle.price_check.proofs.BeginLaws.{FailsBehind, line_behind}
 use Rattle.price_check.proofs.FirstLaws.{fails_behind}
 use Rattle.price_check.proofs.ProgressLaws.{Known, passes}
 use Rattle.price_check.proofs.PassLaws.{Reaches}
+use Rattle.price_check.proofs.KindLaws.{kind_of_closed, kind_same, kind_first}
 
 -- ---- the last line feed
 
@@ -26,9 +28,8 @@ IsUnfed (c ∷ []) = (c == 10) ≡ false
 IsUnfed (c ∷ (d ∷ ds)) = IsUnfed (d ∷ ds)
 
 unfed : (front : List ℕ) (c : ℕ) → (c == 10) ≡ false → IsUnfed (front ++ (c ∷ []))
-unfed [] c h = h
-unfed (a ∷ []) c h = h
 unfed (a ∷ (b ∷ bs)) c h = unfed (b ∷ bs) c h
+unfed _ c h = h
 
 lines-fed : (text : List ℕ) → IsUnfed text → lines (text ++ (10 ∷ [])) ≡ lines text
 unfolding lines
@@ -67,7 +68,7 @@ closed_lines (a ∷ as') h = by (snoc a as')
 
 -- ---- a report is closed, and has a line
 
-report_closed : (past : Past) (net : NetRows) (live : ℕ) (claim : Claim) → IsClosed (report_text past net live claim)
+pub report_closed : (past : Past) (net : NetRows) (live : ℕ) (claim : Claim) → IsClosed (report_text past net live claim)
 report_closed past net live claim =
     let e = ends past net live claim in
     rw (e.1 ∙ sym (append_assoc e.0 (codes "end") (codes "\n"))) (closed_line (e.0 ++ codes "end") [] tt)
@@ -190,15 +191,46 @@ first_faulty past net live (c ∷ cs) e is config sound h =
           none_begins past net live whole e claim known as'.closed h (omega arith) (ap (λ (ls : List (List ℕ)). take n ls) as'.same ∙ b.same);
     }
 
+-- ---- the kind of the fault
+
+known_of : (past : Past) (net : NetRows) → net ≡ net_of past.config past.events → IsConfig past.config → AllByRecursion (λ (d : Device). d.target ≤ 65535) past.config.devices → (claim : Claim) → IsClaim (instance_of_rows net) claim → Known past net claim
+known_of past net is config targets claim claims = record {
+  named = named_devices past.config config.kept targets;
+  some = some_rounds past.config past.events net is;
+  claims = claims;
+}
+
+-- an empty text fails in its first line
+first_of_none : (past : Past) (net : NetRows) (live : ℕ) (e : ReportFault) → IsSound (instance_of_rows net) (live_of_rows net) → reading past.config.devices past.events live net (codes "\n") ≡ Err e → fault_line e ≡ 1
+first_of_none past net live e sound h = by f.front f.line f.whole f.report
+  where
+    f : FailsBehind past net live (codes "\n") e
+    f = fails_behind past net live (codes "\n") e sound h
+
+    by : (front : List ℕ) → fault_line e ≡ count_by (λ byte. byte == 10) front + 1 → codes "\n" ≡ front ++ f.rest → report_text past net live f.claim ≡ front ++ f.more → fault_line e ≡ 1
+    by [] line whole report = line
+    by (c ∷ cs) line whole report =
+        let first : 10 ≡ c = cc in
+        let byte : 99 ≡ c = sym (report_first past net live f.claim) ∙ ap (λ (l : List ℕ). get_or l 0 0) report in
+        absurd (omega arith)
+
+kind_law : (past : Past) (net : NetRows) (live : ℕ) (text : List ℕ) (e : ReportFault) → net ≡ net_of past.config past.events → IsConfig past.config → IsSound (instance_of_rows net) (live_of_rows net)
+    → reading past.config.devices past.events live net (closed text) ≡ Err e → IsOfKind past net live text e
+kind_law past net live [] e is config sound h =
+    kind_first past net live (codes "\n") [] e (first_of_none past net live e sound h)
+    (kind_of_closed past net live (codes "\n") e (some_rounds past.config past.events net is) sound refl (report_closed past net live) (known_of past net is config) h)
+kind_law past net live (c ∷ cs) e is config sound h =
+    let as' = closed_lines (c ∷ cs) tt in
+    kind_same past net live (closed (c ∷ cs)) (c ∷ cs) e as'.same
+    (kind_of_closed past net live (closed (c ∷ cs)) e (some_rounds past.config past.events net is) sound as'.closed (report_closed past net live) (known_of past net is config) h)
+
 -- ---- what a reader of reports answers where it fails
 
 explained : (past : Past) (net : NetRows) (before after : Option (List ℕ)) (failed : Bool) (e : ReportFault) → IsOfText e → WasFaulty past net before after e → Explains past net before after failed e
 explained past net before after failed (fault.BadLine n) t h = h
 explained past net before after failed (fault.PriceRange n) t h = h
 explained past net before after failed (fault.WrongStays n) t h = h
-explained past net before after failed fault.TooLong t h = absurd t
-explained past net before after failed fault.ReadFailed t h = absurd t
-explained past net before after failed fault.OutOfMemory t h = absurd t
+explained past net before after failed _ t h = absurd t
 
 of_text : {X : Type 0} (r : Result X ReportFault) (e : ReportFault) → FailsByText r → r ≡ Err e → IsOfText e
 of_text r e h is = rw is at h
@@ -214,15 +246,14 @@ was_faulty past net before after failed text e is config sent sound whole h othe
       live = live.0;
       costs = live.1;
       first = first_faulty past net live.0 text e is config sound first;
-      kind = first;
+      kind = kind_law past net live.0 text e is config sound first;
     })
 
 pub faults_law : (past : Past) (net : NetRows) (before after : Option (List ℕ)) (failed : Bool) (text : List ℕ) (r : Result Claim ReportFault) → net ≡ net_of past.config past.events → IsConfig past.config
     → unsent past.events ≡ None → (r ≢ Err fault.OutOfMemory → IsSound (instance_of_rows net) (live_of_rows net)) → IsWhole before after text → Gives past net text r → IfErr r (Explains past net before after failed)
-faults_law past net before after failed text (Ok claim) is config sent sound whole h = tt
-faults_law past net before after failed text (Err fault.OutOfMemory) is config sent sound whole h = tt
 faults_law past net before after failed text (Err (fault.BadLine n)) is config sent sound whole h = was_faulty past net before after failed text (fault.BadLine n) is config sent (sound (λ k. cc)) whole h (λ k. cc)
 faults_law past net before after failed text (Err (fault.PriceRange n)) is config sent sound whole h = was_faulty past net before after failed text (fault.PriceRange n) is config sent (sound (λ k. cc)) whole h (λ k. cc)
 faults_law past net before after failed text (Err (fault.WrongStays n)) is config sent sound whole h = was_faulty past net before after failed text (fault.WrongStays n) is config sent (sound (λ k. cc)) whole h (λ k. cc)
 faults_law past net before after failed text (Err fault.TooLong) is config sent sound whole h = was_faulty past net before after failed text fault.TooLong is config sent (sound (λ k. cc)) whole h (λ k. cc)
 faults_law past net before after failed text (Err fault.ReadFailed) is config sent sound whole h = was_faulty past net before after failed text fault.ReadFailed is config sent (sound (λ k. cc)) whole h (λ k. cc)
+faults_law past net before after failed text _ is config sent sound whole h = tt

@@ -42,22 +42,22 @@ read_summary past net live text costs h =
 moved : (f t x report : List ℕ) → report ≡ f ++ (t ++ x) → report ≡ (f ++ t) ++ x
 moved f t x report e = e ∙ sym (append_assoc f t x)
 
-abbrev seven_part : Past → ℕ → ℕ × ℕ × ℕ → List ℕ
+abbrev pub seven_part : Past → ℕ → ℕ × ℕ × ℕ → List ℕ
 seven_part past live costs = texts_of (seven_form past.events live) 7 (said_of costs.0 costs.1)
 
-abbrev stay_part : NetRows → List ℕ → List ℕ
+abbrev pub stay_part : NetRows → List ℕ → List ℕ
 stay_part net stays = texts_of (stay_form net) (instance_of_rows net).stays stays
 
-abbrev price_part : Past → NetRows → List ℕ → List ℕ
+abbrev pub price_part : Past → NetRows → List ℕ → List ℕ
 price_part past net prices = texts_of (form_of past.config.devices (instance_of_rows net).adapters (instance_of_rows net).rounds) (price_cells net) prices
 
-abbrev front_of_stays : Past → NetRows → ℕ → ℕ × ℕ × ℕ → List ℕ → List ℕ
+abbrev pub front_of_stays : Past → NetRows → ℕ → ℕ × ℕ × ℕ → List ℕ → List ℕ
 front_of_stays past net live costs stays = seven_part past live costs ++ stay_part net stays
 
-abbrev front_of_prices : Past → NetRows → ℕ → ℕ × ℕ × ℕ → List ℕ → List ℕ → List ℕ
+abbrev pub front_of_prices : Past → NetRows → ℕ → ℕ × ℕ × ℕ → List ℕ → List ℕ → List ℕ
 front_of_prices past net live costs stays prices = front_of_stays past net live costs stays ++ price_part past net prices
 
-from_stays_on : (past : Past) (net : NetRows) (live : ℕ) (costs : ℕ × ℕ × ℕ) (stays prices : List ℕ)
+pub from_stays_on : (past : Past) (net : NetRows) (live : ℕ) (costs : ℕ × ℕ × ℕ) (stays prices : List ℕ)
     → report_text past net live (made net costs.0 costs.1 stays prices) ≡ front_of_stays past net live costs stays ++ (price_part past net prices ++ codes "end\n")
 from_stays_on past net live costs stays prices =
     moved (seven_part past live costs) (stay_part net stays) (price_part past net prices ++ codes "end\n") _ (made_report past net live costs.0 costs.1 stays prices)
@@ -95,11 +95,11 @@ at_prices past net live text e costs best sound r f fits h =
 
 -- ---- the end
 
-missing : {X : Type 0} (o : Option X) (d e : ReportFault) → ◌≡◌ {A = Result X ReportFault} (ok_or o d) (Err e) → e ≡ d
+pub missing : {X : Type 0} (o : Option X) (d e : ReportFault) → ◌≡◌ {A = Result X ReportFault} (ok_or o d) (Err e) → e ≡ d
 missing (Some x) d e h = absurd cc
 missing None d e h = cc
 
-not_stopped : (b : Bool) (d e : ReportFault) → ◌≡◌ {A = Result ⊤ ReportFault} (cond b (Ok tt) (Err d)) (Err e) → e ≡ d
+pub not_stopped : (b : Bool) (d e : ReportFault) → ◌≡◌ {A = Result ⊤ ReportFault} (cond b (Ok tt) (Err d)) (Err e) → e ≡ d
 not_stopped true d e h = absurd cc
 not_stopped false d e h = cc
 

@@ -2,12 +2,15 @@ pub mod ApartLaws
 pub mod BeginLaws
 pub mod CellLaws
 pub mod CutLaws
+pub mod DearLaws
 pub mod DualityLemmas
 pub mod FaultLemmas
 pub mod FaultyLaws
 pub mod FirstLaws
 pub mod FormLaws
+pub mod KindLaws
 pub mod LeastLemmas
+pub mod LineAtLaws
 pub mod LineLaws
 pub mod LinesLemmas
 pub mod OutcomeLaws
@@ -22,6 +25,7 @@ pub mod RestLemmas
 pub mod SectionLaws
 pub mod SeriesLaws
 pub mod SeriesLemmas
+pub mod StayFormLaws
 pub mod StepLaws
 pub mod TallyLemmas
 pub mod UsedLemmas

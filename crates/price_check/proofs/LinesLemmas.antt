@@ -28,11 +28,11 @@ closed_append (c ∷ []) b h k = subst (λ (x : ℕ). IsClosed (x ∷ b)) (sym h
 closed_append (c ∷ (d ∷ ds)) b h k = closed_append (d ∷ ds) b h k
 
 pub closed_line : (l b : List ℕ) → IsClosed b → IsClosed (l ++ (10 ∷ b))
-closed_line [] b h = closed_feed b h
-closed_line (c ∷ []) b h = closed_feed b h
 closed_line (c ∷ (d ∷ ds)) b h = closed_line (d ∷ ds) b h
+closed_line _ b h = closed_feed b h
 
-abbrev unlines : List (List ℕ) → List ℕ
+-- lines with their feeds
+abbrev pub unlines : List (List ℕ) → List ℕ
 unlines [] = []
 unlines (l ∷ ls) = l ++ (10 ∷ unlines ls)
 

@@ -88,7 +88,7 @@ lines_within form text one steps n vs le again at rest front w e =
     (a.0, a.2, further text one steps w.place n at a.0 (take (suc w.place) vs) lt a.1)
 
 -- a price that has a line isn't 0
-not_zero : (whose : List ℕ) (r v : ℕ) → IsLine (price_line whose r v) → (v == 0) ≡ false
+pub not_zero : (whose : List ℕ) (r v : ℕ) → IsLine (price_line whose r v) → (v == 0) ≡ false
 not_zero whose r v h = by (v == 0) refl
   where
     none : (content : List ℕ) → [] ≡ content ++ (10 ∷ []) → ⊥
@@ -100,7 +100,7 @@ not_zero whose r v h = by (v == 0) refl
     by true e = let empty : price_line whose r v ≡ [] = rw e refl in absurd (none h.content (sym empty ∙ h.whole))
 
 -- the cells before one that has a line
-cells_before : (devices : List Device) (adapters rounds : ℕ) (text : List ℕ) (n : ℕ) (vs : List ℕ) → n ≤ length vs → All (λ v. v ≤ MOST_PRICE) vs → AreApart (front_of devices adapters rounds) n
+pub cells_before : (devices : List Device) (adapters rounds : ℕ) (text : List ℕ) (n : ℕ) (vs : List ℕ) → n ≤ length vs → All (λ v. v ≤ MOST_PRICE) vs → AreApart (front_of devices adapters rounds) n
     → (place at : ℕ) (rest : List ℕ) → place < n → NoneBefore (front_of devices adapters rounds) place rest → drop at text ≡ texts_of (form_of devices adapters rounds) place vs ++ rest
     → (e : ℕ) × (series (cell_price_at devices adapters rounds text) place at ≡ Ok (take place vs, e)) × (drop e text ≡ rest)
 cells_before devices adapters rounds text n vs le small apart place at rest lt none here =

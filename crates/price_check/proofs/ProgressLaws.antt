@@ -22,7 +22,7 @@ pub record Known (past : Past) (net : NetRows) (claim : Claim) : Type 0 where
   pub some : 1 ≤ (instance_of_rows net).rounds
   pub claims : IsClaim (instance_of_rows net) claim
 
-cell_count : (past : Past) (net : NetRows) (claim : Claim) → Known past net claim → length claim.prices.prices ≡ price_cells net
+pub cell_count : (past : Past) (net : NetRows) (claim : Claim) → Known past net claim → length claim.prices.prices ≡ price_cells net
 cell_count past net claim h = pricing_cells (instance_of_rows net) claim.prices h.claims.pricing h.claims.priced
 
 pub alone : (past : Past) (net : NetRows) (claim : Claim) → Known past net claim → AreApart (front_of past.config.devices (instance_of_rows net).adapters (instance_of_rows net).rounds) (price_cells net)
@@ -30,10 +30,10 @@ alone past net claim h = net_apart past.config.devices (instance_of_rows net) cl
 
 -- ---- section by section, from the last one on
 
-end_is_line : IsLine (codes "end\n")
+pub end_is_line : IsLine (codes "end\n")
 end_is_line = record { content = codes "end"; plain = plain_of (codes "end") refl; whole = refl }
 
-all_of_end : (more back : List ℕ) → IsClosed more → IsSome more → codes "end\n" ≡ more ++ back → more ≡ codes "end\n"
+pub all_of_end : (more back : List ℕ) → IsClosed more → IsSome more → codes "end\n" ≡ more ++ back → more ≡ codes "end\n"
 all_of_end more back closed some e =
     let b = cut_line (codes "end\n") [] more back end_is_line closed some (append-nil (codes "end\n") ∙ e) in
     b.is ∙ ap (λ (l : List ℕ). codes "end\n" ++ l) (none b.more b.then) ∙ append-nil (codes "end\n")

@@ -167,7 +167,7 @@ plain_shared adapters n = by (nat_lt n adapters)
     by true = plain_append (codes "price sim") (number_text n) (plain_of (codes "price sim") refl) (plain_number n)
     by false = plain_append (codes "price link") (number_text (n - adapters)) (plain_of (codes "price link") refl) (plain_number (n - adapters))
 
-plain_row : (devices : List Device) (adapters row : ℕ) → HasNoFeed (row_text devices adapters row)
+pub plain_row : (devices : List Device) (adapters row : ℕ) → HasNoFeed (row_text devices adapters row)
 unfolding row_text spelled
 plain_row devices adapters row = by (slice_get devices row)
   where

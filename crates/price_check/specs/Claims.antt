@@ -1,10 +1,11 @@
 -- Reports of claims, and what a reader of reports answers.
-use Rattle.std.specs.Prelude.{◌≡◌, ℕ, ◌≤◌, ◌-◌, ◌⊎◌, ⊤, Bool, true, List, ◌++◌, length, take, slice_index, All, Option, Some, Err, codes}
+use Rattle.std.specs.Prelude.{◌≡◌, ℕ, ◌<◌, ◌≤◌, ◌+◌, ◌-◌, ◌⊎◌, ⊤, Bool, true, List, [], ◌∷◌, ◌++◌, length, take, slice_get, slice_index, All, Option, Some, codes, decimal}
 use Rattle.std.specs.List.{AllByRecursion}
-use Rattle.price_check.specs.Words.{IsWhole, IsTooLong, MOST_BYTES, Device, Past, live_cost, Instance, pricing_of_rows, IsPriced, IsPricingFor, NetRows, instance_of_rows}
+use Rattle.std.specs.Str.Parse.{digits_value}
+use Rattle.price_check.specs.Words.{IsWhole, IsTooLong, MOST_BYTES, MOST_PRICE, Device, is_decimal, Past, live_cost, Instance, rows, pricing_of_rows, IsPriced, IsPricingFor, NetRows, instance_of_rows}
 use Rattle.price_check.specs.Forms.{most_stated}
-use Rattle.price_check.specs.Report.{summary_text, plan_text}
-use Rattle.price_check.specs.Reading.{closed, reading, ReportFault}
+use Rattle.price_check.specs.Report.{number_text, row_text, summary_text, plan_text}
+use Rattle.price_check.specs.Reading.{ReportFault}
 use Rattle.price_check.specs.TextLines.{lines}
 pub use Rattle.price_check.specs.declared.claim.Claim.{Claim}
 use Rattle.price_check.specs.declared.report_fault.ReportFault.TheVariants as fault
@@ -51,6 +52,59 @@ pub record IsFirstFaulty (past : Past) (net : NetRows) (live : ℕ) (text : List
   pub before : Begins past net live text (n - 1) claim
   pub none : AllByRecursion (λ (d : Device). d.target ≤ 65535) past.config.devices → (claim : Claim) → Begins past net live text n claim → ⊥
 
+-- a line of the form of a stay's, whosever: of a name, an arrival, a live and a best round and a weight, each of at most 65,535
+pub record IsStayLine (line : List ℕ) : Type 0 where
+  pub ccb : ℕ
+  pub attempt : ℕ
+  pub arrival : ℕ
+  pub live : ℕ
+  pub best : ℕ
+  pub weight : ℕ
+  pub small : All (λ n. n ≤ 65535) (ccb ∷ attempt ∷ arrival ∷ live ∷ best ∷ weight ∷ [])
+  pub spelled : line ≡ codes "stay" ++ (number_text ccb ++ (number_text attempt ++ (number_text arrival ++ (number_text live ++ (number_text best ++ number_text weight)))))
+
+-- Line n of the text, where a stay's is due, after the first seven lines, has the form of a stay's. If it is faulty, it is
+-- not that of the history's stay in that place.
+pub record IsWrongStay (net : NetRows) (text : List ℕ) (n : ℕ) : Type 0 where
+  pub first : 7 < n
+  pub last : n ≤ 7 + (instance_of_rows net).stays
+  pub line : List ℕ
+  pub here : slice_get (lines text) (n - 1) ≡ Some line
+  pub stay : IsStayLine line
+
+-- the line of an opening's price, up to the price
+abbrev pub opening_text : List Device → ℕ → ℕ → ℕ → List ℕ
+opening_text devices adapters row round = row_text devices adapters row ++ (number_text round ++ codes " ")
+
+-- Line n of the text is one of some claim's report but for its price, which is above the most, and the lines before it are
+-- those of that report. It has at most 100 bytes.
+pub record IsTooDear (past : Past) (net : NetRows) (live : ℕ) (text : List ℕ) (n : ℕ) : Type 0 where
+  pub claim : Claim
+  pub before : Begins past net live text (n - 1) claim
+  pub row : ℕ
+  pub round : ℕ
+  pub within : row < rows (instance_of_rows net)
+  pub first : 1 ≤ round
+  pub last : round ≤ (instance_of_rows net).rounds
+  pub behind : 7 + (instance_of_rows net).stays < n
+  pub price : ℕ
+  pub due : slice_get (lines (report_text past net live claim)) (n - 1) ≡ Some (opening_text past.config.devices (instance_of_rows net).adapters row round ++ decimal price)
+  pub digits : List ℕ
+  pub here : slice_get (lines text) (n - 1) ≡ Some (opening_text past.config.devices (instance_of_rows net).adapters row round ++ digits)
+  pub spelled : is_decimal digits ≡ true
+  pub dear : MOST_PRICE < digits_value 10 digits
+  pub short : length (opening_text past.config.devices (instance_of_rows net).adapters row round ++ digits) ≤ 100
+
+-- of which kind the first faulty line is: a stay's that isn't the history's, one with too high a price, or neither
+abbrev pub IsOfKind : Past → NetRows → ℕ → List ℕ → ReportFault → Type 0
+IsOfKind past net live text (fault.BadLine n) =
+    (IsWrongStay net text n → ⊥) × (AllByRecursion (λ (d : Device). d.target ≤ 65535) past.config.devices → IsTooDear past net live text n → ⊥)
+IsOfKind past net live text (fault.PriceRange n) = IsTooDear past net live text n
+IsOfKind past net live text (fault.WrongStays n) = IsWrongStay net text n
+IsOfKind past net live text fault.TooLong = ⊥
+IsOfKind past net live text fault.ReadFailed = ⊥
+IsOfKind past net live text fault.OutOfMemory = ⊥
+
 -- the line that a fault of a text names, and 0 where it names none
 abbrev pub fault_line : ReportFault → ℕ
 fault_line (fault.BadLine n) = n
@@ -60,14 +114,14 @@ fault_line fault.TooLong = 0
 fault_line fault.ReadFailed = 0
 fault_line fault.OutOfMemory = 0
 
--- what was read to its end was no report: the fault names its first faulty line, and its kind is what a reading line by line finds there
+-- what was read to its end was no report: the fault names its first faulty line, and is of that line's kind
 pub record WasFaulty (past : Past) (net : NetRows) (before after : Option (List ℕ)) (e : ReportFault) : Type 0 where
   pub text : List ℕ
   pub whole : IsWhole before after text
   pub live : ℕ
   pub costs : live_cost past.config past.events ≡ Some live
   pub first : IsFirstFaulty past net live text (fault_line e)
-  pub kind : reading past.config.devices past.events live net (closed text) ≡ Err e
+  pub kind : IsOfKind past net live text e
 
 -- why no report was read, where a reader's note says at last whether a call failed
 abbrev pub Explains : Past → NetRows → Option (List ℕ) → Option (List ℕ) → Bool → ReportFault → Type 0

@@ -3,7 +3,7 @@ pub use Rattle.cam_path.specs.Paths.{Fits, address_of, digits_at, ◌>>=◌}
 unfoldable pub use Rattle.cam_path.specs.Paths.{number_at, spelled}
 pub use Rattle.cam_path.specs.declared.path.CamPath.{CamPath}
 pub use Rattle.cam_types.specs.Lists.{first_answer, moments_after}
-pub use Rattle.cam_types.specs.Number.{has_leading_zero, number_of}
+pub use Rattle.cam_types.specs.Number.{has_leading_zero, is_decimal, number_of}
 pub use Rattle.cam_types.specs.Topology.{IsConfig, Topology, are_openings, config_fault, is_same_address}
 unfoldable pub use Rattle.cam_types.specs.Topology.{address_fault, device_fault}
 pub use Rattle.cam_types.specs.Watched.{device_of, has_failed}

@@ -1,9 +1,10 @@
 -- refusals where the history is full, and where it isn't
-use Rattle.std.proofs.Common.{◌≡◌, ◌≤◌, Bool, true, false, List, [], ◌∷◌, length, refl, sym, ap, ◌∙◌, Option, Some, not, nat_le, nat_lt, is_none}
+use Rattle.std.proofs.Common.{◌≡◌, ◌≤◌, ◌<◌, inl, inr, Bool, true, false, List, [], ◌∷◌, length, refl, sym, ap, ◌∙◌, Option, Some, not, nat_le, nat_lt, is_none}
 use Rattle.std.specs.List.{list_all}
 use Rattle.std.proofs.lemmas.Bool.{and_parts, and_from, ltb-false}
 use Rattle.sim_worker.specs.Words.{Topology, has_in_flight, round, Event, Submit, Tick, Rules, is_legal_event, is_allowed, causes, first_cause, refusal, Refusal, HistoryFull, RoundsFull, InFlight}
-use Rattle.event_rules.proofs.QueueLaws.{test_le}
+use Rattle.event_rules.proofs.QueueLaws.{test_le, le_test}
+use Rattle.sim_worker.proofs.RunListFacts.{less_or_not}
 use Rattle.sim_worker.specs.Work.{is_full}
 use Rattle.event_rules.proofs.LegalLemmas.{legal-unrefused}
 
@@ -63,3 +64,14 @@ last_round rules c es why said other landed = elim (nat_le rules.events (length 
   | true ↦ λ at. absurd (false_true (sym other ∙ sym (full_is why) ∙ ap says_full (sym at)))
   | false ↦ λ at. test_le rules.rounds (round es) (some_why (nat_le rules.rounds (round es)) why (sym (ap (λ b. first_cause ((b, InFlight) ∷ (nat_le rules.rounds (round es), RoundsFull) ∷ [])) landed) ∙ at))
 ] said
+
+-- what is refused otherwise leaves room for its event
+pub room_left : (rules : Rules) (c : Topology) (es : List Event) (e : Event) (why : Refusal) → refusal rules c es e ≡ Some why → is_full why ≡ false → length es < rules.events
+unfolding refusal
+room_left rules c es e why said other = elim (nat_le rules.events (length es)) as (λ b. nat_le rules.events (length es) ≡ b → first_cause ((b, HistoryFull (length es)) ∷ causes rules c es e) ≡ Some why → length es < rules.events) [
+  | true ↦ λ is at. absurd (false_true (sym other ∙ sym (full_is why) ∙ ap says_full (sym at)))
+  | false ↦ λ is at. elim (less_or_not (length es) rules.events) [
+    | inl less ↦ less
+    | inr most ↦ absurd (false_true (sym is ∙ le_test rules.events (length es) most))
+  ]
+] refl said

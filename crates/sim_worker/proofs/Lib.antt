@@ -1,6 +1,7 @@
 pub mod CaseLemmas
 pub mod ConfigLemmas
 pub mod DriverLemmas
+pub mod FaultLemmas
 pub mod FullLemmas
 pub mod KeepLemmas
 pub mod LaneFacts

@@ -1,16 +1,18 @@
 -- the drivers of a run after one event more
 use Rattle.std.proofs.Common.{◌≡◌, ℕ, zero, suc, ◌+◌, ◌<◌, ◌≤◌, true, false, List, [], ◌∷◌, ◌++◌, length, set, get_or, replicate, refl, sym, ap, ◌∙◌, subst, arith, Some, inl, inr, take, slice_get, All}
-use Rattle.std.proofs.lemmas.List.Elements.{All-head, All-tail}
+use Rattle.std.proofs.lemmas.List.Elements.{All-head, All-tail, All-cons, All-nil}
 use Rattle.std.specs.List.{list_all}
 use Rattle.std.proofs.lemmas.Bool.{and_from}
 use Rattle.std.proofs.lemmas.List.Folds.{list_all-append}
 use Rattle.cam_types.proofs.ListLemmas.{moments-push}
-use Rattle.sim_worker.specs.Words.{Bounds, moments, Topology, is_tick, Event, Tick, Scenario, Transport, AreInterleaved, is_rising, Held, Receipt, Driver, IsTaken}
+use Rattle.sim_worker.specs.Words.{Bounds, Rules, is_legal, due_of, Past, moments, Topology, is_tick, Event, Tick, Scenario, Transport, AreInterleaved, is_rising, Held, Receipt, Driver, IsTaken}
+use Rattle.xpt_lock.specs.Receipts.{all_receipts}
+use Rattle.xpt_lock.proofs.ReplayLemmas.{length_receipts_of}
 use Rattle.sim_worker.specs.LiveRuns.{IsLiveEnding, rows}
 use Rattle.sim_worker.specs.Endings.{Ending}
 use Rattle.sim_worker.proofs.WalkLemmas.{on_start}
 use Rattle.sim_worker.specs.Runs.{is_in_time, are_ticks_in_time, may_tick}
-use Rattle.sim_worker.specs.Walks.{AreOn, AreRising, IsFollowed, IsOf, IsOn, Walk}
+use Rattle.sim_worker.specs.Walks.{AreOn, ArePlaced, AreRising, IsFollowed, IsFollowedTo, IsOf, IsOn, Walk}
 use Rattle.sim_worker.proofs.RunListFacts.{some_is, take_one, get_is, less_or_not, get_in_set, get_there, set_beside, there_is}
 
 -- one driver more is after the event
@@ -72,13 +74,20 @@ start_on s logs walks n is i d h w at there name =
     let first = one_of_many n i (record { row = 0; made = 0; refused = false }) w (ap (λ (ws : List Walk). slice_get ws i) (sym is) ∙ there) in
     subst (IsOn s (rows s d) h.receipts []) first (on_start s (rows s d) h.receipts)
 
-pub followed : (s : Scenario) (events : List Event) (logs : List Held) (walks : List Walk) (t : Transport) (said : Ending) → length walks ≡ length logs →
-    IsOf s t × (t.events ≡ events) × AreOn s logs events walks × (are_ticks_in_time s.config s.limits events ≡ true) → IsLiveEnding s t.events logs said → IsFollowed s events logs said
-followed s events logs walks t said same passed over = record {
+pub followed_to : (s : Scenario) (events : List Event) (logs : List Held) (walks : List Walk) (t : Transport) → length walks ≡ length logs →
+    IsOf s t × (t.events ≡ events) × AreOn s logs events walks × (are_ticks_in_time s.config s.limits events ≡ true) → is_legal t.rules t.config t.events ≡ true → IsFollowedTo s events logs
+followed_to s events logs walks t same passed sound = record {
   drivers = λ i h at d name.
       let walk = get_there walks i (omega (arith, there_is logs i h at, same)) in
       (passed.2 i d h walk.0 at walk.1 name).log;
+  legal = subst (λ (r : Rules). is_legal r s.config events ≡ true) passed.0.1 (subst (λ (c : Topology). is_legal t.rules c events ≡ true) passed.0.0 (subst (λ es. is_legal t.rules t.config es ≡ true) passed.1 sound));
   ticks = passed.3;
+}
+
+pub followed : (s : Scenario) (events : List Event) (logs : List Held) (walks : List Walk) (t : Transport) (said : Ending) → length walks ≡ length logs →
+    IsOf s t × (t.events ≡ events) × AreOn s logs events walks × (are_ticks_in_time s.config s.limits events ≡ true) → is_legal t.rules t.config t.events ≡ true → IsLiveEnding s t.events logs said → IsFollowed s events logs said
+followed s events logs walks t said same passed sound over = record {
+  whole = followed_to s events logs walks t same passed sound;
   over = subst (λ es. IsLiveEnding s es logs said) passed.1 over;
 }
 
@@ -90,3 +99,23 @@ all_held P (y ∷ ys) (suc i) x h at = all_held P ys i x (All-tail P y ys h) at
 -- the places of consistent logs rise
 pub logs_rise : (due : List Receipt) (logs : List Held) → AreInterleaved due logs → AreRising logs
 logs_rise due logs h i log at = all_held (λ (x : Held). is_rising x.receipts ≡ true) logs i log h.consistent.rise at
+
+front_all : (P : Receipt → Type 0) (xs ys : List Receipt) → All P (xs ++ ys) → All P xs
+front_all P [] ys h = All-nil P
+front_all P (x ∷ xs) ys h = All-cons P x xs (All-head P x (xs ++ ys) h) (front_all P xs ys (All-tail P x (xs ++ ys) h))
+
+rest_all : (P : Receipt → Type 0) (xs ys : List Receipt) → All P (xs ++ ys) → All P ys
+rest_all P [] ys h = h
+rest_all P (x ∷ xs) ys h = rest_all P xs ys (All-tail P x (xs ++ ys) h)
+
+-- what holds of all receipts, log by log, holds of each log's
+of_each : (P : Receipt → Type 0) (logs : List Held) (i j : ℕ) (log : Held) (r : Receipt) → All P (all_receipts logs) → slice_get logs i ≡ Some log → slice_get log.receipts j ≡ Some r → P r
+of_each P [] i j log r h at there = absurd (cc)
+of_each P (x ∷ xs) zero j log r h at there = all_held P x.receipts j r (front_all P x.receipts (all_receipts xs) h) (ap (λ (y : Held). slice_get y.receipts j) (some_is x log at) ∙ there)
+of_each P (x ∷ xs) (suc i) j log r h at there = of_each P xs i j log r (rest_all P x.receipts (all_receipts xs) h) at there
+
+-- receipts that interleave to those of a history are for its events
+pub logs_placed : (h : Past) (logs : List Held) → AreInterleaved (due_of h) logs → ArePlaced logs h.events
+logs_placed h logs fit i j log r at there =
+    let stands = of_each (λ (x : Receipt). slice_get (due_of h) x.at ≡ Some x) logs i j log r fit.consistent.stand at there in
+    omega (arith, there_is (due_of h) r.at r stands, length_receipts_of h.config h.events)

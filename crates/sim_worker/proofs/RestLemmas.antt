@@ -36,6 +36,23 @@ quiet t seen is sent landed decided = record {
   decided = none_counted (is_recovering t.events) (ccbs t.events) (sym (ap (λ (l : Look). l.cases) is) ∙ decided);
 }
 
+-- none at all are none of a count
+none_found : {X : Type 0} → (p : X → Bool) (xs : List X) → list_any p xs ≡ false → count_by p xs ≡ 0
+none_found p [] h = refl
+none_found p (x ∷ xs) h = sum_by-cons (λ y. cond {A = ℕ} (p y) 1 0) x xs ∙ elim (p x) as (λ b. (b || list_any p xs) ≡ false → cond {A = ℕ} b 1 0 + count_by p xs ≡ 0) [
+  | true ↦ λ some. absurd (no some)
+  | false ↦ λ none. omega (arith, none_found p xs none)
+] h
+
+-- what is quiet looks so
+pub looks_quiet : (t : Transport) (seen : Look) → seen ≡ look t.config t.events → IsQuiet t.events → (seen.waiting ≡ 0) × (seen.in_flight ≡ 0) × (seen.cases ≡ 0)
+unfolding has_in_flight
+looks_quiet t seen is h = (
+  ap (λ (l : Look). l.waiting) is ∙ ap length h.sent,
+  ap (λ (l : Look). l.in_flight) is ∙ none_found (is_in_flight t.events) (ccbs t.events) h.landed,
+  ap (λ (l : Look). l.cases) is ∙ none_found (is_recovering t.events) (ccbs t.events) h.decided,
+)
+
 -- StaysFull is answered where as many stays began as may
 stays_at : (f n s r q : Bool) (k : ℕ) → is_for_stays (first_cause ((f, refusals.HistoryFull k) ∷ (n, refusals.NoCcb) ∷ (s, refusals.StaysFull) ∷ (r, refusals.NotRecovering) ∷ (q, refusals.WrongDecision) ∷ [])) ≡ true → s ≡ true
 stays_at f n true r q k h = refl

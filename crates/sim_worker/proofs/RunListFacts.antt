@@ -1,5 +1,5 @@
 -- facts on lists that std lacks
-use Rattle.std.proofs.Common.{◌≡◌, ◌≢◌, ℕ, zero, suc, ◌+◌, ◌<◌, ◌≤◌, Bool, true, List, [], ◌∷◌, ◌++◌, length, set, get_or, refl, sym, ap, ◌∙◌, arith, Some, inl, inr, Vec, Global, map, ◌⊎◌, take, slice_get}
+use Rattle.std.proofs.Common.{◌≡◌, ◌≢◌, ℕ, zero, suc, ◌+◌, ◌<◌, ◌≤◌, Bool, true, false, List, [], ◌∷◌, ◌++◌, length, set, get_or, refl, sym, ap, ◌∙◌, arith, Some, inl, inr, Vec, Global, map, ◌⊎◌, take, slice_get}
 use Rattle.std.specs.List.{list_all}
 use Rattle.std.proofs.lemmas.Bool.{and_from, and_parts}
 use Rattle.std.proofs.lemmas.List.Folds.{list_all-append}
@@ -23,6 +23,16 @@ all_at p [] i x h at = absurd (cc)
 all_at p (y ∷ ys) zero x h at = ap p (sym (some_is y x at)) ∙ (and_parts (p y) (list_all p ys) h).0
 all_at p (y ∷ ys) (suc i) x h at = all_at p ys i x (and_parts (p y) (list_all p ys) h).1 at
 
+-- one that doesn't pass
+pub not_all : {X : Type 0} → (p : X → Bool) (xs : List X) (i : ℕ) (x : X) → slice_get xs i ≡ Some x → p x ≡ false → list_all p xs ≡ false
+not_all p xs i x at none = elim (list_all p xs) as (λ b. list_all p xs ≡ b → b ≡ false) [
+  | true ↦ λ all. absurd (never (sym none ∙ all_at p xs i x all at))
+  | false ↦ λ some. refl
+] refl
+  where
+    never : false ≡ true → ⊥
+    never e = absurd (cc)
+
 pub there_is : {X : Type 0} → (xs : List X) (i : ℕ) (x : X) → slice_get xs i ≡ Some x → i < length xs
 there_is [] i x h = absurd (cc)
 there_is (y ∷ ys) zero x h = omega arith
@@ -45,10 +55,10 @@ take_front [] ys (suc n) le = absurd (omega arith)
 take_front (x ∷ xs) ys (suc n) le = ap (λ zs. x ∷ zs) (take_front xs ys n (omega arith))
 
 pub take_whole : {X : Type 0} → (xs : List X) (n : ℕ) → length xs ≤ n → take n xs ≡ xs
-take_whole [] zero le = refl
-take_whole [] (suc n) le = refl
 take_whole (x ∷ xs) zero le = absurd (omega arith)
 take_whole (x ∷ xs) (suc n) le = ap (λ zs. x ∷ zs) (take_whole xs n (omega arith))
+take_whole [] zero le = refl
+take_whole [] (suc n) le = refl
 
 pub less_or_not : (j m : ℕ) → (j < m) ⊎ (m ≤ j)
 less_or_not zero zero = inr (omega arith)

@@ -3,7 +3,7 @@ use Rattle.std.proofs.Common.{◌≡◌, ◌≢◌, ℕ, zero, suc, ◌+◌, ◌
 use Rattle.std.specs.List.{list_all}
 use Rattle.std.proofs.lemmas.Bool.{and_from, and_parts, lt-ltb, ltb-true}
 use Rattle.std.proofs.lemmas.List.Folds.{list_all-append}
-use Rattle.std.proofs.lemmas.List.{map-append}
+use Rattle.std.proofs.lemmas.List.{map-append, length-map}
 use Rattle.sim_worker.specs.Words.{round, Event, Tick, rules_of, Scenario, Step, Transport, is_rising, Receipt, Rules, refusal, Topology, refused, is_tick}
 use Rattle.event_rules.proofs.ListFacts.{filter_map-push}
 use Rattle.event_rules.proofs.QueueLaws.{le_test, test_le}
@@ -12,7 +12,7 @@ use Rattle.event_rules.proofs.TestLemmas.{list_all-weaker}
 use Rattle.trace_file.specs.declared.step.Step.TheVariants as step
 use Rattle.sim_worker.specs.Logs.{StandsAt, FollowsRows, IsDriverLog, LetsRest, Rests, WasRefused, act, acts, events_of, made_before}
 use Rattle.sim_worker.specs.Runs.{is_over}
-use Rattle.sim_worker.specs.Walks.{IsOf, IsOn, IsSplit, IsWalk, Walk}
+use Rattle.sim_worker.specs.Walks.{IsOf, IsOn, IsSplit, IsThrough, IsWalk, Walk}
 use Rattle.event_rules.proofs.QueueLaws.{round-still}
 use Rattle.sim_worker.specs.Logs.{is_of_rules, HasDoneAll}
 use Rattle.xpt_lock.specs.declared.seat.SeatName.TheVariants as names
@@ -252,10 +252,43 @@ on_later s steps log before e here h w rests follows = record {
 pub driver_is : (a b : ℕ) → names.Driver a ≡ names.Driver b → a ≡ b
 driver_is a b e = cc
 
-pub done_all : (s : Scenario) (steps : List Step) (log : List Receipt) (before : List Event) (w : Walk) → w.row ≡ length steps → w.made ≡ length log → IsWalk s steps log before w → HasDoneAll steps log before
-done_all s steps log before w row made h =
+-- rows of which the first ask for all calls
+acts_whole : (steps : List Step) (row : ℕ) → length (acts (take row steps)) ≡ length (acts steps) → acts (take row steps) ≡ acts steps
+acts_whole [] zero h = refl
+acts_whole [] (suc n) h = refl
+acts_whole (x ∷ xs) zero h = no_more (acts (x ∷ xs)) h
+  where
+    no_more : (es : List Event) → 0 ≡ length es → [] ≡ es
+    no_more [] h = refl
+    no_more (e ∷ es) h = absurd (omega arith)
+acts_whole (step.Act e ∷ xs) (suc n) h = ap (λ es. e ∷ es) (acts_whole xs n (omega arith))
+acts_whole (step.Pause k ∷ xs) (suc n) h = acts_whole xs n h
+
+-- a driver whose log has as many events as its rows ask for has done them all, if each pause is over
+pub done_all : (s : Scenario) (steps : List Step) (log : List Receipt) (before : List Event) (w : Walk) → IsWalk s steps log before w → ((j : ℕ) (r : Receipt) → slice_get log j ≡ Some r → r.at < length before) →
+    IsThrough steps (length log) (round before) → HasDoneAll steps log before
+done_all s steps log before w h placed through =
+    let made : w.made ≡ length log = elim (less_or_not w.made (length log)) [
+      | inl less ↦ absurd (let next = get_there log w.made less in let early = (h.split w.made next.0 next.1).1 (placed w.made next.0 next.1) in omega arith)
+      | inr ge ↦ omega (arith, h.within)
+    ] in
     let all : made_before (length before) log ≡ events_of log = made_is (length before) w.made log h.split h.within ∙ ap events_of (take_whole log w.made (omega (arith, made))) in
-    subst (λ n. StandsAt steps (events_of log) (round before) n) row (subst (λ es. StandsAt steps es (round before) w.row) all h.stands)
+    let front : events_of log ≡ acts (take w.row steps) = sym all ∙ h.stands.made in
+    let as_many : length (acts (take w.row steps)) ≡ length (acts steps) = ap length (sym front) ∙ length-map log (λ (r : Receipt). r.event) ∙ through.0 in
+    let whole : take (length steps) steps ≡ steps = take_whole steps (length steps) (omega arith) in
+    record {
+      within = omega arith;
+      made = front ∙ acts_whole steps w.row as_many ∙ ap acts (sym whole);
+      over = ap (list_all (is_over (round before))) whole ∙ through.1;
+    }
+
+-- a driver that has done them all has made as many calls as its rows ask for
+pub through_done : (steps : List Step) (log : List Receipt) (events : List Event) → HasDoneAll steps log events → IsThrough steps (length log) (round events)
+through_done steps log events h =
+    let whole : take (length steps) steps ≡ steps = take_whole steps (length steps) (omega arith) in (
+      sym (length-map log (λ (r : Receipt). r.event)) ∙ ap length h.made ∙ ap (λ rows. length (acts rows)) whole,
+      ap (list_all (is_over (round events))) (sym whole) ∙ h.over,
+    )
 
 pub rests_now : (s : Scenario) (steps : List Step) (log : List Receipt) (before : List Event) (w : Walk) → LetsRest s before (slice_get steps w.row) → IsWalk s steps log before w → Rests s steps log before
 rests_now s steps log before w rests h = record { row = w.row; stands = h.stands; rests = rests }

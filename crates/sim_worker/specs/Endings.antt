@@ -1,5 +1,5 @@
 -- what each ending of a run says of its events
-use Rattle.std.specs.Prelude.{◌≡◌, ℕ, true, false, List, [], length, get_or}
+use Rattle.std.specs.Prelude.{◌≡◌, ℕ, ◌<◌, true, false, List, [], length, get_or}
 use Rattle.std.specs.List.{list_all, list_any}
 use Rattle.sim_worker.specs.Words.{round, ccbs, has_in_flight, is_recovering, waiting, Event, Scenario}
 use Rattle.sim_worker.specs.Runs.{submits, submits_asked, is_over, may_tick}
@@ -18,8 +18,10 @@ pub record IsDrained (s : Scenario) (events : List Event) : Type 0 where
   pub pauses : (d : ℕ) → list_all (is_over (round events)) (get_or s.drivers d []) ≡ true
   pub quiet : IsQuiet events
 
--- The rounds are as many as may be, and one more would open now; or the events are as many as may be.
+-- The rounds are as many as may be, and one more would open now, with room for its event; or the events are as many as may
+-- be.
 abbrev pub IsEnding : Scenario → List Event → Ending → Type 0
 IsEnding s events Drained = IsDrained s events
-IsEnding s events RoundsFull = (round events ≡ s.limits.rounds) × (may_tick s.config s.limits events ≡ true)
+IsEnding s events RoundsFull =
+    (round events ≡ s.limits.rounds) × (may_tick s.config s.limits events ≡ true) × (length events < s.limits.events)
 IsEnding s events HistoryFull = length events ≡ s.limits.events

@@ -5,6 +5,7 @@ pub mod Logs
 pub mod Ports
 pub mod LiveRuns
 pub mod Walks
+pub mod Faults
 pub mod Held
 pub mod SimRuns
 pub mod Work

@@ -1,7 +1,7 @@
 -- what a run on many threads gives
-use Rattle.std.specs.Prelude.{◌≡◌, ℕ, Bool, true, false, List, [], ◌∷◌, ◌++◌, length, map, filter, get_or, slice_get, Some, IsTrue}
+use Rattle.std.specs.Prelude.{◌≡◌, ℕ, ◌<◌, Bool, true, false, List, [], ◌∷◌, ◌++◌, length, map, filter, get_or, slice_get, Some, IsTrue}
 use Rattle.std.specs.List.{list_all, range_with_len}
-use Rattle.sim_worker.specs.Words.{Past, round, Event, Scenario, Step, IsPast, due_of, AreInterleaved, Held, SeatName, Driver, Lane, Recovery, Keeper}
+use Rattle.sim_worker.specs.Words.{Past, round, Event, Scenario, Step, rules_of, is_legal, due_of, AreInterleaved, Held, SeatName, Driver, Lane, Recovery, Keeper}
 use Rattle.sim_worker.specs.Endings.{IsQuiet, Ending, Drained, RoundsFull, HistoryFull}
 use Rattle.sim_worker.specs.Logs.{IsDriverLog, IsLaneLog, Rests, HasDoneAll, is_decision, is_opening}
 use Rattle.sim_worker.specs.Runs.{may_tick, are_ticks_in_time}
@@ -43,19 +43,28 @@ EachLog P logs = (i : ℕ) (h : Held) → slice_get logs i ≡ Some h → P h
 abbrev pub EachDriver : (ℕ → Held → Type 0) → List Held → Type 0
 EachDriver P logs = EachLog (λ h. (d : ℕ) → h.name ≡ Driver d → P d h) logs
 
--- Drained: each driver has done its rows, and nothing is left. Rounds full: the rounds are as many as may be, and one more
--- would open now. History full: the events are as many as may be.
-abbrev pub IsLiveEnding : Scenario → List Event → List Held → Ending → Type 0
-IsLiveEnding s events logs Drained = EachDriver (λ d h. HasDoneAll (rows s d) h.receipts events) logs × IsQuiet events
-IsLiveEnding s events logs RoundsFull =
-    (round events ≡ s.limits.rounds) × (may_tick s.config s.limits events ≡ true) × EachDriver (λ d h. Rests s (rows s d) h.receipts events) logs
-IsLiveEnding s events logs HistoryFull = length events ≡ s.limits.events
+-- each driver has done its rows, and nothing is left
+abbrev pub IsAllDone : Scenario → List Event → List Held → Type 0
+IsAllDone s events logs = EachDriver (λ d h. HasDoneAll (rows s d) h.receipts events) logs × IsQuiet events
 
--- The history is of the script's configuration and legal. The actors' logs are in their order, and interleave to what one
--- thread would get. Each did what the script, or its port, says. No round opened before it might.
+-- the rounds are as many as may be, and one more would open now, with room for its event
+abbrev pub IsLastRound : Scenario → List Event → List Held → Type 0
+IsLastRound s events logs =
+    (round events ≡ s.limits.rounds) × (may_tick s.config s.limits events ≡ true) × (length events < s.limits.events)
+    × EachDriver (λ d h. Rests s (rows s d) h.receipts events) logs
+
+-- Drained: all is done. Else there is more to do. Rounds full: this is the last round. History full: the events are as many as
+-- may be. So one ending fits a history.
+abbrev pub IsLiveEnding : Scenario → List Event → List Held → Ending → Type 0
+IsLiveEnding s events logs Drained = IsAllDone s events logs
+IsLiveEnding s events logs RoundsFull = (¬ IsAllDone s events logs) × IsLastRound s events logs
+IsLiveEnding s events logs HistoryFull = (¬ IsAllDone s events logs) × (length events ≡ s.limits.events)
+
+-- The history is of the script's configuration and legal by its limits. The actors' logs are in their order, and interleave to
+-- what one thread would get. Each did what the script, or its port, says. No round opened before it might.
 pub record IsLiveRun (s : Scenario) (h : Past) (logs : List Held) (served : List (List Served)) (said : Ending) : Type 0 where
   pub config : h.config ≡ s.config
-  pub legal : IsPast h
+  pub legal : IsTrue (is_legal (rules_of s.limits) s.config h.events)
   pub names : map (λ (log : Held). log.name) logs ≡ actors s
   pub together : AreInterleaved (due_of h) logs
   pub each : EachLog (λ log. IsLog s h.events served (is_full said) log.name log) logs

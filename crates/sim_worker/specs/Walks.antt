@@ -1,11 +1,12 @@
 -- how far a driver is after some of a run's events
 use Rattle.std.specs.Prelude.{◌≡◌, ◌↔◌, ℕ, ◌<◌, ◌≤◌, true, List, length, map, slice_get, Some, None, filter_map, flat_map}
-use Rattle.sim_worker.specs.Words.{Send, Done, round, Event, rules_of, Scenario, Step, Act, Transport, is_rising, Held, Receipt, Driver}
+use Rattle.sim_worker.specs.Words.{Send, Done, round, Event, rules_of, is_legal, Scenario, Step, Act, Transport, is_rising, Held, Receipt, Driver}
 use Rattle.sim_worker.specs.Ports.{Served}
 use Rattle.sim_worker.specs.LiveRuns.{EachDriver, IsLiveEnding, rows}
-use Rattle.sim_worker.specs.Runs.{are_ticks_in_time}
+use Rattle.sim_worker.specs.Runs.{are_ticks_in_time, is_over}
+use Rattle.std.specs.List.{list_all}
 use Rattle.sim_worker.specs.Endings.{Ending}
-use Rattle.sim_worker.specs.Logs.{StandsAt, IsDriverLog, WasRefused, made_before, events_of, calls_for, command_of}
+use Rattle.sim_worker.specs.Logs.{StandsAt, IsDriverLog, WasRefused, acts, made_before, events_of, calls_for, command_of}
 pub use Rattle.sim_worker.specs.declared.walk.Walk.{Walk}
 
 -- the first m receipts are those of before the place
@@ -33,14 +34,31 @@ IsOf s t = (t.config ≡ s.config) × (t.rules ≡ rules_of s.limits)
 abbrev pub AreOn : Scenario → List Held → List Event → List Walk → Type 0
 AreOn s logs before walks = (i d : ℕ) (h : Held) (w : Walk) → slice_get logs i ≡ Some h → slice_get walks i ≡ Some w → h.name ≡ Driver d → IsOn s (rows s d) h.receipts before w
 
+-- there are such walks
+abbrev pub AreWalked : Scenario → List Held → List Event → Type 0
+AreWalked s logs before = (walks : List Walk) × (length walks ≡ length logs) × AreOn s logs before walks
+
 -- the places of each log rise
 abbrev pub AreRising : List Held → Type 0
 AreRising logs = (i : ℕ) (h : Held) → slice_get logs i ≡ Some h → is_rising h.receipts ≡ true
 
--- the drivers follow their rows, no round opens before it may, and this is how the run ended
+-- each receipt of the logs is for one of the events
+abbrev pub ArePlaced : List Held → List Event → Type 0
+ArePlaced logs events = (i j : ℕ) (h : Held) (r : Receipt) → slice_get logs i ≡ Some h → slice_get h.receipts j ≡ Some r → r.at < length events
+
+-- the rows ask for that many calls, and each pause is over by this round
+abbrev pub IsThrough : List Step → ℕ → ℕ → Type 0
+IsThrough steps calls now = (calls ≡ length (acts steps)) × (list_all (is_over now) steps ≡ true)
+
+-- so far the drivers followed their rows, the limits allowed each event, and no round opened before it might
+pub record IsFollowedTo (s : Scenario) (before : List Event) (logs : List Held) : Type 0 where
+  pub drivers : EachDriver (λ d h. IsDriverLog s (rows s d) h.receipts before) logs
+  pub legal : is_legal (rules_of s.limits) s.config before ≡ true
+  pub ticks : are_ticks_in_time s.config s.limits before ≡ true
+
+-- so it went to the end, and this is how the run ended
 pub record IsFollowed (s : Scenario) (events : List Event) (logs : List Held) (said : Ending) : Type 0 where
-  pub drivers : EachDriver (λ d h. IsDriverLog s (rows s d) h.receipts events) logs
-  pub ticks : are_ticks_in_time s.config s.limits events ≡ true
+  pub whole : IsFollowedTo s events logs
   pub over : IsLiveEnding s events logs said
 
 -- ---- lanes

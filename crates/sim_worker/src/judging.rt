@@ -1,6 +1,8 @@
 //! Whether a run on many threads is one of its script.
 
-ghost use Rattle.std.specs.Prelude.{◌≡◌, ℕ, IfOk, List, map, get_or, true, []};
+ghost use Rattle.std.specs.Prelude.{◌≡◌, ℕ, IfOk, IfErr, IfSome, IfNone, Some, List, map, get_or, slice_get, true, []};
+ghost use Rattle.xpt_lock.specs.Receipts.{naming};
+ghost use Rattle.sim_worker.specs.Faults.{IsNaming, IsNoRun};
 ghost use Rattle.std.specs.List.{list_all};
 ghost use Rattle.sim_worker.specs.Words.{IsPast, due_of, AreInterleaved, Held, Event, Scenario};
 ghost use Rattle.xpt_lock.specs.declared.seat.SeatName.TheVariants as seats;
@@ -34,7 +36,8 @@ pub fn judge<P: Port>(
 ) -> Result<Ending, LiveFault>
     requires legal { IsPast history.now }
     requires together { AreInterleaved (due_of history.now) logs.now }
-    ensures { IfOk result (λ ending. IsLiveRun script.now history.now logs.now (map (λ p. P.list p) ports.now) ending) }
+    ensures run { IfOk result (λ ending. IsLiveRun script.now history.now logs.now (map (λ p. P.list p) ports.now) ending) }
+    ensures fault { IfErr result (λ fault. IsNoRun script.now history.now.events logs.now fault) }
 {
     let events = history.events();
     let last = events.len().saturating_sub(1);
@@ -58,15 +61,28 @@ fn is_full(said: Ending) -> bool
 }
 
 // The fault at this place: the receipt that names it. There is one, unless nothing happened at all.
-fn mismatch(logs: &[SeatLog], place: usize) -> LiveFault {
+fn mismatch(logs: &[SeatLog], place: usize) -> LiveFault
+    ensures { IsNaming logs.now place result }
+{
     for log in logs {
-        for receipt in &log.receipts {
-            if receipt.at as usize == place {
-                return LiveFault::Mismatch(*receipt);
-            }
+        if let Some(receipt) = receipt_at(&log.receipts, place) {
+            return LiveFault::Mismatch(receipt);
         }
     }
     LiveFault::Unnamed(0)
+}
+
+// The receipt that names the place.
+fn receipt_at(receipts: &[Receipt], place: usize) -> Option<Receipt>
+    ensures some { IfSome result (λ r. (r.at ≡ place) × (j : ℕ) × (slice_get receipts.now j ≡ Some r)) }
+    ensures none { IfNone result (naming place receipts.now ≡ 0) }
+{
+    for receipt in receipts {
+        if receipt.at as usize == place {
+            return Some(*receipt);
+        }
+    }
+    None
 }
 
 // Whether the two configurations are the same.

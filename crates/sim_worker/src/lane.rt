@@ -2,6 +2,7 @@
 
 ghost use Rattle.std.specs.Prelude.{◌≡◌};
 
+use crate::handed::{Handed, LanePort};
 use crate::port::Port;
 use crate::workplace::Workplace;
 use std::sync::Wait;
@@ -10,11 +11,11 @@ use xpt_lock::{Bell, Seat, SharedFault};
 use xpt_state::{Idle, Sent};
 
 /// Sends what the lane's adapter has to send and serves it by the port, until all are to stop.
-pub(crate) fn run_lane<L: Ledger, P: Port, R: Wait>(
+pub(crate) fn run_lane<L: Ledger, P: Port, H: Handed, R: Wait>(
     rt: &R,
     place: &Workplace<L>,
     lane: u32,
-    port: &mut P,
+    port: &mut LanePort<P, H>,
     seat: &mut Seat<L>,
 ) {
     let mut has_served = false;
@@ -49,11 +50,11 @@ pub(crate) fn run_lane<L: Ledger, P: Port, R: Wait>(
 }
 
 // Sends the lane's next command, serves it with no lock held, and completes it; or says why the lane is idle.
-fn serve_next<L: Ledger, P: Port, R: Wait>(
+fn serve_next<L: Ledger, P: Port, H: Handed, R: Wait>(
     rt: &R,
     place: &Workplace<L>,
     lane: u32,
-    port: &mut P,
+    port: &mut LanePort<P, H>,
     seat: &mut Seat<L>,
 ) -> Result<Option<Idle>, SharedFault> {
     port.make_room()?;

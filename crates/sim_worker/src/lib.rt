@@ -21,6 +21,7 @@ mod driver;
 mod ending;
 mod endings;
 mod fault;
+mod handed;
 mod judging;
 mod keeper;
 mod lane;

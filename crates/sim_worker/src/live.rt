@@ -14,11 +14,14 @@
 //! So someone always acts, and only so often: a call makes one of at most 65,535 events or is refused, a row or a decision is
 //! refused at most once in each of at most 512 rounds, and a lane that sends nothing sleeps until there is work.
 
-ghost use Rattle.std.specs.Prelude.{◌≡◌, [], length, map, All, IfOk, ◌<◌};
+ghost use Rattle.std.specs.Prelude.{◌≡◌, ℕ, [], get_or, length, map, All, IfOk, IfErr, ◌<◌};
+ghost use Rattle.std.specs.List.{range_with_len};
+ghost use Rattle.sim_worker.specs.Faults.{as_live, Unnamed};
 ghost use Rattle.sim_worker.specs.LiveRuns.{IsLiveRun};
 
 use crate::ending::Ending;
 use crate::fault::LiveFault;
+use crate::handed::{Handed, LanePort, hand_back, hand_in};
 use crate::judging::judge;
 use crate::log::SeatLog;
 use crate::names::actors;
@@ -63,7 +66,8 @@ pub fn run_live<P: Port + Send, R: Threads + Wait + Sync>(
 ) -> Result<LiveRun<P>, LiveFault>
     requires ports { length ports.items ≡ length script.now.config.lanes }
     requires fresh { All (λ p. P.list p ≡ []) ports.items }
-    ensures { IfOk result (λ run. IsLiveRun script.now run.history run.seats.items (map (λ p. P.list p) run.ports.items) run.ending) }
+    ensures run { IfOk result (λ run. IsLiveRun script.now run.history run.seats.items (map (λ p. P.list p) run.ports.items) run.ending) }
+    ensures ports { IfOk result (λ run. map (λ p. P.answers p) run.ports.items ≡ map (λ p. P.answers p) ports.items) }
 {
     run_live_with(rt, alloc, script, ports, &Untold)
 }
@@ -78,13 +82,20 @@ pub fn run_live_with<P: Port + Send, W: Progress + Sync, R: Threads + Wait + Syn
 ) -> Result<LiveRun<P>, LiveFault>
     requires ports { length ports.items ≡ length script.now.config.lanes }
     requires fresh { All (λ p. P.list p ≡ []) ports.items }
-    ensures { IfOk result (λ run. IsLiveRun script.now run.history run.seats.items (map (λ p. P.list p) run.ports.items) run.ending) }
+    ensures run { IfOk result (λ run. IsLiveRun script.now run.history run.seats.items (map (λ p. P.list p) run.ports.items) run.ending) }
+    ensures ports { IfOk result (λ run. map (λ p. P.answers p) run.ports.items ≡ map (λ p. P.answers p) ports.items) }
 {
-    run_by::<Brand, P, W, R>(rt, alloc, script, ports, progress, Blank::new(65))
+    run_by::<Brand, P, Brand, W, R>(rt, alloc, script, ports, progress, Blank::new(65))
 }
 
 // The run by a ledger.
-fn run_by<L: Ledger + Send + Sync, P: Port + Send, W: Progress + Sync, R: Threads + Wait + Sync>(
+fn run_by<
+    L: Ledger + Send + Sync,
+    P: Port + Send,
+    H: Handed + Send,
+    W: Progress + Sync,
+    R: Threads + Wait + Sync,
+>(
     rt: &R,
     alloc: Global,
     script: &Script,
@@ -94,11 +105,15 @@ fn run_by<L: Ledger + Send + Sync, P: Port + Send, W: Progress + Sync, R: Thread
 ) -> Result<LiveRun<P>, LiveFault>
     requires name { blank.name ≡ L.name }
     requires parts { (blank.parts ≡ L.parts) × (blank.parts ≡ 65) }
-    ensures { IfOk result (λ run. IsLiveRun script.now run.history run.seats.items (map (λ p. P.list p) run.ports.items) run.ending) }
+    requires ports { length ports.items ≡ length script.now.config.lanes }
+    requires handed { (lane : ℕ) → H.answers lane ≡ get_or (map (λ p. P.answers p) ports.items) lane [] }
+    ensures run { IfOk result (λ run. IsLiveRun script.now run.history run.seats.items (map (λ p. P.list p) run.ports.items) run.ending) }
+    ensures ports { IfOk result (λ run. map (λ p. P.answers p) run.ports.items ≡ map (λ p. P.answers p) ports.items) }
 {
     let xpt = Xpt::open(alloc, script.config().copy(alloc)?, script.limits())?;
     let shared: SharedXpt<L> = SharedXpt::new(xpt, blank);
-    let workers = workers_of(rt, alloc, script, &shared, ports)?;
+    let lanes = hand_in::<P, H>(alloc, ports)?;
+    let workers = workers_of(rt, alloc, script, &shared, lanes)?;
     let place = Workplace::new(alloc, shared, script)?;
     let workers = all_work(rt, alloc, script, &place, progress, workers)?;
     if place.is_short() {
@@ -108,15 +123,15 @@ fn run_by<L: Ledger + Send + Sync, P: Port + Send, W: Progress + Sync, R: Thread
 }
 
 // The workers in order, each with its seat: the drivers that have a row, the lanes, recovery and the round keeper.
-fn workers_of<L: Ledger, P: Port, R: Wait>(
+fn workers_of<L: Ledger, P: Port, H: Handed, R: Wait>(
     rt: &R,
     alloc: Global,
     script: &Script,
     shared: &SharedXpt<L>,
-    ports: Vec<P>,
-) -> Result<Vec<Worker<L, P>>, LiveFault> {
+    lanes: Vec<LanePort<P, H>>,
+) -> Result<Vec<Worker<L, P, H>>, LiveFault> {
     let mut workers = Vec::new(alloc);
-    let mut ports = ports.into_iter();
+    let mut ports = lanes.into_iter();
     for name in actors(alloc, script)? {
         let seat = seat(rt, alloc, shared, name)?;
         let role = match name {
@@ -136,10 +151,10 @@ fn workers_of<L: Ledger, P: Port, R: Wait>(
     Ok(workers)
 }
 
-fn add<L: Ledger, P: Drop>(
-    workers: &mut Vec<Worker<L, P>>,
+fn add<L: Ledger, P: Port, H: Handed>(
+    workers: &mut Vec<Worker<L, P, H>>,
     seat: Seat<L>,
-    role: Role<P>,
+    role: Role<P, H>,
 ) -> Result<(), AllocError> {
     workers.push(Worker { seat, role })?;
     Ok(())
@@ -150,7 +165,10 @@ fn seat<L: Ledger, R: Wait>(
     alloc: Global,
     shared: &SharedXpt<L>,
     name: SeatName,
-) -> Result<Seat<L>, LiveFault> {
+) -> Result<Seat<L>, LiveFault>
+    ensures seat { IfOk result (λ s. s ≡ record { name = name; receipts = [] }) }
+    ensures full { IfErr result (λ fault. fault ≡ Unnamed 0) }
+{
     match shared.seat(rt, alloc, name) {
         Ok(seat) => Ok(seat),
         Err(_) => Err(LiveFault::Unnamed(0)),
@@ -158,18 +176,24 @@ fn seat<L: Ledger, R: Wait>(
 }
 
 // The workers after their work, each on a thread of its own. If one can't be started, those that were stop, and are joined.
-fn all_work<L: Ledger + Send + Sync, P: Port + Send, W: Progress + Sync, R: Threads + Wait + Sync>(
+fn all_work<
+    L: Ledger + Send + Sync,
+    P: Port + Send,
+    H: Handed + Send,
+    W: Progress + Sync,
+    R: Threads + Wait + Sync,
+>(
     rt: &R,
     alloc: Global,
     script: &Script,
     place: &Workplace<L>,
     progress: &W,
-    workers: Vec<Worker<L, P>>,
-) -> Result<Vec<Worker<L, P>>, LiveFault> {
+    workers: Vec<Worker<L, P, H>>,
+) -> Result<Vec<Worker<L, P, H>>, LiveFault> {
     thread::scope(
         thread::scope_env(),
         rt,
-        |scope| -> Result<Vec<Worker<L, P>>, LiveFault>
+        |scope| -> Result<Vec<Worker<L, P, H>>, LiveFault>
             requires { Unit {0} }
         {
             let count = workers.len();
@@ -212,16 +236,18 @@ fn join_all<T: Drop, R: Threads>(
 }
 
 // What the workers did, if it is a run of the script.
-fn finish<L: Ledger, P: Port>(
+fn finish<L: Ledger, P: Port, H: Handed>(
     alloc: Global,
     script: &Script,
     place: Workplace<L>,
-    workers: Vec<Worker<L, P>>,
+    workers: Vec<Worker<L, P, H>>,
 ) -> Result<LiveRun<P>, LiveFault>
-    ensures { IfOk result (λ run. IsLiveRun script.now run.history run.seats.items (map (λ p. P.list p) run.ports.items) run.ending) }
+    ensures run { IfOk result (λ run. IsLiveRun script.now run.history run.seats.items (map (λ p. P.list p) run.ports.items) run.ending) }
+    ensures ports { IfOk result (λ run. map (λ p. P.answers p) run.ports.items ≡ map (λ lane. H.answers lane) (range_with_len 0 (length script.now.config.lanes))) }
 {
-    let (seats, ports) = parted(alloc, workers)?;
+    let (seats, lanes) = parted(alloc, workers)?;
     let logs = logs_of(alloc, &seats)?;
+    let ports = hand_back(alloc, lanes, script.config().lanes().len())?;
     let history = match place.shared.gather(alloc, seats) {
         Ok(history) => history,
         Err(fault) => return Err(live_fault(fault)),
@@ -236,20 +262,20 @@ fn finish<L: Ledger, P: Port>(
 }
 
 // The workers' seats, and the ports of those that have one.
-fn parted<L: Ledger, P: Drop>(
+fn parted<L: Ledger, P: Port, H: Handed>(
     alloc: Global,
-    workers: Vec<Worker<L, P>>,
-) -> Result<(Vec<Seat<L>>, Vec<P>), AllocError> {
+    workers: Vec<Worker<L, P, H>>,
+) -> Result<(Vec<Seat<L>>, Vec<LanePort<P, H>>), AllocError> {
     let mut seats = Vec::new(alloc);
-    let mut ports = Vec::new(alloc);
+    let mut lanes = Vec::new(alloc);
     for worker in workers {
         let Worker { seat, role } = worker;
         seats.push(seat)?;
         if let Role::Lane(_, port) = role {
-            ports.push(port)?;
+            lanes.push(port)?;
         }
     }
-    Ok((seats, ports))
+    Ok((seats, lanes))
 }
 
 // The logs of the seats.
@@ -263,7 +289,9 @@ fn logs_of<L: Ledger>(alloc: Global, seats: &[Seat<L>]) -> Result<Vec<SeatLog>, 
     Ok(logs)
 }
 
-fn live_fault(fault: GatherFault) -> LiveFault {
+fn live_fault(fault: GatherFault) -> LiveFault
+    ensures { result ≡ as_live fault }
+{
     match fault {
         GatherFault::Mismatch(receipt) => LiveFault::Mismatch(receipt),
         GatherFault::Unnamed(place) => LiveFault::Unnamed(place),

@@ -1,12 +1,13 @@
 //! A run's history, gone through beside a transport of its own.
 
-ghost use Rattle.std.specs.Prelude.{◌≡◌, ℕ, ◌++◌, [], ◌∷◌, ◌<◌, true, false, length, replicate, slice_get, Some, IfOk, IfSome};
+ghost use Rattle.std.specs.Prelude.{◌≡◌, ℕ, ◌++◌, [], ◌∷◌, ◌<◌, true, false, length, replicate, take, slice_get, Some, IfOk, IfErr, IfSome};
 ghost use Rattle.sim_worker.specs.Words.{is_rising, Scenario};
 ghost use Rattle.xpt_lock.specs.declared.seat.SeatName.TheVariants as names;
 ghost use Rattle.sim_worker.specs.LiveRuns.{rows};
 ghost use Rattle.sim_worker.specs.Runs.{is_in_time, are_ticks_in_time, may_recovery_rest, may_tick};
 ghost use Rattle.sim_worker.specs.Held.{is_held_up};
-ghost use Rattle.sim_worker.specs.Walks.{AreOn, AreRising, IsFollowed, IsOf, IsOn};
+ghost use Rattle.sim_worker.specs.Faults.{IsFailing};
+ghost use Rattle.sim_worker.specs.Walks.{AreOn, ArePlaced, AreRising, IsFollowed, IsFollowedTo, IsOf, IsOn};
 
 use crate::ending::Ending;
 use crate::endings::ending;
@@ -120,9 +121,12 @@ fn pass(
     requires rising { AreRising logs.now }
     requires start { AreOn script.now logs.now [] walks.old }
     ensures len { length walks.new ≡ length walks.old }
+    ensures failed { IfErr result (λ place. (place < length events.now) × IsFollowedTo script.now (take place events.now) logs.now) }
     ensures passed { IfOk result (λ _. IsOf script.now xpt.new × (xpt.new.events ≡ events.now) × AreOn script.now logs.now events.now walks.new × (are_ticks_in_time script.now.config script.now.limits events.now ≡ true)) }
 {
     for place in 0..events.len() {
+        // What it took so far is legal by the script's limits.
+        let _events = xpt.events();
         if !step(script, logs, walks, xpt, &events[place]) {
             return Err(place);
         }
@@ -141,10 +145,14 @@ fn follow_all(
     requires same { length walks.old ≡ length logs.now }
     requires fresh { IsOf script.now xpt.old × (xpt.old.events ≡ []) }
     requires rising { AreRising logs.now }
+    requires placed { ArePlaced logs.now events.now }
     requires start { AreOn script.now logs.now [] walks.old }
-    ensures { IfOk result (IsFollowed script.now events.now logs.now) }
+    ensures followed { IfOk result (IsFollowed script.now events.now logs.now) }
+    ensures failed { IfErr result (λ place. IsFailing script.now events.now logs.now place) }
 {
     pass(script, events, logs, walks, xpt)?;
+    // They are legal by the script's limits.
+    let _events = xpt.events();
     match ending(script, logs, walks, xpt) {
         Some(said) => Ok(said),
         None => Err(events.len().saturating_sub(1)),
@@ -158,8 +166,10 @@ pub(crate) fn follow(
     events: &[Event],
     logs: &[SeatLog],
 ) -> Result<Result<Ending, usize>, AllocError>
-    requires { AreRising logs.now }
-    ensures { IfOk result (λ followed. IfOk followed (IsFollowed script.now events.now logs.now)) }
+    requires rising { AreRising logs.now }
+    requires placed { ArePlaced logs.now events.now }
+    ensures followed { IfOk result (λ followed. IfOk followed (IsFollowed script.now events.now logs.now)) }
+    ensures failed { IfOk result (λ followed. IfErr followed (λ place. IsFailing script.now events.now logs.now place)) }
 {
     let mut xpt = Xpt::open(alloc, script.config().copy(alloc)?, script.limits())?;
     let mut walks = start(alloc, logs.len())?;

@@ -93,6 +93,8 @@ impl Port for ScriptPort {
 
     ghost room = { λ p. p.room };
 
+    ghost answers = { λ p. p.answers };
+
     fn make_room(&mut self) -> Result<(), AllocError>
         ensures list { self.new.served ≡ self.old.served }
         ensures answers { self.new.answers ≡ self.old.answers }

@@ -1,6 +1,7 @@
 //! One of the workers of a run on threads.
 
 use crate::driver::drive;
+use crate::handed::{Handed, LanePort};
 use crate::keeper::keep;
 use crate::lane::run_lane;
 use crate::port::Port;
@@ -14,11 +15,11 @@ use xpt_lock::Seat;
 
 /// What a worker does.
 #[derive(Drop)]
-pub(crate) enum Role<P: Drop> {
+pub(crate) enum Role<P: Port, H: Handed> {
     /// It does the rows of the driver of this number.
     Driver(u8),
     /// It serves the lane of this number by its port.
-    Lane(u32, P),
+    Lane(u32, LanePort<P, H>),
     /// It decides on failed CCBs.
     Recovery,
     /// It opens the rounds.
@@ -27,19 +28,19 @@ pub(crate) enum Role<P: Drop> {
 
 /// A worker: its seat at the transport, and what it does.
 #[derive(Drop)]
-pub(crate) struct Worker<L: Ledger, P: Drop> {
+pub(crate) struct Worker<L: Ledger, P: Port, H: Handed> {
     pub(crate) seat: Seat<L>,
-    pub(crate) role: Role<P>,
+    pub(crate) role: Role<P, H>,
 }
 
 /// Does the worker's part until all are to stop, and gives its seat and its port back.
-pub(crate) fn work<L: Ledger, P: Port + Drop, W: Progress, R: Wait>(
+pub(crate) fn work<L: Ledger, P: Port, H: Handed, W: Progress, R: Wait>(
     rt: &R,
     place: &Workplace<L>,
     script: &Script,
     progress: &W,
-    worker: Worker<L, P>,
-) -> Worker<L, P> {
+    worker: Worker<L, P, H>,
+) -> Worker<L, P, H> {
     let Worker { mut seat, mut role } = worker;
     match &mut role {
         Role::Driver(driver) => {

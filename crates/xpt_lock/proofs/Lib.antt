@@ -1,5 +1,4 @@
 pub mod SeatLemmas
 pub mod ReplayLemmas
-pub mod GatherLemmas
 pub mod SameLemmas
 pub mod ConsistentLemmas

@@ -29,11 +29,15 @@ pub record IsUnnamed (due : List Receipt) (seats : List Held) (place : ℕ) : Ty
   pub free : naming place (all_receipts seats) ≡ 0
   pub first : (k : ℕ) → k < place → naming k (all_receipts seats) ≡ 1
 
--- what a fault says of the receipts against those of one thread
+-- What a fault says of the receipts against those of one thread. A comparison takes no memory.
 abbrev pub IsFault : List Receipt → List Held → GatherFault → Type 0
 IsFault due seats (Mismatch r) = IsMisfit due seats r
 IsFault due seats (Unnamed place) = IsUnnamed due seats place
-IsFault due seats OutOfMemory = Unit {0}
+IsFault due seats OutOfMemory = ⊥
+
+-- what comes of a comparison: the seats' receipts interleave to those of one thread, or a fault says where they don't
+abbrev pub IsCompared : {A : Type 0} → List Receipt → List Held → Result A GatherFault → Type 0
+IsCompared due seats result = MatchResult result (λ _. AreInterleaved due seats) (λ fault. IsFault due seats fault)
 
 -- the events are legal in a history of the configuration
 abbrev pub IsPast : Past → Type 0
@@ -43,7 +47,19 @@ IsPast h = IsTrue (is_legal history_rules h.config h.events)
 abbrev pub due_of : Past → List Receipt
 due_of h = receipts_of h.config h.events
 
--- The history is legal and the seats' receipts interleave to its own; or there is one that a fault speaks of.
+-- why this history isn't given: memory ran out, or a fault says where the seats' receipts aren't its own
+abbrev pub IsWhyNot : Past → List Held → GatherFault → Type 0
+IsWhyNot h seats OutOfMemory = Unit {0}
+IsWhyNot h seats (Mismatch r) = IsPast h × IsFault (due_of h) seats (Mismatch r)
+IsWhyNot h seats (Unnamed place) = IsPast h × IsFault (due_of h) seats (Unnamed place)
+
+-- The history is the one that is given, legal, and the seats' receipts interleave to its own; or this says why it isn't given.
+abbrev pub IsGatheredOf : Past → List Held → Result Past GatherFault → Type 0
+IsGatheredOf h seats result =
+    MatchResult result (λ given. (given ≡ h) × IsPast h × AreInterleaved (due_of h) seats) (λ fault. IsWhyNot h seats fault)
+
+-- The history that is given is legal, and the seats' receipts interleave to its own; or there is one that isn't given for
+-- this fault.
 abbrev pub IsGathered : List Held → Result Past GatherFault → Type 0
 IsGathered seats result =
-    MatchResult result (λ h. IsPast h × AreInterleaved (due_of h) seats) (λ fault. (h : Past) × IsPast h × IsFault (due_of h) seats fault)
+    MatchResult result (λ h. IsPast h × AreInterleaved (due_of h) seats) (λ fault. (h : Past) × IsWhyNot h seats fault)

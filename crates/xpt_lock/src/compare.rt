@@ -1,32 +1,31 @@
 //! Whether the receipts of seats are those of one history.
 
-ghost use Rattle.std.specs.Prelude.{◌≡◌, ◌≢◌, ◌↔◌, ℕ, ◌+◌, ◌<◌, ◌≤◌, true, false, Some, length, take, MatchBool, MatchResult, IfSome, IfNone, slice_get};
+ghost use Rattle.std.specs.Prelude.{◌≡◌, ◌≢◌, ◌↔◌, ℕ, ◌+◌, ◌<◌, ◌≤◌, true, false, Some, [], length, take, MatchBool, MatchResult, IfSome, IfNone, slice_get};
 ghost use Rattle.cam_types.specs.declared.maxima.TheConstants.{MOST_EVENTS};
-ghost use Rattle.xpt_lock.specs.Gathers.{IsMisfit, IsFault};
-ghost use Rattle.xpt_lock.specs.Receipts.{all_receipts, marks, AreConsistent, AreInterleaved};
+ghost use Rattle.xpt_lock.specs.Gathers.{IsCompared, IsMisfit};
+ghost use Rattle.xpt_lock.specs.Receipts.{all_receipts, marks, AreConsistent};
 
 use crate::fault::GatherFault;
 use crate::receipt::Receipt;
 use crate::seat::Seat;
-use std::alloc::Global;
 use std::sync::ledger::Ledger;
 
-// Whether the seats' receipts are those of the list, each once and each seat's in its order.
+// Whether the seats' receipts are those of the list, each once and each seat's in its order. Marks each place that is named.
 pub(crate) fn compare<L: Ledger>(
-    alloc: Global,
     due: &[Receipt],
+    named: &mut [bool],
     seats: &[Seat<L>],
 ) -> Result<(), GatherFault>
-    requires { length due.now ≤ MOST_EVENTS }
-    ensures { MatchResult result (λ _. AreInterleaved due.now seats.now) (λ fault. IsFault due.now seats.now fault) }
+    requires few { length due.now ≤ MOST_EVENTS }
+    requires unmarked { named.old ≡ marks (length due.now) [] }
+    ensures { IsCompared due.now seats.now result }
 {
-    let mut named = Vec::from_elem(alloc, false, due.len())?;
     for place in 0..seats.len() {
-        if let Err(receipt) = take_seat(due, &mut named, seats, place) {
+        if let Err(receipt) = take_seat(due, named, seats, place) {
             return Err(GatherFault::Mismatch(receipt));
         }
     }
-    match first_unnamed(&named) {
+    match first_unnamed(named) {
         Some(place) => Err(GatherFault::Unnamed(place as u32)),
         None => Ok(()),
     }

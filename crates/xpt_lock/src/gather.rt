@@ -1,6 +1,6 @@
 //! One history of what all seats did.
 
-ghost use Rattle.xpt_lock.specs.Gathers.{IsGathered};
+ghost use Rattle.xpt_lock.specs.Gathers.{IsGathered, IsGatheredOf};
 
 use crate::compare::compare;
 use crate::fault::GatherFault;
@@ -10,6 +10,7 @@ use crate::shared::SharedXpt;
 use cam_event::History;
 use std::alloc::Global;
 use std::sync::ledger::Ledger;
+use xpt_state::Xpt;
 
 impl<L: Ledger> SharedXpt<L> {
     /// The history of all that the seats did: legal, and such that one thread that makes its calls in order gets the seats'
@@ -20,8 +21,16 @@ impl<L: Ledger> SharedXpt<L> {
     pub fn gather(self, alloc: Global, seats: Vec<Seat<L>>) -> Result<History, GatherFault>
         ensures { IsGathered seats.items result }
     {
-        let (history, due) = replay(alloc, self.into_xpt())?;
-        compare(alloc, &due, &seats)?;
-        Ok(history)
+        gathered(alloc, self.into_xpt(), &seats)
     }
+}
+
+// The transport's history, if the seats' receipts are those that one thread would get for it.
+fn gathered<L: Ledger>(alloc: Global, xpt: Xpt, seats: &[Seat<L>]) -> Result<History, GatherFault>
+    ensures { IsGatheredOf (record { config = xpt.config; events = xpt.events }) seats.now result }
+{
+    let (history, due) = replay(alloc, xpt)?;
+    let mut named = Vec::from_elem(alloc, false, due.len())?;
+    compare(&due, &mut named, seats)?;
+    Ok(history)
 }

@@ -1,10 +1,13 @@
 use Rattle.std.proofs.Common.{◌∙◌, sym, subst}
-use Rattle.sim_worker.specs.Walks.{AreOn}
+use Rattle.sim_worker.specs.Walks.{AreOn, ArePlaced}
 use Rattle.sim_worker.proofs.PassLemmas.{followed}
 use Rattle.sim_worker.proofs.pass.follow_all.Goals as goal
 
-pub returns-in-Some : goal.returns-in-Some
-returns-in-Some c = followed c.args.script.now c.args.events.now c.args.logs.now c.pass.new.walks c.pass.new.xpt c.in-Some.said (c.in_ok-pass.ensures.len ∙ c.requires.same) c.in_ok-pass.ensures.passed c.in-Some.ensures
+pub returns-in-Some-clause-followed : goal.returns-in-Some-clause-followed
+returns-in-Some-clause-followed c = followed c.args.script.now c.args.events.now c.args.logs.now c.pass.new.walks c.pass.new.xpt c.in-Some.said (c.in_ok-pass.ensures.len ∙ c.requires.same) c.in_ok-pass.ensures.passed c.events-events.ensures.legal c.in-Some.ensures
 
 pub ending-requires-clause-on : goal.ending-requires-clause-on
 ending-requires-clause-on c = let passed = c.in_ok-pass.ensures.passed in subst (λ es. AreOn c.args.script.now c.args.logs.now es c.pass.new.walks) (sym passed.1) passed.2
+
+pub ending-requires-clause-placed : goal.ending-requires-clause-placed
+ending-requires-clause-placed c = subst (ArePlaced c.args.logs.now) (sym c.in_ok-pass.ensures.passed.1) c.requires.placed

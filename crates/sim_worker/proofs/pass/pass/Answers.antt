@@ -2,7 +2,7 @@ use Rattle.std.proofs.Common.{◌≡◌, ◌∙◌, ◌+◌, ◌++◌, ◌∷◌
 use Rattle.sim_worker.specs.Runs.{is_in_time, are_ticks_in_time}
 use Rattle.sim_worker.specs.Walks.{AreOn}
 use Rattle.sim_worker.proofs.RunListFacts.{take_whole}
-use Rattle.sim_worker.proofs.PassLemmas.{one_event_more, ticks-push}
+use Rattle.sim_worker.proofs.PassLemmas.{followed_to, one_event_more, ticks-push}
 use Rattle.sim_worker.proofs.pass.pass.Goals as goal
 
 pub loop-place-preserved : goal.loop-place-preserved
@@ -22,6 +22,12 @@ loop-place-preserved c =
       on = subst (λ es. AreOn s c.args.logs.now es c.step.new.walks) events did.2;
       ticks = ap (are_ticks_in_time s.config s.limits) more ∙ ticks-push s.config s.limits (take i c.args.events.now) e here inv.ticks;
     }
+
+pub returns-then-not-step-clause-failed : goal.returns-then-not-step-clause-failed
+returns-then-not-step-clause-failed c =
+    let s = c.args.script.now in
+    let inv = c.loop-place.invariant in
+    (c.loop-place-test.true, followed_to s (take c.loop-place.place c.args.events.now) c.args.logs.now c.loop-place.walks c.loop-place.xpt (inv.same ∙ c.requires.same) (inv.of, inv.events, inv.on, inv.ticks) c.events-events.ensures.legal)
 
 pub returns-clause-passed : goal.returns-clause-passed
 returns-clause-passed c =

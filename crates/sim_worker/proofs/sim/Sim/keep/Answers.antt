@@ -4,7 +4,7 @@ use Rattle.event_rules.proofs.LimitLemmas.{round-legal}
 use Rattle.sim_worker.specs.Endings.{IsDrained}
 use Rattle.sim_worker.specs.Runs.{may_tick}
 use Rattle.sim_worker.specs.Work.{Work, IsAtEnd, Driver}
-use Rattle.sim_worker.proofs.FullLemmas.{full_at_limit, full_is, last_round, says_full}
+use Rattle.sim_worker.proofs.FullLemmas.{full_at_limit, full_is, last_round, room_left, says_full}
 use Rattle.sim_worker.proofs.KeepLemmas.{AllRest, drained, landed, round_may_open}
 use Rattle.sim_worker.proofs.LeftLemmas.{left-event}
 use Rattle.sim_worker.proofs.ListFacts.{put_back}
@@ -28,9 +28,11 @@ pub returns-in-Err-clause-ending : goal.returns-in-Err-clause-ending
 returns-in-Err-clause-ending c =
     let rest = subst AllRest (sym c.self.view_is) c.requires in
     let last = last_round c.self.inside.xpt.rules c.self.inside.xpt.config c.self.inside.xpt.events c.in-Err.why c.in-Err.ensures.0 (sym c.is_full.ensures ∙ c.if-is_full.false) (landed _ c.self.invariant rest) in
+    let room = room_left c.self.inside.xpt.rules c.self.inside.xpt.config c.self.inside.xpt.events Tick c.in-Err.why c.in-Err.ensures.0 (sym c.is_full.ensures ∙ c.if-is_full.false) in
     let most = round-legal c.self.inside.xpt.rules c.self.inside.xpt.config c.self.inside.xpt.events (omega (arith, c.self.invariant.a_round, ap (λ (r : Rules). r.rounds) c.self.invariant.rules)) c.self.invariant.legal in (
       ap (λ t. round t.events) c.in-Err.ensures.1 ∙ omega (arith, last, most, ap (λ (r : Rules). r.rounds) c.self.invariant.rules),
       ap (λ t. may_tick c.self.inside.script.now.config c.self.inside.script.now.limits t.events) c.in-Err.ensures.1 ∙ round_may_open _ c.self.invariant rest,
+      omega (arith, ap (λ t. length t.events) c.in-Err.ensures.1, room, ap (λ (r : Rules). r.events) c.self.invariant.rules),
     )
 
 pub invariant_of-self-2 : goal.invariant_of-self-2

@@ -132,34 +132,46 @@ module _ {T : Type 0} where
       remove_first [] = refl
       remove_first (z ∷ zs) = refl
 
-  -- the rank of the entry that was found
-  rank_found : (xs zs : List (Entry T)) (at i : ℕ) (e : Entry T) → zs ≡ xs → ((d : Entry T) → rank key (key (get_or zs at d)) zs ≡ i) → e ≡ get_or xs at e → rank key (key e) xs ≡ i
-  rank_found xs zs at i e same found is =
-      ap (λ x. rank key (key x) xs) is ∙ subst (λ l. rank key (key (get_or l at e)) l ≡ i) same (found e)
+  -- the array with the same entries as another heap
+  pub record Ordered (xs ys : List (Entry T)) (capacity memory : ℕ) : Type 0 where
+    pub sound : IsSound ys capacity memory
+    pub order : in_order key ys ≡ in_order key xs
 
-  -- what taking out the entry that was found leaves
-  pub HasAt-found : (xs ys zs : List (Entry T)) (at i capacity memory : ℕ) (e : Entry T) → zs ≡ xs → ((d : Entry T) → rank key (key (get_or zs at d)) zs ≡ i) → e ≡ get_or xs at e
+  pub Ordered-from : (xs ys : List (Entry T)) (capacity memory : ℕ) → IsHeap key ys → IsPermutation xs ys → IsSound xs capacity memory → Ordered xs ys capacity memory
+  Ordered-from xs ys capacity memory heap p s = record {
+    sound = record {
+      heap = heap;
+      apart = AllApart-permutation (λ x. x.generation) xs ys p s.apart;
+      fits = All-permutation (λ x. x.generation < 2 ^ 64) xs ys p s.fits;
+      room = omega (arith, length_permutation xs ys p, s.room);
+      memory_for = s.memory_for;
+    };
+    order = in_order-permutation key xs ys p (keys_apart xs s.apart s.fits);
+  }
+
+  -- what taking out an entry at its rank leaves
+  pub HasAt-place : (xs ys : List (Entry T)) (i capacity memory : ℕ) (e : Entry T) → ((d : Entry T) → rank key (key (get_or xs i d)) xs ≡ i) → e ≡ get_or xs i e
       → IsPermutation xs (e ∷ ys) → IsSound xs capacity memory → HasAt key xs e i ys
-  HasAt-found xs ys zs at i capacity memory e same found is p s =
-      subst (λ j. HasAt key xs e j ys) (rank_found xs zs at i e same found is) (HasAt-take xs ys e capacity memory p s)
+  HasAt-place xs ys i capacity memory e place is p s =
+      subst (λ j. HasAt key xs e j ys) (ap (λ x. rank key (key x) xs) is ∙ place e) (HasAt-take xs ys e capacity memory p s)
 
-  -- what another priority of the entry that was found leaves
+  -- what another priority of an entry at its rank leaves
   pub record Changes (xs ys : List (Entry T)) (i priority capacity memory : ℕ) : Type 0 where
     pub sound : IsSound ys capacity memory
     pub order : in_order key ys ≡ change_priority (in_order key xs) i priority
 
-  pub Changes-found : (xs ys zs : List (Entry T)) (at i priority capacity memory : ℕ) → at < length xs → zs ≡ xs → ((d : Entry T) → rank key (key (get_or zs at d)) zs ≡ i)
-      → ((e : Entry T) → e ≡ get_or xs at e → IsPermutation (record e { priority = priority } ∷ remove xs at) ys) → IsHeap key ys → IsSound xs capacity memory
+  pub Changes-place : (xs ys : List (Entry T)) (i priority capacity memory : ℕ) → i < length xs → ((d : Entry T) → rank key (key (get_or xs i d)) xs ≡ i)
+      → ((e : Entry T) → e ≡ get_or xs i e → IsPermutation (record e { priority = priority } ∷ remove xs i) ys) → IsHeap key ys → IsSound xs capacity memory
       → Changes xs ys i priority capacity memory
-  Changes-found [] ys zs at i priority capacity memory inside same found p heap s = absurd (omega arith)
-  Changes-found (x ∷ xs) ys zs at i priority capacity memory inside same found p heap s =
+  Changes-place [] ys i priority capacity memory inside place p heap s = absurd (omega arith)
+  Changes-place (x ∷ xs) ys i priority capacity memory inside place p heap s =
       let all : List (Entry T) = x ∷ xs in
-      let e = get_or all at x in
-      let is : e ≡ get_or all at e = get_or-any all at x e inside in
+      let e = get_or all i x in
+      let is : e ≡ get_or all i e = get_or-any all i x e inside in
       record {
-        sound = IsSound-change all ys at priority capacity memory e inside is heap (p e is) s;
-        order = subst (λ j. in_order key ys ≡ change_priority (in_order key all) j priority) (rank_found all zs at i e same found is)
-            (in_order-change all ys at priority capacity memory e inside is (p e is) s);
+        sound = IsSound-change all ys i priority capacity memory e inside is heap (p e is) s;
+        order = subst (λ j. in_order key ys ≡ change_priority (in_order key all) j priority) (place x)
+            (in_order-change all ys i priority capacity memory e inside is (p e is) s);
       }
     where
       get_or-any : (xs : List (Entry T)) (k : ℕ) (d e : Entry T) → k < length xs → get_or xs k d ≡ get_or xs k e

@@ -25,15 +25,18 @@ impl<T> Entry<T> {
     ghost use Rattle.std.specs.Prelude.{◌≡◌, nat_lt};
     ghost use Rattle.camq_heap.specs.Queue.{key};
 
+    /// Where the entry stands: the lesser goes first.
+    pub(crate) fn key(&self) -> u128
+        ensures { result ≡ key self.now }
+    {
+        let (priority, generation) = (self.priority.number(), self.generation);
+        u128::from(priority) * (1 << 64) + u128::from(generation)
+    }
+
     /// Whether this entry goes first.
     pub(crate) fn is_before(&self, other: &Entry<T>) -> bool
         ensures { result ≡ nat_lt (key self.now) (key other.now) }
     {
-        let (mine, theirs) = (self.generation, other.generation);
-        if self.priority == other.priority {
-            mine < theirs
-        } else {
-            self.priority < other.priority
-        }
+        self.key() < other.key()
     }
 }

@@ -35,7 +35,7 @@ impl<'s> Sim<'s> {
         ensures same { (self.new.script ≡ self.old.script) × (left self.new ≡ left self.old) }
         ensures lanes { length self.new.lanes ≡ length self.old.lanes }
     {
-        let round = self.xpt.look().round;
+        let round = self.xpt.round();
         for d in 0..DRIVERS {
             self.pass_pauses_of(d, round);
         }

@@ -70,7 +70,7 @@ fn is_all_done(script: &Script, logs: &[SeatLog], xpt: &Xpt) -> bool
     ensures done { result ≡ true → AreWalked script.now logs.now xpt.now.events → ArePlaced logs.now xpt.now.events → IsAllDone script.now xpt.now.events logs.now }
     ensures left { result ≡ false → IsAllDone script.now xpt.now.events logs.now → ⊥ }
 {
-    is_quiet(xpt) && are_done(script, logs, xpt.look().round)
+    is_quiet(xpt) && are_done(script, logs, xpt.round())
 }
 
 // Whether no stay waits and no CCB is in flight or waits for a decision.

@@ -35,7 +35,7 @@ impl Walk {
     pub(crate) fn settled(self, xpt: &Xpt, rows: &[Step]) -> Walk
         ensures { (s : Scenario) (log : List Receipt) → IsOf s xpt.now → IsWalk s rows.now log xpt.now.events self → IsWalk s rows.now log xpt.now.events result }
     {
-        let row = behind_pauses(rows, self.row, xpt.look().round);
+        let row = behind_pauses(rows, self.row, xpt.round());
         let marked = row == self.row && self.refused;
         Walk {
             row,
@@ -50,7 +50,7 @@ impl Walk {
     {
         match rows.get(self.row) {
             None => true,
-            Some(Step::Pause(round)) => xpt.look().round < *round,
+            Some(Step::Pause(round)) => xpt.round() < *round,
             Some(Step::Act(_)) => self.refused,
         }
     }

@@ -37,6 +37,7 @@ impl Model for Xpt {
 
 impl Xpt {
     ghost use Rattle.cam_types.specs.declared.maxima.TheConstants.{MOST_EVENTS};
+    ghost use Rattle.event_rules.specs.Counts.{round};
     ghost use Rattle.event_rules.specs.Legal.{history_rules, rules_of, is_legal};
     ghost use Rattle.xpt_core.specs.Takes.{refused, with_event, IsTaken, IsRefused};
     ghost use Rattle.xpt_state.specs.Calls.{lane_refused};
@@ -83,6 +84,13 @@ impl Xpt {
         ensures short { length result.now ≤ MOST_EVENTS }
     {
         self.state.events()
+    }
+
+    /// The round, the first of which is 1.
+    pub fn round(&self) -> u32
+        ensures { result ≡ round self.now.events }
+    {
+        self.state.devices().round()
     }
 
     /// Why the event would be refused now: the first cause that holds. None if `take` would accept it.

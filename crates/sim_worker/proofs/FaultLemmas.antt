@@ -1,12 +1,15 @@
 -- what is said of a run that isn't called one of its script
-use Rattle.std.proofs.Common.{◌≡◌, ℕ, ◌+◌, ◌-◌, ◌<◌, ◌≤◌, List, [], ◌∷◌, ◌++◌, length, refl, sym, ap, ◌∙◌, subst, arith, inl, inr, Some, cond, ◌==◌, Bool, true, false, slice_get, take, eqb-true}
+use Rattle.std.proofs.Common.{◌≡◌, ℕ, ◌<◌, List, [], ◌∷◌, ◌++◌, length, refl, sym, ap, ◌∙◌, subst, arith, inl, inr, cond, ◌==◌, true, false, eqb-true}
 use Rattle.std.proofs.lemmas.List.Sums.{sum_by-append}
 use Rattle.event_rules.proofs.ListFacts.{count_by-push}
 use Rattle.xpt_lock.proofs.ConsistentLemmas.{all_one}
 use Rattle.xpt_lock.proofs.ReplayLemmas.{length_receipts_of}
+use Rattle.xpt_lock.specs.Gathers.{IsWhyNot}
+use Rattle.xpt_lock.specs.declared.fault.GatherFault.{GatherFault}
 use Rattle.xpt_lock.specs.Receipts.{all_receipts, naming}
-use Rattle.sim_worker.specs.Words.{AreInterleaved, due_of, Past, Scenario, Held, Receipt, Event}
-use Rattle.sim_worker.specs.Faults.{IsFailing, IsNaming, IsNoRun, LiveFault, Mismatch, Unnamed, NoThread, OutOfMemory}
+use Rattle.xpt_lock.specs.declared.fault.GatherFault.TheVariants as gathers
+use Rattle.sim_worker.specs.Words.{AreInterleaved, IsPast, due_of, Past, Scenario, Held, Receipt, Event}
+use Rattle.sim_worker.specs.Faults.{IsFailing, IsLiveFault, IsSeatless, IsUnstarted, as_live, IsNaming, IsNoRun, LiveFault, Mismatch, Unnamed, NoThread, OutOfMemory}
 
 -- no receipt names the place, of one list and then of another
 pub none_names : (place : ℕ) (before : List Held) (log : Held) → naming place (all_receipts before) ≡ 0 → naming place log.receipts ≡ 0 → naming place (all_receipts (before ++ log ∷ [])) ≡ 0
@@ -37,3 +40,27 @@ no_run s h logs place (Unnamed first) fit fails named = (
 )
 no_run s h logs place NoThread fit fails named = absurd named
 no_run s h logs place OutOfMemory fit fails named = absurd named
+
+-- what a run says of each fault
+pub seatless_fault : (s : Scenario) (fault : LiveFault) → IsSeatless fault → IsLiveFault s fault
+seatless_fault s OutOfMemory h = tt
+seatless_fault s NoThread h = absurd h
+seatless_fault s (Mismatch r) h = absurd h
+seatless_fault s (Unnamed place) h = inl h
+
+pub unstarted_fault : (s : Scenario) (fault : LiveFault) → IsUnstarted fault → IsLiveFault s fault
+unstarted_fault s OutOfMemory h = tt
+unstarted_fault s NoThread h = tt
+unstarted_fault s (Mismatch r) h = absurd h
+unstarted_fault s (Unnamed place) h = absurd h
+
+pub ungathered_fault : (s : Scenario) (logs : List Held) (fault : GatherFault) → ((h : Past) × IsWhyNot h logs fault) → IsLiveFault s (as_live fault)
+ungathered_fault s logs gathers.OutOfMemory h = tt
+ungathered_fault s logs (gathers.Mismatch r) h = record { history = h.0; logs = logs; past = h.1.0; why = inl h.1.1 }
+ungathered_fault s logs (gathers.Unnamed place) h = inr (record { history = h.0; logs = logs; past = h.1.0; why = inl h.1.1 })
+
+pub judged_fault : (s : Scenario) (h : Past) (logs : List Held) (fault : LiveFault) → IsPast h → AreInterleaved (due_of h) logs → IsNoRun s h.events logs fault → IsLiveFault s fault
+judged_fault s h logs OutOfMemory past together said = tt
+judged_fault s h logs NoThread past together said = absurd said
+judged_fault s h logs (Mismatch r) past together (its, fails) = record { history = h; logs = logs; past = past; why = inr (together, (its, fails)) }
+judged_fault s h logs (Unnamed place) past together (first, none) = inr (record { history = h; logs = logs; past = past; why = inr (together, (first, none)) })

@@ -7,14 +7,18 @@ use Rattle.std.proofs.lemmas.List.Elements.{filter_map-append}
 use Rattle.sim_worker.specs.Words.{Topology, asks_requeue, is_some_and, round, ccbs, has_in_flight, is_in_flight, head, stays_begun, Requeue, Rules, Step, refused, next_case, has_head}
 use Rattle.sim_worker.specs.Endings.{IsDrained}
 use Rattle.sim_worker.specs.Runs.{submits, submit_asked, submits_asked, is_over, are_lanes_idle, is_stuck, may_recovery_rest, may_tick, IsPrefix}
-use Rattle.sim_worker.specs.Work.{Work, IsWork, IsAtEnd, actor_at, is_able, steps_of, Hand, Lane}
+use Rattle.sim_worker.specs.Work.{Work, AreBehindPauses, IsWork, IsAtEnd, actor_at, is_able, steps_of, Hand, Lane}
 use Rattle.sim_worker.specs.Held.{is_for_stays, is_held_up}
 use Rattle.sim_worker.specs.declared.actor.Actor.TheVariants as actors
+use Rattle.sim_worker.proofs.CallLemmas.{all_done}
 use Rattle.sim_worker.proofs.CaseLemmas.{none_recovers}
+use Rattle.sim_worker.proofs.DrainLemmas.{left_to_call, left_to_decide}
 use Rattle.sim_worker.proofs.FullLemmas.{false_true}
+use Rattle.event_rules.proofs.QueueLaws.{test_le}
+use Rattle.trace_file.specs.declared.step.Step.TheVariants as step
 use Rattle.sim_worker.proofs.ListFacts.{any_some, none_any, take_and_drop}
 use Rattle.sim_worker.proofs.RestLemmas.{stays_full}
-use Rattle.sim_worker.proofs.RunListFacts.{get_there, take_whole, there_is}
+use Rattle.sim_worker.proofs.RunListFacts.{all_at, get_there, take_whole, there_is}
 
 abbrev pub AllRest : Work → Type 0
 AllRest w = (i : ℕ) → i < 9 + length w.lanes → is_able w (actor_at (length w.lanes) i) ≡ false
@@ -101,6 +105,7 @@ prefixes w h d = elim (nat_lt d 8) as (λ b. nat_lt d 8 ≡ b → IsPrefix (subm
 
 pub drained : (w : Work) → IsWork w → AllRest w → IsAtEnd w → IsDrained w.script w.transport.events
 drained w h rest end = record {
+  calls = h.calls ∙ all_done w.drivers w.script.drivers (h.eight ∙ sym h.scenario.eight) end.rows;
   submits = λ d. elim (nat_lt d 8) as (λ b. nat_lt d 8 ≡ b → submits d w.transport.events ≡ submits_asked (steps_of w.script d)) [
     | true ↦ λ lt.
         let x = get_there w.drivers d (omega (arith, ltb-true d 8 lt, h.eight)) in
@@ -119,3 +124,23 @@ drained w h rest end = record {
     decided = none_recovers w.transport.rules w.transport.config w.transport.events h.legal end.cases;
   };
 }
+
+-- where all rest, and no driver stands at a pause that is over, what is drained is at its end
+pub at_end : (w : Work) → IsWork w → AllRest w → AreBehindPauses w → IsDrained w.script w.transport.events → IsAtEnd w
+at_end w h rest behind drained = record {
+  rows = λ d x at. elim (slice_get (steps_of w.script d) x.done) as (λ o. slice_get (steps_of w.script d) x.done ≡ o → length (steps_of w.script d) ≤ x.done) [
+    | None ↦ λ is. past_all (steps_of w.script d) x.done is
+    | Some (step.Act e) ↦ λ is. absurd (left_to_call w d x e h at is drained)
+    | Some (step.Pause r) ↦ λ is. absurd (omega (arith, behind d x r at is, test_le r (round w.transport.events) (all_at (is_over (round w.transport.events)) (steps_of w.script d) x.done (step.Pause r) (drained.pauses d) is)))
+  ] refl;
+  cases = elim (next_case w.transport.events) as (λ o. next_case w.transport.events ≡ o → o ≡ None) [
+    | None ↦ λ is. refl
+    | Some case ↦ λ is. absurd (left_to_decide w case h is drained)
+  ] refl;
+  sent = drained.quiet.sent;
+}
+  where
+    past_all : {X : Type 0} → (xs : List X) (n : ℕ) → slice_get xs n ≡ None → length xs ≤ n
+    past_all [] n is = omega arith
+    past_all (x ∷ xs) zero is = absurd (cc)
+    past_all (x ∷ xs) (suc n) is = omega (arith, past_all xs n is)

@@ -1,5 +1,7 @@
+pub mod CallLemmas
 pub mod CaseLemmas
 pub mod ConfigLemmas
+pub mod DrainLemmas
 pub mod DriverLemmas
 pub mod FaultLemmas
 pub mod FullLemmas

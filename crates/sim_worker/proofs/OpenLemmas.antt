@@ -3,7 +3,8 @@ use Rattle.std.proofs.Common.{◌≡◌, ℕ, zero, suc, ◌≤◌, true, false,
 use Rattle.sim_worker.specs.Words.{is_in_flight, Topology, Rules, rules_of, is_legal, Scenario, IsScenario, Transport}
 use Rattle.sim_worker.specs.Ports.{first_answers, outcomes}
 use Rattle.sim_worker.specs.Runs.{outcomes_by}
-use Rattle.sim_worker.specs.Work.{IsWork, AreFresh, HasDone, steps_of, Driver, Lane}
+use Rattle.sim_worker.specs.Work.{IsWork, AreFresh, HasDone, calls_done, steps_of, Driver, Lane}
+use Rattle.sim_worker.proofs.CallLemmas.{none_done}
 use Rattle.sim_worker.proofs.FullLemmas.{false_true}
 use Rattle.sim_worker.proofs.RunListFacts.{get_pushed, some_is}
 
@@ -38,6 +39,7 @@ opened s t ds ls scenario a_round is first size fresh =
       drivers = λ d w at.
           let one = in_replicate 8 d (record { done = 0; refused = false }) w (ap (λ (v : List Driver). slice_get v d) (sym first) ∙ at) in
           subst (λ (v : Driver). HasDone (steps_of s d) d [] v.done) (sym one) (record { within = omega arith; submits = refl; pauses = refl });
+      calls = sym (ap (λ v. calls_done v s.drivers) first ∙ none_done 8 s.drivers);
       strangers = λ d le. refl;
       lanes = λ lane w at.
           let f = fresh lane w at in

@@ -7,11 +7,13 @@ use Rattle.event_rules.proofs.LawLemmas.{legal-push}
 use Rattle.event_rules.proofs.LegalLemmas.{legal-none}
 use Rattle.sim_worker.specs.Ports.{answer_at, first_answers, outcomes, Served}
 use Rattle.sim_worker.specs.Runs.{outcomes_by, is_in_time, is_submit_by, may_tick}
-use Rattle.sim_worker.specs.Work.{IsWork, HasDone, HasServed, AreLanesAt, AreInHand, IsInHand, outcome_in_hand, steps_of, Driver, Hand, Lane}
+use Rattle.sim_worker.specs.Work.{IsWork, HasDone, calls_of, HasServed, AreLanesAt, AreInHand, IsInHand, outcome_in_hand, steps_of, Driver, Hand, Lane}
 use Rattle.sim_worker.proofs.ListFacts.{map_at, set_at}
 use Rattle.sim_worker.proofs.PassLemmas.{ticks-push}
 use Rattle.sim_worker.proofs.RunListFacts.{get_in_set, set_beside, some_is, there_is}
 use Rattle.sim_worker.proofs.FullLemmas.{false_true}
+use Rattle.sim_worker.specs.Endings.{is_call}
+use Rattle.sim_worker.proofs.CallLemmas.{calls_done-same, calls_done-set, calls_of-act, no_call, one_call, ruled_call}
 use Rattle.sim_worker.proofs.DriverLemmas.{drivers-call, drivers-other, drivers-set, strangers-call, strangers-other}
 use Rattle.sim_worker.proofs.LaneFacts.{in_hand, is_lane_event, lanes-other, flights-other, lanes-done, flights-done, lanes-send, flights-send}
 
@@ -49,6 +51,7 @@ call_step s t new ds ls r after d w y e here there one made h =
       eight = length-set ds d y ∙ h.eight;
       size = h.size;
       drivers = drivers-call s t.events e ds d w y ruled here there one h.drivers;
+      calls = omega (arith, one_call t.events e (ruled_call s.config d e ruled), h.calls, calls_done-set ds s.drivers d w y here, calls_of-act (steps_of s d) w.done e there, ap (calls_of (steps_of s d)) one);
       strangers = strangers-call s t.events e d ruled (omega (arith, there_is ds d w here, h.eight)) h.strangers;
       lanes = lanes-other s t.events e ls (ruled_apart s.config d e ruled) h.lanes;
       flights = flights-other t.events e ls (ruled_apart s.config d e ruled) h.flights;
@@ -56,9 +59,9 @@ call_step s t new ds ls r after d w y e here there one made h =
     })
 
 -- a driver that is marked, or put after pauses
-pub driver_step : (s : Scenario) (t : Transport) (ds : List Driver) (ls : List Lane) (r after : Bool) (d : ℕ) (y : Driver) → HasDone (steps_of s d) d t.events y.done →
+pub driver_step : (s : Scenario) (t : Transport) (ds : List Driver) (ls : List Lane) (r after : Bool) (d : ℕ) (w y : Driver) → slice_get ds d ≡ Some w → calls_of (steps_of s d) y.done ≡ calls_of (steps_of s d) w.done → HasDone (steps_of s d) d t.events y.done →
     IsWork (record { script = s; transport = t; drivers = ds; lanes = ls; refused = r }) → IsWork (record { script = s; transport = t; drivers = set ds d y; lanes = ls; refused = after })
-driver_step s t ds ls r after d y done h = record {
+driver_step s t ds ls r after d w y here same done h = record {
   scenario = h.scenario;
   a_round = h.a_round;
   legal = h.legal;
@@ -67,6 +70,7 @@ driver_step s t ds ls r after d y done h = record {
   eight = length-set ds d y ∙ h.eight;
   size = h.size;
   drivers = drivers-set s t.events ds d y done h.drivers;
+  calls = omega (arith, h.calls, calls_done-set ds s.drivers d w y here, same);
   strangers = h.strangers;
   lanes = h.lanes;
   flights = h.flights;
@@ -74,9 +78,9 @@ driver_step s t ds ls r after d y done h = record {
 }
 
 -- an event of neither a driver nor a lane
-pub other_step : (s : Scenario) (t new : Transport) (ds : List Driver) (ls : List Lane) (r after : Bool) (e : Event) → is_lane_event e ≡ false → ((d : ℕ) → is_submit_by d e ≡ false) → is_in_time s.config s.limits (t.events, e) ≡ true → IsTaken t e new →
+pub other_step : (s : Scenario) (t new : Transport) (ds : List Driver) (ls : List Lane) (r after : Bool) (e : Event) → is_lane_event e ≡ false → is_call e ≡ false → ((d : ℕ) → is_submit_by d e ≡ false) → is_in_time s.config s.limits (t.events, e) ≡ true → IsTaken t e new →
     IsWork (record { script = s; transport = t; drivers = ds; lanes = ls; refused = r }) → IsWork (record { script = s; transport = new; drivers = ds; lanes = ls; refused = after })
-other_step s t new ds ls r after e apart none here made h =
+other_step s t new ds ls r after e apart uncalled none here made h =
     subst (λ v. IsWork (record { script = s; transport = v; drivers = ds; lanes = ls; refused = after })) (sym made.1) (record {
       scenario = h.scenario;
       a_round = h.a_round;
@@ -86,6 +90,7 @@ other_step s t new ds ls r after e apart none here made h =
       eight = h.eight;
       size = h.size;
       drivers = drivers-other s t.events e ds none h.drivers;
+      calls = no_call t.events e uncalled ∙ h.calls;
       strangers = strangers-other t.events e none h.strangers;
       lanes = lanes-other s t.events e ls apart h.lanes;
       flights = flights-other t.events e ls apart h.flights;
@@ -106,6 +111,7 @@ done_step s t new ds ls r lane w y hand here holds number port empty made h =
       eight = h.eight;
       size = length-set ls lane y ∙ h.size;
       drivers = drivers-other s t.events (Done hand.ccb hand.outcome) ds (λ d. refl) h.drivers;
+      calls = no_call t.events (Done hand.ccb hand.outcome) refl ∙ h.calls;
       strangers = strangers-other t.events (Done hand.ccb hand.outcome) (λ d. refl) h.strangers;
       lanes = lanes-done s t.events ls lane w y hand here holds number port empty h.lanes;
       flights = flights-done t.events ls lane w y hand here holds h.flights;
@@ -127,6 +133,7 @@ send_step s t new ds ls r lane ccb w y one grounded here empty number answers se
       eight = h.eight;
       size = length-set ls lane y ∙ h.size;
       drivers = drivers-other s t.events (Send lane ccb) ds (λ d. refl) h.drivers;
+      calls = no_call t.events (Send lane ccb) refl ∙ h.calls;
       strangers = strangers-other t.events (Send lane ccb) (λ d. refl) h.strangers;
       lanes = lanes-send s t.events ls lane ccb w y one grounded here empty number answers served next holds fine h.lanes;
       flights = flights-send t.events ls lane ccb w y one.outcome here empty holds h.flights;
@@ -171,6 +178,7 @@ port_step s t ds ls r lane w y here number answers served hand h = record {
   eight = h.eight;
   size = length-set ls lane y ∙ h.size;
   drivers = h.drivers;
+  calls = h.calls;
   strangers = h.strangers;
   lanes = lanes-port s t.events ls lane w y here number answers served hand h.lanes;
   flights = flights-port t.events ls lane w y here hand h.flights;
@@ -188,6 +196,7 @@ mark_step s t ds ls r after h = record {
   eight = h.eight;
   size = h.size;
   drivers = h.drivers;
+  calls = h.calls;
   strangers = h.strangers;
   lanes = h.lanes;
   flights = h.flights;
@@ -209,6 +218,7 @@ tick_step s t new ds after ls r refused done len may made h =
       drivers = λ d w at.
           let old = map_at (λ (x : Driver). x.done) after ds d w done at in
           subst (λ n. HasDone (steps_of s d) d (t.events ++ Tick ∷ []) n) (sym old.2) (drivers-other s t.events Tick ds (λ k. refl) h.drivers d old.0 old.1);
+      calls = no_call t.events Tick refl ∙ h.calls ∙ sym (calls_done-same after ds s.drivers done);
       strangers = strangers-other t.events Tick (λ d. refl) h.strangers;
       lanes = lanes-other s t.events Tick ls refl h.lanes;
       flights = flights-other t.events Tick ls refl h.flights;

@@ -1,12 +1,12 @@
 -- what a turn finds
-use Rattle.std.proofs.Common.{◌≡◌, ℕ, zero, suc, ◌<◌, ◌≤◌, Bool, true, false, List, [], ◌∷◌, length, get_or, refl, sym, ap, ◌∙◌, subst, arith, Option, Some, None, Vec, Global, map, slice_get, Result, Ok, Err, is_err, MatchResult, IfSome, option_map, not, sum_by, cond}
-use Rattle.std.proofs.lemmas.List.{get_or-map}
+use Rattle.std.proofs.Common.{◌≡◌, ℕ, zero, suc, ◌<◌, ◌≤◌, Bool, true, false, List, [], ◌∷◌, length, get_or, refl, ap, subst, arith, Option, Some, None, slice_get, Result, Ok, Err, is_err, MatchResult, IfSome, option_map, not, sum_by, cond}
 use Rattle.sim_worker.specs.Words.{Topology, Event, Rules, Refusal, Step, Transport, refused, Bounds, asks_requeue, is_some_and, Case, is_in_flight, Done, Requeue, Finish, Scenario, is_answer}
 use Rattle.event_rules.proofs.LegalLemmas.{legal-none}
 use Rattle.event_rules.proofs.LawLemmas.{allowed-legal_event}
 use Rattle.trace_file.specs.declared.step.Step.TheVariants as step
 use Rattle.std.proofs.lemmas.Bool.{and_from, and_parts}
 use Rattle.std.proofs.lemmas.List.Sums.{sum_by-cons}
+use Rattle.sim_worker.specs.Endings.{is_call}
 use Rattle.sim_worker.specs.Work.{Work, IsWork, call_of, is_driver_able, is_lane_able, decision_of, Driver, Hand, Lane}
 use Rattle.sim_worker.proofs.LaneFacts.{is_lane_event}
 use Rattle.event_rules.proofs.WithinLemmas.{short-legal}
@@ -81,6 +81,9 @@ few_at (l ∷ ls) (suc d) = omega (arith, sum_by-cons (λ (x : List Step). lengt
 -- a decision is neither a lane's event nor a submit nor a tick
 pub decision_apart : (case : Case) → is_lane_event (decision_of case) ≡ false
 decision_apart case = elim (asks_requeue case.class) as (λ b. is_lane_event (cond b (Requeue case.ccb) (Finish case.ccb)) ≡ false) [ true ↦ refl | false ↦ refl ]
+
+pub decision_no_call : (case : Case) → is_call (decision_of case) ≡ false
+decision_no_call case = elim (asks_requeue case.class) as (λ b. is_call (cond b (Requeue case.ccb) (Finish case.ccb)) ≡ false) [ true ↦ refl | false ↦ refl ]
 
 pub decision_no_submit : (case : Case) (d : ℕ) → is_submit_by d (decision_of case) ≡ false
 decision_no_submit case d = elim (asks_requeue case.class) as (λ b. is_submit_by d (cond b (Requeue case.ccb) (Finish case.ccb)) ≡ false) [ true ↦ refl | false ↦ refl ]

@@ -1,6 +1,7 @@
 -- what is said of a run on many threads that isn't called one of its script
 use Rattle.std.specs.Prelude.{◌≡◌, ℕ, ◌-◌, ◌<◌, ◌⊎◌, List, [], length, take, Some, slice_get}
-use Rattle.sim_worker.specs.Words.{Event, Scenario, Held, Receipt}
+use Rattle.sim_worker.specs.Words.{AreInterleaved, Event, Scenario, Held, IsPast, Past, Receipt, due_of}
+use Rattle.xpt_lock.specs.Gathers.{IsMisfit, IsUnnamed}
 use Rattle.xpt_lock.specs.Receipts.{all_receipts, naming}
 use Rattle.sim_worker.specs.Walks.{IsFollowedTo}
 use Rattle.xpt_lock.specs.declared.fault.GatherFault.{GatherFault}
@@ -29,6 +30,40 @@ IsNoRun s events logs OutOfMemory = Unit {0}
 IsNoRun s events logs (Mismatch r) = IsOfLogs logs r × IsFailing s events logs r.at
 IsNoRun s events logs (Unnamed first) = (first ≡ 0) × (events ≡ [])
 IsNoRun s events logs NoThread = ⊥
+
+-- the fault says where the receipts of the logs aren't those that one thread would get for the history
+abbrev pub IsUngathered : Past → List Held → LiveFault → Type 0
+IsUngathered h logs (Mismatch r) = IsMisfit (due_of h) logs r
+IsUngathered h logs (Unnamed place) = IsUnnamed (due_of h) logs place
+IsUngathered h logs NoThread = ⊥
+IsUngathered h logs OutOfMemory = ⊥
+
+-- Of some legal history and logs: these aren't gathered to it; or they are, and it is no run of the script.
+pub record IsFailed (s : Scenario) (fault : LiveFault) : Type 0 where
+  pub history : Past
+  pub logs : List Held
+  pub past : IsPast history
+  pub why : IsUngathered history logs fault ⊎ (AreInterleaved (due_of history) logs × IsNoRun s history.events logs fault)
+
+-- Why there is no run: memory ran out, or a thread couldn't be started; else the fault has the receipt or the place at which a
+-- comparison failed, or place 0 if a seat was missing.
+abbrev pub IsLiveFault : Scenario → LiveFault → Type 0
+IsLiveFault s OutOfMemory = Unit {0}
+IsLiveFault s NoThread = Unit {0}
+IsLiveFault s (Mismatch r) = IsFailed s (Mismatch r)
+IsLiveFault s (Unnamed place) = (place ≡ 0) ⊎ IsFailed s (Unnamed place)
+
+-- no seat for each actor: memory ran out, or a seat was missing
+abbrev pub IsSeatless : LiveFault → Type 0
+IsSeatless (Unnamed place) = place ≡ 0
+IsSeatless OutOfMemory = Unit {0}
+IsSeatless _ = ⊥
+
+-- a thread couldn't be started, or memory ran out
+abbrev pub IsUnstarted : LiveFault → Type 0
+IsUnstarted NoThread = Unit {0}
+IsUnstarted OutOfMemory = Unit {0}
+IsUnstarted _ = ⊥
 
 -- what a run says of receipts that couldn't be gathered
 abbrev pub as_live : GatherFault → LiveFault

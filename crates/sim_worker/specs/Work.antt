@@ -1,10 +1,12 @@
 -- how far a run on one thread is
-use Rattle.std.specs.Prelude.{◌≡◌, ℕ, ◌+◌, ◌*◌, ◌-◌, ◌≤◌, ◌<◌, Bool, true, false, not, ◌&&◌, ◌||◌, List, [], ◌∷◌, ◌++◌, length, take, get_or, slice_get, sum_by, Option, Some, None, is_some, IfSome, if◌then◌else◌, nat_lt, option_map}
+use Rattle.std.specs.Prelude.{◌≡◌, ℕ, ◌+◌, ◌*◌, ◌-◌, ◌≤◌, ◌<◌, Bool, true, false, not, ◌&&◌, ◌||◌, List, [], ◌∷◌, ◌++◌, length, take, get_or, slice_get, count_by, sum_by, Option, Some, None, is_some, IfSome, if◌then◌else◌, nat_lt, option_map}
 use Rattle.std.specs.List.{list_all}
 use Rattle.sim_worker.specs.Words.{Outcome, rules_of, is_legal, is_some_and, round, is_in_flight, Event, Scenario, IsScenario, is_answer, Step, Transport, next_case, has_head, Case, asks_requeue, Refusal, HistoryFull, Requeue, Finish, waiting, refused}
 use Rattle.trace_file.specs.declared.step.Step.TheVariants as step
 use Rattle.sim_worker.specs.Ports.{first_answers, outcomes}
 use Rattle.sim_worker.specs.Held.{is_held_up}
+use Rattle.sim_worker.specs.Endings.{is_call}
+use Rattle.sim_worker.specs.Logs.{acts}
 use Rattle.sim_worker.specs.Runs.{submits, submits_asked, is_over, sender, outcomes_by, are_ticks_in_time}
 use Rattle.sim_worker.specs.declared.actor.Actor.{Actor}
 use Rattle.sim_worker.specs.declared.actor.Actor.TheVariants as actor
@@ -39,6 +41,16 @@ abbrev pub outcome_in_hand : Option Hand → List Outcome
 outcome_in_hand None = []
 outcome_in_hand (Some h) = h.outcome ∷ []
 
+-- how many calls a driver's first rows ask for
+abbrev pub calls_of : List Step → ℕ → ℕ
+calls_of steps done = length (acts (take done steps))
+
+-- how many calls the drivers made, by the rows that they have done
+abbrev pub calls_done : List Driver → List (List Step) → ℕ
+calls_done [] rows = 0
+calls_done (w ∷ ws) [] = 0
+calls_done (w ∷ ws) (steps ∷ rows) = calls_of steps w.done + calls_done ws rows
+
 -- What a lane's port served came to the outcomes in the history, but for the command in hand, which is in flight.
 pub record HasServed (s : Scenario) (lane : ℕ) (events : List Event) (w : Lane) : Type 0 where
   pub number : w.number ≡ lane
@@ -72,6 +84,7 @@ pub record IsWork (w : Work) : Type 0 where
   pub eight : length w.drivers ≡ 8
   pub size : length w.lanes ≡ length w.script.config.lanes
   pub drivers : AreDriversAt w.script w.transport.events w.drivers
+  pub calls : count_by is_call w.transport.events ≡ calls_done w.drivers w.script.drivers
   pub strangers : (d : ℕ) → 8 ≤ d → submits d w.transport.events ≡ []
   pub lanes : AreLanesAt w.script w.transport.events w.lanes
   pub flights : AreInHand w.transport.events w.lanes
@@ -113,6 +126,10 @@ pub record IsToSend (w : Work) (lane : ℕ) : Type 0 where
 abbrev pub actor_at : ℕ → ℕ → Actor
 actor_at lanes i = if nat_lt i 8 then actor.Driver i else if nat_lt i (8 + lanes) then actor.Lane (i - 8) else actor.Recovery
 
+-- no driver stands at a pause that is over
+abbrev pub AreBehindPauses : Work → Type 0
+AreBehindPauses w = (d : ℕ) (x : Driver) (r : ℕ) → slice_get w.drivers d ≡ Some x → slice_get (steps_of w.script d) x.done ≡ Some (step.Pause r) → round w.transport.events < r
+
 -- the decision that a case's class asks for
 abbrev pub decision_of : Case → Event
 decision_of case = if asks_requeue case.class then Requeue case.ccb else Finish case.ccb
@@ -122,9 +139,13 @@ abbrev pub is_full : Refusal → Bool
 is_full (HistoryFull n) = true
 is_full _ = false
 
+-- each driver has done its rows
+abbrev pub AreDriversDone : Work → Type 0
+AreDriversDone w = (d : ℕ) (x : Driver) → slice_get w.drivers d ≡ Some x → length (steps_of w.script d) ≤ x.done
+
 -- each driver has done its rows, no case is left and no stay waits
 pub record IsAtEnd (w : Work) : Type 0 where
-  pub rows : (d : ℕ) (x : Driver) → slice_get w.drivers d ≡ Some x → length (steps_of w.script d) ≤ x.done
+  pub rows : AreDriversDone w
   pub cases : next_case w.transport.events ≡ None
   pub sent : waiting w.transport.events ≡ []
 

@@ -1,8 +1,9 @@
 //! Who is able to act in a run on one thread.
 
-ghost use Rattle.std.specs.Prelude.{◌≡◌, ℕ, List, ◌<◌, ◌≤◌, ◌+◌, [], true, false, length, slice_get, All, IfOk};
+ghost use Rattle.std.specs.Prelude.{◌≡◌, ◌≢◌, ℕ, List, ◌<◌, ◌≤◌, ◌+◌, [], true, false, length, slice_get, All, IfOk, Some};
 ghost use Rattle.sim_worker.specs.Words.{round, Event};
-ghost use Rattle.sim_worker.specs.Work.{Work, HasDone, actor_at, call_of, is_able, left, steps_of};
+ghost use Rattle.sim_worker.specs.Work.{Work, AreBehindPauses, HasDone, actor_at, call_of, calls_of, is_able, left, steps_of, Driver};
+ghost use Rattle.trace_file.specs.declared.step.Step.TheVariants as step;
 ghost use Rattle.sim_worker.specs.declared.actor.Actor.TheVariants as actors;
 
 use crate::actor::Actor;
@@ -17,6 +18,7 @@ impl<'s> Sim<'s> {
     pub(crate) fn list_able(&mut self, able: &mut Vec<Actor>) -> Result<(), AllocError>
         ensures same { (self.new.script ≡ self.old.script) × (left self.new ≡ left self.old) }
         ensures able { All (λ a. is_able self.new a ≡ true) able.new.items }
+        ensures behind { IfOk result (λ _. AreBehindPauses self.new) }
         ensures none { IfOk result (λ _. able.new.items ≡ [] → (i : ℕ) → i < 9 + length self.new.lanes → is_able self.new (actor_at (length self.new.lanes) i) ≡ false) }
     {
         self.pass_pauses();
@@ -34,6 +36,7 @@ impl<'s> Sim<'s> {
     fn pass_pauses(&mut self)
         ensures same { (self.new.script ≡ self.old.script) × (left self.new ≡ left self.old) }
         ensures lanes { length self.new.lanes ≡ length self.old.lanes }
+        ensures behind { AreBehindPauses self.new }
     {
         let round = self.xpt.round();
         for d in 0..DRIVERS {
@@ -46,6 +49,8 @@ impl<'s> Sim<'s> {
         requires now { now ≡ round self.old.transport.events }
         ensures same { (self.new.script ≡ self.old.script) × (left self.new ≡ left self.old) × (self.new.transport ≡ self.old.transport) }
         ensures lanes { length self.new.lanes ≡ length self.old.lanes }
+        ensures others { (k : ℕ) → k ≢ d → slice_get self.new.drivers k ≡ slice_get self.old.drivers k }
+        ensures behind { (x : Driver) (r : ℕ) → slice_get self.new.drivers d ≡ Some x → slice_get (steps_of self.new.script d) x.done ≡ Some (step.Pause r) → now < r }
     {
         let done = behind_pauses(&self.script.drivers()[d], self.drivers[d].done, now);
         self.drivers[d].done = done;
@@ -116,7 +121,9 @@ impl<'s> Sim<'s> {
 
 // After the pauses that stand from a place of the steps on and are over.
 fn behind_pauses(steps: &[Step], from: usize, now: u32) -> usize
-    ensures { (d : ℕ) → (events : List Event) → now ≡ round events → HasDone steps.now d events from → HasDone steps.now d events result }
+    ensures done { (d : ℕ) → (events : List Event) → now ≡ round events → HasDone steps.now d events from → HasDone steps.now d events result }
+    ensures calls { calls_of steps.now result ≡ calls_of steps.now from }
+    ensures next { (r : ℕ) → slice_get steps.now result ≡ Some (step.Pause r) → now < r }
 {
     let mut done = from;
     while let Some(Step::Pause(round)) = steps.get(done) {

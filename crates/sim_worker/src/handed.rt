@@ -1,8 +1,9 @@
 //! The lanes' ports on their way through the threads: each comes back at the lane at which it was handed in.
 
-ghost use Rattle.std.specs.Prelude.{◌≡◌, ◌<◌, ℕ, List, [], IfOk, IsTrue, get_or, length, map};
+ghost use Rattle.std.specs.Prelude.{◌≡◌, ◌<◌, ℕ, List, [], IfOk, IfErr, IsTrue, get_or, length, map};
 ghost use Rattle.std.specs.List.{range_with_len};
 ghost use Rattle.trace_file.specs.Scenarios.{is_answer};
+ghost use Rattle.sim_worker.specs.Faults.{IsSeatless};
 ghost use Rattle.sim_worker.specs.Words.{Outcome};
 
 use crate::fault::LiveFault;
@@ -79,7 +80,8 @@ pub(crate) fn hand_back<P: Port, H: Handed>(
     lanes: Vec<LanePort<P, H>>,
     count: usize,
 ) -> Result<Vec<P>, LiveFault>
-    ensures { IfOk result (λ ports. map (λ p. P.answers p) ports.items ≡ map (λ lane. H.answers lane) (range_with_len 0 count)) }
+    ensures ports { IfOk result (λ ports. map (λ p. P.answers p) ports.items ≡ map (λ lane. H.answers lane) (range_with_len 0 count)) }
+    ensures fault { IfErr result IsSeatless }
 {
     let mut ports = Vec::with_capacity(alloc, count)?;
     for one in lanes {

@@ -16,7 +16,7 @@
 
 ghost use Rattle.std.specs.Prelude.{◌≡◌, ℕ, [], get_or, length, map, All, IfOk, IfErr, ◌<◌};
 ghost use Rattle.std.specs.List.{range_with_len};
-ghost use Rattle.sim_worker.specs.Faults.{as_live, Unnamed};
+ghost use Rattle.sim_worker.specs.Faults.{IsLiveFault, IsSeatless, IsUnstarted, as_live, Unnamed};
 ghost use Rattle.sim_worker.specs.LiveRuns.{IsLiveRun};
 
 use crate::ending::Ending;
@@ -68,6 +68,7 @@ pub fn run_live<P: Port + Send, R: Threads + Wait + Sync>(
     requires fresh { All (λ p. P.list p ≡ []) ports.items }
     ensures run { IfOk result (λ run. IsLiveRun script.now run.history run.seats.items (map (λ p. P.list p) run.ports.items) run.ending) }
     ensures ports { IfOk result (λ run. map (λ p. P.answers p) run.ports.items ≡ map (λ p. P.answers p) ports.items) }
+    ensures fault { IfErr result (IsLiveFault script.now) }
 {
     run_live_with(rt, alloc, script, ports, &Untold)
 }
@@ -84,6 +85,7 @@ pub fn run_live_with<P: Port + Send, W: Progress + Sync, R: Threads + Wait + Syn
     requires fresh { All (λ p. P.list p ≡ []) ports.items }
     ensures run { IfOk result (λ run. IsLiveRun script.now run.history run.seats.items (map (λ p. P.list p) run.ports.items) run.ending) }
     ensures ports { IfOk result (λ run. map (λ p. P.answers p) run.ports.items ≡ map (λ p. P.answers p) ports.items) }
+    ensures fault { IfErr result (IsLiveFault script.now) }
 {
     run_by::<Brand, P, Brand, W, R>(rt, alloc, script, ports, progress, Blank::new(65))
 }
@@ -109,13 +111,20 @@ fn run_by<
     requires handed { (lane : ℕ) → H.answers lane ≡ get_or (map (λ p. P.answers p) ports.items) lane [] }
     ensures run { IfOk result (λ run. IsLiveRun script.now run.history run.seats.items (map (λ p. P.list p) run.ports.items) run.ending) }
     ensures ports { IfOk result (λ run. map (λ p. P.answers p) run.ports.items ≡ map (λ p. P.answers p) ports.items) }
+    ensures fault { IfErr result (IsLiveFault script.now) }
 {
     let xpt = Xpt::open(alloc, script.config().copy(alloc)?, script.limits())?;
     let shared: SharedXpt<L> = SharedXpt::new(xpt, blank);
     let lanes = hand_in::<P, H>(alloc, ports)?;
-    let workers = workers_of(rt, alloc, script, &shared, lanes)?;
+    let workers = match workers_of(rt, alloc, script, &shared, lanes) {
+        Ok(workers) => workers,
+        Err(fault) => return Err(fault),
+    };
     let place = Workplace::new(alloc, shared, script)?;
-    let workers = all_work(rt, alloc, script, &place, progress, workers)?;
+    let workers = match all_work(rt, alloc, script, &place, progress, workers) {
+        Ok(workers) => workers,
+        Err(fault) => return Err(fault),
+    };
     if place.is_short() {
         return Err(LiveFault::OutOfMemory);
     }
@@ -129,7 +138,9 @@ fn workers_of<L: Ledger, P: Port, H: Handed, R: Wait>(
     script: &Script,
     shared: &SharedXpt<L>,
     lanes: Vec<LanePort<P, H>>,
-) -> Result<Vec<Worker<L, P, H>>, LiveFault> {
+) -> Result<Vec<Worker<L, P, H>>, LiveFault>
+    ensures { IfErr result IsSeatless }
+{
     let mut workers = Vec::new(alloc);
     let mut ports = lanes.into_iter();
     for name in actors(alloc, script)? {
@@ -189,36 +200,39 @@ fn all_work<
     place: &Workplace<L>,
     progress: &W,
     workers: Vec<Worker<L, P, H>>,
-) -> Result<Vec<Worker<L, P, H>>, LiveFault> {
+) -> Result<Vec<Worker<L, P, H>>, LiveFault>
+    ensures { IfErr result IsUnstarted }
+{
     thread::scope(
         thread::scope_env(),
         rt,
         |scope| -> Result<Vec<Worker<L, P, H>>, LiveFault>
             requires { Unit {0} }
+            ensures { IfErr result IsUnstarted }
         {
             let count = workers.len();
             let mut handles = Vec::with_capacity(alloc, count)?;
             let mut back = Vec::with_capacity(alloc, count)?;
-            let mut fault = None;
+            let mut is_short = false;
+            let mut is_refused = false;
             for worker in workers {
                 match scope.spawn(move || work(rt, place, script, progress, worker)) {
-                    Ok(handle) => {
-                        if handles.push(handle).is_err() {
-                            fault = Some(LiveFault::OutOfMemory);
-                        }
-                    }
-                    Err(_) => fault = Some(LiveFault::NoThread),
+                    Ok(handle) => is_short = handles.push(handle).is_err(),
+                    Err(_) => is_refused = true,
                 }
-                if fault.is_some() {
+                if is_short || is_refused {
                     place.stop(rt);
                     break;
                 }
             }
             join_all(rt, handles, &mut back)?;
-            match fault {
-                Some(fault) => Err(fault),
-                None => Ok(back),
+            if is_short {
+                return Err(LiveFault::OutOfMemory);
             }
+            if is_refused {
+                return Err(LiveFault::NoThread);
+            }
+            Ok(back)
         },
     )
 }
@@ -244,21 +258,27 @@ fn finish<L: Ledger, P: Port, H: Handed>(
 ) -> Result<LiveRun<P>, LiveFault>
     ensures run { IfOk result (λ run. IsLiveRun script.now run.history run.seats.items (map (λ p. P.list p) run.ports.items) run.ending) }
     ensures ports { IfOk result (λ run. map (λ p. P.answers p) run.ports.items ≡ map (λ lane. H.answers lane) (range_with_len 0 (length script.now.config.lanes))) }
+    ensures fault { IfErr result (IsLiveFault script.now) }
 {
     let (seats, lanes) = parted(alloc, workers)?;
     let logs = logs_of(alloc, &seats)?;
-    let ports = hand_back(alloc, lanes, script.config().lanes().len())?;
+    let ports = match hand_back(alloc, lanes, script.config().lanes().len()) {
+        Ok(ports) => ports,
+        Err(fault) => return Err(fault),
+    };
     let history = match place.shared.gather(alloc, seats) {
         Ok(history) => history,
         Err(fault) => return Err(live_fault(fault)),
     };
-    let ending = judge(alloc, script, &history, &logs, &ports)?;
-    Ok(LiveRun {
-        history,
-        ending,
-        seats: logs,
-        ports,
-    })
+    match judge(alloc, script, &history, &logs, &ports) {
+        Ok(ending) => Ok(LiveRun {
+            history,
+            ending,
+            seats: logs,
+            ports,
+        }),
+        Err(fault) => Err(fault),
+    }
 }
 
 // The workers' seats, and the ports of those that have one.

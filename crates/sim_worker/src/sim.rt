@@ -6,7 +6,7 @@ ghost use Rattle.sim_worker.specs.Endings.{IsEnding};
 ghost use Rattle.sim_worker.specs.SimRuns.{IsSimRun};
 ghost use Rattle.std.specs.Option.{option_map};
 ghost use Rattle.sim_worker.specs.Words.{round, Event};
-ghost use Rattle.sim_worker.specs.Work.{Work, AreFresh, HasDone, IsAtEnd, IsToSend, actor_at, call_of, decision_of, is_able, is_full, left, steps_of, Lane, Driver};
+ghost use Rattle.sim_worker.specs.Work.{Work, AreBehindPauses, AreDriversDone, AreFresh, HasDone, IsAtEnd, IsToSend, actor_at, call_of, decision_of, is_able, is_full, left, steps_of, Lane, Driver};
 ghost use Rattle.sim_worker.specs.declared.actor.Actor.TheVariants as actors;
 
 use crate::actor::Actor;
@@ -185,7 +185,8 @@ impl<'s> Sim<'s> {
     // The round keeper's part, where no one is able to act: the run is drained, or the next round opens, or a limit ends
     // the run.
     fn keep(&mut self) -> Option<Ending>
-        requires { (i : ℕ) → i < 9 + length self.old.lanes → is_able self.old (actor_at (length self.old.lanes) i) ≡ false }
+        requires rest { (i : ℕ) → i < 9 + length self.old.lanes → is_able self.old (actor_at (length self.old.lanes) i) ≡ false }
+        requires behind { AreBehindPauses self.old }
         ensures same { self.new.script ≡ self.old.script }
         ensures ending { IfSome result (IsEnding self.new.script self.new.transport.events) }
         ensures less { IfNone result (left self.new < left self.old) }
@@ -206,13 +207,15 @@ impl<'s> Sim<'s> {
 
     // Whether each driver has done its rows, no case is left and no stay waits.
     fn is_drained(&self) -> bool
-        ensures { result ≡ true → IsAtEnd self.now }
+        ensures done { result ≡ true → IsAtEnd self.now }
+        ensures left { result ≡ false → IsAtEnd self.now → ⊥ }
     {
         self.xpt.next_case().is_none() && self.xpt.look().waiting == 0 && self.are_drivers_done()
     }
 
     fn are_drivers_done(&self) -> bool
-        ensures { result ≡ true → (d : ℕ) → (w : Driver) → slice_get self.now.drivers d ≡ Some w → length (steps_of self.now.script d) ≤ w.done }
+        ensures done { result ≡ true → AreDriversDone self.now }
+        ensures left { result ≡ false → AreDriversDone self.now → ⊥ }
     {
         for d in 0..DRIVERS {
             if self.drivers[d].done < self.script.drivers()[d].len() {

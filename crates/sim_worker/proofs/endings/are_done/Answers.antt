@@ -1,4 +1,4 @@
-use Rattle.std.proofs.Common.{◌≡◌, refl, sym, subst, length, arith}
+use Rattle.std.proofs.Common.{refl, sym, subst, length, arith}
 use Rattle.sim_worker.specs.LiveRuns.{rows}
 use Rattle.sim_worker.specs.Logs.{HasDoneAll}
 use Rattle.sim_worker.specs.Walks.{IsThrough}

@@ -1,4 +1,4 @@
-use Rattle.std.proofs.Common.{◌≡◌, ℕ, ◌+◌, ◌<◌, ◌∙◌, true, false, get_or, Option, Some, None, List, length, take, is_some, refl, sym, ap, arith, append-nil, length-append, option_to_list}
+use Rattle.std.proofs.Common.{◌≡◌, ℕ, ◌+◌, ◌<◌, ◌∙◌, true, false, get_or, Option, Some, None, List, length, take, is_some, refl, sym, ap, arith, length-append, option_to_list}
 use Rattle.event_rules.proofs.ListFacts.{filter_map-push}
 use Rattle.sim_worker.specs.Words.{Event, Step}
 use Rattle.sim_worker.specs.Logs.{act, acts}

@@ -1,7 +1,6 @@
-use Rattle.std.proofs.Common.{◌≡◌, ◌∙◌, List, length, map, sym, ap, subst, IfOk, Ok, Err, Result}
+use Rattle.std.proofs.Common.{◌≡◌, ◌∙◌, length, map, sym, ap}
 use Rattle.std.proofs.lemmas.List.{length-map}
 use Rattle.std.specs.List.{range_with_len}
-use Rattle.sim_worker.specs.Words.{Outcome}
 use Rattle.sim_worker.proofs.PortLemmas.{as_handed}
 use Rattle.sim_worker.proofs.live.run_by.Goals as goal
 

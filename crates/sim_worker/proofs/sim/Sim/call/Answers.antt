@@ -1,4 +1,7 @@
-use Rattle.std.proofs.Common.{◌≡◌, ◌∙◌, refl, sym, ap, length, Some, arith, slice_get, length-set}
+use Rattle.std.proofs.Common.{◌≡◌, ◌∙◌, refl, sym, ap, subst, length, Some, arith, slice_get, length-set}
+use Rattle.sim_worker.specs.Words.{Transport}
+use Rattle.sim_worker.specs.Endings.{IsDrained}
+use Rattle.sim_worker.proofs.DrainLemmas.{left_to_call}
 use Rattle.sim_worker.specs.Work.{Work, is_able, steps_of, call_of, Driver}
 use Rattle.sim_worker.specs.declared.actor.Actor.TheVariants as actors
 use Rattle.sim_worker.proofs.FullLemmas.{full_at_limit, says_full}
@@ -29,15 +32,21 @@ invariant_of-self c =
 
 pub returns-in-Err-HistoryFull-clause-ending : goal.returns-in-Err-HistoryFull-clause-ending
 returns-in-Err-HistoryFull-clause-ending c =
-    ap (λ t. length t.events) c.in-Err-HistoryFull.ensures.1
-    ∙ at_limit _ c.self.invariant (full_at_limit c.self.inside.xpt.rules c.self.inside.xpt.config c.self.inside.xpt.events c.in-Some.event
-    (ap says_full c.in-Err-HistoryFull.ensures.0 ∙ ap (λ why. says_full (Some why)) c.in-Err-HistoryFull.field-0-is))
+    let able = able_driver c.self.inside.script.now c.self.inside.drivers.items c.args.d (ap (λ (w : Work). is_able w (actors.Driver c.args.d)) c.self.view_is ∙ c.requires) in
+    let seen = get_is c.self.inside.drivers.items c.args.d c.index.result.now (there_is c.self.inside.drivers.items c.args.d able.0 able.1) c.index.ensures in
+    let said = call_is (slice_get (steps_of c.self.inside.script.now c.args.d) c.index.result.now.done) c.in-Some.event
+    (ap (λ (w : Work). call_of (slice_get (steps_of w.script c.args.d) c.index.result.now.done)) c.self.view_is ∙ sym c.next_call.ensures ∙ c.in-Some.is) in (
+      (λ drained. left_to_call _ c.args.d c.index.result.now c.in-Some.event c.self.invariant seen said (subst (λ (t : Transport). IsDrained c.self.inside.script.now t.events) c.in-Err-HistoryFull.ensures.1 drained)),
+      ap (λ t. length t.events) c.in-Err-HistoryFull.ensures.1
+          ∙ at_limit _ c.self.invariant (full_at_limit c.self.inside.xpt.rules c.self.inside.xpt.config c.self.inside.xpt.events c.in-Some.event
+          (ap says_full c.in-Err-HistoryFull.ensures.0 ∙ ap (λ why. says_full (Some why)) c.in-Err-HistoryFull.field-0-is)),
+    )
 
 pub invariant_of-self-in-Err : goal.invariant_of-self-in-Err
 invariant_of-self-in-Err c =
     let able = able_driver c.self.inside.script.now c.self.inside.drivers.items c.args.d (ap (λ (w : Work). is_able w (actors.Driver c.args.d)) c.self.view_is ∙ c.requires) in
     let here = get_is c.self.inside.drivers.items c.args.d c.index_mut-in-Err.result.now (there_is c.self.inside.drivers.items c.args.d able.0 able.1) c.index_mut-in-Err.ensures.value in
-    rw (c.in-Err.ensures.1) (driver_step c.self.inside.script.now c.self.inside.xpt c.self.inside.drivers.items c.self.inside.lanes.items c.self.inside.refused c.self.inside.refused c.args.d _
+    rw (c.in-Err.ensures.1) (driver_step c.self.inside.script.now c.self.inside.xpt c.self.inside.drivers.items c.self.inside.lanes.items c.self.inside.refused c.self.inside.refused c.args.d c.index_mut-in-Err.result.now _ here refl
     (c.self.invariant.drivers c.args.d c.index_mut-in-Err.result.now here) c.self.invariant)
 
 pub returns-in-Ok-clause-less : goal.returns-in-Ok-clause-less

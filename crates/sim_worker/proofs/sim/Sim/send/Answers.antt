@@ -1,5 +1,7 @@
 use Rattle.std.proofs.Common.{◌<◌, ◌∙◌, refl, sym, ap, subst, length, arith, slice_get}
-use Rattle.sim_worker.specs.Words.{Send, lane_adapter, lane_refused, idle, has_head, IsTaken, IsSent}
+use Rattle.sim_worker.specs.Words.{Send, Transport, lane_adapter, lane_refused, idle, has_head, IsTaken, IsSent}
+use Rattle.sim_worker.specs.Endings.{IsDrained}
+use Rattle.sim_worker.proofs.DrainLemmas.{left_to_send}
 use Rattle.sim_worker.specs.Work.{Work, Lane}
 use Rattle.sim_worker.proofs.CaseLemmas.{lane_full, never_idle, send_grounded}
 use Rattle.sim_worker.proofs.LeftLemmas.{left-event}
@@ -14,8 +16,10 @@ returns-in_default-clause-ending c =
     let lt = there_is c.self.inside.lanes.items c.args.lane c.requires.worker there in
     let seen = get_is c.self.inside.lanes.items c.args.lane c.index.result.now lt c.index.ensures in
     let number = (c.self.invariant.lanes c.args.lane c.index.result.now seen).number in
-    let head = ap (λ (w : Work). has_head w.transport.config w.transport.events c.args.lane) c.self.view_is ∙ c.requires.head in
-    ap (λ t. length t.events) c.in_default.ensures.1 ∙ at_limit _ c.self.invariant (lane_full c.self.inside.xpt c.args.lane _ head (ap (lane_refused c.self.inside.xpt) (sym number) ∙ c.in_default.ensures.0))
+    let head = ap (λ (w : Work). has_head w.transport.config w.transport.events c.args.lane) c.self.view_is ∙ c.requires.head in (
+      (λ drained. left_to_send c.self.inside.xpt.config c.self.inside.xpt.events c.args.lane head (subst (λ (t : Transport). IsDrained c.self.inside.script.now t.events) c.in_default.ensures.1 drained).quiet.sent),
+      ap (λ t. length t.events) c.in_default.ensures.1 ∙ at_limit _ c.self.invariant (lane_full c.self.inside.xpt c.args.lane _ head (ap (lane_refused c.self.inside.xpt) (sym number) ∙ c.in_default.ensures.0)),
+    )
 
 pub unreachable-requires : goal.unreachable-requires
 unreachable-requires c =

@@ -1,7 +1,10 @@
 -- what is written of a history with a best plan of its net
-use Rattle.std.proofs.Common.{◌≡◌, ℕ, ◌*◌, ◌-◌, ◌<◌, ◌≤◌, Bool, true, false, List, [], ◌++◌, length, refl, sym, ap, subst, ◌∙◌, arith, append-nil, Option, Some, None, is_some, slice_index, if◌then◌else◌, All}
+use Rattle.std.proofs.Common.{◌≡◌, ℕ, ◌*◌, ◌-◌, ◌<◌, ◌≤◌, Bool, true, false, cond, nat_le, List, [], ◌++◌, length, refl, sym, ap, subst, ◌∙◌, arith, append-nil, Option, Some, None, is_some, slice_index, if◌then◌else◌, All}
 use Rattle.std.proofs.lemmas.List.Elements.{All-from_get_or}
 use Rattle.audit_report.specs.Words.{Topology, MOST_BYTES, MOST_STAYS, MOST_ROUNDS, MOST_WEIGHT, unsent, live_cost, Event, Stay, Past, history_rules, is_legal, NetRows, instance_of_rows, live_of_rows, Instance, IsSound, IsAdmissible, cost, ProvesBest, net_of, instance_of, live_of, pricing_of_rows, IsPriced, IsPricingFor, IsBest, report_text, summary_text, plan_text, Claim}
+use Rattle.round_net.specs.declared.maxima.TheConstants.{MOST_NET_ROUNDS}
+use Rattle.round_net.specs.declared.price_range.TheConstants.{MOST_PRICE}
+use Rattle.price_check.specs.Forms.{most_number}
 use Rattle.event_rules.proofs.LiveLemmas.{live_cost_sent}
 use Rattle.event_rules.proofs.LawLemmas.{sends_stand_free}
 use Rattle.price_check.proofs.DualityLemmas.{best_where_proved}
@@ -45,10 +48,13 @@ pub record IsBestClaim (summary : Bool) (past : Past) (text : List ℕ) (n : Net
       ++ (if summary then [] else plan_text past.config.devices n (slice_index claim.schedule) (pricing_of_rows claim.prices))
 
 -- its rounds are few
-rounds_few : (net : Instance) (live : ℕ → ℕ) (f : List ℕ) → IsSound net live → IsAdmissible net (slice_index f) → length f ≡ net.stays → All (λ r. r ≤ 65535) f
+most_number-rounds : (net : Instance) → MOST_NET_ROUNDS ≤ most_number net
+most_number-rounds net = elim (nat_le net.most_price MOST_PRICE) as (λ b. MOST_NET_ROUNDS ≤ cond {A = ℕ} b 65535 1048576) [ true ↦ omega arith | false ↦ omega arith ]
+
+rounds_few : (net : Instance) (live : ℕ → ℕ) (f : List ℕ) → IsSound net live → IsAdmissible net (slice_index f) → length f ≡ net.stays → All (λ r. r ≤ most_number net) f
 rounds_few net live f sound fits long =
-    All-from_get_or (λ r. r ≤ 65535) f 0
-    (λ s lt. let within : s < net.stays = omega (arith, lt, long) in omega (arith, fits.not_late s within, sound.to_last s within, sound.few_rounds))
+    All-from_get_or (λ r. r ≤ most_number net) f 0
+    (λ s lt. let within : s < net.stays = omega (arith, lt, long) in omega (arith, fits.not_late s within, sound.to_last s within, sound.few_rounds, most_number-rounds net))
 
 text_cases : (summary : Bool) (past : Past) (n : NetRows) (live : ℕ) (claim : Claim) →
     summary_text past.events live claim.best claim.excess

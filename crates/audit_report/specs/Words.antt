@@ -23,7 +23,7 @@ pub use Rattle.price_check.specs.declared.claim.Claim.{Claim}
 pub use Rattle.price_check.specs.declared.report_fault.ReportFault.{ReportFault}
 pub use Rattle.price_check.specs.declared.verdict.Cause.{Cause}
 pub use Rattle.price_check.specs.declared.verdict.Cause.TheVariants.{AdapterFull, DeviceFull, Early, Late, LinkFull}
-pub use Rattle.round_net.specs.Instance.{Instance}
+pub use Rattle.round_net.specs.Instance.{Instance, rows}
 pub use Rattle.round_net.specs.Nets.{instance_of, live_of}
 unfoldable pub use Rattle.round_net.specs.Nets.{net_of, stay_row}
 pub use Rattle.round_net.specs.PriceRows.{IsPriced, IsPricingFor, pricing_of_rows}

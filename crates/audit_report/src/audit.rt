@@ -1,7 +1,7 @@
 //! The audit of a trace: the report on it, or the report's first seven lines.
 
 ghost use Rattle.std.specs.Prelude.{◌≡◌, ◌≢◌, ℕ, ◌+◌, ◌*◌, ◌≤◌, Bool, true, false, if◌then◌else◌, Option, None, Err, List, [], ◌++◌, length, slice_index, IfOk, IfErr, IfSome, OnOk};
-ghost use Rattle.audit_report.specs.Words.{device_of, has_failed, is_flushed, Past, unsent, instance_of_rows, pricing_of_rows, IsPricingFor, ProvesBest, net_of, history_rules, is_legal, plan_text, IsTrace, IsHistory, WasTrace, MOST_STAYS, MOST_ROUNDS, MOST_DEVICES, MOST_ADAPTERS, MOST_LINKS};
+ghost use Rattle.audit_report.specs.Words.{device_of, has_failed, is_flushed, Past, unsent, rows, instance_of_rows, pricing_of_rows, IsPricingFor, ProvesBest, net_of, history_rules, is_legal, plan_text, IsTrace, IsHistory, WasTrace};
 ghost use Rattle.audit_report.specs.Audit.{IsAudit};
 ghost use Rattle.audit_report.specs.Runs.{Ended, WasComplete, IsReadOrFailed, WhyNoNet};
 
@@ -155,7 +155,7 @@ fn push_rest(
     requires stays { length best.now.schedule ≡ (instance_of_rows net.now).stays }
     requires cells { IsPricingFor (instance_of_rows net.now) best.now.prices }
     ensures text { OnOk result (text.new.items ≡ text.old.items ++ (if summary then [] else plan_text history.now.config.devices net.now (slice_index best.now.schedule) (pricing_of_rows best.now.prices))) }
-    ensures short { OnOk result (length text.new.items ≤ length text.old.items + (260 * MOST_STAYS + 156 * MOST_ROUNDS * (MOST_DEVICES + MOST_ADAPTERS + MOST_LINKS) + 4)) }
+    ensures short { OnOk result (length text.new.items ≤ length text.old.items + (260 * (instance_of_rows net.now).stays + 156 * (instance_of_rows net.now).rounds * rows (instance_of_rows net.now) + 4)) }
 {
     if summary {
         return Ok(());

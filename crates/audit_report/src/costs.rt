@@ -31,6 +31,7 @@ impl Costs {
         ensures excess { result.excess ≡ result.live - result.best }
         ensures small { result.live ≤ MOST_STAYS * (MOST_WEIGHT * MOST_ROUNDS) }
     {
+        let _events = history.events();
         let Some(live) = history.live_cost() else {
             unreachable!()
         };

@@ -11,7 +11,7 @@ use Rattle.cost_plan.proofs.LeastLemmas.{In, filter-In, range-In}
 
 -- the size stays
 pub IsPricingFor-kept : (net : Instance) (old new : PriceRows) → IsSameSize old new → IsPricingFor net old → IsPricingFor net new
-IsPricingFor-kept net old new same is = record { rounds = same.rounds ∙ is.rounds; devices = same.devices ∙ is.devices; adapters = same.adapters ∙ is.adapters; links = same.links ∙ is.links }
+IsPricingFor-kept net old new same is = record { rounds = same.rounds ∙ is.rounds; devices = same.devices ∙ is.devices; adapters = same.adapters ∙ is.adapters; links = same.links ∙ is.links; most_price = same.most_price ∙ is.most_price }
 
 -- the price that is set, and the others
 set-here : (old new : PriceRows) (row r price : ℕ) → SetsPrice old new row r price → 1 ≤ r → r ≤ old.rounds → pricing_of_rows new row r ≡ price

@@ -1,9 +1,10 @@
 -- What raising labels by arcs, one after another, does.
-use Rattle.std.proofs.Common.{◌≡◌, ℕ, ◌+◌, ◌*◌, ◌<◌, ◌≤◌, nat_le, true, false, cond, List, length, get_or, set, Option, Some, None, refl, sym, ap, ◌∙◌, subst, inl, inr, arith}
+use Rattle.std.proofs.Common.{◌≡◌, ℕ, ◌+◌, ◌*◌, ◌/◌, ◌<◌, ◌≤◌, nat_le, true, false, cond, List, length, get_or, set, Option, Some, None, refl, sym, ap, ◌∙◌, subst, inl, inr, arith}
 use Rattle.std.specs.Option.{option_or}
 use Rattle.std.proofs.lemmas.Bool.{cases_eq, cases_lt, leb-true, leb-false, cond-true, cond-false}
+use Rattle.std.proofs.lemmas.Nat.{mul-le}
 use Rattle.std.proofs.lemmas.List.{length-set, get_or-set_same, get_or-set_other, set_past}
-use Rattle.cost_plan.specs.Words.{MOST_NODES, MOST_UP, Arc, came_by, Labelling, highest, settles, needed, relaxed, raised, IsSettled, Instance}
+use Rattle.cost_plan.specs.Words.{Arc, came_by, Labelling, settles, needed, relaxed, raised, IsSettled, Instance}
 use Rattle.cost_plan.specs.Cells.{cell}
 use Rattle.cost_plan.specs.Residual.{IsResidual, move_arc}
 use Rattle.cost_plan.specs.Raising.{Raises, IsRaising}
@@ -12,6 +13,7 @@ use Rattle.cost_plan.specs.Raising.{Raises, IsRaising}
 pub Raises-none : (net : Instance) (f : ℕ → ℕ) (l : Labelling) → Raises net f l l None
 Raises-none net f l = record {
   size = refl;
+  most = refl;
   rises = λ node. omega arith;
   quiet = λ none. refl;
   inside = λ node is. cc;
@@ -27,6 +29,7 @@ some-or (Some x) b e = cc
 pub Raises-then : (net : Instance) (f : ℕ → ℕ) (a b c : Labelling) (first second : Option ℕ) → Raises net f a b first → Raises net f b c second → Raises net f a c (option_or second first)
 Raises-then net f a b c first None r s = record {
   size = s.size ∙ r.size;
+  most = s.most ∙ r.most;
   rises = λ node. omega (arith, r.rises node, s.rises node);
   quiet = λ none. s.quiet refl ∙ r.quiet none;
   inside = r.inside;
@@ -37,6 +40,7 @@ Raises-then net f a b c first None r s = record {
 }
 Raises-then net f a b c first (Some x) r s = record {
   size = s.size ∙ r.size;
+  most = s.most ∙ r.most;
   rises = λ node. omega (arith, r.rises node, s.rises node);
   quiet = λ none. cc;
   inside = λ node is. omega (arith, s.inside node is, r.size);
@@ -51,10 +55,10 @@ Raises-then net f a b c first (Some x) r s = record {
 pub IsSettled-from_raised : (l : Labelling) (arc : Arc) → raised l arc ≡ None → IsSettled l arc
 unfolding raised
 IsSettled-from_raised l arc none =
-    let go = elim (settles l arc) as (λ b. settles l arc ≡ b → cond b None (cond (nat_le (needed l arc) highest) (Some arc.head) (Some arc.tail)) ≡ None → IsSettled l arc) [
+    let go = elim (settles l arc) as (λ b. settles l arc ≡ b → cond b None (cond (nat_le (needed l arc) l.most) (Some arc.head) (Some arc.tail)) ≡ None → IsSettled l arc) [
       | true ↦ λ e n. leb-true _ _ e
       | false ↦ λ e n.
-          let never = elim (nat_le (needed l arc) highest) as (λ b. cond b (Some arc.head) (Some arc.tail) ≡ None → ⊥) [ true ↦ λ k. cc | false ↦ λ k. cc ] in
+          let never = elim (nat_le (needed l arc) l.most) as (λ b. cond b (Some arc.head) (Some arc.tail) ≡ None → ⊥) [ true ↦ λ k. cc | false ↦ λ k. cc ] in
           absurd (never n)
     ] in
     go refl none
@@ -64,20 +68,21 @@ relaxed-same : (l : Labelling) (arc : Arc) → settles l arc ≡ true → (relax
 unfolding relaxed raised
 relaxed-same l arc e = (cond-true _ _ _ e, cond-true _ _ _ e)
 
-relaxed-past : (l : Labelling) (arc : Arc) → settles l arc ≡ false → nat_le (needed l arc) highest ≡ false → (relaxed l arc ≡ l) × (raised l arc ≡ Some arc.tail)
+relaxed-past : (l : Labelling) (arc : Arc) → settles l arc ≡ false → nat_le (needed l arc) l.most ≡ false → (relaxed l arc ≡ l) × (raised l arc ≡ Some arc.tail)
 unfolding relaxed raised
 relaxed-past l arc e past = (cond-false _ _ _ e ∙ cond-false _ _ _ past, cond-false _ _ _ e ∙ cond-false _ _ _ past)
 
-relaxed-up : (l : Labelling) (arc : Arc) → settles l arc ≡ false → nat_le (needed l arc) highest ≡ true → (relaxed l arc ≡ record { labels = set l.labels arc.head (needed l arc); preds = set l.preds arc.head (Some arc) }) × (raised l arc ≡ Some arc.head)
+relaxed-up : (l : Labelling) (arc : Arc) → settles l arc ≡ false → nat_le (needed l arc) l.most ≡ true → (relaxed l arc ≡ record { most = l.most; labels = set l.labels arc.head (needed l arc); preds = set l.preds arc.head (Some arc) }) × (raised l arc ≡ Some arc.head)
 unfolding relaxed raised
 relaxed-up l arc e low = (cond-false _ _ _ e ∙ cond-true _ _ _ low, cond-false _ _ _ e ∙ cond-true _ _ _ low)
 
-Raises-up : (net : Instance) (f : ℕ → ℕ) (l : Labelling) (arc : Arc) → arc.head < length l.labels → settles l arc ≡ false → IsResidual net f arc → Raises net f l (record { labels = set l.labels arc.head (needed l arc); preds = set l.preds arc.head (Some arc) }) (Some arc.head)
+Raises-up : (net : Instance) (f : ℕ → ℕ) (l : Labelling) (arc : Arc) → arc.head < length l.labels → settles l arc ≡ false → IsResidual net f arc → Raises net f l (record { most = l.most; labels = set l.labels arc.head (needed l arc); preds = set l.preds arc.head (Some arc) }) (Some arc.head)
 Raises-up net f l arc heads unsettled residual =
     let over = leb-false _ _ unsettled in
     let here : get_or (set l.labels arc.head (needed l arc)) arc.head 0 ≡ needed l arc = get_or-set_same l.labels arc.head (needed l arc) 0 heads in
     record {
       size = length-set l.labels arc.head (needed l arc);
+      most = refl;
       rises = λ node. elim (cases_eq node arc.head) [
         | inl same ↦ omega (arith, over, here, ap (λ (v : ℕ). get_or (set l.labels arc.head (needed l arc)) v 0) same, ap (λ (v : ℕ). get_or l.labels v 0) same)
         | inr other ↦ omega (arith, get_or-set_other l.labels arc.head node (needed l arc) 0 other)
@@ -100,41 +105,43 @@ Raises-up net f l arc heads unsettled residual =
       ];
     }
 
-Raises-past : (net : Instance) (f : ℕ → ℕ) (l : Labelling) (arc : Arc) → arc.tail < length l.labels → arc.up ≤ MOST_UP → length l.labels ≤ MOST_NODES → nat_le (needed l arc) highest ≡ false → Raises net f l l (Some arc.tail)
-Raises-past net f l arc tails steep few past =
+Raises-past : (net : Instance) (f : ℕ → ℕ) (l : Labelling) (arc : Arc) → arc.tail < length l.labels → arc.up * length l.labels ≤ l.most / 4 → nat_le (needed l arc) l.most ≡ false → Raises net f l l (Some arc.tail)
+Raises-past net f l arc tails steep past =
+    let one : arc.up * 1 ≤ arc.up * length l.labels = mul-le arc.up 1 arc.up (length l.labels) (omega arith) (omega arith) in
     let over = leb-false _ _ past in
     record {
       size = refl;
+      most = refl;
       rises = λ node. omega arith;
       quiet = λ none. refl;
       inside = λ node is. let same : arc.tail ≡ node = cc in omega arith;
-      rose = λ node is. let same : arc.tail ≡ node = cc in inr (omega (arith, over, ap (λ (v : ℕ). get_or l.labels v 0) same));
+      rose = λ node is. let same : arc.tail ≡ node = cc in inr (omega (arith, over, one, steep, ap (λ (v : ℕ). get_or l.labels v 0) same));
       came = λ node by came. inl came;
     }
 
-pub Raises-relaxed : (net : Instance) (f : ℕ → ℕ) (l : Labelling) (arc : Arc) → arc.tail < length l.labels → arc.head < length l.labels → arc.up ≤ MOST_UP → length l.labels ≤ MOST_NODES → IsResidual net f arc → Raises net f l (relaxed l arc) (raised l arc)
-Raises-relaxed net f l arc tails heads steep few residual =
+pub Raises-relaxed : (net : Instance) (f : ℕ → ℕ) (l : Labelling) (arc : Arc) → arc.tail < length l.labels → arc.head < length l.labels → arc.up * length l.labels ≤ l.most / 4 → IsResidual net f arc → Raises net f l (relaxed l arc) (raised l arc)
+Raises-relaxed net f l arc tails heads steep residual =
     let P : Labelling → Option ℕ → Type 0 = λ m o. Raises net f l m o in
     let go = elim (settles l arc) as (λ b. settles l arc ≡ b → Raises net f l (relaxed l arc) (raised l arc)) [
       | true ↦ λ e. let is = relaxed-same l arc e in
           subst (λ (m : Labelling). P m (raised l arc)) (sym is.0) (subst (λ (o : Option ℕ). P l o) (sym is.1) (Raises-none net f l))
       | false ↦ λ e.
-          let on = elim (nat_le (needed l arc) highest) as (λ b. nat_le (needed l arc) highest ≡ b → Raises net f l (relaxed l arc) (raised l arc)) [
+          let on = elim (nat_le (needed l arc) l.most) as (λ b. nat_le (needed l arc) l.most ≡ b → Raises net f l (relaxed l arc) (raised l arc)) [
             | true ↦ λ low. let is = relaxed-up l arc e low in
-                subst (λ (m : Labelling). P m (raised l arc)) (sym is.0) (subst (λ (o : Option ℕ). P (record { labels = set l.labels arc.head (needed l arc); preds = set l.preds arc.head (Some arc) }) o) (sym is.1) (Raises-up net f l arc heads e residual))
+                subst (λ (m : Labelling). P m (raised l arc)) (sym is.0) (subst (λ (o : Option ℕ). P (record { most = l.most; labels = set l.labels arc.head (needed l arc); preds = set l.preds arc.head (Some arc) }) o) (sym is.1) (Raises-up net f l arc heads e residual))
             | false ↦ λ past. let is = relaxed-past l arc e past in
-                subst (λ (m : Labelling). P m (raised l arc)) (sym is.0) (subst (λ (o : Option ℕ). P l o) (sym is.1) (Raises-past net f l arc tails steep few past))
+                subst (λ (m : Labelling). P m (raised l arc)) (sym is.0) (subst (λ (o : Option ℕ). P l o) (sym is.1) (Raises-past net f l arc tails steep past))
           ] in
           on refl
     ] in
     go refl
 
 -- the same of what `relax` answers
-pub Raises-by : (net : Instance) (f : ℕ → ℕ) (l new : Labelling) (found : Option ℕ) (arc : Arc) (n : ℕ) → new ≡ relaxed l arc → found ≡ raised l arc → length l.labels ≡ n → n ≤ MOST_NODES → arc.tail < n → arc.head < n → arc.up ≤ MOST_UP → IsResidual net f arc → Raises net f l new found
-Raises-by net f l new found arc n is node size few tails heads steep residual =
+pub Raises-by : (net : Instance) (f : ℕ → ℕ) (l new : Labelling) (found : Option ℕ) (arc : Arc) (n most : ℕ) → new ≡ relaxed l arc → found ≡ raised l arc → length l.labels ≡ n → l.most ≡ most → arc.tail < n → arc.head < n → arc.up * n ≤ most / 4 → IsResidual net f arc → Raises net f l new found
+Raises-by net f l new found arc n most is node size same tails heads steep residual =
     subst (λ (m : Labelling). Raises net f l m found) (sym is)
     (subst (λ (o : Option ℕ). Raises net f l (relaxed l arc) o) (sym node)
-    (Raises-relaxed net f l arc (omega arith) (omega arith) steep (omega arith) residual))
+    (Raises-relaxed net f l arc (omega arith) (omega arith) (rw (size, same) steep) residual))
 
 pub IsSettled-by : (l : Labelling) (found : Option ℕ) (arc that : Arc) → found ≡ raised l arc → arc ≡ that → found ≡ None → IsSettled l that
 IsSettled-by l found arc that node same none = subst (IsSettled l) same (IsSettled-from_raised l arc (sym node ∙ none))

@@ -1,7 +1,7 @@
 -- Raising labels ends.
-use Rattle.std.proofs.Common.{◌≡◌, ℕ, zero, suc, ◌+◌, ◌-◌, ◌*◌, ◌<◌, ◌≤◌, List, [], ◌∷◌, length, get_or, replicate, Option, Some, None, sym, ap, ◌∙◌, inl, inr, arith, All, sum_by}
+use Rattle.std.proofs.Common.{◌≡◌, ℕ, zero, suc, ◌+◌, ◌-◌, ◌/◌, ◌<◌, ◌≤◌, List, [], ◌∷◌, length, get_or, replicate, Option, Some, None, sym, ap, ◌∙◌, inl, inr, arith, All, sum_by}
 use Rattle.std.proofs.lemmas.List.Sums.{sum_by-cons}
-use Rattle.cost_plan.specs.Words.{MOST_UP, Arc, came_by, AllCameBy, Labelling, label_of, limit, Instance}
+use Rattle.cost_plan.specs.Words.{Arc, came_by, AllCameBy, Labelling, label_of, limit, Instance}
 use Rattle.negative_cycle.proofs.ForestLemmas.{came_by-none}
 use Rattle.cost_plan.specs.Residual.{IsResidual}
 use Rattle.cost_plan.specs.Raising.{Raises, AllResidual}
@@ -39,7 +39,7 @@ room-lt most (x ∷ old) (y ∷ new) (suc node) size rises inside up low =
 -- a node that rose and is within the limit leaves less room
 pub room-falls : (net : Instance) (f : ℕ → ℕ) (old new : Labelling) (found : Option ℕ) (node : ℕ) → Raises net f old new found → found ≡ Some node → label_of new node ≤ limit new → room new < room old
 room-falls net f old new found node r is low =
-    let same : limit new ≡ limit old = ap (λ (n : ℕ). 500000000000 + MOST_UP * n) r.size in
+    let same : limit new ≡ limit old = ap (λ (m : ℕ). m / 2 + m / 4) r.most in
     let below : label_of new node ≤ limit old = omega arith in
     let rooms : room new ≡ room_below (limit old) new.labels = ap (λ (m : ℕ). room_below m new.labels) same in
     elim (r.rose node is) [

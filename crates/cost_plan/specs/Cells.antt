@@ -56,6 +56,10 @@ part_load net f n row round = count_below n (λ s. uses net row s && (f s == rou
 abbrev pub node_count : Instance → ℕ
 node_count net = rows net * (net.rounds + 1) + 1
 
+-- the most that there may be
+abbrev pub most_nodes : ℕ
+most_nodes = 4194304
+
 -- the schedule that a list of rounds gives
 abbrev pub rounds_of : List ℕ → ℕ → ℕ
 rounds_of rounds stay = slice_index rounds stay

@@ -7,6 +7,7 @@ use Rattle.cost_plan.specs.Residual.{IsResidual, move_arc, take_arc, give_arc}
 -- or is past the limit.
 pub record Raises (net : Instance) (f : ℕ → ℕ) (old new : Labelling) (found : Option ℕ) : Type 0 where
   pub size : length new.labels ≡ length old.labels
+  pub most : new.most ≡ old.most
   pub rises : (node : ℕ) → label_of old node ≤ label_of new node
   pub quiet : found ≡ None → new ≡ old
   pub inside : (node : ℕ) → found ≡ Some node → node < length old.labels

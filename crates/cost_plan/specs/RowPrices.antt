@@ -12,9 +12,9 @@ SettlesAll net f label = (arc : Arc) → IsResidual net f arc → label arc.tail
 abbrev pub row_price : Instance → (ℕ → ℕ) → Pricing
 row_price net label row round = if nat_lt 0 (net.cap row round) then label (cell net row round) - label (above net row round) else 0
 
--- a price that the labels give, none above the most
+-- a price that the labels give, not above the net's largest
 abbrev pub IsPrice : Instance → (ℕ → ℕ) → ℕ → ℕ → ℕ → Type 0
-IsPrice net label row round price = (price ≡ row_price net label row round) × (price ≤ 1000000000000)
+IsPrice net label row round price = (price ≡ row_price net label row round) × (price ≤ net.most_price)
 
 -- a row's openings have the prices of the labels in each round before this one
 abbrev pub PricesRow : Instance → (ℕ → ℕ) → Pricing → ℕ → ℕ → Type 0

@@ -1,7 +1,7 @@
 //! What can be changed in a draft, as arcs. Proved: each arc is the one that the definitions name, between nodes of the graph.
 
-ghost use Rattle.std.specs.Prelude.{◌≡◌, ◌<◌, ◌≤◌};
-ghost use Rattle.cost_plan.specs.Words.{rows, instance_of_rows, live_of_rows, load, IsSound, MOST_UP, MOST_NODES};
+ghost use Rattle.std.specs.Prelude.{◌≡◌, ◌*◌, ◌/◌, ◌<◌, ◌≤◌};
+ghost use Rattle.cost_plan.specs.Words.{rows, instance_of_rows, live_of_rows, load, IsSound};
 ghost use Rattle.cost_plan.specs.Cells.{row_above, node_count};
 ghost use Rattle.cost_plan.specs.Draft.{IsDraftOf, schedule_of};
 ghost use Rattle.cost_plan.specs.Residual.{move_arc, take_arc, give_arc};
@@ -31,7 +31,6 @@ pub fn taking(net: &Net, row: u32, up: u32, round: u32) -> Arc
     ensures tail { result.tail < node_count (instance_of_rows net.now) }
     ensures head { result.head < node_count (instance_of_rows net.now) }
     ensures up { result.up ≡ 0 }
-    ensures few { node_count (instance_of_rows net.now) ≤ MOST_NODES }
 {
     Arc {
         tail: node(net, row, round),
@@ -52,7 +51,6 @@ pub fn giving(net: &Net, row: u32, up: u32, round: u32) -> Arc
     ensures tail { result.tail < node_count (instance_of_rows net.now) }
     ensures head { result.head < node_count (instance_of_rows net.now) }
     ensures up { result.up ≡ 0 }
-    ensures few { node_count (instance_of_rows net.now) ≤ MOST_NODES }
 {
     let arc = taking(net, row, up, round);
     Arc {
@@ -72,7 +70,7 @@ pub fn moving(net: &Net, draft: &Draft, stay: u32, round: u32) -> Arc
     ensures same { result ≡ move_arc (instance_of_rows net.now) (schedule_of draft.now) stay round }
     ensures tail { result.tail < node_count (instance_of_rows net.now) }
     ensures head { result.head < node_count (instance_of_rows net.now) }
-    ensures up { result.up ≤ MOST_UP }
+    ensures up { result.up * node_count (instance_of_rows net.now) ≤ (instance_of_rows net.now).most_price / 4 }
     ensures sound { IsSound (instance_of_rows net.now) (live_of_rows net.now) }
 {
     let device = net.device(stay);

@@ -27,6 +27,7 @@ pub fn begin(alloc: Global, net: &Net) -> Result<Start, AllocError>
     ensures draft { IfOk result (λ start. IsDraftOf (instance_of_rows net.now) start.draft) }
     ensures admissible { IfOk result (λ start. IsAdmissible (instance_of_rows net.now) (schedule_of start.draft)) }
     ensures size { IfOk result (λ start. length start.labels.labels ≡ node_count (instance_of_rows net.now)) }
+    ensures most { IfOk result (λ start. start.labels.most ≡ (instance_of_rows net.now).most_price) }
 {
     match guessed(alloc, net)? {
         Some(start) => Ok(start),
@@ -39,10 +40,11 @@ pub fn live(alloc: Global, net: &Net) -> Result<Start, AllocError>
     ensures draft { IfOk result (λ start. IsDraftOf (instance_of_rows net.now) start.draft) }
     ensures admissible { IfOk result (λ start. IsAdmissible (instance_of_rows net.now) (schedule_of start.draft)) }
     ensures size { IfOk result (λ start. length start.labels.labels ≡ node_count (instance_of_rows net.now)) }
+    ensures most { IfOk result (λ start. start.labels.most ≡ (instance_of_rows net.now).most_price) }
 {
     Ok(Start {
         draft: live_draft(alloc, net)?,
-        labels: Labels::new(alloc, nodes(net) as usize)?,
+        labels: Labels::new(alloc, nodes(net) as usize, net.most_price())?,
     })
 }
 
@@ -51,13 +53,14 @@ pub fn guessed(alloc: Global, net: &Net) -> Result<Option<Start>, AllocError>
     ensures draft { IfOk result (λ found. IfSome found (λ start. IsDraftOf (instance_of_rows net.now) start.draft)) }
     ensures admissible { IfOk result (λ found. IfSome found (λ start. IsAdmissible (instance_of_rows net.now) (schedule_of start.draft))) }
     ensures size { IfOk result (λ found. IfSome found (λ start. length start.labels.labels ≡ node_count (instance_of_rows net.now))) }
+    ensures most { IfOk result (λ found. IfSome found (λ start. start.labels.most ≡ (instance_of_rows net.now).most_price)) }
     ensures sound { IsSound (instance_of_rows net.now) (live_of_rows net.now) }
 {
     let problem = problem_of(alloc, net, all_stays(alloc, net)?)?;
     let Some(found) = guess(alloc, &problem)? else {
         return Ok(None);
     };
-    let labels = Labels::start(alloc, &found.labels)?;
+    let labels = Labels::start(alloc, &found.labels, net.most_price())?;
     let Some(draft) = draft_of(alloc, net, found.rounds)? else {
         return Ok(None);
     };

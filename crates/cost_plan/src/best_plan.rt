@@ -14,6 +14,7 @@ use crate::begin::{Start, begin, guessed, live};
 use crate::cells::nodes;
 use crate::draft::{Draft, change_all};
 use crate::gate::Gate;
+use crate::levels::plan_by_levels;
 use crate::parts::guessed_at_once;
 use crate::pricing::prices_of;
 use crate::relax::relax_all;
@@ -22,6 +23,9 @@ use negative_cycle::Arc;
 use round_net::{Net, Prices, Schedule};
 use std::alloc::{AllocError, Global};
 use std::thread::Threads;
+
+// Up to that many stays a guess by ways and its changes take less time than a plan by levels.
+const FEW_STAYS: u32 = 4096;
 
 /// A schedule of least cost, and prices that prove it.
 #[derive(Debug, Drop)]
@@ -34,20 +38,24 @@ pub struct BestPlan {
 
 /// A best plan of the net: no admissible schedule costs less than this one, as its prices prove. Which of several best
 /// plans it is isn't promised. It begins with a guess, and as long as some stays can change rounds together so that all cost
-/// less, it changes them.
+/// less, it changes them. For a net of more than 4,096 stays a plan by levels of time is tried first.
 pub fn plan(alloc: Global, net: &Net) -> Result<BestPlan, AllocError>
     ensures proved { IfOk result (λ best. ProvesBest (instance_of_rows net.now) (slice_index best.schedule) (pricing_of_rows best.prices)) }
     ensures stays { IfOk result (λ best. length best.schedule ≡ (instance_of_rows net.now).stays) }
     ensures cells { IfOk result (λ best. IsPricingFor (instance_of_rows net.now) best.prices) }
-    ensures small { IfOk result (λ best. IsAtMost (instance_of_rows net.now) (pricing_of_rows best.prices) 1000000000000) }
+    ensures small { IfOk result (λ best. IsAtMost (instance_of_rows net.now) (pricing_of_rows best.prices) (instance_of_rows net.now).most_price) }
 {
-    settled(alloc, net, begin(alloc, net)?)
+    match plan_of_many(alloc, net)? {
+        Some(best) => Ok(best),
+        None => settled(alloc, net, begin(alloc, net)?),
+    }
 }
 
 /// A best plan of the net, as `plan` makes it. But the guess is made for each part that has a stay by itself, and for all of
 /// them at once: for one by the caller's thread, and for each other one by a thread of its own. A part is all adapters on one
 /// link, or an adapter on no link. The thread that begins a part tells the gate its least adapter first. Where no thread can be
-/// started, the one that would have started it makes the part.
+/// started, the one that would have started it makes the part. A plan by levels of time, which `plan` tries first for a net of
+/// more than 4,096 stays, is made by the caller's thread.
 pub fn plan_with<G: Gate + Sync, R: Threads + Sync>(
     rt: &R,
     alloc: Global,
@@ -57,12 +65,28 @@ pub fn plan_with<G: Gate + Sync, R: Threads + Sync>(
     ensures proved { IfOk result (λ best. ProvesBest (instance_of_rows net.now) (slice_index best.schedule) (pricing_of_rows best.prices)) }
     ensures stays { IfOk result (λ best. length best.schedule ≡ (instance_of_rows net.now).stays) }
     ensures cells { IfOk result (λ best. IsPricingFor (instance_of_rows net.now) best.prices) }
-    ensures small { IfOk result (λ best. IsAtMost (instance_of_rows net.now) (pricing_of_rows best.prices) 1000000000000) }
+    ensures small { IfOk result (λ best. IsAtMost (instance_of_rows net.now) (pricing_of_rows best.prices) (instance_of_rows net.now).most_price) }
 {
+    if let Some(best) = plan_of_many(alloc, net)? {
+        return Ok(best);
+    }
     match guessed_at_once(rt, alloc, net, gate)? {
         Some(start) => settled(alloc, net, start),
         None => settled(alloc, net, live(alloc, net)?),
     }
+}
+
+// The plan by levels of a net of many stays. None of few, or if its prices don't prove it best.
+fn plan_of_many(alloc: Global, net: &Net) -> Result<Option<BestPlan>, AllocError>
+    ensures proved { IfOk result (λ found. IfSome found (λ best. ProvesBest (instance_of_rows net.now) (slice_index best.schedule) (pricing_of_rows best.prices))) }
+    ensures stays { IfOk result (λ found. IfSome found (λ best. length best.schedule ≡ (instance_of_rows net.now).stays)) }
+    ensures cells { IfOk result (λ found. IfSome found (λ best. IsPricingFor (instance_of_rows net.now) best.prices)) }
+    ensures small { IfOk result (λ found. IfSome found (λ best. IsAtMost (instance_of_rows net.now) (pricing_of_rows best.prices) (instance_of_rows net.now).most_price)) }
+{
+    if net.stays() <= FEW_STAYS {
+        return Ok(None);
+    }
+    plan_by_levels(alloc, net)
 }
 
 // The best plan that comes of a draft with labels.
@@ -70,10 +94,11 @@ fn settled(alloc: Global, net: &Net, begun: Start) -> Result<BestPlan, AllocErro
     requires draft { IsDraftOf (instance_of_rows net.now) begun.draft }
     requires admissible { IsAdmissible (instance_of_rows net.now) (schedule_of begun.draft) }
     requires size { length begun.labels.labels ≡ node_count (instance_of_rows net.now) }
+    requires most { begun.labels.most ≡ (instance_of_rows net.now).most_price }
     ensures proved { IfOk result (λ best. ProvesBest (instance_of_rows net.now) (slice_index best.schedule) (pricing_of_rows best.prices)) }
     ensures stays { IfOk result (λ best. length best.schedule ≡ (instance_of_rows net.now).stays) }
     ensures cells { IfOk result (λ best. IsPricingFor (instance_of_rows net.now) best.prices) }
-    ensures small { IfOk result (λ best. IsAtMost (instance_of_rows net.now) (pricing_of_rows best.prices) 1000000000000) }
+    ensures small { IfOk result (λ best. IsAtMost (instance_of_rows net.now) (pricing_of_rows best.prices) (instance_of_rows net.now).most_price) }
 {
     let mut start = begun;
     let mut path = Vec::with_capacity(alloc, nodes(net) as usize)?;
@@ -89,7 +114,7 @@ pub fn guessed_plan(alloc: Global, net: &Net) -> Result<Option<BestPlan>, AllocE
     ensures proved { IfOk result (λ found. IfSome found (λ best. ProvesBest (instance_of_rows net.now) (slice_index best.schedule) (pricing_of_rows best.prices))) }
     ensures stays { IfOk result (λ found. IfSome found (λ best. length best.schedule ≡ (instance_of_rows net.now).stays)) }
     ensures cells { IfOk result (λ found. IfSome found (λ best. IsPricingFor (instance_of_rows net.now) best.prices)) }
-    ensures small { IfOk result (λ found. IfSome found (λ best. IsAtMost (instance_of_rows net.now) (pricing_of_rows best.prices) 1000000000000)) }
+    ensures small { IfOk result (λ found. IfSome found (λ best. IsAtMost (instance_of_rows net.now) (pricing_of_rows best.prices) (instance_of_rows net.now).most_price)) }
 {
     match guessed(alloc, net)? {
         Some(start) => unchanged(alloc, net, start),
@@ -107,7 +132,7 @@ pub fn guessed_plan_with<G: Gate + Sync, R: Threads + Sync>(
     ensures proved { IfOk result (λ found. IfSome found (λ best. ProvesBest (instance_of_rows net.now) (slice_index best.schedule) (pricing_of_rows best.prices))) }
     ensures stays { IfOk result (λ found. IfSome found (λ best. length best.schedule ≡ (instance_of_rows net.now).stays)) }
     ensures cells { IfOk result (λ found. IfSome found (λ best. IsPricingFor (instance_of_rows net.now) best.prices)) }
-    ensures small { IfOk result (λ found. IfSome found (λ best. IsAtMost (instance_of_rows net.now) (pricing_of_rows best.prices) 1000000000000)) }
+    ensures small { IfOk result (λ found. IfSome found (λ best. IsAtMost (instance_of_rows net.now) (pricing_of_rows best.prices) (instance_of_rows net.now).most_price)) }
 {
     match guessed_at_once(rt, alloc, net, gate)? {
         Some(start) => unchanged(alloc, net, start),
@@ -121,10 +146,11 @@ fn unchanged(alloc: Global, net: &Net, begun: Start) -> Result<Option<BestPlan>,
     requires draft { IsDraftOf (instance_of_rows net.now) begun.draft }
     requires admissible { IsAdmissible (instance_of_rows net.now) (schedule_of begun.draft) }
     requires size { length begun.labels.labels ≡ node_count (instance_of_rows net.now) }
+    requires most { begun.labels.most ≡ (instance_of_rows net.now).most_price }
     ensures proved { IfOk result (λ found. IfSome found (λ best. ProvesBest (instance_of_rows net.now) (slice_index best.schedule) (pricing_of_rows best.prices))) }
     ensures stays { IfOk result (λ found. IfSome found (λ best. length best.schedule ≡ (instance_of_rows net.now).stays)) }
     ensures cells { IfOk result (λ found. IfSome found (λ best. IsPricingFor (instance_of_rows net.now) best.prices)) }
-    ensures small { IfOk result (λ found. IfSome found (λ best. IsAtMost (instance_of_rows net.now) (pricing_of_rows best.prices) 1000000000000)) }
+    ensures small { IfOk result (λ found. IfSome found (λ best. IsAtMost (instance_of_rows net.now) (pricing_of_rows best.prices) (instance_of_rows net.now).most_price)) }
 {
     let mut start = begun;
     if relax_all(net, &start.draft, &mut start.labels).is_some() {
@@ -139,11 +165,12 @@ fn best_of(alloc: Global, net: &Net, best: &Start) -> Result<BestPlan, AllocErro
     requires draft { IsDraftOf (instance_of_rows net.now) best.now.draft }
     requires admissible { IsAdmissible (instance_of_rows net.now) (schedule_of best.now.draft) }
     requires size { length best.now.labels.labels ≡ node_count (instance_of_rows net.now) }
+    requires most { best.now.labels.most ≡ (instance_of_rows net.now).most_price }
     requires settled { SettlesAll (instance_of_rows net.now) (schedule_of best.now.draft) (label_of best.now.labels) }
     ensures proved { IfOk result (λ best. ProvesBest (instance_of_rows net.now) (slice_index best.schedule) (pricing_of_rows best.prices)) }
     ensures stays { IfOk result (λ best. length best.schedule ≡ (instance_of_rows net.now).stays) }
     ensures cells { IfOk result (λ best. IsPricingFor (instance_of_rows net.now) best.prices) }
-    ensures small { IfOk result (λ best. IsAtMost (instance_of_rows net.now) (pricing_of_rows best.prices) 1000000000000) }
+    ensures small { IfOk result (λ best. IsAtMost (instance_of_rows net.now) (pricing_of_rows best.prices) (instance_of_rows net.now).most_price) }
 {
     Ok(BestPlan {
         schedule: Schedule::new(alloc, &best.draft.rounds)?,

@@ -2,8 +2,8 @@
 //! one that the definitions name.
 
 ghost use Rattle.std.specs.Prelude.{◌≡◌, ◌+◌, ◌<◌, ◌≤◌};
-ghost use Rattle.cost_plan.specs.Words.{rows, instance_of_rows, live_of_rows, IsSound, MOST_NODES};
-ghost use Rattle.cost_plan.specs.Cells.{cell, adapter_above, row_above, node_of, node_count};
+ghost use Rattle.cost_plan.specs.Words.{rows, instance_of_rows, live_of_rows, IsSound};
+ghost use Rattle.cost_plan.specs.Cells.{cell, adapter_above, row_above, node_of, node_count, most_nodes};
 
 use round_net::Net;
 
@@ -12,7 +12,7 @@ pub fn node(net: &Net, row: u32, round: u32) -> u32
     requires row { row ≤ rows (instance_of_rows net.now) }
     requires round { round ≤ (instance_of_rows net.now).rounds }
     ensures same { result ≡ cell (instance_of_rows net.now) row round }
-    ensures small { result ≤ MOST_NODES }
+    ensures small { result ≤ most_nodes }
     ensures sound { IsSound (instance_of_rows net.now) (live_of_rows net.now) }
 {
     row * (net.rounds() + 1) + round
@@ -67,7 +67,7 @@ pub fn node_above(net: &Net, up: u32, round: u32) -> u32
 /// How many nodes there are: the cells and the root.
 pub fn nodes(net: &Net) -> u32
     ensures same { result ≡ node_count (instance_of_rows net.now) }
-    ensures small { result ≤ MOST_NODES }
+    ensures small { result ≤ most_nodes }
     ensures sound { IsSound (instance_of_rows net.now) (live_of_rows net.now) }
 {
     net.rows() * (net.rounds() + 1) + 1

@@ -3,7 +3,7 @@
 
 ghost use Rattle.std.specs.Prelude.{◌≡◌, ℕ, ◌+◌, ◌*◌, ◌<◌, ◌≤◌, Some, length, slice_index, slice_set, IfOk};
 ghost use Rattle.std.specs.Option.{IfSome, IfNone};
-ghost use Rattle.cost_plan.specs.Words.{Arc, rows, instance_of_rows, live_of_rows, IsAdmissible, IsSound, MOST_STAYS};
+ghost use Rattle.cost_plan.specs.Words.{Arc, rows, instance_of_rows, live_of_rows, IsAdmissible, IsSound, MOST_NET_STAYS};
 ghost use Rattle.cost_plan.specs.Cells.{cell, stands, rounds_of};
 ghost use Rattle.cost_plan.specs.Draft.{AreLoads, IsDraftOf, schedule_of};
 ghost use Rattle.cost_plan.specs.Residual.{changed, changed_all, MarksWithin};
@@ -82,7 +82,7 @@ fn add(net: &Net, loads: &mut Vec<u32>, stay: u32, round: u32)
     requires stay { stay < (instance_of_rows net.now).stays }
     requires round { round ≤ (instance_of_rows net.now).rounds }
     requires size { length loads.old.items ≡ rows (instance_of_rows net.now) * ((instance_of_rows net.now).rounds + 1) }
-    requires room { (row r : ℕ) → row < rows (instance_of_rows net.now) → r ≤ (instance_of_rows net.now).rounds → slice_index loads.old.items (cell (instance_of_rows net.now) row r) ≤ MOST_STAYS }
+    requires room { (row r : ℕ) → row < rows (instance_of_rows net.now) → r ≤ (instance_of_rows net.now).rounds → slice_index loads.old.items (cell (instance_of_rows net.now) row r) ≤ MOST_NET_STAYS }
     ensures size { length loads.new.items ≡ length loads.old.items }
     ensures counts { (row r : ℕ) → row < rows (instance_of_rows net.now) → r ≤ (instance_of_rows net.now).rounds →
         slice_index loads.new.items (cell (instance_of_rows net.now) row r) ≡ slice_index loads.old.items (cell (instance_of_rows net.now) row r) + stands (instance_of_rows net.now) row r stay round }
@@ -105,7 +105,7 @@ fn remove(net: &Net, loads: &mut Vec<u32>, stay: u32, round: u32)
     ensures size { length loads.new.items ≡ length loads.old.items }
     ensures counts { (row r : ℕ) → row < rows (instance_of_rows net.now) → r ≤ (instance_of_rows net.now).rounds →
         slice_index loads.old.items (cell (instance_of_rows net.now) row r) ≡ slice_index loads.new.items (cell (instance_of_rows net.now) row r) + stands (instance_of_rows net.now) row r stay round }
-    ensures few { (instance_of_rows net.now).stays ≤ MOST_STAYS }
+    ensures few { (instance_of_rows net.now).stays ≤ MOST_NET_STAYS }
 {
     let end = net.rows();
     let mut row = net.device(stay);

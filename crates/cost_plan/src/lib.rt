@@ -11,6 +11,7 @@ mod cells;
 mod draft;
 mod gate;
 mod keeping;
+mod levels;
 mod part;
 mod part_name;
 mod parts;

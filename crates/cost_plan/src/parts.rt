@@ -32,6 +32,7 @@ pub fn guessed_at_once<G: Gate + Sync, R: Threads + Sync>(
     ensures draft { IfOk result (λ found. IfSome found (λ start. IsDraftOf (instance_of_rows net.now) start.draft)) }
     ensures admissible { IfOk result (λ found. IfSome found (λ start. IsAdmissible (instance_of_rows net.now) (schedule_of start.draft))) }
     ensures size { IfOk result (λ found. IfSome found (λ start. length start.labels.labels ≡ node_count (instance_of_rows net.now))) }
+    ensures most { IfOk result (λ found. IfSome found (λ start. start.labels.most ≡ (instance_of_rows net.now).most_price)) }
     ensures sound { IsSound (instance_of_rows net.now) (live_of_rows net.now) }
 {
     let busy = busy_parts(alloc, net)?;
@@ -53,13 +54,14 @@ fn put_together(
     ensures draft { IfOk result (λ found. IfSome found (λ start. IsDraftOf (instance_of_rows net.now) start.draft)) }
     ensures admissible { IfOk result (λ found. IfSome found (λ start. IsAdmissible (instance_of_rows net.now) (schedule_of start.draft))) }
     ensures size { IfOk result (λ found. IfSome found (λ start. length start.labels.labels ≡ node_count (instance_of_rows net.now))) }
+    ensures most { IfOk result (λ found. IfSome found (λ start. start.labels.most ≡ (instance_of_rows net.now).most_price)) }
 {
     let mut rounds = live_rounds(alloc, net)?;
     let mut labels = vec![in alloc; 0u64; nodes(net) as usize]?;
     for part in parts {
         put(net, &mut rounds, &mut labels, part?);
     }
-    let labels = Labels::start(alloc, &labels)?;
+    let labels = Labels::start(alloc, &labels, net.most_price())?;
     let Some(draft) = draft_of(alloc, net, rounds)? else {
         return Ok(None);
     };

@@ -24,6 +24,7 @@ pub fn relax_take(
 ) -> Option<u32>
     requires draft { IsDraftOf (instance_of_rows net.now) draft.now }
     requires size { length labels.old.labels ≡ node_count (instance_of_rows net.now) }
+    requires most { labels.old.most ≡ (instance_of_rows net.now).most_price }
     requires row { row < rows (instance_of_rows net.now) }
     requires up { up ≡ row_above (instance_of_rows net.now) row }
     requires within { up ≤ rows (instance_of_rows net.now) }
@@ -49,6 +50,7 @@ pub fn relax_give(
 ) -> Option<u32>
     requires draft { IsDraftOf (instance_of_rows net.now) draft.now }
     requires size { length labels.old.labels ≡ node_count (instance_of_rows net.now) }
+    requires most { labels.old.most ≡ (instance_of_rows net.now).most_price }
     requires row { row < rows (instance_of_rows net.now) }
     requires up { up ≡ row_above (instance_of_rows net.now) row }
     requires within { up ≤ rows (instance_of_rows net.now) }
@@ -74,6 +76,7 @@ pub fn relax_cell(
 ) -> Option<u32>
     requires draft { IsDraftOf (instance_of_rows net.now) draft.now }
     requires size { length labels.old.labels ≡ node_count (instance_of_rows net.now) }
+    requires most { labels.old.most ≡ (instance_of_rows net.now).most_price }
     requires row { row < rows (instance_of_rows net.now) }
     requires up { up ≡ row_above (instance_of_rows net.now) row }
     requires within { up ≤ rows (instance_of_rows net.now) }
@@ -90,6 +93,7 @@ pub fn relax_cell(
 pub fn relax_row(net: &Net, draft: &Draft, labels: &mut Labels, row: u32) -> Option<u32>
     requires draft { IsDraftOf (instance_of_rows net.now) draft.now }
     requires size { length labels.old.labels ≡ node_count (instance_of_rows net.now) }
+    requires most { labels.old.most ≡ (instance_of_rows net.now).most_price }
     requires row { row < rows (instance_of_rows net.now) }
     ensures raises { Raises (instance_of_rows net.now) (schedule_of draft.now) labels.old labels.new result }
     ensures settled { result ≡ None → SettlesRow (instance_of_rows net.now) (schedule_of draft.now) labels.old row }
@@ -106,6 +110,7 @@ pub fn relax_row(net: &Net, draft: &Draft, labels: &mut Labels, row: u32) -> Opt
 pub fn relax_moves(net: &Net, draft: &Draft, labels: &mut Labels, stay: u32) -> Option<u32>
     requires draft { IsDraftOf (instance_of_rows net.now) draft.now }
     requires size { length labels.old.labels ≡ node_count (instance_of_rows net.now) }
+    requires most { labels.old.most ≡ (instance_of_rows net.now).most_price }
     requires stay { stay < (instance_of_rows net.now).stays }
     ensures raises { Raises (instance_of_rows net.now) (schedule_of draft.now) labels.old labels.new result }
     ensures settled { result ≡ None → SettlesMoves (instance_of_rows net.now) (schedule_of draft.now) labels.old stay }
@@ -128,6 +133,7 @@ pub fn relax_moves(net: &Net, draft: &Draft, labels: &mut Labels, stay: u32) -> 
 pub fn relax_all(net: &Net, draft: &Draft, labels: &mut Labels) -> Option<u32>
     requires draft { IsDraftOf (instance_of_rows net.now) draft.now }
     requires size { length labels.old.labels ≡ node_count (instance_of_rows net.now) }
+    requires most { labels.old.most ≡ (instance_of_rows net.now).most_price }
     ensures raises { Raises (instance_of_rows net.now) (schedule_of draft.now) labels.old labels.new result }
     ensures settled { result ≡ None → SettlesAll (instance_of_rows net.now) (schedule_of draft.now) (label_of labels.old) }
 {
@@ -139,6 +145,7 @@ pub fn relax_all(net: &Net, draft: &Draft, labels: &mut Labels) -> Option<u32>
 fn relax_stays(net: &Net, draft: &Draft, labels: &mut Labels) -> Option<u32>
     requires draft { IsDraftOf (instance_of_rows net.now) draft.now }
     requires size { length labels.old.labels ≡ node_count (instance_of_rows net.now) }
+    requires most { labels.old.most ≡ (instance_of_rows net.now).most_price }
     ensures raises { Raises (instance_of_rows net.now) (schedule_of draft.now) labels.old labels.new result }
     ensures settled { result ≡ None → (stay : ℕ) → stay < (instance_of_rows net.now).stays → SettlesMoves (instance_of_rows net.now) (schedule_of draft.now) labels.old stay }
 {
@@ -153,6 +160,7 @@ fn relax_stays(net: &Net, draft: &Draft, labels: &mut Labels) -> Option<u32>
 fn relax_rows(net: &Net, draft: &Draft, labels: &mut Labels) -> Option<u32>
     requires draft { IsDraftOf (instance_of_rows net.now) draft.now }
     requires size { length labels.old.labels ≡ node_count (instance_of_rows net.now) }
+    requires most { labels.old.most ≡ (instance_of_rows net.now).most_price }
     ensures raises { Raises (instance_of_rows net.now) (schedule_of draft.now) labels.old labels.new result }
     ensures settled { result ≡ None → (row : ℕ) → row < rows (instance_of_rows net.now) → SettlesRow (instance_of_rows net.now) (schedule_of draft.now) labels.old row }
 {

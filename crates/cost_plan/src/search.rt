@@ -25,7 +25,9 @@ pub fn search(
 ) -> Result<Option<usize>, AllocError>
     requires draft { IsDraftOf (instance_of_rows net.now) draft.now }
     requires size { length labels.old.labels ≡ node_count (instance_of_rows net.now) }
+    requires most { labels.old.most ≡ (instance_of_rows net.now).most_price }
     ensures size { length labels.new.labels ≡ length labels.old.labels }
+    ensures most { labels.new.most ≡ labels.old.most }
     ensures settled { IfOk result (λ found. IfNone found (SettlesAll (instance_of_rows net.now) (schedule_of draft.now) (label_of labels.new))) }
     ensures gains { IfOk result (λ found. IfSome found (λ k. IsGainingCycle (drop k path.new.items))) }
     ensures residual { IfOk result (λ found. IfSome found (λ k. All (IsResidual (instance_of_rows net.now) (schedule_of draft.now)) (drop k path.new.items))) }

@@ -1,6 +1,6 @@
 -- How labels that rise by arcs lie.
-use Rattle.negative_cycle.specs.Labelling.{IsRisenBy, IsForest, begun, highest, highest_root, MOST_UP, MOST_NODES}
-use Rattle.std.proofs.Common.{◌≡◌, ◌≢◌, ℕ, zero, suc, ◌+◌, ◌<◌, ◌≤◌, ◌==◌, false, cond, ltb, leb, List, [], ◌∷◌, length, get_or, set, map, replicate, Option, Some, None, refl, sym, ap, ◌∙◌, subst, inl, inr, arith}
+use Rattle.negative_cycle.specs.Labelling.{IsRisenBy, IsForest, begun, highest_root, MOST_LABEL}
+use Rattle.std.proofs.Common.{◌≡◌, ◌≢◌, ℕ, zero, suc, ◌+◌, ◌*◌, ◌/◌, ◌<◌, ◌≤◌, ◌==◌, false, cond, ltb, leb, List, [], ◌∷◌, length, get_or, set, map, replicate, Option, Some, None, refl, sym, ap, ◌∙◌, subst, inl, inr, arith}
 use Rattle.std.proofs.lemmas.Bool.{cases_eq, cases_lt, eq-eqb, ne_eqb, cond-true, cond-false, le-leb, lt-leb, ltb-false, or_parts}
 use Rattle.std.specs.List.{list_any}
 use Rattle.std.proofs.lemmas.List.{length-map, length-set, length-replicate, get_or-set_same, get_or-set_other, get_or-replicate, get_or_past}
@@ -13,11 +13,11 @@ came_by-none n node = elim (cases_lt node n) [
   | inr past ↦ get_or_past (replicate n None) node None (omega (arith, length-replicate n (let o : Option Arc = None in o)))
 ]
 
-pub IsForest-unrisen : (labels : List ℕ) (n : ℕ) → n ≡ length labels → n ≤ MOST_NODES → ((node : ℕ) → get_or labels node 0 ≤ highest_root) → IsForest labels (replicate n None)
-IsForest-unrisen labels n same few low = record {
+pub IsForest-unrisen : (most : ℕ) (labels : List ℕ) (n : ℕ) → n ≡ length labels → most ≤ MOST_LABEL → ((node : ℕ) → get_or labels node 0 ≤ highest_root most) → IsForest most labels (replicate n None)
+IsForest-unrisen most labels n same few low = record {
   rank = λ node. 0;
   lengths = length-replicate n None ∙ same;
-  few = omega arith;
+  fits = few;
   risen = λ node arc by. let e = came_by-none n node in cc;
   roots = λ node none. low node;
   below = λ node. let l = low node in omega arith;
@@ -28,8 +28,8 @@ abbrev rank_after : (ℕ → ℕ) → Arc → ℕ → ℕ
 rank_after rank arc node = cond (node == arc.head) (rank arc.tail + 1) (rank node)
 
 -- the head has risen by the arc
-head_risen : (labels : List ℕ) (rank : ℕ → ℕ) (arc : Arc) (label : ℕ) → arc.tail < length labels → arc.head < length labels → arc.up ≤ MOST_UP → get_or labels arc.head 0 + arc.down < get_or labels arc.tail 0 + arc.up → label + arc.down ≡ get_or labels arc.tail 0 + arc.up → IsRisenBy (set labels arc.head label) (rank_after rank arc) arc.head arc
-head_risen labels rank arc label tails heads steep unsettled rises =
+head_risen : (most : ℕ) (labels : List ℕ) (rank : ℕ → ℕ) (arc : Arc) (label : ℕ) → arc.tail < length labels → arc.head < length labels → arc.up * length labels ≤ most / 4 → get_or labels arc.head 0 + arc.down < get_or labels arc.tail 0 + arc.up → label + arc.down ≡ get_or labels arc.tail 0 + arc.up → IsRisenBy most (set labels arc.head label) (rank_after rank arc) arc.head arc
+head_risen most labels rank arc label tails heads steep unsettled rises =
     let longer = length-set labels arc.head label in
     let here : get_or (set labels arc.head label) arc.head 0 ≡ label = get_or-set_same labels arc.head label 0 heads in
     let ranked : rank_after rank arc arc.head ≡ rank arc.tail + 1 = cond-true _ _ _ (eq-eqb arc.head arc.head refl) in
@@ -40,7 +40,7 @@ head_risen labels rank arc label tails heads steep unsettled rises =
           record {
             heads = refl;
             tails = omega (arith, longer);
-            steep = steep;
+            steep = subst (λ (n : ℕ). arc.up * n ≤ most / 4) (sym longer) steep;
             slack = omega (arith, here, there, was);
             later = inl (omega (arith, here, there, was));
           }
@@ -50,15 +50,15 @@ head_risen labels rank arc label tails heads steep unsettled rises =
           record {
             heads = refl;
             tails = omega (arith, longer);
-            steep = steep;
+            steep = subst (λ (n : ℕ). arc.up * n ≤ most / 4) (sym longer) steep;
             slack = omega (arith, here, there);
             later = inr (omega (arith, ranked, tail_ranked));
           }
     ]
 
 -- each other node has risen by its arc as before
-other_risen : (labels : List ℕ) (rank : ℕ → ℕ) (arc : Arc) (label node : ℕ) (by : Arc) → arc.head < length labels → node ≢ arc.head → get_or labels arc.head 0 < label → IsRisenBy labels rank node by → IsRisenBy (set labels arc.head label) (rank_after rank arc) node by
-other_risen labels rank arc label node by heads apart rises r =
+other_risen : (most : ℕ) (labels : List ℕ) (rank : ℕ → ℕ) (arc : Arc) (label node : ℕ) (by : Arc) → arc.head < length labels → node ≢ arc.head → get_or labels arc.head 0 < label → IsRisenBy most labels rank node by → IsRisenBy most (set labels arc.head label) (rank_after rank arc) node by
+other_risen most labels rank arc label node by heads apart rises r =
     let longer = length-set labels arc.head label in
     let here : get_or (set labels arc.head label) node 0 ≡ get_or labels node 0 = get_or-set_other labels arc.head node label 0 apart in
     let ranked : rank_after rank arc node ≡ rank node = cond-false _ _ _ (ne_eqb node arc.head apart) in
@@ -69,7 +69,7 @@ other_risen labels rank arc label node by heads apart rises r =
           record {
             heads = r.heads;
             tails = omega (arith, longer, r.tails);
-            steep = r.steep;
+            steep = subst (λ (n : ℕ). by.up * n ≤ most / 4) (sym longer) r.steep;
             slack = omega (arith, here, there, was, r.slack);
             later = inl (omega (arith, here, there, was, r.slack));
           }
@@ -79,31 +79,31 @@ other_risen labels rank arc label node by heads apart rises r =
           record {
             heads = r.heads;
             tails = omega (arith, longer, r.tails);
-            steep = r.steep;
+            steep = subst (λ (n : ℕ). by.up * n ≤ most / 4) (sym longer) r.steep;
             slack = omega (arith, here, there, r.slack);
             later = elim r.later [ inl more ↦ inl (omega (arith, here, there)) | inr lower ↦ inr (omega (arith, ranked, tail_ranked)) ];
           }
     ]
 
 -- an arc raises its head
-pub IsForest-raised : (labels : List ℕ) (preds : List (Option Arc)) (arc : Arc) (label : ℕ) → arc.tail < length labels → arc.head < length labels → arc.up ≤ MOST_UP → get_or labels arc.head 0 + arc.down < get_or labels arc.tail 0 + arc.up → label + arc.down ≡ get_or labels arc.tail 0 + arc.up → label ≤ highest → IsForest labels preds → IsForest (set labels arc.head label) (set preds arc.head (Some arc))
-IsForest-raised labels preds arc label tails heads steep unsettled rises most f =
+pub IsForest-raised : (most : ℕ) (labels : List ℕ) (preds : List (Option Arc)) (arc : Arc) (label : ℕ) → arc.tail < length labels → arc.head < length labels → arc.up * length labels ≤ most / 4 → get_or labels arc.head 0 + arc.down < get_or labels arc.tail 0 + arc.up → label + arc.down ≡ get_or labels arc.tail 0 + arc.up → label ≤ most → IsForest most labels preds → IsForest most (set labels arc.head label) (set preds arc.head (Some arc))
+IsForest-raised most labels preds arc label tails heads steep unsettled rises le f =
     let longer = length-set labels arc.head label in
     let preds_inside : arc.head < length preds = omega (arith, f.lengths) in
     let came_same : came_by (set preds arc.head (Some arc)) arc.head ≡ Some arc = get_or-set_same preds arc.head (Some arc) None preds_inside in
     record {
       rank = rank_after f.rank arc;
       lengths = length-set preds arc.head (Some arc) ∙ f.lengths ∙ sym longer;
-      few = omega (arith, f.few, longer);
+      fits = f.fits;
       risen = λ node by came. elim (cases_eq node arc.head) [
         | inl same ↦
             let is_arc : Some arc ≡ Some by = sym came_same ∙ ap (came_by (set preds arc.head (Some arc))) (sym same) ∙ came in
             let which : arc ≡ by = cc in
-            subst (λ (v : ℕ). IsRisenBy (set labels arc.head label) (rank_after f.rank arc) v by) (sym same)
-            (subst (λ (a : Arc). IsRisenBy (set labels arc.head label) (rank_after f.rank arc) arc.head a) which
-            (head_risen labels f.rank arc label tails heads steep unsettled rises))
+            subst (λ (v : ℕ). IsRisenBy most (set labels arc.head label) (rank_after f.rank arc) v by) (sym same)
+            (subst (λ (a : Arc). IsRisenBy most (set labels arc.head label) (rank_after f.rank arc) arc.head a) which
+            (head_risen most labels f.rank arc label tails heads steep unsettled rises))
         | inr apart ↦
-            other_risen labels f.rank arc label node by heads apart (omega arith)
+            other_risen most labels f.rank arc label node by heads apart (omega arith)
             (f.risen node by (sym (get_or-set_other preds arc.head node (Some arc) None apart) ∙ came))
       ];
       roots = λ node none. elim (cases_eq node arc.head) [
@@ -121,43 +121,43 @@ IsForest-raised labels preds arc label tails heads steep unsettled rises most f 
     }
 
 -- labels 0
-zero-low : (n node : ℕ) → get_or (replicate n 0) node 0 ≤ highest_root
-zero-low n node = elim (cases_lt node n) [
+zero-low : (most n node : ℕ) → get_or (replicate n 0) node 0 ≤ highest_root most
+zero-low most n node = elim (cases_lt node n) [
   | inl inside ↦ omega (arith, get_or-replicate {A = ℕ} n node 0 0 inside)
   | inr past ↦ omega (arith, get_or_past {X = ℕ} (replicate n 0) node 0 (omega (arith, length-replicate {A = ℕ} n 0)))
 ]
 
-pub IsForest-begun : (labels : List ℕ) (preds : List (Option Arc)) (n : ℕ) → n ≤ MOST_NODES → labels ≡ replicate n 0 → preds ≡ replicate n None → IsForest labels preds
-IsForest-begun labels preds n few zeros nones =
-    subst (λ (ps : List (Option Arc)). IsForest labels ps) (sym nones)
-    (subst (λ (ls : List ℕ). IsForest ls (replicate n None)) (sym zeros)
-    (IsForest-unrisen (replicate n 0) n (sym (length-replicate {A = ℕ} n 0)) few (zero-low n)))
+pub IsForest-begun : (most : ℕ) (labels : List ℕ) (preds : List (Option Arc)) (n : ℕ) → most ≤ MOST_LABEL → labels ≡ replicate n 0 → preds ≡ replicate n None → IsForest most labels preds
+IsForest-begun most labels preds n few zeros nones =
+    subst (λ (ps : List (Option Arc)). IsForest most labels ps) (sym nones)
+    (subst (λ (ls : List ℕ). IsForest most ls (replicate n None)) (sym zeros)
+    (IsForest-unrisen most (replicate n 0) n (sym (length-replicate {A = ℕ} n 0)) few (zero-low most n)))
 
 -- labels of which none is high
-pub low-from_list_any : (labels : List ℕ) (node : ℕ) → list_any (λ y. ltb highest_root y) labels ≡ false → get_or labels node 0 ≤ highest_root
-low-from_list_any [] node none = omega arith
-low-from_list_any (y ∷ labels) zero none = ltb-false highest_root y (or_parts (ltb highest_root y) (list_any (λ y. ltb highest_root y) labels) none).0
-low-from_list_any (y ∷ labels) (suc node) none = low-from_list_any labels node (or_parts (ltb highest_root y) (list_any (λ y. ltb highest_root y) labels) none).1
+pub low-from_list_any : (most : ℕ) (labels : List ℕ) (node : ℕ) → list_any (λ y. ltb (highest_root most) y) labels ≡ false → get_or labels node 0 ≤ highest_root most
+low-from_list_any most [] node none = omega arith
+low-from_list_any most (y ∷ labels) zero none = ltb-false (highest_root most) y (or_parts (ltb (highest_root most) y) (list_any (λ y. ltb (highest_root most) y) labels) none).0
+low-from_list_any most (y ∷ labels) (suc node) none = low-from_list_any most labels node (or_parts (ltb (highest_root most) y) (list_any (λ y. ltb (highest_root most) y) labels) none).1
 
-pub IsForest-low : (labels : List ℕ) (preds : List (Option Arc)) (n : ℕ) → n ≡ length labels → n ≤ MOST_NODES → list_any (λ y. ltb highest_root y) labels ≡ false → preds ≡ replicate n None → IsForest labels preds
-IsForest-low labels preds n same few none nones =
-    subst (λ (ps : List (Option Arc)). IsForest labels ps) (sym nones)
-    (IsForest-unrisen labels n same few (λ node. low-from_list_any labels node none))
+pub IsForest-low : (most : ℕ) (labels : List ℕ) (preds : List (Option Arc)) (n : ℕ) → n ≡ length labels → most ≤ MOST_LABEL → list_any (λ y. ltb (highest_root most) y) labels ≡ false → preds ≡ replicate n None → IsForest most labels preds
+IsForest-low most labels preds n same few none nones =
+    subst (λ (ps : List (Option Arc)). IsForest most labels ps) (sym nones)
+    (IsForest-unrisen most labels n same few (λ node. low-from_list_any most labels node none))
 
 -- labels as they begin to rise
-begun-le : (label : ℕ) → begun label ≤ highest_root
-begun-le label = elim (cases_lt highest_root label) [
-  | inl high ↦ omega (arith, cond-false (leb label highest_root) label highest_root (lt-leb label highest_root high))
-  | inr low ↦ omega (arith, cond-true (leb label highest_root) label highest_root (le-leb label highest_root low))
+begun-le : (most label : ℕ) → begun most label ≤ highest_root most
+begun-le most label = elim (cases_lt (highest_root most) label) [
+  | inl high ↦ omega (arith, cond-false (leb label (highest_root most)) label (highest_root most) (lt-leb label (highest_root most) high))
+  | inr low ↦ omega (arith, cond-true (leb label (highest_root most)) label (highest_root most) (le-leb label (highest_root most) low))
 ]
 
-begun-low : (labels : List ℕ) (node : ℕ) → get_or (map begun labels) node 0 ≤ highest_root
-begun-low [] node = omega arith
-begun-low (y ∷ labels) zero = begun-le y
-begun-low (y ∷ labels) (suc node) = begun-low labels node
+begun-low : (most : ℕ) (labels : List ℕ) (node : ℕ) → get_or (map (begun most) labels) node 0 ≤ highest_root most
+begun-low most [] node = omega arith
+begun-low most (y ∷ labels) zero = begun-le most y
+begun-low most (y ∷ labels) (suc node) = begun-low most labels node
 
-pub IsForest-given : (given labels : List ℕ) (preds : List (Option Arc)) → length given ≤ MOST_NODES → labels ≡ map begun given → preds ≡ replicate (length given) None → IsForest labels preds
-IsForest-given given labels preds few begins nones =
-    subst (λ (ps : List (Option Arc)). IsForest labels ps) (sym nones)
-    (subst (λ (ls : List ℕ). IsForest ls (replicate (length given) None)) (sym begins)
-    (IsForest-unrisen (map begun given) (length given) (sym (length-map given begun)) few (begun-low given)))
+pub IsForest-given : (most : ℕ) (given labels : List ℕ) (preds : List (Option Arc)) → most ≤ MOST_LABEL → labels ≡ map (begun most) given → preds ≡ replicate (length given) None → IsForest most labels preds
+IsForest-given most given labels preds few begins nones =
+    subst (λ (ps : List (Option Arc)). IsForest most labels ps) (sym nones)
+    (subst (λ (ls : List ℕ). IsForest most ls (replicate (length given) None)) (sym begins)
+    (IsForest-unrisen most (map (begun most) given) (length given) (sym (length-map given (begun most))) few (begun-low most given)))

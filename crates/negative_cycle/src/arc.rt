@@ -1,8 +1,5 @@
 //! An arc of the graph, with what it gains and loses.
 
-/// The most that an arc gains.
-pub const MOST_UP: u32 = 524_288;
-
 /// A step from one node to another, with what it gains and what it loses.
 #[derive(Clone, Copy)]
 pub struct Arc {
@@ -10,7 +7,7 @@ pub struct Arc {
     pub tail: u32,
     /// The node to which it leads.
     pub head: u32,
-    /// What it gains, at most `MOST_UP`.
+    /// What it gains.
     pub up: u32,
     /// What it loses.
     pub down: u32,

@@ -7,9 +7,6 @@ ghost use Rattle.negative_cycle.specs.Labelling.{begun, highest_root};
 use crate::arc::Arc;
 use std::alloc::{AllocError, Global};
 
-/// The most that a label is where the labels begin to rise.
-const HIGHEST_ROOT: u64 = 500_000_000_000;
-
 /// No arc for each node.
 pub fn unrisen(alloc: Global, nodes: usize) -> Result<Vec<Option<Arc>>, AllocError>
     ensures { IfOk result (λ v. v.items ≡ replicate nodes None) }
@@ -22,25 +19,21 @@ pub fn unrisen(alloc: Global, nodes: usize) -> Result<Vec<Option<Arc>>, AllocErr
 }
 
 /// Each label, or the most that a label is where the labels begin to rise, if that is less.
-pub fn cut(alloc: Global, labels: &[u64]) -> Result<Vec<u64>, AllocError>
-    ensures { IfOk result (λ v. v.items ≡ map begun labels.now) }
+pub fn cut(alloc: Global, labels: &[u64], most: u64) -> Result<Vec<u64>, AllocError>
+    ensures { IfOk result (λ v. v.items ≡ map (begun most) labels.now) }
 {
     let mut cut = Vec::with_capacity(alloc, labels.len())?;
     for label in labels {
-        cut.push(begin(*label))?;
+        cut.push(begin(*label, most))?;
     }
     Ok(cut)
 }
 
 // A label, or the most that a label is where the labels begin to rise, if that is less.
-fn begin(label: u64) -> u64
-    ensures { result ≡ begun label }
+fn begin(label: u64, most: u64) -> u64
+    ensures { result ≡ begun most label }
 {
-    if label <= HIGHEST_ROOT {
-        label
-    } else {
-        HIGHEST_ROOT
-    }
+    if label <= most / 2 { label } else { most / 2 }
 }
 
 /// Takes the arc of each node away.
@@ -62,8 +55,9 @@ pub fn lower(labels: &mut Vec<u64>)
 }
 
 /// Whether a label is too high for labels that begin to rise.
-pub fn any_high(labels: &[u64]) -> bool
-    ensures { result ≡ list_any (λ y. nat_lt highest_root y) labels.now }
+pub fn any_high(labels: &[u64], most: u64) -> bool
+    ensures { result ≡ list_any (λ y. nat_lt (highest_root most) y) labels.now }
 {
-    labels.iter().any(|label| *label > HIGHEST_ROOT)
+    let root = most / 2;
+    labels.iter().any(|label| *label > root)
 }

@@ -2,8 +2,8 @@
 //! walk on which more is gained than lost.
 #![tactic(auto)]
 
-pub use arc::{Arc, MOST_UP};
-pub use labels::{Labels, MOST_NODES};
+pub use arc::Arc;
+pub use labels::{Labels, MOST_LABEL};
 
 mod arc;
 mod begin;

@@ -2,9 +2,9 @@
 use Rattle.std.proofs.Common.{◌≡◌, ◌≤◌, ◌<◌, ◌+◌, ◌-◌, ℕ, zero, suc, List, [], ◌++◌, length, take, drop, get_or, replicate, refl, sym, ap, ◌∙◌, subst, arith, append_assoc, append-nil, ◌==◌, Result, Ok, Err, codes, All, count_by}
 use Rattle.std.proofs.lemmas.List.{append_cancel_right, take-append-drop, get_or_append_left, length-replicate, length-append}
 use Rattle.std.proofs.lemmas.List.Elements.{All-append, All-replicate, All-get_or}
-use Rattle.price_check.specs.Words.{Past, NetRows, instance_of_rows, live_of_rows, IsSound, MOST_PRICE}
+use Rattle.price_check.specs.Words.{Past, NetRows, instance_of_rows, live_of_rows, IsSound, MOST_NET_PRICE}
 use Rattle.price_check.specs.Pieces.{line_of}
-use Rattle.price_check.specs.Forms.{most_stated}
+use Rattle.price_check.specs.Forms.{most_stated, most_number}
 use Rattle.price_check.specs.Reading.{series, ReportFault}
 use Rattle.price_check.specs.Claims.{IsClaim, report_text, fault_line, Claim}
 use Rattle.price_check.proofs.SeriesLemmas.{Reader}
@@ -69,7 +69,7 @@ padded_texts form n k vs size le =
 abbrev pub made : NetRows → ℕ → ℕ → List ℕ → List ℕ → Claim
 made net best excess stays prices = record {
   schedule = stays;
-  prices = record { rounds = (instance_of_rows net).rounds; devices = (instance_of_rows net).devices; adapters = (instance_of_rows net).adapters; links = (instance_of_rows net).links; prices = prices };
+  prices = record { rounds = (instance_of_rows net).rounds; devices = (instance_of_rows net).devices; adapters = (instance_of_rows net).adapters; links = (instance_of_rows net).links; most_price = (instance_of_rows net).most_price; prices = prices };
   best = best;
   excess = excess;
 }
@@ -86,14 +86,15 @@ pub zeros : (n most : ℕ) → Fitting n most (replicate n 0)
 zeros n most = record { size = length-replicate n 0; small = All-replicate (λ v. v ≤ most) n 0 (let le : 0 ≤ most = omega arith in le) }
 
 pub is_claim : (net : NetRows) (best excess : ℕ) (stays prices : List ℕ) → IsSound (instance_of_rows net) (live_of_rows net) → best ≤ most_stated → excess ≤ most_stated
-    → Fitting (instance_of_rows net).stays 65535 stays → Fitting (price_cells net) MOST_PRICE prices → IsClaim (instance_of_rows net) (made net best excess stays prices)
+    → Fitting (instance_of_rows net).stays (most_number (instance_of_rows net)) stays → Fitting (price_cells net) (instance_of_rows net).most_price prices → IsClaim (instance_of_rows net) (made net best excess stays prices)
 is_claim net best excess stays prices sound small small' hs hp = record {
   stays = hs.size;
   rounds = hs.small;
-  pricing = record { rounds = refl; devices = refl; adapters = refl; links = refl };
+  pricing = record { rounds = refl; devices = refl; adapters = refl; links = refl; most_price = refl };
   priced = record {
     cells = hp.size;
     small = hp.small;
+    small_price = sound.small_price;
     few_rounds = sound.few_rounds;
     few_devices = sound.few_devices;
     few_adapters = sound.few_adapters;
@@ -112,7 +113,7 @@ sections past net live best excess stays prices =
 
 pub made_report : (past : Past) (net : NetRows) (live best excess : ℕ) (stays prices : List ℕ) → report_text past net live (made net best excess stays prices) ≡ sections past net live best excess stays prices
 unfolding parts_of
-made_report past net live best excess stays prices = report_parts past net live (made net best excess stays prices) (record { rounds = refl; devices = refl; adapters = refl; links = refl })
+made_report past net live best excess stays prices = report_parts past net live (made net best excess stays prices) (record { rounds = refl; devices = refl; adapters = refl; links = refl; most_price = refl })
 
 -- ---- where a section fails
 
@@ -204,7 +205,14 @@ at_summary past net live text e sound h =
     let prices = replicate (price_cells net) 0 in
     let texts : texts_of form 7 (said_of best excess) ≡ texts_of form 7 (padded 7 b.values) = seven_texts past.events live best excess (said_of best excess) refl refl ∙ sym (seven_texts past.events live best excess (padded 7 b.values) refl refl) in
     section_failed past net live text e form most_stated (seven_at past.events live text) 7 0 [] _ (made net best excess stays prices) (seven_lines past.events live) (record { whole = refl; closed = tt }) b
-    (is_claim net best excess stays prices sound small small' (zeros (instance_of_rows net).stays 65535) (zeros (price_cells net) MOST_PRICE))
+    (is_claim net best excess stays prices sound small small' (zeros (instance_of_rows net).stays (most_number (instance_of_rows net))) (zeros (price_cells net) (instance_of_rows net).most_price))
     (made_report past net live best excess stays prices
     ∙ ap (λ (l : List ℕ). l ++ (texts_of (stay_form net) (instance_of_rows net).stays stays
     ++ (texts_of (form_of past.config.devices (instance_of_rows net).adapters (instance_of_rows net).rounds) (price_cells net) prices ++ codes "end\n"))) texts)
+
+-- of a claim no price is above the net's largest, and that is no more than any net's
+pub price_fits : (net : NetRows) (claim : Claim) → IsClaim (instance_of_rows net) claim → (instance_of_rows net).most_price ≤ MOST_NET_PRICE
+price_fits net claim h = omega (arith, h.pricing.most_price, h.priced.small_price)
+
+pub prices_small : (net : NetRows) (claim : Claim) → IsClaim (instance_of_rows net) claim → All (λ v. v ≤ (instance_of_rows net).most_price) claim.prices.prices
+prices_small net claim h = subst (λ (most : ℕ). All (λ v. v ≤ most) claim.prices.prices) h.pricing.most_price h.priced.small

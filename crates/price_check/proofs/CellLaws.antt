@@ -6,7 +6,7 @@ use Rattle.std.proofs.lemmas.List.Elements.{All-get_or}
 use Rattle.std.proofs.lemmas.Fmt.{decimal_injective}
 use Rattle.std.proofs.lemmas.Option.{slice_get_cases}
 use Rattle.std.proofs.Math.Nat.{div-add-mod, div-lt_iff_lt-mul, mod-lt}
-use Rattle.price_check.specs.Words.{Device, MOST_ROUNDS, MOST_DEVICES, MOST_ADAPTERS, MOST_LINKS, spelled, address_of, Instance, rows, PriceRows, IsPriced, IsPricingFor, NetRows, instance_of_rows, MOST_PRICE}
+use Rattle.price_check.specs.Words.{Device, MOST_NET_ROUNDS, MOST_DEVICES, MOST_ADAPTERS, MOST_LINKS, spelled, address_of, Instance, rows, PriceRows, IsPriced, IsPricingFor, NetRows, instance_of_rows, MOST_NET_PRICE}
 use Rattle.price_check.specs.Pieces.{skip}
 use Rattle.price_check.specs.Report.{number_text, price_line, shared_text, row_text}
 use Rattle.price_check.specs.Reading.{price_at, cell_price_at}
@@ -61,27 +61,27 @@ cells_join devices adapters rounds n vs apart k rest lt h = by (get_or vs k 0 ==
     by true none = λ j less. subst (IsApart (front_of devices adapters rounds j)) (sym (nothing (row_text devices adapters (k / rounds)) (k % rounds + 1) (get_or vs k 0) rest none)) (h j (omega arith))
     by false some = none_earlier devices adapters rounds n k (get_or vs k 0) rest apart lt some
 
-pub cell_reads : (devices : List Device) (adapters rounds : ℕ) (text : List ℕ) (k at : ℕ) → cell_price_at devices adapters rounds text k at ≡ price_at (skip (front_of devices adapters rounds k) text at) text at
+pub cell_reads : (most : ℕ) (devices : List Device) (adapters rounds : ℕ) (text : List ℕ) (k at : ℕ) → cell_price_at most devices adapters rounds text k at ≡ price_at most (skip (front_of devices adapters rounds k) text at) text at
 unfolding cell_price_at
-cell_reads devices adapters rounds text k at = ap (λ (f : Option ℕ). price_at f text at) (price_front-skip devices adapters (k / rounds) (k % rounds + 1) text at)
+cell_reads most devices adapters rounds text k at = ap (λ (f : Option ℕ). price_at most f text at) (price_front-skip devices adapters (k / rounds) (k % rounds + 1) text at)
 
-pub cells_take : (devices : List Device) (adapters rounds : ℕ) (text : List ℕ) → Takes (form_of devices adapters rounds) MOST_PRICE text (cell_price_at devices adapters rounds text)
-cells_take devices adapters rounds text k at said e = price_takes (row_text devices adapters (k / rounds)) (k % rounds + 1) text at said (sym (cell_reads devices adapters rounds text k at) ∙ e)
+pub cells_take : (most : ℕ) → most ≤ MOST_NET_PRICE → (devices : List Device) (adapters rounds : ℕ) (text : List ℕ) → Takes (form_of devices adapters rounds) most text (cell_price_at most devices adapters rounds text)
+cells_take most fits devices adapters rounds text k at said e = price_takes most fits (row_text devices adapters (k / rounds)) (k % rounds + 1) text at said (sym (cell_reads most devices adapters rounds text k at) ∙ e)
 
-pub cells_again : (devices : List Device) (adapters rounds : ℕ) (text : List ℕ) (n : ℕ) (vs : List ℕ) → n ≤ length vs → All (λ v. v ≤ MOST_PRICE) vs
-    → Again (form_of devices adapters rounds) (NoneBefore (front_of devices adapters rounds)) text (cell_price_at devices adapters rounds text) n vs
-cells_again devices adapters rounds text n vs le small k at rest lt e h = by (get_or vs k 0 == 0) refl
+pub cells_again : (most : ℕ) → most ≤ MOST_NET_PRICE → (devices : List Device) (adapters rounds : ℕ) (text : List ℕ) (n : ℕ) (vs : List ℕ) → n ≤ length vs → All (λ v. v ≤ most) vs
+    → Again (form_of devices adapters rounds) (NoneBefore (front_of devices adapters rounds)) text (cell_price_at most devices adapters rounds text) n vs
+cells_again most fits devices adapters rounds text n vs le small k at rest lt e h = by (get_or vs k 0 == 0) refl
   where
-    by : (b : Bool) → (get_or vs k 0 == 0) ≡ b → (end : ℕ) × (cell_price_at devices adapters rounds text k at ≡ Ok (get_or vs k 0, end)) × (drop end text ≡ rest)
+    by : (b : Bool) → (get_or vs k 0 == 0) ≡ b → (end : ℕ) × (cell_price_at most devices adapters rounds text k at ≡ Ok (get_or vs k 0, end)) × (drop end text ≡ rest)
     by true none =
         let zero' : get_or vs k 0 ≡ 0 = eqb-true (get_or vs k 0) 0 none in
         let here : drop at text ≡ rest = e ∙ nothing (row_text devices adapters (k / rounds)) (k % rounds + 1) (get_or vs k 0) rest none in
         let apart : IsApart (front_of devices adapters rounds k) (drop at text) = subst (IsApart (front_of devices adapters rounds k)) (sym here) (h k (omega arith)) in
-        (at, cell_reads devices adapters rounds text k at ∙ price_none (front_of devices adapters rounds k) text at apart ∙ ap (λ (v : ℕ). Ok (v, at)) (sym zero'), here)
+        (at, cell_reads most devices adapters rounds text k at ∙ price_none most fits (front_of devices adapters rounds k) text at apart ∙ ap (λ (v : ℕ). Ok (v, at)) (sym zero'), here)
     by false some =
-        let most = All-get_or (λ v. v ≤ MOST_PRICE) vs k 0 (omega arith) small in
-        let read = price_some (row_text devices adapters (k / rounds)) (k % rounds + 1) (get_or vs k 0) text rest at some most e in
-        (read.0, cell_reads devices adapters rounds text k at ∙ read.1, read.2)
+        let low = All-get_or (λ v. v ≤ most) vs k 0 (omega arith) small in
+        let read = price_some most fits (row_text devices adapters (k / rounds)) (k % rounds + 1) (get_or vs k 0) text rest at some low e in
+        (read.0, cell_reads most devices adapters rounds text k at ∙ read.1, read.2)
 
 -- ---- cells whose lines begin alike are one
 
@@ -185,10 +185,10 @@ same_cell rounds j k row round =
     let product : rounds * (j / rounds) ≡ rounds * (k / rounds) = ap (λ (q : ℕ). rounds * q) row in
     omega arith
 
-few_round : (rounds k : ℕ) → 1 ≤ rounds → rounds ≤ MOST_ROUNDS → k % rounds + 1 < 2 ^ 64
+few_round : (rounds k : ℕ) → 1 ≤ rounds → rounds ≤ MOST_NET_ROUNDS → k % rounds + 1 < 2 ^ 64
 few_round rounds k some few = let lt : k % rounds < rounds = mod-lt k some in omega arith
 
-pub cells_apart : (devices : List Device) (adapters n rounds : ℕ) → AreNamed devices → n ≤ MOST_DEVICES + MOST_ADAPTERS + MOST_LINKS → 1 ≤ rounds → rounds ≤ MOST_ROUNDS → AreApart (front_of devices adapters rounds) (n * rounds)
+pub cells_apart : (devices : List Device) (adapters n rounds : ℕ) → AreNamed devices → n ≤ MOST_DEVICES + MOST_ADAPTERS + MOST_LINKS → 1 ≤ rounds → rounds ≤ MOST_NET_ROUNDS → AreApart (front_of devices adapters rounds) (n * rounds)
 cells_apart devices adapters n rounds named small some few j k x y jlt klt e =
     let row : j / rounds < n = (div-lt_iff_lt-mul some).1 jlt in
     let row' : k / rounds < n = (div-lt_iff_lt-mul some).1 klt in

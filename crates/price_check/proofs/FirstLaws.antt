@@ -1,9 +1,9 @@
 -- a fault of a reading stands after lines that begin some claim's report
 use Rattle.std.proofs.Common.{◌≡◌, ◌≤◌, ℕ, List, [], ◌++◌, length, drop, replicate, Bool, true, false, cond, refl, sym, ap, ◌∙◌, arith, append_assoc, append-nil}
 use Rattle.std.specs.Prelude.{⊤, Option, Some, None, Result, Ok, Err, ok_or, codes, nat_le}
-use Rattle.price_check.specs.Words.{Past, NetRows, instance_of_rows, live_of_rows, IsSound, MOST_PRICE}
+use Rattle.price_check.specs.Words.{Past, NetRows, instance_of_rows, live_of_rows, IsSound}
 use Rattle.price_check.specs.Pieces.{skip, line_of}
-use Rattle.price_check.specs.Forms.{most_stated}
+use Rattle.price_check.specs.Forms.{most_stated, most_number}
 use Rattle.price_check.specs.Reading.{due, summary_at, stay_at, cell_price_at, series, stops, ended, reading, ReportFault}
 use Rattle.price_check.specs.Claims.{report_text}
 use Rattle.price_check.specs.declared.report_fault.ReportFault.TheVariants as fault
@@ -69,28 +69,28 @@ at_stays : (past : Past) (net : NetRows) (live : ℕ) (text : List ℕ) (e : Rep
     → series (stay_at net text) (instance_of_rows net).stays costs.2 ≡ Err e → FailsBehind past net live text e
 at_stays past net live text e costs sound r h =
     let n = (instance_of_rows net).stays in
-    let b = broken_at (stay_form net) 65535 text (stay_at net text) (stay_takes net text) (stay_steps net text) n costs.2 e h in
+    let b = broken_at (stay_form net) (most_number (instance_of_rows net)) text (stay_at net text) (stay_takes net text) (stay_steps net text) n costs.2 e h in
     let lt = b.within in
     let size = b.size in
     let prices = replicate (price_cells net) 0 in
-    section_failed past net live text e (stay_form net) 65535 (stay_at net text) n costs.2 (seven_part past live costs) (price_part past net prices ++ codes "end\n") (made net costs.0 costs.1 (padded n b.values) prices) (stay_lines net) r.front b
-    (is_claim net costs.0 costs.1 (padded n b.values) prices sound r.best r.excess (filled n 65535 b.values (omega arith) b.small) (zeros (price_cells net) MOST_PRICE))
+    section_failed past net live text e (stay_form net) (most_number (instance_of_rows net)) (stay_at net text) n costs.2 (seven_part past live costs) (price_part past net prices ++ codes "end\n") (made net costs.0 costs.1 (padded n b.values) prices) (stay_lines net) r.front b
+    (is_claim net costs.0 costs.1 (padded n b.values) prices sound r.best r.excess (filled n (most_number (instance_of_rows net)) b.values (omega arith) b.small) (zeros (price_cells net) (instance_of_rows net).most_price))
     (made_report past net live costs.0 costs.1 (padded n b.values) prices)
 
 at_prices : (past : Past) (net : NetRows) (live : ℕ) (text : List ℕ) (e : ReportFault) (costs : ℕ × ℕ × ℕ) (best : List ℕ × ℕ) → IsSound (instance_of_rows net) (live_of_rows net) → Read past net live text costs
-    → Front text (front_of_stays past net live costs best.0) best.1 → Fitting (instance_of_rows net).stays 65535 best.0
-    → series (cell_price_at past.config.devices (instance_of_rows net).adapters (instance_of_rows net).rounds text) (price_cells net) best.1 ≡ Err e → FailsBehind past net live text e
+    → Front text (front_of_stays past net live costs best.0) best.1 → Fitting (instance_of_rows net).stays (most_number (instance_of_rows net)) best.0
+    → series (cell_price_at (instance_of_rows net).most_price past.config.devices (instance_of_rows net).adapters (instance_of_rows net).rounds text) (price_cells net) best.1 ≡ Err e → FailsBehind past net live text e
 at_prices past net live text e costs best sound r f fits h =
     let devices = past.config.devices in
     let adapters = (instance_of_rows net).adapters in
     let rounds = (instance_of_rows net).rounds in
     let n = price_cells net in
     let form = form_of devices adapters rounds in
-    let b = broken_at form MOST_PRICE text (cell_price_at devices adapters rounds text) (cells_take devices adapters rounds text) (cell_steps devices adapters rounds text) n best.1 e h in
+    let b = broken_at form (instance_of_rows net).most_price text (cell_price_at (instance_of_rows net).most_price devices adapters rounds text) (cells_take (instance_of_rows net).most_price sound.small_price devices adapters rounds text) (cell_steps (instance_of_rows net).most_price devices adapters rounds text) n best.1 e h in
     let lt = b.within in
     let size = b.size in
-    section_failed past net live text e form MOST_PRICE (cell_price_at devices adapters rounds text) n best.1 (front_of_stays past net live costs best.0) (codes "end\n") (made net costs.0 costs.1 best.0 (padded n b.values)) (cell_lines devices adapters rounds) f b
-    (is_claim net costs.0 costs.1 best.0 (padded n b.values) sound r.best r.excess fits (filled n MOST_PRICE b.values (omega arith) b.small))
+    section_failed past net live text e form (instance_of_rows net).most_price (cell_price_at (instance_of_rows net).most_price devices adapters rounds text) n best.1 (front_of_stays past net live costs best.0) (codes "end\n") (made net costs.0 costs.1 best.0 (padded n b.values)) (cell_lines devices adapters rounds) f b
+    (is_claim net costs.0 costs.1 best.0 (padded n b.values) sound r.best r.excess fits (filled n (instance_of_rows net).most_price b.values (omega arith) b.small))
     (from_stays_on past net live costs best.0 (padded n b.values))
 
 -- ---- the end
@@ -104,7 +104,7 @@ not_stopped true d e h = absurd cc
 not_stopped false d e h = cc
 
 at_end : (past : Past) (net : NetRows) (live : ℕ) (text : List ℕ) (e : ReportFault) (costs : ℕ × ℕ × ℕ) (best prices : List ℕ × ℕ) → IsSound (instance_of_rows net) (live_of_rows net) → Read past net live text costs
-    → Front text (front_of_prices past net live costs best.0 prices.0) prices.1 → Fitting (instance_of_rows net).stays 65535 best.0 → Fitting (price_cells net) MOST_PRICE prices.0
+    → Front text (front_of_prices past net live costs best.0 prices.0) prices.1 → Fitting (instance_of_rows net).stays (most_number (instance_of_rows net)) best.0 → Fitting (price_cells net) (instance_of_rows net).most_price prices.0
     → ended text prices.1 ≡ Err e → FailsBehind past net live text e
 unfolding ended
 at_end past net live text e costs best prices sound r f fits fits' h =
@@ -132,11 +132,11 @@ fails_behind past net live text e sound h =
     (λ costs e0 h0.
     let r = read_summary past net live text costs e0 in
     on_err (series (stay_at net text) (instance_of_rows net).stays costs.2) _ e h0 (λ h'. at_stays past net live text e costs sound r h') (λ best e1 h1.
-    let t1 = series_takes (stay_form net) 65535 text (stay_at net text) (stay_takes net text) (instance_of_rows net).stays costs.2 best e1 in
+    let t1 = series_takes (stay_form net) (most_number (instance_of_rows net)) text (stay_at net text) (stay_takes net text) (instance_of_rows net).stays costs.2 best e1 in
     let f1 = longer text (seven_part past live costs) (stay_part net best.0) costs.2 best.1 r.front t1.spelled (texts_closed (stay_form net) (stay_lines net) (instance_of_rows net).stays best.0) in
-    let fits1 : Fitting (instance_of_rows net).stays 65535 best.0 = record { size = t1.size; small = t1.small } in
-    on_err (series (cell_price_at devices adapters rounds text) (price_cells net) best.1) _ e h1 (λ h'. at_prices past net live text e costs best sound r f1 fits1 h') (λ prices e2 h2.
-    let t2 = series_takes (form_of devices adapters rounds) MOST_PRICE text (cell_price_at devices adapters rounds text) (cells_take devices adapters rounds text) (price_cells net) best.1 prices e2 in
+    let fits1 : Fitting (instance_of_rows net).stays (most_number (instance_of_rows net)) best.0 = record { size = t1.size; small = t1.small } in
+    on_err (series (cell_price_at (instance_of_rows net).most_price devices adapters rounds text) (price_cells net) best.1) _ e h1 (λ h'. at_prices past net live text e costs best sound r f1 fits1 h') (λ prices e2 h2.
+    let t2 = series_takes (form_of devices adapters rounds) (instance_of_rows net).most_price text (cell_price_at (instance_of_rows net).most_price devices adapters rounds text) (cells_take (instance_of_rows net).most_price sound.small_price devices adapters rounds text) (price_cells net) best.1 prices e2 in
     let f2 = longer text (front_of_stays past net live costs best.0) (price_part past net prices.0) best.1 prices.1 f1 t2.spelled (texts_closed (form_of devices adapters rounds) (cell_lines devices adapters rounds) (price_cells net) prices.0) in
-    let fits2 : Fitting (price_cells net) MOST_PRICE prices.0 = record { size = t2.size; small = t2.small } in
+    let fits2 : Fitting (price_cells net) (instance_of_rows net).most_price prices.0 = record { size = t2.size; small = t2.small } in
     on_err (ended text prices.1) _ e h2 (λ h'. at_end past net live text e costs best prices sound r f2 fits1 fits2 h') (λ u e3 h3. absurd cc))))

@@ -1,11 +1,11 @@
 -- the forms of lines by their whole pieces
-use Rattle.std.proofs.Common.{◌≡◌, ◌-◌, ℕ, Bool, true, false, cond, List, ◌++◌, length, refl, sym, ◌∙◌, append_assoc, nat_lt, Option, Some, None, decimal, codes, slice_get}
+use Rattle.std.proofs.Common.{◌≡◌, ◌-◌, ◌^◌, ◌<◌, nat_le, arith, ℕ, Bool, true, false, cond, List, ◌++◌, length, refl, sym, ◌∙◌, append_assoc, nat_lt, Option, Some, None, decimal, codes, slice_get}
 use Rattle.std.specs.Option.{option_map_or}
-use Rattle.price_check.specs.Words.{Device, address_of, spelled, Stay}
+use Rattle.price_check.specs.Words.{MOST_PRICE, Instance, Device, address_of, spelled, Stay}
 use Rattle.price_check.specs.Pieces.{◌>>=◌, skip, skip_number, found_number}
 use Rattle.price_check.specs.Lines.{line}
 use Rattle.price_check.specs.Report.{number_text, shared_text, row_text}
-use Rattle.price_check.specs.Forms.{known_line, stated_line, most_stated, named_stay, dev_front, number_front, shared_front, price_front}
+use Rattle.price_check.specs.Forms.{known_line, stated_line, most_stated, most_number, named_stay, dev_front, number_front, shared_front, price_front}
 use Rattle.price_check.proofs.PieceLaws.{skip_append, bind-assoc, framed}
 
 bind-same : {A B : Type 0} (o : Option A) (f g : A → Option B) → ((x : A) → f x ≡ g x) → (o >>= f) ≡ (o >>= g)
@@ -64,13 +64,17 @@ stay_front name arrival live =
 abbrev pub stay_back : ℕ → List ℕ
 stay_back weight = number_text weight ++ codes "\n"
 
-pub named_stay-framed : (name : Stay) (arrival live weight : ℕ) (text : List ℕ) (at : ℕ) → named_stay name arrival live weight text at ≡ framed (stay_front name arrival live) (stay_back weight) 65535 text at
+pub named_stay-framed : (most : ℕ) (name : Stay) (arrival live weight : ℕ) (text : List ℕ) (at : ℕ) → named_stay most name arrival live weight text at ≡ framed (stay_front name arrival live) (stay_back weight) most text at
 unfolding named_stay skip_number
-named_stay-framed name arrival live weight text at =
-    five (λ begin. found_number 65535 text begin >>= λ best. (skip (codes " ") text best.1 >>= λ x. skip (decimal weight) text x) >>= λ end. skip (codes "\n") text end >>= λ next. Some (best.0, next))
+named_stay-framed most name arrival live weight text at =
+    five (λ begin. found_number most text begin >>= λ best. (skip (codes " ") text best.1 >>= λ x. skip (decimal weight) text x) >>= λ end. skip (codes "\n") text end >>= λ next. Some (best.0, next))
     text (codes "stay") (codes " ") (decimal name.ccb) (decimal name.attempt) (decimal arrival) (decimal live) at
-    ∙ bind-same (skip (stay_front name arrival live) text at) _ _ (λ begin. bind-same (found_number 65535 text begin) _ _ (λ best.
+    ∙ bind-same (skip (stay_front name arrival live) text at) _ _ (λ begin. bind-same (found_number most text begin) _ _ (λ best.
     numbered (λ next. Some (best.0, next)) text (codes " ") (decimal weight) (codes "\n") best.1))
+
+-- what a stay's line may say fits a machine's word
+pub number_fits : (net : Instance) → most_number net < 2 ^ 64
+number_fits net = elim (nat_le net.most_price MOST_PRICE) as (λ b. cond {A = ℕ} b 65535 1048576 < 2 ^ 64) [ true ↦ omega arith | false ↦ omega arith ]
 
 -- a price's line up to the price, of this whose
 abbrev pub front_text : List ℕ → ℕ → List ℕ

@@ -1,5 +1,5 @@
 -- of which kind the fault of a reading is
-use Rattle.std.proofs.Common.{◌≡◌, ◌≤◌, ◌<◌, ◌+◌, ◌-◌, ◌*◌, ◌/◌, ◌%◌, ℕ, zero, suc, List, [], ◌∷◌, ◌++◌, length, take, drop, get_or, Bool, true, false, cond, refl, sym, ap, ◌∙◌, subst, arith, append_assoc, append-nil, length-append, inl, inr, ◌==◌, Option, Some, None, Result, Ok, Err, ok_or, decimal, codes, is_some, nat_le, count_by, slice_get, All}
+use Rattle.std.proofs.Common.{◌≡◌, ◌≤◌, ◌<◌, ◌+◌, ◌-◌, ◌*◌, ◌/◌, ◌%◌, ℕ, zero, suc, List, [], ◌∷◌, ◌++◌, length, take, drop, get_or, true, false, cond, refl, sym, ap, ◌∙◌, subst, arith, append_assoc, append-nil, length-append, inl, inr, Option, Some, None, Result, Ok, Err, decimal, codes, is_some, nat_le, slice_get, All}
 use Rattle.std.specs.Prelude.{⊤}
 use Rattle.std.specs.List.{AllByRecursion}
 use Rattle.std.specs.Str.Parse.{digits_value}
@@ -8,30 +8,31 @@ use Rattle.std.proofs.lemmas.List.Elements.{All-get_or, All-push}
 use Rattle.std.proofs.lemmas.Nat.{div-mul-add, mod-mul-add, mul-add-lt}
 use Rattle.std.proofs.Math.Nat.{div-lt_iff_lt-mul, mod-lt}
 use Rattle.std.proofs.Math.Seq.{get_or-append_seam}
-use Rattle.price_check.specs.Words.{◌>>=◌, Device, Past, round, commands, stays_begun, Event, is_decimal, NetRows, instance_of_rows, live_of_rows, rows, IsSound, MOST_PRICE}
+use Rattle.price_check.specs.Words.{◌>>=◌, Device, Past, round, commands, stays_begun, Event, is_decimal, NetRows, instance_of_rows, live_of_rows, rows, IsSound}
 use Rattle.price_check.specs.Lines.{line}
 use Rattle.price_check.specs.Pieces.{skip, line_of}
 use Rattle.price_check.specs.Report.{number_text, row_text, stay_line}
-use Rattle.price_check.specs.Forms.{any_stay, own_stay, known_line, stated_line, most_stated}
+use Rattle.price_check.specs.Forms.{most_number, any_stay, own_stay, known_line, stated_line, most_stated}
 use Rattle.price_check.specs.Reading.{due, summary_at, stay_at, cell_price_at, series, stops, ended, reading, ReportFault}
 use Rattle.price_check.specs.TextLines.{lines}
-use Rattle.price_check.specs.Claims.{IsClaim, report_text, fault_line, Claim, Begins, IsStayLine, IsWrongStay, opening_text, IsTooDear, IsOfKind}
+use Rattle.price_check.specs.Claims.{IsClaim, report_text, fault_line, Claim, IsWrongStay, opening_text, IsTooDear, IsOfKind}
 use Rattle.price_check.specs.declared.report_fault.ReportFault.TheVariants as fault
 use Rattle.price_check.proofs.PieceLaws.{skip_takes}
-use Rattle.price_check.proofs.FormLaws.{front_text}
-use Rattle.price_check.proofs.SeriesLemmas.{Reader, series-fails}
+use Rattle.price_check.proofs.FormLaws.{front_text, number_fits}
+use Rattle.price_check.proofs.SeriesLemmas.{series-fails}
 use Rattle.price_check.proofs.SeriesLaws.{texts_of, texts_below-same, series_takes, series_again}
-use Rattle.price_check.proofs.CellLaws.{price_cells, form_of, front_of, NoneBefore, AreApart, cell_reads, cells_take, begins, row_text-first}
+use Rattle.price_check.proofs.CellLaws.{price_cells, form_of, front_of, NoneBefore, cell_reads, cells_take, begins, row_text-first}
 use Rattle.price_check.proofs.LineLaws.{ok_some, stay_form, stay_takes, stay_again}
 use Rattle.price_check.proofs.LinesLemmas.{IsClosed, IsSome, closed_append, closed_line, lines-append, lines-count, first_lines, same_lines}
-use Rattle.price_check.proofs.CutLaws.{HasNoFeed, plain_append, plain_decimal, plain_number, IsLine, line_closed, AreLines, texts_closed, EndsWithin, GoesOn, cut_texts}
+use Rattle.price_check.proofs.CutLaws.{HasNoFeed, plain_append, plain_decimal, plain_number, IsLine, line_closed, texts_closed, GoesOn, cut_texts}
 use Rattle.price_check.proofs.StepLaws.{on_err, stay_steps, cell_steps}
 use Rattle.price_check.proofs.SectionLaws.{seven_at, seven_form, seven_takes, seven_again, seven_steps, seven_lines, stay_lines, cell_lines, plain_of, plain_row, stated, said_of, summary-series, parts_of, report_parts}
 use Rattle.price_check.proofs.PassLaws.{reading_parts, cells_before, not_zero}
-use Rattle.price_check.proofs.BeginLaws.{BrokenAt, broken_at, line_behind, padded, padded_texts, Fitting, filled, made, is_claim, Front, longer}
+use Rattle.round_net.proofs.SoundLemmas.{some_price}
+use Rattle.price_check.proofs.BeginLaws.{BrokenAt, broken_at, line_behind, padded, padded_texts, Fitting, filled, made, is_claim, Front, longer, price_fits, prices_small}
 use Rattle.price_check.proofs.ProgressLaws.{Known, alone, cell_count, end_is_line, all_of_end}
 use Rattle.price_check.proofs.FirstLaws.{Read, read_summary, seven_part, stay_part, price_part, front_of_stays, front_of_prices, from_stays_on, missing, not_stopped}
-use Rattle.price_check.proofs.LineAtLaws.{AtLine, at_line, line_at, line_more, texts_are_closed, texts_size, seven_line, stay_is_line, last_line}
+use Rattle.price_check.proofs.LineAtLaws.{at_line, line_at, texts_are_closed, texts_size, seven_line, stay_is_line, last_line}
 use Rattle.price_check.proofs.StayFormLaws.{any_takes, any_again, plain_stay}
 use Rattle.price_check.proofs.DearLaws.{DearAt, price_err, price_dear, plain_digits, all_digits}
 
@@ -114,7 +115,7 @@ module _ (past : Past) (net : NetRows) (live : ℕ) (claim : Claim) (text rest m
   abbrev IsFound : Type 0
   IsFound = (at : ℕ) × (reading past.config.devices past.events live net text ≡ Err (fault.PriceRange (line_of text at)))
 
-  found : Known past net claim → k < price_cells net → is_decimal digits ≡ true → MOST_PRICE < digits_value 10 digits → length (opening_of past net k ++ digits) ≤ 100
+  found : Known past net claim → k < price_cells net → is_decimal digits ≡ true → (instance_of_rows net).most_price < digits_value 10 digits → length (opening_of past net k ++ digits) ≤ 100
       → text ≡ front ++ behind → front ≡ (seven ++ stays) ++ texts_of (form past net) k vs → IsFound
   found known lt spelled dear short whole is =
       let h = known.claims in
@@ -126,21 +127,21 @@ module _ (past : Past) (net : NetRows) (live : ℕ) (claim : Claim) (text rest m
       let a1 = series_again (seven_form past.events live) (λ _ _. ⊤) text (seven_at past.events live text) 7 (said_of claim.best claim.excess) (omega arith)
       (seven_again past.events live claim.best claim.excess text h.best h.excess) (λ i r lt' t. tt) 0 _ here tt in
       let a2 = series_again (stay_form net) (λ _ _. ⊤) text (stay_at net text) (instance_of_rows net).stays claim.schedule (omega arith)
-      (stay_again net text claim.schedule (λ i lt'. All-get_or (λ r. r ≤ 65535) claim.schedule i 0 (omega arith) h.rounds)) (λ i r lt' t. tt) a1.0 _ a1.2 tt in
+      (stay_again net text claim.schedule (λ i lt'. All-get_or (λ r. r ≤ (most_number (instance_of_rows net))) claim.schedule i 0 (omega arith) h.rounds)) (λ i r lt' t. tt) a1.0 _ a1.2 tt in
       let none : NoneBefore (front_of devices adapters rounds) k behind = λ j less tail e.
       let same : j ≡ k = apart j k tail (digits ++ (codes "\n" ++ rest)) (omega arith) lt (sym e) in
       omega arith in
-      let a3 = cells_before devices adapters rounds text n vs (omega arith) h.priced.small apart k a2.0 behind lt none a2.2 in
-      let cell : cell_price_at devices adapters rounds text k a3.0 ≡ Err (fault.PriceRange (line_of text a3.0)) =
-      cell_reads devices adapters rounds text k a3.0 ∙ price_dear (whose_of past net k) (k % rounds + 1) digits text rest a3.0 spelled dear short a3.2 in
-      let fails = series-fails (cell_price_at devices adapters rounds text) k n a2.0 a3.0 (take k vs) (fault.PriceRange (line_of text a3.0)) a3.1 cell lt in
+      let a3 = cells_before (instance_of_rows net).most_price (price_fits net claim h) devices adapters rounds text n vs (omega arith) (prices_small net claim h) apart k a2.0 behind lt none a2.2 in
+      let cell : cell_price_at (instance_of_rows net).most_price devices adapters rounds text k a3.0 ≡ Err (fault.PriceRange (line_of text a3.0)) =
+      cell_reads (instance_of_rows net).most_price devices adapters rounds text k a3.0 ∙ price_dear (instance_of_rows net).most_price (whose_of past net k) (k % rounds + 1) digits text rest a3.0 spelled dear short a3.2 in
+      let fails = series-fails (cell_price_at (instance_of_rows net).most_price devices adapters rounds text) k n a2.0 a3.0 (take k vs) (fault.PriceRange (line_of text a3.0)) a3.1 cell lt in
       let costs : summary_at past.events live text ≡ Ok (claim.best, claim.excess, a1.0) = summary-series past.events live text ∙ ap (λ r. r >>= λ said. Ok (stated said)) a1.1 in
       (a3.0, rw (reading_parts past.config.devices past.events live net text, costs, a2.1, fails) refl)
 
   abbrev one : List ℕ
   one = opening_of past net k ++ (decimal price ++ (10 ∷ []))
 
-  pub dear_reads : Known past net claim → k < price_cells net → is_decimal digits ≡ true → MOST_PRICE < digits_value 10 digits → length (opening_of past net k ++ digits) ≤ 100 → IsClosed front
+  pub dear_reads : Known past net claim → k < price_cells net → is_decimal digits ≡ true → (instance_of_rows net).most_price < digits_value 10 digits → length (opening_of past net k ++ digits) ≤ 100 → IsClosed front
       → text ≡ front ++ behind → report_text past net live claim ≡ front ++ (opening_of past net k ++ (decimal price ++ (10 ∷ more))) → IsFound
   unfolding parts_of
   dear_reads known lt spelled dear short closed whole report =
@@ -273,16 +274,16 @@ kind_summary past net live text e h =
     kind_early past net live text e (line_of text b.end) (seven_bad past.events live text b.place b.end e b.fails) (omega arith)
 
 -- a fault in a stay's line
-stay_err : (net : NetRows) (text : List ℕ) (s at : ℕ) (e : ReportFault) → stay_at net text s at ≡ Err e → e ≡ cond (is_some (any_stay text at)) (fault.WrongStays (line_of text at)) (fault.BadLine (line_of text at))
+stay_err : (net : NetRows) (text : List ℕ) (s at : ℕ) (e : ReportFault) → stay_at net text s at ≡ Err e → e ≡ cond (is_some (any_stay (most_number (instance_of_rows net)) text at)) (fault.WrongStays (line_of text at)) (fault.BadLine (line_of text at))
 unfolding stay_at
-stay_err net text s at e h = missing (own_stay net s text at) (cond (is_some (any_stay text at)) (fault.WrongStays (line_of text at)) (fault.BadLine (line_of text at))) e h
+stay_err net text s at e h = missing (own_stay net s text at) (cond (is_some (any_stay (most_number (instance_of_rows net)) text at)) (fault.WrongStays (line_of text at)) (fault.BadLine (line_of text at))) e h
 
 kind_stays : (past : Past) (net : NetRows) (live : ℕ) (text : List ℕ) (e : ReportFault) (costs : ℕ × ℕ × ℕ) → IsClosed text → Read past net live text costs
     → series (stay_at net text) (instance_of_rows net).stays costs.2 ≡ Err e → IsOfKind past net live text e
-kind_stays past net live text e costs closed r h = by (any_stay text b.end) refl
+kind_stays past net live text e costs closed r h = by (any_stay (most_number (instance_of_rows net)) text b.end) refl
   where
-    b : BrokenAt (stay_form net) 65535 text (stay_at net text) (instance_of_rows net).stays costs.2 e
-    b = broken_at (stay_form net) 65535 text (stay_at net text) (stay_takes net text) (stay_steps net text) (instance_of_rows net).stays costs.2 e h
+    b : BrokenAt (stay_form net) (most_number (instance_of_rows net)) text (stay_at net text) (instance_of_rows net).stays costs.2 e
+    b = broken_at (stay_form net) (most_number (instance_of_rows net)) text (stay_at net text) (stay_takes net text) (stay_steps net text) (instance_of_rows net).stays costs.2 e h
 
     front : List ℕ
     front = seven_part past live costs ++ texts_of (stay_form net) b.place b.values
@@ -299,23 +300,23 @@ kind_stays past net live text e costs closed r h = by (any_stay text b.end) refl
     number : m ≡ suc (length (lines front))
     number = let line = b.line in let n = (behind_front text front b.end e f b.line).number in omega arith
 
-    no_stay : any_stay text b.end ≡ None → IsWrongStay net text m → ⊥
+    no_stay : any_stay (most_number (instance_of_rows net)) text b.end ≡ None → IsWrongStay net text m → ⊥
     no_stay is w =
         let a = at_line (m - 1) text w.line closed w.here in
         let same : a.front ≡ front = same_lines a.front front a.closed f.closed
         (a.first ∙ ap (λ (l : List ℕ). take (m - 1) (lines l)) f.whole ∙ first_lines front (drop b.end text) (m - 1) f.closed (let count = lines-count front f.closed in omega (arith, number))) in
         let rest : drop b.end text ≡ w.line ++ (10 ∷ a.back) = append_cancel_left front _ _ (sym f.whole ∙ a.whole ∙ ap (λ (l : List ℕ). l ++ (w.line ++ (10 ∷ a.back))) same) in
-        let some = any_again text w.line a.back b.end w.stay rest in
+        let some = any_again (most_number (instance_of_rows net)) (number_fits (instance_of_rows net)) text w.line a.back b.end w.stay rest in
         let none : false ≡ true = sym (ap (λ (o : Option ℕ). is_some o) is) ∙ some in
         absurd cc
 
-    by : (o : Option ℕ) → any_stay text b.end ≡ o → IsOfKind past net live text e
+    by : (o : Option ℕ) → any_stay (most_number (instance_of_rows net)) text b.end ≡ o → IsOfKind past net live text e
     by (Some x) is =
         let lt = b.within in
-        let s = any_takes text b.end x is in
+        let s = any_takes (most_number (instance_of_rows net)) (number_fits (instance_of_rows net)) text b.end x is in
         let kind : e ≡ fault.WrongStays m = stay_err net text b.place b.end e b.fails ∙ ap (λ (o : Option ℕ). cond (is_some o) (fault.WrongStays m) (fault.BadLine m)) is in
         let here : slice_get (lines text) (m - 1) ≡ Some s.line =
-        ap (λ (l : List ℕ). slice_get (lines l) (m - 1)) (f.whole ∙ ap (λ (l : List ℕ). front ++ l) s.whole) ∙ line_at front s.line s.rest (m - 1) f.closed (plain_stay s.line s.stay) (omega (arith, number)) in
+        ap (λ (l : List ℕ). slice_get (lines l) (m - 1)) (f.whole ∙ ap (λ (l : List ℕ). front ++ l) s.whole) ∙ line_at front s.line s.rest (m - 1) f.closed (plain_stay (most_number (instance_of_rows net)) (number_fits (instance_of_rows net)) s.line s.stay) (omega (arith, number)) in
         subst (IsOfKind past net live text) (sym kind) (record { first = omega (arith, number, size); last = omega (arith, number, size, lt); line = s.line; here = here; stay = s.stay })
     by None is =
         let lt = b.within in
@@ -325,8 +326,8 @@ kind_stays past net live text e costs closed r h = by (any_stay text b.end) refl
 
 -- a fault in a price's line
 kind_prices : (past : Past) (net : NetRows) (live : ℕ) (text : List ℕ) (e : ReportFault) (costs : ℕ × ℕ × ℕ) (best : List ℕ × ℕ) → 1 ≤ (instance_of_rows net).rounds → IsSound (instance_of_rows net) (live_of_rows net) → Read past net live text costs
-    → Front text (front_of_stays past net live costs best.0) best.1 → Fitting (instance_of_rows net).stays 65535 best.0
-    → series (cell_price_at past.config.devices (instance_of_rows net).adapters (instance_of_rows net).rounds text) (price_cells net) best.1 ≡ Err e → IsOfKind past net live text e
+    → Front text (front_of_stays past net live costs best.0) best.1 → Fitting (instance_of_rows net).stays (most_number (instance_of_rows net)) best.0
+    → series (cell_price_at (instance_of_rows net).most_price past.config.devices (instance_of_rows net).adapters (instance_of_rows net).rounds text) (price_cells net) best.1 ≡ Err e → IsOfKind past net live text e
 kind_prices past net live text e costs best some sound r f fits h =
     subst (IsOfKind past net live text) (sym d.is) too_dear
   where
@@ -339,8 +340,8 @@ kind_prices past net live text e costs best some sound r f fits h =
     rounds : ℕ
     rounds = (instance_of_rows net).rounds
 
-    b : BrokenAt (form past net) MOST_PRICE text (cell_price_at devices adapters rounds text) (price_cells net) best.1 e
-    b = broken_at (form past net) MOST_PRICE text (cell_price_at devices adapters rounds text) (cells_take devices adapters rounds text) (cell_steps devices adapters rounds text) (price_cells net) best.1 e h
+    b : BrokenAt (form past net) (instance_of_rows net).most_price text (cell_price_at (instance_of_rows net).most_price devices adapters rounds text) (price_cells net) best.1 e
+    b = broken_at (form past net) (instance_of_rows net).most_price text (cell_price_at (instance_of_rows net).most_price devices adapters rounds text) (cells_take (instance_of_rows net).most_price sound.small_price devices adapters rounds text) (cell_steps (instance_of_rows net).most_price devices adapters rounds text) (price_cells net) best.1 e h
 
     k : ℕ
     k = b.place
@@ -357,8 +358,8 @@ kind_prices past net live text e costs best some sound r f fits h =
     f' : Front text front b.end
     f' = longer text (front_of_stays past net live costs best.0) texts best.1 b.end f b.spelled (texts_closed (form past net) (cell_lines devices adapters rounds) k b.values)
 
-    d : DearAt (whose_of past net k) (k % rounds + 1) text b.end e
-    d = price_err (whose_of past net k) (k % rounds + 1) text b.end e (sym (cell_reads devices adapters rounds text k b.end) ∙ b.fails)
+    d : DearAt (instance_of_rows net).most_price (whose_of past net k) (k % rounds + 1) text b.end e
+    d = price_err (instance_of_rows net).most_price (whose_of past net k) (k % rounds + 1) text b.end e (sym (cell_reads (instance_of_rows net).most_price devices adapters rounds text k b.end) ∙ b.fails)
 
     m : ℕ
     m = line_of text b.end
@@ -376,8 +377,8 @@ kind_prices past net live text e costs best some sound r f fits h =
     size : length values ≡ suc k
     size = let before = b.size in let push = length_push b.values 1 in omega arith
 
-    small : All (λ v. v ≤ MOST_PRICE) values
-    small = All-push (λ v. v ≤ MOST_PRICE) b.values 1 b.small (omega arith)
+    small : All (λ v. v ≤ (instance_of_rows net).most_price) values
+    small = All-push (λ v. v ≤ (instance_of_rows net).most_price) b.values 1 b.small (some_price (instance_of_rows net) (live_of_rows net) sound some)
 
     prices : List ℕ
     prices = padded (price_cells net) values
@@ -386,7 +387,7 @@ kind_prices past net live text e costs best some sound r f fits h =
     claim = made net costs.0 costs.1 best.0 prices
 
     claims : IsClaim (instance_of_rows net) claim
-    claims = is_claim net costs.0 costs.1 best.0 prices sound r.best r.excess fits (filled (price_cells net) MOST_PRICE values (omega (arith, size, lt)) small)
+    claims = is_claim net costs.0 costs.1 best.0 prices sound r.best r.excess fits (filled (price_cells net) (instance_of_rows net).most_price values (omega (arith, size, lt)) small)
 
     pad : (more : List ℕ) × (texts_of (form past net) (price_cells net) prices ≡ texts_of (form past net) (suc k) values ++ more)
     pad = padded_texts (form past net) (price_cells net) (suc k) values size (omega (arith, lt))
@@ -517,11 +518,11 @@ kind_of_closed past net live text e some sound closed reports known h =
     (λ costs e0 h0.
     let r = read_summary past net live text costs e0 in
     on_err (series (stay_at net text) (instance_of_rows net).stays costs.2) _ e h0 (λ h'. kind_stays past net live text e costs closed r h') (λ best e1 h1.
-    let t1 = series_takes (stay_form net) 65535 text (stay_at net text) (stay_takes net text) (instance_of_rows net).stays costs.2 best e1 in
+    let t1 = series_takes (stay_form net) (most_number (instance_of_rows net)) text (stay_at net text) (stay_takes net text) (instance_of_rows net).stays costs.2 best e1 in
     let f1 = longer text (seven_part past live costs) (stay_part net best.0) costs.2 best.1 r.front t1.spelled (texts_closed (stay_form net) (stay_lines net) (instance_of_rows net).stays best.0) in
-    let fits1 : Fitting (instance_of_rows net).stays 65535 best.0 = record { size = t1.size; small = t1.small } in
-    on_err (series (cell_price_at devices adapters rounds text) (price_cells net) best.1) _ e h1 (λ h'. kind_prices past net live text e costs best some sound r f1 fits1 h') (λ prices e2 h2.
-    let t2 = series_takes (form_of devices adapters rounds) MOST_PRICE text (cell_price_at devices adapters rounds text) (cells_take devices adapters rounds text) (price_cells net) best.1 prices e2 in
+    let fits1 : Fitting (instance_of_rows net).stays (most_number (instance_of_rows net)) best.0 = record { size = t1.size; small = t1.small } in
+    on_err (series (cell_price_at (instance_of_rows net).most_price devices adapters rounds text) (price_cells net) best.1) _ e h1 (λ h'. kind_prices past net live text e costs best some sound r f1 fits1 h') (λ prices e2 h2.
+    let t2 = series_takes (form_of devices adapters rounds) (instance_of_rows net).most_price text (cell_price_at (instance_of_rows net).most_price devices adapters rounds text) (cells_take (instance_of_rows net).most_price sound.small_price devices adapters rounds text) (price_cells net) best.1 prices e2 in
     let f2 = longer text (front_of_stays past net live costs best.0) (price_part past net prices.0) best.1 prices.1 f1 t2.spelled (texts_closed (form_of devices adapters rounds) (cell_lines devices adapters rounds) (price_cells net) prices.0) in
     on_err (ended text prices.1) _ e h2 (λ h'. kind_end past net live text e costs best prices closed reports known h f2 f1.closed h') (λ u e3 h3. absurd cc))))
 

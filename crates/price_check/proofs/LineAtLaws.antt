@@ -1,13 +1,13 @@
 -- a line of a text by its number
-use Rattle.std.proofs.Common.{◌≡◌, ◌<◌, ◌+◌, ℕ, zero, suc, List, [], ◌∷◌, ◌++◌, length, take, get_or, refl, sym, ap, ◌∙◌, subst, arith, append_assoc, length-append, inl, inr}
-use Rattle.std.specs.Prelude.{◌⊎◌, ⊤, Option, Some, slice_get}
+use Rattle.std.proofs.Common.{◌≡◌, ℕ, zero, suc, List, [], ◌∷◌, ◌++◌, length, take, get_or, refl, sym, ap, ◌∙◌, subst, arith, length-append, inl, inr}
+use Rattle.std.specs.Prelude.{◌⊎◌, Some, slice_get}
 use Rattle.std.proofs.lemmas.Bool.{ne_eqb}
 use Rattle.std.proofs.lemmas.List.{append_cancel_left}
 use Rattle.price_check.specs.Words.{Event, NetRows}
 use Rattle.price_check.specs.Lines.{line}
 use Rattle.price_check.specs.Report.{stay_line}
 use Rattle.price_check.specs.TextLines.{lines, with_byte}
-use Rattle.price_check.proofs.LinesLemmas.{IsClosed, IsSome, closed_tail, closed_append, closed_line, unlines, unlines-lines, lines-append, lines-feed, lines-other, Parted, parted, same_lines}
+use Rattle.price_check.proofs.LinesLemmas.{IsClosed, IsSome, closed_tail, closed_append, unlines, unlines-lines, lines-append, lines-feed, lines-other, parted, same_lines}
 use Rattle.price_check.proofs.SeriesLaws.{texts_of}
 use Rattle.price_check.proofs.LineLaws.{stay_form}
 use Rattle.price_check.proofs.CutLaws.{HasNoFeed, IsLine, line_closed}

@@ -7,10 +7,10 @@ use Rattle.price_check.specs.Words.{Stay, NetRows, instance_of_rows, live_of_row
 use Rattle.price_check.specs.Pieces.{skip, line_of}
 use Rattle.price_check.specs.Lines.{line}
 use Rattle.price_check.specs.Report.{number_text, name_text, stay_line}
-use Rattle.price_check.specs.Forms.{known_line, stated_line, most_stated, own_stay, any_stay}
+use Rattle.price_check.specs.Forms.{known_line, stated_line, most_stated, most_number, own_stay, any_stay}
 use Rattle.price_check.specs.Reading.{due, stay_at, stops, ended, ReportFault, BadLine, WrongStays}
 use Rattle.price_check.proofs.PieceLaws.{skip_takes, skip_again, framed, framed_takes, framed_again}
-use Rattle.price_check.proofs.FormLaws.{known_line-skip, stated_line-framed, stay_front, stay_back, named_stay-framed}
+use Rattle.price_check.proofs.FormLaws.{known_line-skip, stated_line-framed, stay_front, stay_back, named_stay-framed, number_fits}
 use Rattle.price_check.proofs.SeriesLaws.{Takes, Again, on_ok}
 
 pub ok_some : {X : Type 0} (o : Option X) (e : ReportFault) (x : X) → ok_or o e ≡ Ok x → o ≡ Some x
@@ -59,24 +59,24 @@ parted net s v name rest is = rw is (regroup (codes "stay") (number_text name.cc
     (codes " ") (decimal v) (number_text ((instance_of_rows net).weight s)) (codes "\n") rest)
 
 pub own_named : (net : NetRows) (s : ℕ) (text : List ℕ) (at : ℕ) (name : Stay) → slice_get (names_of_rows net) s ≡ Some name
-    → own_stay net s text at ≡ framed (stay_front name ((instance_of_rows net).arrival s) (live_of_rows net s)) (stay_back ((instance_of_rows net).weight s)) 65535 text at
+    → own_stay net s text at ≡ framed (stay_front name ((instance_of_rows net).arrival s) (live_of_rows net s)) (stay_back ((instance_of_rows net).weight s)) (most_number (instance_of_rows net)) text at
 unfolding own_stay
-own_named net s text at name is = rw is (named_stay-framed name ((instance_of_rows net).arrival s) (live_of_rows net s) ((instance_of_rows net).weight s) text at)
+own_named net s text at name is = rw is (named_stay-framed (most_number (instance_of_rows net)) name ((instance_of_rows net).arrival s) (live_of_rows net s) ((instance_of_rows net).weight s) text at)
 
 pub no_name : (net : NetRows) (s : ℕ) (text : List ℕ) (at : ℕ) → slice_get (names_of_rows net) s ≡ None → own_stay net s text at ≡ None
 unfolding own_stay
 no_name net s text at is = rw is refl
 
-pub stay_takes : (net : NetRows) (text : List ℕ) → Takes (stay_form net) 65535 text (stay_at net text)
+pub stay_takes : (net : NetRows) (text : List ℕ) → Takes (stay_form net) (most_number (instance_of_rows net)) text (stay_at net text)
 unfolding stay_at
 stay_takes net text s at said e = by (slice_get (names_of_rows net) s) refl
   where
     read : own_stay net s text at ≡ Some said
-    read = ok_some (own_stay net s text at) (cond (is_some (any_stay text at)) (WrongStays (line_of text at)) (BadLine (line_of text at))) said e
+    read = ok_some (own_stay net s text at) (cond (is_some (any_stay (most_number (instance_of_rows net)) text at)) (WrongStays (line_of text at)) (BadLine (line_of text at))) said e
 
-    by : (o : Option Stay) → slice_get (names_of_rows net) s ≡ o → (drop at text ≡ stay_form net s said.0 ++ drop said.1 text) × (said.0 ≤ 65535)
+    by : (o : Option Stay) → slice_get (names_of_rows net) s ≡ o → (drop at text ≡ stay_form net s said.0 ++ drop said.1 text) × (said.0 ≤ (most_number (instance_of_rows net)))
     by (Some name) is =
-        let a = framed_takes (stay_front name ((instance_of_rows net).arrival s) (live_of_rows net s)) (stay_back ((instance_of_rows net).weight s)) 65535 text at said (omega arith)
+        let a = framed_takes (stay_front name ((instance_of_rows net).arrival s) (live_of_rows net s)) (stay_back ((instance_of_rows net).weight s)) (most_number (instance_of_rows net)) text at said (number_fits (instance_of_rows net))
         (sym (own_named net s text at name is) ∙ read) in
         (a.0 ∙ parted net s said.0 name (drop said.1 text) is, a.1)
     by None is = let none = no_name net s text at is in absurd (cc)
@@ -90,12 +90,12 @@ named net s lt =
       | inr past ↦ absurd (omega (arith, past.0))
     ]
 
-pub stay_again : (net : NetRows) (text : List ℕ) (vs : List ℕ) → ((k : ℕ) → k < (instance_of_rows net).stays → get_or vs k 0 ≤ 65535) → Again (stay_form net) (λ _ _. ⊤) text (stay_at net text) (instance_of_rows net).stays vs
+pub stay_again : (net : NetRows) (text : List ℕ) (vs : List ℕ) → ((k : ℕ) → k < (instance_of_rows net).stays → get_or vs k 0 ≤ (most_number (instance_of_rows net))) → Again (stay_form net) (λ _ _. ⊤) text (stay_at net text) (instance_of_rows net).stays vs
 unfolding stay_at
 stay_again net text vs small s at rest lt e h =
     let name = named net s lt in
     let v = get_or vs s 0 in
-    let a = framed_again (stay_front name.0 ((instance_of_rows net).arrival s) (live_of_rows net s)) (stay_back ((instance_of_rows net).weight s)) 65535 text rest at v (omega arith) (small s lt) refl
+    let a = framed_again (stay_front name.0 ((instance_of_rows net).arrival s) (live_of_rows net s)) (stay_back ((instance_of_rows net).weight s)) (most_number (instance_of_rows net)) text rest at v (number_fits (instance_of_rows net)) (small s lt) refl
     (e ∙ sym (parted net s v name.0 rest name.1)) in
     (a.0, rw (own_named net s text at name.0 name.1, a.1) refl, a.2)
 

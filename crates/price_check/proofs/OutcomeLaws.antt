@@ -4,11 +4,11 @@ use Rattle.std.specs.Prelude.{◌==◌, ◌&&◌, ◌⊎◌, ⊤, nat_le, Option
 use Rattle.std.specs.List.{AllByRecursion}
 use Rattle.std.specs.Option.{option_map_or}
 use Rattle.std.proofs.lemmas.List.{append_cancel_right, get_or-append-add}
-use Rattle.price_check.specs.Words.{Topology, IsConfig, IsWhole, number_of, Device, ◌>>=◌, digits_at, Past, round, commands, live_cost, live_part, stays_begun, unsent, Event, Stay, net_of, pricing_of_rows, NetRows, instance_of_rows, live_of_rows, IsSound, MOST_PRICE}
+use Rattle.price_check.specs.Words.{Topology, IsConfig, IsWhole, number_of, Device, ◌>>=◌, digits_at, Past, round, commands, live_cost, live_part, stays_begun, unsent, Event, Stay, net_of, pricing_of_rows, NetRows, instance_of_rows, live_of_rows, IsSound}
 use Rattle.event_rules.proofs.LiveLemmas.{live_cost_sent}
 use Rattle.price_check.specs.Pieces.{skip, line_of}
 use Rattle.price_check.specs.Report.{texts_below, summary_text, plan_text, stay_line, price_lines}
-use Rattle.price_check.specs.Forms.{known_line, stated_line, own_stay, any_stay}
+use Rattle.price_check.specs.Forms.{known_line, stated_line, most_number, own_stay, any_stay}
 use Rattle.price_check.specs.Reading.{closed, due, stops, ended, summary_at, stay_at, is_large, valued, price_at, cell_price_at, series, reading, ReportFault}
 use Rattle.price_check.specs.Claims.{IsClaim, IsReport, WasReport, report_text, Claim}
 use Rattle.price_check.specs.declared.report_fault.ReportFault.TheVariants as fault
@@ -101,15 +101,15 @@ summary_fails events live text =
 
 stay_fails : (net : NetRows) (text : List ℕ) (s at : ℕ) → FailsByText (stay_at net text s at)
 unfolding stay_at
-stay_fails net text s at = or_fails (own_stay net s text at) _ (by (is_some (any_stay text at)))
+stay_fails net text s at = or_fails (own_stay net s text at) _ (by (is_some (any_stay (most_number (instance_of_rows net)) text at)))
   where
     by : (b : Bool) → IsOfText (cond b (fault.WrongStays (line_of text at)) (fault.BadLine (line_of text at)))
     by true = tt
     by false = tt
 
-valued_fails : (text digits : List ℕ) (at next : ℕ) → FailsByText (valued text at next digits)
+valued_fails : (most : ℕ) (text digits : List ℕ) (at next : ℕ) → FailsByText (valued most text at next digits)
 unfolding valued
-valued_fails text digits at next = by (number_of MOST_PRICE digits)
+valued_fails most text digits at next = by (number_of most digits)
   where
     read : (b : Bool) (r s : ℕ × ℕ) → FailsByText (cond b (Ok r) (Ok s))
     read true r s = tt
@@ -127,13 +127,13 @@ mapped : {X Y : Type 0} (f : X → Result Y ReportFault) (o : Option X) (r : Res
 mapped f (Some x) r h k = h x
 mapped f None r h k = k
 
-price_fails : (front : Option ℕ) (text : List ℕ) (at : ℕ) → FailsByText (price_at front text at)
+price_fails : (most : ℕ) (front : Option ℕ) (text : List ℕ) (at : ℕ) → FailsByText (price_at most front text at)
 unfolding price_at
-price_fails front text at = mapped _ front _ (λ begin. mapped _ (skip (codes "\n") text (begin + digits_at text begin)) _ (λ next. valued_fails text _ at next) tt) tt
+price_fails most front text at = mapped _ front _ (λ begin. mapped _ (skip (codes "\n") text (begin + digits_at text begin)) _ (λ next. valued_fails most text _ at next) tt) tt
 
-cell_fails : (devices : List Device) (adapters rounds : ℕ) (text : List ℕ) (k at : ℕ) → FailsByText (cell_price_at devices adapters rounds text k at)
+cell_fails : (most : ℕ) (devices : List Device) (adapters rounds : ℕ) (text : List ℕ) (k at : ℕ) → FailsByText (cell_price_at most devices adapters rounds text k at)
 unfolding cell_price_at
-cell_fails devices adapters rounds text k at = price_fails _ text at
+cell_fails most devices adapters rounds text k at = price_fails most _ text at
 
 series_fails : (one : Reader) → ((k at : ℕ) → FailsByText (one k at)) → (n at : ℕ) → FailsByText (series one n at)
 unfolding series
@@ -155,7 +155,7 @@ reading_fails devices events live net text =
     let rounds = (instance_of_rows net).rounds in
     bound (summary_at events live text) _ (summary_fails events live text) (λ costs.
     bound (series (stay_at net text) (instance_of_rows net).stays costs.2) _ (series_fails (stay_at net text) (stay_fails net text) (instance_of_rows net).stays costs.2) (λ best.
-    bound (series (cell_price_at devices adapters rounds text) (price_cells net) best.1) _ (series_fails (cell_price_at devices adapters rounds text) (cell_fails devices adapters rounds text) (price_cells net) best.1) (λ prices.
+    bound (series (cell_price_at (instance_of_rows net).most_price devices adapters rounds text) (price_cells net) best.1) _ (series_fails (cell_price_at (instance_of_rows net).most_price devices adapters rounds text) (cell_fails (instance_of_rows net).most_price devices adapters rounds text) (price_cells net) best.1) (λ prices.
     bound (ended text prices.1) _ (ended_fails text prices.1) (λ u. tt))))
 
 -- ---- the clauses of a reader of reports, from what reading the whole text gives

@@ -2,7 +2,7 @@
 use Rattle.std.proofs.Common.{◌≡◌, ◌≤◌, ◌<◌, ◌+◌, ◌-◌, ◌/◌, ◌%◌, ℕ, suc, List, [], ◌∷◌, ◌++◌, length, take, drop, get_or, Bool, true, false, refl, sym, ap, ◌∙◌, subst, arith, append_assoc}
 use Rattle.std.specs.Prelude.{◌==◌, ⊤, Result, Ok, All}
 use Rattle.std.proofs.lemmas.List.Elements.{All-get_or}
-use Rattle.price_check.specs.Words.{Device, ◌>>=◌, Event, NetRows, instance_of_rows, MOST_PRICE}
+use Rattle.price_check.specs.Words.{Device, ◌>>=◌, Event, NetRows, instance_of_rows, MOST_NET_PRICE}
 use Rattle.price_check.specs.Report.{price_line, row_text}
 use Rattle.price_check.specs.Reading.{summary_at, stay_at, cell_price_at, series, ended, reading, ReportFault}
 use Rattle.price_check.specs.Claims.{Claim}
@@ -19,7 +19,7 @@ use Rattle.price_check.proofs.SectionLaws.{seven_at, stated, summary-series}
 abbrev pub claimed : NetRows → ℕ × ℕ × ℕ → List ℕ × ℕ → List ℕ × ℕ → Claim
 claimed net costs best prices = record {
   schedule = best.0;
-  prices = record { rounds = (instance_of_rows net).rounds; devices = (instance_of_rows net).devices; adapters = (instance_of_rows net).adapters; links = (instance_of_rows net).links; prices = prices.0 };
+  prices = record { rounds = (instance_of_rows net).rounds; devices = (instance_of_rows net).devices; adapters = (instance_of_rows net).adapters; links = (instance_of_rows net).links; most_price = (instance_of_rows net).most_price; prices = prices.0 };
   best = costs.0;
   excess = costs.1;
 }
@@ -28,7 +28,7 @@ abbrev pub from_end : NetRows → List ℕ → ℕ × ℕ × ℕ → List ℕ ×
 from_end net text costs best prices = ended text prices.1 >>= λ _. Ok (claimed net costs best prices)
 
 abbrev pub from_prices : List Device → NetRows → List ℕ → ℕ × ℕ × ℕ → List ℕ × ℕ → Result Claim ReportFault
-from_prices devices net text costs best = series (cell_price_at devices (instance_of_rows net).adapters (instance_of_rows net).rounds text) (price_cells net) best.1 >>= λ prices. from_end net text costs best prices
+from_prices devices net text costs best = series (cell_price_at (instance_of_rows net).most_price devices (instance_of_rows net).adapters (instance_of_rows net).rounds text) (price_cells net) best.1 >>= λ prices. from_end net text costs best prices
 
 abbrev pub from_stays : List Device → NetRows → List ℕ → ℕ × ℕ × ℕ → Result Claim ReportFault
 from_stays devices net text costs = series (stay_at net text) (instance_of_rows net).stays costs.2 >>= λ best. from_prices devices net text costs best
@@ -44,15 +44,15 @@ Reaches text m r = From text m (λ _. m) r
 pub on_end : (net : NetRows) (text : List ℕ) (costs : ℕ × ℕ × ℕ) (best prices : List ℕ × ℕ) (m : ℕ) → From text m (λ _. m) (ended text prices.1) → Reaches text m (from_end net text costs best prices)
 on_end net text costs best prices m h = bind_from text m (λ _. m) (λ _. m) (ended text prices.1) _ h (λ u le. le)
 
-pub on_prices : (devices : List Device) (net : NetRows) (text : List ℕ) (costs : ℕ × ℕ × ℕ) (best : List ℕ × ℕ) (m : ℕ) → From text m behind_all (series (cell_price_at devices (instance_of_rows net).adapters (instance_of_rows net).rounds text) (price_cells net) best.1)
+pub on_prices : (devices : List Device) (net : NetRows) (text : List ℕ) (costs : ℕ × ℕ × ℕ) (best : List ℕ × ℕ) (m : ℕ) → From text m behind_all (series (cell_price_at (instance_of_rows net).most_price devices (instance_of_rows net).adapters (instance_of_rows net).rounds text) (price_cells net) best.1)
     → Reaches text m (from_prices devices net text costs best)
 on_prices devices net text costs best m h =
-    bind_from text m behind_all (λ _. m) (series (cell_price_at devices (instance_of_rows net).adapters (instance_of_rows net).rounds text) (price_cells net) best.1) _ h (λ prices le. on_end net text costs best prices m (ended_from text m prices.1 le))
+    bind_from text m behind_all (λ _. m) (series (cell_price_at (instance_of_rows net).most_price devices (instance_of_rows net).adapters (instance_of_rows net).rounds text) (price_cells net) best.1) _ h (λ prices le. on_end net text costs best prices m (ended_from text m prices.1 le))
 
 pub on_stays : (devices : List Device) (net : NetRows) (text : List ℕ) (costs : ℕ × ℕ × ℕ) (m : ℕ) → From text m behind_all (series (stay_at net text) (instance_of_rows net).stays costs.2) → Reaches text m (from_stays devices net text costs)
 on_stays devices net text costs m h =
     bind_from text m behind_all (λ _. m) (series (stay_at net text) (instance_of_rows net).stays costs.2) _ h (λ best le.
-    on_prices devices net text costs best m (series_from text (cell_price_at devices (instance_of_rows net).adapters (instance_of_rows net).rounds text) (cell_steps devices (instance_of_rows net).adapters (instance_of_rows net).rounds text) (price_cells net) best.1 m le))
+    on_prices devices net text costs best m (series_from text (cell_price_at (instance_of_rows net).most_price devices (instance_of_rows net).adapters (instance_of_rows net).rounds text) (cell_steps (instance_of_rows net).most_price devices (instance_of_rows net).adapters (instance_of_rows net).rounds text) (price_cells net) best.1 m le))
 
 pub on_summary : (devices : List Device) (events : List Event) (live : ℕ) (net : NetRows) (text : List ℕ) (m : ℕ) → From text m behind_all (series (seven_at events live text) 7 0) → Reaches text m (reading devices events live net text)
 on_summary devices events live net text m h =
@@ -100,18 +100,18 @@ not_zero whose r v h = by (v == 0) refl
     by true e = let empty : price_line whose r v ≡ [] = rw e refl in absurd (none h.content (sym empty ∙ h.whole))
 
 -- the cells before one that has a line
-pub cells_before : (devices : List Device) (adapters rounds : ℕ) (text : List ℕ) (n : ℕ) (vs : List ℕ) → n ≤ length vs → All (λ v. v ≤ MOST_PRICE) vs → AreApart (front_of devices adapters rounds) n
+pub cells_before : (most : ℕ) → most ≤ MOST_NET_PRICE → (devices : List Device) (adapters rounds : ℕ) (text : List ℕ) (n : ℕ) (vs : List ℕ) → n ≤ length vs → All (λ v. v ≤ most) vs → AreApart (front_of devices adapters rounds) n
     → (place at : ℕ) (rest : List ℕ) → place < n → NoneBefore (front_of devices adapters rounds) place rest → drop at text ≡ texts_of (form_of devices adapters rounds) place vs ++ rest
-    → (e : ℕ) × (series (cell_price_at devices adapters rounds text) place at ≡ Ok (take place vs, e)) × (drop e text ≡ rest)
-cells_before devices adapters rounds text n vs le small apart place at rest lt none here =
-    series_again (form_of devices adapters rounds) (NoneBefore (front_of devices adapters rounds)) text (cell_price_at devices adapters rounds text) place vs (omega arith)
-    (λ k at' r lt'. cells_again devices adapters rounds text n vs le small k at' r (omega arith))
+    → (e : ℕ) × (series (cell_price_at most devices adapters rounds text) place at ≡ Ok (take place vs, e)) × (drop e text ≡ rest)
+cells_before most fits devices adapters rounds text n vs le small apart place at rest lt none here =
+    series_again (form_of devices adapters rounds) (NoneBefore (front_of devices adapters rounds)) text (cell_price_at most devices adapters rounds text) place vs (omega arith)
+    (λ k at' r lt'. cells_again most fits devices adapters rounds text n vs le small k at' r (omega arith))
     (λ k r lt'. cells_join devices adapters rounds n vs apart k r (omega arith)) at rest here none
 
-pub cells_within : (devices : List Device) (adapters rounds : ℕ) (text : List ℕ) (n : ℕ) (vs : List ℕ) → n ≤ length vs → All (λ v. v ≤ MOST_PRICE) vs → AreApart (front_of devices adapters rounds) n
-    → (at : ℕ) (rest front : List ℕ) → EndsWithin (form_of devices adapters rounds) n vs front → drop at text ≡ front ++ rest → PassedIn text rest (series (cell_price_at devices adapters rounds text) n at)
-cells_within devices adapters rounds text n vs le small apart at rest front w e =
-    let one = cell_price_at devices adapters rounds text in
+pub cells_within : (most : ℕ) → most ≤ MOST_NET_PRICE → (devices : List Device) (adapters rounds : ℕ) (text : List ℕ) (n : ℕ) (vs : List ℕ) → n ≤ length vs → All (λ v. v ≤ most) vs → AreApart (front_of devices adapters rounds) n
+    → (at : ℕ) (rest front : List ℕ) → EndsWithin (form_of devices adapters rounds) n vs front → drop at text ≡ front ++ rest → PassedIn text rest (series (cell_price_at most devices adapters rounds text) n at)
+cells_within most fits devices adapters rounds text n vs le small apart at rest front w e =
+    let one = cell_price_at most devices adapters rounds text in
     let form = form_of devices adapters rounds in
     let k = w.place in
     let lt = w.within in
@@ -119,10 +119,10 @@ cells_within devices adapters rounds text n vs le small apart at rest front w e 
     let whose = row_text devices adapters (k / rounds) in
     let some = not_zero whose (k % rounds + 1) v w.line in
     let here : drop at text ≡ texts_of form k vs ++ (form k v ++ rest) = e ∙ ap (λ (l : List ℕ). l ++ rest) w.is ∙ append_assoc (texts_of form k vs) (form k v) rest in
-    let a = cells_before devices adapters rounds text n vs le small apart k at (form k v ++ rest) lt (none_earlier devices adapters rounds n k v rest apart lt some) here in
-    let most = All-get_or (λ v. v ≤ MOST_PRICE) vs k 0 (omega arith) small in
-    let b = price_some whose (k % rounds + 1) v text rest a.0 some most a.2 in
+    let a = cells_before most fits devices adapters rounds text n vs le small apart k at (form k v ++ rest) lt (none_earlier devices adapters rounds n k v rest apart lt some) here in
+    let low = All-get_or (λ v. v ≤ most) vs k 0 (omega arith) small in
+    let b = price_some most fits whose (k % rounds + 1) v text rest a.0 some low a.2 in
     let step : k + 1 ≡ suc k = omega arith in
-    let last : one k a.0 ≡ Ok (v, b.0) = cell_reads devices adapters rounds text k a.0 ∙ b.1 in
+    let last : one k a.0 ≡ Ok (v, b.0) = cell_reads most devices adapters rounds text k a.0 ∙ b.1 in
     let all : series one (suc k) at ≡ Ok (take k vs ++ v ∷ [], b.0) = subst (λ (i : ℕ). series one i at ≡ Ok (take k vs ++ v ∷ [], b.0)) step (series-more one k at a.0 (take k vs) (take k vs ++ v ∷ []) v b.0 a.1 last refl) in
-    (b.0, b.2, further text one (cell_steps devices adapters rounds text) k n at b.0 (take k vs ++ v ∷ []) lt all)
+    (b.0, b.2, further text one (cell_steps most devices adapters rounds text) k n at b.0 (take k vs ++ v ∷ []) lt all)

@@ -3,9 +3,9 @@ use Rattle.std.proofs.Common.{◌≡◌, ◌≤◌, ◌<◌, ◌+◌, ◌/◌, �
 use Rattle.std.specs.Prelude.{◌==◌, ◌&&◌, ⊤, Option, Some, None, Result, Ok, Err, ok_or, option_map, codes, slice_get, is_some, nat_le}
 use Rattle.std.specs.Option.{option_map_or, option_and_then}
 use Rattle.std.specs.Result.{result_ok}
-use Rattle.price_check.specs.Words.{number_of, Device, ◌>>=◌, number_at, digits_at, Stay, NetRows, instance_of_rows, live_of_rows, names_of_rows, MOST_PRICE}
+use Rattle.price_check.specs.Words.{number_of, Device, ◌>>=◌, number_at, digits_at, Stay, NetRows, instance_of_rows, live_of_rows, names_of_rows}
 use Rattle.price_check.specs.Pieces.{skip, found_number, line_of}
-use Rattle.price_check.specs.Forms.{known_line, stated_line, own_stay, any_stay, named_stay, most_stated}
+use Rattle.price_check.specs.Forms.{known_line, stated_line, most_number, own_stay, any_stay, named_stay, most_stated}
 use Rattle.price_check.specs.Reading.{due, stay_at, is_large, valued, price_at, cell_price_at, series, stops, ended, ReportFault}
 use Rattle.price_check.specs.declared.report_fault.ReportFault.TheVariants as fault
 use Rattle.price_check.proofs.PieceLaws.{skip_takes, on_some, framed}
@@ -124,11 +124,11 @@ stated_exact word text at = due_exact text at behind_one (stated_line word text 
 -- ---- stays
 
 named_on : (net : NetRows) (text : List ℕ) (s at : ℕ) (o : Option Stay) (r : ℕ × ℕ)
-    → option_and_then (λ name. named_stay name ((instance_of_rows net).arrival s) (live_of_rows net s) ((instance_of_rows net).weight s) text at) o ≡ Some r → at ≤ r.1
+    → option_and_then (λ name. named_stay (most_number (instance_of_rows net)) name ((instance_of_rows net).arrival s) (live_of_rows net s) ((instance_of_rows net).weight s) text at) o ≡ Some r → at ≤ r.1
 named_on net text s at None r h = absurd cc
 named_on net text s at (Some name) r h =
-    framed_on (stay_front name ((instance_of_rows net).arrival s) (live_of_rows net s)) (stay_back ((instance_of_rows net).weight s)) 65535 text at r
-    (sym (named_stay-framed name ((instance_of_rows net).arrival s) (live_of_rows net s) ((instance_of_rows net).weight s) text at) ∙ h)
+    framed_on (stay_front name ((instance_of_rows net).arrival s) (live_of_rows net s)) (stay_back ((instance_of_rows net).weight s)) (most_number (instance_of_rows net)) text at r
+    (sym (named_stay-framed (most_number (instance_of_rows net)) name ((instance_of_rows net).arrival s) (live_of_rows net s) ((instance_of_rows net).weight s) text at) ∙ h)
 
 own_on : (net : NetRows) (text : List ℕ) (s at : ℕ) (r : ℕ × ℕ) → own_stay net s text at ≡ Some r → at ≤ r.1
 unfolding own_stay
@@ -136,7 +136,7 @@ own_on net text s at r h = named_on net text s at (slice_get (names_of_rows net)
 
 pub stay_steps : (net : NetRows) (text : List ℕ) → Steps text (stay_at net text)
 unfolding stay_at
-stay_steps net text s at = by (own_stay net s text at) (is_some (any_stay text at)) (own_on net text s at)
+stay_steps net text s at = by (own_stay net s text at) (is_some (any_stay (most_number (instance_of_rows net)) text at)) (own_on net text s at)
   where
     by : (o : Option (ℕ × ℕ)) (b : Bool) → ((r : ℕ × ℕ) → o ≡ Some r → at ≤ r.1) → Exact text at behind_one (ok_or o (cond b (fault.WrongStays (line_of text at)) (fault.BadLine (line_of text at))))
     by (Some r) b h = h r refl
@@ -145,9 +145,9 @@ stay_steps net text s at = by (own_stay net s text at) (is_some (any_stay text a
 
 -- ---- prices
 
-valued_exact : (text digits : List ℕ) (at next : ℕ) → at ≤ next → Exact text at behind_one (valued text at next digits)
+valued_exact : (most : ℕ) (text digits : List ℕ) (at next : ℕ) → at ≤ next → Exact text at behind_one (valued most text at next digits)
 unfolding valued
-valued_exact text digits at next le = by (number_of MOST_PRICE digits)
+valued_exact most text digits at next le = by (number_of most digits)
   where
     read : (b : Bool) (price : ℕ) → Exact {X = ℕ × ℕ} text at behind_one (cond b (Ok (0, at)) (Ok (price, next)))
     read true price = let same : at ≤ at = omega arith in same
@@ -161,23 +161,23 @@ valued_exact text digits at next le = by (number_of MOST_PRICE digits)
     by (Some price) = read (price == 0) price
     by None = large (is_large digits && nat_le next (at + 101))
 
-pub price_exact : (front text : List ℕ) (at : ℕ) → Exact text at behind_one (price_at (skip front text at) text at)
+pub price_exact : (most : ℕ) (front text : List ℕ) (at : ℕ) → Exact text at behind_one (price_at most (skip front text at) text at)
 unfolding price_at
-price_exact front text at = by (skip front text at) refl
+price_exact most front text at = by (skip front text at) refl
   where
     ended : (begin : ℕ) → at ≤ begin → (o : Option ℕ) → skip (codes "\n") text (begin + digits_at text begin) ≡ o
-        → Exact {X = ℕ × ℕ} text at behind_one (option_map_or (λ next. valued text at next (take (digits_at text begin) (drop begin text))) o (Ok (0, at)))
-    ended begin le (Some next) is = let le' = skip_on (codes "\n") text (begin + digits_at text begin) next is in valued_exact text (take (digits_at text begin) (drop begin text)) at next (omega arith)
+        → Exact {X = ℕ × ℕ} text at behind_one (option_map_or (λ next. valued most text at next (take (digits_at text begin) (drop begin text))) o (Ok (0, at)))
+    ended begin le (Some next) is = let le' = skip_on (codes "\n") text (begin + digits_at text begin) next is in valued_exact most text (take (digits_at text begin) (drop begin text)) at next (omega arith)
     ended begin le None is = let same : at ≤ at = omega arith in same
 
     by : (o : Option ℕ) → skip front text at ≡ o
-        → Exact {X = ℕ × ℕ} text at behind_one (option_map_or (λ begin. option_map_or (λ next. valued text at next (take (digits_at text begin) (drop begin text))) (skip (codes "\n") text (begin + digits_at text begin)) (Ok (0, at))) o (Ok (0, at)))
+        → Exact {X = ℕ × ℕ} text at behind_one (option_map_or (λ begin. option_map_or (λ next. valued most text at next (take (digits_at text begin) (drop begin text))) (skip (codes "\n") text (begin + digits_at text begin)) (Ok (0, at))) o (Ok (0, at)))
     by (Some begin) is = ended begin (skip_on front text at begin is) (skip (codes "\n") text (begin + digits_at text begin)) refl
     by None is = let same : at ≤ at = omega arith in same
 
-pub cell_steps : (devices : List Device) (adapters rounds : ℕ) (text : List ℕ) → Steps text (cell_price_at devices adapters rounds text)
+pub cell_steps : (most : ℕ) (devices : List Device) (adapters rounds : ℕ) (text : List ℕ) → Steps text (cell_price_at most devices adapters rounds text)
 unfolding cell_price_at
-cell_steps devices adapters rounds text k at = rw (price_front-skip devices adapters (k / rounds) (k % rounds + 1) text at) (price_exact _ text at)
+cell_steps most devices adapters rounds text k at = rw (price_front-skip devices adapters (k / rounds) (k % rounds + 1) text at) (price_exact most _ text at)
 
 -- ---- the end
 

@@ -2,19 +2,19 @@
 use Rattle.std.specs.Prelude.{◌≡◌, ℕ, ◌<◌, ◌≤◌, ◌+◌, ◌-◌, ◌⊎◌, ⊤, Bool, true, List, [], ◌∷◌, ◌++◌, length, take, slice_get, slice_index, All, Option, Some, codes, decimal}
 use Rattle.std.specs.List.{AllByRecursion}
 use Rattle.std.specs.Str.Parse.{digits_value}
-use Rattle.price_check.specs.Words.{IsWhole, IsTooLong, MOST_BYTES, MOST_PRICE, Device, is_decimal, Past, live_cost, Instance, rows, pricing_of_rows, IsPriced, IsPricingFor, NetRows, instance_of_rows}
-use Rattle.price_check.specs.Forms.{most_stated}
+use Rattle.price_check.specs.Words.{IsWhole, IsTooLong, MOST_BYTES, Device, is_decimal, Past, live_cost, Instance, rows, pricing_of_rows, IsPriced, IsPricingFor, NetRows, instance_of_rows}
+use Rattle.price_check.specs.Forms.{most_stated, most_number}
 use Rattle.price_check.specs.Report.{number_text, row_text, summary_text, plan_text}
 use Rattle.price_check.specs.Reading.{ReportFault}
 use Rattle.price_check.specs.TextLines.{lines}
 pub use Rattle.price_check.specs.declared.claim.Claim.{Claim}
 use Rattle.price_check.specs.declared.report_fault.ReportFault.TheVariants as fault
 
--- a round of at most 65,535 for each stay, a price for each round of each row, none above the most, and costs of at most 18
+-- a round for each stay, none above what its line may say, a price for each round of each row, none above the net's largest, and costs of at most 18
 -- digits
 pub record IsClaim (net : Instance) (claim : Claim) : Type 0 where
   pub stays : length claim.schedule ≡ net.stays
-  pub rounds : All (λ r. r ≤ 65535) claim.schedule
+  pub rounds : All (λ r. r ≤ most_number net) claim.schedule
   pub pricing : IsPricingFor net claim.prices
   pub priced : IsPriced claim.prices
   pub best : claim.best ≤ most_stated
@@ -52,15 +52,15 @@ pub record IsFirstFaulty (past : Past) (net : NetRows) (live : ℕ) (text : List
   pub before : Begins past net live text (n - 1) claim
   pub none : AllByRecursion (λ (d : Device). d.target ≤ 65535) past.config.devices → (claim : Claim) → Begins past net live text n claim → ⊥
 
--- a line of the form of a stay's, whosever: of a name, an arrival, a live and a best round and a weight, each of at most 65,535
-pub record IsStayLine (line : List ℕ) : Type 0 where
+-- a line of the form of a stay's, whosever: of a name, an arrival, a live and a best round and a weight, each up to a most
+pub record IsStayLine (most : ℕ) (line : List ℕ) : Type 0 where
   pub ccb : ℕ
   pub attempt : ℕ
   pub arrival : ℕ
   pub live : ℕ
   pub best : ℕ
   pub weight : ℕ
-  pub small : All (λ n. n ≤ 65535) (ccb ∷ attempt ∷ arrival ∷ live ∷ best ∷ weight ∷ [])
+  pub small : All (λ n. n ≤ most) (ccb ∷ attempt ∷ arrival ∷ live ∷ best ∷ weight ∷ [])
   pub spelled : line ≡ codes "stay" ++ (number_text ccb ++ (number_text attempt ++ (number_text arrival ++ (number_text live ++ (number_text best ++ number_text weight)))))
 
 -- Line n of the text, where a stay's is due, after the first seven lines, has the form of a stay's. If it is faulty, it is
@@ -70,13 +70,13 @@ pub record IsWrongStay (net : NetRows) (text : List ℕ) (n : ℕ) : Type 0 wher
   pub last : n ≤ 7 + (instance_of_rows net).stays
   pub line : List ℕ
   pub here : slice_get (lines text) (n - 1) ≡ Some line
-  pub stay : IsStayLine line
+  pub stay : IsStayLine (most_number (instance_of_rows net)) line
 
 -- the line of an opening's price, up to the price
 abbrev pub opening_text : List Device → ℕ → ℕ → ℕ → List ℕ
 opening_text devices adapters row round = row_text devices adapters row ++ (number_text round ++ codes " ")
 
--- Line n of the text is one of some claim's report but for its price, which is above the most, and the lines before it are
+-- Line n of the text is one of some claim's report but for its price, which is above the net's largest, and the lines before it are
 -- those of that report. It has at most 100 bytes.
 pub record IsTooDear (past : Past) (net : NetRows) (live : ℕ) (text : List ℕ) (n : ℕ) : Type 0 where
   pub claim : Claim
@@ -92,7 +92,7 @@ pub record IsTooDear (past : Past) (net : NetRows) (live : ℕ) (text : List ℕ
   pub digits : List ℕ
   pub here : slice_get (lines text) (n - 1) ≡ Some (opening_text past.config.devices (instance_of_rows net).adapters row round ++ digits)
   pub spelled : is_decimal digits ≡ true
-  pub dear : MOST_PRICE < digits_value 10 digits
+  pub dear : (instance_of_rows net).most_price < digits_value 10 digits
   pub short : length (opening_text past.config.devices (instance_of_rows net).adapters row round ++ digits) ≤ 100
 
 -- of which kind the first faulty line is: a stay's that isn't the history's, one with too high a price, or neither

@@ -1,7 +1,7 @@
 -- the forms of a report's lines: where one stands at an offset, what it says and the offset after it
-use Rattle.std.specs.Prelude.{ℕ, ◌-◌, nat_lt, if◌then◌else◌, List, length, Option, Some, codes, decimal, option_and_then, slice_get}
+use Rattle.std.specs.Prelude.{ℕ, ◌-◌, nat_le, nat_lt, if◌then◌else◌, List, length, Option, Some, codes, decimal, option_and_then, slice_get}
 use Rattle.std.specs.Option.{option_map_or}
-use Rattle.price_check.specs.Words.{Device, Stay, NetRows, instance_of_rows, live_of_rows, names_of_rows}
+use Rattle.price_check.specs.Words.{MOST_PRICE, Device, Stay, Instance, NetRows, instance_of_rows, live_of_rows, names_of_rows}
 use Rattle.price_check.specs.Pieces.{◌>>=◌, skip, skip_number, found_number}
 
 -- the line of this word and this number
@@ -24,16 +24,21 @@ stated_line word text at = do
   next ← skip (codes "\n") text number.1
   Some (number.0, next)
 
--- the line of a stay of this name, arrival, live round and weight, with a round that is best for it
-unfoldable pub named_stay : Stay → ℕ → ℕ → ℕ → List ℕ → ℕ → Option (ℕ × ℕ)
-named_stay name arrival live weight text at = do
+-- the most that a stay's line may say: 65,535 in the report of a history, and 1,048,576 in that of a recording, where prices may be
+-- larger
+abbrev pub most_number : Instance → ℕ
+most_number net = if nat_le net.most_price MOST_PRICE then 65535 else 1048576
+
+-- the line of a stay of this name, arrival, live round and weight, with a round that is best for it, up to a most
+unfoldable pub named_stay : ℕ → Stay → ℕ → ℕ → ℕ → List ℕ → ℕ → Option (ℕ × ℕ)
+named_stay most name arrival live weight text at = do
   word ← skip (codes "stay") text at
   ccb ← skip_number name.ccb text word
   attempt ← skip_number name.attempt text ccb
   arrived ← skip_number arrival text attempt
   sent ← skip_number live text arrived
   begin ← skip (codes " ") text sent
-  best ← found_number 65535 text begin
+  best ← found_number most text begin
   end ← skip_number weight text best.1
   next ← skip (codes "\n") text end
   Some (best.0, next)
@@ -41,25 +46,25 @@ named_stay name arrival live weight text at = do
 -- the line of the net's stay of this number
 unfoldable pub own_stay : NetRows → ℕ → List ℕ → ℕ → Option (ℕ × ℕ)
 own_stay net s text at =
-    option_and_then (λ name. named_stay name ((instance_of_rows net).arrival s) (live_of_rows net s) ((instance_of_rows net).weight s) text at) (slice_get (names_of_rows net) s)
+    option_and_then (λ name. named_stay (most_number (instance_of_rows net)) name ((instance_of_rows net).arrival s) (live_of_rows net s) ((instance_of_rows net).weight s) text at) (slice_get (names_of_rows net) s)
 
--- a space and a number of at most 65535
-unfoldable pub small_number : List ℕ → ℕ → Option ℕ
-small_number text at = do
+-- a space and a number up to a most
+unfoldable pub small_number : ℕ → List ℕ → ℕ → Option ℕ
+small_number most text at = do
   begin ← skip (codes " ") text at
-  number ← found_number 65535 text begin
+  number ← found_number most text begin
   Some number.1
 
 -- the line of any stay: six such numbers
-unfoldable pub any_stay : List ℕ → ℕ → Option ℕ
-any_stay text at = do
+unfoldable pub any_stay : ℕ → List ℕ → ℕ → Option ℕ
+any_stay most text at = do
   word ← skip (codes "stay") text at
-  ccb ← small_number text word
-  attempt ← small_number text ccb
-  arrival ← small_number text attempt
-  live ← small_number text arrival
-  best ← small_number text live
-  weight ← small_number text best
+  ccb ← small_number most text word
+  attempt ← small_number most text ccb
+  arrival ← small_number most text attempt
+  live ← small_number most text arrival
+  best ← small_number most text live
+  weight ← small_number most text best
   skip (codes "\n") text weight
 
 -- the front of a price's line, up to the price, of a device's opening in a round, and of an opening of what has a number

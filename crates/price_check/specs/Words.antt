@@ -9,7 +9,7 @@ unfoldable pub use Rattle.cam_types.specs.Topology.{address_fault, device_fault}
 pub use Rattle.cam_types.specs.Watched.{device_of, has_failed}
 pub use Rattle.cam_types.specs.Whole.{IsTooLong, IsWhole}
 pub use Rattle.cam_types.specs.declared.device.Device.{Device}
-pub use Rattle.cam_types.specs.declared.maxima.TheConstants.{MOST_ADAPTERS, MOST_BYTES, MOST_DEVICES, MOST_LINKS, MOST_OPENINGS, MOST_ROUNDS, MOST_STAYS, MOST_WEIGHT}
+pub use Rattle.cam_types.specs.declared.maxima.TheConstants.{MOST_ADAPTERS, MOST_BYTES, MOST_DEVICES, MOST_LINKS, MOST_WEIGHT}
 pub use Rattle.event_rules.specs.Counts.{commands}
 unfoldable pub use Rattle.event_rules.specs.Counts.{round}
 pub use Rattle.event_rules.specs.Live.{live_cost, live_part}
@@ -27,5 +27,6 @@ pub use Rattle.round_net.specs.Schedules.{IsAdmissible, cost, load}
 pub use Rattle.round_net.specs.Sound.{IsSound}
 pub use Rattle.round_net.specs.Sums.{count_below, least, sum_below, sum_to}
 pub use Rattle.round_net.specs.Value.{Pricing, ProvesBest, allowed, is_open, offered, paid, priced}
-pub use Rattle.round_net.specs.declared.price_range.TheConstants.{MOST_PRICE}
+pub use Rattle.round_net.specs.declared.maxima.TheConstants.{MOST_CAP, MOST_NET_ROUNDS, MOST_NET_STAYS}
+pub use Rattle.round_net.specs.declared.price_range.TheConstants.{MOST_NET_PRICE, MOST_PRICE}
 pub use Rattle.round_net.specs.declared.stay_row.StayRow.{StayRow}

@@ -6,7 +6,8 @@ use round_net::{Prices, Schedule};
 /// prove it.
 #[derive(Debug, Drop)]
 pub struct Claim {
-    /// The round that is best for each stay, in order of birth. It may be any round up to 65,535.
+    /// The round that is best for each stay, in order of birth. It may be any round up to 65,535, and in a recording's
+    /// report up to 1,048,576.
     pub schedule: Schedule,
     /// What an opening of each row is worth in each round.
     pub prices: Prices,

@@ -1,19 +1,34 @@
 //! The forms of a report's lines, each read from an offset on.
 
-ghost use Rattle.std.specs.Prelude.{◌≡◌, ◌<◌, ◌≤◌, length, IfSome};
+ghost use Rattle.std.specs.Prelude.{◌≡◌, ◌^◌, ◌<◌, ◌≤◌, length, IfSome};
 ghost use Rattle.round_net.specs.Rows.{instance_of_rows};
-ghost use Rattle.price_check.specs.Forms.{known_line, stated_line, named_stay, own_stay, small_number, any_stay, dev_front, number_front, shared_front, price_front};
+ghost use Rattle.price_check.specs.Forms.{known_line, stated_line, most_number, named_stay, own_stay, small_number, any_stay, dev_front, number_front, shared_front, price_front};
 
 use crate::pieces::{number_at, skip, skip_digits, skip_number};
 use cam_types::Device;
 use event_rules::Stay;
-use round_net::Net;
+use round_net::{MOST_PRICE, Net};
 
 /// The most that may be said of a cost: 18 digits.
 const MOST_STATED: u64 = 999_999_999_999_999_999;
 
-/// The most that a stay's line may say.
-const MOST_ROUND: u64 = 65_535;
+/// The most that a stay's line may say in the report of a history.
+const MOST_HISTORY_NUMBER: u64 = 65_535;
+
+/// The most that it may say in that of a recording.
+const MOST_RECORDING_NUMBER: u64 = 1_048_576;
+
+/// The most that a stay's line may say. A net whose largest price is above that of a history is a recording's.
+pub(crate) fn most_number(net: &Net) -> u64
+    ensures same { result ≡ most_number (instance_of_rows net.now) }
+    ensures few { result ≤ 1048576 }
+{
+    if net.most_price() <= MOST_PRICE {
+        MOST_HISTORY_NUMBER
+    } else {
+        MOST_RECORDING_NUMBER
+    }
+}
 
 /// The offset after the line of this word and this number.
 #[tactic(auto, unfolding(crate::specs::Forms::known_line))]
@@ -52,6 +67,7 @@ pub(crate) fn own_stay(text: &[u8], at: usize, net: &Net, stay: u32) -> Option<(
     named_stay(
         text,
         at,
+        most_number(net),
         net.stay(stay),
         net.arrival(stay),
         net.live(stay),
@@ -63,13 +79,15 @@ pub(crate) fn own_stay(text: &[u8], at: usize, net: &Net, stay: u32) -> Option<(
 fn named_stay(
     text: &[u8],
     at: usize,
+    most: u64,
     name: Stay,
     arrival: u32,
     live: u32,
     weight: u32,
 ) -> Option<(u32, usize)>
-    requires { at ≤ length text.now }
-    ensures value { result ≡ named_stay name arrival live weight text.now at }
+    requires within { at ≤ length text.now }
+    requires few { most < 2 ^ 32 }
+    ensures value { result ≡ named_stay most name arrival live weight text.now at }
     ensures within { IfSome result (λ r. r.1 ≤ length text.now) }
 {
     let word = skip(text, at, b"stay")?;
@@ -78,36 +96,36 @@ fn named_stay(
     let arrived = skip_number(text, attempt, u64::from(arrival))?;
     let sent = skip_number(text, arrived, u64::from(live))?;
     let begin = skip(text, sent, b" ")?;
-    let (best, end) = number_at(text, begin, MOST_ROUND)?;
+    let (best, end) = number_at(text, begin, most)?;
     let end = skip_number(text, end, u64::from(weight))?;
     let next = skip(text, end, b"\n")?;
     Some((best as u32, next))
 }
 
-/// The offset after the line of any stay.
+/// The offset after the line of any stay, whose numbers are up to a most.
 #[tactic(auto, unfolding(crate::specs::Forms::any_stay))]
-pub(crate) fn any_stay(text: &[u8], at: usize) -> Option<usize>
+pub(crate) fn any_stay(text: &[u8], at: usize, most: u64) -> Option<usize>
     requires { at ≤ length text.now }
-    ensures { result ≡ any_stay text.now at }
+    ensures { result ≡ any_stay most text.now at }
 {
     let word = skip(text, at, b"stay")?;
-    let ccb = small_number(text, word)?;
-    let attempt = small_number(text, ccb)?;
-    let arrival = small_number(text, attempt)?;
-    let live = small_number(text, arrival)?;
-    let best = small_number(text, live)?;
-    let weight = small_number(text, best)?;
+    let ccb = small_number(text, word, most)?;
+    let attempt = small_number(text, ccb, most)?;
+    let arrival = small_number(text, attempt, most)?;
+    let live = small_number(text, arrival, most)?;
+    let best = small_number(text, live, most)?;
+    let weight = small_number(text, best, most)?;
     skip(text, weight, b"\n")
 }
 
 #[tactic(auto, unfolding(crate::specs::Forms::small_number))]
-fn small_number(text: &[u8], at: usize) -> Option<usize>
+fn small_number(text: &[u8], at: usize, most: u64) -> Option<usize>
     requires { at ≤ length text.now }
-    ensures value { result ≡ small_number text.now at }
+    ensures value { result ≡ small_number most text.now at }
     ensures within { IfSome result (λ end. end ≤ length text.now) }
 {
     let begin = skip(text, at, b" ")?;
-    let (_, end) = number_at(text, begin, MOST_ROUND)?;
+    let (_, end) = number_at(text, begin, most)?;
     Some(end)
 }
 

@@ -63,7 +63,7 @@ fn paid_by(net: &Net, prices: &Prices, weight: u32, rests: &[u32]) -> u128
     requires cells { (instance_of_rows net.now).devices * (instance_of_rows net.now).rounds ≤ length rests.now }
     requires noted { AreCheapest (instance_of_rows net.now) (pricing_of_rows prices.now) weight (instance_of_rows net.now).devices rests.now }
     ensures same { let n = instance_of_rows net.now in result ≡ sum_below n.stays (λ s. cond (n.weight s == weight) (least (map (priced n (pricing_of_rows prices.now) s) (allowed n s))) 0) }
-    ensures short { result ≤ 2 ^ 80 }
+    ensures short { result ≤ 2 ^ 84 }
 {
     let mut total = 0;
     for stay in 0..net.stays() {

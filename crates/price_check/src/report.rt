@@ -1,7 +1,7 @@
 //! The text of a report: its first seven lines, its stays and its prices.
 
 ghost use Rattle.std.specs.Prelude.{◌≡◌, ◌+◌, ◌-◌, ◌*◌, ◌<◌, ◌≤◌, ◌++◌, length, slice_index, codes, OnOk, IfOk};
-ghost use Rattle.price_check.specs.Words.{address_of, spelled, rows, instance_of_rows, pricing_of_rows, IsPricingFor, MOST_STAYS, MOST_ROUNDS, MOST_DEVICES, MOST_ADAPTERS, MOST_LINKS};
+ghost use Rattle.price_check.specs.Words.{address_of, spelled, rows, instance_of_rows, pricing_of_rows, IsPricingFor};
 ghost use Rattle.price_check.specs.Report.{summary_text, number_text, texts_below, stay_line, shared_text, row_text, row_line, price_lines, plan_text};
 
 use crate::text::{push_line, push_name, push_number};
@@ -47,7 +47,7 @@ pub fn push_plan(
     requires schedule { length schedule.now ≡ (instance_of_rows net.now).stays }
     requires prices { IsPricingFor (instance_of_rows net.now) prices.now }
     ensures text { OnOk result (text.new.items ≡ text.old.items ++ plan_text devices.now net.now (slice_index schedule.now) (pricing_of_rows prices.now)) }
-    ensures short { OnOk result (length text.new.items ≤ length text.old.items + (260 * MOST_STAYS + 156 * MOST_ROUNDS * (MOST_DEVICES + MOST_ADAPTERS + MOST_LINKS) + 4)) }
+    ensures short { OnOk result (length text.new.items ≤ length text.old.items + (260 * (instance_of_rows net.now).stays + 156 * (instance_of_rows net.now).rounds * rows (instance_of_rows net.now) + 4)) }
 {
     push_stays(text, net, schedule)?;
     push_prices(text, devices, net, prices)?;
@@ -58,7 +58,7 @@ pub fn push_plan(
 fn push_stays(text: &mut Vec<u8>, net: &Net, schedule: &Schedule) -> Result<(), AllocError>
     requires { length schedule.now ≡ (instance_of_rows net.now).stays }
     ensures text { OnOk result (text.new.items ≡ text.old.items ++ texts_below (instance_of_rows net.now).stays (stay_line net.now (slice_index schedule.now))) }
-    ensures short { OnOk result (length text.new.items ≤ length text.old.items + 260 * MOST_STAYS) }
+    ensures short { OnOk result (length text.new.items ≤ length text.old.items + 260 * (instance_of_rows net.now).stays) }
 {
     for stay in 0..net.stays() {
         push_stay(text, net, schedule, stay)?;
@@ -98,7 +98,7 @@ fn push_prices(
 ) -> Result<(), AllocError>
     requires { IsPricingFor (instance_of_rows net.now) prices.now }
     ensures text { OnOk result (text.new.items ≡ text.old.items ++ price_lines devices.now (instance_of_rows net.now) (pricing_of_rows prices.now)) }
-    ensures short { OnOk result (length text.new.items ≤ length text.old.items + 156 * MOST_ROUNDS * (MOST_DEVICES + MOST_ADAPTERS + MOST_LINKS)) }
+    ensures short { OnOk result (length text.new.items ≤ length text.old.items + 156 * (instance_of_rows net.now).rounds * rows (instance_of_rows net.now)) }
 {
     for row in 0..net.rows() {
         push_rounds(text, devices, net, prices, row)?;
@@ -118,7 +118,7 @@ fn push_rounds(
     requires prices { IsPricingFor (instance_of_rows net.now) prices.now }
     requires row { row < rows (instance_of_rows net.now) }
     ensures text { OnOk result (text.new.items ≡ text.old.items ++ texts_below (instance_of_rows net.now).rounds (λ r. row_line devices.now (instance_of_rows net.now).adapters (pricing_of_rows prices.now) row (r + 1))) }
-    ensures short { OnOk result (length text.new.items ≤ length text.old.items + 156 * MOST_ROUNDS) }
+    ensures short { OnOk result (length text.new.items ≤ length text.old.items + 156 * (instance_of_rows net.now).rounds) }
 {
     for round in 0..net.rounds() {
         push_price(text, devices, net.adapters(), prices, row, round + 1)?;

@@ -2,7 +2,7 @@
 
 ghost use Rattle.std.specs.Prelude.{◌≡◌, ℕ, ◌+◌, ◌-◌, ◌*◌, ◌<◌, ◌≤◌, ◌∷◌, nat_lt, sum_by, length, slice_index, slice_set};
 ghost use Rattle.std.specs.List.{list_all};
-ghost use Rattle.price_check.specs.Words.{adapter_row, link_rows, path_of, instance_of_rows, cell, pricing_of_rows, IsPricingFor, MOST_ROUNDS, MOST_WEIGHT, MOST_PRICE};
+ghost use Rattle.price_check.specs.Words.{adapter_row, link_rows, path_of, instance_of_rows, cell, pricing_of_rows, IsPricingFor, MOST_NET_ROUNDS, MOST_WEIGHT, MOST_NET_PRICE};
 ghost use Rattle.price_check.specs.Rests.{takes, pays, IsCheapest, AreCheapest};
 
 use round_net::{Net, Prices, cell};
@@ -40,7 +40,7 @@ pub fn openings_price(net: &Net, prices: &Prices, device: u32, round: u32) -> u6
     requires first { 1 ≤ round }
     requires last { round ≤ (instance_of_rows net.now).rounds }
     ensures same { result ≡ sum_by (λ row. pricing_of_rows prices.now row round) (path_of (instance_of_rows net.now) device) }
-    ensures most { result ≤ 3 * MOST_PRICE }
+    ensures most { result ≤ 3 * MOST_NET_PRICE }
 {
     let adapter = net.adapter_of(device);
     let below = prices.dev(device, round) + prices.sim(adapter, round);
@@ -55,7 +55,7 @@ pub fn openings_price(net: &Net, prices: &Prices, device: u32, round: u32) -> u6
 fn pays(net: &Net, prices: &Prices, weight: u32, device: u32, round: u32) -> u64
     requires size { IsPricingFor (instance_of_rows net.now) prices.now }
     requires weight { weight ≤ MOST_WEIGHT }
-    requires few { (instance_of_rows net.now).rounds ≤ MOST_ROUNDS }
+    requires few { (instance_of_rows net.now).rounds ≤ MOST_NET_ROUNDS }
     requires device { device < (instance_of_rows net.now).devices }
     requires first { 1 ≤ round }
     requires last { round ≤ (instance_of_rows net.now).rounds }
@@ -70,7 +70,7 @@ fn pays(net: &Net, prices: &Prices, weight: u32, device: u32, round: u32) -> u64
 fn cheaper_of(net: &Net, prices: &Prices, weight: u32, device: u32, round: u32, next: u32) -> u32
     requires size { IsPricingFor (instance_of_rows net.now) prices.now }
     requires weight { weight ≤ MOST_WEIGHT }
-    requires few { (instance_of_rows net.now).rounds ≤ MOST_ROUNDS }
+    requires few { (instance_of_rows net.now).rounds ≤ MOST_NET_ROUNDS }
     requires device { device < (instance_of_rows net.now).devices }
     requires first { 1 ≤ round }
     requires last { round ≤ (instance_of_rows net.now).rounds }

@@ -4,7 +4,7 @@ ghost use Rattle.std.specs.Prelude.{◌≡◌, ◌≢◌, ◌<◌, ◌≤◌, �
 ghost use Rattle.price_check.specs.Words.{instance_of_rows, live_of_rows, IsSound};
 ghost use Rattle.price_check.specs.Reading.{stay_at, series};
 
-use crate::forms::{any_stay, own_stay};
+use crate::forms::{any_stay, most_number, own_stay};
 use crate::pieces::line_of;
 use crate::report_fault::ReportFault;
 use round_net::Net;
@@ -46,7 +46,7 @@ fn read_stay(text: &[u8], at: usize, net: &Net, stay: u32) -> Result<(u32, usize
     if let Some(said) = own_stay(text, at, net, stay) {
         return Ok(said);
     }
-    if any_stay(text, at).is_some() {
+    if any_stay(text, at, most_number(net)).is_some() {
         Err(ReportFault::WrongStays(line_of(text, at)))
     } else {
         Err(ReportFault::BadLine(line_of(text, at)))

@@ -1,7 +1,7 @@
 //! What all openings are worth.
 
 ghost use Rattle.std.specs.Prelude.{◌≡◌, ◌*◌, ◌^◌, ◌<◌, ◌≤◌};
-ghost use Rattle.price_check.specs.Words.{sum_to, rows, instance_of_rows, pricing_of_rows, IsPricingFor, offered, MOST_OPENINGS, MOST_PRICE};
+ghost use Rattle.price_check.specs.Words.{sum_to, rows, instance_of_rows, pricing_of_rows, IsPricingFor, offered, MOST_CAP, MOST_NET_PRICE};
 
 use round_net::{Net, Prices};
 
@@ -24,7 +24,7 @@ fn by_row(net: &Net, prices: &Prices, row: u32) -> u128
     requires row { row < rows (instance_of_rows net.now) }
     ensures same { let n = instance_of_rows net.now in
         result ≡ sum_to n.rounds (λ r. n.cap row r * pricing_of_rows prices.now row r) }
-    ensures short { result ≤ 2 ^ 57 }
+    ensures short { result ≤ 2 ^ 82 }
 {
     let mut total = 0;
     for passed in 0..net.rounds() {
@@ -36,10 +36,10 @@ fn by_row(net: &Net, prices: &Prices, row: u32) -> u128
 
 // What that many openings are worth at a price.
 fn worth(cap: u32, price: u64) -> u128
-    requires cap { cap ≤ MOST_OPENINGS }
-    requires price { price ≤ MOST_PRICE }
+    requires cap { cap ≤ MOST_CAP }
+    requires price { price ≤ MOST_NET_PRICE }
     ensures same { result ≡ cap * price }
-    ensures short { result ≤ 2 ^ 48 }
+    ensures short { result ≤ 2 ^ 66 }
 {
     u128::from(cap) * u128::from(price)
 }

@@ -26,8 +26,13 @@ not_some false x rest e = (refl, e)
 
 pub record IsPlain (rounds : ℕ) (c : Topology) (q : Request) : Type 0 where
   pub there : names_device c q.device ≡ true
+  pub listed : q.priority ≤ MOST_PRIORITY
   pub some : 1 ≤ q.sent
   pub last : q.sent ≤ rounds
+  pub arrival : 1 ≤ q.arrival
+  pub arrived : q.arrival ≤ q.sent
+  pub within : q.sent ≤ last_of rounds q
+  pub end : last_of rounds q ≤ rounds
 
 pub plain_none : (rounds : ℕ) (c : Topology) (q : Request) → plain_cause rounds c q ≡ None → IsPlain rounds c q
 unfolding plain_cause window_cause
@@ -43,7 +48,7 @@ plain_none rounds c q e =
     let end = leb-true _ _ inner.1 in
     let early = ltb-false _ _ s.0 in
     let late = ltb-false _ _ l.0 in
-    record { there = not-false _ a.0; some = omega arith; last = omega arith }
+    record { there = not-false _ a.0; listed = ltb-false _ _ b.0; some = omega arith; last = omega arith; arrival = one; arrived = early; within = late; end = end }
 
 pub cause_plain : (rounds : ℕ) (c : Topology) (caps : List Cap) (before : List Request) (q : Request) (cause : Cause) → plain_cause rounds c q ≡ Some cause → request_cause rounds c caps (before, q) ≡ Some cause
 unfolding request_cause

@@ -214,6 +214,10 @@ caps_more rounds left caps d before cells after h laid step = λ c whole.
 pub room_of : (rounds : ℕ) (c : Topology) (caps : List Cap) (cells : List ℕ) → Holds rounds (cap_in c caps) cells → IsRoom rounds c caps [] cells
 room_of rounds c caps cells h = record { size = h.size; room = λ p round cell. rw (h.each p round cell) (omega arith) }
 
+-- before any request the table holds the caps
+pub caps_of : (rounds : ℕ) (c : Topology) (caps : List Cap) (cells : List ℕ) → IsRoom rounds c caps [] cells → Holds rounds (cap_in c caps) cells
+caps_of rounds c caps cells h = record { size = h.size; each = λ p round cell. let room = h.room p round cell in omega arith }
+
 pub one_more : (cells before : List ℕ) (n i : ℕ) → cells ≡ before ++ replicate i n → cells ++ n ∷ [] ≡ before ++ replicate (i + 1) n
 one_more cells before n i e =
     rw e (append_assoc before (replicate i n) (n ∷ []) ∙ ap (λ (l : List ℕ). before ++ l) (replicate-append-replicate i 1 n))

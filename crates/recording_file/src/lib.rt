@@ -4,6 +4,7 @@
 
 pub use cap::Cap;
 pub use cause::Cause;
+pub use laid_caps::cap_table;
 pub use maxima::{MOST_RECORDED_ROUNDS, MOST_RECORDING_BYTES, MOST_REQUESTS};
 pub use name::{Name, NameKind};
 pub use part::{Part, PartKind};
@@ -14,6 +15,7 @@ pub use recording_fault::RecordingFault;
 pub use recording_text::write_recording;
 pub use request::Request;
 pub use request_error::RequestError;
+pub use room::cell_of;
 pub use span::{Span, TimeUnit};
 pub use write_fault::WriteFault;
 
@@ -23,6 +25,7 @@ mod counts;
 mod device_row;
 mod fields;
 mod header;
+mod laid_caps;
 mod maxima;
 mod name;
 mod named_rows;

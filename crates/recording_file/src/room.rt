@@ -30,8 +30,8 @@ pub(crate) fn row_of(part: Part) -> usize
     }
 }
 
-/// The place of a part's round in the table.
-pub(crate) fn cell_of(rounds: u32, part: Part, round: u32) -> usize
+/// The place of a part's round in a table of them all: a list of 44 rows of all rounds, for 32 devices, 8 adapters and 4 links.
+pub fn cell_of(rounds: u32, part: Part, round: u32) -> usize
     requires cell { IsCell rounds part round }
     requires most { rounds ≤ MOST_RECORDED_ROUNDS }
     ensures place { result ≡ cell_of rounds part round }

@@ -1,5 +1,5 @@
 -- counts over lists
-use Rattle.std.proofs.Common.{◌≡◌, ℕ, ◌+◌, ◌≤◌, Bool, true, false, cond, List, [], ◌∷◌, ◌++◌, refl, ap, arith, ◌&&◌, ◌||◌, filter, count_by, All}
+use Rattle.std.proofs.Common.{◌≡◌, ℕ, ◌+◌, ◌≤◌, Bool, true, false, cond, List, [], ◌∷◌, ◌++◌, refl, ap, arith, ◌&&◌, ◌||◌, filter, map, count_by, All}
 use Rattle.std.specs.List.{list_any}
 use Rattle.std.proofs.lemmas.List.Sums.{sum_by-cons, sum_by-append}
 use Rattle.std.proofs.lemmas.List.Elements.{All-head, All-tail, All-cons, All-nil}
@@ -84,3 +84,8 @@ all_where_one q t (x ∷ xs) le some =
           let rest : list_any (λ y. q y && t y) xs ≡ true = rw is at some in
           All-cons (λ y. q y ≡ true → t y ≡ true) x xs (λ passes. absurd cc) (all_where_one q t xs (omega (arith, count_by-cons q x xs)) rest)
     ] refl
+
+-- a count over what a list's elements become
+pub count-map : {X Y : Type 0} (test : Y → Bool) (f : X → Y) (xs : List X) → count_by test (map f xs) ≡ count_by (λ x. test (f x)) xs
+count-map test f [] = refl
+count-map test f (x ∷ xs) = omega (arith, count-map test f xs, sum_by-cons (λ y. cond (test y) 1 0) (f x) (map f xs), sum_by-cons (λ y. cond (test (f y)) 1 0) x xs)

@@ -6,7 +6,8 @@ use Rattle.round_net.specs.Rows.{NetRows, cell, StayRow}
 use Rattle.round_net.specs.Caps.{row_count, is_free, openings_in, sends_in, cap}
 use Rattle.round_net.specs.Nets.{last_round, stay_row, row_of, table, net_of}
 use Rattle.round_net.specs.Marks.{AreCaps, IsNoted, HasCells}
-use Rattle.round_net.proofs.NetLemmas.{net_of_parts}
+use Rattle.round_net.specs.declared.price_range.TheConstants.{MOST_PRICE}
+use Rattle.round_net.proofs.FilledLemmas.{net_with-parts}
 use Rattle.round_net.proofs.CellLemmas.{cell_within}
 use Rattle.xpt_core.proofs.SentLemmas.{first_past, unsent_none}
 use Rattle.round_net.proofs.TableLemmas.{table_by_cells}
@@ -58,6 +59,7 @@ caps_found c es rounds frozen openings sends caps some noted cells are =
 -- all parts of the net
 pub net_found : (c : Topology) (es : List Event) (rounds links : ℕ) (adapter_of : List ℕ) (link_of : List (Option ℕ)) (rows : List StayRow) (caps : List ℕ) →
     rounds ≡ round es → links ≡ length c.links → adapter_of ≡ map (λ (device : Device). device.bus) c.devices → link_of ≡ map (λ (adapter : Adapter). adapter.link) c.adapters → rows ≡ map (row_of c rounds) (records es) →
-    caps ≡ table (row_count c) (round es) (cap c es) → ◌≡◌ {A = NetRows} (record { rounds = rounds; links = links; adapter_of = adapter_of; link_of = link_of; stays = rows; caps = caps }) (net_of c es)
+    caps ≡ table (row_count c) (round es) (cap c es) → ◌≡◌ {A = NetRows} (record { rounds = rounds; links = links; adapter_of = adapter_of; link_of = link_of; stays = rows; caps = caps; most_price = MOST_PRICE }) (net_of c es)
+unfolding net_of
 net_found c es rounds links adapter_of link_of rows caps r l a o s are =
-    net_of_parts c es rounds links adapter_of link_of rows caps r l a o (s ∙ ap (λ n. map (row_of c n) (records es)) r ∙ rows_of_records c es) are
+    net_with-parts c rounds (round es) links adapter_of link_of rows (map (stay_row c es) (stays_begun es)) caps (cap c es) MOST_PRICE r l a o (s ∙ ap (λ n. map (row_of c n) (records es)) r ∙ rows_of_records c es) are

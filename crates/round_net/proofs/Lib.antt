@@ -4,6 +4,7 @@ pub mod EndLemmas
 pub mod ExchangeLemmas
 pub mod LoadLemmas
 pub mod MarkLemmas
+pub mod FilledLemmas
 pub mod NetLemmas
 pub mod FoundLemmas
 pub mod OpeningLemmas
@@ -11,6 +12,7 @@ pub mod OwnerLemmas
 pub mod PathLemmas
 pub mod PlaceLemmas
 pub mod PriceLemmas
+pub mod RecordedLemmas
 pub mod RowLemmas
 pub mod SmallLemmas
 pub mod SoundLemmas

@@ -21,13 +21,13 @@ slice_or_small f xs i most h = elim (slice_get xs i) as (λ o. slice_get xs i �
   | Some x ↦ λ e. let le : f (get_or xs i x) ≤ most = h i x (slice_get_within xs i x e) in let same : f (get_or xs i x) ≡ f x = ap f (get_or_from_slice_get xs i x x e) in omega arith
 ] refl
 
-small_adapter_openings : (c : Topology) (a : ℕ) → IsConfig c → adapter_openings c a ≤ MOST_OPENINGS
+pub small_adapter_openings : (c : Topology) (a : ℕ) → IsConfig c → adapter_openings c a ≤ MOST_OPENINGS
 small_adapter_openings c a is = slice_or_small (λ (x : Adapter). x.openings) c.adapters a MOST_OPENINGS (small_adapters c is)
 
-small_link_openings : (c : Topology) (l : ℕ) → IsConfig c → link_openings c l ≤ MOST_OPENINGS
+pub small_link_openings : (c : Topology) (l : ℕ) → IsConfig c → link_openings c l ≤ MOST_OPENINGS
 small_link_openings c l is = slice_or_small (λ n. n) c.links l MOST_OPENINGS (small_links c is)
 
-small_device_openings : (c : Topology) (d : ℕ) → IsConfig c → device_openings c d ≤ MOST_OPENINGS
+pub small_device_openings : (c : Topology) (d : ℕ) → IsConfig c → device_openings c d ≤ MOST_OPENINGS
 small_device_openings c d is = slice_or_small (λ (x : Device). x.openings) c.devices d MOST_OPENINGS (small_devices c is)
 
 -- each device's openings, now and from the next round on, and each row's in each round

@@ -1,7 +1,9 @@
 -- what a sound net gives
-use Rattle.std.proofs.Common.{◌≡◌, ℕ, ◌<◌, ◌≤◌, refl, arith, Option, Some, None, IfSome}
-use Rattle.round_net.specs.Instance.{Instance}
-use Rattle.round_net.specs.Sound.{IsSound}
+use Rattle.std.proofs.Common.{◌≡◌, ℕ, ◌+◌, ◌*◌, ◌<◌, ◌≤◌, refl, arith, Option, Some, None, IfSome}
+use Rattle.std.proofs.lemmas.Nat.{mul-le}
+use Rattle.cam_types.specs.declared.maxima.TheConstants.{MOST_WEIGHT}
+use Rattle.round_net.specs.Instance.{Instance, rows}
+use Rattle.round_net.specs.Sound.{IsSound, longest_way}
 
 -- no window is empty
 pub window : (net : Instance) (live : ℕ → ℕ) → IsSound net live → (s : ℕ) → s < net.stays → net.arrival s ≤ net.last s
@@ -14,3 +16,10 @@ window net live sound s lt =
 pub within_links : (link : Option ℕ) (links : ℕ) → ((l : ℕ) → link ≡ Some l → l < links) → IfSome link (λ l. l < links)
 within_links None links h = tt
 within_links (Some l) links h = h l refl
+
+-- a price may be more than 0
+pub some_price : (net : Instance) (live : ℕ → ℕ) → IsSound net live → 1 ≤ net.rounds → 1 ≤ net.most_price
+unfolding longest_way
+some_price net live sound some =
+    let way : 1 * 1 ≤ MOST_WEIGHT * net.rounds * (rows net * (net.rounds + 1) + 1) = mul-le 1 1 (MOST_WEIGHT * net.rounds) (rows net * (net.rounds + 1) + 1) (omega arith) (omega arith) in
+    omega (arith, way, sound.price_room)

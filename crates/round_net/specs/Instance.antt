@@ -1,4 +1,5 @@
--- what there is to plan: stays with their windows and weights, and how many commands each row takes in each round
+-- what there is to plan: stays with their windows and weights, how many commands each row takes in each round, and the most that
+-- one opening may be worth
 use Rattle.std.specs.Prelude.{ℕ, ◌+◌, ◌==◌, Bool, List, [], ◌∷◌, Option}
 use Rattle.std.specs.List.{list_any}
 use Rattle.std.specs.Option.{option_map_or}
@@ -18,6 +19,7 @@ pub record Instance : Type 0 where
   pub last : ℕ → ℕ
   pub weight : ℕ → ℕ
   pub cap : ℕ → ℕ → ℕ
+  pub most_price : ℕ
 
 -- how many rows there are
 abbrev pub rows : Instance → ℕ

@@ -8,6 +8,7 @@ pub mod Sound
 pub mod PriceRows
 pub mod Caps
 pub mod Nets
+pub mod RecordedNets
 pub mod Marks
 pub mod Ends
 pub mod RoundTables

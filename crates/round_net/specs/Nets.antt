@@ -6,6 +6,7 @@ use Rattle.round_net.specs.Words.{Topology, Adapter, Device, weight, round, stay
 use Rattle.round_net.specs.Instance.{Instance}
 use Rattle.round_net.specs.Rows.{NetRows, instance_of_rows, live_of_rows, StayRow}
 use Rattle.round_net.specs.Caps.{row_count, cap}
+use Rattle.round_net.specs.declared.price_range.TheConstants.{MOST_PRICE}
 
 -- the last round of a stay: the one before its CCB's next stay arrives, or else the last round of all
 unfoldable pub last_round : List Event → Passage → ℕ
@@ -41,16 +42,21 @@ cells rounds value n = map (λ at. value (at / rounds) (at % rounds + 1)) (range
 abbrev pub table : ℕ → ℕ → (ℕ → ℕ → ℕ) → List ℕ
 table rows rounds value = cells rounds value (rows * rounds)
 
--- the net of a history's configuration and events
-unfoldable pub net_of : Topology → List Event → NetRows
-net_of c events = record {
-  rounds = round events;
+-- the net of a configuration with so many rounds, these stays, caps by row and round, and a largest price
+abbrev pub net_with : Topology → ℕ → List StayRow → (ℕ → ℕ → ℕ) → ℕ → NetRows
+net_with c rounds stays caps most_price = record {
+  rounds = rounds;
   links = length c.links;
   adapter_of = map (λ (device : Device). device.bus) c.devices;
   link_of = map (λ (adapter : Adapter). adapter.link) c.adapters;
-  stays = map (stay_row c events) (stays_begun events);
-  caps = table (row_count c) (round events) (cap c events);
+  stays = stays;
+  caps = table (row_count c) rounds caps;
+  most_price = most_price;
 }
+
+-- the net of a history's configuration and events
+unfoldable pub net_of : Topology → List Event → NetRows
+net_of c events = net_with c (round events) (map (stay_row c events) (stays_begun events)) (cap c events) MOST_PRICE
 
 -- what there is to plan of a history, and where its stays were sent
 abbrev pub instance_of : Topology → List Event → Instance

@@ -5,8 +5,8 @@ use Rattle.event_rules.specs.declared.stay.Stay.{Stay}
 use Rattle.round_net.specs.Instance.{Instance}
 pub use Rattle.round_net.specs.declared.stay_row.StayRow.{StayRow}
 
--- each device's adapter, each adapter's link, each stay, and the caps of rows: those of the first row's rounds, then
--- those of the second one's, and so on
+-- each device's adapter, each adapter's link, each stay, the caps of rows: those of the first row's rounds, then those of the
+-- second one's, and so on; and the most that one opening may be worth
 pub record NetRows : Type 0 where
   pub rounds : ℕ
   pub links : ℕ
@@ -14,6 +14,7 @@ pub record NetRows : Type 0 where
   pub link_of : List (Option ℕ)
   pub stays : List StayRow
   pub caps : List ℕ
+  pub most_price : ℕ
 
 -- where a round of a row stands in such a list
 abbrev pub cell : ℕ → ℕ → ℕ → ℕ
@@ -38,6 +39,7 @@ instance_of_rows n = record {
   last = of_stay (λ (row : StayRow). row.last) n.stays;
   weight = of_stay (λ (row : StayRow). row.weight) n.stays;
   cap = λ row r. slice_index n.caps (cell n.rounds row r);
+  most_price = n.most_price;
 }
 
 -- the round in which each stay was sent

@@ -1,15 +1,23 @@
 -- what holds of every net
-use Rattle.std.specs.Prelude.{◌≡◌, ℕ, ◌*◌, ◌<◌, ◌≤◌, Some, length}
+use Rattle.std.specs.Prelude.{◌≡◌, ℕ, ◌+◌, ◌*◌, ◌<◌, ◌≤◌, Some, length}
 use Rattle.cam_types.specs.declared.maxima.TheConstants.{MOST_ROUNDS, MOST_STAYS, MOST_DEVICES, MOST_ADAPTERS, MOST_LINKS, MOST_OPENINGS, MOST_WEIGHT}
+use Rattle.round_net.specs.declared.maxima.TheConstants.{MOST_NET_ROUNDS, MOST_NET_STAYS, MOST_CAP}
+use Rattle.round_net.specs.declared.price_range.TheConstants.{MOST_PRICE, MOST_NET_PRICE}
 use Rattle.round_net.specs.Instance.{Instance, rows}
 use Rattle.round_net.specs.Schedules.{IsAdmissible}
 use Rattle.round_net.specs.Rows.{NetRows, instance_of_rows, live_of_rows}
 
+-- at most what the longest wait costs of the greatest weight, once for each round of each row, one round more for each row, and
+-- once besides
+unfoldable pub longest_way : Instance → ℕ
+longest_way net = MOST_WEIGHT * net.rounds * (rows net * (net.rounds + 1) + 1)
+
 -- It is within the limits: each stay is of a device, each device is on an adapter, an adapter on a link or on none, windows lie
--- within the rounds, and no weight or cap is too large. Its live schedule is admissible.
+-- within the rounds, and no weight or cap is too large. There is room for the prices that prove a best schedule, which a
+-- longest way bounds. Its live schedule is admissible.
 pub record IsSound (net : Instance) (live : ℕ → ℕ) : Type 0 where
-  pub few_rounds : net.rounds ≤ MOST_ROUNDS
-  pub few_stays : net.stays ≤ MOST_STAYS
+  pub few_rounds : net.rounds ≤ MOST_NET_ROUNDS
+  pub few_stays : net.stays ≤ MOST_NET_STAYS
   pub few_devices : net.devices ≤ MOST_DEVICES
   pub few_adapters : net.adapters ≤ MOST_ADAPTERS
   pub few_links : net.links ≤ MOST_LINKS
@@ -20,10 +28,19 @@ pub record IsSound (net : Instance) (live : ℕ → ℕ) : Type 0 where
   pub to_last : (s : ℕ) → s < net.stays → net.last s ≤ net.rounds
   pub some_weight : (s : ℕ) → s < net.stays → 1 ≤ net.weight s
   pub small_weight : (s : ℕ) → s < net.stays → net.weight s ≤ MOST_WEIGHT
-  pub small_cap : (row r : ℕ) → net.cap row r ≤ MOST_OPENINGS
+  pub small_cap : (row r : ℕ) → net.cap row r ≤ MOST_CAP
+  pub small_price : net.most_price ≤ MOST_NET_PRICE
+  pub price_room : 4 * longest_way net ≤ net.most_price
   pub live_admissible : IsAdmissible net live
 
 -- the rows have a cap for each round, and the net is sound
 pub record IsNet (n : NetRows) : Type 0 where
   pub cells : length n.caps ≡ rows (instance_of_rows n) * n.rounds
   pub sound : IsSound (instance_of_rows n) (live_of_rows n)
+
+-- it is within the limits of histories, and its largest price is that of their nets
+pub record IsWithinHistory (net : Instance) : Type 0 where
+  pub rounds : net.rounds ≤ MOST_ROUNDS
+  pub stays : net.stays ≤ MOST_STAYS
+  pub cap : (row r : ℕ) → net.cap row r ≤ MOST_OPENINGS
+  pub price : net.most_price ≡ MOST_PRICE

@@ -1,16 +1,19 @@
-//! The net of a complete history.
+//! Nets: that of a complete history, and that of a recording.
 
 use crate::flat::cell;
 use crate::net_fault::NetFault;
+use crate::price_range::{MOST_NET_PRICE, MOST_PRICE};
+use crate::recorded_rows::{request_rows, row_caps};
 use crate::round_table::RoundTable;
 use crate::stay_row::StayRow;
 use crate::stay_rows::{adapters_of, links_of, stay_rows};
 use cam_event::History;
 use event_rules::Stay;
-use std::alloc::Global;
+use recording_file::Recording;
+use std::alloc::{AllocError, Global};
 use std::marker::Model;
 
-/// What a complete history left to plan: stays with windows and weights, and caps.
+/// What there was to plan: stays with windows and weights, and caps.
 ///
 /// Stays, devices, adapters and links are numbered from 0, rounds from 1. There is a row for each device, after these one
 /// for each adapter, and after these one for each link. Each number that a call takes has to be within the net.
@@ -22,6 +25,7 @@ pub struct Net {
     link_of: Vec<Option<u32>>,
     stays: Vec<StayRow>,
     caps: Vec<u32>,
+    most_price: u64,
 }
 
 impl Model for Net {
@@ -30,20 +34,22 @@ impl Model for Net {
 
     ghost Value = { NetRows };
 
-    ghost view = { λ n. record { rounds = n.rounds; links = n.links; adapter_of = n.adapter_of.items; link_of = n.link_of.items; stays = n.stays.items; caps = n.caps.items } };
+    ghost view = { λ n. record { rounds = n.rounds; links = n.links; adapter_of = n.adapter_of.items; link_of = n.link_of.items; stays = n.stays.items; caps = n.caps.items; most_price = n.most_price } };
 
-    ghost invariant = { λ n. IsNet (record { rounds = n.rounds; links = n.links; adapter_of = n.adapter_of.items; link_of = n.link_of.items; stays = n.stays.items; caps = n.caps.items }) };
+    ghost invariant = { λ n. IsNet (record { rounds = n.rounds; links = n.links; adapter_of = n.adapter_of.items; link_of = n.link_of.items; stays = n.stays.items; caps = n.caps.items; most_price = n.most_price }) };
 }
 
 impl Net {
     ghost use Rattle.std.specs.Prelude.{◌≡◌, ◌+◌, ◌*◌, ◌<◌, ◌≤◌, Some, length, slice_get};
-    ghost use Rattle.cam_types.specs.declared.maxima.TheConstants.{MOST_ROUNDS, MOST_OPENINGS, MOST_WEIGHT};
+    ghost use Rattle.cam_types.specs.declared.maxima.TheConstants.{MOST_WEIGHT};
+    ghost use Rattle.round_net.specs.declared.maxima.TheConstants.{MOST_NET_ROUNDS, MOST_CAP};
     ghost use Rattle.round_net.specs.Instance.{rows, adapter, link, adapter_row, link_row};
     ghost use Rattle.round_net.specs.Rows.{instance_of_rows, live_of_rows, names_of_rows};
-    ghost use Rattle.round_net.specs.Sound.{IsSound};
+    ghost use Rattle.round_net.specs.Sound.{IsSound, IsWithinHistory};
     ghost use Rattle.std.specs.Prelude.{IfOk, IfSome, MatchOption, IsOkUnless};
     ghost use Rattle.event_rules.specs.Stays.{unsent};
     ghost use Rattle.round_net.specs.Nets.{net_of, instance_of, live_of};
+    ghost use Rattle.round_net.specs.RecordedNets.{net_of_recording, instance_of_recording, live_of_recording};
     ghost use Rattle.round_net.specs.Schedules.{IsAdmissible};
 
     /// The net of a history in which each stay was sent. Where one wasn't, the first of these by birth is named.
@@ -55,6 +61,7 @@ impl Net {
 
         // Each stay was sent within its window, and no row was sent more than it takes.
         ensures live { IfOk result (λ _. IsAdmissible (instance_of history.now.config history.now.events) (live_of history.now.config history.now.events)) }
+        ensures small { IfOk result (λ _. IsWithinHistory (instance_of history.now.config history.now.events)) }
     {
         let table = match history.unsent() {
             Some(stay) => return Err(NetFault::Unsent(stay)),
@@ -71,6 +78,7 @@ impl Net {
             (λ stay. result ≡ Err (NetFault.Unsent stay)) }
         ensures net { IfOk result (λ net. net ≡ net_of history.now.config history.now.events) }
         ensures live { IfOk result (λ _. IsAdmissible (instance_of history.now.config history.now.events) (live_of history.now.config history.now.events)) }
+        ensures small { IfOk result (λ _. IsWithinHistory (instance_of history.now.config history.now.events)) }
     {
         if let Some(stay) = history.unsent() {
             return Err(NetFault::Unsent(stay));
@@ -85,10 +93,30 @@ impl Net {
             link_of: links_of(alloc, config.adapters())?,
             stays: stay_rows(alloc, config, history.stays(), rounds)?,
             caps: table.caps(alloc)?,
+            most_price: MOST_PRICE,
         })
     }
 
-    /// How many rounds there are, at most `MOST_ROUNDS`.
+    /// The net of a recording. No opening is worth more than `MOST_NET_PRICE`. It fails only if there is no memory.
+    pub fn of_recording(alloc: Global, recording: &Recording) -> Result<Net, AllocError>
+        ensures net { IfOk result (λ net. net ≡ net_of_recording recording.now) }
+
+        // Each request was started within its window, and no device, adapter or link took more than it takes.
+        ensures live { IfOk result (λ _. IsAdmissible (instance_of_recording recording.now) (live_of_recording recording.now)) }
+    {
+        let config = recording.config();
+        Ok(Net {
+            rounds: recording.rounds(),
+            links: config.links().len() as u32,
+            adapter_of: adapters_of(alloc, config.devices())?,
+            link_of: links_of(alloc, config.adapters())?,
+            stays: request_rows(alloc, recording)?,
+            caps: row_caps(alloc, recording)?,
+            most_price: MOST_NET_PRICE,
+        })
+    }
+
+    /// How many rounds there are, at most `MOST_NET_ROUNDS`.
     #[tactic(auto, unfolding(crate::specs::Rows::instance_of_rows))]
     pub fn rounds(&self) -> u32
         ensures same { result ≡ (instance_of_rows self.now).rounds }
@@ -97,7 +125,7 @@ impl Net {
         self.rounds
     }
 
-    /// How many stays there are, at most `MOST_STAYS`.
+    /// How many stays there are, at most `MOST_NET_STAYS`.
     #[tactic(auto, unfolding(crate::specs::Rows::instance_of_rows))]
     pub fn stays(&self) -> u32
         ensures same { result ≡ (instance_of_rows self.now).stays }
@@ -148,6 +176,15 @@ impl Net {
         ensures { let net = instance_of_rows self.now in result ≡ rows net * net.rounds }
     {
         self.caps.len()
+    }
+
+    /// The most that one opening may be worth: `MOST_PRICE` in a history's net, and at most `MOST_NET_PRICE` in any.
+    #[tactic(auto, unfolding(crate::specs::Rows::instance_of_rows))]
+    pub fn most_price(&self) -> u64
+        ensures same { result ≡ (instance_of_rows self.now).most_price }
+        ensures sound { IsSound (instance_of_rows self.now) (live_of_rows self.now) }
+    {
+        self.most_price
     }
 
     // The row of the stay of this number.
@@ -234,7 +271,7 @@ impl Net {
         requires { stay < (instance_of_rows self.now).stays }
         ensures same { result ≡ (instance_of_rows self.now).last stay }
         ensures within { result ≤ (instance_of_rows self.now).rounds }
-        ensures most { result ≤ MOST_ROUNDS }
+        ensures most { result ≤ MOST_NET_ROUNDS }
     {
         self.stay_row(stay).last
     }
@@ -286,7 +323,7 @@ impl Net {
         requires first { 1 ≤ round }
         requires last { round ≤ (instance_of_rows self.now).rounds }
         ensures same { result ≡ (instance_of_rows self.now).cap row round }
-        ensures most { result ≤ MOST_OPENINGS }
+        ensures most { result ≤ MOST_CAP }
     {
         self.caps[cell(self.rounds, row, round)]
     }
@@ -297,7 +334,7 @@ impl Net {
         requires first { 1 ≤ round }
         requires last { round ≤ (instance_of_rows self.now).rounds }
         ensures same { result ≡ (instance_of_rows self.now).cap device round }
-        ensures most { result ≤ MOST_OPENINGS }
+        ensures most { result ≤ MOST_CAP }
     {
         self.cap(device, round)
     }
@@ -308,7 +345,7 @@ impl Net {
         requires first { 1 ≤ round }
         requires last { round ≤ (instance_of_rows self.now).rounds }
         ensures same { let n = instance_of_rows self.now in result ≡ n.cap (adapter_row n adapter) round }
-        ensures most { result ≤ MOST_OPENINGS }
+        ensures most { result ≤ MOST_CAP }
     {
         self.cap(self.adapter_row(adapter), round)
     }
@@ -319,7 +356,7 @@ impl Net {
         requires first { 1 ≤ round }
         requires last { round ≤ (instance_of_rows self.now).rounds }
         ensures same { let n = instance_of_rows self.now in result ≡ n.cap (link_row n link) round }
-        ensures most { result ≤ MOST_OPENINGS }
+        ensures most { result ≤ MOST_CAP }
     {
         self.cap(self.link_row(link), round)
     }

@@ -25,8 +25,8 @@ pub fn row_count(config: &Config) -> u32
     config.devices().len() as u32 + config.adapters().len() as u32 + config.links().len() as u32
 }
 
-// Whose row it is.
-fn owner_of(config: &Config, row: u32) -> Owner
+/// Whose row it is.
+pub fn owner_of(config: &Config, row: u32) -> Owner
     requires { row < row_count config.now }
     ensures { IsRowOf config.now row result }
 {

@@ -15,7 +15,7 @@ pub fn cost(net: &Net, schedule: &Schedule) -> Option<u64>
     ensures waits { MatchOption result
         (IsEarly (instance_of_rows net.now) (slice_index schedule.now))
         (λ c. IsNowhereEarly (instance_of_rows net.now) (slice_index schedule.now) × (c ≡ cost (instance_of_rows net.now) (slice_index schedule.now))) }
-    ensures small { IfSome result (λ c. c ≤ 2 ^ 54) }
+    ensures small { IfSome result (λ c. c ≤ 2 ^ 42 * (instance_of_rows net.now).stays) }
     ensures sound { IsSound (instance_of_rows net.now) (live_of_rows net.now) }
 {
     let mut total = 0;

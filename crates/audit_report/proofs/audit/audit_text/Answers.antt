@@ -1,6 +1,7 @@
 use Rattle.std.proofs.Common.{refl, ap, arith, length}
 use Rattle.price_check.proofs.DualityLemmas.{best_where_proved}
 use Rattle.audit_report.proofs.AuditLemmas.{is_audit}
+use Rattle.audit_report.proofs.CostLemmas.{plan-short}
 use Rattle.audit_report.proofs.audit.audit_text.Goals as goal
 
 pub of-costs-requires-clause-best : goal.of-costs-requires-clause-best
@@ -23,4 +24,4 @@ returns c =
       made = rw (c.in_ok-push_rest.ensures.text, c.in_ok-push_summary.ensures.text, c.in_ok-text.ensures.items) refl;
     })
     c.requires.legal c.of-costs.ensures.known
-    (omega (arith, c.in_ok-push_rest.ensures.short, c.in_ok-push_summary.ensures.short, ap length c.in_ok-text.ensures.items))
+    (omega (arith, plan-short c.args.history.now c.args.net.now c.requires.net c.requires.legal c.stays.ensures.sound, c.in_ok-push_rest.ensures.short, c.in_ok-push_summary.ensures.short, ap length c.in_ok-text.ensures.items))

@@ -1,6 +1,7 @@
-use Rattle.std.proofs.Common.{ℕ, ◌≡◌, ◌<◌, ◌≤◌, ◌*◌, sym, subst, arith, length, get_or}
+use Rattle.std.proofs.Common.{ℕ, ◌≡◌, ◌<◌, ◌≤◌, ◌*◌, ◌/◌, sym, subst, arith, length, get_or}
 use Rattle.std.proofs.lemmas.List.{get_or_read}
-use Rattle.cost_plan.specs.Words.{MOST_UP, instance_of_rows, live_of_rows}
+use Rattle.cost_plan.specs.Words.{instance_of_rows, live_of_rows}
+use Rattle.cost_plan.specs.Cells.{node_count}
 use Rattle.cost_plan.specs.Draft.{schedule_of}
 use Rattle.cost_plan.proofs.NodeLemmas.{up-le}
 use Rattle.cost_plan.proofs.arcs.moving.Goals as goal
@@ -12,4 +13,4 @@ returns-clause-up c =
     let inside : c.args.stay < length rounds = omega (arith, c.requires.draft.long) in
     let now : c.index-now.result.now ≡ get_or rounds c.args.stay 0 = get_or_read rounds _ _ inside c.index-now.ensures 0 in
     let few = up-le net (live_of_rows c.args.net.now) c.args.stay (schedule_of c.args.draft.now c.args.stay) c.node.ensures.sound c.requires.stay (c.requires.draft.within c.args.stay c.requires.stay) in
-    subst (λ (w : ℕ). w * c.index-now.result.now ≤ MOST_UP) (sym c.weight-weight.ensures.same) (subst (λ (r : ℕ). net.weight c.args.stay * r ≤ MOST_UP) (sym now) few)
+    subst (λ (w : ℕ). w * c.index-now.result.now * node_count net ≤ net.most_price / 4) (sym c.weight-weight.ensures.same) (subst (λ (r : ℕ). net.weight c.args.stay * r * node_count net ≤ net.most_price / 4) (sym now) few)

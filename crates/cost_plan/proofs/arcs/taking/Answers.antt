@@ -1,6 +1,6 @@
 use Rattle.std.proofs.Common.{arith}
-use Rattle.round_net.specs.Rows.{instance_of_rows, live_of_rows}
-use Rattle.cost_plan.proofs.NodeLemmas.{cell-lt-node_count, node_of-lt-node_count, node_count-le}
+use Rattle.round_net.specs.Rows.{instance_of_rows}
+use Rattle.cost_plan.proofs.NodeLemmas.{cell-lt-node_count, node_of-lt-node_count}
 use Rattle.cost_plan.proofs.arcs.taking.Goals as goal
 
 pub returns-clause-tail : goal.returns-clause-tail
@@ -8,6 +8,3 @@ returns-clause-tail c = omega (arith, c.node.ensures.same, cell-lt-node_count (i
 
 pub returns-clause-head : goal.returns-clause-head
 returns-clause-head c = omega (arith, c.node_above.ensures.same, node_of-lt-node_count (instance_of_rows c.args.net.now) c.args.up c.args.round c.requires.round)
-
-pub returns-clause-few : goal.returns-clause-few
-returns-clause-few c = node_count-le (instance_of_rows c.args.net.now) (live_of_rows c.args.net.now) c.node_above.ensures.sound

@@ -11,6 +11,7 @@ invariant-loop-path l =
       draft : IsDraftOf net l.start.draft;
       admissible : IsAdmissible net (schedule_of l.start.draft);
       size : length l.start.labels.labels ≡ node_count net;
+      most : l.start.labels.most ≡ net.most_price;
     }
 
 abbrev pub decreases-loop-path : goal.decreases-loop-path

@@ -1,4 +1,3 @@
-use Rattle.std.proofs.Common.{◌≡◌}
 use Rattle.round_net.specs.Rows.{instance_of_rows}
 use Rattle.cost_plan.specs.Parts.{IsRowLabelled}
 use Rattle.cost_plan.proofs.part.put_row.Given as goal

@@ -1,6 +1,6 @@
 use Rattle.std.proofs.Common.{◌≡◌, ◌+◌, ◌*◌, ◌<◌, ◌≤◌, ◌∙◌, length, ap, arith, inl}
 use Rattle.std.proofs.lemmas.Nat.{mul-le}
-use Rattle.cost_plan.specs.Words.{MOST_ROUNDS, MOST_WEIGHT, Arc, instance_of_rows, live_of_rows}
+use Rattle.cost_plan.specs.Words.{MOST_NET_ROUNDS, MOST_WEIGHT, Arc, instance_of_rows, live_of_rows}
 use Rattle.cost_plan.specs.Cells.{node_count}
 use Rattle.cost_plan.specs.Draft.{schedule_of}
 use Rattle.cost_plan.specs.Residual.{IsResidual, move_arc}
@@ -18,7 +18,7 @@ overflow_add-arc c =
 
 pub overflow_mul-arc : goal.overflow_mul-arc
 overflow_mul-arc c =
-    let product : c.weight-weight.result * c.loop-round.round ≤ MOST_WEIGHT * MOST_ROUNDS = mul-le c.weight-weight.result c.loop-round.round MOST_WEIGHT MOST_ROUNDS c.weight-weight.ensures.most (omega (arith, c.loop-round-test.true, c.last-round-end.ensures.most)) in
+    let product : c.weight-weight.result * c.loop-round.round ≤ MOST_WEIGHT * MOST_NET_ROUNDS = mul-le c.weight-weight.result c.loop-round.round MOST_WEIGHT MOST_NET_ROUNDS c.weight-weight.ensures.most (omega (arith, c.loop-round-test.true, c.last-round-end.ensures.most)) in
     omega arith
 
 pub relax-requires-clause-head : goal.relax-requires-clause-head
@@ -28,6 +28,11 @@ relax-requires-clause-head c =
     let device = sound.on_device c.args.stay c.requires.stay in
     let inside = cell-lt-node_count net (net.device c.args.stay) c.loop-round.round (omega arith) (omega (arith, c.loop-round-test.true, c.last-round-end.ensures.within)) in
     omega (arith, ap (λ (a : Arc). a.head) c.moving-start.ensures.same, c.loop-round.invariant.raises.size, c.requires.size)
+
+pub relax-requires-clause-up : goal.relax-requires-clause-up
+relax-requires-clause-up c =
+    let raises = c.loop-round.invariant.raises in
+    rw (raises.size ∙ c.requires.size, raises.most ∙ c.requires.most) c.moving-start.ensures.up
 
 pub loop-round-preserved : goal.loop-round-preserved
 loop-round-preserved c =
@@ -43,6 +48,6 @@ loop-round-preserved c =
     let cell_in = cell-lt-node_count net (net.device c.args.stay) c.loop-round.round (omega arith) (omega (arith, c.loop-round-test.true, c.last-round-end.ensures.within)) in
     let head_in : start.head + c.loop-round.round < node_count net = omega (arith, ap (λ (a : Arc). a.head) c.moving-start.ensures.same) in
     let residual : IsResidual net f arc = inl (record { stay = c.args.stay; round = c.loop-round.round; is = is; within = c.requires.stay; not_early = omega arith; not_late = omega arith }) in
-    let step = Raises-by net f c.loop-round.labels c.relax.new.self c.relax.result arc (node_count net) c.relax.ensures.labels c.relax.ensures.node size (node_count-le net (live_of_rows c.args.net.now) sound) c.moving-start.ensures.tail head_in c.moving-start.ensures.up residual in
+    let step = Raises-by net f c.loop-round.labels c.relax.new.self c.relax.result arc (node_count net) net.most_price c.relax.ensures.labels c.relax.ensures.node size (before.raises.most ∙ c.requires.most) c.moving-start.ensures.tail head_in c.moving-start.ensures.up residual in
     IsRaising-more net f (SettlesMove net f c.args.stay) (net.arrival c.args.stay) c.args.labels.now c.loop-round.labels c.relax.new.self c.loop-round.found c.relax.result c.or-found.result c.loop-round.round c.or-found.ensures before step
     (λ none. IsSettled-by c.loop-round.labels c.relax.result arc _ c.relax.ensures.node is none)

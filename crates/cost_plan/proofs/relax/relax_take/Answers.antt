@@ -9,11 +9,14 @@ use Rattle.cost_plan.proofs.relax.relax_take.Goals as goal
 pub returns-then-load-cap-clause-settled : goal.returns-then-load-cap-clause-settled
 returns-then-load-cap-clause-settled c = λ none room. absurd (omega (arith, c.load.ensures, c.cap.ensures.same, c.if-load-cap.true))
 
+pub relax-requires-clause-up : goal.relax-requires-clause-up
+relax-requires-clause-up c = rw c.taking.ensures.up (omega arith)
+
 pub returns-clause-raises : goal.returns-clause-raises
 returns-clause-raises c =
     let net = instance_of_rows c.args.net.now in
     let residual : IsResidual net (schedule_of c.args.draft.now) c.taking.result = inr (inl (record { row = c.args.row; round = c.args.round; is = c.taking.ensures.same; within = c.requires.row; first = c.requires.first; last = c.requires.last; room = omega (arith, c.load.ensures, c.cap.ensures.same, c.if-load-cap.false) })) in
-    Raises-by net (schedule_of c.args.draft.now) c.args.labels.now c.relax.new.self c.relax.result c.taking.result (node_count net) c.relax.ensures.labels c.relax.ensures.node c.requires.size c.taking.ensures.few c.taking.ensures.tail c.taking.ensures.head (omega (arith, c.taking.ensures.up)) residual
+    Raises-by net (schedule_of c.args.draft.now) c.args.labels.now c.relax.new.self c.relax.result c.taking.result (node_count net) net.most_price c.relax.ensures.labels c.relax.ensures.node c.requires.size c.requires.most c.taking.ensures.tail c.taking.ensures.head (rw c.taking.ensures.up (omega arith)) residual
 
 pub returns-clause-settled : goal.returns-clause-settled
 returns-clause-settled c = λ none room. IsSettled-by c.args.labels.now c.relax.result c.taking.result _ c.relax.ensures.node c.taking.ensures.same none

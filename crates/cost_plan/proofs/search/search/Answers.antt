@@ -26,5 +26,5 @@ loop-node-preserved c =
     let f = schedule_of c.args.draft.now in
     let all = AllResidual-raised net f c.loop-node.labels c.relax_all.new.labels c.relax_all.result c.relax_all.ensures.raises c.loop-node.invariant.0 in (
       subst (AllResidual net f) (sym c.in_ok-place.ensures.same) all,
-      ap (λ (l : Labelling). length l.labels) c.in_ok-place.ensures.same ∙ c.relax_all.ensures.raises.size ∙ c.loop-node.invariant.1,
+      (ap (λ (l : Labelling). length l.labels) c.in_ok-place.ensures.same ∙ c.relax_all.ensures.raises.size ∙ c.loop-node.invariant.1.0, ap (λ (l : Labelling). l.most) c.in_ok-place.ensures.same ∙ c.relax_all.ensures.raises.most ∙ c.loop-node.invariant.1.1),
     )

@@ -7,7 +7,7 @@ use Rattle.cost_plan.proofs.SearchLemmas.{room}
 use Rattle.cost_plan.proofs.search.search.Given as goal
 
 abbrev pub invariant-loop-node : goal.invariant-loop-node
-invariant-loop-node l = AllResidual (instance_of_rows l.net) (schedule_of l.draft) l.labels × (length l.labels.labels ≡ node_count (instance_of_rows l.net))
+invariant-loop-node l = AllResidual (instance_of_rows l.net) (schedule_of l.draft) l.labels × ((length l.labels.labels ≡ node_count (instance_of_rows l.net)) × (l.labels.most ≡ (instance_of_rows l.net).most_price))
 
 abbrev pub decreases-loop-node : goal.decreases-loop-node
 decreases-loop-node l = room l.labels

@@ -11,8 +11,8 @@ loop-next-preserved c =
     let some : 0 < c.loop-next.next = c.loop-next-test.true in
     let step = up_to_step net g c.loop-next.weight c.loop-next.next inv.next some in
     let over : c.loop-next.weight < c.loop-next.next = inv.next.above_it some in
-    let before : c.loop-next.total ≤ 2 ^ 80 * c.loop-next.weight = inv.short in
-    let more : c.paid_by-total.result ≤ 2 ^ 80 = c.paid_by-total.ensures.short in
+    let before : c.loop-next.total ≤ 2 ^ 84 * c.loop-next.weight = inv.short in
+    let more : c.paid_by-total.result ≤ 2 ^ 84 = c.paid_by-total.ensures.short in
     record {
       so_far = rw (inv.so_far, c.paid_by-total.ensures.same) (sym step);
       short = omega arith;

@@ -9,7 +9,7 @@ invariant-loop-next l =
     let net = instance_of_rows l.net in
     record {
       so_far : l.total ≡ up_to net (λ s. least (map (priced net (pricing_of_rows l.prices) s) (allowed net s))) l.weight;
-      short : l.total ≤ 2 ^ 80 * l.weight;
+      short : l.total ≤ 2 ^ 84 * l.weight;
       few : l.weight ≤ MOST_WEIGHT;
       next : IsNextWeight net l.weight net.stays l.next;
     }

@@ -1,5 +1,5 @@
 use Rattle.std.proofs.Common.{length, ◌≡◌, ◌+◌, ◌++◌, ◌*◌, ◌≤◌}
-use Rattle.price_check.specs.Words.{MOST_ROUNDS, instance_of_rows, pricing_of_rows}
+use Rattle.price_check.specs.Words.{instance_of_rows, pricing_of_rows}
 use Rattle.price_check.specs.Report.{texts_below, row_line}
 use Rattle.price_check.proofs.report.push_prices.Given as goal
 
@@ -7,4 +7,4 @@ abbrev pub invariant-loop-row : goal.invariant-loop-row
 invariant-loop-row l =
     (l.text.items ≡ l.initial.text.items
     ++ texts_below l.row (λ row. texts_below (instance_of_rows l.net).rounds (λ r. row_line l.devices (instance_of_rows l.net).adapters (pricing_of_rows l.prices) row (r + 1))))
-    × (length l.text.items ≤ length l.initial.text.items + 156 * MOST_ROUNDS * l.row)
+    × (length l.text.items ≤ length l.initial.text.items + 156 * (instance_of_rows l.net).rounds * l.row)

@@ -1,7 +1,7 @@
-use Rattle.std.proofs.Common.{rules, ◌≡◌, ◌-◌, ◌++◌, length, Some, None, sym, ap, ◌∙◌, codes, slice_get}
-use Rattle.std.proofs.lemmas.Option.{slice_get-get_or, slice_get_past}
+use Rattle.std.proofs.Common.{rules, ◌≡◌, ◌++◌, Some, sym, ap, ◌∙◌, codes, slice_get}
+use Rattle.std.proofs.lemmas.Option.{slice_get-get_or}
 use Rattle.price_check.specs.Words.{Device, address_of, spelled}
-use Rattle.price_check.proofs.ReportLemmas.{two_pieces, row_text-device, row_text-shared}
+use Rattle.price_check.proofs.ReportLemmas.{two_pieces, row_text-device}
 use Rattle.price_check.proofs.report.push_row.Goals as goal
 
 pub returns-in_ok-extend_from_slice-in-Some-clause-text : goal.returns-in_ok-extend_from_slice-in-Some-clause-text

@@ -7,5 +7,5 @@ invariant-loop-row l =
     let net = instance_of_rows l.net in
     record {
       so_far : l.total ≡ sum_below l.row (λ row. sum_to net.rounds (λ r. net.cap row r * pricing_of_rows l.prices row r));
-      short : l.total ≤ 2 ^ 57 * l.row;
+      short : l.total ≤ 2 ^ 82 * l.row;
     }

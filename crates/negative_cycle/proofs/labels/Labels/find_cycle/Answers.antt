@@ -11,10 +11,10 @@ walk_back-requires-clause-preds c = λ node arc came.
 pub returns-clause-gains : goal.returns-clause-gains
 returns-clause-gains c =
     let found = subst (λ (ps : List (Option Arc)). IfOk c.walk_back.result (λ found. IfSome found (λ k. IsLoop ps (drop k c.walk_back.new.path.items)))) c.deref.ensures.value c.walk_back.ensures.closes in
-    gains-from_found c.self.inside.labels.items c.self.inside.preds.items c.walk_back.result c.walk_back.new.path.items c.self.invariant.0 found
+    gains-from_found c.self.inside.most c.self.inside.labels.items c.self.inside.preds.items c.walk_back.result c.walk_back.new.path.items c.self.invariant.0 found
 
 pub returns-clause-ends : goal.returns-clause-ends
 returns-clause-ends c =
     let found = subst (λ (ps : List (Option Arc)). IfOk c.walk_back.result (λ found. IfNone found (EndsAtRoot ps c.args.start c.walk_back.new.path.items))) c.deref.ensures.value c.walk_back.ensures.ends in
-    let here = ends-from_found c.self.inside.labels.items c.self.inside.preds.items c.args.start c.walk_back.result c.walk_back.new.path.items c.self.invariant.0 found in
+    let here = ends-from_found c.self.inside.most c.self.inside.labels.items c.self.inside.preds.items c.args.start c.walk_back.result c.walk_back.new.path.items c.self.invariant.0 found in
     rw (← c.self.view_is) here

@@ -6,6 +6,6 @@ pub invariant_of-result : goal.invariant_of-result
 invariant_of-result c =
     let labels : c.in_ok-vec.field-0.items ≡ replicate c.args.nodes 0 = search rules in
     let places : c.in_ok-vec-2.field-0.items ≡ replicate c.args.nodes 0 = search rules in (
-      IsForest-begun c.in_ok-vec.field-0.items c.in_ok-unrisen.field-0.items c.args.nodes c.requires labels c.in_ok-unrisen.ensures,
+      IsForest-begun c.args.most c.in_ok-vec.field-0.items c.in_ok-unrisen.field-0.items c.args.nodes c.requires labels c.in_ok-unrisen.ensures,
       omega (arith, ap length labels, ap length places),
     )

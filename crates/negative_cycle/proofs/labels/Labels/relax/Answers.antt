@@ -16,6 +16,6 @@ invariant_of-self c =
     let tail : c.index.result.now ≡ get_or labels arc.tail 0 = get_or_read labels _ _ tail_in c.index.ensures 0 in
     let head : c.index-2.result.now ≡ get_or labels arc.head 0 = get_or_read labels _ _ head_in c.index-2.ensures 0 in
     let unsettled : get_or labels arc.head 0 + arc.down < get_or labels arc.tail 0 + arc.up = omega arith in (
-      IsForest-raised labels preds arc _ tail_in head_in c.requires.up unsettled (omega arith) (omega arith) forest,
+      IsForest-raised c.self.inside.most labels preds arc _ tail_in head_in (rw (← view) at c.requires.up) unsettled (omega arith) (omega arith) forest,
       omega (arith, length-set labels arc.head (c.index.result.now + c.from.result - c.from-3.result), c.self.invariant.1),
     )

@@ -1,4 +1,4 @@
-use Rattle.std.proofs.Common.{ℕ, ◌≡◌, ◌∙◌, arith, sym, ap, length, Option, None, replicate, ltb}
+use Rattle.std.proofs.Common.{ℕ, false, subst, ◌≡◌, ◌∙◌, arith, sym, ap, length, Option, None, replicate, ltb}
 use Rattle.std.specs.List.{list_any}
 use Rattle.std.proofs.lemmas.List.{length-replicate}
 use Rattle.negative_cycle.specs.Walks.{Arc}
@@ -16,12 +16,14 @@ invariant_of-self c =
       | then-any_high w ↦
           let labels : c.if-any_high.self-inside.labels.items ≡ replicate n 0 = ap (λ (i : Inside). i.labels.items) w.self-inside-is ∙ w.lower.ensures in
           let places = ap (λ (i : Inside). length i.places.items) w.self-inside-is in
+          let most : c.if-any_high.self-inside.most ≡ c.self.inside.most = ap (λ (i : Inside). i.most) w.self-inside-is in
           let preds : c.forget.new.preds.items ≡ replicate n None = c.forget.ensures ∙ ap (λ (k : ℕ). replicate k (let o : Option Arc = None in o)) (ap (λ (i : Inside). length i.preds.items) w.self-inside-is ∙ forest.lengths) in
-          (IsForest-begun _ _ n forest.few labels preds, omega (arith, ap length labels, length-replicate {A = ℕ} n 0, places, c.self.invariant.1))
+          (IsForest-begun _ _ _ n (omega (arith, most, forest.fits)) labels preds, omega (arith, ap length labels, length-replicate {A = ℕ} n 0, places, c.self.invariant.1))
       | else-any_high w ↦
           let labels : c.if-any_high.self-inside.labels.items ≡ c.self.inside.labels.items = ap (λ (i : Inside). i.labels.items) w.self-inside-is in
           let places = ap (λ (i : Inside). length i.places.items) w.self-inside-is in
+          let most : c.if-any_high.self-inside.most ≡ c.self.inside.most = ap (λ (i : Inside). i.most) w.self-inside-is in
           let preds : c.forget.new.preds.items ≡ replicate n None = c.forget.ensures ∙ ap (λ (k : ℕ). replicate k (let o : Option Arc = None in o)) (ap (λ (i : Inside). length i.preds.items) w.self-inside-is ∙ forest.lengths) in
-          let none = ap (list_any (λ y. ltb highest_root y)) (labels ∙ sym c.deref.ensures.value) ∙ sym w.if-any_high.ensures in
-          (IsForest-low _ _ n (sym (ap length labels)) forest.few none preds, omega (arith, ap length labels, places, c.self.invariant.1))
+          let none = ap (list_any (λ y. ltb (highest_root c.self.inside.most) y)) (labels ∙ sym c.deref.ensures.value) ∙ sym w.if-any_high.ensures in
+          (IsForest-low _ _ _ n (sym (ap length labels)) (omega (arith, most, forest.fits)) (subst (λ (m : ℕ). list_any (λ y. ltb (highest_root m) y) c.if-any_high.self-inside.labels.items ≡ false) (sym most) none) preds, omega (arith, ap length labels, places, c.self.invariant.1))
     ]

@@ -9,6 +9,6 @@ invariant_of-result c =
     let given = c.args.labels.now in
     let labels = c.in_ok-cut.ensures in
     let places : c.in_ok-vec.field-0.items ≡ replicate (length given) 0 = search rules in (
-      IsForest-given given c.in_ok-cut.field-0.items c.in_ok-unrisen.field-0.items c.requires labels c.in_ok-unrisen.ensures,
-      omega (arith, ap length labels, length-map given begun, length-replicate {A = ℕ} (length given) 0, ap length places),
+      IsForest-given c.args.most given c.in_ok-cut.field-0.items c.in_ok-unrisen.field-0.items c.requires labels c.in_ok-unrisen.ensures,
+      omega (arith, ap length labels, length-map given (begun c.args.most), length-replicate {A = ℕ} (length given) 0, ap length places),
     )

@@ -4,7 +4,7 @@ use Rattle.round_net.specs.Caps.{row_count, cap}
 use Rattle.round_net.specs.Nets.{table}
 use Rattle.cam_types.proofs.ConfigLemmas.{few_links}
 use Rattle.round_net.proofs.FoundLemmas.{net_found}
-use Rattle.round_net.proofs.NetLemmas.{net_is_net, live_admissible}
+use Rattle.round_net.proofs.NetLemmas.{net_is_net, live_admissible, within_history}
 use Rattle.round_net.proofs.net.Net.of_rounds.Goals as goal
 
 pub overflow_cast-result : goal.overflow_cast-result
@@ -42,3 +42,9 @@ returns-clause-live c =
     let kept : IsConfig h.config = rw c.config-config.ensures at c.devices.ensures.kept in
     let complete : unsent h.events ≡ None = sym c.unsent.ensures ∙ c.in_default.is in
     live_admissible h.config h.events kept c.events-events.ensures.legal complete
+
+pub returns-clause-small : goal.returns-clause-small
+returns-clause-small c =
+    let h = c.args.history.now in
+    let kept : IsConfig h.config = rw c.config-config.ensures at c.devices.ensures.kept in
+    within_history h.config h.events kept c.events-events.ensures.legal

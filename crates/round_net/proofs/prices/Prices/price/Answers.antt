@@ -1,6 +1,6 @@
 use Rattle.std.proofs.Common.{rules, ◌≡◌, length, refl, ap, arith, ◌∙◌, slice_index}
 use Rattle.std.proofs.lemmas.List.{get_or_read_under}
-use Rattle.round_net.specs.PriceRows.{pricing_of_rows}
+use Rattle.round_net.specs.PriceRows.{PriceRows, pricing_of_rows}
 use Rattle.round_net.proofs.CellLemmas.{price_in}
 use Rattle.round_net.proofs.prices.Prices.price.Goals as goal
 
@@ -26,4 +26,4 @@ returns-clause-most c =
     let last = rw (← c.self.view_is) at c.requires.last in
     let within = price_in _ c.args.row c.args.round c.self.invariant row c.requires.first last in
     let small = c.self.invariant.small c.cell.result c.index.result.now (rw c.cell.ensures within) in
-    omega (arith, c.index.ensures, small)
+    omega (arith, c.index.ensures, small, ap (λ (p : PriceRows). p.most_price) c.self.view_is)

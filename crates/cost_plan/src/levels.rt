@@ -1,0 +1,241 @@
+//! A plan of a large net by levels of time. Proved: a plan that is answered is best, since its prices are checked.
+
+ghost use Rattle.std.specs.Prelude.{◌≡◌, ◌<◌, ◌≤◌, length, slice_index, IfOk};
+ghost use Rattle.std.specs.Option.{IfSome};
+ghost use Rattle.cost_plan.specs.Words.{rows, instance_of_rows, ProvesBest, pricing_of_rows, IsPricingFor};
+ghost use Rattle.cost_plan.specs.RowPrices.{IsAtMost};
+
+use crate::best_plan::BestPlan;
+use cam_types::MOST_WEIGHT;
+use price_check::{Verdict, check};
+use round_net::{Net, Prices, Schedule};
+use std::alloc::{AllocError, Global};
+use time_levels::{Arrival, Network, Row, Untold};
+
+/// The plan by levels, if there is one and its prices prove it best. That there is one isn't promised.
+pub(crate) fn plan_by_levels(alloc: Global, net: &Net) -> Result<Option<BestPlan>, AllocError>
+    ensures proved { IfOk result (λ found. IfSome found (λ best. ProvesBest (instance_of_rows net.now) (slice_index best.schedule) (pricing_of_rows best.prices))) }
+    ensures stays { IfOk result (λ found. IfSome found (λ best. length best.schedule ≡ (instance_of_rows net.now).stays)) }
+    ensures cells { IfOk result (λ found. IfSome found (λ best. IsPricingFor (instance_of_rows net.now) best.prices)) }
+    ensures small { IfOk result (λ found. IfSome found (λ best. IsAtMost (instance_of_rows net.now) (pricing_of_rows best.prices) (instance_of_rows net.now).most_price)) }
+{
+    let mut network = units_of(alloc, net)?;
+    let row_of = add_rows(alloc, net, &mut network)?;
+    match time_levels::plan(alloc, &network, &Untold)? {
+        Some(levels) => {
+            let rounds = rounds_of(alloc, net, &row_of, &levels.flows)?;
+            checked(alloc, net, &rounds, &levels.prices)
+        }
+        None => Ok(None),
+    }
+}
+
+// The plan of a round for each stay and a price for each opening, if these prove it best.
+fn checked(
+    alloc: Global,
+    net: &Net,
+    rounds: &[u32],
+    worth: &[u64],
+) -> Result<Option<BestPlan>, AllocError>
+    requires { length rounds.now ≡ (instance_of_rows net.now).stays }
+    ensures proved { IfOk result (λ found. IfSome found (λ best. ProvesBest (instance_of_rows net.now) (slice_index best.schedule) (pricing_of_rows best.prices))) }
+    ensures stays { IfOk result (λ found. IfSome found (λ best. length best.schedule ≡ (instance_of_rows net.now).stays)) }
+    ensures cells { IfOk result (λ found. IfSome found (λ best. IsPricingFor (instance_of_rows net.now) best.prices)) }
+    ensures small { IfOk result (λ found. IfSome found (λ best. IsAtMost (instance_of_rows net.now) (pricing_of_rows best.prices) (instance_of_rows net.now).most_price)) }
+{
+    let schedule = Schedule::new(alloc, rounds)?;
+    let prices = prices_of(alloc, net, worth)?;
+    let mut counts = vec![in alloc; 0; prices.cells()]?;
+    match check(net, &schedule, &prices, &mut counts) {
+        Verdict::Proved => Ok(Some(BestPlan { schedule, prices })),
+        _ => Ok(None),
+    }
+}
+
+// The prices of a list that has all rounds of one row after all rounds of another; none above the net's largest.
+fn prices_of(alloc: Global, net: &Net, worth: &[u64]) -> Result<Prices, AllocError>
+    ensures { IfOk result (λ prices. IsPricingFor (instance_of_rows net.now) prices) }
+{
+    let mut prices = Prices::zero(alloc, net)?;
+    for row in 0..net.rows() {
+        price_row(net, &mut prices, worth, row);
+    }
+    Ok(prices)
+}
+
+fn price_row(net: &Net, prices: &mut Prices, worth: &[u64], row: u32)
+    requires size { IsPricingFor (instance_of_rows net.now) prices.old }
+    requires row { row < rows (instance_of_rows net.now) }
+    ensures { IsPricingFor (instance_of_rows net.now) prices.new }
+{
+    for round in 1..net.rounds() + 1 {
+        let price = price_at(net, worth, row, round - 1);
+        prices.set(row, round, price).unwrap();
+    }
+}
+
+// The price that stands in the list, or the net's largest if that is less.
+fn price_at(net: &Net, worth: &[u64], row: u32, round: u32) -> u64
+    ensures { result ≤ (instance_of_rows net.now).most_price }
+{
+    let price = worth.get(place(net, row, round)).copied().unwrap_or(0);
+    let most = net.most_price();
+    if price > most { most } else { price }
+}
+
+// The place of a row and a round, from 0, in a list that has all rounds of one row after all rounds of another.
+fn place(net: &Net, row: u32, round: u32) -> usize {
+    (row as usize)
+        .saturating_mul(net.rounds() as usize)
+        .saturating_add(round as usize)
+}
+
+// A unit for each row of the net: the devices, the adapters and the links.
+fn units_of(alloc: Global, net: &Net) -> Result<Network, AllocError> {
+    let mut network = Network::new(alloc, net.rounds());
+    for row in 0..net.rows() {
+        let caps = caps_of(alloc, net, row)?;
+        network.add_unit(above(net, row), &caps)?;
+    }
+    Ok(network)
+}
+
+// What a row takes in each round.
+fn caps_of(alloc: Global, net: &Net, row: u32) -> Result<Vec<u32>, AllocError>
+    requires { row < rows (instance_of_rows net.now) }
+{
+    let mut caps = Vec::with_capacity(alloc, net.rounds() as usize)?;
+    for round in 1..net.rounds() + 1 {
+        caps.push(net.cap(row, round))?;
+    }
+    Ok(caps)
+}
+
+// The row above a row: that of a device's adapter, or of an adapter's link.
+fn above(net: &Net, row: u32) -> Option<u32>
+    requires { row < rows (instance_of_rows net.now) }
+{
+    if row < net.devices() {
+        return Some(net.adapter_row(net.adapter_of(row)));
+    }
+    let adapter = row - net.devices();
+    if adapter < net.adapters() {
+        let link = net.link_of(adapter)?;
+        return Some(net.link_row(link));
+    }
+    None
+}
+
+// Adds a row for each device and weight that a stay has, and each stay's arrival to its row. Answers the number of each stay's
+// row.
+fn add_rows(alloc: Global, net: &Net, network: &mut Network) -> Result<Vec<u32>, AllocError>
+    ensures { IfOk result (λ row_of. length row_of.items ≡ (instance_of_rows net.now).stays) }
+{
+    let weights = MOST_WEIGHT as usize + 1;
+    let mut numbers = vec![in alloc; None; net.devices() as usize * weights]?;
+    let mut row_of = vec![in alloc; 0; net.stays() as usize]?;
+    for stay in 0..net.stays() {
+        let (unit, weight) = (net.device(stay), net.weight(stay));
+        let Some(number) = numbers.get_mut(unit as usize * weights + weight as usize) else {
+            continue;
+        };
+        let row = match *number {
+            Some(row) => row,
+            None => network.add_row(Row { unit, weight })?,
+        };
+        *number = Some(row);
+        row_of[stay as usize] = row;
+        network.add_arrival(Arrival {
+            row,
+            round: net.arrival(stay) - 1,
+            count: 1,
+        })?;
+    }
+    Ok(row_of)
+}
+
+// How far a row's stays are given rounds: the round, from 0, and how many of its sends are left.
+#[derive(Clone, Copy)]
+struct Course {
+    round: u32,
+    left: u32,
+}
+
+// A round for each stay: those of a row in the order of their arrival, to the row's sends in order. It is 0 where there is no
+// send left.
+fn rounds_of(
+    alloc: Global,
+    net: &Net,
+    row_of: &[u32],
+    flows: &[u32],
+) -> Result<Vec<u32>, AllocError>
+    requires { length row_of.now ≡ (instance_of_rows net.now).stays }
+    ensures { IfOk result (λ rounds. length rounds.items ≡ (instance_of_rows net.now).stays) }
+{
+    let most = row_of.iter().copied().max().unwrap_or(0);
+    let mut courses = Vec::new(alloc);
+    for row in 0..most.saturating_add(1) {
+        courses.push(next_course(net, flows, row, 0))?;
+    }
+    let mut rounds = vec![in alloc; 0; net.stays() as usize]?;
+    let stays = in_order(alloc, net)?;
+    give_rounds(net, row_of, flows, &stays, &mut courses, &mut rounds);
+    Ok(rounds)
+}
+
+// Gives each of these stays, one after the other, the round of its row's next send.
+fn give_rounds(
+    net: &Net,
+    row_of: &[u32],
+    flows: &[u32],
+    stays: &[(u32, u32)],
+    courses: &mut [Course],
+    rounds: &mut [u32],
+) {
+    for (_, stay) in stays {
+        let row = row_of.get(*stay as usize).copied().unwrap_or(0);
+        if let (Some(round), Some(course)) = (
+            rounds.get_mut(*stay as usize),
+            courses.get_mut(row as usize),
+        ) {
+            *round = take_send(net, flows, row, course);
+        }
+    }
+}
+
+// The stays with their arrivals, in the order of these, and then of birth.
+fn in_order(alloc: Global, net: &Net) -> Result<Vec<(u32, u32)>, AllocError> {
+    let mut stays = Vec::with_capacity(alloc, net.stays() as usize)?;
+    for stay in 0..net.stays() {
+        stays.push((net.arrival(stay), stay))?;
+    }
+    stays.sort_unstable();
+    Ok(stays)
+}
+
+// The first round from one on, from 0, in which the row has a send.
+fn next_course(net: &Net, flows: &[u32], row: u32, from: u32) -> Course {
+    for round in from..net.rounds() {
+        let left = flows.get(place(net, row, round)).copied().unwrap_or(0);
+        if left > 0 {
+            return Course { round, left };
+        }
+    }
+    Course {
+        round: net.rounds(),
+        left: 0,
+    }
+}
+
+// The round, from 1, of the row's next send.
+fn take_send(net: &Net, flows: &[u32], row: u32, course: &mut Course) -> u32 {
+    if course.left == 0 {
+        return 0;
+    }
+    let round = course.round.saturating_add(1);
+    course.left -= 1;
+    if course.left == 0 {
+        *course = next_course(net, flows, row, round);
+    }
+    round
+}

@@ -47,6 +47,8 @@ mod prices;
 #[cfg(test)]
 mod recorded;
 #[cfg(test)]
+mod recorded_nets;
+#[cfg(test)]
 mod recordings;
 #[cfg(test)]
 mod scripts;

@@ -22,7 +22,7 @@ pub use priority::{BadPriority, Priority};
 pub use sense_bytes::SenseBytes;
 pub use watched::Watched;
 pub use weight_row::{WeightRow, standard_weights, standard_weights_go_by_run_level};
-pub use whole::{WholeFault, WriteFailed, read_whole, write_whole};
+pub use whole::{WholeFault, WriteFailed, read_whole, read_within, write_whole};
 
 mod adapter;
 mod command;

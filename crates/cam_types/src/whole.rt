@@ -1,9 +1,9 @@
 //! Reads an input to its end, and writes a text whole.
 
-ghost use Rattle.std.specs.Prelude.{◌≡◌, ◌≢◌, false, true, Ok, Err, IfOk, OnOk, OnErr};
+ghost use Rattle.std.specs.Prelude.{◌≡◌, ◌≢◌, ◌<◌, ◌^◌, false, true, Ok, Err, IfOk, OnOk, OnErr};
 ghost use Rattle.std.specs.Io.KnownBytes.{Appends};
 ghost use Rattle.cam_types.specs.Watched.{device_of, has_failed, is_flushed};
-ghost use Rattle.cam_types.specs.Whole.{IsWhole, IsTooLong, AppendsFront};
+ghost use Rattle.cam_types.specs.Whole.{IsWhole, IsTooLong, IsWholeWithin, IsLongerThan, AppendsFront};
 
 use crate::maxima::MOST_BYTES;
 use crate::watched::Watched;
@@ -17,7 +17,7 @@ const PIECE: usize = 4096;
 /// Why an input wasn't read to its end.
 #[derive(Clone, Copy, Debug, PartialEq, Eq, Error)]
 pub enum WholeFault {
-    /// More than 16,777,216 bytes came.
+    /// More bytes came than there may be.
     #[error("too long")]
     TooLong,
     /// A read failed.
@@ -42,9 +42,25 @@ pub fn read_whole<R: Read>(alloc: Global, reader: &mut Watched<R>) -> Result<Vec
     ensures read_failed { result ≡ Err WholeFault.ReadFailed → has_failed reader.new ≡ true }
     ensures calm { result ≢ Err WholeFault.ReadFailed → has_failed reader.new ≡ false }
 {
+    read_within(alloc, reader, MOST_BYTES)
+}
+
+/// The same with a bound of one's own, below 2^31: it stops once more than `most` bytes came.
+pub fn read_within<R: Read>(
+    alloc: Global,
+    reader: &mut Watched<R>,
+    most: usize,
+) -> Result<Vec<u8>, WholeFault>
+    requires calm { has_failed reader.old ≡ false }
+    requires most { most < 2 ^ 31 }
+    ensures whole { IfOk result (λ text. IsWholeWithin most (R.remaining (device_of reader.old)) (R.remaining (device_of reader.new)) text.items) }
+    ensures too_long { result ≡ Err WholeFault.TooLong → IsLongerThan most (R.remaining (device_of reader.old)) (R.remaining (device_of reader.new)) }
+    ensures read_failed { result ≡ Err WholeFault.ReadFailed → has_failed reader.new ≡ true }
+    ensures calm { result ≢ Err WholeFault.ReadFailed → has_failed reader.new ≡ false }
+{
     let mut text = Vec::new(alloc);
     let mut piece = [0u8; PIECE];
-    while text.len() <= MOST_BYTES {
+    while text.len() <= most {
         let Ok(count) = reader.read(&mut piece) else {
             return Err(WholeFault::ReadFailed);
         };

@@ -8,7 +8,7 @@ pub use laid_caps::cap_table;
 pub use maxima::{MOST_RECORDED_ROUNDS, MOST_RECORDING_BYTES, MOST_REQUESTS};
 pub use name::{Name, NameKind};
 pub use part::{Part, PartKind};
-pub use reading::{one_recording, read_recording};
+pub use reading::{one_recording, parse_recording, read_recording};
 pub use recorder::Recorder;
 pub use recording::Recording;
 pub use recording_fault::RecordingFault;
@@ -17,6 +17,7 @@ pub use request::Request;
 pub use request_error::RequestError;
 pub use room::cell_of;
 pub use span::{Span, TimeUnit};
+pub use whole::read_long;
 pub use write_fault::WriteFault;
 
 mod cap;

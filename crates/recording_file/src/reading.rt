@@ -13,8 +13,8 @@ use crate::recording::Recording;
 use crate::recording_fault::RecordingFault;
 use crate::recording_stage::RecordingStage;
 use crate::records::take_records;
-use crate::whole::{LongFault, read_long};
-use cam_types::Watched;
+use crate::whole::read_long;
+use cam_types::{Watched, WholeFault};
 use std::alloc::Global;
 use std::io::Read;
 
@@ -34,14 +34,16 @@ pub fn read_recording<R: Read>(
     ensures calm { result ≢ Err RecordingFault.ReadFailed → has_failed reader.new ≡ false }
 {
     match read_long(alloc, reader) {
-        Ok(text) => read_text(alloc, &text),
-        Err(LongFault::TooLong) => Err(RecordingFault::TooLong),
-        Err(LongFault::ReadFailed) => Err(RecordingFault::ReadFailed),
-        Err(LongFault::OutOfMemory) => Err(RecordingFault::OutOfMemory),
+        Ok(text) => parse_recording(alloc, &text),
+        Err(WholeFault::TooLong) => Err(RecordingFault::TooLong),
+        Err(WholeFault::ReadFailed) => Err(RecordingFault::ReadFailed),
+        Err(WholeFault::OutOfMemory) => Err(RecordingFault::OutOfMemory),
     }
 }
 
-fn read_text(alloc: Global, text: &[u8]) -> Result<Recording, RecordingFault>
+/// The same of a text that is at hand: what its records say, or the first fault of the first that fails. `TooLong` and
+/// `ReadFailed` aren't answered.
+pub fn parse_recording(alloc: Global, text: &[u8]) -> Result<Recording, RecordingFault>
     requires { length text.now ≤ MOST_RECORDING_BYTES }
     ensures { result ≢ Err RecordingFault.OutOfMemory → result ≡ reading (records_in text.now) }
 {

@@ -6,27 +6,12 @@ ghost use Rattle.recording_file.specs.Whole.{most_bytes, IsLongWhole, IsTooLong}
 ghost use Rattle.recording_file.specs.Recorded.{MOST_RECORDING_BYTES};
 
 use crate::maxima::MOST_RECORDING_BYTES;
-use cam_types::{MOST_BYTES, Watched};
+use cam_types::{MOST_BYTES, Watched, WholeFault};
 use std::alloc::Global;
 use std::io::Read;
-use thiserror::Error;
 
 /// How many bytes a read asks for.
 const PIECE: usize = 4096;
-
-/// Why an input wasn't read to its end.
-#[derive(Clone, Copy, Debug, PartialEq, Eq, Error)]
-pub(crate) enum LongFault {
-    /// More bytes came than the bound.
-    #[error("too long")]
-    TooLong,
-    /// A read failed.
-    #[error("read failed")]
-    ReadFailed,
-    /// There is no memory left.
-    #[error("out of memory")]
-    OutOfMemory,
-}
 
 /// How many bytes a text may have: 268,435,456 if the first ten are `camrecord1`, else 16,777,216.
 #[tactic(auto, unfolding(crate::specs::Whole::most_bytes))]
@@ -41,30 +26,28 @@ fn most_bytes(text: &[u8]) -> usize
     }
 }
 
-/// Reads all bytes to the end of the input. It stops at the first error of any kind, an interrupted read among them,
-/// and once more bytes came than there may be.
-pub(crate) fn read_long<R: Read>(
-    alloc: Global,
-    reader: &mut Watched<R>,
-) -> Result<Vec<u8>, LongFault>
+/// Reads all bytes to the end of the input, a recording's or another's. It stops at the first error of any kind, an
+/// interrupted read among them, and once more bytes came than there may be: 268,435,456 if the first ten are `camrecord1`,
+/// else 16,777,216.
+pub fn read_long<R: Read>(alloc: Global, reader: &mut Watched<R>) -> Result<Vec<u8>, WholeFault>
     requires { has_failed reader.old ≡ false }
     ensures whole { IfOk result (λ text. IsLongWhole (R.remaining (device_of reader.old)) (R.remaining (device_of reader.new)) text.items) }
-    ensures too_long { result ≡ Err LongFault.TooLong → IsTooLong (R.remaining (device_of reader.old)) (R.remaining (device_of reader.new)) }
-    ensures read_failed { result ≡ Err LongFault.ReadFailed → has_failed reader.new ≡ true }
-    ensures calm { result ≢ Err LongFault.ReadFailed → has_failed reader.new ≡ false }
+    ensures too_long { result ≡ Err WholeFault.TooLong → IsTooLong (R.remaining (device_of reader.old)) (R.remaining (device_of reader.new)) }
+    ensures read_failed { result ≡ Err WholeFault.ReadFailed → has_failed reader.new ≡ true }
+    ensures calm { result ≢ Err WholeFault.ReadFailed → has_failed reader.new ≡ false }
 {
     let mut text = Vec::new(alloc);
     let mut piece = [0u8; PIECE];
     while text.len() <= most_bytes(&text) {
         let Ok(count) = reader.read(&mut piece) else {
-            return Err(LongFault::ReadFailed);
+            return Err(WholeFault::ReadFailed);
         };
         if count == 0 {
             return Ok(text);
         }
         if text.extend_from_slice(&piece[..count]).is_err() {
-            return Err(LongFault::OutOfMemory);
+            return Err(WholeFault::OutOfMemory);
         }
     }
-    Err(LongFault::TooLong)
+    Err(WholeFault::TooLong)
 }

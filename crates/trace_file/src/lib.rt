@@ -2,7 +2,7 @@
 #![tactic(auto)]
 
 pub use event_number::event_record;
-pub use reading::{one_history, read_trace};
+pub use reading::{one_history, parse_trace, read_trace};
 pub use script::{DRIVERS, Script};
 pub use script_reading::{read_script, rows_in_order};
 pub use script_stage::MOST_ROWS;

@@ -33,14 +33,16 @@ pub fn read_trace<R: Read>(alloc: Global, reader: &mut Watched<R>) -> Result<His
     ensures calm { result ≢ Err TraceFault.ReadFailed → has_failed reader.new ≡ false }
 {
     match read_whole(alloc, reader) {
-        Ok(text) => read_text(alloc, &text),
+        Ok(text) => parse_trace(alloc, &text),
         Err(WholeFault::TooLong) => Err(TraceFault::TooLong),
         Err(WholeFault::ReadFailed) => Err(TraceFault::ReadFailed),
         Err(WholeFault::OutOfMemory) => Err(TraceFault::OutOfMemory),
     }
 }
 
-fn read_text(alloc: Global, text: &[u8]) -> Result<History, TraceFault>
+/// The same of a text that is at hand: what its records say, or the first fault of the first that fails. `TooLong` and
+/// `ReadFailed` aren't answered.
+pub fn parse_trace(alloc: Global, text: &[u8]) -> Result<History, TraceFault>
     requires { length text.now ≤ MOST_BYTES }
     ensures { result ≢ Err TraceFault.OutOfMemory → result ≡ reading (records_in text.now) }
 {

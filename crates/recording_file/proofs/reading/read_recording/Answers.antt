@@ -3,25 +3,25 @@ use Rattle.recording_file.specs.Reading.{reading}
 use Rattle.recording_file.specs.Recorded.{Recorded}
 use Rattle.recording_file.specs.Recordings.{IsRecordingText}
 use Rattle.recording_file.specs.Whole.{most_bytes}
-use Rattle.recording_file.specs.declared.whole.LongFault.{LongFault}
+use Rattle.cam_types.specs.declared.whole.WholeFault.{WholeFault}
 use Rattle.recording_file.proofs.FaultLaws.{faults_law, found_law, only_law}
 use Rattle.recording_file.proofs.LongLemmas.{most_within, too_long}
 use Rattle.recording_file.proofs.ReadLaws.{was_recording}
 use Rattle.recording_file.proofs.WholeLaws.{reading_again}
 use Rattle.recording_file.proofs.reading.read_recording.Goals as goal
 
-pub read_text-requires : goal.read_text-requires
-read_text-requires g c =
+pub parse_recording-requires : goal.parse_recording-requires
+parse_recording-requires g c =
     let within = most_within c.in-Ok.text.items in
     let bound = c.in-Ok.ensures.whole.bounded in
     rw c.deref.ensures.value (omega arith)
 
 pub returns-in-Ok-clause-found : goal.returns-in-Ok-clause-found
-returns-in-Ok-clause-found g c = found_law _ _ _ (rw c.deref.ensures.value at c.read_text.ensures) (was_recording _ _ _ c.in-Ok.ensures.whole)
+returns-in-Ok-clause-found g c = found_law _ _ _ (rw c.deref.ensures.value at c.parse_recording.ensures) (was_recording _ _ _ c.in-Ok.ensures.whole)
 
 pub returns-in-Ok-clause-only : goal.returns-in-Ok-clause-only
 returns-in-Ok-clause-only g c = λ r h.
-    only_law (λ text. IsRecordingText text r) _ _ _ _ _ r c.in-Ok.ensures.whole (rw c.deref.ensures.value at c.read_text.ensures) (λ is. ap reading is.spelled ∙ reading_again is.table r h is.held)
+    only_law (λ text. IsRecordingText text r) _ _ _ _ _ r c.in-Ok.ensures.whole (rw c.deref.ensures.value at c.parse_recording.ensures) (λ is. ap reading is.spelled ∙ reading_again is.table r h is.held)
 
 -- no recording's text is too long
 none_long : (P : List ℕ → Type 0) (r : Recorded) (before : Option (List ℕ)) → IfSome before (λ all. most_bytes all < length all) → IfSome before (λ all. IsRecordingText all r → P all)
@@ -30,9 +30,9 @@ none_long P r (Some all) h = λ is. absurd (let bound = is.bounded in omega arit
 
 pub returns-in-Err-TooLong-clause-only : goal.returns-in-Err-TooLong-clause-only
 returns-in-Err-TooLong-clause-only g c = λ r h.
-    let long = c.in-Err-TooLong.ensures.too_long (ap (λ (x : LongFault). Err x) c.in-Err-TooLong.field-0-is) in
+    let long = c.in-Err-TooLong.ensures.too_long (ap (λ (x : WholeFault). Err x) c.in-Err-TooLong.field-0-is) in
     none_long _ r _ (too_long _ _ long)
 
 pub returns-in-Ok-clause-faults : goal.returns-in-Ok-clause-faults
 unfolding reading
-returns-in-Ok-clause-faults g c = faults_law _ _ _ _ _ c.in-Ok.ensures.whole (rw c.deref.ensures.value at c.read_text.ensures)
+returns-in-Ok-clause-faults g c = faults_law _ _ _ _ _ c.in-Ok.ensures.whole (rw c.deref.ensures.value at c.parse_recording.ensures)

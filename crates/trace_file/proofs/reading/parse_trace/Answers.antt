@@ -1,9 +1,9 @@
 use Rattle.std.proofs.Common.{◌∙◌, ap, refl, Err}
 use Rattle.std.proofs.lemmas.Result.{err_from_is_err_and}
-use Rattle.recording_file.specs.Reading.{reading, RecordingFault}
-use Rattle.recording_file.specs.Sound.{IsSound}
-use Rattle.recording_file.proofs.RecordLemmas.{took_err, took_ok}
-use Rattle.recording_file.proofs.reading.read_text.Goals as goal
+use Rattle.trace_file.specs.Reading.{reading, TraceFault}
+use Rattle.trace_file.specs.Sound.{IsSound}
+use Rattle.trace_file.proofs.RecordLemmas.{took_err, took_ok}
+use Rattle.trace_file.proofs.reading.parse_trace.Goals as goal
 
 pub take_records-requires-clause-sound : goal.take_records-requires-clause-sound
 unfolding IsSound
@@ -13,10 +13,10 @@ pub returns-in_err-take_records : goal.returns-in_err-take_records
 unfolding reading
 returns-in_err-take_records c =
     let p = err_from_is_err_and c.from_residual.result c.from_residual.ensures.1 in
-    rw (p.1, p.2) (λ other. let e = took_err _ _ _ _ c.take_records.ensures.value c.in_err-take_records.was (λ k. other (ap (λ (x : RecordingFault). Err x) k)) in rw e refl)
+    rw (p.1, p.2) (λ other. let e = took_err _ _ _ _ c.take_records.ensures.value c.in_err-take_records.was (λ k. other (ap (λ (x : TraceFault). Err x) k)) in rw e refl)
 
 pub returns : goal.returns
 unfolding reading
 returns c = λ other.
     let e = took_ok _ _ _ _ c.take_records.ensures.value c.in_ok-take_records.was in
-    c.finish.ensures.value ∙ rw e refl
+    c.finish.ensures.value other ∙ rw e refl

@@ -1,12 +1,11 @@
 use Rattle.std.proofs.Common.{◌≡◌, ◌+◌, ◌-◌, false, vec_len}
 use Rattle.std.specs.Io.KnownBytes.{Consumes}
 use Rattle.cam_types.specs.Watched.{device_of, has_failed}
-use Rattle.cam_types.specs.Topology.{MOST_BYTES}
-use Rattle.cam_types.proofs.whole.read_whole.Given as goal
+use Rattle.cam_types.proofs.whole.read_within.Given as goal
 
 abbrev pub invariant-loop-piece : goal.invariant-loop-piece
 invariant-loop-piece g l = (has_failed l.reader ≡ false)
     × Consumes (g.R.Read.remaining (device_of l.fn.reader)) (g.R.Read.remaining (device_of l.reader)) l.text.items
 
 abbrev pub decreases-loop-piece : goal.decreases-loop-piece
-decreases-loop-piece g l = MOST_BYTES + 1 - vec_len l.text
+decreases-loop-piece g l = l.fn.most + 1 - vec_len l.text

@@ -99,12 +99,12 @@ room_for rounds most most_price few room =
     omega (arith, way, room)
 
 -- such a net
-abbrev pub filled : Topology → ℕ → List StayRow → (ℕ → ℕ → ℕ) → ℕ → Instance
-filled c rounds stays caps most_price = instance_of_rows (net_with c rounds stays caps most_price)
+abbrev pub filled : Topology → ℕ → ℕ → List StayRow → (ℕ → ℕ → ℕ) → ℕ → Instance
+filled c commands rounds stays caps most_price = instance_of_rows (net_with c commands rounds stays caps most_price)
 
-module _ (c : Topology) (rounds : ℕ) (stays : List StayRow) (caps : ℕ → ℕ → ℕ) (most_price : ℕ) where
+module _ (c : Topology) (commands rounds : ℕ) (stays : List StayRow) (caps : ℕ → ℕ → ℕ) (most_price : ℕ) where
   abbrev net : Instance
-  net = filled c rounds stays caps most_price
+  net = filled c commands rounds stays caps most_price
 
   devices_of : net.devices ≡ length c.devices
   unfolding instance_of_rows
@@ -155,10 +155,10 @@ module _ (c : Topology) (rounds : ℕ) (stays : List StayRow) (caps : ℕ → �
 
   -- a stay uses the rows that carry a command to its device
   device_at : (s : ℕ) (x : StayRow) → slice_get stays s ≡ Some x → net.device s ≡ x.device
-  device_at s x e = device-row (net_with c rounds stays caps most_price) s x e
+  device_at s x e = device-row (net_with c commands rounds stays caps most_price) s x e
 
-  live_at : (s : ℕ) (x : StayRow) → slice_get stays s ≡ Some x → live_of_rows (net_with c rounds stays caps most_price) s ≡ x.live
-  live_at s x e = live-row (net_with c rounds stays caps most_price) s x e
+  live_at : (s : ℕ) (x : StayRow) → slice_get stays s ≡ Some x → live_of_rows (net_with c commands rounds stays caps most_price) s ≡ x.live
+  live_at s x e = live-row (net_with c commands rounds stays caps most_price) s x e
 
   adapter_at : (s : ℕ) (x : StayRow) (device : Device) → slice_get stays s ≡ Some x → slice_get c.devices x.device ≡ Some device → adapter net s ≡ device.bus
   adapter_at s x device e there = ap net.adapter_of (device_at s x e) ∙ bus_of_device x.device device there
@@ -205,19 +205,19 @@ module _ (c : Topology) (rounds : ℕ) (stays : List StayRow) (caps : ℕ → �
     fits s x e = at_element (IsFitting c rounds) stays s x is.each e
 
     -- no row has more stays in a round than its cap
-    rows_hold : (row r : ℕ) → row < rows net → 1 ≤ r → r ≤ net.rounds → load net (live_of_rows (net_with c rounds stays caps most_price)) row r ≤ net.cap row r
+    rows_hold : (row r : ℕ) → row < rows net → 1 ≤ r → r ≤ net.rounds → load net (live_of_rows (net_with c commands rounds stays caps most_price)) row r ≤ net.cap row r
     rows_hold row r within first last =
-        let live : ℕ → ℕ = live_of_rows (net_with c rounds stays caps most_price) in
+        let live : ℕ → ℕ = live_of_rows (net_with c commands rounds stays caps most_price) in
         let inside : row < row_count c = rw rows_of at within in
         let there : count_below (length stays) (λ s. uses net row s && (live s == r)) ≡ count_by (λ (x : StayRow). carries c row x.device && (x.live == r)) stays =
         count_list (λ (x : StayRow). carries c row x.device && (x.live == r)) (λ s. uses net row s && (live s == r)) stays (λ s x e. ap (λ b. b && (live s == r)) (uses-carries row s x config (fits s x e).device inside e) ∙ ap (λ n. carries c row x.device && (n == r)) (live_at s x e)) in
         let held = is.held row r inside first (rw rounds_of at last) in
         rw (cap_of row r inside first (rw rounds_of at last), stays_of) (omega arith)
 
-    pub filled_admissible : IsAdmissible net (live_of_rows (net_with c rounds stays caps most_price))
+    pub filled_admissible : IsAdmissible net (live_of_rows (net_with c commands rounds stays caps most_price))
     filled_admissible = record {
-      not_early = λ s lt. let x = stay_of s lt in rw (arrival-row (net_with c rounds stays caps most_price) s x.0 x.1, live_at s x.0 x.1) (fits s x.0 x.1).arrived;
-      not_late = λ s lt. let x = stay_of s lt in rw (last-row (net_with c rounds stays caps most_price) s x.0 x.1, live_at s x.0 x.1) (fits s x.0 x.1).within;
+      not_early = λ s lt. let x = stay_of s lt in rw (arrival-row (net_with c commands rounds stays caps most_price) s x.0 x.1, live_at s x.0 x.1) (fits s x.0 x.1).arrived;
+      not_late = λ s lt. let x = stay_of s lt in rw (last-row (net_with c commands rounds stays caps most_price) s x.0 x.1, live_at s x.0 x.1) (fits s x.0 x.1).within;
       rows_hold = rows_hold;
     }
 
@@ -255,8 +255,9 @@ module _ (c : Topology) (rounds : ℕ) (stays : List StayRow) (caps : ℕ → �
         let small = is.price_room in
         rw (rounds_of, price_of) (omega (arith, way, small))
 
-    pub filled_sound : IsSound net (live_of_rows (net_with c rounds stays caps most_price))
+    pub filled_sound : IsSound net (live_of_rows (net_with c commands rounds stays caps most_price))
     filled_sound = record {
+      some_rounds = rw rounds_of is.some_rounds;
       few_rounds = rw rounds_of is.few_rounds;
       few_stays = rw stays_of is.few_stays;
       few_devices = rw devices_of (few_devices c config);
@@ -265,21 +266,21 @@ module _ (c : Topology) (rounds : ℕ) (stays : List StayRow) (caps : ℕ → �
       on_device = λ s lt. let x = stay_of s lt in rw (device_at s x.0 x.1, devices_of) (fits s x.0 x.1).device;
       on_adapter = λ d lt. on_adapter d config lt;
       on_link = λ a l on. rw links_of (on_link a l on);
-      from_first = λ s lt. let x = stay_of s lt in rw (arrival-row (net_with c rounds stays caps most_price) s x.0 x.1) (fits s x.0 x.1).first;
-      to_last = λ s lt. let x = stay_of s lt in rw (last-row (net_with c rounds stays caps most_price) s x.0 x.1, rounds_of) (fits s x.0 x.1).last;
-      some_weight = λ s lt. let x = stay_of s lt in rw (weight-row (net_with c rounds stays caps most_price) s x.0 x.1) (fits s x.0 x.1).some_weight;
-      small_weight = λ s lt. let x = stay_of s lt in rw (weight-row (net_with c rounds stays caps most_price) s x.0 x.1) (fits s x.0 x.1).small_weight;
+      from_first = λ s lt. let x = stay_of s lt in rw (arrival-row (net_with c commands rounds stays caps most_price) s x.0 x.1) (fits s x.0 x.1).first;
+      to_last = λ s lt. let x = stay_of s lt in rw (last-row (net_with c commands rounds stays caps most_price) s x.0 x.1, rounds_of) (fits s x.0 x.1).last;
+      some_weight = λ s lt. let x = stay_of s lt in rw (weight-row (net_with c commands rounds stays caps most_price) s x.0 x.1) (fits s x.0 x.1).some_weight;
+      small_weight = λ s lt. let x = stay_of s lt in rw (weight-row (net_with c commands rounds stays caps most_price) s x.0 x.1) (fits s x.0 x.1).small_weight;
       small_cap = small_caps;
       small_price = rw price_of is.small_price;
       price_room = price_room;
       live_admissible = filled_admissible;
     }
 
-    pub filled_net : IsNet (net_with c rounds stays caps most_price)
+    pub filled_net : IsNet (net_with c commands rounds stays caps most_price)
     filled_net = record { cells = length-cells rounds caps (row_count c * rounds) ∙ ap (λ n. n * rounds) (sym rows_of); sound = filled_sound }
 
 -- lists that have each part of it are the net
-pub net_with-parts : (c : Topology) (rounds' rounds links : ℕ) (adapter_of : List ℕ) (link_of : List (Option ℕ)) (stays' stays : List StayRow) (caps' : List ℕ) (caps : ℕ → ℕ → ℕ) (most_price : ℕ) → rounds' ≡ rounds → links ≡ length c.links →
+pub net_with-parts : (c' c : Topology) (commands' commands rounds' rounds links : ℕ) (adapter_of : List ℕ) (link_of : List (Option ℕ)) (stays' stays : List StayRow) (caps' : List ℕ) (caps : ℕ → ℕ → ℕ) (most_price : ℕ) → c' ≡ c → commands' ≡ commands → rounds' ≡ rounds → links ≡ length c.links →
     adapter_of ≡ map (λ (device : Device). device.bus) c.devices → link_of ≡ map (λ (adapter : Adapter). adapter.link) c.adapters → stays' ≡ stays → caps' ≡ table (row_count c) rounds caps →
-    ◌≡◌ {A = NetRows} (record { rounds = rounds'; links = links; adapter_of = adapter_of; link_of = link_of; stays = stays'; caps = caps'; most_price = most_price }) (net_with c rounds stays caps most_price)
-net_with-parts c rounds' rounds links adapter_of link_of stays' stays caps' caps most_price r l a o s is = rw (r, l, a, o, s, is) refl
+    ◌≡◌ {A = NetRows} (record { config = c'; commands = commands'; rounds = rounds'; links = links; adapter_of = adapter_of; link_of = link_of; stays = stays'; caps = caps'; most_price = most_price }) (net_with c commands rounds stays caps most_price)
+net_with-parts c' c commands' commands rounds' rounds links adapter_of link_of stays' stays caps' caps most_price k n r l a o s is = rw (k, n, r, l, a, o, s, is) refl

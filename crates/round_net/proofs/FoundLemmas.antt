@@ -1,7 +1,7 @@
 -- what was found at the places of a history makes its net
 use Rattle.std.proofs.Common.{◌≡◌, ℕ, ◌+◌, ◌-◌, ◌<◌, ◌≤◌, Bool, true, false, cond, List, [], ◌∷◌, length, map, drop, refl, sym, ap, ◌∙◌, arith, length-drop, Option, Some, None, not, unwrap_or, take_all}
 use Rattle.std.specs.Option.{option_map, option_map_or}
-use Rattle.round_net.specs.Words.{Topology, Adapter, Device, is_send_of, round, stays_begun, is_unsent, send_place, live_round, Event, Passage, next_stay, record_of, records}
+use Rattle.round_net.specs.Words.{commands, Topology, Adapter, Device, is_send_of, round, stays_begun, is_unsent, send_place, live_round, Event, Passage, next_stay, record_of, records}
 use Rattle.round_net.specs.Rows.{NetRows, cell, StayRow}
 use Rattle.round_net.specs.Caps.{row_count, is_free, openings_in, sends_in, cap}
 use Rattle.round_net.specs.Nets.{last_round, stay_row, row_of, table, net_of}
@@ -57,9 +57,9 @@ caps_found c es rounds frozen openings sends caps some noted cells are =
     are.1 (cell rounds row r) lt ∙ rw (noted.marked row r within first last, noted.sent row r within first last, noted.opened row r within first last) (flipped (is_free c es row r) (sends_in c es row r) (openings_in c es row r)))
 
 -- all parts of the net
-pub net_found : (c : Topology) (es : List Event) (rounds links : ℕ) (adapter_of : List ℕ) (link_of : List (Option ℕ)) (rows : List StayRow) (caps : List ℕ) →
-    rounds ≡ round es → links ≡ length c.links → adapter_of ≡ map (λ (device : Device). device.bus) c.devices → link_of ≡ map (λ (adapter : Adapter). adapter.link) c.adapters → rows ≡ map (row_of c rounds) (records es) →
-    caps ≡ table (row_count c) (round es) (cap c es) → ◌≡◌ {A = NetRows} (record { rounds = rounds; links = links; adapter_of = adapter_of; link_of = link_of; stays = rows; caps = caps; most_price = MOST_PRICE }) (net_of c es)
+pub net_found : (c' c : Topology) (es : List Event) (commands' rounds links : ℕ) (adapter_of : List ℕ) (link_of : List (Option ℕ)) (rows : List StayRow) (caps : List ℕ) →
+    c' ≡ c → commands' ≡ commands es → rounds ≡ round es → links ≡ length c.links → adapter_of ≡ map (λ (device : Device). device.bus) c.devices → link_of ≡ map (λ (adapter : Adapter). adapter.link) c.adapters → rows ≡ map (row_of c rounds) (records es) →
+    caps ≡ table (row_count c) (round es) (cap c es) → ◌≡◌ {A = NetRows} (record { config = c'; commands = commands'; rounds = rounds; links = links; adapter_of = adapter_of; link_of = link_of; stays = rows; caps = caps; most_price = MOST_PRICE }) (net_of c es)
 unfolding net_of
-net_found c es rounds links adapter_of link_of rows caps r l a o s are =
-    net_with-parts c rounds (round es) links adapter_of link_of rows (map (stay_row c es) (stays_begun es)) caps (cap c es) MOST_PRICE r l a o (s ∙ ap (λ n. map (row_of c n) (records es)) r ∙ rows_of_records c es) are
+net_found c' c es commands' rounds links adapter_of link_of rows caps k n r l a o s are =
+    net_with-parts c' c commands' (commands es) rounds (round es) links adapter_of link_of rows (map (stay_row c es) (stays_begun es)) caps (cap c es) MOST_PRICE k n r l a o (s ∙ ap (λ n. map (row_of c n) (records es)) r ∙ rows_of_records c es) are

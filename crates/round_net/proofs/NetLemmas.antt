@@ -8,7 +8,7 @@ use Rattle.std.proofs.lemmas.List.Elements.{All-nil, All-cons, All-map}
 use Rattle.std.proofs.lemmas.List.Sums.{AllPass-from_list_all, sum_by-cons}
 use Rattle.cam_types.specs.declared.maxima.TheConstants.{MOST_ROUNDS, MOST_STAYS, MOST_DEVICES, MOST_ADAPTERS, MOST_WEIGHT}
 use Rattle.round_net.specs.declared.price_range.TheConstants.{MOST_PRICE}
-use Rattle.round_net.specs.Words.{Topology, IsConfig, MOST_LINKS, MOST_OPENINGS, is_some_and, round, submission, stays_begun, is_unsent, unsent, name_of, names_device, Event, Submission, Passage, history_rules, is_legal, is_in_range, is_stay_of, is_stay_in_range}
+use Rattle.round_net.specs.Words.{Topology, IsConfig, commands, MOST_LINKS, MOST_OPENINGS, is_some_and, round, submission, stays_begun, is_unsent, unsent, name_of, names_device, Event, Submission, Passage, history_rules, is_legal, is_in_range, is_stay_of, is_stay_in_range}
 use Rattle.event_rules.proofs.RangeLemmas.{stays_in_range}
 use Rattle.event_rules.proofs.LimitLemmas.{round_first, round_most, stays_most}
 use Rattle.round_net.specs.Schedules.{IsAdmissible}
@@ -96,11 +96,11 @@ history_filled c es config legal complete = record {
 -- the live schedule of a complete history is admissible
 pub live_admissible : (c : Topology) (es : List Event) → IsConfig c → is_legal history_rules c es ≡ true → unsent es ≡ None → IsAdmissible (instance_of c es) (live_of c es)
 unfolding net_of
-live_admissible c es config legal complete = filled_admissible c (round es) (map (stay_row c es) (stays_begun es)) (cap c es) MOST_PRICE config (history_filled c es config legal complete)
+live_admissible c es config legal complete = filled_admissible c (commands es) (round es) (map (stay_row c es) (stays_begun es)) (cap c es) MOST_PRICE config (history_filled c es config legal complete)
 
 pub net_is_net : (c : Topology) (es : List Event) → IsConfig c → is_legal history_rules c es ≡ true → unsent es ≡ None → IsNet (net_of c es)
 unfolding net_of
-net_is_net c es config legal complete = filled_net c (round es) (map (stay_row c es) (stays_begun es)) (cap c es) MOST_PRICE config (history_filled c es config legal complete)
+net_is_net c es config legal complete = filled_net c (commands es) (round es) (map (stay_row c es) (stays_begun es)) (cap c es) MOST_PRICE config (history_filled c es config legal complete)
 
 -- it is within the limits of histories
 pub history_size : (c : Topology) (es : List Event) → is_legal history_rules c es ≡ true → ((instance_of c es).rounds ≤ MOST_ROUNDS) × ((instance_of c es).stays ≤ MOST_STAYS)

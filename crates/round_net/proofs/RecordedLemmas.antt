@@ -240,17 +240,17 @@ recording_filled r kept =
 
 pub recording_net : (r : Recorded) → IsKept r → IsNet (net_of_recording r)
 unfolding net_of_recording
-recording_net r kept = filled_net r.config r.rounds (map (request_row r.config r.rounds) (moments r.requests)) (recorded_cap r) MOST_NET_PRICE (head_config r kept.head) (recording_filled r kept)
+recording_net r kept = filled_net r.config (length r.requests) r.rounds (map (request_row r.config r.rounds) (moments r.requests)) (recorded_cap r) MOST_NET_PRICE (head_config r kept.head) (recording_filled r kept)
 
 -- the recorded schedule is admissible
 pub recording_admissible : (r : Recorded) → IsKept r → IsAdmissible (instance_of_recording r) (live_of_recording r)
 unfolding net_of_recording
-recording_admissible r kept = filled_admissible r.config r.rounds (map (request_row r.config r.rounds) (moments r.requests)) (recorded_cap r) MOST_NET_PRICE (head_config r kept.head) (recording_filled r kept)
+recording_admissible r kept = filled_admissible r.config (length r.requests) r.rounds (map (request_row r.config r.rounds) (moments r.requests)) (recorded_cap r) MOST_NET_PRICE (head_config r kept.head) (recording_filled r kept)
 
 -- lists that have each part of it are the net
-pub recording_parts : (r : Recorded) (rounds links : ℕ) (adapter_of : List ℕ) (link_of : List (Option ℕ)) (stays : List StayRow) (caps : List ℕ) → rounds ≡ r.rounds → links ≡ length r.config.links →
+pub recording_parts : (r : Recorded) (c : Topology) (commands rounds links : ℕ) (adapter_of : List ℕ) (link_of : List (Option ℕ)) (stays : List StayRow) (caps : List ℕ) → c ≡ r.config → commands ≡ length r.requests → rounds ≡ r.rounds → links ≡ length r.config.links →
     adapter_of ≡ map (λ (device : Device). device.bus) r.config.devices → link_of ≡ map (λ (adapter : Adapter). adapter.link) r.config.adapters → stays ≡ map (request_row r.config r.rounds) (moments r.requests) → caps ≡ table (row_count r.config) r.rounds (recorded_cap r) →
-    ◌≡◌ {A = NetRows} (record { rounds = rounds; links = links; adapter_of = adapter_of; link_of = link_of; stays = stays; caps = caps; most_price = MOST_NET_PRICE }) (net_of_recording r)
+    ◌≡◌ {A = NetRows} (record { config = c; commands = commands; rounds = rounds; links = links; adapter_of = adapter_of; link_of = link_of; stays = stays; caps = caps; most_price = MOST_NET_PRICE }) (net_of_recording r)
 unfolding net_of_recording
-recording_parts r rounds links adapter_of link_of stays caps e l a o s is =
-    net_with-parts r.config rounds r.rounds links adapter_of link_of stays (map (request_row r.config r.rounds) (moments r.requests)) caps (recorded_cap r) MOST_NET_PRICE e l a o s is
+recording_parts r c commands rounds links adapter_of link_of stays caps k n e l a o s is =
+    net_with-parts c r.config commands (length r.requests) rounds r.rounds links adapter_of link_of stays (map (request_row r.config r.rounds) (moments r.requests)) caps (recorded_cap r) MOST_NET_PRICE k n e l a o s is

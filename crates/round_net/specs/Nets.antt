@@ -2,7 +2,7 @@
 use Rattle.std.specs.Prelude.{ℕ, ◌+◌, ◌-◌, ◌*◌, ◌/◌, ◌%◌, List, length, map, unwrap_or}
 use Rattle.std.specs.List.{range_with_len}
 use Rattle.std.specs.Option.{option_map_or}
-use Rattle.round_net.specs.Words.{Topology, Adapter, Device, weight, round, stays_begun, name_of, live_round, Event, Passage, next_stay, StayRecord}
+use Rattle.round_net.specs.Words.{Topology, Adapter, Device, weight, commands, round, stays_begun, name_of, live_round, Event, Passage, next_stay, StayRecord}
 use Rattle.round_net.specs.Instance.{Instance}
 use Rattle.round_net.specs.Rows.{NetRows, instance_of_rows, live_of_rows, StayRow}
 use Rattle.round_net.specs.Caps.{row_count, cap}
@@ -42,9 +42,11 @@ cells rounds value n = map (λ at. value (at / rounds) (at % rounds + 1)) (range
 abbrev pub table : ℕ → ℕ → (ℕ → ℕ → ℕ) → List ℕ
 table rows rounds value = cells rounds value (rows * rounds)
 
--- the net of a configuration with so many rounds, these stays, caps by row and round, and a largest price
-abbrev pub net_with : Topology → ℕ → List StayRow → (ℕ → ℕ → ℕ) → ℕ → NetRows
-net_with c rounds stays caps most_price = record {
+-- the net of a configuration with that many commands and rounds, these stays, caps by row and round, and a largest price
+abbrev pub net_with : Topology → ℕ → ℕ → List StayRow → (ℕ → ℕ → ℕ) → ℕ → NetRows
+net_with c commands rounds stays caps most_price = record {
+  config = c;
+  commands = commands;
   rounds = rounds;
   links = length c.links;
   adapter_of = map (λ (device : Device). device.bus) c.devices;
@@ -56,7 +58,7 @@ net_with c rounds stays caps most_price = record {
 
 -- the net of a history's configuration and events
 unfoldable pub net_of : Topology → List Event → NetRows
-net_of c events = net_with c (round events) (map (stay_row c events) (stays_begun events)) (cap c events) MOST_PRICE
+net_of c events = net_with c (commands events) (round events) (map (stay_row c events) (stays_begun events)) (cap c events) MOST_PRICE
 
 -- what there is to plan of a history, and where its stays were sent
 abbrev pub instance_of : Topology → List Event → Instance

@@ -32,9 +32,9 @@ part_of_row c row = by_row c (part_of kind.Device) (part_of kind.Adapter) (part_
 unfoldable pub recorded_cap : Recorded → ℕ → ℕ → ℕ
 recorded_cap r row round = cap_in r.config r.caps (part_of_row r.config row) round
 
--- the net of a recording: a stay for each request, in their order
+-- the net of a recording: a command and a stay for each request, in their order
 unfoldable pub net_of_recording : Recorded → NetRows
-net_of_recording r = net_with r.config r.rounds (map (request_row r.config r.rounds) (moments r.requests)) (recorded_cap r) MOST_NET_PRICE
+net_of_recording r = net_with r.config (length r.requests) r.rounds (map (request_row r.config r.rounds) (moments r.requests)) (recorded_cap r) MOST_NET_PRICE
 
 -- what there is to plan of a recording, and where its stays were sent
 abbrev pub instance_of_recording : Recorded → Instance

@@ -1,13 +1,16 @@
 -- a net as flat lists, and what it holds
 use Rattle.std.specs.Prelude.{ℕ, ◌+◌, ◌-◌, ◌*◌, List, length, map, Option, option_and_then, slice_get, slice_index}
 use Rattle.std.specs.Option.{option_map_or}
+use Rattle.cam_types.specs.Topology.{Topology}
 use Rattle.event_rules.specs.declared.stay.Stay.{Stay}
 use Rattle.round_net.specs.Instance.{Instance}
 pub use Rattle.round_net.specs.declared.stay_row.StayRow.{StayRow}
 
--- each device's adapter, each adapter's link, each stay, the caps of rows: those of the first row's rounds, then those of the
--- second one's, and so on; and the most that one opening may be worth
+-- what there was, and how many commands; each device's adapter, each adapter's link, each stay, the caps of rows: those of the
+-- first row's rounds, then those of the second one's, and so on; and the most that one opening may be worth
 pub record NetRows : Type 0 where
+  pub config : Topology
+  pub commands : ℕ
   pub rounds : ℕ
   pub links : ℕ
   pub adapter_of : List ℕ

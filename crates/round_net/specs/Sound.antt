@@ -12,10 +12,11 @@ use Rattle.round_net.specs.Rows.{NetRows, instance_of_rows, live_of_rows}
 unfoldable pub longest_way : Instance → ℕ
 longest_way net = MOST_WEIGHT * net.rounds * (rows net * (net.rounds + 1) + 1)
 
--- It is within the limits: each stay is of a device, each device is on an adapter, an adapter on a link or on none, windows lie
+-- There is a round. It is within the limits: each stay is of a device, each device is on an adapter, an adapter on a link or on none, windows lie
 -- within the rounds, and no weight or cap is too large. There is room for the prices that prove a best schedule, which a
 -- longest way bounds. Its live schedule is admissible.
 pub record IsSound (net : Instance) (live : ℕ → ℕ) : Type 0 where
+  pub some_rounds : 1 ≤ net.rounds
   pub few_rounds : net.rounds ≤ MOST_NET_ROUNDS
   pub few_stays : net.stays ≤ MOST_NET_STAYS
   pub few_devices : net.devices ≤ MOST_DEVICES

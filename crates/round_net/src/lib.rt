@@ -11,7 +11,7 @@ pub use price_range::{MOST_NET_PRICE, MOST_PRICE, PriceRange};
 pub use prices::Prices;
 pub use round_table::RoundTable;
 pub use schedule::Schedule;
-pub use waiting::cost;
+pub use waiting::{cost, live_cost};
 
 mod cap_rows;
 mod cause;

@@ -8,6 +8,7 @@ use crate::round_table::RoundTable;
 use crate::stay_row::StayRow;
 use crate::stay_rows::{adapters_of, links_of, stay_rows};
 use cam_event::History;
+use cam_types::Config;
 use event_rules::Stay;
 use recording_file::Recording;
 use std::alloc::{AllocError, Global};
@@ -19,6 +20,8 @@ use std::marker::Model;
 /// for each adapter, and after these one for each link. Each number that a call takes has to be within the net.
 #[derive(Debug, Drop)]
 pub struct Net {
+    config: Config,
+    commands: u32,
     rounds: u32,
     links: u32,
     adapter_of: Vec<u32>,
@@ -34,13 +37,14 @@ impl Model for Net {
 
     ghost Value = { NetRows };
 
-    ghost view = { λ n. record { rounds = n.rounds; links = n.links; adapter_of = n.adapter_of.items; link_of = n.link_of.items; stays = n.stays.items; caps = n.caps.items; most_price = n.most_price } };
+    ghost view = { λ n. record { config = n.config; commands = n.commands; rounds = n.rounds; links = n.links; adapter_of = n.adapter_of.items; link_of = n.link_of.items; stays = n.stays.items; caps = n.caps.items; most_price = n.most_price } };
 
-    ghost invariant = { λ n. IsNet (record { rounds = n.rounds; links = n.links; adapter_of = n.adapter_of.items; link_of = n.link_of.items; stays = n.stays.items; caps = n.caps.items; most_price = n.most_price }) };
+    ghost invariant = { λ n. IsNet (record { config = n.config; commands = n.commands; rounds = n.rounds; links = n.links; adapter_of = n.adapter_of.items; link_of = n.link_of.items; stays = n.stays.items; caps = n.caps.items; most_price = n.most_price }) };
 }
 
 impl Net {
     ghost use Rattle.std.specs.Prelude.{◌≡◌, ◌+◌, ◌*◌, ◌<◌, ◌≤◌, Some, length, slice_get};
+    ghost use Rattle.cam_types.specs.Topology.{IsConfig};
     ghost use Rattle.cam_types.specs.declared.maxima.TheConstants.{MOST_WEIGHT};
     ghost use Rattle.round_net.specs.declared.maxima.TheConstants.{MOST_NET_ROUNDS, MOST_CAP};
     ghost use Rattle.round_net.specs.Instance.{rows, adapter, link, adapter_row, link_row};
@@ -87,6 +91,8 @@ impl Net {
         let config = history.config();
         let rounds = history.round();
         Ok(Net {
+            config: config.copy(alloc)?,
+            commands: history.commands(),
             rounds,
             links: config.links().len() as u32,
             adapter_of: adapters_of(alloc, config.devices())?,
@@ -105,8 +111,11 @@ impl Net {
         ensures live { IfOk result (λ _. IsAdmissible (instance_of_recording recording.now) (live_of_recording recording.now)) }
     {
         let config = recording.config();
+        let rounds = recording.rounds();
         Ok(Net {
-            rounds: recording.rounds(),
+            config: config.copy(alloc)?,
+            commands: recording.requests().len() as u32,
+            rounds,
             links: config.links().len() as u32,
             adapter_of: adapters_of(alloc, config.devices())?,
             link_of: links_of(alloc, config.adapters())?,
@@ -116,7 +125,23 @@ impl Net {
         })
     }
 
-    /// How many rounds there are, at most `MOST_NET_ROUNDS`.
+    /// The weights, links, adapters and devices.
+    pub fn config(&self) -> &Config
+        ensures same { result.now ≡ self.now.config }
+        ensures kept { IsConfig self.now.config }
+    {
+        let _devices = self.config.devices();
+        &self.config
+    }
+
+    /// How many commands the stays are of.
+    pub fn commands(&self) -> u32
+        ensures { result ≡ self.now.commands }
+    {
+        self.commands
+    }
+
+    /// How many rounds there are, at least 1 and at most `MOST_NET_ROUNDS`.
     #[tactic(auto, unfolding(crate::specs::Rows::instance_of_rows))]
     pub fn rounds(&self) -> u32
         ensures same { result ≡ (instance_of_rows self.now).rounds }

@@ -25,6 +25,28 @@ pub fn cost(net: &Net, schedule: &Schedule) -> Option<u64>
     Some(total)
 }
 
+/// What the waiting of all stays cost, in weighted rounds, as they were sent.
+pub fn live_cost(net: &Net) -> u64
+    ensures same { result ≡ cost (instance_of_rows net.now) (live_of_rows net.now) }
+    ensures small { result ≤ 2 ^ 42 * (instance_of_rows net.now).stays }
+    ensures sound { IsSound (instance_of_rows net.now) (live_of_rows net.now) }
+{
+    let mut total = 0;
+    for stay in 0..net.stays() {
+        total += waited(net, stay);
+    }
+    total
+}
+
+// What the stay's waiting cost, as it was sent.
+fn waited(net: &Net, stay: u32) -> u64
+    requires { stay < (instance_of_rows net.now).stays }
+    ensures same { let n = instance_of_rows net.now in result ≡ n.weight stay * (live_of_rows net.now stay - n.arrival stay) }
+    ensures short { result ≤ 2 ^ 42 }
+{
+    u64::from(net.weight(stay)) * u64::from(net.live(stay).saturating_sub(net.arrival(stay)))
+}
+
 // What the stay's waiting costs, unless it lies before its arrival.
 fn waiting(net: &Net, schedule: &Schedule, stay: u32) -> Option<u64>
     requires size { length schedule.now ≡ (instance_of_rows net.now).stays }

@@ -17,8 +17,8 @@ returns-clause-net c =
     let h = c.args.history.now in
     let config = c.config-config.ensures in
     let rounds = c.round-rounds.ensures.same in
-    net_found h.config h.events c.round-rounds.result (length c.links.result.now) c.in_ok-adapters_of.field-0.items c.in_ok-links_of.field-0.items c.in_ok-stay_rows.field-0.items c.in_ok-caps.field-0.items
-    rounds (ap length c.links.ensures.same ∙ rw config refl) (c.in_ok-adapters_of.ensures ∙ rw (c.devices.ensures.same, config) refl) (c.in_ok-links_of.ensures ∙ rw (c.adapters.ensures.same, config) refl)
+    net_found c.in_ok-copy.field-0 h.config h.events c.commands.result c.round-rounds.result (length c.links.result.now) c.in_ok-adapters_of.field-0.items c.in_ok-links_of.field-0.items c.in_ok-stay_rows.field-0.items c.in_ok-caps.field-0.items
+    (c.in_ok-copy.ensures ∙ config) c.commands.ensures rounds (ap length c.links.ensures.same ∙ rw config refl) (c.in_ok-adapters_of.ensures ∙ rw (c.devices.ensures.same, config) refl) (c.in_ok-links_of.ensures ∙ rw (c.adapters.ensures.same, config) refl)
     (c.in_ok-stay_rows.ensures ∙ rw (config, c.stays.ensures) refl)
     (c.in_ok-caps.ensures ∙ ap (λ (t : Past). table (row_count t.config) (round t.events) (cap t.config t.events)) c.requires)
 
@@ -28,8 +28,8 @@ invariant_of-result c =
     let config = c.config-config.ensures in
     let rounds = c.round-rounds.ensures.same in
     let net =
-    net_found h.config h.events c.round-rounds.result (length c.links.result.now) c.in_ok-adapters_of.field-0.items c.in_ok-links_of.field-0.items c.in_ok-stay_rows.field-0.items c.in_ok-caps.field-0.items
-    rounds (ap length c.links.ensures.same ∙ rw config refl) (c.in_ok-adapters_of.ensures ∙ rw (c.devices.ensures.same, config) refl) (c.in_ok-links_of.ensures ∙ rw (c.adapters.ensures.same, config) refl)
+    net_found c.in_ok-copy.field-0 h.config h.events c.commands.result c.round-rounds.result (length c.links.result.now) c.in_ok-adapters_of.field-0.items c.in_ok-links_of.field-0.items c.in_ok-stay_rows.field-0.items c.in_ok-caps.field-0.items
+    (c.in_ok-copy.ensures ∙ config) c.commands.ensures rounds (ap length c.links.ensures.same ∙ rw config refl) (c.in_ok-adapters_of.ensures ∙ rw (c.devices.ensures.same, config) refl) (c.in_ok-links_of.ensures ∙ rw (c.adapters.ensures.same, config) refl)
     (c.in_ok-stay_rows.ensures ∙ rw (config, c.stays.ensures) refl)
     (c.in_ok-caps.ensures ∙ ap (λ (t : Past). table (row_count t.config) (round t.events) (cap t.config t.events)) c.requires) in
     let kept : IsConfig h.config = rw config at c.devices.ensures.kept in

@@ -2,7 +2,7 @@
 use Rattle.std.proofs.Common.{◌≡◌, ◌≤◌, ◌<◌, ◌+◌, ◌-◌, ℕ, zero, suc, List, [], ◌++◌, length, take, drop, get_or, replicate, refl, sym, ap, ◌∙◌, subst, arith, append_assoc, append-nil, ◌==◌, Result, Ok, Err, codes, All, count_by}
 use Rattle.std.proofs.lemmas.List.{append_cancel_right, take-append-drop, get_or_append_left, length-replicate, length-append}
 use Rattle.std.proofs.lemmas.List.Elements.{All-append, All-replicate, All-get_or}
-use Rattle.price_check.specs.Words.{Past, NetRows, instance_of_rows, live_of_rows, IsSound, MOST_NET_PRICE}
+use Rattle.price_check.specs.Words.{NetRows, instance_of_rows, live_of_rows, IsSound, MOST_NET_PRICE}
 use Rattle.price_check.specs.Pieces.{line_of}
 use Rattle.price_check.specs.Forms.{most_stated, most_number}
 use Rattle.price_check.specs.Reading.{series, ReportFault}
@@ -17,7 +17,7 @@ use Rattle.price_check.proofs.StepLaws.{Exact, Steps, series_broken, behind_one}
 use Rattle.price_check.proofs.SectionLaws.{seven_at, seven_form, seven_takes, seven_steps, seven_lines, seven_texts, said_of, parts_of, report_parts}
 
 -- a fault's line follows on a front that is also the front of a claim's report
-pub record FailsBehind (past : Past) (net : NetRows) (live : ℕ) (text : List ℕ) (e : ReportFault) : Type 0 where
+pub record FailsBehind (net : NetRows) (text : List ℕ) (e : ReportFault) : Type 0 where
   pub front : List ℕ
   pub rest : List ℕ
   pub more : List ℕ
@@ -25,7 +25,7 @@ pub record FailsBehind (past : Past) (net : NetRows) (live : ℕ) (text : List �
   pub whole : text ≡ front ++ rest
   pub claim : Claim
   pub claims : IsClaim (instance_of_rows net) claim
-  pub report : report_text past net live claim ≡ front ++ more
+  pub report : report_text net claim ≡ front ++ more
   pub line : fault_line e ≡ count_by (λ byte. byte == 10) front + 1
 
 pub line_behind : (text front : List ℕ) (at : ℕ) → text ≡ front ++ drop at text → line_of text at ≡ count_by (λ byte. byte == 10) front + 1
@@ -105,15 +105,15 @@ is_claim net best excess stays prices sound small small' hs hp = record {
 }
 
 -- its report, by sections
-abbrev pub sections : Past → NetRows → ℕ → ℕ → ℕ → List ℕ → List ℕ → List ℕ
-sections past net live best excess stays prices =
-    texts_of (seven_form past.events live) 7 (said_of best excess)
+abbrev pub sections : NetRows → ℕ → ℕ → List ℕ → List ℕ → List ℕ
+sections net best excess stays prices =
+    texts_of (seven_form net) 7 (said_of best excess)
     ++ (texts_of (stay_form net) (instance_of_rows net).stays stays
-    ++ (texts_of (form_of past.config.devices (instance_of_rows net).adapters (instance_of_rows net).rounds) (price_cells net) prices ++ codes "end\n"))
+    ++ (texts_of (form_of net.config.devices (instance_of_rows net).adapters (instance_of_rows net).rounds) (price_cells net) prices ++ codes "end\n"))
 
-pub made_report : (past : Past) (net : NetRows) (live best excess : ℕ) (stays prices : List ℕ) → report_text past net live (made net best excess stays prices) ≡ sections past net live best excess stays prices
+pub made_report : (net : NetRows) (best excess : ℕ) (stays prices : List ℕ) → report_text net (made net best excess stays prices) ≡ sections net best excess stays prices
 unfolding parts_of
-made_report past net live best excess stays prices = report_parts past net live (made net best excess stays prices) (record { rounds = refl; devices = refl; adapters = refl; links = refl; most_price = refl })
+made_report net best excess stays prices = report_parts net (made net best excess stays prices) (record { rounds = refl; devices = refl; adapters = refl; links = refl; most_price = refl })
 
 -- ---- where a section fails
 
@@ -148,9 +148,9 @@ broken_at form most text one takes steps n at e h =
     by k (Ok x) h is = absurd cc
     by k (Err d) h is = let same : d ≡ e = cc in subst (λ (f : ReportFault). fault_line f ≡ line_of text k) same h
 
-pub failed : (past : Past) (net : NetRows) (live : ℕ) (text : List ℕ) (e : ReportFault) (front more : List ℕ) (at : ℕ) (claim : Claim) → IsClosed front → text ≡ front ++ drop at text → fault_line e ≡ line_of text at
-    → IsClaim (instance_of_rows net) claim → report_text past net live claim ≡ front ++ more → FailsBehind past net live text e
-failed past net live text e front more at claim closed whole line claims report = record {
+pub failed : (net : NetRows) (text : List ℕ) (e : ReportFault) (front more : List ℕ) (at : ℕ) (claim : Claim) → IsClosed front → text ≡ front ++ drop at text → fault_line e ≡ line_of text at
+    → IsClaim (instance_of_rows net) claim → report_text net claim ≡ front ++ more → FailsBehind net text e
+failed net text e front more at claim closed whole line claims report = record {
   front = front;
   rest = drop at text;
   more = more;
@@ -181,19 +181,19 @@ regroup f t m x = simp append_assoc
 behind_front : (front part whole m x report : List ℕ) → report ≡ front ++ (whole ++ x) → whole ≡ part ++ m → report ≡ (front ++ part) ++ (m ++ x)
 behind_front front part whole m x report e h = e ∙ ap (λ (l : List ℕ). front ++ (l ++ x)) h ∙ regroup front part m x
 
-pub section_failed : (past : Past) (net : NetRows) (live : ℕ) (text : List ℕ) (e : ReportFault) (form : ℕ → ℕ → List ℕ) (most : ℕ) (one : Reader) (n at : ℕ) (front rest : List ℕ) (claim : Claim) → AreLines form → Front text front at
-    → (b : BrokenAt form most text one n at e) → IsClaim (instance_of_rows net) claim → report_text past net live claim ≡ front ++ (texts_of form n (padded n b.values) ++ rest) → FailsBehind past net live text e
-section_failed past net live text e form most one n at front rest claim lines f b claims report =
+pub section_failed : (net : NetRows) (text : List ℕ) (e : ReportFault) (form : ℕ → ℕ → List ℕ) (most : ℕ) (one : Reader) (n at : ℕ) (front rest : List ℕ) (claim : Claim) → AreLines form → Front text front at
+    → (b : BrokenAt form most text one n at e) → IsClaim (instance_of_rows net) claim → report_text net claim ≡ front ++ (texts_of form n (padded n b.values) ++ rest) → FailsBehind net text e
+section_failed net text e form most one n at front rest claim lines f b claims report =
     let lt = b.within in
     let p = padded_texts form n b.place b.values b.size (omega arith) in
     let f' = longer text front (texts_of form b.place b.values) at b.end f b.spelled (texts_closed form lines b.place b.values) in
-    failed past net live text e (front ++ texts_of form b.place b.values) (p.0 ++ rest) b.end claim f'.closed f'.whole b.line claims
+    failed net text e (front ++ texts_of form b.place b.values) (p.0 ++ rest) b.end claim f'.closed f'.whole b.line claims
     (behind_front front (texts_of form b.place b.values) (texts_of form n (padded n b.values)) p.0 rest _ report p.1)
 
-pub at_summary : (past : Past) (net : NetRows) (live : ℕ) (text : List ℕ) (e : ReportFault) → IsSound (instance_of_rows net) (live_of_rows net) → series (seven_at past.events live text) 7 0 ≡ Err e → FailsBehind past net live text e
-at_summary past net live text e sound h =
-    let form = seven_form past.events live in
-    let b = broken_at form most_stated text (seven_at past.events live text) (seven_takes past.events live text) (seven_steps past.events live text) 7 0 e h in
+pub at_summary : (net : NetRows) (text : List ℕ) (e : ReportFault) → IsSound (instance_of_rows net) (live_of_rows net) → series (seven_at net text) 7 0 ≡ Err e → FailsBehind net text e
+at_summary net text e sound h =
+    let form = seven_form net in
+    let b = broken_at form most_stated text (seven_at net text) (seven_takes net text) (seven_steps net text) 7 0 e h in
     let lt = b.within in
     let size = b.size in
     let full = filled 7 most_stated b.values (omega arith) b.small in
@@ -203,12 +203,12 @@ at_summary past net live text e sound h =
     let small' : excess ≤ most_stated = All-get_or (λ v. v ≤ most_stated) (padded 7 b.values) 6 0 (omega (arith, full.size)) full.small in
     let stays = replicate (instance_of_rows net).stays 0 in
     let prices = replicate (price_cells net) 0 in
-    let texts : texts_of form 7 (said_of best excess) ≡ texts_of form 7 (padded 7 b.values) = seven_texts past.events live best excess (said_of best excess) refl refl ∙ sym (seven_texts past.events live best excess (padded 7 b.values) refl refl) in
-    section_failed past net live text e form most_stated (seven_at past.events live text) 7 0 [] _ (made net best excess stays prices) (seven_lines past.events live) (record { whole = refl; closed = tt }) b
+    let texts : texts_of form 7 (said_of best excess) ≡ texts_of form 7 (padded 7 b.values) = seven_texts net best excess (said_of best excess) refl refl ∙ sym (seven_texts net best excess (padded 7 b.values) refl refl) in
+    section_failed net text e form most_stated (seven_at net text) 7 0 [] _ (made net best excess stays prices) (seven_lines net) (record { whole = refl; closed = tt }) b
     (is_claim net best excess stays prices sound small small' (zeros (instance_of_rows net).stays (most_number (instance_of_rows net))) (zeros (price_cells net) (instance_of_rows net).most_price))
-    (made_report past net live best excess stays prices
+    (made_report net best excess stays prices
     ∙ ap (λ (l : List ℕ). l ++ (texts_of (stay_form net) (instance_of_rows net).stays stays
-    ++ (texts_of (form_of past.config.devices (instance_of_rows net).adapters (instance_of_rows net).rounds) (price_cells net) prices ++ codes "end\n"))) texts)
+    ++ (texts_of (form_of net.config.devices (instance_of_rows net).adapters (instance_of_rows net).rounds) (price_cells net) prices ++ codes "end\n"))) texts)
 
 -- of a claim no price is above the net's largest, and that is no more than any net's
 pub price_fits : (net : NetRows) (claim : Claim) → IsClaim (instance_of_rows net) claim → (instance_of_rows net).most_price ≤ MOST_NET_PRICE

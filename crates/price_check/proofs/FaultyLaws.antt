@@ -1,16 +1,17 @@
 -- the line that a reader's fault names is the first faulty one
-use Rattle.std.proofs.Common.{◌≡◌, ◌≤◌, ◌<◌, ◌+◌, ◌-◌, ℕ, zero, suc, List, [], ◌∷◌, ◌++◌, length, take, drop, get_or, ◌≢◌, Bool, true, false, cond, refl, sym, ap, ◌∙◌, subst, arith, append_assoc, ◌==◌, Option, None, Result, Ok, Err, codes, count_by, slice_index, IfErr, eqb-true, take_all, length-take}
+use Rattle.std.proofs.Common.{◌≡◌, ◌≤◌, ◌<◌, ◌+◌, ◌-◌, ℕ, zero, suc, List, [], ◌∷◌, ◌++◌, length, take, drop, get_or, ◌≢◌, Bool, true, false, cond, refl, sym, ap, ◌∙◌, subst, arith, append_assoc, ◌==◌, Option, Result, Ok, Err, codes, count_by, slice_index, IfErr, eqb-true, take_all, length-take}
 use Rattle.std.specs.List.{AllByRecursion}
-use Rattle.price_check.specs.Words.{IsConfig, IsWhole, Device, Past, unsent, net_of, NetRows, instance_of_rows, live_of_rows, IsSound}
+use Rattle.price_check.specs.Words.{IsConfig, Device, NetRows, instance_of_rows, live_of_rows, IsSound, IsWholeWithin}
 use Rattle.round_net.proofs.CountLemmas.{count_by-append}
 use Rattle.price_check.specs.Lines.{line}
 use Rattle.price_check.specs.Pieces.{line_of}
 use Rattle.price_check.specs.Report.{summary_text}
+use Rattle.price_check.specs.Forms.{most_bytes}
 use Rattle.price_check.specs.Reading.{closed, reading, ReportFault}
 use Rattle.price_check.specs.Claims.{IsClaim, report_text, WasFaulty, Explains, fault_line, IsFirstFaulty, IsOfKind, Claim}
 use Rattle.price_check.specs.declared.report_fault.ReportFault.TheVariants as fault
 use Rattle.price_check.proofs.ApartLaws.{named_devices}
-use Rattle.price_check.proofs.OutcomeLaws.{ends, last_byte, some_rounds, live_is_known, IsOfText, FailsByText, Gives, reading_fails}
+use Rattle.price_check.proofs.OutcomeLaws.{ends, last_byte, IsOfText, FailsByText, Gives, reading_fails}
 use Rattle.price_check.proofs.ReadingLaws.{reading_again}
 use Rattle.price_check.specs.TextLines.{lines, with_byte}
 use Rattle.price_check.proofs.LinesLemmas.{IsClosed, IsSome, closed_line, lines_some, none_first, lines-count, parted, first_lines, same_lines}
@@ -68,18 +69,18 @@ closed_lines (a ∷ as') h = by (snoc a as')
 
 -- ---- a report is closed, and has a line
 
-pub report_closed : (past : Past) (net : NetRows) (live : ℕ) (claim : Claim) → IsClosed (report_text past net live claim)
-report_closed past net live claim =
-    let e = ends past net live claim in
+pub report_closed : (net : NetRows) (claim : Claim) → IsClosed (report_text net claim)
+report_closed net claim =
+    let e = ends net claim in
     rw (e.1 ∙ sym (append_assoc e.0 (codes "end") (codes "\n"))) (closed_line (e.0 ++ codes "end") [] tt)
 
-report_first : (past : Past) (net : NetRows) (live : ℕ) (claim : Claim) → get_or (report_text past net live claim) 0 0 ≡ 99
+report_first : (net : NetRows) (claim : Claim) → get_or (report_text net claim) 0 0 ≡ 99
 unfolding report_text summary_text line
-report_first past net live claim = refl
+report_first net claim = refl
 
-report_some : (past : Past) (net : NetRows) (live : ℕ) (claim : Claim) → IsSome (report_text past net live claim)
+report_some : (net : NetRows) (claim : Claim) → IsSome (report_text net claim)
 unfolding report_text summary_text line
-report_some past net live claim = tt
+report_some net claim = tt
 
 -- ---- lines that are further after have higher numbers
 
@@ -109,19 +110,19 @@ at_fault text m r e h is = subst (λ (x : Result Claim ReportFault). Reaches tex
 short : (n : ℕ) (ls : List (List ℕ)) → length (take n ls) < n → take n ls ≡ ls
 short n ls h = let size = length-take n ls in take_all n ls (omega arith)
 
-none_begins : (past : Past) (net : NetRows) (live : ℕ) (text : List ℕ) (e : ReportFault) (claim : Claim) → Known past net claim → IsClosed text → reading past.config.devices past.events live net text ≡ Err e
-    → 1 ≤ fault_line e → take (fault_line e) (lines text) ≡ take (fault_line e) (lines (report_text past net live claim)) → ⊥
-none_begins past net live text e claim known closed h counted same =
+none_begins : (net : NetRows) (text : List ℕ) (e : ReportFault) (claim : Claim) → Known net claim → IsClosed text → reading net.config.devices net text ≡ Err e
+    → 1 ≤ fault_line e → take (fault_line e) (lines text) ≡ take (fault_line e) (lines (report_text net claim)) → ⊥
+none_begins net text e claim known closed h counted same =
     let n = fault_line e in
-    let report = report_text past net live claim in
+    let report = report_text net claim in
     let p = parted n text closed in
-    let q = parted n report (report_closed past net live claim) in
+    let q = parted n report (report_closed net claim) in
     let front : p.front ≡ q.front = same_lines p.front q.front p.closed q.closed (p.first ∙ same ∙ sym q.first) in
     let whole : report ≡ p.front ++ q.back = q.whole ∙ ap (λ (l : List ℕ). l ++ q.back) (sym front) in
-    let some = some_front n p.front report counted (report_some past net live claim) (p.first ∙ same) in
-    let passed = passes past net live claim text p.back p.front q.back known p.closed some whole p.whole in
+    let some = some_front n p.front report counted (report_some net claim) (p.first ∙ same) in
+    let passed = passes net claim text p.back p.front q.back known p.closed some whole p.whole in
     let here : text ≡ p.front ++ drop passed.at text = p.whole ∙ ap (λ (l : List ℕ). p.front ++ l) (sym passed.behind) in
-    let a = at_fault text passed.at (reading past.config.devices past.events live net text) e passed.reaches h in
+    let a = at_fault text passed.at (reading net.config.devices net text) e passed.reaches h in
     let le = line_of-le text passed.at a.0 a.1 in
     let line = line_behind text p.front passed.at here in
     let count = lines-count p.front p.closed in
@@ -130,9 +131,9 @@ none_begins past net live text e claim known closed h counted same =
     let few : length (take n (lines text)) < n = omega arith in
     let few' : length (take n (lines report)) < n = subst (λ (ls : List (List ℕ)). length ls < n) same few in
     let all : lines text ≡ lines report = sym (short n (lines text) few) ∙ same ∙ short n (lines report) few' in
-    let equal : text ≡ report = same_lines text report closed (report_closed past net live claim) all in
-    let read = reading_again past net live text claim known.named known.some known.claims equal in
-    absurd (differ (reading past.config.devices past.events live net text) read h)
+    let equal : text ≡ report = same_lines text report closed (report_closed net claim) all in
+    let read = reading_again net text claim known.named known.some known.claims equal in
+    absurd (differ (reading net.config.devices net text) read h)
   where
     differ : (r : Result Claim ReportFault) → r ≡ Ok claim → r ≡ Err e → ⊥
     differ (Ok c) k l = absurd cc
@@ -148,112 +149,109 @@ unfolding lines
 not_empty zero ls le some k = absurd (omega arith)
 not_empty (suc n) ls le some k = none_first n ls k some
 
-pub first_faulty : (past : Past) (net : NetRows) (live : ℕ) (text : List ℕ) (e : ReportFault) → net ≡ net_of past.config past.events → IsConfig past.config → IsSound (instance_of_rows net) (live_of_rows net)
-    → reading past.config.devices past.events live net (closed text) ≡ Err e → IsFirstFaulty past net live text (fault_line e)
-first_faulty past net live [] e is config sound h = by f.front f.line f.whole f.report
+pub first_faulty : (net : NetRows) (text : List ℕ) (e : ReportFault) → IsConfig net.config → IsSound (instance_of_rows net) (live_of_rows net)
+    → reading net.config.devices net (closed text) ≡ Err e → IsFirstFaulty net text (fault_line e)
+first_faulty net [] e config sound h = by f.front f.line f.whole f.report
   where
-    f : FailsBehind past net live (codes "\n") e
-    f = fails_behind past net live (codes "\n") e sound h
+    f : FailsBehind net (codes "\n") e
+    f = fails_behind net (codes "\n") e sound h
 
-    by : (front : List ℕ) → fault_line e ≡ count_by (λ byte. byte == 10) front + 1 → codes "\n" ≡ front ++ f.rest → report_text past net live f.claim ≡ front ++ f.more → IsFirstFaulty past net live [] (fault_line e)
+    by : (front : List ℕ) → fault_line e ≡ count_by (λ byte. byte == 10) front + 1 → codes "\n" ≡ front ++ f.rest → report_text net f.claim ≡ front ++ f.more → IsFirstFaulty net [] (fault_line e)
     by [] line whole report =
         let one : fault_line e ≡ 1 = line in
         record {
           counted = omega arith;
           claim = f.claim;
           before = record { claims = f.claims; same = rw one refl };
-          none = λ targets claim b. not_empty (fault_line e) (lines (report_text past net live claim)) (omega arith) (lines_some (report_text past net live claim) (report_some past net live claim)) b.same;
+          none = λ targets claim b. not_empty (fault_line e) (lines (report_text net claim)) (omega arith) (lines_some (report_text net claim) (report_some net claim)) b.same;
         }
     by (c ∷ cs) line whole report =
         let first : 10 ≡ c = cc in
-        let byte : 99 ≡ c = sym (report_first past net live f.claim) ∙ ap (λ (l : List ℕ). get_or l 0 0) report in
+        let byte : 99 ≡ c = sym (report_first net f.claim) ∙ ap (λ (l : List ℕ). get_or l 0 0) report in
         absurd (omega arith)
-first_faulty past net live (c ∷ cs) e is config sound h =
+first_faulty net (c ∷ cs) e config sound h =
     let text = c ∷ cs in
     let whole = closed text in
     let as' = closed_lines text tt in
-    let f = fails_behind past net live whole e sound h in
+    let f = fails_behind net whole e sound h in
     let n = fault_line e in
     let line = f.line in
     let before : n - 1 ≡ count_by (λ byte. byte == 10) f.front = omega arith in
     let here : take (n - 1) (lines text) ≡ lines f.front = ap (λ (ls : List (List ℕ)). take (n - 1) ls) (sym as'.same ∙ ap lines f.whole) ∙ first_lines f.front f.rest (n - 1) f.closed before in
-    let there : take (n - 1) (lines (report_text past net live f.claim)) ≡ lines f.front = ap (λ (l : List ℕ). take (n - 1) (lines l)) f.report ∙ first_lines f.front f.more (n - 1) f.closed before in
+    let there : take (n - 1) (lines (report_text net f.claim)) ≡ lines f.front = ap (λ (l : List ℕ). take (n - 1) (lines l)) f.report ∙ first_lines f.front f.more (n - 1) f.closed before in
     record {
       counted = omega arith;
       claim = f.claim;
       before = record { claims = f.claims; same = here ∙ sym there };
       none = λ targets claim b.
-          let known : Known past net claim = record {
-            named = named_devices past.config config.kept targets;
-            some = some_rounds past.config past.events net is;
+          let known : Known net claim = record {
+            named = named_devices net.config config.kept targets;
+            some = sound.some_rounds;
             claims = b.claims;
           } in
-          none_begins past net live whole e claim known as'.closed h (omega arith) (ap (λ (ls : List (List ℕ)). take n ls) as'.same ∙ b.same);
+          none_begins net whole e claim known as'.closed h (omega arith) (ap (λ (ls : List (List ℕ)). take n ls) as'.same ∙ b.same);
     }
 
 -- ---- the kind of the fault
 
-known_of : (past : Past) (net : NetRows) → net ≡ net_of past.config past.events → IsConfig past.config → AllByRecursion (λ (d : Device). d.target ≤ 65535) past.config.devices → (claim : Claim) → IsClaim (instance_of_rows net) claim → Known past net claim
-known_of past net is config targets claim claims = record {
-  named = named_devices past.config config.kept targets;
-  some = some_rounds past.config past.events net is;
+known_of : (net : NetRows) → IsSound (instance_of_rows net) (live_of_rows net) → IsConfig net.config → AllByRecursion (λ (d : Device). d.target ≤ 65535) net.config.devices → (claim : Claim) → IsClaim (instance_of_rows net) claim → Known net claim
+known_of net sound config targets claim claims = record {
+  named = named_devices net.config config.kept targets;
+  some = sound.some_rounds;
   claims = claims;
 }
 
 -- an empty text fails in its first line
-first_of_none : (past : Past) (net : NetRows) (live : ℕ) (e : ReportFault) → IsSound (instance_of_rows net) (live_of_rows net) → reading past.config.devices past.events live net (codes "\n") ≡ Err e → fault_line e ≡ 1
-first_of_none past net live e sound h = by f.front f.line f.whole f.report
+first_of_none : (net : NetRows) (e : ReportFault) → IsSound (instance_of_rows net) (live_of_rows net) → reading net.config.devices net (codes "\n") ≡ Err e → fault_line e ≡ 1
+first_of_none net e sound h = by f.front f.line f.whole f.report
   where
-    f : FailsBehind past net live (codes "\n") e
-    f = fails_behind past net live (codes "\n") e sound h
+    f : FailsBehind net (codes "\n") e
+    f = fails_behind net (codes "\n") e sound h
 
-    by : (front : List ℕ) → fault_line e ≡ count_by (λ byte. byte == 10) front + 1 → codes "\n" ≡ front ++ f.rest → report_text past net live f.claim ≡ front ++ f.more → fault_line e ≡ 1
+    by : (front : List ℕ) → fault_line e ≡ count_by (λ byte. byte == 10) front + 1 → codes "\n" ≡ front ++ f.rest → report_text net f.claim ≡ front ++ f.more → fault_line e ≡ 1
     by [] line whole report = line
     by (c ∷ cs) line whole report =
         let first : 10 ≡ c = cc in
-        let byte : 99 ≡ c = sym (report_first past net live f.claim) ∙ ap (λ (l : List ℕ). get_or l 0 0) report in
+        let byte : 99 ≡ c = sym (report_first net f.claim) ∙ ap (λ (l : List ℕ). get_or l 0 0) report in
         absurd (omega arith)
 
-kind_law : (past : Past) (net : NetRows) (live : ℕ) (text : List ℕ) (e : ReportFault) → net ≡ net_of past.config past.events → IsConfig past.config → IsSound (instance_of_rows net) (live_of_rows net)
-    → reading past.config.devices past.events live net (closed text) ≡ Err e → IsOfKind past net live text e
-kind_law past net live [] e is config sound h =
-    kind_first past net live (codes "\n") [] e (first_of_none past net live e sound h)
-    (kind_of_closed past net live (codes "\n") e (some_rounds past.config past.events net is) sound refl (report_closed past net live) (known_of past net is config) h)
-kind_law past net live (c ∷ cs) e is config sound h =
+kind_law : (net : NetRows) (text : List ℕ) (e : ReportFault) → IsConfig net.config → IsSound (instance_of_rows net) (live_of_rows net)
+    → reading net.config.devices net (closed text) ≡ Err e → IsOfKind net text e
+kind_law net [] e config sound h =
+    kind_first net (codes "\n") [] e (first_of_none net e sound h)
+    (kind_of_closed net (codes "\n") e sound.some_rounds sound refl (report_closed net) (known_of net sound config) h)
+kind_law net (c ∷ cs) e config sound h =
     let as' = closed_lines (c ∷ cs) tt in
-    kind_same past net live (closed (c ∷ cs)) (c ∷ cs) e as'.same
-    (kind_of_closed past net live (closed (c ∷ cs)) e (some_rounds past.config past.events net is) sound as'.closed (report_closed past net live) (known_of past net is config) h)
+    kind_same net (closed (c ∷ cs)) (c ∷ cs) e as'.same
+    (kind_of_closed net (closed (c ∷ cs)) e sound.some_rounds sound as'.closed (report_closed net) (known_of net sound config) h)
 
 -- ---- what a reader of reports answers where it fails
 
-explained : (past : Past) (net : NetRows) (before after : Option (List ℕ)) (failed : Bool) (e : ReportFault) → IsOfText e → WasFaulty past net before after e → Explains past net before after failed e
-explained past net before after failed (fault.BadLine n) t h = h
-explained past net before after failed (fault.PriceRange n) t h = h
-explained past net before after failed (fault.WrongStays n) t h = h
-explained past net before after failed _ t h = absurd t
+explained : (net : NetRows) (before after : Option (List ℕ)) (failed : Bool) (e : ReportFault) → IsOfText e → WasFaulty net before after e → Explains net before after failed e
+explained net before after failed (fault.BadLine n) t h = h
+explained net before after failed (fault.PriceRange n) t h = h
+explained net before after failed (fault.WrongStays n) t h = h
+explained net before after failed _ t h = absurd t
 
 of_text : {X : Type 0} (r : Result X ReportFault) (e : ReportFault) → FailsByText r → r ≡ Err e → IsOfText e
 of_text r e h is = rw is at h
 
-was_faulty : (past : Past) (net : NetRows) (before after : Option (List ℕ)) (failed : Bool) (text : List ℕ) (e : ReportFault) → net ≡ net_of past.config past.events → IsConfig past.config
-    → unsent past.events ≡ None → IsSound (instance_of_rows net) (live_of_rows net) → IsWhole before after text → Gives past net text (Err e) → e ≢ fault.OutOfMemory → Explains past net before after failed e
-was_faulty past net before after failed text e is config sent sound whole h other =
-    let live = live_is_known past.config past.events sent in
-    let first : reading past.config.devices past.events live.0 net (closed text) ≡ Err e = sym (h live.0 live.1 (λ k. other (cc))) in
-    explained past net before after failed e (of_text _ e (reading_fails past.config.devices past.events live.0 net (closed text)) first) (record {
+was_faulty : (net : NetRows) (before after : Option (List ℕ)) (failed : Bool) (text : List ℕ) (e : ReportFault) → IsConfig net.config
+    → IsSound (instance_of_rows net) (live_of_rows net) → IsWholeWithin (most_bytes (instance_of_rows net)) before after text → Gives net text (Err e) → e ≢ fault.OutOfMemory → Explains net before after failed e
+was_faulty net before after failed text e config sound whole h other =
+    let first : reading net.config.devices net (closed text) ≡ Err e = sym (h (λ k. other (cc))) in
+    explained net before after failed e (of_text _ e (reading_fails net.config.devices net (closed text)) first) (record {
       text = text;
       whole = whole;
-      live = live.0;
-      costs = live.1;
-      first = first_faulty past net live.0 text e is config sound first;
-      kind = kind_law past net live.0 text e is config sound first;
+      first = first_faulty net text e config sound first;
+      kind = kind_law net text e config sound first;
     })
 
-pub faults_law : (past : Past) (net : NetRows) (before after : Option (List ℕ)) (failed : Bool) (text : List ℕ) (r : Result Claim ReportFault) → net ≡ net_of past.config past.events → IsConfig past.config
-    → unsent past.events ≡ None → (r ≢ Err fault.OutOfMemory → IsSound (instance_of_rows net) (live_of_rows net)) → IsWhole before after text → Gives past net text r → IfErr r (Explains past net before after failed)
-faults_law past net before after failed text (Err (fault.BadLine n)) is config sent sound whole h = was_faulty past net before after failed text (fault.BadLine n) is config sent (sound (λ k. cc)) whole h (λ k. cc)
-faults_law past net before after failed text (Err (fault.PriceRange n)) is config sent sound whole h = was_faulty past net before after failed text (fault.PriceRange n) is config sent (sound (λ k. cc)) whole h (λ k. cc)
-faults_law past net before after failed text (Err (fault.WrongStays n)) is config sent sound whole h = was_faulty past net before after failed text (fault.WrongStays n) is config sent (sound (λ k. cc)) whole h (λ k. cc)
-faults_law past net before after failed text (Err fault.TooLong) is config sent sound whole h = was_faulty past net before after failed text fault.TooLong is config sent (sound (λ k. cc)) whole h (λ k. cc)
-faults_law past net before after failed text (Err fault.ReadFailed) is config sent sound whole h = was_faulty past net before after failed text fault.ReadFailed is config sent (sound (λ k. cc)) whole h (λ k. cc)
-faults_law past net before after failed text _ is config sent sound whole h = tt
+pub faults_law : (net : NetRows) (before after : Option (List ℕ)) (failed : Bool) (text : List ℕ) (r : Result Claim ReportFault) → IsConfig net.config
+    → (r ≢ Err fault.OutOfMemory → IsSound (instance_of_rows net) (live_of_rows net)) → IsWholeWithin (most_bytes (instance_of_rows net)) before after text → Gives net text r → IfErr r (Explains net before after failed)
+faults_law net before after failed text (Err (fault.BadLine n)) config sound whole h = was_faulty net before after failed text (fault.BadLine n) config (sound (λ k. cc)) whole h (λ k. cc)
+faults_law net before after failed text (Err (fault.PriceRange n)) config sound whole h = was_faulty net before after failed text (fault.PriceRange n) config (sound (λ k. cc)) whole h (λ k. cc)
+faults_law net before after failed text (Err (fault.WrongStays n)) config sound whole h = was_faulty net before after failed text (fault.WrongStays n) config (sound (λ k. cc)) whole h (λ k. cc)
+faults_law net before after failed text (Err fault.TooLong) config sound whole h = was_faulty net before after failed text fault.TooLong config (sound (λ k. cc)) whole h (λ k. cc)
+faults_law net before after failed text (Err fault.ReadFailed) config sound whole h = was_faulty net before after failed text fault.ReadFailed config (sound (λ k. cc)) whole h (λ k. cc)
+faults_law net before after failed text _ config sound whole h = tt

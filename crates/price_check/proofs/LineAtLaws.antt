@@ -3,7 +3,7 @@ use Rattle.std.proofs.Common.{◌≡◌, ℕ, zero, suc, List, [], ◌∷◌, �
 use Rattle.std.specs.Prelude.{◌⊎◌, Some, slice_get}
 use Rattle.std.proofs.lemmas.Bool.{ne_eqb}
 use Rattle.std.proofs.lemmas.List.{append_cancel_left}
-use Rattle.price_check.specs.Words.{Event, NetRows}
+use Rattle.price_check.specs.Words.{NetRows}
 use Rattle.price_check.specs.Lines.{line}
 use Rattle.price_check.specs.Report.{stay_line}
 use Rattle.price_check.specs.TextLines.{lines, with_byte}
@@ -92,18 +92,18 @@ some_line : (l : List ℕ) → (l ≡ []) ⊎ IsLine l → IsSome l → IsLine l
 some_line l (inl none) some = absurd (subst (λ (x : List ℕ). IsSome x) none some)
 some_line l (inr h) some = h
 
-seven_some : (events : List Event) (live k v : ℕ) → IsSome (seven_form events live k v)
+seven_some : (net : NetRows) (k v : ℕ) → IsSome (seven_form net k v)
 unfolding line
-seven_some events live zero v = tt
-seven_some events live (suc zero) v = tt
-seven_some events live (suc (suc zero)) v = tt
-seven_some events live (suc (suc (suc zero))) v = tt
-seven_some events live (suc (suc (suc (suc zero)))) v = tt
-seven_some events live (suc (suc (suc (suc (suc zero))))) v = tt
-seven_some events live (suc (suc (suc (suc (suc (suc k)))))) v = tt
+seven_some net zero v = tt
+seven_some net (suc zero) v = tt
+seven_some net (suc (suc zero)) v = tt
+seven_some net (suc (suc (suc zero))) v = tt
+seven_some net (suc (suc (suc (suc zero)))) v = tt
+seven_some net (suc (suc (suc (suc (suc zero))))) v = tt
+seven_some net (suc (suc (suc (suc (suc (suc k)))))) v = tt
 
-pub seven_line : (events : List Event) (live k v : ℕ) → IsLine (seven_form events live k v)
-seven_line events live k v = some_line (seven_form events live k v) (seven_lines events live k v) (seven_some events live k v)
+pub seven_line : (net : NetRows) (k v : ℕ) → IsLine (seven_form net k v)
+seven_line net k v = some_line (seven_form net k v) (seven_lines net k v) (seven_some net k v)
 
 stay_some : (net : NetRows) (s v : ℕ) → IsSome (stay_form net s v)
 unfolding stay_line

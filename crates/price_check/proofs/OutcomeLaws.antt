@@ -1,14 +1,13 @@
 -- what a reader of reports answers
 use Rattle.std.proofs.Common.{◌≡◌, ◌≢◌, ◌≤◌, ◌+◌, ◌-◌, ℕ, zero, suc, List, ◌++◌, length, get_or, Bool, true, false, cond, refl, sym, ap, ◌∙◌, subst, arith, append_assoc, append-nil, length-append, inl, inr, eq-eqb, ne_eqb}
-use Rattle.std.specs.Prelude.{◌==◌, ◌&&◌, ◌⊎◌, ⊤, nat_le, Option, Some, None, Result, Ok, Err, ok_or, codes, slice_index, sum_by, is_some, IfOk, IfSome}
+use Rattle.std.specs.Prelude.{◌==◌, ◌&&◌, ◌⊎◌, ⊤, nat_le, Option, Some, None, Result, Ok, Err, ok_or, codes, slice_index, is_some, IfOk, IfSome}
 use Rattle.std.specs.List.{AllByRecursion}
 use Rattle.std.specs.Option.{option_map_or}
 use Rattle.std.proofs.lemmas.List.{append_cancel_right, get_or-append-add}
-use Rattle.price_check.specs.Words.{Topology, IsConfig, IsWhole, number_of, Device, ◌>>=◌, digits_at, Past, round, commands, live_cost, live_part, stays_begun, unsent, Event, Stay, net_of, pricing_of_rows, NetRows, instance_of_rows, live_of_rows, IsSound}
-use Rattle.event_rules.proofs.LiveLemmas.{live_cost_sent}
+use Rattle.price_check.specs.Words.{IsConfig, number_of, Device, ◌>>=◌, digits_at, pricing_of_rows, NetRows, instance_of_rows, live_of_rows, IsSound, IsWholeWithin}
 use Rattle.price_check.specs.Pieces.{skip, line_of}
-use Rattle.price_check.specs.Report.{texts_below, summary_text, plan_text, stay_line, price_lines}
-use Rattle.price_check.specs.Forms.{known_line, stated_line, most_number, own_stay, any_stay}
+use Rattle.price_check.specs.Report.{live_cost_of, texts_below, summary_text, plan_text, stay_line, price_lines}
+use Rattle.price_check.specs.Forms.{known_line, stated_line, most_number, most_bytes, own_stay, any_stay}
 use Rattle.price_check.specs.Reading.{closed, due, stops, ended, summary_at, stay_at, is_large, valued, price_at, cell_price_at, series, reading, ReportFault}
 use Rattle.price_check.specs.Claims.{IsClaim, IsReport, WasReport, report_text, Claim}
 use Rattle.price_check.specs.declared.report_fault.ReportFault.TheVariants as fault
@@ -16,19 +15,6 @@ use Rattle.price_check.proofs.SeriesLemmas.{Reader}
 use Rattle.price_check.proofs.ApartLaws.{named_devices}
 use Rattle.price_check.proofs.CellLaws.{price_cells}
 use Rattle.price_check.proofs.ReadingLaws.{reading_takes, reading_again}
-
--- ---- the net of a history
-
-pub some_rounds : (c : Topology) (es : List Event) (n : NetRows) → n ≡ net_of c es → 1 ≤ (instance_of_rows n).rounds
-unfolding instance_of_rows net_of round
-some_rounds c es n e = rw e (omega arith)
-
--- where each stay was sent the live schedule has a cost
-pub live_is_known : (c : Topology) (es : List Event) → unsent es ≡ None → (live : ℕ) × (live_cost c es ≡ Some live)
-live_is_known c es e = (sum_by (live_part c es) (stays_begun es), live_cost_sent c es (ap (λ (o : Option Stay). is_some o) e))
-
-pub live_not_unknown : (c : Topology) (es : List Event) → unsent es ≡ None → live_cost c es ≡ None → ⊥
-live_not_unknown c es e none = let known = (live_is_known c es e).1 in absurd (cc)
 
 -- ---- the last line feed
 
@@ -55,12 +41,12 @@ closed_again text front (inr e) =
     rw (ne_eqb (slice_index text (length text - 1)) 10 (λ is. omega arith)) e
 
 -- a report ends in its last line
-pub ends : (past : Past) (net : NetRows) (live : ℕ) (claim : Claim) → (front : List ℕ) × (report_text past net live claim ≡ front ++ codes "end\n")
+pub ends : (net : NetRows) (claim : Claim) → (front : List ℕ) × (report_text net claim ≡ front ++ codes "end\n")
 unfolding report_text plan_text
-ends past net live claim =
-    let s = summary_text past.events live claim.best claim.excess in
+ends net claim =
+    let s = summary_text net (live_cost_of net) claim.best claim.excess in
     let a = texts_below (instance_of_rows net).stays (stay_line net (slice_index claim.schedule)) in
-    let b = price_lines past.config.devices (instance_of_rows net) (pricing_of_rows claim.prices) in
+    let b = price_lines net (pricing_of_rows claim.prices) in
     (s ++ (a ++ b), regroup s a b (codes "end\n"))
   where
     regroup : (s a b e : List ℕ) → s ++ (a ++ (b ++ e)) ≡ (s ++ (a ++ b)) ++ e
@@ -88,14 +74,14 @@ or_fails : {X : Type 0} (o : Option X) (e : ReportFault) → IsOfText e → Fail
 or_fails (Some x) e h = tt
 or_fails None e h = h
 
-summary_fails : (events : List Event) (live : ℕ) (text : List ℕ) → FailsByText (summary_at events live text)
+summary_fails : (net : NetRows) (text : List ℕ) → FailsByText (summary_at net text)
 unfolding summary_at
-summary_fails events live text =
+summary_fails net text =
     bound (due (known_line (codes "camaudit") 1 text 0) text 0) _ (or_fails (known_line (codes "camaudit") 1 text 0) _ tt) (λ one.
-    bound (due (known_line (codes "commands") (commands events) text one) text one) _ (or_fails (known_line (codes "commands") (commands events) text one) _ tt) (λ two.
-    bound (due (known_line (codes "stays") (length (stays_begun events)) text two) text two) _ (or_fails (known_line (codes "stays") (length (stays_begun events)) text two) _ tt) (λ three.
-    bound (due (known_line (codes "rounds") (round events) text three) text three) _ (or_fails (known_line (codes "rounds") (round events) text three) _ tt) (λ four.
-    bound (due (known_line (codes "live") live text four) text four) _ (or_fails (known_line (codes "live") live text four) _ tt) (λ five.
+    bound (due (known_line (codes "commands") net.commands text one) text one) _ (or_fails (known_line (codes "commands") net.commands text one) _ tt) (λ two.
+    bound (due (known_line (codes "stays") (instance_of_rows net).stays text two) text two) _ (or_fails (known_line (codes "stays") (instance_of_rows net).stays text two) _ tt) (λ three.
+    bound (due (known_line (codes "rounds") (instance_of_rows net).rounds text three) text three) _ (or_fails (known_line (codes "rounds") (instance_of_rows net).rounds text three) _ tt) (λ four.
+    bound (due (known_line (codes "live") (live_cost_of net) text four) text four) _ (or_fails (known_line (codes "live") (live_cost_of net) text four) _ tt) (λ five.
     bound (due (stated_line (codes "best") text five) text five) _ (or_fails (stated_line (codes "best") text five) _ tt) (λ best.
     bound (due (stated_line (codes "excess") text best.1) text best.1) _ (or_fails (stated_line (codes "excess") text best.1) _ tt) (λ excess. tt)))))))
 
@@ -148,48 +134,46 @@ ended_fails text at = bound (due (skip (codes "end\n") text at) text at) (stops 
     by next true = tt
     by next false = tt
 
-pub reading_fails : (devices : List Device) (events : List Event) (live : ℕ) (net : NetRows) (text : List ℕ) → FailsByText (reading devices events live net text)
+pub reading_fails : (devices : List Device) (net : NetRows) (text : List ℕ) → FailsByText (reading devices net text)
 unfolding reading
-reading_fails devices events live net text =
+reading_fails devices net text =
     let adapters = (instance_of_rows net).adapters in
     let rounds = (instance_of_rows net).rounds in
-    bound (summary_at events live text) _ (summary_fails events live text) (λ costs.
+    bound (summary_at net text) _ (summary_fails net text) (λ costs.
     bound (series (stay_at net text) (instance_of_rows net).stays costs.2) _ (series_fails (stay_at net text) (stay_fails net text) (instance_of_rows net).stays costs.2) (λ best.
     bound (series (cell_price_at (instance_of_rows net).most_price devices adapters rounds text) (price_cells net) best.1) _ (series_fails (cell_price_at (instance_of_rows net).most_price devices adapters rounds text) (cell_fails (instance_of_rows net).most_price devices adapters rounds text) (price_cells net) best.1) (λ prices.
     bound (ended text prices.1) _ (ended_fails text prices.1) (λ u. tt))))
 
 -- ---- the clauses of a reader of reports, from what reading the whole text gives
 
-abbrev pub Gives : Past → NetRows → List ℕ → Result Claim ReportFault → Type 0
-Gives past net text r = (live : ℕ) → live_cost past.config past.events ≡ Some live → r ≢ Err fault.OutOfMemory → r ≡ reading past.config.devices past.events live net (closed text)
+abbrev pub Gives : NetRows → List ℕ → Result Claim ReportFault → Type 0
+Gives net text r = r ≢ Err fault.OutOfMemory → r ≡ reading net.config.devices net (closed text)
 
-pub found_law : (past : Past) (net : NetRows) (before after : Option (List ℕ)) (text : List ℕ) (r : Result Claim ReportFault) → unsent past.events ≡ None
-    → (r ≢ Err fault.OutOfMemory → IsSound (instance_of_rows net) (live_of_rows net)) → IsWhole before after text → Gives past net text r → IfOk r (λ claim. WasReport past net before after claim)
-found_law past net before after text (Ok claim) sent sound whole h =
-    let live = live_is_known past.config past.events sent in
-    let taken = reading_takes past net live.0 (closed text) claim (sound (λ k. cc)) (sym (h live.0 live.1 (λ k. cc))) in
+pub found_law : (net : NetRows) (before after : Option (List ℕ)) (text : List ℕ) (r : Result Claim ReportFault)
+    → (r ≢ Err fault.OutOfMemory → IsSound (instance_of_rows net) (live_of_rows net)) → IsWholeWithin (most_bytes (instance_of_rows net)) before after text → Gives net text r → IfOk r (λ claim. WasReport net before after claim)
+found_law net before after text (Ok claim) sound whole h =
+    let taken = reading_takes net (closed text) claim (sound (λ k. cc)) (sym (h (λ k. cc))) in
     record {
       text = text;
       whole = whole;
-      report = record { bounded = whole.bounded; live = live.0; costs = live.1; spelled = closed_takes text _ taken.0 };
+      report = record { bounded = whole.bounded; spelled = closed_takes text _ taken.0 };
       claims = taken.1;
     }
-found_law past net before after text (Err e) sent sound whole h = tt
+found_law net before after text (Err e) sound whole h = tt
 
-read_again : (past : Past) (net : NetRows) (text : List ℕ) (r : Result Claim ReportFault) (claim : Claim) → net ≡ net_of past.config past.events → IsConfig past.config
-    → AllByRecursion (λ (d : Device). d.target ≤ 65535) past.config.devices → IsClaim (instance_of_rows net) claim → Gives past net text r → IsReport past net text claim → r ≢ Err fault.OutOfMemory → r ≡ Ok claim
-read_again past net text r claim is config targets claims h report memory =
-    let end = ends past net report.live claim in
+read_again : (net : NetRows) (text : List ℕ) (r : Result Claim ReportFault) (claim : Claim) → (r ≢ Err fault.OutOfMemory → IsSound (instance_of_rows net) (live_of_rows net)) → IsConfig net.config
+    → AllByRecursion (λ (d : Device). d.target ≤ 65535) net.config.devices → IsClaim (instance_of_rows net) claim → Gives net text r → IsReport net text claim → r ≢ Err fault.OutOfMemory → r ≡ Ok claim
+read_again net text r claim sound config targets claims h report memory =
+    let end = ends net claim in
     let spelled : (text ≡ end.0 ++ codes "end\n") ⊎ (text ++ codes "\n" ≡ end.0 ++ codes "end\n") = rw end.1 at report.spelled in
-    let whole : closed text ≡ report_text past net report.live claim = closed_again text end.0 spelled ∙ sym end.1 in
-    h report.live report.costs memory
-    ∙ reading_again past net report.live (closed text) claim (named_devices past.config config.kept targets) (some_rounds past.config past.events net is) claims whole
+    let whole : closed text ≡ report_text net claim = closed_again text end.0 spelled ∙ sym end.1 in
+    h memory ∙ reading_again net (closed text) claim (named_devices net.config config.kept targets) (sound memory).some_rounds claims whole
 
-pub only_law : (past : Past) (net : NetRows) (before after : Option (List ℕ)) (text : List ℕ) (r : Result Claim ReportFault) (claim : Claim) → net ≡ net_of past.config past.events → IsConfig past.config
-    → IsWhole before after text → Gives past net text r → IsClaim (instance_of_rows net) claim → AllByRecursion (λ (d : Device). d.target ≤ 65535) past.config.devices
-    → IfSome before (λ all. IsReport past net all claim → r ≢ Err fault.OutOfMemory → r ≢ Err fault.ReadFailed → r ≡ Ok claim)
-only_law past net None after text r claim is config whole h claims targets = tt
-only_law past net (Some all) None text r claim is config whole h claims targets = absurd whole.read
-only_law past net (Some all) (Some left) text r claim is config whole h claims targets = λ report memory read.
+pub only_law : (net : NetRows) (before after : Option (List ℕ)) (text : List ℕ) (r : Result Claim ReportFault) (claim : Claim) → (r ≢ Err fault.OutOfMemory → IsSound (instance_of_rows net) (live_of_rows net)) → IsConfig net.config
+    → IsWholeWithin (most_bytes (instance_of_rows net)) before after text → Gives net text r → IsClaim (instance_of_rows net) claim → AllByRecursion (λ (d : Device). d.target ≤ 65535) net.config.devices
+    → IfSome before (λ all. IsReport net all claim → r ≢ Err fault.OutOfMemory → r ≢ Err fault.ReadFailed → r ≡ Ok claim)
+only_law net None after text r claim sound config whole h claims targets = tt
+only_law net (Some all) None text r claim sound config whole h claims targets = absurd whole.read
+only_law net (Some all) (Some left) text r claim sound config whole h claims targets = λ report memory read.
     let same : all ≡ text = whole.read ∙ ap (λ (l : List ℕ). text ++ l) whole.ended ∙ append-nil text in
-    read_again past net text r claim is config targets claims h (subst (λ (l : List ℕ). IsReport past net l claim) same report) memory
+    read_again net text r claim sound config targets claims h (subst (λ (l : List ℕ). IsReport net l claim) same report) memory

@@ -2,7 +2,7 @@
 use Rattle.std.proofs.Common.{◌≡◌, ◌≤◌, ◌<◌, ◌+◌, ◌-◌, ◌/◌, ◌%◌, ℕ, suc, List, [], ◌∷◌, ◌++◌, length, take, drop, get_or, Bool, true, false, refl, sym, ap, ◌∙◌, subst, arith, append_assoc}
 use Rattle.std.specs.Prelude.{◌==◌, ⊤, Result, Ok, All}
 use Rattle.std.proofs.lemmas.List.Elements.{All-get_or}
-use Rattle.price_check.specs.Words.{Device, ◌>>=◌, Event, NetRows, instance_of_rows, MOST_NET_PRICE}
+use Rattle.price_check.specs.Words.{Device, ◌>>=◌, NetRows, instance_of_rows, MOST_NET_PRICE}
 use Rattle.price_check.specs.Report.{price_line, row_text}
 use Rattle.price_check.specs.Reading.{summary_at, stay_at, cell_price_at, series, ended, reading, ReportFault}
 use Rattle.price_check.specs.Claims.{Claim}
@@ -33,9 +33,9 @@ from_prices devices net text costs best = series (cell_price_at (instance_of_row
 abbrev pub from_stays : List Device → NetRows → List ℕ → ℕ × ℕ × ℕ → Result Claim ReportFault
 from_stays devices net text costs = series (stay_at net text) (instance_of_rows net).stays costs.2 >>= λ best. from_prices devices net text costs best
 
-pub reading_parts : (devices : List Device) (events : List Event) (live : ℕ) (net : NetRows) (text : List ℕ) → reading devices events live net text ≡ (summary_at events live text >>= λ costs. from_stays devices net text costs)
+pub reading_parts : (devices : List Device) (net : NetRows) (text : List ℕ) → reading devices net text ≡ (summary_at net text >>= λ costs. from_stays devices net text costs)
 unfolding reading
-reading_parts devices events live net text = refl
+reading_parts devices net text = refl
 
 -- it gets as far as its first section does
 abbrev pub Reaches : List ℕ → ℕ → Result Claim ReportFault → Type 0
@@ -54,11 +54,11 @@ on_stays devices net text costs m h =
     bind_from text m behind_all (λ _. m) (series (stay_at net text) (instance_of_rows net).stays costs.2) _ h (λ best le.
     on_prices devices net text costs best m (series_from text (cell_price_at (instance_of_rows net).most_price devices (instance_of_rows net).adapters (instance_of_rows net).rounds text) (cell_steps (instance_of_rows net).most_price devices (instance_of_rows net).adapters (instance_of_rows net).rounds text) (price_cells net) best.1 m le))
 
-pub on_summary : (devices : List Device) (events : List Event) (live : ℕ) (net : NetRows) (text : List ℕ) (m : ℕ) → From text m behind_all (series (seven_at events live text) 7 0) → Reaches text m (reading devices events live net text)
-on_summary devices events live net text m h =
-    rw (reading_parts devices events live net text, summary-series events live text)
-    (bind_from text m (λ (costs : ℕ × ℕ × ℕ). costs.2) (λ _. m) (series (seven_at events live text) 7 0 >>= λ said. Ok (stated said)) _
-    (bind_from text m behind_all (λ (costs : ℕ × ℕ × ℕ). costs.2) (series (seven_at events live text) 7 0) _ h (λ said le. le))
+pub on_summary : (devices : List Device) (net : NetRows) (text : List ℕ) (m : ℕ) → From text m behind_all (series (seven_at net text) 7 0) → Reaches text m (reading devices net text)
+on_summary devices net text m h =
+    rw (reading_parts devices net text, summary-series net text)
+    (bind_from text m (λ (costs : ℕ × ℕ × ℕ). costs.2) (λ _. m) (series (seven_at net text) 7 0 >>= λ said. Ok (stated said)) _
+    (bind_from text m behind_all (λ (costs : ℕ × ℕ × ℕ). costs.2) (series (seven_at net text) 7 0) _ h (λ said le. le))
     (λ costs le. on_stays devices net text costs m (series_from text (stay_at net text) (stay_steps net text) (instance_of_rows net).stays costs.2 m le)))
 
 -- what stands after the text read so far, and that a reading gets as far

@@ -1,9 +1,9 @@
 -- a report that is read is spelled so, and what is spelled so is read
-use Rattle.std.proofs.Common.{◌≡◌, ◌≤◌, ◌+◌, ◌*◌, ◌/◌, ◌%◌, ℕ, List, ◌++◌, length, drop, get_or, refl, sym, ap, ◌∙◌, subst, arith, append_assoc, Ok, codes, slice_index}
+use Rattle.std.proofs.Common.{◌≡◌, ◌≤◌, ◌+◌, ◌*◌, ◌/◌, ◌%◌, ℕ, List, ◌++◌, drop, get_or, refl, sym, ap, ◌∙◌, subst, arith, append_assoc, Ok, codes, slice_index}
 use Rattle.std.proofs.Math.Nat.{div-add-mod}
-use Rattle.price_check.specs.Words.{Device, round, commands, stays_begun, Event, PriceRows, pricing_of_rows, IsPricingFor, NetRows, cell, instance_of_rows}
+use Rattle.price_check.specs.Words.{Device, PriceRows, pricing_of_rows, IsPricingFor, NetRows, cell, instance_of_rows}
 use Rattle.price_check.specs.Lines.{line}
-use Rattle.price_check.specs.Report.{texts_below, summary_text, plan_text, price_lines, stay_line, price_line, row_text, row_line}
+use Rattle.price_check.specs.Report.{live_cost_of, texts_below, summary_text, plan_text, price_lines, stay_line, price_line, row_text, row_line}
 use Rattle.price_check.specs.Forms.{known_line, stated_line, most_stated}
 use Rattle.price_check.specs.Reading.{due, summary_at}
 use Rattle.price_check.proofs.SeriesLaws.{on_ok, texts_of, texts_below-same, texts_by_row}
@@ -18,45 +18,45 @@ seven a b c d e f g rest = simp append_assoc
 pub behind : (a b c rest : List ℕ) → a ≡ b ++ c → c ≡ rest → a ≡ b ++ rest
 behind a b c rest e h = e ∙ ap (λ (l : List ℕ). b ++ l) h
 
-pub summary_takes : (events : List Event) (live : ℕ) (text : List ℕ) (said : ℕ × ℕ × ℕ) → summary_at events live text ≡ Ok said
-    → (text ≡ summary_text events live said.0 said.1 ++ drop said.2 text) × (said.0 ≤ most_stated) × (said.1 ≤ most_stated)
+pub summary_takes : (net : NetRows) (text : List ℕ) (said : ℕ × ℕ × ℕ) → summary_at net text ≡ Ok said
+    → (text ≡ summary_text net (live_cost_of net) said.0 said.1 ++ drop said.2 text) × (said.0 ≤ most_stated) × (said.1 ≤ most_stated)
 unfolding summary_at summary_text
-summary_takes events live text said e =
+summary_takes net text said e =
     on_ok (due (known_line (codes "camaudit") 1 text 0) text 0) _ said e (λ one e1 r1.
-    on_ok (due (known_line (codes "commands") (commands events) text one) text one) _ said r1 (λ two e2 r2.
-    on_ok (due (known_line (codes "stays") (length (stays_begun events)) text two) text two) _ said r2 (λ three e3 r3.
-    on_ok (due (known_line (codes "rounds") (round events) text three) text three) _ said r3 (λ four e4 r4.
-    on_ok (due (known_line (codes "live") live text four) text four) _ said r4 (λ five e5 r5.
+    on_ok (due (known_line (codes "commands") net.commands text one) text one) _ said r1 (λ two e2 r2.
+    on_ok (due (known_line (codes "stays") (instance_of_rows net).stays text two) text two) _ said r2 (λ three e3 r3.
+    on_ok (due (known_line (codes "rounds") (instance_of_rows net).rounds text three) text three) _ said r3 (λ four e4 r4.
+    on_ok (due (known_line (codes "live") (live_cost_of net) text four) text four) _ said r4 (λ five e5 r5.
     on_ok (due (stated_line (codes "best") text five) text five) _ said r5 (λ best e6 r6.
     on_ok (due (stated_line (codes "excess") text best.1) text best.1) _ said r6 (λ excess e7 r7.
     let t1 = known_takes (codes "camaudit") 1 text 0 one e1 in
-    let t2 = known_takes (codes "commands") (commands events) text one two e2 in
-    let t3 = known_takes (codes "stays") (length (stays_begun events)) text two three e3 in
-    let t4 = known_takes (codes "rounds") (round events) text three four e4 in
-    let t5 = known_takes (codes "live") live text four five e5 in
+    let t2 = known_takes (codes "commands") net.commands text one two e2 in
+    let t3 = known_takes (codes "stays") (instance_of_rows net).stays text two three e3 in
+    let t4 = known_takes (codes "rounds") (instance_of_rows net).rounds text three four e4 in
+    let t5 = known_takes (codes "live") (live_cost_of net) text four five e5 in
     let t6 = stated_takes (codes "best") text five best e6 in
     let t7 = stated_takes (codes "excess") text best.1 excess e7 in
     let whole = behind _ _ _ _ t1 (behind _ _ _ _ t2 (behind _ _ _ _ t3 (behind _ _ _ _ t4 (behind _ _ _ _ t5 (behind _ _ _ _ t6.0 t7.0))))) in
     let made : ℕ × ℕ × ℕ = (best.0, excess.0, excess.1) in
     let same : made ≡ said = cc in
-    subst (λ (q : ℕ × ℕ × ℕ). (text ≡ summary_text events live q.0 q.1 ++ drop q.2 text) × (q.0 ≤ most_stated) × (q.1 ≤ most_stated)) same (
-      whole ∙ seven (line (codes "camaudit") 1) (line (codes "commands") (commands events)) (line (codes "stays") (length (stays_begun events))) (line (codes "rounds") (round events)) (line (codes "live") live)
+    subst (λ (q : ℕ × ℕ × ℕ). (text ≡ summary_text net (live_cost_of net) q.0 q.1 ++ drop q.2 text) × (q.0 ≤ most_stated) × (q.1 ≤ most_stated)) same (
+      whole ∙ seven (line (codes "camaudit") 1) (line (codes "commands") net.commands) (line (codes "stays") (instance_of_rows net).stays) (line (codes "rounds") (instance_of_rows net).rounds) (line (codes "live") (live_cost_of net))
           (line (codes "best") best.0) (line (codes "excess") excess.0) (drop excess.1 text),
       t6.1,
       t7.1,
     ))))))))
 
-pub summary_again : (events : List Event) (live best excess : ℕ) (text rest : List ℕ) → best ≤ most_stated → excess ≤ most_stated → text ≡ summary_text events live best excess ++ rest
-    → (e : ℕ) × (summary_at events live text ≡ Ok (best, excess, e)) × (drop e text ≡ rest)
+pub summary_again : (net : NetRows) (best excess : ℕ) (text rest : List ℕ) → best ≤ most_stated → excess ≤ most_stated → text ≡ summary_text net (live_cost_of net) best excess ++ rest
+    → (e : ℕ) × (summary_at net text ≡ Ok (best, excess, e)) × (drop e text ≡ rest)
 unfolding summary_at summary_text
-summary_again events live best excess text rest small small' e =
-    let parts = e ∙ sym (seven (line (codes "camaudit") 1) (line (codes "commands") (commands events)) (line (codes "stays") (length (stays_begun events))) (line (codes "rounds") (round events)) (line (codes "live") live)
+summary_again net best excess text rest small small' e =
+    let parts = e ∙ sym (seven (line (codes "camaudit") 1) (line (codes "commands") net.commands) (line (codes "stays") (instance_of_rows net).stays) (line (codes "rounds") (instance_of_rows net).rounds) (line (codes "live") (live_cost_of net))
     (line (codes "best") best) (line (codes "excess") excess) rest) in
     let t1 = known_again (codes "camaudit") 1 text _ 0 parts in
-    let t2 = known_again (codes "commands") (commands events) text _ t1.0 t1.2 in
-    let t3 = known_again (codes "stays") (length (stays_begun events)) text _ t2.0 t2.2 in
-    let t4 = known_again (codes "rounds") (round events) text _ t3.0 t3.2 in
-    let t5 = known_again (codes "live") live text _ t4.0 t4.2 in
+    let t2 = known_again (codes "commands") net.commands text _ t1.0 t1.2 in
+    let t3 = known_again (codes "stays") (instance_of_rows net).stays text _ t2.0 t2.2 in
+    let t4 = known_again (codes "rounds") (instance_of_rows net).rounds text _ t3.0 t3.2 in
+    let t5 = known_again (codes "live") (live_cost_of net) text _ t4.0 t4.2 in
     let t6 = stated_again (codes "best") best text _ t5.0 small t5.2 in
     let t7 = stated_again (codes "excess") excess text rest t6.0 small' t6.2 in
     (t7.0, rw (t1.1, t2.1, t3.1, t4.1, t5.1, t6.1, t7.1) refl, t7.2)
@@ -82,8 +82,8 @@ price_texts devices p n =
     ∙ texts_by_row n p.rounds (λ row r. price_line (row_text devices p.adapters row) (r + 1) (slice_index p.prices (cell p.rounds row (r + 1))))
 
 -- the stays and the prices of a report, one after another
-pub plan_parts : (devices : List Device) (net : NetRows) (best : List ℕ) (p : PriceRows) → IsPricingFor (instance_of_rows net) p → plan_text devices net (slice_index best) (pricing_of_rows p)
-    ≡ texts_of (stay_form net) (instance_of_rows net).stays best ++ (texts_of (form_of devices (instance_of_rows net).adapters (instance_of_rows net).rounds) (price_cells net) p.prices ++ codes "end\n")
+pub plan_parts : (net : NetRows) (best : List ℕ) (p : PriceRows) → IsPricingFor (instance_of_rows net) p → plan_text net (slice_index best) (pricing_of_rows p)
+    ≡ texts_of (stay_form net) (instance_of_rows net).stays best ++ (texts_of (form_of net.config.devices (instance_of_rows net).adapters (instance_of_rows net).rounds) (price_cells net) p.prices ++ codes "end\n")
 unfolding plan_text price_lines
-plan_parts devices net best p h =
-    rw (← h.rounds, ← h.devices, ← h.adapters, ← h.links, stay_texts net (instance_of_rows net).stays best, price_texts devices p (p.devices + p.adapters + p.links)) refl
+plan_parts net best p h =
+    rw (← h.rounds, ← h.devices, ← h.adapters, ← h.links, stay_texts net (instance_of_rows net).stays best, price_texts net.config.devices p (p.devices + p.adapters + p.links)) refl

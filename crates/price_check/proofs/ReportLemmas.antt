@@ -1,8 +1,8 @@
 -- texts put after one another
-use Rattle.std.proofs.Common.{◌≡◌, ℕ, suc, ◌+◌, ◌-◌, ◌≤◌, List, ◌++◌, length, refl, sym, ap, ◌∙◌, arith, append_assoc, append-nil, length-append, Some, None, codes, decimal, slice_get}
+use Rattle.std.proofs.Common.{◌≡◌, ℕ, suc, ◌+◌, ◌-◌, ◌<◌, ◌≤◌, ◌^◌, List, ◌++◌, length, refl, sym, ap, ◌∙◌, arith, append_assoc, append-nil, length-append, Some, None, codes, decimal, slice_get}
 use Rattle.std.proofs.lemmas.Fmt.{length-decimal-le}
-use Rattle.price_check.specs.Words.{Device, Fits, address_of, spelled, CamPath}
-use Rattle.price_check.specs.Report.{texts_below, shared_text, row_text}
+use Rattle.price_check.specs.Words.{Device, Fits, address_of, spelled, CamPath, Instance, IsSound, MOST_NET_ROUNDS}
+use Rattle.price_check.specs.Report.{number_text, texts_below, shared_text, row_text}
 
 pub no_text : (text : ℕ → List ℕ) (before : List ℕ) → before ≡ before ++ texts_below 0 text
 no_text text before = sym (append-nil before)
@@ -27,6 +27,20 @@ length-spelled p fits =
 
 pub path_behind : (p : CamPath) (before text : List ℕ) → Fits p → text ≡ before ++ spelled p → length text ≤ length before + 15
 path_behind p before text fits is = omega (arith, ap length is, length-append before (spelled p), length-spelled p fits)
+
+-- a space and a number of at most that many digits
+pub number_behind : (digits n : ℕ) (before text : List ℕ) → 0 < digits → n < 10 ^ digits → n < 2 ^ 64 → text ≡ before ++ number_text n → length text ≤ length before + (digits + 1)
+number_behind digits n before text some few fits is =
+    omega (arith, ap length is, length-append before (number_text n), length-append (codes " ") (decimal n), length-decimal-le digits n some few fits)
+
+-- a stay arrives and is sent in rounds of the net, of which there are at most that many
+pub early_rounds : (net : Instance) (live : ℕ → ℕ) (s : ℕ) → IsSound net live → s < net.stays → (net.arrival s ≤ MOST_NET_ROUNDS) × (live s ≤ MOST_NET_ROUNDS)
+early_rounds net live s sound lt =
+    let early = sound.live_admissible.not_early s lt in
+    let late = sound.live_admissible.not_late s lt in
+    let last = sound.to_last s lt in
+    let few = sound.few_rounds in
+    (omega arith, omega arith)
 
 -- two pieces after a text
 pub two_pieces : (before first second so_far : List ℕ) → so_far ≡ before ++ first → before ++ (first ++ second) ≡ so_far ++ second

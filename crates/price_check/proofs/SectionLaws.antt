@@ -4,9 +4,9 @@ use Rattle.std.specs.Prelude.{◌==◌, ◌⊎◌, ⊤, nat_lt, not, Option, Som
 use Rattle.std.specs.List.{list_all}
 use Rattle.std.specs.Option.{option_map_or}
 use Rattle.std.proofs.lemmas.Bool.{and_parts, eq-eqb}
-use Rattle.price_check.specs.Words.{Device, ◌>>=◌, spelled, address_of, Past, round, commands, stays_begun, Event, Stay, pricing_of_rows, IsPricingFor, NetRows, instance_of_rows, live_of_rows, names_of_rows}
+use Rattle.price_check.specs.Words.{Device, ◌>>=◌, spelled, address_of, Stay, pricing_of_rows, IsPricingFor, NetRows, instance_of_rows, live_of_rows, names_of_rows}
 use Rattle.price_check.specs.Lines.{line}
-use Rattle.price_check.specs.Report.{summary_text, plan_text, number_text, name_text, stay_line, price_line, shared_text, row_text}
+use Rattle.price_check.specs.Report.{live_cost_of, summary_text, plan_text, number_text, name_text, stay_line, price_line, shared_text, row_text}
 use Rattle.price_check.specs.Forms.{known_line, stated_line, most_stated}
 use Rattle.price_check.specs.Reading.{due, summary_at, series, ReportFault}
 use Rattle.price_check.specs.Claims.{report_text, Claim}
@@ -24,30 +24,30 @@ bind-same (Err e) f g = refl
 
 -- ---- the summary, line by line: each reading gives the number that is said of a cost, or 0
 
-abbrev pub seven_at : List Event → ℕ → List ℕ → Reader
-seven_at events live text zero at = due (known_line (codes "camaudit") 1 text at) text at >>= λ e. Ok (0, e)
-seven_at events live text (suc zero) at = due (known_line (codes "commands") (commands events) text at) text at >>= λ e. Ok (0, e)
-seven_at events live text (suc (suc zero)) at = due (known_line (codes "stays") (length (stays_begun events)) text at) text at >>= λ e. Ok (0, e)
-seven_at events live text (suc (suc (suc zero))) at = due (known_line (codes "rounds") (round events) text at) text at >>= λ e. Ok (0, e)
-seven_at events live text (suc (suc (suc (suc zero)))) at = due (known_line (codes "live") live text at) text at >>= λ e. Ok (0, e)
-seven_at events live text (suc (suc (suc (suc (suc zero))))) at = due (stated_line (codes "best") text at) text at
-seven_at events live text (suc (suc (suc (suc (suc (suc k)))))) at = due (stated_line (codes "excess") text at) text at
+abbrev pub seven_at : NetRows → List ℕ → Reader
+seven_at net text zero at = due (known_line (codes "camaudit") 1 text at) text at >>= λ e. Ok (0, e)
+seven_at net text (suc zero) at = due (known_line (codes "commands") net.commands text at) text at >>= λ e. Ok (0, e)
+seven_at net text (suc (suc zero)) at = due (known_line (codes "stays") (instance_of_rows net).stays text at) text at >>= λ e. Ok (0, e)
+seven_at net text (suc (suc (suc zero))) at = due (known_line (codes "rounds") (instance_of_rows net).rounds text at) text at >>= λ e. Ok (0, e)
+seven_at net text (suc (suc (suc (suc zero)))) at = due (known_line (codes "live") (live_cost_of net) text at) text at >>= λ e. Ok (0, e)
+seven_at net text (suc (suc (suc (suc (suc zero))))) at = due (stated_line (codes "best") text at) text at
+seven_at net text (suc (suc (suc (suc (suc (suc k)))))) at = due (stated_line (codes "excess") text at) text at
 
-abbrev pub seven_form : List Event → ℕ → ℕ → ℕ → List ℕ
-seven_form events live zero v = line (codes "camaudit") 1
-seven_form events live (suc zero) v = line (codes "commands") (commands events)
-seven_form events live (suc (suc zero)) v = line (codes "stays") (length (stays_begun events))
-seven_form events live (suc (suc (suc zero))) v = line (codes "rounds") (round events)
-seven_form events live (suc (suc (suc (suc zero)))) v = line (codes "live") live
-seven_form events live (suc (suc (suc (suc (suc zero))))) v = line (codes "best") v
-seven_form events live (suc (suc (suc (suc (suc (suc k)))))) v = line (codes "excess") v
+abbrev pub seven_form : NetRows → ℕ → ℕ → List ℕ
+seven_form net zero v = line (codes "camaudit") 1
+seven_form net (suc zero) v = line (codes "commands") net.commands
+seven_form net (suc (suc zero)) v = line (codes "stays") (instance_of_rows net).stays
+seven_form net (suc (suc (suc zero))) v = line (codes "rounds") (instance_of_rows net).rounds
+seven_form net (suc (suc (suc (suc zero)))) v = line (codes "live") (live_cost_of net)
+seven_form net (suc (suc (suc (suc (suc zero))))) v = line (codes "best") v
+seven_form net (suc (suc (suc (suc (suc (suc k)))))) v = line (codes "excess") v
 
 abbrev pub stated : List ℕ × ℕ → ℕ × ℕ × ℕ
 stated said = (get_or said.0 5 0, get_or said.0 6 0, said.1)
 
-pub summary-series : (events : List Event) (live : ℕ) (text : List ℕ) → summary_at events live text ≡ (series (seven_at events live text) 7 0 >>= λ said. Ok (stated said))
+pub summary-series : (net : NetRows) (text : List ℕ) → summary_at net text ≡ (series (seven_at net text) 7 0 >>= λ said. Ok (stated said))
 unfolding summary_at series
-summary-series events live text = simp bind-same
+summary-series net text = simp bind-same
 
 known_one : (word : List ℕ) (n : ℕ) (text : List ℕ) (at : ℕ) (said : ℕ × ℕ) → (due (known_line word n text at) text at >>= λ e. Ok (0, e)) ≡ Ok said → (drop at text ≡ line word n ++ drop said.1 text) × (said.0 ≤ most_stated)
 known_one word n text at said h =
@@ -56,14 +56,14 @@ known_one word n text at said h =
     let same : made ≡ said = cc in
     subst (λ (q : ℕ × ℕ). (drop at text ≡ line word n ++ drop q.1 text) × (q.0 ≤ most_stated)) same (known_takes word n text at e is, omega arith))
 
-pub seven_takes : (events : List Event) (live : ℕ) (text : List ℕ) → Takes (seven_form events live) most_stated text (seven_at events live text)
-seven_takes events live text zero at said h = known_one (codes "camaudit") 1 text at said h
-seven_takes events live text (suc zero) at said h = known_one (codes "commands") (commands events) text at said h
-seven_takes events live text (suc (suc zero)) at said h = known_one (codes "stays") (length (stays_begun events)) text at said h
-seven_takes events live text (suc (suc (suc zero))) at said h = known_one (codes "rounds") (round events) text at said h
-seven_takes events live text (suc (suc (suc (suc zero)))) at said h = known_one (codes "live") live text at said h
-seven_takes events live text (suc (suc (suc (suc (suc zero))))) at said h = stated_takes (codes "best") text at said h
-seven_takes events live text (suc (suc (suc (suc (suc (suc k)))))) at said h = stated_takes (codes "excess") text at said h
+pub seven_takes : (net : NetRows) (text : List ℕ) → Takes (seven_form net) most_stated text (seven_at net text)
+seven_takes net text zero at said h = known_one (codes "camaudit") 1 text at said h
+seven_takes net text (suc zero) at said h = known_one (codes "commands") net.commands text at said h
+seven_takes net text (suc (suc zero)) at said h = known_one (codes "stays") (instance_of_rows net).stays text at said h
+seven_takes net text (suc (suc (suc zero))) at said h = known_one (codes "rounds") (instance_of_rows net).rounds text at said h
+seven_takes net text (suc (suc (suc (suc zero)))) at said h = known_one (codes "live") (live_cost_of net) text at said h
+seven_takes net text (suc (suc (suc (suc (suc zero))))) at said h = stated_takes (codes "best") text at said h
+seven_takes net text (suc (suc (suc (suc (suc (suc k)))))) at said h = stated_takes (codes "excess") text at said h
 
 known_step : (word : List ℕ) (n : ℕ) (text : List ℕ) (at : ℕ) → Exact text at behind_one (due (known_line word n text at) text at >>= λ e. Ok (0, e))
 known_step word n text at = by (due (known_line word n text at) text at) (known_exact word n text at)
@@ -72,14 +72,14 @@ known_step word n text at = by (due (known_line word n text at) text at) (known_
     by (Ok e) h = h
     by (Err e) h = h
 
-pub seven_steps : (events : List Event) (live : ℕ) (text : List ℕ) → Steps text (seven_at events live text)
-seven_steps events live text zero at = known_step (codes "camaudit") 1 text at
-seven_steps events live text (suc zero) at = known_step (codes "commands") (commands events) text at
-seven_steps events live text (suc (suc zero)) at = known_step (codes "stays") (length (stays_begun events)) text at
-seven_steps events live text (suc (suc (suc zero))) at = known_step (codes "rounds") (round events) text at
-seven_steps events live text (suc (suc (suc (suc zero)))) at = known_step (codes "live") live text at
-seven_steps events live text (suc (suc (suc (suc (suc zero))))) at = stated_exact (codes "best") text at
-seven_steps events live text (suc (suc (suc (suc (suc (suc k)))))) at = stated_exact (codes "excess") text at
+pub seven_steps : (net : NetRows) (text : List ℕ) → Steps text (seven_at net text)
+seven_steps net text zero at = known_step (codes "camaudit") 1 text at
+seven_steps net text (suc zero) at = known_step (codes "commands") net.commands text at
+seven_steps net text (suc (suc zero)) at = known_step (codes "stays") (instance_of_rows net).stays text at
+seven_steps net text (suc (suc (suc zero))) at = known_step (codes "rounds") (instance_of_rows net).rounds text at
+seven_steps net text (suc (suc (suc (suc zero)))) at = known_step (codes "live") (live_cost_of net) text at
+seven_steps net text (suc (suc (suc (suc (suc zero))))) at = stated_exact (codes "best") text at
+seven_steps net text (suc (suc (suc (suc (suc (suc k)))))) at = stated_exact (codes "excess") text at
 
 -- what a summary says of a best and an excess cost, line by line
 abbrev pub said_of : ℕ → ℕ → List ℕ
@@ -88,16 +88,16 @@ said_of best excess = 0 ∷ 0 ∷ 0 ∷ 0 ∷ 0 ∷ best ∷ excess ∷ []
 known_more : (word : List ℕ) (n : ℕ) (text rest : List ℕ) (at : ℕ) → drop at text ≡ line word n ++ rest → (e : ℕ) × (◌≡◌ {A = Result (ℕ × ℕ) ReportFault} (due (known_line word n text at) text at >>= λ e. Ok (0, e)) (Ok (0, e))) × (drop e text ≡ rest)
 known_more word n text rest at h = let a = known_again word n text rest at h in (a.0, rw a.1 refl, a.2)
 
-pub seven_again : (events : List Event) (live best excess : ℕ) (text : List ℕ) → best ≤ most_stated → excess ≤ most_stated
-    → Again (seven_form events live) (λ _ _. ⊤) text (seven_at events live text) 7 (said_of best excess)
-seven_again events live best excess text small small' zero at rest lt h t = known_more (codes "camaudit") 1 text rest at h
-seven_again events live best excess text small small' (suc zero) at rest lt h t = known_more (codes "commands") (commands events) text rest at h
-seven_again events live best excess text small small' (suc (suc zero)) at rest lt h t = known_more (codes "stays") (length (stays_begun events)) text rest at h
-seven_again events live best excess text small small' (suc (suc (suc zero))) at rest lt h t = known_more (codes "rounds") (round events) text rest at h
-seven_again events live best excess text small small' (suc (suc (suc (suc zero)))) at rest lt h t = known_more (codes "live") live text rest at h
-seven_again events live best excess text small small' (suc (suc (suc (suc (suc zero))))) at rest lt h t = stated_again (codes "best") best text rest at small h
-seven_again events live best excess text small small' (suc (suc (suc (suc (suc (suc zero)))))) at rest lt h t = stated_again (codes "excess") excess text rest at small' h
-seven_again events live best excess text small small' (suc (suc (suc (suc (suc (suc (suc k))))))) at rest lt h t = absurd (omega arith)
+pub seven_again : (net : NetRows) (best excess : ℕ) (text : List ℕ) → best ≤ most_stated → excess ≤ most_stated
+    → Again (seven_form net) (λ _ _. ⊤) text (seven_at net text) 7 (said_of best excess)
+seven_again net best excess text small small' zero at rest lt h t = known_more (codes "camaudit") 1 text rest at h
+seven_again net best excess text small small' (suc zero) at rest lt h t = known_more (codes "commands") net.commands text rest at h
+seven_again net best excess text small small' (suc (suc zero)) at rest lt h t = known_more (codes "stays") (instance_of_rows net).stays text rest at h
+seven_again net best excess text small small' (suc (suc (suc zero))) at rest lt h t = known_more (codes "rounds") (instance_of_rows net).rounds text rest at h
+seven_again net best excess text small small' (suc (suc (suc (suc zero)))) at rest lt h t = known_more (codes "live") (live_cost_of net) text rest at h
+seven_again net best excess text small small' (suc (suc (suc (suc (suc zero))))) at rest lt h t = stated_again (codes "best") best text rest at small h
+seven_again net best excess text small small' (suc (suc (suc (suc (suc (suc zero)))))) at rest lt h t = stated_again (codes "excess") excess text rest at small' h
+seven_again net best excess text small small' (suc (suc (suc (suc (suc (suc (suc k))))))) at rest lt h t = absurd (omega arith)
 
 -- ---- each is a line
 
@@ -111,14 +111,14 @@ word_line : (word : List ℕ) (n : ℕ) → HasNoFeed word → IsLine (line word
 unfolding line
 word_line word n h = record { content = (word ++ codes " ") ++ decimal n; plain = plain_append (word ++ codes " ") (decimal n) (plain_append word (codes " ") h (plain_of (codes " ") refl)) (plain_decimal n); whole = refl }
 
-pub seven_lines : (events : List Event) (live : ℕ) → AreLines (seven_form events live)
-seven_lines events live zero v = inr (word_line (codes "camaudit") 1 (plain_of (codes "camaudit") refl))
-seven_lines events live (suc zero) v = inr (word_line (codes "commands") (commands events) (plain_of (codes "commands") refl))
-seven_lines events live (suc (suc zero)) v = inr (word_line (codes "stays") (length (stays_begun events)) (plain_of (codes "stays") refl))
-seven_lines events live (suc (suc (suc zero))) v = inr (word_line (codes "rounds") (round events) (plain_of (codes "rounds") refl))
-seven_lines events live (suc (suc (suc (suc zero)))) v = inr (word_line (codes "live") live (plain_of (codes "live") refl))
-seven_lines events live (suc (suc (suc (suc (suc zero))))) v = inr (word_line (codes "best") v (plain_of (codes "best") refl))
-seven_lines events live (suc (suc (suc (suc (suc (suc k)))))) v = inr (word_line (codes "excess") v (plain_of (codes "excess") refl))
+pub seven_lines : (net : NetRows) → AreLines (seven_form net)
+seven_lines net zero v = inr (word_line (codes "camaudit") 1 (plain_of (codes "camaudit") refl))
+seven_lines net (suc zero) v = inr (word_line (codes "commands") net.commands (plain_of (codes "commands") refl))
+seven_lines net (suc (suc zero)) v = inr (word_line (codes "stays") (instance_of_rows net).stays (plain_of (codes "stays") refl))
+seven_lines net (suc (suc (suc zero))) v = inr (word_line (codes "rounds") (instance_of_rows net).rounds (plain_of (codes "rounds") refl))
+seven_lines net (suc (suc (suc (suc zero)))) v = inr (word_line (codes "live") (live_cost_of net) (plain_of (codes "live") refl))
+seven_lines net (suc (suc (suc (suc (suc zero))))) v = inr (word_line (codes "best") v (plain_of (codes "best") refl))
+seven_lines net (suc (suc (suc (suc (suc (suc k)))))) v = inr (word_line (codes "excess") v (plain_of (codes "excess") refl))
 
 plain_name : (net : NetRows) (s : ℕ) → HasNoFeed (name_text net s)
 unfolding name_text
@@ -186,18 +186,18 @@ cell_lines devices adapters rounds k v = price_is_line (row_text devices adapter
 
 -- ---- a report by its sections
 
-pub seven_texts : (events : List Event) (live best excess : ℕ) (vs : List ℕ) → get_or vs 5 0 ≡ best → get_or vs 6 0 ≡ excess → texts_of (seven_form events live) 7 vs ≡ summary_text events live best excess
+pub seven_texts : (net : NetRows) (best excess : ℕ) (vs : List ℕ) → get_or vs 5 0 ≡ best → get_or vs 6 0 ≡ excess → texts_of (seven_form net) 7 vs ≡ summary_text net (live_cost_of net) best excess
 unfolding summary_text
-seven_texts events live best excess vs e e' = rw (← e, ← e') (simp append_assoc)
+seven_texts net best excess vs e e' = rw (← e, ← e') (simp append_assoc)
 
-unfoldable pub parts_of : Past → NetRows → ℕ → Claim → List ℕ
-parts_of past net live claim =
-    texts_of (seven_form past.events live) 7 (said_of claim.best claim.excess)
+unfoldable pub parts_of : NetRows → Claim → List ℕ
+parts_of net claim =
+    texts_of (seven_form net) 7 (said_of claim.best claim.excess)
     ++ (texts_of (stay_form net) (instance_of_rows net).stays claim.schedule
-    ++ (texts_of (form_of past.config.devices (instance_of_rows net).adapters (instance_of_rows net).rounds) (price_cells net) claim.prices.prices ++ codes "end\n"))
+    ++ (texts_of (form_of net.config.devices (instance_of_rows net).adapters (instance_of_rows net).rounds) (price_cells net) claim.prices.prices ++ codes "end\n"))
 
-pub report_parts : (past : Past) (net : NetRows) (live : ℕ) (claim : Claim) → IsPricingFor (instance_of_rows net) claim.prices → report_text past net live claim ≡ parts_of past net live claim
+pub report_parts : (net : NetRows) (claim : Claim) → IsPricingFor (instance_of_rows net) claim.prices → report_text net claim ≡ parts_of net claim
 unfolding report_text parts_of
-report_parts past net live claim h =
-    ap (λ (l : List ℕ). l ++ plan_text past.config.devices net (slice_index claim.schedule) (pricing_of_rows claim.prices)) (sym (seven_texts past.events live claim.best claim.excess (said_of claim.best claim.excess) refl refl))
-    ∙ ap (λ (l : List ℕ). texts_of (seven_form past.events live) 7 (said_of claim.best claim.excess) ++ l) (plan_parts past.config.devices net claim.schedule claim.prices h)
+report_parts net claim h =
+    ap (λ (l : List ℕ). l ++ plan_text net (slice_index claim.schedule) (pricing_of_rows claim.prices)) (sym (seven_texts net claim.best claim.excess (said_of claim.best claim.excess) refl refl))
+    ∙ ap (λ (l : List ℕ). texts_of (seven_form net) 7 (said_of claim.best claim.excess) ++ l) (plan_parts net claim.schedule claim.prices h)

@@ -1,8 +1,9 @@
 -- the forms of a report's lines: where one stands at an offset, what it says and the offset after it
 use Rattle.std.specs.Prelude.{ℕ, ◌-◌, nat_le, nat_lt, if◌then◌else◌, List, length, Option, Some, codes, decimal, option_and_then, slice_get}
 use Rattle.std.specs.Option.{option_map_or}
-use Rattle.price_check.specs.Words.{MOST_PRICE, Device, Stay, Instance, NetRows, instance_of_rows, live_of_rows, names_of_rows}
+use Rattle.price_check.specs.Words.{MOST_BYTES, MOST_PRICE, Device, Stay, Instance, NetRows, instance_of_rows, live_of_rows, names_of_rows}
 use Rattle.price_check.specs.Pieces.{◌>>=◌, skip, skip_number, found_number}
+use Rattle.price_check.specs.declared.forms.TheConstants.{MOST_REPORT_BYTES}
 
 -- the line of this word and this number
 unfoldable pub known_line : List ℕ → ℕ → List ℕ → ℕ → Option ℕ
@@ -24,10 +25,14 @@ stated_line word text at = do
   next ← skip (codes "\n") text number.1
   Some (number.0, next)
 
--- the most that a stay's line may say: 65,535 in the report of a history, and 1,048,576 in that of a recording, where prices may be
--- larger
+-- the most that a stay's line may say: 65,535 in the report of a history, and 1,048,576 in that of a recording, where prices
+-- may be larger
 abbrev pub most_number : Instance → ℕ
 most_number net = if nat_le net.most_price MOST_PRICE then 65535 else 1048576
+
+-- how many bytes a report may have: 16,777,216 that of a history, and 268,435,456 that of a recording
+abbrev pub most_bytes : Instance → ℕ
+most_bytes net = if nat_le net.most_price MOST_PRICE then MOST_BYTES else MOST_REPORT_BYTES
 
 -- the line of a stay of this name, arrival, live round and weight, with a round that is best for it, up to a most
 unfoldable pub named_stay : ℕ → Stay → ℕ → ℕ → ℕ → List ℕ → ℕ → Option (ℕ × ℕ)

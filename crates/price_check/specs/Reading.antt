@@ -1,9 +1,10 @@
 -- How a text is read as a report: line by line, each the one that is due after those before it.
 use Rattle.std.specs.Prelude.{ℕ, zero, suc, ◌+◌, ◌-◌, ◌*◌, ◌/◌, ◌%◌, ◌==◌, Bool, not, nat_le, nat_lt, ◌&&◌, if◌then◌else◌, List, [], ◌∷◌, ◌++◌, length, take, drop, slice_index, Option, is_some, ok_or, Result, Ok, Err, codes, ⊤}
 use Rattle.std.specs.Option.{option_map_or}
-use Rattle.price_check.specs.Words.{has_leading_zero, number_of, Device, ◌>>=◌, digits_at, round, commands, stays_begun, Event, rows, NetRows, instance_of_rows}
+use Rattle.price_check.specs.Words.{has_leading_zero, number_of, Device, ◌>>=◌, digits_at, rows, NetRows, instance_of_rows}
 use Rattle.price_check.specs.Pieces.{skip, line_of}
 use Rattle.price_check.specs.Forms.{known_line, stated_line, most_number, own_stay, any_stay, price_front}
+use Rattle.price_check.specs.Report.{live_cost_of}
 use Rattle.price_check.specs.declared.claim.Claim.{Claim}
 pub use Rattle.price_check.specs.declared.report_fault.ReportFault.{ReportFault}
 pub use Rattle.price_check.specs.declared.report_fault.ReportFault.TheVariants.{BadLine, PriceRange, WrongStays, OutOfMemory}
@@ -17,13 +18,13 @@ abbrev pub due : {X : Type 0} → Option X → List ℕ → ℕ → Result X Rep
 due line text at = ok_or line (BadLine (line_of text at))
 
 -- the first seven lines: what is said of the cost and of the excess, and the offset after them
-unfoldable pub summary_at : List Event → ℕ → List ℕ → Result (ℕ × ℕ × ℕ) ReportFault
-summary_at events live text = do
+unfoldable pub summary_at : NetRows → List ℕ → Result (ℕ × ℕ × ℕ) ReportFault
+summary_at net text = do
   one ← due (known_line (codes "camaudit") 1 text 0) text 0
-  two ← due (known_line (codes "commands") (commands events) text one) text one
-  three ← due (known_line (codes "stays") (length (stays_begun events)) text two) text two
-  four ← due (known_line (codes "rounds") (round events) text three) text three
-  five ← due (known_line (codes "live") live text four) text four
+  two ← due (known_line (codes "commands") net.commands text one) text one
+  three ← due (known_line (codes "stays") (instance_of_rows net).stays text two) text two
+  four ← due (known_line (codes "rounds") (instance_of_rows net).rounds text three) text three
+  five ← due (known_line (codes "live") (live_cost_of net) text four) text four
   best ← due (stated_line (codes "best") text five) text five
   excess ← due (stated_line (codes "excess") text best.1) text best.1
   Ok (best.0, excess.0, excess.1)
@@ -69,11 +70,11 @@ stops text at = if nat_le (length text) at then Ok tt else Err (BadLine (line_of
 unfoldable pub ended : List ℕ → ℕ → Result ⊤ ReportFault
 ended text at = due (skip (codes "end\n") text at) text at >>= stops text
 
--- what a report claims whose lines are each closed, or the fault of the first line that isn't the one due: the summary, a line
--- for each stay in order, the prices by row and round, and the last line
-unfoldable pub reading : List Device → List Event → ℕ → NetRows → List ℕ → Result Claim ReportFault
-reading devices events live net text = do
-  costs ← summary_at events live text
+-- what a report on a net of these devices claims whose lines are each closed, or the fault of the first line that isn't the
+-- one due: the summary, a line for each stay in order, the prices by row and round, and the last line
+unfoldable pub reading : List Device → NetRows → List ℕ → Result Claim ReportFault
+reading devices net text = do
+  costs ← summary_at net text
   best ← series (stay_at net text) (instance_of_rows net).stays costs.2
   prices ← series (cell_price_at (instance_of_rows net).most_price devices (instance_of_rows net).adapters (instance_of_rows net).rounds text) (rows (instance_of_rows net) * (instance_of_rows net).rounds) best.1
   _ ← ended text prices.1

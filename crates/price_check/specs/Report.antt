@@ -1,17 +1,21 @@
--- the report on a history: a schedule, what it costs, and the prices that prove it
+-- the report on a net: a schedule, what it costs, and the prices that prove it
 use Rattle.std.specs.Prelude.{ℕ, zero, suc, ◌+◌, ◌-◌, ◌==◌, nat_lt, if◌then◌else◌, List, [], ◌++◌, length, slice_get, codes, decimal}
 use Rattle.std.specs.Option.{option_map_or}
-use Rattle.price_check.specs.Words.{Device, address_of, spelled, round, commands, stays_begun, Event, Stay, Instance, rows, NetRows, instance_of_rows, live_of_rows, names_of_rows, Pricing}
+use Rattle.price_check.specs.Words.{Device, address_of, spelled, Stay, rows, NetRows, instance_of_rows, live_of_rows, names_of_rows, cost, Pricing}
 use Rattle.price_check.specs.Lines.{line}
 
--- the first seven lines: what the history has, what its live schedule cost, and what is said of a best one's cost and of
--- the excess
-unfoldable pub summary_text : List Event → ℕ → ℕ → ℕ → List ℕ
-summary_text events live best excess =
+-- what the waiting of a net's stays cost, in weighted rounds, as they were sent
+abbrev pub live_cost_of : NetRows → ℕ
+live_cost_of net = cost (instance_of_rows net) (live_of_rows net)
+
+-- the first seven lines: what the net has, what its live schedule cost, and what is said of a best one's cost and of the
+-- excess
+unfoldable pub summary_text : NetRows → ℕ → ℕ → ℕ → List ℕ
+summary_text net live best excess =
     line (codes "camaudit") 1
-    ++ line (codes "commands") (commands events)
-    ++ line (codes "stays") (length (stays_begun events))
-    ++ line (codes "rounds") (round events)
+    ++ line (codes "commands") net.commands
+    ++ line (codes "stays") (instance_of_rows net).stays
+    ++ line (codes "rounds") (instance_of_rows net).rounds
     ++ line (codes "live") live
     ++ line (codes "best") best
     ++ line (codes "excess") excess
@@ -57,12 +61,13 @@ unfoldable pub row_line : List Device → ℕ → Pricing → ℕ → ℕ → Li
 row_line devices adapters p row r = price_line (row_text devices adapters row) r (p row r)
 
 -- the prices by row and round
-unfoldable pub price_lines : List Device → Instance → Pricing → List ℕ
-price_lines devices net p = texts_below (rows net) (λ row. texts_below net.rounds (λ r. row_line devices net.adapters p row (r + 1)))
+unfoldable pub price_lines : NetRows → Pricing → List ℕ
+price_lines net p =
+    texts_below (rows (instance_of_rows net)) (λ row. texts_below (instance_of_rows net).rounds (λ r. row_line net.config.devices (instance_of_rows net).adapters p row (r + 1)))
 
 -- the stays in order of birth, the prices, and the last line
-unfoldable pub plan_text : List Device → NetRows → (ℕ → ℕ) → Pricing → List ℕ
-plan_text devices net best p =
+unfoldable pub plan_text : NetRows → (ℕ → ℕ) → Pricing → List ℕ
+plan_text net best p =
     texts_below (instance_of_rows net).stays (stay_line net best)
-    ++ (price_lines devices (instance_of_rows net) p
+    ++ (price_lines net p
     ++ codes "end\n")

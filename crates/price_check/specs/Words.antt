@@ -7,15 +7,9 @@ pub use Rattle.cam_types.specs.Number.{has_leading_zero, is_decimal, number_of}
 pub use Rattle.cam_types.specs.Topology.{IsConfig, Topology, are_openings, config_fault, is_same_address}
 unfoldable pub use Rattle.cam_types.specs.Topology.{address_fault, device_fault}
 pub use Rattle.cam_types.specs.Watched.{device_of, has_failed}
-pub use Rattle.cam_types.specs.Whole.{IsTooLong, IsWhole}
+pub use Rattle.cam_types.specs.Whole.{IsLongerThan, IsWholeWithin}
 pub use Rattle.cam_types.specs.declared.device.Device.{Device}
 pub use Rattle.cam_types.specs.declared.maxima.TheConstants.{MOST_ADAPTERS, MOST_BYTES, MOST_DEVICES, MOST_LINKS, MOST_WEIGHT}
-pub use Rattle.event_rules.specs.Counts.{commands}
-unfoldable pub use Rattle.event_rules.specs.Counts.{round}
-pub use Rattle.event_rules.specs.Live.{live_cost, live_part}
-pub use Rattle.event_rules.specs.Past.{Past}
-pub use Rattle.event_rules.specs.Stays.{stays_begun, unsent}
-pub use Rattle.event_rules.specs.declared.event.Event.{Event}
 pub use Rattle.event_rules.specs.declared.stay.Stay.{Stay}
 pub use Rattle.round_net.specs.Instance.{Instance, adapter, adapter_row, link, link_row, link_rows, path, path_of, rows, uses}
 unfoldable pub use Rattle.round_net.specs.Nets.{net_of}

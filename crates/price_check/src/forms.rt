@@ -1,11 +1,11 @@
 //! The forms of a report's lines, each read from an offset on.
 
 ghost use Rattle.std.specs.Prelude.{◌≡◌, ◌^◌, ◌<◌, ◌≤◌, length, IfSome};
-ghost use Rattle.round_net.specs.Rows.{instance_of_rows};
-ghost use Rattle.price_check.specs.Forms.{known_line, stated_line, most_number, named_stay, own_stay, small_number, any_stay, dev_front, number_front, shared_front, price_front};
+ghost use Rattle.price_check.specs.Words.{instance_of_rows};
+ghost use Rattle.price_check.specs.Forms.{known_line, stated_line, most_number, most_bytes, named_stay, own_stay, small_number, any_stay, dev_front, number_front, shared_front, price_front};
 
 use crate::pieces::{number_at, skip, skip_digits, skip_number};
-use cam_types::Device;
+use cam_types::{Device, MOST_BYTES};
 use event_rules::Stay;
 use round_net::{MOST_PRICE, Net};
 
@@ -18,6 +18,9 @@ const MOST_HISTORY_NUMBER: u64 = 65_535;
 /// The most that it may say in that of a recording.
 const MOST_RECORDING_NUMBER: u64 = 1_048_576;
 
+/// How many bytes the report of a recording may have. That of a history may have `MOST_BYTES`.
+const MOST_REPORT_BYTES: usize = 268_435_456;
+
 /// The most that a stay's line may say. A net whose largest price is above that of a history is a recording's.
 pub(crate) fn most_number(net: &Net) -> u64
     ensures same { result ≡ most_number (instance_of_rows net.now) }
@@ -27,6 +30,18 @@ pub(crate) fn most_number(net: &Net) -> u64
         MOST_HISTORY_NUMBER
     } else {
         MOST_RECORDING_NUMBER
+    }
+}
+
+/// How many bytes a report on the net may have: the net is a history's or a recording's, as `most_number` tells them apart.
+pub(crate) fn most_bytes(net: &Net) -> usize
+    ensures same { result ≡ most_bytes (instance_of_rows net.now) }
+    ensures few { result ≤ MOST_REPORT_BYTES }
+{
+    if net.most_price() <= MOST_PRICE {
+        MOST_BYTES
+    } else {
+        MOST_REPORT_BYTES
     }
 }
 

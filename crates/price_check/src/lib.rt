@@ -4,7 +4,7 @@
 
 pub use checker::check;
 pub use claim::Claim;
-pub use reader::read_report;
+pub use reader::{read_claim, read_report};
 pub use report::{push_plan, push_summary};
 pub use report_fault::ReportFault;
 pub use text::{push_line, push_name};

@@ -24,7 +24,6 @@ pub(crate) fn read_prices(
 ) -> Result<(Vec<u64>, usize), ReportFault>
     requires within { at ≤ length text.now }
     requires short { length text.now < 2 ^ 31 }
-    requires some { 1 ≤ (instance_of_rows net.now).rounds }
     ensures ok { let n = instance_of_rows net.now in IfOk result (λ r. series (cell_price_at n.most_price devices.now n.adapters n.rounds text.now) (rows n * n.rounds) at ≡ Ok (r.0.items, r.1)) }
     ensures err { let n = instance_of_rows net.now in IfErr result (λ e. e ≢ ReportFault.OutOfMemory → series (cell_price_at n.most_price devices.now n.adapters n.rounds text.now) (rows n * n.rounds) at ≡ Err e) }
     ensures within { IfOk result (λ r. r.1 ≤ length text.now) }

@@ -1,4 +1,4 @@
-//! Why a text isn't a report on a history.
+//! Why a text isn't a report on a net.
 
 ghost use Rattle.std.specs.Prelude.{◌≡◌};
 ghost use Rattle.price_check.specs.Reading.{OutOfMemory};
@@ -12,13 +12,14 @@ pub enum ReportFault {
     /// The line isn't the one due or not of its form, or it is missing.
     #[error("report line {0}: bad line")]
     BadLine(u32),
-    /// A line that is otherwise right has a price above 1,000,000,000,000.
+    /// A line that is otherwise right has a price above the net's largest: 1,000,000,000,000 of a history's net, and
+    /// 1,000,000,000,000,000 of a recording's.
     #[error("report line {0}: price range")]
     PriceRange(u32),
     /// A stay's line says another name, arrival, live round or weight than the net.
     #[error("report line {0}: wrong stay")]
     WrongStays(u32),
-    /// More than 16,777,216 bytes came.
+    /// More bytes came than a report on the net may have: 16,777,216 of a history's net, and 268,435,456 of a recording's.
     #[error("too long")]
     TooLong,
     /// A read failed.

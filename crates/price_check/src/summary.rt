@@ -1,29 +1,28 @@
 //! Reads the first seven lines of a report.
 
 ghost use Rattle.std.specs.Prelude.{◌≡◌, ◌<◌, ◌≤◌, ◌^◌, length, IfOk};
+ghost use Rattle.price_check.specs.Words.{instance_of_rows, live_of_rows, IsSound};
 ghost use Rattle.price_check.specs.Forms.{known_line, stated_line};
 ghost use Rattle.price_check.specs.Reading.{due, summary_at};
 
 use crate::forms::{known_line, stated_line};
 use crate::pieces::line_of;
 use crate::report_fault::ReportFault;
-use cam_event::History;
+use round_net::{Net, live_cost};
 
 /// What the first seven lines say of the cost and of the excess, and the offset after them.
 #[tactic(auto, unfolding(crate::specs::Reading::summary_at))]
-pub(crate) fn read_summary(
-    text: &[u8],
-    history: &History,
-    live: u64,
-) -> Result<(u64, u64, usize), ReportFault>
+pub(crate) fn read_summary(text: &[u8], net: &Net) -> Result<(u64, u64, usize), ReportFault>
     requires { length text.now < 2 ^ 31 }
-    ensures value { result ≡ summary_at history.now.events live text.now }
+    ensures value { result ≡ summary_at net.now text.now }
     ensures within { IfOk result (λ r. r.2 ≤ length text.now) }
+    ensures sound { IsSound (instance_of_rows net.now) (live_of_rows net.now) }
 {
+    let live = live_cost(net);
     let one = read_known(text, 0, b"camaudit", 1)?;
-    let two = read_known(text, one, b"commands", u64::from(history.commands()))?;
-    let three = read_known(text, two, b"stays", u64::from(history.stay_count()))?;
-    let four = read_known(text, three, b"rounds", u64::from(history.round()))?;
+    let two = read_known(text, one, b"commands", u64::from(net.commands()))?;
+    let three = read_known(text, two, b"stays", u64::from(net.stays()))?;
+    let four = read_known(text, three, b"rounds", u64::from(net.rounds()))?;
     let five = read_known(text, four, b"live", live)?;
     let (best, six) = read_stated(text, five, b"best")?;
     let (excess, seven) = read_stated(text, six, b"excess")?;

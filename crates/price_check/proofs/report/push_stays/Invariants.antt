@@ -5,4 +5,4 @@ use Rattle.price_check.proofs.report.push_stays.Given as goal
 abbrev pub invariant-loop-stay : goal.invariant-loop-stay
 invariant-loop-stay l =
     (l.text.items ≡ l.initial.text.items ++ texts_below l.stay (stay_line l.net (slice_index l.schedule)))
-    × (length l.text.items ≤ length l.initial.text.items + 260 * l.stay)
+    × (length l.text.items ≤ length l.initial.text.items + 64 * l.stay)

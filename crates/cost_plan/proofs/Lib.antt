@@ -10,3 +10,4 @@ pub mod SearchLemmas
 pub mod PricedLemmas
 pub mod NodeLemmas
 pub mod PartLemmas
+pub mod TieLemmas

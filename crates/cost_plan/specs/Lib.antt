@@ -5,3 +5,4 @@ pub mod RowPrices
 pub mod Draft
 pub mod Raising
 pub mod Parts
+pub mod Ties

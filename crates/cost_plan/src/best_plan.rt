@@ -9,11 +9,13 @@ ghost use Rattle.cost_plan.specs.Cells.{node_count};
 ghost use Rattle.cost_plan.specs.Draft.{IsDraftOf, schedule_of};
 ghost use Rattle.cost_plan.specs.Residual.{IsResidual};
 ghost use Rattle.cost_plan.specs.RowPrices.{IsAtMost, SettlesAll};
+ghost use Rattle.cost_plan.specs.Ties.{KeepsLive};
 
 use crate::begin::{Start, begin, guessed, live};
 use crate::cells::nodes;
 use crate::draft::{Draft, change_all};
 use crate::gate::Gate;
+use crate::keep_live::keep_live;
 use crate::levels::plan_by_levels;
 use crate::parts::guessed_at_once;
 use crate::pricing::prices_of;
@@ -36,19 +38,21 @@ pub struct BestPlan {
     pub prices: Prices,
 }
 
-/// A best plan of the net: no admissible schedule costs less than this one, as its prices prove. Which of several best
-/// plans it is isn't promised. It begins with a guess, and as long as some stays can change rounds together so that all cost
+/// A best plan of the net: no admissible schedule costs less than this one, as its prices prove. If the live schedule is a
+/// best one, it is the plan's; which of several others it is isn't promised. It begins with a guess, and as long as some stays can change rounds together so that all cost
 /// less, it changes them. For a net of more than 4,096 stays a plan by levels of time is tried first.
 pub fn plan(alloc: Global, net: &Net) -> Result<BestPlan, AllocError>
     ensures proved { IfOk result (λ best. ProvesBest (instance_of_rows net.now) (slice_index best.schedule) (pricing_of_rows best.prices)) }
     ensures stays { IfOk result (λ best. length best.schedule ≡ (instance_of_rows net.now).stays) }
     ensures cells { IfOk result (λ best. IsPricingFor (instance_of_rows net.now) best.prices) }
     ensures small { IfOk result (λ best. IsAtMost (instance_of_rows net.now) (pricing_of_rows best.prices) (instance_of_rows net.now).most_price) }
+    ensures live { IfOk result (λ best. KeepsLive (instance_of_rows net.now) (live_of_rows net.now) (slice_index best.schedule)) }
 {
-    match plan_of_many(alloc, net)? {
-        Some(best) => Ok(best),
-        None => settled(alloc, net, begin(alloc, net)?),
-    }
+    let best = match plan_of_many(alloc, net)? {
+        Some(best) => best,
+        None => settled(alloc, net, begin(alloc, net)?)?,
+    };
+    keep_live(alloc, net, best)
 }
 
 /// A best plan of the net, as `plan` makes it. But the guess is made for each part that has a stay by itself, and for all of
@@ -66,14 +70,16 @@ pub fn plan_with<G: Gate + Sync, R: Threads + Sync>(
     ensures stays { IfOk result (λ best. length best.schedule ≡ (instance_of_rows net.now).stays) }
     ensures cells { IfOk result (λ best. IsPricingFor (instance_of_rows net.now) best.prices) }
     ensures small { IfOk result (λ best. IsAtMost (instance_of_rows net.now) (pricing_of_rows best.prices) (instance_of_rows net.now).most_price) }
+    ensures live { IfOk result (λ best. KeepsLive (instance_of_rows net.now) (live_of_rows net.now) (slice_index best.schedule)) }
 {
-    if let Some(best) = plan_of_many(alloc, net)? {
-        return Ok(best);
-    }
-    match guessed_at_once(rt, alloc, net, gate)? {
-        Some(start) => settled(alloc, net, start),
-        None => settled(alloc, net, live(alloc, net)?),
-    }
+    let best = match plan_of_many(alloc, net)? {
+        Some(best) => best,
+        None => match guessed_at_once(rt, alloc, net, gate)? {
+            Some(start) => settled(alloc, net, start)?,
+            None => settled(alloc, net, live(alloc, net)?)?,
+        },
+    };
+    keep_live(alloc, net, best)
 }
 
 // The plan by levels of a net of many stays. None of few, or if its prices don't prove it best.

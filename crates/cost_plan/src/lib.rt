@@ -10,6 +10,7 @@ mod best_plan;
 mod cells;
 mod draft;
 mod gate;
+mod keep_live;
 mod keeping;
 mod levels;
 mod part;

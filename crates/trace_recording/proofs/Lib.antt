@@ -1,0 +1,8 @@
+pub mod ListLemmas
+pub mod RunLemmas
+pub mod PartLemmas
+pub mod CapLemmas
+pub mod StayLemmas
+pub mod RequestLemmas
+pub mod NetLemmas
+pub mod SameNetLemmas

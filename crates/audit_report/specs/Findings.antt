@@ -1,20 +1,20 @@
--- what comes of a claim about a history, and the line that says so
+-- what comes of a claim about a net, and the line that says so
 use Rattle.std.specs.Prelude.{◌≡◌, ◌≢◌, ℕ, ◌-◌, ◌++◌, Bool, true, false, List, slice_index, codes, decimal}
-use Rattle.audit_report.specs.Words.{Stay, Past, cost, ProvesBest, names_of_rows, pricing_of_rows, net_of, instance_of, live_of, number_text, IsGap, IsRefused, Claim, Cause, Early, Late, DeviceFull, AdapterFull, LinkFull}
+use Rattle.audit_report.specs.Words.{Stay, NetRows, instance_of_rows, live_of_rows, cost, ProvesBest, names_of_rows, pricing_of_rows, number_text, IsGap, IsRefused, Claim, Cause, Early, Late, DeviceFull, AdapterFull, LinkFull}
 pub use Rattle.audit_report.specs.declared.finding.Finding.{Finding}
 use Rattle.audit_report.specs.declared.finding.Finding.TheVariants.{Proved, Gap, NotAdmissible, WrongBest, WrongExcess}
 
-module _ (past : Past) (claim : Claim) where
+module _ (net : NetRows) (claim : Claim) where
   -- what the claimed schedule costs, and by how much the live one costs more
   abbrev pub claimed_cost : ℕ
-  claimed_cost = cost (instance_of past.config past.events) (slice_index claim.schedule)
+  claimed_cost = cost (instance_of_rows net) (slice_index claim.schedule)
 
   abbrev pub claimed_excess : ℕ
-  claimed_excess = cost (instance_of past.config past.events) (live_of past.config past.events) - claimed_cost
+  claimed_excess = cost (instance_of_rows net) (live_of_rows net) - claimed_cost
 
   -- the claimed prices prove the claimed schedule
   abbrev pub IsProved : Type 0
-  IsProved = ProvesBest (instance_of past.config past.events) (slice_index claim.schedule) (pricing_of_rows claim.prices)
+  IsProved = ProvesBest (instance_of_rows net) (slice_index claim.schedule) (pricing_of_rows claim.prices)
 
   -- the claim is right in all: its prices prove its schedule, and its numbers are the schedule's
   pub record IsRight : Type 0 where
@@ -25,9 +25,9 @@ module _ (past : Past) (claim : Claim) where
   -- what a finding on the claim says
   abbrev pub Says : Finding → Type 0
   Says Proved = IsRight
-  Says (Gap gap) = IsGap (instance_of past.config past.events) (slice_index claim.schedule) (pricing_of_rows claim.prices) gap
+  Says (Gap gap) = IsGap (instance_of_rows net) (slice_index claim.schedule) (pricing_of_rows claim.prices) gap
   Says (NotAdmissible stay cause) =
-      IsRefused (instance_of past.config past.events) (names_of_rows (net_of past.config past.events)) (slice_index claim.schedule) stay cause
+      IsRefused (instance_of_rows net) (names_of_rows net) (slice_index claim.schedule) stay cause
   Says WrongBest = IsProved × (claim.best ≢ claimed_cost)
   Says WrongExcess = IsProved × (claim.best ≡ claimed_cost) × (claim.excess ≢ claimed_excess)
 

@@ -2,6 +2,9 @@ pub mod Words
 pub mod Audit
 pub mod Check
 pub mod Findings
+pub mod Histories
+pub mod Inputs
 pub mod Migration
 pub mod Prove
+pub mod Reading
 pub mod Runs

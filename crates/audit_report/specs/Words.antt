@@ -16,16 +16,22 @@ pub use Rattle.event_rules.specs.declared.passage.Passage.{Passage}
 pub use Rattle.event_rules.specs.declared.stay.Stay.{Stay}
 pub use Rattle.price_check.specs.Claims.{IsClaim}
 unfoldable pub use Rattle.price_check.specs.Claims.{report_text}
+pub use Rattle.price_check.specs.Forms.{most_bytes}
 pub use Rattle.price_check.specs.Lines.{line}
-pub use Rattle.price_check.specs.Report.{number_text, plan_text, summary_text}
+pub use Rattle.price_check.specs.Report.{live_cost_of, number_text, plan_text, summary_text}
 pub use Rattle.price_check.specs.Verdicts.{IsBest, IsGap, IsRefused}
 pub use Rattle.price_check.specs.declared.claim.Claim.{Claim}
 pub use Rattle.price_check.specs.declared.report_fault.ReportFault.{ReportFault}
 pub use Rattle.price_check.specs.declared.verdict.Cause.{Cause}
 pub use Rattle.price_check.specs.declared.verdict.Cause.TheVariants.{AdapterFull, DeviceFull, Early, Late, LinkFull}
+pub use Rattle.recording_file.specs.Recorded.{IsRecording}
+pub use Rattle.recording_file.specs.Recordings.{IsRecordingText}
+pub use Rattle.recording_file.specs.Whole.{IsLongWhole}
+pub use Rattle.recording_file.specs.Writing.{recording_text}
 pub use Rattle.round_net.specs.Instance.{Instance, rows}
 pub use Rattle.round_net.specs.Nets.{instance_of, live_of}
 unfoldable pub use Rattle.round_net.specs.Nets.{net_of, stay_row}
+unfoldable pub use Rattle.round_net.specs.RecordedNets.{net_of_recording}
 pub use Rattle.round_net.specs.PriceRows.{IsPriced, IsPricingFor, pricing_of_rows}
 pub use Rattle.round_net.specs.Rows.{NetRows, names_of_rows, of_stay}
 unfoldable pub use Rattle.round_net.specs.Rows.{instance_of_rows, live_of_rows}
@@ -33,6 +39,8 @@ pub use Rattle.round_net.specs.Schedules.{IsAdmissible, cost}
 pub use Rattle.round_net.specs.Sound.{IsSound}
 pub use Rattle.round_net.specs.Sums.{sum_below}
 pub use Rattle.round_net.specs.Value.{ProvesBest}
+pub use Rattle.round_net.specs.declared.maxima.TheConstants.{MOST_NET_ROUNDS, MOST_NET_STAYS}
 pub use Rattle.round_net.specs.declared.stay_row.StayRow.{StayRow}
 pub use Rattle.trace_file.specs.Trace.{Explains, IsHistory, IsTrace, WasTrace}
 pub use Rattle.trace_file.specs.Writing.{migrated_text}
+pub use Rattle.trace_recording.specs.Recorded.{recorded_of}

@@ -5,6 +5,7 @@ ghost use Rattle.audit_report.specs.Runs.{OutOfMemory};
 
 use event_rules::Stay;
 use price_check::ReportFault;
+use recording_file::RecordingFault;
 use std::alloc::AllocError;
 use thiserror::Error;
 use trace_file::TraceFault;
@@ -15,10 +16,13 @@ pub enum AuditFault {
     /// The input is no trace, or wasn't read.
     #[error("{0}")]
     Trace(TraceFault),
+    /// The input is no recording, though it begins with the header of one.
+    #[error("{0}")]
+    Recording(RecordingFault),
     /// The history isn't complete: this is the first of its stays, by birth, that has no send.
     #[error("unsent ccb {} try {}", .0.ccb, .0.attempt)]
     Unsent(Stay),
-    /// The report isn't one of the history, or wasn't read.
+    /// The report isn't one of the net, or wasn't read.
     #[error("{0}")]
     Report(ReportFault),
     /// A write failed. A part of the text may have been written, from its start.

@@ -1,20 +1,26 @@
-//! The check of a trace: its counts, and what its live schedule cost.
+//! The check of a trace or a recording: its counts, and what its live schedule cost.
 
-ghost use Rattle.std.specs.Prelude.{◌≡◌, ◌≢◌, Some, true, false, Ok, Err, IfOk, OnOk};
-ghost use Rattle.audit_report.specs.Words.{device_of, has_failed, is_flushed, Past, live_cost};
-ghost use Rattle.audit_report.specs.Check.{check_text, IsCheck};
-ghost use Rattle.audit_report.specs.Runs.{Ended, WasComplete};
+ghost use Rattle.std.specs.Prelude.{◌≡◌, ◌≢◌, None, Some, false, true, Err, IfOk, IfErr, OnOk};
+ghost use Rattle.audit_report.specs.Words.{device_of, has_failed, is_flushed, live_cost, unsent};
+ghost use Rattle.audit_report.specs.Inputs.{Input, WhyNoNetOf};
+ghost use Rattle.audit_report.specs.Check.{check_text, IsCheck, IsCounted};
+ghost use Rattle.audit_report.specs.Runs.{Ended};
 
 use crate::audit_fault::AuditFault;
+use crate::input::Input;
+use crate::reading::read_input;
 use cam_event::History;
 use cam_types::{Watched, write_whole};
 use price_check::push_line;
+use recording_file::Recording;
+use round_net::{Net, live_cost};
 use std::alloc::{AllocError, Global};
 use std::io::{Read, Write};
-use trace_file::{TraceFault, read_trace};
+use trace_file::TraceFault;
 
-/// Reads a trace and writes five lines on it: the version of this form, how many commands, stays and rounds it has, and
-/// what its live schedule cost. Before anything is written the trace is read to its end, tested and found complete.
+/// Reads a trace or a recording and writes five lines on it: the version of this form, how many commands, stays and rounds
+/// it has, and what its live schedule cost. Before anything is written the input is read to its end, tested and found
+/// complete.
 pub fn run_check<R: Read, W: Write>(
     alloc: Global,
     trace: &mut Watched<R>,
@@ -23,36 +29,88 @@ pub fn run_check<R: Read, W: Write>(
     requires trace_calm { has_failed trace.old ≡ false }
     requires out_calm { has_failed out.old ≡ false }
     ensures ended { Ended IsCheck (R.remaining (device_of trace.old)) (R.remaining (device_of trace.new)) (has_failed trace.new) (W.contents (device_of out.old)) (W.contents (device_of out.new)) (has_failed out.new) result }
-    ensures memory { result ≡ Err AuditFault.OutOfMemory → WasComplete (R.remaining (device_of trace.old)) (R.remaining (device_of trace.new)) }
     ensures flushed { OnOk result (is_flushed out.new ≡ true) }
     ensures trace_calm { result ≢ Err (AuditFault.Trace TraceFault.ReadFailed) → has_failed trace.new ≡ false }
     ensures out_calm { result ≢ Err AuditFault.WriteFailed → has_failed out.new ≡ false }
 {
-    let history = match read_trace(alloc, trace) {
-        Ok(history) => history,
-        Err(fault) => return Err(AuditFault::Trace(fault)),
-    };
-    if let Some(stay) = history.unsent() {
-        return Err(AuditFault::Unsent(stay));
-    }
-    let Some(cost) = history.live_cost() else {
-        unreachable!()
-    };
-    let text = check_text(alloc, &history, cost)?;
+    let input = read_input(alloc, trace)?;
+    let text = check_text(alloc, &input)?;
     match write_whole(out, &text) {
         Ok(()) => Ok(()),
         Err(_) => Err(AuditFault::WriteFailed),
     }
 }
 
-fn check_text(alloc: Global, history: &History, cost: u64) -> Result<Vec<u8>, AllocError>
-    ensures { IfOk result (λ text. text.items ≡ check_text history.now.events cost) }
+// The five lines, if each stay has a send.
+fn check_text(alloc: Global, input: &Input) -> Result<Vec<u8>, AuditFault>
+    ensures text { IfOk result (λ text. IsCheck input.now text.items) }
+    ensures faults { IfErr result (WhyNoNetOf input.now) }
 {
-    let mut text = Vec::new(alloc);
-    push_line(&mut text, b"camcheck", 1)?;
-    push_line(&mut text, b"commands", u64::from(history.commands()))?;
-    push_line(&mut text, b"stays", history.stay_count() as u64)?;
-    push_line(&mut text, b"rounds", u64::from(history.round()))?;
-    push_line(&mut text, b"live", cost)?;
-    Ok(text)
+    let counts = Counts::of(alloc, input)?;
+    Ok(counts.text(alloc)?)
+}
+
+/// What a check counts.
+#[derive(Clone, Copy)]
+struct Counts {
+    commands: u32,
+    stays: u32,
+    rounds: u32,
+    live: u64,
+}
+
+impl Counts {
+    // Those of an input in which each stay has a send.
+    fn of(alloc: Global, input: &Input) -> Result<Counts, AuditFault>
+        ensures counted { IfOk result (IsCounted input.now) }
+        ensures faults { IfErr result (WhyNoNetOf input.now) }
+    {
+        match input {
+            Input::Trace(history) => Counts::of_history(history),
+            Input::Recording(recording) => Ok(Counts::of_recording(alloc, recording)?),
+        }
+    }
+
+    fn of_history(history: &History) -> Result<Counts, AuditFault>
+        ensures counted { IfOk result (IsCounted (Input.Trace history.now)) }
+        ensures faults { IfErr result (WhyNoNetOf (Input.Trace history.now)) }
+    {
+        if let Some(stay) = history.unsent() {
+            return Err(AuditFault::Unsent(stay));
+        }
+        let Some(live) = history.live_cost() else {
+            unreachable!()
+        };
+        Ok(Counts {
+            commands: history.commands(),
+            stays: history.stay_count(),
+            rounds: history.round(),
+            live,
+        })
+    }
+
+    fn of_recording(alloc: Global, recording: &Recording) -> Result<Counts, AllocError>
+        ensures { IfOk result (IsCounted (Input.Recording recording.now)) }
+    {
+        let net = Net::of_recording(alloc, recording)?;
+        Ok(Counts {
+            commands: net.commands(),
+            stays: net.stays(),
+            rounds: net.rounds(),
+            live: live_cost(&net),
+        })
+    }
+
+    // The lines that say them.
+    fn text(self, alloc: Global) -> Result<Vec<u8>, AllocError>
+        ensures { IfOk result (λ text. text.items ≡ check_text self.commands self.stays self.rounds self.live) }
+    {
+        let mut text = Vec::new(alloc);
+        push_line(&mut text, b"camcheck", 1)?;
+        push_line(&mut text, b"commands", u64::from(self.commands))?;
+        push_line(&mut text, b"stays", u64::from(self.stays))?;
+        push_line(&mut text, b"rounds", u64::from(self.rounds))?;
+        push_line(&mut text, b"live", self.live)?;
+        Ok(text)
+    }
 }

@@ -1,10 +1,9 @@
 //! What the live schedule cost, what a best one costs, and the excess.
 
-ghost use Rattle.std.specs.Prelude.{◌≡◌, ◌-◌, ◌*◌, ◌^◌, ◌≤◌, None, Some, length, slice_index};
-ghost use Rattle.audit_report.specs.Words.{live_cost, unsent, instance_of_rows, live_of_rows, net_of, IsAdmissible, cost, IsBest, MOST_STAYS, MOST_ROUNDS, MOST_WEIGHT};
+ghost use Rattle.std.specs.Prelude.{◌≡◌, ◌-◌, ◌*◌, ◌≤◌, length, slice_index};
+ghost use Rattle.audit_report.specs.Words.{instance_of_rows, live_of_rows, IsAdmissible, cost, IsBest, MOST_NET_STAYS, MOST_NET_ROUNDS, MOST_WEIGHT};
 
-use cam_event::History;
-use round_net::{Net, Schedule, cost};
+use round_net::{Net, Schedule, cost, live_cost};
 
 /// What waiting cost, in weighted rounds.
 #[derive(Clone, Copy)]
@@ -18,23 +17,17 @@ pub struct Costs {
 }
 
 impl Costs {
-    /// What waiting cost in a complete history, beside a best schedule of its net.
-    pub fn of(history: &History, net: &Net, schedule: &Schedule) -> Costs
-        requires net { net.now ≡ net_of history.now.config history.now.events }
-        requires complete { unsent history.now.events ≡ None }
+    /// What waiting cost, beside a best schedule of the net.
+    pub fn of(net: &Net, schedule: &Schedule) -> Costs
         requires stays { length schedule.now ≡ (instance_of_rows net.now).stays }
         requires admissible { IsAdmissible (instance_of_rows net.now) (slice_index schedule.now) }
         requires best { IsBest (instance_of_rows net.now) (slice_index schedule.now) }
-        ensures known { live_cost history.now.config history.now.events ≡ Some result.live }
         ensures live { result.live ≡ cost (instance_of_rows net.now) (live_of_rows net.now) }
         ensures best { result.best ≡ cost (instance_of_rows net.now) (slice_index schedule.now) }
         ensures excess { result.excess ≡ result.live - result.best }
-        ensures small { result.live ≤ MOST_STAYS * (MOST_WEIGHT * MOST_ROUNDS) }
+        ensures small { result.live ≤ MOST_NET_STAYS * (MOST_WEIGHT * MOST_NET_ROUNDS) }
     {
-        let _events = history.events();
-        let Some(live) = history.live_cost() else {
-            unreachable!()
-        };
+        let live = live_cost(net);
         let Some(best) = cost(net, schedule) else {
             unreachable!()
         };

@@ -1,18 +1,17 @@
-//! What comes of a claim about a history, and the line that says so.
+//! What comes of a claim about a net, and the line that says so.
 
-ghost use Rattle.std.specs.Prelude.{◌≡◌, ◌≢◌, ◌++◌, None, length, slice_index, codes, IfOk, OnOk};
-ghost use Rattle.audit_report.specs.Words.{unsent, instance_of_rows, IsPricingFor, net_of, IsBest};
+ghost use Rattle.std.specs.Prelude.{◌≡◌, ◌≢◌, ◌++◌, length, slice_index, codes, IfOk, OnOk};
+ghost use Rattle.audit_report.specs.Words.{instance_of_rows, IsPricingFor, IsBest};
 ghost use Rattle.audit_report.specs.Findings.{IsProved, IsRight, Says, is_proved, cause_text, gap_text, stay_text, finding_text};
 
 use crate::costs::Costs;
-use cam_event::History;
 use event_rules::Stay;
 use itoa::Buffer;
 use price_check::{Cause, Claim, Verdict, check, push_name};
 use round_net::Net;
 use std::alloc::{AllocError, Global};
 
-/// What comes of a claim that somebody made about a history.
+/// What comes of a claim that somebody made about a net.
 #[derive(Clone, Copy)]
 pub enum Finding {
     /// The prices prove that the schedule is a best one, and the numbers beside it are right.
@@ -28,24 +27,17 @@ pub enum Finding {
 }
 
 impl Finding {
-    /// What comes of a claim about the net of a complete history.
-    pub fn of(
-        alloc: Global,
-        history: &History,
-        net: &Net,
-        claim: &Claim,
-    ) -> Result<Finding, AllocError>
-        requires net { net.now ≡ net_of history.now.config history.now.events }
-        requires complete { unsent history.now.events ≡ None }
+    /// What comes of a claim about the net.
+    pub fn of(alloc: Global, net: &Net, claim: &Claim) -> Result<Finding, AllocError>
         requires stays { length claim.now.schedule ≡ (instance_of_rows net.now).stays }
         requires cells { IsPricingFor (instance_of_rows net.now) claim.now.prices }
-        ensures says { IfOk result (Says history.now claim.now) }
-        ensures right { IfOk result (λ finding. IsRight history.now claim.now → finding ≡ Finding.Proved) }
+        ensures says { IfOk result (Says net.now claim.now) }
+        ensures right { IfOk result (λ finding. IsRight net.now claim.now → finding ≡ Finding.Proved) }
     {
         let mut counts = vec![in alloc; 0u32; net.cells()]?;
         Ok(
             match check(net, &claim.schedule, &claim.prices, &mut counts) {
-                Verdict::Proved => Finding::of_numbers(history, net, claim),
+                Verdict::Proved => Finding::of_numbers(net, claim),
                 Verdict::Gap(gap) => Finding::Gap(gap),
                 Verdict::NotAdmissible(stay, cause) => Finding::NotAdmissible(stay, cause),
             },
@@ -53,16 +45,14 @@ impl Finding {
     }
 
     // What comes of the numbers that stand beside a best schedule.
-    fn of_numbers(history: &History, net: &Net, claim: &Claim) -> Finding
-        requires net { net.now ≡ net_of history.now.config history.now.events }
-        requires complete { unsent history.now.events ≡ None }
+    fn of_numbers(net: &Net, claim: &Claim) -> Finding
         requires stays { length claim.now.schedule ≡ (instance_of_rows net.now).stays }
-        requires proved { IsProved history.now claim.now }
+        requires proved { IsProved net.now claim.now }
         requires best { IsBest (instance_of_rows net.now) (slice_index claim.now.schedule) }
-        ensures says { Says history.now claim.now result }
-        ensures right { IsRight history.now claim.now → result ≡ Finding.Proved }
+        ensures says { Says net.now claim.now result }
+        ensures right { IsRight net.now claim.now → result ≡ Finding.Proved }
     {
-        let costs = Costs::of(history, net, &claim.schedule);
+        let costs = Costs::of(net, &claim.schedule);
         if claim.best != costs.best {
             Finding::WrongBest
         } else if claim.excess != costs.excess {

@@ -1,9 +1,9 @@
 //! The migration of a trace to the newest version.
 
 ghost use Rattle.std.specs.Prelude.{◌≡◌, ◌≢◌, false, true, Ok, Err, OnOk};
-ghost use Rattle.audit_report.specs.Words.{device_of, has_failed, is_flushed, Stay};
-ghost use Rattle.audit_report.specs.Migration.{IsMigration};
-ghost use Rattle.audit_report.specs.Runs.{Ended};
+ghost use Rattle.audit_report.specs.Words.{device_of, has_failed, is_flushed, WasTrace};
+ghost use Rattle.audit_report.specs.Migration.{IsMigration, WhyNoTrace};
+ghost use Rattle.audit_report.specs.Runs.{EndedBy};
 
 use crate::audit_fault::AuditFault;
 use cam_types::Watched;
@@ -20,11 +20,10 @@ pub fn run_migrate<R: Read, W: Write>(
 ) -> Result<(), AuditFault>
     requires trace_calm { has_failed trace.old ≡ false }
     requires out_calm { has_failed out.old ≡ false }
-    ensures ended { Ended IsMigration (R.remaining (device_of trace.old)) (R.remaining (device_of trace.new)) (has_failed trace.new) (W.contents (device_of out.old)) (W.contents (device_of out.new)) (has_failed out.new) result }
+    ensures ended { EndedBy WasTrace WhyNoTrace IsMigration (R.remaining (device_of trace.old)) (R.remaining (device_of trace.new)) (has_failed trace.new) (W.contents (device_of out.old)) (W.contents (device_of out.new)) (has_failed out.new) result }
     ensures flushed { OnOk result (is_flushed out.new ≡ true) }
     ensures trace_calm { result ≢ Err (AuditFault.Trace TraceFault.ReadFailed) → has_failed trace.new ≡ false }
     ensures out_calm { result ≢ Err AuditFault.WriteFailed → has_failed out.new ≡ false }
-    ensures unsent { (stay : Stay) → result ≢ Err (AuditFault.Unsent stay) }
 {
     let history = match read_trace(alloc, trace) {
         Ok(history) => history,

@@ -3,6 +3,7 @@
 use crate::source::Argument;
 use audit_report::AuditFault;
 use price_check::ReportFault;
+use recording_file::RecordingFault;
 use sim_worker::LiveFault;
 use std::alloc::AllocError;
 use std::process::ExitCode;
@@ -35,6 +36,7 @@ impl Failure {
             Failure::WordNotUtf8 | Failure::StandardInputTwice | Failure::NoShell => 2,
             Failure::CannotOpen(_, _) => 4,
             Failure::Audit(AuditFault::Trace(fault)) => trace_status(fault),
+            Failure::Audit(AuditFault::Recording(fault)) => recording_status(fault),
             Failure::Audit(AuditFault::Unsent(_)) => 3,
             Failure::Audit(AuditFault::Report(fault)) => report_status(fault),
             Failure::Audit(AuditFault::WriteFailed) => 4,
@@ -48,6 +50,14 @@ fn trace_status(fault: &TraceFault) -> u8 {
     match fault {
         TraceFault::ReadFailed => 4,
         TraceFault::OutOfMemory => 5,
+        _ => 3,
+    }
+}
+
+fn recording_status(fault: &RecordingFault) -> u8 {
+    match fault {
+        RecordingFault::ReadFailed => 4,
+        RecordingFault::OutOfMemory => 5,
         _ => 3,
     }
 }

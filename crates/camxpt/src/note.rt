@@ -5,9 +5,9 @@ use crate::source::{STANDARD_INPUT, Source};
 use audit_report::AuditFault;
 use std::alloc::{AllocError, Global};
 use std::io;
-use views::{report_note, shown_name, trace_note, unsent_note};
+use views::{recording_note, report_note, shown_name, trace_note, unsent_note};
 
-/// Some lines on where a failure stands in the trace, script or report that it is of, and what stands there; or on why a read
+/// Some lines on where a failure stands in the trace, recording, script or report that it is of, and what stands there; or on why a read
 /// of it failed. There are none if nothing was kept of it, or the failure is another.
 pub fn note_on<D>(alloc: Global, failure: &Failure, input: &Source<'_, D>) -> Option<String> {
     let (name, text) = (title(input.name), input.kept()?);
@@ -16,6 +16,9 @@ pub fn note_on<D>(alloc: Global, failure: &Failure, input: &Source<'_, D>) -> Op
     }
     match failure {
         Failure::Audit(AuditFault::Trace(fault)) => trace_note(alloc, name, text, fault).ok(),
+        Failure::Audit(AuditFault::Recording(fault)) => {
+            recording_note(alloc, name, text, fault).ok()
+        }
         Failure::Audit(AuditFault::Unsent(stay)) => unsent_note(alloc, name, text, *stay).ok(),
         Failure::Audit(AuditFault::Report(fault)) => report_note(alloc, name, text, fault).ok(),
         _ => None,

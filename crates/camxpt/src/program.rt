@@ -159,6 +159,7 @@ fn trace_run(name: &str, words: &ArgMatches<'_>) -> Option<TraceRun> {
         }),
         "draw" => Some(TraceRun::Draw),
         "migrate" => Some(TraceRun::Migrate),
+        "record" => Some(TraceRun::Record),
         _ => None,
     }
 }

@@ -15,18 +15,18 @@ pub(crate) struct Subcommand {
 }
 
 /// The subcommands, in the order of the help.
-pub(crate) const SUBCOMMANDS: [Subcommand; 9] = [
+pub(crate) const SUBCOMMANDS: [Subcommand; 10] = [
     Subcommand {
         name: "check",
-        about: "Tests a trace and prints its counts and what its waiting cost",
+        about: "Tests a trace or a recording and prints its counts and what its waiting cost",
         example: "Example: camxpt check examples/frozen-device.csv",
-        words: &[Word::Json, Word::Verbose, Word::Trace],
+        words: &[Word::Json, Word::Verbose, Word::Either],
     },
     Subcommand {
         name: "audit",
-        about: "Prints the live schedule of a trace, a best schedule, the excess, and prices that prove the best one",
+        about: "Prints the live schedule of a trace or a recording, a best schedule, the excess, and prices that prove the best one",
         example: "Example: camxpt audit examples/frozen-device.csv",
-        words: &[Word::Summary, Word::Json, Word::Verbose, Word::Trace],
+        words: &[Word::Summary, Word::Json, Word::Verbose, Word::Either],
     },
     Subcommand {
         name: "explain",
@@ -44,7 +44,7 @@ pub(crate) const SUBCOMMANDS: [Subcommand; 9] = [
         name: "prove",
         about: "Says whether the prices of a report prove that its schedule is a best one, whoever made it",
         example: "Example: camxpt prove examples/frozen-device.csv examples/frozen-device.report",
-        words: &[Word::Json, Word::Verbose, Word::ProvedTrace, Word::Report],
+        words: &[Word::Json, Word::Verbose, Word::Proved, Word::Report],
     },
     Subcommand {
         name: "sim",
@@ -70,6 +70,12 @@ pub(crate) const SUBCOMMANDS: [Subcommand; 9] = [
         words: &[Word::Verbose, Word::Trace],
     },
     Subcommand {
+        name: "record",
+        about: "Prints the recording of a trace: its requests with their windows, and what each device, adapter and link took",
+        example: "Example: camxpt record examples/frozen-device.csv",
+        words: &[Word::Verbose, Word::Trace],
+    },
+    Subcommand {
         name: "completions",
         about: "Prints the script by which a shell completes these words",
         example: "Example: camxpt completions bash",
@@ -82,7 +88,7 @@ pub fn command<'a>(alloc: Global) -> Result<Command<'a>, AllocError> {
     let mut command = Command::new(alloc, "camxpt")
         .version("0.1.0")
         .about(
-            "Audits recorded traces of a CAM transport, and runs scripts that record them. With no arguments it prints the summary of the audit of the trace on standard input.",
+            "Audits traces of a CAM transport and recordings of any scheduler, and runs scripts that record traces. With no arguments it prints the summary of the audit of the trace or recording on standard input.",
         )
         .after_help(
             "Exit status: 0 done, 1 not proved, 2 refused words, 3 refused input, 4 a file, read or write that failed, 5 no memory, 6 no thread, or threads that did what the script doesn't allow, 7 a run that didn't drain, with --require-drained",

@@ -1,21 +1,19 @@
-//! Checks, audits, explains, draws or migrates a trace.
+//! Checks and audits a trace or a recording; explains, draws, migrates or records a trace.
 
 use crate::failure::Failure;
 use crate::note::title;
 use crate::output::{Output, closed, print};
 use crate::source::Source;
-use audit_report::{read_rounds, run_audit_with, run_check, run_migrate};
-use cam_event::History;
+use audit_report::{read_net, read_rounds, run_audit_with, run_check, run_migrate, run_record};
 use cam_types::Watched;
 use cost_plan::{OpenGate, plan_with};
-use round_net::Net;
-use std::alloc::{AllocError, Global};
+use std::alloc::AllocError;
 use std::io::{Read, Write};
 use std::thread::Threads;
 use views::{audit_json, check_json, draw, explain_json, page};
 use wait_causes::Explanation;
 
-/// What is done with a trace.
+/// What is done with a trace, or a recording where it is checked or audited.
 #[derive(Clone, Copy)]
 pub enum TraceRun {
     /// It is checked.
@@ -34,6 +32,8 @@ pub enum TraceRun {
     Draw,
     /// It is written in the newest version.
     Migrate,
+    /// It is written as a recording.
+    Record,
 }
 
 impl TraceRun {
@@ -57,6 +57,11 @@ impl TraceRun {
                 &mut Watched::new(trace),
                 &mut Watched::new(out),
             )?),
+            TraceRun::Record => Ok(run_record(
+                alloc,
+                &mut Watched::new(trace),
+                &mut Watched::new(out),
+            )?),
             TraceRun::Audit { summary } if !as_json => Ok(run_audit_with(
                 rt,
                 alloc,
@@ -65,12 +70,30 @@ impl TraceRun {
                 summary,
                 &OpenGate,
             )?),
-            _ => print(out, &self.text_on(rt, trace, as_json)?),
+            TraceRun::Explain { .. } | TraceRun::Draw => {
+                print(out, &self.explanation_on(rt, trace, as_json)?)
+            }
+            _ => print(out, &self.json_on(rt, trace)?),
         }
     }
 
-    // What is printed of the trace where it is none of a report's lines.
-    fn text_on<R: AllocGlobal + Threads + Sync, D: Read>(
+    // The line of JSON on the counts of the trace or recording, or on the audit of it.
+    fn json_on<R: AllocGlobal + Threads + Sync, D: Read>(
+        self,
+        rt: &R,
+        trace: &mut Source<'_, D>,
+    ) -> Result<String, Failure> {
+        let (alloc, name) = (rt.alloc(), trace.name);
+        let (_, net) = read_net(alloc, &mut Watched::new(trace))?;
+        let TraceRun::Audit { summary } = self else {
+            return closed(check_json(alloc, name, &net));
+        };
+        let best = plan_with(rt, alloc, &net, &OpenGate)?;
+        closed(audit_json(alloc, name, &net, &best.schedule, &best.prices, summary))
+    }
+
+    // What is printed of the explanation of the trace.
+    fn explanation_on<R: AllocGlobal + Threads + Sync, D: Read>(
         self,
         rt: &R,
         trace: &mut Source<'_, D>,
@@ -78,34 +101,14 @@ impl TraceRun {
     ) -> Result<String, Failure> {
         let (alloc, name) = (rt.alloc(), trace.name);
         let (history, table, net) = read_rounds(alloc, &mut Watched::new(trace))?;
-        if let TraceRun::Check = self {
-            return closed(check_json(alloc, name, &history));
-        }
         let best = plan_with(rt, alloc, &net, &OpenGate)?;
-        if let TraceRun::Audit { summary } = self {
-            let (schedule, prices) = (&best.schedule, &best.prices);
-            return closed(audit_json(alloc, name, &history, &net, schedule, prices, summary));
-        }
         let explanation = Explanation::of(alloc, &history, table, &net, &best.schedule)?;
-        self.explained(alloc, name, &history, &net, &explanation, as_json)
-    }
-
-    // What is printed of an explanation of the trace.
-    fn explained(
-        self,
-        alloc: Global,
-        name: &str,
-        history: &History,
-        net: &Net,
-        explanation: &Explanation,
-        as_json: bool,
-    ) -> Result<String, Failure> {
         match self {
             TraceRun::Explain { top } if !as_json => {
-                made(page(alloc, history.config(), explanation, top))
+                made(page(alloc, net.config(), &explanation, top))
             }
-            TraceRun::Draw => made(draw(alloc, title(name), history.config(), net, explanation)),
-            _ => closed(explain_json(alloc, name, history, explanation)),
+            TraceRun::Draw => made(draw(alloc, title(name), net.config(), &net, &explanation)),
+            _ => closed(explain_json(alloc, name, &net, &explanation)),
         }
     }
 }

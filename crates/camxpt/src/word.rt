@@ -12,8 +12,10 @@ pub(crate) enum Word {
     Verbose,
     RequireDrained,
     Trace,
-    // The trace of `prove`, which can't be left out.
-    ProvedTrace,
+    // A trace or a recording.
+    Either,
+    // The same of `prove`, which can't be left out.
+    Proved,
     Report,
     Script,
     Seed,
@@ -46,8 +48,18 @@ impl Word {
                 "TRACE",
                 "The recorded trace; standard input if it is left out or -",
             ),
-            Word::ProvedTrace => {
-                named(alloc, "TRACE", "The recorded trace; - is standard input").required(true)
+            Word::Either => named(
+                alloc,
+                "TRACE",
+                "The trace or recording; standard input if it is left out or -",
+            ),
+            Word::Proved => {
+                named(
+                    alloc,
+                    "TRACE",
+                    "The trace or recording; - is standard input",
+                )
+                .required(true)
             }
             Word::Report => named(
                 alloc,

@@ -5,9 +5,10 @@ ghost use Rattle.cam_types.specs.Watched.{has_failed};
 
 use crate::fakes::{Pieces, Taker};
 use crate::texts::{FROZEN, ONE_COMMAND, REPORT, SCRIPT};
-use audit_report::{AuditFault, read_net, run_check};
+use audit_report::{AuditFault, run_check};
 use cam_types::Watched;
 use price_check::{ReportFault, read_report};
+use round_net::Net;
 use std::alloc::Global;
 use std::test::Fail;
 use trace_file::{TraceFault, WriteFault, read_script, read_trace, write_trace};
@@ -39,7 +40,8 @@ fn taker(taken: Vec<u8>, room: usize, fails: bool) -> Taker {
 // Each read gives a byte; the one after the last byte finds the end.
 #[test]
 fn a_failed_read_is_no_end(rt: HostRuntime) -> Result<(), Fail> {
-    let (history, net) = read_net(rt.alloc(), &mut Watched::new(FROZEN.as_bytes()))?;
+    let history = read_trace(rt.alloc(), &mut Watched::new(FROZEN.as_bytes()))?;
+    let net = Net::of(rt.alloc(), &history)?;
     for good in 0..200 {
         let mut input = reader(ONE_COMMAND, 1, good);
         let fault = read_trace(rt.alloc(), &mut input).err();

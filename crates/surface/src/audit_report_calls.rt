@@ -99,5 +99,6 @@ fn number_of(fault: AuditFault) -> u32 {
         AuditFault::Report(_) => 3,
         AuditFault::WriteFailed => 4,
         AuditFault::OutOfMemory => 5,
+        AuditFault::Recording(_) => 6,
     }
 }

@@ -1,22 +1,22 @@
 //! The calls of `price_check`: schedules and prices that are tested, and reports that are read.
 
-ghost use Rattle.std.specs.Prelude.{◌≡◌, None};
-ghost use Rattle.event_rules.specs.Stays.{unsent};
+ghost use Rattle.std.specs.Prelude.{◌≡◌};
 ghost use Rattle.round_net.specs.Nets.{net_of};
 
 use crate::texts::{FROZEN, REPORT};
 use anyhow::Result;
-use audit_report::read_net;
 use cam_event::{History, Stay};
 use cam_types::Watched;
 use price_check::{Cause, Claim, ReportFault, Verdict, check, read_report};
 use round_net::{Net, Prices, Schedule};
 use std::alloc::Global;
+use trace_file::read_trace;
 
 /// Makes each call once, and prints a line of what they answer.
 pub fn call_price_check(rt: &HostRuntime) -> Result<()> {
     let alloc: Global = rt.alloc();
-    let (history, net) = read_net(alloc, &mut Watched::new(FROZEN.as_bytes()))?;
+    let history = read_trace(alloc, &mut Watched::new(FROZEN.as_bytes()))?;
+    let net = Net::of(alloc, &history)?;
     print!(rt; "price_check:")?;
     call_check(rt, alloc, &net, &[1, 5])?;
     call_check(rt, alloc, &net, &[1, 1])?;
@@ -54,7 +54,6 @@ fn call_check(rt: &HostRuntime, alloc: Global, net: &Net, rounds: &[u32]) -> Res
 }
 
 fn call_report(rt: &HostRuntime, alloc: Global, history: &History, net: &Net) -> Result<()>
-    requires complete { unsent history.now.events ≡ None }
     requires net { net.now ≡ net_of history.now.config history.now.events }
 {
     let mut reader = Watched::new(REPORT.as_bytes());

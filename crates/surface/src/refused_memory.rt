@@ -8,6 +8,7 @@ use cam_event::History;
 use cam_path::CamPath;
 use cam_types::{Command, Config, Device, Flags, Limits, Outcome, Watched};
 use cost_plan::{BestPlan, plan};
+use recording_file::RecordingFault;
 use round_net::{Net, cost};
 use sim_worker::{Port, ScriptPort};
 use std::alloc::Global;
@@ -98,7 +99,11 @@ fn serve(rt: &HostRuntime, port: &mut ScriptPort, number: usize) -> Result<()> {
 // Writes the summary of an audit. There is room for it, so that no write takes memory.
 fn write_audit(rt: &HostRuntime, text: &mut Vec<u8>) -> Result<()> {
     match summary(rt.alloc(), text) {
-        Err(AuditFault::OutOfMemory | AuditFault::Trace(TraceFault::OutOfMemory)) => {
+        Err(
+            AuditFault::OutOfMemory
+            | AuditFault::Trace(TraceFault::OutOfMemory)
+            | AuditFault::Recording(RecordingFault::OutOfMemory),
+        ) => {
             if !text.is_empty() {
                 bail!("a part of a summary");
             }

@@ -4,7 +4,7 @@
 
 pub use as_json::{audit_json, check_json, explain_json, prove_json};
 pub use drawing::draw;
-pub use notes::{report_note, shown_name, trace_note, unsent_note};
+pub use notes::{recording_note, report_note, shown_name, trace_note, unsent_note};
 pub use text::page;
 
 mod as_json;

@@ -3,7 +3,7 @@
 
 pub use report_lines::report_note;
 pub use shown::shown_name;
-pub use trace_records::{trace_note, unsent_note};
+pub use trace_records::{recording_note, trace_note, unsent_note};
 
 mod bad_record;
 mod place;

@@ -10,8 +10,7 @@ use crate::as_json::counts::Counts;
 use crate::as_json::line::line;
 use crate::as_json::prices::{Price, price_list};
 use crate::as_json::stays::Rounds;
-use cam_event::History;
-use round_net::{Net, Prices, Schedule, cost};
+use round_net::{Net, Prices, Schedule, cost, live_cost};
 use serde::Serialize;
 use std::alloc::{AllocError, Global};
 
@@ -19,7 +18,7 @@ use std::alloc::{AllocError, Global};
 struct Audited<'a> {
     #[serde(flatten)]
     counts: Counts<'a>,
-    live: Option<u64>,
+    live: u64,
     best: Option<u64>,
     excess: Option<i128>,
     #[serde(skip_serializing_if = "Option::is_none")]
@@ -39,13 +38,12 @@ struct Scheduled {
     weight: u32,
 }
 
-/// A line without its line feed: the counts of the history, what its live schedule and this one cost in weighted rounds,
-/// and the difference; and unless a summary is asked for, all stays in order of birth and the prices that aren't 0. Any
-/// text may be the trace's name.
+/// A line without its line feed: the counts of the net, what its live schedule and this one cost in weighted rounds, and
+/// the difference; and unless a summary is asked for, all stays in order of birth and the prices that aren't 0. Any text may
+/// be the name.
 pub fn audit_json(
     alloc: Global,
     trace: &str,
-    history: &History,
     net: &Net,
     schedule: &Schedule,
     prices: &Prices,
@@ -55,10 +53,10 @@ pub fn audit_json(
     requires cells { IsPricingFor (instance_of_rows net.now) prices.now }
     ensures { IfOk result (λ s. string_bytes s ≡ print (tokens (string_bytes s))) }
 {
-    let live = history.live_cost();
+    let live = live_cost(net);
     let best = cost(net, schedule);
     let mut audited = Audited {
-        counts: Counts::of(alloc, trace, history)?,
+        counts: Counts::of(alloc, trace, net)?,
         live,
         best,
         excess: excess(live, best),
@@ -90,8 +88,8 @@ impl Audited<'_> {
 }
 
 // By how much the live schedule is above the other one.
-fn excess(live: Option<u64>, best: Option<u64>) -> Option<i128> {
-    Some(i128::from(live?) - i128::from(best?))
+fn excess(live: u64, best: Option<u64>) -> Option<i128> {
+    Some(i128::from(live) - i128::from(best?))
 }
 
 // The stays of the net, in order of birth.

@@ -1,11 +1,11 @@
-//! The members with which the objects on a trace begin.
+//! The members with which the objects on a trace or a recording begin.
 
-use cam_event::History;
 use cam_types::Config;
+use round_net::Net;
 use serde::Serialize;
 use std::alloc::{AllocError, Global};
 
-/// The name of a trace, what its history counts, and its table of weights, unless that is the standard one.
+/// The name of a trace or a recording, its counts, and its table of weights, unless that is the standard one.
 #[derive(Drop, Serialize)]
 pub(crate) struct Counts<'a> {
     trace: &'a str,
@@ -24,18 +24,14 @@ struct ListedWeight {
 }
 
 impl<'a> Counts<'a> {
-    /// Those of a history.
-    pub(crate) fn of(
-        alloc: Global,
-        trace: &'a str,
-        history: &History,
-    ) -> Result<Counts<'a>, AllocError> {
+    /// Those of a net.
+    pub(crate) fn of(alloc: Global, trace: &'a str, net: &Net) -> Result<Counts<'a>, AllocError> {
         Ok(Counts {
             trace,
-            commands: history.commands(),
-            stays: history.stay_count(),
-            rounds: history.round(),
-            weights: weight_list(alloc, history.config())?,
+            commands: net.commands(),
+            stays: net.stays(),
+            rounds: net.rounds(),
+            weights: weight_list(alloc, net.config())?,
         })
     }
 }

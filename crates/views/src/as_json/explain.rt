@@ -9,7 +9,7 @@ use crate::as_json::freezes::{ListedFreeze, freeze_list};
 use crate::as_json::line::line;
 use crate::as_json::parts::{Costs, Tables};
 use crate::as_json::stays::{ListedStay, stay_list};
-use cam_event::History;
+use round_net::Net;
 use serde::Serialize;
 use std::alloc::{AllocError, Global};
 use wait_causes::Explanation;
@@ -26,20 +26,20 @@ struct Explained<'a> {
     list: Vec<ListedStay>,
 }
 
-/// A line without its line feed: the counts of the history, what its live schedule and the other one cost in weighted
+/// A line without its line feed: the counts of the net, what its live schedule and the other one cost in weighted
 /// rounds, the difference, and the live cost by cause; the tables by adapter, device, driver and run level; the freezes; and
 /// all stays in order of birth, each with its waits. Any text may be the trace's name.
 pub fn explain_json(
     alloc: Global,
     trace: &str,
-    history: &History,
+    net: &Net,
     explanation: &Explanation,
 ) -> Result<String, AllocError>
     ensures { IfOk result (λ s. string_bytes s ≡ print (tokens (string_bytes s))) }
 {
-    let config = history.config();
+    let config = net.config();
     let explained = Explained {
-        counts: Counts::of(alloc, trace, history)?,
+        counts: Counts::of(alloc, trace, net)?,
         costs: Costs::of(&explanation.whole(), config),
         tables: Tables::of(alloc, config, explanation)?,
         freezes: freeze_list(alloc, explanation)?,

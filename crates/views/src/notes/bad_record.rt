@@ -1,7 +1,8 @@
-//! Why a record of a trace or a script is a bad one.
+//! Why a record of a trace, a recording or a script is a bad one.
 
 use crate::notes::place::{record_at, records};
 use csv::ByteRecord;
+use recording_file::MOST_REQUESTS;
 use std::alloc::{AllocError, Global};
 use trace_file::MOST_ROWS;
 
@@ -28,6 +29,12 @@ const OF_TRACES: [&[u8]; 16] = [
     b"tick",
 ];
 
+const OF_RECORDINGS: [&[u8]; 9] = [
+    b"unit", b"rounds", b"weight", b"link", b"sim", b"dev", b"name", b"cap", b"request",
+];
+
+const OF_REQUESTS: [&[u8]; 1] = [b"request"];
+
 const OF_SCRIPTS: [&[u8]; 4] = [b"limits", b"sim", b"dev", b"lane"];
 
 const OF_DRIVERS: [&[u8]; 7] = [
@@ -49,6 +56,7 @@ pub(crate) fn push_reason(
     note: &mut String,
     text: &[u8],
     record: u32,
+    is_recording: bool,
 ) -> Result<(), AllocError> {
     let Some(row) = record_at(alloc, text, record) else {
         return Ok(());
@@ -59,10 +67,34 @@ pub(crate) fn push_reason(
     }
     if text.starts_with(b"camscript1") {
         push_of_script(alloc, note, text, &row, record)
+    } else if is_recording {
+        push_of_recording(alloc, note, text, &row, record)
     } else if begins_with(&row, &OF_TRACES) {
         note.push_str("  no record of this word can stand here\n")
     } else {
         note.push_str("  no record of a trace begins with this word\n")
+    }
+}
+
+// The same of a record of eight fields in a recording.
+fn push_of_recording(
+    alloc: Global,
+    note: &mut String,
+    text: &[u8],
+    row: &ByteRecord,
+    record: u32,
+) -> Result<(), AllocError> {
+    if begins_with(row, &OF_REQUESTS)
+        && count(alloc, text, record, &OF_REQUESTS) as usize > MOST_REQUESTS
+    {
+        writeln!(
+            note,
+            "  there are {MOST_REQUESTS} requests before it, the most"
+        )
+    } else if begins_with(row, &OF_RECORDINGS) {
+        note.push_str("  no record of this word can stand here\n")
+    } else {
+        note.push_str("  no record of a recording begins with this word\n")
     }
 }
 

@@ -1,4 +1,4 @@
-//! What helps to find the fault of a trace or a script.
+//! What helps to find the fault of a trace, a recording or a script.
 
 ghost use Rattle.std.specs.Prelude.{◌≡◌, IfSome, find};
 ghost use Rattle.views.specs.Beginnings.{BeginsAt, is_named};
@@ -9,6 +9,7 @@ use crate::notes::shown::{first_line, push_line};
 use crate::notes::turn::turn_at;
 use cam_types::Watched;
 use event_rules::{Refusal, Stay};
+use recording_file::RecordingFault;
 use std::alloc::{AllocError, Global};
 use trace_file::{TraceFault, event_record, read_trace};
 use xpt_core::StayRecord;
@@ -27,9 +28,27 @@ pub fn trace_note(
     };
     push_record(alloc, &mut note, name, text, record)?;
     match fault {
-        TraceFault::BadRecord(_) => push_reason(alloc, &mut note, text, record)?,
+        TraceFault::BadRecord(_) => push_reason(alloc, &mut note, text, record, false)?,
         TraceFault::Illegal(_, Refusal::NotHead) => push_turn(alloc, &mut note, text, record)?,
         _ => {}
+    }
+    Ok(note)
+}
+
+/// The same of a recording, but that no turn is spoken of.
+pub fn recording_note(
+    alloc: Global,
+    name: &str,
+    text: &[u8],
+    fault: &RecordingFault,
+) -> Result<String, AllocError> {
+    let mut note = String::new(alloc);
+    let Some(record) = record_of_recording(fault) else {
+        return Ok(note);
+    };
+    push_record(alloc, &mut note, name, text, record)?;
+    if let RecordingFault::BadRecord(_) = fault {
+        push_reason(alloc, &mut note, text, record, true)?;
     }
     Ok(note)
 }
@@ -57,6 +76,18 @@ fn record_of(fault: &TraceFault) -> Option<u32> {
         | TraceFault::BadConfig(record, _)
         | TraceFault::Illegal(record, _) => Some(*record),
         TraceFault::TooLong | TraceFault::ReadFailed | TraceFault::OutOfMemory => None,
+    }
+}
+
+// The same for a recording.
+fn record_of_recording(fault: &RecordingFault) -> Option<u32> {
+    match fault {
+        RecordingFault::BadHeader => Some(1),
+        RecordingFault::BadRecord(record)
+        | RecordingFault::BadField(record, _)
+        | RecordingFault::BadConfig(record, _)
+        | RecordingFault::Illegal(record, _) => Some(*record),
+        RecordingFault::TooLong | RecordingFault::ReadFailed | RecordingFault::OutOfMemory => None,
     }
 }
 

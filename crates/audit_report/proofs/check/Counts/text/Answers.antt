@@ -1,6 +1,6 @@
 use Rattle.std.proofs.Common.{rules}
 use Rattle.audit_report.specs.Check.{check_text}
-use Rattle.audit_report.proofs.check.check_text.Goals as goal
+use Rattle.audit_report.proofs.check.Counts.text.Goals as goal
 
 pub returns : goal.returns
 unfolding check_text

@@ -1,0 +1,278 @@
+-- what a text is read as, and what is said of it
+use Rattle.std.proofs.Common.{◌≡◌, ◌≤◌, ◌<◌, ℕ, Bool, true, false, cond, List, [], ◌++◌, length, take, refl, sym, ap, subst, ◌∙◌, arith, append-nil, nat_le, Option, Some, None, Result, Ok, Err, IfOk, IfErr, IfSome, bytes_eq, codes, ◌∷◌, ◌&&◌, ◌==◌, rules, tests}
+use Rattle.std.proofs.lemmas.Bool.{leb-true, le-leb, lt-leb, and_parts}
+use Rattle.std.proofs.lemmas.Slice.Eq.{bytes_eq-Decides}
+use Rattle.audit_report.specs.Words.{MOST_BYTES, Past, IsTrace, Explains, IsHistory, IsLongWhole, IsRecording, IsRecordingText, Stay, unsent}
+use Rattle.audit_report.specs.Inputs.{Input, IsInput, IsTextOf, IsFaultOf, WasRead, WhyNotRead, WhyNoNetOf, WhyNoNet, IsFailure, IsReadOrFailed, IsNettedOrFailed, unsent_of}
+use Rattle.audit_report.specs.Reading.{AsRead, as_either, as_trace, said, said_unheaded}
+use Rattle.audit_report.specs.declared.input.Input.TheVariants as input
+use Rattle.audit_report.specs.declared.audit_fault.AuditFault.{AuditFault}
+use Rattle.audit_report.specs.declared.audit_fault.AuditFault.TheVariants as fault
+use Rattle.recording_file.specs.Header.{has_letters, is_header, name_text}
+use Rattle.recording_file.specs.Fields.{Row, field_of}
+use Rattle.recording_file.specs.Recorded.{Recorded}
+use Rattle.recording_file.specs.declared.maxima.TheConstants.{MOST_RECORDING_BYTES}
+use Rattle.recording_file.specs.Reading as recordings
+use Rattle.recording_file.specs.Text.{records_in}
+use Rattle.recording_file.specs.Whole.{most_bytes, IsTooLong}
+use Rattle.recording_file.specs.declared.recording_fault.RecordingFault.{RecordingFault}
+use Rattle.recording_file.specs.declared.recording_fault.RecordingFault.TheVariants as recording_fault
+use Rattle.recording_file.proofs.FaultLaws as recording_laws
+use Rattle.recording_file.proofs.LongLemmas.{too_long}
+use Rattle.recording_file.proofs.ReadLaws.{was_recording}
+use Rattle.recording_file.proofs.WholeLaws as recording_again
+use Rattle.trace_file.specs.Reading as traces
+use Rattle.trace_file.specs.declared.trace_fault.TraceFault.{TraceFault}
+use Rattle.trace_file.specs.declared.trace_fault.TraceFault.TheVariants as trace_fault
+use Rattle.trace_file.proofs.FaultLaws as trace_laws
+use Rattle.trace_file.proofs.WholeLaws as trace_again
+
+-- ---- how long a text may be
+
+pub most_least : (text : List ℕ) → MOST_BYTES ≤ most_bytes text
+unfolding most_bytes
+most_least text = by (bytes_eq name_text (take 10 text))
+  where
+    by : (b : Bool) → MOST_BYTES ≤ cond b MOST_RECORDING_BYTES MOST_BYTES
+    by true = omega arith
+    by false = omega arith
+
+-- ---- what a text says
+
+record SaysTrace (text : List ℕ) (past : Past) : Type 0 where
+  header : recordings.reading (records_in text) ≡ Err recording_fault.BadHeader
+  bound : length text ≤ MOST_BYTES
+  reading : traces.reading (records_in text) ≡ Ok past
+
+unheaded_trace : (text : List ℕ) (past : Past) → recordings.reading (records_in text) ≡ Err recording_fault.BadHeader → said_unheaded text ≡ Ok (input.Trace past) → SaysTrace text past
+unfolding said_unheaded
+unheaded_trace text past bare e = by (nat_le (length text) MOST_BYTES) (traces.reading (records_in text)) refl refl e
+  where
+    by : (b : Bool) (r : Result Past TraceFault) → nat_le (length text) MOST_BYTES ≡ b → traces.reading (records_in text) ≡ r → cond b (as_trace r) (Err (fault.Recording recording_fault.BadHeader)) ≡ Ok (input.Trace past) → SaysTrace text past
+    by true (Ok read) is was k = let same : read ≡ past = cc in record { header = bare; bound = leb-true (length text) MOST_BYTES is; reading = was ∙ ap (λ (p : Past). Ok p) same }
+    by true (Err f) is was k = absurd cc
+    by false r is was k = absurd cc
+
+unheaded_recording : (text : List ℕ) (r : Recorded) → said_unheaded text ≡ Ok (input.Recording r) → ⊥
+unfolding said_unheaded
+unheaded_recording text r e = by (nat_le (length text) MOST_BYTES) (traces.reading (records_in text)) e
+  where
+    by : (b : Bool) (read : Result Past TraceFault) → cond b (as_trace read) (Err (fault.Recording recording_fault.BadHeader)) ≡ Ok (input.Recording r) → ⊥
+    by true (Ok past) k = absurd cc
+    by true (Err f) k = absurd cc
+    by false read k = absurd cc
+
+says_trace : (text : List ℕ) (past : Past) → said text ≡ Ok (input.Trace past) → SaysTrace text past
+unfolding said
+says_trace text past e = by (recordings.reading (records_in text)) refl e
+  where
+    by : (r : Result Recorded RecordingFault) → recordings.reading (records_in text) ≡ r → as_either text r ≡ Ok (input.Trace past) → SaysTrace text past
+    by (Ok r) is k = absurd cc
+    by (Err recording_fault.BadHeader) is k = unheaded_trace text past is k
+    by (Err f) is k = absurd cc
+
+says_recording : (text : List ℕ) (r : Recorded) → said text ≡ Ok (input.Recording r) → recordings.reading (records_in text) ≡ Ok r
+unfolding said
+says_recording text r e = by (recordings.reading (records_in text)) refl e
+  where
+    by : (read : Result Recorded RecordingFault) → recordings.reading (records_in text) ≡ read → as_either text read ≡ Ok (input.Recording r) → recordings.reading (records_in text) ≡ Ok r
+    by (Ok read) is k = let same : read ≡ r = cc in is ∙ ap (λ (x : Recorded). Ok x) same
+    by (Err recording_fault.BadHeader) is k = absurd (unheaded_recording text r k)
+    by (Err f) is k = absurd cc
+
+-- what was read is what the text says
+was_read : (before after : Option (List ℕ)) (text : List ℕ) → IsLongWhole before after text → (i : Input) → said text ≡ Ok i → WasRead before after i
+was_read before after text whole (input.Recording r) e =
+    let w = was_recording before after text whole r (says_recording text r e) in
+    record { text = w.text; whole = w.whole; spelled = w.spelled; kept = w.recording }
+was_read before after text whole (input.Trace past) e =
+    let says = says_trace text past e in
+    let w = trace_laws.was_trace before after text (record { bounded = says.bound; read = whole.read; ended = whole.ended }) past says.reading in
+    record { text = w.text; whole = record { bounded = omega (arith, w.whole.bounded, most_least w.text); read = w.whole.read; ended = w.whole.ended }; spelled = w.trace; kept = w.history }
+
+-- ---- a trace and a recording are read as what they are
+
+same_bytes : (xs ys : List ℕ) → bytes_eq xs ys ≡ true → xs ≡ ys
+same_bytes xs ys h = search (rules, tests, bytes_eq-Decides)
+
+named_recording : (row : Row) → is_header name_text row ≡ true → field_of row 0 ≡ name_text
+unfolding is_header
+named_recording row h =
+    let named = and_parts ((length row == 8) && bytes_eq (field_of row 0) name_text) (has_letters row) h in
+    same_bytes _ _ (and_parts (length row == 8) (bytes_eq (field_of row 0) name_text) named.0).1
+
+other_header : (row : Row) (name : List ℕ) → field_of row 0 ≡ name_text → bytes_eq name_text name ≡ false → traces.is_header name row ≡ false
+unfolding traces.is_header
+other_header row name is other = by (length row == 8)
+  where
+    by : (b : Bool) → ((b && bytes_eq (field_of row 0) name) && traces.has_letters row) ≡ false
+    by true = rw (is, other) refl
+    by false = refl
+
+-- a trace begins with no recording's header
+trace_bare : (rows : List Row) (past : Past) → traces.reading rows ≡ Ok past → recordings.reading rows ≡ Err recording_fault.BadHeader
+unfolding traces.reading traces.step recordings.reading recordings.step recordings.ended
+trace_bare [] past e = refl
+trace_bare (row ∷ rest) past e = by (is_header name_text row) refl
+  where
+    by : (b : Bool) → is_header name_text row ≡ b → recordings.reading (row ∷ rest) ≡ Err recording_fault.BadHeader
+    by true is =
+        let named = named_recording row is in
+        let one = other_header row (codes "camtrace1") named refl in
+        let two = other_header row (codes "camtrace2") named refl in
+        let three = other_header row (codes "camtrace3") named refl in
+        let none : traces.reading (row ∷ rest) ≡ Err trace_fault.BadHeader = rw (one, two, three) refl in
+        absurd (let both : Ok past ≡ Err trace_fault.BadHeader = sym e ∙ none in cc)
+    by false is = rw is refl
+
+text_said : (text : List ℕ) (i : Input) → IsInput i → IsTextOf text i → said text ≡ Ok i
+unfolding said said_unheaded
+text_said text (input.Recording r) kept is = ap (as_either text) (ap recordings.reading is.spelled ∙ recording_again.reading_again is.table r kept is.held)
+text_said text (input.Trace past) kept is =
+    let read : traces.reading (records_in text) ≡ Ok past = ap traces.reading is.spelled ∙ trace_again.reading_again is.version past kept is.held in
+    let bare = trace_bare (records_in text) past read in
+    let short : nat_le (length text) MOST_BYTES ≡ true = grind (arith, is.bounded) in
+    ap (as_either text) bare ∙ ap (λ b. cond b (as_trace (traces.reading (records_in text))) (Err (fault.Recording recording_fault.BadHeader))) short ∙ ap as_trace read
+
+-- ---- faults
+
+-- a trace's fault is none of its length, of a read or of memory
+of_text : (r : Result Past TraceFault) (e : TraceFault) → trace_laws.FailsByText r → r ≡ Err e → trace_laws.IsOfText e
+of_text r e h is = rw is at h
+
+record SaysFault (text : List ℕ) (e : AuditFault) : Type 0 where
+  first : IsFaultOf text e
+  none : (f : TraceFault) → e ≡ fault.Trace f → trace_laws.IsOfText f
+
+trace_fault_of : (text : List ℕ) (e : TraceFault) → length text ≤ MOST_BYTES → traces.reading (records_in text) ≡ Err e → Explains (Some text) (Some []) false e
+unfolding traces.reading
+trace_fault_of text e short is =
+    trace_laws.faults_law traces.step traces.ended _ (Some text) (Some []) false text (Err e) trace_laws.reading_fails (record { bounded = short; read = sym (append-nil text); ended = refl }) (λ other. sym is)
+
+fault_unheaded : (text : List ℕ) (e : AuditFault) → recordings.reading (records_in text) ≡ Err recording_fault.BadHeader → said_unheaded text ≡ Err e → SaysFault text e
+unfolding said_unheaded recordings.reading traces.reading
+fault_unheaded text e bare h = by (nat_le (length text) MOST_BYTES) (traces.reading (records_in text)) refl refl h
+  where
+    by : (b : Bool) (r : Result Past TraceFault) → nat_le (length text) MOST_BYTES ≡ b → traces.reading (records_in text) ≡ r → cond b (as_trace r) (Err (fault.Recording recording_fault.BadHeader)) ≡ Err e → SaysFault text e
+    by true (Ok past) short was k = absurd cc
+    by true (Err f) short was k =
+        let same : fault.Trace f ≡ e = cc in
+        subst (SaysFault text) same (record {
+          first = (bare, trace_fault_of text f (leb-true (length text) MOST_BYTES short) was);
+          none = λ g is. let other : f ≡ g = cc in subst trace_laws.IsOfText other (of_text _ f (trace_laws.reading_fails (records_in text)) was);
+        })
+    by false r short was k =
+        let same : fault.Recording recording_fault.BadHeader ≡ e = cc in
+        subst (SaysFault text) same (record { first = recording_laws.first_fault (records_in text) recording_fault.BadHeader bare; none = λ g is. absurd cc })
+
+fault_of : (text : List ℕ) (e : AuditFault) → said text ≡ Err e → SaysFault text e
+unfolding said recordings.reading
+fault_of text e h = by (recordings.reading (records_in text)) refl h
+  where
+    by : (r : Result Recorded RecordingFault) → recordings.reading (records_in text) ≡ r → as_either text r ≡ Err e → SaysFault text e
+    by (Ok r) is k = absurd cc
+    by (Err recording_fault.BadHeader) is k = fault_unheaded text e is k
+    by (Err f) is k =
+        let same : fault.Recording f ≡ e = cc in
+        subst (SaysFault text) same (record { first = recording_laws.first_fault (records_in text) f is; none = λ g was. absurd cc })
+
+not_read : (before after : Option (List ℕ)) (failed : Bool) (text : List ℕ) → IsLongWhole before after text → (e : AuditFault) → SaysFault text e → WhyNotRead before after failed e
+not_read before after failed text whole (fault.Trace trace_fault.TooLong) h = absurd (h.none trace_fault.TooLong refl)
+not_read before after failed text whole (fault.Trace trace_fault.ReadFailed) h = absurd (h.none trace_fault.ReadFailed refl)
+not_read before after failed text whole (fault.Trace trace_fault.OutOfMemory) h = tt
+not_read before after failed text whole (fault.Recording recording_fault.OutOfMemory) h = tt
+not_read before after failed text whole e h = record { text = text; whole = whole; first = h.first }
+
+-- ---- what a reader of either answers
+
+pub found_read : (before after : Option (List ℕ)) (text : List ℕ) (r : Result Input AuditFault) → IsLongWhole before after text → AsRead r (said text) → IfOk r (WasRead before after)
+found_read before after text (Ok i) whole h = was_read before after text whole i (sym h)
+found_read before after text (Err e) whole h = tt
+
+pub faults_read : (before after : Option (List ℕ)) (failed : Bool) (text : List ℕ) (r : Result Input AuditFault) → IsLongWhole before after text → AsRead r (said text) → IfErr r (WhyNotRead before after failed)
+faults_read before after failed text (Ok i) whole h = tt
+faults_read before after failed text (Err (fault.Trace trace_fault.OutOfMemory)) whole h = tt
+faults_read before after failed text (Err (fault.Recording recording_fault.OutOfMemory)) whole h = tt
+faults_read before after failed text (Err e) whole h = not_read before after failed text whole e (fault_of text e (sym h))
+
+answered : (i : Input) (r : Result Input AuditFault) → AsRead r (Ok i) → IsReadOrFailed i r
+answered i (Ok read) h = let same : read ≡ i = cc in same
+answered i (Err (fault.Trace trace_fault.OutOfMemory)) h = tt
+answered i (Err (fault.Recording recording_fault.OutOfMemory)) h = tt
+answered i (Err e) h = absurd cc
+
+pub only_read : (before after : Option (List ℕ)) (text : List ℕ) (i : Input) (r : Result Input AuditFault) → IsInput i → IsLongWhole before after text → AsRead r (said text) → IfSome before (λ all. IsTextOf all i → IsReadOrFailed i r)
+only_read None after text i r kept whole h = tt
+only_read (Some all) None text i r kept whole h = absurd whole.read
+only_read (Some all) (Some left) text i r kept whole h = λ is.
+    let same : all ≡ text = whole.read ∙ ap (λ (l : List ℕ). text ++ l) whole.ended ∙ append-nil text in
+    answered i r (subst (AsRead r) (text_said text i kept (subst (λ t. IsTextOf t i) same is)) h)
+
+-- no text of either is too long
+bounded : (text : List ℕ) (i : Input) → IsTextOf text i → length text ≤ most_bytes text
+bounded text (input.Trace past) is = omega (arith, is.bounded, most_least text)
+bounded text (input.Recording r) is = is.bounded
+
+none_long : (P : Type 0) (i : Input) (before : Option (List ℕ)) → IfSome before (λ all. most_bytes all < length all) → IfSome before (λ all. IsTextOf all i → P)
+none_long P i None h = tt
+none_long P i (Some all) h = λ is. absurd (let bound = bounded all i is in omega (arith, bound, h))
+
+pub only_long : (before after : Option (List ℕ)) (i : Input) (r : Result Input AuditFault) → IsTooLong before after → IfSome before (λ all. IsTextOf all i → IsReadOrFailed i r)
+only_long before after i r long = none_long (IsReadOrFailed i r) i before (too_long before after long)
+
+-- ---- its net
+
+pub no_net : (before after : Option (List ℕ)) (failed : Bool) (i : Input) (e : AuditFault) → WasRead before after i → WhyNoNetOf i e → WhyNoNet before after failed e
+no_net before after failed i (fault.Unsent s) was h = record { read = i; was = was; first = h }
+no_net before after failed i fault.OutOfMemory was h = record { read = i; was = was; complete = h }
+no_net before after failed i _ was h = absurd h
+
+pub not_read_no_net : (before after : Option (List ℕ)) (failed : Bool) (e : AuditFault) → WhyNotRead before after failed e → WhyNoNet before after failed e
+not_read_no_net before after failed (fault.Unsent s) h = absurd h.first
+not_read_no_net before after failed fault.OutOfMemory h = absurd h.first
+not_read_no_net before after failed e h = h
+
+-- of what was asked for, whose stays each have a send, there is a net, or memory was wanting
+failure_of_net : (i : Input) (e : AuditFault) → unsent_of i ≡ None → WhyNoNetOf i e → IsFailure e
+failure_of_net i (fault.Unsent s) sent h = absurd (let none : None ≡ Some s = sym sent ∙ h in cc)
+failure_of_net i fault.OutOfMemory sent h = tt
+failure_of_net i _ sent h = absurd h
+
+-- ---- a reader's own steps
+
+pub long_unheaded : (text : List ℕ) → MOST_BYTES < length text → Err (fault.Recording recording_fault.BadHeader) ≡ said_unheaded text
+unfolding said_unheaded
+long_unheaded text long = sym (ap (λ b. cond b (as_trace (traces.reading (records_in text))) (Err (fault.Recording recording_fault.BadHeader))) (lt-leb (length text) MOST_BYTES long))
+
+short_unheaded : (text : List ℕ) → length text ≤ MOST_BYTES → said_unheaded text ≡ as_trace (traces.reading (records_in text))
+unfolding said_unheaded
+short_unheaded text short = ap (λ b. cond b (as_trace (traces.reading (records_in text))) (Err (fault.Recording recording_fault.BadHeader))) (le-leb (length text) MOST_BYTES short)
+
+pub trace_said : (text : List ℕ) (r : Result Past TraceFault) → length text ≤ MOST_BYTES → trace_laws.Gives r (traces.reading (records_in text)) → AsRead (as_trace r) (said_unheaded text)
+trace_said text (Ok past) short h = ap as_trace (h (λ k. cc)) ∙ sym (short_unheaded text short)
+trace_said text (Err trace_fault.OutOfMemory) short h = tt
+trace_said text (Err e) short h = ap as_trace (h (λ k. cc)) ∙ sym (short_unheaded text short)
+
+pub recording_said : (text : List ℕ) (r : Result Recorded RecordingFault) (read : Recorded) → recording_laws.Gives r (recordings.reading (records_in text)) → r ≡ Ok read → Ok (input.Recording read) ≡ said text
+unfolding said
+recording_said text r read h is = ap (as_either text) (sym is ∙ h (λ k. let both : Ok read ≡ Err recording_fault.OutOfMemory = sym is ∙ k in cc))
+
+bare_said : (text : List ℕ) → recordings.reading (records_in text) ≡ Err recording_fault.BadHeader → said text ≡ said_unheaded text
+unfolding said
+bare_said text is = ap (as_either text) is
+
+pub unheaded_said : (text : List ℕ) (r : Result Recorded RecordingFault) (e : RecordingFault) (answer : Result Input AuditFault) → recording_laws.Gives r (recordings.reading (records_in text)) → r ≡ Err e → e ≡ recording_fault.BadHeader
+    → AsRead answer (said_unheaded text) → AsRead answer (said text)
+unheaded_said text r e answer h is bare reads =
+    let none : r ≡ Err recording_fault.BadHeader = is ∙ ap (λ (x : RecordingFault). Err x) bare in
+    let read : recordings.reading (records_in text) ≡ Err recording_fault.BadHeader = sym (h (λ k. let both : Err recording_fault.BadHeader ≡ Err recording_fault.OutOfMemory = sym none ∙ k in cc)) ∙ none in
+    subst (AsRead answer) (sym (bare_said text read)) reads
+
+faulty_said : (text : List ℕ) (e : RecordingFault) → (e ≡ recording_fault.BadHeader → ⊥) → recordings.reading (records_in text) ≡ Err e → Err (fault.Recording e) ≡ said text
+unfolding said
+faulty_said text recording_fault.BadHeader other is = absurd (other refl)
+faulty_said text e other is = sym (ap (as_either text) is)
+
+pub fault_said : (text : List ℕ) (r : Result Recorded RecordingFault) (e : RecordingFault) → recording_laws.Gives r (recordings.reading (records_in text)) → r ≡ Err e → (e ≡ recording_fault.BadHeader → ⊥) → AsRead (Err (fault.Recording e)) (said text)
+fault_said text r recording_fault.OutOfMemory h is other = tt
+fault_said text r e h is other = faulty_said text e other (sym (h (λ k. let both : Err e ≡ Err recording_fault.OutOfMemory = sym is ∙ k in cc)) ∙ is)

@@ -11,3 +11,6 @@ pub mod PricedLemmas
 pub mod NodeLemmas
 pub mod PartLemmas
 pub mod TieLemmas
+pub mod OrderLemmas
+pub mod KindLemmas
+pub mod KindsLemmas

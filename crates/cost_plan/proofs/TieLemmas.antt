@@ -1,8 +1,9 @@
 -- Of several best schedules, the live one.
-use Rattle.std.proofs.Common.{◌≡◌, ℕ, ◌+◌, ◌*◌, ◌-◌, ◌<◌, ◌≤◌, ap, ◌∙◌, arith}
+use Rattle.std.proofs.Common.{◌≡◌, ℕ, ◌+◌, ◌*◌, ◌-◌, ◌<◌, ◌≤◌, ap, ◌∙◌, inl, inr, arith}
 use Rattle.round_net.proofs.SumLemmas.{sum_below-same}
 use Rattle.price_check.proofs.DualityLemmas.{best_where_proved}
 use Rattle.cost_plan.specs.Words.{Instance, IsSound, cost, Pricing, ProvesBest, offered}
+use Rattle.cost_plan.specs.InTurn.{TakesTurns}
 use Rattle.cost_plan.proofs.LoadLemmas.{IsAdmissible-same}
 
 cost-same : (net : Instance) (f g : ℕ → ℕ) → ((s : ℕ) → s < net.stays → g s ≡ f s) → cost net g ≡ cost net f
@@ -16,3 +17,10 @@ proved-live net live f g p sound proved no_more agree =
       admissible = IsAdmissible-same net live g agree sound.live_admissible;
       tight = proved.tight ∙ ap (λ n. n + offered net p) same;
     }
+
+-- the live schedule is in turn
+pub TakesTurns-live : (net : Instance) (live f : ℕ → ℕ) → ((s : ℕ) → s < net.stays → f s ≡ live s) → TakesTurns net live f
+TakesTurns-live net live f agree = λ s t first second like allowed before could. elim before [
+  | inl less ↦ omega (arith, agree s first, agree t second)
+  | inr same ↦ omega (arith, agree s first, agree t second, same.0)
+]

@@ -6,3 +6,5 @@ pub mod Draft
 pub mod Raising
 pub mod Parts
 pub mod Ties
+pub mod InTurn
+pub mod TurnOrder

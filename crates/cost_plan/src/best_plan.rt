@@ -10,6 +10,7 @@ ghost use Rattle.cost_plan.specs.Draft.{IsDraftOf, schedule_of};
 ghost use Rattle.cost_plan.specs.Residual.{IsResidual};
 ghost use Rattle.cost_plan.specs.RowPrices.{IsAtMost, SettlesAll};
 ghost use Rattle.cost_plan.specs.Ties.{KeepsLive};
+ghost use Rattle.cost_plan.specs.InTurn.{TakesTurns};
 
 use crate::begin::{Start, begin, guessed, live};
 use crate::cells::nodes;
@@ -21,6 +22,7 @@ use crate::parts::guessed_at_once;
 use crate::pricing::prices_of;
 use crate::relax::relax_all;
 use crate::search::search;
+use crate::take_turns::take_turns;
 use negative_cycle::Arc;
 use round_net::{Net, Prices, Schedule};
 use std::alloc::{AllocError, Global};
@@ -39,20 +41,25 @@ pub struct BestPlan {
 }
 
 /// A best plan of the net: no admissible schedule costs less than this one, as its prices prove. If the live schedule is a
-/// best one, it is the plan's; which of several others it is isn't promised. It begins with a guess, and as long as some stays can change rounds together so that all cost
-/// less, it changes them. For a net of more than 4,096 stays a plan by levels of time is tried first.
+/// best one, it is the plan's. In any other, stays of one device and one weight are sent in the order in which they were sent
+/// live, as far as their windows allow them to change rounds; only where there are more than 4,096 of them, and the window of
+/// one ends before the last round, may they be sent in another. Which of several such plans it is isn't promised. It begins
+/// with a guess, and as long as some stays can change rounds together so that all cost less, it changes them. For a net of
+/// more than 4,096 stays a plan by levels of time is tried first.
 pub fn plan(alloc: Global, net: &Net) -> Result<BestPlan, AllocError>
     ensures proved { IfOk result (λ best. ProvesBest (instance_of_rows net.now) (slice_index best.schedule) (pricing_of_rows best.prices)) }
     ensures stays { IfOk result (λ best. length best.schedule ≡ (instance_of_rows net.now).stays) }
     ensures cells { IfOk result (λ best. IsPricingFor (instance_of_rows net.now) best.prices) }
     ensures small { IfOk result (λ best. IsAtMost (instance_of_rows net.now) (pricing_of_rows best.prices) (instance_of_rows net.now).most_price) }
     ensures live { IfOk result (λ best. KeepsLive (instance_of_rows net.now) (live_of_rows net.now) (slice_index best.schedule)) }
+    ensures turns { IfOk result (λ best. TakesTurns (instance_of_rows net.now) (live_of_rows net.now) (slice_index best.schedule)) }
 {
     let best = match plan_of_many(alloc, net)? {
         Some(best) => best,
         None => settled(alloc, net, begin(alloc, net)?)?,
     };
-    keep_live(alloc, net, best)
+    let in_turn = take_turns(alloc, net, best)?;
+    keep_live(alloc, net, in_turn)
 }
 
 /// A best plan of the net, as `plan` makes it. But the guess is made for each part that has a stay by itself, and for all of
@@ -71,6 +78,7 @@ pub fn plan_with<G: Gate + Sync, R: Threads + Sync>(
     ensures cells { IfOk result (λ best. IsPricingFor (instance_of_rows net.now) best.prices) }
     ensures small { IfOk result (λ best. IsAtMost (instance_of_rows net.now) (pricing_of_rows best.prices) (instance_of_rows net.now).most_price) }
     ensures live { IfOk result (λ best. KeepsLive (instance_of_rows net.now) (live_of_rows net.now) (slice_index best.schedule)) }
+    ensures turns { IfOk result (λ best. TakesTurns (instance_of_rows net.now) (live_of_rows net.now) (slice_index best.schedule)) }
 {
     let best = match plan_of_many(alloc, net)? {
         Some(best) => best,
@@ -79,7 +87,8 @@ pub fn plan_with<G: Gate + Sync, R: Threads + Sync>(
             None => settled(alloc, net, live(alloc, net)?)?,
         },
     };
-    keep_live(alloc, net, best)
+    let in_turn = take_turns(alloc, net, best)?;
+    keep_live(alloc, net, in_turn)
 }
 
 // The plan by levels of a net of many stays. None of few, or if its prices don't prove it best.

@@ -4,6 +4,7 @@ ghost use Rattle.std.specs.Prelude.{◌≡◌, length, slice_index, IfOk};
 ghost use Rattle.cost_plan.specs.Words.{instance_of_rows, live_of_rows, ProvesBest, pricing_of_rows, IsPricingFor};
 ghost use Rattle.cost_plan.specs.RowPrices.{IsAtMost};
 ghost use Rattle.cost_plan.specs.Ties.{KeepsLive};
+ghost use Rattle.cost_plan.specs.InTurn.{TakesTurns};
 
 use crate::best_plan::BestPlan;
 use crate::draft::live_rounds;
@@ -16,11 +17,13 @@ pub(crate) fn keep_live(alloc: Global, net: &Net, best: BestPlan) -> Result<Best
     requires stays { length best.schedule ≡ (instance_of_rows net.now).stays }
     requires cells { IsPricingFor (instance_of_rows net.now) best.prices }
     requires small { IsAtMost (instance_of_rows net.now) (pricing_of_rows best.prices) (instance_of_rows net.now).most_price }
+    requires turns { TakesTurns (instance_of_rows net.now) (live_of_rows net.now) (slice_index best.schedule) }
     ensures proved { IfOk result (λ best. ProvesBest (instance_of_rows net.now) (slice_index best.schedule) (pricing_of_rows best.prices)) }
     ensures stays { IfOk result (λ best. length best.schedule ≡ (instance_of_rows net.now).stays) }
     ensures cells { IfOk result (λ best. IsPricingFor (instance_of_rows net.now) best.prices) }
     ensures small { IfOk result (λ best. IsAtMost (instance_of_rows net.now) (pricing_of_rows best.prices) (instance_of_rows net.now).most_price) }
     ensures live { IfOk result (λ best. KeepsLive (instance_of_rows net.now) (live_of_rows net.now) (slice_index best.schedule)) }
+    ensures turns { IfOk result (λ best. TakesTurns (instance_of_rows net.now) (live_of_rows net.now) (slice_index best.schedule)) }
 {
     let Some(least) = cost(net, &best.schedule) else {
         unreachable!()

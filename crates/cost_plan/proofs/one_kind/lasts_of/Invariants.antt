@@ -1,0 +1,6 @@
+use Rattle.std.proofs.Common.{◌≡◌, map, take}
+use Rattle.cost_plan.specs.Words.{instance_of_rows}
+use Rattle.cost_plan.proofs.one_kind.lasts_of.Given as goal
+
+abbrev pub invariant-loop-stay : goal.invariant-loop-stay
+invariant-loop-stay l = l.lasts.items ≡ map (instance_of_rows l.net).last (take l.stay-index l.members)

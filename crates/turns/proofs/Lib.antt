@@ -1,0 +1,4 @@
+pub mod SlotLemmas
+pub mod SortLemmas
+pub mod TurnLemmas
+pub mod ExchangeLemmas

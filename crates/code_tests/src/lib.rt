@@ -39,7 +39,6 @@ mod made;
 #[cfg(test)]
 mod meeting;
 #[cfg(test)]
-mod object;
 #[cfg(test)]
 mod own_reports;
 #[cfg(test)]

@@ -1,6 +1,6 @@
 //! Times the parts of an audit alone, on the trace on standard input.
 
-use cam_types::{Watched, read_whole};
+use cam_types::{Watched, read_within};
 use check_times::time_checks;
 use net_text::print_net;
 use plan_times::time_plans;
@@ -18,14 +18,17 @@ mod net_text;
 mod plan_times;
 mod record_count;
 
-/// With the word `records` times the reading of the trace's records, with `plan` a best plan, made alone and with its adapters
+// As many bytes as a recording may have.
+const MOST: usize = 268_435_456;
+
+/// With the word `records` times the reading of the records of a trace or a recording, with `plan` a best plan, made alone and with its adapters
 /// planned at once, with `check` the check of that plan and its prices, and with no word all three. With `net` prints the
 /// trace's net instead.
 pub fn time<R: Runtime + AllocGlobal + Threads + Clock + CpuClock + Sync>(
     rt: &R,
     word: Option<&str>,
 ) -> io::Result<ExitCode> {
-    let Ok(text) = read_whole(rt.alloc(), &mut Watched::new(rt.reader())) else {
+    let Ok(text) = read_within(rt.alloc(), &mut Watched::new(rt.reader()), MOST) else {
         return refused(rt, "no text");
     };
     if !matches!(word, None | Some("plan" | "check" | "net")) {

@@ -42,7 +42,6 @@ mod meeting;
 #[cfg(test)]
 mod own_reports;
 #[cfg(test)]
-mod prices;
 #[cfg(test)]
 mod recorded;
 #[cfg(test)]

@@ -13,7 +13,7 @@ use cam_event::History;
 use cam_types::{Watched, write_whole};
 use price_check::push_line;
 use recording_file::Recording;
-use round_net::{Net, live_cost};
+use round_net::recorded_cost;
 use std::alloc::{AllocError, Global};
 use std::io::{Read, Write};
 use trace_file::TraceFault;
@@ -46,7 +46,7 @@ fn check_text(alloc: Global, input: &Input) -> Result<Vec<u8>, AuditFault>
     ensures text { IfOk result (λ text. IsCheck input.now text.items) }
     ensures faults { IfErr result (WhyNoNetOf input.now) }
 {
-    let counts = Counts::of(alloc, input)?;
+    let counts = Counts::of(input)?;
     Ok(counts.text(alloc)?)
 }
 
@@ -61,13 +61,13 @@ struct Counts {
 
 impl Counts {
     // Those of an input in which each stay has a send.
-    fn of(alloc: Global, input: &Input) -> Result<Counts, AuditFault>
+    fn of(input: &Input) -> Result<Counts, AuditFault>
         ensures counted { IfOk result (IsCounted input.now) }
         ensures faults { IfErr result (WhyNoNetOf input.now) }
     {
         match input {
             Input::Trace(history) => Counts::of_history(history),
-            Input::Recording(recording) => Ok(Counts::of_recording(alloc, recording)?),
+            Input::Recording(recording) => Ok(Counts::of_recording(recording)),
         }
     }
 
@@ -89,16 +89,16 @@ impl Counts {
         })
     }
 
-    fn of_recording(alloc: Global, recording: &Recording) -> Result<Counts, AllocError>
-        ensures { IfOk result (IsCounted (Input.Recording recording.now)) }
+    fn of_recording(recording: &Recording) -> Counts
+        ensures { IsCounted (Input.Recording recording.now) result }
     {
-        let net = Net::of_recording(alloc, recording)?;
-        Ok(Counts {
-            commands: net.commands(),
-            stays: net.stays(),
-            rounds: net.rounds(),
-            live: live_cost(&net),
-        })
+        let requests = recording.requests().len() as u32;
+        Counts {
+            commands: requests,
+            stays: requests,
+            rounds: recording.rounds(),
+            live: recorded_cost(recording),
+        }
     }
 
     // The lines that say them.

@@ -1,14 +1,13 @@
 -- the net of a complete history is sound
-use Rattle.std.proofs.Common.{◌≡◌, ℕ, ◌+◌, ◌*◌, ◌<◌, ◌≤◌, Bool, true, false, cond, List, [], ◌∷◌, length, map, get_or, refl, arith, Some, None, ◌==◌, ◌&&◌, All, slice_get, nat_le, find, count_by}
+use Rattle.std.proofs.Common.{◌≡◌, ℕ, ◌<◌, ◌≤◌, Bool, true, false, cond, List, [], ◌∷◌, length, map, get_or, refl, arith, Some, None, ◌==◌, ◌&&◌, All, slice_get, nat_le, find, count_by}
 use Rattle.std.specs.Option.{option_map}
 use Rattle.std.proofs.lemmas.Bool.{and_parts, eqb-true, ltb-true}
-use Rattle.std.proofs.lemmas.Nat.{mul-le}
 use Rattle.std.proofs.lemmas.List.{length-map}
 use Rattle.std.proofs.lemmas.List.Elements.{All-nil, All-cons, All-map}
-use Rattle.std.proofs.lemmas.List.Sums.{AllPass-from_list_all, sum_by-cons}
-use Rattle.cam_types.specs.declared.maxima.TheConstants.{MOST_ROUNDS, MOST_STAYS, MOST_DEVICES, MOST_ADAPTERS, MOST_WEIGHT}
+use Rattle.std.proofs.lemmas.List.Sums.{AllPass-from_list_all}
+use Rattle.cam_types.specs.declared.maxima.TheConstants.{MOST_ROUNDS, MOST_STAYS}
 use Rattle.round_net.specs.declared.price_range.TheConstants.{MOST_PRICE}
-use Rattle.round_net.specs.Words.{Topology, IsConfig, commands, MOST_LINKS, MOST_OPENINGS, is_some_and, round, submission, stays_begun, is_unsent, unsent, name_of, names_device, Event, Submission, Passage, history_rules, is_legal, is_in_range, is_stay_of, is_stay_in_range}
+use Rattle.round_net.specs.Words.{Topology, IsConfig, commands, MOST_OPENINGS, is_some_and, round, submission, stays_begun, is_unsent, unsent, name_of, names_device, Event, Submission, Passage, history_rules, is_legal, is_in_range, is_stay_of, is_stay_in_range}
 use Rattle.event_rules.proofs.RangeLemmas.{stays_in_range}
 use Rattle.event_rules.proofs.LimitLemmas.{round_first, round_most, stays_most}
 use Rattle.round_net.specs.Schedules.{IsAdmissible}

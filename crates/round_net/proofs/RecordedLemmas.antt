@@ -1,6 +1,6 @@
 -- the net of a recording is sound
 use Rattle.std.proofs.Common.{◌≡◌, ℕ, zero, suc, ◌+◌, ◌-◌, ◌*◌, ◌<◌, ◌≤◌, Bool, true, false, cond, List, [], ◌∷◌, ◌++◌, length, map, take, get_or, refl, sym, ap, subst, ◌∙◌, arith, append_assoc, append-nil, zero-add, ◌/◌, ◌%◌, nat_le, Option, Some, None, ◌==◌, ◌&&◌, All, nat_lt, find, count_by, slice_get}
-use Rattle.std.specs.Option.{option_or, option_map, option_map_or}
+use Rattle.std.specs.Option.{option_or, option_map_or}
 use Rattle.std.specs.List.{list_all}
 use Rattle.std.proofs.lemmas.Bool.{and_parts, leb-true, ltb-true, ltb-false}
 use Rattle.std.proofs.lemmas.Nat.{mul-le}
@@ -14,6 +14,7 @@ use Rattle.cam_types.specs.declared.maxima.TheConstants.{MOST_PRIORITY, MOST_DEV
 use Rattle.cam_types.specs.Questions.{is_on, is_under}
 use Rattle.cam_types.specs.declared.adapter.Adapter.{Adapter}
 use Rattle.cam_types.specs.declared.device.Device.{Device}
+use Rattle.cam_types.specs.Questions.{weight}
 use Rattle.cam_types.proofs.ListLemmas.{moments-push}
 use Rattle.cam_types.proofs.ConfigLemmas.{weight_small, few_devices, few_adapters, few_links}
 use Rattle.recording_file.specs.Recorded.{Recorded, IsKept, takes_of, load, request_cause, plain_cause, crowd_cause}
@@ -24,7 +25,7 @@ use Rattle.recording_file.specs.declared.part.PartKind.{PartKind}
 use Rattle.recording_file.specs.declared.request.Request.{Request}
 use Rattle.recording_file.specs.declared.part.PartKind.TheVariants as kind
 use Rattle.recording_file.specs.Counts.{counts_of}
-use Rattle.recording_file.specs.Room.{row_of, rows_by, part_in, cell_of, IsCell, IsRoom}
+use Rattle.recording_file.specs.Room.{row_of, rows_by, part_in, IsCell, IsRoom}
 use Rattle.recording_file.specs.Places.{places_of, taken_at}
 use Rattle.recording_file.proofs.PlacingLemmas.{IsPlain, plain_none, head_config}
 use Rattle.recording_file.proofs.PlaceLemmas.{are_cells, is_device}
@@ -32,7 +33,7 @@ use Rattle.recording_file.proofs.RoomLemmas.{row_few, part_there}
 use Rattle.recording_file.proofs.TakenLemmas.{taken_room}
 use Rattle.round_net.specs.Caps.{row_count, carries}
 use Rattle.round_net.specs.Nets.{cells, table}
-use Rattle.round_net.specs.Rows.{NetRows, StayRow}
+use Rattle.round_net.specs.Rows.{NetRows, StayRow, instance_of_rows}
 use Rattle.round_net.specs.Schedules.{IsAdmissible}
 use Rattle.round_net.specs.Sound.{IsNet}
 use Rattle.round_net.specs.RecordedNets.{request_row, part_of_row, recorded_cap, net_of_recording, instance_of_recording, live_of_recording}
@@ -40,6 +41,10 @@ use Rattle.round_net.specs.declared.maxima.TheConstants.{MOST_NET_ROUNDS}
 use Rattle.round_net.specs.declared.price_range.TheConstants.{MOST_NET_PRICE}
 use Rattle.round_net.proofs.CountLemmas.{count-map}
 use Rattle.round_net.proofs.FilledLemmas.{IsFitting, IsFilled, room_for, filled_admissible, filled_net, net_with-parts}
+use Rattle.round_net.proofs.RowLemmas.{weight-row, arrival-row, live-row}
+use Rattle.round_net.specs.Sums.{sum_below}
+use Rattle.round_net.specs.Schedules.{cost}
+use Rattle.round_net.proofs.SumLemmas.{sum_below-more}
 use Rattle.round_net.proofs.SmallLemmas.{small_device_openings, small_adapter_openings, small_link_openings}
 use Rattle.round_net.proofs.TableLemmas.{cell-table, length-cells}
 
@@ -254,3 +259,39 @@ pub recording_parts : (r : Recorded) (c : Topology) (commands rounds links : ℕ
 unfolding net_of_recording
 recording_parts r c commands rounds links adapter_of link_of stays caps k n e l a o s is =
     net_with-parts c r.config commands (length r.requests) rounds r.rounds links adapter_of link_of stays (map (request_row r.config r.rounds) (moments r.requests)) caps (recorded_cap r) MOST_NET_PRICE k n e l a o s is
+
+-- ---- what waiting cost
+
+-- the row of a request
+row_there : (c : Topology) (rounds : ℕ) (before xs : List Request) (s : ℕ) (d : Request) → s < length xs
+    → (m : List Request) × (slice_get (map (request_row c rounds) (moments_after before xs)) s ≡ Some (request_row c rounds (m, get_or xs s d)))
+row_there c rounds before [] s d lt = absurd (omega (arith, lt))
+row_there c rounds before (x ∷ xs) zero d lt = (before, refl)
+row_there c rounds before (x ∷ xs) (suc s) d lt = row_there c rounds (before ++ x ∷ []) xs s d (omega (arith, lt))
+
+-- what a stay's waiting cost by the net of a recording
+abbrev pub waited_by : Recorded → ℕ → ℕ
+waited_by r s = (instance_of_recording r).weight s * (live_of_recording r s - (instance_of_recording r).arrival s)
+
+waited_there : (r : Recorded) (s : ℕ) (d : Request) → s < length r.requests
+    → waited_by r s ≡ weight r.config (get_or r.requests s d).priority * ((get_or r.requests s d).sent - (get_or r.requests s d).arrival)
+unfolding net_of_recording request_row
+waited_there r s d lt =
+    let q : Request = get_or r.requests s d in
+    let there = row_there r.config r.rounds [] r.requests s d lt in
+    let row : StayRow = request_row r.config r.rounds (there.0, q) in
+    let net : NetRows = net_of_recording r in
+    rw (weight-row net s row there.1, arrival-row net s row there.1, live-row net s row there.1) refl
+
+pub waited_more : (r : Recorded) (requests : List Request) (c : Topology) (n total here : ℕ) (d : Request) → requests ≡ r.requests → c ≡ r.config → n < length requests → total ≡ sum_below n (waited_by r)
+    → here ≡ weight c (get_or requests n d).priority * ((get_or requests n d).sent - (get_or requests n d).arrival) → total + here ≡ sum_below (n + 1) (waited_by r)
+waited_more r requests c n total here d e k lt so_far is =
+    let less : n < length r.requests = omega (arith, lt, ap (λ (qs : List Request). length qs) e) in
+    let same : here ≡ weight r.config (get_or r.requests n d).priority * ((get_or r.requests n d).sent - (get_or r.requests n d).arrival) = subst (λ (qs : List Request). here ≡ weight r.config (get_or qs n d).priority * ((get_or qs n d).sent - (get_or qs n d).arrival)) e (subst (λ (t : Topology). here ≡ weight t (get_or requests n d).priority * ((get_or requests n d).sent - (get_or requests n d).arrival)) k is) in
+    rw (so_far, same ∙ sym (waited_there r n d less)) (sym (sum_below-more n (waited_by r)))
+
+pub waited_all : (r : Recorded) (requests : List Request) (n total : ℕ) → requests ≡ r.requests → n ≡ length requests → total ≡ sum_below n (waited_by r) → total ≡ cost (instance_of_recording r) (live_of_recording r)
+unfolding net_of_recording instance_of_rows
+waited_all r requests n total e k is =
+    let long : length (map (request_row r.config r.rounds) (moments r.requests)) ≡ n = length-map (moments r.requests) (request_row r.config r.rounds) ∙ moments-length [] r.requests ∙ sym (ap (λ (qs : List Request). length qs) e) ∙ sym k in
+    is ∙ ap (λ k. sum_below k (waited_by r)) (sym long)

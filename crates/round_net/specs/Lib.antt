@@ -11,4 +11,5 @@ pub mod Nets
 pub mod RecordedNets
 pub mod Marks
 pub mod Ends
+pub mod CauseWords
 pub mod RoundTables

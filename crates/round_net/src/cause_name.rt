@@ -3,8 +3,13 @@
 use crate::cause::Cause;
 
 impl Cause {
+    ghost use Rattle.std.specs.Prelude.{◌≡◌};
+    ghost use Rattle.round_net.specs.CauseWords.{cause_words};
+
     /// The cause in words, as pages and drawings give it.
-    pub fn name(self) -> &'static str {
+    pub fn name(self) -> &'static str
+        ensures { result.now ≡ cause_words self }
+    {
         match self {
             Cause::Error => "held by an error",
             Cause::Caller => "frozen by a caller",

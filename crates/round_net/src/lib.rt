@@ -9,6 +9,7 @@ pub use net::Net;
 pub use net_fault::NetFault;
 pub use price_range::{MOST_NET_PRICE, MOST_PRICE, PriceRange};
 pub use prices::Prices;
+pub use recorded_rows::recorded_cost;
 pub use round_table::RoundTable;
 pub use schedule::Schedule;
 pub use waiting::{cost, live_cost};

@@ -1,10 +1,10 @@
 //! The requests of a recording as stays, and how many of them its rows take.
 
-ghost use Rattle.std.specs.Prelude.{◌≡◌, ◌*◌, ◌^◌, ◌<◌, ◌≤◌, List, length, map, IfOk};
+ghost use Rattle.std.specs.Prelude.{◌≡◌, ◌*◌, ◌-◌, ◌^◌, ◌<◌, ◌≤◌, List, length, map, IfOk};
 ghost use Rattle.cam_types.specs.Lists.{moments};
 ghost use Rattle.cam_types.specs.Topology.{IsConfig};
 ghost use Rattle.cam_types.specs.Questions.{weight};
-ghost use Rattle.cam_types.specs.declared.maxima.TheConstants.{MOST_PRIORITY};
+ghost use Rattle.cam_types.specs.declared.maxima.TheConstants.{MOST_PRIORITY, MOST_WEIGHT};
 ghost use Rattle.recording_file.specs.declared.maxima.TheConstants.{MOST_RECORDED_ROUNDS};
 ghost use Rattle.recording_file.specs.declared.request.Request.{Request};
 ghost use Rattle.recording_file.specs.Caps.{cap_in};
@@ -12,7 +12,8 @@ ghost use Rattle.recording_file.specs.declared.cap.Cap.{Cap};
 ghost use Rattle.recording_file.specs.Room.{Holds, rows_by};
 ghost use Rattle.round_net.specs.Caps.{row_count};
 ghost use Rattle.round_net.specs.Nets.{table};
-ghost use Rattle.round_net.specs.RecordedNets.{request_row, recorded_cap, part_of_row};
+ghost use Rattle.round_net.specs.RecordedNets.{request_row, recorded_cap, part_of_row, instance_of_recording, live_of_recording};
+ghost use Rattle.round_net.specs.Schedules.{cost};
 
 use crate::row_state::{Owner, owner_of, row_count};
 use crate::stay_row::StayRow;
@@ -38,6 +39,7 @@ pub fn request_rows(alloc: Global, recording: &Recording) -> Result<Vec<StayRow>
 // A request as a stay: its number is the stay's CCB, in its try 0.
 #[tactic(auto, unfolding(crate::specs::RecordedNets::request_row))]
 fn request_row(config: &Config, rounds: u32, number: usize, request: Request) -> StayRow
+    requires kept { IsConfig config.now }
     requires few { number < 2 ^ 32 }
     requires priority { request.priority ≤ MOST_PRIORITY }
     ensures { (before : List Request) → length before ≡ number → result ≡ request_row config.now rounds (before, request) }
@@ -59,14 +61,42 @@ fn request_row(config: &Config, rounds: u32, number: usize, request: Request) ->
 }
 
 // What a round of waiting costs at a priority.
+#[tactic(auto, using(cam_types::proofs::ConfigLemmas::weight_small))]
 fn weight_of(config: &Config, priority: u32) -> u32
-    requires { priority ≤ MOST_PRIORITY }
-    ensures { result ≡ weight config.now priority }
+    requires kept { IsConfig config.now }
+    requires priority { priority ≤ MOST_PRIORITY }
+    ensures same { result ≡ weight config.now priority }
+    ensures small { result ≤ MOST_WEIGHT }
 {
     let Ok(priority) = Priority::new(priority) else {
         unreachable!()
     };
     config.weight(priority)
+}
+
+/// What the waiting of all requests cost, in weighted rounds, as they were started. It is what it cost in the recording's net,
+/// which isn't made.
+pub fn recorded_cost(recording: &Recording) -> u64
+    ensures { result ≡ cost (instance_of_recording recording.now) (live_of_recording recording.now) }
+{
+    let config = recording.config();
+    let requests = recording.requests();
+    let mut total = 0;
+    for number in 0..requests.len() {
+        total += waited(config, requests[number]);
+    }
+    total
+}
+
+// What a request's waiting cost.
+fn waited(config: &Config, request: Request) -> u64
+    requires kept { IsConfig config.now }
+    requires priority { request.priority ≤ MOST_PRIORITY }
+    ensures same { result ≡ weight config.now request.priority * (request.sent - request.arrival) }
+    ensures short { result ≤ MOST_WEIGHT * 2 ^ 32 }
+{
+    u64::from(weight_of(config, request.priority))
+        * u64::from(request.sent.saturating_sub(request.arrival))
 }
 
 /// How many requests each row takes in each round.

@@ -1,5 +1,4 @@
 use Rattle.std.proofs.Common.{◌≡◌, ◌∙◌, ◌+◌, ◌/◌, ◌%◌, arith}
-use Rattle.cam_types.specs.Topology.{IsConfig}
 use Rattle.recording_file.specs.Caps.{cap_in}
 use Rattle.recording_file.specs.Room.{Holds}
 use Rattle.recording_file.proofs.PlacingLemmas.{head_config}

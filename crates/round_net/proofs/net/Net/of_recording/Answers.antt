@@ -1,4 +1,4 @@
-use Rattle.std.proofs.Common.{◌≡◌, ◌≤◌, ◌∙◌, length, ap, refl, arith}
+use Rattle.std.proofs.Common.{◌≤◌, ◌∙◌, length, ap, refl, arith}
 use Rattle.recording_file.specs.declared.maxima.TheConstants.{MOST_REQUESTS}
 use Rattle.round_net.specs.Words.{MOST_LINKS}
 use Rattle.cam_types.proofs.ConfigLemmas.{few_links}

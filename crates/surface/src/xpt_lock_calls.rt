@@ -6,7 +6,7 @@ use crate::frame_config::frame_config;
 use anyhow::Result;
 use cam_event::{Event, History};
 use cam_types::{Flags, Limits, Outcome};
-use std::alloc::Global;
+use std::alloc::{AllocError, Global};
 use std::marker::Brand;
 use std::rt::Runtime;
 use std::sync::Wait;
@@ -26,26 +26,57 @@ fn call_shared<L: Ledger, R: Runtime + Wait>(rt: &R, alloc: Global, blank: Blank
 {
     let xpt = Xpt::open(alloc, frame_config(alloc)?, Limits::most())?;
     let shared: SharedXpt<L> = SharedXpt::new(xpt, blank);
-    let taken: Result<Seat<L>, SeatsFull> = shared.seat(rt, alloc, SeatName::Driver(0u8));
-    let mut driver: Seat<L> = taken?;
-    let mut lane = shared.seat(rt, alloc, SeatName::Lane(0u32))?;
-    let mut recovery = shared.seat(rt, alloc, SeatName::Recovery)?;
-    let mut keeper = shared.seat(rt, alloc, SeatName::Keeper)?;
-    call_refused(rt, &shared, &mut driver)?;
-    call_driver(rt, &shared, &mut driver)?;
-    call_lane(rt, &shared, &mut lane, 0x05)?;
-    call_requeue(rt, &shared, &mut recovery)?;
-    call_tick(rt, &shared, &mut keeper)?;
-    call_lane(rt, &shared, &mut lane, 0x04)?;
-    let finished: Result<Receipt, SharedFault> = shared.finish(rt, &mut recovery, 0u32);
-    print!(rt; " {}", finished?.at)?;
-    call_seat(rt, &driver)?;
+    let mut seats = Seats::taken(rt, alloc, &shared)?;
+    call_events(rt, &shared, &mut seats)?;
+    call_seat(rt, &seats.driver)?;
     call_look(rt, &shared)?;
-    let mut seats: Vec<Seat<L>> = Vec::new(alloc);
-    seats.push(driver)?;
-    seats.push(lane)?;
-    seats.push(recovery)?;
-    seats.push(keeper)?;
+    call_gather(rt, alloc, shared, seats)
+}
+
+// A seat of each kind.
+#[derive(Drop)]
+struct Seats<L: Ledger> {
+    driver: Seat<L>,
+    lane: Seat<L>,
+    recovery: Seat<L>,
+    keeper: Seat<L>,
+}
+
+impl<L: Ledger> Seats<L> {
+    fn taken<R: Wait>(rt: &R, alloc: Global, shared: &SharedXpt<L>) -> Result<Seats<L>, SeatsFull> {
+        let driver: Result<Seat<L>, SeatsFull> = shared.seat(rt, alloc, SeatName::Driver(0u8));
+        Ok(Seats {
+            driver: driver?,
+            lane: shared.seat(rt, alloc, SeatName::Lane(0u32))?,
+            recovery: shared.seat(rt, alloc, SeatName::Recovery)?,
+            keeper: shared.seat(rt, alloc, SeatName::Keeper)?,
+        })
+    }
+}
+
+fn call_events<L: Ledger, R: Runtime + Wait>(
+    rt: &R,
+    shared: &SharedXpt<L>,
+    seats: &mut Seats<L>,
+) -> Result<()> {
+    call_refused(rt, shared, &mut seats.driver)?;
+    call_driver(rt, shared, &mut seats.driver)?;
+    call_lane(rt, shared, &mut seats.lane, 0x05)?;
+    call_requeue(rt, shared, &mut seats.recovery)?;
+    call_tick(rt, shared, &mut seats.keeper)?;
+    call_lane(rt, shared, &mut seats.lane, 0x04)?;
+    let finished: Result<Receipt, SharedFault> = shared.finish(rt, &mut seats.recovery, 0u32);
+    print!(rt; " {}", finished?.at)?;
+    Ok(())
+}
+
+fn call_gather<L: Ledger, R: Runtime>(
+    rt: &R,
+    alloc: Global,
+    shared: SharedXpt<L>,
+    seats: Seats<L>,
+) -> Result<()> {
+    let seats: Vec<Seat<L>> = listed(alloc, seats)?;
     let gathered: Result<History, GatherFault> = shared.gather(alloc, seats);
     match gathered {
         Ok(history) => println!(rt; " gathered {}", history.events().len())?,
@@ -56,7 +87,29 @@ fn call_shared<L: Ledger, R: Runtime + Wait>(rt: &R, alloc: Global, blank: Blank
     Ok(())
 }
 
+fn listed<L: Ledger>(alloc: Global, seats: Seats<L>) -> Result<Vec<Seat<L>>, AllocError> {
+    let mut list = Vec::with_capacity(alloc, 4)?;
+    list.push_reserved(seats.driver);
+    list.push_reserved(seats.lane);
+    list.push_reserved(seats.recovery);
+    list.push_reserved(seats.keeper);
+    Ok(list)
+}
+
 fn call_driver<L: Ledger, R: Runtime + Wait>(
+    rt: &R,
+    shared: &SharedXpt<L>,
+    seat: &mut Seat<L>,
+) -> Result<()> {
+    call_submit(rt, shared, seat)?;
+    call_freezes(rt, shared, seat)?;
+    let adjusted: Result<Receipt, SharedFault> = shared.adjust(rt, seat, 0u32, 1u32);
+    let receipt: Receipt = adjusted?;
+    print!(rt; " {} reply {}", receipt.at, number_of(&receipt.reply))?;
+    Ok(())
+}
+
+fn call_submit<L: Ledger, R: Runtime + Wait>(
     rt: &R,
     shared: &SharedXpt<L>,
     seat: &mut Seat<L>,
@@ -74,15 +127,20 @@ fn call_driver<L: Ledger, R: Runtime + Wait>(
     let (at, event, reply): (u32, Event, Reply) = (receipt.at, receipt.event, receipt.reply);
     let is_submit: bool = matches!(&event, Event::Submit { .. });
     print!(rt; " {at} submit {is_submit} {}", reply == Reply::Ccb(number))?;
+    Ok(())
+}
+
+fn call_freezes<L: Ledger, R: Runtime + Wait>(
+    rt: &R,
+    shared: &SharedXpt<L>,
+    seat: &mut Seat<L>,
+) -> Result<()> {
     let frozen: Result<Receipt, SharedFault> = shared.freeze_dev(rt, seat, 0u32, 1u32);
     let released: Result<Receipt, SharedFault> = shared.release_dev(rt, seat, 0u32, 1u32);
     print!(rt; " {} {}", frozen?.at, released?.at)?;
     let frozen: Result<Receipt, SharedFault> = shared.freeze_sim(rt, seat, 0u32, 1u32);
     let released: Result<Receipt, SharedFault> = shared.release_sim(rt, seat, 0u32);
     print!(rt; " {} {}", frozen?.at, released?.at)?;
-    let adjusted: Result<Receipt, SharedFault> = shared.adjust(rt, seat, 0u32, 1u32);
-    let receipt: Receipt = adjusted?;
-    print!(rt; " {} reply {}", receipt.at, number_of(&receipt.reply))?;
     Ok(())
 }
 

@@ -1,4 +1,4 @@
-//! Audits recorded traces of a CAM transport, explains and draws them, and runs scripts that record them.
+//! Audits traces of a CAM transport and recordings of any scheduler, explains and draws traces, and runs scripts that record them.
 #![tactic(auto)]
 
 use std::io::IsTerminal;

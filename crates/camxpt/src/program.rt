@@ -4,6 +4,7 @@ use crate::completion::script;
 use crate::failure::Failure;
 use crate::note::{note_on, reason_note};
 use crate::output::{Output, print, standard_output};
+use crate::progress::ProgressLine;
 use crate::proof_run::prove;
 use crate::script_run::ScriptRun;
 use crate::shell::Shell;
@@ -17,6 +18,7 @@ use clap::error::ErrorKind;
 use sim_worker::Ending;
 use std::fs::File;
 use std::io;
+use std::io::Read;
 use std::process::ExitCode;
 use std::rt::Runtime;
 use std::sync::Wait;
@@ -101,7 +103,7 @@ fn obey<R: Runtime + AllocGlobal + Threads + Wait + Sync>(
     on_terminal: bool,
 ) -> Result<ExitCode, Failure> {
     let Some((name, words)) = matches.subcommand() else {
-        return over_input(rt);
+        return over_input(rt, on_terminal);
     };
     match obey_words(rt, name, words, on_terminal) {
         Err(Failure::CannotOpen(argument, error)) => {
@@ -135,7 +137,7 @@ fn obey_words<R: Runtime + AllocGlobal + Threads + Wait + Sync>(
     on_terminal: bool,
 ) -> Result<ExitCode, Failure> {
     if let Some(run) = trace_run(name, words) {
-        return over_trace(rt, words, run);
+        return over_trace(rt, words, run, on_terminal);
     }
     if let Some(run) = script_run(name, words, on_terminal) {
         return over_script(rt, words, run);
@@ -143,7 +145,7 @@ fn obey_words<R: Runtime + AllocGlobal + Threads + Wait + Sync>(
     match name {
         "prove" => over_report(rt, words),
         "completions" => complete(rt, words.get_str("SHELL").unwrap_or("")),
-        _ => over_input(rt),
+        _ => over_input(rt, on_terminal),
     }
 }
 
@@ -176,24 +178,39 @@ fn script_run(name: &str, words: &ArgMatches<'_>, on_terminal: bool) -> Option<S
 }
 
 // Prints the summary of the audit of the trace on standard input.
-fn over_input<R: Runtime + AllocGlobal + Threads + Sync>(rt: &R) -> Result<ExitCode, Failure> {
-    let (mut trace, mut out) = (input(rt), standard_output(rt));
-    match (TraceRun::Audit { summary: true }).over(rt, &mut trace, &mut out, false) {
-        Ok(()) => Ok(ExitCode::SUCCESS),
-        Err(failure) => Ok(tell_on(rt, &failure, &trace, &out)),
-    }
+fn over_input<R: Runtime + AllocGlobal + Threads + Sync>(
+    rt: &R,
+    on_terminal: bool,
+) -> Result<ExitCode, Failure> {
+    let run = TraceRun::Audit { summary: true };
+    Ok(over_source(rt, input(rt), run, false, on_terminal))
 }
 
 fn over_trace<R: Runtime + AllocGlobal + Threads + Sync>(
     rt: &R,
     words: &ArgMatches<'_>,
     run: TraceRun,
+    on_terminal: bool,
 ) -> Result<ExitCode, Failure> {
-    let mut trace = open(rt, words, Argument::Trace)?;
+    let trace = open(rt, words, Argument::Trace)?;
+    Ok(over_source(rt, trace, run, words.get_flag("json"), on_terminal))
+}
+
+// What a run does with the trace that is open.
+fn over_source<R: Runtime + AllocGlobal + Threads + Sync, D: Read + Drop>(
+    rt: &R,
+    mut trace: Source<'_, D>,
+    run: TraceRun,
+    as_json: bool,
+    on_terminal: bool,
+) -> ExitCode {
     let mut out = standard_output(rt);
-    match run.over(rt, &mut trace, &mut out, words.get_flag("json")) {
-        Ok(()) => Ok(ExitCode::SUCCESS),
-        Err(failure) => Ok(tell_on(rt, &failure, &trace, &out)),
+    let line = ProgressLine::new(rt, on_terminal);
+    let done = run.over(rt, &line, &mut trace, &mut out, as_json);
+    line.clear();
+    match done {
+        Ok(()) => ExitCode::SUCCESS,
+        Err(failure) => tell_on(rt, &failure, &trace, &out),
     }
 }
 

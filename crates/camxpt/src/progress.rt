@@ -1,27 +1,33 @@
-//! Shows on a terminal how far a run is.
+//! Shows on a terminal how far a run or an audit is.
 
+use cost_plan::{Done, Gate};
 use sim_worker::Progress;
+use std::io;
+use std::io::{Read, Write};
 use std::sync::atomic::{AtomicU64, Ordering};
 use std::time::{Clock, Instant};
 use xpt_state::Look;
 
-// How many milliseconds a run is old when it is first shown, and how many lie between two lines at least.
+// How many milliseconds it is old when it is first shown, and how many lie between two lines at least.
 const FIRST: u64 = 1_000;
 
 const BETWEEN: u64 = 100;
 
-/// A line on standard error that says how far a run is, if that is a terminal and the run takes more than a second.
+// When the next line is due after the last.
+const NEVER: u64 = u64::MAX;
+
+/// A line on standard error that says how far a run or an audit is, if that is a terminal and it takes more than a second.
 #[derive(Drop)]
 pub struct ProgressLine<'a, R> {
     rt: &'a R,
-    // When the run began, if it is to be shown.
+    // When it began, if it is to be shown.
     start: Option<Instant>,
     // When the next line is due, in milliseconds from the start.
     due: AtomicU64,
 }
 
 impl<'a, R: Clock + Eprint> ProgressLine<'a, R> {
-    /// The line of a run that begins now.
+    /// The line of what begins now.
     pub fn new(rt: &'a R, on_terminal: bool) -> ProgressLine<'a, R> {
         let start = if on_terminal {
             Instant::now(rt).ok()
@@ -35,32 +41,131 @@ impl<'a, R: Clock + Eprint> ProgressLine<'a, R> {
         }
     }
 
-    /// Clears the line, if it was shown.
+    /// Clears the line, if it is shown. No other is shown after it.
     pub fn clear(&self) {
-        if self.due.load(Ordering::Relaxed) != FIRST {
+        let due = self.due.swap(NEVER, Ordering::Relaxed);
+        if due != FIRST && due != NEVER {
             let _ = self.rt.eprint("\r\u{1b}[K");
         }
     }
 
-    // The milliseconds since the run began, if a line is due.
-    fn due(&self) -> Option<u64> {
+    // Whether a line is due. If one is, the next is due some time after.
+    fn is_due(&self) -> bool {
+        let Some(elapsed) = self.elapsed() else {
+            return false;
+        };
+        if elapsed < self.due.load(Ordering::Relaxed) {
+            return false;
+        }
+        self.due
+            .store(elapsed.saturating_add(BETWEEN), Ordering::Relaxed);
+        true
+    }
+
+    // The milliseconds since it began, if it is to be shown.
+    fn elapsed(&self) -> Option<u64> {
         let elapsed = self.start?.elapsed(self.rt).ok()?;
-        let elapsed = u64::try_from(elapsed.as_millis()).ok()?;
-        (self.due.load(Ordering::Relaxed) <= elapsed).then_some(elapsed)
+        u64::try_from(elapsed.as_millis()).ok()
+    }
+
+    // Shows that so many bytes were read.
+    fn show_read(&self, bytes: u64) {
+        if self.is_due() {
+            let _ = self.rt.eprint(format_args!("\r\u{1b}[Kcamxpt: read {} MB", bytes / 1_000_000));
+        }
     }
 }
 
 impl<R: Clock + Eprint> Progress for ProgressLine<'_, R> {
     fn show(&self, look: Look) {
-        let Some(elapsed) = self.due() else {
+        if !self.is_due() {
             return;
-        };
-        self.due
-            .store(elapsed.saturating_add(BETWEEN), Ordering::Relaxed);
+        }
         let left = u64::from(look.waiting) + u64::from(look.in_flight) + u64::from(look.cases);
         let _ = self.rt.eprint(format_args!(
             "\r\u{1b}[Kcamxpt: round {}, {} events, {left} CCBs left",
             look.round, look.length
         ));
+    }
+}
+
+impl<R: Clock + Eprint> Gate for ProgressLine<'_, R> {
+    fn begun(&self, _adapter: u32) {}
+
+    fn planned(&self, done: Done) {
+        if !self.is_due() {
+            return;
+        }
+        let _ = if done.planned >= done.parts {
+            self.rt.eprint("\r\u{1b}[Kcamxpt: checking the plan")
+        } else {
+            self.rt.eprint(format_args!("\r\u{1b}[Kcamxpt: planned some {} %", hundredths(done)))
+        };
+    }
+}
+
+// How many hundredths of a plan are made, about: each level of a part takes twice as long as the one before.
+fn hundredths(done: Done) -> u64 {
+    let of_next = 100u64 >> done.levels_left.min(7);
+    (u64::from(done.planned) * 100 + of_next) / u64::from(done.parts.max(1))
+}
+
+/// A reader whose line says how much of it was read.
+#[derive(Drop)]
+pub struct ToldReader<'a, 'b, S, R> {
+    source: S,
+    line: &'a ProgressLine<'b, R>,
+    bytes: u64,
+}
+
+impl<'a, 'b, S, R> ToldReader<'a, 'b, S, R> {
+    /// A reader of which nothing was read yet.
+    pub fn new(source: S, line: &'a ProgressLine<'b, R>) -> ToldReader<'a, 'b, S, R> {
+        ToldReader {
+            source,
+            line,
+            bytes: 0,
+        }
+    }
+}
+
+impl<S: Read, R: Clock + Eprint> Read for ToldReader<'_, '_, S, R> {
+    ghost remaining = { λ s. S.remaining s.source };
+
+    /// Reads as the source does.
+    fn read(&mut self, buf: &mut [u8]) -> io::Result<usize> {
+        self.line.show_read(self.bytes);
+        let count = self.source.read(buf)?;
+        self.bytes = self.bytes.saturating_add(count as u64);
+        Ok(count)
+    }
+}
+
+/// A writer before whose first bytes the line is cleared.
+#[derive(Drop)]
+pub struct ToldWriter<'a, 'b, W, R> {
+    device: W,
+    line: &'a ProgressLine<'b, R>,
+}
+
+impl<'a, 'b, W, R> ToldWriter<'a, 'b, W, R> {
+    /// A writer to which nothing was written yet.
+    pub fn new(device: W, line: &'a ProgressLine<'b, R>) -> ToldWriter<'a, 'b, W, R> {
+        ToldWriter { device, line }
+    }
+}
+
+impl<W: Write, R: Clock + Eprint> Write for ToldWriter<'_, '_, W, R> {
+    ghost contents = { λ w. W.contents w.device };
+
+    /// Writes as the device does.
+    fn write(&mut self, buf: &[u8]) -> io::Result<usize> {
+        self.line.clear();
+        self.device.write(buf)
+    }
+
+    /// Flushes as the device does.
+    fn flush(&mut self) -> io::Result<()> {
+        self.device.flush()
     }
 }

@@ -3,13 +3,15 @@
 use crate::failure::Failure;
 use crate::note::title;
 use crate::output::{Output, closed, print};
+use crate::progress::{ProgressLine, ToldReader, ToldWriter};
 use crate::source::Source;
 use audit_report::{read_net, read_rounds, run_audit_with, run_check, run_migrate, run_record};
 use cam_types::Watched;
-use cost_plan::{OpenGate, plan_with};
+use cost_plan::plan_with;
 use std::alloc::AllocError;
 use std::io::{Read, Write};
 use std::thread::Threads;
+use std::time::Clock;
 use views::{audit_json, check_json, draw, explain_json, page};
 use wait_causes::Explanation;
 
@@ -37,71 +39,74 @@ pub enum TraceRun {
 }
 
 impl TraceRun {
-    /// Prints what comes of the trace, as one line of JSON if that is asked for.
-    pub fn over<R: AllocGlobal + Threads + Sync, D: Read, W: Write>(
+    ghost use Rattle.std.specs.Prelude.{◌≡◌, false};
+    ghost use Rattle.cam_types.specs.Watched.{has_failed};
+
+    /// Prints what comes of the trace, as one line of JSON if that is asked for. The line says how far it is.
+    pub fn over<R: AllocGlobal + Threads + Clock + Eprint + Sync, D: Read, W: Write>(
         self,
         rt: &R,
+        line: &ProgressLine<'_, R>,
         trace: &mut Source<'_, D>,
         out: &mut Output<W>,
         as_json: bool,
     ) -> Result<(), Failure> {
-        let alloc = rt.alloc();
+        let (alloc, name) = (rt.alloc(), trace.name);
+        let mut trace = Watched::new(ToldReader::new(trace, line));
+        let mut told = Watched::new(ToldWriter::new(&mut *out, line));
         match self {
-            TraceRun::Check if !as_json => Ok(run_check(
-                alloc,
-                &mut Watched::new(trace),
-                &mut Watched::new(out),
-            )?),
-            TraceRun::Migrate => Ok(run_migrate(
-                alloc,
-                &mut Watched::new(trace),
-                &mut Watched::new(out),
-            )?),
-            TraceRun::Record => Ok(run_record(
-                alloc,
-                &mut Watched::new(trace),
-                &mut Watched::new(out),
-            )?),
+            TraceRun::Check if !as_json => Ok(run_check(alloc, &mut trace, &mut told)?),
+            TraceRun::Migrate => Ok(run_migrate(alloc, &mut trace, &mut told)?),
+            TraceRun::Record => Ok(run_record(alloc, &mut trace, &mut told)?),
             TraceRun::Audit { summary } if !as_json => Ok(run_audit_with(
-                rt,
-                alloc,
-                &mut Watched::new(trace),
-                &mut Watched::new(out),
-                summary,
-                &OpenGate,
+                rt, alloc, &mut trace, &mut told, summary, line,
             )?),
             TraceRun::Explain { .. } | TraceRun::Draw => {
-                print(out, &self.explanation_on(rt, trace, as_json)?)
+                let text = self.explanation_on(rt, line, name, &mut trace, as_json)?;
+                line.clear();
+                print(out, &text)
             }
-            _ => print(out, &self.json_on(rt, trace)?),
+            _ => {
+                let text = self.json_on(rt, line, name, &mut trace)?;
+                line.clear();
+                print(out, &text)
+            }
         }
     }
 
     // The line of JSON on the counts of the trace or recording, or on the audit of it.
-    fn json_on<R: AllocGlobal + Threads + Sync, D: Read>(
+    fn json_on<R: AllocGlobal + Threads + Clock + Eprint + Sync, D: Read>(
         self,
         rt: &R,
-        trace: &mut Source<'_, D>,
-    ) -> Result<String, Failure> {
-        let (alloc, name) = (rt.alloc(), trace.name);
-        let (_, net) = read_net(alloc, &mut Watched::new(trace))?;
+        line: &ProgressLine<'_, R>,
+        name: &str,
+        trace: &mut Watched<D>,
+    ) -> Result<String, Failure>
+        requires { has_failed trace.old ≡ false }
+    {
+        let alloc = rt.alloc();
+        let (_, net) = read_net(alloc, trace)?;
         let TraceRun::Audit { summary } = self else {
             return closed(check_json(alloc, name, &net));
         };
-        let best = plan_with(rt, alloc, &net, &OpenGate)?;
+        let best = plan_with(rt, alloc, &net, line)?;
         closed(audit_json(alloc, name, &net, &best.schedule, &best.prices, summary))
     }
 
     // What is printed of the explanation of the trace.
-    fn explanation_on<R: AllocGlobal + Threads + Sync, D: Read>(
+    fn explanation_on<R: AllocGlobal + Threads + Clock + Eprint + Sync, D: Read>(
         self,
         rt: &R,
-        trace: &mut Source<'_, D>,
+        line: &ProgressLine<'_, R>,
+        name: &str,
+        trace: &mut Watched<D>,
         as_json: bool,
-    ) -> Result<String, Failure> {
-        let (alloc, name) = (rt.alloc(), trace.name);
-        let (history, table, net) = read_rounds(alloc, &mut Watched::new(trace))?;
-        let best = plan_with(rt, alloc, &net, &OpenGate)?;
+    ) -> Result<String, Failure>
+        requires { has_failed trace.old ≡ false }
+    {
+        let alloc = rt.alloc();
+        let (history, table, net) = read_rounds(alloc, trace)?;
+        let best = plan_with(rt, alloc, &net, line)?;
         let explanation = Explanation::of(alloc, &history, table, &net, &best.schedule)?;
         match self {
             TraceRun::Explain { top } if !as_json => {

@@ -15,7 +15,7 @@ ghost use Rattle.cost_plan.specs.InTurn.{TakesTurns};
 use crate::begin::{Start, begin, guessed, live};
 use crate::cells::nodes;
 use crate::draft::{Draft, change_all};
-use crate::gate::Gate;
+use crate::gate::{Gate, OpenGate};
 use crate::keep_live::keep_live;
 use crate::levels::plan_by_levels;
 use crate::parts::guessed_at_once;
@@ -54,7 +54,7 @@ pub fn plan(alloc: Global, net: &Net) -> Result<BestPlan, AllocError>
     ensures live { IfOk result (λ best. KeepsLive (instance_of_rows net.now) (live_of_rows net.now) (slice_index best.schedule)) }
     ensures turns { IfOk result (λ best. TakesTurns (instance_of_rows net.now) (live_of_rows net.now) (slice_index best.schedule)) }
 {
-    let best = match plan_of_many(alloc, net)? {
+    let best = match plan_of_many(alloc, net, &OpenGate)? {
         Some(best) => best,
         None => settled(alloc, net, begin(alloc, net)?)?,
     };
@@ -66,7 +66,7 @@ pub fn plan(alloc: Global, net: &Net) -> Result<BestPlan, AllocError>
 /// them at once: for one by the caller's thread, and for each other one by a thread of its own. A part is all adapters on one
 /// link, or an adapter on no link. The thread that begins a part tells the gate its least adapter first. Where no thread can be
 /// started, the one that would have started it makes the part. A plan by levels of time, which `plan` tries first for a net of
-/// more than 4,096 stays, is made by the caller's thread.
+/// more than 4,096 stays, is made by the caller's thread, which tells the gate of each level.
 pub fn plan_with<G: Gate + Sync, R: Threads + Sync>(
     rt: &R,
     alloc: Global,
@@ -80,7 +80,7 @@ pub fn plan_with<G: Gate + Sync, R: Threads + Sync>(
     ensures live { IfOk result (λ best. KeepsLive (instance_of_rows net.now) (live_of_rows net.now) (slice_index best.schedule)) }
     ensures turns { IfOk result (λ best. TakesTurns (instance_of_rows net.now) (live_of_rows net.now) (slice_index best.schedule)) }
 {
-    let best = match plan_of_many(alloc, net)? {
+    let best = match plan_of_many(alloc, net, gate)? {
         Some(best) => best,
         None => match guessed_at_once(rt, alloc, net, gate)? {
             Some(start) => settled(alloc, net, start)?,
@@ -92,7 +92,7 @@ pub fn plan_with<G: Gate + Sync, R: Threads + Sync>(
 }
 
 // The plan by levels of a net of many stays. None of few, or if its prices don't prove it best.
-fn plan_of_many(alloc: Global, net: &Net) -> Result<Option<BestPlan>, AllocError>
+fn plan_of_many<G: Gate>(alloc: Global, net: &Net, gate: &G) -> Result<Option<BestPlan>, AllocError>
     ensures proved { IfOk result (λ found. IfSome found (λ best. ProvesBest (instance_of_rows net.now) (slice_index best.schedule) (pricing_of_rows best.prices))) }
     ensures stays { IfOk result (λ found. IfSome found (λ best. length best.schedule ≡ (instance_of_rows net.now).stays)) }
     ensures cells { IfOk result (λ found. IfSome found (λ best. IsPricingFor (instance_of_rows net.now) best.prices)) }
@@ -101,7 +101,7 @@ fn plan_of_many(alloc: Global, net: &Net) -> Result<Option<BestPlan>, AllocError
     if net.stays() <= FEW_STAYS {
         return Ok(None);
     }
-    plan_by_levels(alloc, net)
+    plan_by_levels(alloc, net, gate)
 }
 
 // The best plan that comes of a draft with labels.

@@ -1,9 +1,15 @@
-//! Who is told that the planning of a part begins: of the stays of all adapters on one link, or of an adapter on no link.
+//! Who is told how far a plan is.
 
-/// Is told of each part that is planned, by the thread that plans it.
+use time_levels::Done;
+
+/// Is told how far a plan is. A part has the stays of all adapters on one link, or of an adapter on no link.
 pub trait Gate {
-    /// The planning of the part of which this is the least adapter begins. It goes on when this returns.
+    /// The planning of the part of which this is the least adapter begins. It goes on when this returns. The thread that
+    /// plans the part says so.
     fn begun(&self, adapter: u32);
+
+    /// That much of a plan by levels of time is made. The caller's thread says so.
+    fn planned(&self, _done: Done) {}
 }
 
 /// A gate that lets all through.

@@ -6,14 +6,32 @@ ghost use Rattle.cost_plan.specs.Words.{rows, instance_of_rows, ProvesBest, pric
 ghost use Rattle.cost_plan.specs.RowPrices.{IsAtMost};
 
 use crate::best_plan::BestPlan;
+use crate::gate::Gate;
 use cam_types::MOST_WEIGHT;
 use price_check::{Verdict, check};
 use round_net::{Net, Prices, Schedule};
 use std::alloc::{AllocError, Global};
-use time_levels::{Arrival, Network, Row, Untold};
+use time_levels::{Arrival, Done, Network, Progress, Row};
 
-/// The plan by levels, if there is one and its prices prove it best. That there is one isn't promised.
-pub(crate) fn plan_by_levels(alloc: Global, net: &Net) -> Result<Option<BestPlan>, AllocError>
+// Tells a gate how far a plan is.
+#[derive(Clone, Copy)]
+struct Told<'a, G> {
+    gate: &'a G,
+}
+
+impl<G: Gate> Progress for Told<'_, G> {
+    fn level_planned(&self, done: Done) {
+        self.gate.planned(done);
+    }
+}
+
+/// The plan by levels, if there is one and its prices prove it best. That there is one isn't promised. The gate is told of each
+/// level.
+pub(crate) fn plan_by_levels<G: Gate>(
+    alloc: Global,
+    net: &Net,
+    gate: &G,
+) -> Result<Option<BestPlan>, AllocError>
     ensures proved { IfOk result (λ found. IfSome found (λ best. ProvesBest (instance_of_rows net.now) (slice_index best.schedule) (pricing_of_rows best.prices))) }
     ensures stays { IfOk result (λ found. IfSome found (λ best. length best.schedule ≡ (instance_of_rows net.now).stays)) }
     ensures cells { IfOk result (λ found. IfSome found (λ best. IsPricingFor (instance_of_rows net.now) best.prices)) }
@@ -21,7 +39,7 @@ pub(crate) fn plan_by_levels(alloc: Global, net: &Net) -> Result<Option<BestPlan
 {
     let mut network = units_of(alloc, net)?;
     let row_of = add_rows(alloc, net, &mut network)?;
-    match time_levels::plan(alloc, &network, &Untold)? {
+    match time_levels::plan(alloc, &network, &Told { gate })? {
         Some(levels) => {
             let rounds = rounds_of(alloc, net, &row_of, &levels.flows)?;
             checked(alloc, net, &rounds, &levels.prices)

@@ -3,6 +3,7 @@
 
 pub use best_plan::{BestPlan, guessed_plan, guessed_plan_with, plan, plan_with};
 pub use gate::{Gate, OpenGate};
+pub use time_levels::Done;
 
 mod arcs;
 mod begin;

@@ -1,7 +1,7 @@
 -- what is written of a net with a best plan of it
 use Rattle.std.proofs.Common.{◌≡◌, ℕ, ◌*◌, ◌-◌, ◌<◌, ◌≤◌, Bool, true, false, cond, nat_le, List, [], ◌++◌, length, refl, sym, ap, subst, ◌∙◌, arith, append-nil, Option, Some, None, is_some, slice_index, if◌then◌else◌, All}
 use Rattle.std.proofs.lemmas.List.Elements.{All-from_get_or}
-use Rattle.audit_report.specs.Words.{Topology, MOST_NET_STAYS, MOST_NET_ROUNDS, MOST_WEIGHT, unsent, live_cost, Event, Stay, NetRows, instance_of_rows, live_of_rows, Instance, IsSound, IsAdmissible, cost, ProvesBest, net_of, instance_of, live_of, pricing_of_rows, IsPriced, IsPricingFor, IsBest, report_text, summary_text, plan_text, live_cost_of, most_bytes, Claim, history_rules}
+use Rattle.audit_report.specs.Words.{Topology, MOST_NET_STAYS, MOST_NET_ROUNDS, MOST_WEIGHT, unsent, live_cost, Event, Stay, NetRows, instance_of_rows, live_of_rows, Instance, IsSound, IsAdmissible, cost, ProvesBest, instance_of, live_of, pricing_of_rows, IsPriced, IsPricingFor, IsBest, report_text, summary_text, plan_text, live_cost_of, most_bytes, Claim, history_rules}
 use Rattle.round_net.specs.declared.price_range.TheConstants.{MOST_PRICE}
 use Rattle.price_check.specs.Forms.{most_number}
 use Rattle.event_rules.proofs.LiveLemmas.{live_cost_sent}

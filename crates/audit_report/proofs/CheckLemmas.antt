@@ -1,7 +1,7 @@
 -- what a check counts
-use Rattle.std.proofs.Common.{◌≡◌, ℕ, List, Option, Some, None, refl, sym, ap, ◌∙◌, length, map}
+use Rattle.std.proofs.Common.{◌≡◌, ℕ, List, Option, Some, None, refl, sym, ◌∙◌, length}
 use Rattle.std.proofs.lemmas.List.{length-map}
-use Rattle.audit_report.specs.Words.{Past, Topology, Event, commands, round, stays_begun, stay_row, net_of, instance_of, live_of, instance_of_rows, cost, live_cost, unsent}
+use Rattle.audit_report.specs.Words.{Past, Topology, Event, commands, round, stays_begun, stay_row, net_of, instance_of, instance_of_rows, live_cost, unsent}
 use Rattle.audit_report.specs.Check.{IsCounted, Counts}
 use Rattle.audit_report.specs.declared.input.Input.TheVariants as input
 use Rattle.audit_report.proofs.AuditLemmas.{live_known}

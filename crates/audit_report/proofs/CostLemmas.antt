@@ -1,8 +1,8 @@
 -- what the live schedule costs, by the net and by the events, and how long a report is
-use Rattle.std.proofs.Common.{◌≡◌, ℕ, ◌+◌, ◌*◌, ◌-◌, ◌≤◌, List, [], ◌∷◌, length, map, true, refl, sym, ap, ◌∙◌, arith, sum_by}
+use Rattle.std.proofs.Common.{◌≡◌, ℕ, ◌+◌, ◌*◌, ◌-◌, ◌≤◌, List, [], ◌∷◌, length, map, refl, sym, ap, ◌∙◌, arith, sum_by}
 use Rattle.std.proofs.lemmas.List.Sums.{sum_by-cons}
 use Rattle.std.proofs.lemmas.Nat.{mul-le}
-use Rattle.audit_report.specs.Words.{Topology, MOST_STAYS, MOST_ROUNDS, MOST_WEIGHT, MOST_NET_STAYS, MOST_NET_ROUNDS, MOST_DEVICES, MOST_ADAPTERS, MOST_LINKS, MOST_BYTES, NetRows, history_rules, is_legal, stays_begun, live_part, Event, Passage, sum_below, of_stay, instance_of_rows, live_of_rows, IsAdmissible, cost, Instance, IsSound, rows, stay_row, net_of, instance_of, live_of, StayRow, most_bytes, net_of_recording}
+use Rattle.audit_report.specs.Words.{Topology, MOST_ROUNDS, MOST_WEIGHT, MOST_NET_STAYS, MOST_NET_ROUNDS, MOST_DEVICES, MOST_ADAPTERS, MOST_LINKS, stays_begun, live_part, Event, Passage, sum_below, of_stay, instance_of_rows, live_of_rows, IsAdmissible, cost, Instance, IsSound, rows, stay_row, net_of, instance_of, live_of, StayRow, most_bytes, net_of_recording}
 use Rattle.audit_report.specs.Inputs.{Input, IsLegal, net_of_input}
 use Rattle.audit_report.specs.declared.input.Input.TheVariants as input
 use Rattle.trace_file.proofs.ScriptRules.{sum_by-map}

@@ -2,8 +2,8 @@
 use Rattle.std.proofs.Common.{◌≡◌, ◌≤◌, ◌<◌, ℕ, Bool, true, false, cond, List, [], ◌++◌, length, take, refl, sym, ap, subst, ◌∙◌, arith, append-nil, nat_le, Option, Some, None, Result, Ok, Err, IfOk, IfErr, IfSome, bytes_eq, codes, ◌∷◌, ◌&&◌, ◌==◌, rules, tests}
 use Rattle.std.proofs.lemmas.Bool.{leb-true, le-leb, lt-leb, and_parts}
 use Rattle.std.proofs.lemmas.Slice.Eq.{bytes_eq-Decides}
-use Rattle.audit_report.specs.Words.{MOST_BYTES, Past, IsTrace, Explains, IsHistory, IsLongWhole, IsRecording, IsRecordingText, Stay, unsent}
-use Rattle.audit_report.specs.Inputs.{Input, IsInput, IsTextOf, IsFaultOf, WasRead, WhyNotRead, WhyNoNetOf, WhyNoNet, IsFailure, IsReadOrFailed, IsNettedOrFailed, unsent_of}
+use Rattle.audit_report.specs.Words.{MOST_BYTES, Past, Explains, IsLongWhole}
+use Rattle.audit_report.specs.Inputs.{Input, IsInput, IsTextOf, IsFaultOf, WasRead, WhyNotRead, WhyNoNetOf, WhyNoNet, IsFailure, IsReadOrFailed, unsent_of}
 use Rattle.audit_report.specs.Reading.{AsRead, as_either, as_trace, said, said_unheaded}
 use Rattle.audit_report.specs.declared.input.Input.TheVariants as input
 use Rattle.audit_report.specs.declared.audit_fault.AuditFault.{AuditFault}

@@ -1,5 +1,5 @@
 -- a report that an audit wrote is proved
-use Rattle.std.proofs.Common.{◌≡◌, ◌≢◌, ◌≤◌, ◌∙◌, ℕ, true, false, List, refl, sym, ap, subst, inl, Option, Some, None, Result, Ok, Err, IfSome, IsErrAnd, Bool}
+use Rattle.std.proofs.Common.{◌≡◌, ◌≢◌, ◌≤◌, ◌∙◌, ℕ, true, false, List, sym, ap, subst, inl, Option, Some, None, Result, Ok, Err, IfSome, IsErrAnd, Bool}
 use Rattle.std.specs.List.{AllByRecursion}
 use Rattle.cam_types.specs.declared.device.Device.{Device}
 use Rattle.audit_report.specs.Words.{NetRows, instance_of_rows, net_of, net_of_recording, Claim, IsClaim, ReportFault}

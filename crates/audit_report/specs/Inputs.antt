@@ -1,7 +1,7 @@
 -- What is checked, audited and proved: a trace of this transport, or a recording of any scheduler.
 use Rattle.std.specs.Prelude.{◌≡◌, ℕ, Bool, true, false, List, [], Option, Some, None, Result, Ok, Err, ⊤, IsTrue}
 use Rattle.std.specs.List.{list_all}
-use Rattle.audit_report.specs.Words.{moments, Past, Stay, NetRows, net_of, instance_of, live_of, instance_of_rows, live_of_rows, cost, live_cost, stands_free, unsent, history_rules, is_legal, IsTrace, IsHistory}
+use Rattle.audit_report.specs.Words.{moments, Stay, NetRows, net_of, instance_of, live_of, instance_of_rows, live_of_rows, cost, live_cost, stands_free, unsent, history_rules, is_legal, IsTrace, IsHistory}
 use Rattle.audit_report.specs.Words.{net_of_recording, IsRecording, IsRecordingText, IsLongWhole}
 use Rattle.recording_file.specs.Whole.{IsTooLong}
 use Rattle.recording_file.specs.Reading as recordings

@@ -295,3 +295,10 @@ unfolding net_of_recording instance_of_rows
 waited_all r requests n total e k is =
     let long : length (map (request_row r.config r.rounds) (moments r.requests)) ≡ n = length-map (moments r.requests) (request_row r.config r.rounds) ∙ moments-length [] r.requests ∙ sym (ap (λ (qs : List Request). length qs) e) ∙ sym k in
     is ∙ ap (λ k. sum_below k (waited_by r)) (sym long)
+
+-- ---- what is counted
+
+-- a command and a stay for each request, and the rounds of the recording
+pub recorded_counts : (r : Recorded) → ((net_of_recording r).commands ≡ length r.requests) × ((instance_of_recording r).stays ≡ length r.requests) × ((instance_of_recording r).rounds ≡ r.rounds)
+unfolding net_of_recording instance_of_rows
+recorded_counts r = (refl, length-map (moments r.requests) (request_row r.config r.rounds) ∙ moments-length [] r.requests, refl)

@@ -1,6 +1,5 @@
-use Rattle.std.proofs.Common.{refl, ap, arith, length, subst}
+use Rattle.std.proofs.Common.{refl, ap, arith, length}
 use Rattle.price_check.proofs.DualityLemmas.{best_where_proved}
-use Rattle.audit_report.specs.Words.{NetRows, instance_of_rows, live_of_rows, most_bytes, IsSound}
 use Rattle.audit_report.proofs.AuditLemmas.{is_audit}
 use Rattle.audit_report.proofs.CostLemmas.{report-short}
 use Rattle.audit_report.proofs.audit.audit_text.Goals as goal

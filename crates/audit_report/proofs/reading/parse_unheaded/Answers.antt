@@ -1,4 +1,3 @@
-use Rattle.std.proofs.Common.{sym}
 use Rattle.audit_report.proofs.InputLemmas.{long_unheaded, trace_said}
 use Rattle.audit_report.proofs.reading.parse_unheaded.Goals as goal
 

@@ -1,4 +1,4 @@
-use Rattle.std.proofs.Common.{◌∙◌, refl, arith}
+use Rattle.std.proofs.Common.{arith}
 use Rattle.audit_report.proofs.AuditLemmas.{least_le_live}
 use Rattle.audit_report.proofs.CostLemmas.{cost-small}
 use Rattle.audit_report.proofs.costs.Costs.of.Goals as goal

@@ -149,11 +149,9 @@ module _ {T : Type 0} where
     order = in_order-permutation key xs ys p (keys_apart xs s.apart s.fits);
   }
 
-  -- what taking out an entry at its rank leaves
-  pub HasAt-place : (xs ys : List (Entry T)) (i capacity memory : ℕ) (e : Entry T) → ((d : Entry T) → rank key (key (get_or xs i d)) xs ≡ i) → e ≡ get_or xs i e
-      → IsPermutation xs (e ∷ ys) → IsSound xs capacity memory → HasAt key xs e i ys
-  HasAt-place xs ys i capacity memory e place is p s =
-      subst (λ j. HasAt key xs e j ys) (ap (λ x. rank key (key x) xs) is ∙ place e) (HasAt-take xs ys e capacity memory p s)
+  -- what taking out an entry of this rank leaves
+  pub HasAt-place : (xs ys : List (Entry T)) (i capacity memory : ℕ) (e : Entry T) → rank key (key e) xs ≡ i → IsPermutation xs (e ∷ ys) → IsSound xs capacity memory → HasAt key xs e i ys
+  HasAt-place xs ys i capacity memory e place p s = subst (λ j. HasAt key xs e j ys) place (HasAt-take xs ys e capacity memory p s)
 
   -- what another priority of an entry at its rank leaves
   pub record Changes (xs ys : List (Entry T)) (i priority capacity memory : ℕ) : Type 0 where

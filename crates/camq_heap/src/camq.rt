@@ -1,6 +1,6 @@
 //! The queue: a binary heap in one array.
 use crate::entry::{Entry, QueueFull};
-use crate::find::{any_generation, put_in_order};
+use crate::find::{any_generation, find, take};
 use crate::heap;
 use cam_types::Priority;
 use std::alloc::{AllocError, Global};
@@ -154,15 +154,15 @@ impl<T> Camq<T> {
         Some(first)
     }
 
-    /// Takes out the entry at place `i` of the order. It puts all in order first, in a time that grows as the square of
-    /// `len` at worst, and as `len` where they are in order already.
+    /// Takes out the entry at place `i` of the order. The first takes the time of `remove_first`. For another, all are put in
+    /// order first and stay so, in a time that grows as `len` times its logarithm at worst, and as `len` where they are
+    /// in order already.
     pub fn remove_at(&mut self, i: usize) -> Entry<T>
         requires { i < length self.old.entries }
         ensures entry { slice_get self.old.entries i ≡ Some result }
         ensures rest { self.new ≡ record self.old { entries = remove self.old.entries i } }
     {
-        put_in_order(&mut self.entries);
-        heap::take(&mut self.entries, i)
+        take(&mut self.entries, i)
     }
 
     /// Gives the entry at place `i` of the order another priority, and puts it where it stands then. It takes the time
@@ -171,7 +171,7 @@ impl<T> Camq<T> {
         requires { i < length self.old.entries }
         ensures { self.new ≡ record self.old { entries = with_priority self.old.entries i priority } }
     {
-        put_in_order(&mut self.entries);
+        find(&mut self.entries, i);
         heap::change(&mut self.entries, i, priority);
     }
 }

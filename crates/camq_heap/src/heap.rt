@@ -40,22 +40,6 @@ pub(crate) fn pop<T>(entries: &mut Vec<Entry<T>>) -> (Entry<T>, u32)
     (first, sink(entries, 0) + 1)
 }
 
-/// Takes the entry at place `at` of the array out of a heap.
-pub(crate) fn take<T>(entries: &mut Vec<Entry<T>>, at: usize) -> Entry<T>
-    requires heap { IsHeap key entries.old.items }
-    requires in_range { at < vec_len entries.old }
-    ensures heap { IsHeap key entries.new.items }
-    ensures entry { result ≡ slice_index_or entries.old.items at result }
-    ensures permutation { IsPermutation entries.old.items (result ∷ entries.new.items) }
-    ensures capacity { vec_capacity entries.new ≡ vec_capacity entries.old }
-{
-    let entry = entries.swap_remove(at);
-    if at < entries.len() {
-        settle(entries, at);
-    }
-    entry
-}
-
 /// Gives the entry at place `at` of the array another priority.
 pub(crate) fn change<T>(entries: &mut Vec<Entry<T>>, at: usize, priority: Priority)
     requires heap { IsHeap key entries.old.items }

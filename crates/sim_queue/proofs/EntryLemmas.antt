@@ -29,9 +29,9 @@ pub record Fits (r : Row) : Type 0 where
   pub number : r.device < 2 ^ 32
   pub turn : r.turn ≤ 65535
 
--- entries go by priority, turn and number
-pub key_less : (r s : Row) → Fits r → Fits s → nat_lt (key (entry_of r)) (key (entry_of s)) ≡ is_less (turn_key r) (turn_key s)
-key_less r s f g =
+-- entries of turns and numbers of 32 bits go by priority, turn and number
+pub key_below : (r s : Row) → r.turn < 2 ^ 32 → r.device < 2 ^ 32 → s.turn < 2 ^ 32 → s.device < 2 ^ 32 → nat_lt (key (entry_of r)) (key (entry_of s)) ≡ is_less (turn_key r) (turn_key s)
+key_below r s r_turn r_device s_turn s_device =
     let e = entry_of r in
     let o = entry_of s in
     elim (cases_order e.priority o.priority) [
@@ -56,6 +56,15 @@ key_less r s f g =
         | inr more ↦ le-ltb (key e) (key o) (omega arith) ∙ sym (first_more e.priority o.priority _ more)
       ]
     ]
+
+pub key_less : (r s : Row) → Fits r → Fits s → nat_lt (key (entry_of r)) (key (entry_of s)) ≡ is_less (turn_key r) (turn_key s)
+key_less r s f g = key_below r s (omega arith) f.number (omega arith) g.number
+
+-- of ready devices the one of the lesser key goes before
+pub goes_before-key : (r s : Row) (mine theirs : ℕ) → is_ready r ≡ true → is_ready s ≡ true → mine ≡ key (entry_of r) → theirs ≡ key (entry_of s)
+    → r.turn < 2 ^ 32 → r.device < 2 ^ 32 → s.turn < 2 ^ 32 → s.device < 2 ^ 32 → nat_lt mine theirs ≡ goes_before r s
+goes_before-key r s mine theirs r_ready s_ready mine_is theirs_is r_turn r_device s_turn s_device =
+    rw (mine_is, theirs_is, r_ready, s_ready) (key_below r s r_turn r_device s_turn s_device)
 
 pub same_device : (r s : Row) → Fits r → Fits s → key (entry_of r) ≡ key (entry_of s) → r.device ≡ s.device
 same_device r s f g e = omega arith

@@ -101,7 +101,7 @@ pub record IsHead (rows : List Row) (e : Entry ℕ) : Type 0 where
   pub is : e ≡ entry_of row
   pub head_is : head rows ≡ Some row.device
 
-first-head : (rows : List Row) (e : Entry ℕ) (es : List (Entry ℕ)) → AreRows rows → e ∷ es ≡ in_order key (ready_entries rows) → IsHead rows e
+pub first-head : (rows : List Row) (e : Entry ℕ) (es : List (Entry ℕ)) → AreRows rows → e ∷ es ≡ in_order key (ready_entries rows) → IsHead rows e
 first-head rows e es sound is =
     let rising : AllRising key (e ∷ es) = subst (AllRising key) (sym is) (AllRising-in_order key (ready_entries rows) (entries-apart rows sound.apart (AllFit-from rows sound))) in
     let w = IsEntryOf-among e rows (IsAmong-in_order key e (ready_entries rows) (subst (IsAmong e) is (inl refl))) in

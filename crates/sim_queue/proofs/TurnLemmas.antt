@@ -1,5 +1,5 @@
 -- What a write to one row does to the order of the ready devices.
-use Rattle.std.proofs.Common.{◌≡◌, ℕ, zero, suc, ◌^◌, ◌<◌, ◌≤◌, true, false, List, [], ◌∷◌, length, get_or, drop, Some, unwrap_or, count_by, inl, inr, ap, sym, subst, refl, ◌∙◌, arith, set, map, filter, slice_get, remove, IsPermutation}
+use Rattle.std.proofs.Common.{◌≡◌, ℕ, zero, suc, ◌^◌, ◌<◌, ◌≤◌, true, false, List, [], ◌∷◌, length, get_or, drop, Some, None, option_map, unwrap_or, count_by, inl, inr, ap, sym, subst, refl, ◌∙◌, arith, set, map, filter, slice_get, remove, IsPermutation}
 use Rattle.std.proofs.lemmas.Bool.{cases_lt}
 use Rattle.std.proofs.lemmas.List.{get_or_read, get_or-set_same, length-set, length-map}
 use Rattle.std.proofs.lemmas.List.Elements.{All-set}
@@ -9,11 +9,12 @@ use Rattle.std.proofs.lemmas.Option.{slice_get_within}
 use Rattle.camq_heap.specs.declared.entry.Entry.{Entry}
 use Rattle.camq_heap.specs.Order.{place, in_order, AllApart}
 use Rattle.camq_heap.specs.Queue.{Queue, key, has_generation, placed_at, change_priority}
-use Rattle.camq_heap.proofs.OrderLemmas.{IsAmong, IsAmong-get_or, IsAmong-permutation, place-after, place-before, AllApart-head, AllApart-tail, AllApart-cons, AllApart-permutation, in_order-permutation, length-in_order}
+use Rattle.camq_heap.proofs.OrderLemmas.{IsAmong, AllRising, AllRising-in_order, IsAmong-get_or, IsAmong-permutation, place-after, place-before, AllApart-head, AllApart-tail, AllApart-cons, AllApart-permutation, in_order-permutation, length-in_order}
 use Rattle.camq_heap.proofs.RankLemmas.{HasAt, HasAt-from}
 use Rattle.camq_heap.proofs.EditLemmas.{IsPermutation-changed}
 use Rattle.sim_queue.specs.Adapter.{new_row, Row}
 use Rattle.sim_queue.specs.Turns.{is_ready, goes_before, generation, entry_of, ready_entries, AreRows, IsInTurn}
+use Rattle.sim_queue.proofs.HeadLemmas.{first-head, same_row}
 use Rattle.sim_queue.proofs.EntryLemmas.{Fits, AllFit, AllFit-from, entries-ready, entries-unready, entries-apart, entries-at, absent, counted}
 
 pub length-entries : (rows : List Row) → length (ready_entries rows) ≤ length rows
@@ -23,6 +24,12 @@ remove-set : (xs : List Row) (i : ℕ) (y : Row) → i < length xs → remove (s
 remove-set [] i y inside = absurd (omega arith)
 remove-set (z ∷ zs) zero y inside = refl
 remove-set (z ∷ zs) (suc i) y inside = ap (λ l. z ∷ l) (remove-set zs i y (omega arith))
+
+-- what is read at a place is an element
+among_got : (es : List (Entry ℕ)) (n : ℕ) (x : Entry ℕ) → slice_get es n ≡ Some x → IsAmong x es
+among_got [] n x got = absurd (cc)
+among_got (e ∷ es) zero x got = inl (cc)
+among_got (e ∷ es) (suc n) x got = inr (among_got es n x got)
 
 -- where x is first after it was placed, the others follow
 place-first : (x : Entry ℕ) (ys : List (Entry ℕ)) → slice_get (place key x ys) 0 ≡ Some x → drop 1 (place key x ys) ≡ ys
@@ -149,6 +156,23 @@ module _ {rows : List Row} {queue : Queue ℕ} {at : ℕ} {r : Row} (h : IsRowAt
     pub rest-changed : (priority : ℕ) → change_priority queue.entries place_of priority ≡ place key (record (entry_of r) { priority = priority }) rest
     rest-changed priority =
         ap (λ o. placed_at priority o (remove queue.entries place_of)) found-entry ∙ ap (place key (record (entry_of r) { priority = priority })) rest-removed
+
+  -- none goes before the device of the first entry
+  pub first-place : is_ready r ≡ true → option_map (λ e. e.item) (slice_get queue.entries 0) ≡ Some r.device → 0 ≡ count_by (λ s. goes_before s r) rows
+  first-place ready first = cases queue.entries refl (count_by (λ s. goes_before s r) rows) refl
+    where
+      cases : (es : List (Entry ℕ)) → es ≡ queue.entries → (n : ℕ) → n ≡ count_by (λ s. goes_before s r) rows → 0 ≡ n
+      cases es same zero is_place = refl
+      cases [] same (suc n) is_place = let none : None ≡ Some r.device = ap (λ l. option_map (λ e. e.item) (slice_get l 0)) same ∙ first in absurd (cc)
+      cases (e ∷ es) same (suc n) is_place =
+          let is_order : e ∷ es ≡ in_order key (ready_entries rows) = same ∙ h.in_turn.entries in
+          let rising : AllRising key (e ∷ es) = subst (AllRising key) (sym is_order) (AllRising-in_order key (ready_entries rows) (entries-apart rows sound.apart (AllFit-from rows sound))) in
+          let w = first-head rows e es sound is_order in
+          let item : Some e.item ≡ Some r.device = ap (λ l. option_map (λ z. z.item) (slice_get l 0)) same ∙ first in
+          let device : e.item ≡ r.device = cc in
+          let own = same_row rows w.row r sound.apart w.among (subst (λ z. IsAmong z rows) (sym h.is) (IsAmong-get_or rows at r h.inside)) (ap (λ z. z.item) (sym w.is) ∙ device) in
+          let later = among_got es n (entry_of r) (ap (λ l. slice_get l (suc n)) same ∙ found-entry (suc n) is_place ready) in
+          absurd (omega (arith, rising.0 (entry_of r) later, ap key w.is, ap (λ z. key (entry_of z)) own))
 
   -- the row changed by f
   module _ (f : Row → Row) (new : Queue ℕ) (same : (f r).device ≡ r.device) (low : (f r).turn ≤ 65535) (size : new.capacity ≡ queue.capacity) where

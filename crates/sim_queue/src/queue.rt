@@ -14,7 +14,7 @@ use std::marker::Model;
 /// Devices take turns by the priority of their first CCB, then least recently sent to, one never sent to
 /// before all others, then by number (the last two are rules of this project). The ready ones stand in a
 /// `Camq`, whose first entry is the head: `best_ready` reads it, and a `set_ready` that changes the priority
-/// counts those that go before. Nothing grows after `open`.
+/// of another counts those that go before it. Nothing grows after `open`.
 #[derive(Drop)]
 pub struct SimQueue {
     rows: Vec<Row>,

@@ -1,5 +1,5 @@
 //! The ready devices in a `Camq`, in the order in which they take turns.
-ghost use Rattle.std.specs.Prelude.{◌≡◌, ℕ, ◌<◌, ◌≤◌, true, Some, count_by, length, slice_get, slice_index_or, slice_set};
+ghost use Rattle.std.specs.Prelude.{◌≡◌, ℕ, ◌<◌, ◌≤◌, true, Some, IsTrue, Contains, option_map, count_by, length, slice_get, slice_index_or, slice_set};
 ghost use Rattle.sim_queue.specs.Adapter.{new_row};
 ghost use Rattle.sim_queue.specs.Turns.{is_ready, goes_before, entry_of, IsInTurn};
 
@@ -27,9 +27,13 @@ pub(crate) fn change_ready(
         (None, None) => {}
         (None, Some(now)) => ready.insert_reserved(now, row.generation(), row.device),
         (Some(_), None) => {
-            ready.remove_at(place_in_turn(rows, &row));
+            let place = place_in_turn(ready, rows, &row);
+            ready.remove_at(place);
         }
-        (Some(_), Some(now)) => ready.change_priority(place_in_turn(rows, &row), now),
+        (Some(_), Some(now)) => {
+            let place = place_in_turn(ready, rows, &row);
+            ready.change_priority(place, now);
+        }
     }
 }
 
@@ -49,9 +53,37 @@ pub(crate) fn requeue_first(ready: &mut Camq<u32>, rows: &[Row], at: usize, turn
     }
 }
 
-// How many ready devices go before this one.
-fn place_in_turn(rows: &[Row], row: &Row) -> usize
+// The place of a ready device among the ready ones: how many of them go before it. Most changes are of the first, to which a
+// command was just sent, and need no count.
+fn place_in_turn(ready: &Camq<u32>, rows: &[Row], row: &Row) -> usize
+    requires in_turn { IsInTurn rows.now ready.now }
+    requires there { Contains rows.now row.now }
+    requires ready { is_ready row.now ≡ true }
     ensures { result ≡ count_by (λ r. goes_before r row.now) rows.now }
 {
-    rows.iter().filter(|other| other.goes_before(row)).count()
+    if is_first(ready, row.device) {
+        return 0;
+    }
+    count_before(rows, row)
+}
+
+// Whether the first of the ready ones is this device.
+fn is_first(ready: &Camq<u32>, device: u32) -> bool
+    ensures { IsTrue result → option_map (λ e. e.item) (slice_get ready.now.entries 0) ≡ Some device }
+{
+    match ready.first() {
+        Some(first) => first.item == device,
+        None => false,
+    }
+}
+
+// How many ready devices go before this one. It adds the answers up, since a branch on each could not be foreseen.
+fn count_before(rows: &[Row], row: &Row) -> usize
+    ensures { result ≡ count_by (λ r. goes_before r row.now) rows.now }
+{
+    let mut before = 0;
+    for other in rows {
+        before += usize::from(other.goes_before(row));
+    }
+    before
 }

@@ -1,5 +1,7 @@
 //! What an adapter knows of one device, and which of two goes first.
 
+ghost use Rattle.std.specs.Prelude.{◌≡◌, ◌+◌, ◌*◌, ◌^◌};
+
 use cam_types::Priority;
 
 /// What an adapter knows of one of its devices.
@@ -14,7 +16,6 @@ pub struct Row {
 }
 
 impl Row {
-    ghost use Rattle.std.specs.Prelude.{◌≡◌};
     ghost use Rattle.sim_queue.specs.Turns.{goes_before, generation};
 
     /// Whether both devices are ready, and this one goes before the other: by priority, then the one that was
@@ -22,13 +23,10 @@ impl Row {
     pub(crate) fn goes_before(&self, other: &Row) -> bool
         ensures { result ≡ goes_before self.now other.now }
     {
-        let longer_ago = if self.turn == other.turn {
-            self.device < other.device
-        } else {
-            self.turn < other.turn
-        };
         match (self.priority, other.priority) {
-            (Some(mine), Some(theirs)) => mine < theirs || (mine == theirs && longer_ago),
+            (Some(mine), Some(theirs)) => {
+                key(mine, self.turn, self.device) < key(theirs, other.turn, other.device)
+            }
             _ => false,
         }
     }
@@ -38,7 +36,20 @@ impl Row {
     pub(crate) fn generation(&self) -> u64
         ensures { result ≡ generation self.now }
     {
-        let (turn, device) = (self.turn, self.device);
-        u64::from(turn) * (1 << 32) + u64::from(device)
+        generation_of(self.turn, self.device)
     }
+}
+
+// The generation of a device last sent to at this turn.
+fn generation_of(turn: u32, device: u32) -> u64
+    ensures { result ≡ turn * 2 ^ 32 + device }
+{
+    u64::from(turn) * (1 << 32) + u64::from(device)
+}
+
+// One number for the priority of a ready device and its generation, of which the priority decides first.
+fn key(priority: Priority, turn: u32, device: u32) -> u128
+    ensures { result ≡ priority * 2 ^ 64 + (turn * 2 ^ 32 + device) }
+{
+    u128::from(priority.number()) * (1 << 64) + u128::from(generation_of(turn, device))
 }

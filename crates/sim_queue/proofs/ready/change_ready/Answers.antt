@@ -23,13 +23,13 @@ pub remove_at-requires : goal.remove_at-requires
 remove_at-requires c =
     let r = c.index-rows-at.result in
     let h : IsRowAt c.args.rows.now c.args.ready.now c.args.at r = record { inside = c.requires.in_range; is = c.index-rows-at.is; in_turn = c.requires.in_turn } in
-    found-within h c.place_in_turn.result c.place_in_turn.ensures (ap is_some c.in-Some-None.is-0)
+    found-within h c.place_in_turn-place.result c.place_in_turn-place.ensures (ap is_some c.in-Some-None.is-0)
 
 pub change_priority-requires : goal.change_priority-requires
 change_priority-requires c =
     let r = c.index-rows-at.result in
     let h : IsRowAt c.args.rows.now c.args.ready.now c.args.at r = record { inside = c.requires.in_range; is = c.index-rows-at.is; in_turn = c.requires.in_turn } in
-    found-within h c.place_in_turn-in-Some-Some.result c.place_in_turn-in-Some-Some.ensures (ap is_some c.in-Some-Some.is-0)
+    found-within h c.place_in_turn-place-in-Some-Some.result c.place_in_turn-place-in-Some-Some.ensures (ap is_some c.in-Some-Some.is-0)
 
 pub returns-in-None-Some : goal.returns-in-None-Some
 returns-in-None-Some c =
@@ -45,7 +45,7 @@ returns-in-Some-None c =
     let r = c.index-rows-at.result in
     let h : IsRowAt c.args.rows.now c.args.ready.now c.args.at r = record { inside = c.requires.in_range; is = c.index-rows-at.is; in_turn = c.requires.in_turn } in
     IsWritten-left h (λ z. record z { priority = c.args.priority }) c.remove_at.new.self refl (row-fits h).turn (ap (λ q. q.capacity) c.remove_at.ensures.rest) (ap is_some c.in-Some-None.is-1)
-    (ap (λ q. q.entries) c.remove_at.ensures.rest ∙ rest-removed h c.place_in_turn.result c.place_in_turn.ensures (ap is_some c.in-Some-None.is-0))
+    (ap (λ q. q.entries) c.remove_at.ensures.rest ∙ rest-removed h c.place_in_turn-place.result c.place_in_turn-place.ensures (ap is_some c.in-Some-None.is-0))
 
 pub returns-in-Some-Some : goal.returns-in-Some-Some
 returns-in-Some-Some c =
@@ -54,4 +54,4 @@ returns-in-Some-Some c =
     let f : Row → Row = λ z. record z { priority = c.args.priority } in
     IsWritten-placed h f c.change_priority.new.self refl (row-fits h).turn (ap (λ q. q.capacity) c.change_priority.ensures) (record (entry_of r) { priority = c.in-Some-Some.now }) (ap is_some c.in-Some-Some.is-1)
     (entry_made (f r) c.in-Some-Some.now _ (sym (ap (λ o. unwrap_or o 0) c.in-Some-Some.is-1)) refl)
-    (ap (λ q. q.entries) c.change_priority.ensures ∙ rest-changed h c.place_in_turn-in-Some-Some.result c.place_in_turn-in-Some-Some.ensures (ap is_some c.in-Some-Some.is-0) c.in-Some-Some.now)
+    (ap (λ q. q.entries) c.change_priority.ensures ∙ rest-changed h c.place_in_turn-place-in-Some-Some.result c.place_in_turn-place-in-Some-Some.ensures (ap is_some c.in-Some-Some.is-0) c.in-Some-Some.now)

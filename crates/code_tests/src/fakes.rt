@@ -24,21 +24,6 @@ impl Read for Pieces<'_> {
     }
 }
 
-/// Gives that many bytes, in each read as many as there is room for.
-#[derive(Drop)]
-pub(crate) struct Many(pub(crate) usize);
-
-impl Read for Many {
-    fn read(&mut self, buf: &mut [u8]) -> io::Result<usize> {
-        let count = self.0.min(buf.len());
-        for byte in buf[..count].iter_mut() {
-            *byte = b'a';
-        }
-        self.0 -= count;
-        Ok(count)
-    }
-}
-
 /// Takes at most `piece` bytes a write, and `room` bytes in all. Then a write fails, or takes nothing.
 #[derive(Drop)]
 pub(crate) struct Taker {

@@ -7,7 +7,7 @@ mod verdict;
 use made::{Kind, Shape, network};
 use std::alloc::Global;
 use std::test::Fail;
-use time_levels::{Arrival, Network, Row, Untold, plan};
+use time_levels::{Untold, plan};
 use verdict::{Verdict, judge};
 
 const LOOSE: Shape = Shape {
@@ -130,76 +130,6 @@ fn larger_plans_are_best(rt: HostRuntime) -> Result<(), Fail> {
             let verdict = verdict_of(rt.alloc(), shape)?;
             assert!(rt; is_best(verdict), "{shape:?}: {verdict:?}");
         }
-    }
-    Ok(())
-}
-
-#[test]
-fn a_heavy_request_goes_first(rt: HostRuntime) -> Result<(), Fail> {
-    let alloc = rt.alloc();
-    let mut network = Network::new(alloc, 4);
-    let unit = network.add_unit(None, &[0, 1, 1, 1])?;
-    for weight in [1, 5] {
-        let row = network.add_row(Row { unit, weight })?;
-        network.add_arrival(Arrival {
-            row,
-            round: 0,
-            count: 1,
-        })?;
-    }
-    match plan(alloc, &network, &Untold)? {
-        Some(levels) => {
-            assert_eq!(rt;
-                levels.flows.as_slice(),
-                [0, 0, 1, 0, 0, 1, 0, 0].as_slice()
-            );
-        }
-        None => assert!(rt; false, "no plan"),
-    }
-    Ok(())
-}
-
-#[test]
-fn a_plan_has_a_number_for_each_round(rt: HostRuntime) -> Result<(), Fail> {
-    for rounds in [0, 1, 5, 9] {
-        let mut network = Network::new(rt.alloc(), rounds);
-        let ring = network.add_unit(Some(1), &[1])?;
-        network.add_unit(Some(0), &[])?;
-        for unit in [ring, 7] {
-            let row = network.add_row(Row { unit, weight: 1 })?;
-            network.add_arrival(Arrival {
-                row,
-                round: 0,
-                count: 1,
-            })?;
-        }
-        let lengths = match plan(rt.alloc(), &network, &Untold)? {
-            Some(levels) => (levels.flows.len(), levels.prices.len()),
-            None => (99, 99),
-        };
-        let expected = (rounds as usize).saturating_mul(2);
-        assert_eq!(rt; lengths, (expected, expected));
-    }
-    Ok(())
-}
-
-#[test]
-fn what_has_no_room_has_no_plan(rt: HostRuntime) -> Result<(), Fail> {
-    for (round, count, planned) in [
-        (0, 2, true),
-        (0, 3, false),
-        (2, 1, true),
-        (2, 2, false),
-        (9, 9, true),
-        (0, u32::MAX, false),
-    ] {
-        let mut network = Network::new(rt.alloc(), 3);
-        let unit = network.add_unit(Some(1), &[u32::MAX, u32::MAX, u32::MAX])?;
-        network.add_unit(None, &[1, 0, 1])?;
-        let row = network.add_row(Row { unit, weight: 9 })?;
-        network.add_arrival(Arrival { row, round, count })?;
-        let levels = plan(rt.alloc(), &network, &Untold)?;
-        assert_eq!(rt; levels.is_some(), planned, "{count} in {round}");
     }
     Ok(())
 }

@@ -1,4 +1,4 @@
-//! Tests by code: of a transport's slots, heap and sense data, of runs on many threads, and of what only code can see where
+//! Tests by code: of a heap's moves and of sense data, of runs on many threads, and of what only code can see where
 //! traces are read, planned and audited. They stand here so that no crate is proved twice for its tests.
 #![tactic(auto)]
 
@@ -9,12 +9,6 @@ mod at_once;
 #[cfg(test)]
 mod bells;
 #[cfg(test)]
-mod calls;
-#[cfg(test)]
-mod ccb_slots;
-#[cfg(test)]
-mod config;
-#[cfg(test)]
 mod events;
 #[cfg(test)]
 mod failing_devices;
@@ -24,8 +18,6 @@ mod fakes;
 mod frame;
 #[cfg(test)]
 mod full_devices;
-#[cfg(test)]
-mod full_history;
 #[cfg(test)]
 mod guesses;
 #[cfg(test)]
@@ -39,13 +31,9 @@ mod made;
 #[cfg(test)]
 mod meeting;
 #[cfg(test)]
-#[cfg(test)]
 mod own_reports;
 #[cfg(test)]
-#[cfg(test)]
 mod recorded;
-#[cfg(test)]
-mod recorded_nets;
 #[cfg(test)]
 mod recordings;
 #[cfg(test)]
@@ -64,5 +52,3 @@ mod telling;
 mod texts;
 #[cfg(test)]
 mod threads;
-#[cfg(test)]
-mod whole;

@@ -5,7 +5,7 @@ ghost use Rattle.std.specs.Prelude.{◌≡◌};
 use crate::frame::shared;
 use cam_event::History;
 use cam_types::{Command, Flags, Limits, Outcome};
-use event_rules::{Event, Refusal};
+use event_rules::Event;
 use sense_class::Class;
 use std::alloc::Global;
 use std::marker::Brand;
@@ -13,8 +13,8 @@ use std::process::Abort;
 use std::sync::Wait;
 use std::sync::ledger::{Blank, Ledger};
 use std::test::Fail;
-use xpt_lock::{GatherFault, Receipt, Seat, SeatName, SharedFault, SharedXpt};
-use xpt_state::{Done, Idle, Reply, Sent};
+use xpt_lock::{GatherFault, Receipt, Seat, SeatName, SharedXpt};
+use xpt_state::{Done, Reply, Sent};
 
 // Which of the two seats are gathered, and in which order.
 #[derive(Clone, Copy)]
@@ -30,7 +30,6 @@ enum Given {
 #[derive(Clone, Copy, Debug, PartialEq, Eq)]
 enum Ended {
     OneCommand,
-    Events(usize),
     Unnamed(u32),
     Otherwise,
 }
@@ -38,9 +37,8 @@ enum Ended {
 fn end_of(gathered: Result<History, GatherFault>) -> Ended {
     match gathered {
         Ok(history) if is_one_command(history.events()) => Ended::OneCommand,
-        Ok(history) => Ended::Events(history.events().len()),
         Err(GatherFault::Unnamed(place)) => Ended::Unnamed(place),
-        Err(_) => Ended::Otherwise,
+        _ => Ended::Otherwise,
     }
 }
 
@@ -187,66 +185,6 @@ fn the_first_place_that_no_receipt_names(rt: HostRuntime) -> Result<(), Fail> {
     Ok(())
 }
 
-// A refused submit, an idle lane and two calls that only look. Answers what was gathered.
-fn nothing_happens<L: Ledger, R: Wait + Abort>(
-    rt: &R,
-    alloc: Global,
-    blank: Blank,
-) -> Result<Ended, Fail>
-    requires name { blank.name ≡ L.name }
-    requires parts { (blank.parts ≡ L.parts) × (blank.parts ≡ 65) }
-{
-    let shared: SharedXpt<L> = shared(alloc, Limits::most(), blank)?;
-    let mut seat = shared.seat(rt, alloc, SeatName::Keeper)?;
-    makes_nothing(rt, &shared, &mut seat)?;
-    let mut seats = Vec::new(alloc);
-    let _ = seats.push(seat);
-    Ok(end_of(shared.gather(alloc, seats)))
-}
-
-fn makes_nothing<L: Ledger, R: Wait + Abort>(
-    rt: &R,
-    shared: &SharedXpt<L>,
-    seat: &mut Seat<L>,
-) -> Result<(), Fail> {
-    is_refused(rt, shared, seat);
-    is_idle(rt, shared, seat)?;
-    assert_eq!(rt; seat.receipts().len(), 0);
-    Ok(())
-}
-
-fn is_refused<L: Ledger, R: Wait + Abort>(rt: &R, shared: &SharedXpt<L>, seat: &mut Seat<L>) {
-    let refused = SharedFault::Refused(Refusal::BadPriority);
-    assert_eq!(rt;
-        shared.submit(rt, seat, 0, 0, 1280, 4, Flags::default()),
-        Err(refused)
-    );
-    let no_lane = SharedFault::Refused(Refusal::NoLane);
-    assert_eq!(rt; shared.send_next(rt, seat, 1), Err(no_lane));
-}
-
-fn is_idle<L: Ledger, R: Wait + Abort>(
-    rt: &R,
-    shared: &SharedXpt<L>,
-    seat: &mut Seat<L>,
-) -> Result<(), Fail> {
-    let idle = (Sent::Idle(Idle::Empty), None);
-    assert_eq!(rt; shared.send_next(rt, seat, 0)?, idle);
-    assert_eq!(rt; shared.next_case(rt), None);
-    assert_eq!(rt; shared.look(rt).length, 0);
-    Ok(())
-}
-
-fn nothing<R: Wait + Abort>(rt: &R, alloc: Global) -> Result<Ended, Fail> {
-    nothing_happens::<Brand, R>(rt, alloc, Blank::new(65))
-}
-
-#[test]
-fn refused_and_idle_calls_leave_no_receipt(rt: HostRuntime) -> Result<(), Fail> {
-    assert_eq!(&rt; nothing(&rt, rt.alloc())?, Ended::Events(0));
-    Ok(())
-}
-
 // Answers how many seats there were before one was refused.
 fn takes_all_seats<L: Ledger, R: Wait>(rt: &R, alloc: Global, blank: Blank) -> Result<u32, Fail>
     requires name { blank.name ≡ L.name }
@@ -275,51 +213,4 @@ fn all_seats<R: Wait>(rt: &R, alloc: Global) -> Result<u32, Fail> {
 fn there_are_64_seats(rt: HostRuntime) -> Result<(), Fail> {
     assert_eq!(&rt; all_seats(&rt, rt.alloc())?, 64);
     Ok(())
-}
-
-// Two ticks where there is room for two events, and one more.
-fn fills_history<L: Ledger, R: Wait + Abort>(
-    rt: &R,
-    alloc: Global,
-    blank: Blank,
-) -> Result<(), Fail>
-    requires name { blank.name ≡ L.name }
-    requires parts { (blank.parts ≡ L.parts) × (blank.parts ≡ 65) }
-{
-    let limits = Limits::new(1024, 128, 1024, 2)?;
-    let shared: SharedXpt<L> = shared(alloc, limits, blank)?;
-    let mut keeper = shared.seat(rt, alloc, SeatName::Keeper)?;
-    ticks(rt, &shared, &mut keeper)
-}
-
-fn ticks<L: Ledger, R: Wait + Abort>(
-    rt: &R,
-    shared: &SharedXpt<L>,
-    keeper: &mut Seat<L>,
-) -> Result<(), Fail> {
-    assert_eq!(rt; shared.tick(rt, keeper)?.0, 2);
-    assert_eq!(rt; shared.tick(rt, keeper)?.0, 3);
-    is_full(rt, shared, keeper);
-    assert!(rt;
-        keeper
-            .receipts()
-            .iter()
-            .all(|receipt| receipt.event == Event::Tick)
-    );
-    Ok(())
-}
-
-fn is_full<L: Ledger, R: Wait + Abort>(rt: &R, shared: &SharedXpt<L>, keeper: &mut Seat<L>) {
-    let full = SharedFault::Refused(Refusal::HistoryFull(2));
-    assert_eq!(rt; shared.tick(rt, keeper), Err(full));
-    assert_eq!(rt; shared.send_next(rt, keeper, 0), Err(full));
-}
-
-fn full<R: Wait + Abort>(rt: &R, alloc: Global) -> Result<(), Fail> {
-    fills_history::<Brand, R>(rt, alloc, Blank::new(65))
-}
-
-#[test]
-fn a_full_history_refuses_each_call(rt: HostRuntime) -> Result<(), Fail> {
-    full(&rt, rt.alloc())
 }

@@ -1,5 +1,5 @@
 -- Parts by name, and a part that is put into a plan stay by stay.
-use Rattle.std.proofs.Common.{◌≡◌, ◌≢◌, ℕ, zero, suc, ◌+◌, ◌-◌, ◌*◌, ◌<◌, ◌≤◌, ◌==◌, Bool, true, false, cond, nat_lt, List, [], ◌∷◌, ◌++◌, Option, Some, None, refl, sym, ap, ◌∙◌, inl, inr, arith, filter, unwrap_or, append-nil, length, drop, get_or, set, All, Contains, subst, drop-drop, length-drop}
+use Rattle.std.proofs.Common.{◌≡◌, ◌≢◌, ℕ, zero, suc, ◌+◌, ◌-◌, ◌*◌, ◌<◌, ◌≤◌, ◌==◌, Bool, true, false, cond, nat_lt, List, [], ◌∷◌, ◌++◌, Option, Some, None, refl, sym, ap, ◌∙◌, inl, inr, arith, filter, map, Result, Ok, unwrap_or, append-nil, length, take, drop, get_or, set, All, Contains, subst, drop-drop, length-drop}
 use Rattle.std.specs.List.{find, range_with_len}
 use Rattle.std.specs.List.Sorted.{IsStrictlyIncreasing}
 use Rattle.std.specs.Option.{option_map_or}
@@ -11,9 +11,11 @@ use Rattle.std.proofs.lemmas.List.FromFn.{length-range_with_len, get_or-range_wi
 use Rattle.std.proofs.lemmas.List.Kept.{IsStrictlyIncreasing-filter}
 use Rattle.round_net.specs.Instance.{Instance}
 use Rattle.round_net.proofs.SumLemmas.{sum_below-more, term-le-sum_below}
+use Rattle.std.specs.declared.alloc.AllocError.{AllocError}
 use Rattle.cost_plan.specs.Words.{rows, adapter, IsSound}
 use Rattle.cost_plan.specs.Cells.{cell, root}
-use Rattle.cost_plan.specs.Parts.{is_on, least_on, part_of, part_of_stay, part_of_row, before, rows_before, label_place, busy_parts, HasStay, IsRowLabelled, IsLabelled}
+use Rattle.cost_plan.specs.declared.part.Part.{Part}
+use Rattle.cost_plan.specs.Parts.{is_on, least_on, part_of, part_of_stay, part_of_row, before, rows_before, label_place, busy_parts, HasStay, IsRowLabelled, IsLabelled, IsPutIn, IsPut, ArePut, AreAllPut}
 use Rattle.cost_plan.proofs.BalanceLemmas.{at_most_one}
 use Rattle.cost_plan.proofs.CellLemmas.{cell-apart}
 use Rattle.cost_plan.proofs.NodeLemmas.{cell-in}
@@ -225,3 +227,48 @@ labels_behind net a n labels from is rest =
     let more = rows_before-own net a n is in
     let place : rows_before net a n * (net.rounds + 1) + (net.rounds + 1) ≡ rows_before net a (n + 1) * (net.rounds + 1) = omega (arith, ap (λ (k : ℕ). k * (net.rounds + 1)) more) in
     ap (drop (net.rounds + 1)) rest ∙ drop-drop (net.rounds + 1) (rows_before net a n * (net.rounds + 1)) labels ∙ ap (λ (k : ℕ). drop k labels) place
+
+-- ---- parts that are put in one after the other
+
+-- a list of no length is empty
+pub none_left : {X : Type 0} (xs : List X) → length xs ≡ 0 → xs ≡ []
+none_left [] e = refl
+none_left (x ∷ xs) e = absurd cc
+
+-- what a slice of a whole vector writes back
+take-all : (xs zs : List ℕ) → take (length xs) (xs ++ zs) ≡ xs
+take-all [] zs = refl
+take-all (x ∷ xs) zs = ap (λ ys. x ∷ ys) (take-all xs zs)
+
+pub written_back : (n : ℕ) (xs ys zs : List ℕ) → n ≡ length ys → length xs ≡ length ys → take n (xs ++ zs) ≡ xs
+written_back n xs ys zs e same = ap (λ k. take k (xs ++ zs)) (e ∙ sym same) ∙ take-all xs zs
+
+put_after : (net : Instance) (founds : List (Option Part)) (found : Option Part) (r l r1 l1 r2 l2 : List ℕ) → ArePut net founds r l r1 l1 → IsPut net found r1 l1 r2 l2 → ArePut net (founds ++ found ∷ []) r l r2 l2
+put_after net [] found r l r1 l1 r2 l2 so_far here =
+    (r2, l2, subst (λ (xs : List ℕ). IsPut net found xs l r2 l2) so_far.0 (subst (λ (ys : List ℕ). IsPut net found r1 ys r2 l2) so_far.1 here), (refl, refl))
+put_after net (x ∷ xs) found r l r1 l1 r2 l2 so_far here = (so_far.0, so_far.1, so_far.2, put_after net xs found so_far.0 so_far.1 r1 l1 r2 l2 so_far.3 here)
+
+pub all_put_none : (net : Instance) (rounds labels : List ℕ) → AreAllPut net [] rounds labels rounds labels
+all_put_none net rounds labels = record { founds = []; made = refl; put = (refl, refl) }
+
+map-push : {X Y : Type 0} (f : X → Y) (xs : List X) (x : X) → map f xs ++ f x ∷ [] ≡ map f (xs ++ x ∷ [])
+map-push f [] x = refl
+map-push f (y ∷ ys) x = ap (λ zs. f y ∷ zs) (map-push f ys x)
+
+pub all_put_more : (net : Instance) (parts : List (Result (Option Part) AllocError)) (part : Result (Option Part) AllocError) (found : Option Part) (r l r1 l1 r2 l2 : List ℕ) → AreAllPut net parts r l r1 l1 → part ≡ Ok found → IsPut net found r1 l1 r2 l2 → AreAllPut net (parts ++ part ∷ []) r l r2 l2
+all_put_more net parts part found r l r1 l1 r2 l2 so_far is here = record {
+  founds = so_far.founds ++ found ∷ [];
+  made = ap (λ (xs : List (Result (Option Part) AllocError)). xs ++ part ∷ []) so_far.made ∙ ap (λ (x : Result (Option Part) AllocError). map Ok so_far.founds ++ x ∷ []) is ∙ map-push {X = Option Part} {Y = Result (Option Part) AllocError} Ok so_far.founds found;
+  put = put_after net so_far.founds found r l r1 l1 r2 l2 so_far.put here;
+}
+
+pub put_some : (net : Instance) (found : Option Part) (p : Part) (n m : ℕ) (r l r1 l1 rz lz : List ℕ) → found ≡ Some p → n ≡ length r → length r1 ≡ length r → m ≡ length l → length l1 ≡ length l
+    → IsPutIn net p.adapter net.stays p.guess.rounds.items r r1 → IsLabelled net p.adapter (rows net) p.guess.labels.items l l1 → IsPut net found r l (take n (r1 ++ rz)) (take m (l1 ++ lz))
+put_some net found p n m r l r1 l1 rz lz e rn rs ln ls rounds labels =
+    subst (λ (f : Option Part). IsPut net f r l (take n (r1 ++ rz)) (take m (l1 ++ lz))) (sym e)
+    (subst (λ (xs : List ℕ). IsPut net (Some p) r l xs (take m (l1 ++ lz))) (sym (written_back n r1 r rz rn rs))
+    (subst (λ (ys : List ℕ). IsPut net (Some p) r l r1 ys) (sym (written_back m l1 l lz ln ls))
+    (record { own_rounds = rounds; own_labels = labels; same_rounds = tt; same_labels = tt })))
+
+pub put_none : (net : Instance) (found : Option Part) (r l : List ℕ) → found ≡ None → IsPut net found r l r l
+put_none net found r l e = subst (λ (f : Option Part). IsPut net f r l r l) (sym e) (record { own_rounds = tt; own_labels = tt; same_rounds = refl; same_labels = refl })

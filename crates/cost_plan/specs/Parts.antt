@@ -1,10 +1,14 @@
 -- The parts of a plan: the adapters on one link make a part, and an adapter on no link makes one alone. A part goes by its
 -- least adapter.
-use Rattle.std.specs.Prelude.{◌≡◌, ◌≢◌, ℕ, ◌+◌, ◌-◌, ◌*◌, ◌<◌, ◌≤◌, ◌==◌, nat_lt, if◌then◌else◌, Bool, false, List, length, filter, slice_index, unwrap_or}
+use Rattle.std.specs.Prelude.{◌≡◌, ◌≢◌, ℕ, ◌+◌, ◌-◌, ◌*◌, ◌<◌, ◌≤◌, ◌==◌, nat_lt, if◌then◌else◌, Bool, false, List, [], ◌∷◌, length, map, filter, replicate, slice_index, unwrap_or, Option, Result, Ok, MatchOption}
 use Rattle.std.specs.List.{find, range_with_len}
-use Rattle.std.specs.Option.{option_map_or}
-use Rattle.cost_plan.specs.Words.{count_below, Instance, adapter, rows}
-use Rattle.cost_plan.specs.Cells.{cell, root}
+use Rattle.std.specs.Option.{option_map_or, IfSome, IfNone}
+use Rattle.std.specs.declared.alloc.AllocError.{AllocError}
+use Rattle.negative_cycle.specs.Labelling.{begun}
+use Rattle.cost_plan.specs.Words.{count_below, Instance, adapter, rows, IsAdmissible}
+use Rattle.cost_plan.specs.Cells.{cell, root, node_count, rounds_of}
+use Rattle.cost_plan.specs.declared.begin.Start.{Start}
+use Rattle.cost_plan.specs.declared.part.Part.{Part}
 
 -- whether an adapter is on a link
 abbrev pub is_on : Instance → ℕ → ℕ → Bool
@@ -67,3 +71,36 @@ pub record IsLabelled (net : Instance) (a n : ℕ) (own_labels old new : List �
   pub own : (row round : ℕ) → row < n → round ≤ net.rounds → part_of_row net row ≡ a → label_place net a row round < length own_labels → slice_index new (cell net row round) ≡ slice_index own_labels (label_place net a row round)
   pub others : (row round : ℕ) → row < rows net → round ≤ net.rounds → (part_of_row net row ≡ a → length own_labels ≤ label_place net a row round) → slice_index new (cell net row round) ≡ slice_index old (cell net row round)
   pub root : slice_index new (root net) ≡ slice_index old (root net)
+
+-- a part was put in, if there is one; the rounds and labels are as they were if there is none
+pub record IsPut (net : Instance) (found : Option Part) (rounds labels new_rounds new_labels : List ℕ) : Type 0 where
+  pub own_rounds : IfSome found (λ (p : Part). IsPutIn net p.adapter net.stays p.guess.rounds.items rounds new_rounds)
+  pub own_labels : IfSome found (λ (p : Part). IsLabelled net p.adapter (rows net) p.guess.labels.items labels new_labels)
+  pub same_rounds : IfNone found (new_rounds ≡ rounds)
+  pub same_labels : IfNone found (new_labels ≡ labels)
+
+-- these were put in, one after the other
+abbrev pub ArePut : Instance → List (Option Part) → List ℕ → List ℕ → List ℕ → List ℕ → Type 0
+ArePut net [] rounds labels new_rounds new_labels = (new_rounds ≡ rounds) × (new_labels ≡ labels)
+ArePut net (found ∷ rest) rounds labels new_rounds new_labels =
+    (next_rounds : List ℕ) × (next_labels : List ℕ) × IsPut net found rounds labels next_rounds next_labels × ArePut net rest next_rounds next_labels new_rounds new_labels
+
+-- all of these were made, and were put in, one after the other
+pub record AreAllPut (net : Instance) (parts : List (Result (Option Part) AllocError)) (rounds labels new_rounds new_labels : List ℕ) : Type 0 where
+  pub founds : List (Option Part)
+  pub made : parts ≡ map Ok founds
+  pub put : ArePut net founds rounds labels new_rounds new_labels
+
+-- a start has these rounds and labels; there is none only if the rounds don't keep windows and caps
+abbrev pub IsStartOf : Instance → List ℕ → List ℕ → Option Start → Type 0
+IsStartOf net rounds labels start =
+    MatchOption start (IsAdmissible net (rounds_of rounds) → ⊥) (λ (s : Start). (s.draft.rounds.items ≡ rounds) × (s.labels.labels ≡ map (begun net.most_price) labels))
+
+-- what comes of parts that were put in, one after the other, over the live rounds and labels 0
+pub record IsTogether (net : Instance) (live : ℕ → ℕ) (parts : List (Result (Option Part) AllocError)) (start : Option Start) : Type 0 where
+  pub first : List ℕ
+  pub lived : (s : ℕ) → s < net.stays → slice_index first s ≡ live s
+  pub rounds : List ℕ
+  pub labels : List ℕ
+  pub put : AreAllPut net parts first (replicate (node_count net) 0) rounds labels
+  pub starts : IsStartOf net rounds labels start

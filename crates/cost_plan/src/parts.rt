@@ -1,12 +1,12 @@
 //! The guess of a plan, made for all parts at once. Proved: if there is one, its draft is admissible, and it has a label for
 //! each node; and which parts there are.
 
-ghost use Rattle.std.specs.Prelude.{◌≡◌, ℕ, ◌+◌, ◌*◌, ◌<◌, length, All, Contains, IfOk};
+ghost use Rattle.std.specs.Prelude.{◌≡◌, ℕ, ◌+◌, ◌*◌, ◌<◌, length, All, Contains, IfOk, OnOk};
 ghost use Rattle.std.specs.List.Sorted.{IsStrictlyIncreasing};
-ghost use Rattle.std.specs.Option.{IfSome, IfNone};
+ghost use Rattle.std.specs.Option.{IfSome};
 ghost use Rattle.cost_plan.specs.Words.{rows, instance_of_rows, live_of_rows, IsSound, IsAdmissible};
 ghost use Rattle.cost_plan.specs.Cells.{node_count};
-ghost use Rattle.cost_plan.specs.Parts.{part_of_stay, before, rows_before, busy_parts, HasStay, IsPutIn, IsLabelled};
+ghost use Rattle.cost_plan.specs.Parts.{part_of_stay, before, rows_before, busy_parts, HasStay, IsPut, AreAllPut, IsStartOf, IsTogether};
 ghost use Rattle.cost_plan.specs.Draft.{IsDraftOf, schedule_of};
 
 use crate::begin::Start;
@@ -55,13 +55,49 @@ fn put_together(
     ensures admissible { IfOk result (λ found. IfSome found (λ start. IsAdmissible (instance_of_rows net.now) (schedule_of start.draft))) }
     ensures size { IfOk result (λ found. IfSome found (λ start. length start.labels.labels ≡ node_count (instance_of_rows net.now))) }
     ensures most { IfOk result (λ found. IfSome found (λ start. start.labels.most ≡ (instance_of_rows net.now).most_price)) }
+    ensures together { IfOk result (IsTogether (instance_of_rows net.now) (live_of_rows net.now) parts.items) }
 {
     let mut rounds = live_rounds(alloc, net)?;
     let mut labels = vec![in alloc; 0u64; nodes(net) as usize]?;
+    put_all(net, &mut rounds, &mut labels, parts)?;
+    start_of(alloc, net, rounds, &labels)
+}
+
+// Puts all parts in, one after the other, unless one wasn't made.
+fn put_all(
+    net: &Net,
+    rounds: &mut Vec<u32>,
+    labels: &mut Vec<u64>,
+    parts: Vec<Result<Option<Part>, AllocError>>,
+) -> Result<(), AllocError>
+    requires rounds { length rounds.old.items ≡ (instance_of_rows net.now).stays }
+    requires labels { length labels.old.items ≡ node_count (instance_of_rows net.now) }
+    ensures rounds { OnOk result (length rounds.new.items ≡ (instance_of_rows net.now).stays) }
+    ensures labels { OnOk result (length labels.new.items ≡ node_count (instance_of_rows net.now)) }
+    ensures put { OnOk result (AreAllPut (instance_of_rows net.now) parts.items rounds.old.items labels.old.items rounds.new.items labels.new.items) }
+{
     for part in parts {
-        put(net, &mut rounds, &mut labels, part?);
+        put(net, rounds, labels, part?);
     }
-    let labels = Labels::start(alloc, &labels, net.most_price())?;
+    Ok(())
+}
+
+// The draft of these rounds with these labels, if it keeps windows and caps.
+fn start_of(
+    alloc: Global,
+    net: &Net,
+    rounds: Vec<u32>,
+    labels: &[u64],
+) -> Result<Option<Start>, AllocError>
+    requires rounds { length rounds.items ≡ (instance_of_rows net.now).stays }
+    requires labels { length labels.now ≡ node_count (instance_of_rows net.now) }
+    ensures draft { IfOk result (λ found. IfSome found (λ start. IsDraftOf (instance_of_rows net.now) start.draft)) }
+    ensures admissible { IfOk result (λ found. IfSome found (λ start. IsAdmissible (instance_of_rows net.now) (schedule_of start.draft))) }
+    ensures size { IfOk result (λ found. IfSome found (λ start. length start.labels.labels ≡ node_count (instance_of_rows net.now))) }
+    ensures most { IfOk result (λ found. IfSome found (λ start. start.labels.most ≡ (instance_of_rows net.now).most_price)) }
+    ensures of { IfOk result (IsStartOf (instance_of_rows net.now) rounds.items labels.now) }
+{
+    let labels = Labels::start(alloc, labels, net.most_price())?;
     let Some(draft) = draft_of(alloc, net, rounds)? else {
         return Ok(None);
     };
@@ -69,15 +105,12 @@ fn put_together(
 }
 
 // Puts a part in, if there is one.
-fn put(net: &Net, rounds: &mut [u32], labels: &mut [u64], part: Option<Part>)
-    requires rounds { length rounds.old ≡ (instance_of_rows net.now).stays }
-    requires labels { length labels.old ≡ node_count (instance_of_rows net.now) }
-    ensures rounds { length rounds.new ≡ length rounds.old }
-    ensures labels { length labels.new ≡ length labels.old }
-    ensures own_rounds { let net = instance_of_rows net.now in IfSome part (λ part. IsPutIn net part.adapter net.stays part.guess.rounds.items rounds.old rounds.new) }
-    ensures own_labels { let net = instance_of_rows net.now in IfSome part (λ part. IsLabelled net part.adapter (rows net) part.guess.labels.items labels.old labels.new) }
-    ensures same_rounds { IfNone part (rounds.new ≡ rounds.old) }
-    ensures same_labels { IfNone part (labels.new ≡ labels.old) }
+fn put(net: &Net, rounds: &mut Vec<u32>, labels: &mut Vec<u64>, part: Option<Part>)
+    requires rounds { length rounds.old.items ≡ (instance_of_rows net.now).stays }
+    requires labels { length labels.old.items ≡ node_count (instance_of_rows net.now) }
+    ensures rounds { length rounds.new.items ≡ length rounds.old.items }
+    ensures labels { length labels.new.items ≡ length labels.old.items }
+    ensures put { IsPut (instance_of_rows net.now) part rounds.old.items labels.old.items rounds.new.items labels.new.items }
 {
     if let Some(part) = part {
         put_rounds(net, rounds, &part);

@@ -3,6 +3,7 @@
 use crate::columns::{Column, Role, Span};
 use crate::network::{Network, Row};
 use std::alloc::{AllocError, Global};
+use std::cmp::Reverse;
 
 // A unit whose column comes later, and the column above it.
 #[derive(Clone, Copy)]
@@ -162,23 +163,29 @@ fn units_below(alloc: Global, network: &Network) -> Result<Vec<Vec<u32>>, AllocE
     Ok(lists)
 }
 
-// For each unit its rows.
+// For each unit its rows, the heaviest first: a search finds these before others that are as near.
 fn rows_of(alloc: Global, network: &Network) -> Result<Vec<Vec<u32>>, AllocError> {
     let mut lists = empty_lists(alloc, network.units())?;
-    let mut number = 0u32;
-    for row in &network.rows {
-        add_to(&mut lists, row, number)?;
-        number = number.saturating_add(1);
+    for number in &heaviest(alloc, &network.rows)? {
+        if let Some(row) = network.rows.get(*number as usize)
+            && let Some(list) = lists.get_mut(row.unit as usize)
+        {
+            list.push(*number)?;
+        }
     }
     Ok(lists)
 }
 
-// Adds a row to the list of its unit.
-fn add_to(lists: &mut [Vec<u32>], row: &Row, number: u32) -> Result<(), AllocError> {
-    if let Some(list) = lists.get_mut(row.unit as usize) {
-        list.push(number)?;
+// The numbers of rows, by weight and then in order.
+fn heaviest(alloc: Global, rows: &[Row]) -> Result<Vec<u32>, AllocError> {
+    let mut keys = Vec::with_capacity(alloc, rows.len())?;
+    let mut number = 0u32;
+    for row in rows {
+        keys.push((Reverse(row.weight), number))?;
+        number = number.saturating_add(1);
     }
-    Ok(())
+    keys.sort_unstable();
+    keys.iter().map(|(_weight, number)| *number).collect(alloc)
 }
 
 // So many empty lists.

@@ -147,11 +147,28 @@ impl Level {
         }
     }
 
+    /// Takes back that a search reached a node, and adds to its label.
+    #[inline]
+    pub fn clear_distance(&mut self, number: u32, more: i64) {
+        if let Some(node) = self.nodes.get_mut(number as usize) {
+            node.distance = UNREACHED;
+            node.label = node.label.saturating_add(more);
+        }
+    }
+
     /// Sets a node's label.
     #[inline]
     pub fn set_label(&mut self, number: u32, label: i64) {
         if let Some(node) = self.nodes.get_mut(number as usize) {
             node.label = label;
+        }
+    }
+
+    /// Raises a node's label up to this one.
+    #[inline]
+    pub fn raise_label(&mut self, number: u32, label: i64) {
+        if let Some(node) = self.nodes.get_mut(number as usize) {
+            node.label = node.label.max(label);
         }
     }
 

@@ -26,3 +26,4 @@ mod refining;
 mod repair;
 mod search;
 mod settling;
+mod stopped;

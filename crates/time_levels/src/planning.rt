@@ -16,6 +16,7 @@ use crate::refining::{blocks, empty, refined};
 use crate::repair::{finish, repair};
 use crate::search::Search;
 use crate::settling::settle;
+use crate::stopped::label_stopped;
 use std::alloc::{AllocError, Global};
 
 /// How many blocks there are at most on the first level.
@@ -70,6 +71,7 @@ fn finest<P: Progress>(
             levels_left: power.saturating_add(1),
             ..done
         });
+        label_stopped(&mut level, &part.columns);
         level = match finer(alloc, part, &caps, &mut search, &level, power)? {
             Some(finer) => finer,
             None => return Ok(None),

@@ -78,7 +78,7 @@ impl Raising {
         let label = level.node(level.at(block, number)).label;
         let before = self.before(number);
         if label > before && before <= self.before(above) {
-            raise(level, level.at(block, above), label);
+            level.raise_label(level.at(block, above), label);
         }
     }
 
@@ -99,7 +99,7 @@ impl Raising {
         let before = self.before(above);
         let below = level.at(block, number);
         if label > before && level.node(below).label >= before {
-            raise(level, below, label);
+            level.raise_label(below, label);
         }
     }
 
@@ -143,14 +143,8 @@ fn raise_by_row(level: &mut Level, block: u32, number: u32, column: &Column) {
         && let Some(unit) = level.above(block, column)
         && level.node(unit).cap > 0
     {
-        raise(level, unit, label);
+        level.raise_label(unit, label);
     }
-}
-
-// Raises the label of a node up to this.
-fn raise(level: &mut Level, number: u32, label: i64) {
-    let old = level.node(number).label;
-    level.set_label(number, old.max(label));
 }
 
 // What the cheaper way on from a row costs, if it has one.

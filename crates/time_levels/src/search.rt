@@ -2,7 +2,7 @@
 
 use crate::columns::{Column, Columns};
 use crate::course::Course;
-use crate::frontier::Frontier;
+use crate::frontier::{Frontier, Spot};
 use crate::hop::Hop;
 use crate::level::{Level, Node, UNREACHED, as_excess};
 use std::alloc::{AllocError, Global};
@@ -42,11 +42,28 @@ enum Goal {
 // A node from which a search looks on.
 #[derive(Clone, Copy)]
 struct Stand {
-    number: u32,
-    block: u32,
+    spot: Spot,
+    // The first node of its block.
+    first: u32,
     node: Node,
     // How far a node with label 0 would be, if this one led to it at no cost.
     key: i64,
+}
+
+impl Stand {
+    // The node of another column in the same block.
+    #[inline]
+    fn beside(&self, column: u32) -> Spot {
+        let number = self.first.saturating_add(column);
+        Spot { number, column }
+    }
+
+    // This node of the same column in another block.
+    #[inline]
+    fn across(&self, number: u32) -> Spot {
+        let column = self.spot.column;
+        Spot { number, column }
+    }
 }
 
 /// Whether a node is a row of a queue.
@@ -99,13 +116,11 @@ impl Search {
         self.course = course;
         self.ends = ends;
         self.frontier.begin(level, start)?;
-        let found = if self.look_on(level, columns, budget)? {
-            self.change(level, columns)?
-        } else {
-            Found::CutShort
-        };
+        if self.look_on(level, columns, budget)? {
+            return self.change(level, columns);
+        }
         self.frontier.forget(level);
-        Ok(found)
+        Ok(Found::CutShort)
     }
 
     /// Moves all that a node has too much or lacks, by such searches. The answer is that of the last of them, or `Moved`.
@@ -139,10 +154,10 @@ impl Search {
         budget: u64,
     ) -> Result<bool, AllocError> {
         for _ in 0..budget {
-            let Some(number) = self.frontier.nearest(level) else {
+            let Some(spot) = self.frontier.nearest(level) else {
                 return Ok(true);
             };
-            self.look_from(level, columns, number)?;
+            self.look_from(level, columns, spot)?;
         }
         Ok(false)
     }
@@ -152,15 +167,14 @@ impl Search {
         &mut self,
         level: &mut Level,
         columns: &Columns,
-        number: u32,
+        spot: Spot,
     ) -> Result<(), AllocError> {
-        let block = level.block_of(number);
-        let column = columns.column(number.saturating_sub(level.at(block, 0)));
-        let node = level.node(number);
+        let column = columns.column(spot.column);
+        let node = level.node(spot.number);
         let distance = i64::from(self.frontier.distance);
         let stand = Stand {
-            number,
-            block,
+            spot,
+            first: spot.number.saturating_sub(spot.column),
             node,
             key: distance.saturating_sub(self.course.signed(node.label)),
         };
@@ -179,20 +193,27 @@ impl Search {
         stand: &Stand,
     ) -> Result<(), AllocError> {
         let weight = self.course.signed(i64::from(column.weight));
-        if let Some(unit) = level.above(stand.block, column)
-            && self.course.leads_up(&stand.node, level.node(unit).cap)
+        if let Some(above) = column.above
+            && self
+                .course
+                .leads_up(&stand.node, level.node(stand.beside(above).number).cap)
         {
-            self.reach(level, stand, unit, 0)?;
+            self.reach(level, stand, stand.beside(above), 0)?;
         }
-        if let Some(next) = level.next(stand.number)
+        if let Some(next) = level.next(stand.spot.number)
             && self.course.leads_on(&stand.node)
         {
-            self.reach(level, stand, next, weight)?;
+            self.reach(level, stand, stand.across(next), weight)?;
         }
-        if let Some(previous) = level.previous(stand.number)
+        if let Some(previous) = level.previous(stand.spot.number)
             && self.course.leads_back(&level.node(previous))
         {
-            self.reach(level, stand, previous, weight.saturating_neg())?;
+            self.reach(
+                level,
+                stand,
+                stand.across(previous),
+                weight.saturating_neg(),
+            )?;
         }
         Ok(())
     }
@@ -206,15 +227,17 @@ impl Search {
         stand: &Stand,
     ) -> Result<(), AllocError> {
         if self.course.leads_out(&stand.node) {
-            match level.above(stand.block, column) {
-                Some(above) => self.reach(level, stand, above, 0)?,
+            match column.above {
+                Some(above) => self.reach(level, stand, stand.beside(above), 0)?,
                 None => self.reach_root(stand),
             }
         }
-        let first = level.at(stand.block, 0);
         for below in columns.below(column) {
-            let below = first.saturating_add(*below);
-            if self.course.leads_below(&level.node(below), stand.node.cap) {
+            let below = stand.beside(*below);
+            if self
+                .course
+                .leads_below(&level.node(below.number), stand.node.cap)
+            {
                 self.reach(level, stand, below, 0)?;
             }
         }
@@ -227,7 +250,7 @@ impl Search {
         let distance = as_distance(stand.key);
         if distance < self.frontier.best {
             self.frontier.best = distance;
-            self.goal = Goal::Root(stand.number);
+            self.goal = Goal::Root(stand.spot.number);
         }
     }
 
@@ -237,9 +260,10 @@ impl Search {
         &mut self,
         level: &mut Level,
         stand: &Stand,
-        number: u32,
+        spot: Spot,
         cost: i64,
     ) -> Result<(), AllocError> {
+        let number = spot.number;
         let node = level.node(number);
         let length = stand.key.saturating_add(cost);
         let length = length.saturating_add(self.course.signed(node.label));
@@ -247,13 +271,14 @@ impl Search {
         if distance >= node.distance || distance >= self.frontier.best {
             return Ok(());
         }
-        self.frontier.mark(level, number, distance, stand.number)?;
+        self.frontier
+            .mark(level, number, distance, stand.spot.number)?;
         if self.is_goal(level, number, &node) {
             self.frontier.best = distance;
             self.goal = Goal::Node(number);
             return Ok(());
         }
-        self.frontier.add(number, distance)
+        self.frontier.add(spot, distance)
     }
 
     // Whether the search ends at a node.
@@ -269,9 +294,10 @@ impl Search {
     // Changes labels, flows and waits by what the search found.
     fn change(&mut self, level: &mut Level, columns: &Columns) -> Result<Found, AllocError> {
         if matches!(&self.goal, Goal::Unknown) {
+            self.frontier.forget(level);
             return Ok(Found::NoWay);
         }
-        self.change_labels(level);
+        self.frontier.forget_and_change(level, self.course);
         self.trace(level, columns)?;
         let count = self.room(level);
         if count == 0 {
@@ -279,18 +305,6 @@ impl Search {
         }
         self.send(level, count);
         Ok(Found::Moved)
-    }
-
-    // Changes the label of each node that is nearer than the goal by how much nearer it is.
-    fn change_labels(&self, level: &mut Level) {
-        for number in self.frontier.reached() {
-            let node = level.node(*number);
-            if node.distance < self.frontier.best {
-                let nearer = i64::from(self.frontier.best - node.distance);
-                let label = node.label.saturating_add(self.course.signed(nearer));
-                level.set_label(*number, label);
-            }
-        }
     }
 
     // Lists the steps of the way, from its goal back to the start.

@@ -6,6 +6,7 @@ pub mod FieldLemmas
 pub mod GoodRecords
 pub mod HeadLaws
 pub mod ItemCounts
+pub mod ListLemmas
 pub mod LongLemmas
 pub mod NameLemmas
 pub mod PlaceLemmas
@@ -15,6 +16,7 @@ pub mod ReadLaws
 pub mod RecordLemmas
 pub mod RoomLemmas
 pub mod RowSizes
+pub mod RunLemmas
 pub mod SaidAgain
 pub mod SaidLaws
 pub mod StageLemmas

@@ -12,6 +12,7 @@ pub mod Recordings
 pub mod Requests
 pub mod Room
 pub mod Rows
+pub mod Runs
 pub mod Saying
 pub mod Sound
 pub mod Steps

@@ -13,15 +13,15 @@ use Rattle.event_rules.specs.declared.event.Event.{Event}
 use Rattle.recording_file.specs.Caps.{covers, cap_in, openings, is_cap, is_over, is_next_cap, is_same_part}
 use Rattle.recording_file.specs.Counts.{counts_of}
 use Rattle.recording_file.specs.Recorded.{Recorded}
+use Rattle.recording_file.specs.Runs.{begins_run, run_starts, run_last}
 use Rattle.recording_file.specs.declared.cap.Cap.{Cap}
 use Rattle.recording_file.specs.declared.part.Part.{Part}
+use Rattle.recording_file.proofs.ListLemmas.{none_passes, found_holds, each_of_flat, all_of_flat, each_of_map, each_of_filter, all_of_filter, each_of_range, all_of_range, range_more}
+use Rattle.recording_file.proofs.RunLemmas.{run_last_is, HasStart, has_start, run_over, starts_none, starts_more, starts_same}
 use Rattle.round_net.specs.Caps.{row_count, cap}
 use Rattle.round_net.specs.RecordedNets.{part_of_row}
 use Rattle.round_net.proofs.FilledLemmas.{at_element}
-use Rattle.trace_recording.specs.Runs.{begins_run, run_starts, run_last}
 use Rattle.trace_recording.specs.Recorded.{without_lanes, run_cap, row_caps, caps_of, recorded_with}
-use Rattle.trace_recording.proofs.ListLemmas.{none_passes, found_holds, each_of_flat, all_of_flat, each_of_map, each_of_filter, all_of_filter, each_of_range, all_of_range, range_more}
-use Rattle.trace_recording.proofs.RunLemmas.{run_last_is, HasStart, has_start, run_over, starts_none, starts_more, starts_same}
 use Rattle.trace_recording.proofs.PartLemmas.{one_row, rows_in_order, part_there}
 
 -- what a cap that covers a round of a row's part says

@@ -1,5 +1,3 @@
-pub mod ListLemmas
-pub mod RunLemmas
 pub mod PartLemmas
 pub mod CapLemmas
 pub mod StayLemmas

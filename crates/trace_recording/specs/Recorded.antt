@@ -8,12 +8,12 @@ use Rattle.event_rules.specs.Stays.{stays_begun}
 use Rattle.event_rules.specs.declared.event.Event.{Event}
 use Rattle.recording_file.specs.Caps.{openings}
 use Rattle.recording_file.specs.Recorded.{Recorded}
+use Rattle.recording_file.specs.Runs.{run_starts, run_last}
 use Rattle.recording_file.specs.declared.cap.Cap.{Cap}
 use Rattle.recording_file.specs.declared.request.Request.{Request}
 use Rattle.round_net.specs.Caps.{row_count, cap}
 use Rattle.round_net.specs.RecordedNets.{part_of_row}
 use Rattle.trace_recording.specs.Requests.{request_of}
-use Rattle.trace_recording.specs.Runs.{run_starts, run_last}
 
 -- a configuration without its lanes
 abbrev pub without_lanes : Topology → Topology

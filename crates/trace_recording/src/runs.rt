@@ -2,10 +2,10 @@
 
 ghost use Rattle.std.specs.Prelude.{◌≡◌, ◌<◌, ◌≤◌};
 ghost use Rattle.event_rules.specs.Counts.{round};
+ghost use Rattle.recording_file.specs.Runs.{begins_run, run_last};
 ghost use Rattle.round_net.specs.Caps.{row_count, cap};
 ghost use Rattle.round_net.specs.Nets.{net_of};
 ghost use Rattle.round_net.specs.RecordedNets.{part_of_row};
-ghost use Rattle.trace_recording.specs.Runs.{begins_run, run_last};
 ghost use Rattle.trace_recording.specs.Recorded.{run_cap};
 
 use cam_event::History;
@@ -25,7 +25,7 @@ fn cap(history: &History, net: &Net, row: u32, at: u32) -> u32
 }
 
 /// Whether a run begins in the round: the row's cap isn't the usual one, nor that of the round before.
-#[tactic(auto, unfolding(crate::specs::Runs::begins_run))]
+#[tactic(auto, unfolding(recording_file::specs::Runs::begins_run))]
 pub fn begins_run(history: &History, net: &Net, row: u32, usual: u32, at: u32) -> bool
     requires net { net.now ≡ net_of history.now.config history.now.events }
     requires row { row < row_count history.now.config }

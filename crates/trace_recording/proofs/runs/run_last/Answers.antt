@@ -1,7 +1,7 @@
 use Rattle.std.proofs.Common.{◌≡◌, ◌<◌, ◌-◌, ◌∙◌, sym, arith}
 use Rattle.event_rules.specs.Counts.{round}
 use Rattle.round_net.specs.Caps.{cap}
-use Rattle.trace_recording.proofs.RunLemmas.{none_more, none_all, found_next}
+use Rattle.recording_file.proofs.RunLemmas.{none_more, none_all, found_next}
 use Rattle.trace_recording.proofs.runs.run_last.Goals as goal
 
 pub returns-then-cap-most : goal.returns-then-cap-most

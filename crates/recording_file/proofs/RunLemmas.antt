@@ -6,8 +6,8 @@ use Rattle.std.proofs.lemmas.Bool.{and_parts, and_from, or_right, or_cases, eqb-
 use Rattle.std.proofs.lemmas.List.{append-nil}
 use Rattle.std.proofs.lemmas.List.Elements.{filter-append}
 use Rattle.std.proofs.lemmas.List.Folds.{find-append}
-use Rattle.trace_recording.specs.Runs.{begins_run, run_starts, run_last}
-use Rattle.trace_recording.proofs.ListLemmas.{none_passes, each_of_range, range_more, found_longer}
+use Rattle.recording_file.specs.Runs.{begins_run, run_starts, run_last}
+use Rattle.recording_file.proofs.ListLemmas.{none_passes, each_of_range, range_more, found_longer}
 
 -- the first number of a range that passes
 found_first : (t : ℕ → Bool) (a n r : ℕ) → find t (range_with_len a n) ≡ Some r → (a ≤ r) × ((r < a + n) × ((t r ≡ true) × ((q : ℕ) → a ≤ q → q < r → t q ≡ false)))

@@ -1,0 +1,16 @@
+pub mod FoundLemmas
+pub mod CountLemmas
+pub mod PartLemmas
+pub mod FaultLemmas
+pub mod TallyLemmas
+pub mod CapLemmas
+pub mod CapRowLemmas
+pub mod CauseLemmas
+pub mod LengthLemmas
+pub mod RecorderLemmas
+pub mod RangeLemmas
+pub mod RequestLemmas
+pub mod RoundLemmas
+pub mod SortLemmas
+pub mod UsualLemmas
+pub mod WaitLemmas

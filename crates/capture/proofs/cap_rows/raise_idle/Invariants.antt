@@ -1,0 +1,6 @@
+use Rattle.std.proofs.Common.{◌≡◌, ℕ, ◌<◌, max, length, nat_lt, if◌then◌else◌, slice_index}
+use Rattle.capture.proofs.cap_rows.raise_idle.Given as goal
+
+-- the rounds so far are raised where nothing waits, and the others are as they were
+abbrev pub invariant-loop-round : goal.invariant-loop-round
+invariant-loop-round l = (k : ℕ) → k < length l.row → slice_index l.row k ≡ (if nat_lt k l.round then (if nat_lt 0 (slice_index l.waiting k) then slice_index l.fn.row k else max l.usual (slice_index l.fn.row k)) else slice_index l.fn.row k)

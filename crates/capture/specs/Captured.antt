@@ -1,0 +1,70 @@
+-- the recording of a capture
+use Rattle.std.specs.Prelude.{ℕ, max, Bool, false, not, ◌&&◌, if◌then◌else◌, List, map, slice_get, Some}
+use Rattle.std.specs.List.{flat_map}
+use Rattle.std.specs.Option.{option_map_or}
+use Rattle.cam_types.specs.Topology.{Topology}
+use Rattle.recording_file.specs.Caps.{openings}
+use Rattle.recording_file.specs.declared.cap.Cap.{Cap}
+use Rattle.recording_file.specs.declared.part.Part.{Part}
+use Rattle.recording_file.specs.declared.part.PartKind.{PartKind}
+use Rattle.recording_file.specs.declared.part.PartKind.TheVariants as kind
+use Rattle.recording_file.specs.Names.{Label}
+use Rattle.recording_file.specs.Recorded.{Recorded, load}
+use Rattle.recording_file.specs.declared.request.Request.{Request}
+use Rattle.recording_file.specs.Runs.{run_starts, run_last}
+use Rattle.capture.specs.Timed.{TimedRequest}
+use Rattle.capture.specs.Rounds.{Rounded, Span, in_rounds}
+use Rattle.capture.specs.Loads.{is_pressed}
+use Rattle.capture.specs.Parts.{all_parts}
+
+-- a device is rated at its openings
+abbrev pub is_rated : List Bool → ℕ → Bool
+is_rated rated device = option_map_or (λ b. b) (slice_get rated device) false
+
+-- a part whose openings are no rating: where it is pressed, it took what it can
+abbrev pub is_measured : List Bool → Part → Bool
+is_measured rated p = by p.kind
+  where
+    by : PartKind → Bool
+    by kind.Device = not (is_rated rated p.number)
+    by kind.Adapter = false
+    by kind.Link = false
+
+-- how many a part takes in a round: what it took, where it is measured and pressed, and else its openings, or what it took if
+-- that is more
+unfoldable pub cap_of : Topology → List Bool → List Request → Part → ℕ → ℕ
+cap_of c rated qs p round =
+    if is_measured rated p && is_pressed qs p.number round then load c qs p round
+    else max (openings c p) (load c qs p round)
+
+-- the cap of a part in the run of rounds that begins in this one, by its number in each round
+unfoldable pub run_cap : Part → (ℕ → ℕ) → ℕ → ℕ → Cap
+run_cap p number rounds first = record {
+  part = p;
+  first = first;
+  last = run_last number rounds first;
+  most = number first;
+}
+
+-- one for each longest run of rounds with one number that isn't the usual one
+unfoldable pub run_caps : Part → (ℕ → ℕ) → ℕ → ℕ → List Cap
+run_caps p number usual rounds = map (run_cap p number rounds) (run_starts number usual rounds)
+
+-- the caps of a part: one for each longest run of rounds in which it takes one number of requests that isn't its openings
+abbrev pub part_caps : Topology → List Bool → List Request → ℕ → Part → List Cap
+part_caps c rated qs rounds p = run_caps p (cap_of c rated qs p) (openings c p) rounds
+
+-- the recording of a capture
+unfoldable pub recorded_of : Topology → List Bool → List Label → Rounded → Recorded
+recorded_of c rated names r = record {
+  unit = Some r.unit;
+  rounds = r.rounds;
+  config = c;
+  names = names;
+  caps = flat_map (part_caps c rated r.requests r.rounds) (all_parts c);
+  requests = r.requests;
+}
+
+-- the recording of requests in time
+abbrev pub captured : Span → Topology → List Bool → List Label → List TimedRequest → Recorded
+captured unit c rated names qs = recorded_of c rated names (in_rounds unit qs)

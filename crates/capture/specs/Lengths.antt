@@ -1,0 +1,40 @@
+-- how long rounds may be
+use Rattle.std.specs.Prelude.{ℕ, ◌+◌, ◌-◌, ◌*◌, ◌/◌, ◌==◌, if◌then◌else◌, List, length, filter, Option, Some, None, count_by, not, max, ◌&&◌}
+use Rattle.std.specs.List.{sum_by, range_with_len}
+use Rattle.recording_file.specs.declared.maxima.TheConstants.{MOST_RECORDED_ROUNDS}
+use Rattle.capture.specs.Rounds.{first_arrival}
+use Rattle.capture.specs.Timed.{TimedRequest, is_started, start_of, most_of, started}
+
+-- how many never started
+abbrev pub left_out : List TimedRequest → ℕ
+left_out qs = count_by (λ q. not (is_started q)) qs
+
+-- how long a started request waited
+abbrev pub wait_of : TimedRequest → ℕ
+wait_of q = start_of q - q.arrival
+
+-- half of the mean wait of the started requests
+unfoldable pub longest_round : List TimedRequest → Option ℕ
+longest_round qs =
+    let taken = filter is_started qs in
+    if length taken == 0 then None else Some (sum_by wait_of taken / (2 * length taken))
+
+-- how many requests of a device were started
+abbrev pub starts_on : List TimedRequest → ℕ → ℕ
+starts_on qs device = count_by (λ (q : TimedRequest). is_started q && (q.device == device)) qs
+
+-- how many of the busiest of that many devices were
+abbrev pub most_starts : List TimedRequest → ℕ → ℕ
+most_starts qs devices = most_of (starts_on qs) (range_with_len 0 devices)
+
+-- from the first arrival of a started request to the last start
+abbrev pub whole_time : List TimedRequest → ℕ
+whole_time qs = most_of start_of (started qs) - first_arrival (started qs)
+
+-- the shortest round that keeps to the rounds that a recording may have
+abbrev pub shortest_round : List TimedRequest → ℕ
+shortest_round qs = whole_time qs / MOST_RECORDED_ROUNDS + 1
+
+-- the mean time from a start of the busiest device to its next, but no shorter than the shortest round
+unfoldable pub usual_round : List TimedRequest → ℕ → ℕ
+usual_round qs devices = max (whole_time qs / max (most_starts qs devices) 1) (shortest_round qs)

@@ -1,0 +1,138 @@
+//! The requests of a capture in rounds.
+
+use crate::capture_fault::CaptureFault;
+use crate::crowds::check_crowds;
+use crate::device_rounds::{sends_row, waiting_row};
+use crate::middle::{middle, numbers_where};
+use crate::recording::recording_with;
+use crate::request_faults::check_requests;
+use crate::rounds::{first_arrival, requests_in, rounds_of};
+use crate::span_time::span_nanoseconds;
+use crate::started::started;
+use crate::timed_request::TimedRequest;
+use cam_types::Config;
+use recording_file::{Name, Recording, Request, Span};
+use std::alloc::{AllocError, Global};
+use std::marker::Model;
+
+/// The started requests of a capture, by arrival, in rounds: round 1 begins when the first of them arrives, and the last round
+/// is the last one in which something was started.
+#[derive(Debug, Drop)]
+pub struct Capture {
+    round: Span,
+    rounds: u32,
+    requests: Vec<Request>,
+}
+
+impl Model for Capture {
+    ghost use Rattle.capture.specs.Rounds.{Rounded};
+    ghost use Rattle.capture.specs.Faults.{IsCapture};
+
+    ghost Value = { Rounded };
+
+    ghost view = { λ c. record { unit = c.round; rounds = c.rounds; requests = c.requests.items } };
+
+    ghost invariant = { λ c. IsCapture (record { unit = c.round; rounds = c.rounds; requests = c.requests.items }) };
+}
+
+impl Capture {
+    ghost use Rattle.std.specs.Prelude.{◌≡◌, ◌≢◌, ◌≤◌, List, [], length, count_by, None, Some, IfOk, IfErr, OnOk};
+    ghost use Rattle.cam_types.specs.declared.maxima.TheConstants.{MOST_OPENINGS};
+    ghost use Rattle.capture.specs.Captured.{recorded_of, captured};
+    ghost use Rattle.capture.specs.Timed.{TimedRequest, is_started};
+    ghost use Rattle.capture.specs.Faults.{IsCapture, capture_fault, recording_fault, OutOfMemory};
+    ghost use Rattle.capture.specs.Rounds.{in_rounds};
+    ghost use Rattle.capture.specs.Usual.{usual_taken};
+
+    /// The requests that were started, in rounds of that span.
+    ///
+    /// # Errors
+    ///
+    /// The first of these: `BadPriority` or `StartedEarly` of the first request that has one of them, `NothingStarted`,
+    /// `TooManyRequests`, `TooManyRounds`, `TooManyInRound` with the first such round. `OutOfMemory` if no memory is left.
+    pub fn of(
+        alloc: Global,
+        round: Span,
+        requests: &[TimedRequest],
+    ) -> Result<Capture, CaptureFault>
+        requires { 1 ≤ round.count }
+        ensures capture { IfOk result (λ c. c ≡ in_rounds round requests.now) }
+        ensures each_once { IfOk result (λ c. length c.requests ≡ count_by is_started requests.now) }
+        ensures ok { OnOk result (capture_fault round requests.now ≡ None) }
+        ensures err { IfErr result (λ e. e ≢ OutOfMemory → capture_fault round requests.now ≡ Some e) }
+    {
+        check_requests(requests)?;
+        let span = span_nanoseconds(round);
+        let taken = started(alloc, requests)?;
+        let rounds = rounds_of(span, &taken)?;
+        let requests = requests_in(alloc, span, first_arrival(&taken), rounds, &taken)?;
+        check_crowds(alloc, rounds, &requests)?;
+        Ok(Capture {
+            round,
+            rounds,
+            requests,
+        })
+    }
+
+    /// The last round, 1 to 65,535.
+    pub fn rounds(&self) -> u32
+        ensures same { result ≡ self.now.rounds }
+        ensures kept { IsCapture self.now }
+    {
+        self.rounds
+    }
+
+    /// The requests, by arrival.
+    pub fn requests(&self) -> &[Request]
+        ensures same { result.now ≡ self.now.requests }
+        ensures kept { IsCapture self.now }
+    {
+        &self.requests
+    }
+
+    /// What a device usually starts in a round at whose end one of its requests waits: the lower median, from 1 to 255. It fails
+    /// only if there is no memory.
+    pub fn usual_taken(&self, alloc: Global, device: u32) -> Result<u32, AllocError>
+        ensures same { IfOk result (λ n. n ≡ usual_taken self.now device) }
+        ensures some { IfOk result (λ n. 1 ≤ n) }
+        ensures most { IfOk result (λ n. n ≤ MOST_OPENINGS) }
+    {
+        let sends = sends_row(alloc, self.rounds, &self.requests, device)?;
+        let waiting = waiting_row(alloc, self.rounds, &self.requests, device)?;
+        let numbers = numbers_where(alloc, &sends, &waiting)?;
+        Ok(middle(&numbers))
+    }
+
+    /// The recording: these requests, and a cap for each longest run of rounds in which a device, an adapter or a link takes
+    /// one number of requests that isn't its openings. In a round at whose end a request of a device waits, the device takes
+    /// what it took, unless it is rated at its openings, as `rated` says by the device's number. Everything else takes its
+    /// openings, or what it took if that is more.
+    ///
+    /// # Errors
+    ///
+    /// `NoDevice` of the first request whose device isn't there, or else `BadName` of the first name that may not come next.
+    /// `OutOfMemory` if no memory is left.
+    pub fn recording(
+        &self,
+        alloc: Global,
+        config: &Config,
+        rated: &[bool],
+        names: Vec<Name>,
+    ) -> Result<Recording, CaptureFault>
+        requires { config.now.lanes ≡ [] }
+        ensures recording { IfOk result (λ r. r ≡ recorded_of config.now rated.now names.items self.now) }
+        ensures captured { IfOk result (λ r. (requests : List TimedRequest) → self.now ≡ in_rounds self.now.unit requests → r ≡ captured self.now.unit config.now rated.now names.items requests) }
+        ensures ok { OnOk result (recording_fault config.now names.items self.now ≡ None) }
+        ensures err { IfErr result (λ e. e ≢ OutOfMemory → recording_fault config.now names.items self.now ≡ Some e) }
+    {
+        recording_with(
+            alloc,
+            self.round,
+            self.rounds,
+            config,
+            rated,
+            names,
+            &self.requests,
+        )
+    }
+}

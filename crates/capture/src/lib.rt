@@ -1,0 +1,26 @@
+//! The recording of a capture: requests with the times of their arrivals and starts, as what some scheduler did in rounds.
+#![tactic(auto)]
+
+pub use capture::Capture;
+pub use capture_fault::{CaptureFault, MOST_IN_ROUND};
+pub use lengths::{left_out, longest_round, usual_round};
+pub use span_time::span_nanoseconds;
+pub use timed_request::TimedRequest;
+
+mod cap_rows;
+mod capture;
+mod capture_fault;
+mod crowds;
+mod device_rounds;
+mod lengths;
+mod middle;
+mod part_loads;
+mod parts;
+mod recording;
+mod request_faults;
+mod rounds;
+mod runs;
+mod span_time;
+mod started;
+mod tally;
+mod timed_request;

@@ -1,0 +1,139 @@
+//! The recording of requests in rounds.
+
+ghost use Rattle.std.specs.Prelude.{◌≡◌, ◌≢◌, ◌<◌, ◌≤◌, ◌^◌, ◌++◌, ◌∷◌, None, Some, [], ℕ, All, IfOk, IfErr, OnOk, length};
+ghost use Rattle.std.specs.List.{flat_map};
+ghost use Rattle.cam_types.specs.Topology.{IsConfig};
+ghost use Rattle.cam_types.specs.Lists.{moments, first_answer};
+ghost use Rattle.recording_file.specs.Recorded.{request_cause};
+ghost use Rattle.recording_file.specs.declared.maxima.TheConstants.{MOST_REQUESTS};
+ghost use Rattle.capture.specs.Captured.{recorded_of, part_caps};
+ghost use Rattle.capture.specs.Faults.{IsCapture, IsInRounds, starts_in, device_fault, name_fault, recording_fault, OutOfMemory};
+ghost use Rattle.capture.specs.Parts.{all_parts};
+ghost use Rattle.capture.specs.declared.capture_fault.TheConstants.{MOST_IN_ROUND};
+
+use crate::cap_rows::cap_row;
+use crate::capture_fault::CaptureFault;
+use crate::parts::{all_parts, openings};
+use crate::runs::add_runs;
+use cam_types::Config;
+use recording_file::{Name, Part, Recorder, Recording, Request, RequestError, Span};
+use std::alloc::{AllocError, Global};
+
+/// The recording of requests in rounds.
+pub fn recording_with(
+    alloc: Global,
+    round: Span,
+    rounds: u32,
+    config: &Config,
+    rated: &[bool],
+    names: Vec<Name>,
+    requests: &[Request],
+) -> Result<Recording, CaptureFault>
+    requires capture { IsCapture (record { unit = round; rounds = rounds; requests = requests.now }) }
+    requires lanes { config.now.lanes ≡ [] }
+    ensures recording { IfOk result (λ r. r ≡ recorded_of config.now rated.now names.items (record { unit = round; rounds = rounds; requests = requests.now })) }
+    ensures ok { OnOk result (recording_fault config.now names.items (record { unit = round; rounds = rounds; requests = requests.now }) ≡ None) }
+    ensures err { IfErr result (λ e. e ≢ OutOfMemory → recording_fault config.now names.items (record { unit = round; rounds = rounds; requests = requests.now }) ≡ Some e) }
+{
+    check_devices(config, requests)?;
+    let parts = all_parts(alloc, config)?;
+    let mut recorder = Recorder::new(alloc, Some(round), rounds, config.copy(alloc)?);
+    add_names(&mut recorder, names)?;
+    add_caps(alloc, &mut recorder, config, rated, requests, &parts)?;
+    add_requests(alloc, &mut recorder, config, rated, requests)?;
+    Ok(recorder.finish())
+}
+
+// The first request whose device isn't there, if there is one.
+fn check_devices(config: &Config, requests: &[Request]) -> Result<(), CaptureFault>
+    ensures ok { OnOk result (device_fault config.now requests.now ≡ None) }
+    ensures err { IfErr result (λ e. device_fault config.now requests.now ≡ Some e) }
+{
+    for request in requests {
+        if !config.names_device(request.device) {
+            return Err(CaptureFault::NoDevice(request.device));
+        }
+    }
+    Ok(())
+}
+
+// Adds the names to a recorder without names.
+fn add_names(recorder: &mut Recorder, mut names: Vec<Name>) -> Result<(), CaptureFault>
+    requires { recorder.old.names ≡ [] }
+    ensures names { OnOk result (recorder.new ≡ record recorder.old { names = names.items }) }
+    ensures ok { OnOk result (first_answer (name_fault recorder.old.config) (moments names.items) ≡ None) }
+    ensures err { IfErr result (λ e. e ≢ OutOfMemory → first_answer (name_fault recorder.old.config) (moments names.items) ≡ Some e) }
+{
+    let mut number = 0;
+    while !names.is_empty() {
+        let name = names.remove(0);
+        if !recorder.takes_name(&name) {
+            return Err(CaptureFault::BadName(number));
+        }
+        recorder.add_name(name)?;
+        number += 1;
+    }
+    Ok(())
+}
+
+// Adds the caps of these parts, which are all, to a recorder without caps and requests.
+fn add_caps(
+    alloc: Global,
+    recorder: &mut Recorder,
+    config: &Config,
+    rated: &[bool],
+    requests: &[Request],
+    parts: &[Part],
+) -> Result<(), AllocError>
+    requires within { All (IsInRounds recorder.old.rounds) requests.now }
+    requires few { length requests.now < 2 ^ 32 }
+    requires kept { IsConfig config.now }
+    requires parts { parts.now ≡ all_parts config.now }
+    requires crowds { (round : ℕ) → 1 ≤ round → round ≤ recorder.old.rounds → starts_in requests.now round ≤ MOST_IN_ROUND }
+    requires config { recorder.old.config ≡ config.now }
+    requires none { recorder.old.requests ≡ [] }
+    requires empty { recorder.old.caps ≡ [] }
+    ensures { OnOk result (recorder.new ≡ record recorder.old { caps = flat_map (part_caps config.now rated.now requests.now recorder.old.rounds) (all_parts config.now) }) }
+{
+    for part in parts {
+        let row = cap_row(alloc, recorder.rounds(), config, rated, requests, *part)?;
+        add_runs(recorder, *part, &row, openings(config, *part))?;
+    }
+    Ok(())
+}
+
+// Adds the requests to a recorder with these caps and without requests.
+fn add_requests(
+    alloc: Global,
+    recorder: &mut Recorder,
+    config: &Config,
+    rated: &[bool],
+    requests: &[Request],
+) -> Result<(), AllocError>
+    requires within { All (IsInRounds recorder.old.rounds) requests.now }
+    requires few { length requests.now ≤ MOST_REQUESTS }
+    requires kept { IsConfig config.now }
+    requires devices { device_fault config.now requests.now ≡ None }
+    requires config { recorder.old.config ≡ config.now }
+    requires none { recorder.old.requests ≡ [] }
+    requires caps { recorder.old.caps ≡ flat_map (part_caps config.now rated.now requests.now recorder.old.rounds) (all_parts config.now) }
+    ensures { OnOk result (recorder.new ≡ record recorder.old { requests = requests.now }) }
+{
+    for request in requests {
+        add_request(alloc, recorder, *request)?;
+    }
+    Ok(())
+}
+
+// Adds a request that no cause speaks against.
+fn add_request(alloc: Global, recorder: &mut Recorder, request: Request) -> Result<(), AllocError>
+    requires few { length recorder.old.requests < MOST_REQUESTS }
+    requires fits { request_cause recorder.old.rounds recorder.old.config recorder.old.caps (recorder.old.requests, request) ≡ None }
+    ensures { OnOk result (recorder.new ≡ record recorder.old { requests = recorder.old.requests ++ request ∷ [] }) }
+{
+    match recorder.add_request(alloc, request) {
+        Ok(()) => Ok(()),
+        Err(RequestError::OutOfMemory) => Err(AllocError),
+        Err(RequestError::Illegal(_)) => unreachable!(),
+    }
+}

@@ -1,0 +1,116 @@
+//! Times as rounds.
+
+ghost use Rattle.std.specs.Prelude.{◌≡◌, ◌≤◌, None, Some, IfOk, IfErr, OnOk, length, map, All};
+ghost use Rattle.recording_file.specs.declared.maxima.TheConstants.{MOST_RECORDED_ROUNDS};
+ghost use Rattle.capture.specs.Timed.{start_of};
+ghost use Rattle.capture.specs.Rounds.{round_at, first_arrival, rounds_of, unless_end, last_round, request_in};
+ghost use Rattle.capture.specs.Faults.{size_fault};
+
+use crate::capture_fault::CaptureFault;
+use crate::started::{last_start, start_of};
+use crate::timed_request::TimedRequest;
+use recording_file::{MOST_RECORDED_ROUNDS, MOST_REQUESTS, Request};
+use std::alloc::{AllocError, Global};
+
+/// When the first of these arrives, and 0 where there is none.
+pub fn first_arrival(requests: &[TimedRequest]) -> u64
+    ensures { result ≡ first_arrival requests.now }
+{
+    match requests.first() {
+        Some(request) => request.arrival,
+        None => 0,
+    }
+}
+
+/// The last round in which one of these, which stand by arrival, was started, where a round has that many nanoseconds.
+///
+/// # Errors
+///
+/// `NothingStarted`, `TooManyRequests` or `TooManyRounds`, the first in this order.
+#[tactic(auto, unfolding(crate::specs::Faults::size_fault))]
+pub fn rounds_of(span: u64, requests: &[TimedRequest]) -> Result<u32, CaptureFault>
+    requires { 1 ≤ span }
+    ensures rounds { IfOk result (λ rounds. rounds ≡ rounds_of span requests.now) }
+    ensures ok { OnOk result (size_fault (length requests.now) (rounds_of span requests.now) ≡ None) }
+    ensures err { IfErr result (λ e. size_fault (length requests.now) (rounds_of span requests.now) ≡ Some e) }
+{
+    if requests.is_empty() {
+        return Err(CaptureFault::NothingStarted);
+    }
+    if requests.len() > MOST_REQUESTS {
+        return Err(CaptureFault::TooManyRequests);
+    }
+    let before = last_start(requests).saturating_sub(first_arrival(requests)) / span;
+    if before >= u64::from(MOST_RECORDED_ROUNDS) {
+        return Err(CaptureFault::TooManyRounds);
+    }
+    Ok(before as u32 + 1)
+}
+
+/// Started requests in rounds. It fails only if there is no memory.
+pub fn requests_in(
+    alloc: Global,
+    span: u64,
+    begin: u64,
+    rounds: u32,
+    requests: &[TimedRequest],
+) -> Result<Vec<Request>, AllocError>
+    requires span { 1 ≤ span }
+    requires arrivals { All (λ q. round_at span begin q.arrival ≤ rounds) requests.now }
+    requires starts { All (λ q. round_at span begin (start_of q) ≤ rounds) requests.now }
+    ensures { IfOk result (λ made. made.items ≡ map (request_in span begin rounds) requests.now) }
+{
+    let mut made = Vec::with_capacity(alloc, requests.len())?;
+    for request in requests {
+        made.push(request_in(span, begin, rounds, request))?;
+    }
+    Ok(made)
+}
+
+// A started request in rounds.
+#[tactic(auto, unfolding(crate::specs::Rounds::request_in))]
+fn request_in(span: u64, begin: u64, rounds: u32, request: &TimedRequest) -> Request
+    requires span { 1 ≤ span }
+    requires arrival { round_at span begin request.now.arrival ≤ rounds }
+    requires start { round_at span begin (start_of request.now) ≤ rounds }
+    ensures { result ≡ request_in span begin rounds request.now }
+{
+    let sent = round_at(span, begin, rounds, start_of(request));
+    Request {
+        driver: request.driver,
+        device: request.device,
+        priority: request.priority,
+        arrival: round_at(span, begin, rounds, request.arrival),
+        last: last_round(span, begin, rounds, sent, request.retried),
+        sent,
+    }
+}
+
+// The round of a time.
+fn round_at(span: u64, begin: u64, rounds: u32, time: u64) -> u32
+    requires span { 1 ≤ span }
+    requires within { round_at span begin time ≤ rounds }
+    ensures { result ≡ round_at span begin time }
+{
+    (time.saturating_sub(begin) / span) as u32 + 1
+}
+
+// The last round of a request that was started in a round, and whose next attempt arrives at a time.
+fn last_round(span: u64, begin: u64, rounds: u32, sent: u32, retried: Option<u64>) -> Option<u32>
+    requires { 1 ≤ span }
+    ensures { result ≡ last_round span begin rounds sent retried }
+{
+    let before = retried?.saturating_sub(begin) / span;
+    if before < u64::from(rounds) {
+        unless_end(rounds, sent.max(before as u32))
+    } else {
+        None
+    }
+}
+
+// A last round as a request has it: none where it is the last of all.
+fn unless_end(rounds: u32, last: u32) -> Option<u32>
+    ensures { result ≡ unless_end rounds last }
+{
+    if last < rounds { Some(last) } else { None }
+}

@@ -180,6 +180,6 @@ cap_in_all c number rounds k n r there some few =
     ] refl
 
 -- the caps of a part by a row of its numbers
-pub runs_of_row : (c : Topology) (rated : List Bool) (qs : List Request) (p : Part) (row read : List ℕ) (usual asked kept rounds : ℕ) → read ≡ row → IsRow (cap_of c rated qs p) asked row → usual ≡ openings c p → asked ≡ kept → kept ≡ rounds → run_caps p (slice_index read) usual kept ≡ part_caps c rated qs rounds p
-runs_of_row c rated qs p row read usual asked kept rounds same h is ask keep =
-    rw (same, is, keep) (runs_alike p (slice_index row) (cap_of c rated qs p) (openings c p) rounds (λ q le. h.each q (omega arith)))
+pub runs_of_row : (c : Topology) (rated opened : List Bool) (qs : List Request) (p : Part) (row read : List ℕ) (usual asked kept rounds : ℕ) → read ≡ row → IsRow (cap_of c rated opened qs p) asked row → usual ≡ openings c p → asked ≡ kept → kept ≡ rounds → run_caps p (slice_index read) usual kept ≡ part_caps c rated opened qs rounds p
+runs_of_row c rated opened qs p row read usual asked kept rounds same h is ask keep =
+    rw (same, is, keep) (runs_alike p (slice_index row) (cap_of c rated opened qs p) (openings c p) rounds (λ q le. h.each q (omega arith)))

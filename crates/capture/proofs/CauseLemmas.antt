@@ -1,5 +1,5 @@
 -- the requests of a capture keep the rules of recordings
-use Rattle.std.proofs.Common.{◌≡◌, ℕ, zero, suc, ◌+◌, ◌<◌, ◌≤◌, Bool, true, false, cond, List, [], ◌∷◌, length, take, get_or, max, refl, arith, Option, Some, None, inl, inr, ◌==◌, ◌&&◌, find, count_by, slice_get, All}
+use Rattle.std.proofs.Common.{◌≡◌, ℕ, zero, suc, ◌+◌, ◌<◌, ◌≤◌, Bool, true, false, cond, List, [], ◌∷◌, if◌then◌else◌, length, take, get_or, max, refl, arith, Option, Some, None, inl, inr, ◌==◌, ◌&&◌, find, count_by, slice_get, All}
 use Rattle.std.specs.List.{flat_map}
 use Rattle.std.specs.Option.{option_map_or}
 use Rattle.std.proofs.lemmas.Bool.{and_from, ltb-true, le-ltb, le-leb, lt-leb, eq-eqb}
@@ -17,7 +17,7 @@ use Rattle.recording_file.specs.declared.part.Part.{Part}
 use Rattle.recording_file.specs.declared.part.PartKind.{PartKind}
 use Rattle.recording_file.specs.declared.part.PartKind.TheVariants as kind
 use Rattle.recording_file.specs.declared.request.Request.{Request}
-use Rattle.capture.specs.Captured.{is_measured, cap_of, part_caps}
+use Rattle.capture.specs.Captured.{is_measured, is_open, cap_of, part_caps}
 use Rattle.capture.specs.Faults.{IsInRounds, starts_in}
 use Rattle.capture.specs.Loads.{is_pressed}
 use Rattle.capture.specs.Parts.{all_parts}
@@ -29,9 +29,22 @@ use Rattle.capture.proofs.PartLemmas.{IsThere}
 
 -- ---- a cap is no less than what was started, and no more than a cap can say
 
-pub load_capped : (c : Topology) (rated : List Bool) (qs : List Request) (p : Part) (r : ℕ) → load c qs p r ≤ cap_of c rated qs p r
+load_few : (c : Topology) (qs : List Request) (p : Part) (r : ℕ) → load c qs p r ≤ starts_in qs r
+load_few c qs p r = sum_by-le-sum_by (λ (q : Request). one (takes_of c p q.device && (q.sent == r))) (λ (q : Request). one (q.sent == r)) qs (λ q. part_le (takes_of c p q.device) (q.sent == r))
+  where
+    part_le : (a b : Bool) → one (a && b) ≤ one b
+    part_le true b = omega arith
+    part_le false true = omega arith
+    part_le false false = omega arith
+
+pub load_capped : (c : Topology) (rated opened : List Bool) (qs : List Request) (p : Part) (r : ℕ) → starts_in qs r ≤ MOST_IN_ROUND → load c qs p r ≤ cap_of c rated opened qs p r
 unfolding cap_of
-load_capped c rated qs p r = elim (is_measured rated p && is_pressed qs p.number r) as (λ b. load c qs p r ≤ cond b (load c qs p r) (max (openings c p) (load c qs p r))) [ true ↦ omega arith | false ↦ omega arith ]
+load_capped c rated opened qs p r few =
+    let load' = load_few c qs p r in
+    elim (is_open opened p) as (λ a. load c qs p r ≤ cond a MOST_IN_ROUND (if is_measured rated p && is_pressed qs p.number r then load c qs p r else max (openings c p) (load c qs p r))) [
+      | true ↦ omega arith
+      | false ↦ elim (is_measured rated p && is_pressed qs p.number r) as (λ b. load c qs p r ≤ cond b (load c qs p r) (max (openings c p) (load c qs p r))) [ true ↦ omega arith | false ↦ omega arith ]
+    ]
 
 element : {X : Type 0} (xs : List X) (i : ℕ) → i < length xs → (x : X) × (slice_get xs i ≡ Some x)
 element xs i lt = elim (slice_get_cases xs i).1 [
@@ -51,21 +64,16 @@ openings_by c config kind.Device n = found_small (λ (d : Device). d.openings) c
 openings_by c config kind.Adapter n = found_small (λ (a : Adapter). a.openings) c.adapters n (small_adapters c config)
 openings_by c config kind.Link n = found_small (λ n. n) c.links n (small_links c config)
 
-load_few : (c : Topology) (qs : List Request) (p : Part) (r : ℕ) → load c qs p r ≤ starts_in qs r
-load_few c qs p r = sum_by-le-sum_by (λ (q : Request). one (takes_of c p q.device && (q.sent == r))) (λ (q : Request). one (q.sent == r)) qs (λ q. part_le (takes_of c p q.device) (q.sent == r))
-  where
-    part_le : (a b : Bool) → one (a && b) ≤ one b
-    part_le true b = omega arith
-    part_le false true = omega arith
-    part_le false false = omega arith
-
-pub cap_few : (c : Topology) (rated : List Bool) (qs : List Request) (k : PartKind) (n r : ℕ) → IsConfig c → starts_in qs r ≤ MOST_IN_ROUND → cap_of c rated qs (part_of k n) r ≤ MOST_IN_ROUND
+pub cap_few : (c : Topology) (rated opened : List Bool) (qs : List Request) (k : PartKind) (n r : ℕ) → IsConfig c → starts_in qs r ≤ MOST_IN_ROUND → cap_of c rated opened qs (part_of k n) r ≤ MOST_IN_ROUND
 unfolding cap_of
-cap_few c rated qs k n r config few =
+cap_few c rated opened qs k n r config few =
     let p : Part = part_of k n in
     let open' = openings_by c config k n in
     let load' = load_few c qs p r in
-    elim (is_measured rated p && is_pressed qs p.number r) as (λ b. cond b (load c qs p r) (max (openings c p) (load c qs p r)) ≤ MOST_IN_ROUND) [ true ↦ omega arith | false ↦ omega arith ]
+    elim (is_open opened p) as (λ a. cond a MOST_IN_ROUND (if is_measured rated p && is_pressed qs p.number r then load c qs p r else max (openings c p) (load c qs p r)) ≤ MOST_IN_ROUND) [
+      | true ↦ omega arith
+      | false ↦ elim (is_measured rated p && is_pressed qs p.number r) as (λ b. cond b (load c qs p r) (max (openings c p) (load c qs p r)) ≤ MOST_IN_ROUND) [ true ↦ omega arith | false ↦ omega arith ]
+    ]
 
 -- ---- no cause speaks against a request
 
@@ -91,50 +99,55 @@ no_plain_cause rounds c q is there =
     rw (there, listed, first, order, few, early, late) refl
 
 -- a part that is there and takes a request has room for it beside the requests before it
-has_room : (c : Topology) (rated : List Bool) (qs : List Request) (rounds n : ℕ) (d : Request) (k : PartKind) (m : ℕ) → n < length qs → IsInRounds rounds (get_or qs n d) → IsThere c (part_of k m) → takes_of c (part_of k m) (get_or qs n d).device ≡ true
-    → is_full c (flat_map (part_caps c rated qs rounds) (all_parts c)) (take n qs) (get_or qs n d).sent (part_of k m) ≡ false
-has_room c rated qs rounds n d k m lt is there takes =
+has_room : (c : Topology) (rated opened : List Bool) (qs : List Request) (rounds n : ℕ) (d : Request) (k : PartKind) (m : ℕ) → n < length qs → IsInRounds rounds (get_or qs n d) → IsThere c (part_of k m) → takes_of c (part_of k m) (get_or qs n d).device ≡ true → starts_in qs (get_or qs n d).sent ≤ MOST_IN_ROUND
+    → is_full c (flat_map (part_caps c rated opened qs rounds) (all_parts c)) (take n qs) (get_or qs n d).sent (part_of k m) ≡ false
+has_room c rated opened qs rounds n d k m lt is there takes few =
     let q : Request = get_or qs n d in
     let p : Part = part_of k m in
     let first = is.first in
     let arrived = is.arrived in
     let within = is.within in
     let last = is.last in
-    let capped = cap_in_all c (cap_of c rated qs) rounds k m q.sent there (omega arith) (omega arith) in
+    let capped = cap_in_all c (cap_of c rated opened qs) rounds k m q.sent there (omega arith) (omega arith) in
     let front = count_front (λ (a : Request). takes_of c p a.device && (a.sent == q.sent)) qs n d lt (and_from _ _ takes (eq-eqb q.sent q.sent refl)) in
-    let most = load_capped c rated qs p q.sent in
-    lt-leb (cap_in c (flat_map (part_caps c rated qs rounds) (all_parts c)) p q.sent) (load c (take n qs) p q.sent) (omega arith)
+    let most = load_capped c rated opened qs p q.sent few in
+    lt-leb (cap_in c (flat_map (part_caps c rated opened qs rounds) (all_parts c)) p q.sent) (load c (take n qs) p q.sent) (omega arith)
 
 -- where neither a device, nor its adapter, nor that one's link is full, none is
 none_full : (t : Part → Bool) (device adapter : Part) (link : Option ℕ) → t device ≡ false → t adapter ≡ false → ((l : ℕ) → link ≡ Some l → t (part_of kind.Link l) ≡ false) → find t (device ∷ adapter ∷ link_parts link) ≡ None
 none_full t device adapter None d a l = rw (d, a) refl
 none_full t device adapter (Some k) d a l = let none = l k refl in rw (d, a, none) refl
 
-no_crowd_cause : (c : Topology) (rated : List Bool) (qs : List Request) (rounds n : ℕ) (d : Request) → IsConfig c → n < length qs → IsInRounds rounds (get_or qs n d) → (get_or qs n d).device < length c.devices → crowd_cause c (flat_map (part_caps c rated qs rounds) (all_parts c)) (take n qs) (get_or qs n d) ≡ None
+no_crowd_cause : (c : Topology) (rated opened : List Bool) (qs : List Request) (rounds n : ℕ) (d : Request) → IsConfig c → n < length qs → IsInRounds rounds (get_or qs n d) → (get_or qs n d).device < length c.devices → starts_in qs (get_or qs n d).sent ≤ MOST_IN_ROUND → crowd_cause c (flat_map (part_caps c rated opened qs rounds) (all_parts c)) (take n qs) (get_or qs n d) ≡ None
 unfolding crowd_cause
-no_crowd_cause c rated qs rounds n d config lt is there =
+no_crowd_cause c rated opened qs rounds n d config lt is there few =
     let q : Request = get_or qs n d in
     let a : ℕ = device_adapter c q.device in
     let device = element c.devices q.device there in
     let on_adapter = bus-there c q.device config there in
     let adapter = element c.adapters a on_adapter in
     let bus : a ≡ device.0.bus = rw device.1 refl in
-    let room = has_room c rated qs rounds n d in
-    let none = none_full (is_full c (flat_map (part_caps c rated qs rounds) (all_parts c)) (take n qs) q.sent) (part_of kind.Device q.device) (part_of kind.Adapter a) (adapter_link c a)
-    (room kind.Device q.device lt is there (eq-eqb q.device q.device refl))
-    (room kind.Adapter a lt is on_adapter (rw device.1 (eq-eqb device.0.bus device.0.bus refl)))
+    let room = has_room c rated opened qs rounds n d in
+    let none = none_full (is_full c (flat_map (part_caps c rated opened qs rounds) (all_parts c)) (take n qs) q.sent) (part_of kind.Device q.device) (part_of kind.Adapter a) (adapter_link c a)
+    (room kind.Device q.device lt is there (eq-eqb q.device q.device refl) few)
+    (room kind.Adapter a lt is on_adapter (rw device.1 (eq-eqb device.0.bus device.0.bus refl)) few)
     (λ l on.
     let link : adapter.0.link ≡ Some l = rw adapter.1 at on in
     let named = at_element (λ (x : Adapter). names_link (length c.links) x.link ≡ true) c.adapters a adapter.0 (adapters_on_links c config) adapter.1 in
     let is_link = ltb-true l (length c.links) (rw link at named) in
     let under : adapter_link c device.0.bus ≡ Some l = rw bus at on in
-    room kind.Link l lt is is_link (rw (device.1, under) (eq-eqb l l refl))) in
+    room kind.Link l lt is is_link (rw (device.1, under) (eq-eqb l l refl)) few) in
     rw none refl
 
-pub no_cause : (c : Topology) (rated : List Bool) (qs : List Request) (rounds n : ℕ) (d : Request) → IsConfig c → n < length qs → All (IsInRounds rounds) qs → names_device c (get_or qs n d).device ≡ true → request_cause rounds c (flat_map (part_caps c rated qs rounds) (all_parts c)) (take n qs, get_or qs n d) ≡ None
+pub no_cause : (c : Topology) (rated opened : List Bool) (qs : List Request) (rounds n : ℕ) (d : Request) → IsConfig c → n < length qs → All (IsInRounds rounds) qs → ((round : ℕ) → 1 ≤ round → round ≤ rounds → starts_in qs round ≤ MOST_IN_ROUND) → names_device c (get_or qs n d).device ≡ true → request_cause rounds c (flat_map (part_caps c rated opened qs rounds) (all_parts c)) (take n qs, get_or qs n d) ≡ None
 unfolding request_cause
-no_cause c rated qs rounds n d config lt h there =
+no_cause c rated opened qs rounds n d config lt h crowds there =
     let is = h n d lt in
+    let first = is.first in
+    let arrived = is.arrived in
+    let within = is.within in
+    let last = is.last in
+    let few = crowds (get_or qs n d).sent (omega arith) (omega arith) in
     let plain = no_plain_cause rounds c (get_or qs n d) is there in
-    let crowd = no_crowd_cause c rated qs rounds n d config lt is (ltb-true _ _ there) in
+    let crowd = no_crowd_cause c rated opened qs rounds n d config lt is (ltb-true _ _ there) few in
     rw (plain, crowd) refl

@@ -12,5 +12,6 @@ pub mod RangeLemmas
 pub mod RequestLemmas
 pub mod RoundLemmas
 pub mod SortLemmas
+pub mod SpanLemmas
 pub mod UsualLemmas
 pub mod WaitLemmas

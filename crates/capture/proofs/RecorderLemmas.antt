@@ -41,7 +41,7 @@ pub caps_all : (first now : Recorded) (f : Part → List Cap) (ps : List Part) (
 caps_all first now f ps n le so_far = so_far ∙ ap (λ qs. record first { caps = flat_map f qs }) (take_all n ps le)
 
 -- the recording that is made of all this
-pub recorded_made : (c copy : Topology) (rated : List Bool) (names : List Label) (r : Rounded) (first named capped whole last : Recorded) → copy ≡ c → first ≡ record { unit = Some r.unit; rounds = r.rounds; config = copy; names = []; caps = []; requests = [] } → named ≡ record first { names = names } → capped ≡ record named { caps = flat_map (part_caps c rated r.requests named.rounds) (all_parts c) } → whole ≡ record capped { requests = r.requests } → last ≡ whole → last ≡ recorded_of c rated names r
+pub recorded_made : (c copy : Topology) (rated opened : List Bool) (names : List Label) (r : Rounded) (first named capped whole last : Recorded) → copy ≡ c → first ≡ record { unit = Some r.unit; rounds = r.rounds; config = copy; names = []; caps = []; requests = [] } → named ≡ record first { names = names } → capped ≡ record named { caps = flat_map (part_caps c rated opened r.requests named.rounds) (all_parts c) } → whole ≡ record capped { requests = r.requests } → last ≡ whole → last ≡ recorded_of c rated opened names r
 unfolding recorded_of
-recorded_made c copy rated names r first named capped whole last same is by_names by_caps by_requests end =
+recorded_made c copy rated opened names r first named capped whole last same is by_names by_caps by_requests end =
     end ∙ by_requests ∙ rw (by_caps, by_names, is, same) refl

@@ -16,25 +16,36 @@ use Rattle.capture.specs.Timed.{TimedRequest}
 use Rattle.capture.specs.Rounds.{Rounded, Span, in_rounds}
 use Rattle.capture.specs.Loads.{is_pressed}
 use Rattle.capture.specs.Parts.{all_parts}
+use Rattle.capture.specs.declared.capture_fault.TheConstants.{MOST_IN_ROUND}
 
--- a device is rated at its openings
-abbrev pub is_rated : List Bool → ℕ → Bool
-is_rated rated device = option_map_or (λ b. b) (slice_get rated device) false
+-- the flag of a number in a list, and false where the list has none
+abbrev pub is_flagged : List Bool → ℕ → Bool
+is_flagged flags number = option_map_or (λ b. b) (slice_get flags number) false
 
--- a part whose openings are no rating: where it is pressed, it took what it can
+-- a device that isn't rated at its openings: where it is pressed, it took what it can
 abbrev pub is_measured : List Bool → Part → Bool
 is_measured rated p = by p.kind
   where
     by : PartKind → Bool
-    by kind.Device = not (is_rated rated p.number)
+    by kind.Device = not (is_flagged rated p.number)
     by kind.Adapter = false
     by kind.Link = false
 
--- how many a part takes in a round: what it took, where it is measured and pressed, and else its openings, or what it took if
--- that is more
-unfoldable pub cap_of : Topology → List Bool → List Request → Part → ℕ → ℕ
-cap_of c rated qs p round =
-    if is_measured rated p && is_pressed qs p.number round then load c qs p round
+-- an adapter of which nobody said what it takes: as good as unlimited
+abbrev pub is_open : List Bool → Part → Bool
+is_open opened p = by p.kind
+  where
+    by : PartKind → Bool
+    by kind.Device = false
+    by kind.Adapter = is_flagged opened p.number
+    by kind.Link = false
+
+-- how many a part takes in a round: an open adapter takes the most that a cap says; a device that is measured and pressed
+-- takes what it took; and anything else takes its openings, or what it took if that is more
+unfoldable pub cap_of : Topology → List Bool → List Bool → List Request → Part → ℕ → ℕ
+cap_of c rated opened qs p round =
+    if is_open opened p then MOST_IN_ROUND
+    else if is_measured rated p && is_pressed qs p.number round then load c qs p round
     else max (openings c p) (load c qs p round)
 
 -- the cap of a part in the run of rounds that begins in this one, by its number in each round
@@ -51,20 +62,20 @@ unfoldable pub run_caps : Part → (ℕ → ℕ) → ℕ → ℕ → List Cap
 run_caps p number usual rounds = map (run_cap p number rounds) (run_starts number usual rounds)
 
 -- the caps of a part: one for each longest run of rounds in which it takes one number of requests that isn't its openings
-abbrev pub part_caps : Topology → List Bool → List Request → ℕ → Part → List Cap
-part_caps c rated qs rounds p = run_caps p (cap_of c rated qs p) (openings c p) rounds
+abbrev pub part_caps : Topology → List Bool → List Bool → List Request → ℕ → Part → List Cap
+part_caps c rated opened qs rounds p = run_caps p (cap_of c rated opened qs p) (openings c p) rounds
 
 -- the recording of a capture
-unfoldable pub recorded_of : Topology → List Bool → List Label → Rounded → Recorded
-recorded_of c rated names r = record {
+unfoldable pub recorded_of : Topology → List Bool → List Bool → List Label → Rounded → Recorded
+recorded_of c rated opened names r = record {
   unit = Some r.unit;
   rounds = r.rounds;
   config = c;
   names = names;
-  caps = flat_map (part_caps c rated r.requests r.rounds) (all_parts c);
+  caps = flat_map (part_caps c rated opened r.requests r.rounds) (all_parts c);
   requests = r.requests;
 }
 
 -- the recording of requests in time
-abbrev pub captured : Span → Topology → List Bool → List Label → List TimedRequest → Recorded
-captured unit c rated names qs = recorded_of c rated names (in_rounds unit qs)
+abbrev pub captured : Span → Topology → List Bool → List Bool → List Label → List TimedRequest → Recorded
+captured unit c rated opened names qs = recorded_of c rated opened names (in_rounds unit qs)

@@ -1,6 +1,6 @@
 -- times as rounds
-use Rattle.std.specs.Prelude.{ℕ, ◌+◌, ◌-◌, ◌*◌, ◌/◌, max, nat_lt, if◌then◌else◌, List, map, slice_get, Option, Some, None, option_and_then}
-use Rattle.std.specs.Option.{option_map_or}
+use Rattle.std.specs.Prelude.{ℕ, ◌+◌, ◌-◌, ◌*◌, ◌/◌, ◌==◌, ◌&&◌, max, nat_lt, nat_le, if◌then◌else◌, List, map, slice_get, Option, Some, None, option_and_then}
+use Rattle.std.specs.Option.{option_map_or, option_or}
 pub use Rattle.recording_file.specs.declared.span.Span.{Span}
 use Rattle.recording_file.specs.declared.span.TimeUnit.{TimeUnit}
 use Rattle.recording_file.specs.declared.span.TimeUnit.TheVariants as time
@@ -16,6 +16,17 @@ unit_nanoseconds time.Second = 1000000000
 -- how many nanoseconds a span has
 abbrev pub span_nanoseconds : Span → ℕ
 span_nanoseconds s = s.count * unit_nanoseconds s.unit
+
+-- a number of nanoseconds as a whole number of a unit, from 1 up to the most that a count says, and none where it isn't
+unfoldable pub span_in : ℕ → TimeUnit → Option Span
+span_in nanoseconds unit =
+    let count = nanoseconds / unit_nanoseconds unit in
+    if (count * unit_nanoseconds unit == nanoseconds) && (nat_lt 0 count && nat_le count 4294967295) then Some (record { count = count; unit = unit })
+    else None
+
+-- the span of that many nanoseconds, in the coarsest unit that has it
+unfoldable pub span_of : ℕ → Option Span
+span_of nanoseconds = option_or (span_in nanoseconds time.Second) (option_or (span_in nanoseconds time.Millisecond) (option_or (span_in nanoseconds time.Microsecond) (span_in nanoseconds time.Nanosecond)))
 
 -- the round of a time, where round 1 begins at that time and each has that many nanoseconds
 abbrev pub round_at : ℕ → ℕ → ℕ → ℕ

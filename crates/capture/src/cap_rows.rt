@@ -1,10 +1,11 @@
 //! How many requests a part takes in each round.
 
 ghost use Rattle.std.specs.Prelude.{◌≡◌, ◌<◌, ◌≤◌, ◌^◌, IfOk, All, ℕ, max, nat_lt, if◌then◌else◌, length, slice_index};
-ghost use Rattle.capture.specs.Captured.{is_rated, is_measured, cap_of};
+ghost use Rattle.capture.specs.Captured.{is_flagged, is_measured, is_open, cap_of};
 ghost use Rattle.capture.specs.Faults.{IsInRounds};
 ghost use Rattle.capture.specs.Loads.{IsRow};
 
+use crate::capture_fault::MOST_IN_ROUND;
 use crate::device_rounds::waiting_row;
 use crate::part_loads::load_row;
 use crate::parts::openings;
@@ -18,13 +19,17 @@ pub fn cap_row(
     last: u32,
     config: &Config,
     rated: &[bool],
+    open: &[bool],
     requests: &[Request],
     part: Part,
 ) -> Result<Vec<u32>, AllocError>
     requires within { All (IsInRounds last) requests.now }
     requires few { length requests.now < 2 ^ 32 }
-    ensures { IfOk result (λ row. IsRow (cap_of config.now rated.now requests.now part) last row.items) }
+    ensures { IfOk result (λ row. IsRow (cap_of config.now rated.now open.now requests.now part) last row.items) }
 {
+    if is_open(open, part) {
+        return vec![in alloc; MOST_IN_ROUND; last as usize + 1];
+    }
     let mut row = load_row(alloc, last, config, requests, part)?;
     let usual = openings(config, part);
     if is_measured(rated, part) {
@@ -36,23 +41,33 @@ pub fn cap_row(
     Ok(row)
 }
 
-// Whether a part's openings are no rating.
+// Whether a part is an adapter of which nobody said what it takes.
+fn is_open(open: &[bool], part: Part) -> bool
+    ensures { result ≡ is_open open.now part }
+{
+    match part.kind {
+        PartKind::Device | PartKind::Link => false,
+        PartKind::Adapter => is_flagged(open, part.number),
+    }
+}
+
+// Whether a part is a device that isn't rated at its openings.
 fn is_measured(rated: &[bool], part: Part) -> bool
     ensures { result ≡ is_measured rated.now part }
 {
     match part.kind {
-        PartKind::Device => !is_rated(rated, part.number),
+        PartKind::Device => !is_flagged(rated, part.number),
         PartKind::Adapter => false,
         PartKind::Link => false,
     }
 }
 
-// Whether a device is rated at its openings.
-fn is_rated(rated: &[bool], device: u32) -> bool
-    ensures { result ≡ is_rated rated.now device }
+// The flag of a number, and false if there is none.
+fn is_flagged(flags: &[bool], number: u32) -> bool
+    ensures { result ≡ is_flagged flags.now number }
 {
-    match rated.get(device as usize) {
-        Some(rated) => *rated,
+    match flags.get(number as usize) {
+        Some(flag) => *flag,
         None => false,
     }
 }

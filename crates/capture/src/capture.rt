@@ -105,8 +105,9 @@ impl Capture {
 
     /// The recording: these requests, and a cap for each longest run of rounds in which a device, an adapter or a link takes
     /// one number of requests that isn't its openings. In a round at whose end a request of a device waits, the device takes
-    /// what it took, unless it is rated at its openings, as `rated` says by the device's number. Everything else takes its
-    /// openings, or what it took if that is more.
+    /// what it took, unless it is rated at its openings, as `rated` says by the device's number. An adapter of which nobody said
+    /// what it takes, as `open` says by the adapter's number, takes 65,535 in each round. Everything else takes its openings, or
+    /// what it took if that is more. In both lists a missing entry is false.
     ///
     /// # Errors
     ///
@@ -117,11 +118,12 @@ impl Capture {
         alloc: Global,
         config: &Config,
         rated: &[bool],
+        open: &[bool],
         names: Vec<Name>,
     ) -> Result<Recording, CaptureFault>
         requires { config.now.lanes ≡ [] }
-        ensures recording { IfOk result (λ r. r ≡ recorded_of config.now rated.now names.items self.now) }
-        ensures captured { IfOk result (λ r. (requests : List TimedRequest) → self.now ≡ in_rounds self.now.unit requests → r ≡ captured self.now.unit config.now rated.now names.items requests) }
+        ensures recording { IfOk result (λ r. r ≡ recorded_of config.now rated.now open.now names.items self.now) }
+        ensures captured { IfOk result (λ r. (requests : List TimedRequest) → self.now ≡ in_rounds self.now.unit requests → r ≡ captured self.now.unit config.now rated.now open.now names.items requests) }
         ensures ok { OnOk result (recording_fault config.now names.items self.now ≡ None) }
         ensures err { IfErr result (λ e. e ≢ OutOfMemory → recording_fault config.now names.items self.now ≡ Some e) }
     {
@@ -131,6 +133,7 @@ impl Capture {
             self.rounds,
             config,
             rated,
+            open,
             names,
             &self.requests,
         )

@@ -4,7 +4,7 @@
 pub use capture::Capture;
 pub use capture_fault::{CaptureFault, MOST_IN_ROUND};
 pub use lengths::{left_out, longest_round, usual_round};
-pub use span_time::span_nanoseconds;
+pub use span_time::{span_nanoseconds, span_of};
 pub use timed_request::TimedRequest;
 
 mod cap_rows;

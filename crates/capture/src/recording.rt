@@ -26,12 +26,13 @@ pub fn recording_with(
     rounds: u32,
     config: &Config,
     rated: &[bool],
+    open: &[bool],
     names: Vec<Name>,
     requests: &[Request],
 ) -> Result<Recording, CaptureFault>
     requires capture { IsCapture (record { unit = round; rounds = rounds; requests = requests.now }) }
     requires lanes { config.now.lanes ≡ [] }
-    ensures recording { IfOk result (λ r. r ≡ recorded_of config.now rated.now names.items (record { unit = round; rounds = rounds; requests = requests.now })) }
+    ensures recording { IfOk result (λ r. r ≡ recorded_of config.now rated.now open.now names.items (record { unit = round; rounds = rounds; requests = requests.now })) }
     ensures ok { OnOk result (recording_fault config.now names.items (record { unit = round; rounds = rounds; requests = requests.now }) ≡ None) }
     ensures err { IfErr result (λ e. e ≢ OutOfMemory → recording_fault config.now names.items (record { unit = round; rounds = rounds; requests = requests.now }) ≡ Some e) }
 {
@@ -39,8 +40,8 @@ pub fn recording_with(
     let parts = all_parts(alloc, config)?;
     let mut recorder = Recorder::new(alloc, Some(round), rounds, config.copy(alloc)?);
     add_names(&mut recorder, names)?;
-    add_caps(alloc, &mut recorder, config, rated, requests, &parts)?;
-    add_requests(alloc, &mut recorder, config, rated, requests)?;
+    add_caps(alloc, &mut recorder, config, rated, open, requests, &parts)?;
+    add_requests(alloc, &mut recorder, config, rated, open, requests)?;
     Ok(recorder.finish())
 }
 
@@ -82,6 +83,7 @@ fn add_caps(
     recorder: &mut Recorder,
     config: &Config,
     rated: &[bool],
+    open: &[bool],
     requests: &[Request],
     parts: &[Part],
 ) -> Result<(), AllocError>
@@ -93,10 +95,18 @@ fn add_caps(
     requires config { recorder.old.config ≡ config.now }
     requires none { recorder.old.requests ≡ [] }
     requires empty { recorder.old.caps ≡ [] }
-    ensures { OnOk result (recorder.new ≡ record recorder.old { caps = flat_map (part_caps config.now rated.now requests.now recorder.old.rounds) (all_parts config.now) }) }
+    ensures { OnOk result (recorder.new ≡ record recorder.old { caps = flat_map (part_caps config.now rated.now open.now requests.now recorder.old.rounds) (all_parts config.now) }) }
 {
     for part in parts {
-        let row = cap_row(alloc, recorder.rounds(), config, rated, requests, *part)?;
+        let row = cap_row(
+            alloc,
+            recorder.rounds(),
+            config,
+            rated,
+            open,
+            requests,
+            *part,
+        )?;
         add_runs(recorder, *part, &row, openings(config, *part))?;
     }
     Ok(())
@@ -108,15 +118,17 @@ fn add_requests(
     recorder: &mut Recorder,
     config: &Config,
     rated: &[bool],
+    open: &[bool],
     requests: &[Request],
 ) -> Result<(), AllocError>
     requires within { All (IsInRounds recorder.old.rounds) requests.now }
     requires few { length requests.now ≤ MOST_REQUESTS }
     requires kept { IsConfig config.now }
+    requires crowds { (round : ℕ) → 1 ≤ round → round ≤ recorder.old.rounds → starts_in requests.now round ≤ MOST_IN_ROUND }
     requires devices { device_fault config.now requests.now ≡ None }
     requires config { recorder.old.config ≡ config.now }
     requires none { recorder.old.requests ≡ [] }
-    requires caps { recorder.old.caps ≡ flat_map (part_caps config.now rated.now requests.now recorder.old.rounds) (all_parts config.now) }
+    requires caps { recorder.old.caps ≡ flat_map (part_caps config.now rated.now open.now requests.now recorder.old.rounds) (all_parts config.now) }
     ensures { OnOk result (recorder.new ≡ record recorder.old { requests = requests.now }) }
 {
     for request in requests {

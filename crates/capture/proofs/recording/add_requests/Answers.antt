@@ -12,7 +12,7 @@ pub add_request-requires-clause-fits : goal.add_request-requires-clause-fits
 add_request-requires-clause-fits c =
     let n = c.loop-request.request-index in
     let lt = c.loop-request-test.true in
-    rw (c.loop-request.invariant, c.requires.caps, c.requires.config) (no_cause c.args.config.now c.args.rated.now c.args.requests.now c.args.recorder.now.rounds n _ c.requires.kept lt c.requires.within (each_there c.args.config.now c.args.requests.now c.requires.devices n _ lt))
+    rw (c.loop-request.invariant, c.requires.caps, c.requires.config) (no_cause c.args.config.now c.args.rated.now c.args.«open».now c.args.requests.now c.args.recorder.now.rounds n _ c.requires.kept lt c.requires.within c.requires.crowds (each_there c.args.config.now c.args.requests.now c.requires.devices n _ lt))
 
 pub loop-request-init : goal.loop-request-init
 loop-request-init c = requests_none c.args.recorder.now c.requires.none

@@ -6,6 +6,10 @@ use std::process::ExitCode;
 
 mod completion;
 mod failure;
+mod import_fault;
+mod import_layout;
+mod import_run;
+mod import_words;
 mod note;
 mod output;
 mod program;

@@ -2,6 +2,7 @@
 
 use crate::completion::script;
 use crate::failure::Failure;
+use crate::import_run::import;
 use crate::note::{note_on, reason_note};
 use crate::output::{Output, print, standard_output};
 use crate::progress::ProgressLine;
@@ -145,6 +146,7 @@ fn obey_words<R: Runtime + AllocGlobal + Threads + Wait + Sync>(
     match name {
         "prove" => over_report(rt, words),
         "completions" => complete(rt, words.get_str("SHELL").unwrap_or("")),
+        "import" => Ok(import(rt, words)),
         _ => over_input(rt, on_terminal),
     }
 }

@@ -15,7 +15,7 @@ pub(crate) struct Subcommand {
 }
 
 /// The subcommands, in the order of the help.
-pub(crate) const SUBCOMMANDS: [Subcommand; 10] = [
+pub(crate) const SUBCOMMANDS: [Subcommand; 11] = [
     Subcommand {
         name: "check",
         about: "Tests a trace or a recording and prints its counts and what its waiting cost",
@@ -74,6 +74,25 @@ pub(crate) const SUBCOMMANDS: [Subcommand; 10] = [
         about: "Prints the recording of a trace: its requests with their windows, and what each device, adapter and link took",
         example: "Example: camxpt record examples/frozen-device.csv",
         words: &[Word::Verbose, Word::Trace],
+    },
+    Subcommand {
+        name: "import",
+        about: "Prints the recording of a capture by blktrace or fio, or of a CSV file with named columns",
+        example: "Example: camxpt import --from blkparse --round 10ms examples/mixed.blkparse > recording.csv",
+        words: &[
+            Word::From,
+            Word::Round,
+            Word::Unit,
+            Word::Priority,
+            Word::Driver,
+            Word::Device,
+            Word::Host,
+            Word::Rated,
+            Word::FromTime,
+            Word::ToTime,
+            Word::Lenient,
+            Word::Files,
+        ],
     },
     Subcommand {
         name: "completions",

@@ -20,6 +20,18 @@ pub(crate) enum Word {
     Script,
     Seed,
     Shell,
+    From,
+    Round,
+    Unit,
+    Priority,
+    Driver,
+    Device,
+    Host,
+    Rated,
+    FromTime,
+    ToTime,
+    Lenient,
+    Files,
 }
 
 impl Word {
@@ -75,8 +87,108 @@ impl Word {
             .required(true),
             Word::Seed => seed(alloc),
             Word::Shell => named(alloc, "SHELL", "bash, zsh or fish").required(true),
+            _ => self.import_arg(alloc),
         }
     }
+
+    // The same of an argument of `import`.
+    fn import_arg<'a>(self, alloc: Global) -> Arg<'a> {
+        match self {
+            Word::From => option(
+                alloc,
+                "from",
+                "KIND",
+                "What the files are: blkparse, fio or csv",
+            )
+            .required(true),
+            Word::Round => option(
+                alloc,
+                "round",
+                "TIME",
+                "How long a round is, as 10ms; the mean time between starts of the busiest device if it is left out",
+            ),
+            Word::Unit => option(
+                alloc,
+                "unit",
+                "UNIT",
+                "The unit of times in CSV: ns, us, ms or s; s if it is left out",
+            ),
+            Word::Priority => option(
+                alloc,
+                "priority",
+                "HOW",
+                "Where priorities come from: by-class, by-direction or flat; by-class if it is left out",
+            ),
+            Word::Driver => several(
+                alloc,
+                "driver",
+                "NAME=PRIORITY",
+                "The priority of all requests of a process or job",
+            ),
+            Word::Device => several(
+                alloc,
+                "device",
+                "NAME",
+                "A device whose requests are taken; all if none is named",
+            ),
+            Word::Host => several(
+                alloc,
+                "host",
+                "NAME=ADAPTER:OPENINGS",
+                "The adapter of a device, and how many requests that adapter takes in a round",
+            ),
+            Word::Rated => several(
+                alloc,
+                "rated",
+                "NAME=OPENINGS",
+                "How many requests a device takes in a round, where it isn't measured",
+            ),
+            Word::FromTime => option(
+                alloc,
+                "from-time",
+                "SECONDS",
+                "Leaves out what arrives before this time of the capture",
+            ),
+            Word::ToTime => option(
+                alloc,
+                "to-time",
+                "SECONDS",
+                "Leaves out what arrives at this time of the capture or later",
+            ),
+            Word::Lenient => flag(
+                alloc,
+                "lenient",
+                "Counts lines that aren't of their form and leaves them out",
+            ),
+            _ => named(
+                alloc,
+                "FILE",
+                "The files of the capture; - is standard input",
+            )
+            .required(true)
+            .num_args(1..)
+            .action(ArgAction::Append),
+        }
+    }
+}
+
+fn option<'a>(
+    alloc: Global,
+    name: &'static str,
+    value: &'static str,
+    help: &'static str,
+) -> Arg<'a> {
+    named(alloc, name, help).long(name).value_name(value)
+}
+
+// An option that may be given several times.
+fn several<'a>(
+    alloc: Global,
+    name: &'static str,
+    value: &'static str,
+    help: &'static str,
+) -> Arg<'a> {
+    option(alloc, name, value, help).action(ArgAction::Append)
 }
 
 fn flag<'a>(alloc: Global, name: &'static str, help: &'static str) -> Arg<'a> {

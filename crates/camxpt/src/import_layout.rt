@@ -1,0 +1,145 @@
+//! The adapters and devices of an imported recording, and the names in it.
+
+ghost use Rattle.std.specs.Prelude.{◌≡◌, [], IfOk};
+ghost use Rattle.cam_types.specs.Topology.{Topology};
+
+use crate::import_fault::ImportFault;
+use crate::import_words::{host_of, rating_of};
+use cam_types::{Adapter, Config, Device, standard_weights};
+use capture::Capture;
+use capture_file::Capture as Read;
+use clap::ArgMatches;
+use recording_file::{Name, NameKind};
+use std::alloc::{AllocError, Global};
+
+// The most openings of an adapter.
+const MOST: u32 = 255;
+
+/// The adapters that the words give their devices, and whether each takes what it is sent. Devices without an adapter share one
+/// after those that are given.
+pub fn adapters_of(
+    alloc: Global,
+    words: &ArgMatches<'_>,
+    names: &[String],
+) -> Result<(Vec<Adapter>, Vec<bool>), ImportFault> {
+    let mut adapters = Vec::new(alloc);
+    let mut open = Vec::new(alloc);
+    for number in 0..count_of(words, names)? {
+        let openings = openings_of(words, names, number)?;
+        open.push(openings.is_none())?;
+        adapters.push(Adapter {
+            openings: openings.unwrap_or(MOST),
+            link: None,
+        })?;
+    }
+    Ok((adapters, open))
+}
+
+// How many adapters there are.
+fn count_of(words: &ArgMatches<'_>, names: &[String]) -> Result<u32, ImportFault> {
+    let mut given = 0u32;
+    let mut shared = names.is_empty();
+    for name in names {
+        match host_of(words, name)? {
+            Some((adapter, _)) => given = given.max(adapter.saturating_add(1)),
+            None => shared = true,
+        }
+    }
+    Ok(if shared {
+        given.saturating_add(1)
+    } else {
+        given
+    })
+}
+
+// The openings of an adapter, if they are given.
+fn openings_of(
+    words: &ArgMatches<'_>,
+    names: &[String],
+    number: u32,
+) -> Result<Option<u32>, ImportFault> {
+    for name in names {
+        if let Some((adapter, openings)) = host_of(words, name)?
+            && adapter == number
+        {
+            return Ok(Some(openings));
+        }
+    }
+    Ok(None)
+}
+
+/// The devices, each with the openings that are given or that it usually takes, and whether they were given.
+pub fn devices_of(
+    alloc: Global,
+    words: &ArgMatches<'_>,
+    capture: &Capture,
+    names: &[String],
+) -> Result<(Vec<Device>, Vec<bool>), ImportFault> {
+    let last = count_of(words, names)?.saturating_sub(1);
+    let mut devices = Vec::new(alloc);
+    let mut rated = Vec::new(alloc);
+    let mut number = 0u32;
+    for name in names {
+        let adapter = match host_of(words, name)? {
+            Some((adapter, _)) => adapter,
+            None => last,
+        };
+        let rating = rating_of(words, name)?;
+        rated.push(rating.is_some())?;
+        let openings = match rating {
+            Some(openings) => openings,
+            None => capture.usual_taken(alloc, number)?,
+        };
+        let device = device_on(&devices, adapter, openings);
+        devices.push(device)?;
+        number = number.saturating_add(1);
+    }
+    Ok((devices, rated))
+}
+
+// The next device of an adapter: targets are numbered from 1.
+fn device_on(devices: &[Device], adapter: u32, openings: u32) -> Device {
+    let bus = u8::try_from(adapter).unwrap_or(u8::MAX);
+    let before = devices.iter().filter(|device| device.bus == bus).count();
+    Device {
+        bus,
+        target: u16::try_from(before.saturating_add(1)).unwrap_or(u16::MAX),
+        lun: 0,
+        openings,
+    }
+}
+
+/// A configuration with the standard weights and without lanes.
+pub fn config_of(
+    alloc: Global,
+    adapters: &[Adapter],
+    devices: &[Device],
+) -> Result<Config, ImportFault>
+    ensures { IfOk result (λ (c : Topology). c.lanes ≡ []) }
+{
+    Ok(Config::with_links(alloc, &standard_weights(), &[], adapters, devices, &[])?)
+}
+
+/// The names of drivers and devices, but for those that no recording can have.
+pub fn names_of(alloc: Global, read: &Read) -> Result<Vec<Name>, AllocError> {
+    let mut names = Vec::new(alloc);
+    add_names(alloc, &mut names, NameKind::Driver, &read.drivers)?;
+    add_names(alloc, &mut names, NameKind::Device, &read.devices)?;
+    Ok(names)
+}
+
+fn add_names(
+    alloc: Global,
+    names: &mut Vec<Name>,
+    kind: NameKind,
+    texts: &[String],
+) -> Result<(), AllocError> {
+    let mut number = 0u32;
+    for text in texts {
+        if let Some(name) = Name::new(alloc, kind, number, text.as_bytes())? {
+            names.push(name)?;
+        }
+        number = number.saturating_add(1);
+    }
+    Ok(())
+}

@@ -1,0 +1,183 @@
+//! What the words of `import` ask for.
+
+use crate::import_fault::ImportFault;
+use cam_types::MOST_PRIORITY;
+use capture_file::{Options, Priorities, TimeUnit as CsvUnit};
+use clap::ArgMatches;
+use recording_file::{Span, TimeUnit};
+use std::alloc::{AllocError, Global};
+
+const DRIVER: &str = "--driver takes NAME=PRIORITY, a priority from 0 to 1279";
+
+const HOST: &str =
+    "--host takes DEVICE=ADAPTER:OPENINGS, an adapter from 0 to 7 and 1 to 255 openings";
+
+const RATED: &str = "--rated takes DEVICE=OPENINGS, 1 to 255";
+
+const ROUND: &str = "--round takes a number from 1 on and ns, us, ms or s, as 10ms";
+
+/// What kind of text the files are.
+#[derive(Clone, Copy)]
+pub enum Kind {
+    Blkparse,
+    Fio,
+    Csv(CsvUnit),
+}
+
+/// What kind of text the files are, by the words after `--from` and `--unit`. CSV has seconds if no unit is given.
+pub fn kind_of(words: &ArgMatches<'_>) -> Result<Kind, ImportFault> {
+    match words.get_str("from") {
+        Some("blkparse") => Ok(Kind::Blkparse),
+        Some("fio") => Ok(Kind::Fio),
+        Some("csv") => Ok(Kind::Csv(unit_of(words)?)),
+        _ => Err(ImportFault::Word("--from takes blkparse, fio or csv")),
+    }
+}
+
+fn unit_of(words: &ArgMatches<'_>) -> Result<CsvUnit, ImportFault> {
+    match words.get_str("unit") {
+        None | Some("s") => Ok(CsvUnit::Seconds),
+        Some("ms") => Ok(CsvUnit::Milliseconds),
+        Some("us") => Ok(CsvUnit::Microseconds),
+        Some("ns") => Ok(CsvUnit::Nanoseconds),
+        Some(_) => Err(ImportFault::Word("--unit takes ns, us, ms or s")),
+    }
+}
+
+/// How long a round is, if that is given.
+pub fn round_of(words: &ArgMatches<'_>) -> Result<Option<Span>, ImportFault> {
+    match words.get_str("round") {
+        None => Ok(None),
+        Some(word) => match span(word) {
+            Some(span) => Ok(Some(span)),
+            None => Err(ImportFault::Word(ROUND)),
+        },
+    }
+}
+
+// A number and a unit.
+fn span(word: &str) -> Option<Span> {
+    let digits = word.trim_end_matches(|c: char| c.is_ascii_alphabetic());
+    let unit = match word.strip_prefix(digits)? {
+        "ns" => TimeUnit::Nanosecond,
+        "us" => TimeUnit::Microsecond,
+        "ms" => TimeUnit::Millisecond,
+        "s" => TimeUnit::Second,
+        _ => return None,
+    };
+    let count = digits.parse::<u32>().ok()?;
+    if count > 0 {
+        Some(Span { count, unit })
+    } else {
+        None
+    }
+}
+
+/// Which requests are taken, and with which priorities.
+pub fn options_of(alloc: Global, words: &ArgMatches<'_>) -> Result<Options, ImportFault> {
+    Ok(Options {
+        priorities: priorities_of(words)?,
+        drivers: drivers_of(alloc, words)?,
+        devices: devices_of(alloc, words)?,
+        one_device: None,
+        from_time: time_of(words, "from-time")?,
+        to_time: time_of(words, "to-time")?,
+    })
+}
+
+fn priorities_of(words: &ArgMatches<'_>) -> Result<Priorities, ImportFault> {
+    match words.get_str("priority") {
+        None | Some("by-class") => Ok(Priorities::Class),
+        Some("by-direction") => Ok(Priorities::Direction),
+        Some("flat") => Ok(Priorities::Flat),
+        Some(_) => Err(ImportFault::Word("--priority takes by-class, by-direction or flat")),
+    }
+}
+
+fn drivers_of(alloc: Global, words: &ArgMatches<'_>) -> Result<Vec<(String, u32)>, ImportFault> {
+    let mut drivers = Vec::new(alloc);
+    for word in all(words, "driver") {
+        let (name, priority) = named_number(word, MOST_PRIORITY, DRIVER)?;
+        drivers.push((String::from_str(alloc, name)?, priority))?;
+    }
+    Ok(drivers)
+}
+
+fn devices_of(alloc: Global, words: &ArgMatches<'_>) -> Result<Vec<String>, AllocError> {
+    let mut names = Vec::new(alloc);
+    for word in all(words, "device") {
+        names.push(String::from_str(alloc, word)?)?;
+    }
+    Ok(names)
+}
+
+// The words that are given to an option which may be given several times.
+fn all<'m, 'a>(words: &'m ArgMatches<'a>, id: &str) -> &'m [&'a str] {
+    words.get_strs(id).unwrap_or(&[])
+}
+
+// A name and a number of at most `most`, with an equals sign between them.
+fn named_number<'a>(
+    word: &'a str,
+    most: u32,
+    what: &'static str,
+) -> Result<(&'a str, u32), ImportFault> {
+    let Some((name, number)) = word.rsplit_once('=') else {
+        return Err(ImportFault::Word(what));
+    };
+    match number.parse::<u32>() {
+        Ok(number) if number <= most => Ok((name, number)),
+        _ => Err(ImportFault::Word(what)),
+    }
+}
+
+// A time in seconds, which may have a fraction, in nanoseconds.
+fn time_of(words: &ArgMatches<'_>, id: &str) -> Result<Option<u64>, ImportFault> {
+    match words.get_str(id) {
+        None => Ok(None),
+        Some(word) => match capture_file::time_of(word.as_bytes(), CsvUnit::Seconds.nanoseconds()) {
+            Some(time) => Ok(Some(time)),
+            None => Err(ImportFault::Word("--from-time and --to-time take seconds, as 1.5")),
+        },
+    }
+}
+
+/// What a device is rated at, if that is given.
+pub fn rating_of(words: &ArgMatches<'_>, device: &str) -> Result<Option<u32>, ImportFault> {
+    for word in all(words, "rated") {
+        let (name, openings) = named_number(word, 255, RATED)?;
+        if openings == 0 {
+            return Err(ImportFault::Word(RATED));
+        }
+        if name == device {
+            return Ok(Some(openings));
+        }
+    }
+    Ok(None)
+}
+
+/// The adapter of a device, and how many openings it has in a round, if that is given.
+pub fn host_of(words: &ArgMatches<'_>, device: &str) -> Result<Option<(u32, u32)>, ImportFault> {
+    for word in all(words, "host") {
+        let (name, host) = host_in(word)?;
+        if name == device {
+            return Ok(Some(host));
+        }
+    }
+    Ok(None)
+}
+
+// A device with its adapter and that one's openings.
+fn host_in(word: &str) -> Result<(&str, (u32, u32)), ImportFault> {
+    if let Some((name, rest)) = word.rsplit_once('=')
+        && let Some((adapter, openings)) = rest.split_once(':')
+        && let (Ok(adapter), Ok(openings)) = (adapter.parse::<u32>(), openings.parse::<u32>())
+        && adapter < 8
+        && openings > 0
+        && openings < 256
+    {
+        Ok((name, (adapter, openings)))
+    } else {
+        Err(ImportFault::Word(HOST))
+    }
+}

@@ -1,0 +1,235 @@
+//! The lines of blkparse's default text.
+
+use crate::line_fault::{Field, LineFault};
+use crate::number::{number, time_of};
+use crate::words::{bracketed, next_word};
+
+// How the lines of the statistics begin.
+const STATISTICS: [&str; 9] = [
+    "CPU",
+    "Total (",
+    "Throughput",
+    "Events (",
+    "Skips",
+    "Input file",
+    "Read",
+    "PC Read",
+    "IO unplugs",
+];
+
+/// What an event says of a request.
+#[derive(Clone, Copy, Debug, PartialEq, Eq)]
+pub enum Action {
+    /// `Q`: it arrived.
+    Arrives,
+    /// `M`: it became the end of a request that waits.
+    JoinsEnd,
+    /// `F`: it became the front of a request that waits.
+    JoinsFront,
+    /// `D`: it was started.
+    Starts,
+    /// `R`: it was put back, and will be started again.
+    Returns,
+    /// `C`: it was completed.
+    Completes,
+}
+
+/// The sectors of a request.
+#[derive(Clone, Copy, Debug, PartialEq, Eq)]
+pub enum Extent {
+    /// From the first number on as many as the second says.
+    Sectors(u64, u64),
+    /// None: a flush.
+    Flush,
+    /// None: a command of `SG_IO`, which has no arrival.
+    Command,
+}
+
+/// An event of a request.
+#[derive(Clone, Copy, Debug)]
+pub struct RequestEvent<'a> {
+    pub device: &'a [u8],
+    pub action: Action,
+    pub flags: &'a [u8],
+    pub extent: Extent,
+    pub process: &'a [u8],
+}
+
+/// An event: its time, and what it says of a request, if it does.
+#[derive(Clone, Copy, Debug)]
+pub struct Event<'a> {
+    pub time: u64,
+    pub request: Option<RequestEvent<'a>>,
+}
+
+/// The event of a line. None if the line is blank or one of the statistics.
+pub fn event_of(line: &[u8]) -> Result<Option<Event<'_>>, LineFault> {
+    let text = line.trim_ascii();
+    if is_skipped(text) {
+        return Ok(None);
+    }
+    let (device, text) = device_word(text)?;
+    let (time, text) = stamp(text)?;
+    let request = request_of(device, text)?;
+    Ok(Some(Event { time, request }))
+}
+
+// The cpu, the sequence number, the time and the process id, of which the time is wanted.
+fn stamp(text: &[u8]) -> Result<(u64, &[u8]), LineFault> {
+    let text = past_number(text, Field::Cpu)?;
+    let text = past_number(text, Field::Sequence)?;
+    let (time, text) = time_word(text)?;
+    Ok((time, past_number(text, Field::Process)?))
+}
+
+fn request_of<'a>(device: &'a [u8], text: &'a [u8]) -> Result<Option<RequestEvent<'a>>, LineFault> {
+    let (action, text) = word(text)?;
+    let (flags, text) = word(text)?;
+    match action_of(action)? {
+        None => Ok(None),
+        Some(action) => Ok(Some(request_event(device, action, flags, text)?)),
+    }
+}
+
+fn request_event<'a>(
+    device: &'a [u8],
+    action: Action,
+    flags: &'a [u8],
+    text: &'a [u8],
+) -> Result<RequestEvent<'a>, LineFault> {
+    check_flags(flags)?;
+    let process = bracketed(text).ok_or(LineFault::NotAnEvent)?;
+    let extent = extent_of(text)?;
+    Ok(RequestEvent {
+        device,
+        action,
+        flags,
+        extent,
+        process,
+    })
+}
+
+fn check_flags(flags: &[u8]) -> Result<(), LineFault> {
+    if flags.iter().all(|byte| byte.is_ascii_uppercase()) {
+        Ok(())
+    } else {
+        Err(LineFault::NotAnEvent)
+    }
+}
+
+// Blank lines, and those of the statistics.
+fn is_skipped(text: &[u8]) -> bool {
+    match text.first() {
+        None => true,
+        Some(first) => !first.is_ascii_digit() && is_statistics(text),
+    }
+}
+
+fn is_statistics(text: &[u8]) -> bool {
+    STATISTICS
+        .iter()
+        .any(|word| text.starts_with(word.as_bytes()))
+}
+
+fn word(text: &[u8]) -> Result<(&[u8], &[u8]), LineFault> {
+    next_word(text).ok_or(LineFault::NotAnEvent)
+}
+
+fn past_number(text: &[u8], field: Field) -> Result<&[u8], LineFault> {
+    let (digits, rest) = word(text)?;
+    match number(digits) {
+        None => Err(LineFault::BadNumber(field)),
+        Some(_) => Ok(rest),
+    }
+}
+
+// Seconds with nine digits after the point.
+fn time_word(text: &[u8]) -> Result<(u64, &[u8]), LineFault> {
+    let (digits, rest) = word(text)?;
+    match seconds(digits) {
+        None => Err(LineFault::BadNumber(Field::Time)),
+        Some(time) => Ok((time, rest)),
+    }
+}
+
+fn seconds(digits: &[u8]) -> Option<u64> {
+    let point = digits.iter().position(|byte| *byte == b'.')?;
+    if digits.get(point..)?.len() != 10 {
+        return None;
+    }
+    time_of(digits, 1_000_000_000)
+}
+
+// A major and a minor number.
+fn device_word(text: &[u8]) -> Result<(&[u8], &[u8]), LineFault> {
+    let (device, rest) = word(text)?;
+    match device_numbers(device) {
+        None => Err(LineFault::NotAnEvent),
+        Some(_) => Ok((device, rest)),
+    }
+}
+
+fn device_numbers(text: &[u8]) -> Option<(u64, u64)> {
+    let comma = text.iter().position(|byte| *byte == b',')?;
+    let major = number(text.get(..comma)?)?;
+    let minor = number(text.get(comma..)?.get(1..)?)?;
+    Some((major, minor))
+}
+
+// None for the actions that say nothing of when a request arrives or starts.
+fn action_of(word: &[u8]) -> Result<Option<Action>, LineFault> {
+    match word {
+        [letter] => action_of_letter(*letter),
+        [b'U', b'T'] => Ok(None),
+        _ => Err(LineFault::NotAnEvent),
+    }
+}
+
+fn action_of_letter(letter: u8) -> Result<Option<Action>, LineFault> {
+    match letter {
+        b'Q' => Ok(Some(Action::Arrives)),
+        b'M' => Ok(Some(Action::JoinsEnd)),
+        b'F' => Ok(Some(Action::JoinsFront)),
+        b'D' => Ok(Some(Action::Starts)),
+        b'R' => Ok(Some(Action::Returns)),
+        b'C' => Ok(Some(Action::Completes)),
+        b'G' | b'I' | b'A' | b'X' | b'm' | b'P' | b'U' | b'B' | b'S' => Ok(None),
+        _ => Err(LineFault::NotAnEvent),
+    }
+}
+
+fn extent_of(text: &[u8]) -> Result<Extent, LineFault> {
+    let (first, rest) = word(text)?;
+    match first.first() {
+        Some(b'[') => Ok(Extent::Flush),
+        Some(b'(') => Ok(Extent::Command),
+        _ => match number(first) {
+            None => Err(LineFault::BadNumber(Field::Sector)),
+            Some(sector) => extent_from(sector, rest),
+        },
+    }
+}
+
+fn extent_from(sector: u64, text: &[u8]) -> Result<Extent, LineFault> {
+    let (second, rest) = word(text)?;
+    match second.first() {
+        Some(b'+') => Ok(Extent::Sectors(sector, sectors_of(rest)?)),
+        Some(b'(') => Ok(Extent::Command),
+        Some(b'[') => flush_completion(sector),
+        _ => Err(LineFault::NotAnEvent),
+    }
+}
+
+fn sectors_of(text: &[u8]) -> Result<u64, LineFault> {
+    let (digits, _) = word(text)?;
+    number(digits).ok_or(LineFault::BadNumber(Field::Sectors))
+}
+
+// A flush is completed at sector 0.
+fn flush_completion(sector: u64) -> Result<Extent, LineFault> {
+    if sector == 0 {
+        Ok(Extent::Flush)
+    } else {
+        Err(LineFault::NotAnEvent)
+    }
+}

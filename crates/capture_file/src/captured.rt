@@ -1,0 +1,42 @@
+//! What is read from a capture.
+
+use capture::TimedRequest;
+
+/// The requests of a capture, by arrival, and of equal arrivals in the order of the input.
+#[derive(Debug, Drop)]
+pub struct Capture {
+    /// The requests. Their drivers and devices are places in the two lists below.
+    pub requests: Vec<TimedRequest>,
+    /// The devices that have requests, in the order in which the input names them: `8,16` (major and minor number), or the
+    /// name of a file. At most 32.
+    pub devices: Vec<String>,
+    /// The drivers that have requests, in the order in which the input names them: processes or jobs. At most 256.
+    pub drivers: Vec<String>,
+    /// What was read and what was left out.
+    pub counts: Counts,
+}
+
+/// How much was read, and how much was left out.
+#[derive(Clone, Copy, Debug, Default, PartialEq, Eq)]
+pub struct Counts {
+    /// Lines, also blank and refused ones.
+    pub lines: u64,
+    /// Requests of the capture. Each attempt is one.
+    pub requests: u64,
+    /// Requests of the capture that were never started.
+    pub never_started: u64,
+    /// Starts, completions and requeues whose arrival isn't in the input: it began late.
+    pub without_arrival: u64,
+    /// Requests that were completed with no start in the input, on devices that have starts. They are left out.
+    pub without_start: u64,
+    /// Devices where nothing was started (dm, md). They are left out.
+    pub devices_without_starts: u64,
+    /// The requests of those devices.
+    pub requests_without_starts: u64,
+    /// Lines that were refused and left out.
+    pub refused_lines: u64,
+    /// Records of fio's latency logs that belong to no request of the iolog.
+    pub without_partner: u64,
+    /// Earlier runs of fio in an iolog to which a later one was appended. They are left out.
+    pub dropped_runs: u64,
+}

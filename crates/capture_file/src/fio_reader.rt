@@ -1,0 +1,275 @@
+//! Reads fio's logs.
+
+use crate::captured::{Capture, Counts};
+use crate::finishing::{Drivers, capture_of};
+use crate::fio_job::{Job, direction_priority, job_name};
+use crate::fio_lines::{
+    IologLine, IologVersion, LatencyRecord, Piece, iolog_line, iolog_version, latency_record,
+};
+use crate::line_fault::{Field, LineFault};
+use crate::line_reader::LineReader;
+use crate::names::Names;
+use crate::options::{Options, Priorities};
+use crate::priority::{USUAL, class_priority};
+use capture::TimedRequest;
+use std::alloc::Global;
+
+// What the lines of the file are. The number is the job's.
+#[derive(Clone, Copy, Debug)]
+enum FileKind {
+    None,
+    Begun(usize),
+    Iolog(usize, IologVersion),
+    LatencyLog(usize),
+}
+
+/// Reads fio's iologs and latency logs, file by file and line by line.
+///
+/// A file is an iolog if its first line is `fio version 2 iolog` or `fio version 3 iolog`, else a latency log. A job's iolog
+/// comes before its latency log; they are of one job if `NAME.iolog` and `NAME_lat.log` or `NAME_lat.N.log` have the same name.
+/// A record belongs to the first request of the same direction, bytes and offset that has none yet. The logs have no starts: a
+/// request's start is its completion, and one without a record never started. If the records have milliseconds since 1970
+/// (`log_unix_epoch=1`), those jobs are aligned by them to about a millisecond, the earliest at 0.
+#[derive(Debug, Drop)]
+pub struct FioReader {
+    alloc: Global,
+    options: Options,
+    devices: Names,
+    drivers: Drivers,
+    job_names: Names,
+    jobs: Vec<Option<Job>>,
+    file: FileKind,
+    counts: Counts,
+}
+
+impl FioReader {
+    /// A reader that has no files yet.
+    pub fn new(alloc: Global, options: Options) -> FioReader {
+        FioReader {
+            alloc,
+            options,
+            devices: Names::new(alloc),
+            drivers: Drivers::new(alloc),
+            job_names: Names::new(alloc),
+            jobs: Vec::new(alloc),
+            file: FileKind::None,
+            counts: Counts::default(),
+        }
+    }
+
+    /// Begins a file. The lines that come next are its lines.
+    ///
+    /// # Errors
+    ///
+    /// `OutOfMemory` if no memory is left.
+    pub fn begin_file(&mut self, path: &str) -> Result<(), LineFault> {
+        let name = job_name(path.as_bytes());
+        let job = match self.job_names.number_of(name) {
+            Some(job) => job,
+            None => {
+                self.jobs.push(None)?;
+                self.job_names.add(name)?
+            }
+        };
+        self.file = FileKind::Begun(job);
+        Ok(())
+    }
+
+    /// What was read.
+    ///
+    /// # Errors
+    ///
+    /// `TooManyDevices` if more than 32 devices have requests, `OutOfMemory` if no memory is left.
+    pub fn finish(self) -> Result<Capture, LineFault> {
+        let origin = earliest_start(&self.jobs);
+        let mut requests = Vec::new(self.alloc);
+        for job in self.jobs.iter() {
+            if let Some(job) = job {
+                add_requests(&mut requests, job, origin)?;
+            }
+        }
+        capture_of(
+            self.alloc,
+            &self.options,
+            requests,
+            self.devices.list(),
+            self.drivers.list(),
+            self.counts,
+        )
+    }
+
+    // The first line of a file.
+    fn first_line(&mut self, job: usize, line: &[u8]) -> Result<(), LineFault> {
+        let is_begun = matches!(self.jobs.get(job), Some(Some(_)));
+        match iolog_version(line) {
+            Some(_) if is_begun => Err(LineFault::SecondIolog),
+            Some(version) => self.begin_iolog(job, version),
+            None if is_begun => {
+                self.file = FileKind::LatencyLog(job);
+                self.record(job, line)
+            }
+            None => Err(LineFault::NoIolog),
+        }
+    }
+
+    fn begin_iolog(&mut self, number: usize, version: IologVersion) -> Result<(), LineFault> {
+        let name = self.job_names.list().get(number).ok_or(LineFault::NoFile)?;
+        let (driver, own) = self.drivers.number(&self.options, name.as_slice())?;
+        if let Some(job) = self.jobs.get_mut(number) {
+            *job = Some(Job::new(self.alloc, driver, own));
+        }
+        self.file = FileKind::Iolog(number, version);
+        Ok(())
+    }
+
+    fn iolog(&mut self, job: usize, version: IologVersion, line: &[u8]) -> Result<(), LineFault> {
+        if let Some(version) = iolog_version(line) {
+            self.counts.dropped_runs = self.counts.dropped_runs.saturating_add(1);
+            return self.begin_iolog(job, version);
+        }
+        match iolog_line(version, line)? {
+            IologLine::Other => Ok(()),
+            IologLine::Wait(time) => self.wait(job, time),
+            IologLine::Request { time, file, piece } => self.request(job, time, file, piece),
+        }
+    }
+
+    fn wait(&mut self, job: usize, microseconds: u64) -> Result<(), LineFault> {
+        if let Some(Some(job)) = self.jobs.get_mut(job) {
+            let Some(clock) = microseconds
+                .checked_mul(1000)
+                .and_then(|time| time.checked_add(job.clock))
+            else {
+                return Err(LineFault::BadNumber(Field::Time));
+            };
+            job.clock = clock;
+        }
+        Ok(())
+    }
+
+    fn request(
+        &mut self,
+        job: usize,
+        microseconds: Option<u64>,
+        file: &[u8],
+        piece: Piece,
+    ) -> Result<(), LineFault> {
+        let time = match microseconds {
+            None => None,
+            Some(time) => Some(
+                time.checked_mul(1000)
+                    .ok_or(LineFault::BadNumber(Field::Time))?,
+            ),
+        };
+        let device = match self.options.takes_device(file) {
+            false => None,
+            true => Some(self.device(file)?),
+        };
+        let flat = self.options.priorities == Priorities::Flat;
+        let Some(Some(job)) = self.jobs.get_mut(job) else {
+            return Err(LineFault::NoIolog);
+        };
+        let usual = if flat {
+            USUAL
+        } else {
+            direction_priority(piece.direction)
+        };
+        let arrival = time.unwrap_or(job.clock);
+        let request = match device {
+            None => None,
+            Some(device) => Some(TimedRequest {
+                arrival,
+                started: None,
+                retried: None,
+                driver: job.driver,
+                device,
+                priority: job.own_priority.unwrap_or(usual),
+            }),
+        };
+        job.add(piece, request)?;
+        Ok(())
+    }
+
+    fn device(&mut self, file: &[u8]) -> Result<u32, LineFault> {
+        let name = self.options.listed_device(file);
+        let number = match self.devices.number_of(name) {
+            Some(number) => number,
+            None => self.devices.add(name)?,
+        };
+        u32::try_from(number).map_err(|_| LineFault::TooManyDevices)
+    }
+
+    fn record(&mut self, job: usize, line: &[u8]) -> Result<(), LineFault> {
+        let record = latency_record(line)?;
+        let by_class = self.options.priorities == Priorities::Class;
+        let Some(Some(job)) = self.jobs.get_mut(job) else {
+            return Err(LineFault::NoIolog);
+        };
+        let priority = record_priority(job, by_class, record);
+        if !job.join(record, priority)? {
+            self.counts.without_partner = self.counts.without_partner.saturating_add(1);
+        }
+        Ok(())
+    }
+}
+
+impl LineReader for FioReader {
+    /// Takes a line of the file that was begun last. Blank lines are passed over.
+    ///
+    /// # Errors
+    ///
+    /// `NoFile`, `NoIolog` and `SecondIolog` of files; `NotAnAction`, `NotARecord`, `BadNumber`, `NoOffset`, `Averages` and
+    /// `TooManyDrivers` of lines; `OutOfMemory`.
+    fn take(&mut self, line: &[u8]) -> Result<(), LineFault> {
+        self.counts.lines = self.counts.lines.saturating_add(1);
+        if line.trim_ascii().is_empty() {
+            return Ok(());
+        }
+        match self.file {
+            FileKind::None => Err(LineFault::NoFile),
+            FileKind::Begun(job) => self.first_line(job, line),
+            FileKind::Iolog(job, version) => self.iolog(job, version, line),
+            FileKind::LatencyLog(job) => self.record(job, line),
+        }
+    }
+
+    fn count_refused(&mut self) {
+        self.counts.refused_lines = self.counts.refused_lines.saturating_add(1);
+    }
+}
+
+// The priority that a record gives to its request, if it does.
+fn record_priority(job: &Job, by_class: bool, record: LatencyRecord) -> Option<u32> {
+    match (by_class, job.own_priority) {
+        (true, None) => record.ioprio.map(class_priority),
+        _ => None,
+    }
+}
+
+fn earliest_start(jobs: &[Option<Job>]) -> u64 {
+    let mut earliest = u64::MAX;
+    for job in jobs {
+        if let Some(job) = job {
+            earliest = earliest.min(job.start.unwrap_or(u64::MAX));
+        }
+    }
+    earliest
+}
+
+fn add_requests(requests: &mut Vec<TimedRequest>, job: &Job, origin: u64) -> Result<(), LineFault> {
+    let shift = job.start.unwrap_or(origin).saturating_sub(origin);
+    for request in job.requests.iter() {
+        if let Some(request) = request {
+            requests.push(shifted(*request, shift))?;
+        }
+    }
+    Ok(())
+}
+
+fn shifted(request: TimedRequest, shift: u64) -> TimedRequest {
+    TimedRequest {
+        arrival: request.arrival.saturating_add(shift),
+        started: request.started.map(|time| time.saturating_add(shift)),
+        ..request
+    }
+}

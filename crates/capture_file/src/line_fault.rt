@@ -1,0 +1,121 @@
+//! Why a line is refused.
+
+ghost use Rattle.std.specs.Prelude.{◌≡◌};
+ghost use Rattle.capture_file.specs.declared.line_fault.LineFault.TheVariants.{OutOfMemory};
+
+use std::alloc::{AllocError, AllocFailed};
+use std::fmt;
+use thiserror::Error;
+
+/// A field of a line.
+#[derive(Clone, Copy, Debug, PartialEq, Eq)]
+pub enum Field {
+    Cpu,
+    Sequence,
+    Time,
+    Process,
+    Sector,
+    Sectors,
+    Offset,
+    Bytes,
+    Latency,
+    Direction,
+    Start,
+    End,
+    Priority,
+}
+
+impl fmt::Display for Field {
+    fn fmt<W: fmt::Write>(&self, f: &mut fmt::Formatter<W>) -> fmt::Result {
+        f.write_str(match self {
+            Field::Cpu => "cpu",
+            Field::Sequence => "sequence number",
+            Field::Time => "time",
+            Field::Process => "process id",
+            Field::Sector => "sector",
+            Field::Sectors => "count of sectors",
+            Field::Offset => "offset",
+            Field::Bytes => "count of bytes",
+            Field::Latency => "latency",
+            Field::Direction => "direction",
+            Field::Start => "start",
+            Field::End => "end",
+            Field::Priority => "priority",
+        })
+    }
+}
+
+/// Why a line is refused. It is then left out.
+#[derive(Clone, Copy, Debug, PartialEq, Eq, Error)]
+pub enum LineFault {
+    /// The line isn't one of blkparse's.
+    #[error("not an event")]
+    NotAnEvent,
+    /// The time is before that of an earlier line.
+    #[error("the time is before that of an earlier line")]
+    TimeFalls,
+    /// A field isn't a number, or isn't in its range.
+    #[error("the {0} isn't a number in its range")]
+    BadNumber(Field),
+    /// The line names one driver more than there may be.
+    #[error("more than 256 drivers")]
+    TooManyDrivers,
+    /// The requests have more devices than there may be. Only the end of the input has this fault.
+    #[error("more than 32 devices: pick some by name")]
+    TooManyDevices,
+    /// The line isn't one of an iolog.
+    #[error("not a line of an iolog")]
+    NotAnAction,
+    /// The line isn't one of a latency log.
+    #[error("not a record of a latency log")]
+    NotARecord,
+    /// The latency log has no offsets or no priorities.
+    #[error("the latency log has no offsets or priorities: set log_offset=1 and log_prio=1")]
+    NoOffset,
+    /// The latency log has averages.
+    #[error("the latency log has averages: unset log_avg_msec")]
+    Averages,
+    /// The file isn't an iolog, and its job's iolog didn't come before it.
+    #[error("no iolog of this job came before this file")]
+    NoIolog,
+    /// The file is an iolog, and its job had one already.
+    #[error("a second iolog of this job")]
+    SecondIolog,
+    /// No file was begun.
+    #[error("no file was begun")]
+    NoFile,
+    /// The header of a CSV file has a column of another name, or the same name twice. Columns are numbered from 1.
+    #[error("column {0} is not one of arrival, start, end, device, driver and priority, or is there twice")]
+    BadColumn(u64),
+    /// The header of a CSV file lacks a column that is needed.
+    #[error("a column is missing: arrival, start and device are needed")]
+    MissingColumn,
+    /// The record hasn't as many fields as the header.
+    #[error("not as many fields as the header has columns")]
+    BadRecord,
+    /// The request was started before it arrived.
+    #[error("the start is before the arrival")]
+    StartedEarly,
+    /// The line is longer than 65,536 bytes.
+    #[error("a line of more than 65,536 bytes")]
+    TooLong,
+    /// There is no memory left.
+    #[error("out of memory")]
+    OutOfMemory,
+}
+
+impl From<AllocError> for LineFault {
+    ghost from_gives = { λ _ e. e ≡ OutOfMemory };
+
+    fn from(_error: AllocError) -> LineFault {
+        LineFault::OutOfMemory
+    }
+}
+
+impl<T: Drop> From<AllocFailed<T>> for LineFault {
+    ghost from_gives = { λ _ e. e ≡ OutOfMemory };
+
+    fn from(_error: AllocFailed<T>) -> LineFault {
+        LineFault::OutOfMemory
+    }
+}

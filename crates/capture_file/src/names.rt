@@ -1,0 +1,47 @@
+//! Names, numbered by first appearance.
+
+use std::alloc::{AllocError, Global};
+use std::collections::HashMap;
+
+/// Names, numbered from 0 on in the order in which they came.
+#[derive(Debug, Drop)]
+pub struct Names {
+    alloc: Global,
+    list: Vec<Vec<u8>>,
+    numbers: HashMap<Vec<u8>, usize>,
+}
+
+impl Names {
+    /// No names yet.
+    pub fn new(alloc: Global) -> Names {
+        Names {
+            alloc,
+            list: Vec::new(alloc),
+            numbers: HashMap::new(alloc),
+        }
+    }
+
+    /// The number of a name, if it came already.
+    pub fn number_of(&self, name: &[u8]) -> Option<usize> {
+        self.numbers.get(name).copied()
+    }
+
+    /// How many names there are.
+    pub fn len(&self) -> usize {
+        self.list.len()
+    }
+
+    /// Adds a name that is new, and answers its number.
+    pub fn add(&mut self, name: &[u8]) -> Result<usize, AllocError> {
+        let number = self.list.len();
+        self.list.push(Vec::from_slice(self.alloc, name)?)?;
+        self.numbers
+            .insert(Vec::from_slice(self.alloc, name)?, number)?;
+        Ok(number)
+    }
+
+    /// The names, in their order.
+    pub fn list(&self) -> &[Vec<u8>] {
+        self.list.as_slice()
+    }
+}

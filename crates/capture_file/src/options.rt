@@ -1,0 +1,86 @@
+//! What is taken from an input, and with which priorities.
+
+/// Where the priorities of requests come from.
+#[derive(Clone, Copy, Debug, Default, PartialEq, Eq)]
+pub enum Priorities {
+    /// By I/O class and level where the input has them, or by its priority column; else by direction.
+    #[default]
+    Class,
+    /// By direction. Without one, as best effort of level 4.
+    Direction,
+    /// All as best effort of level 4.
+    Flat,
+}
+
+/// What is taken from an input, and with which priorities.
+#[derive(Debug, Drop)]
+pub struct Options {
+    /// Where priorities come from.
+    pub priorities: Priorities,
+    /// Drivers with a priority of their own, which comes before the rest. Of two with one name the first counts.
+    pub drivers: Vec<(String, u32)>,
+    /// The devices that are taken, by name. Empty: all.
+    pub devices: Vec<String>,
+    /// The one device to which every request that is taken belongs. None: each belongs to its own.
+    pub one_device: Option<String>,
+    /// Requests that arrive before this time are left out, in nanoseconds of the input's clock.
+    pub from_time: Option<u64>,
+    /// Requests that arrive at or after this time are left out, in nanoseconds of the input's clock.
+    pub to_time: Option<u64>,
+}
+
+impl Options {
+    /// Whether the device of that name is taken.
+    pub fn takes_device(&self, name: &[u8]) -> bool {
+        self.devices.is_empty() || self.devices.iter().any(|device| device.as_bytes() == name)
+    }
+
+    /// The name by which requests of a device are listed.
+    pub fn listed_device<'a>(&'a self, name: &'a [u8]) -> &'a [u8] {
+        match &self.one_device {
+            None => name,
+            Some(device) => device.as_bytes(),
+        }
+    }
+
+    /// The priority that a driver has of its own.
+    pub fn driver_priority(&self, name: &[u8]) -> Option<u32> {
+        for (driver, priority) in self.drivers.iter() {
+            if driver.as_bytes() == name {
+                return Some(*priority);
+            }
+        }
+        None
+    }
+
+    /// Whether requests that arrive at a time are taken.
+    pub fn takes_time(&self, time: u64) -> bool {
+        self.from_time.is_none_or(|from| from <= time) && self.is_before_end(time)
+    }
+
+    /// Whether a time is before the end of what is taken.
+    pub fn is_before_end(&self, time: u64) -> bool {
+        self.to_time.is_none_or(|end| time < end)
+    }
+}
+
+/// The unit of the times of a CSV file.
+#[derive(Clone, Copy, Debug, PartialEq, Eq)]
+pub enum TimeUnit {
+    Nanoseconds,
+    Microseconds,
+    Milliseconds,
+    Seconds,
+}
+
+impl TimeUnit {
+    /// How many nanoseconds the unit has.
+    pub fn nanoseconds(self) -> u64 {
+        match self {
+            TimeUnit::Nanoseconds => 1,
+            TimeUnit::Microseconds => 1_000,
+            TimeUnit::Milliseconds => 1_000_000,
+            TimeUnit::Seconds => 1_000_000_000,
+        }
+    }
+}

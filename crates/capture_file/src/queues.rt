@@ -1,0 +1,68 @@
+//! Queues by key.
+
+use slab::Slab;
+use std::alloc::{AllocError, Global};
+use std::collections::HashMap;
+use std::hash::Hash;
+
+#[derive(Clone, Copy, Debug)]
+struct Ends {
+    first: usize,
+    last: usize,
+}
+
+#[derive(Clone, Copy, Debug)]
+struct Link {
+    value: usize,
+    next: Option<usize>,
+}
+
+/// A queue of numbers for each key, first in first out. Each call takes constant time.
+#[derive(Debug, Drop)]
+pub struct Queues<K: Copy + Eq + Hash + Drop> {
+    ends: HashMap<K, Ends>,
+    links: Slab<Link>,
+}
+
+impl<K: Copy + Eq + Hash + Drop> Queues<K> {
+    /// Empty queues.
+    pub fn new(alloc: Global) -> Queues<K> {
+        Queues {
+            ends: HashMap::new(alloc),
+            links: Slab::new(alloc),
+        }
+    }
+
+    /// Adds a number at the end of a key's queue.
+    pub fn push(&mut self, key: K, value: usize) -> Result<(), AllocError> {
+        let last = self.links.insert(Link { value, next: None })?;
+        let first = match self.ends.get(&key).copied() {
+            None => last,
+            Some(ends) => {
+                if let Some(link) = self.links.get_mut(ends.last) {
+                    link.next = Some(last);
+                }
+                ends.first
+            }
+        };
+        self.ends.insert(key, Ends { first, last })?;
+        Ok(())
+    }
+
+    /// Takes the first number of a key's queue.
+    pub fn pop(&mut self, key: &K) -> Option<usize> {
+        let ends = self.ends.get(key).copied()?;
+        let link = self.links.try_remove(ends.first)?;
+        match link.next {
+            None => {
+                self.ends.remove(key);
+            }
+            Some(first) => {
+                if let Some(ends) = self.ends.get_mut(key) {
+                    ends.first = first;
+                }
+            }
+        }
+        Some(link.value)
+    }
+}

@@ -1,0 +1,306 @@
+#!/usr/bin/env python3
+"""Reckons the requests of a capture anew, plainly: imported_model.py strict|lenient list|quiet KIND FILE ..
+
+KIND is blkparse, fio, csv-ns, csv-us, csv-ms or csv-s. Each file of blkparse or CSV is a capture of its own; those of fio are one,
+each job's iolog before its latency log. Open requests are lists in the order of arrivals, searched from the front.
+"""
+from __future__ import annotations
+
+import csv
+import os
+import re
+import sys
+from dataclasses import dataclass
+
+STATISTICS = ("CPU", "Total (", "Throughput", "Events (", "Skips", "Input file", "Read", "PC Read", "IO unplugs")
+IGNORED = ("G", "I", "A", "X", "m", "P", "U", "UT", "B", "S")
+NEEDED, COLUMNS = {"arrival", "start", "device"}, ("arrival", "start", "end", "device", "driver", "priority")
+COUNTS = ("lines", "requests", "never_started", "without_arrival", "without_start", "devices_without_starts",
+          "requests_without_starts", "refused_lines", "without_partner", "dropped_runs")
+BLANKS = " \t\r\n\f"
+
+
+class Refused(Exception):
+    """A line, or the whole, is refused."""
+
+
+@dataclass
+class Request:
+    arrival: int
+    device: str
+    driver: str
+    priority: int
+    started: int | None = None
+    retried: int | None = None
+    place: int | None = None
+    kept: bool = True
+
+
+def must(so: bool) -> None:
+    if not so:
+        raise Refused
+
+
+def number(text: str, base: int = 10) -> int:
+    must(re.fullmatch("[0-9]+" if base == 10 else "[0-9a-fA-F]+", text) is not None and int(text, base) < 2**64)
+    return int(text, base)
+
+
+def time_of(text: str, digits: int) -> int:
+    match = re.fullmatch(r"([0-9]+)(?:\.([0-9]+))?", text)
+    if match is None:
+        raise Refused
+    return number(str(int(match[1]) * 10**digits + int("0" + (match[2] or "")[:digits].ljust(digits, "0"))))
+
+
+def pick(requests: list[Request], device: str, place: int | None) -> Request | None:
+    for at, request in enumerate(requests):
+        if (request.device, request.place) == (device, place):
+            return requests.pop(at)
+    return None
+
+
+class Reader:
+    def __init__(self) -> None:
+        self.requests: list[Request] = []
+        self.devices: list[str] = []
+        self.drivers: list[str] = []
+        self.counts = dict.fromkeys(COUNTS, 0)
+
+    def take(self, line: str) -> None:
+        raise NotImplementedError
+
+    def add(self, request: Request) -> Request:
+        for name, names in ((request.driver, self.drivers), (request.device, self.devices)):
+            must(names is self.devices or name in names or len(names) < 256)
+            names += [] if name in names else [name]
+        self.requests.append(request)
+        return request
+
+    def finish(self) -> list[Request]:
+        return self.requests
+
+
+class Blkparse(Reader):
+    def __init__(self) -> None:
+        super().__init__()
+        self.last = 0
+        self.waiting: list[Request] = []
+        self.running: list[Request] = []
+        self.starts: set[str] = set()
+        self.ended: list[str] = []
+
+    def take(self, line: str) -> None:
+        text = line.strip(BLANKS)
+        if not text or (not text[0].isdigit() and text.startswith(STATISTICS)):
+            return
+        head = re.match(r"(\d+,\d+)\s+(\d+)\s+(\d+)\s+(\d+\.\d{9})\s+(\d+)\s+(\S+)\s+(\S+)(.*)", text, re.A | re.S)
+        if head is None:
+            raise Refused
+        for digits in (*head[1].split(","), head[2], head[3], head[5]):
+            number(digits)
+        time, action, rest = time_of(head[4], 9), head[6], head[8]
+        must(action in IGNORED or action in "QMFDRC")
+        if action not in IGNORED:
+            process = re.search(r"\[(.*)\]", rest, re.S)
+            must(re.fullmatch("[A-Z]+", head[7]) is not None and process is not None)
+            place, end = self.extent(rest)
+        must(time >= self.last)
+        self.last = time
+        if action not in IGNORED:
+            self.devices += [] if head[1] in self.devices else [head[1]]
+            self.starts |= {head[1]} if action == "D" else set()
+            self.counts["without_arrival"] += place == -1 and action != "Q"
+            if place != -1:
+                self.apply(time, head[1], action, head[7], place, end, process[1] if process else "")
+
+    @staticmethod
+    def extent(rest: str) -> tuple[int | None, int]:
+        """The first sector and the end. Of a flush None, of a command of SG_IO -1."""
+        words = rest.split()
+        if words[0][0] in "[(":
+            return (None if words[0][0] == "[" else -1), 0
+        sector, kind = number(words[0]), words[1][0] if len(words) > 1 else ""
+        must(kind in ("+", "(", "[") and (kind != "[" or sector == 0) and (kind != "+" or len(words) > 2))
+        return {"(": (-1, 0), "[": (None, 0)}.get(kind) or (sector, sector + number(words[2]))
+
+    @staticmethod
+    def priority(flags: str) -> int:
+        if flags[0] in "RW" and "M" not in flags:
+            if flags[0] == "R":
+                return 896 if "A" in flags else 640
+            return 896 if "S" in flags or "F" in flags else 1152
+        return 1279 if flags[0] == "D" else 640
+
+    def apply(self, time: int, device: str, action: str, flags: str, place: int | None, end: int, process: str) -> None:
+        if action == "Q":
+            self.waiting.append(self.add(Request(time, device, process, self.priority(flags), place=place)))
+            return
+        if action == "F":
+            behind = pick(self.waiting, device, end) if place is not None else None
+            if behind is None:
+                return
+            behind.place = place
+            merged = pick(self.waiting, device, place)
+            self.waiting.append(behind)
+        else:
+            merged = pick(self.waiting, device, place) if action == "M" else None
+        if merged is not None:
+            merged.kept = False
+        if action in "MF":
+            return
+        request = pick(self.waiting if action == "D" else self.running, device, place)
+        if request is not None and action == "D":
+            request.started = time
+            self.running.append(request)
+        elif request is not None and action == "R":
+            request.retried = time
+            self.waiting.append(self.add(Request(time, device, request.driver, request.priority, place=place)))
+        elif request is None:
+            ended = pick(self.waiting, device, place) if action == "C" else None
+            self.counts["without_arrival"] += ended is None
+            if ended is not None:
+                ended.kept = False
+                self.ended.append(device)
+
+    def finish(self) -> list[Request]:
+        idle = [r.device for r in self.requests if r.kept and r.device not in self.starts]
+        self.counts["devices_without_starts"] = len(set(self.devices) - self.starts)
+        self.counts["requests_without_starts"] = len(idle) + sum(d not in self.starts for d in self.ended)
+        self.counts["without_start"] = sum(d in self.starts for d in self.ended)
+        return [r for r in self.requests if r.kept and r.device in self.starts]
+
+
+class Fio(Reader):
+    def __init__(self) -> None:
+        super().__init__()
+        self.jobs: dict[str, list[tuple[tuple[int, ...], Request]]] = {}
+        self.epochs: dict[str, int] = {}
+        self.job, self.kind, self.clock = "", "none", 0
+
+    def begin_file(self, path: str) -> None:
+        self.job, self.kind = re.sub(r"(\.iolog|(_lat)?(\.[0-9.]+)?\.log)$", "", os.path.basename(path)), "begun"
+
+    def take(self, line: str) -> None:
+        line = line.strip(BLANKS)
+        header = re.fullmatch("fio version ([23]) iolog", line)
+        must(not line or self.kind != "begun" or (header is None) == (self.job in self.jobs))
+        if header and self.kind != "lat":
+            self.counts["dropped_runs"] += self.kind != "begun"
+            self.jobs[self.job], self.clock, self.kind = [], 0, header[1]
+            must(len(self.drivers) < 256 or self.job in self.drivers)
+            self.drivers += [] if self.job in self.drivers else [self.job]
+        elif line and self.kind in "23":
+            self.action(line.split())
+        elif line:
+            self.kind = "lat"
+            self.record([word.strip(BLANKS) for word in line.split(",")])
+
+    def action(self, words: list[str]) -> None:
+        time = number(str(number(words.pop(0)) * 1000)) if self.kind == "3" else self.clock
+        name = words[1] if len(words) > 1 else ""
+        if name in ("read", "write", "trim"):
+            must(len(words) == 4)
+            way = ("read", "write", "trim").index(name)
+            request = Request(time, words[0], self.job, (640, 1152, 1279)[way])
+            self.jobs[self.job].append(((way, number(words[3]), number(words[2])), request))
+            self.devices += [] if words[0] in self.devices else [words[0]]
+        elif name == "wait" and len(words) > 2:
+            self.clock = number(str(self.clock + 1000 * number(words[2])))
+        else:
+            must(name in ("add", "open", "close", "sync", "datasync", "sync_file_range"))
+
+    def record(self, words: list[str]) -> None:
+        must(len(words) in (6, 7))
+        ms, ns, *piece = (number(word) for word in words[:5])
+        by_class = words[5].startswith("0x")
+        ioprio = number(words[5][2:], 16) if by_class else number(words[5])
+        must(piece[0] <= 2 and piece[1] > 0)
+        request = next((r for p, r in self.jobs[self.job] if p == tuple(piece) and r.kept), None)
+        self.counts["without_partner"] += request is None
+        if request is not None:
+            request.kept, request.started = False, number(str(request.arrival + ns))
+            level, usual = 32 * (ioprio & 7), request.priority
+            classes = {1: level, 2: 768 + level, 3: 1024 + level}
+            request.priority = classes.get(ioprio >> 13 & 7, 896) if by_class else usual
+            if ms >= 10**11 and request.started <= ms * 10**6 < 2**64:
+                epoch = ms * 10**6 - request.started
+                self.epochs[self.job] = min(epoch, self.epochs.get(self.job, epoch))
+
+    def finish(self) -> list[Request]:
+        origin = min(self.epochs.values(), default=0)
+        for job, pairs in self.jobs.items():
+            shift = self.epochs.get(job, origin) - origin
+            for _, request in pairs:
+                request.arrival += shift
+                request.started = None if request.started is None else request.started + shift
+        return [request for pairs in self.jobs.values() for _, request in pairs]
+
+
+class Csv(Reader):
+    def __init__(self, digits: int) -> None:
+        super().__init__()
+        self.digits, self.header = digits, [""][:0]
+
+    def take(self, line: str) -> None:
+        row = [cell.strip(BLANKS) for cell in next(csv.reader([line]), [])]
+        if not line.strip(BLANKS) or not self.header:
+            must(not line.strip(BLANKS) or NEEDED <= set(row) <= set(COLUMNS) and len(set(row)) == len(row))
+            self.header = self.header if self.header or not line.strip(BLANKS) else row
+            return
+        must(len(row) == len(self.header))
+        cells = dict(zip(self.header, row))
+        arrival = time_of(cells["arrival"], self.digits)
+        started, _ = (time_of(cells[n], self.digits) if cells.get(n) else None for n in ("start", "end"))
+        priority = number(cells.get("priority") or "896")
+        must(priority <= 1279 and (started is None or started >= arrival))
+        self.add(Request(arrival, cells["device"], cells.get("driver") or "driver", priority, started))
+
+    def finish(self) -> list[Request]:
+        must(bool(self.header))
+        return self.requests
+
+
+def feed(reader: Reader, path: str, lenient: bool) -> None:
+    with open(path, encoding="utf-8", errors="replace", newline="\n") as lines:
+        for at, line in enumerate(lines):
+            reader.counts["lines"] += 1
+            try:
+                reader.take(line.removesuffix("\n").removesuffix("\r"))
+            except Refused:
+                if not lenient:
+                    raise Refused(f"line {at + 1}") from None
+                reader.counts["refused_lines"] += 1
+
+
+def show(reader: Reader, quiet: bool) -> None:
+    requests = sorted(reader.finish(), key=lambda r: r.arrival)
+    devices = [d for d in reader.devices if any(r.device == d for r in requests)]
+    drivers = [d for d in reader.drivers if any(r.driver == d for r in requests)]
+    must(len(devices) <= 32)
+    reader.counts["requests"] = len(requests)
+    reader.counts["never_started"] = sum(r.started is None for r in requests)
+    print("Counts { " + ", ".join(f"{name}: {reader.counts[name]}" for name in COUNTS) + " }")
+    print("".join([f"device {d}\n" for d in devices] + [f"driver {d}\n" for d in drivers]), end="")
+    for r in requests if not quiet else ():
+        times = ("None" if time is None else f"Some({time})" for time in (r.started, r.retried))
+        print(r.arrival, *times, devices.index(r.device), drivers.index(r.driver), r.priority)
+
+
+def main() -> None:
+    lenient, quiet, kind = sys.argv[1] == "lenient", sys.argv[2] == "quiet", sys.argv[3]
+    for files in [sys.argv[4:]] if kind == "fio" else [[path] for path in sys.argv[4:]]:
+        reader = Fio() if kind == "fio" else Blkparse() if kind == "blkparse" else Csv({"n": 0, "u": 3, "m": 6, "s": 9}[kind[4]])
+        try:
+            for path in files:
+                print(*[f"file {path}\n"][: kind != "fio"], end="")
+                if isinstance(reader, Fio):
+                    reader.begin_file(path)
+                feed(reader, path, lenient)
+            show(reader, quiet)
+        except Refused as fault:
+            print(fault)
+
+
+if __name__ == "__main__":
+    main()

@@ -243,6 +243,7 @@ class Csv(Reader):
         self.digits, self.header = digits, [""][:0]
 
     def take(self, line: str) -> None:
+        must(not line.strip(BLANKS) or "\r" not in line)
         row = [cell.strip(BLANKS) for cell in next(csv.reader([line]), [])]
         if not line.strip(BLANKS) or not self.header:
             must(not line.strip(BLANKS) or NEEDED <= set(row) <= set(COLUMNS) and len(set(row)) == len(row))

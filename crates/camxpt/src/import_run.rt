@@ -2,9 +2,10 @@
 
 use crate::import_fault::ImportFault;
 use crate::import_layout::{adapters_of, config_of, devices_of, names_of};
-use crate::import_words::{Kind, kind_of, options_of, round_of};
+use crate::import_words::{Kind, count, kind_of, options_of, round_of, word_at};
 use crate::note::title;
 use crate::output::standard_output;
+use crate::source::STANDARD_INPUT;
 use cam_types::{Watched, standard_weights};
 use capture::{Capture, longest_round, span_nanoseconds, span_of, usual_round};
 use capture_file::{
@@ -32,21 +33,14 @@ pub fn import<R: Runtime + AllocGlobal>(rt: &R, words: &ArgMatches<'_>) -> ExitC
 
 // Says why there is no recording, with the name of the file that it is of.
 fn tell<R: Runtime + AllocGlobal>(rt: &R, words: &ArgMatches<'_>, fault: &ImportFault) {
-    let file = fault
-        .file()
-        .and_then(|place| files(words).get(place).copied());
-    let name = match file {
-        Some(file) => shown_name(rt.alloc(), title(file)).ok(),
+    let name = match fault.file() {
+        Some(place) => shown_name(rt.alloc(), title(word_at(words, "FILE", place))).ok(),
         None => None,
     };
     let _ = match name {
         Some(name) => rt.eprintln(format_args!("camxpt: {name}: {fault}")),
         None => rt.eprintln(format_args!("camxpt: {fault}")),
     };
-}
-
-fn files<'m, 'a>(words: &'m ArgMatches<'a>) -> &'m [&'a str] {
-    words.get_strs("FILE").unwrap_or(&[])
 }
 
 fn imported<R: Runtime + AllocGlobal>(rt: &R, words: &ArgMatches<'_>) -> Result<(), ImportFault> {
@@ -82,8 +76,8 @@ fn read_all<R: Runtime + AllocGlobal>(
         }
         Kind::Fio => {
             let mut reader = FioReader::new(rt.alloc(), options);
-            for place in 0..files(words).len() {
-                reader.begin_file(files(words)[place])?;
+            for place in 0..count(words, "FILE") {
+                reader.begin_file(word_at(words, "FILE", place))?;
                 read_file(rt, words, place, &mut reader)?;
             }
             Ok(reader.finish()?)
@@ -96,7 +90,7 @@ fn read_each<R: Runtime + AllocGlobal, T: LineReader>(
     words: &ArgMatches<'_>,
     reader: &mut T,
 ) -> Result<(), ImportFault> {
-    for place in 0..files(words).len() {
+    for place in 0..count(words, "FILE") {
         read_file(rt, words, place, reader)?;
     }
     Ok(())
@@ -109,9 +103,9 @@ fn read_file<R: Runtime + AllocGlobal, T: LineReader>(
     place: usize,
     reader: &mut T,
 ) -> Result<(), ImportFault> {
-    let name = files(words).get(place).copied().unwrap_or("-");
+    let name = word_at(words, "FILE", place);
     let lenient = words.get_flag("lenient");
-    let done = if name == "-" {
+    let done = if name == STANDARD_INPUT {
         read_lines(rt.alloc(), &mut rt.reader(), lenient, reader)
     } else {
         match File::open(rt, name) {
@@ -129,7 +123,7 @@ fn read_file<R: Runtime + AllocGlobal, T: LineReader>(
 fn round_for(alloc: Global, given: Option<Span>, read: &Read) -> Result<Span, ImportFault> {
     let round = match given {
         Some(round) => round,
-        None => spanned(usual_round(alloc, &read.requests, read.devices.len() as u32)?),
+        None => spanned(usual_round(alloc, &read.requests, device_count(read))?),
     };
     let length = span_nanoseconds(round);
     let wait = longest_round(&read.requests).unwrap_or(0).saturating_mul(2);
@@ -139,18 +133,28 @@ fn round_for(alloc: Global, given: Option<Span>, read: &Read) -> Result<Span, Im
     Ok(round)
 }
 
+fn device_count(read: &Read) -> u32 {
+    u32::try_from(read.devices.len()).unwrap_or(u32::MAX)
+}
+
 // A span of at least that many nanoseconds, as near as there is one.
 fn spanned(nanoseconds: u64) -> Span {
-    let mut unit = 1u64;
-    for _ in 0..4 {
-        if let Some(span) = span_of(nanoseconds.div_ceil(unit).max(1).saturating_mul(unit)) {
+    for unit in [1u64, 1_000, 1_000_000, 1_000_000_000] {
+        if let Some(span) = span_of(rounded_up(nanoseconds.max(1), unit)) {
             return span;
         }
-        unit = unit.saturating_mul(1000);
     }
     Span {
         count: u32::MAX,
         unit: TimeUnit::Second,
+    }
+}
+
+// The next whole number of units.
+fn rounded_up(nanoseconds: u64, unit: u64) -> u64 {
+    match nanoseconds.checked_rem(unit) {
+        None | Some(0) => nanoseconds,
+        Some(rest) => nanoseconds.saturating_add(unit.saturating_sub(rest)),
     }
 }
 
@@ -160,6 +164,10 @@ fn recording_of(
     round: Span,
     read: &Read,
 ) -> Result<Recording, ImportFault> {
+    let round = Span {
+        count: round.count.max(1),
+        ..round
+    };
     let capture = Capture::of(alloc, round, &read.requests)?;
     let (adapters, open) = adapters_of(alloc, words, &read.devices)?;
     let (devices, rated) = devices_of(alloc, words, &capture, &read.devices)?;

@@ -96,7 +96,8 @@ fn priorities_of(words: &ArgMatches<'_>) -> Result<Priorities, ImportFault> {
 
 fn drivers_of(alloc: Global, words: &ArgMatches<'_>) -> Result<Vec<(String, u32)>, ImportFault> {
     let mut drivers = Vec::new(alloc);
-    for word in all(words, "driver") {
+    for place in 0..count(words, "driver") {
+        let word = word_at(words, "driver", place);
         let (name, priority) = named_number(word, MOST_PRIORITY, DRIVER)?;
         drivers.push((String::from_str(alloc, name)?, priority))?;
     }
@@ -105,15 +106,26 @@ fn drivers_of(alloc: Global, words: &ArgMatches<'_>) -> Result<Vec<(String, u32)
 
 fn devices_of(alloc: Global, words: &ArgMatches<'_>) -> Result<Vec<String>, AllocError> {
     let mut names = Vec::new(alloc);
-    for word in all(words, "device") {
-        names.push(String::from_str(alloc, word)?)?;
+    for place in 0..count(words, "device") {
+        names.push(String::from_str(alloc, word_at(words, "device", place))?)?;
     }
     Ok(names)
 }
 
-// The words that are given to an option which may be given several times.
-fn all<'m, 'a>(words: &'m ArgMatches<'a>, id: &str) -> &'m [&'a str] {
-    words.get_strs(id).unwrap_or(&[])
+/// How many words are given for an argument that may be given several times.
+pub fn count(words: &ArgMatches<'_>, id: &str) -> usize {
+    match words.get_strs(id) {
+        Some(given) => given.len(),
+        None => 0,
+    }
+}
+
+/// The word at this place among them.
+pub fn word_at<'a>(words: &ArgMatches<'a>, id: &str, place: usize) -> &'a str {
+    match words.get_strs(id) {
+        Some(given) => given.get(place).copied().unwrap_or(""),
+        None => "",
+    }
 }
 
 // A name and a number of at most `most`, with an equals sign between them.
@@ -144,7 +156,8 @@ fn time_of(words: &ArgMatches<'_>, id: &str) -> Result<Option<u64>, ImportFault>
 
 /// What a device is rated at, if that is given.
 pub fn rating_of(words: &ArgMatches<'_>, device: &str) -> Result<Option<u32>, ImportFault> {
-    for word in all(words, "rated") {
+    for place in 0..count(words, "rated") {
+        let word = word_at(words, "rated", place);
         let (name, openings) = named_number(word, 255, RATED)?;
         if openings == 0 {
             return Err(ImportFault::Word(RATED));
@@ -158,8 +171,8 @@ pub fn rating_of(words: &ArgMatches<'_>, device: &str) -> Result<Option<u32>, Im
 
 /// The adapter of a device, and how many openings it has in a round, if that is given.
 pub fn host_of(words: &ArgMatches<'_>, device: &str) -> Result<Option<(u32, u32)>, ImportFault> {
-    for word in all(words, "host") {
-        let (name, host) = host_in(word)?;
+    for place in 0..count(words, "host") {
+        let (name, host) = host_in(word_at(words, "host", place))?;
         if name == device {
             return Ok(Some(host));
         }

@@ -18,7 +18,7 @@ const STATISTICS: [&str; 9] = [
 ];
 
 /// What an event says of a request.
-#[derive(Clone, Copy, Debug, PartialEq, Eq)]
+#[derive(Clone, Copy, PartialEq, Eq)]
 pub enum Action {
     /// `Q`: it arrived.
     Arrives,
@@ -35,7 +35,7 @@ pub enum Action {
 }
 
 /// The sectors of a request.
-#[derive(Clone, Copy, Debug, PartialEq, Eq)]
+#[derive(Clone, Copy, PartialEq, Eq)]
 pub enum Extent {
     /// From the first number on as many as the second says.
     Sectors(u64, u64),
@@ -46,7 +46,7 @@ pub enum Extent {
 }
 
 /// An event of a request.
-#[derive(Clone, Copy, Debug)]
+#[derive(Clone, Copy)]
 pub struct RequestEvent<'a> {
     pub device: &'a [u8],
     pub action: Action,
@@ -56,7 +56,7 @@ pub struct RequestEvent<'a> {
 }
 
 /// An event: its time, and what it says of a request, if it does.
-#[derive(Clone, Copy, Debug)]
+#[derive(Clone, Copy)]
 pub struct Event<'a> {
     pub time: u64,
     pub request: Option<RequestEvent<'a>>,

@@ -1,6 +1,7 @@
 //! Reads blkparse's text.
 
 use crate::blkparse_line::{Action, Extent, RequestEvent, event_of};
+use crate::blkparse_requests::{Outcome, Place, Requests};
 use crate::captured::{Capture, Counts};
 use crate::finishing::{Drivers, capture_of};
 use crate::line_fault::LineFault;
@@ -8,18 +9,10 @@ use crate::line_reader::LineReader;
 use crate::names::Names;
 use crate::options::{Options, Priorities};
 use crate::priority::{USUAL, flags_priority};
-use crate::queues::Queues;
 use capture::TimedRequest;
-use std::alloc::Global;
+use std::alloc::{AllocError, Global};
 
-// Where a request is: its device and its first sector. A flush has none.
-#[derive(Clone, Copy, Debug, PartialEq, Eq, Hash)]
-struct Place {
-    device: usize,
-    sector: Option<u64>,
-}
-
-#[derive(Clone, Copy, Debug, Default)]
+#[derive(Clone, Copy, Default)]
 struct DeviceCounts {
     starts: u64,
     ends_without_start: u64,
@@ -28,18 +21,17 @@ struct DeviceCounts {
 /// Reads the default text of `blkparse`, line by line.
 ///
 /// A request is a device and a first sector, or a device's flush. It arrives when it is queued (`Q`) and starts when it is issued
-/// (`D`). One that is merged (`M`, `F`) into another that waits is part of that one. If one is put back (`R`), its next attempt
-/// is a request that arrives then. Of equal requests of one place the first one that waits is the first to start.
-#[derive(Debug, Drop)]
+/// (`D`). One that is merged (`M`, `F`) into another that waits is part of that one, which keeps its arrival. If one is put back
+/// (`R`), its next attempt is a request that arrives then. Of several requests of one place the first one that waits starts
+/// first. Commands of `SG_IO` have no arrival. The text has no I/O classes, so priorities go by direction.
+#[derive(Drop)]
 pub struct BlkparseReader {
     alloc: Global,
     options: Options,
     devices: Names,
     per_device: Vec<DeviceCounts>,
     drivers: Drivers,
-    found: Vec<Option<TimedRequest>>,
-    waiting: Queues<Place>,
-    started: Queues<Place>,
+    requests: Requests,
     last_time: u64,
     counts: Counts,
 }
@@ -53,9 +45,7 @@ impl BlkparseReader {
             devices: Names::new(alloc),
             per_device: Vec::new(alloc),
             drivers: Drivers::new(alloc),
-            found: Vec::new(alloc),
-            waiting: Queues::new(alloc),
-            started: Queues::new(alloc),
+            requests: Requests::new(alloc),
             last_time: 0,
             counts: Counts::default(),
         }
@@ -67,22 +57,13 @@ impl BlkparseReader {
     ///
     /// `TooManyDevices` if more than 32 devices have requests, `OutOfMemory` if no memory is left.
     pub fn finish(self) -> Result<Capture, LineFault> {
-        let mut counts = self.counts;
-        for device in self.per_device.iter() {
-            count_device(&mut counts, *device);
-        }
-        let mut requests = Vec::new(self.alloc);
-        for request in self.found.iter() {
-            if let Some(request) = request {
-                if has_starts(&self.per_device, request.device) {
-                    requests.push(*request)?;
-                } else {
-                    counts.requests_without_starts = counts
-                        .requests_without_starts
-                        .saturating_add(1);
-                }
-            }
-        }
+        self.capture()
+    }
+
+    fn capture(&self) -> Result<Capture, LineFault> {
+        let mut counts = counts_with(self.counts, &self.per_device);
+        let found = self.requests.found();
+        let requests = with_starts(self.alloc, found, &self.per_device, &mut counts)?;
         capture_of(
             self.alloc,
             &self.options,
@@ -95,20 +76,39 @@ impl BlkparseReader {
 
     fn apply(&mut self, time: u64, event: RequestEvent<'_>) -> Result<(), LineFault> {
         let device = self.device(event.device)?;
-        let sector = match event.extent {
-            Extent::Sectors(sector, _) => Some(sector),
-            Extent::Flush => None,
-            Extent::Command => return Ok(self.pass_command(device, event.action)),
-        };
-        let place = Place { device, sector };
-        match event.action {
-            Action::Arrives => self.arrive(time, place, event),
-            Action::JoinsEnd => Ok(self.join_end(place)),
-            Action::JoinsFront => self.join_front(place, event.extent),
-            Action::Starts => self.start(time, place),
-            Action::Returns => self.put_back(time, place),
-            Action::Completes => Ok(self.complete(place)),
+        match event.extent {
+            Extent::Command => Ok(self.pass_command(device, event.action)),
+            Extent::Flush => {
+                let sector = None;
+                self.apply_at(time, Place { device, sector }, None, event)
+            },
+            Extent::Sectors(sector, sectors) => {
+                let behind = sector.checked_add(sectors).map(|end| Place {
+                    device,
+                    sector: Some(end),
+                });
+                let sector = Some(sector);
+                self.apply_at(time, Place { device, sector }, behind, event)
+            }
         }
+    }
+
+    fn apply_at(
+        &mut self,
+        time: u64,
+        place: Place,
+        behind: Option<Place>,
+        event: RequestEvent<'_>,
+    ) -> Result<(), LineFault> {
+        if event.action == Action::Arrives {
+            return self.arrive(time, place, event);
+        }
+        if event.action == Action::Starts {
+            count_start(&mut self.per_device, place.device);
+        }
+        let outcome = self.requests.act(event.action, place, behind, time)?;
+        self.count(outcome, place.device);
+        Ok(())
     }
 
     fn device(&mut self, name: &[u8]) -> Result<usize, LineFault> {
@@ -125,7 +125,7 @@ impl BlkparseReader {
     // A command of `SG_IO` has no arrival.
     fn pass_command(&mut self, device: usize, action: Action) {
         if action == Action::Starts {
-            self.count_start(device);
+            count_start(&mut self.per_device, device);
         }
         if action != Action::Arrives {
             self.count_stray();
@@ -139,125 +139,26 @@ impl BlkparseReader {
         event: RequestEvent<'_>,
     ) -> Result<(), LineFault> {
         let (driver, own) = self.drivers.number(&self.options, event.process)?;
-        let priority = own.unwrap_or(self.usual_priority(event.flags));
         let Ok(device) = u32::try_from(place.device) else {
             return Err(LineFault::TooManyDevices);
         };
-        self.wait(
-            place,
-            TimedRequest {
-                arrival: time,
-                started: None,
-                retried: None,
-                driver,
-                device,
-                priority,
-            },
-        )
-    }
-
-    fn usual_priority(&self, flags: &[u8]) -> u32 {
-        match self.options.priorities {
-            Priorities::Class | Priorities::Direction => flags_priority(flags),
-            Priorities::Flat => USUAL,
-        }
-    }
-
-    fn wait(&mut self, place: Place, request: TimedRequest) -> Result<(), LineFault> {
-        let slot = self.found.len();
-        self.found.push(Some(request))?;
-        self.waiting.push(place, slot)?;
-        Ok(())
-    }
-
-    fn join_end(&mut self, place: Place) {
-        if let Some(slot) = self.waiting.pop(&place) {
-            self.forget(slot);
-        }
-    }
-
-    // A request without the other part stays as it is.
-    fn join_front(&mut self, place: Place, extent: Extent) -> Result<(), LineFault> {
-        let Some(sector) = end_of(extent) else {
-            return Ok(());
-        };
-        let behind = Place {
-            device: place.device,
-            sector: Some(sector),
-        };
-        if let Some(slot) = self.waiting.pop(&behind) {
-            self.join_end(place);
-            self.waiting.push(place, slot)?;
-        }
-        Ok(())
-    }
-
-    fn start(&mut self, time: u64, place: Place) -> Result<(), LineFault> {
-        self.count_start(place.device);
-        match self.waiting.pop(&place) {
-            None => self.count_stray(),
-            Some(slot) => {
-                if let Some(Some(request)) = self.found.get_mut(slot) {
-                    request.started = Some(time);
-                }
-                self.started.push(place, slot)?;
-            }
-        }
-        Ok(())
-    }
-
-    fn put_back(&mut self, time: u64, place: Place) -> Result<(), LineFault> {
-        let Some(slot) = self.started.pop(&place) else {
-            self.count_stray();
-            return Ok(());
-        };
-        let Some(Some(request)) = self.found.get_mut(slot) else {
-            return Ok(());
-        };
-        request.retried = Some(time);
-        let next = TimedRequest {
+        let usual = usual_priority(self.options.priorities, event.flags);
+        let request = TimedRequest {
             arrival: time,
             started: None,
             retried: None,
-            driver: request.driver,
-            device: request.device,
-            priority: request.priority,
+            driver,
+            device,
+            priority: own.unwrap_or(usual),
         };
-        self.wait(place, next)
+        Ok(self.requests.arrive(place, request)?)
     }
 
-    fn complete(&mut self, place: Place) {
-        if self.started.pop(&place).is_some() {
-            return;
-        }
-        match self.waiting.pop(&place) {
-            None => self.count_stray(),
-            Some(slot) => {
-                self.forget(slot);
-                if let Some(device) = self.per_device.get_mut(place.device) {
-                    device.ends_without_start = device.ends_without_start.saturating_add(1);
-                }
-            }
-        }
-    }
-
-    fn forget(&mut self, slot: usize) {
-        if let Some(request) = self.found.get_mut(slot) {
-            *request = None;
-        }
-        for _ in 0..self.found.len() {
-            match self.found.last() {
-                Some(None) => {
-                    self.found.pop();
-                }
-                _ => break,
-            }
-        }
-    }
-
-    fn count_start(&mut self, device: usize) {
-        if let Some(device) = self.per_device.get_mut(device) {
-            device.starts = device.starts.saturating_add(1);
+    fn count(&mut self, outcome: Outcome, device: usize) {
+        match outcome {
+            Outcome::Known => {}
+            Outcome::Stray => self.count_stray(),
+            Outcome::EndedUnstarted => count_end(&mut self.per_device, device),
         }
     }
 
@@ -281,12 +182,13 @@ impl LineReader for BlkparseReader {
             return Err(LineFault::TimeFalls);
         }
         self.last_time = event.time;
-        match event.request {
-            Some(request) if self.options.takes_device(request.device) => {
-                self.apply(event.time, request)
-            }
-            _ => Ok(()),
+        let Some(request) = event.request else {
+            return Ok(());
+        };
+        if self.options.takes_device(request.device) {
+            self.apply(event.time, request)?;
         }
+        Ok(())
     }
 
     fn count_refused(&mut self) {
@@ -294,11 +196,51 @@ impl LineReader for BlkparseReader {
     }
 }
 
-fn end_of(extent: Extent) -> Option<u64> {
-    match extent {
-        Extent::Sectors(sector, sectors) => sector.checked_add(sectors),
-        Extent::Flush | Extent::Command => None,
+fn usual_priority(priorities: Priorities, flags: &[u8]) -> u32 {
+    match priorities {
+        Priorities::Class | Priorities::Direction => flags_priority(flags),
+        Priorities::Flat => USUAL,
     }
+}
+
+fn count_start(per_device: &mut Vec<DeviceCounts>, device: usize) {
+    if let Some(device) = per_device.get_mut(device) {
+        device.starts = device.starts.saturating_add(1);
+    }
+}
+
+fn count_end(per_device: &mut Vec<DeviceCounts>, device: usize) {
+    if let Some(device) = per_device.get_mut(device) {
+        device.ends_without_start = device.ends_without_start.saturating_add(1);
+    }
+}
+
+// The requests of devices that have starts. The others are counted.
+fn with_starts(
+    alloc: Global,
+    found: &[Option<TimedRequest>],
+    per_device: &[DeviceCounts],
+    counts: &mut Counts,
+) -> Result<Vec<TimedRequest>, AllocError> {
+    let mut requests = Vec::new(alloc);
+    for request in found {
+        if let Some(request) = request {
+            if has_starts(per_device, request.device) {
+                requests.push(*request)?;
+            } else {
+                counts.requests_without_starts = counts.requests_without_starts.saturating_add(1);
+            }
+        }
+    }
+    Ok(requests)
+}
+
+fn counts_with(counts: Counts, per_device: &[DeviceCounts]) -> Counts {
+    let mut counts = counts;
+    for device in per_device {
+        count_device(&mut counts, *device);
+    }
+    counts
 }
 
 fn count_device(counts: &mut Counts, device: DeviceCounts) {

@@ -4,7 +4,7 @@ use crate::line_fault::LineFault;
 use csv::ByteRecord;
 
 /// Where the columns are, from 0 on.
-#[derive(Clone, Copy, Debug)]
+#[derive(Clone, Copy)]
 pub struct Columns {
     pub arrival: usize,
     pub start: usize,

@@ -2,13 +2,13 @@
 
 use crate::captured::{Capture, Counts};
 use crate::columns::{Columns, columns_of};
+use crate::csv_row::{CsvRow, csv_row};
 use crate::finishing::{Drivers, capture_of};
-use crate::line_fault::{Field, LineFault};
+use crate::line_fault::LineFault;
 use crate::line_reader::LineReader;
 use crate::names::Names;
-use crate::number::{number, time_of};
 use crate::options::{Options, Priorities, TimeUnit};
-use crate::priority::{LAST, USUAL};
+use crate::priority::USUAL;
 use capture::TimedRequest;
 use csv::{ByteRecord, ReaderBuilder};
 use std::alloc::Global;
@@ -18,8 +18,8 @@ use std::alloc::Global;
 /// The header names the columns `arrival`, `start`, `end`, `device`, `driver` and `priority` in any order; `arrival`, `start` and
 /// `device` are needed. Times are decimal numbers of a unit, also with a fraction, of which the part below a nanosecond is
 /// dropped. A request with an empty start was never started. `end` may be empty and isn't used. With no driver a request is of
-/// the driver `driver`, with no priority it is as best effort of level 4. No field has a line feed.
-#[derive(Debug, Drop)]
+/// the driver `driver`, with no priority it is as best effort of level 4. No field has an end of a line.
+#[derive(Drop)]
 pub struct CsvReader {
     alloc: Global,
     options: Options,
@@ -68,56 +68,26 @@ impl CsvReader {
     }
 
     fn request(&mut self, columns: Columns, row: &ByteRecord) -> Result<(), LineFault> {
-        if row.len() != columns.count {
-            return Err(LineFault::BadRecord);
-        }
-        let arrival = self.time(row, columns.arrival, Field::Time)?;
-        let started = self.optional_time(row, Some(columns.start), Field::Start)?;
-        self.optional_time(row, columns.end, Field::End)?;
-        let said = said_priority(row, columns.priority)?;
-        if started.is_some_and(|time| time < arrival) {
-            return Err(LineFault::StartedEarly);
-        }
-        let device = field(row, Some(columns.device));
-        if !self.options.takes_device(device) {
+        let row = csv_row(self.unit.nanoseconds(), columns, row)?;
+        if !self.options.takes_device(row.device) {
             return Ok(());
         }
-        let (driver, own) = self
-            .drivers
-            .number(&self.options, driver_name(row, columns.driver))?;
-        let device = self.device(device)?;
-        let priority = own.unwrap_or(self.usual_priority(said));
+        self.add(row)
+    }
+
+    fn add(&mut self, row: CsvRow<'_>) -> Result<(), LineFault> {
+        let (driver, own) = self.drivers.number(&self.options, row.driver)?;
+        let device = self.device(row.device)?;
+        let priority = own.unwrap_or(usual_priority(self.options.priorities, row.priority));
         self.requests.push(TimedRequest {
-            arrival,
-            started,
+            arrival: row.arrival,
+            started: row.started,
             retried: None,
             driver,
             device,
             priority,
         })?;
         Ok(())
-    }
-
-    fn time(&self, row: &ByteRecord, column: usize, name: Field) -> Result<u64, LineFault> {
-        match time_of(field(row, Some(column)), self.unit.nanoseconds()) {
-            None => Err(LineFault::BadNumber(name)),
-            Some(time) => Ok(time),
-        }
-    }
-
-    fn optional_time(
-        &self,
-        row: &ByteRecord,
-        column: Option<usize>,
-        name: Field,
-    ) -> Result<Option<u64>, LineFault> {
-        let Some(column) = column else {
-            return Ok(None);
-        };
-        if field(row, Some(column)).is_empty() {
-            return Ok(None);
-        }
-        Ok(Some(self.time(row, column, name)?))
     }
 
     fn device(&mut self, name: &[u8]) -> Result<u32, LineFault> {
@@ -127,13 +97,6 @@ impl CsvReader {
             None => self.devices.add(name)?,
         };
         u32::try_from(number).map_err(|_| LineFault::TooManyDevices)
-    }
-
-    fn usual_priority(&self, said: Option<u32>) -> u32 {
-        match self.options.priorities {
-            Priorities::Class => said.unwrap_or(USUAL),
-            Priorities::Direction | Priorities::Flat => USUAL,
-        }
     }
 }
 
@@ -148,6 +111,9 @@ impl LineReader for CsvReader {
         self.counts.lines = self.counts.lines.saturating_add(1);
         if line.trim_ascii().is_empty() {
             return Ok(());
+        }
+        if line.contains(&b'\r') {
+            return Err(LineFault::BadRecord);
         }
         let row = row_of(self.alloc, line)?;
         match self.columns {
@@ -177,26 +143,9 @@ fn row_of(alloc: Global, line: &[u8]) -> Result<ByteRecord, LineFault> {
     }
 }
 
-// Without a column it is empty.
-fn field(row: &ByteRecord, column: Option<usize>) -> &[u8] {
-    match column {
-        None => b"",
-        Some(column) => row.get(column).unwrap_or(b"").trim_ascii(),
-    }
-}
-
-fn driver_name(row: &ByteRecord, column: Option<usize>) -> &[u8] {
-    let name = field(row, column);
-    if name.is_empty() { b"driver" } else { name }
-}
-
-fn said_priority(row: &ByteRecord, column: Option<usize>) -> Result<Option<u32>, LineFault> {
-    let text = field(row, column);
-    if text.is_empty() {
-        return Ok(None);
-    }
-    match number(text).and_then(|said| u32::try_from(said).ok()) {
-        Some(said) if said <= LAST => Ok(Some(said)),
-        _ => Err(LineFault::BadNumber(Field::Priority)),
+fn usual_priority(priorities: Priorities, said: Option<u32>) -> u32 {
+    match priorities {
+        Priorities::Class => said.unwrap_or(USUAL),
+        Priorities::Direction | Priorities::Flat => USUAL,
     }
 }

@@ -11,7 +11,7 @@ use std::alloc::{AllocError, Global};
 const MOST_DEVICES: usize = 32;
 
 /// The drivers of a capture, with the priorities that they have of their own.
-#[derive(Debug, Drop)]
+#[derive(Drop)]
 pub struct Drivers {
     names: Names,
     own: Vec<Option<u32>>,

@@ -2,7 +2,7 @@
 
 use crate::fio_lines::{Direction, LatencyRecord, Piece};
 use crate::line_fault::{Field, LineFault};
-use crate::priority::{LAST, LATE, SOON};
+use crate::priority::{LAST, LATE, SOON, USUAL};
 use crate::queues::Queues;
 use capture::TimedRequest;
 use std::alloc::{AllocError, Global};
@@ -10,16 +10,22 @@ use std::alloc::{AllocError, Global};
 // Milliseconds from here on are those since 1970, and not those since the job's start: 1973.
 const FIRST_EPOCH_MILLISECOND: u64 = 100_000_000_000;
 
+/// A request of a job. If its device isn't taken, it only says when the job started.
+#[derive(Clone, Copy)]
+pub struct JobRequest {
+    pub request: TimedRequest,
+    pub is_taken: bool,
+}
+
 /// A job: its requests, and which of them wait for their records.
-#[derive(Debug, Drop)]
+#[derive(Drop)]
 pub struct Job {
-    pub driver: u8,
+    driver: u8,
     pub own_priority: Option<u32>,
-    /// Its requests. None: of a device that isn't taken.
-    pub requests: Vec<Option<TimedRequest>>,
+    pub requests: Vec<JobRequest>,
     waiting: Queues<Piece>,
-    /// The time in nanoseconds since its start, where its iolog has waits.
-    pub clock: u64,
+    // The time in nanoseconds since its start, where its iolog has waits.
+    clock: u64,
     /// When it started, in nanoseconds since 1970: the earliest that a record says.
     pub start: Option<u64>,
 }
@@ -37,10 +43,48 @@ impl Job {
         }
     }
 
-    /// Adds a request that arrives.
-    pub fn add(&mut self, piece: Piece, request: Option<TimedRequest>) -> Result<(), AllocError> {
+    /// Nanoseconds go by.
+    ///
+    /// # Errors
+    ///
+    /// `BadNumber` if the time has no number then.
+    pub fn wait(&mut self, time: u64) -> Result<(), LineFault> {
+        match self.clock.checked_add(time) {
+            None => Err(LineFault::BadNumber(Field::Time)),
+            Some(clock) => {
+                self.clock = clock;
+                Ok(())
+            }
+        }
+    }
+
+    /// Adds a request that arrives: at a time in nanoseconds or else now, of a device, if that is taken.
+    pub fn arrive(
+        &mut self,
+        time: Option<u64>,
+        device: Option<u32>,
+        flat: bool,
+        piece: Piece,
+    ) -> Result<(), AllocError> {
+        let usual = if flat {
+            USUAL
+        } else {
+            direction_priority(piece.direction)
+        };
         let slot = self.requests.len();
-        self.requests.push(request)?;
+        let arrival = time.unwrap_or(self.clock);
+        let priority = self.own_priority.unwrap_or(usual);
+        self.requests.push(JobRequest {
+            request: TimedRequest {
+                arrival,
+                started: None,
+                retried: None,
+                driver: self.driver,
+                device: device.unwrap_or(0),
+                priority,
+            },
+            is_taken: device.is_some(),
+        })?;
         self.waiting.push(piece, slot)
     }
 
@@ -57,8 +101,8 @@ impl Job {
         let Some(slot) = self.waiting.pop(&record.piece) else {
             return Ok(false);
         };
-        let Some(Some(request)) = self.requests.get_mut(slot) else {
-            return Ok(true);
+        let Some(JobRequest { request, .. }) = self.requests.get_mut(slot) else {
+            return Ok(false);
         };
         let Some(completed) = request.arrival.checked_add(record.latency) else {
             return Err(LineFault::BadNumber(Field::Latency));
@@ -80,8 +124,8 @@ fn start_said(milliseconds: u64, completed: u64) -> Option<u64> {
     milliseconds.checked_mul(1_000_000)?.checked_sub(completed)
 }
 
-/// The priority of a direction. Nobody is known to wait for a write.
-pub fn direction_priority(direction: Direction) -> u32 {
+// The priority of a direction. Nobody is known to wait for a write.
+fn direction_priority(direction: Direction) -> u32 {
     match direction {
         Direction::Read => SOON,
         Direction::Write => LATE,

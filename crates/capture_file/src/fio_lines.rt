@@ -5,7 +5,7 @@ use crate::number::{hexadecimal, number};
 use crate::words::{next_column, next_word};
 
 /// The version of an iolog.
-#[derive(Clone, Copy, Debug, PartialEq, Eq)]
+#[derive(Clone, Copy, PartialEq, Eq)]
 pub enum IologVersion {
     /// No times, but waits.
     Two,
@@ -14,7 +14,7 @@ pub enum IologVersion {
 }
 
 /// What a request does.
-#[derive(Clone, Copy, Debug, PartialEq, Eq, Hash)]
+#[derive(Clone, Copy, PartialEq, Eq, Hash)]
 pub enum Direction {
     Read,
     Write,
@@ -22,7 +22,7 @@ pub enum Direction {
 }
 
 // What an action of an iolog does.
-#[derive(Clone, Copy, Debug)]
+#[derive(Clone, Copy)]
 enum IologAction {
     Does(Direction),
     Waits,
@@ -43,7 +43,7 @@ const ACTIONS: [(&str, IologAction); 10] = [
 ];
 
 /// What joins a line of an iolog and a record of a latency log.
-#[derive(Clone, Copy, Debug, PartialEq, Eq, Hash)]
+#[derive(Clone, Copy, PartialEq, Eq, Hash)]
 pub struct Piece {
     pub direction: Direction,
     pub bytes: u64,
@@ -51,7 +51,7 @@ pub struct Piece {
 }
 
 /// What a line of an iolog says.
-#[derive(Clone, Copy, Debug)]
+#[derive(Clone, Copy)]
 pub enum IologLine<'a> {
     /// A request of a file. The time is in microseconds, in version 2 none.
     Request {
@@ -67,7 +67,7 @@ pub enum IologLine<'a> {
 
 /// A record of a latency log: the time in milliseconds, the latency in nanoseconds, and the I/O class and level, if the log has
 /// them.
-#[derive(Clone, Copy, Debug)]
+#[derive(Clone, Copy)]
 pub struct LatencyRecord {
     pub milliseconds: u64,
     pub latency: u64,

@@ -2,7 +2,7 @@
 
 use crate::captured::{Capture, Counts};
 use crate::finishing::{Drivers, capture_of};
-use crate::fio_job::{Job, direction_priority, job_name};
+use crate::fio_job::{Job, job_name};
 use crate::fio_lines::{
     IologLine, IologVersion, LatencyRecord, Piece, iolog_line, iolog_version, latency_record,
 };
@@ -10,12 +10,12 @@ use crate::line_fault::{Field, LineFault};
 use crate::line_reader::LineReader;
 use crate::names::Names;
 use crate::options::{Options, Priorities};
-use crate::priority::{USUAL, class_priority};
+use crate::priority::class_priority;
 use capture::TimedRequest;
-use std::alloc::Global;
+use std::alloc::{AllocError, Global};
 
 // What the lines of the file are. The number is the job's.
-#[derive(Clone, Copy, Debug)]
+#[derive(Clone, Copy)]
 enum FileKind {
     None,
     Begun(usize),
@@ -30,7 +30,7 @@ enum FileKind {
 /// A record belongs to the first request of the same direction, bytes and offset that has none yet. The logs have no starts: a
 /// request's start is its completion, and one without a record never started. If the records have milliseconds since 1970
 /// (`log_unix_epoch=1`), those jobs are aligned by them to about a millisecond, the earliest at 0.
-#[derive(Debug, Drop)]
+#[derive(Drop)]
 pub struct FioReader {
     alloc: Global,
     options: Options,
@@ -81,13 +81,11 @@ impl FioReader {
     ///
     /// `TooManyDevices` if more than 32 devices have requests, `OutOfMemory` if no memory is left.
     pub fn finish(self) -> Result<Capture, LineFault> {
-        let origin = earliest_start(&self.jobs);
-        let mut requests = Vec::new(self.alloc);
-        for job in self.jobs.iter() {
-            if let Some(job) = job {
-                add_requests(&mut requests, job, origin)?;
-            }
-        }
+        self.capture()
+    }
+
+    fn capture(&self) -> Result<Capture, LineFault> {
+        let requests = all_requests(self.alloc, &self.jobs)?;
         capture_of(
             self.alloc,
             &self.options,
@@ -135,16 +133,10 @@ impl FioReader {
     }
 
     fn wait(&mut self, job: usize, microseconds: u64) -> Result<(), LineFault> {
-        if let Some(Some(job)) = self.jobs.get_mut(job) {
-            let Some(clock) = microseconds
-                .checked_mul(1000)
-                .and_then(|time| time.checked_add(job.clock))
-            else {
-                return Err(LineFault::BadNumber(Field::Time));
-            };
-            job.clock = clock;
+        match self.jobs.get_mut(job) {
+            Some(Some(job)) => job.wait(nanoseconds(microseconds)?),
+            _ => Err(LineFault::NoIolog),
         }
-        Ok(())
     }
 
     fn request(
@@ -154,40 +146,18 @@ impl FioReader {
         file: &[u8],
         piece: Piece,
     ) -> Result<(), LineFault> {
-        let time = match microseconds {
-            None => None,
-            Some(time) => Some(
-                time.checked_mul(1000)
-                    .ok_or(LineFault::BadNumber(Field::Time))?,
-            ),
-        };
-        let device = match self.options.takes_device(file) {
-            false => None,
-            true => Some(self.device(file)?),
-        };
+        let device = self.taken_device(file)?;
         let flat = self.options.priorities == Priorities::Flat;
-        let Some(Some(job)) = self.jobs.get_mut(job) else {
-            return Err(LineFault::NoIolog);
-        };
-        let usual = if flat {
-            USUAL
+        arrive_in(&mut self.jobs, job, microseconds, device, flat, piece)
+    }
+
+    // None: it isn't taken.
+    fn taken_device(&mut self, file: &[u8]) -> Result<Option<u32>, LineFault> {
+        if self.options.takes_device(file) {
+            Ok(Some(self.device(file)?))
         } else {
-            direction_priority(piece.direction)
-        };
-        let arrival = time.unwrap_or(job.clock);
-        let request = match device {
-            None => None,
-            Some(device) => Some(TimedRequest {
-                arrival,
-                started: None,
-                retried: None,
-                driver: job.driver,
-                device,
-                priority: job.own_priority.unwrap_or(usual),
-            }),
-        };
-        job.add(piece, request)?;
-        Ok(())
+            Ok(None)
+        }
     }
 
     fn device(&mut self, file: &[u8]) -> Result<u32, LineFault> {
@@ -238,6 +208,30 @@ impl LineReader for FioReader {
     }
 }
 
+fn arrive_in(
+    jobs: &mut Vec<Option<Job>>,
+    job: usize,
+    microseconds: Option<u64>,
+    device: Option<u32>,
+    flat: bool,
+    piece: Piece,
+) -> Result<(), LineFault> {
+    let time = match microseconds {
+        None => None,
+        Some(time) => Some(nanoseconds(time)?),
+    };
+    match jobs.get_mut(job) {
+        Some(Some(job)) => Ok(job.arrive(time, device, flat, piece)?),
+        _ => Err(LineFault::NoIolog),
+    }
+}
+
+fn nanoseconds(microseconds: u64) -> Result<u64, LineFault> {
+    microseconds
+        .checked_mul(1000)
+        .ok_or(LineFault::BadNumber(Field::Time))
+}
+
 // The priority that a record gives to its request, if it does.
 fn record_priority(job: &Job, by_class: bool, record: LatencyRecord) -> Option<u32> {
     match (by_class, job.own_priority) {
@@ -256,11 +250,27 @@ fn earliest_start(jobs: &[Option<Job>]) -> u64 {
     earliest
 }
 
-fn add_requests(requests: &mut Vec<TimedRequest>, job: &Job, origin: u64) -> Result<(), LineFault> {
+// The requests of all jobs, of one clock.
+fn all_requests(alloc: Global, jobs: &[Option<Job>]) -> Result<Vec<TimedRequest>, AllocError> {
+    let origin = earliest_start(jobs);
+    let mut requests = Vec::new(alloc);
+    for job in jobs {
+        if let Some(job) = job {
+            add_requests(&mut requests, job, origin)?;
+        }
+    }
+    Ok(requests)
+}
+
+fn add_requests(
+    requests: &mut Vec<TimedRequest>,
+    job: &Job,
+    origin: u64,
+) -> Result<(), AllocError> {
     let shift = job.start.unwrap_or(origin).saturating_sub(origin);
     for request in job.requests.iter() {
-        if let Some(request) = request {
-            requests.push(shifted(*request, shift))?;
+        if request.is_taken {
+            requests.push(shifted(request.request, shift))?;
         }
     }
     Ok(())

@@ -13,9 +13,11 @@ pub use options::{Options, Priorities, TimeUnit};
 
 mod blkparse_line;
 mod blkparse_reader;
+mod blkparse_requests;
 mod captured;
 mod columns;
 mod csv_reader;
+mod csv_row;
 mod finishing;
 mod fio_job;
 mod fio_lines;

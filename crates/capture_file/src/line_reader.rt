@@ -52,16 +52,20 @@ pub fn read_lines<R: Read, T: LineReader>(
     };
     let mut lines = Lines::new(alloc, lenient);
     for _ in 0..u64::MAX {
-        let count = match input.read(chunk.as_mut_slice()) {
-            Ok(count) => count,
-            Err(_) => return Err(ReadFault::ReadFailed),
-        };
+        let count = read_some(input, chunk.as_mut_slice())?;
         if count == 0 {
             break;
         }
         lines.take(chunk.get(..count).unwrap_or(b""), reader)?;
     }
     lines.finish(reader)
+}
+
+fn read_some<R: Read>(input: &mut R, chunk: &mut [u8]) -> Result<usize, ReadFault> {
+    match input.read(chunk) {
+        Ok(count) => Ok(count),
+        Err(_) => Err(ReadFault::ReadFailed),
+    }
 }
 
 // The line that is being put together, and how many came before it.

@@ -4,7 +4,7 @@ use std::alloc::{AllocError, Global};
 use std::collections::HashMap;
 
 /// Names, numbered from 0 on in the order in which they came.
-#[derive(Debug, Drop)]
+#[derive(Drop)]
 pub struct Names {
     alloc: Global,
     list: Vec<Vec<u8>>,

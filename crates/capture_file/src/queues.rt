@@ -5,20 +5,20 @@ use std::alloc::{AllocError, Global};
 use std::collections::HashMap;
 use std::hash::Hash;
 
-#[derive(Clone, Copy, Debug)]
+#[derive(Clone, Copy)]
 struct Ends {
     first: usize,
     last: usize,
 }
 
-#[derive(Clone, Copy, Debug)]
+#[derive(Clone, Copy)]
 struct Link {
     value: usize,
     next: Option<usize>,
 }
 
 /// A queue of numbers for each key, first in first out. Each call takes constant time.
-#[derive(Debug, Drop)]
+#[derive(Drop)]
 pub struct Queues<K: Copy + Eq + Hash + Drop> {
     ends: HashMap<K, Ends>,
     links: Slab<Link>,

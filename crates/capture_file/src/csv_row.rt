@@ -1,0 +1,77 @@
+//! The fields of a CSV file's row.
+
+use crate::columns::Columns;
+use crate::line_fault::{Field, LineFault};
+use crate::number::{number, time_of};
+use crate::priority::LAST;
+use csv::ByteRecord;
+
+/// What a row says.
+#[derive(Clone, Copy)]
+pub struct CsvRow<'a> {
+    pub arrival: u64,
+    pub started: Option<u64>,
+    pub priority: Option<u32>,
+    pub device: &'a [u8],
+    pub driver: &'a [u8],
+}
+
+/// What a row says. The unit of its times has so many nanoseconds.
+pub fn csv_row(unit: u64, columns: Columns, row: &ByteRecord) -> Result<CsvRow<'_>, LineFault> {
+    if row.len() != columns.count {
+        return Err(LineFault::BadRecord);
+    }
+    let (arrival, started) = times(unit, columns, row)?;
+    let priority = said_priority(field(row, columns.priority))?;
+    Ok(CsvRow {
+        arrival,
+        started,
+        priority,
+        device: field(row, Some(columns.device)),
+        driver: driver_name(field(row, columns.driver)),
+    })
+}
+
+// The arrival and the start. The end is only looked at.
+fn times(unit: u64, columns: Columns, row: &ByteRecord) -> Result<(u64, Option<u64>), LineFault> {
+    let arrival = time(unit, field(row, Some(columns.arrival)), Field::Time)?;
+    let started = optional_time(unit, field(row, Some(columns.start)), Field::Start)?;
+    optional_time(unit, field(row, columns.end), Field::End)?;
+    if started.is_some_and(|time| time < arrival) {
+        return Err(LineFault::StartedEarly);
+    }
+    Ok((arrival, started))
+}
+
+fn time(unit: u64, text: &[u8], name: Field) -> Result<u64, LineFault> {
+    time_of(text, unit).ok_or(LineFault::BadNumber(name))
+}
+
+fn optional_time(unit: u64, text: &[u8], name: Field) -> Result<Option<u64>, LineFault> {
+    if text.is_empty() {
+        return Ok(None);
+    }
+    Ok(Some(time(unit, text, name)?))
+}
+
+// Without a column it is empty.
+fn field(row: &ByteRecord, column: Option<usize>) -> &[u8] {
+    match column {
+        None => b"",
+        Some(column) => row.get(column).unwrap_or(b"").trim_ascii(),
+    }
+}
+
+fn driver_name(name: &[u8]) -> &[u8] {
+    if name.is_empty() { b"driver" } else { name }
+}
+
+fn said_priority(text: &[u8]) -> Result<Option<u32>, LineFault> {
+    if text.is_empty() {
+        return Ok(None);
+    }
+    match number(text).and_then(|said| u32::try_from(said).ok()) {
+        Some(said) if said <= LAST => Ok(Some(said)),
+        _ => Err(LineFault::BadNumber(Field::Priority)),
+    }
+}

@@ -13,7 +13,7 @@ use Rattle.recording_file.specs.Fields.{Row, field_of}
 use Rattle.recording_file.specs.Recorded.{Recorded}
 use Rattle.recording_file.specs.declared.maxima.TheConstants.{MOST_RECORDING_BYTES}
 use Rattle.recording_file.specs.Reading as recordings
-use Rattle.recording_file.specs.Text.{records_in}
+use Rattle.record_text.specs.Text.{records_in}
 use Rattle.recording_file.specs.Whole.{most_bytes, IsTooLong}
 use Rattle.recording_file.specs.declared.recording_fault.RecordingFault.{RecordingFault}
 use Rattle.recording_file.specs.declared.recording_fault.RecordingFault.TheVariants as recording_fault

@@ -6,7 +6,7 @@ use Rattle.audit_report.specs.Words.{net_of_recording, IsRecording, IsRecordingT
 use Rattle.recording_file.specs.Whole.{IsTooLong}
 use Rattle.recording_file.specs.Reading as recordings
 use Rattle.recording_file.specs.Recordings as recorded
-use Rattle.recording_file.specs.Text.{records_in}
+use Rattle.record_text.specs.Text.{records_in}
 use Rattle.recording_file.specs.declared.recording_fault.RecordingFault.TheVariants as recording_fault
 use Rattle.price_check.specs.declared.report_fault.ReportFault.TheVariants as report_fault
 use Rattle.trace_file.specs.Trace as traced

@@ -3,7 +3,7 @@ use Rattle.std.specs.Prelude.{◌≡◌, ℕ, List, length, nat_le, if◌then◌
 use Rattle.audit_report.specs.Words.{MOST_BYTES, Past}
 use Rattle.recording_file.specs.Reading as recordings
 use Rattle.recording_file.specs.Recorded.{Recorded}
-use Rattle.recording_file.specs.Text.{records_in}
+use Rattle.record_text.specs.Text.{records_in}
 use Rattle.recording_file.specs.declared.recording_fault.RecordingFault.{RecordingFault}
 use Rattle.recording_file.specs.declared.recording_fault.RecordingFault.TheVariants as recording_fault
 use Rattle.trace_file.specs.Reading as traces

@@ -11,7 +11,7 @@ use Rattle.recording_file.specs.declared.recording_stage.RecordingStage.TheVaria
 use Rattle.recording_file.specs.declared.said.Said.TheVariants as said
 use Rattle.recording_file.specs.Fields.{Row, field_of}
 use Rattle.recording_file.specs.Records.{said_row, word_for, FitsSaid}
-use Rattle.recording_file.specs.Steps.{taken}
+use Rattle.record_text.specs.Steps.{taken}
 use Rattle.recording_file.specs.Words.{spelled}
 use Rattle.recording_file.proofs.FieldLaws.{word_again}
 use Rattle.recording_file.proofs.SaidAgain.{SmallFor, said_again}

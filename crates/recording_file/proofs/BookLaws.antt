@@ -21,7 +21,7 @@ use Rattle.recording_file.specs.Counts.{counts_of}
 use Rattle.recording_file.specs.Names.{Label, is_name}
 use Rattle.recording_file.specs.Fields.{most_number}
 use Rattle.recording_file.specs.Records.{cap_row, name_row, request_row, FitsRequest}
-use Rattle.recording_file.specs.Steps.{taken}
+use Rattle.record_text.specs.Steps.{taken}
 use Rattle.recording_file.proofs.AgainLaws.{Along, along_both, along_few, along_to, along_with, none_along, true_along, then_taken, run, said_step}
 use Rattle.recording_file.proofs.PlacingLemmas.{not_some, plain_none}
 use Rattle.recording_file.proofs.SaidAgain.{IsCounted}

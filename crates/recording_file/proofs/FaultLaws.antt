@@ -17,8 +17,8 @@ use Rattle.recording_file.specs.Fields.{Row}
 use Rattle.recording_file.specs.Header.{is_header, name_text}
 use Rattle.recording_file.specs.Rows.{one_number, span_at, rounds_at, weight_at, adapter_at, device_at, named_at, text_at, capped_at, most_at, request_at}
 use Rattle.recording_file.specs.Recordings.{Explains, FailsAt, IsFirstFault}
-use Rattle.recording_file.specs.Steps.{◌>>=◌, taken}
-use Rattle.recording_file.specs.Text.{records_in}
+use Rattle.record_text.specs.Steps.{◌>>=◌, taken}
+use Rattle.record_text.specs.Text.{records_in}
 use Rattle.recording_file.specs.Whole.{IsLongWhole}
 
 -- a fault of the text, and not of the reader or of memory

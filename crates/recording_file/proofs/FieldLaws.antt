@@ -14,7 +14,7 @@ use Rattle.recording_file.specs.Caps.{PartKind}
 use Rattle.recording_file.specs.declared.part.PartKind.TheVariants as part
 use Rattle.recording_file.specs.declared.span.TimeUnit.TheVariants as time
 use Rattle.recording_file.specs.Records.{optional_text}
-use Rattle.recording_file.specs.Steps.{◌>>=◌}
+use Rattle.record_text.specs.Steps.{◌>>=◌}
 use Rattle.recording_file.specs.Fields.{Row, field_of, formed, most_number, number_at, optional_at, within_at, below_at}
 
 pub same_bytes : (xs ys : List ℕ) → bytes_eq xs ys ≡ true → xs ≡ ys

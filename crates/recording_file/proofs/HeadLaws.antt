@@ -19,7 +19,7 @@ use Rattle.recording_file.specs.declared.said.Said.TheVariants as said
 use Rattle.recording_file.specs.Recorded.{Recorded, Span, IsRecording, MOST_RECORDED_ROUNDS}
 use Rattle.recording_file.specs.Fields.{Row, most_number}
 use Rattle.recording_file.specs.Records.{adapter_row, device_row, link_row, rounds_row, unit_rows, weight_row, weight_rows}
-use Rattle.recording_file.specs.Steps.{taken}
+use Rattle.record_text.specs.Steps.{taken}
 use Rattle.recording_file.proofs.AgainLaws.{Along, along_both, none_along, then_taken, run, said_step}
 use Rattle.recording_file.proofs.StageLemmas.{cond_none, device_small}
 

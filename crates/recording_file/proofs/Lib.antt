@@ -13,7 +13,6 @@ pub mod PlaceLemmas
 pub mod PlacingLemmas
 pub mod PushLaws
 pub mod ReadLaws
-pub mod RecordLemmas
 pub mod RoomLemmas
 pub mod RowSizes
 pub mod RunLemmas
@@ -26,3 +25,4 @@ pub mod TakenLemmas
 pub mod TextLaws
 pub mod WholeLaws
 pub mod WritingLemmas
+pub mod LongRows

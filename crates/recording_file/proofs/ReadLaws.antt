@@ -18,8 +18,8 @@ use Rattle.recording_file.specs.Caps.{Cap}
 use Rattle.recording_file.specs.Recordings.{WasRecording}
 use Rattle.recording_file.specs.Records.{cap_row, header, name_row, records_of, request_row, said_row, word_for, FitsSaid}
 use Rattle.recording_file.specs.Sound.{IsSound}
-use Rattle.recording_file.specs.Steps.{taken}
-use Rattle.recording_file.specs.Text.{records_in}
+use Rattle.record_text.specs.Steps.{taken}
+use Rattle.record_text.specs.Text.{records_in}
 use Rattle.recording_file.specs.Whole.{IsLongWhole}
 use Rattle.recording_file.proofs.FieldLaws.{ok_or_ok, word_spelled}
 use Rattle.recording_file.proofs.PlacingLemmas.{kept_name, kept_cap, kept_request}

@@ -11,7 +11,7 @@ use Rattle.recording_file.specs.Reading.{in_record, says, said_by, name_said, ca
 use Rattle.recording_file.specs.declared.said.Said.TheVariants as said
 use Rattle.recording_file.specs.Words.{spelled, time_text, time_of, named_text, named_of, part_text, part_kind_of, Word}
 use Rattle.recording_file.specs.declared.word.Word.TheVariants as word
-use Rattle.recording_file.specs.Steps.{◌>>=◌}
+use Rattle.record_text.specs.Steps.{◌>>=◌}
 use Rattle.recording_file.specs.Fields.{Row, field_of, formed, most_number, number_at, optional_at, within_at, below_at, unused, unused_from}
 use Rattle.recording_file.specs.Counts.{Counts, counts_of}
 use Rattle.recording_file.specs.Caps.{Part, part_of, is_cap, is_next_cap, part_count}

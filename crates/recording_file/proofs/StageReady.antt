@@ -15,7 +15,7 @@ use Rattle.recording_file.specs.Rows.{named_at, text_at, capped_at, most_at, req
 use Rattle.recording_file.specs.Counts.{counts_of}
 use Rattle.recording_file.specs.Saying.{IsAt, IsNaming, booked, ready_for}
 use Rattle.recording_file.specs.Sound.{IsSound}
-use Rattle.recording_file.specs.Steps.{◌>>=◌}
+use Rattle.record_text.specs.Steps.{◌>>=◌}
 use Rattle.recording_file.proofs.SaidLaws.{said_tells}
 
 pub at_naming : (s : RecordingStage) (w : Word) → IsAt s w → IsNaming s w

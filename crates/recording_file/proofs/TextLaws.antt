@@ -25,7 +25,7 @@ use Rattle.recording_file.proofs.BookLaws.{GoodRequest, counted_so, good_request
 use Rattle.recording_file.proofs.HeadLaws.{GoodDevice}
 use Rattle.recording_file.proofs.ItemCounts.{few_caps, few_names}
 use Rattle.recording_file.proofs.PlacingLemmas.{head_config}
-use Rattle.recording_file.proofs.RecordLemmas.{first_left, none_left}
+use Rattle.record_text.proofs.RecordLemmas.{first_left, none_left}
 use Rattle.recording_file.proofs.GoodRecords.{AreGood, and_more, both_good, each_good, good_adapter, good_cap, good_device, good_header, good_link, good_name, good_request, good_unit, good_weight, one_number, weaker}
 
 -- ---- records that are written are read again

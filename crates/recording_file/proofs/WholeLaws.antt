@@ -9,7 +9,7 @@ use Rattle.recording_file.specs.declared.recording_stage.RecordingStage.TheVaria
 use Rattle.recording_file.specs.Header.{has_letters, is_header}
 use Rattle.recording_file.specs.Recorded.{Recorded, IsRecording}
 use Rattle.recording_file.specs.Records.{header, records_of}
-use Rattle.recording_file.specs.Steps.{taken}
+use Rattle.record_text.specs.Steps.{taken}
 use Rattle.recording_file.proofs.AgainLaws.{none_along}
 use Rattle.recording_file.proofs.HeadLaws.{base_of, taken_config, taken_start, taken_weights}
 use Rattle.recording_file.proofs.BookLaws.{at_book, book_at, is_base, taken_book}

@@ -2,7 +2,7 @@
 use Rattle.std.specs.Prelude.{ℕ, ◌+◌, ◌==◌, ⊤, nat_le, nat_lt, if◌then◌else◌, List, [], ◌∷◌, length, drop, Option, Some, None, unwrap_or, Result, Ok, Err, ok_or}
 use Rattle.csv.specs.Records.{field_at}
 use Rattle.cam_types.specs.Number.{number_of}
-use Rattle.recording_file.specs.Steps.{◌>>=◌}
+use Rattle.record_text.specs.Steps.{◌>>=◌}
 
 -- a record: its fields, each of bytes
 abbrev pub Row : Type 0

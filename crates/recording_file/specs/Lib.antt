@@ -15,8 +15,6 @@ pub mod Rows
 pub mod Runs
 pub mod Saying
 pub mod Sound
-pub mod Steps
-pub mod Text
 pub mod Whole
 pub mod Words
 pub mod Writing

@@ -18,7 +18,7 @@ use Rattle.recording_file.specs.declared.said.Said.TheVariants as said
 pub use Rattle.recording_file.specs.declared.start.Start.{Start}
 use Rattle.recording_file.specs.Words.{word_of, word_rank, Word}
 use Rattle.recording_file.specs.declared.word.Word.TheVariants as word
-use Rattle.recording_file.specs.Steps.{◌>>=◌, taken}
+use Rattle.record_text.specs.Steps.{◌>>=◌, taken}
 use Rattle.recording_file.specs.Fields.{Row, field_of}
 use Rattle.recording_file.specs.Header.{is_header, name_text}
 use Rattle.recording_file.specs.Counts.{counts_of}

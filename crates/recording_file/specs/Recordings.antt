@@ -7,8 +7,8 @@ use Rattle.recording_file.specs.declared.recording_stage.RecordingStage.TheVaria
 use Rattle.recording_file.specs.Fields.{Row}
 use Rattle.recording_file.specs.Recorded.{Recorded, IsRecording}
 use Rattle.recording_file.specs.Records.{records_of}
-use Rattle.recording_file.specs.Steps.{◌>>=◌, taken}
-use Rattle.recording_file.specs.Text.{records_in}
+use Rattle.record_text.specs.Steps.{◌>>=◌, taken}
+use Rattle.record_text.specs.Text.{records_in}
 use Rattle.recording_file.specs.Whole.{most_bytes, IsLongWhole, IsTooLong}
 
 -- the text's records are those of the recording; where its weights are the standard ones, their rows may be left out

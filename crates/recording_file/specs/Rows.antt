@@ -9,7 +9,7 @@ use Rattle.recording_file.specs.Recorded.{Request, Span, MOST_RECORDED_ROUNDS}
 use Rattle.recording_file.specs.Names.{named_count, is_name_text, NameKind}
 use Rattle.recording_file.specs.Counts.{Counts}
 use Rattle.recording_file.specs.Caps.{Part, part_of, part_count}
-use Rattle.recording_file.specs.Steps.{◌>>=◌}
+use Rattle.record_text.specs.Steps.{◌>>=◌}
 use Rattle.recording_file.specs.Fields.{Row, field_of, formed, most_number, number_at, optional_at, within_at, below_at, unused_from}
 use Rattle.recording_file.specs.Words.{time_of, named_of, part_kind_of}
 

@@ -6,15 +6,15 @@ ghost use Rattle.cam_types.specs.Watched.{device_of, has_failed};
 ghost use Rattle.recording_file.specs.Reading.{reading};
 ghost use Rattle.recording_file.specs.Records.{records_of};
 ghost use Rattle.cam_types.specs.Weights.{are_standard};
-ghost use Rattle.recording_file.specs.Text.{records_in};
+ghost use Rattle.record_text.specs.Text.{records_in};
 ghost use Rattle.recording_file.specs.Recordings.{IsRecordingText, WasRecording, Explains};
 
 use crate::recording::Recording;
 use crate::recording_fault::RecordingFault;
 use crate::recording_stage::RecordingStage;
-use crate::records::take_records;
 use crate::whole::read_long;
 use cam_types::{Watched, WholeFault};
+use record_text::{front, take_records};
 use std::alloc::Global;
 use std::io::Read;
 
@@ -47,7 +47,7 @@ pub fn parse_recording(alloc: Global, text: &[u8]) -> Result<Recording, Recordin
     requires { length text.now ≤ MOST_RECORDING_BYTES }
     ensures { result ≢ Err RecordingFault.OutOfMemory → result ≡ reading (records_in text.now) }
 {
-    take_records(alloc, text, RecordingStage::Header)?.finish(alloc)
+    take_records(alloc, front(text), RecordingStage::Header)?.finish(alloc)
 }
 
 /// No list of records is that of two recordings. So a text is that of one recording at most.

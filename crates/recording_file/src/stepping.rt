@@ -9,9 +9,9 @@ ghost use Rattle.recording_file.specs.Sound.{IsSound};
 use crate::header::is_header;
 use crate::recording_fault::RecordingFault;
 use crate::recording_stage::RecordingStage;
-use crate::stage::Stage;
 use crate::word::Word;
 use csv::ByteRecord;
+use record_text::Stage;
 use std::alloc::Global;
 
 impl RecordingStage {
@@ -70,12 +70,21 @@ impl RecordingStage {
 }
 
 impl Stage for RecordingStage {
+    type Fault = RecordingFault;
+
+    ghost use Rattle.recording_file.specs.declared.recording_fault.RecordingFault.{RecordingFault};
     ghost use Rattle.recording_file.specs.Reading.{step};
     ghost use Rattle.recording_file.specs.Sound.{IsSound};
 
     ghost step = { step };
 
     ghost is_sound = { IsSound };
+
+    ghost refused = { RecordingFault.OutOfMemory };
+
+    fn out_of_memory() -> RecordingFault {
+        RecordingFault::OutOfMemory
+    }
 
     #[tactic(auto, using(crate::proofs::StageLemmas::step_after_header), unfolding(crate::specs::Reading::step, crate::specs::Sound::IsSound))]
     fn take(

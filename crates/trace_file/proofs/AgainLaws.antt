@@ -16,7 +16,7 @@ use Rattle.trace_file.specs.declared.word.Word.TheVariants as word
 use Rattle.trace_file.specs.Fields.{Row, field_of}
 use Rattle.trace_file.specs.Histories.{WeightRow}
 use Rattle.trace_file.specs.Records.{weight_row, link_row, adapter_row, device_row, event_row, lane_row}
-use Rattle.trace_file.specs.Steps.{taken}
+use Rattle.record_text.specs.Steps.{taken}
 use Rattle.trace_file.specs.Trace.{FitsEvent}
 use Rattle.trace_file.specs.Words.{spelled, word_rank}
 use Rattle.trace_file.proofs.FieldLaws.{word_again}

@@ -5,8 +5,8 @@ use Rattle.trace_file.specs.EventRecord.{IsEventRecord, counted}
 use Rattle.trace_file.specs.Fields.{Row}
 use Rattle.trace_file.specs.Histories.{Past}
 use Rattle.trace_file.specs.Records.{adapter_row, device_row, event_row, header, lane_row, link_row, records_of, weight_rows}
-use Rattle.trace_file.specs.Steps.{taken}
-use Rattle.trace_file.specs.Text.{records_in}
+use Rattle.record_text.specs.Steps.{taken}
+use Rattle.record_text.specs.Text.{records_in}
 use Rattle.trace_file.specs.Trace.{IsTrace}
 use Rattle.trace_file.specs.declared.event_number.RecordCount.{RecordCount}
 use Rattle.trace_file.specs.Versions.{Version}

@@ -12,8 +12,8 @@ use Rattle.trace_file.specs.Fields.{Row}
 use Rattle.trace_file.specs.Versions.{name_of}
 use Rattle.trace_file.specs.declared.version.Version.TheVariants as version
 use Rattle.trace_file.specs.Sound.{IsSound}
-use Rattle.trace_file.specs.Steps.{◌>>=◌, taken}
-use Rattle.trace_file.specs.Text.{records_in}
+use Rattle.record_text.specs.Steps.{◌>>=◌, taken}
+use Rattle.record_text.specs.Text.{records_in}
 use Rattle.trace_file.specs.Trace.{FailsAt, IsFirstFault, WasTrace, ExplainsBy}
 use Rattle.trace_file.proofs.StageLaws.{ReadsBy, ended_reads, step_reads, taken_keeps}
 use Rattle.trace_file.proofs.RowLaws.{on_ok}

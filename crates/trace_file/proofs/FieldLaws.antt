@@ -11,7 +11,7 @@ use Rattle.trace_file.specs.Rows.{most_number, Word}
 use Rattle.trace_file.specs.declared.word.Word.TheVariants as word
 use Rattle.trace_file.specs.Words.{spelled, word_of, all_words}
 use Rattle.trace_file.specs.Records.{link_text}
-use Rattle.trace_file.specs.Steps.{◌>>=◌}
+use Rattle.record_text.specs.Steps.{◌>>=◌}
 use Rattle.trace_file.specs.Fields.{Row, field_of, number_at, optional_at, flags_at, flags_of, flags_text, flags_by}
 
 pub same_bytes : (xs ys : List ℕ) → bytes_eq xs ys ≡ true → xs ≡ ys

@@ -6,7 +6,6 @@ pub mod FieldLemmas
 pub mod HexLaws
 pub mod ListLaws
 pub mod PushLaws
-pub mod RecordLemmas
 pub mod RowLaws
 pub mod RowsAgain
 pub mod ScriptAgain
@@ -23,3 +22,4 @@ pub mod StageLemmas
 pub mod TextLaws
 pub mod WholeLaws
 pub mod WritingLemmas
+pub mod LongLaws

@@ -8,7 +8,7 @@ use Rattle.trace_file.specs.Rows.{most_number, one_number, two_numbers, linked_a
 use Rattle.trace_file.specs.Versions.{has_links, Version}
 use Rattle.trace_file.specs.declared.version.Version.TheVariants as version
 use Rattle.trace_file.specs.declared.word.Word.TheVariants as word
-use Rattle.trace_file.specs.Steps.{◌>>=◌}
+use Rattle.record_text.specs.Steps.{◌>>=◌}
 use Rattle.trace_file.specs.Fields.{Row, field_of, number_at, optional_at, byte_at, sense_at, flags_at, flags_text, unused, unused_from}
 use Rattle.cam_types.specs.Weights.{row_to}
 use Rattle.trace_file.specs.Records.{hex, weight_row, link_row, link_text, adapter_row, device_row, is_unlinked, lane_row, event_row}

@@ -10,7 +10,7 @@ use Rattle.trace_file.specs.declared.version.Version.TheVariants as version
 use Rattle.trace_file.specs.declared.word.Word.TheVariants as word
 use Rattle.trace_file.specs.Fields.{unused_from}
 use Rattle.trace_file.specs.Records.{padded, adapter_row, event_row, is_unlinked}
-use Rattle.trace_file.specs.Steps.{◌>>=◌}
+use Rattle.record_text.specs.Steps.{◌>>=◌}
 use Rattle.trace_file.specs.Trace.{FitsEvent}
 use Rattle.trace_file.specs.Words.{spelled}
 use Rattle.trace_file.proofs.FieldLaws.{number_again, optional_again, flags_again}

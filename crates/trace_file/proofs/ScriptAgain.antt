@@ -18,7 +18,7 @@ use Rattle.trace_file.specs.Records.{adapter_row, device_row, holds, lane_row}
 use Rattle.trace_file.specs.declared.version.Version.TheVariants as version
 use Rattle.trace_file.specs.Scenarios.{Scenario, empty_scenario, is_answer_row, is_answer_word, item_of, MOST_ROWS}
 use Rattle.trace_file.specs.Script.{FitsRow, IsManuscript, Manuscript, answer_rows, limits_rows, put_row, scenario_of, script_records, step_rows}
-use Rattle.trace_file.specs.Steps.{taken}
+use Rattle.record_text.specs.Steps.{taken}
 use Rattle.trace_file.proofs.RowLaws.{ok_is, on_ok}
 use Rattle.trace_file.proofs.ScriptItems.{item_kind}
 use Rattle.trace_file.proofs.ScriptLaws.{fold_config, item_added, more_answers, more_steps}

@@ -11,7 +11,7 @@ use Rattle.trace_file.specs.declared.trace_stage.TraceStage.TheVariants as trace
 use Rattle.trace_file.specs.Fields.{Row, field_of}
 use Rattle.trace_file.specs.Scenarios.{Scenario, empty_scenario, item_of}
 use Rattle.trace_file.specs.ScriptRows.{limits_at, script_row_at}
-use Rattle.trace_file.specs.Steps.{◌>>=◌, taken}
+use Rattle.record_text.specs.Steps.{◌>>=◌, taken}
 use Rattle.trace_file.proofs.FaultLaws.{FailsByText, behind_fails, bound, by_field, taken_fails, by_test, by_word}
 
 item_fails : (n : ℕ) (s : Scenario) (steps answers : ℕ) (r : Result ScriptItem Refusal) → FailsByText (with_item n s steps answers r)

@@ -23,8 +23,8 @@ use Rattle.trace_file.specs.Records.{adapter_row, device_row, has_no_links, head
 use Rattle.trace_file.specs.Scenarios.{Scenario, add_item, empty_scenario, is_answer_item, is_answer_row, is_answer_word, item_of, MOST_ROWS}
 use Rattle.trace_file.specs.Script.{FitsRow, IsManuscript, Manuscript, WasScript, answer_rows, limits_rows, put_item, put_row, scenario_of, script_records, step_rows}
 use Rattle.trace_file.specs.Sound.{IsSound}
-use Rattle.trace_file.specs.Steps.{◌>>=◌, taken}
-use Rattle.trace_file.specs.Text.{records_in}
+use Rattle.record_text.specs.Steps.{◌>>=◌, taken}
+use Rattle.record_text.specs.Text.{records_in}
 use Rattle.trace_file.proofs.RowLaws.{ok_is, on_ok, if_ok}
 use Rattle.trace_file.proofs.ScriptItems.{item_kind}
 use Rattle.trace_file.proofs.ScriptRowLaws.{limits_take, row_takes}

@@ -19,7 +19,7 @@ use Rattle.trace_file.specs.Rows.{most_number, outcome_at}
 use Rattle.trace_file.specs.Scenarios.{is_answer_row, is_answer_word}
 use Rattle.trace_file.specs.Script.{FitsRow}
 use Rattle.trace_file.specs.ScriptReading.{is_config_word, is_limits, item_word}
-use Rattle.trace_file.specs.Steps.{◌>>=◌}
+use Rattle.record_text.specs.Steps.{◌>>=◌}
 use Rattle.trace_file.proofs.FieldLaws.{flags_again, flags_takes, number_again, number_takes, same_bytes}
 use Rattle.trace_file.proofs.HexLaws.{byte_at_again, sense_at_again, guard_some}
 use Rattle.trace_file.proofs.RowLaws.{ok_is, on_ok, outcome_takes, peel, if_ok, next_field, next_number, no_more}

@@ -22,7 +22,7 @@ use Rattle.trace_file.specs.Versions.{has_table, name_of, Version}
 use Rattle.trace_file.specs.declared.version.Version.TheVariants as version
 use Rattle.cam_types.specs.Weights.{are_standard, row_to}
 use Rattle.trace_file.specs.Sound.{IsBegun, IsKept, IsSound}
-use Rattle.trace_file.specs.Steps.{◌>>=◌, taken}
+use Rattle.record_text.specs.Steps.{◌>>=◌, taken}
 use Rattle.trace_file.specs.Trace.{FitsEvent, IsHistory}
 use Rattle.trace_file.specs.Words.{spelled, word_of}
 use Rattle.trace_file.proofs.FieldLaws.{word_spelled, ok_or_ok}

@@ -25,7 +25,7 @@ use Rattle.cam_types.specs.declared.maxima.TheConstants.{MOST_LINKS, MOST_ADAPTE
 use Rattle.event_rules.proofs.LaneCount.{few_lanes}
 use Rattle.trace_file.proofs.AgainLaws.{Along, along_both, none_along}
 use Rattle.trace_file.proofs.HexLaws.{length-hex}
-use Rattle.trace_file.proofs.RecordLemmas.{first_left, none_left}
+use Rattle.record_text.proofs.RecordLemmas.{first_left, none_left}
 use Rattle.trace_file.proofs.StageLemmas.{device_small}
 use Rattle.trace_file.proofs.WholeLaws.{GoodDevice, adapter_link, adapter_small, lane_small, link_number, link_small, weight_numbers}
 

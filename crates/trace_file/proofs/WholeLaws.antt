@@ -23,7 +23,7 @@ use Rattle.trace_file.specs.Versions.{has_table, name_of, Version}
 use Rattle.trace_file.specs.Fields.{Row}
 use Rattle.trace_file.specs.declared.version.Version.TheVariants as version
 use Rattle.trace_file.specs.declared.word.Word.TheVariants as word
-use Rattle.trace_file.specs.Steps.{taken}
+use Rattle.record_text.specs.Steps.{taken}
 use Rattle.trace_file.specs.Trace.{FitsEvent, IsHistory}
 use Rattle.trace_file.proofs.AgainLaws.{Along, all_true, along_both, none_along, true_along, then_taken, run, weight_step, link_step, adapter_step, lane_step, device_step, event_step}
 use Rattle.trace_file.proofs.RowLaws.{can_spell}

@@ -2,7 +2,7 @@ use Rattle.std.specs.Prelude.{ℕ, ◌+◌, ◌*◌, ◌-◌, ◌==◌, Bool, tr
 use Rattle.csv.specs.Records.{field_at}
 use Rattle.cam_types.specs.Number.{number_of}
 use Rattle.cam_types.specs.declared.flags.Flags.{Flags}
-use Rattle.trace_file.specs.Steps.{◌>>=◌}
+use Rattle.record_text.specs.Steps.{◌>>=◌}
 
 -- a record: its fields, each of bytes
 abbrev pub Row : Type 0

@@ -9,8 +9,6 @@ pub mod Script
 pub mod ScriptReading
 pub mod ScriptRows
 pub mod Sound
-pub mod Steps
-pub mod Text
 pub mod Trace
 pub mod TraceRows
 pub mod Versions

@@ -10,7 +10,7 @@ use Rattle.trace_file.specs.declared.trace_stage.TraceStage.TheVariants as stage
 use Rattle.trace_file.specs.Versions.{has_word, name_of, Version}
 use Rattle.trace_file.specs.declared.version.Version.TheVariants as version
 use Rattle.trace_file.specs.declared.word.Word.TheVariants as word
-use Rattle.trace_file.specs.Steps.{◌>>=◌, taken}
+use Rattle.record_text.specs.Steps.{◌>>=◌, taken}
 use Rattle.trace_file.specs.Fields.{Row, field_of}
 use Rattle.trace_file.specs.Words.{word_of, word_rank}
 pub use Rattle.trace_file.specs.declared.trace_stage.TraceStage.TheVariants.{Header}

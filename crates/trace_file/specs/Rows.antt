@@ -6,7 +6,7 @@ pub use Rattle.trace_file.specs.declared.device_row.DeviceRow.{DeviceRow}
 use Rattle.trace_file.specs.Versions.{has_links, Version}
 pub use Rattle.trace_file.specs.declared.word.Word.{Word}
 use Rattle.trace_file.specs.declared.word.Word.TheVariants as word
-use Rattle.trace_file.specs.Steps.{◌>>=◌}
+use Rattle.record_text.specs.Steps.{◌>>=◌}
 use Rattle.trace_file.specs.Fields.{Row, number_at, optional_at, byte_at, sense_at, flags_at, unused_from}
 
 -- the largest number of a record

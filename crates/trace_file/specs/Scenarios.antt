@@ -18,7 +18,7 @@ use Rattle.trace_file.specs.declared.script_word.ScriptWord.TheVariants as word
 pub use Rattle.trace_file.specs.declared.step.Step.{Step}
 use Rattle.trace_file.specs.declared.step.Step.TheVariants as step
 use Rattle.trace_file.specs.Histories.{Device, Outcome, Refusal, Topology}
-use Rattle.trace_file.specs.Steps.{◌>>=◌}
+use Rattle.record_text.specs.Steps.{◌>>=◌}
 pub use Rattle.trace_file.specs.declared.script_stage.TheConstants.{MOST_ROWS}
 
 -- the configuration and the limits, eight lists of steps by the driver's number, and a list of outcomes for each lane

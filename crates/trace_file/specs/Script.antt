@@ -16,7 +16,7 @@ use Rattle.trace_file.specs.Fields.{Row}
 use Rattle.trace_file.specs.Histories.{Device, Outcome, Refusal, Topology, config_fault, standard_weights}
 use Rattle.trace_file.specs.Records.{adapter_row, device_row, has_no_links, lane_row}
 use Rattle.trace_file.specs.Rows.{most_number}
-use Rattle.trace_file.specs.Text.{records_in}
+use Rattle.record_text.specs.Text.{records_in}
 use Rattle.trace_file.specs.Trace.{FitsOutcome, ExplainsBy}
 
 -- what the records of a script say: limits, if they are given, a configuration, and rows

@@ -11,7 +11,7 @@ use Rattle.trace_file.specs.Reading.{config_of, in_record, is_header, lacks_adap
 use Rattle.trace_file.specs.declared.trace_stage.TraceStage.TheVariants as trace
 use Rattle.trace_file.specs.Fields.{Row, field_of}
 use Rattle.trace_file.specs.Scenarios.{Scenario, add_item, empty_scenario, is_answer_word, item_of, MOST_ROWS}
-use Rattle.trace_file.specs.Steps.{◌>>=◌, taken}
+use Rattle.record_text.specs.Steps.{◌>>=◌, taken}
 pub use Rattle.trace_file.specs.declared.script_stage.ScriptStage.TheVariants.{Header}
 
 -- a configuration with the standard weights is in the making, or an adapter is due

@@ -11,7 +11,7 @@ use Rattle.trace_file.specs.declared.script_word.ScriptWord.TheVariants as word
 use Rattle.trace_file.specs.Fields.{Row, field_of, flags_at, flags_text, number_at, unused_from}
 use Rattle.trace_file.specs.Records.{padded, hex}
 use Rattle.trace_file.specs.Rows.{most_number, outcome_at}
-use Rattle.trace_file.specs.Steps.{◌>>=◌}
+use Rattle.record_text.specs.Steps.{◌>>=◌}
 
 -- how a word is spelled
 abbrev pub spelled : ScriptWord → List ℕ

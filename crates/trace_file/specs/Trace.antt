@@ -12,8 +12,8 @@ use Rattle.trace_file.specs.Fields.{Row}
 use Rattle.trace_file.specs.Records.{holds, records_of}
 use Rattle.trace_file.specs.Versions.{Version}
 use Rattle.trace_file.specs.Rows.{most_number}
-use Rattle.trace_file.specs.Steps.{◌>>=◌, taken}
-use Rattle.trace_file.specs.Text.{records_in}
+use Rattle.record_text.specs.Steps.{◌>>=◌, taken}
+use Rattle.record_text.specs.Text.{records_in}
 
 -- the text's records are those of the history, in a version that can hold it
 pub record IsTrace (text : List ℕ) (past : Past) : Type 0 where

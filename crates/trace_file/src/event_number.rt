@@ -3,14 +3,13 @@
 ghost use Rattle.std.specs.Prelude.{◌≡◌, ◌≤◌, ⊤, length, None, IfSome, IfOk};
 ghost use Rattle.cam_types.specs.declared.maxima.TheConstants.{MOST_BYTES};
 ghost use Rattle.trace_file.specs.EventRecord.{IsEventRecord};
-ghost use Rattle.trace_file.specs.Text.{records_in};
+ghost use Rattle.record_text.specs.Text.{records_in};
 ghost use Rattle.trace_file.specs.Trace.{IsTrace};
 
-use crate::records::take_records;
-use crate::stage::Stage;
 use crate::trace_fault::TraceFault;
 use cam_event::History;
 use csv::ByteRecord;
+use record_text::{Stage, take_records};
 use std::alloc::{AllocError, Global};
 
 /// The number of the record of the event at this place, from 0 on, in a trace of the history, whichever its version. There is
@@ -54,11 +53,20 @@ pub(crate) struct RecordCount {
 }
 
 impl Stage for RecordCount {
+    type Fault = TraceFault;
+
+    ghost use Rattle.trace_file.specs.declared.trace_fault.TraceFault.{TraceFault};
     ghost use Rattle.trace_file.specs.EventRecord.{counted};
 
     ghost step = { counted };
 
     ghost is_sound = { λ _. ⊤ };
+
+    ghost refused = { TraceFault.OutOfMemory };
+
+    fn out_of_memory() -> TraceFault {
+        TraceFault::OutOfMemory
+    }
 
     fn take(
         self,

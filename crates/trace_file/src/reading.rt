@@ -7,15 +7,15 @@ ghost use Rattle.trace_file.specs.Histories.{Past};
 ghost use Rattle.trace_file.specs.Reading.{reading};
 ghost use Rattle.trace_file.specs.Records.{holds, records_of};
 ghost use Rattle.trace_file.specs.Versions.{Version};
-ghost use Rattle.trace_file.specs.Text.{records_in};
+ghost use Rattle.record_text.specs.Text.{records_in};
 ghost use Rattle.trace_file.specs.Trace.{IsTrace, IsHistory, WasTrace, Explains};
 
-use crate::records::take_records;
 use crate::trace_fault::TraceFault;
 use crate::trace_stage::TraceStage;
 use crate::version::Version;
 use cam_event::History;
 use cam_types::{Watched, WholeFault, read_whole};
+use record_text::{front, take_records};
 use std::alloc::Global;
 use std::io::Read;
 
@@ -46,7 +46,7 @@ pub fn parse_trace(alloc: Global, text: &[u8]) -> Result<History, TraceFault>
     requires { length text.now ≤ MOST_BYTES }
     ensures { result ≢ Err TraceFault.OutOfMemory → result ≡ reading (records_in text.now) }
 {
-    take_records(alloc, text, TraceStage::Header)?.finish(alloc)
+    take_records(alloc, front(text), TraceStage::Header)?.finish(alloc)
 }
 
 /// No list of records is that of two histories, in whichever versions, and none is of two versions. So a history has exactly

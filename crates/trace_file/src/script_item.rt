@@ -3,7 +3,7 @@
 ghost use Rattle.std.specs.Prelude.{◌≡◌, ◌<◌, length, not, IfSome, Ok};
 ghost use Rattle.sense_class.specs.Classes.{status_of};
 ghost use Rattle.trace_file.specs.Scenarios.{device_number, is_at, item_of, refused_if};
-ghost use Rattle.trace_file.specs.Steps.{◌>>=◌ as and_then};
+ghost use Rattle.record_text.specs.Steps.{◌>>=◌ as and_then};
 
 use crate::script_row::{ScriptItem, ScriptRow};
 use crate::step::Step;

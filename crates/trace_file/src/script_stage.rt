@@ -14,11 +14,11 @@ use crate::script_item::item_of;
 use crate::script_row::{ScriptItem, ScriptRow};
 use crate::script_rows::{limits_at, script_row_at};
 use crate::script_word::ScriptWord;
-use crate::stage::Stage;
 use crate::trace_fault::TraceFault;
 use crate::trace_stage::{TraceStage, in_record};
 use cam_types::{ConfigFault, Limits};
 use csv::ByteRecord;
+use record_text::Stage;
 use std::alloc::Global;
 
 /// The most rows of drivers, and the most answers, of a script.
@@ -60,12 +60,21 @@ impl ScriptStage {
 }
 
 impl Stage for ScriptStage {
+    type Fault = TraceFault;
+
+    ghost use Rattle.trace_file.specs.declared.trace_fault.TraceFault.{TraceFault};
     ghost use Rattle.trace_file.specs.ScriptReading.{script_step};
     ghost use Rattle.trace_file.specs.Sound.{IsSoundScript};
 
     ghost step = { script_step };
 
     ghost is_sound = { IsSoundScript };
+
+    ghost refused = { TraceFault.OutOfMemory };
+
+    fn out_of_memory() -> TraceFault {
+        TraceFault::OutOfMemory
+    }
 
     #[tactic(auto, unfolding(crate::specs::ScriptReading::script_step, crate::specs::Sound::IsSoundScript, crate::specs::Sound::IsSound))]
     fn take(self, alloc: Global, number: u32, row: &ByteRecord) -> Result<ScriptStage, TraceFault> {

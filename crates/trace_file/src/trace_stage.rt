@@ -9,7 +9,6 @@ use crate::device_row::DeviceRow;
 use crate::fields::field;
 use crate::header::is_header;
 use crate::rows::{adapter_at, device_at, event_at, one_number, two_numbers};
-use crate::stage::Stage;
 use crate::stage_items::{
     finished, first_event, lacking, standard, with_adapter, with_device, with_event, with_lane,
     with_link, with_weight, without_events,
@@ -22,6 +21,7 @@ use cam_event::History;
 use cam_types::{Adapter, Config, ConfigDraft, ConfigFault, WeightRow};
 use csv::ByteRecord;
 use event_rules::Event;
+use record_text::Stage;
 use std::alloc::Global;
 
 /// What a trace has said so far.
@@ -337,12 +337,21 @@ impl TraceStage {
 }
 
 impl Stage for TraceStage {
+    type Fault = TraceFault;
+
+    ghost use Rattle.trace_file.specs.declared.trace_fault.TraceFault.{TraceFault};
     ghost use Rattle.trace_file.specs.Reading.{step};
     ghost use Rattle.trace_file.specs.Sound.{IsSound};
 
     ghost step = { step };
 
     ghost is_sound = { IsSound };
+
+    ghost refused = { TraceFault.OutOfMemory };
+
+    fn out_of_memory() -> TraceFault {
+        TraceFault::OutOfMemory
+    }
 
     #[tactic(auto, using(crate::proofs::StageLemmas::step_behind), unfolding(crate::specs::Reading::step, crate::specs::Sound::IsSound))]
     fn take(self, alloc: Global, number: u32, row: &ByteRecord) -> Result<TraceStage, TraceFault> {

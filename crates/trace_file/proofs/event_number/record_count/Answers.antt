@@ -1,8 +1,8 @@
 use Rattle.std.proofs.Common.{◌∙◌, ap, sym}
-use Rattle.trace_file.specs.Text.{records_in}
+use Rattle.record_text.specs.Text.{records_in}
 use Rattle.trace_file.specs.declared.event_number.RecordCount.{RecordCount}
 use Rattle.trace_file.proofs.EventRecordLaws.{counted_all}
-use Rattle.trace_file.proofs.RecordLemmas.{took_ok}
+use Rattle.record_text.proofs.RecordLemmas.{took_ok}
 use Rattle.trace_file.proofs.RowLaws.{ok_is}
 use Rattle.trace_file.proofs.event_number.record_count.Goals as goal
 

@@ -3,7 +3,7 @@ use Rattle.csv.specs.Records.{fields_of}
 use Rattle.trace_file.specs.Fields.{field_of}
 use Rattle.trace_file.specs.ScriptReading.{is_config_word}
 use Rattle.trace_file.specs.Sound.{IsSoundScript}
-use Rattle.trace_file.proofs.RecordLemmas.{took_ok}
+use Rattle.record_text.proofs.RecordLemmas.{took_ok}
 use Rattle.trace_file.proofs.ScriptStageLemmas.{configures}
 use Rattle.trace_file.proofs.script_stage.take_config.Goals as goal
 

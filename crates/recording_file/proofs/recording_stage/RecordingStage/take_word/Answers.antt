@@ -1,5 +1,5 @@
 use Rattle.csv.specs.Records.{fields_of}
-use Rattle.recording_file.proofs.RecordLemmas.{took_ok}
+use Rattle.record_text.proofs.RecordLemmas.{took_ok}
 use Rattle.recording_file.proofs.StageReady.{said_ready}
 use Rattle.recording_file.proofs.recording_stage.RecordingStage.take_word.Goals as goal
 

@@ -9,8 +9,8 @@ use Rattle.csv.specs.declared.parser.State.{State}
 use Rattle.csv.specs.declared.parser.State.TheVariants as st
 use Rattle.csv.specs.declared.parser.Action.{Action}
 use Rattle.csv.proofs.ReadFacts.{rows-more}
-use Rattle.recording_file.specs.Fields.{Row}
-use Rattle.recording_file.specs.Steps.{taken}
+use Rattle.record_text.specs.Text.{Row}
+use Rattle.record_text.specs.Steps.{taken}
 
 -- ---- a record takes a byte at least, and the next one begins where none is open
 

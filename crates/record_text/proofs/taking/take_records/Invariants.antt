@@ -1,9 +1,9 @@
 use Rattle.std.proofs.Common.{◌≡◌, ◌<◌, ℕ, List, Some, length}
 use Rattle.csv.specs.Reading.{Ready, default_config, source_of}
 use Rattle.csv.specs.declared.reader.Trim.TheVariants as trim
-use Rattle.recording_file.specs.Text.{records_in}
-use Rattle.recording_file.proofs.RecordLemmas.{IsLeft}
-use Rattle.recording_file.proofs.records.take_records.Given as goal
+use Rattle.record_text.specs.Text.{records_in}
+use Rattle.record_text.proofs.RecordLemmas.{IsLeft}
+use Rattle.record_text.proofs.taking.take_records.Given as goal
 
 abbrev pub invariant-loop-row : goal.invariant-loop-row
 invariant-loop-row g l = (l.row-iterator.rdr.trim ≡ trim.None) × Ready l.row-iterator.rdr × (0 < l.row-iterator.left) × (l.row-iterator.rdr.config ≡ default_config)

@@ -1,6 +1,10 @@
+-- the records of a text
 use Rattle.std.specs.Prelude.{ℕ, List}
 use Rattle.csv.specs.Reading.{default_config, records, strip_bom}
-use Rattle.recording_file.specs.Fields.{Row}
+
+-- a record: its fields, each of bytes
+abbrev pub Row : Type 0
+Row = List (List ℕ)
 
 -- the records of a text: those of CSV, after a byte order mark if there is one
 abbrev pub records_in : List ℕ → List Row

@@ -3,10 +3,9 @@ use Rattle.std.proofs.lemmas.Result.{err_from_is_err_and}
 use Rattle.csv.specs.Reading.{strip_bom}
 use Rattle.csv.specs.Records.{fields_of}
 use Rattle.csv.proofs.ReadFacts.{rows-end}
-use Rattle.trace_file.specs.Reading.{TraceFault}
-use Rattle.trace_file.specs.Text.{records_in}
-use Rattle.trace_file.proofs.RecordLemmas.{left_first, left_more, left_fault, left_end, record_more, took_ok, took_err}
-use Rattle.trace_file.proofs.records.take_records.Goals as goal
+use Rattle.record_text.specs.Text.{records_in}
+use Rattle.record_text.proofs.RecordLemmas.{left_first, left_more, left_fault, left_end, record_more, took_ok, took_err}
+use Rattle.record_text.proofs.taking.take_records.Goals as goal
 
 pub loop-row-init : goal.loop-row-init
 loop-row-init g c =
@@ -55,7 +54,7 @@ returns-in_err-stage-clause-value g c =
     let p = err_from_is_err_and c.from_residual.result c.from_residual.ensures.1 in
     rw (p.1, p.2) (λ other.
     sym (left_fault g.S.Stage.step c.args.first (records_in c.args.text.now) c.loop-row.number c.loop-row.stage old.state inv.5 (length c.args.text.now) (fields_of c.in-Ok.row, new.state, m.0) _ inv.7 m.2
-    (took_err _ _ _ _ c.take.ensures.value c.in_err-stage.was (λ k. other (ap (λ (x : TraceFault). Err x) k)))))
+    (took_err _ _ _ _ c.take.ensures.value c.in_err-stage.was (λ k. other (ap (λ x. Err x) k)))))
 
 pub returns-clause-value : goal.returns-clause-value
 returns-clause-value g c = λ _.

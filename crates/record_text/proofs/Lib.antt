@@ -1,0 +1,3 @@
+pub mod RecordLemmas
+pub mod FrontLemmas
+pub mod CutLemmas

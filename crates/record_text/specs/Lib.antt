@@ -1,0 +1,5 @@
+pub mod Text
+pub mod Steps
+pub mod Places
+pub mod Front
+pub mod Cuts

@@ -159,13 +159,15 @@ after_byte s fields field c pre post e more = by (is_end (step default_config s 
   where
     t : State
     t = (step default_config s c).0
+
     a : Action
     a = (step default_config s c).1
+
     by : (b : Bool) → is_end (step default_config s c).1 ≡ b
         → IsSame (cond (is_end a) (Some (fields_after a fields field, t, pre ++ post)) (next_record default_config t (fields_after a fields field) (field_after a c field) (pre ++ post)))
-            (cond (is_end a) (Some (fields_after a fields field, t, pre)) (next_record default_config t (fields_after a fields field) (field_after a c field) pre)) post (suc (length pre))
-          ⊎ IsLong (cond (is_end a) (Some (fields_after a fields field, t, pre ++ post)) (next_record default_config t (fields_after a fields field) (field_after a c field) (pre ++ post)))
-            (cond (is_end a) (Some (fields_after a fields field, t, pre)) (next_record default_config t (fields_after a fields field) (field_after a c field) pre))
+        (cond (is_end a) (Some (fields_after a fields field, t, pre)) (next_record default_config t (fields_after a fields field) (field_after a c field) pre)) post (suc (length pre))
+        ⊎ IsLong (cond (is_end a) (Some (fields_after a fields field, t, pre ++ post)) (next_record default_config t (fields_after a fields field) (field_after a c field) (pre ++ post)))
+        (cond (is_end a) (Some (fields_after a fields field, t, pre)) (next_record default_config t (fields_after a fields field) (field_after a c field) pre))
     by true ends = rw ends (inl (record {
       row = fields_after a fields field;
       state = t;

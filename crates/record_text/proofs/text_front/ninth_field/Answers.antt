@@ -14,7 +14,7 @@ loop-at-preserved c =
     let inv = c.loop-at.invariant in
     let was = sym c.after-next.ensures.effect in
     elim c.match-effect.branch [
-      in-Nothing w ↦ rw w.fields-is (read_more c.args.text.now c.loop-at.at _ _ _ _ (omega arith) inv.0 c.after-next.ensures.place (count_nothing _ _ (was ∙ w.in-Nothing.is)), omega arith, omega arith)
+      | in-Nothing w ↦ rw w.fields-is (read_more c.args.text.now c.loop-at.at _ _ _ _ (omega arith) inv.0 c.after-next.ensures.place (count_nothing _ _ (was ∙ w.in-Nothing.is)), omega arith, omega arith)
       | in-Field-2 w ↦ rw w.fields-is (read_more c.args.text.now c.loop-at.at _ _ _ _ (omega arith) inv.0 c.after-next.ensures.place (count_field _ _ (was ∙ w.in-Field.is)), omega arith, omega arith)
       | in-Record w ↦ rw w.fields-is (read_more c.args.text.now c.loop-at.at _ _ _ _ (omega arith) inv.0 c.after-next.ensures.place (count_record _ _ (was ∙ w.in-Record.is)), omega arith, omega arith)
     ]

@@ -1,1 +1,3 @@
 pub mod Beginnings
+pub mod Numbered
+pub mod Turn

@@ -62,7 +62,10 @@ pub(crate) fn push_reason(
         return Ok(());
     };
     let fields = row.len();
-    if fields != FIELDS {
+    if fields > FIELDS {
+        return note.push_str("  it has more than 8 fields\n");
+    }
+    if fields < FIELDS {
         return writeln!(note, "  it has {fields} fields, and not 8");
     }
     if text.starts_with(b"camscript1") {

@@ -1,5 +1,9 @@
 //! Where a record of a text stands.
 
+ghost use Rattle.std.specs.Prelude.{IfSome};
+ghost use Rattle.csv.specs.Records.{fields_of};
+ghost use Rattle.views.specs.Numbered.{IsNumbered};
+
 use csv::{ByteRecord, ByteRecordsIntoIter, ReaderBuilder};
 use std::alloc::Global;
 
@@ -18,14 +22,20 @@ pub(crate) fn place_of(alloc: Global, text: &[u8], record: u32) -> Option<Place>
 }
 
 /// The record of this number, counted from 1. There is none if the text has fewer, or no memory is left.
-pub(crate) fn record_at(alloc: Global, text: &[u8], record: u32) -> Option<ByteRecord> {
-    let mut left = record;
-    for row in records(alloc, text) {
+pub(crate) fn record_at(alloc: Global, text: &[u8], number: u32) -> Option<ByteRecord>
+    ensures { IfSome result (λ row. IsNumbered text.now number (fields_of row)) }
+{
+    let reader = ReaderBuilder::new()
+        .has_headers(false)
+        .flexible(true)
+        .from_reader(alloc, text);
+    let mut left = number.saturating_sub(1);
+    for row in reader.into_byte_records() {
         let row = row.ok()?;
-        left = left.saturating_sub(1);
         if left == 0 {
             return Some(row);
         }
+        left -= 1;
     }
     None
 }

@@ -9,6 +9,7 @@ use crate::notes::shown::{first_line, push_line};
 use crate::notes::turn::turn_at;
 use cam_types::Watched;
 use event_rules::{Refusal, Stay};
+use record_text::front;
 use recording_file::RecordingFault;
 use std::alloc::{AllocError, Global};
 use trace_file::{TraceFault, event_record, read_trace};
@@ -26,6 +27,7 @@ pub fn trace_note(
     let Some(record) = record_of(fault) else {
         return Ok(note);
     };
+    let text = front(text);
     push_record(alloc, &mut note, name, text, record)?;
     match fault {
         TraceFault::BadRecord(_) => push_reason(alloc, &mut note, text, record, false)?,
@@ -46,6 +48,7 @@ pub fn recording_note(
     let Some(record) = record_of_recording(fault) else {
         return Ok(note);
     };
+    let text = front(text);
     push_record(alloc, &mut note, name, text, record)?;
     if let RecordingFault::BadRecord(_) = fault {
         push_reason(alloc, &mut note, text, record, true)?;

@@ -31,7 +31,9 @@ pub(crate) fn record_at(alloc: Global, text: &[u8], number: u32) -> Option<ByteR
         .from_reader(alloc, text);
     let mut left = number.saturating_sub(1);
     for row in reader.into_byte_records() {
-        let row = row.ok()?;
+        let Ok(row) = row else {
+            return None;
+        };
         if left == 0 {
             return Some(row);
         }

@@ -30,9 +30,9 @@ pub(crate) const SUBCOMMANDS: [Subcommand; 11] = [
     },
     Subcommand {
         name: "explain",
-        about: "Says where the commands of a trace waited, and why",
+        about: "Says where the commands of a trace or the requests of a recording waited, and why",
         example: "Example: camxpt explain examples/frozen-device.csv",
-        words: &[Word::Top, Word::Json, Word::Verbose, Word::Trace],
+        words: &[Word::Top, Word::Json, Word::Verbose, Word::Either],
     },
     Subcommand {
         name: "draw",

@@ -1,13 +1,19 @@
-//! Checks and audits a trace or a recording; explains, draws, migrates or records a trace.
+//! Checks, audits and explains a trace or a recording; draws, migrates or records a trace.
 
 use crate::failure::Failure;
 use crate::note::title;
 use crate::output::{Output, closed, print};
 use crate::progress::{ProgressLine, ToldReader, ToldWriter};
 use crate::source::Source;
-use audit_report::{read_net, read_rounds, run_audit_with, run_check, run_migrate, run_record};
+use audit_report::{
+    AuditFault, Input, read_input, read_net, read_rounds, run_audit_with, run_check, run_migrate,
+    run_record,
+};
+use cam_event::History;
 use cam_types::Watched;
 use cost_plan::plan_with;
+use recording_file::Recording;
+use round_net::{Net, NetFault, RoundTable};
 use std::alloc::AllocError;
 use std::io::{Read, Write};
 use std::thread::Threads;
@@ -15,7 +21,7 @@ use std::time::Clock;
 use views::{audit_json, check_json, draw, explain_json, page};
 use wait_causes::Explanation;
 
-/// What is done with a trace, or a recording where it is checked or audited.
+/// What is done with a trace, or a recording where it is checked, audited or explained.
 #[derive(Clone, Copy)]
 pub enum TraceRun {
     /// It is checked.
@@ -61,8 +67,14 @@ impl TraceRun {
             TraceRun::Audit { summary } if !as_json => Ok(run_audit_with(
                 rt, alloc, &mut trace, &mut told, summary, line,
             )?),
-            TraceRun::Explain { .. } | TraceRun::Draw => {
-                let text = self.explanation_on(rt, line, name, &mut trace, as_json)?;
+            TraceRun::Explain { top } => {
+                let top = if as_json { None } else { Some(top) };
+                let text = explained(rt, line, name, &mut trace, top)?;
+                line.clear();
+                print(out, &text)
+            }
+            TraceRun::Draw => {
+                let text = drawn(rt, line, name, &mut trace)?;
                 line.clear();
                 print(out, &text)
             }
@@ -92,30 +104,78 @@ impl TraceRun {
         let best = plan_with(rt, alloc, &net, line)?;
         closed(audit_json(alloc, name, &net, &best.schedule, &best.prices, summary))
     }
+}
 
-    // What is printed of the explanation of the trace.
-    fn explanation_on<R: AllocGlobal + Threads + Clock + Eprint + Sync, D: Read>(
-        self,
-        rt: &R,
-        line: &ProgressLine<'_, R>,
-        name: &str,
-        trace: &mut Watched<D>,
-        as_json: bool,
-    ) -> Result<String, Failure>
-        requires { has_failed trace.old ≡ false }
-    {
-        let alloc = rt.alloc();
-        let (history, table, net) = read_rounds(alloc, trace)?;
-        let best = plan_with(rt, alloc, &net, line)?;
-        let explanation = Explanation::of(alloc, &history, table, &net, &best.schedule)?;
-        match self {
-            TraceRun::Explain { top } if !as_json => {
-                made(page(alloc, net.config(), &explanation, top))
-            }
-            TraceRun::Draw => made(draw(alloc, title(name), net.config(), &net, &explanation)),
-            _ => closed(explain_json(alloc, name, &net, &explanation)),
-        }
+ghost use Rattle.std.specs.Prelude.{◌≡◌, false};
+ghost use Rattle.cam_types.specs.Watched.{has_failed};
+
+// What is printed of the explanation of a trace or a recording: a page with that many of the dearest stays and freezes, or one
+// line of JSON.
+fn explained<R: AllocGlobal + Threads + Clock + Eprint + Sync, D: Read>(
+    rt: &R,
+    line: &ProgressLine<'_, R>,
+    name: &str,
+    trace: &mut Watched<D>,
+    top: Option<usize>,
+) -> Result<String, Failure>
+    requires { has_failed trace.old ≡ false }
+{
+    let alloc = rt.alloc();
+    let (net, explanation) = match read_input(alloc, trace)? {
+        Input::Trace(history) => of_history(rt, line, &history)?,
+        Input::Recording(recording) => of_recording(rt, line, recording)?,
+    };
+    match top {
+        Some(top) => made(page(alloc, net.config(), &explanation, top)),
+        None => closed(explain_json(alloc, name, &net, &explanation)),
     }
+}
+
+// What is printed of the drawing of a trace.
+fn drawn<R: AllocGlobal + Threads + Clock + Eprint + Sync, D: Read>(
+    rt: &R,
+    line: &ProgressLine<'_, R>,
+    name: &str,
+    trace: &mut Watched<D>,
+) -> Result<String, Failure>
+    requires { has_failed trace.old ≡ false }
+{
+    let alloc = rt.alloc();
+    let (history, table, net) = read_rounds(alloc, trace)?;
+    let best = plan_with(rt, alloc, &net, line)?;
+    let explanation = Explanation::of(alloc, &history, table, &net, &best.schedule)?;
+    made(draw(alloc, title(name), net.config(), &net, &explanation))
+}
+
+// The net of a history, and its explanation beside a best schedule.
+fn of_history<R: AllocGlobal + Threads + Clock + Eprint + Sync>(
+    rt: &R,
+    line: &ProgressLine<'_, R>,
+    history: &History,
+) -> Result<(Net, Explanation), Failure> {
+    let alloc = rt.alloc();
+    let table = RoundTable::of(alloc, history)?;
+    let net = match Net::of_rounds(alloc, history, &table) {
+        Ok(net) => net,
+        Err(NetFault::Unsent(stay)) => return Err(AuditFault::Unsent(stay).into()),
+        Err(NetFault::OutOfMemory) => return Err(AuditFault::OutOfMemory.into()),
+    };
+    let best = plan_with(rt, alloc, &net, line)?;
+    let explanation = Explanation::of(alloc, history, table, &net, &best.schedule)?;
+    Ok((net, explanation))
+}
+
+// The net of a recording, and its explanation beside a best schedule.
+fn of_recording<R: AllocGlobal + Threads + Clock + Eprint + Sync>(
+    rt: &R,
+    line: &ProgressLine<'_, R>,
+    recording: Recording,
+) -> Result<(Net, Explanation), Failure> {
+    let alloc = rt.alloc();
+    let net = Net::of_recording(alloc, &recording)?;
+    let best = plan_with(rt, alloc, &net, line)?;
+    let explanation = Explanation::of_recording(alloc, recording, &net, &best.schedule)?;
+    Ok((net, explanation))
 }
 
 // The text, unless there was no memory.

@@ -22,14 +22,18 @@ abbrev pub is_cause : waiting.Cause → waiting.Cause → Bool
 is_cause why.Error why.Error = true
 is_cause why.Caller why.Caller = true
 is_cause why.AdapterFrozen why.AdapterFrozen = true
+is_cause why.DeviceStopped why.DeviceStopped = true
+is_cause why.AdapterStopped why.AdapterStopped = true
+is_cause why.LinkStopped why.LinkStopped = true
 is_cause why.DeviceFull why.DeviceFull = true
 is_cause why.AdapterFull why.AdapterFull = true
 is_cause why.LinkFull why.LinkFull = true
 is_cause why.NotAsked why.NotAsked = true
 is_cause _ _ = false
 
--- whether a configuration lets a cause hold: links are full only where there are links
+-- whether a configuration lets a cause hold: links are stopped or full only where there are links
 abbrev pub can_hold : waiting.Cause → Topology → Bool
+can_hold why.LinkStopped c = nat_lt 0 (length c.links)
 can_hold why.LinkFull c = nat_lt 0 (length c.links)
 can_hold _ c = true
 

@@ -6,7 +6,8 @@ ghost use Rattle.round_net.specs.Ends.{cause_at};
 use cam_types::Config;
 use xpt_core::Queues;
 
-/// Why a stay waited in a round: of these the first that held where the round ended, just before its tick.
+/// Why a stay waited in a round. In a history it is, of those that aren't `stopped`, the first that held where the round
+/// ended, just before its tick. In a recording it is the first of the last seven that held in the round.
 #[derive(Clone, Copy, Debug, PartialEq, Eq)]
 pub enum Cause {
     /// A command of its device had failed and waited for a decision, which froze the device.
@@ -15,6 +16,12 @@ pub enum Cause {
     Caller,
     /// A caller had frozen the adapter.
     AdapterFrozen,
+    /// The device took nothing in the round.
+    DeviceStopped,
+    /// The adapter took nothing in the round.
+    AdapterStopped,
+    /// The adapter's link took nothing in the round.
+    LinkStopped,
     /// The device had no opening left in the round.
     DeviceFull,
     /// The adapter had no opening left in the round.
@@ -35,12 +42,12 @@ impl Cause {
         self == other
     }
 
-    /// Whether the configuration lets the cause hold: links are full only where there are links.
+    /// Whether the configuration lets the cause hold: links are stopped or full only where there are links.
     pub fn can_hold(self, config: &Config) -> bool
         ensures { result ≡ can_hold self config.now }
     {
         match self {
-            Cause::LinkFull => !config.links().is_empty(),
+            Cause::LinkStopped | Cause::LinkFull => !config.links().is_empty(),
             _ => true,
         }
     }

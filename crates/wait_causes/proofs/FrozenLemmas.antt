@@ -1,13 +1,12 @@
 -- the freezes by what was found of a history are its freezes
 use mathlib.Core.Path.{fun_ext}
-use Rattle.std.proofs.Common.{◌≡◌, ℕ, zero, suc, ◌+◌, ◌-◌, ◌*◌, ◌<◌, Bool, List, [], ◌∷◌, ◌++◌, map, length, refl, sym, ap, ◌∙◌, arith, zip, filter, flat_map, count_by, sum_by, ◌==◌, ◌&&◌, nat_le, nat_lt, All}
+use Rattle.std.proofs.Common.{◌≡◌, ℕ, zero, suc, ◌+◌, ◌-◌, ◌*◌, ◌<◌, Bool, true, List, [], ◌∷◌, ◌++◌, map, length, refl, sym, ap, ◌∙◌, arith, zip, filter, flat_map, count_by, sum_by, ◌==◌, ◌&&◌, nat_le, nat_lt, All}
 use Rattle.std.specs.List.{range_with_len}
 use Rattle.std.proofs.lemmas.List.Sums.{sum_by-cons}
 use Rattle.std.proofs.lemmas.List.Elements.{All-cons, All-filter, All-weaker}
-use Rattle.wait_causes.specs.Words.{Topology, round, history_rules, stays_begun, Event, Passage, cause_in, flag_in, numbers, is_cause, Cause, FreezeKind}
+use Rattle.wait_causes.specs.Words.{Topology, round, history_rules, is_legal, stays_begun, Event, Passage, cause_in, flag_in, numbers, is_cause, Cause, FreezeKind}
 use Rattle.wait_causes.specs.Causes.{round_cause}
-use Rattle.wait_causes.specs.Freezes.{is_frozen_in, begins, behind, rounds_between, cause_of, grouping_of, stay_cost, cost_in, freeze_from, freezes_at, freezes_by, freezes_of, freezes, Freeze}
-use Rattle.wait_causes.specs.Sound.{IsExplained}
+use Rattle.wait_causes.specs.Freezes.{is_frozen_in, begins, behind, rounds_between, cause_of, grouping_of, stay_cost, cost_in, freeze_from, freezes_at, freezes_by, freezes_of, found_of, freezes_found, freezes}
 use Rattle.wait_causes.specs.Stays.{explained_stay, explained_stays, ExplainedStay}
 use Rattle.wait_causes.specs.Tables.{number, stays_of}
 use Rattle.round_net.specs.declared.freeze_kind.FreezeKind.TheVariants.{Error, Caller, Adapter}
@@ -58,26 +57,17 @@ kept_devices c es most (p ∷ ps) (b ∷ bs) all =
     All-cons (λ (s : ExplainedStay). s.device < most) (explained_stay c es p b) (map (λ (m : Passage × ℕ). explained_stay c es m.0 m.1) (zip ps bs)) (all 0 p (omega arith))
     (kept_devices c es most ps bs (λ k d lt. all (suc k) d (omega arith)))
 
-pub kind_found : (c : Topology) (es : List Event) (best : List ℕ) (stays : List ExplainedStay) → IsExplained c es best stays → (kind : FreezeKind) →
-    freezes_by kind (flag_in kind c es) (numbers kind c) (round es) (cause_in c es) stays ≡ freezes_of kind c es (explained_stays c es best)
+kind_found : (c : Topology) (es : List Event) (best : List ℕ) → is_legal history_rules c es ≡ true → (kind : FreezeKind) →
+    found_of kind c es (explained_stays c es best) ≡ freezes_of kind c es (explained_stays c es best)
 unfolding explained_stays
-kind_found c es best stays x kind =
-    rw x.rows
-    (by_same kind (flag_in kind c es) (is_frozen_in kind es) (numbers kind c) (round es) (cause_in c es) (round_cause c es) (explained_stays c es best)
+kind_found c es best legal kind =
+    by_same kind (flag_in kind c es) (is_frozen_in kind es) (numbers kind c) (round es) (cause_in c es) (round_cause c es) (explained_stays c es best)
     (λ n lt. fun_ext (λ r. flag_in-table kind c es n r lt))
     (All-weaker (λ (s : ExplainedStay). s.device < length c.devices) (Agree (cause_in c es) (round_cause c es))
     (λ s lt. fun_ext (λ r. cause_in-table c es s.device r lt)) (explained_stays c es best)
-    (kept_devices c es (length c.devices) (stays_begun es) best (devices_in_range history_rules c es x.legal))))
+    (kept_devices c es (length c.devices) (stays_begun es) best (devices_in_range history_rules c es legal)))
 
 -- one kind after the other they are all
-pub freezes_found : (c : Topology) (es : List Event) (best : List ℕ) (stays : List ExplainedStay) → IsExplained c es best stays → (xs ys zs all : List Freeze) → xs ≡ [] →
-    ys ≡ xs ++ freezes_by Error (flag_in Error c es) (numbers Error c) (round es) (cause_in c es) stays →
-    zs ≡ ys ++ freezes_by Caller (flag_in Caller c es) (numbers Caller c) (round es) (cause_in c es) stays →
-    all ≡ zs ++ freezes_by Adapter (flag_in Adapter c es) (numbers Adapter c) (round es) (cause_in c es) stays → all ≡ freezes c es (explained_stays c es best)
+pub all_found : (c : Topology) (es : List Event) (best : List ℕ) → is_legal history_rules c es ≡ true → freezes_found c es (explained_stays c es best) ≡ freezes c es (explained_stays c es best)
 unfolding freezes
-freezes_found c es best stays x xs ys zs all none first second third =
-    let a = kind_found c es best stays x Error in
-    let b = kind_found c es best stays x Caller in
-    let d = kind_found c es best stays x Adapter in
-    let stays_are = explained_stays c es best in
-    third ∙ ap (λ r. zs ++ r) d ∙ ap (λ r. r ++ freezes_of Adapter c es stays_are) (second ∙ ap (λ r. ys ++ r) b ∙ ap (λ r. r ++ freezes_of Caller c es stays_are) (first ∙ ap (λ r. xs ++ r) a ∙ ap (λ r. r ++ freezes_of Error c es stays_are) none))
+all_found c es best legal = rw (kind_found c es best legal Error, kind_found c es best legal Caller, kind_found c es best legal Adapter) refl

@@ -9,3 +9,10 @@ pub mod FrozenLemmas
 pub mod CostLemmas
 pub mod SumLemmas
 pub mod RowLemmas
+pub mod SplitLemmas
+pub mod SendsLemmas
+pub mod TotalsLemmas
+pub mod OriginLemmas
+pub mod CountingLemmas
+pub mod RequestLemmas
+pub mod ExplainedLemmas

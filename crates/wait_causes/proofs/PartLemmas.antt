@@ -1,30 +1,30 @@
 -- sums over stays
-use mathlib.Core.Path.{Path}
 use Rattle.std.proofs.Common.{◌≡◌, ℕ, zero, suc, ◌+◌, ◌-◌, ◌*◌, ◌/◌, ◌^◌, ◌<◌, ◌≤◌, Bool, true, false, cond, List, [], ◌∷◌, ◌++◌, map, length, refl, sym, ap, ◌∙◌, arith, Some, zip, filter, find, flat_map, sum_by, count_by, nat_le, unwrap_or, is_some, IfSome, All, mul-add}
 use Rattle.std.specs.List.{range_with_len}
 use Rattle.std.proofs.lemmas.Bool.Decides.{nat_tests}
-use Rattle.wait_causes.specs.Words.{MOST_ROUNDS, MOST_STAYS, Topology, live_round, live_part, live_cost, stays_begun, unsent, Event, Passage, Error, Caller, AdapterFrozen, DeviceFull, AdapterFull, LinkFull, NotAsked}
-use Rattle.wait_causes.specs.Parts.{waited, measure, is_enough, nearest_rank, part_of, costs_of, all_costs, Part, Waited, Live, Best, Cost}
+use Rattle.cam_types.specs.Lists.{moments}
+use Rattle.cam_types.specs.declared.maxima.TheConstants.{MOST_WEIGHT}
+use Rattle.recording_file.specs.Recorded.{Recorded}
+use Rattle.recording_file.specs.declared.request.Request.{Request}
+use Rattle.wait_causes.specs.Words.{MOST_NET_ROUNDS, Topology, live_round, live_part, live_cost, stays_begun, unsent, Event, Passage, Error, Caller, AdapterFrozen, DeviceStopped, AdapterStopped, LinkStopped, DeviceFull, AdapterFull, LinkFull, NotAsked}
+use Rattle.wait_causes.specs.Origins.{Origin, cause_of}
+use Rattle.wait_causes.specs.declared.origin.Origin.TheVariants as origin
+use Rattle.wait_causes.specs.Parts.{waited, measure, is_enough, rank_of, part_of, costs_of, all_costs, Live, Cost}
 use Rattle.std.proofs.lemmas.Grind.{flat_map-append}
-use Rattle.std.proofs.lemmas.List.{append-nil, length-map}
+use Rattle.std.proofs.lemmas.List.{append-nil}
 use Rattle.std.proofs.lemmas.Nat.{mul-le}
 use Rattle.std.proofs.lemmas.List.Sums.{sum_by-cons}
 use Rattle.round_net.proofs.CountLemmas.{count_by-weaker}
 use Rattle.event_rules.proofs.ListFacts.{range_with_len-push}
 use Rattle.event_rules.proofs.LiveLemmas.{live_cost_unsent, live_cost_sent}
-use Rattle.event_rules.proofs.LimitLemmas.{stays_most}
-use Rattle.wait_causes.specs.Sound.{IsExplained}
-use Rattle.std.proofs.lemmas.Slice.Zip.{length-zip}
-use Rattle.wait_causes.specs.Causes.{waited_causes, round_cause}
-use Rattle.wait_causes.specs.Stays.{all_rounds, explained_stay, explained_stays, ExplainedStay}
+use Rattle.wait_causes.specs.Stays.{all_rounds, explained, explained_stay, explained_stays, explained_request, explained_requests, ExplainedStay}
 use Rattle.wait_causes.proofs.StayLemmas.{rounds_add_up}
 
 -- rounds by weight make no large number
-pub weight_fits : (w n : ℕ) → w < 2 ^ 16 → n < 2 ^ 32 → w * n ≤ 281470681677825
-weight_fits w n ws ns =
-    let small : w ≤ 65535 = omega arith in
+pub weight_fits : (w n : ℕ) → w ≤ MOST_WEIGHT → n < 2 ^ 32 → w * n ≤ 4294967295000
+weight_fits w n light ns =
     let few : n ≤ 4294967295 = omega arith in
-    let h = mul-le w n 65535 4294967295 small few in
+    let h = mul-le w n MOST_WEIGHT 4294967295 light few in
     omega arith
 
 pub no_longer : {X : Type 0} (p : X → Bool) (xs : List X) → length (filter p xs) ≤ length xs
@@ -49,9 +49,9 @@ find_next test r n m e fails =
     rw (here, rest, next) (rw fails refl)
 
 -- what isn't enough is no more where fewer rounds are
-short_before : (percent : ℕ) (xs : List ExplainedStay) (r s : ℕ) → r ≤ s → is_enough percent xs s ≡ false → is_enough percent xs r ≡ false
-short_before percent xs r s le short =
-    let fewer = count_by-weaker (λ x. nat_le (waited x) r) (λ x. nat_le (waited x) s) xs (λ k d lt e. grind (arith, nat_tests)) in
+short_before : (thousandths : ℕ) (xs : List ℕ) (r s : ℕ) → r ≤ s → is_enough thousandths xs s ≡ false → is_enough thousandths xs r ≡ false
+short_before thousandths xs r s le short =
+    let fewer = count_by-weaker (λ x. nat_le x r) (λ x. nat_le x s) xs (λ k d lt e. grind (arith, nat_tests)) in
     grind (arith, nat_tests)
 
 find_skip : (test : ℕ → Bool) (a k n : ℕ) → a + k ≤ n → ((r : ℕ) → r < a + k → test r ≡ false) → find test (range_with_len a (n - a)) ≡ find test (range_with_len (a + k) (n - (a + k)))
@@ -65,63 +65,45 @@ find_skip test a (suc k) n le short =
     ∙ ap (λ b. find test (range_with_len b (n - b))) same
 
 -- the least number that is enough lies between two
-pub record IsSought (percent : ℕ) (xs : List ExplainedStay) (low high : ℕ) : Type 0 where
+pub record IsSought (thousandths : ℕ) (xs : List ℕ) (low high : ℕ) : Type 0 where
   pub order : low ≤ high
-  pub most : high ≤ MOST_ROUNDS
-  pub short : (r : ℕ) → r < low → is_enough percent xs r ≡ false
-  pub enough : high < MOST_ROUNDS → is_enough percent xs high ≡ true
+  pub most : high ≤ MOST_NET_ROUNDS
+  pub short : (r : ℕ) → r < low → is_enough thousandths xs r ≡ false
+  pub enough : high < MOST_NET_ROUNDS → is_enough thousandths xs high ≡ true
 
 pub middle_lies : (low high : ℕ) → low < high → (low ≤ low + (high - low) / 2) × (low + (high - low) / 2 < high)
 middle_lies low high lt = (omega arith, omega arith)
 
-pub sought_above : (percent : ℕ) (xs : List ExplainedStay) (low high middle few : ℕ) → low ≤ middle → middle < high → 100 * few < percent * length xs → few ≡ count_by (λ s. nat_le (waited s) middle) xs →
-    IsSought percent xs low high → IsSought percent xs (middle + 1) high
-sought_above percent xs low high middle few from to less is kept =
-    let short_of : nat_le (percent * length xs) (100 * few) ≡ false = grind (arith, nat_tests) in
-    let fails : is_enough percent xs middle ≡ false = ap (λ n. nat_le (percent * length xs) (100 * n)) (sym is) ∙ short_of in
+pub sought_above : (thousandths : ℕ) (xs : List ℕ) (low high middle few : ℕ) → low ≤ middle → middle < high → 1000 * few < thousandths * length xs → few ≡ count_by (λ x. nat_le x middle) xs →
+    IsSought thousandths xs low high → IsSought thousandths xs (middle + 1) high
+sought_above thousandths xs low high middle few from to less is kept =
+    let short_of : nat_le (thousandths * length xs) (1000 * few) ≡ false = grind (arith, nat_tests) in
+    let fails : is_enough thousandths xs middle ≡ false = ap (λ n. nat_le (thousandths * length xs) (1000 * n)) (sym is) ∙ short_of in
     record {
       order = omega (arith, to);
       most = kept.most;
-      short = λ r lt. short_before percent xs r middle (omega (arith, lt)) fails;
+      short = λ r lt. short_before thousandths xs r middle (omega (arith, lt)) fails;
       enough = kept.enough;
     }
 
-sought_left : (percent : ℕ) (xs : List ExplainedStay) (low high : ℕ) → IsSought percent xs low high → find (is_enough percent xs) (range_with_len 0 MOST_ROUNDS) ≡ find (is_enough percent xs) (range_with_len low (MOST_ROUNDS - low))
-sought_left percent xs low high kept =
+sought_left : (thousandths : ℕ) (xs : List ℕ) (low high : ℕ) → IsSought thousandths xs low high → find (is_enough thousandths xs) (range_with_len 0 MOST_NET_ROUNDS) ≡ find (is_enough thousandths xs) (range_with_len low (MOST_NET_ROUNDS - low))
+sought_left thousandths xs low high kept =
     let plain : 0 + low ≡ low = omega arith in
-    find_skip (is_enough percent xs) 0 low MOST_ROUNDS (omega (arith, kept.order, kept.most)) (λ r lt. kept.short r (omega (arith, lt)))
-    ∙ ap (λ b. find (is_enough percent xs) (range_with_len b (MOST_ROUNDS - b))) plain
+    find_skip (is_enough thousandths xs) 0 low MOST_NET_ROUNDS (omega (arith, kept.order, kept.most)) (λ r lt. kept.short r (omega (arith, lt)))
+    ∙ ap (λ b. find (is_enough thousandths xs) (range_with_len b (MOST_NET_ROUNDS - b))) plain
 
-pub sought_found : (percent : ℕ) (xs : List ExplainedStay) (low high : ℕ) → high ≤ low → low < MOST_ROUNDS → IsSought percent xs low high → low ≡ nearest_rank percent xs
-unfolding nearest_rank
-sought_found percent xs low high over lt kept =
+pub sought_found : (thousandths : ℕ) (xs : List ℕ) (low high : ℕ) → high ≤ low → low < MOST_NET_ROUNDS → IsSought thousandths xs low high → low ≡ rank_of thousandths xs
+unfolding rank_of
+sought_found thousandths xs low high over lt kept =
     let same : high ≡ low = omega (arith, over, kept.order) in
-    let passes : is_enough percent xs low ≡ true = ap (is_enough percent xs) (sym same) ∙ kept.enough (omega (arith, same, lt)) in
-    ap (λ o. unwrap_or o 0) (sym (sought_left percent xs low high kept ∙ find_here (is_enough percent xs) low MOST_ROUNDS (MOST_ROUNDS - (low + 1)) (omega (arith, lt)) passes))
+    let passes : is_enough thousandths xs low ≡ true = ap (is_enough thousandths xs) (sym same) ∙ kept.enough (omega (arith, same, lt)) in
+    ap (λ o. unwrap_or o 0) (sym (sought_left thousandths xs low high kept ∙ find_here (is_enough thousandths xs) low MOST_NET_ROUNDS (MOST_NET_ROUNDS - (low + 1)) (omega (arith, lt)) passes))
 
-pub sought_none : (percent : ℕ) (xs : List ExplainedStay) (low high : ℕ) → MOST_ROUNDS ≤ low → IsSought percent xs low high → 0 ≡ nearest_rank percent xs
-unfolding nearest_rank
-sought_none percent xs low high le kept =
-    let over : MOST_ROUNDS - low ≡ 0 = omega (arith, le) in
-    ap (λ o. unwrap_or o 0) (sym (sought_left percent xs low high kept ∙ ap (λ n. find (is_enough percent xs) (range_with_len low n)) over))
-
--- a part by its numbers
-pub part_found : (xs : List ExplainedStay) (w p50 p90 max live best error caller adapter_frozen device_full adapter_full link_full not_asked : ℕ) →
-    w ≡ sum_by (measure Waited) xs → p50 ≡ nearest_rank 50 xs → p90 ≡ nearest_rank 90 xs → max ≡ nearest_rank 100 xs → live ≡ sum_by (measure Live) xs → best ≡ sum_by (measure Best) xs →
-    error ≡ sum_by (measure (Cost Error)) xs → caller ≡ sum_by (measure (Cost Caller)) xs → adapter_frozen ≡ sum_by (measure (Cost AdapterFrozen)) xs → device_full ≡ sum_by (measure (Cost DeviceFull)) xs →
-    adapter_full ≡ sum_by (measure (Cost AdapterFull)) xs → link_full ≡ sum_by (measure (Cost LinkFull)) xs → not_asked ≡ sum_by (measure (Cost NotAsked)) xs →
-    Path Part (record {
-      stays = length xs;
-      waited = w;
-      p50 = p50;
-      p90 = p90;
-      max = max;
-      live = live;
-      best = best;
-      costs = record { error = error; caller = caller; adapter_frozen = adapter_frozen; device_full = device_full; adapter_full = adapter_full; link_full = link_full; not_asked = not_asked };
-    }) (part_of xs)
-unfolding part_of
-part_found xs w p50 p90 max live best error caller adapter_frozen device_full adapter_full link_full not_asked a b c d e f g h i j k l m = rw (a, b, c, d, e, f, g, h, i, j, k, l, m) refl
+pub sought_none : (thousandths : ℕ) (xs : List ℕ) (low high : ℕ) → MOST_NET_ROUNDS ≤ low → IsSought thousandths xs low high → 0 ≡ rank_of thousandths xs
+unfolding rank_of
+sought_none thousandths xs low high le kept =
+    let over : MOST_NET_ROUNDS - low ≡ 0 = omega (arith, le) in
+    ap (λ o. unwrap_or o 0) (sym (sought_left thousandths xs low high kept ∙ ap (λ n. find (is_enough thousandths xs) (range_with_len low n)) over))
 
 -- the rows so far and those of one number more
 pub rows_step : {X : Type 0} (f : ℕ → List X) (old new : List X) (n : ℕ) → old ≡ flat_map f (range_with_len 0 n) → new ≡ old ++ f n → new ≡ flat_map f (range_with_len 0 (n + 1))
@@ -133,16 +115,16 @@ rows_step f old new n was is =
     ∙ ap (λ k. flat_map f (range_with_len 0 n) ++ f k) plain)
 
 -- a weight times each cause's rounds, all together
-by_cause : (w a b c d e f g n : ℕ) → a + b + c + d + e + f + g ≡ n → w * a + w * b + w * c + w * d + w * e + w * f + w * g ≡ w * n
-by_cause w a b c d e f g n all =
-    omega (arith, ap (λ k. w * k) all, mul-add w (a + b + c + d + e + f) g, mul-add w (a + b + c + d + e) f, mul-add w (a + b + c + d) e, mul-add w (a + b + c) d, mul-add w (a + b) c, mul-add w a b)
+by_cause : (w a b c d e f g h i j n : ℕ) → a + b + c + d + e + f + g + h + i + j ≡ n → w * a + w * b + w * c + w * d + w * e + w * f + w * g + w * h + w * i + w * j ≡ w * n
+by_cause w a b c d e f g h i j n all =
+    omega (arith, ap (λ k. w * k) all, mul-add w (a + b + c + d + e + f + g + h + i) j, mul-add w (a + b + c + d + e + f + g + h) i, mul-add w (a + b + c + d + e + f + g) h, mul-add w (a + b + c + d + e + f) g, mul-add w (a + b + c + d + e) f, mul-add w (a + b + c + d) e, mul-add w (a + b + c) d, mul-add w (a + b) c, mul-add w a b)
 
 -- where each stay's rounds by cause are those that it waited, the costs by cause are its cost
 costs_each : (xs : List ExplainedStay) → All (λ (s : ExplainedStay). all_rounds s.rounds ≡ waited s) xs → all_costs (costs_of xs) ≡ sum_by (measure Live) xs
 costs_each [] all = refl
 costs_each (x ∷ xs) all =
     let rest = costs_each xs (λ k d lt. all (suc k) d (omega arith)) in
-    let one = by_cause x.weight x.rounds.error x.rounds.caller x.rounds.adapter_frozen x.rounds.device_full x.rounds.adapter_full x.rounds.link_full x.rounds.not_asked (waited x) (all 0 x (omega arith)) in
+    let one = by_cause x.weight x.rounds.error x.rounds.caller x.rounds.adapter_frozen x.rounds.device_stopped x.rounds.adapter_stopped x.rounds.link_stopped x.rounds.device_full x.rounds.adapter_full x.rounds.link_full x.rounds.not_asked (waited x) (all 0 x (omega arith)) in
     omega (
       arith,
       rest,
@@ -150,6 +132,9 @@ costs_each (x ∷ xs) all =
       sum_by-cons (measure (Cost Error)) x xs,
       sum_by-cons (measure (Cost Caller)) x xs,
       sum_by-cons (measure (Cost AdapterFrozen)) x xs,
+      sum_by-cons (measure (Cost DeviceStopped)) x xs,
+      sum_by-cons (measure (Cost AdapterStopped)) x xs,
+      sum_by-cons (measure (Cost LinkStopped)) x xs,
       sum_by-cons (measure (Cost DeviceFull)) x xs,
       sum_by-cons (measure (Cost AdapterFull)) x xs,
       sum_by-cons (measure (Cost LinkFull)) x xs,
@@ -157,21 +142,31 @@ costs_each (x ∷ xs) all =
       sum_by-cons (measure Live) x xs,
     )
 
-all_waited : (c : Topology) (es : List Event) (zs : List (Passage × ℕ)) → All (λ (s : ExplainedStay). all_rounds s.rounds ≡ waited s) (map (λ (m : Passage × ℕ). explained_stay c es m.0 m.1) zs)
-unfolding explained_stay waited_causes
-all_waited c es [] k d lt = absurd (omega arith)
-all_waited c es (m ∷ zs) zero d lt = rounds_add_up (round_cause c es m.0.device) m.0.arrival (live_round es m.0 - m.0.arrival)
-all_waited c es (m ∷ zs) (suc k) d lt = all_waited c es zs k d (omega arith)
+-- each round of a stay has one cause
+abbrev pub IsWhole : ExplainedStay → Type 0
+IsWhole s = all_rounds s.rounds ≡ waited s
 
--- the costs by cause of all stays are what they cost
-pub costs_add_up : (c : Topology) (es : List Event) (best : List ℕ) → all_costs (costs_of (explained_stays c es best)) ≡ sum_by (measure Live) (explained_stays c es best)
-unfolding explained_stays
-costs_add_up c es best = costs_each (explained_stays c es best) (all_waited c es (zip (stays_begun es) best))
+history_whole : (c : Topology) (es : List Event) (zs : List (Passage × ℕ)) → All IsWhole (map (λ (m : Passage × ℕ). explained_stay c es m.0 m.1) zs)
+unfolding explained_stay
+history_whole c es [] k d lt = absurd (omega arith)
+history_whole c es (m ∷ zs) zero d lt = rounds_add_up (cause_of (origin.Trace (record { config = c; events = es })) m.0.device) m.0.arrival (live_round es m.0 - m.0.arrival)
+history_whole c es (m ∷ zs) (suc k) d lt = history_whole c es zs k d (omega arith)
+
+recording_whole : (r : Recorded) (zs : List ((List Request × Request) × ℕ)) → All IsWhole (map (λ (m : (List Request × Request) × ℕ). explained_request r m.0 m.1) zs)
+unfolding explained_request
+recording_whole r [] k d lt = absurd (omega arith)
+recording_whole r (m ∷ zs) zero d lt = rounds_add_up (cause_of (origin.Recording r) m.0.1.device) m.0.1.arrival (m.0.1.sent - m.0.1.arrival)
+recording_whole r (m ∷ zs) (suc k) d lt = recording_whole r zs k d (omega arith)
+
+all_whole : (o : Origin) (best : List ℕ) → All IsWhole (explained o best)
+unfolding explained_stays explained_requests
+all_whole (origin.Trace past) best = history_whole past.config past.events (zip (stays_begun past.events) best)
+all_whole (origin.Recording r) best = recording_whole r (zip (moments r.requests) best)
 
 -- a part of all stays adds up
-pub part_adds_up : (c : Topology) (es : List Event) (best : List ℕ) → all_costs (part_of (explained_stays c es best)).costs ≡ (part_of (explained_stays c es best)).live
+pub part_adds_up : (o : Origin) (best : List ℕ) → all_costs (part_of (explained o best)).costs ≡ (part_of (explained o best)).live
 unfolding part_of
-part_adds_up c es best = costs_add_up c es best
+part_adds_up o best = costs_each (explained o best) (all_whole o best)
 
 lives : (c : Topology) (es : List Event) (ps : List Passage) (bs : List ℕ) → length bs ≡ length ps → sum_by (measure Live) (map (λ (m : Passage × ℕ). explained_stay c es m.0 m.1) (zip ps bs)) ≡ sum_by (live_part c es) ps
 unfolding explained_stay live_part
@@ -189,16 +184,3 @@ part_is_live c es best same = elim (is_some (unsent es)) as (λ b. is_some (unse
   | true ↦ λ e. rw (live_cost_unsent c es e) tt
   | false ↦ λ e. rw (live_cost_sent c es e) (lives c es (stays_begun es) best same)
 ] refl
-
--- there are no more stays than a history may have
-pub few_stays : (c : Topology) (es : List Event) (best : List ℕ) (stays : List ExplainedStay) → IsExplained c es best stays → length stays ≤ MOST_STAYS
-unfolding explained_stays
-few_stays c es best stays x =
-    let most = stays_most c es x.legal in
-    omega (arith, ap length x.rows, length-map (zip (stays_begun es) best) (λ (m : Passage × ℕ). explained_stay c es m.0 m.1), length-zip (stays_begun es) best, most)
-
--- each stay has a row
-pub all_stays : (c : Topology) (es : List Event) (best : List ℕ) (stays : List ExplainedStay) → IsExplained c es best stays → length stays ≡ length (stays_begun es)
-unfolding explained_stays
-all_stays c es best stays x =
-    omega (arith, ap length x.rows, length-map (zip (stays_begun es) best) (λ (m : Passage × ℕ). explained_stay c es m.0 m.1), length-zip (stays_begun es) best, x.all)

@@ -8,10 +8,11 @@ use Rattle.std.proofs.lemmas.List.Sums.{sum_by-cons}
 use Rattle.wait_causes.specs.Parts.{measure, part_of}
 use Rattle.wait_causes.specs.TableLaws.{amount, RowsAddUp}
 use Rattle.wait_causes.specs.Tables.{number, stays_of, row_for, row_of, greatest, table_of}
-use Rattle.round_net.specs.declared.cause.Cause.TheVariants.{Error, Caller, AdapterFrozen, DeviceFull, AdapterFull, LinkFull, NotAsked}
+use Rattle.round_net.specs.declared.cause.Cause.TheVariants.{Error, Caller, AdapterFrozen, DeviceStopped, AdapterStopped, LinkStopped, DeviceFull, AdapterFull, LinkFull, NotAsked}
 use Rattle.wait_causes.specs.declared.explained_stay.ExplainedStay.{ExplainedStay}
 use Rattle.wait_causes.specs.declared.part.Measure.{Measure}
-use Rattle.wait_causes.specs.declared.part.Measure.TheVariants.{Waited, Live, Best, Cost}
+use Rattle.wait_causes.specs.declared.part.Measure.TheVariants.{Waited, Live, Best, Cost, Full}
+use Rattle.wait_causes.specs.Behind.{LessUrgent, Equal, MoreUrgent}
 use Rattle.wait_causes.specs.declared.table.Grouping.{Grouping}
 use Rattle.wait_causes.specs.declared.table.Row as table
 use Rattle.wait_causes.proofs.CostLemmas.{sum_flat, sum_same, sum_numbers}
@@ -30,7 +31,7 @@ in_reach by (s ∷ ss) n =
     All-cons (λ t. number by t < fold (λ n s. max n (number by s)) n (s ∷ ss) + 1) s ss
     (omega (arith, more, rises by ss (max n (number by s)))) (in_reach by ss (max n (number by s)))
 
-all_reached : (by : Grouping) (stays : List ExplainedStay) → All (λ s. number by s < greatest by stays + 1) stays
+pub all_reached : (by : Grouping) (stays : List ExplainedStay) → All (λ s. number by s < greatest by stays + 1) stays
 unfolding greatest
 all_reached by stays = in_reach by stays 0
 
@@ -43,10 +44,16 @@ amount_of Best stays = refl
 amount_of (Cost Error) stays = refl
 amount_of (Cost Caller) stays = refl
 amount_of (Cost AdapterFrozen) stays = refl
+amount_of (Cost DeviceStopped) stays = refl
+amount_of (Cost AdapterStopped) stays = refl
+amount_of (Cost LinkStopped) stays = refl
 amount_of (Cost DeviceFull) stays = refl
 amount_of (Cost AdapterFull) stays = refl
 amount_of (Cost LinkFull) stays = refl
 amount_of (Cost NotAsked) stays = refl
+amount_of (Full LessUrgent) stays = refl
+amount_of (Full Equal) stays = refl
+amount_of (Full MoreUrgent) stays = refl
 
 plus-none : (n : ℕ) → n + 0 ≡ n
 plus-none n = omega arith

@@ -11,7 +11,7 @@ use Rattle.wait_causes.specs.Words.{Topology, IsConfig, device_adapter, round, h
 use Rattle.cam_types.proofs.ConfigLemmas.{bus-there}
 use Rattle.event_rules.proofs.LimitLemmas.{round_first}
 use Rattle.round_net.proofs.WindowLemmas.{live_round-le}
-use Rattle.wait_causes.specs.Causes.{round_cause, waited_causes}
+use Rattle.wait_causes.specs.Causes.{round_cause}
 use Rattle.wait_causes.specs.Freezes.{is_frozen_in, begins, rounds_between, cause_of, grouping_of, waits_for, stay_cost, cost_in, freeze_from, freezes_at, freezes_by, freezes_of, freezes, is_kind, cost_of, Freeze}
 use Rattle.wait_causes.specs.Parts.{rounds_for, measure, Cost}
 use Rattle.wait_causes.specs.Stays.{explained_stay, explained_stays, ExplainedStay}
@@ -105,7 +105,7 @@ count-map : (p : waiting.Cause → Bool) (f : ℕ → waiting.Cause) (xs : List 
 count-map p f [] = refl
 count-map p f (x ∷ xs) = count_by-cons p (f x) (map f xs) ∙ ap (λ n. cond (p (f x)) 1 0 + n) (count-map p f xs) ∙ sym (count_by-cons (λ x. p (f x)) x xs)
 
-rounds_are : (kind : FreezeKind) (c : Topology) (es : List Event) (p : Passage) (best : ℕ) → count_by (is_cause (cause_of kind)) (waited_causes c es p) ≡ rounds_for (cause_of kind) (explained_stay c es p best).rounds
+rounds_are : (kind : FreezeKind) (c : Topology) (es : List Event) (p : Passage) (best : ℕ) → count_by (is_cause (cause_of kind)) (map (round_cause c es p.device) (range_with_len p.arrival (live_round es p - p.arrival))) ≡ rounds_for (cause_of kind) (explained_stay c es p best).rounds
 unfolding explained_stay
 rounds_are Error c es p best = refl
 rounds_are Caller c es p best = refl
@@ -117,7 +117,7 @@ Counted kind c es s =
     count_by (waits_for (round_cause c es) (cause_of kind) s) (filter (is_frozen_in kind es (number (grouping_of kind) s)) (rounds_between 1 (round es))) ≡ rounds_for (cause_of kind) s.rounds
 
 counted : (kind : FreezeKind) (c : Topology) (es : List Event) (p : Passage) (best : ℕ) → 1 ≤ p.arrival → Counted kind c es (explained_stay c es p best)
-unfolding explained_stay waited_causes
+unfolding explained_stay
 counted kind c es p best some =
     let s : ExplainedStay = explained_stay c es p best in
     count_passed (waits_for (round_cause c es) (cause_of kind) s) (is_frozen_in kind es (number (grouping_of kind) s)) (rounds_between 1 (round es))

@@ -6,13 +6,16 @@ use Rattle.std.proofs.lemmas.Grind.{flat_map-append}
 use Rattle.std.proofs.lemmas.List.{map-append}
 use Rattle.std.proofs.lemmas.List.Folds.{list_all-append}
 use Rattle.event_rules.proofs.ListFacts.{range_with_len-push}
-use Rattle.wait_causes.specs.Words.{is_cause, Cause, Error, Caller, AdapterFrozen, DeviceFull, AdapterFull, LinkFull, NotAsked}
+use Rattle.wait_causes.specs.Words.{is_cause, Cause, Error, Caller, AdapterFrozen, DeviceStopped, AdapterStopped, LinkStopped, DeviceFull, AdapterFull, LinkFull, NotAsked}
 use Rattle.wait_causes.specs.Waits.{beside, rounds_of, are_apart, AreBegun, Wait}
 
 pub same_cause : (a b : Cause) → is_cause a b ≡ true → a ≡ b
 same_cause Error Error e = refl
 same_cause Caller Caller e = refl
 same_cause AdapterFrozen AdapterFrozen e = refl
+same_cause DeviceStopped DeviceStopped e = refl
+same_cause AdapterStopped AdapterStopped e = refl
+same_cause LinkStopped LinkStopped e = refl
 same_cause DeviceFull DeviceFull e = refl
 same_cause AdapterFull AdapterFull e = refl
 same_cause LinkFull LinkFull e = refl

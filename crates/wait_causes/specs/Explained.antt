@@ -1,9 +1,8 @@
 -- an explanation as its callers see it
 use Rattle.std.specs.Prelude.{ℕ, List}
-use Rattle.wait_causes.specs.Words.{Topology, Event}
+use Rattle.wait_causes.specs.Origins.{Origin}
 
--- a history, and the round of each of its stays in another schedule
+-- what is explained, and the round of each of its stays in another schedule
 pub record Explained : Type 0 where
-  pub config : Topology
-  pub events : List Event
+  pub origin : Origin
   pub best : List ℕ

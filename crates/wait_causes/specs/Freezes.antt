@@ -1,8 +1,10 @@
 -- the freezes of a history: rounds in a row at whose ends a device or an adapter was frozen
-use Rattle.std.specs.Prelude.{ℕ, ◌-◌, ◌*◌, Bool, true, false, not, ◌&&◌, ◌||◌, List, ◌++◌, map, filter, flat_map, slice_get, unwrap_or, find, count_by, sum_by, nat_le, nat_lt}
+use Rattle.std.specs.Prelude.{ℕ, ◌-◌, ◌*◌, Bool, true, false, not, ◌&&◌, ◌||◌, List, [], ◌++◌, map, filter, flat_map, slice_get, unwrap_or, find, count_by, sum_by, nat_le, nat_lt}
 use Rattle.std.specs.List.{range_with_len}
 use Rattle.std.specs.Option.{option_map_or}
-use Rattle.wait_causes.specs.Words.{Topology, round, Event, round_ends, is_cause, numbers, is_frozen_at, FreezeKind}
+use Rattle.wait_causes.specs.Words.{Topology, round, Event, round_ends, is_cause, numbers, is_frozen_at, flag_in, cause_in, FreezeKind}
+use Rattle.wait_causes.specs.Origins.{Origin}
+use Rattle.wait_causes.specs.declared.origin.Origin.TheVariants as origin
 use Rattle.wait_causes.specs.Causes.{round_cause}
 use Rattle.wait_causes.specs.Tables.{stays_of, Grouping}
 use Rattle.round_net.specs.declared.cause.Cause as waiting
@@ -77,6 +79,17 @@ freezes_of kind c events stays = freezes_by kind (is_frozen_in kind events) (num
 -- all of them: by errors, by callers, then of adapters
 unfoldable pub freezes : Topology → List Event → List ExplainedStay → List Freeze
 freezes c events stays = freezes_of Error c events stays ++ freezes_of Caller c events stays ++ freezes_of Adapter c events stays
+
+-- the same by what was found of a history, and those of either kind of input: a recording has none
+abbrev pub found_of : FreezeKind → Topology → List Event → List ExplainedStay → List Freeze
+found_of kind c events stays = freezes_by kind (flag_in kind c events) (numbers kind c) (round events) (cause_in c events) stays
+
+abbrev pub freezes_found : Topology → List Event → List ExplainedStay → List Freeze
+freezes_found c events stays = found_of Error c events stays ++ found_of Caller c events stays ++ found_of Adapter c events stays
+
+abbrev pub freezes_in : Origin → List ExplainedStay → List Freeze
+freezes_in (origin.Trace past) stays = freezes past.config past.events stays
+freezes_in (origin.Recording r) stays = []
 
 -- two kinds are the same
 abbrev pub is_kind : FreezeKind → FreezeKind → Bool

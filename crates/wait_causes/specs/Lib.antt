@@ -1,5 +1,12 @@
 pub mod Words
 pub mod Causes
+pub mod RecordedCauses
+pub mod RecordedRounds
+pub mod Origins
+pub mod Behind
+pub mod Sends
+pub mod Totals
+pub mod Counting
 pub mod Stays
 pub mod Explained
 pub mod Waits
@@ -9,3 +16,4 @@ pub mod Tables
 pub mod TableLaws
 pub mod Freezes
 pub mod FreezeLaws
+pub mod BehindLaws

@@ -1,12 +1,19 @@
 -- what some stays waited, and what that cost
-use Rattle.std.specs.Prelude.{ℕ, ◌+◌, ◌-◌, ◌*◌, Bool, nat_le, List, [], ◌∷◌, length, count_by, sum_by, find, unwrap_or}
+use Rattle.std.specs.Prelude.{ℕ, ◌+◌, ◌-◌, ◌*◌, ◌≤◌, Bool, nat_le, List, [], ◌∷◌, length, map, count_by, sum_by, find, unwrap_or, All}
 use Rattle.std.specs.List.{range_with_len}
-use Rattle.wait_causes.specs.Words.{MOST_ROUNDS, Cause, Error, Caller, AdapterFrozen, DeviceFull, AdapterFull, LinkFull, NotAsked}
+use Rattle.cam_types.specs.declared.maxima.TheConstants.{MOST_WEIGHT}
+use Rattle.wait_causes.specs.Words.{MOST_NET_ROUNDS, Cause, Error, Caller, AdapterFrozen, DeviceStopped, AdapterStopped, LinkStopped, DeviceFull, AdapterFull, LinkFull, NotAsked}
 use Rattle.wait_causes.specs.declared.explained_stay.CauseRounds.{CauseRounds}
+use Rattle.wait_causes.specs.Behind.{Behind, LessUrgent, Equal, MoreUrgent, FullBehind}
 use Rattle.wait_causes.specs.Stays.{ExplainedStay}
+use Rattle.wait_causes.specs.Origins.{Origin}
+use Rattle.wait_causes.specs.declared.origin.Origin.TheVariants as origin
+pub use Rattle.wait_causes.specs.declared.kind.InputKind.{InputKind}
+use Rattle.wait_causes.specs.declared.kind.InputKind.TheVariants.{Trace, Recording}
 pub use Rattle.wait_causes.specs.declared.part.Measure.{Measure}
-pub use Rattle.wait_causes.specs.declared.part.Measure.TheVariants.{Waited, Live, Best, Cost}
+pub use Rattle.wait_causes.specs.declared.part.Measure.TheVariants.{Waited, Live, Best, Cost, Full}
 use Rattle.wait_causes.specs.declared.part.CauseCosts.{CauseCosts}
+use Rattle.wait_causes.specs.declared.part.BehindCosts.{BehindCosts}
 pub use Rattle.wait_causes.specs.declared.part.Part.{Part}
 
 -- the rounds of a cause
@@ -14,29 +21,54 @@ abbrev pub rounds_for : Cause → CauseRounds → ℕ
 rounds_for Error n = n.error
 rounds_for Caller n = n.caller
 rounds_for AdapterFrozen n = n.adapter_frozen
+rounds_for DeviceStopped n = n.device_stopped
+rounds_for AdapterStopped n = n.adapter_stopped
+rounds_for LinkStopped n = n.link_stopped
 rounds_for DeviceFull n = n.device_full
 rounds_for AdapterFull n = n.adapter_full
 rounds_for LinkFull n = n.link_full
 rounds_for NotAsked n = n.not_asked
 
+-- the rounds behind less urgent, equal or more urgent ones
+abbrev pub behind_for : Behind → FullBehind → ℕ
+behind_for LessUrgent n = n.less_urgent
+behind_for Equal n = n.equal
+behind_for MoreUrgent n = n.more_urgent
+
 -- the rounds that a stay waited
 abbrev pub waited : ExplainedStay → ℕ
 waited s = s.live - s.arrival
 
--- its rounds, its weighted rounds, those of the other schedule, and those of a cause
+-- its rounds, its weighted rounds, those of the other schedule, those of a cause, and those behind others
 abbrev pub measure : Measure → ExplainedStay → ℕ
 measure Waited s = waited s
 measure Live s = s.weight * waited s
 measure Best s = s.weight * (s.best - s.arrival)
 measure (Cost cause) s = s.weight * rounds_for cause s.rounds
+measure (Full behind) s = s.weight * behind_for behind s.behind
 
--- that many in a hundred stays waited no more rounds than this
-abbrev pub is_enough : ℕ → List ExplainedStay → ℕ → Bool
-is_enough percent stays n = nat_le (percent * length stays) (100 * count_by (λ s. nat_le (waited s) n) stays)
+-- the kind of what is explained
+abbrev pub kind_of : Origin → InputKind
+kind_of (origin.Trace past) = Trace
+kind_of (origin.Recording r) = Recording
 
--- nearest rank: the least number of rounds that is enough; a history has no more rounds than these
-unfoldable pub nearest_rank : ℕ → List ExplainedStay → ℕ
-nearest_rank percent stays = unwrap_or (find (is_enough percent stays) (range_with_len 0 MOST_ROUNDS)) 0
+-- that many in a thousand of these rounds are no more than this
+abbrev pub is_enough : ℕ → List ℕ → ℕ → Bool
+is_enough thousandths waits n = nat_le (thousandths * length waits) (1000 * count_by (λ wait. nat_le wait n) waits)
+
+-- nearest rank: the least number of rounds that is enough; no input has more rounds than these
+unfoldable pub rank_of : ℕ → List ℕ → ℕ
+rank_of thousandths waits = unwrap_or (find (is_enough thousandths waits) (range_with_len 0 MOST_NET_ROUNDS)) 0
+
+abbrev pub nearest_rank : ℕ → List ExplainedStay → ℕ
+nearest_rank thousandths stays = rank_of thousandths (map waited stays)
+
+-- no stay has a larger weight than there may be
+abbrev pub IsLight : ExplainedStay → Type 0
+IsLight s = s.weight ≤ MOST_WEIGHT
+
+abbrev pub AreLight : List ExplainedStay → Type 0
+AreLight stays = All IsLight stays
 
 -- what each cause cost
 abbrev pub costs_of : List ExplainedStay → CauseCosts
@@ -44,15 +76,31 @@ costs_of stays = record {
   error = sum_by (measure (Cost Error)) stays;
   caller = sum_by (measure (Cost Caller)) stays;
   adapter_frozen = sum_by (measure (Cost AdapterFrozen)) stays;
+  device_stopped = sum_by (measure (Cost DeviceStopped)) stays;
+  adapter_stopped = sum_by (measure (Cost AdapterStopped)) stays;
+  link_stopped = sum_by (measure (Cost LinkStopped)) stays;
   device_full = sum_by (measure (Cost DeviceFull)) stays;
   adapter_full = sum_by (measure (Cost AdapterFull)) stays;
   link_full = sum_by (measure (Cost LinkFull)) stays;
   not_asked = sum_by (measure (Cost NotAsked)) stays;
 }
 
--- the causes in the order in which they are tested, each with its cost
-abbrev pub by_cause : CauseCosts → List (Cause × ℕ)
-by_cause n =
+-- what it cost to wait behind others
+abbrev pub behind_costs : List ExplainedStay → BehindCosts
+behind_costs stays = record {
+  less_urgent = sum_by (measure (Full LessUrgent)) stays;
+  equal = sum_by (measure (Full Equal)) stays;
+  more_urgent = sum_by (measure (Full MoreUrgent)) stays;
+}
+
+-- the causes of a kind of input in the order in which they are tested
+abbrev pub causes_of : InputKind → List Cause
+causes_of Trace = Error ∷ Caller ∷ AdapterFrozen ∷ DeviceFull ∷ AdapterFull ∷ LinkFull ∷ NotAsked ∷ []
+causes_of Recording = DeviceStopped ∷ AdapterStopped ∷ LinkStopped ∷ DeviceFull ∷ AdapterFull ∷ LinkFull ∷ NotAsked ∷ []
+
+-- each with its cost
+abbrev pub by_cause : InputKind → CauseCosts → List (Cause × ℕ)
+by_cause Trace n =
     (Error, n.error)
     ∷ (Caller, n.caller)
     ∷ (AdapterFrozen, n.adapter_frozen)
@@ -61,20 +109,39 @@ by_cause n =
     ∷ (LinkFull, n.link_full)
     ∷ (NotAsked, n.not_asked)
     ∷ []
+by_cause Recording n =
+    (DeviceStopped, n.device_stopped)
+    ∷ (AdapterStopped, n.adapter_stopped)
+    ∷ (LinkStopped, n.link_stopped)
+    ∷ (DeviceFull, n.device_full)
+    ∷ (AdapterFull, n.adapter_full)
+    ∷ (LinkFull, n.link_full)
+    ∷ (NotAsked, n.not_asked)
+    ∷ []
 
--- all causes together
+-- all causes together, and those by which a row was full
 abbrev pub all_costs : CauseCosts → ℕ
-all_costs n = n.error + n.caller + n.adapter_frozen + n.device_full + n.adapter_full + n.link_full + n.not_asked
+all_costs n = n.error + n.caller + n.adapter_frozen + n.device_stopped + n.adapter_stopped + n.link_stopped + n.device_full + n.adapter_full + n.link_full + n.not_asked
+
+abbrev pub full_costs : CauseCosts → ℕ
+full_costs n = n.device_full + n.adapter_full + n.link_full
+
+-- behind others, all together
+abbrev pub all_behind_costs : BehindCosts → ℕ
+all_behind_costs n = n.less_urgent + n.equal + n.more_urgent
 
 -- what these stays waited, and what that cost
 unfoldable pub part_of : List ExplainedStay → Part
 part_of stays = record {
   stays = length stays;
   waited = sum_by (measure Waited) stays;
-  p50 = nearest_rank 50 stays;
-  p90 = nearest_rank 90 stays;
-  max = nearest_rank 100 stays;
+  p50 = nearest_rank 500 stays;
+  p90 = nearest_rank 900 stays;
+  p99 = nearest_rank 990 stays;
+  p999 = nearest_rank 999 stays;
+  max = nearest_rank 1000 stays;
   live = sum_by (measure Live) stays;
   best = sum_by (measure Best) stays;
   costs = costs_of stays;
+  behind = behind_costs stays;
 }

@@ -1,10 +1,18 @@
 -- what holds of every explanation
 use Rattle.std.specs.Prelude.{◌≡◌, ℕ, List, length, IsTrue}
-use Rattle.wait_causes.specs.Words.{Topology, history_rules, is_legal, stays_begun, Event}
-use Rattle.wait_causes.specs.Stays.{explained_stays, ExplainedStay}
+use Rattle.wait_causes.specs.Words.{history_rules, is_legal, IsSound}
+use Rattle.wait_causes.specs.Origins.{Origin, instance_in, live_in}
+use Rattle.wait_causes.specs.declared.origin.Origin.TheVariants as origin
+use Rattle.wait_causes.specs.Stays.{explained, ExplainedStay}
 
--- the stays are those of a history and of a schedule with a round for each of its stays
-pub record IsExplained (c : Topology) (events : List Event) (best : List ℕ) (stays : List ExplainedStay) : Type 0 where
-  pub legal : IsTrue (is_legal history_rules c events)
-  pub all : length best ≡ length (stays_begun events)
-  pub rows : stays ≡ explained_stays c events best
+-- a history is legal
+abbrev pub IsLegalOf : Origin → Type 0
+IsLegalOf (origin.Trace past) = IsTrue (is_legal history_rules past.config past.events)
+IsLegalOf (origin.Recording r) = Unit {0}
+
+-- the stays are those of a history or a recording with a sound net, and of a schedule with a round for each of them
+pub record IsExplained (o : Origin) (best : List ℕ) (stays : List ExplainedStay) : Type 0 where
+  pub legal : IsLegalOf o
+  pub sound : IsSound (instance_in o) (live_in o)
+  pub all : length best ≡ (instance_in o).stays
+  pub rows : stays ≡ explained o best

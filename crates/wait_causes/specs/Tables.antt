@@ -1,5 +1,6 @@
--- the stays of a history by adapter, device, driver or run level
-use Rattle.std.specs.Prelude.{ℕ, ◌+◌, ◌==◌, max, if◌then◌else◌, List, [], ◌∷◌, filter, flat_map, fold, length}
+-- stays by adapter, device, driver or run level
+use Rattle.std.specs.Prelude.{◌≡◌, ℕ, ◌+◌, ◌==◌, max, if◌then◌else◌, List, [], ◌∷◌, filter, flat_map, fold, length, map, Vec}
+use Rattle.std.specs.Global.{Global}
 use Rattle.std.specs.List.{range_with_len}
 use Rattle.wait_causes.specs.Parts.{part_of}
 use Rattle.wait_causes.specs.Stays.{ExplainedStay}
@@ -33,3 +34,7 @@ greatest by stays = fold (λ n s. max n (number by s)) 0 stays
 -- the rows in ascending order
 unfoldable pub table_of : Grouping → List ExplainedStay → List table.Row
 table_of by stays = flat_map (row_of by stays) (range_with_len 0 (greatest by stays + 1))
+
+-- each of that many numbers has the list of its stays
+abbrev pub AreGroups : Grouping → ℕ → List ExplainedStay → List (Vec ExplainedStay Global) → Type 0
+AreGroups by count stays groups = map (λ (v : Vec ExplainedStay Global). v.items) groups ≡ map (stays_of by stays) (range_with_len 0 count)

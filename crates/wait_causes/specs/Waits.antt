@@ -1,8 +1,9 @@
 -- the waits of a stay: runs of rounds with one cause
 use Rattle.std.specs.Prelude.{◌≡◌, ℕ, ◌+◌, ◌-◌, Bool, true, not, ◌&&◌, List, [], ◌∷◌, ◌++◌, map, flat_map, nat_le}
 use Rattle.std.specs.List.{range_with_len, list_all}
-use Rattle.wait_causes.specs.Words.{Topology, Event, Passage, is_cause, Cause}
-use Rattle.wait_causes.specs.Causes.{round_cause, waited_rounds}
+use Rattle.wait_causes.specs.Words.{is_cause, Cause}
+use Rattle.wait_causes.specs.Origins.{Origin, cause_of}
+use Rattle.wait_causes.specs.Stays.{ExplainedStay}
 pub use Rattle.wait_causes.specs.declared.wait.Wait.{Wait}
 
 -- a round with its cause
@@ -26,8 +27,8 @@ pub record AreWaits (cause : ℕ → Cause) (rounds : List ℕ) (waits : List Wa
   pub apart : are_apart (map (λ (w : Wait). w.cause) waits) ≡ true
 
 -- the waits of a stay
-abbrev pub AreWaitsOf : Topology → List Event → Passage → List Wait → Type 0
-AreWaitsOf c events p waits = AreWaits (round_cause c events p.device) (waited_rounds events p) waits
+abbrev pub AreWaitsOf : Origin → ExplainedStay → List Wait → Type 0
+AreWaitsOf o s waits = AreWaits (cause_of o s.device) (range_with_len s.arrival (s.live - s.arrival)) waits
 
 -- with one wait more they are those of that many rounds from the first on, and that one ends with them
 pub record AreBegun (cause : ℕ → Cause) (first n : ℕ) (waits : List Wait) (wait : Wait) : Type 0 where

@@ -14,12 +14,14 @@ pub use Rattle.event_rules.specs.declared.passage.Passage.{Passage}
 pub use Rattle.event_rules.specs.declared.submission.Submission.{Submission}
 pub use Rattle.round_net.specs.Ends.{cause_in, cause_table, flag_in, flag_table, is_cause, is_frozen_at, numbers, round_ends}
 unfoldable pub use Rattle.round_net.specs.Ends.{cause_at}
-pub use Rattle.round_net.specs.Nets.{stay_row}
-unfoldable pub use Rattle.round_net.specs.Nets.{net_of}
+unfoldable pub use Rattle.round_net.specs.Nets.{net_of, stay_row}
+pub use Rattle.round_net.specs.Instance.{Instance}
 pub use Rattle.round_net.specs.Rows.{NetRows}
-unfoldable pub use Rattle.round_net.specs.Rows.{instance_of_rows}
+unfoldable pub use Rattle.round_net.specs.Rows.{instance_of_rows, live_of_rows}
+pub use Rattle.round_net.specs.Sound.{IsSound}
+pub use Rattle.round_net.specs.declared.maxima.TheConstants.{MOST_NET_ROUNDS, MOST_NET_STAYS}
 pub use Rattle.round_net.specs.declared.cause.Cause.{Cause}
-pub use Rattle.round_net.specs.declared.cause.Cause.TheVariants.{AdapterFrozen, AdapterFull, Caller, DeviceFull, Error, LinkFull, NotAsked}
+pub use Rattle.round_net.specs.declared.cause.Cause.TheVariants.{AdapterFrozen, AdapterFull, AdapterStopped, Caller, DeviceFull, DeviceStopped, Error, LinkFull, LinkStopped, NotAsked}
 pub use Rattle.round_net.specs.declared.freeze_kind.FreezeKind.{FreezeKind}
 pub use Rattle.xpt_core.specs.Records.{record_of}
 unfoldable pub use Rattle.xpt_core.specs.Records.{records}

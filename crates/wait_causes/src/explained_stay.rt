@@ -1,9 +1,10 @@
 //! A stay with the causes of its waiting.
 
 ghost use Rattle.std.specs.Prelude.{◌≡◌, ◌+◌, ◌<◌, ◌≤◌, ◌^◌};
-ghost use Rattle.wait_causes.specs.Parts.{waited, measure, Live};
-ghost use Rattle.wait_causes.specs.Stays.{with_round, all_rounds, no_rounds};
+ghost use Rattle.wait_causes.specs.Parts.{rounds_for, waited, measure, Live};
+ghost use Rattle.wait_causes.specs.Stays.{with_round, all_rounds, no_rounds, rounds_since};
 
+use crate::behind::FullBehind;
 use round_net::Cause;
 
 /// Rounds of waiting by cause.
@@ -15,17 +16,41 @@ pub struct CauseRounds {
     pub caller: u32,
     /// Rounds at whose ends a caller had frozen the adapter.
     pub adapter_frozen: u32,
-    /// Rounds at whose ends the device had no opening left.
+    /// Rounds in which the device took nothing.
+    pub device_stopped: u32,
+    /// Rounds in which the adapter took nothing.
+    pub adapter_stopped: u32,
+    /// Rounds in which the adapter's link took nothing.
+    pub link_stopped: u32,
+    /// Rounds in which the device had no opening left.
     pub device_full: u32,
-    /// Rounds at whose ends the adapter had no opening left.
+    /// Rounds in which the adapter had no opening left.
     pub adapter_full: u32,
-    /// Rounds at whose ends the adapter's link had no opening left.
+    /// Rounds in which the adapter's link had no opening left.
     pub link_full: u32,
-    /// Rounds in which no lane asked.
+    /// Rounds in which nobody asked.
     pub not_asked: u32,
 }
 
 impl CauseRounds {
+    /// Those of this cause.
+    pub fn for_cause(&self, cause: Cause) -> u32
+        ensures { result ≡ rounds_for cause self.now }
+    {
+        match cause {
+            Cause::Error => self.error,
+            Cause::Caller => self.caller,
+            Cause::AdapterFrozen => self.adapter_frozen,
+            Cause::DeviceStopped => self.device_stopped,
+            Cause::AdapterStopped => self.adapter_stopped,
+            Cause::LinkStopped => self.link_stopped,
+            Cause::DeviceFull => self.device_full,
+            Cause::AdapterFull => self.adapter_full,
+            Cause::LinkFull => self.link_full,
+            Cause::NotAsked => self.not_asked,
+        }
+    }
+
     /// None at all.
     pub(crate) fn none() -> CauseRounds
         ensures { result ≡ no_rounds }
@@ -34,6 +59,9 @@ impl CauseRounds {
             error: 0,
             caller: 0,
             adapter_frozen: 0,
+            device_stopped: 0,
+            adapter_stopped: 0,
+            link_stopped: 0,
             device_full: 0,
             adapter_full: 0,
             link_full: 0,
@@ -50,10 +78,31 @@ impl CauseRounds {
             Cause::Error => self.error += 1,
             Cause::Caller => self.caller += 1,
             Cause::AdapterFrozen => self.adapter_frozen += 1,
+            Cause::DeviceStopped => self.device_stopped += 1,
+            Cause::AdapterStopped => self.adapter_stopped += 1,
+            Cause::LinkStopped => self.link_stopped += 1,
             Cause::DeviceFull => self.device_full += 1,
             Cause::AdapterFull => self.adapter_full += 1,
             Cause::LinkFull => self.link_full += 1,
             Cause::NotAsked => self.not_asked += 1,
+        }
+    }
+
+    /// Those of these that aren't among the earlier ones.
+    pub(crate) fn since(self, earlier: CauseRounds) -> CauseRounds
+        ensures { result ≡ rounds_since self earlier }
+    {
+        CauseRounds {
+            error: self.error.saturating_sub(earlier.error),
+            caller: self.caller.saturating_sub(earlier.caller),
+            adapter_frozen: self.adapter_frozen.saturating_sub(earlier.adapter_frozen),
+            device_stopped: self.device_stopped.saturating_sub(earlier.device_stopped),
+            adapter_stopped: self.adapter_stopped.saturating_sub(earlier.adapter_stopped),
+            link_stopped: self.link_stopped.saturating_sub(earlier.link_stopped),
+            device_full: self.device_full.saturating_sub(earlier.device_full),
+            adapter_full: self.adapter_full.saturating_sub(earlier.adapter_full),
+            link_full: self.link_full.saturating_sub(earlier.link_full),
+            not_asked: self.not_asked.saturating_sub(earlier.not_asked),
         }
     }
 }
@@ -61,11 +110,11 @@ impl CauseRounds {
 /// A stay, where it was sent, and where another schedule sends it.
 #[derive(Clone, Copy, Debug, PartialEq, Eq)]
 pub struct ExplainedStay {
-    /// The number of its CCB.
+    /// The number of its CCB; of a recording that of the request, from 0.
     pub ccb: u32,
-    /// Its try, from 0.
+    /// Its try, from 0; of a recording 0.
     pub attempt: u32,
-    /// The driver that submitted the CCB.
+    /// The driver that submitted the CCB, or asked for the request.
     pub driver: u8,
     /// The number of its device.
     pub device: u32,
@@ -85,6 +134,8 @@ pub struct ExplainedStay {
     pub best: u32,
     /// How many rounds it waited for each cause, `live - arrival` together.
     pub rounds: CauseRounds,
+    /// How many of these in which a row was full, by what that row sent.
+    pub behind: FullBehind,
 }
 
 impl ExplainedStay {
@@ -96,7 +147,6 @@ impl ExplainedStay {
     }
 
     /// The weighted rounds that it waited.
-    #[tactic(auto, using(crate::proofs::PartLemmas::weight_fits))]
     pub fn cost(&self) -> u64
         ensures same { result ≡ measure Live self.now }
         ensures small { result ≤ 281474976710656 }

@@ -1,21 +1,28 @@
-//! Where the stays of a history waited, and why.
+//! Where the stays of a history or a recording waited, and why.
 
+use crate::counting::count_waits;
 use crate::explained_stay::ExplainedStay;
 use crate::freeze::Freeze;
-use crate::freeze_list::push_freezes;
+use crate::freeze_list::freezes_of;
+use crate::kind::InputKind;
 use crate::listing::list_stays;
+use crate::origin::Origin;
 use crate::part::{Part, part_of};
+use crate::recorded::RecordedRounds;
+use crate::requests::list_requests;
+use crate::sends::sends_of;
 use crate::table::{Grouping, Row, table_of};
 use crate::wait::{Wait, waits_in};
 use cam_event::History;
-use round_net::{FreezeKind, Net, RoundTable, Schedule};
+use recording_file::Recording;
+use round_net::{Net, RoundTable, Schedule};
 use std::alloc::{AllocError, Global};
 use std::marker::Model;
 
-/// Where the stays of a history waited, and why, beside another schedule.
+/// Where the stays of a history or a recording waited, and why, beside another schedule.
 #[derive(Drop)]
 pub struct Explanation {
-    table: RoundTable,
+    origin: Origin,
     stays: Vec<ExplainedStay>,
 }
 
@@ -27,23 +34,23 @@ impl Model for Explanation {
 
     ghost Value = { Explained };
 
-    ghost view = { λ x. record { config = x.table.config; events = x.table.events; best = map (λ (s : Listed). s.best) x.stays.items } };
+    ghost view = { λ x. record { origin = x.origin; best = map (λ (s : Listed). s.best) x.stays.items } };
 
-    ghost invariant = { λ x. IsExplained x.table.config x.table.events (map (λ (s : Listed). s.best) x.stays.items) x.stays.items };
+    ghost invariant = { λ x. IsExplained x.origin (map (λ (s : Listed). s.best) x.stays.items) x.stays.items };
 }
 
 impl Explanation {
-    ghost use Rattle.std.specs.Prelude.{◌≡◌, ◌≤◌, [], length, slice_get, Some, IfOk, IfSome};
-    ghost use Rattle.event_rules.specs.Live.{live_cost};
-    ghost use Rattle.event_rules.specs.Stays.{stays_begun};
-    ghost use Rattle.event_rules.specs.declared.passage.Passage.{Passage};
+    ghost use Rattle.std.specs.Prelude.{◌≡◌, ◌≤◌, [], length, slice_get, Some, IfOk};
     ghost use Rattle.round_net.specs.Nets.{net_of};
+    ghost use Rattle.round_net.specs.RecordedNets.{net_of_recording};
     ghost use Rattle.round_net.specs.Rows.{instance_of_rows};
-    ghost use Rattle.wait_causes.specs.Stays.{explained_stays};
-    ghost use Rattle.wait_causes.specs.Parts.{part_of, all_costs};
+    ghost use Rattle.wait_causes.specs.Origins.{IsLiveCost};
+    ghost use Rattle.wait_causes.specs.Stays.{explained};
+    ghost use Rattle.wait_causes.specs.Parts.{part_of, all_costs, full_costs, all_behind_costs, kind_of};
     ghost use Rattle.wait_causes.specs.Tables.{table_of};
-    ghost use Rattle.wait_causes.specs.Freezes.{freezes};
+    ghost use Rattle.wait_causes.specs.Freezes.{freezes_in};
     ghost use Rattle.wait_causes.specs.Waits.{AreWaitsOf};
+    ghost use Rattle.wait_causes.specs.declared.explained_stay.ExplainedStay.{ExplainedStay as Listed};
 
     /// Explains the history of this table of rounds beside a schedule of its net.
     pub fn of(
@@ -56,75 +63,91 @@ impl Explanation {
         requires table { table ≡ history.now }
         requires net { net.now ≡ net_of history.now.config history.now.events }
         requires stays { length best.now ≡ (instance_of_rows net.now).stays }
-        ensures { IfOk result (λ x. x ≡ record { config = history.now.config; events = history.now.events; best = best.now }) }
+        ensures { IfOk result (λ x. x ≡ record { origin = Origin.Trace history.now; best = best.now }) }
     {
         let _events = history.events();
-        let stays = list_stays(alloc, &table, history.stays(), best)?;
-        Ok(Explanation { table, stays })
+        let _rounds = net.rounds();
+        let sends = sends_of(alloc, net)?;
+        let listed = list_stays(alloc, &table, history.stays(), best)?;
+        let origin = Origin::Trace(table);
+        let stays = count_waits(alloc, &origin, net, &sends, &listed)?;
+        Ok(Explanation { origin, stays })
     }
 
-    /// All stays, in order of birth.
+    /// Explains the recording of this net beside a schedule of it.
+    pub fn of_recording(
+        alloc: Global,
+        recording: Recording,
+        net: &Net,
+        best: &Schedule,
+    ) -> Result<Explanation, AllocError>
+        requires net { net.now ≡ net_of_recording recording }
+        requires stays { length best.now ≡ (instance_of_rows net.now).stays }
+        ensures { IfOk result (λ x. x ≡ record { origin = Origin.Recording recording; best = best.now }) }
+    {
+        let _rounds = net.rounds();
+        let sends = sends_of(alloc, net)?;
+        let listed = list_requests(alloc, &recording, best)?;
+        let rounds = RecordedRounds::of(alloc, recording, net, &sends)?;
+        let origin = Origin::Recording(rounds);
+        let stays = count_waits(alloc, &origin, net, &sends, &listed)?;
+        Ok(Explanation { origin, stays })
+    }
+
+    /// What kind of input is explained.
+    pub fn kind(&self) -> InputKind
+        ensures { result ≡ kind_of self.now.origin }
+    {
+        match self.origin {
+            Origin::Trace(_) => InputKind::Trace,
+            Origin::Recording(_) => InputKind::Recording,
+        }
+    }
+
+    /// All stays, in order of birth; of a recording the requests, in the order of its text.
     pub fn stays(&self) -> &[ExplainedStay]
-        ensures same { result.now ≡ explained_stays self.now.config self.now.events self.now.best }
-        ensures all { length result.now ≡ length (stays_begun self.now.events) }
+        ensures { result.now ≡ explained self.now.origin self.now.best }
     {
         &self.stays
     }
 
     /// The waits of the stay at this place of `stays`, in order; none if no stay is there.
     pub fn waits(&self, alloc: Global, place: usize) -> Result<Vec<Wait>, AllocError>
-        ensures waits { (p : Passage) → slice_get (stays_begun self.now.events) place ≡ Some p → IfOk result (λ waits. AreWaitsOf self.now.config self.now.events p waits.items) }
-        ensures none { length (stays_begun self.now.events) ≤ place → IfOk result (λ waits. waits.items ≡ []) }
+        ensures waits { (s : Listed) → slice_get (explained self.now.origin self.now.best) place ≡ Some s → IfOk result (λ waits. AreWaitsOf self.now.origin s waits.items) }
+        ensures none { length (explained self.now.origin self.now.best) ≤ place → IfOk result (λ waits. waits.items ≡ []) }
     {
         let Some(kept) = self.stays.get(place) else {
             return Ok(Vec::new(alloc));
         };
-        waits_in(alloc, &self.table, kept.device, kept.arrival, kept.live)
+        waits_in(alloc, &self.origin, kept.device, kept.arrival, kept.live)
     }
 
     /// What all stays waited, and what that cost: the costs by cause add up to `live`, which is the cost of the live
-    /// schedule if each stay was sent.
-    pub fn whole(&self) -> Part
-        ensures part { result ≡ part_of (explained_stays self.now.config self.now.events self.now.best) }
-        ensures add_up { all_costs result.costs ≡ result.live }
-        ensures live { IfSome (live_cost self.now.config self.now.events) (λ cost. result.live ≡ cost) }
+    /// schedule. What it cost to wait behind others adds up to what full devices, adapters and links cost.
+    pub fn whole(&self, alloc: Global) -> Result<Part, AllocError>
+        ensures part { IfOk result (λ part. part ≡ part_of (explained self.now.origin self.now.best)) }
+        ensures add_up { IfOk result (λ part. all_costs part.costs ≡ part.live) }
+        ensures behind { IfOk result (λ part. all_behind_costs part.behind ≡ full_costs part.costs) }
+        ensures live { IfOk result (λ part. IsLiveCost self.now.origin part.live) }
     {
-        part_of(&self.stays)
+        part_of(alloc, &self.stays)
     }
 
     /// A row for each adapter, device, driver or run level that has a stay, by number.
     pub fn table(&self, alloc: Global, by: Grouping) -> Result<Vec<Row>, AllocError>
-        ensures { IfOk result (λ rows. rows.items ≡ table_of by (explained_stays self.now.config self.now.events self.now.best)) }
+        ensures { IfOk result (λ rows. rows.items ≡ table_of by (explained self.now.origin self.now.best)) }
     {
         table_of(alloc, &self.stays, by)
     }
 
-    /// The freezes: those by errors, then those by callers, then those of adapters, each by number and then by first round.
+    /// The freezes of a history: those by errors, then those by callers, then those of adapters, each by number and then by
+    /// first round. A recording has none: it doesn't say who stopped what.
     pub fn freezes(&self, alloc: Global) -> Result<Vec<Freeze>, AllocError>
-        ensures { IfOk result (λ rows. rows.items ≡ freezes self.now.config self.now.events (explained_stays self.now.config self.now.events self.now.best)) }
+        ensures { IfOk result (λ rows. rows.items ≡ freezes_in self.now.origin (explained self.now.origin self.now.best)) }
     {
-        let mut rows = Vec::new(alloc);
-        push_freezes(
-            alloc,
-            &mut rows,
-            FreezeKind::Error,
-            &self.table,
-            &self.stays,
-        )?;
-        push_freezes(
-            alloc,
-            &mut rows,
-            FreezeKind::Caller,
-            &self.table,
-            &self.stays,
-        )?;
-        push_freezes(
-            alloc,
-            &mut rows,
-            FreezeKind::Adapter,
-            &self.table,
-            &self.stays,
-        )?;
-        Ok(rows)
+        match &self.origin {
+            Origin::Trace(table) => freezes_of(alloc, table, &self.stays),
+            Origin::Recording(_) => Ok(Vec::new(alloc)),
+        }
     }
 }

@@ -1,8 +1,8 @@
 //! The freezes of a history, each with its rounds and what it cost.
 
-ghost use Rattle.std.specs.Prelude.{◌≡◌, ◌≤◌, ◌++◌, length, count_by, sum_by, IfOk};
+ghost use Rattle.std.specs.Prelude.{◌≡◌, ◌≤◌, ◌++◌, length, count_by, IfOk};
 ghost use Rattle.wait_causes.specs.Words.{MOST_STAYS, round, numbers, cause_in, flag_in};
-ghost use Rattle.wait_causes.specs.Freezes.{begins, behind, rounds_between, waits_for, stay_cost, cost_in, freeze_from, freezes_at, freezes_by};
+ghost use Rattle.wait_causes.specs.Freezes.{begins, behind, rounds_between, waits_for, stay_cost, cost_in, freeze_from, freezes_at, freezes_by, freezes_found};
 
 use crate::explained_stay::ExplainedStay;
 use crate::freeze::{Freeze, cause_of, grouping_of};
@@ -10,9 +10,25 @@ use crate::table::stays_of;
 use round_net::{Cause, FreezeKind, RoundTable};
 use std::alloc::{AllocError, Global};
 
-/// Puts the freezes of this kind after the others.
+/// The freezes: those by errors, then those by callers, then those of adapters.
+pub(crate) fn freezes_of(
+    alloc: Global,
+    table: &RoundTable,
+    stays: &[ExplainedStay],
+) -> Result<Vec<Freeze>, AllocError>
+    requires few { length stays.now ≤ MOST_STAYS }
+    ensures { IfOk result (λ rows. rows.items ≡ freezes_found table.now.config table.now.events stays.now) }
+{
+    let mut rows = Vec::new(alloc);
+    push_freezes(alloc, &mut rows, FreezeKind::Error, table, stays)?;
+    push_freezes(alloc, &mut rows, FreezeKind::Caller, table, stays)?;
+    push_freezes(alloc, &mut rows, FreezeKind::Adapter, table, stays)?;
+    Ok(rows)
+}
+
+// Puts the freezes of this kind after the others.
 #[tactic(auto, unfolding(crate::specs::Freezes::freezes_by))]
-pub(crate) fn push_freezes(
+fn push_freezes(
     alloc: Global,
     freezes: &mut Vec<Freeze>,
     kind: FreezeKind,

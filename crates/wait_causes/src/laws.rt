@@ -1,5 +1,6 @@
 //! What adds up in an explanation.
 
+ghost use Rattle.wait_causes.specs.BehindLaws.{BehindAddsUp};
 ghost use Rattle.wait_causes.specs.FreezeLaws.{FreezesAddUp};
 ghost use Rattle.wait_causes.specs.TableLaws.{RowsAddUp};
 
@@ -12,4 +13,10 @@ pub fn freezes_add_up()
 /// much.
 pub fn rows_add_up()
     ensures { RowsAddUp }
+{}
+
+/// The rounds of each stay behind less urgent, equal and more urgent ones are together those in which its device, its adapter
+/// or the link was full; and so are the costs of each part.
+pub fn behind_adds_up()
+    ensures { BehindAddsUp }
 {}

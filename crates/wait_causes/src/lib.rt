@@ -1,22 +1,32 @@
-//! Why each command waited: the rounds that the stays of a history waited, each with its cause, beside the rounds in
-//! which another schedule sends them.
+//! Why each command waited: the rounds that the stays of a history or a recording waited, each with its cause, beside the
+//! rounds in which another schedule sends them.
 #![tactic(auto)]
 
+pub use behind::{Behind, FullBehind};
 pub use explained_stay::{CauseRounds, ExplainedStay};
 pub use explanation::Explanation;
 pub use freeze::Freeze;
-pub use laws::{freezes_add_up, rows_add_up};
-pub use part::{CauseCosts, Part};
+pub use kind::InputKind;
+pub use laws::{behind_adds_up, freezes_add_up, rows_add_up};
+pub use part::{BehindCosts, CauseCosts, Part};
 pub use round_net::{Cause, FreezeKind};
 pub use table::{Grouping, Row};
 pub use wait::Wait;
 
+mod behind;
+mod counting;
 mod explained_stay;
 mod explanation;
 mod freeze;
 mod freeze_list;
+mod kind;
 mod laws;
 mod listing;
+mod origin;
 mod part;
+mod recorded;
+mod requests;
+mod sends;
 mod table;
+mod totals;
 mod wait;

@@ -1,11 +1,11 @@
-//! The stays of a history, each with the causes of its waiting.
+//! The stays of a history, whose rounds are still to be counted.
 
-ghost use Rattle.std.specs.Prelude.{◌≡◌, ◌≤◌, ◌-◌, map, length, zip, IfOk};
-ghost use Rattle.std.specs.List.{range_with_len};
-ghost use Rattle.wait_causes.specs.Words.{MOST_STAYS, device_adapter, submission, Submission, cause_in};
+ghost use Rattle.std.specs.Prelude.{◌≡◌, ◌≤◌, map, length, zip, IfOk};
+ghost use Rattle.wait_causes.specs.Words.{MOST_STAYS, device_adapter, submission, Submission};
 ghost use Rattle.std.specs.Option.{option_map_or};
-ghost use Rattle.wait_causes.specs.Stays.{rounds_by, row_by};
+ghost use Rattle.wait_causes.specs.Stays.{row_by};
 
+use crate::behind::FullBehind;
 use crate::explained_stay::{CauseRounds, ExplainedStay};
 use cam_types::Config;
 use round_net::{RoundTable, Schedule};
@@ -50,7 +50,8 @@ fn explain(table: &RoundTable, kept: &StayRecord, best: u32) -> ExplainedStay
         arrival: stay.arrival,
         live,
         best,
-        rounds: rounds_by(table, stay.device, stay.arrival, live),
+        rounds: CauseRounds::none(),
+        behind: FullBehind::none(),
     }
 }
 
@@ -64,23 +65,12 @@ fn driver_of(devices: &Devices, ccb: u32) -> u8
     }
 }
 
-// The adapter of the device, and 0 where there is no such device.
-fn adapter_of(config: &Config, device: u32) -> u32
+/// The adapter of the device, and 0 where there is no such device.
+pub(crate) fn adapter_of(config: &Config, device: u32) -> u32
     ensures { result ≡ device_adapter config.now device }
 {
     match config.device_adapter(device) {
         Some(adapter) => adapter,
         None => 0,
     }
-}
-
-// For how many of the rounds from the arrival to the one before the send the stays of the device waited for each cause.
-fn rounds_by(table: &RoundTable, device: u32, arrival: u32, live: u32) -> CauseRounds
-    ensures { result ≡ rounds_by (map (cause_in table.now.config table.now.events device) (range_with_len arrival (live - arrival))) }
-{
-    let mut rounds = CauseRounds::none();
-    for more in 0..live.saturating_sub(arrival) {
-        rounds.add(table.cause(device, arrival + more));
-    }
-    rounds
 }

@@ -1,12 +1,14 @@
 //! What some stays waited, and what that cost.
 
-ghost use Rattle.std.specs.Prelude.{◌≡◌, ◌≤◌, ◌*◌, ◌-ℤ◌, pos, length, sum_by, count_by, nat_le};
-ghost use Rattle.cam_types.specs.declared.maxima.TheConstants.{MOST_STAYS};
-ghost use Rattle.wait_causes.specs.Parts.{rounds_for, waited, measure, nearest_rank, part_of};
+ghost use Rattle.std.specs.Prelude.{◌≡◌, ◌≤◌, ◌*◌, ◌-ℤ◌, pos, length, map, sum_by, count_by, nat_le, IfOk};
+ghost use Rattle.wait_causes.specs.Words.{MOST_NET_STAYS};
+ghost use Rattle.wait_causes.specs.Parts.{behind_for, waited, measure, rank_of, costs_of, behind_costs, part_of, AreLight, IsLight};
 
-use crate::explained_stay::{CauseRounds, ExplainedStay};
-use cam_types::MOST_ROUNDS;
-use round_net::Cause;
+use crate::behind::{Behind, FullBehind};
+use crate::explained_stay::ExplainedStay;
+use crate::kind::InputKind;
+use round_net::{Cause, MOST_NET_ROUNDS};
+use std::alloc::{AllocError, Global};
 
 /// Weighted rounds by cause.
 #[derive(Clone, Copy, Debug, PartialEq, Eq)]
@@ -17,22 +19,38 @@ pub struct CauseCosts {
     pub caller: u64,
     /// While a caller had frozen the adapter.
     pub adapter_frozen: u64,
+    /// While the device took nothing.
+    pub device_stopped: u64,
+    /// While the adapter took nothing.
+    pub adapter_stopped: u64,
+    /// While the adapter's link took nothing.
+    pub link_stopped: u64,
     /// While the device had no opening left.
     pub device_full: u64,
     /// While the adapter had no opening left.
     pub adapter_full: u64,
     /// While the adapter's link had no opening left.
     pub link_full: u64,
-    /// While no lane asked.
+    /// While nobody asked.
     pub not_asked: u64,
 }
 
 impl CauseCosts {
     ghost use Rattle.wait_causes.specs.Parts.{by_cause};
 
-    /// The causes in the order in which they are tested, each with its cost.
-    pub fn by_cause(&self) -> [(Cause, u64); 7]
-        ensures { result ≡ by_cause self.now }
+    /// The causes of such an input, in the order in which they are tested, each with its cost. Those of the other kind of
+    /// input cost nothing.
+    pub fn by_cause(&self, kind: InputKind) -> [(Cause, u64); 7]
+        ensures { result ≡ by_cause kind self.now }
+    {
+        match kind {
+            InputKind::Trace => self.of_trace(),
+            InputKind::Recording => self.of_recording(),
+        }
+    }
+
+    fn of_trace(&self) -> [(Cause, u64); 7]
+        ensures { result ≡ by_cause InputKind.Trace self.now }
     {
         [
             (Cause::Error, self.error),
@@ -44,6 +62,31 @@ impl CauseCosts {
             (Cause::NotAsked, self.not_asked),
         ]
     }
+
+    fn of_recording(&self) -> [(Cause, u64); 7]
+        ensures { result ≡ by_cause InputKind.Recording self.now }
+    {
+        [
+            (Cause::DeviceStopped, self.device_stopped),
+            (Cause::AdapterStopped, self.adapter_stopped),
+            (Cause::LinkStopped, self.link_stopped),
+            (Cause::DeviceFull, self.device_full),
+            (Cause::AdapterFull, self.adapter_full),
+            (Cause::LinkFull, self.link_full),
+            (Cause::NotAsked, self.not_asked),
+        ]
+    }
+}
+
+/// Weighted rounds in which a row was full, by what that row sent.
+#[derive(Clone, Copy, Debug, PartialEq, Eq)]
+pub struct BehindCosts {
+    /// Behind a stay of a smaller weight.
+    pub less_urgent: u64,
+    /// Behind none of a smaller weight, and one of the same.
+    pub equal: u64,
+    /// Behind stays of larger weights alone.
+    pub more_urgent: u64,
 }
 
 /// What some stays waited, and what that cost.
@@ -58,6 +101,10 @@ pub struct Part {
     pub p50: u32,
     /// The least number that 90 in a hundred stays didn't pass.
     pub p90: u32,
+    /// The least number that 99 in a hundred stays didn't pass.
+    pub p99: u32,
+    /// The least number that 999 in a thousand stays didn't pass.
+    pub p999: u32,
     /// The least number that none of them passed.
     pub max: u32,
     /// The weighted rounds that they waited.
@@ -66,6 +113,8 @@ pub struct Part {
     pub best: u64,
     /// Those of `live`, by cause.
     pub costs: CauseCosts,
+    /// Those of full devices, adapters and links, by what stays waited behind.
+    pub behind: BehindCosts,
 }
 
 impl Part {
@@ -84,69 +133,98 @@ enum Measure {
     Live,
     Best,
     Cost(Cause),
+    Full(Behind),
 }
 
 impl Measure {
     // What this is of a stay.
-    #[tactic(auto, using(crate::proofs::PartLemmas::weight_fits))]
     fn of(self, stay: &ExplainedStay) -> u64
+        requires { IsLight stay.now }
         ensures same { result ≡ measure self stay.now }
-        ensures small { result ≤ 281474976710656 }
+        ensures small { result ≤ 4398046511104 }
     {
-        match self {
-            Measure::Waited => u64::from(stay.waited()),
-            Measure::Live => stay.cost(),
-            Measure::Best => u64::from(stay.weight)
-                * u64::from(stay.best.saturating_sub(stay.arrival)),
-            Measure::Cost(cause) => u64::from(stay.weight)
-                * u64::from(rounds_for(&stay.rounds, cause)),
-        }
+        let rounds = match self {
+            Measure::Waited => return u64::from(stay.waited()),
+            Measure::Live => stay.waited(),
+            Measure::Best => stay.best.saturating_sub(stay.arrival),
+            Measure::Cost(cause) => stay.rounds.for_cause(cause),
+            Measure::Full(behind) => behind_for(&stay.behind, behind),
+        };
+        u64::from(stay.weight) * u64::from(rounds)
     }
 }
 
-// The rounds of this cause.
-fn rounds_for(rounds: &CauseRounds, cause: Cause) -> u32
-    ensures { result ≡ rounds_for cause rounds.now }
+// The rounds behind these.
+fn behind_for(rounds: &FullBehind, behind: Behind) -> u32
+    ensures { result ≡ behind_for behind rounds.now }
 {
-    match cause {
-        Cause::Error => rounds.error,
-        Cause::Caller => rounds.caller,
-        Cause::AdapterFrozen => rounds.adapter_frozen,
-        Cause::DeviceFull => rounds.device_full,
-        Cause::AdapterFull => rounds.adapter_full,
-        Cause::LinkFull => rounds.link_full,
-        Cause::NotAsked => rounds.not_asked,
+    match behind {
+        Behind::LessUrgent => rounds.less_urgent,
+        Behind::Equal => rounds.equal,
+        Behind::MoreUrgent => rounds.more_urgent,
     }
 }
 
 /// What these stays waited, and what that cost.
-pub(crate) fn part_of(stays: &[ExplainedStay]) -> Part
-    requires few { length stays.now ≤ MOST_STAYS }
-    ensures { result ≡ part_of stays.now }
+#[tactic(auto, unfolding(crate::specs::Parts::part_of))]
+pub(crate) fn part_of(alloc: Global, stays: &[ExplainedStay]) -> Result<Part, AllocError>
+    requires few { length stays.now ≤ MOST_NET_STAYS }
+    requires light { AreLight stays.now }
+    ensures { IfOk result (λ part. part ≡ part_of stays.now) }
 {
-    Part {
+    let waits = waits_of(alloc, stays)?;
+    Ok(Part {
         stays: stays.len() as u32,
         waited: total(stays, Measure::Waited),
-        p50: nearest_rank(stays, 50),
-        p90: nearest_rank(stays, 90),
-        max: nearest_rank(stays, 100),
+        p50: nearest_rank(&waits, 500),
+        p90: nearest_rank(&waits, 900),
+        p99: nearest_rank(&waits, 990),
+        p999: nearest_rank(&waits, 999),
+        max: nearest_rank(&waits, 1000),
         live: total(stays, Measure::Live),
         best: total(stays, Measure::Best),
-        costs: CauseCosts {
-            error: total(stays, Measure::Cost(Cause::Error)),
-            caller: total(stays, Measure::Cost(Cause::Caller)),
-            adapter_frozen: total(stays, Measure::Cost(Cause::AdapterFrozen)),
-            device_full: total(stays, Measure::Cost(Cause::DeviceFull)),
-            adapter_full: total(stays, Measure::Cost(Cause::AdapterFull)),
-            link_full: total(stays, Measure::Cost(Cause::LinkFull)),
-            not_asked: total(stays, Measure::Cost(Cause::NotAsked)),
-        },
+        costs: costs_of(stays),
+        behind: behind_of(stays),
+    })
+}
+
+// What each cause cost.
+fn costs_of(stays: &[ExplainedStay]) -> CauseCosts
+    requires few { length stays.now ≤ MOST_NET_STAYS }
+    requires light { AreLight stays.now }
+    ensures { result ≡ costs_of stays.now }
+{
+    CauseCosts {
+        error: total(stays, Measure::Cost(Cause::Error)),
+        caller: total(stays, Measure::Cost(Cause::Caller)),
+        adapter_frozen: total(stays, Measure::Cost(Cause::AdapterFrozen)),
+        device_stopped: total(stays, Measure::Cost(Cause::DeviceStopped)),
+        adapter_stopped: total(stays, Measure::Cost(Cause::AdapterStopped)),
+        link_stopped: total(stays, Measure::Cost(Cause::LinkStopped)),
+        device_full: total(stays, Measure::Cost(Cause::DeviceFull)),
+        adapter_full: total(stays, Measure::Cost(Cause::AdapterFull)),
+        link_full: total(stays, Measure::Cost(Cause::LinkFull)),
+        not_asked: total(stays, Measure::Cost(Cause::NotAsked)),
+    }
+}
+
+// What it cost to wait behind others.
+fn behind_of(stays: &[ExplainedStay]) -> BehindCosts
+    requires few { length stays.now ≤ MOST_NET_STAYS }
+    requires light { AreLight stays.now }
+    ensures { result ≡ behind_costs stays.now }
+{
+    BehindCosts {
+        less_urgent: total(stays, Measure::Full(Behind::LessUrgent)),
+        equal: total(stays, Measure::Full(Behind::Equal)),
+        more_urgent: total(stays, Measure::Full(Behind::MoreUrgent)),
     }
 }
 
 // The measure of all stays together.
 fn total(stays: &[ExplainedStay], of: Measure) -> u64
-    requires few { length stays.now ≤ MOST_STAYS }
+    requires few { length stays.now ≤ MOST_NET_STAYS }
+    requires light { AreLight stays.now }
     ensures { result ≡ sum_by (measure of) stays.now }
 {
     let mut total = 0;
@@ -156,30 +234,37 @@ fn total(stays: &[ExplainedStay], of: Measure) -> u64
     total
 }
 
-// The least number of rounds that that many in a hundred stays didn't pass.
-fn nearest_rank(stays: &[ExplainedStay], percent: usize) -> u32
-    requires few { length stays.now ≤ MOST_STAYS }
-    requires percent { percent ≤ 100 }
-    ensures { result ≡ nearest_rank percent stays.now }
+// The rounds that each stay waited.
+fn waits_of(alloc: Global, stays: &[ExplainedStay]) -> Result<Vec<u32>, AllocError>
+    ensures { IfOk result (λ waits. waits.items ≡ map waited stays.now) }
+{
+    stays.iter().map(|stay| stay.waited()).collect(alloc)
+}
+
+// The least of these numbers of rounds that that many in a thousand of them don't pass.
+fn nearest_rank(waits: &[u32], thousandths: usize) -> u32
+    requires few { length waits.now ≤ MOST_NET_STAYS }
+    requires thousandths { thousandths ≤ 1000 }
+    ensures { result ≡ rank_of thousandths waits.now }
 {
     // No number below `low` is enough, and `high` is, unless it is beyond all.
     let mut low = 0;
-    let mut high = MOST_ROUNDS;
+    let mut high = MOST_NET_ROUNDS;
     while low < high {
         let middle = low + (high - low) / 2;
-        if percent * stays.len() <= 100 * within(stays, middle) {
+        if thousandths * waits.len() <= 1000 * within(waits, middle) {
             high = middle;
         } else {
             low = middle + 1;
         }
     }
-    if low < MOST_ROUNDS { low } else { 0 }
+    if low < MOST_NET_ROUNDS { low } else { 0 }
 }
 
-// How many of the stays waited no more rounds than this.
-fn within(stays: &[ExplainedStay], rounds: u32) -> usize
-    ensures same { result ≡ count_by (λ s. nat_le (waited s) rounds) stays.now }
-    ensures few { result ≤ length stays.now }
+// How many are no more than this.
+fn within(waits: &[u32], rounds: u32) -> usize
+    ensures same { result ≡ count_by (λ wait. nat_le wait rounds) waits.now }
+    ensures few { result ≤ length waits.now }
 {
-    stays.iter().filter(|stay| stay.waited() <= rounds).count()
+    waits.iter().filter(|wait| **wait <= rounds).count()
 }

@@ -1,8 +1,10 @@
-//! The stays of a history by adapter, device, driver or run level.
+//! Stays by adapter, device, driver or run level.
 
-ghost use Rattle.std.specs.Prelude.{◌≡◌, ◌≤◌, ◌++◌, length, IfOk};
-ghost use Rattle.cam_types.specs.declared.maxima.TheConstants.{MOST_STAYS};
-ghost use Rattle.wait_causes.specs.Tables.{number, stays_of, row_for, row_of, greatest, table_of};
+ghost use Rattle.std.specs.Prelude.{◌≡◌, ◌+◌, ◌^◌, ◌≤◌, ◌++◌, [], length, IfOk};
+ghost use Rattle.wait_causes.specs.Words.{MOST_NET_STAYS};
+ghost use Rattle.wait_causes.specs.Parts.{AreLight};
+ghost use Rattle.wait_causes.specs.Tables.{number, stays_of, row_for, greatest, table_of, AreGroups};
+ghost use Rattle.wait_causes.specs.declared.table.Grouping.{Grouping as Groupings};
 
 use crate::explained_stay::ExplainedStay;
 use crate::part::{Part, part_of};
@@ -50,16 +52,43 @@ pub(crate) fn table_of(
     stays: &[ExplainedStay],
     by: Grouping,
 ) -> Result<Vec<Row>, AllocError>
-    requires few { length stays.now ≤ MOST_STAYS }
+    requires few { length stays.now ≤ MOST_NET_STAYS }
+    requires light { AreLight stays.now }
     ensures { IfOk result (λ rows. rows.items ≡ table_of by stays.now) }
 {
+    let groups = groups_of(alloc, stays, by)?;
     let mut rows = Vec::new(alloc);
-    let greatest = greatest(stays, by);
-    for number in 0..greatest {
-        push_row(alloc, &mut rows, stays, by, number)?;
+    for number in 0..groups.len() {
+        push_part(alloc, &mut rows, number as u32, &groups[number])?;
     }
-    push_row(alloc, &mut rows, stays, by, greatest)?;
     Ok(rows)
+}
+
+// The stays of each number up to the greatest.
+fn groups_of(
+    alloc: Global,
+    stays: &[ExplainedStay],
+    by: Grouping,
+) -> Result<Vec<Vec<ExplainedStay>>, AllocError>
+    ensures groups { IfOk result (λ groups. AreGroups by (greatest by stays.now + 1) stays.now groups.items) }
+    ensures few { IfOk result (λ groups. length groups.items ≤ 2 ^ 32) }
+{
+    let mut groups = no_groups(alloc, greatest(stays, by) as usize + 1)?;
+    for stay in stays {
+        groups[by.number(stay) as usize].push(*stay)?;
+    }
+    Ok(groups)
+}
+
+// That many groups without a stay.
+fn no_groups(alloc: Global, count: usize) -> Result<Vec<Vec<ExplainedStay>>, AllocError>
+    ensures { IfOk result (λ groups. (by : Groupings) → AreGroups by count [] groups.items) }
+{
+    let mut groups = Vec::with_capacity(alloc, count)?;
+    for _number in 0..count {
+        groups.push(Vec::new(alloc))?;
+    }
+    Ok(groups)
 }
 
 // The greatest number of these stays, and 0 of none.
@@ -74,32 +103,24 @@ fn greatest(stays: &[ExplainedStay], by: Grouping) -> u32
     most
 }
 
-// Puts the row of this number after the others, if it has a stay.
-fn push_row(
+// Puts the row of these stays after the others, if there are some.
+fn push_part(
     alloc: Global,
     rows: &mut Vec<Row>,
-    stays: &[ExplainedStay],
-    by: Grouping,
     number: u32,
+    part: &[ExplainedStay],
 ) -> Result<(), AllocError>
-    requires few { length stays.now ≤ MOST_STAYS }
-    ensures { IfOk result (λ _. rows.new.items ≡ rows.old.items ++ row_of by stays.now number) }
-{
-    let part = stays_of(alloc, stays, by, number)?;
-    push_part(rows, number, &part)
-}
-
-// Puts the row of these stays after the others, if there are some.
-fn push_part(rows: &mut Vec<Row>, number: u32, part: &[ExplainedStay]) -> Result<(), AllocError>
-    requires few { length part.now ≤ MOST_STAYS }
+    requires few { length part.now ≤ MOST_NET_STAYS }
+    requires light { AreLight part.now }
     ensures { IfOk result (λ _. rows.new.items ≡ rows.old.items ++ row_for number part.now) }
 {
     if part.is_empty() {
         return Ok(());
     }
+    let waited = part_of(alloc, part)?;
     rows.push(Row {
         number,
-        part: part_of(part),
+        part: waited,
     })?;
     Ok(())
 }

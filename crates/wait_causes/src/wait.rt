@@ -1,12 +1,13 @@
 //! The waits of a stay: runs of rounds with one cause.
 
-ghost use Rattle.std.specs.Prelude.{◌≡◌, ◌+◌, ◌-◌, ℕ, IfOk};
+ghost use Rattle.std.specs.Prelude.{◌≡◌, ◌<◌, ◌≤◌, ◌+◌, ◌-◌, ℕ, IfOk};
 ghost use Rattle.std.specs.List.{range_with_len};
-ghost use Rattle.round_net.specs.Ends.{cause_in};
+ghost use Rattle.wait_causes.specs.Origins.{instance_in, cause_of};
 ghost use Rattle.wait_causes.specs.Waits.{AreWaits, AreBegun};
 ghost use Rattle.round_net.specs.declared.cause.Cause.{Cause as Causes};
 
-use round_net::{Cause, RoundTable};
+use crate::origin::Origin;
+use round_net::Cause;
 use std::alloc::{AllocError, Global};
 
 /// Rounds in a row that a stay waited for one cause.
@@ -23,21 +24,24 @@ pub struct Wait {
 /// The waits in the rounds from the arrival to the one before the send.
 pub(crate) fn waits_in(
     alloc: Global,
-    table: &RoundTable,
+    origin: &Origin,
     device: u32,
     arrival: u32,
     live: u32,
 ) -> Result<Vec<Wait>, AllocError>
-    ensures { IfOk result (λ waits. AreWaits (cause_in table.now.config table.now.events device) (range_with_len arrival (live - arrival)) waits.items) }
+    requires device { device < (instance_in origin.now).devices }
+    requires first { 1 ≤ arrival }
+    requires last { live ≤ (instance_in origin.now).rounds }
+    ensures { IfOk result (λ waits. AreWaits (cause_of origin.now device) (range_with_len arrival (live - arrival)) waits.items) }
 {
     let mut waits = Vec::new(alloc);
     if live <= arrival {
         return Ok(waits);
     }
-    let mut wait = begun(table.cause(device, arrival), arrival);
+    let mut wait = begun(origin.cause(device, arrival), arrival);
     for more in 1..live - arrival {
         let round = arrival + more;
-        let cause = table.cause(device, round);
+        let cause = origin.cause(device, round);
         wait = behind(&mut waits, wait, cause, round)?;
     }
     waits.push(wait)?;

@@ -27,8 +27,8 @@ struct Explained<'a> {
 }
 
 /// A line without its line feed: the counts of the net, what its live schedule and the other one cost in weighted
-/// rounds, the difference, and the live cost by cause; the tables by adapter, device, driver and run level; the freezes; and
-/// all stays in order of birth, each with its waits. Any text may be the trace's name.
+/// rounds, the difference, and the live cost by cause and by what full rows sent; the tables by adapter, device, driver and run level; the freezes; and
+/// all stays in order of birth, each with its waits. Any text may be the name.
 pub fn explain_json(
     alloc: Global,
     trace: &str,
@@ -37,10 +37,10 @@ pub fn explain_json(
 ) -> Result<String, AllocError>
     ensures { IfOk result (λ s. string_bytes s ≡ print (tokens (string_bytes s))) }
 {
-    let config = net.config();
+    let (config, kind) = (net.config(), explanation.kind());
     let explained = Explained {
         counts: Counts::of(alloc, trace, net)?,
-        costs: Costs::of(&explanation.whole(), config),
+        costs: Costs::of(&explanation.whole(alloc)?, kind, config),
         tables: Tables::of(alloc, config, explanation)?,
         freezes: freeze_list(alloc, explanation)?,
         list: stay_list(alloc, explanation)?,

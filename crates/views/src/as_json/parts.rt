@@ -4,14 +4,23 @@ use cam_path::path_name;
 use cam_types::Config;
 use serde::Serialize;
 use std::alloc::{AllocError, Global};
-use wait_causes::{Cause, CauseCosts, Explanation, Grouping, Part, Row};
+use wait_causes::{BehindCosts, Cause, CauseCosts, Explanation, Grouping, InputKind, Part, Row};
 
-// Weighted rounds by cause, that of full links only where there are links.
+// Weighted rounds by cause: those of a trace or of a recording, and those of links only where there are links.
 #[derive(Clone, Copy, Drop, Serialize)]
 struct Causes {
-    error: u64,
-    caller: u64,
-    adapter_frozen: u64,
+    #[serde(skip_serializing_if = "Option::is_none")]
+    error: Option<u64>,
+    #[serde(skip_serializing_if = "Option::is_none")]
+    caller: Option<u64>,
+    #[serde(skip_serializing_if = "Option::is_none")]
+    adapter_frozen: Option<u64>,
+    #[serde(skip_serializing_if = "Option::is_none")]
+    device_stopped: Option<u64>,
+    #[serde(skip_serializing_if = "Option::is_none")]
+    adapter_stopped: Option<u64>,
+    #[serde(skip_serializing_if = "Option::is_none")]
+    link_stopped: Option<u64>,
     device_full: u64,
     adapter_full: u64,
     #[serde(skip_serializing_if = "Option::is_none")]
@@ -20,38 +29,64 @@ struct Causes {
 }
 
 impl Causes {
-    // Those of these costs in a configuration.
-    fn of(costs: &CauseCosts, config: &Config) -> Causes {
+    // Those of these costs of such an input in a configuration.
+    fn of(costs: &CauseCosts, kind: InputKind, config: &Config) -> Causes {
+        let is_trace = kind == InputKind::Trace;
+        let has_links = Cause::LinkFull.can_hold(config);
         Causes {
-            error: costs.error,
-            caller: costs.caller,
-            adapter_frozen: costs.adapter_frozen,
+            error: is_trace.then_some(costs.error),
+            caller: is_trace.then_some(costs.caller),
+            adapter_frozen: is_trace.then_some(costs.adapter_frozen),
+            device_stopped: (!is_trace).then_some(costs.device_stopped),
+            adapter_stopped: (!is_trace).then_some(costs.adapter_stopped),
+            link_stopped: (!is_trace && has_links).then_some(costs.link_stopped),
             device_full: costs.device_full,
             adapter_full: costs.adapter_full,
-            link_full: Cause::LinkFull.can_hold(config).then_some(costs.link_full),
+            link_full: has_links.then_some(costs.link_full),
             not_asked: costs.not_asked,
         }
     }
 }
 
+// Weighted rounds in which a row was full, by what it sent.
+#[derive(Clone, Copy, Drop, Serialize)]
+struct Behind {
+    less_urgent: u64,
+    equal: u64,
+    more_urgent: u64,
+}
+
+impl Behind {
+    // Those of these costs.
+    fn of(costs: &BehindCosts) -> Behind {
+        Behind {
+            less_urgent: costs.less_urgent,
+            equal: costs.equal,
+            more_urgent: costs.more_urgent,
+        }
+    }
+}
+
 /// What the waiting of some stays cost in weighted rounds: by the live schedule, by the other one, the difference, and the
-/// live cost by cause.
+/// live cost by cause and, of full rows, by what they sent.
 #[derive(Clone, Copy, Drop, Serialize)]
 pub(crate) struct Costs {
     live: u64,
     best: u64,
     excess: i128,
     causes: Causes,
+    full_behind: Behind,
 }
 
 impl Costs {
-    /// Those of a part of the stays of a configuration.
-    pub(crate) fn of(part: &Part, config: &Config) -> Costs {
+    /// Those of a part of the stays of such an input of a configuration.
+    pub(crate) fn of(part: &Part, kind: InputKind, config: &Config) -> Costs {
         Costs {
             live: part.live,
             best: part.best,
             excess: part.excess(),
-            causes: Causes::of(&part.costs, config),
+            causes: Causes::of(&part.costs, kind, config),
+            full_behind: Behind::of(&part.behind),
         }
     }
 }
@@ -77,13 +112,15 @@ struct TableRow {
     costs: Costs,
 }
 
-// How many stays there are, and how many rounds they waited: together, and the median, 90 % and longest wait.
+// How many stays there are, and how many rounds they waited: together, and the median, 90 %, 99 %, 99.9 % and longest wait.
 #[derive(Clone, Copy, Drop, Serialize)]
 struct Waited {
     stays: u32,
     waited: u64,
     p50: u32,
     p90: u32,
+    p99: u32,
+    p999: u32,
     max: u32,
 }
 
@@ -95,6 +132,8 @@ impl Waited {
             waited: part.waited,
             p50: part.p50,
             p90: part.p90,
+            p99: part.p99,
+            p999: part.p999,
             max: part.max,
         }
     }
@@ -126,13 +165,19 @@ fn rows(
     let table = explanation.table(alloc, by)?;
     let mut rows = Vec::with_capacity(alloc, table.len())?;
     for row in &table {
-        rows.push(row_of(alloc, config, row, by)?)?;
+        rows.push(row_of(alloc, config, explanation.kind(), row, by)?)?;
     }
     Ok(rows)
 }
 
 // The row of a table by this, with the path of a device.
-fn row_of(alloc: Global, config: &Config, row: &Row, by: Grouping) -> Result<TableRow, AllocError> {
+fn row_of(
+    alloc: Global,
+    config: &Config,
+    kind: InputKind,
+    row: &Row,
+    by: Grouping,
+) -> Result<TableRow, AllocError> {
     let path = match by {
         Grouping::Device => Some(path_name(alloc, config, row.number)?),
         _ => None,
@@ -141,6 +186,6 @@ fn row_of(alloc: Global, config: &Config, row: &Row, by: Grouping) -> Result<Tab
         number: row.number,
         path,
         waited: Waited::of(&row.part),
-        costs: Costs::of(&row.part, config),
+        costs: Costs::of(&row.part, kind, config),
     })
 }

@@ -14,7 +14,7 @@ use round_net::Net;
 use std::alloc::{AllocError, Global};
 use wait_causes::{Cause, Explanation, Freeze, Part};
 
-/// The page on an explanation beside the net of the same history, which any browser opens: a drawing of the stays with the
+/// The page on the explanation of a history beside its net, which any browser opens: a drawing of the stays with the
 /// causes of their waiting, a legend, totals and tables. All costs are weighted rounds. Its text is well-formed XML; of the
 /// title, characters that XML doesn't allow are left out.
 pub fn draw(
@@ -25,7 +25,13 @@ pub fn draw(
     explanation: &Explanation,
 ) -> Result<String, AllocError> {
     let mut page = Page::new(alloc);
-    push_top(&mut page, title, config, &explanation.whole(), net.rounds());
+    push_top(
+        &mut page,
+        title,
+        config,
+        &explanation.whole(alloc)?,
+        net.rounds(),
+    );
     push_rest(alloc, &mut page, config, net, explanation)?;
     page.finish()
 }

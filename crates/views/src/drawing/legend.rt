@@ -3,7 +3,7 @@
 use crate::drawing::words::letter;
 use crate::making::Page;
 use cam_types::Config;
-use wait_causes::{Cause, Part};
+use wait_causes::{Cause, InputKind, Part};
 
 /// What the legend says of the marks.
 const MARKS: &str = "<ul class='legend'>\
@@ -17,7 +17,7 @@ const MARKS: &str = "<ul class='legend'>\
 /// Puts the legend on the page: the causes with their costs, and the marks.
 pub(crate) fn push_legend(page: &mut Page, config: &Config, whole: &Part) {
     page.put("<ul class='legend' id='causes'>\n");
-    for (cause, cost) in &whole.costs.by_cause() {
+    for (cause, cost) in &whole.costs.by_cause(InputKind::Trace) {
         if cause.can_hold(config) {
             push_cause(page, *cause, *cost);
         }

@@ -5,7 +5,7 @@ use crate::making::Page;
 use cam_path::path_name;
 use cam_types::Config;
 use std::alloc::{AllocError, Global};
-use wait_causes::{Cause, Explanation, Freeze, FreezeKind, Grouping, Part};
+use wait_causes::{Cause, Explanation, Freeze, FreezeKind, Grouping, InputKind, Part};
 
 // What stands above the columns of a part.
 const COLUMNS: &str = "</th><th scope='col'>stays</th><th scope='col'>waited</th>\
@@ -103,7 +103,7 @@ fn push_part(page: &mut Page, config: &Config, part: &Part) {
     page.put("<td>");
     page.show(part.excess());
     page.put("</td>");
-    for (cause, cost) in &part.costs.by_cause() {
+    for (cause, cost) in &part.costs.by_cause(InputKind::Trace) {
         if cause.can_hold(config) {
             page.cells(&[*cost]);
         }

@@ -7,7 +7,8 @@ pub(crate) fn letter(cause: Cause) -> &'static str {
     match cause {
         Cause::Error => "e",
         Cause::Caller => "c",
-        Cause::AdapterFrozen => "z",
+        Cause::AdapterFrozen | Cause::DeviceStopped | Cause::AdapterStopped | Cause::LinkStopped =>
+            "z",
         Cause::DeviceFull => "d",
         Cause::AdapterFull => "a",
         Cause::LinkFull => "l",

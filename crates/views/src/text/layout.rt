@@ -9,10 +9,10 @@ use crate::text::weights::push_weights;
 use crate::text::worst::push_worst;
 use cam_types::Config;
 use std::alloc::{AllocError, Global};
-use wait_causes::{ExplainedStay, Explanation, Freeze, Part};
+use wait_causes::{BehindCosts, ExplainedStay, Explanation, Freeze, InputKind, Part};
 
 /// The page on an explanation: what the waiting cost beside the other schedule, the weights if they aren't the standard ones,
-/// the stay, the device and the freeze that cost most, the cost by cause, tables by adapter, device, driver and run level, and
+/// the stay, the device and the freeze that cost most, the cost by cause and by what full rows sent, tables by adapter, device, driver and run level, and
 /// at most `top` of the freezes and of the stays that cost most, these with the causes of their rounds. All costs are weighted
 /// rounds.
 pub fn page(
@@ -22,9 +22,10 @@ pub fn page(
     top: usize,
 ) -> Result<String, AllocError> {
     let mut page = Page::new(alloc);
-    push_totals(&mut page, &explanation.whole());
+    let whole = explanation.whole(alloc)?;
+    push_totals(&mut page, &whole);
     push_weights(&mut page, config);
-    push_costs(alloc, &mut page, config, explanation, top)?;
+    push_costs(alloc, &mut page, config, explanation, &whole, top)?;
     page.finish()
 }
 
@@ -47,6 +48,7 @@ fn push_costs(
     page: &mut Page,
     config: &Config,
     explanation: &Explanation,
+    whole: &Part,
     top: usize,
 ) -> Result<(), AllocError> {
     let freezes = explanation.freezes(alloc)?;
@@ -60,19 +62,34 @@ fn push_costs(
         first_of(explanation.stays(), &worst_stays),
         first_of(&freezes, &worst_freezes),
     )?;
-    push_causes(page, config, explanation);
+    push_causes(page, config, explanation.kind(), whole);
+    push_behind(page, &whole.behind);
     push_tables(alloc, page, config, explanation)?;
     push_freezes(alloc, page, config, &freezes, &worst_freezes, top)?;
     push_stays(alloc, page, config, explanation, &worst_stays, top)
 }
 
 // Puts the costs by cause on the page.
-fn push_causes(page: &mut Page, config: &Config, explanation: &Explanation) {
+fn push_causes(page: &mut Page, config: &Config, kind: InputKind, whole: &Part) {
     page.put("\nWhat the waiting cost, by cause:\n\n");
-    for (cause, cost) in &explanation.whole().costs.by_cause() {
+    for (cause, cost) in &whole.costs.by_cause(kind) {
         if cause.can_hold(config) {
             page.show(format_args!("  {:<18} {cost:>9}\n", cause.name()));
         }
+    }
+}
+
+// Puts the costs of full rows on the page, by what they sent.
+fn push_behind(page: &mut Page, behind: &BehindCosts) {
+    page.put(
+        "\nWhat it cost to wait for a full device, adapter or link, by what that sent in the round:\n\n",
+    );
+    for (name, cost) in &[
+        ("a less urgent one", behind.less_urgent),
+        ("an equal one", behind.equal),
+        ("more urgent ones", behind.more_urgent),
+    ] {
+        page.show(format_args!("  {name:<18} {cost:>9}\n"));
     }
 }
 

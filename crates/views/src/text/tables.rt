@@ -4,31 +4,96 @@ use crate::making::Page;
 use crate::text::columns::{label, push_columns};
 use cam_types::Config;
 use std::alloc::{AllocError, Global};
-use wait_causes::{Cause, CauseCosts, Explanation, Grouping, Part};
+use wait_causes::{Cause, Explanation, Grouping, InputKind, Part, Row};
 
-// What stands above the columns: after these `l.full` where there are links, and then `unasked`.
-const COLUMNS: &str =
-    "stays  waited   p50   p90   max      live      best    excess     error    caller  a.frozen    d.full    a.full";
+// What stands above the columns of waits.
+const WAITS: &str = "stays  waited   p50   p90   p99 p99.9   max      live      best    excess";
 
-/// Puts the tables on the page.
+// What stands above the columns of costs of a trace and of a recording, before those of links and the last four.
+const TRACE_COSTS: &str = "    error    caller  a.frozen    d.full    a.full";
+
+const RECORDING_COSTS: &str = "d.stopped a.stopped    d.full    a.full";
+
+// What stands above the last columns.
+const LAST_COSTS: &str = "  unasked      less     equal      more";
+
+/// Puts the tables on the page: how long the stays of each adapter, device, driver and run level waited, and then what that
+/// cost by cause and by what full rows sent.
 pub(crate) fn push_tables(
     alloc: Global,
     page: &mut Page,
     config: &Config,
     explanation: &Explanation,
 ) -> Result<(), AllocError> {
-    let has_links = Cause::LinkFull.can_hold(config);
-    let link_full = if has_links { "    l.full" } else { "" };
-    page.show(format_args!("\n{:<14} {COLUMNS}{link_full} unasked\n", ""));
-    for by in &[
-        Grouping::Adapter,
-        Grouping::Device,
-        Grouping::Driver,
-        Grouping::Level,
-    ] {
-        push_table(alloc, page, config, explanation, *by)?;
+    let tables = Tables::of(alloc, explanation)?;
+    page.show(format_args!("\n{:<14} {WAITS}\n", ""));
+    tables.push(alloc, page, config, Columns::Waits)?;
+    push_cost_head(page, config, explanation.kind());
+    tables.push(alloc, page, config, Columns::Costs(explanation.kind()))
+}
+
+// The rows of each table.
+#[derive(Drop)]
+struct Tables {
+    adapters: Vec<Row>,
+    devices: Vec<Row>,
+    drivers: Vec<Row>,
+    levels: Vec<Row>,
+}
+
+// The columns of a table.
+#[derive(Clone, Copy)]
+enum Columns {
+    // How long stays waited, and what it cost.
+    Waits,
+    // What it cost by the causes of such an input, and by what full rows sent.
+    Costs(InputKind),
+}
+
+impl Tables {
+    fn of(alloc: Global, explanation: &Explanation) -> Result<Tables, AllocError> {
+        Ok(Tables {
+            adapters: explanation.table(alloc, Grouping::Adapter)?,
+            devices: explanation.table(alloc, Grouping::Device)?,
+            drivers: explanation.table(alloc, Grouping::Driver)?,
+            levels: explanation.table(alloc, Grouping::Level)?,
+        })
     }
-    Ok(())
+
+    // Puts these columns of all rows on the page.
+    fn push(
+        &self,
+        alloc: Global,
+        page: &mut Page,
+        config: &Config,
+        columns: Columns,
+    ) -> Result<(), AllocError> {
+        push_table(
+            alloc,
+            page,
+            config,
+            &self.adapters,
+            Grouping::Adapter,
+            columns,
+        )?;
+        push_table(
+            alloc,
+            page,
+            config,
+            &self.devices,
+            Grouping::Device,
+            columns,
+        )?;
+        push_table(
+            alloc,
+            page,
+            config,
+            &self.drivers,
+            Grouping::Driver,
+            columns,
+        )?;
+        push_table(alloc, page, config, &self.levels, Grouping::Level, columns)
+    }
 }
 
 // The rows of a table.
@@ -36,20 +101,23 @@ fn push_table(
     alloc: Global,
     page: &mut Page,
     config: &Config,
-    explanation: &Explanation,
+    rows: &[Row],
     by: Grouping,
+    columns: Columns,
 ) -> Result<(), AllocError> {
-    let has_links = Cause::LinkFull.can_hold(config);
-    for row in &explanation.table(alloc, by)? {
+    for row in rows {
         let label = label(alloc, config, by, row.number)?;
-        push_part(page, &label, &row.part, has_links);
+        page.show(format_args!("{label:<14}"));
+        match columns {
+            Columns::Waits => push_waits(page, &row.part),
+            Columns::Costs(kind) => push_costs(page, config, kind, &row.part),
+        }
     }
     Ok(())
 }
 
-// A row of a table.
-fn push_part(page: &mut Page, label: &str, part: &Part, has_links: bool) {
-    page.show(format_args!("{label:<14}"));
+// How long the stays of a row waited.
+fn push_waits(page: &mut Page, part: &Part) {
     push_columns(
         page,
         &[
@@ -57,29 +125,42 @@ fn push_part(page: &mut Page, label: &str, part: &Part, has_links: bool) {
             (7, part.waited),
             (5, u64::from(part.p50)),
             (5, u64::from(part.p90)),
+            (5, u64::from(part.p99)),
+            (5, u64::from(part.p999)),
             (5, u64::from(part.max)),
             (9, part.live),
             (9, part.best),
         ],
     );
-    page.show(format_args!(" {:>9}", part.excess()));
-    push_costs(page, &part.costs, has_links);
+    page.show(format_args!(" {:>9}\n", part.excess()));
 }
 
-// The last columns of a row, with that of full links where there are links.
-fn push_costs(page: &mut Page, costs: &CauseCosts, has_links: bool) {
+// What stands above the columns of costs.
+fn push_cost_head(page: &mut Page, config: &Config, kind: InputKind) {
+    let has_links = Cause::LinkFull.can_hold(config);
+    let costs = match kind {
+        InputKind::Trace => TRACE_COSTS,
+        InputKind::Recording if has_links => "d.stopped a.stopped l.stopped    d.full    a.full",
+        InputKind::Recording => RECORDING_COSTS,
+    };
+    let link_full = if has_links { "    l.full" } else { "" };
+    page.show(format_args!("\n{:<14} {costs}{link_full} {LAST_COSTS}\n", ""));
+}
+
+// What the stays of a row cost.
+fn push_costs(page: &mut Page, config: &Config, kind: InputKind, part: &Part) {
+    for (cause, cost) in &part.costs.by_cause(kind) {
+        if cause.can_hold(config) {
+            push_columns(page, &[(9, *cost)]);
+        }
+    }
     push_columns(
         page,
         &[
-            (9, costs.error),
-            (9, costs.caller),
-            (9, costs.adapter_frozen),
-            (9, costs.device_full),
-            (9, costs.adapter_full),
+            (9, part.behind.less_urgent),
+            (9, part.behind.equal),
+            (9, part.behind.more_urgent),
         ],
     );
-    if has_links {
-        push_columns(page, &[(9, costs.link_full)]);
-    }
-    page.show(format_args!(" {:>7}\n", costs.not_asked));
+    page.put("\n");
 }

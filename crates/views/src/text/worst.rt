@@ -6,7 +6,7 @@ use crate::text::stays::push_rounds;
 use cam_path::path_name;
 use cam_types::Config;
 use std::alloc::{AllocError, Global};
-use wait_causes::{ExplainedStay, Explanation, Freeze, Grouping, Row};
+use wait_causes::{ExplainedStay, Explanation, Freeze, Grouping, InputKind, Row};
 
 /// Puts the sentences on the stay and the freeze that cost most on the page, and on the device if a stay cost anything.
 pub(crate) fn push_worst(
@@ -18,7 +18,7 @@ pub(crate) fn push_worst(
     freeze: Option<&Freeze>,
 ) -> Result<(), AllocError> {
     if let Some(stay) = stay {
-        push_worst_stay(page, stay);
+        push_worst_stay(page, explanation.kind(), stay);
         push_worst_device(alloc, page, config, explanation)?;
     }
     if let Some(freeze) = freeze {
@@ -28,11 +28,15 @@ pub(crate) fn push_worst(
 }
 
 // Puts a sentence on the stay that cost most on the page.
-fn push_worst_stay(page: &mut Page, stay: &ExplainedStay) {
+fn push_worst_stay(page: &mut Page, kind: InputKind, stay: &ExplainedStay) {
+    match kind {
+        InputKind::Trace => {
+            page.show(format_args!("\nCCB {} (try {})", stay.ccb, stay.attempt));
+        }
+        InputKind::Recording => page.show(format_args!("\nRequest {}", stay.ccb)),
+    }
     page.show(format_args!(
-        "\nCCB {} (try {}) cost most: {}, from round {} to its send in round {}; the best schedule sends it in round {}.\n",
-        stay.ccb,
-        stay.attempt,
+        " cost most: {}, from round {} to its send in round {}; the best schedule sends it in round {}.\n",
         stay.cost(),
         stay.arrival,
         stay.live,

@@ -1,32 +1,51 @@
-use Rattle.std.proofs.Common.{◌≡◌, map, List, ℕ, sym, ap, subst, ◌∙◌, IfSome}
-use Rattle.event_rules.specs.Live.{live_cost}
+use Rattle.std.proofs.Common.{◌≡◌, map, List, ℕ, sym, subst, IfOk}
+use Rattle.std.proofs.lemmas.Result.{IfOk-weaker}
+use Rattle.wait_causes.specs.BehindLaws.{IsSplitPart}
 use Rattle.wait_causes.specs.Explained.{Explained}
+use Rattle.wait_causes.specs.Origins.{IsLiveCost}
 use Rattle.wait_causes.specs.Parts.{part_of, all_costs, Part}
-use Rattle.wait_causes.specs.Stays.{explained_stays, ExplainedStay}
-use Rattle.wait_causes.proofs.PartLemmas.{few_stays, part_adds_up, part_is_live}
+use Rattle.wait_causes.specs.Stays.{explained, ExplainedStay}
+use Rattle.wait_causes.proofs.ExplainedLemmas.{few_explained, light_explained, whole_live}
+use Rattle.wait_causes.proofs.PartLemmas.{part_adds_up}
+use Rattle.wait_causes.proofs.SplitLemmas.{whole_split}
 use Rattle.wait_causes.proofs.explanation.Explanation.whole.Goals as goal
 
-pub part_of-requires : goal.part_of-requires
-part_of-requires c =
+pub part_of-requires-clause-few : goal.part_of-requires-clause-few
+part_of-requires-clause-few c =
     let x = c.self.inside in
-    record { few = rw c.deref.ensures.value (few_stays x.table.config x.table.events (map (λ (s : ExplainedStay). s.best) x.stays.items) x.stays.items c.self.invariant) }
+    rw c.deref.ensures.value (few_explained x.origin x.stays.items c.self.invariant)
+
+pub part_of-requires-clause-light : goal.part_of-requires-clause-light
+part_of-requires-clause-light c =
+    let x = c.self.inside in
+    rw c.deref.ensures.value (light_explained x.origin x.stays.items c.self.invariant)
 
 pub returns-clause-part : goal.returns-clause-part
 returns-clause-part c =
-    subst (λ (e : Explained). c.part_of.result ≡ part_of (explained_stays e.config e.events e.best)) c.self.view_is
-    (c.part_of.ensures ∙ ap part_of (c.deref.ensures.value ∙ c.self.invariant.rows))
+    subst (λ (e : Explained). IfOk c.part_of.result (λ part. part ≡ part_of (explained e.origin e.best))) c.self.view_is
+    (rw (c.deref.ensures.value, c.self.invariant.rows) at c.part_of.ensures)
 
 pub returns-clause-add_up : goal.returns-clause-add_up
 returns-clause-add_up c =
     let x = c.self.inside in
     let best : List ℕ = map (λ (s : ExplainedStay). s.best) x.stays.items in
-    subst (λ (p : Part). all_costs p.costs ≡ p.live) (sym (c.part_of.ensures ∙ ap part_of (c.deref.ensures.value ∙ c.self.invariant.rows)))
-    (part_adds_up x.table.config x.table.events best)
+    IfOk-weaker c.part_of.result (λ part. part ≡ part_of (explained x.origin best)) (λ part. all_costs part.costs ≡ part.live)
+    (λ part is. subst (λ (p : Part). all_costs p.costs ≡ p.live) (sym is) (part_adds_up x.origin best))
+    (rw (c.deref.ensures.value, c.self.invariant.rows) at c.part_of.ensures)
+
+pub returns-clause-behind : goal.returns-clause-behind
+returns-clause-behind c =
+    let x = c.self.inside in
+    let best : List ℕ = map (λ (s : ExplainedStay). s.best) x.stays.items in
+    IfOk-weaker c.part_of.result (λ part. part ≡ part_of (explained x.origin best)) IsSplitPart
+    (λ part is. subst IsSplitPart (sym is) (whole_split x.origin best))
+    (rw (c.deref.ensures.value, c.self.invariant.rows) at c.part_of.ensures)
 
 pub returns-clause-live : goal.returns-clause-live
 returns-clause-live c =
     let x = c.self.inside in
     let best : List ℕ = map (λ (s : ExplainedStay). s.best) x.stays.items in
-    let here = subst (λ (p : Part). IfSome (live_cost x.table.config x.table.events) (λ cost. p.live ≡ cost)) (sym (c.part_of.ensures ∙ ap part_of (c.deref.ensures.value ∙ c.self.invariant.rows)))
-    (part_is_live x.table.config x.table.events best c.self.invariant.all) in
-    subst (λ (e : Explained). IfSome (live_cost e.config e.events) (λ cost. c.part_of.result.live ≡ cost)) c.self.view_is here
+    subst (λ (e : Explained). IfOk c.part_of.result (λ part. IsLiveCost e.origin part.live)) c.self.view_is
+    (IfOk-weaker c.part_of.result (λ part. part ≡ part_of (explained x.origin best)) (λ part. IsLiveCost x.origin part.live)
+    (λ part is. subst (λ (p : Part). IsLiveCost x.origin p.live) (sym is) (whole_live x.origin best c.self.invariant.all))
+    (rw (c.deref.ensures.value, c.self.invariant.rows) at c.part_of.ensures))

@@ -1,0 +1,30 @@
+-- what is explained: a history, by its trace, or a recording
+use Rattle.std.specs.Prelude.{◌≡◌, ℕ, IfSome}
+use Rattle.round_net.specs.RecordedNets.{net_of_recording}
+use Rattle.round_net.specs.Schedules.{cost}
+use Rattle.wait_causes.specs.Words.{live_cost, Cause, NetRows, Instance, net_of, instance_of_rows, live_of_rows}
+use Rattle.wait_causes.specs.Causes.{round_cause}
+use Rattle.wait_causes.specs.RecordedCauses.{recorded_cause}
+pub use Rattle.wait_causes.specs.declared.origin.Origin.{Origin}
+use Rattle.wait_causes.specs.declared.origin.Origin.TheVariants as origin
+
+-- its net, what there was to plan, and where the stays were sent
+abbrev pub net_in : Origin → NetRows
+net_in (origin.Trace past) = net_of past.config past.events
+net_in (origin.Recording r) = net_of_recording r
+
+abbrev pub instance_in : Origin → Instance
+instance_in o = instance_of_rows (net_in o)
+
+abbrev pub live_in : Origin → ℕ → ℕ
+live_in o = live_of_rows (net_in o)
+
+-- why the stays of a device waited in a round
+abbrev pub cause_of : Origin → ℕ → ℕ → Cause
+cause_of (origin.Trace past) = round_cause past.config past.events
+cause_of (origin.Recording r) = recorded_cause (instance_in (origin.Recording r)) (live_in (origin.Recording r))
+
+-- what its stays' waiting cost: of a history what its events say, if each stay was sent
+abbrev pub IsLiveCost : Origin → ℕ → Type 0
+IsLiveCost (origin.Trace past) n = IfSome (live_cost past.config past.events) (λ cost. n ≡ cost)
+IsLiveCost (origin.Recording r) n = n ≡ cost (instance_in (origin.Recording r)) (live_in (origin.Recording r))

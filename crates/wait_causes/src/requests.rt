@@ -1,0 +1,63 @@
+//! The requests of a recording, whose rounds are still to be counted.
+
+ghost use Rattle.std.specs.Prelude.{◌≡◌, ◌<◌, ◌≤◌, ◌^◌, List, map, length, zip, IfOk};
+ghost use Rattle.cam_types.specs.Lists.{moments};
+ghost use Rattle.cam_types.specs.Topology.{IsConfig};
+ghost use Rattle.cam_types.specs.declared.maxima.TheConstants.{MOST_PRIORITY};
+ghost use Rattle.recording_file.specs.declared.request.Request.{Request};
+ghost use Rattle.wait_causes.specs.Stays.{request_by};
+
+use crate::behind::FullBehind;
+use crate::explained_stay::{CauseRounds, ExplainedStay};
+use crate::listing::adapter_of;
+use cam_types::{Config, Priority};
+use recording_file::{Recording, Request};
+use round_net::Schedule;
+use std::alloc::{AllocError, Global};
+
+/// The requests, each beside its round of the schedule.
+pub(crate) fn list_requests(
+    alloc: Global,
+    recording: &Recording,
+    best: &Schedule,
+) -> Result<Vec<ExplainedStay>, AllocError>
+    requires same { length best.now ≡ length recording.now.requests }
+    ensures { IfOk result (λ rows. rows.items ≡ map (request_by recording.now.config) (zip (moments recording.now.requests) best.now)) }
+{
+    let config = recording.config();
+    let requests = recording.requests();
+    let mut rows = Vec::with_capacity(alloc, requests.len())?;
+    for number in 0..requests.len() {
+        let best = best.round(number as u32);
+        rows.push(explain(config, number, requests[number], best))?;
+    }
+    Ok(rows)
+}
+
+// The request of this number, started in this round by the schedule.
+#[tactic(auto, unfolding(crate::specs::Stays::request_by))]
+fn explain(config: &Config, number: usize, request: Request, best: u32) -> ExplainedStay
+    requires kept { IsConfig config.now }
+    requires few { number < 2 ^ 32 }
+    requires priority { request.priority ≤ MOST_PRIORITY }
+    ensures { (before : List Request) → length before ≡ number → result ≡ request_by config.now ((before, request), best) }
+{
+    let Ok(priority) = Priority::new(request.priority) else {
+        unreachable!()
+    };
+    ExplainedStay {
+        ccb: number as u32,
+        attempt: 0,
+        driver: request.driver,
+        device: request.device,
+        adapter: adapter_of(config, request.device),
+        priority: request.priority,
+        level: priority.run_level(),
+        weight: config.weight(priority) as u16,
+        arrival: request.arrival,
+        live: request.sent,
+        best,
+        rounds: CauseRounds::none(),
+        behind: FullBehind::none(),
+    }
+}

@@ -1,22 +1,19 @@
 #!/usr/bin/env python3
-"""Reckons the requests of a capture anew, plainly: imported_model.py strict|lenient list|quiet KIND FILE ..
-
-KIND is blkparse, fio, csv-ns, csv-us, csv-ms or csv-s. Each file of blkparse or CSV is a capture of its own; those of fio are one,
-each job's iolog before its latency log. Open requests are lists in the order of arrivals, searched from the front.
-"""
+"""Reckons the requests of a capture anew, plainly, line by line. Open requests are lists in the order of arrivals, searched from
+the front."""
 from __future__ import annotations
 
 import csv
 import os
 import re
-import sys
 from dataclasses import dataclass
 
 STATISTICS = ("CPU", "Total (", "Throughput", "Events (", "Skips", "Input file", "Read", "PC Read", "IO unplugs")
 IGNORED = ("G", "I", "A", "X", "m", "P", "U", "UT", "B", "S")
+MOST_DRIVERS, MOST_DEVICES, MOST_LINE, MOST_TIMES = 256, 32, 65_536, 16
 NEEDED, COLUMNS = {"arrival", "start", "device"}, ("arrival", "start", "end", "device", "driver", "priority")
-COUNTS = ("lines", "requests", "never_started", "without_arrival", "without_start", "devices_without_starts",
-          "requests_without_starts", "refused_lines", "without_partner", "dropped_runs")
+COUNTS = ("never_started", "without_arrival", "without_start", "requests_without_starts", "other_devices", "other_times",
+          "refused_lines", "without_partner", "dropped_runs")
 BLANKS = " \t\r\n\f"
 
 
@@ -33,6 +30,7 @@ class Request:
     started: int | None = None
     retried: int | None = None
     place: int | None = None
+    size: int = 0
     kept: bool = True
 
 
@@ -60,8 +58,29 @@ def pick(requests: list[Request], device: str, place: int | None) -> Request | N
     return None
 
 
+def takes(pick: str, name: str) -> str | None:
+    """The name as which a pick takes a device, if it does."""
+    pattern, sign, listed = pick.rpartition("=")
+    if not sign:
+        return name if name == pick else None
+    return listed if re.fullmatch(".*".join(map(re.escape, pattern.split("*"))), name, re.S) else None
+
+
+@dataclass
+class Options:
+    picks: tuple[str, ...] = ()
+    drivers: tuple[tuple[str, int], ...] = ()
+    priorities: str = "by-class"
+    begin: int = 0
+    end: int = 2**64
+
+    def listed(self, name: str) -> str | None:
+        return next((it for pick in self.picks if (it := takes(pick, name)) is not None), None) if self.picks else name
+
+
 class Reader:
-    def __init__(self) -> None:
+    def __init__(self, options: Options) -> None:
+        self.options = options
         self.requests: list[Request] = []
         self.devices: list[str] = []
         self.drivers: list[str] = []
@@ -71,19 +90,44 @@ class Reader:
         raise NotImplementedError
 
     def add(self, request: Request) -> Request:
-        for name, names in ((request.driver, self.drivers), (request.device, self.devices)):
-            must(names is self.devices or name in names or len(names) < 256)
-            names += [] if name in names else [name]
+        self.name(request.driver, self.drivers, MOST_DRIVERS)
+        self.name(self.options.listed(request.device) or "", self.devices, 2**64)
         self.requests.append(request)
         return request
 
-    def finish(self) -> list[Request]:
+    @staticmethod
+    def name(name: str, names: list[str], most: int) -> None:
+        must(name in names or len(names) < most)
+        names += [] if name in names else [name]
+
+    def priority(self, driver: str, by_class: int | None, by_direction: int) -> int:
+        """A driver's own priority, or else that by class, where there is one, or direction."""
+        own = [priority for name, priority in self.options.drivers if name == driver]
+        usual = {"by-class": by_direction if by_class is None else by_class, "by-direction": by_direction, "flat": 896}
+        return own[0] if own else usual[self.options.priorities]
+
+    def all(self) -> list[Request]:
         return self.requests
+
+    def finish(self) -> list[Request]:
+        """The requests at the times that are taken, by arrival, of the devices as which theirs are listed."""
+        found = sorted(self.all(), key=lambda request: request.arrival)
+        taken = [request for request in found if self.options.begin <= request.arrival < self.options.end]
+        for request in taken:
+            request.device = self.options.listed(request.device) or ""
+            request.retried = request.retried if request.retried is None or request.retried < self.options.end else None
+        self.counts["other_times"] = len(found) - len(taken)
+        self.counts["never_started"] = sum(request.started is None for request in taken)
+        for kind, names in ("device", self.devices), ("driver", self.drivers):
+            names[:] = [name for name in names if any(getattr(request, kind) == name for request in taken)]
+        if len(self.devices) > MOST_DEVICES:
+            raise Refused("camxpt: more than 32 devices: pick some by --device, or several as one\n")
+        return taken
 
 
 class Blkparse(Reader):
-    def __init__(self) -> None:
-        super().__init__()
+    def __init__(self, options: Options) -> None:
+        super().__init__(options)
         self.last = 0
         self.waiting: list[Request] = []
         self.running: list[Request] = []
@@ -107,8 +151,11 @@ class Blkparse(Reader):
             place, end = self.extent(rest)
         must(time >= self.last)
         self.last = time
-        if action not in IGNORED:
-            self.devices += [] if head[1] in self.devices else [head[1]]
+        listed = self.options.listed(head[1])
+        if action not in IGNORED and listed is None:
+            self.counts["other_devices"] += action == "Q"
+        elif action not in IGNORED and listed is not None:
+            self.name(listed, self.devices, 2**64)
             self.starts |= {head[1]} if action == "D" else set()
             self.counts["without_arrival"] += place == -1 and action != "Q"
             if place != -1:
@@ -125,7 +172,7 @@ class Blkparse(Reader):
         return {"(": (-1, 0), "[": (None, 0)}.get(kind) or (sector, sector + number(words[2]))
 
     @staticmethod
-    def priority(flags: str) -> int:
+    def by_direction(flags: str) -> int:
         if flags[0] in "RW" and "M" not in flags:
             if flags[0] == "R":
                 return 896 if "A" in flags else 640
@@ -134,7 +181,8 @@ class Blkparse(Reader):
 
     def apply(self, time: int, device: str, action: str, flags: str, place: int | None, end: int, process: str) -> None:
         if action == "Q":
-            self.waiting.append(self.add(Request(time, device, process, self.priority(flags), place=place)))
+            priority = self.priority(process, None, self.by_direction(flags))
+            self.waiting.append(self.add(Request(time, device, process, priority, place=place)))
             return
         if action == "F":
             behind = pick(self.waiting, device, end) if place is not None else None
@@ -151,7 +199,7 @@ class Blkparse(Reader):
             return
         request = pick(self.waiting if action == "D" else self.running, device, place)
         if request is not None and action == "D":
-            request.started = time
+            request.started, request.size = time, end - (place or 0)
             self.running.append(request)
         elif request is not None and action == "R":
             request.retried = time
@@ -163,17 +211,16 @@ class Blkparse(Reader):
                 ended.kept = False
                 self.ended.append(device)
 
-    def finish(self) -> list[Request]:
+    def all(self) -> list[Request]:
         idle = [r.device for r in self.requests if r.kept and r.device not in self.starts]
-        self.counts["devices_without_starts"] = len(set(self.devices) - self.starts)
         self.counts["requests_without_starts"] = len(idle) + sum(d not in self.starts for d in self.ended)
         self.counts["without_start"] = sum(d in self.starts for d in self.ended)
         return [r for r in self.requests if r.kept and r.device in self.starts]
 
 
 class Fio(Reader):
-    def __init__(self) -> None:
-        super().__init__()
+    def __init__(self, options: Options) -> None:
+        super().__init__(options)
         self.jobs: dict[str, list[tuple[tuple[int, ...], Request]]] = {}
         self.epochs: dict[str, int] = {}
         self.job, self.kind, self.clock = "", "none", 0
@@ -188,8 +235,7 @@ class Fio(Reader):
         if header and self.kind != "lat":
             self.counts["dropped_runs"] += self.kind != "begun"
             self.jobs[self.job], self.clock, self.kind = [], 0, header[1]
-            must(len(self.drivers) < 256 or self.job in self.drivers)
-            self.drivers += [] if self.job in self.drivers else [self.job]
+            self.name(self.job, self.drivers, MOST_DRIVERS)
         elif line and self.kind in "23":
             self.action(line.split())
         elif line:
@@ -202,9 +248,11 @@ class Fio(Reader):
         if name in ("read", "write", "trim"):
             must(len(words) == 4)
             way = ("read", "write", "trim").index(name)
-            request = Request(time, words[0], self.job, (640, 1152, 1279)[way])
-            self.jobs[self.job].append(((way, number(words[3]), number(words[2])), request))
-            self.devices += [] if words[0] in self.devices else [words[0]]
+            offset, size = number(words[2]), number(words[3])
+            request = Request(time, words[0], self.job, self.priority(self.job, None, (640, 1152, 1279)[way]), size=size)
+            self.jobs[self.job].append(((way, size, offset), request))
+            if self.options.listed(words[0]) is not None:
+                self.name(self.options.listed(words[0]) or "", self.devices, 2**64)
         elif name == "wait" and len(words) > 2:
             self.clock = number(str(self.clock + 1000 * number(words[2])))
         else:
@@ -220,30 +268,33 @@ class Fio(Reader):
         self.counts["without_partner"] += request is None
         if request is not None:
             request.kept, request.started = False, number(str(request.arrival + ns))
-            level, usual = 32 * (ioprio & 7), request.priority
-            classes = {1: level, 2: 768 + level, 3: 1024 + level}
-            request.priority = classes.get(ioprio >> 13 & 7, 896) if by_class else usual
+            level = 32 * (ioprio & 7)
+            by_level = {1: level, 2: 768 + level, 3: 1024 + level}.get(ioprio >> 13 & 7, 896) if by_class else None
+            request.priority = self.priority(self.job, by_level, request.priority)
             if ms >= 10**11 and request.started <= ms * 10**6 < 2**64:
                 epoch = ms * 10**6 - request.started
                 self.epochs[self.job] = min(epoch, self.epochs.get(self.job, epoch))
 
-    def finish(self) -> list[Request]:
+    def all(self) -> list[Request]:
         origin = min(self.epochs.values(), default=0)
         for job, pairs in self.jobs.items():
             shift = self.epochs.get(job, origin) - origin
             for _, request in pairs:
                 request.arrival += shift
                 request.started = None if request.started is None else request.started + shift
-        return [request for pairs in self.jobs.values() for _, request in pairs]
+        requests = [request for pairs in self.jobs.values() for _, request in pairs]
+        self.counts["other_devices"] = sum(self.options.listed(request.device) is None for request in requests)
+        return [request for request in requests if self.options.listed(request.device) is not None]
 
 
 class Csv(Reader):
-    def __init__(self, digits: int) -> None:
-        super().__init__()
+    def __init__(self, options: Options, digits: int) -> None:
+        super().__init__(options)
         self.digits, self.header = digits, [""][:0]
 
     def take(self, line: str) -> None:
         must(not line.strip(BLANKS) or "\r" not in line)
+        line = line.removeprefix("\ufeff")
         row = [cell.strip(BLANKS) for cell in next(csv.reader([line]), [])]
         if not line.strip(BLANKS) or not self.header:
             must(not line.strip(BLANKS) or NEEDED <= set(row) <= set(COLUMNS) and len(set(row)) == len(row))
@@ -253,55 +304,14 @@ class Csv(Reader):
         cells = dict(zip(self.header, row))
         arrival = time_of(cells["arrival"], self.digits)
         started, _ = (time_of(cells[n], self.digits) if cells.get(n) else None for n in ("start", "end"))
-        priority = number(cells.get("priority") or "896")
-        must(priority <= 1279 and (started is None or started >= arrival))
-        self.add(Request(arrival, cells["device"], cells.get("driver") or "driver", priority, started))
+        said, driver = number(cells.get("priority") or "896"), cells.get("driver") or "driver"
+        must(said <= 1279 and (started is None or started >= arrival))
+        if self.options.listed(cells["device"]) is None:
+            self.counts["other_devices"] += 1
+        else:
+            self.add(Request(arrival, cells["device"], driver, self.priority(driver, said, 896), started))
 
-    def finish(self) -> list[Request]:
-        must(bool(self.header))
+    def all(self) -> list[Request]:
+        if not self.header:
+            raise Refused("camxpt: a column is missing: arrival, start and device are needed\n")
         return self.requests
-
-
-def feed(reader: Reader, path: str, lenient: bool) -> None:
-    with open(path, encoding="utf-8", errors="replace", newline="\n") as lines:
-        for at, line in enumerate(lines):
-            reader.counts["lines"] += 1
-            try:
-                reader.take(line.removesuffix("\n").removesuffix("\r"))
-            except Refused:
-                if not lenient:
-                    raise Refused(f"line {at + 1}") from None
-                reader.counts["refused_lines"] += 1
-
-
-def show(reader: Reader, quiet: bool) -> None:
-    requests = sorted(reader.finish(), key=lambda r: r.arrival)
-    devices = [d for d in reader.devices if any(r.device == d for r in requests)]
-    drivers = [d for d in reader.drivers if any(r.driver == d for r in requests)]
-    must(len(devices) <= 32)
-    reader.counts["requests"] = len(requests)
-    reader.counts["never_started"] = sum(r.started is None for r in requests)
-    print("Counts { " + ", ".join(f"{name}: {reader.counts[name]}" for name in COUNTS) + " }")
-    print("".join([f"device {d}\n" for d in devices] + [f"driver {d}\n" for d in drivers]), end="")
-    for r in requests if not quiet else ():
-        times = ("None" if time is None else f"Some({time})" for time in (r.started, r.retried))
-        print(r.arrival, *times, devices.index(r.device), drivers.index(r.driver), r.priority)
-
-
-def main() -> None:
-    lenient, quiet, kind = sys.argv[1] == "lenient", sys.argv[2] == "quiet", sys.argv[3]
-    for files in [sys.argv[4:]] if kind == "fio" else [[path] for path in sys.argv[4:]]:
-        reader = Fio() if kind == "fio" else Blkparse() if kind == "blkparse" else Csv({"n": 0, "u": 3, "m": 6, "s": 9}[kind[4]])
-        try:
-            for path in files:
-                print(*[f"file {path}\n"][: kind != "fio"], end="")
-                if isinstance(reader, Fio):
-                    reader.begin_file(path)
-                feed(reader, path, lenient)
-            show(reader, quiet)
-        except Refused as fault:
-            print(fault)
-
-
-if __name__ == "__main__":
-    main()

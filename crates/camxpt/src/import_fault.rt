@@ -10,7 +10,7 @@ use std::{fmt, io};
 /// Why a capture isn't imported. Its text is the line on standard error, after the program's name and, of a file, the file's.
 #[derive(Clone, Copy)]
 pub enum ImportFault {
-    /// An option whose word hasn't its form, and which form that is.
+    /// An option whose word hasn't its form, or contradicts another one, and how.
     Word(&'static str),
     /// A file that can't be opened: its place among the files.
     CannotOpen(usize, io::Error),
@@ -22,7 +22,7 @@ pub enum ImportFault {
     Capture(CaptureFault),
     /// A round, in nanoseconds, that hides the waits: it is longer than the mean wait, which comes second.
     LongRound(u64, u64),
-    /// More adapters or devices than there may be.
+    /// More adapters than there may be.
     Config,
     /// A write failed.
     WriteFailed,
@@ -68,7 +68,9 @@ impl fmt::Display for ImportFault {
                 f,
                 "rounds of {round} ns hide the waits, which take {wait} ns on the average: take at most that, better half of it"
             ),
-            ImportFault::Config => f.write_str("too many devices on an adapter"),
+            ImportFault::Config => f.write_str(
+                "more than 8 adapters: devices without --host share one after the last that is given",
+            ),
             ImportFault::WriteFailed => f.write_str("write failed"),
             ImportFault::OutOfMemory => f.write_str("out of memory"),
         }

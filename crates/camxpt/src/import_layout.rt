@@ -4,28 +4,28 @@ ghost use Rattle.std.specs.Prelude.{◌≡◌, [], IfOk};
 ghost use Rattle.cam_types.specs.Topology.{Topology};
 
 use crate::import_fault::ImportFault;
-use crate::import_words::{host_of, rating_of};
+use crate::import_options::ImportOptions;
+use crate::import_words::{Host, value_of};
 use cam_types::{Adapter, Config, Device, standard_weights};
 use capture::Capture;
 use capture_file::Capture as Read;
-use clap::ArgMatches;
 use recording_file::{Name, NameKind};
 use std::alloc::{AllocError, Global};
 
 // The most openings of an adapter.
 const MOST: u32 = 255;
 
-/// The adapters that the words give their devices, and whether each takes what it is sent. Devices without an adapter share one
-/// after those that are given.
+/// The adapters that are given for devices, and whether each takes what it is sent. Devices without an adapter share one after
+/// those that are given.
 pub fn adapters_of(
     alloc: Global,
-    words: &ArgMatches<'_>,
+    hosts: &[(String, Host)],
     names: &[String],
-) -> Result<(Vec<Adapter>, Vec<bool>), ImportFault> {
+) -> Result<(Vec<Adapter>, Vec<bool>), AllocError> {
     let mut adapters = Vec::new(alloc);
     let mut open = Vec::new(alloc);
-    for number in 0..count_of(words, names)? {
-        let openings = openings_of(words, names, number)?;
+    for number in 0..count_of(hosts, names) {
+        let openings = openings_of(hosts, names, number);
         open.push(openings.is_none())?;
         adapters.push(Adapter {
             openings: openings.unwrap_or(MOST),
@@ -36,55 +36,48 @@ pub fn adapters_of(
 }
 
 // How many adapters there are.
-fn count_of(words: &ArgMatches<'_>, names: &[String]) -> Result<u32, ImportFault> {
+fn count_of(hosts: &[(String, Host)], names: &[String]) -> u32 {
     let mut given = 0u32;
     let mut shared = names.is_empty();
     for name in names {
-        match host_of(words, name)? {
-            Some((adapter, _)) => given = given.max(adapter.saturating_add(1)),
+        match value_of(hosts, name) {
+            Some(host) => given = given.max(host.adapter.saturating_add(1)),
             None => shared = true,
         }
     }
-    Ok(if shared {
+    if shared {
         given.saturating_add(1)
     } else {
         given
-    })
+    }
 }
 
 // The openings of an adapter, if they are given.
-fn openings_of(
-    words: &ArgMatches<'_>,
-    names: &[String],
-    number: u32,
-) -> Result<Option<u32>, ImportFault> {
+fn openings_of(hosts: &[(String, Host)], names: &[String], number: u32) -> Option<u32> {
     for name in names {
-        if let Some((adapter, openings)) = host_of(words, name)?
-            && adapter == number
+        if let Some(host) = value_of(hosts, name)
+            && host.adapter == number
         {
-            return Ok(Some(openings));
+            return Some(host.openings);
         }
     }
-    Ok(None)
+    None
 }
 
 /// The devices, each with the openings that are given or that it usually takes, and whether they were given.
 pub fn devices_of(
     alloc: Global,
-    words: &ArgMatches<'_>,
+    options: &ImportOptions,
     capture: &Capture,
     names: &[String],
-) -> Result<(Vec<Device>, Vec<bool>), ImportFault> {
-    let last = count_of(words, names)?.saturating_sub(1);
+) -> Result<(Vec<Device>, Vec<bool>), AllocError> {
+    let last = count_of(&options.hosts, names).saturating_sub(1);
     let mut devices = Vec::new(alloc);
     let mut rated = Vec::new(alloc);
     let mut number = 0u32;
     for name in names {
-        let adapter = match host_of(words, name)? {
-            Some((adapter, _)) => adapter,
-            None => last,
-        };
-        let rating = rating_of(words, name)?;
+        let adapter = value_of(&options.hosts, name).map_or(last, |host| host.adapter);
+        let rating = value_of(&options.ratings, name);
         rated.push(rating.is_some())?;
         let openings = match rating {
             Some(openings) => openings,

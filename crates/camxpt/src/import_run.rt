@@ -2,15 +2,15 @@
 
 use crate::import_fault::ImportFault;
 use crate::import_layout::{adapters_of, config_of, devices_of, names_of};
-use crate::import_words::{Kind, count, kind_of, options_of, round_of, word_at};
+use crate::import_options::ImportOptions;
+use crate::import_warnings::{tell_counts, warn_missing, warn_read, warn_recorded};
+use crate::import_words::{Kind, count, word_at};
 use crate::note::title;
 use crate::output::standard_output;
 use crate::source::STANDARD_INPUT;
-use cam_types::{Watched, standard_weights};
+use cam_types::Watched;
 use capture::{Capture, longest_round, span_nanoseconds, span_of, usual_round};
-use capture_file::{
-    BlkparseReader, Capture as Read, Counts, CsvReader, FioReader, LineReader, Options, read_lines,
-};
+use capture_file::{BlkparseReader, Capture as Read, CsvReader, FioReader, LineReader, read_lines};
 use clap::ArgMatches;
 use recording_file::{Recording, Span, TimeUnit, write_recording};
 use std::alloc::Global;
@@ -44,14 +44,14 @@ fn tell<R: Runtime + AllocGlobal>(rt: &R, words: &ArgMatches<'_>, fault: &Import
 }
 
 fn imported<R: Runtime + AllocGlobal>(rt: &R, words: &ArgMatches<'_>) -> Result<(), ImportFault> {
-    let kind = kind_of(words)?;
-    let round = round_of(words)?;
-    let options = options_of(rt.alloc(), words)?;
-    let read = read_all(rt, words, kind, options)?;
-    let round = round_for(rt.alloc(), round, &read)?;
-    let recording = recording_of(rt.alloc(), words, round, &read)?;
+    let options = ImportOptions::of(rt.alloc(), words)?;
+    let read = read_all(rt, words, &options)?;
+    warn_missing(rt, &options, &read);
+    let round = round_for(rt.alloc(), options.round, &read)?;
+    let recording = recording_of(rt.alloc(), &options, round, &read)?;
     tell_counts(rt, round, &recording, &read.counts);
-    warn(rt, round, &read);
+    warn_read(rt, round, &read);
+    warn_recorded(rt, &options, &read, &recording);
     let mut out = standard_output(rt);
     Ok(write_recording(rt.alloc(), &recording, &mut Watched::new(&mut out))?)
 }
@@ -60,25 +60,25 @@ fn imported<R: Runtime + AllocGlobal>(rt: &R, words: &ArgMatches<'_>) -> Result<
 fn read_all<R: Runtime + AllocGlobal>(
     rt: &R,
     words: &ArgMatches<'_>,
-    kind: Kind,
-    options: Options,
+    options: &ImportOptions,
 ) -> Result<Read, ImportFault> {
-    match kind {
+    let lenient = options.is_lenient;
+    match options.kind {
         Kind::Blkparse => {
-            let mut reader = BlkparseReader::new(rt.alloc(), options);
-            read_each(rt, words, &mut reader)?;
+            let mut reader = BlkparseReader::new(rt.alloc(), &options.taken);
+            read_each(rt, words, lenient, &mut reader)?;
             Ok(reader.finish()?)
         }
         Kind::Csv(unit) => {
-            let mut reader = CsvReader::new(rt.alloc(), options, unit);
-            read_each(rt, words, &mut reader)?;
+            let mut reader = CsvReader::new(rt.alloc(), &options.taken, unit);
+            read_each(rt, words, lenient, &mut reader)?;
             Ok(reader.finish()?)
         }
         Kind::Fio => {
-            let mut reader = FioReader::new(rt.alloc(), options);
+            let mut reader = FioReader::new(rt.alloc(), &options.taken);
             for place in 0..count(words, "FILE") {
                 reader.begin_file(word_at(words, "FILE", place))?;
-                read_file(rt, words, place, &mut reader)?;
+                read_file(rt, words, place, lenient, &mut reader)?;
             }
             Ok(reader.finish()?)
         }
@@ -88,10 +88,11 @@ fn read_all<R: Runtime + AllocGlobal>(
 fn read_each<R: Runtime + AllocGlobal, T: LineReader>(
     rt: &R,
     words: &ArgMatches<'_>,
+    lenient: bool,
     reader: &mut T,
 ) -> Result<(), ImportFault> {
     for place in 0..count(words, "FILE") {
-        read_file(rt, words, place, reader)?;
+        read_file(rt, words, place, lenient, reader)?;
     }
     Ok(())
 }
@@ -101,10 +102,10 @@ fn read_file<R: Runtime + AllocGlobal, T: LineReader>(
     rt: &R,
     words: &ArgMatches<'_>,
     place: usize,
+    lenient: bool,
     reader: &mut T,
 ) -> Result<(), ImportFault> {
     let name = word_at(words, "FILE", place);
-    let lenient = words.get_flag("lenient");
     let done = if name == STANDARD_INPUT {
         read_lines(rt.alloc(), &mut rt.reader(), lenient, reader)
     } else {
@@ -160,7 +161,7 @@ fn rounded_up(nanoseconds: u64, unit: u64) -> u64 {
 
 fn recording_of(
     alloc: Global,
-    words: &ArgMatches<'_>,
+    options: &ImportOptions,
     round: Span,
     read: &Read,
 ) -> Result<Recording, ImportFault> {
@@ -169,102 +170,9 @@ fn recording_of(
         ..round
     };
     let capture = Capture::of(alloc, round, &read.requests)?;
-    let (adapters, open) = adapters_of(alloc, words, &read.devices)?;
-    let (devices, rated) = devices_of(alloc, words, &capture, &read.devices)?;
+    let (adapters, open) = adapters_of(alloc, &options.hosts, &read.devices)?;
+    let (devices, rated) = devices_of(alloc, options, &capture, &read.devices)?;
     let config = config_of(alloc, &adapters, &devices)?;
     let names = names_of(alloc, read)?;
     Ok(capture.recording(alloc, &config, &rated, &open, names)?)
-}
-
-// Says what a round is, how many there are, and what was left out.
-fn tell_counts<R: Runtime>(rt: &R, round: Span, recording: &Recording, counts: &Counts) {
-    let _ = rt.eprintln(format_args!(
-        "camxpt: {} requests in {} rounds of {} {}",
-        recording.requests().len(),
-        recording.rounds(),
-        round.count,
-        unit_word(round.unit)
-    ));
-    for (count, what) in [
-        (counts.never_started, "requests that were never started"),
-        (
-            counts.without_arrival,
-            "events whose request arrived before the capture",
-        ),
-        (
-            counts.without_start,
-            "requests that ended and never started",
-        ),
-        (
-            counts.requests_without_starts,
-            "requests of devices without starts",
-        ),
-        (counts.refused_lines, "lines that were refused"),
-        (
-            counts.without_partner,
-            "records of latency without a request",
-        ),
-        (counts.dropped_runs, "earlier runs in a log"),
-    ] {
-        if count > 0 {
-            let _ = rt.eprintln(format_args!("camxpt: left out: {count} {what}"));
-        }
-    }
-}
-
-fn unit_word(unit: TimeUnit) -> &'static str {
-    match unit {
-        TimeUnit::Nanosecond => "ns",
-        TimeUnit::Microsecond => "us",
-        TimeUnit::Millisecond => "ms",
-        TimeUnit::Second => "s",
-    }
-}
-
-// Says what an engineer should beware of.
-fn warn<R: Runtime + AllocGlobal>(rt: &R, round: Span, read: &Read) {
-    if let Some(most) = longest_round(&read.requests)
-        && span_nanoseconds(round) > most
-    {
-        let _ = rt.eprintln(format_args!(
-            "camxpt: warning: a round is longer than half of the mean wait, {most} ns: shorter waits than a round are not seen"
-        ));
-    }
-    let mut number = 0u32;
-    for name in &read.devices {
-        if has_one_weight(read, number) {
-            tell_one_weight(rt, name);
-        }
-        number = number.saturating_add(1);
-    }
-}
-
-fn tell_one_weight<R: Runtime + AllocGlobal>(rt: &R, device: &str) {
-    if let Ok(name) = shown_name(rt.alloc(), device) {
-        let _ = rt.eprintln(format_args!(
-            "camxpt: warning: all requests of {name} weigh the same: little can be avoided there"
-        ));
-    }
-}
-
-// Whether all started requests of a device cost the same for a round of waiting.
-fn has_one_weight(read: &Read, device: u32) -> bool {
-    let mut first = None;
-    for request in &read.requests {
-        if request.device == device && request.started.is_some() {
-            let weight = weight_of(request.priority);
-            if *first.get_or_insert(weight) != weight {
-                return false;
-            }
-        }
-    }
-    first.is_some()
-}
-
-// What a round of waiting costs at a priority, by the standard weights.
-fn weight_of(priority: u32) -> u32 {
-    standard_weights()
-        .iter()
-        .find(|row| priority <= row.last)
-        .map_or(0, |row| row.weight)
 }

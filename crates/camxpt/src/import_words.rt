@@ -1,8 +1,8 @@
-//! What the words of `import` ask for.
+//! The words of `import`, one by one.
 
 use crate::import_fault::ImportFault;
 use cam_types::MOST_PRIORITY;
-use capture_file::{Options, Priorities, TimeUnit as CsvUnit};
+use capture_file::{DevicePick, Priorities, TimeUnit as CsvUnit};
 use clap::ArgMatches;
 use recording_file::{Span, TimeUnit};
 use std::alloc::{AllocError, Global};
@@ -24,12 +24,20 @@ pub enum Kind {
     Csv(CsvUnit),
 }
 
+/// The adapter of a device, from 0 on, and how many requests that adapter takes in a round.
+#[derive(Clone, Copy)]
+pub struct Host {
+    pub adapter: u32,
+    pub openings: u32,
+}
+
 /// What kind of text the files are, by the words after `--from` and `--unit`. CSV has seconds if no unit is given.
 pub fn kind_of(words: &ArgMatches<'_>) -> Result<Kind, ImportFault> {
+    let unit = unit_of(words)?;
     match words.get_str("from") {
         Some("blkparse") => Ok(Kind::Blkparse),
         Some("fio") => Ok(Kind::Fio),
-        Some("csv") => Ok(Kind::Csv(unit_of(words)?)),
+        Some("csv") => Ok(Kind::Csv(unit)),
         _ => Err(ImportFault::Word("--from takes blkparse, fio or csv")),
     }
 }
@@ -73,19 +81,8 @@ fn span(word: &str) -> Option<Span> {
     }
 }
 
-/// Which requests are taken, and with which priorities.
-pub fn options_of(alloc: Global, words: &ArgMatches<'_>) -> Result<Options, ImportFault> {
-    Ok(Options {
-        priorities: priorities_of(words)?,
-        drivers: drivers_of(alloc, words)?,
-        devices: devices_of(alloc, words)?,
-        one_device: None,
-        from_time: time_of(words, "from-time")?,
-        to_time: time_of(words, "to-time")?,
-    })
-}
-
-fn priorities_of(words: &ArgMatches<'_>) -> Result<Priorities, ImportFault> {
+/// Where priorities come from.
+pub fn priorities_of(words: &ArgMatches<'_>) -> Result<Priorities, ImportFault> {
     match words.get_str("priority") {
         None | Some("by-class") => Ok(Priorities::Class),
         Some("by-direction") => Ok(Priorities::Direction),
@@ -94,22 +91,112 @@ fn priorities_of(words: &ArgMatches<'_>) -> Result<Priorities, ImportFault> {
     }
 }
 
-fn drivers_of(alloc: Global, words: &ArgMatches<'_>) -> Result<Vec<(String, u32)>, ImportFault> {
+/// The drivers with a priority of their own.
+pub fn drivers_of(
+    alloc: Global,
+    words: &ArgMatches<'_>,
+) -> Result<Vec<(String, u32)>, ImportFault> {
     let mut drivers = Vec::new(alloc);
     for place in 0..count(words, "driver") {
-        let word = word_at(words, "driver", place);
-        let (name, priority) = named_number(word, MOST_PRIORITY, DRIVER)?;
+        let (name, priority) = named_number(
+            word_at(words, "driver", place),
+            MOST_PRIORITY,
+            DRIVER,
+        )?;
+        if value_of(&drivers, name).is_some() {
+            return Err(ImportFault::Word("--driver names a driver twice"));
+        }
         drivers.push((String::from_str(alloc, name)?, priority))?;
     }
     Ok(drivers)
 }
 
-fn devices_of(alloc: Global, words: &ArgMatches<'_>) -> Result<Vec<String>, AllocError> {
-    let mut names = Vec::new(alloc);
+/// The devices that are taken: with an equals sign those that match a pattern, as one device; else one by its name.
+pub fn picks_of(alloc: Global, words: &ArgMatches<'_>) -> Result<Vec<DevicePick>, ImportFault> {
+    let mut picks = Vec::new(alloc);
     for place in 0..count(words, "device") {
-        names.push(String::from_str(alloc, word_at(words, "device", place))?)?;
+        picks.push(pick_of(alloc, word_at(words, "device", place))?)?;
     }
-    Ok(names)
+    Ok(picks)
+}
+
+fn pick_of(alloc: Global, word: &str) -> Result<DevicePick, ImportFault> {
+    match word.rsplit_once('=') {
+        None => Ok(DevicePick::Name(String::from_str(alloc, word)?)),
+        Some((_, "")) => Err(ImportFault::Word("--device takes NAME or PATTERN=NAME")),
+        Some((pattern, name)) => Ok(DevicePick::Pattern {
+            pattern: String::from_str(alloc, pattern)?,
+            name: String::from_str(alloc, name)?,
+        }),
+    }
+}
+
+/// The devices whose adapters are given.
+pub fn hosts_of(alloc: Global, words: &ArgMatches<'_>) -> Result<Vec<(String, Host)>, ImportFault> {
+    let mut hosts = Vec::new(alloc);
+    for place in 0..count(words, "host") {
+        let (name, host) = host_in(word_at(words, "host", place))?;
+        check_host(&hosts, name, host)?;
+        hosts.push((String::from_str(alloc, name)?, host))?;
+    }
+    Ok(hosts)
+}
+
+// A device has one adapter, and an adapter one number of openings.
+fn check_host(hosts: &[(String, Host)], name: &str, host: Host) -> Result<(), ImportFault> {
+    if value_of(hosts, name).is_some() {
+        return Err(ImportFault::Word("--host names a device twice"));
+    }
+    for (_, other) in hosts {
+        if other.adapter == host.adapter && other.openings != host.openings {
+            return Err(ImportFault::Word("--host gives an adapter two numbers of openings"));
+        }
+    }
+    Ok(())
+}
+
+// A device with its adapter and that one's openings.
+fn host_in(word: &str) -> Result<(&str, Host), ImportFault> {
+    if let Some((name, rest)) = word.rsplit_once('=')
+        && let Some((adapter, openings)) = rest.split_once(':')
+        && let (Ok(adapter), Ok(openings)) = (adapter.parse::<u32>(), openings.parse::<u32>())
+        && adapter < 8
+        && openings > 0
+        && openings < 256
+    {
+        Ok((name, Host { adapter, openings }))
+    } else {
+        Err(ImportFault::Word(HOST))
+    }
+}
+
+/// The devices that are rated at a number of openings.
+pub fn ratings_of(
+    alloc: Global,
+    words: &ArgMatches<'_>,
+) -> Result<Vec<(String, u32)>, ImportFault> {
+    let mut ratings = Vec::new(alloc);
+    for place in 0..count(words, "rated") {
+        let (name, openings) = named_number(word_at(words, "rated", place), 255, RATED)?;
+        if openings == 0 {
+            return Err(ImportFault::Word(RATED));
+        }
+        if value_of(&ratings, name).is_some() {
+            return Err(ImportFault::Word("--rated names a device twice"));
+        }
+        ratings.push((String::from_str(alloc, name)?, openings))?;
+    }
+    Ok(ratings)
+}
+
+/// What a list has for a name.
+pub fn value_of<T: Copy>(list: &[(String, T)], name: &str) -> Option<T> {
+    for (other, value) in list {
+        if other.as_str() == name {
+            return Some(*value);
+        }
+    }
+    None
 }
 
 /// How many words are given for an argument that may be given several times.
@@ -143,54 +230,13 @@ fn named_number<'a>(
     }
 }
 
-// A time in seconds, which may have a fraction, in nanoseconds.
-fn time_of(words: &ArgMatches<'_>, id: &str) -> Result<Option<u64>, ImportFault> {
+/// A time in seconds, which may have a fraction, in nanoseconds.
+pub fn time_of(words: &ArgMatches<'_>, id: &str) -> Result<Option<u64>, ImportFault> {
     match words.get_str(id) {
         None => Ok(None),
         Some(word) => match capture_file::time_of(word.as_bytes(), CsvUnit::Seconds.nanoseconds()) {
             Some(time) => Ok(Some(time)),
             None => Err(ImportFault::Word("--from-time and --to-time take seconds, as 1.5")),
         },
-    }
-}
-
-/// What a device is rated at, if that is given.
-pub fn rating_of(words: &ArgMatches<'_>, device: &str) -> Result<Option<u32>, ImportFault> {
-    for place in 0..count(words, "rated") {
-        let word = word_at(words, "rated", place);
-        let (name, openings) = named_number(word, 255, RATED)?;
-        if openings == 0 {
-            return Err(ImportFault::Word(RATED));
-        }
-        if name == device {
-            return Ok(Some(openings));
-        }
-    }
-    Ok(None)
-}
-
-/// The adapter of a device, and how many openings it has in a round, if that is given.
-pub fn host_of(words: &ArgMatches<'_>, device: &str) -> Result<Option<(u32, u32)>, ImportFault> {
-    for place in 0..count(words, "host") {
-        let (name, host) = host_in(word_at(words, "host", place))?;
-        if name == device {
-            return Ok(Some(host));
-        }
-    }
-    Ok(None)
-}
-
-// A device with its adapter and that one's openings.
-fn host_in(word: &str) -> Result<(&str, (u32, u32)), ImportFault> {
-    if let Some((name, rest)) = word.rsplit_once('=')
-        && let Some((adapter, openings)) = rest.split_once(':')
-        && let (Ok(adapter), Ok(openings)) = (adapter.parse::<u32>(), openings.parse::<u32>())
-        && adapter < 8
-        && openings > 0
-        && openings < 256
-    {
-        Ok((name, (adapter, openings)))
-    } else {
-        Err(ImportFault::Word(HOST))
     }
 }

@@ -128,8 +128,8 @@ impl Word {
             Word::Device => several(
                 alloc,
                 "device",
-                "NAME",
-                "A device whose requests are taken; all if none is named",
+                "PICK",
+                "A device to take, or PATTERN=NAME for all that match, as one; * stands for any characters; all if it is left out",
             ),
             Word::Host => several(
                 alloc,

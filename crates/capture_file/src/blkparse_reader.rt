@@ -9,11 +9,14 @@ use crate::line_reader::LineReader;
 use crate::names::Names;
 use crate::options::{Options, Priorities};
 use crate::priority::{USUAL, flags_priority};
+use crate::sizes::Sizes;
 use capture::TimedRequest;
 use std::alloc::{AllocError, Global};
 
-#[derive(Clone, Copy, Default)]
-struct DeviceCounts {
+// A device by its own name: the number of the one as which it is listed, and what was counted.
+#[derive(Clone, Copy)]
+struct OwnDevice {
+    listed: u32,
     starts: u64,
     ends_without_start: u64,
 }
@@ -25,27 +28,31 @@ struct DeviceCounts {
 /// (`R`), its next attempt is a request that arrives then. Of several requests of one place the first one that waits starts
 /// first. Commands of `SG_IO` have no arrival. The text has no I/O classes, so priorities go by direction.
 #[derive(Drop)]
-pub struct BlkparseReader {
+pub struct BlkparseReader<'a> {
     alloc: Global,
-    options: Options,
-    devices: Names,
-    per_device: Vec<DeviceCounts>,
+    options: &'a Options,
+    listed: Names,
+    own_names: Names,
+    own: Vec<OwnDevice>,
     drivers: Drivers,
     requests: Requests,
+    sizes: Sizes,
     last_time: u64,
     counts: Counts,
 }
 
-impl BlkparseReader {
+impl<'a> BlkparseReader<'a> {
     /// A reader that has no lines yet.
-    pub fn new(alloc: Global, options: Options) -> BlkparseReader {
+    pub fn new(alloc: Global, options: &'a Options) -> BlkparseReader<'a> {
         BlkparseReader {
             alloc,
             options,
-            devices: Names::new(alloc),
-            per_device: Vec::new(alloc),
+            listed: Names::new(alloc),
+            own_names: Names::new(alloc),
+            own: Vec::new(alloc),
             drivers: Drivers::new(alloc),
             requests: Requests::new(alloc),
+            sizes: Sizes::new(alloc),
             last_time: 0,
             counts: Counts::default(),
         }
@@ -61,34 +68,34 @@ impl BlkparseReader {
     }
 
     fn capture(&self) -> Result<Capture, LineFault> {
-        let mut counts = counts_with(self.counts, &self.per_device);
+        let mut counts = counts_with(self.counts, &self.own);
         let found = self.requests.found();
-        let requests = with_starts(self.alloc, found, &self.per_device, &mut counts)?;
+        let requests = with_starts(self.alloc, found, &self.own, &mut counts)?;
         capture_of(
             self.alloc,
-            &self.options,
+            self.options,
             requests,
-            self.devices.list(),
+            self.listed.list(),
             self.drivers.list(),
+            &self.sizes,
             counts,
         )
     }
 
     fn apply(&mut self, time: u64, event: RequestEvent<'_>) -> Result<(), LineFault> {
-        let device = self.device(event.device)?;
+        let Some(device) = self.device(event.device)? else {
+            self.pass_other(event.action);
+            return Ok(());
+        };
         match event.extent {
             Extent::Command => Ok(self.pass_command(device, event.action)),
             Extent::Flush => {
                 let sector = None;
-                self.apply_at(time, Place { device, sector }, None, event)
+                self.apply_at(time, Place { device, sector }, 0, event)
             },
             Extent::Sectors(sector, sectors) => {
-                let behind = sector.checked_add(sectors).map(|end| Place {
-                    device,
-                    sector: Some(end),
-                });
                 let sector = Some(sector);
-                self.apply_at(time, Place { device, sector }, behind, event)
+                self.apply_at(time, Place { device, sector }, sectors, event)
             }
         }
     }
@@ -97,35 +104,58 @@ impl BlkparseReader {
         &mut self,
         time: u64,
         place: Place,
-        behind: Option<Place>,
+        sectors: u64,
         event: RequestEvent<'_>,
     ) -> Result<(), LineFault> {
         if event.action == Action::Arrives {
             return self.arrive(time, place, event);
         }
         if event.action == Action::Starts {
-            count_start(&mut self.per_device, place.device);
+            count_start(&mut self.own, place.device);
         }
+        let behind = place.after(sectors);
         let outcome = self.requests.act(event.action, place, behind, time)?;
-        self.count(outcome, place.device);
-        Ok(())
+        self.count(outcome, place.device, sectors)
     }
 
-    fn device(&mut self, name: &[u8]) -> Result<usize, LineFault> {
-        let name = self.options.listed_device(name);
-        match self.devices.number_of(name) {
-            Some(number) => Ok(number),
-            None => {
-                self.per_device.push(DeviceCounts::default())?;
-                Ok(self.devices.add(name)?)
-            }
+    // The number of a device among those of its kind of name. None: it isn't taken.
+    fn device(&mut self, name: &[u8]) -> Result<Option<usize>, LineFault> {
+        if let Some(number) = self.own_names.number_of(name) {
+            return Ok(Some(number));
+        }
+        match self.options.listed_device(name) {
+            None => Ok(None),
+            Some(listed) => Ok(Some(self.add_device(name, listed)?)),
+        }
+    }
+
+    fn add_device(&mut self, name: &[u8], listed: &[u8]) -> Result<usize, LineFault> {
+        let number = match self.listed.number_of(listed) {
+            Some(number) => number,
+            None => self.listed.add(listed)?,
+        };
+        let Ok(listed) = u32::try_from(number) else {
+            return Err(LineFault::TooManyDevices);
+        };
+        self.own.push(OwnDevice {
+            listed,
+            starts: 0,
+            ends_without_start: 0,
+        })?;
+        Ok(self.own_names.add(name)?)
+    }
+
+    // An event of a device that isn't taken.
+    fn pass_other(&mut self, action: Action) {
+        if action == Action::Arrives {
+            self.counts.other_devices = self.counts.other_devices.saturating_add(1);
         }
     }
 
     // A command of `SG_IO` has no arrival.
     fn pass_command(&mut self, device: usize, action: Action) {
         if action == Action::Starts {
-            count_start(&mut self.per_device, device);
+            count_start(&mut self.own, device);
         }
         if action != Action::Arrives {
             self.count_stray();
@@ -138,7 +168,7 @@ impl BlkparseReader {
         place: Place,
         event: RequestEvent<'_>,
     ) -> Result<(), LineFault> {
-        let (driver, own) = self.drivers.number(&self.options, event.process)?;
+        let (driver, own) = self.drivers.number(self.options, event.process)?;
         let Ok(device) = u32::try_from(place.device) else {
             return Err(LineFault::TooManyDevices);
         };
@@ -154,11 +184,21 @@ impl BlkparseReader {
         Ok(self.requests.arrive(place, request)?)
     }
 
-    fn count(&mut self, outcome: Outcome, device: usize) {
+    fn count(&mut self, outcome: Outcome, device: usize, sectors: u64) -> Result<(), LineFault> {
         match outcome {
-            Outcome::Known => {}
-            Outcome::Stray => self.count_stray(),
-            Outcome::EndedUnstarted => count_end(&mut self.per_device, device),
+            Outcome::Known => Ok(()),
+            Outcome::Started(arrival) => Ok(self.count_size(arrival, device, sectors)?),
+            Outcome::Stray => Ok(self.count_stray()),
+            Outcome::EndedUnstarted => Ok(count_end(&mut self.own, device)),
+        }
+    }
+
+    fn count_size(&mut self, arrival: u64, device: usize, sectors: u64) -> Result<(), AllocError> {
+        match self.own.get(device) {
+            Some(device) if self.options.takes_time(arrival) => {
+                self.sizes.add(device.listed, sectors)
+            }
+            _ => Ok(()),
         }
     }
 
@@ -167,7 +207,7 @@ impl BlkparseReader {
     }
 }
 
-impl LineReader for BlkparseReader {
+impl LineReader for BlkparseReader<'_> {
     /// Takes a line. Blank lines, statistics and devices that aren't taken are passed over.
     ///
     /// # Errors
@@ -185,10 +225,7 @@ impl LineReader for BlkparseReader {
         let Some(request) = event.request else {
             return Ok(());
         };
-        if self.options.takes_device(request.device) {
-            self.apply(event.time, request)?;
-        }
-        Ok(())
+        self.apply(event.time, request)
     }
 
     fn count_refused(&mut self) {
@@ -203,47 +240,50 @@ fn usual_priority(priorities: Priorities, flags: &[u8]) -> u32 {
     }
 }
 
-fn count_start(per_device: &mut Vec<DeviceCounts>, device: usize) {
-    if let Some(device) = per_device.get_mut(device) {
+fn count_start(own: &mut Vec<OwnDevice>, device: usize) {
+    if let Some(device) = own.get_mut(device) {
         device.starts = device.starts.saturating_add(1);
     }
 }
 
-fn count_end(per_device: &mut Vec<DeviceCounts>, device: usize) {
-    if let Some(device) = per_device.get_mut(device) {
+fn count_end(own: &mut Vec<OwnDevice>, device: usize) {
+    if let Some(device) = own.get_mut(device) {
         device.ends_without_start = device.ends_without_start.saturating_add(1);
     }
 }
 
-// The requests of devices that have starts. The others are counted.
+// The requests of devices that have starts, as those of the devices as which these are listed. The others are counted.
 fn with_starts(
     alloc: Global,
     found: &[Option<TimedRequest>],
-    per_device: &[DeviceCounts],
+    own: &[OwnDevice],
     counts: &mut Counts,
 ) -> Result<Vec<TimedRequest>, AllocError> {
     let mut requests = Vec::new(alloc);
     for request in found {
         if let Some(request) = request {
-            if has_starts(per_device, request.device) {
-                requests.push(*request)?;
-            } else {
-                counts.requests_without_starts = counts.requests_without_starts.saturating_add(1);
+            match listed_with_starts(own, request.device) {
+                Some(device) => requests.push(TimedRequest { device, ..*request })?,
+                None => {
+                    counts.requests_without_starts = counts
+                        .requests_without_starts
+                        .saturating_add(1);
+                }
             }
         }
     }
     Ok(requests)
 }
 
-fn counts_with(counts: Counts, per_device: &[DeviceCounts]) -> Counts {
+fn counts_with(counts: Counts, own: &[OwnDevice]) -> Counts {
     let mut counts = counts;
-    for device in per_device {
+    for device in own {
         count_device(&mut counts, *device);
     }
     counts
 }
 
-fn count_device(counts: &mut Counts, device: DeviceCounts) {
+fn count_device(counts: &mut Counts, device: OwnDevice) {
     let ends = device.ends_without_start;
     if device.starts > 0 {
         counts.without_start = counts.without_start.saturating_add(ends);
@@ -253,9 +293,10 @@ fn count_device(counts: &mut Counts, device: DeviceCounts) {
     }
 }
 
-fn has_starts(per_device: &[DeviceCounts], device: u32) -> bool {
-    match per_device.get(device as usize) {
-        None => false,
-        Some(device) => device.starts > 0,
+// The number by which a device is listed, if it has starts.
+fn listed_with_starts(own: &[OwnDevice], device: u32) -> Option<u32> {
+    match own.get(device as usize) {
+        Some(device) if device.starts > 0 => Some(device.listed),
+        _ => None,
     }
 }

@@ -12,11 +12,24 @@ pub struct Place {
     pub sector: Option<u64>,
 }
 
+impl Place {
+    /// The place so many sectors on. None if there is no sector of that number.
+    pub fn after(self, sectors: u64) -> Option<Place> {
+        let sector = self.sector?.checked_add(sectors)?;
+        Some(Place {
+            sector: Some(sector),
+            ..self
+        })
+    }
+}
+
 /// What became of an event.
 #[derive(Clone, Copy)]
 pub enum Outcome {
     /// It is of a request that is known.
     Known,
+    /// It started the request that arrived then.
+    Started(u64),
     /// It is of none.
     Stray,
     /// It ended a request that wasn't started.
@@ -94,11 +107,14 @@ impl Requests {
         let Some(slot) = self.waiting.pop(&place) else {
             return Ok(Outcome::Stray);
         };
-        if let Some(Some(request)) = self.found.get_mut(slot) {
-            request.started = Some(time);
-        }
         self.started.push(place, slot)?;
-        Ok(Outcome::Known)
+        match self.found.get_mut(slot) {
+            Some(Some(request)) => {
+                request.started = Some(time);
+                Ok(Outcome::Started(request.arrival))
+            }
+            _ => Ok(Outcome::Known),
+        }
     }
 
     fn put_back(&mut self, place: Place, time: u64) -> Result<Outcome, AllocError> {

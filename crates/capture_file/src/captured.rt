@@ -12,6 +12,9 @@ pub struct Capture {
     pub devices: Vec<String>,
     /// The drivers that have requests, in the order in which the input names them: processes or jobs. At most 256.
     pub drivers: Vec<String>,
+    /// Of each device, whether its started requests differ much in size: the largest is more than 16 times as large as the lower
+    /// median. CSV has no sizes.
+    pub uneven: Vec<bool>,
     /// What was read and what was left out.
     pub counts: Counts,
 }
@@ -27,6 +30,10 @@ pub struct Counts {
     pub never_started: u64,
     /// Starts, completions and requeues whose arrival isn't in the input: it began late.
     pub without_arrival: u64,
+    /// Arrivals at devices that aren't taken.
+    pub other_devices: u64,
+    /// Requests that arrive outside the times that are taken.
+    pub other_times: u64,
     /// Requests that were completed with no start in the input, on devices that have starts. They are left out.
     pub without_start: u64,
     /// Devices where nothing was started (dm, md). They are left out.

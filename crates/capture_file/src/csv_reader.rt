@@ -9,9 +9,13 @@ use crate::line_reader::LineReader;
 use crate::names::Names;
 use crate::options::{Options, Priorities, TimeUnit};
 use crate::priority::USUAL;
+use crate::sizes::Sizes;
 use capture::TimedRequest;
 use csv::{ByteRecord, ReaderBuilder};
-use std::alloc::Global;
+use std::alloc::{AllocError, Global};
+
+// With it some programs begin a text of UTF-8.
+const BYTE_ORDER_MARK: &[u8] = b"\xef\xbb\xbf";
 
 /// Reads a CSV file, line by line: a header, then a request in each line.
 ///
@@ -20,9 +24,9 @@ use std::alloc::Global;
 /// dropped. A request with an empty start was never started. `end` may be empty and isn't used. With no driver a request is of
 /// the driver `driver`, with no priority it is as best effort of level 4. No field has an end of a line.
 #[derive(Drop)]
-pub struct CsvReader {
+pub struct CsvReader<'a> {
     alloc: Global,
-    options: Options,
+    options: &'a Options,
     unit: TimeUnit,
     columns: Option<Columns>,
     devices: Names,
@@ -31,9 +35,9 @@ pub struct CsvReader {
     counts: Counts,
 }
 
-impl CsvReader {
+impl<'a> CsvReader<'a> {
     /// A reader that has no lines yet. The times are of that unit.
-    pub fn new(alloc: Global, options: Options, unit: TimeUnit) -> CsvReader {
+    pub fn new(alloc: Global, options: &'a Options, unit: TimeUnit) -> CsvReader<'a> {
         CsvReader {
             alloc,
             options,
@@ -59,25 +63,29 @@ impl CsvReader {
         let requests = self.requests;
         capture_of(
             self.alloc,
-            &self.options,
+            self.options,
             requests,
             self.devices.list(),
             self.drivers.list(),
+            &Sizes::new(self.alloc),
             self.counts,
         )
     }
 
     fn request(&mut self, columns: Columns, row: &ByteRecord) -> Result<(), LineFault> {
         let row = csv_row(self.unit.nanoseconds(), columns, row)?;
-        if !self.options.takes_device(row.device) {
-            return Ok(());
+        match self.options.listed_device(row.device) {
+            Some(device) => self.add(row, device),
+            None => {
+                self.counts.other_devices = self.counts.other_devices.saturating_add(1);
+                Ok(())
+            }
         }
-        self.add(row)
     }
 
-    fn add(&mut self, row: CsvRow<'_>) -> Result<(), LineFault> {
-        let (driver, own) = self.drivers.number(&self.options, row.driver)?;
-        let device = self.device(row.device)?;
+    fn add(&mut self, row: CsvRow<'_>, device: &[u8]) -> Result<(), LineFault> {
+        let (driver, own) = self.drivers.number(self.options, row.driver)?;
+        let device = self.device(device)?;
         let priority = own.unwrap_or(usual_priority(self.options.priorities, row.priority));
         self.requests.push(TimedRequest {
             arrival: row.arrival,
@@ -91,7 +99,6 @@ impl CsvReader {
     }
 
     fn device(&mut self, name: &[u8]) -> Result<u32, LineFault> {
-        let name = self.options.listed_device(name);
         let number = match self.devices.number_of(name) {
             Some(number) => number,
             None => self.devices.add(name)?,
@@ -100,7 +107,7 @@ impl CsvReader {
     }
 }
 
-impl LineReader for CsvReader {
+impl LineReader for CsvReader<'_> {
     /// Takes a line. Blank lines are passed over; the first other one is the header.
     ///
     /// # Errors
@@ -130,8 +137,30 @@ impl LineReader for CsvReader {
     }
 }
 
-// A reader over a slice fails only where there is no memory.
 fn row_of(alloc: Global, line: &[u8]) -> Result<ByteRecord, LineFault> {
+    if is_plain(line) {
+        Ok(plain_row(alloc, line)?)
+    } else {
+        quoted_row(alloc, line)
+    }
+}
+
+// Whether a line has no quote and no byte order mark: then commas alone part its fields.
+fn is_plain(line: &[u8]) -> bool {
+    !line.contains(&b'"') && !line.starts_with(BYTE_ORDER_MARK)
+}
+
+fn plain_row(alloc: Global, line: &[u8]) -> Result<ByteRecord, AllocError> {
+    let mut row = ByteRecord::new(alloc);
+    for field in line.split(|byte| *byte == b',') {
+        row.push_field(field)?;
+    }
+    Ok(row)
+}
+
+// A reader takes longer to make than a line to read, so only such lines get one. Over a slice it fails only where there is no
+// memory.
+fn quoted_row(alloc: Global, line: &[u8]) -> Result<ByteRecord, LineFault> {
     let mut reader = ReaderBuilder::new()
         .has_headers(false)
         .flexible(true)

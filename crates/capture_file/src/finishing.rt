@@ -4,6 +4,7 @@ use crate::captured::{Capture, Counts};
 use crate::line_fault::LineFault;
 use crate::names::Names;
 use crate::options::Options;
+use crate::sizes::Sizes;
 use capture::TimedRequest;
 use std::alloc::{AllocError, Global};
 
@@ -61,9 +62,12 @@ pub fn capture_of(
     mut requests: Vec<TimedRequest>,
     devices: &[Vec<u8>],
     drivers: &[Vec<u8>],
+    sizes: &Sizes,
     mut counts: Counts,
 ) -> Result<Capture, LineFault> {
+    let before = requests.len();
     requests.retain(|request| options.takes_time(request.arrival));
+    counts.other_times = before.saturating_sub(requests.len()) as u64;
     requests.sort_by_key(|request| request.arrival)?;
     let (used_devices, used_drivers) = used_numbers(
         alloc,
@@ -86,6 +90,7 @@ pub fn capture_of(
         requests,
         devices,
         drivers: used_names(alloc, drivers, &used_drivers)?,
+        uneven: uneven_devices(alloc, &used_devices, sizes)?,
         counts,
     })
 }
@@ -144,6 +149,19 @@ fn count_requests(counts: &mut Counts, requests: &[TimedRequest]) {
             counts.never_started = counts.never_started.saturating_add(1);
         }
     }
+}
+
+// Of each device that has requests, whether they differ much in size.
+fn uneven_devices(alloc: Global, used: &[bool], sizes: &Sizes) -> Result<Vec<bool>, AllocError> {
+    let mut list = Vec::new(alloc);
+    let mut number: u32 = 0;
+    for used in used {
+        if *used {
+            list.push(sizes.are_uneven(number))?;
+        }
+        number = number.saturating_add(1);
+    }
+    Ok(list)
 }
 
 fn used_names(alloc: Global, names: &[Vec<u8>], used: &[bool]) -> Result<Vec<String>, AllocError> {

@@ -14,6 +14,7 @@ const FIRST_EPOCH_MILLISECOND: u64 = 100_000_000_000;
 #[derive(Clone, Copy)]
 pub struct JobRequest {
     pub request: TimedRequest,
+    pub bytes: u64,
     pub is_taken: bool,
 }
 
@@ -83,6 +84,7 @@ impl Job {
                 device: device.unwrap_or(0),
                 priority,
             },
+            bytes: piece.bytes,
             is_taken: device.is_some(),
         })?;
         self.waiting.push(piece, slot)

@@ -11,6 +11,7 @@ use crate::line_reader::LineReader;
 use crate::names::Names;
 use crate::options::{Options, Priorities};
 use crate::priority::class_priority;
+use crate::sizes::Sizes;
 use capture::TimedRequest;
 use std::alloc::{AllocError, Global};
 
@@ -31,9 +32,9 @@ enum FileKind {
 /// request's start is its completion, and one without a record never started. If the records have milliseconds since 1970
 /// (`log_unix_epoch=1`), those jobs are aligned by them to about a millisecond, the earliest at 0.
 #[derive(Drop)]
-pub struct FioReader {
+pub struct FioReader<'a> {
     alloc: Global,
-    options: Options,
+    options: &'a Options,
     devices: Names,
     drivers: Drivers,
     job_names: Names,
@@ -42,9 +43,9 @@ pub struct FioReader {
     counts: Counts,
 }
 
-impl FioReader {
+impl<'a> FioReader<'a> {
     /// A reader that has no files yet.
-    pub fn new(alloc: Global, options: Options) -> FioReader {
+    pub fn new(alloc: Global, options: &'a Options) -> FioReader<'a> {
         FioReader {
             alloc,
             options,
@@ -86,13 +87,17 @@ impl FioReader {
 
     fn capture(&self) -> Result<Capture, LineFault> {
         let requests = all_requests(self.alloc, &self.jobs)?;
+        let sizes = all_sizes(self.alloc, self.options, &self.jobs)?;
+        let mut counts = self.counts;
+        counts.other_devices = not_taken(&self.jobs);
         capture_of(
             self.alloc,
-            &self.options,
+            self.options,
             requests,
             self.devices.list(),
             self.drivers.list(),
-            self.counts,
+            &sizes,
+            counts,
         )
     }
 
@@ -112,7 +117,7 @@ impl FioReader {
 
     fn begin_iolog(&mut self, number: usize, version: IologVersion) -> Result<(), LineFault> {
         let name = self.job_names.list().get(number).ok_or(LineFault::NoFile)?;
-        let (driver, own) = self.drivers.number(&self.options, name.as_slice())?;
+        let (driver, own) = self.drivers.number(self.options, name.as_slice())?;
         if let Some(job) = self.jobs.get_mut(number) {
             *job = Some(Job::new(self.alloc, driver, own));
         }
@@ -153,15 +158,13 @@ impl FioReader {
 
     // None: it isn't taken.
     fn taken_device(&mut self, file: &[u8]) -> Result<Option<u32>, LineFault> {
-        if self.options.takes_device(file) {
-            Ok(Some(self.device(file)?))
-        } else {
-            Ok(None)
+        match self.options.listed_device(file) {
+            Some(name) => Ok(Some(self.device(name)?)),
+            None => Ok(None),
         }
     }
 
-    fn device(&mut self, file: &[u8]) -> Result<u32, LineFault> {
-        let name = self.options.listed_device(file);
+    fn device(&mut self, name: &[u8]) -> Result<u32, LineFault> {
         let number = match self.devices.number_of(name) {
             Some(number) => number,
             None => self.devices.add(name)?,
@@ -183,7 +186,7 @@ impl FioReader {
     }
 }
 
-impl LineReader for FioReader {
+impl LineReader for FioReader<'_> {
     /// Takes a line of the file that was begun last. Blank lines are passed over.
     ///
     /// # Errors
@@ -267,13 +270,58 @@ fn add_requests(
     job: &Job,
     origin: u64,
 ) -> Result<(), AllocError> {
-    let shift = job.start.unwrap_or(origin).saturating_sub(origin);
+    let shift = shift_of(job, origin);
     for request in job.requests.iter() {
         if request.is_taken {
             requests.push(shifted(request.request, shift))?;
         }
     }
     Ok(())
+}
+
+// How many requests are of devices that aren't taken.
+fn not_taken(jobs: &[Option<Job>]) -> u64 {
+    let mut sum: u64 = 0;
+    for job in jobs {
+        if let Some(job) = job {
+            let others = job.requests.iter().filter(|request| !request.is_taken);
+            sum = sum.saturating_add(others.count() as u64);
+        }
+    }
+    sum
+}
+
+// The sizes of the started requests within the times that are taken.
+fn all_sizes(alloc: Global, options: &Options, jobs: &[Option<Job>]) -> Result<Sizes, AllocError> {
+    let origin = earliest_start(jobs);
+    let mut sizes = Sizes::new(alloc);
+    for job in jobs {
+        if let Some(job) = job {
+            add_sizes(&mut sizes, options, job, origin)?;
+        }
+    }
+    Ok(sizes)
+}
+
+fn add_sizes(
+    sizes: &mut Sizes,
+    options: &Options,
+    job: &Job,
+    origin: u64,
+) -> Result<(), AllocError> {
+    let shift = shift_of(job, origin);
+    for request in job.requests.iter() {
+        let is_started = request.is_taken && request.request.started.is_some();
+        if is_started && options.takes_time(request.request.arrival.saturating_add(shift)) {
+            sizes.add(request.request.device, request.bytes)?;
+        }
+    }
+    Ok(())
+}
+
+// How much later than the earliest a job started.
+fn shift_of(job: &Job, origin: u64) -> u64 {
+    job.start.unwrap_or(origin).saturating_sub(origin)
 }
 
 fn shifted(request: TimedRequest, shift: u64) -> TimedRequest {

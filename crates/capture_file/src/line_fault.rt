@@ -61,7 +61,7 @@ pub enum LineFault {
     #[error("more than 256 drivers")]
     TooManyDrivers,
     /// The requests have more devices than there may be. Only the end of the input has this fault.
-    #[error("more than 32 devices: pick some by name")]
+    #[error("more than 32 devices: pick some by --device, or several as one")]
     TooManyDevices,
     /// The line isn't one of an iolog.
     #[error("not a line of an iolog")]

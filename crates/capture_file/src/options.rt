@@ -1,5 +1,7 @@
 //! What is taken from an input, and with which priorities.
 
+use crate::device_pick::DevicePick;
+
 /// Where the priorities of requests come from.
 #[derive(Clone, Copy, Debug, Default, PartialEq, Eq)]
 pub enum Priorities {
@@ -19,10 +21,8 @@ pub struct Options {
     pub priorities: Priorities,
     /// Drivers with a priority of their own, which comes before the rest. Of two with one name the first counts.
     pub drivers: Vec<(String, u32)>,
-    /// The devices that are taken, by name. Empty: all.
-    pub devices: Vec<String>,
-    /// The one device to which every request that is taken belongs. None: each belongs to its own.
-    pub one_device: Option<String>,
+    /// The devices that are taken. Empty: all. Of two that take a device the first counts.
+    pub devices: Vec<DevicePick>,
     /// Requests that arrive before this time are left out, in nanoseconds of the input's clock.
     pub from_time: Option<u64>,
     /// Requests that arrive at or after this time are left out, in nanoseconds of the input's clock.
@@ -30,17 +30,17 @@ pub struct Options {
 }
 
 impl Options {
-    /// Whether the device of that name is taken.
-    pub fn takes_device(&self, name: &[u8]) -> bool {
-        self.devices.is_empty() || self.devices.iter().any(|device| device.as_bytes() == name)
-    }
-
-    /// The name by which requests of a device are listed.
-    pub fn listed_device<'a>(&'a self, name: &'a [u8]) -> &'a [u8] {
-        match &self.one_device {
-            None => name,
-            Some(device) => device.as_bytes(),
+    /// The name by which requests of a device are listed. None if it isn't taken.
+    pub fn listed_device<'a>(&'a self, name: &'a [u8]) -> Option<&'a [u8]> {
+        if self.devices.is_empty() {
+            return Some(name);
         }
+        for pick in self.devices.iter() {
+            if let Some(listed) = pick.listed(name) {
+                return Some(listed);
+            }
+        }
+        None
     }
 
     /// The priority that a driver has of its own.

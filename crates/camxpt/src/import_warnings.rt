@@ -1,0 +1,179 @@
+//! What `import` says on standard error: what was counted, and what to beware of.
+
+use crate::import_options::ImportOptions;
+use cam_types::standard_weights;
+use capture::{longest_round, span_nanoseconds};
+use capture_file::{Capture as Read, Counts};
+use recording_file::{PartKind, Recording, Span, TimeUnit};
+use std::rt::Runtime;
+use views::shown_name;
+
+/// Says what a round is, how many there are, and what was left out.
+pub fn tell_counts<R: Runtime>(rt: &R, round: Span, recording: &Recording, counts: &Counts) {
+    let _ = rt.eprintln(format_args!(
+        "camxpt: {} requests in {} rounds of {} {}",
+        recording.requests().len(),
+        recording.rounds(),
+        round.count,
+        unit_word(round.unit)
+    ));
+    for (count, what) in [
+        (counts.never_started, "requests that were never started"),
+        (
+            counts.without_arrival,
+            "events whose request arrived before the capture",
+        ),
+        (
+            counts.without_start,
+            "requests that ended and never started",
+        ),
+        (
+            counts.requests_without_starts,
+            "requests of devices without starts",
+        ),
+        (
+            counts.other_devices,
+            "arrivals at devices that aren't picked",
+        ),
+        (counts.other_times, "requests that arrive at other times"),
+        (counts.refused_lines, "lines that were refused"),
+        (
+            counts.without_partner,
+            "records of latency without a request",
+        ),
+        (counts.dropped_runs, "earlier runs in a log"),
+    ] {
+        if count > 0 {
+            let _ = rt.eprintln(format_args!("camxpt: left out: {count} {what}"));
+        }
+    }
+}
+
+fn unit_word(unit: TimeUnit) -> &'static str {
+    match unit {
+        TimeUnit::Nanosecond => "ns",
+        TimeUnit::Microsecond => "us",
+        TimeUnit::Millisecond => "ms",
+        TimeUnit::Second => "s",
+    }
+}
+
+// A warning of something that has a name.
+fn warn<R: Runtime + AllocGlobal>(rt: &R, before: &str, name: &str, after: &str) {
+    if let Ok(name) = shown_name(rt.alloc(), name) {
+        let _ = rt.eprintln(format_args!("camxpt: warning: {before} {name}{after}"));
+    }
+}
+
+/// Warns of options that name a driver or device that no request has.
+pub fn warn_missing<R: Runtime + AllocGlobal>(rt: &R, options: &ImportOptions, read: &Read) {
+    for (name, _) in &options.taken.drivers {
+        if !has_name(&read.drivers, name) {
+            warn(rt, "--driver names", name, ", of which there is no request");
+        }
+    }
+    for pick in &options.taken.devices {
+        warn_device(rt, "--device names", pick.name(), read);
+    }
+    for (name, _) in &options.hosts {
+        warn_device(rt, "--host names", name, read);
+    }
+    for (name, _) in &options.ratings {
+        warn_device(rt, "--rated names", name, read);
+    }
+}
+
+fn warn_device<R: Runtime + AllocGlobal>(rt: &R, option: &str, name: &str, read: &Read) {
+    if !has_name(&read.devices, name) {
+        warn(rt, option, name, ", of which there is no request");
+    }
+}
+
+fn has_name(names: &[String], name: &str) -> bool {
+    names.iter().any(|other| other.as_str() == name)
+}
+
+/// Warns of waits that are too short for a round, and of devices whose requests are all of one weight, or of very different sizes.
+pub fn warn_read<R: Runtime + AllocGlobal>(rt: &R, round: Span, read: &Read) {
+    if let Some(most) = longest_round(&read.requests)
+        && span_nanoseconds(round) > most
+    {
+        let _ = rt.eprintln(format_args!(
+            "camxpt: warning: a round is longer than half of the mean wait, {most} ns: shorter waits than a round are not seen"
+        ));
+    }
+    let mut number = 0u32;
+    for name in &read.devices {
+        warn_of_device(rt, read, number, name);
+        number = number.saturating_add(1);
+    }
+}
+
+fn warn_of_device<R: Runtime + AllocGlobal>(rt: &R, read: &Read, number: u32, name: &str) {
+    if has_one_weight(read, number) {
+        warn(
+            rt,
+            "all requests of",
+            name,
+            " weigh the same: little can be avoided there",
+        );
+    }
+    if read.uneven.get(number as usize).copied().unwrap_or(false) {
+        warn(
+            rt,
+            "the largest request of",
+            name,
+            " has more than 16 times the median size, and each counts as one",
+        );
+    }
+}
+
+// Whether all started requests of a device cost the same for a round of waiting.
+fn has_one_weight(read: &Read, device: u32) -> bool {
+    let mut first = None;
+    for request in &read.requests {
+        if request.device == device && request.started.is_some() {
+            let weight = weight_of(request.priority);
+            if *first.get_or_insert(weight) != weight {
+                return false;
+            }
+        }
+    }
+    first.is_some()
+}
+
+// What a round of waiting costs at a priority, by the standard weights.
+fn weight_of(priority: u32) -> u32 {
+    standard_weights()
+        .iter()
+        .find(|row| priority <= row.last)
+        .map_or(0, |row| row.weight)
+}
+
+/// Warns of devices that are rated at fewer openings than they took in some round.
+pub fn warn_recorded<R: Runtime + AllocGlobal>(
+    rt: &R,
+    options: &ImportOptions,
+    read: &Read,
+    recording: &Recording,
+) {
+    for (name, _) in &options.ratings {
+        if has_cap(recording, read, name) {
+            warn(rt, "in some rounds", name, " took more than it is rated at");
+        }
+    }
+}
+
+// Whether a device takes another number than its openings in some round.
+fn has_cap(recording: &Recording, read: &Read, name: &str) -> bool {
+    recording.caps().iter().any(|cap| {
+        cap.part.kind == PartKind::Device && is_named(read, cap.part.number, name)
+    })
+}
+
+fn is_named(read: &Read, device: u32, name: &str) -> bool {
+    match read.devices.get(device as usize) {
+        Some(other) => other.as_str() == name,
+        None => false,
+    }
+}

@@ -19,9 +19,13 @@ mod frame;
 #[cfg(test)]
 mod full_devices;
 #[cfg(test)]
+mod gates;
+#[cfg(test)]
 mod guesses;
 #[cfg(test)]
 mod heap;
+#[cfg(test)]
+mod judged;
 #[cfg(test)]
 mod levels;
 #[cfg(test)]

@@ -8,9 +8,10 @@ use std::alloc::Global;
 use std::marker::Brand;
 use std::process::Abort;
 use std::sync::Wait;
+use std::sync::atomic::{AtomicBool, Ordering};
 use std::sync::ledger::{Blank, Ledger};
 use std::test::Fail;
-use std::thread::{Threads, join};
+use std::thread::{Threads, join, yield_now};
 use xpt_lock::{Bell, Seat, SeatName, SharedXpt};
 use xpt_state::Reply;
 
@@ -88,8 +89,25 @@ fn two_threads_get_each_number_once(rt: HostRuntime) -> Result<(), Fail> {
     Ok(())
 }
 
+// By what a bell rings.
+#[derive(Clone, Copy, Debug)]
+enum By {
+    // An event that rings it; the bell of rest has none.
+    Event,
+    // A call that names it.
+    Ring,
+}
+
+// Rings the bell.
+fn rings<L: Ledger, R: Wait>(rt: &R, shared: &SharedXpt<L>, seat: Seat<L>, bell: Bell, by: By) {
+    match by {
+        By::Event => happens(rt, shared, seat, bell),
+        By::Ring => shared.ring(rt, bell),
+    }
+}
+
 // Makes the event that rings the bell of rounds, of work or of cases, or rings that of rest.
-fn rings<L: Ledger, R: Wait>(rt: &R, shared: &SharedXpt<L>, seat: Seat<L>, bell: Bell) {
+fn happens<L: Ledger, R: Wait>(rt: &R, shared: &SharedXpt<L>, seat: Seat<L>, bell: Bell) {
     let mut seat = seat;
     match bell {
         Bell::Round => {
@@ -110,12 +128,29 @@ fn fails<L: Ledger, R: Wait>(rt: &R, shared: &SharedXpt<L>, seat: &mut Seat<L>) 
     let _ = shared.done(rt, seat, 0, Outcome::of_status(0x05));
 }
 
+// How often a thread looks whether the other one is about to sleep, and how often it lets that one run then.
+const TURNS: u32 = 10_000;
+
+// Waits until the other thread is likely to sleep, but not for ever.
+fn let_sleep(is_about_to: &AtomicBool) {
+    for _ in 0..TURNS {
+        if is_about_to.load(Ordering::SeqCst) {
+            break;
+        }
+        yield_now();
+    }
+    for _ in 0..TURNS {
+        yield_now();
+    }
+}
+
 // A thread sleeps at the bell until another rings it. Answers how often the bell rang when it woke.
 fn sleeper<L: Ledger + Send + Sync, R: Threads + Wait + Abort + Sync>(
     rt: &R,
     alloc: Global,
     blank: Blank,
     bell: Bell,
+    by: By,
 ) -> Result<u64, Fail>
     requires name { blank.name ≡ L.name }
     requires parts { (blank.parts ≡ L.parts) × (blank.parts ≡ 65) }
@@ -123,23 +158,36 @@ fn sleeper<L: Ledger + Send + Sync, R: Threads + Wait + Abort + Sync>(
     let shared: SharedXpt<L> = shared(alloc, Limits::most(), blank)?;
     let seat = shared.seat(rt, alloc, SeatName::Keeper)?;
     let seen = shared.moment(rt, bell);
-    let board = &shared;
+    let (board, is_about_to) = (&shared, &AtomicBool::new(false));
     let (woken, _) = join(
         rt,
-        move || board.wait_past(rt, bell, seen),
-        move || rings(rt, board, seat, bell),
+        move || {
+            is_about_to.store(true, Ordering::SeqCst);
+            board.wait_past(rt, bell, seen)
+        },
+        move || {
+            let_sleep(is_about_to);
+            rings(rt, board, seat, bell, by);
+        },
     );
     Ok(woken.rings)
 }
 
-fn sleep<R: Threads + Wait + Abort + Sync>(rt: &R, alloc: Global, bell: Bell) -> Result<u64, Fail> {
-    sleeper::<Brand, R>(rt, alloc, Blank::new(65), bell)
+fn sleep<R: Threads + Wait + Abort + Sync>(
+    rt: &R,
+    alloc: Global,
+    bell: Bell,
+    by: By,
+) -> Result<u64, Fail> {
+    sleeper::<Brand, R>(rt, alloc, Blank::new(65), bell, by)
 }
 
 #[test]
 fn each_bell_wakes_who_sleeps(rt: HostRuntime) -> Result<(), Fail> {
     for bell in [Bell::Round, Bell::Work, Bell::Case, Bell::Rest] {
-        assert_eq!(&rt; sleep(&rt, rt.alloc(), bell)?, 1);
+        for by in [By::Event, By::Ring] {
+            assert_eq!(&rt; sleep(&rt, rt.alloc(), bell, by)?, 1, "{bell:?} by {by:?}");
+        }
     }
     Ok(())
 }

@@ -24,19 +24,23 @@ other_place a b never = elim (a == b) as (λ x. (a == b) ≡ x → x ≡ false) 
   | false ↦ λ is. refl
 ] refl
 
-nothing : (s : Scenario) (es : List Event) (logs : List Held) (place : ℕ) → IsFailing s es logs place → (place < length es → ⊥) → es ≡ []
-nothing s [] logs place fails never = refl
-nothing s (e ∷ es) logs place fails never = elim fails [
-  | inl here ↦ absurd (never here.0)
-  | inr last ↦ absurd (never (omega arith))
+past_none : (es : List Event) (place : ℕ) → place ≡ length es - 1 → (place < length es → ⊥) → es ≡ []
+past_none [] place last never = refl
+past_none (e ∷ es) place last never = absurd (never (omega arith))
+
+nothing : (s : Scenario) (h : Past) (logs : List Held) (place : ℕ) → IsFailing s h logs place → (place < length h.events → ⊥) → h.events ≡ []
+nothing s h logs place fails never = elim fails [
+  | inl (inl here) ↦ absurd (never here.0)
+  | inl (inr last) ↦ past_none h.events place last.0 never
+  | inr last ↦ past_none h.events place last.0 never
 ]
 
 -- the fault that names where a comparison fails
-pub no_run : (s : Scenario) (h : Past) (logs : List Held) (place : ℕ) (fault : LiveFault) → AreInterleaved (due_of h) logs → IsFailing s h.events logs place → IsNaming logs place fault → IsNoRun s h.events logs fault
-no_run s h logs place (Mismatch r) fit fails named = (named.1, subst (IsFailing s h.events logs) (sym named.0) fails)
+pub no_run : (s : Scenario) (h : Past) (logs : List Held) (place : ℕ) (fault : LiveFault) → AreInterleaved (due_of h) logs → IsFailing s h logs place → IsNaming logs place fault → IsNoRun s h logs fault
+no_run s h logs place (Mismatch r) fit fails named = (named.1, subst (IsFailing s h logs) (sym named.0) fails)
 no_run s h logs place (Unnamed first) fit fails named = (
   named.0,
-  nothing s h.events logs place fails (λ lt. let one = fit.all_named place (omega (arith, lt, length_receipts_of h.config h.events)) in let none = named.1 in absurd (omega arith)),
+  nothing s h logs place fails (λ lt. let one = fit.all_named place (omega (arith, lt, length_receipts_of h.config h.events)) in let none = named.1 in absurd (omega arith)),
 )
 no_run s h logs place NoThread fit fails named = absurd named
 no_run s h logs place OutOfMemory fit fails named = absurd named
@@ -59,7 +63,7 @@ ungathered_fault s logs gathers.OutOfMemory h = tt
 ungathered_fault s logs (gathers.Mismatch r) h = record { history = h.0; logs = logs; past = h.1.0; why = inl h.1.1 }
 ungathered_fault s logs (gathers.Unnamed place) h = inr (record { history = h.0; logs = logs; past = h.1.0; why = inl h.1.1 })
 
-pub judged_fault : (s : Scenario) (h : Past) (logs : List Held) (fault : LiveFault) → IsPast h → AreInterleaved (due_of h) logs → IsNoRun s h.events logs fault → IsLiveFault s fault
+pub judged_fault : (s : Scenario) (h : Past) (logs : List Held) (fault : LiveFault) → IsPast h → AreInterleaved (due_of h) logs → IsNoRun s h logs fault → IsLiveFault s fault
 judged_fault s h logs OutOfMemory past together said = tt
 judged_fault s h logs NoThread past together said = absurd said
 judged_fault s h logs (Mismatch r) past together (its, fails) = record { history = h; logs = logs; past = past; why = inr (together, (its, fails)) }

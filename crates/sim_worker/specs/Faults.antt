@@ -1,8 +1,9 @@
 -- what is said of a run on many threads that isn't called one of its script
-use Rattle.std.specs.Prelude.{◌≡◌, ℕ, ◌-◌, ◌<◌, ◌⊎◌, List, [], length, take, Some, slice_get}
+use Rattle.std.specs.Prelude.{◌≡◌, ℕ, ◌-◌, ◌<◌, ◌⊎◌, List, [], length, map, take, Some, slice_get}
 use Rattle.sim_worker.specs.Words.{AreInterleaved, Event, Scenario, Held, IsPast, Past, Receipt, due_of}
 use Rattle.xpt_lock.specs.Gathers.{IsMisfit, IsUnnamed}
 use Rattle.xpt_lock.specs.Receipts.{all_receipts, naming}
+use Rattle.sim_worker.specs.LiveRuns.{actors}
 use Rattle.sim_worker.specs.Walks.{IsFollowedTo}
 use Rattle.xpt_lock.specs.declared.fault.GatherFault.{GatherFault}
 use Rattle.xpt_lock.specs.declared.fault.GatherFault.TheVariants as gathers
@@ -20,16 +21,25 @@ IsNaming logs place (Unnamed first) = (first ≡ 0) × (naming place (all_receip
 IsNaming logs place NoThread = ⊥
 IsNaming logs place OutOfMemory = ⊥
 
--- the place is where the comparison fails, and up to it all went by the script; or it is that of the last event
-abbrev pub IsFailing : Scenario → List Event → List Held → ℕ → Type 0
-IsFailing s events logs place = ((place < length events) × IsFollowedTo s (take place events) logs) ⊎ (place ≡ length events - 1)
+-- The place is that of an event, and all before it went by the script; or it is that of the last event, and all went by it.
+abbrev pub IsStop : Scenario → List Event → List Held → ℕ → Type 0
+IsStop s events logs place =
+    ((place < length events) × IsFollowedTo s (take place events) logs) ⊎ ((place ≡ length events - 1) × IsFollowedTo s events logs)
+
+-- the history is of the script's configuration, and the logs are its actors'
+abbrev pub AreOfScript : Scenario → Past → List Held → Type 0
+AreOfScript s h logs = (h.config ≡ s.config) × (map (λ (log : Held). log.name) logs ≡ actors s)
+
+-- The place is where the comparison fails. Of another configuration or of other actors it is that of the last event.
+abbrev pub IsFailing : Scenario → Past → List Held → ℕ → Type 0
+IsFailing s h logs place = IsStop s h.events logs place ⊎ ((place ≡ length h.events - 1) × ¬ AreOfScript s h logs)
 
 -- Memory ran out; or the fault has the receipt of where the comparison fails, and place 0 if nothing happened.
-abbrev pub IsNoRun : Scenario → List Event → List Held → LiveFault → Type 0
-IsNoRun s events logs OutOfMemory = Unit {0}
-IsNoRun s events logs (Mismatch r) = IsOfLogs logs r × IsFailing s events logs r.at
-IsNoRun s events logs (Unnamed first) = (first ≡ 0) × (events ≡ [])
-IsNoRun s events logs NoThread = ⊥
+abbrev pub IsNoRun : Scenario → Past → List Held → LiveFault → Type 0
+IsNoRun s h logs OutOfMemory = Unit {0}
+IsNoRun s h logs (Mismatch r) = IsOfLogs logs r × IsFailing s h logs r.at
+IsNoRun s h logs (Unnamed first) = (first ≡ 0) × (h.events ≡ [])
+IsNoRun s h logs NoThread = ⊥
 
 -- the fault says where the receipts of the logs aren't those that one thread would get for the history
 abbrev pub IsUngathered : Past → List Held → LiveFault → Type 0
@@ -43,7 +53,7 @@ pub record IsFailed (s : Scenario) (fault : LiveFault) : Type 0 where
   pub history : Past
   pub logs : List Held
   pub past : IsPast history
-  pub why : IsUngathered history logs fault ⊎ (AreInterleaved (due_of history) logs × IsNoRun s history.events logs fault)
+  pub why : IsUngathered history logs fault ⊎ (AreInterleaved (due_of history) logs × IsNoRun s history logs fault)
 
 -- Why there is no run: memory ran out, or a thread couldn't be started; else the fault has the receipt or the place at which a
 -- comparison failed, or place 0 if a seat was missing.

@@ -1,8 +1,8 @@
 //! Whether a run on many threads is one of its script.
 
-ghost use Rattle.std.specs.Prelude.{◌≡◌, ℕ, IfOk, IfErr, IfSome, IfNone, Some, List, map, get_or, slice_get, true, []};
+ghost use Rattle.std.specs.Prelude.{◌≡◌, ℕ, IfOk, IfErr, IfSome, IfNone, Some, List, map, get_or, slice_get, true, false, []};
 ghost use Rattle.xpt_lock.specs.Receipts.{naming};
-ghost use Rattle.sim_worker.specs.Faults.{IsNaming, IsNoRun};
+ghost use Rattle.sim_worker.specs.Faults.{AreOfScript, IsNaming, IsNoRun};
 ghost use Rattle.std.specs.List.{list_all};
 ghost use Rattle.sim_worker.specs.Words.{IsPast, due_of, AreInterleaved, Held, Event, Scenario};
 ghost use Rattle.xpt_lock.specs.declared.seat.SeatName.TheVariants as seats;
@@ -20,7 +20,7 @@ use crate::served::Served;
 use cam_event::History;
 use cam_types::Config;
 use event_rules::Event;
-use std::alloc::Global;
+use std::alloc::{AllocError, Global};
 use trace_file::Script;
 use xpt_lock::{Receipt, SeatName};
 
@@ -37,11 +37,11 @@ pub fn judge<P: Port>(
     requires legal { IsPast history.now }
     requires together { AreInterleaved (due_of history.now) logs.now }
     ensures run { IfOk result (λ ending. IsLiveRun script.now history.now logs.now (map (λ p. P.list p) ports.now) ending) }
-    ensures fault { IfErr result (λ fault. IsNoRun script.now history.now.events logs.now fault) }
+    ensures fault { IfErr result (λ fault. IsNoRun script.now history.now logs.now fault) }
 {
     let events = history.events();
     let last = events.len().saturating_sub(1);
-    if !is_config(script.config(), history.config()) || !are_named(&actors(alloc, script)?, logs) {
+    if !are_of_script(alloc, script, history, logs)? {
         return Err(mismatch(logs, last));
     }
     let said = match follow(alloc, script, events, logs)? {
@@ -85,9 +85,24 @@ fn receipt_at(receipts: &[Receipt], place: usize) -> Option<Receipt>
     None
 }
 
+// Whether the history is of the script's configuration, and the logs are its actors'.
+fn are_of_script(
+    alloc: Global,
+    script: &Script,
+    history: &History,
+    logs: &[SeatLog],
+) -> Result<bool, AllocError>
+    ensures yes { IfOk result (λ same. same ≡ true → AreOfScript script.now history.now logs.now) }
+    ensures no { IfOk result (λ same. same ≡ false → ¬ AreOfScript script.now history.now logs.now) }
+{
+    let names = actors(alloc, script)?;
+    Ok(is_config(script.config(), history.config()) && are_named(&names, logs))
+}
+
 // Whether the two configurations are the same.
 fn is_config(one: &Config, other: &Config) -> bool
-    ensures { result ≡ true → other.now ≡ one.now }
+    ensures yes { result ≡ true → other.now ≡ one.now }
+    ensures no { result ≡ false → other.now ≡ one.now → ⊥ }
 {
     if one.weights() != other.weights() || one.links() != other.links() {
         return false;

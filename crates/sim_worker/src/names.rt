@@ -1,6 +1,6 @@
 //! The actors of a run.
 
-ghost use Rattle.std.specs.Prelude.{◌≡◌, ◌++◌, [], IfOk, length, map, true};
+ghost use Rattle.std.specs.Prelude.{◌≡◌, ◌++◌, [], IfOk, length, map, true, false};
 ghost use Rattle.xpt_lock.specs.Seats.{Held};
 ghost use Rattle.sim_worker.specs.LiveRuns.{actors, drivers, is_some_row, lanes, rows};
 
@@ -53,7 +53,8 @@ fn add_lanes(script: &Script, names: &mut Vec<SeatName>) -> Result<(), AllocErro
 
 /// Whether the logs are those of the names, in their order.
 pub(crate) fn are_named(names: &[SeatName], logs: &[SeatLog]) -> bool
-    ensures { result ≡ true → map (λ (log : Held). log.name) logs.now ≡ names.now }
+    ensures yes { result ≡ true → map (λ (log : Held). log.name) logs.now ≡ names.now }
+    ensures no { result ≡ false → map (λ (log : Held). log.name) logs.now ≡ names.now → ⊥ }
 {
     if names.len() != logs.len() {
         return false;

@@ -6,7 +6,7 @@ ghost use Rattle.xpt_lock.specs.declared.seat.SeatName.TheVariants as names;
 ghost use Rattle.sim_worker.specs.LiveRuns.{rows};
 ghost use Rattle.sim_worker.specs.Runs.{is_in_time, are_ticks_in_time, may_recovery_rest, may_tick};
 ghost use Rattle.sim_worker.specs.Held.{is_held_up};
-ghost use Rattle.sim_worker.specs.Faults.{IsFailing};
+ghost use Rattle.sim_worker.specs.Faults.{IsStop};
 ghost use Rattle.sim_worker.specs.Walks.{AreOn, ArePlaced, AreRising, IsFollowed, IsFollowedTo, IsOf, IsOn};
 
 use crate::ending::Ending;
@@ -148,7 +148,7 @@ fn follow_all(
     requires placed { ArePlaced logs.now events.now }
     requires start { AreOn script.now logs.now [] walks.old }
     ensures followed { IfOk result (IsFollowed script.now events.now logs.now) }
-    ensures failed { IfErr result (λ place. IsFailing script.now events.now logs.now place) }
+    ensures failed { IfErr result (λ place. IsStop script.now events.now logs.now place) }
 {
     pass(script, events, logs, walks, xpt)?;
     // They are legal by the script's limits.
@@ -169,7 +169,7 @@ pub(crate) fn follow(
     requires rising { AreRising logs.now }
     requires placed { ArePlaced logs.now events.now }
     ensures followed { IfOk result (λ followed. IfOk followed (IsFollowed script.now events.now logs.now)) }
-    ensures failed { IfOk result (λ followed. IfErr followed (λ place. IsFailing script.now events.now logs.now place)) }
+    ensures failed { IfOk result (λ followed. IfErr followed (λ place. IsStop script.now events.now logs.now place)) }
 {
     let mut xpt = Xpt::open(alloc, script.config().copy(alloc)?, script.limits())?;
     let mut walks = start(alloc, logs.len())?;

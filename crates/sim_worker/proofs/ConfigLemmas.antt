@@ -1,5 +1,5 @@
 -- equal configurations
-use Rattle.std.proofs.Common.{◌≡◌, ℕ, true, List, refl, ap, ◌==◌, ◌&&◌, nat_eq, Option, Some, None}
+use Rattle.std.proofs.Common.{◌≡◌, ℕ, Bool, true, false, not, List, [], ◌∷◌, refl, ap, subst, ◌==◌, ◌&&◌, nat_eq, Option, Some, None}
 use Rattle.std.specs.Option.{option_eq}
 use lib.Dec.{eqb}
 use Rattle.std.proofs.lemmas.Bool.{and_parts, eqb-true}
@@ -10,6 +10,7 @@ use Rattle.cam_types.specs.contracts.device.DevicePartialEq.TheImpl as devices
 use Rattle.cam_types.specs.contracts.weight_row.WeightRowPartialEq.TheImpl as rows
 use Rattle.cam_types.proofs.ListLemmas.{same_lists}
 use Rattle.cam_types.proofs.WeightLemmas.{same_row}
+use Rattle.event_rules.proofs.ShareLaws.{same_number}
 
 device_from : (a b : Device) → a.bus ≡ b.bus → a.target ≡ b.target → a.lun ≡ b.lun → a.openings ≡ b.openings → a ≡ b
 device_from a b e f g h =
@@ -48,3 +49,39 @@ same_config a b w k e f g =
     let made : List WeightRow → List ℕ → List Adapter → List Device → List ℕ → Topology = λ v u x y z. record { weights = v; links = u; adapters = x; devices = y; lanes = z } in
     let whole : made b.weights b.links b.adapters b.devices b.lanes ≡ made a.weights a.links a.adapters a.devices a.lanes = rw (w, k, e, f, g) refl in
     whole
+
+-- ---- each is equal to itself
+
+own_row : (a : WeightRow) → rows.ghosts.eq a a ≡ true
+own_row a = rw (same_number a.last, same_number a.weight) refl
+
+own_link : (a : Option ℕ) → option_eq eqb a a ≡ true
+own_link None = refl
+own_link (Some x) = same_number x
+
+own_adapter : (a : Adapter) → adapters.ghosts.eq a a ≡ true
+own_adapter a = rw (same_number a.openings, own_link a.link) refl
+
+own_device : (a : Device) → devices.ghosts.eq a a ≡ true
+own_device a = rw (same_number a.bus, same_number a.target, same_number a.lun, same_number a.openings) refl
+
+own_list : {X : Type 0} → (e : X → X → Bool) → ((x : X) → e x x ≡ true) → (xs : List X) → pointwise e xs xs ≡ true
+own_list e own [] = refl
+own_list e own (x ∷ xs) = rw (own x, own_list e own xs) refl
+
+differ : {X : Type 0} → (e : X → X → Bool) → ((x : X) → e x x ≡ true) → (xs ys : List X) → pointwise e xs ys ≡ false → xs ≡ ys → ⊥
+differ e own xs ys other same =
+    let equal : pointwise e xs ys ≡ true = subst (λ zs. pointwise e xs zs ≡ true) same (own_list e own xs) in
+    cc
+
+pub differ_numbers : (xs ys : List ℕ) → pointwise nat_eq xs ys ≡ false → xs ≡ ys → ⊥
+differ_numbers xs ys other same = differ nat_eq same_number xs ys other same
+
+pub differ_rows : (xs ys : List WeightRow) → pointwise rows.ghosts.eq xs ys ≡ false → xs ≡ ys → ⊥
+differ_rows xs ys other same = differ rows.ghosts.eq own_row xs ys other same
+
+pub differ_adapters : (xs ys : List Adapter) → pointwise adapters.ghosts.eq xs ys ≡ false → xs ≡ ys → ⊥
+differ_adapters xs ys other same = differ adapters.ghosts.eq own_adapter xs ys other same
+
+pub differ_devices : (xs ys : List Device) → pointwise devices.ghosts.eq xs ys ≡ false → xs ≡ ys → ⊥
+differ_devices xs ys other same = differ devices.ghosts.eq own_device xs ys other same

@@ -1,5 +1,5 @@
 -- what is said of a run that isn't called one of its script
-use Rattle.std.proofs.Common.{◌≡◌, ℕ, ◌<◌, List, [], ◌∷◌, ◌++◌, length, refl, sym, ap, ◌∙◌, subst, arith, inl, inr, cond, ◌==◌, true, false, eqb-true}
+use Rattle.std.proofs.Common.{◌≡◌, ℕ, ◌-◌, ◌<◌, List, [], ◌∷◌, ◌++◌, length, refl, sym, ap, ◌∙◌, subst, arith, inl, inr, cond, ◌==◌, true, false, eqb-true}
 use Rattle.std.proofs.lemmas.List.Sums.{sum_by-append}
 use Rattle.event_rules.proofs.ListFacts.{count_by-push}
 use Rattle.xpt_lock.proofs.ConsistentLemmas.{all_one}

@@ -104,10 +104,16 @@ fn is_config(one: &Config, other: &Config) -> bool
     ensures yes { result ≡ true → other.now ≡ one.now }
     ensures no { result ≡ false → other.now ≡ one.now → ⊥ }
 {
-    if one.weights() != other.weights() || one.links() != other.links() {
+    if one.weights() != other.weights() {
         return false;
     }
-    if one.adapters() != other.adapters() || one.devices() != other.devices() {
+    if one.links() != other.links() {
+        return false;
+    }
+    if one.adapters() != other.adapters() {
+        return false;
+    }
+    if one.devices() != other.devices() {
         return false;
     }
     one.lanes() == other.lanes()

@@ -1,6 +1,6 @@
-use Rattle.std.proofs.Common.{◌∙◌, sym, subst}
+use Rattle.std.proofs.Common.{◌∙◌, sym, subst, inr}
 use Rattle.sim_worker.specs.Walks.{AreOn, ArePlaced}
-use Rattle.sim_worker.proofs.PassLemmas.{followed}
+use Rattle.sim_worker.proofs.PassLemmas.{followed, followed_to}
 use Rattle.sim_worker.proofs.pass.follow_all.Goals as goal
 
 pub returns-in-Some-clause-followed : goal.returns-in-Some-clause-followed
@@ -11,3 +11,6 @@ ending-requires-clause-on c = let passed = c.in_ok-pass.ensures.passed in subst 
 
 pub ending-requires-clause-placed : goal.ending-requires-clause-placed
 ending-requires-clause-placed c = subst (ArePlaced c.args.logs.now) (sym c.in_ok-pass.ensures.passed.1) c.requires.placed
+
+pub returns-in-None-clause-failed : goal.returns-in-None-clause-failed
+returns-in-None-clause-failed c = inr (c.saturating_sub.ensures, followed_to c.args.script.now c.args.events.now c.args.logs.now c.pass.new.walks c.pass.new.xpt (c.in_ok-pass.ensures.len ∙ c.requires.same) c.in_ok-pass.ensures.passed c.events-events.ensures.legal)

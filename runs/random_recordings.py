@@ -18,6 +18,12 @@ def caps(rng, kind, openings, rounds):
     return rows, most
 
 
+def names(rng, kind, count):
+    """Rows of names for some of these, of any letters but those that the text keeps for itself."""
+    return [record("name", kind, number, "".join(rng.choices("abz019 -/<>&é語", k=rng.randint(1, 16))))
+            for number in range(count) if rng.random() < 0.3]
+
+
 def recording(number):
     """The recording of this number."""
     rng = random.Random(f"recording {number}")
@@ -25,11 +31,14 @@ def recording(number):
     links = [rng.randint(1, 3) for _ in range(rng.choice([0, 0, 1, 2]))]
     adapters = [(rng.randint(1, 3), rng.choice([None, *range(len(links))])) for _ in range(rng.randint(1, 3))]
     devices = [(rng.randrange(len(adapters)), target, rng.randint(1, 2)) for target in range(rng.randint(1, 5))]
-    rows = [record("camrecord1", *"abcdefg"), record("rounds", rounds)]
+    rows = [record("camrecord1", *"abcdefg")]
+    rows += [record("unit", rng.randint(1, 2**32 - 1), rng.choice(["ns", "us", "ms", "s"]))] if rng.random() < 0.5 else []
+    rows += [record("rounds", rounds)]
     rows += weights(rng) if rng.random() < 0.5 else []
     rows += [record("link", openings) for openings in links]
     rows += [record("sim", openings, "" if link is None else link) for openings, link in adapters]
     rows += [record("dev", adapter, target, 0, openings) for adapter, target, openings in devices]
+    rows += names(rng, "driver", 4) + names(rng, "dev", len(devices)) + names(rng, "sim", len(adapters)) + names(rng, "link", len(links))
     room = {}
     for kind, all_openings in (("dev", [device[2] for device in devices]), ("sim", [openings for openings, _ in adapters]),
                                ("link", links)):

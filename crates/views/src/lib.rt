@@ -9,6 +9,9 @@ pub use text::page;
 
 mod as_json;
 mod drawing;
+mod labels;
 mod making;
 mod notes;
+mod plain_words;
 mod text;
+mod times;

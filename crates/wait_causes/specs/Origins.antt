@@ -1,5 +1,7 @@
 -- what is explained: a history, by its trace, or a recording
-use Rattle.std.specs.Prelude.{◌≡◌, ℕ, IfSome}
+use Rattle.std.specs.Prelude.{◌≡◌, ℕ, List, [], Option, None, IfSome}
+use Rattle.recording_file.specs.Names.{Label}
+use Rattle.recording_file.specs.declared.span.Span.{Span}
 use Rattle.round_net.specs.RecordedNets.{net_of_recording}
 use Rattle.round_net.specs.Schedules.{cost}
 use Rattle.wait_causes.specs.Words.{live_cost, Cause, NetRows, Instance, net_of, instance_of_rows, live_of_rows}
@@ -28,3 +30,13 @@ cause_of (origin.Recording r) = recorded_cause (instance_in (origin.Recording r)
 abbrev pub IsLiveCost : Origin → ℕ → Type 0
 IsLiveCost (origin.Trace past) n = IfSome (live_cost past.config past.events) (λ cost. n ≡ cost)
 IsLiveCost (origin.Recording r) n = n ≡ cost (instance_in (origin.Recording r)) (live_in (origin.Recording r))
+
+-- what people call its drivers, devices, adapters and links: a history has no names
+abbrev pub names_in : Origin → List Label
+names_in (origin.Trace _) = []
+names_in (origin.Recording r) = r.names
+
+-- how long a round of it is, if that is said
+abbrev pub unit_in : Origin → Option Span
+unit_in (origin.Trace _) = None
+unit_in (origin.Recording r) = r.unit

@@ -14,7 +14,7 @@ use crate::sends::sends_of;
 use crate::table::{Grouping, Row, table_of};
 use crate::wait::{Wait, waits_in};
 use cam_event::History;
-use recording_file::Recording;
+use recording_file::{Name, Recording, Span};
 use round_net::{Net, RoundTable, Schedule};
 use std::alloc::{AllocError, Global};
 use std::marker::Model;
@@ -44,7 +44,7 @@ impl Explanation {
     ghost use Rattle.round_net.specs.Nets.{net_of};
     ghost use Rattle.round_net.specs.RecordedNets.{net_of_recording};
     ghost use Rattle.round_net.specs.Rows.{instance_of_rows};
-    ghost use Rattle.wait_causes.specs.Origins.{IsLiveCost};
+    ghost use Rattle.wait_causes.specs.Origins.{IsLiveCost, names_in, unit_in};
     ghost use Rattle.wait_causes.specs.Stays.{explained};
     ghost use Rattle.wait_causes.specs.Parts.{part_of, all_costs, full_costs, all_behind_costs, kind_of};
     ghost use Rattle.wait_causes.specs.Tables.{table_of};
@@ -102,6 +102,20 @@ impl Explanation {
             Origin::Trace(_) => InputKind::Trace,
             Origin::Recording(_) => InputKind::Recording,
         }
+    }
+
+    /// What people call the drivers, devices, adapters and links, by rising kind and number; a trace has no names.
+    pub fn names(&self) -> &[Name]
+        ensures { result.now ≡ names_in self.now.origin }
+    {
+        self.origin.names()
+    }
+
+    /// How long a round is; none of a trace, or of a recording that doesn't say it.
+    pub fn unit(&self) -> Option<Span>
+        ensures { result ≡ unit_in self.now.origin }
+    {
+        self.origin.unit()
     }
 
     /// All stays, in order of birth; of a recording the requests, in the order of its text.

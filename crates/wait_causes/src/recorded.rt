@@ -1,7 +1,7 @@
 //! Why the stays of a recording waited.
 
 use crate::sends::{Sends, sends_at};
-use recording_file::Recording;
+use recording_file::{Name, Recording, Span};
 use round_net::{Cause, Net, cell};
 use std::alloc::{AllocError, Global};
 use std::marker::Model;
@@ -54,6 +54,20 @@ impl RecordedRounds {
         ensures { result ≡ recorded_cause (instance_of_recording self.now) (live_of_recording self.now) device round }
     {
         cause_at(&self.causes, cell(self.recording.rounds(), device, round))
+    }
+
+    /// The recording's names.
+    pub(crate) fn names(&self) -> &[Name]
+        ensures { result.now ≡ self.now.names }
+    {
+        self.recording.names()
+    }
+
+    /// How long the recording's rounds are, if that is said.
+    pub(crate) fn unit(&self) -> Option<Span>
+        ensures { result ≡ self.now.unit }
+    {
+        self.recording.unit()
     }
 }
 

@@ -9,6 +9,8 @@ use crate::as_json::freezes::{ListedFreeze, freeze_list};
 use crate::as_json::line::line;
 use crate::as_json::parts::{Costs, Tables};
 use crate::as_json::stays::{ListedStay, stay_list};
+use crate::labels::Labels;
+use crate::times::nanoseconds;
 use round_net::Net;
 use serde::Serialize;
 use std::alloc::{AllocError, Global};
@@ -18,6 +20,8 @@ use wait_causes::Explanation;
 struct Explained<'a> {
     #[serde(flatten)]
     counts: Counts<'a>,
+    #[serde(skip_serializing_if = "Option::is_none")]
+    round_ns: Option<u64>,
     #[serde(flatten)]
     costs: Costs,
     #[serde(flatten)]
@@ -26,7 +30,7 @@ struct Explained<'a> {
     list: Vec<ListedStay>,
 }
 
-/// A line without its line feed: the counts of the net, what its live schedule and the other one cost in weighted
+/// A line without its line feed: the counts of the net, how many nanoseconds a round has where that is known, what its live schedule and the other one cost in weighted
 /// rounds, the difference, and the live cost by cause and by what full rows sent; the tables by adapter, device, driver and run level; the freezes; and
 /// all stays in order of birth, each with its waits. Any text may be the name.
 pub fn explain_json(
@@ -40,8 +44,9 @@ pub fn explain_json(
     let (config, kind) = (net.config(), explanation.kind());
     let explained = Explained {
         counts: Counts::of(alloc, trace, net)?,
+        round_ns: explanation.unit().map(nanoseconds),
         costs: Costs::of(&explanation.whole(alloc)?, kind, config),
-        tables: Tables::of(alloc, config, explanation)?,
+        tables: Tables::of(alloc, Labels::of(config, explanation), explanation)?,
         freezes: freeze_list(alloc, explanation)?,
         list: stay_list(alloc, explanation)?,
     };

@@ -1,7 +1,9 @@
 //! What some stays waited, and what that cost.
 
+use crate::labels::Labels;
 use cam_path::path_name;
 use cam_types::Config;
+use recording_file::NameKind;
 use serde::Serialize;
 use std::alloc::{AllocError, Global};
 use wait_causes::{BehindCosts, Cause, CauseCosts, Explanation, Grouping, InputKind, Part, Row};
@@ -100,12 +102,14 @@ pub(crate) struct Tables {
     levels: Vec<TableRow>,
 }
 
-// A row of a table; a device has its path too.
+// A row of a table; a device has its path too, and what has a name has that.
 #[derive(Drop, Serialize)]
 struct TableRow {
     number: u32,
     #[serde(skip_serializing_if = "Option::is_none")]
     path: Option<String>,
+    #[serde(skip_serializing_if = "Option::is_none")]
+    name: Option<String>,
     #[serde(flatten)]
     waited: Waited,
     #[serde(flatten)]
@@ -143,14 +147,14 @@ impl Tables {
     /// Those of this explanation, each with its rows by number.
     pub(crate) fn of(
         alloc: Global,
-        config: &Config,
+        labels: Labels<'_>,
         explanation: &Explanation,
     ) -> Result<Tables, AllocError> {
         Ok(Tables {
-            adapters: rows(alloc, config, explanation, Grouping::Adapter)?,
-            devices: rows(alloc, config, explanation, Grouping::Device)?,
-            drivers: rows(alloc, config, explanation, Grouping::Driver)?,
-            levels: rows(alloc, config, explanation, Grouping::Level)?,
+            adapters: rows(alloc, labels, explanation, Grouping::Adapter)?,
+            devices: rows(alloc, labels, explanation, Grouping::Device)?,
+            drivers: rows(alloc, labels, explanation, Grouping::Driver)?,
+            levels: rows(alloc, labels, explanation, Grouping::Level)?,
         })
     }
 }
@@ -158,34 +162,50 @@ impl Tables {
 // The rows of a table, by number.
 fn rows(
     alloc: Global,
-    config: &Config,
+    labels: Labels<'_>,
     explanation: &Explanation,
     by: Grouping,
 ) -> Result<Vec<TableRow>, AllocError> {
     let table = explanation.table(alloc, by)?;
     let mut rows = Vec::with_capacity(alloc, table.len())?;
     for row in &table {
-        rows.push(row_of(alloc, config, explanation.kind(), row, by)?)?;
+        rows.push(row_of(alloc, labels, explanation.kind(), row, by)?)?;
     }
     Ok(rows)
 }
 
-// The row of a table by this, with the path of a device.
+// The row of a table by this, with the path of a device, and the name if there is one.
 fn row_of(
     alloc: Global,
-    config: &Config,
+    labels: Labels<'_>,
     kind: InputKind,
     row: &Row,
     by: Grouping,
 ) -> Result<TableRow, AllocError> {
+    let config = labels.config();
     let path = match by {
         Grouping::Device => Some(path_name(alloc, config, row.number)?),
         _ => None,
     };
+    let name = match named_by(by).and_then(|kind| labels.name(kind, row.number)) {
+        Some(name) => Some(String::from_str(alloc, name)?),
+        None => None,
+    };
     Ok(TableRow {
         number: row.number,
         path,
+        name,
         waited: Waited::of(&row.part),
         costs: Costs::of(&row.part, kind, config),
     })
+}
+
+// The kind of the names of a table's rows; run levels have none.
+fn named_by(by: Grouping) -> Option<NameKind> {
+    match by {
+        Grouping::Adapter => Some(NameKind::Adapter),
+        Grouping::Device => Some(NameKind::Device),
+        Grouping::Driver => Some(NameKind::Driver),
+        Grouping::Level => None,
+    }
 }

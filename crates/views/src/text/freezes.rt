@@ -1,8 +1,8 @@
 //! The freezes that cost most.
 
+use crate::labels::Labels;
 use crate::making::Page;
-use crate::text::columns::{label, push_columns};
-use cam_types::Config;
+use crate::text::columns::push_columns;
 use std::alloc::{AllocError, Global};
 use wait_causes::{Freeze, FreezeKind, Grouping};
 
@@ -14,7 +14,7 @@ const HEAD: &str = "\nThe freezes that cost most:\n\n\
 pub(crate) fn push_freezes(
     alloc: Global,
     page: &mut Page,
-    config: &Config,
+    labels: Labels<'_>,
     freezes: &[Freeze],
     places: &[usize],
     top: usize,
@@ -25,7 +25,7 @@ pub(crate) fn push_freezes(
     page.put(HEAD);
     for place in places.iter().take(top) {
         if let Some(freeze) = freezes.get(*place) {
-            push_freeze(page, &frozen_name(alloc, config, freeze)?, freeze);
+            push_freeze(page, &frozen_name(alloc, labels, freeze)?, freeze);
         }
     }
     Ok(())
@@ -57,12 +57,12 @@ pub(crate) fn frozen_by(kind: FreezeKind) -> &'static str {
 /// The device or the adapter that was frozen.
 pub(crate) fn frozen_name(
     alloc: Global,
-    config: &Config,
+    labels: Labels<'_>,
     freeze: &Freeze,
 ) -> Result<String, AllocError> {
     let by = match freeze.kind {
         FreezeKind::Error | FreezeKind::Caller => Grouping::Device,
         FreezeKind::Adapter => Grouping::Adapter,
     };
-    label(alloc, config, by, freeze.number)
+    labels.label(alloc, by, freeze.number)
 }

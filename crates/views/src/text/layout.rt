@@ -1,15 +1,23 @@
 //! The page: what the waiting cost and why, and the stays that cost most.
 
+use crate::labels::Labels;
 use crate::making::Page;
+use crate::plain_words::plain_words;
 use crate::text::freezes::push_freezes;
 use crate::text::order::{first_of, most_first};
 use crate::text::stays::push_stays;
 use crate::text::tables::push_tables;
 use crate::text::weights::push_weights;
 use crate::text::worst::push_worst;
+use crate::times::time_of_rounds;
 use cam_types::Config;
+use recording_file::Span;
 use std::alloc::{AllocError, Global};
 use wait_causes::{BehindCosts, ExplainedStay, Explanation, Freeze, InputKind, Part};
+
+// What stands below the costs by cause.
+const NO_SAVING: &str =
+    "\nWhat a cause cost isn't what would be saved without it: the same stays may then wait for another cause.\n";
 
 /// The page on an explanation: what the waiting cost beside the other schedule, the weights if they aren't the standard ones,
 /// the stay, the device and the freeze that cost most, the cost by cause and by what full rows sent, tables by adapter, device, driver and run level, and
@@ -23,30 +31,85 @@ pub fn page(
 ) -> Result<String, AllocError> {
     let mut page = Page::new(alloc);
     let whole = explanation.whole(alloc)?;
-    push_totals(&mut page, &whole);
+    push_totals(alloc, &mut page, explanation.unit(), &whole)?;
     push_weights(&mut page, config);
-    push_costs(alloc, &mut page, config, explanation, &whole, top)?;
+    let labels = Labels::of(config, explanation);
+    push_costs(alloc, &mut page, labels, explanation, &whole, top)?;
     page.finish()
 }
 
-// Puts what the waiting cost beside the other schedule on the page.
-fn push_totals(page: &mut Page, whole: &Part) {
-    for (name, number) in &[
-        ("stays", u64::from(whole.stays)),
-        ("waited rounds", whole.waited),
-        ("live cost", whole.live),
-        ("best cost", whole.best),
-    ] {
-        page.show(format_args!("{name:<13} {number:>9}\n"));
+// Puts what the waiting cost beside the other schedule on the page, by our words and by those of who looks after storage.
+fn push_totals(
+    alloc: Global,
+    page: &mut Page,
+    unit: Option<Span>,
+    whole: &Part,
+) -> Result<(), AllocError> {
+    push_total(page, "stays", u64::from(whole.stays), "requests in a queue");
+    push_total(
+        page,
+        "waited rounds",
+        whole.waited,
+        &waited_time(alloc, unit, whole.waited)?,
+    );
+    push_total(
+        page,
+        "live cost",
+        whole.live,
+        "the recorded wait, by weight",
+    );
+    push_total(page, "best cost", whole.best, "the least possible");
+    let excess = whole.live.saturating_sub(whole.best);
+    push_total(
+        page,
+        "excess",
+        excess,
+        &avoidable(alloc, excess, whole.live)?,
+    );
+    Ok(())
+}
+
+// A line on a number of the whole.
+fn push_total(page: &mut Page, name: &str, number: u64, words: &str) {
+    page.show(format_args!("{name:<13} {number:>9}"));
+    if !words.is_empty() {
+        page.words(&["  ", words]);
     }
-    page.show(format_args!("{:<13} {:>9}\n", "excess", whole.excess()));
+    page.put("\n");
+}
+
+// What waiting rounds are in time, if it is known how long a round is.
+fn waited_time(alloc: Global, unit: Option<Span>, waited: u64) -> Result<String, AllocError> {
+    match unit {
+        Some(unit) => {
+            let round = time_of_rounds(alloc, unit, 1)?;
+            format!(in alloc;
+                "{} in rounds of {round}",
+                time_of_rounds(alloc, unit, waited)?
+            )
+        }
+        None => Ok(String::new(alloc)),
+    }
+}
+
+// What share of the live cost was avoidable.
+fn avoidable(alloc: Global, excess: u64, live: u64) -> Result<String, AllocError> {
+    if live == 0 {
+        return String::from_str(alloc, "avoidable");
+    }
+    let live = u128::from(live);
+    let thousandths = u128::from(excess)
+        .saturating_mul(1000)
+        .saturating_add(live / 2)
+        / live;
+    format!(in alloc; "avoidable, {}.{} %", thousandths / 10, thousandths % 10)
 }
 
 // Puts what cost most on the page, and the cost by cause and in tables.
 fn push_costs(
     alloc: Global,
     page: &mut Page,
-    config: &Config,
+    labels: Labels<'_>,
     explanation: &Explanation,
     whole: &Part,
     top: usize,
@@ -57,16 +120,16 @@ fn push_costs(
     push_worst(
         alloc,
         page,
-        config,
+        labels,
         explanation,
         first_of(explanation.stays(), &worst_stays),
         first_of(&freezes, &worst_freezes),
     )?;
-    push_causes(page, config, explanation.kind(), whole);
+    push_causes(page, labels.config(), explanation.kind(), whole);
     push_behind(page, &whole.behind);
-    push_tables(alloc, page, config, explanation)?;
-    push_freezes(alloc, page, config, &freezes, &worst_freezes, top)?;
-    push_stays(alloc, page, config, explanation, &worst_stays, top)
+    push_tables(alloc, page, labels, explanation)?;
+    push_freezes(alloc, page, labels, &freezes, &worst_freezes, top)?;
+    push_stays(alloc, page, labels, explanation, &worst_stays, top)
 }
 
 // Puts the costs by cause on the page.
@@ -74,9 +137,11 @@ fn push_causes(page: &mut Page, config: &Config, kind: InputKind, whole: &Part) 
     page.put("\nWhat the waiting cost, by cause:\n\n");
     for (cause, cost) in &whole.costs.by_cause(kind) {
         if cause.can_hold(config) {
-            page.show(format_args!("  {:<18} {cost:>9}\n", cause.name()));
+            let (name, words) = (cause.name(), plain_words(*cause));
+            page.show(format_args!("  {name:<18} {cost:>9}  {words}\n"));
         }
     }
+    page.put(NO_SAVING);
 }
 
 // Puts the costs of full rows on the page, by what they sent.

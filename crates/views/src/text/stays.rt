@@ -1,24 +1,29 @@
 //! The stays that cost most.
 
+use crate::labels::{Labels, shortened};
 use crate::making::Page;
 use crate::text::columns::push_columns;
-use cam_path::path_name;
-use cam_types::Config;
+use crate::times::in_time;
+use recording_file::Span;
 use std::alloc::{AllocError, Global};
 use wait_causes::{ExplainedStay, Explanation, InputKind};
 
 // What stands above the stays of a trace, and above the requests of a recording.
-const TRACE_HEAD: &str = "\nThe stays whose waiting cost most:\n\n\
-\x20 CCB try  path         priority arrival  sent  best      cost  waited\n";
+const TRACE_HEAD: &str = "\nThe stays whose waiting cost most:\n\n  CCB try";
 
-const RECORDING_HEAD: &str = "\nThe requests whose waiting cost most:\n\n\
-\x20 request  path         priority arrival  sent  best      cost  waited\n";
+const RECORDING_HEAD: &str = "\nThe requests whose waiting cost most:\n\n  request";
+
+// What stands above the columns after the device.
+const HEAD: &str = "priority arrival  sent  best      cost  waited";
+
+// How many causes stand on a line.
+const A_LINE: u32 = 3;
 
 /// Puts at most that many of the stays at these places on the page, with how many rounds they waited for each cause.
 pub(crate) fn push_stays(
     alloc: Global,
     page: &mut Page,
-    config: &Config,
+    labels: Labels<'_>,
     explanation: &Explanation,
     places: &[usize],
     top: usize,
@@ -31,22 +36,31 @@ pub(crate) fn push_stays(
         InputKind::Trace => TRACE_HEAD,
         InputKind::Recording => RECORDING_HEAD,
     });
+    let width = labels.width().saturating_sub(2);
+    page.show(format_args!("  {:<width$} {HEAD}\n", "path"));
     for place in places.iter().take(top) {
         if let Some(stay) = stays.get(*place) {
-            push_stay(page, &path_name(alloc, config, stay.device)?, kind, stay);
-            push_waits(page, kind, stay);
+            let device = shortened(alloc, &labels.device(alloc, stay.device)?)?;
+            push_stay(page, kind, stay);
+            push_rest(page, &device, width, stay);
+            push_waits(page, kind, stay, width);
+            push_span(alloc, page, explanation.unit(), stay)?;
         }
     }
     Ok(())
 }
 
-// The columns of a stay on a device of this path, up to its causes.
-fn push_stay(page: &mut Page, path: &str, kind: InputKind, stay: &ExplainedStay) {
+// What stay it is.
+fn push_stay(page: &mut Page, kind: InputKind, stay: &ExplainedStay) {
     match kind {
         InputKind::Trace => page.show(format_args!("{:>5} {:>3}", stay.ccb, stay.attempt)),
         InputKind::Recording => page.show(format_args!("{:>9}", stay.ccb)),
     }
-    page.show(format_args!("  {path:<12}"));
+}
+
+// The columns of a stay on a device that is called so, up to its causes.
+fn push_rest(page: &mut Page, device: &str, width: usize, stay: &ExplainedStay) {
+    page.show(format_args!("  {device:<width$}"));
     push_columns(
         page,
         &[
@@ -60,22 +74,45 @@ fn push_stay(page: &mut Page, path: &str, kind: InputKind, stay: &ExplainedStay)
     page.put("  ");
 }
 
-// How many rounds a stay waited for each cause, and which rounds these are all together, to the end of the line.
-fn push_waits(page: &mut Page, kind: InputKind, stay: &ExplainedStay) {
+// How many rounds a stay waited for each cause, three causes on a line; the device's column is so wide.
+fn push_waits(page: &mut Page, kind: InputKind, stay: &ExplainedStay, width: usize) {
+    let mut shown = 0u32;
     for cause in &kind.causes() {
         let rounds = stay.rounds.for_cause(*cause);
         if rounds > 0 {
+            push_between(page, shown, width);
             page.show(rounds);
-            page.words(&[" ", cause.name(), ", "]);
+            page.words(&[" ", cause.name()]);
+            shown = shown.saturating_add(1);
         }
     }
-    page.put(if stay.live.saturating_sub(stay.arrival) == 1 {
-        "round "
+    page.put(", ");
+}
+
+// What stands between a cause and that many before it.
+fn push_between(page: &mut Page, shown: u32, width: usize) {
+    if shown == 0 {
+        return;
+    }
+    if shown % A_LINE == 0 {
+        page.show(format_args!(",\n{:<width$}", "", width = width.saturating_add(52)));
     } else {
-        "rounds "
-    });
+        page.put(", ");
+    }
+}
+
+// Which rounds a stay waited, and how long that is if it is known, to the end of the line.
+fn push_span(
+    alloc: Global,
+    page: &mut Page,
+    unit: Option<Span>,
+    stay: &ExplainedStay,
+) -> Result<(), AllocError> {
+    let waited = stay.live.saturating_sub(stay.arrival);
+    page.put(if waited == 1 { "round " } else { "rounds " });
     push_rounds(page, stay.arrival, stay.live.saturating_sub(1));
-    page.put("\n");
+    page.show(format_args!("{}\n", in_time(alloc, unit, u64::from(waited))?));
+    Ok(())
 }
 
 /// Puts a range of rounds on the page.

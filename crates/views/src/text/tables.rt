@@ -1,7 +1,8 @@
 //! The tables of the page: what adapters, devices, drivers and run levels waited.
 
+use crate::labels::Labels;
 use crate::making::Page;
-use crate::text::columns::{label, push_columns};
+use crate::text::columns::push_columns;
 use cam_types::Config;
 use std::alloc::{AllocError, Global};
 use wait_causes::{Cause, Explanation, Grouping, InputKind, Part, Row};
@@ -22,14 +23,14 @@ const LAST_COSTS: &str = "  unasked      less     equal      more";
 pub(crate) fn push_tables(
     alloc: Global,
     page: &mut Page,
-    config: &Config,
+    labels: Labels<'_>,
     explanation: &Explanation,
 ) -> Result<(), AllocError> {
     let tables = Tables::of(alloc, explanation)?;
-    page.show(format_args!("\n{:<14} {WAITS}\n", ""));
-    tables.push(alloc, page, config, Columns::Waits)?;
-    push_cost_head(page, config, explanation.kind());
-    tables.push(alloc, page, config, Columns::Costs(explanation.kind()))
+    page.show(format_args!("\n{:<width$} {WAITS}\n", "", width = labels.width()));
+    tables.push(alloc, page, labels, Columns::Waits)?;
+    push_cost_head(page, labels, explanation.kind());
+    tables.push(alloc, page, labels, Columns::Costs(explanation.kind()))
 }
 
 // The rows of each table.
@@ -65,13 +66,13 @@ impl Tables {
         &self,
         alloc: Global,
         page: &mut Page,
-        config: &Config,
+        labels: Labels<'_>,
         columns: Columns,
     ) -> Result<(), AllocError> {
         push_table(
             alloc,
             page,
-            config,
+            labels,
             &self.adapters,
             Grouping::Adapter,
             columns,
@@ -79,7 +80,7 @@ impl Tables {
         push_table(
             alloc,
             page,
-            config,
+            labels,
             &self.devices,
             Grouping::Device,
             columns,
@@ -87,12 +88,12 @@ impl Tables {
         push_table(
             alloc,
             page,
-            config,
+            labels,
             &self.drivers,
             Grouping::Driver,
             columns,
         )?;
-        push_table(alloc, page, config, &self.levels, Grouping::Level, columns)
+        push_table(alloc, page, labels, &self.levels, Grouping::Level, columns)
     }
 }
 
@@ -100,17 +101,17 @@ impl Tables {
 fn push_table(
     alloc: Global,
     page: &mut Page,
-    config: &Config,
+    labels: Labels<'_>,
     rows: &[Row],
     by: Grouping,
     columns: Columns,
 ) -> Result<(), AllocError> {
     for row in rows {
-        let label = label(alloc, config, by, row.number)?;
-        page.show(format_args!("{label:<14}"));
+        let label = labels.label(alloc, by, row.number)?;
+        page.show(format_args!("{label:<width$}", width = labels.width()));
         match columns {
             Columns::Waits => push_waits(page, &row.part),
-            Columns::Costs(kind) => push_costs(page, config, kind, &row.part),
+            Columns::Costs(kind) => push_costs(page, labels.config(), kind, &row.part),
         }
     }
     Ok(())
@@ -136,15 +137,16 @@ fn push_waits(page: &mut Page, part: &Part) {
 }
 
 // What stands above the columns of costs.
-fn push_cost_head(page: &mut Page, config: &Config, kind: InputKind) {
-    let has_links = Cause::LinkFull.can_hold(config);
+fn push_cost_head(page: &mut Page, labels: Labels<'_>, kind: InputKind) {
+    let has_links = Cause::LinkFull.can_hold(labels.config());
     let costs = match kind {
         InputKind::Trace => TRACE_COSTS,
         InputKind::Recording if has_links => "d.stopped a.stopped l.stopped    d.full    a.full",
         InputKind::Recording => RECORDING_COSTS,
     };
     let link_full = if has_links { "    l.full" } else { "" };
-    page.show(format_args!("\n{:<14} {costs}{link_full} {LAST_COSTS}\n", ""));
+    let width = labels.width();
+    page.show(format_args!("\n{:<width$} {costs}{link_full} {LAST_COSTS}\n", ""));
 }
 
 // What the stays of a row cost.

@@ -1,10 +1,10 @@
 //! A sentence each on the stay, the device and the freeze that cost most.
 
+use crate::labels::Labels;
 use crate::making::Page;
 use crate::text::freezes::{frozen_by, frozen_name};
 use crate::text::stays::push_rounds;
-use cam_path::path_name;
-use cam_types::Config;
+use crate::times::in_time;
 use std::alloc::{AllocError, Global};
 use wait_causes::{ExplainedStay, Explanation, Freeze, Grouping, InputKind, Row};
 
@@ -12,49 +12,67 @@ use wait_causes::{ExplainedStay, Explanation, Freeze, Grouping, InputKind, Row};
 pub(crate) fn push_worst(
     alloc: Global,
     page: &mut Page,
-    config: &Config,
+    labels: Labels<'_>,
     explanation: &Explanation,
     stay: Option<&ExplainedStay>,
     freeze: Option<&Freeze>,
 ) -> Result<(), AllocError> {
     if let Some(stay) = stay {
-        push_worst_stay(page, explanation.kind(), stay);
-        push_worst_device(alloc, page, config, explanation)?;
+        push_worst_stay(alloc, page, explanation, stay)?;
+        push_worst_device(alloc, page, labels, explanation)?;
     }
     if let Some(freeze) = freeze {
-        push_worst_freeze(page, &frozen_name(alloc, config, freeze)?, freeze);
+        push_worst_freeze(page, &frozen_name(alloc, labels, freeze)?, freeze);
     }
     Ok(())
 }
 
 // Puts a sentence on the stay that cost most on the page.
-fn push_worst_stay(page: &mut Page, kind: InputKind, stay: &ExplainedStay) {
-    match kind {
+fn push_worst_stay(
+    alloc: Global,
+    page: &mut Page,
+    explanation: &Explanation,
+    stay: &ExplainedStay,
+) -> Result<(), AllocError> {
+    match explanation.kind() {
         InputKind::Trace => {
             page.show(format_args!("\nCCB {} (try {})", stay.ccb, stay.attempt));
         }
         InputKind::Recording => page.show(format_args!("\nRequest {}", stay.ccb)),
     }
-    page.show(format_args!(
-        " cost most: {}, from round {} to its send in round {}; the best schedule sends it in round {}.\n",
-        stay.cost(),
-        stay.arrival,
-        stay.live,
-        stay.best
-    ));
+    page.show(format_args!(" cost most: {}, from ", stay.cost()));
+    push_round(alloc, page, explanation, stay.arrival)?;
+    page.put(" to its send in ");
+    push_round(alloc, page, explanation, stay.live)?;
+    page.put("; the best schedule sends it in ");
+    push_round(alloc, page, explanation, stay.best)?;
+    page.put(".\n");
+    Ok(())
+}
+
+// Puts a round on the page, and when it ended if that is known.
+fn push_round(
+    alloc: Global,
+    page: &mut Page,
+    explanation: &Explanation,
+    round: u32,
+) -> Result<(), AllocError> {
+    let time = in_time(alloc, explanation.unit(), u64::from(round))?;
+    page.show(format_args!("round {round}{time}"));
+    Ok(())
 }
 
 // Puts a sentence on the device whose stays cost most on the page, if one cost anything.
 fn push_worst_device(
     alloc: Global,
     page: &mut Page,
-    config: &Config,
+    labels: Labels<'_>,
     explanation: &Explanation,
 ) -> Result<(), AllocError> {
     let rows = explanation.table(alloc, Grouping::Device)?;
     if let Some(row) = worst_row(&rows) {
-        let path = path_name(alloc, config, row.number)?;
-        page.show(format_args!("Of the devices {path} cost most: {}.\n", row.part.live));
+        let device = labels.device(alloc, row.number)?;
+        page.show(format_args!("Of the devices {device} cost most: {}.\n", row.part.live));
     }
     Ok(())
 }

@@ -1,0 +1,101 @@
+//! What adapters, devices, drivers, links and run levels are called.
+
+use cam_path::path_name;
+use cam_types::Config;
+use recording_file::{Name, NameKind};
+use std::alloc::{AllocError, Global};
+use wait_causes::{Explanation, Grouping};
+
+// How many characters a label has at most.
+const MOST: usize = 26;
+
+/// What a configuration's parts are called: by their numbers and paths, and by the names of the recording if it has any.
+#[derive(Clone, Copy)]
+pub(crate) struct Labels<'a> {
+    config: &'a Config,
+    names: &'a [Name],
+}
+
+impl<'a> Labels<'a> {
+    /// Those of what is explained.
+    pub(crate) fn of(config: &'a Config, explanation: &'a Explanation) -> Labels<'a> {
+        Labels {
+            config,
+            names: explanation.names(),
+        }
+    }
+
+    /// The configuration.
+    pub(crate) fn config(self) -> &'a Config {
+        self.config
+    }
+
+    /// How wide a column of labels is.
+    pub(crate) fn width(self) -> usize {
+        if self.names.is_empty() { 14 } else { MOST }
+    }
+
+    /// The adapter, device, driver or run level of this number, in words, as `driver 3 database`: at most 26 characters.
+    pub(crate) fn label(
+        self,
+        alloc: Global,
+        by: Grouping,
+        number: u32,
+    ) -> Result<String, AllocError> {
+        match by {
+            Grouping::Device => {
+                let device = self.device(alloc, number)?;
+                shortened(alloc, &format!(in alloc; "device {device}")?)
+            }
+            Grouping::Adapter => self.numbered(alloc, "adapter", NameKind::Adapter, number),
+            Grouping::Driver => self.numbered(alloc, "driver", NameKind::Driver, number),
+            Grouping::Level => format!(in alloc; "run level {number}"),
+        }
+    }
+
+    /// The device's path, and its name if it has one.
+    pub(crate) fn device(self, alloc: Global, device: u32) -> Result<String, AllocError> {
+        let path = path_name(alloc, self.config, device)?;
+        match self.name(NameKind::Device, device) {
+            Some(name) => format!(in alloc; "{path} {name}"),
+            None => Ok(path),
+        }
+    }
+
+    // The word, the number, and the name of the kind if there is one.
+    fn numbered(
+        self,
+        alloc: Global,
+        word: &str,
+        kind: NameKind,
+        number: u32,
+    ) -> Result<String, AllocError> {
+        match self.name(kind, number) {
+            Some(name) => shortened(alloc, &format!(in alloc; "{word} {number} {name}")?),
+            None => format!(in alloc; "{word} {number}"),
+        }
+    }
+
+    /// The name of this kind and number, if there is one.
+    pub(crate) fn name(self, kind: NameKind, number: u32) -> Option<&'a str> {
+        for name in self.names {
+            if name.kind() == kind && name.number() == number {
+                return Some(name.text());
+            }
+        }
+        None
+    }
+}
+
+/// The text itself, or its beginning and an ellipsis where it has more than 26 characters.
+pub(crate) fn shortened(alloc: Global, text: &str) -> Result<String, AllocError> {
+    if text.chars().count() <= MOST {
+        return String::from_str(alloc, text);
+    }
+    let mut short = String::new(alloc);
+    for letter in text.chars().take(MOST - 1) {
+        short.push(letter)?;
+    }
+    short.push('…')?;
+    Ok(short)
+}

@@ -1,5 +1,6 @@
 //! The calls of `audit_report`: checks, audits, proofs and migrations of whole texts.
 
+use crate::tell::{begin, end, tell};
 use crate::texts::{FROZEN, ONE_COMMAND, REPORT, TWO_ADAPTERS};
 use anyhow::Result;
 use audit_report::{AuditFault, run_audit, run_audit_with, run_check, run_migrate, run_prove};
@@ -12,17 +13,19 @@ use std::thread::Threads;
 /// Makes each call once, and prints a line of what they answer.
 pub fn call_audit_report<R: Runtime + AllocGlobal + Threads + Sync>(rt: &R) -> Result<()> {
     let alloc: Global = rt.alloc();
-    print!(rt; "audit_report:")?;
+    begin(rt, "audit_report")?;
     call_check(rt, alloc)?;
-    call_audits(rt, alloc)?;
+    call_audit(rt, alloc)?;
+    call_audit_with(rt, alloc)?;
     call_prove(rt, alloc)?;
     call_migrate(rt, alloc)?;
-    call_fault(rt, alloc)
+    call_fault(rt, alloc)?;
+    end(rt)
 }
 
 // How many lines there are.
-fn count_lines(text: &[u8]) -> usize {
-    let mut count = 0usize;
+fn count_lines(text: &[u8]) -> u64 {
+    let mut count = 0u64;
     for byte in text {
         if *byte == b'\n' {
             count = count.saturating_add(1);
@@ -37,17 +40,19 @@ fn call_check<R: Runtime>(rt: &R, alloc: Global) -> Result<()> {
     let mut out = Watched::new(&mut text);
     let checked: Result<(), AuditFault> = run_check(alloc, &mut trace, &mut out);
     checked?;
-    print!(rt; " check {} lines,", count_lines(&text))?;
-    Ok(())
+    tell(rt, "lines of a check", &[count_lines(&text)])
 }
 
-fn call_audits<R: Runtime + Threads + Sync>(rt: &R, alloc: Global) -> Result<()> {
+fn call_audit<R: Runtime>(rt: &R, alloc: Global) -> Result<()> {
     let mut text: Vec<u8> = Vec::new(alloc);
     let mut trace = Watched::new(FROZEN.as_bytes());
     let mut out = Watched::new(&mut text);
     let audited: Result<(), AuditFault> = run_audit(alloc, &mut trace, &mut out, true);
     audited?;
-    print!(rt; " audit {} lines,", count_lines(&text))?;
+    tell(rt, "of an audit", &[count_lines(&text)])
+}
+
+fn call_audit_with<R: Runtime + Threads + Sync>(rt: &R, alloc: Global) -> Result<()> {
     let mut text: Vec<u8> = Vec::new(alloc);
     let mut trace = Watched::new(TWO_ADAPTERS.as_bytes());
     let mut out = Watched::new(&mut text);
@@ -55,8 +60,7 @@ fn call_audits<R: Runtime + Threads + Sync>(rt: &R, alloc: Global) -> Result<()>
         rt, alloc, &mut trace, &mut out, true, &OpenGate,
     );
     audited?;
-    print!(rt; " at once {} lines,", count_lines(&text))?;
-    Ok(())
+    tell(rt, "of one at once", &[count_lines(&text)])
 }
 
 fn call_prove<R: Runtime>(rt: &R, alloc: Global) -> Result<()> {
@@ -65,8 +69,11 @@ fn call_prove<R: Runtime>(rt: &R, alloc: Global) -> Result<()> {
     let mut report = Watched::new(REPORT.as_bytes());
     let mut out = Watched::new(&mut text);
     let proved: Result<bool, AuditFault> = run_prove(alloc, &mut trace, &mut report, &mut out);
-    print!(rt; " proved {} {} line,", proved?, count_lines(&text))?;
-    Ok(())
+    tell(
+        rt,
+        "proved, and lines",
+        &[proved? as u64, count_lines(&text)],
+    )
 }
 
 fn call_migrate<R: Runtime>(rt: &R, alloc: Global) -> Result<()> {
@@ -75,8 +82,7 @@ fn call_migrate<R: Runtime>(rt: &R, alloc: Global) -> Result<()> {
     let mut out = Watched::new(&mut text);
     let migrated: Result<(), AuditFault> = run_migrate(alloc, &mut trace, &mut out);
     migrated?;
-    print!(rt; " migrated {} lines,", count_lines(&text))?;
-    Ok(())
+    tell(rt, "lines of a migration", &[count_lines(&text)])
 }
 
 fn call_fault<R: Runtime>(rt: &R, alloc: Global) -> Result<()> {
@@ -84,15 +90,15 @@ fn call_fault<R: Runtime>(rt: &R, alloc: Global) -> Result<()> {
     let mut trace = Watched::new(b"".as_slice());
     let mut out = Watched::new(&mut text);
     let checked: Result<(), AuditFault> = run_check(alloc, &mut trace, &mut out);
-    if let Err(fault) = checked {
-        print!(rt; " fault {}", number_of(fault))?;
-    }
-    println!(rt; "")?;
-    Ok(())
+    let number: u64 = match checked {
+        Ok(()) => 0,
+        Err(fault) => number_of(fault),
+    };
+    tell(rt, "fault", &[number])
 }
 
 // The number of a fault, in the order of their names.
-fn number_of(fault: AuditFault) -> u32 {
+fn number_of(fault: AuditFault) -> u64 {
     match fault {
         AuditFault::Trace(_) => 1,
         AuditFault::Unsent(_) => 2,

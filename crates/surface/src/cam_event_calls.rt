@@ -1,6 +1,7 @@
 //! The calls of `cam_event`: a history, to which events are added one by one.
 
 use crate::frame_config::frame_config;
+use crate::tell::{begin, end, tell};
 use anyhow::Result;
 use cam_event::{Event, History, PushFault, Refusal, Stay};
 use cam_types::{Config, Flags, Outcome};
@@ -9,14 +10,20 @@ use std::alloc::{AllocError, Global};
 /// Makes each call once, with an event of each kind, and prints a line of what they answer.
 pub fn call_cam_event(rt: &HostRuntime) -> Result<()> {
     let alloc: Global = rt.alloc();
+    begin(rt, "cam_event")?;
     let made: Result<History, AllocError> = History::new(alloc, frame_config(alloc)?);
-    let mut history: History = made?;
-    print!(rt; "cam_event:")?;
-    push_before_the_send(&mut history)?;
-    call_unsent(rt, &history)?;
-    push_the_rest(&mut history)?;
-    call_refused(rt, &mut history)?;
-    call_counts(rt, &history)
+    call_history(rt, &mut made?)?;
+    end(rt)
+}
+
+fn call_history(rt: &HostRuntime, history: &mut History) -> Result<()> {
+    push_before_the_send(history)?;
+    call_unsent(rt, history)?;
+    push_sends(history)?;
+    push_decisions(history)?;
+    call_refused(rt, history)?;
+    call_config(rt, history)?;
+    call_counts(rt, history)
 }
 
 fn push_before_the_send(history: &mut History) -> Result<(), PushFault> {
@@ -37,15 +44,18 @@ fn push_before_the_send(history: &mut History) -> Result<(), PushFault> {
     history.push(Event::Adjust { device, openings })
 }
 
-fn push_the_rest(history: &mut History) -> Result<(), PushFault> {
+fn push_sends(history: &mut History) -> Result<(), PushFault> {
     let (lane, ccb): (u32, u32) = (0, 0);
-    let (busy, failed): (Outcome, Outcome) = (Outcome::of_status(0x05), Outcome::of_status(0x04));
+    let outcome: Outcome = Outcome::of_status(0x05);
     history.push(Event::Send { lane, ccb })?;
-    history.push(Event::Done { ccb, outcome: busy })?;
+    history.push(Event::Done { ccb, outcome })?;
     history.push(Event::Requeue { ccb })?;
     history.push(Event::Tick)?;
-    history.push(Event::Send { lane, ccb })?;
-    let outcome: Outcome = failed;
+    history.push(Event::Send { lane, ccb })
+}
+
+fn push_decisions(history: &mut History) -> Result<(), PushFault> {
+    let (ccb, outcome): (u32, Outcome) = (0, Outcome::of_status(0x04));
     history.push(Event::Done { ccb, outcome })?;
     history.push(Event::Finish { ccb })
 }
@@ -53,40 +63,53 @@ fn push_the_rest(history: &mut History) -> Result<(), PushFault> {
 fn call_unsent(rt: &HostRuntime, history: &History) -> Result<()> {
     let unsent: Option<Stay> = history.unsent();
     let live: Option<u64> = history.live_cost();
-    let name: Option<(u32, u32)> = unsent.map(|stay| (stay.ccb, stay.attempt));
-    print!(rt; " unsent {name:?} live {live:?},")?;
-    Ok(())
+    let (ccb, attempt): (u32, u32) = match unsent {
+        Some(stay) => (stay.ccb, stay.attempt),
+        None => (9, 9),
+    };
+    tell(
+        rt,
+        "unsent, live cost",
+        &[ccb as u64, attempt as u64, live.is_some() as u64],
+    )
 }
 
 fn call_refused(rt: &HostRuntime, history: &mut History) -> Result<()> {
     let pushed: Result<(), PushFault> = history.push(Event::Finish { ccb: 0 });
-    match pushed {
-        Ok(()) => {}
-        Err(PushFault::Refused(why)) => print!(rt; " refusal {},", number_of(why))?,
-        Err(PushFault::OutOfMemory) => print!(rt; " out of memory,")?,
-    }
-    Ok(())
+    let number: u64 = match pushed {
+        Ok(()) => 0,
+        Err(PushFault::Refused(why)) => number_of(why),
+        Err(PushFault::OutOfMemory) => 99,
+    };
+    tell(rt, "refusal", &[number])
+}
+
+fn call_config(rt: &HostRuntime, history: &History) -> Result<()> {
+    let config: &Config = history.config();
+    let events: &[Event] = history.events();
+    tell(
+        rt,
+        "lanes, events",
+        &[config.lanes().len() as u64, events.len() as u64],
+    )
 }
 
 fn call_counts(rt: &HostRuntime, history: &History) -> Result<()> {
-    let config: &Config = history.config();
-    let events: &[Event] = history.events();
     let (round, commands, stays): (u32, u32, u32) = (
         history.round(),
         history.commands(),
         history.stay_count(),
     );
-    println!(rt;
-        " lanes {} events {} round {round} commands {commands} stays {stays} live {:?}",
-        config.lanes().len(),
-        events.len(),
-        history.live_cost()
-    )?;
-    Ok(())
+    let live: u64 = history.live_cost().unwrap_or(999);
+    tell(
+        rt,
+        "round, commands, stays, live",
+        &[round as u64, commands as u64, stays as u64, live],
+    )
 }
 
 // The number of a refusal, in the order in which they are tested.
-fn number_of(why: Refusal) -> u32 {
+fn number_of(why: Refusal) -> u64 {
     match why {
         Refusal::HistoryFull(_) => 1,
         Refusal::NoDevice => 2,

@@ -1,5 +1,6 @@
 //! The calls of `cam_path`: paths of devices, read, written and compared.
 
+use crate::tell::{begin, end, tell};
 use anyhow::Result;
 use cam_path::{BadPath, CamPath};
 use cam_types::Device;
@@ -16,27 +17,34 @@ const DEVICE: Device = Device {
 
 /// Makes each call once, and prints a line of what they answer.
 pub fn call_cam_path(rt: &HostRuntime) -> Result<()> {
-    print!(rt; "cam_path: ")?;
+    begin(rt, "cam_path")?;
     let path: CamPath = CamPath::of(&DEVICE);
     write_path(rt, rt.alloc(), &path)?;
+    call_read(rt, path)?;
+    end(rt)
+}
+
+fn call_read(rt: &HostRuntime, path: CamPath) -> Result<()> {
     let later = CamPath {
         bus: 0u8,
         target: 2u16,
         lun: 0u16,
     };
     let read: Result<CamPath, BadPath> = CamPath::read(b"0:2:0");
-    print!(rt; " read {}", read == Ok(later))?;
-    print!(rt; " ordered {}", path < later)?;
-    if let Err(BadPath(place)) = CamPath::read(b"0:01:0") {
-        let place: usize = place;
-        print!(rt; " bad at {place}")?;
-    }
-    println!(rt; "")?;
-    Ok(())
+    let place: usize = match CamPath::read(b"0:01:0") {
+        Ok(_) => 0,
+        Err(BadPath(place)) => place,
+    };
+    let answers = [
+        (read == Ok(later)) as u64,
+        (path < later) as u64,
+        place as u64,
+    ];
+    tell(rt, "read, ordered, bad at", &answers)
 }
 
 fn write_path(rt: &HostRuntime, alloc: Global, path: &CamPath) -> Result<()> {
-    let mut text: Vec<u8> = Vec::new(alloc);
+    let mut text: Vec<u8> = b" ".to_vec(alloc)?;
     let written: Result<(), AllocError> = path.write(&mut text);
     written?;
     io::writer(rt).write_all(&text)?;

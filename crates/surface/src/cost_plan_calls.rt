@@ -1,5 +1,6 @@
 //! The calls of `cost_plan`: best plans, made on one thread and at once.
 
+use crate::tell::{begin, end, tell};
 use crate::texts::{NARROW_LINK, TWO_ADAPTERS};
 use anyhow::Result;
 use audit_report::read_net;
@@ -13,17 +14,23 @@ use std::thread::Threads;
 /// Makes each call once, and prints a line of what they answer.
 pub fn call_cost_plan<R: Runtime + AllocGlobal + Threads + Sync>(rt: &R) -> Result<()> {
     let alloc: Global = rt.alloc();
+    begin(rt, "cost_plan")?;
+    call_plan(rt, alloc)?;
+    call_gate(&OpenGate);
+    call_plan_with(rt, alloc)?;
+    end(rt)
+}
+
+fn call_plan<R: Runtime>(rt: &R, alloc: Global) -> Result<()> {
     let (_, net) = read_net(alloc, &mut Watched::new(NARROW_LINK.as_bytes()))?;
     let planned: Result<BestPlan, AllocError> = plan(alloc, &net);
-    print!(rt; "cost_plan: alone")?;
-    call_best(rt, &net, planned?)?;
+    call_best(rt, &net, planned?)
+}
+
+fn call_plan_with<R: Runtime + Threads + Sync>(rt: &R, alloc: Global) -> Result<()> {
     let (_, net) = read_net(alloc, &mut Watched::new(TWO_ADAPTERS.as_bytes()))?;
-    call_gate(&OpenGate);
     let planned: Result<BestPlan, AllocError> = plan_with(rt, alloc, &net, &OpenGate);
-    print!(rt; " at once")?;
-    call_best(rt, &net, planned?)?;
-    println!(rt; "")?;
-    Ok(())
+    call_best(rt, &net, planned?)
 }
 
 fn call_gate<G: Gate>(gate: &G) {
@@ -32,10 +39,13 @@ fn call_gate<G: Gate>(gate: &G) {
 
 fn call_best<R: Runtime>(rt: &R, net: &Net, best: BestPlan) -> Result<()> {
     let (schedule, prices): (Schedule, Prices) = (best.schedule, best.prices);
-    let is_sized: bool = schedule.len() == net.stays() as usize && prices.cells() == net.cells();
-    print!(rt; " sized {is_sized}")?;
+    tell(
+        rt,
+        "as many prices as cells",
+        &[(prices.cells() == net.cells()) as u64],
+    )?;
     if schedule.len() == net.stays() as usize {
-        print!(rt; " cost {:?}", cost(net, &schedule))?;
+        tell(rt, "cost", &[cost(net, &schedule).unwrap_or(999)])?;
     }
     Ok(())
 }

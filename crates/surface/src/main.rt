@@ -37,6 +37,7 @@ mod round_net_calls;
 mod sense_class_calls;
 mod sim_queue_calls;
 mod sim_worker_calls;
+mod tell;
 mod texts;
 mod trace_file_calls;
 mod xpt_lock_calls;

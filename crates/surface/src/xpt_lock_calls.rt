@@ -3,8 +3,9 @@
 ghost use Rattle.std.specs.Prelude.{◌≡◌};
 
 use crate::frame_config::frame_config;
+use crate::tell::{begin, end, known, tell};
 use anyhow::Result;
-use cam_event::{Event, History};
+use cam_event::{Event, History, Refusal};
 use cam_types::{Flags, Limits, Outcome};
 use std::alloc::{AllocError, Global};
 use std::marker::Brand;
@@ -16,8 +17,9 @@ use xpt_state::{Case, Done, Look, Sent, Xpt};
 
 /// Makes each call once, and prints a line of what they answer.
 pub fn call_xpt_lock<R: Runtime + AllocGlobal + Wait>(rt: &R) -> Result<()> {
-    print!(rt; "xpt_lock:")?;
-    call_shared::<Brand, R>(rt, rt.alloc(), Blank::new(65))
+    begin(rt, "xpt_lock")?;
+    call_shared::<Brand, R>(rt, rt.alloc(), Blank::new(65))?;
+    end(rt)
 }
 
 fn call_shared<L: Ledger, R: Runtime + Wait>(rt: &R, alloc: Global, blank: Blank) -> Result<()>
@@ -27,10 +29,18 @@ fn call_shared<L: Ledger, R: Runtime + Wait>(rt: &R, alloc: Global, blank: Blank
     let xpt = Xpt::open(alloc, frame_config(alloc)?, Limits::most())?;
     let shared: SharedXpt<L> = SharedXpt::new(xpt, blank);
     let mut seats = Seats::taken(rt, alloc, &shared)?;
-    call_events(rt, &shared, &mut seats)?;
-    call_seat(rt, &seats.driver)?;
-    call_look(rt, &shared)?;
+    call_all(rt, &shared, &mut seats)?;
     call_gather(rt, alloc, shared, seats)
+}
+
+fn call_all<L: Ledger, R: Runtime + Wait>(
+    rt: &R,
+    shared: &SharedXpt<L>,
+    seats: &mut Seats<L>,
+) -> Result<()> {
+    call_events(rt, shared, seats)?;
+    call_seat(rt, &seats.driver)?;
+    call_look(rt, shared)
 }
 
 // A seat of each kind.
@@ -65,9 +75,16 @@ fn call_events<L: Ledger, R: Runtime + Wait>(
     call_requeue(rt, shared, &mut seats.recovery)?;
     call_tick(rt, shared, &mut seats.keeper)?;
     call_lane(rt, shared, &mut seats.lane, 0x04)?;
-    let finished: Result<Receipt, SharedFault> = shared.finish(rt, &mut seats.recovery, 0u32);
-    print!(rt; " {}", finished?.at)?;
-    Ok(())
+    call_finish(rt, shared, &mut seats.recovery)
+}
+
+fn call_finish<L: Ledger, R: Runtime + Wait>(
+    rt: &R,
+    shared: &SharedXpt<L>,
+    seat: &mut Seat<L>,
+) -> Result<()> {
+    let finished: Result<Receipt, SharedFault> = shared.finish(rt, seat, 0u32);
+    tell(rt, "finish", &[finished?.at as u64])
 }
 
 fn call_gather<L: Ledger, R: Runtime>(
@@ -78,13 +95,13 @@ fn call_gather<L: Ledger, R: Runtime>(
 ) -> Result<()> {
     let seats: Vec<Seat<L>> = listed(alloc, seats)?;
     let gathered: Result<History, GatherFault> = shared.gather(alloc, seats);
-    match gathered {
-        Ok(history) => println!(rt; " gathered {}", history.events().len())?,
-        Err(GatherFault::Mismatch(receipt)) => println!(rt; " mismatch {}", receipt.at)?,
-        Err(GatherFault::Unnamed(place)) => println!(rt; " unnamed {place}")?,
-        Err(GatherFault::OutOfMemory) => println!(rt; " out of memory")?,
-    }
-    Ok(())
+    let answer: [u64; 2] = match gathered {
+        Ok(history) => [0, history.events().len() as u64],
+        Err(GatherFault::Mismatch(receipt)) => [1, receipt.at as u64],
+        Err(GatherFault::Unnamed(place)) => [2, place as u64],
+        Err(GatherFault::OutOfMemory) => [3, 0],
+    };
+    tell(rt, "gathered", &answer)
 }
 
 fn listed<L: Ledger>(alloc: Global, seats: Seats<L>) -> Result<Vec<Seat<L>>, AllocError> {
@@ -102,11 +119,23 @@ fn call_driver<L: Ledger, R: Runtime + Wait>(
     seat: &mut Seat<L>,
 ) -> Result<()> {
     call_submit(rt, shared, seat)?;
-    call_freezes(rt, shared, seat)?;
+    call_dev_freeze(rt, shared, seat)?;
+    call_sim_freeze(rt, shared, seat)?;
+    call_adjust(rt, shared, seat)
+}
+
+fn call_adjust<L: Ledger, R: Runtime + Wait>(
+    rt: &R,
+    shared: &SharedXpt<L>,
+    seat: &mut Seat<L>,
+) -> Result<()> {
     let adjusted: Result<Receipt, SharedFault> = shared.adjust(rt, seat, 0u32, 1u32);
-    let receipt: Receipt = adjusted?;
-    print!(rt; " {} reply {}", receipt.at, number_of(&receipt.reply))?;
-    Ok(())
+    tell_receipt(rt, "adjust", &adjusted?)
+}
+
+// Says where the receipt's event stands, and what the reply was.
+fn tell_receipt<R: Runtime>(rt: &R, words: &str, receipt: &Receipt) -> Result<()> {
+    tell(rt, words, &[receipt.at as u64, number_of(&receipt.reply)])
 }
 
 fn call_submit<L: Ledger, R: Runtime + Wait>(
@@ -126,22 +155,43 @@ fn call_submit<L: Ledger, R: Runtime + Wait>(
     let (number, receipt): (u32, Receipt) = submitted?;
     let (at, event, reply): (u32, Event, Reply) = (receipt.at, receipt.event, receipt.reply);
     let is_submit: bool = matches!(&event, Event::Submit { .. });
-    print!(rt; " {at} submit {is_submit} {}", reply == Reply::Ccb(number))?;
-    Ok(())
+    tell(
+        rt,
+        "submit",
+        &[
+            at as u64,
+            is_submit as u64,
+            (reply == Reply::Ccb(number)) as u64,
+        ],
+    )
 }
 
-fn call_freezes<L: Ledger, R: Runtime + Wait>(
+fn call_dev_freeze<L: Ledger, R: Runtime + Wait>(
     rt: &R,
     shared: &SharedXpt<L>,
     seat: &mut Seat<L>,
 ) -> Result<()> {
     let frozen: Result<Receipt, SharedFault> = shared.freeze_dev(rt, seat, 0u32, 1u32);
     let released: Result<Receipt, SharedFault> = shared.release_dev(rt, seat, 0u32, 1u32);
-    print!(rt; " {} {}", frozen?.at, released?.at)?;
+    tell(
+        rt,
+        "freeze, release",
+        &[frozen?.at as u64, released?.at as u64],
+    )
+}
+
+fn call_sim_freeze<L: Ledger, R: Runtime + Wait>(
+    rt: &R,
+    shared: &SharedXpt<L>,
+    seat: &mut Seat<L>,
+) -> Result<()> {
     let frozen: Result<Receipt, SharedFault> = shared.freeze_sim(rt, seat, 0u32, 1u32);
     let released: Result<Receipt, SharedFault> = shared.release_sim(rt, seat, 0u32);
-    print!(rt; " {} {}", frozen?.at, released?.at)?;
-    Ok(())
+    tell(
+        rt,
+        "of the adapter",
+        &[frozen?.at as u64, released?.at as u64],
+    )
 }
 
 fn call_lane<L: Ledger, R: Runtime + Wait>(
@@ -150,16 +200,31 @@ fn call_lane<L: Ledger, R: Runtime + Wait>(
     seat: &mut Seat<L>,
     status: u8,
 ) -> Result<()> {
+    call_send(rt, shared, seat)?;
+    call_done(rt, shared, seat, Outcome::of_status(status))
+}
+
+fn call_send<L: Ledger, R: Runtime + Wait>(
+    rt: &R,
+    shared: &SharedXpt<L>,
+    seat: &mut Seat<L>,
+) -> Result<()> {
     let sent: Result<(Sent, Option<Receipt>), SharedFault> = shared.send_next(rt, seat, 0u32);
     let (sent, receipt): (Sent, Option<Receipt>) = sent?;
     let is_command: bool = matches!(&sent, Sent::Command(_));
-    print!(rt; " {:?} sent {is_command}", place_of(&receipt))?;
-    let outcome = Outcome::of_status(status);
+    tell(rt, "send", &[known(place_of(&receipt)), is_command as u64])
+}
+
+fn call_done<L: Ledger, R: Runtime + Wait>(
+    rt: &R,
+    shared: &SharedXpt<L>,
+    seat: &mut Seat<L>,
+    outcome: Outcome,
+) -> Result<()> {
     let done: Result<(Done, Receipt), SharedFault> = shared.done(rt, seat, 0u32, outcome);
     let (done, receipt): (Done, Receipt) = done?;
-    print!(rt; " {} reply {}", receipt.at, number_of(&receipt.reply))?;
-    print!(rt; " value {:02x}", done.value)?;
-    Ok(())
+    tell_receipt(rt, "done", &receipt)?;
+    tell(rt, "value", &[done.value as u64])
 }
 
 // Where the event of the receipt stands, if there is one.
@@ -176,10 +241,12 @@ fn call_requeue<L: Ledger, R: Runtime + Wait>(
     seat: &mut Seat<L>,
 ) -> Result<()> {
     let case: Option<Case> = shared.next_case(rt);
-    print!(rt; " case {:?}", case.map(|case| case.ccb))?;
+    let ccb: u64 = match case {
+        Some(case) => case.ccb as u64,
+        None => 9,
+    };
     let requeued: Result<Receipt, SharedFault> = shared.requeue(rt, seat, 0u32);
-    print!(rt; " {}", requeued?.at)?;
-    Ok(())
+    tell(rt, "case, requeue", &[ccb, requeued?.at as u64])
 }
 
 fn call_tick<L: Ledger, R: Runtime + Wait>(
@@ -189,25 +256,24 @@ fn call_tick<L: Ledger, R: Runtime + Wait>(
 ) -> Result<()> {
     let ticked: Result<(u32, Receipt), SharedFault> = shared.tick(rt, seat);
     let (round, receipt): (u32, Receipt) = ticked?;
-    print!(rt;
-        " {} reply {} round {round}",
-        receipt.at,
-        number_of(&receipt.reply)
-    )?;
-    Ok(())
+    tell_receipt(rt, "tick", &receipt)?;
+    tell(rt, "round", &[round as u64])
 }
 
 fn call_seat<L: Ledger, R: Runtime + Wait>(rt: &R, seat: &Seat<L>) -> Result<()> {
     let name: SeatName = seat.name();
     let receipts: &[Receipt] = seat.receipts();
-    print!(rt; " {name:?} receipts {}", receipts.len())?;
-    Ok(())
+    let is_driver: bool = name == SeatName::Driver(0);
+    tell(
+        rt,
+        "seat of the driver, receipts",
+        &[is_driver as u64, receipts.len() as u64],
+    )
 }
 
 fn call_look<L: Ledger, R: Runtime + Wait>(rt: &R, shared: &SharedXpt<L>) -> Result<()> {
     let look: Look = shared.look(rt);
-    print!(rt; " look {}", look.length)?;
-    Ok(())
+    tell(rt, "look", &[look.length as u64])
 }
 
 fn call_refused<L: Ledger, R: Runtime + Wait>(
@@ -215,16 +281,16 @@ fn call_refused<L: Ledger, R: Runtime + Wait>(
     shared: &SharedXpt<L>,
     seat: &mut Seat<L>,
 ) -> Result<()> {
-    match shared.freeze_dev(rt, seat, 9, 1) {
-        Ok(_) => {}
-        Err(SharedFault::Refused(why)) => print!(rt; " refused {why}")?,
-        Err(SharedFault::OutOfMemory) => print!(rt; " out of memory")?,
-    }
-    Ok(())
+    let refused: u64 = match shared.freeze_dev(rt, seat, 9, 1) {
+        Ok(_) => 0,
+        Err(SharedFault::Refused(why)) => (why == Refusal::NoDevice) as u64,
+        Err(SharedFault::OutOfMemory) => 9,
+    };
+    tell(rt, "refused", &[refused])
 }
 
 // The number of a kind of reply.
-fn number_of(reply: &Reply) -> u32 {
+fn number_of(reply: &Reply) -> u64 {
     match reply {
         Reply::Ccb(_) => 1,
         Reply::Command(_) => 2,

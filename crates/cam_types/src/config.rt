@@ -45,13 +45,26 @@ impl From<AllocError> for ConfigError {
 }
 
 /// Weights, links, adapters, devices and lanes that keep the rules of `ConfigFault`.
-#[derive(Debug, Drop)]
+#[derive(Debug)]
 pub struct Config {
     pub(crate) weights: Vec<WeightRow>,
     pub(crate) links: Vec<u32>,
     pub(crate) adapters: Vec<Adapter>,
     pub(crate) devices: Vec<Device>,
     pub(crate) lanes: Vec<u32>,
+}
+
+// By hand, so that to its owners a configuration that ends is one call and not each of its fields.
+impl Drop for Config {
+    fn drop(self) {
+        let Config {
+            weights: _,
+            links: _,
+            adapters: _,
+            devices: _,
+            lanes: _,
+        } = self;
+    }
 }
 
 impl Model for Config {

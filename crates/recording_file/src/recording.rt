@@ -9,7 +9,7 @@ use std::marker::Model;
 
 /// What some scheduler did with requests in rounds 1 to a last one: what there was to use, what it took in a round, and when
 /// each request arrived and was started. It keeps the rules of `RecordingFault` and `Cause`. A `Recorder` makes one.
-#[derive(Debug, Drop)]
+#[derive(Debug)]
 pub struct Recording {
     pub(crate) unit: Option<Span>,
     pub(crate) rounds: u32,
@@ -17,6 +17,20 @@ pub struct Recording {
     pub(crate) names: Vec<Name>,
     pub(crate) caps: Vec<Cap>,
     pub(crate) requests: Vec<Request>,
+}
+
+// By hand, so that to its owners a recording that ends is one call and not each of its fields.
+impl Drop for Recording {
+    fn drop(self) {
+        let Recording {
+            unit: _,
+            rounds: _,
+            config: _,
+            names: _,
+            caps: _,
+            requests: _,
+        } = self;
+    }
 }
 
 impl Model for Recording {

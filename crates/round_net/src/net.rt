@@ -18,7 +18,7 @@ use std::marker::Model;
 ///
 /// Stays, devices, adapters and links are numbered from 0, rounds from 1. There is a row for each device, after these one
 /// for each adapter, and after these one for each link. Each number that a call takes has to be within the net.
-#[derive(Debug, Drop)]
+#[derive(Debug)]
 pub struct Net {
     config: Config,
     commands: u32,
@@ -29,6 +29,23 @@ pub struct Net {
     stays: Vec<StayRow>,
     caps: Vec<u32>,
     most_price: u64,
+}
+
+// By hand, so that to its owners a net that ends is one call and not each of its fields.
+impl Drop for Net {
+    fn drop(self) {
+        let Net {
+            config: _,
+            commands: _,
+            rounds: _,
+            links: _,
+            adapter_of: _,
+            link_of: _,
+            stays: _,
+            caps: _,
+            most_price: _,
+        } = self;
+    }
 }
 
 impl Model for Net {

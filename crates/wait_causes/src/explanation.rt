@@ -20,10 +20,19 @@ use std::alloc::{AllocError, Global};
 use std::marker::Model;
 
 /// Where the stays of a history or a recording waited, and why, beside another schedule.
-#[derive(Drop)]
 pub struct Explanation {
     origin: Origin,
     stays: Vec<ExplainedStay>,
+}
+
+// By hand, so that to its owners an explanation that ends is one call and not each of its fields.
+impl Drop for Explanation {
+    fn drop(self) {
+        let Explanation {
+            origin: _,
+            stays: _,
+        } = self;
+    }
 }
 
 impl Model for Explanation {

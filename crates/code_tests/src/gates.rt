@@ -7,21 +7,24 @@ use cost_plan::{Done, Gate, plan_with};
 use recording_file::read_recording;
 use round_net::{Net, cost};
 use std::alloc::Global;
-use std::sync::atomic::{AtomicU32, Ordering};
+use std::sync::atomic::{AtomicBool, AtomicU32, Ordering};
 use std::test::Fail;
 
-// How often a gate was told that a part begins, and that a level of a plan is made.
+// How often a gate was told that a part begins; how far the plan by levels was of which it was told last, and whether it was
+// no further than the time before.
 #[derive(Drop)]
 struct Told {
     begun: AtomicU32,
-    planned: AtomicU32,
+    far: AtomicU32,
+    is_back: AtomicBool,
 }
 
 impl Told {
     fn nothing() -> Told {
         Told {
             begun: AtomicU32::new(0),
-            planned: AtomicU32::new(0),
+            far: AtomicU32::new(0),
+            is_back: AtomicBool::new(false),
         }
     }
 
@@ -29,8 +32,9 @@ impl Told {
         self.begun.load(Ordering::SeqCst)
     }
 
-    fn levels(&self) -> u32 {
-        self.planned.load(Ordering::SeqCst)
+    // Whether it was told of levels, of each once.
+    fn has_levels(&self) -> bool {
+        self.far.load(Ordering::SeqCst) > 0 && !self.is_back.load(Ordering::SeqCst)
     }
 }
 
@@ -39,22 +43,31 @@ impl Gate for Told {
         self.begun.fetch_add(1, Ordering::SeqCst);
     }
 
-    fn planned(&self, _done: Done) {
-        self.planned.fetch_add(1, Ordering::SeqCst);
+    fn planned(&self, done: Done) {
+        let left = 32u32.saturating_sub(done.levels_left);
+        let far = done.planned.saturating_mul(32).saturating_add(left);
+        if self.far.swap(far, Ordering::SeqCst) >= far {
+            self.is_back.store(true, Ordering::SeqCst);
+        }
     }
 }
 
-// The net of a recording of that many requests on eight devices of one adapter, which come in half of the time in which they
-// are sent: 64 a round, in their order, though each fourth is urgent.
-fn net(alloc: Global, requests: u32) -> Result<Net, Fail> {
+// The net of a recording of that many requests on eight devices of two adapters on a link, which come in half of the time in
+// which they are sent, and stand from the last one to the first: 64 a round go over the link, in the order in which they come,
+// though each fourth is urgent. In round 1 the link takes none.
+pub(crate) fn net(alloc: Global, requests: u32) -> Result<Net, Fail> {
     let mut text = String::new(alloc);
-    text.push_str("camrecord1,a,b,c,d,e,f,g\nrounds,128,,,,,,\nsim,64,,,,,,\n")?;
+    text.push_str(
+        "camrecord1,a,b,c,d,e,f,g\nrounds,128,,,,,,\nlink,64,,,,,,\nsim,64,0,,,,,\nsim,64,0,,,,,\n",
+    )?;
     for device in 0..8u32 {
-        text.push_str(format!(in alloc; "dev,0,{device},0,16,,,\n")?.as_str())?;
+        let adapter = device / 4;
+        text.push_str(format!(in alloc; "dev,{adapter},{device},0,16,,,\n")?.as_str())?;
     }
-    for number in 0..requests {
+    text.push_str("cap,link,0,1,1,0,,\n")?;
+    for number in (0..requests).rev() {
         let (device, priority) = (number % 8, if number % 4 == 0 { 128 } else { 1152 });
-        let (arrival, sent) = (number / 128 + 1, number / 64 + 1);
+        let (arrival, sent) = (number / 128 + 1, number / 64 + 2);
         let row = format!(in alloc; "request,0,{device},{priority},{arrival},,{sent},\n")?;
         text.push_str(row.as_str())?;
     }
@@ -68,7 +81,7 @@ fn only_more_than_4096_stays_are_planned_by_levels(rt: HostRuntime) -> Result<()
         let net = net(rt.alloc(), requests)?;
         let gate = Told::nothing();
         let best = plan_with(&rt, rt.alloc(), &net, &gate)?;
-        let given = (net.stays(), gate.parts(), gate.levels() > 0);
+        let given = (net.stays(), gate.parts(), gate.has_levels());
         assert_eq!(rt; given, (requests, parts, is_by_levels));
         assert!(rt; cost(&net, &best.schedule) < Some(net.stays() as u64 * 64));
     }
@@ -88,6 +101,6 @@ fn the_gate_of_an_audit_is_told_of_its_parts(rt: HostRuntime) -> Result<(), Fail
         true,
         &gate,
     )?;
-    assert_eq!(rt; (gate.parts(), gate.levels()), (1, 0));
+    assert_eq!(rt; (gate.parts(), gate.has_levels()), (1, false));
     Ok(())
 }

@@ -1,9 +1,12 @@
 //! The guesses with which plans begin.
 
+use crate::gates;
 use crate::made::{Shape, history};
 use cost_plan::{OpenGate, guessed_plan, guessed_plan_with};
 use round_net::Net;
+use std::alloc::Global;
 use std::test::Fail;
+use std::thread::Threads;
 
 const LOOSE: Shape = Shape {
     devices: 16,
@@ -63,18 +66,26 @@ const SHAPES: [Shape; 7] = [
     },
 ];
 
+// How many stays there are, and whether the guess alone is a best plan, and the one that is made at once.
+fn guessed<R: Threads + Sync>(rt: &R, alloc: Global, net: &Net) -> Result<(u32, bool, bool), Fail> {
+    let alone = guessed_plan(alloc, net)?.is_some();
+    let at_once = guessed_plan_with(rt, alloc, net, &OpenGate)?.is_some();
+    Ok((net.stays(), alone, at_once))
+}
+
 #[test]
 fn a_guess_of_1024_stays_is_best(rt: HostRuntime) -> Result<(), Fail> {
     for shape in SHAPES {
         let history = history(rt.alloc(), shape)?;
         let net = Net::of(rt.alloc(), &history)?;
-        let alone = guessed_plan(rt.alloc(), &net)?.is_some();
-        let at_once = guessed_plan_with(&rt, rt.alloc(), &net, &OpenGate)?.is_some();
         assert_eq!(rt;
-            (net.stays(), alone, at_once),
+            guessed(&rt, rt.alloc(), &net)?,
             (1024, true, true),
             "{shape:?}"
         );
     }
+    // Over a link.
+    let net = gates::net(rt.alloc(), 1024)?;
+    assert_eq!(rt; guessed(&rt, rt.alloc(), &net)?, (1024, true, true));
     Ok(())
 }

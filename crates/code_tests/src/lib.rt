@@ -15,6 +15,8 @@ mod failing_devices;
 #[cfg(test)]
 mod fakes;
 #[cfg(test)]
+mod fault_texts;
+#[cfg(test)]
 mod frame;
 #[cfg(test)]
 mod full_devices;
@@ -31,6 +33,8 @@ mod levels;
 #[cfg(test)]
 mod linked;
 #[cfg(test)]
+mod long_reports;
+#[cfg(test)]
 mod made;
 #[cfg(test)]
 mod meeting;
@@ -46,6 +50,8 @@ mod scripts;
 mod search;
 #[cfg(test)]
 mod seats;
+#[cfg(test)]
+mod seeded;
 #[cfg(test)]
 mod sense;
 #[cfg(test)]

@@ -4,8 +4,9 @@ ghost use Rattle.std.specs.Prelude.{◌≡◌, ◌<◌, ◌-◌, [], ◌∷◌, 
 ghost use Rattle.trace_file.specs.Scenarios.{is_answer};
 
 use crate::scripts::script;
+use crate::telling::Told;
 use cam_types::{Command, Outcome};
-use sim_worker::{Ending, Port, Served, run_live};
+use sim_worker::{Ending, Port, Served, run_live, run_live_with};
 use std::alloc::{AllocError, Global};
 use std::sync::atomic::{AtomicBool, Ordering};
 use std::test::Fail;
@@ -14,13 +15,14 @@ use std::thread;
 // How often a port that waits looks whether the other one has begun.
 const MOST_TURNS: u32 = 1_000_000;
 
-// A port that holds its first command until the other port has begun with one.
+// A port that holds its first command until the other port has begun with one, and counts how often it was asked for room.
 #[derive(Drop)]
 struct Meeting<'f> {
     begun: &'f AtomicBool,
     other: &'f AtomicBool,
     served: Vec<Served>,
     gave_up: bool,
+    asked: u32,
 }
 
 impl<'f> Meeting<'f> {
@@ -32,6 +34,7 @@ impl<'f> Meeting<'f> {
             other,
             served: Vec::new(alloc),
             gave_up: false,
+            asked: 0,
         }
     }
 }
@@ -45,6 +48,7 @@ impl<'f> Port for Meeting<'f> {
         ensures list { self.new.served.items ≡ self.old.served.items }
         ensures room { IfOk result (λ _. 0 < vec_capacity self.new.served - length self.new.served.items) }
     {
+        self.asked = self.asked.saturating_add(1);
         self.served.reserve(1)
     }
 
@@ -102,5 +106,31 @@ fn two_lanes_serve_at_the_same_time(rt: HostRuntime) -> Result<(), Fail> {
         assert_eq!(rt; port.served.len(), 1);
         assert!(rt; !port.gave_up);
     }
+    Ok(())
+}
+
+// While a lane serves for long, another has nothing to send, and a driver's row is refused in each round.
+#[test]
+fn who_has_nothing_to_do_sleeps(rt: HostRuntime) -> Result<(), Fail> {
+    let alloc = rt.alloc();
+    let script = script(
+        alloc,
+        "limits,1024,3,4096,65535,,,\nsim,2,,,,,,\nsim,1,,,,,,\ndev,0,1,0,1,,,\ndev,1,1,0,1,,,\nlane,0,,,,,,\nlane,1,,,,,,\nsubmit,0,0:1:0,1152,4,none,,\nrelease,1,1:1:0,1,,,,\n",
+    )?;
+    let (one, other) = (AtomicBool::new(false), AtomicBool::new(false));
+    let mut ports = Vec::new(alloc);
+    ports.push(Meeting::new(alloc, &one, &other))?;
+    ports.push(Meeting::new(alloc, &other, &one))?;
+    assert_eq!(rt; script.config().lanes().len(), ports.len());
+    let told = Told::nothing();
+    let run = run_live_with(&rt, alloc, &script, ports, &told)?;
+    let [busy, idle] = run.ports.as_slice() else {
+        return Err(Fail::new("a port is missing"));
+    };
+    assert_eq!(rt; (run.ending, busy.gave_up), (Ending::RoundsFull, true));
+    // Two rounds opened. One driver rested once, the other one in each of three rounds, and the lane once.
+    assert!(rt; told.times() <= 1 + 2 + 5, "{}", told.times());
+    // A submit and two ticks woke the idle lane.
+    assert!(rt; idle.asked <= 1 + 3, "{}", idle.asked);
     Ok(())
 }

@@ -6,19 +6,36 @@ use std::sync::atomic::{AtomicU32, Ordering};
 use std::test::Fail;
 use xpt_state::Look;
 
-// The command comes in round 3.
+// The command comes in round 20.
 const LATE: &str =
-    "sim,1,,,,,,\ndev,0,1,0,1,,,\nlane,0,,,,,,\npause,0,3,,,,,\nsubmit,0,0:1:0,1152,4,none,,\n";
+    "sim,1,,,,,,\ndev,0,1,0,1,,,\nlane,0,,,,,,\npause,0,20,,,,,\nsubmit,0,0:1:0,1152,4,none,,\n";
 
-// The rounds that were told, a bit each, and the greatest count of events.
+// How often something was told, the rounds of it, a bit each, and the greatest count of events.
 #[derive(Drop)]
-struct Told {
+pub(crate) struct Told {
+    times: AtomicU32,
     rounds: AtomicU32,
     events: AtomicU32,
 }
 
+impl Told {
+    pub(crate) fn nothing() -> Told {
+        Told {
+            times: AtomicU32::new(0),
+            rounds: AtomicU32::new(0),
+            events: AtomicU32::new(0),
+        }
+    }
+
+    // How often something was told.
+    pub(crate) fn times(&self) -> u32 {
+        self.times.load(Ordering::SeqCst)
+    }
+}
+
 impl Progress for Told {
     fn show(&self, look: Look) {
+        self.times.fetch_add(1, Ordering::SeqCst);
         self.rounds
             .fetch_or(1 << (look.round % 32), Ordering::SeqCst);
         self.events.fetch_max(look.length, Ordering::SeqCst);
@@ -30,14 +47,13 @@ fn each_round_and_all_events_are_told(rt: HostRuntime) -> Result<(), Fail> {
     let alloc = rt.alloc();
     let script = script(alloc, LATE)?;
     let ports = ScriptPort::for_lanes(alloc, &script)?;
-    let told = Told {
-        rounds: AtomicU32::new(0),
-        events: AtomicU32::new(0),
-    };
+    let told = Told::nothing();
     let run = run_live_with(&rt, alloc, &script, ports, &told)?;
     assert_eq!(rt; run.ending, Ending::Drained);
-    // Two rounds opened, and the command was submitted, sent and done.
-    assert_eq!(rt; told.events.load(Ordering::SeqCst), 5);
-    assert_eq!(rt; told.rounds.load(Ordering::SeqCst), 0b1110);
+    // 19 rounds opened, and the command was submitted, sent and done.
+    assert_eq!(rt; told.events.load(Ordering::SeqCst), 22);
+    assert_eq!(rt; told.rounds.load(Ordering::SeqCst), (1 << 21) - 2);
+    // The keeper looks first, after each round that it opens, and after each rest: two of the driver and one of the lane.
+    assert!(rt; told.times() <= 1 + 19 + 3, "{}", told.times());
     Ok(())
 }

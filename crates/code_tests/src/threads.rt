@@ -144,33 +144,36 @@ fn let_sleep(is_about_to: &AtomicBool) {
     }
 }
 
-// A thread sleeps at the bell until another rings it. Answers how often the bell rang when it woke.
+// A thread sleeps at the bell until another rings it. Answers how often the bell rang when it woke, and whether the other one
+// had come to ring it.
 fn sleeper<L: Ledger + Send + Sync, R: Threads + Wait + Abort + Sync>(
     rt: &R,
     alloc: Global,
     blank: Blank,
     bell: Bell,
     by: By,
-) -> Result<u64, Fail>
+) -> Result<(u64, bool), Fail>
     requires name { blank.name ≡ L.name }
     requires parts { (blank.parts ≡ L.parts) × (blank.parts ≡ 65) }
 {
     let shared: SharedXpt<L> = shared(alloc, Limits::most(), blank)?;
     let seat = shared.seat(rt, alloc, SeatName::Keeper)?;
     let seen = shared.moment(rt, bell);
-    let (board, is_about_to) = (&shared, &AtomicBool::new(false));
+    let (board, is_about_to, comes) = (&shared, &AtomicBool::new(false), &AtomicBool::new(false));
     let (woken, _) = join(
         rt,
         move || {
             is_about_to.store(true, Ordering::SeqCst);
-            board.wait_past(rt, bell, seen)
+            let woken = board.wait_past(rt, bell, seen);
+            (woken.rings, comes.load(Ordering::SeqCst))
         },
         move || {
             let_sleep(is_about_to);
+            comes.store(true, Ordering::SeqCst);
             rings(rt, board, seat, bell, by);
         },
     );
-    Ok(woken.rings)
+    Ok(woken)
 }
 
 fn sleep<R: Threads + Wait + Abort + Sync>(
@@ -178,7 +181,7 @@ fn sleep<R: Threads + Wait + Abort + Sync>(
     alloc: Global,
     bell: Bell,
     by: By,
-) -> Result<u64, Fail> {
+) -> Result<(u64, bool), Fail> {
     sleeper::<Brand, R>(rt, alloc, Blank::new(65), bell, by)
 }
 
@@ -186,7 +189,8 @@ fn sleep<R: Threads + Wait + Abort + Sync>(
 fn each_bell_wakes_who_sleeps(rt: HostRuntime) -> Result<(), Fail> {
     for bell in [Bell::Round, Bell::Work, Bell::Case, Bell::Rest] {
         for by in [By::Event, By::Ring] {
-            assert_eq!(&rt; sleep(&rt, rt.alloc(), bell, by)?, 1, "{bell:?} by {by:?}");
+            let woken = sleep(&rt, rt.alloc(), bell, by)?;
+            assert_eq!(rt; woken, (1, true), "{bell:?} by {by:?}");
         }
     }
     Ok(())

@@ -8,7 +8,7 @@ pub use script_reading::{read_script, rows_in_order};
 pub use script_stage::MOST_ROWS;
 pub use step::Step;
 pub use trace_fault::TraceFault;
-pub use trace_text::{migrate_trace, write_trace};
+pub use trace_text::{migrate_trace, trace_bytes, write_trace};
 pub use write_fault::WriteFault;
 
 mod device_row;

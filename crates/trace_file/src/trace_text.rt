@@ -59,6 +59,14 @@ pub fn migrate_trace<W: Write>(
     write_in(alloc, Version::Three, history, writer)
 }
 
+/// The bytes that `write_trace` writes of a history.
+pub fn trace_bytes(alloc: Global, history: &History) -> Result<Vec<u8>, AllocError>
+    ensures text { IfOk result (λ text. text.items ≡ trace_text history.now) }
+    ensures trace { OnOk result (IsTrace (trace_text history.now) history.now) }
+{
+    text_in(alloc, Version::least(history.config()), history)
+}
+
 // Writes the trace in a version that holds the history.
 fn write_in<W: Write>(
     alloc: Global,

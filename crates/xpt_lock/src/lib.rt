@@ -22,3 +22,5 @@ mod rings;
 mod seat;
 mod shared;
 mod sleepers;
+#[cfg(test)]
+mod tests;

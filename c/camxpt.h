@@ -1,0 +1,621 @@
+/*
+ * camxpt.h - a CAM transport for disk drivers: CCBs, queues, openings, freezes and recovery from errors.
+ *
+ * What each function of libcamxpt_c.a does is proved of its source, which is written in Rattle (crates/camxpt_c). The functions
+ * below test the pointers that they are given, and call it. What a caller owes is not tested, unless a code is named for it:
+ *
+ *   - A handle is a struct camxpt of your own. Begin with CAMXPT_INIT: that is a closed handle, as is one whose bytes are all
+ *     zero. A call on a closed handle answers CAMXPT_E_CLOSED and does nothing, also after camxpt_close. A call on a copy of a
+ *     handle that was opened, or on a handle that was moved, answers CAMXPT_E_COPIED. Neither read nor write its members. Close
+ *     it before its memory goes: what it owns is lost otherwise.
+ *   - A handle is used by one thread at a time. It goes to another one by a lock, or by a start or a join of a thread. No call
+ *     waits, and none starts a thread.
+ *   - An out-parameter is initialized memory that overlaps no other argument. A call that doesn't answer CAMXPT_OK leaves it as
+ *     it was; camxpt_trace alone sets *needed at CAMXPT_E_SPACE too.
+ *   - A null pointer answers CAMXPT_E_NULL, unless it is an array of length 0. No other wrong pointer is noticed.
+ *   - No call comes from a signal handler, or in the child of a fork of a process with threads. Memory is this program's
+ *     malloc, realloc and free. Only camxpt_open, camxpt_open_with and camxpt_trace ask for any.
+ *
+ * A transport takes 65,535 events, 512 rounds and 4,096 stays at most (a stay is one passage of a CCB through its queue, so a
+ * submit or a requeue begins one). A driver that runs longer lets its CCBs come to an end, writes the trace if it wants it,
+ * closes the handle and opens it anew; docs/c.md shows how.
+ *
+ * Link with libcamxpt_c.a, and after it with liblibc_c.a of the Rattle kit: cc driver.c -L. -lcamxpt_c -llibc_c
+ */
+#ifndef CAMXPT_H
+#define CAMXPT_H
+
+#include <stdbool.h>
+#include <stddef.h>
+#include <stdint.h>
+
+#ifdef __cplusplus
+extern "C" {
+#define CAMXPT_ASSERT_(holds, text) static_assert(holds, text)
+#else
+#define CAMXPT_ASSERT_(holds, text) _Static_assert(holds, text)
+#endif
+
+#if defined(__GNUC__)
+#define CAMXPT_NODISCARD __attribute__((warn_unused_result))
+#else
+#define CAMXPT_NODISCARD
+#endif
+
+/* The layout that the library was built with. */
+#define CAMXPT_SIZE_(name, size) CAMXPT_ASSERT_(sizeof(name) == (size), "size of " #name)
+#define CAMXPT_AT_(name, field, at) CAMXPT_ASSERT_(offsetof(name, field) == (at), "place of " #field " in " #name)
+
+/* ---- codes -------------------------------------------------------------------------------------------------------------- */
+
+/** What a call answers: 0, a negative number if the call itself is at fault, or a positive one for a cause. */
+typedef int32_t camxpt_code;
+
+enum {
+    CAMXPT_OK = 0,
+    /* the call itself */
+    CAMXPT_E_CLOSED = -1, /**< the handle is closed */
+    CAMXPT_E_OPEN = -2,   /**< the handle is open already */
+    CAMXPT_E_MEMORY = -3, /**< there is no memory */
+    CAMXPT_E_LIMIT = -4,  /**< a limit is out of its range */
+    CAMXPT_E_SPACE = -5,  /**< the buffer is too small */
+    CAMXPT_E_NULL = -6,   /**< a pointer is null */
+    CAMXPT_E_COPIED = -7, /**< the handle is a copy of one that was opened, was moved, or is no handle */
+    CAMXPT_E_KIND = -8,   /**< no event is of this kind */
+    /* refusals: the first one that holds, in this order; nothing has changed */
+    CAMXPT_HISTORY_FULL = 1,
+    CAMXPT_NO_DEVICE = 2,
+    CAMXPT_NO_ADAPTER = 3,
+    CAMXPT_NO_LANE = 4,
+    CAMXPT_NO_CCB = 5,
+    CAMXPT_BAD_PRIORITY = 6,
+    CAMXPT_BAD_RETRIES = 7,
+    CAMXPT_BAD_COUNT = 8,
+    CAMXPT_BAD_OPENINGS = 9,
+    CAMXPT_BAD_STATUS = 10,
+    CAMXPT_CCB_FULL = 11,
+    CAMXPT_STAYS_FULL = 12,
+    CAMXPT_NOT_QUEUED = 13,
+    CAMXPT_WRONG_LANE = 14,
+    CAMXPT_DEVICE_FROZEN = 15,
+    CAMXPT_ADAPTER_FROZEN = 16,
+    CAMXPT_NO_OPENING = 17,
+    CAMXPT_NOT_HEAD = 18,
+    CAMXPT_NOT_IN_FLIGHT = 19,
+    CAMXPT_NOT_RECOVERING = 20,
+    CAMXPT_WRONG_DECISION = 21,
+    CAMXPT_FREEZE_OVERFLOW = 22,
+    CAMXPT_RELEASE_TOO_MANY = 23,
+    CAMXPT_IN_FLIGHT = 24,
+    CAMXPT_ROUNDS_FULL = 25,
+    /* why a lane is idle (camxpt_send_next): no error, and nothing has changed */
+    CAMXPT_IDLE_EMPTY = 32,
+    CAMXPT_IDLE_ADAPTER_FROZEN = 33,
+    CAMXPT_IDLE_ADAPTER_BUSY = 34,
+    CAMXPT_IDLE_DEVICES_HELD = 35,
+    /** there is none (camxpt_next_case, camxpt_has_head) */
+    CAMXPT_NONE = 36,
+    /* the first rule that a configuration breaks (camxpt_open, camxpt_open_with) */
+    CAMXPT_FAULT_NO_ADAPTERS = 48,
+    CAMXPT_FAULT_TOO_MANY = 49,
+    CAMXPT_FAULT_BAD_OPENINGS = 50,
+    CAMXPT_FAULT_NO_ADAPTER = 51,
+    CAMXPT_FAULT_BAD_ADDRESS = 52,
+    CAMXPT_FAULT_DOUBLE_DEVICE = 53,
+    CAMXPT_FAULT_BAD_WEIGHT = 54,
+    CAMXPT_FAULT_NO_LINK = 55
+};
+
+/** Whether the code says that a lane had nothing to send. */
+#define CAMXPT_IS_IDLE(code) ((code) >= CAMXPT_IDLE_EMPTY && (code) <= CAMXPT_IDLE_DEVICES_HELD)
+
+/** The name of a code, as traces, reports and the other documents have it; "Unknown" for a number that is none. */
+static inline const char *camxpt_code_name(camxpt_code code)
+{
+    switch (code) {
+    case CAMXPT_OK: return "Ok";
+    case CAMXPT_E_CLOSED: return "Closed";
+    case CAMXPT_E_OPEN: return "Open";
+    case CAMXPT_E_MEMORY: return "OutOfMemory";
+    case CAMXPT_E_LIMIT: return "BadLimit";
+    case CAMXPT_E_SPACE: return "NoSpace";
+    case CAMXPT_E_NULL: return "Null";
+    case CAMXPT_E_COPIED: return "Copied";
+    case CAMXPT_E_KIND: return "BadKind";
+    case CAMXPT_HISTORY_FULL: return "HistoryFull";
+    case CAMXPT_NO_DEVICE: return "NoDevice";
+    case CAMXPT_NO_ADAPTER: return "NoAdapter";
+    case CAMXPT_NO_LANE: return "NoLane";
+    case CAMXPT_NO_CCB: return "NoCcb";
+    case CAMXPT_BAD_PRIORITY: return "BadPriority";
+    case CAMXPT_BAD_RETRIES: return "BadRetries";
+    case CAMXPT_BAD_COUNT: return "BadCount";
+    case CAMXPT_BAD_OPENINGS: return "BadOpenings";
+    case CAMXPT_BAD_STATUS: return "BadStatus";
+    case CAMXPT_CCB_FULL: return "CcbFull";
+    case CAMXPT_STAYS_FULL: return "StaysFull";
+    case CAMXPT_NOT_QUEUED: return "NotQueued";
+    case CAMXPT_WRONG_LANE: return "WrongLane";
+    case CAMXPT_DEVICE_FROZEN: return "DeviceFrozen";
+    case CAMXPT_ADAPTER_FROZEN: return "AdapterFrozen";
+    case CAMXPT_NO_OPENING: return "NoOpening";
+    case CAMXPT_NOT_HEAD: return "NotHead";
+    case CAMXPT_NOT_IN_FLIGHT: return "NotInFlight";
+    case CAMXPT_NOT_RECOVERING: return "NotRecovering";
+    case CAMXPT_WRONG_DECISION: return "WrongDecision";
+    case CAMXPT_FREEZE_OVERFLOW: return "FreezeOverflow";
+    case CAMXPT_RELEASE_TOO_MANY: return "ReleaseTooMany";
+    case CAMXPT_IN_FLIGHT: return "InFlight";
+    case CAMXPT_ROUNDS_FULL: return "RoundsFull";
+    case CAMXPT_IDLE_EMPTY: return "Empty";
+    case CAMXPT_IDLE_ADAPTER_FROZEN: return "AdapterFrozen";
+    case CAMXPT_IDLE_ADAPTER_BUSY: return "AdapterBusy";
+    case CAMXPT_IDLE_DEVICES_HELD: return "DevicesHeld";
+    case CAMXPT_NONE: return "None";
+    case CAMXPT_FAULT_NO_ADAPTERS: return "NoAdapters";
+    case CAMXPT_FAULT_TOO_MANY: return "TooMany";
+    case CAMXPT_FAULT_BAD_OPENINGS: return "BadOpenings";
+    case CAMXPT_FAULT_NO_ADAPTER: return "NoAdapter";
+    case CAMXPT_FAULT_BAD_ADDRESS: return "BadAddress";
+    case CAMXPT_FAULT_DOUBLE_DEVICE: return "DoubleDevice";
+    case CAMXPT_FAULT_BAD_WEIGHT: return "BadWeight";
+    case CAMXPT_FAULT_NO_LINK: return "NoLink";
+    default: return "Unknown";
+    }
+}
+
+/* CAM statuses with the names and numbers of FreeBSD's cam.h, which is included before this header where both are wanted. The
+ * transport knows the first ten; any other but 0 is a failure that no retry would help. */
+#ifndef _CAM_CAM_H
+enum {
+    CAM_REQ_CMP = 0x01,           /**< the command has completed */
+    CAM_BUSY = 0x05,              /**< the adapter is busy */
+    CAM_SEL_TIMEOUT = 0x0a,       /**< the device didn't answer its selection */
+    CAM_CMD_TIMEOUT = 0x0b,       /**< the command took too long */
+    CAM_SCSI_STATUS_ERROR = 0x0c, /**< the SCSI status says what went wrong */
+    CAM_SCSI_BUS_RESET = 0x0e,    /**< the bus was reset */
+    CAM_UNCOR_PARITY = 0x0f,      /**< a parity error that couldn't be corrected */
+    CAM_UNEXP_BUSFREE = 0x13,     /**< the bus was given up in the middle of the command */
+    CAM_BDR_SENT = 0x17,          /**< the device was reset */
+    CAM_REQUEUE_REQ = 0x1b,       /**< the adapter gives the command back, to be sent again */
+    CAM_REQ_ABORTED = 0x02,
+    CAM_REQ_CMP_ERR = 0x04,
+    CAM_REQ_INVALID = 0x06,
+    CAM_DEV_NOT_THERE = 0x08,
+    CAM_AUTOSENSE_FAIL = 0x10,
+    CAM_DATA_RUN_ERR = 0x12,
+    CAM_STATUS_MASK = 0x3f,  /**< the status itself */
+    CAM_DEV_QFRZN = 0x40,    /**< with it: the device's queue was frozen */
+    CAM_AUTOSNS_VALID = 0x80 /**< with it: the sense data can be read */
+};
+#endif
+
+/* ---- structs ------------------------------------------------------------------------------------------------------------ */
+
+/** The library's part of a handle. */
+typedef struct camxpt_raw {
+    void *at_;
+    uint32_t state_;
+} camxpt_raw;
+
+/** A transport. All members are the library's: self_ is the handle's own address while it is open, which tells a copy. */
+typedef struct camxpt {
+    camxpt_raw raw_;
+    const struct camxpt *self_;
+} camxpt;
+
+/** A closed handle. */
+#define CAMXPT_INIT { { NULL, 0 }, NULL }
+
+/** How far a transport goes: 1 to 1,024 CCBs alive at once, 1 to 512 rounds, 1 to 4,096 stays and 1 to 65,535 events. */
+typedef struct camxpt_limits {
+    uint32_t ccbs, rounds, stays, events;
+} camxpt_limits;
+
+/** The largest limits. */
+#define CAMXPT_MOST { 1024, 512, 4096, 65535 }
+
+/** A device: the number of its adapter, its target and logical unit (0 to 16,383), and how many of its commands may be sent in
+ *  a round, 1 to 255. */
+typedef struct camxpt_device {
+    uint8_t bus;
+    uint16_t target, lun;
+    uint32_t openings;
+} camxpt_device;
+
+/** The link of an adapter that is on none. */
+#define CAMXPT_NO_LINK UINT32_MAX
+
+/** An adapter: how many commands its lanes may send in a round, 1 to 255, and the number of its link, or CAMXPT_NO_LINK. */
+typedef struct camxpt_adapter {
+    uint32_t openings, link;
+} camxpt_adapter;
+
+/** A row of a table of weights: the last priority of its range, and what a round of waiting costs there, 1 to 1,000. */
+typedef struct camxpt_weight {
+    uint32_t last, weight;
+} camxpt_weight;
+
+/** The standard table of weights, by CAM's run levels. */
+#define CAMXPT_STANDARD_WEIGHTS { { 255, 16 }, { 511, 8 }, { 767, 4 }, { 1023, 2 }, { 1279, 1 } }
+
+/** A configuration with all that it may have: 1 to 16 weights, up to 4 links of 1 to 255 openings in a round, 1 to 8 adapters,
+ *  up to 32 devices, and up to 4 lanes of each adapter, by the adapter's number. */
+typedef struct camxpt_config {
+    const camxpt_weight *weights;
+    size_t weight_count;
+    const uint32_t *links;
+    size_t link_count;
+    const camxpt_adapter *adapters;
+    size_t adapter_count;
+    const camxpt_device *devices;
+    size_t device_count;
+    const uint32_t *lanes;
+    size_t lane_count;
+} camxpt_config;
+
+/** A command on its way to a device. */
+typedef struct camxpt_command {
+    uint32_t ccb;      /**< the number of its CCB */
+    uint32_t attempt;  /**< how many stays of its CCB were before this one */
+    uint32_t device;   /**< the number of its device */
+    uint32_t priority; /**< 0 to 1279, the smaller number the more urgent */
+    uint8_t driver;    /**< who submitted it */
+} camxpt_command;
+
+/** What a result asks for. */
+enum {
+    CAMXPT_COMPLETE = 0,        /**< the CCB has completed */
+    CAMXPT_FREE_REQUEUE = 1,    /**< call camxpt_requeue: it doesn't count as a retry */
+    CAMXPT_COUNTED_REQUEUE = 2, /**< call camxpt_requeue: it counts as a retry */
+    CAMXPT_RECOVERED = 3,       /**< call camxpt_finish: the device recovered by itself */
+    CAMXPT_SPENT = 4,           /**< call camxpt_finish: no retry is left */
+    CAMXPT_OTHER = 5            /**< call camxpt_finish: no retry would help */
+};
+
+/** Whether a class asks for camxpt_requeue. If not, and it isn't CAMXPT_COMPLETE, it asks for camxpt_finish. */
+#define CAMXPT_ASKS_REQUEUE(class_) ((class_) == CAMXPT_FREE_REQUEUE || (class_) == CAMXPT_COUNTED_REQUEUE)
+
+/** What a completion comes to: its class, and the CAM status to hand up, with CAM_DEV_QFRZN if it froze its device's queue and
+ *  CAM_AUTOSNS_VALID if its sense data can be read. */
+typedef struct camxpt_completion {
+    uint32_t class_;
+    uint8_t value;
+} camxpt_completion;
+
+/** A CCB that waits for a decision, and the class of its last result. */
+typedef struct camxpt_case {
+    uint32_t ccb;
+    uint32_t class_;
+} camxpt_case;
+
+/** What there is to see of a transport, in counts. */
+typedef struct camxpt_counts {
+    uint32_t length;    /**< the events so far */
+    uint32_t round;     /**< the round, from 1 */
+    uint32_t in_flight; /**< the CCBs on their way */
+    uint32_t cases;     /**< the CCBs that wait for a decision */
+    uint32_t waiting;   /**< the stays without a send */
+    size_t heads;       /**< the lanes whose adapter has something to send */
+} camxpt_counts;
+
+/** The kinds of events. In brackets: the members of camxpt_event that are read. */
+enum {
+    CAMXPT_SUBMIT = 1,      /**< (driver, device, priority, retries, qfreeze, qfrzdis) */
+    CAMXPT_SEND = 2,        /**< (lane, ccb) */
+    CAMXPT_DONE = 3,        /**< (ccb, status, scsi, sense_len, sense) */
+    CAMXPT_REQUEUE = 4,     /**< (ccb) */
+    CAMXPT_FINISH = 5,      /**< (ccb) */
+    CAMXPT_FREEZE_DEV = 6,  /**< (device, count) */
+    CAMXPT_RELEASE_DEV = 7, /**< (device, count) */
+    CAMXPT_FREEZE_SIM = 8,  /**< (sim, count) */
+    CAMXPT_RELEASE_SIM = 9, /**< (sim) */
+    CAMXPT_ADJUST = 10,     /**< (device, openings) */
+    CAMXPT_TICK = 11
+};
+
+/** An event. A flag is set by any byte but 0; of sense, the first sense_len bytes count, at most 18. */
+typedef struct camxpt_event {
+    uint32_t kind;
+    uint32_t ccb, lane, device, sim, priority, retries, count, openings;
+    uint8_t driver, qfreeze, qfrzdis, status, scsi, sense_len;
+    uint8_t sense[18];
+} camxpt_event;
+
+#if SIZE_MAX != UINT64_MAX
+#error "camxpt.h: the library is for 64-bit targets"
+#endif
+CAMXPT_SIZE_(camxpt_raw, 16);
+CAMXPT_AT_(camxpt_raw, at_, 0);
+CAMXPT_AT_(camxpt_raw, state_, 8);
+CAMXPT_SIZE_(camxpt_limits, 16);
+CAMXPT_AT_(camxpt_limits, ccbs, 0);
+CAMXPT_AT_(camxpt_limits, rounds, 4);
+CAMXPT_AT_(camxpt_limits, stays, 8);
+CAMXPT_AT_(camxpt_limits, events, 12);
+CAMXPT_SIZE_(camxpt_device, 12);
+CAMXPT_AT_(camxpt_device, bus, 0);
+CAMXPT_AT_(camxpt_device, target, 2);
+CAMXPT_AT_(camxpt_device, lun, 4);
+CAMXPT_AT_(camxpt_device, openings, 8);
+CAMXPT_SIZE_(camxpt_adapter, 8);
+CAMXPT_AT_(camxpt_adapter, openings, 0);
+CAMXPT_AT_(camxpt_adapter, link, 4);
+CAMXPT_SIZE_(camxpt_weight, 8);
+CAMXPT_AT_(camxpt_weight, last, 0);
+CAMXPT_AT_(camxpt_weight, weight, 4);
+CAMXPT_SIZE_(camxpt_command, 20);
+CAMXPT_AT_(camxpt_command, ccb, 0);
+CAMXPT_AT_(camxpt_command, attempt, 4);
+CAMXPT_AT_(camxpt_command, device, 8);
+CAMXPT_AT_(camxpt_command, priority, 12);
+CAMXPT_AT_(camxpt_command, driver, 16);
+CAMXPT_SIZE_(camxpt_completion, 8);
+CAMXPT_AT_(camxpt_completion, class_, 0);
+CAMXPT_AT_(camxpt_completion, value, 4);
+CAMXPT_SIZE_(camxpt_case, 8);
+CAMXPT_AT_(camxpt_case, ccb, 0);
+CAMXPT_AT_(camxpt_case, class_, 4);
+CAMXPT_SIZE_(camxpt_counts, 32);
+CAMXPT_AT_(camxpt_counts, length, 0);
+CAMXPT_AT_(camxpt_counts, round, 4);
+CAMXPT_AT_(camxpt_counts, in_flight, 8);
+CAMXPT_AT_(camxpt_counts, cases, 12);
+CAMXPT_AT_(camxpt_counts, waiting, 16);
+CAMXPT_AT_(camxpt_counts, heads, 24);
+CAMXPT_SIZE_(camxpt_event, 60);
+CAMXPT_AT_(camxpt_event, kind, 0);
+CAMXPT_AT_(camxpt_event, ccb, 4);
+CAMXPT_AT_(camxpt_event, lane, 8);
+CAMXPT_AT_(camxpt_event, device, 12);
+CAMXPT_AT_(camxpt_event, sim, 16);
+CAMXPT_AT_(camxpt_event, priority, 20);
+CAMXPT_AT_(camxpt_event, retries, 24);
+CAMXPT_AT_(camxpt_event, count, 28);
+CAMXPT_AT_(camxpt_event, openings, 32);
+CAMXPT_AT_(camxpt_event, driver, 36);
+CAMXPT_AT_(camxpt_event, qfreeze, 37);
+CAMXPT_AT_(camxpt_event, qfrzdis, 38);
+CAMXPT_AT_(camxpt_event, status, 39);
+CAMXPT_AT_(camxpt_event, scsi, 40);
+CAMXPT_AT_(camxpt_event, sense_len, 41);
+CAMXPT_AT_(camxpt_event, sense, 42);
+
+/* ---- the library's own symbols. Call the functions below them, which test for null: here no pointer may be null -------- */
+
+camxpt_code camxpt_raw_open(camxpt_raw *x, const uint32_t *adapters, size_t adapter_count, const camxpt_device *devices,
+                            size_t device_count, const uint32_t *lanes, size_t lane_count, const camxpt_limits *limits);
+camxpt_code camxpt_raw_open_with(camxpt_raw *x, const camxpt_weight *weights, size_t weight_count, const uint32_t *links,
+                                 size_t link_count, const camxpt_adapter *adapters, size_t adapter_count,
+                                 const camxpt_device *devices, size_t device_count, const uint32_t *lanes, size_t lane_count,
+                                 const camxpt_limits *limits);
+camxpt_code camxpt_raw_close(camxpt_raw *x);
+camxpt_code camxpt_raw_submit(camxpt_raw *x, uint8_t driver, uint32_t device, uint32_t priority, uint32_t retries, bool qfreeze,
+                              bool qfrzdis, uint32_t *ccb);
+camxpt_code camxpt_raw_send_next(camxpt_raw *x, uint32_t lane, camxpt_command *command);
+camxpt_code camxpt_raw_done(camxpt_raw *x, uint32_t ccb, uint8_t status, uint8_t scsi, const uint8_t *sense, size_t sense_len,
+                            camxpt_completion *done);
+camxpt_code camxpt_raw_requeue(camxpt_raw *x, uint32_t ccb);
+camxpt_code camxpt_raw_finish(camxpt_raw *x, uint32_t ccb);
+camxpt_code camxpt_raw_freeze_dev(camxpt_raw *x, uint32_t device, uint32_t count);
+camxpt_code camxpt_raw_release_dev(camxpt_raw *x, uint32_t device, uint32_t count);
+camxpt_code camxpt_raw_freeze_sim(camxpt_raw *x, uint32_t sim, uint32_t count);
+camxpt_code camxpt_raw_release_sim(camxpt_raw *x, uint32_t sim);
+camxpt_code camxpt_raw_adjust(camxpt_raw *x, uint32_t device, uint32_t openings);
+camxpt_code camxpt_raw_tick(camxpt_raw *x, uint32_t *round);
+camxpt_code camxpt_raw_has_head(camxpt_raw *x, uint32_t lane);
+camxpt_code camxpt_raw_next_case(camxpt_raw *x, camxpt_case *found);
+camxpt_code camxpt_raw_look(camxpt_raw *x, camxpt_counts *counts);
+camxpt_code camxpt_raw_take(camxpt_raw *x, const camxpt_event *event);
+camxpt_code camxpt_raw_refusal(camxpt_raw *x, const camxpt_event *event);
+camxpt_code camxpt_raw_events(camxpt_raw *x, uint32_t first, camxpt_event *events, size_t room, size_t *copied);
+camxpt_code camxpt_raw_trace(camxpt_raw *x, uint8_t *buffer, size_t room, size_t *needed);
+
+/* ---- calls -------------------------------------------------------------------------------------------------------------- */
+
+/* What is wrong with a handle that has to be open. */
+static inline camxpt_code camxpt_bad_(const camxpt *x)
+{
+    if (!x)
+        return CAMXPT_E_NULL;
+    if (x->self_ == x)
+        return CAMXPT_OK;
+    return x->self_ ? CAMXPT_E_COPIED : CAMXPT_E_CLOSED;
+}
+
+#define CAMXPT_CALL_(x, pointers, call) \
+    (camxpt_bad_(x) != CAMXPT_OK ? camxpt_bad_(x) : (pointers) ? (call) : (camxpt_code)CAMXPT_E_NULL)
+
+/** Opens a closed handle, in round 1 and without events: adapters of these openings (1 to 8, of 1 to 255 openings each),
+ *  devices (up to 32), and a lane on each of these adapters (up to 4 of each), with the standard table of weights. All memory
+ *  that the transport will need is taken here.
+ *  Answers CAMXPT_E_OPEN, CAMXPT_E_LIMIT, CAMXPT_E_MEMORY or a CAMXPT_FAULT_*; then the handle is as it was. */
+CAMXPT_NODISCARD static inline camxpt_code camxpt_open(camxpt *x, const uint32_t *adapters, size_t adapter_count,
+                                                       const camxpt_device *devices, size_t device_count,
+                                                       const uint32_t *lanes, size_t lane_count, const camxpt_limits *limits)
+{
+    static const uint32_t no_number = 0;
+    static const camxpt_device no_device = {0, 0, 0, 0};
+    camxpt_code code;
+
+    if (!x || !limits || (!adapters && adapter_count) || (!devices && device_count) || (!lanes && lane_count))
+        return CAMXPT_E_NULL;
+    if (x->self_)
+        return x->self_ == x ? CAMXPT_E_OPEN : CAMXPT_E_COPIED;
+    code = camxpt_raw_open(&x->raw_, adapters ? adapters : &no_number, adapter_count, devices ? devices : &no_device,
+                           device_count, lanes ? lanes : &no_number, lane_count, limits);
+    if (code == CAMXPT_OK)
+        x->self_ = x;
+    return code;
+}
+
+/** The same by a configuration, with its own table of weights, with links, and with adapters on them. */
+CAMXPT_NODISCARD static inline camxpt_code camxpt_open_with(camxpt *x, const camxpt_config *c, const camxpt_limits *limits)
+{
+    static const camxpt_weight no_weight = {0, 0};
+    static const uint32_t no_number = 0;
+    static const camxpt_adapter no_adapter = {0, 0};
+    static const camxpt_device no_device = {0, 0, 0, 0};
+    camxpt_code code;
+
+    if (!x || !c || !limits || (!c->weights && c->weight_count) || (!c->links && c->link_count) ||
+        (!c->adapters && c->adapter_count) || (!c->devices && c->device_count) || (!c->lanes && c->lane_count))
+        return CAMXPT_E_NULL;
+    if (x->self_)
+        return x->self_ == x ? CAMXPT_E_OPEN : CAMXPT_E_COPIED;
+    code = camxpt_raw_open_with(&x->raw_, c->weights ? c->weights : &no_weight, c->weight_count,
+                                c->links ? c->links : &no_number, c->link_count, c->adapters ? c->adapters : &no_adapter,
+                                c->adapter_count, c->devices ? c->devices : &no_device, c->device_count,
+                                c->lanes ? c->lanes : &no_number, c->lane_count, limits);
+    if (code == CAMXPT_OK)
+        x->self_ = x;
+    return code;
+}
+
+/** Closes the handle and frees all memory of its transport. On a closed handle it does no harm. */
+static inline camxpt_code camxpt_close(camxpt *x)
+{
+    const camxpt_code bad = camxpt_bad_(x);
+
+    if (bad != CAMXPT_OK)
+        return bad;
+    x->self_ = NULL;
+    return camxpt_raw_close(&x->raw_);
+}
+
+/** Submits a CCB of the driver to the device, and sets *ccb to its number. A priority is 0 to 1279, retries are 0 to 7. With
+ *  qfreeze each send of the CCB freezes its device by one; with qfrzdis its failures don't freeze it.
+ *  Refused: HISTORY_FULL, NO_DEVICE, BAD_PRIORITY, BAD_RETRIES, CCB_FULL, STAYS_FULL. */
+CAMXPT_NODISCARD static inline camxpt_code camxpt_submit(camxpt *x, uint8_t driver, uint32_t device, uint32_t priority,
+                                                         uint32_t retries, bool qfreeze, bool qfrzdis, uint32_t *ccb)
+{
+    return CAMXPT_CALL_(x, ccb, camxpt_raw_submit(&x->raw_, driver, device, priority, retries, qfreeze, qfrzdis, ccb));
+}
+
+/** Sends the next command of the lane's adapter, and sets *command to it; or the lane is idle (CAMXPT_IS_IDLE).
+ *  Refused: HISTORY_FULL, NO_LANE. */
+CAMXPT_NODISCARD static inline camxpt_code camxpt_send_next(camxpt *x, uint32_t lane, camxpt_command *command)
+{
+    return CAMXPT_CALL_(x, command, camxpt_raw_send_next(&x->raw_, lane, command));
+}
+
+/** The command that was sent as this CCB has completed, with this CAM status, SCSI status and sense data, of which the first 18
+ *  bytes are kept. Sets *done to what that comes to.
+ *  Refused: HISTORY_FULL, NO_CCB, BAD_STATUS, NOT_IN_FLIGHT. */
+CAMXPT_NODISCARD static inline camxpt_code camxpt_done(camxpt *x, uint32_t ccb, uint8_t status, uint8_t scsi,
+                                                       const uint8_t *sense, size_t sense_len, camxpt_completion *done)
+{
+    static const uint8_t no_byte = 0;
+
+    return CAMXPT_CALL_(x, done && (sense || !sense_len),
+                        camxpt_raw_done(&x->raw_, ccb, status, scsi, sense ? sense : &no_byte, sense_len, done));
+}
+
+/** Puts a CCB that failed back into its device's queue, from the next round on.
+ *  Refused: HISTORY_FULL, NO_CCB, STAYS_FULL, NOT_RECOVERING, WRONG_DECISION (its class asks for camxpt_finish). */
+CAMXPT_NODISCARD static inline camxpt_code camxpt_requeue(camxpt *x, uint32_t ccb)
+{
+    return CAMXPT_CALL_(x, true, camxpt_raw_requeue(&x->raw_, ccb));
+}
+
+/** Gives a CCB that failed back to its driver, which ends it.
+ *  Refused: HISTORY_FULL, NO_CCB, NOT_RECOVERING, WRONG_DECISION (its class asks for camxpt_requeue). */
+CAMXPT_NODISCARD static inline camxpt_code camxpt_finish(camxpt *x, uint32_t ccb)
+{
+    return CAMXPT_CALL_(x, true, camxpt_raw_finish(&x->raw_, ccb));
+}
+
+/** Freezes the device's queue that many times, 1 to 65,535. Refused: HISTORY_FULL, NO_DEVICE, BAD_COUNT, FREEZE_OVERFLOW. */
+CAMXPT_NODISCARD static inline camxpt_code camxpt_freeze_dev(camxpt *x, uint32_t device, uint32_t count)
+{
+    return CAMXPT_CALL_(x, true, camxpt_raw_freeze_dev(&x->raw_, device, count));
+}
+
+/** Takes that many freezes of the device away, 1 to 65,535, of those that callers made.
+ *  Refused: HISTORY_FULL, NO_DEVICE, BAD_COUNT, RELEASE_TOO_MANY. */
+CAMXPT_NODISCARD static inline camxpt_code camxpt_release_dev(camxpt *x, uint32_t device, uint32_t count)
+{
+    return CAMXPT_CALL_(x, true, camxpt_raw_release_dev(&x->raw_, device, count));
+}
+
+/** Freezes the adapter that many times, 1 to 65,535. Refused: HISTORY_FULL, NO_ADAPTER, BAD_COUNT, FREEZE_OVERFLOW. */
+CAMXPT_NODISCARD static inline camxpt_code camxpt_freeze_sim(camxpt *x, uint32_t sim, uint32_t count)
+{
+    return CAMXPT_CALL_(x, true, camxpt_raw_freeze_sim(&x->raw_, sim, count));
+}
+
+/** Takes one freeze of the adapter away. Refused: HISTORY_FULL, NO_ADAPTER, RELEASE_TOO_MANY. */
+CAMXPT_NODISCARD static inline camxpt_code camxpt_release_sim(camxpt *x, uint32_t sim)
+{
+    return CAMXPT_CALL_(x, true, camxpt_raw_release_sim(&x->raw_, sim));
+}
+
+/** Gives the device that many openings, 1 to 255, from the next round on. Refused: HISTORY_FULL, NO_DEVICE, BAD_OPENINGS. */
+CAMXPT_NODISCARD static inline camxpt_code camxpt_adjust(camxpt *x, uint32_t device, uint32_t openings)
+{
+    return CAMXPT_CALL_(x, true, camxpt_raw_adjust(&x->raw_, device, openings));
+}
+
+/** Opens the next round, and sets *round to its number. Refused: HISTORY_FULL, IN_FLIGHT, ROUNDS_FULL. */
+CAMXPT_NODISCARD static inline camxpt_code camxpt_tick(camxpt *x, uint32_t *round)
+{
+    return CAMXPT_CALL_(x, round, camxpt_raw_tick(&x->raw_, round));
+}
+
+/** Whether the lane's adapter has something to send: CAMXPT_OK, or CAMXPT_NONE, also for a lane that isn't there. */
+CAMXPT_NODISCARD static inline camxpt_code camxpt_has_head(camxpt *x, uint32_t lane)
+{
+    return CAMXPT_CALL_(x, true, camxpt_raw_has_head(&x->raw_, lane));
+}
+
+/** Sets *found to the CCB that completed first of those that wait for a decision; CAMXPT_NONE if none waits. */
+CAMXPT_NODISCARD static inline camxpt_code camxpt_next_case(camxpt *x, camxpt_case *found)
+{
+    return CAMXPT_CALL_(x, found, camxpt_raw_next_case(&x->raw_, found));
+}
+
+/** Sets *counts to what there is to see. */
+CAMXPT_NODISCARD static inline camxpt_code camxpt_look(camxpt *x, camxpt_counts *counts)
+{
+    return CAMXPT_CALL_(x, counts, camxpt_raw_look(&x->raw_, counts));
+}
+
+/** Takes an event of any kind, as the call of that kind does, and with its refusals. A send is refused with the first of
+ *  HISTORY_FULL, NO_LANE, NO_CCB, NOT_QUEUED, WRONG_LANE, DEVICE_FROZEN, ADAPTER_FROZEN, NO_OPENING and NOT_HEAD. */
+CAMXPT_NODISCARD static inline camxpt_code camxpt_take(camxpt *x, const camxpt_event *event)
+{
+    return CAMXPT_CALL_(x, event, camxpt_raw_take(&x->raw_, event));
+}
+
+/** What camxpt_take would answer now. It takes nothing. */
+CAMXPT_NODISCARD static inline camxpt_code camxpt_refusal(camxpt *x, const camxpt_event *event)
+{
+    return CAMXPT_CALL_(x, event, camxpt_raw_refusal(&x->raw_, event));
+}
+
+/** Copies the events so far from number `first` on, numbered from 0, as many as there are and there is room for, and sets
+ *  *copied to how many these are. */
+CAMXPT_NODISCARD static inline camxpt_code camxpt_events(camxpt *x, uint32_t first, camxpt_event *events, size_t room,
+                                                         size_t *copied)
+{
+    camxpt_event no_event;
+
+    no_event.kind = 0;
+    return CAMXPT_CALL_(x, copied && (events || !room),
+                        camxpt_raw_events(&x->raw_, first, events ? events : &no_event, room, copied));
+}
+
+/** Writes the trace of all events so far into the buffer, without a zero byte behind it, and sets *needed to its length. At
+ *  CAMXPT_E_SPACE *needed is set too, so a call with (NULL, 0) asks for the length. `camxpt audit` takes such a trace. */
+CAMXPT_NODISCARD static inline camxpt_code camxpt_trace(camxpt *x, void *buffer, size_t room, size_t *needed)
+{
+    uint8_t no_byte = 0;
+
+    return CAMXPT_CALL_(x, needed && (buffer || !room),
+                        camxpt_raw_trace(&x->raw_, buffer ? (uint8_t *)buffer : &no_byte, room, needed));
+}
+
+#ifdef __cplusplus
+}
+#endif
+#endif

@@ -1,0 +1,533 @@
+/* What each call answers to misuse: each code and each refusal is reached, what a refused call gives stays as it was, and each
+ * request for memory is refused in turn. Link with --wrap for malloc, realloc and free. */
+#include "camxpt.h"
+
+#include <stdio.h>
+#include <stdlib.h>
+#include <string.h>
+
+void *__real_malloc(size_t size);
+void *__real_realloc(void *old, size_t size);
+void __real_free(void *old);
+
+/* How many requests are granted yet (none are refused if it is negative), how many were made, and how many blocks are there. */
+static long granted = -1, requests, blocks;
+
+static bool refuses(void)
+{
+    requests++;
+    if (granted == 0)
+        return true;
+    if (granted > 0)
+        granted--;
+    return false;
+}
+
+void *__wrap_malloc(size_t size)
+{
+    void *made = refuses() ? NULL : __real_malloc(size);
+
+    blocks += made != NULL;
+    return made;
+}
+
+void *__wrap_realloc(void *old, size_t size)
+{
+    void *made = refuses() ? NULL : __real_realloc(old, size);
+
+    blocks += old == NULL && made != NULL;
+    return made;
+}
+
+void __wrap_free(void *old)
+{
+    blocks -= old != NULL;
+    __real_free(old);
+}
+
+enum { LEAST = -8, MOST = 55 };
+
+static unsigned checks;
+static bool reached[MOST - LEAST + 1];
+
+static void due(camxpt_code code, camxpt_code wanted, int line)
+{
+    if (code != wanted) {
+        fprintf(stderr, "misuse.c:%d: %s, due %s\n", line, camxpt_code_name(code), camxpt_code_name(wanted));
+        exit(EXIT_FAILURE);
+    }
+    reached[wanted - LEAST] = true;
+    checks++;
+}
+
+static void holds(bool fact, int line)
+{
+    if (!fact) {
+        fprintf(stderr, "misuse.c:%d: doesn't hold\n", line);
+        exit(EXIT_FAILURE);
+    }
+    checks++;
+}
+
+#define DUE(call, wanted) due((call), (wanted), __LINE__)
+#define HOLDS(fact) holds((fact), __LINE__)
+
+static const uint32_t one_adapter[] = {2}, two_adapters[] = {2, 2}, one_lane[] = {0}, two_lanes[] = {0, 1};
+static const camxpt_device two_disks[] = {{0, 0, 0, 1}, {0, 1, 0, 1}}, apart[] = {{0, 0, 0, 2}, {1, 0, 0, 2}};
+static const camxpt_limits most = CAMXPT_MOST;
+
+static camxpt_code open_small(camxpt *x, const camxpt_limits *limits)
+{
+    return camxpt_open(x, one_adapter, 1, two_disks, 2, one_lane, 1, limits);
+}
+
+static camxpt_code submit(camxpt *x, uint32_t disk, uint32_t *ccb)
+{
+    return camxpt_submit(x, 1, disk, 1152, 3, false, false, ccb);
+}
+
+/* Handles that are closed, copied, moved or none. */
+static void handles(void)
+{
+    camxpt x = CAMXPT_INIT, copy, junk;
+    camxpt_raw raw = {&junk, 12345};
+    uint32_t n = 77;
+
+    memset(&junk, 0xdb, sizeof junk);
+    DUE(camxpt_tick(NULL, &n), CAMXPT_E_NULL);
+    DUE(camxpt_tick(&x, &n), CAMXPT_E_CLOSED);
+    DUE(camxpt_tick(&junk, &n), CAMXPT_E_COPIED);
+    DUE(camxpt_raw_tick(&raw, &n), CAMXPT_E_CLOSED);
+    DUE(camxpt_close(&x), CAMXPT_E_CLOSED);
+    DUE(open_small(&x, &most), CAMXPT_OK);
+    DUE(open_small(&x, &most), CAMXPT_E_OPEN);
+    DUE(camxpt_raw_open(&x.raw_, one_adapter, 1, two_disks, 2, one_lane, 1, &most), CAMXPT_E_OPEN);
+    copy = x;
+    DUE(camxpt_tick(&copy, &n), CAMXPT_E_COPIED);
+    DUE(open_small(&copy, &most), CAMXPT_E_COPIED);
+    DUE(camxpt_close(&copy), CAMXPT_E_COPIED);
+    DUE(camxpt_tick(&x, NULL), CAMXPT_E_NULL);
+    HOLDS(n == 77);
+    DUE(camxpt_close(&x), CAMXPT_OK);
+    DUE(camxpt_close(&x), CAMXPT_E_CLOSED);
+    HOLDS(blocks == 0);
+}
+
+/* Each call on a closed handle. */
+static void closed(void)
+{
+    camxpt x = CAMXPT_INIT;
+    camxpt_command command = {1, 2, 3, 4, 5};
+    camxpt_completion done = {1, 2};
+    camxpt_case found = {1, 2};
+    camxpt_counts counts = {1, 2, 3, 4, 5, 6};
+    camxpt_event event;
+    char text[4] = "abc";
+    size_t size = 9;
+    uint32_t n = 77;
+
+    memset(&event, 0, sizeof event);
+    event.kind = CAMXPT_TICK;
+    DUE(submit(&x, 0, &n), CAMXPT_E_CLOSED);
+    DUE(camxpt_send_next(&x, 0, &command), CAMXPT_E_CLOSED);
+    DUE(camxpt_done(&x, 0, CAM_REQ_CMP, 0, NULL, 0, &done), CAMXPT_E_CLOSED);
+    DUE(camxpt_requeue(&x, 0), CAMXPT_E_CLOSED);
+    DUE(camxpt_finish(&x, 0), CAMXPT_E_CLOSED);
+    DUE(camxpt_freeze_dev(&x, 0, 1), CAMXPT_E_CLOSED);
+    DUE(camxpt_release_dev(&x, 0, 1), CAMXPT_E_CLOSED);
+    DUE(camxpt_freeze_sim(&x, 0, 1), CAMXPT_E_CLOSED);
+    DUE(camxpt_release_sim(&x, 0), CAMXPT_E_CLOSED);
+    DUE(camxpt_adjust(&x, 0, 1), CAMXPT_E_CLOSED);
+    DUE(camxpt_has_head(&x, 0), CAMXPT_E_CLOSED);
+    DUE(camxpt_next_case(&x, &found), CAMXPT_E_CLOSED);
+    DUE(camxpt_look(&x, &counts), CAMXPT_E_CLOSED);
+    DUE(camxpt_take(&x, &event), CAMXPT_E_CLOSED);
+    DUE(camxpt_refusal(&x, &event), CAMXPT_E_CLOSED);
+    DUE(camxpt_events(&x, 0, &event, 1, &size), CAMXPT_E_CLOSED);
+    DUE(camxpt_trace(&x, text, sizeof text, &size), CAMXPT_E_CLOSED);
+    /* the library's own tests, behind those of the header */
+    DUE(camxpt_raw_submit(&x.raw_, 1, 0, 0, 0, false, false, &n), CAMXPT_E_CLOSED);
+    DUE(camxpt_raw_send_next(&x.raw_, 0, &command), CAMXPT_E_CLOSED);
+    DUE(camxpt_raw_done(&x.raw_, 0, 1, 0, (const uint8_t *)text, 0, &done), CAMXPT_E_CLOSED);
+    DUE(camxpt_raw_requeue(&x.raw_, 0), CAMXPT_E_CLOSED);
+    DUE(camxpt_raw_has_head(&x.raw_, 0), CAMXPT_E_CLOSED);
+    DUE(camxpt_raw_next_case(&x.raw_, &found), CAMXPT_E_CLOSED);
+    DUE(camxpt_raw_look(&x.raw_, &counts), CAMXPT_E_CLOSED);
+    DUE(camxpt_raw_take(&x.raw_, &event), CAMXPT_E_CLOSED);
+    DUE(camxpt_raw_refusal(&x.raw_, &event), CAMXPT_E_CLOSED);
+    DUE(camxpt_raw_events(&x.raw_, 0, &event, 1, &size), CAMXPT_E_CLOSED);
+    DUE(camxpt_raw_trace(&x.raw_, (uint8_t *)text, sizeof text, &size), CAMXPT_E_CLOSED);
+    event.kind = 0;
+    DUE(camxpt_raw_take(&x.raw_, &event), CAMXPT_E_CLOSED);
+    DUE(camxpt_raw_refusal(&x.raw_, &event), CAMXPT_E_CLOSED);
+    DUE(camxpt_raw_close(&x.raw_), CAMXPT_E_CLOSED);
+    HOLDS(command.ccb == 1 && command.attempt == 2 && command.device == 3 && command.priority == 4 && command.driver == 5);
+    HOLDS(done.class_ == 1 && done.value == 2 && found.ccb == 1 && found.class_ == 2 && n == 77);
+    HOLDS(counts.length == 1 && counts.round == 2 && counts.in_flight == 3 && counts.cases == 4 && counts.heads == 6);
+    HOLDS(size == 9 && strcmp(text, "abc") == 0 && blocks == 0);
+}
+
+/* Null in the place of each pointer of an open handle's calls. */
+static void nulls(void)
+{
+    camxpt x = CAMXPT_INIT;
+    camxpt_event event;
+    size_t size = 9;
+
+    DUE(camxpt_open(&x, NULL, 1, two_disks, 2, one_lane, 1, &most), CAMXPT_E_NULL);
+    DUE(camxpt_open(&x, one_adapter, 1, NULL, 2, one_lane, 1, &most), CAMXPT_E_NULL);
+    DUE(camxpt_open(&x, one_adapter, 1, two_disks, 2, NULL, 1, &most), CAMXPT_E_NULL);
+    DUE(open_small(&x, NULL), CAMXPT_E_NULL);
+    DUE(camxpt_open_with(&x, NULL, &most), CAMXPT_E_NULL);
+    DUE(open_small(&x, &most), CAMXPT_OK);
+    DUE(submit(&x, 0, NULL), CAMXPT_E_NULL);
+    DUE(camxpt_send_next(&x, 0, NULL), CAMXPT_E_NULL);
+    DUE(camxpt_done(&x, 0, CAM_REQ_CMP, 0, NULL, 0, NULL), CAMXPT_E_NULL);
+    DUE(camxpt_next_case(&x, NULL), CAMXPT_E_NULL);
+    DUE(camxpt_look(&x, NULL), CAMXPT_E_NULL);
+    DUE(camxpt_take(&x, NULL), CAMXPT_E_NULL);
+    DUE(camxpt_refusal(&x, NULL), CAMXPT_E_NULL);
+    DUE(camxpt_events(&x, 0, NULL, 1, &size), CAMXPT_E_NULL);
+    DUE(camxpt_events(&x, 0, &event, 1, NULL), CAMXPT_E_NULL);
+    DUE(camxpt_trace(&x, NULL, 3, &size), CAMXPT_E_NULL);
+    DUE(camxpt_trace(&x, &event, 3, NULL), CAMXPT_E_NULL);
+    DUE(camxpt_events(&x, 0, NULL, 0, &size), CAMXPT_OK);
+    HOLDS(size == 0);
+    DUE(camxpt_close(&x), CAMXPT_OK);
+}
+
+/* Each rule that a configuration may break, and each limit out of its range. */
+static void faults(void)
+{
+    static const camxpt_weight weights[] = CAMXPT_STANDARD_WEIGHTS, low[] = {{1278, 1}};
+    static const camxpt_adapter on_link[] = {{2, 1}, {2, CAMXPT_NO_LINK}}, on_none[] = {{2, CAMXPT_NO_LINK}};
+    static const uint32_t links[] = {255}, nine[] = {1, 1, 1, 1, 1, 1, 1, 1, 1}, none[] = {0};
+    static const camxpt_device far[] = {{0, 0, 16384, 1}}, twice[] = {{0, 3, 4, 1}, {0, 3, 4, 2}}, away[] = {{1, 0, 0, 1}};
+    camxpt x = CAMXPT_INIT;
+    camxpt_config c = {weights, 5, links, 1, on_link, 2, two_disks, 2, one_lane, 1};
+
+    DUE(camxpt_open(&x, NULL, 0, NULL, 0, NULL, 0, &most), CAMXPT_FAULT_NO_ADAPTERS);
+    DUE(camxpt_open(&x, nine, 9, NULL, 0, NULL, 0, &most), CAMXPT_FAULT_TOO_MANY);
+    DUE(camxpt_open(&x, none, 1, NULL, 0, NULL, 0, &most), CAMXPT_FAULT_BAD_OPENINGS);
+    DUE(camxpt_open(&x, one_adapter, 1, away, 1, NULL, 0, &most), CAMXPT_FAULT_NO_ADAPTER);
+    DUE(camxpt_open(&x, one_adapter, 1, far, 1, NULL, 0, &most), CAMXPT_FAULT_BAD_ADDRESS);
+    DUE(camxpt_open(&x, one_adapter, 1, twice, 2, NULL, 0, &most), CAMXPT_FAULT_DOUBLE_DEVICE);
+    DUE(camxpt_open_with(&x, &c, &most), CAMXPT_FAULT_NO_LINK);
+    c.weights = low;
+    c.weight_count = 1;
+    DUE(camxpt_open_with(&x, &c, &most), CAMXPT_FAULT_BAD_WEIGHT);
+    c.weight_count = 0;
+    c.weights = NULL;
+    DUE(camxpt_open_with(&x, &c, &most), CAMXPT_FAULT_BAD_WEIGHT);
+    for (int k = 0; k < 8; k++) {
+        uint32_t bad[4] = {1024, 512, 4096, 65535};
+        camxpt_limits limits;
+
+        bad[k / 2] = k % 2 == 0 ? 0 : bad[k / 2] + 1;
+        limits.ccbs = bad[0];
+        limits.rounds = bad[1];
+        limits.stays = bad[2];
+        limits.events = bad[3];
+        DUE(open_small(&x, &limits), CAMXPT_E_LIMIT);
+        DUE(camxpt_open_with(&x, &c, &limits), CAMXPT_E_LIMIT);
+    }
+    HOLDS(blocks == 0);
+    c.weights = weights;
+    c.weight_count = 5;
+    c.links = NULL;
+    c.link_count = 0;
+    c.adapters = on_none;
+    c.adapter_count = 1;
+    DUE(camxpt_open_with(&x, &c, &most), CAMXPT_OK);
+    DUE(camxpt_open_with(&x, &c, &most), CAMXPT_E_OPEN);
+    DUE(camxpt_raw_open_with(&x.raw_, weights, 5, links, 0, on_none, 1, two_disks, 2, one_lane, 1, &most), CAMXPT_E_OPEN);
+    DUE(camxpt_close(&x), CAMXPT_OK);
+}
+
+/* The refusals of the calls, in a transport of 2 CCBs, 3 rounds, 4 stays and 24 events. Nothing asks for memory. */
+static void refusals(void)
+{
+    static const camxpt_limits small = {2, 3, 4, 24};
+    static const uint8_t sense[64] = {0x70, 0, 6};
+    camxpt x = CAMXPT_INIT;
+    camxpt_command command = {9, 9, 9, 9, 9};
+    camxpt_completion done = {9, 9};
+    camxpt_case found = {9, 9};
+    camxpt_counts counts = {9, 9, 9, 9, 9, 9};
+    uint32_t n = 77;
+    long before;
+
+    DUE(open_small(&x, &small), CAMXPT_OK);
+    before = requests;
+    DUE(camxpt_has_head(&x, 0), CAMXPT_NONE);
+    DUE(camxpt_next_case(&x, &found), CAMXPT_NONE);
+    DUE(camxpt_send_next(&x, 0, &command), CAMXPT_IDLE_EMPTY);
+    DUE(camxpt_send_next(&x, 1, &command), CAMXPT_NO_LANE);
+    DUE(submit(&x, 2, &n), CAMXPT_NO_DEVICE);
+    DUE(camxpt_submit(&x, 1, 0, 1280, 0, false, false, &n), CAMXPT_BAD_PRIORITY);
+    DUE(camxpt_submit(&x, 1, 0, 0, 8, false, false, &n), CAMXPT_BAD_RETRIES);
+    DUE(camxpt_done(&x, 0, CAM_REQ_CMP, 0, NULL, 0, &done), CAMXPT_NO_CCB);
+    DUE(camxpt_requeue(&x, 0), CAMXPT_NO_CCB);
+    DUE(camxpt_finish(&x, 0), CAMXPT_NO_CCB);
+    DUE(camxpt_freeze_dev(&x, 2, 1), CAMXPT_NO_DEVICE);
+    DUE(camxpt_freeze_dev(&x, 0, 0), CAMXPT_BAD_COUNT);
+    DUE(camxpt_release_dev(&x, 0, 65536), CAMXPT_BAD_COUNT);
+    DUE(camxpt_release_dev(&x, 0, 1), CAMXPT_RELEASE_TOO_MANY);
+    DUE(camxpt_freeze_sim(&x, 1, 1), CAMXPT_NO_ADAPTER);
+    DUE(camxpt_release_sim(&x, 1), CAMXPT_NO_ADAPTER);
+    DUE(camxpt_release_sim(&x, 0), CAMXPT_RELEASE_TOO_MANY);
+    DUE(camxpt_adjust(&x, 0, 256), CAMXPT_BAD_OPENINGS);
+    HOLDS(n == 77 && command.ccb == 9 && command.driver == 9 && done.class_ == 9 && found.ccb == 9);
+    DUE(camxpt_look(&x, &counts), CAMXPT_OK);
+    HOLDS(counts.length == 0 && counts.round == 1 && counts.in_flight == 0 && counts.cases == 0 && counts.waiting == 0);
+    DUE(camxpt_submit(&x, 5, 0, 1152, 1, true, false, &n), CAMXPT_OK);
+    HOLDS(n == 0);
+    DUE(submit(&x, 1, &n), CAMXPT_OK);
+    HOLDS(n == 1);
+    DUE(submit(&x, 1, &n), CAMXPT_CCB_FULL);
+    DUE(camxpt_freeze_dev(&x, 0, 65535), CAMXPT_OK);
+    DUE(camxpt_freeze_dev(&x, 0, 1), CAMXPT_FREEZE_OVERFLOW);
+    DUE(camxpt_freeze_dev(&x, 1, 1), CAMXPT_OK);
+    DUE(camxpt_send_next(&x, 0, &command), CAMXPT_IDLE_DEVICES_HELD);
+    DUE(camxpt_release_dev(&x, 0, 65535), CAMXPT_OK);
+    DUE(camxpt_freeze_sim(&x, 0, 1), CAMXPT_OK);
+    DUE(camxpt_send_next(&x, 0, &command), CAMXPT_IDLE_ADAPTER_FROZEN);
+    DUE(camxpt_release_sim(&x, 0), CAMXPT_OK);
+    DUE(camxpt_has_head(&x, 0), CAMXPT_OK);
+    DUE(camxpt_send_next(&x, 0, &command), CAMXPT_OK);
+    HOLDS(command.ccb == 0 && command.attempt == 0 && command.device == 0 && command.priority == 1152 && command.driver == 5);
+    DUE(camxpt_tick(&x, &n), CAMXPT_IN_FLIGHT);
+    DUE(camxpt_done(&x, 0, 0, 0, NULL, 0, &done), CAMXPT_BAD_STATUS);
+    DUE(camxpt_done(&x, 1, CAM_REQ_CMP, 0, NULL, 0, &done), CAMXPT_NOT_IN_FLIGHT);
+    DUE(camxpt_requeue(&x, 1), CAMXPT_NOT_RECOVERING);
+    DUE(camxpt_release_dev(&x, 1, 1), CAMXPT_OK);
+    DUE(camxpt_send_next(&x, 0, &command), CAMXPT_OK);
+    HOLDS(command.ccb == 1 && command.device == 1 && command.driver == 1);
+    DUE(camxpt_send_next(&x, 0, &command), CAMXPT_IDLE_EMPTY);
+    /* CCB 0 has sense data of a unit attention, and asks to be sent again. */
+    DUE(camxpt_done(&x, 0, CAM_SCSI_STATUS_ERROR, 2, sense, sizeof sense, &done), CAMXPT_OK);
+    HOLDS(done.class_ == CAMXPT_COUNTED_REQUEUE && done.value == (CAM_SCSI_STATUS_ERROR | CAM_DEV_QFRZN | CAM_AUTOSNS_VALID));
+    DUE(camxpt_next_case(&x, &found), CAMXPT_OK);
+    HOLDS(found.ccb == 0 && found.class_ == CAMXPT_COUNTED_REQUEUE);
+    DUE(camxpt_finish(&x, 0), CAMXPT_WRONG_DECISION);
+    DUE(camxpt_requeue(&x, 0), CAMXPT_OK);
+    DUE(camxpt_release_dev(&x, 0, 1), CAMXPT_OK);
+    /* CCB 1 has failed for good. */
+    DUE(camxpt_done(&x, 1, CAM_REQ_CMP_ERR, 0, NULL, 0, &done), CAMXPT_OK);
+    HOLDS(done.class_ == CAMXPT_OTHER && done.value == (CAM_REQ_CMP_ERR | CAM_DEV_QFRZN));
+    DUE(camxpt_requeue(&x, 1), CAMXPT_WRONG_DECISION);
+    DUE(camxpt_finish(&x, 1), CAMXPT_OK);
+    DUE(submit(&x, 1, &n), CAMXPT_OK);
+    DUE(camxpt_look(&x, &counts), CAMXPT_OK);
+    HOLDS(counts.length == 16 && counts.round == 1 && counts.in_flight == 0 && counts.cases == 0 && counts.waiting == 2);
+    DUE(camxpt_tick(&x, &n), CAMXPT_OK);
+    HOLDS(n == 2);
+    DUE(camxpt_send_next(&x, 0, &command), CAMXPT_OK);
+    HOLDS(command.ccb == 0 && command.attempt == 1);
+    DUE(camxpt_done(&x, 0, CAM_REQ_CMP, 0, NULL, 0, &done), CAMXPT_OK);
+    HOLDS(done.class_ == CAMXPT_COMPLETE && done.value == CAM_REQ_CMP);
+    DUE(submit(&x, 0, &n), CAMXPT_STAYS_FULL);
+    DUE(camxpt_tick(&x, &n), CAMXPT_OK);
+    DUE(camxpt_tick(&x, &n), CAMXPT_ROUNDS_FULL);
+    HOLDS(n == 3);
+    for (int k = 0; k < 4; k++)
+        DUE(camxpt_adjust(&x, 1, 2), CAMXPT_OK);
+    DUE(camxpt_adjust(&x, 1, 2), CAMXPT_HISTORY_FULL);
+    DUE(camxpt_tick(&x, &n), CAMXPT_HISTORY_FULL);
+    HOLDS(requests == before);
+    DUE(camxpt_close(&x), CAMXPT_OK);
+    HOLDS(blocks == 0);
+}
+
+static camxpt_event event_of(uint32_t kind)
+{
+    camxpt_event event;
+
+    memset(&event, 0, sizeof event);
+    event.kind = kind;
+    return event;
+}
+
+static camxpt_event send_of(uint32_t lane, uint32_t ccb)
+{
+    camxpt_event event = event_of(CAMXPT_SEND);
+
+    event.lane = lane;
+    event.ccb = ccb;
+    return event;
+}
+
+/* What camxpt_take answers to an event, and camxpt_refusal before it. */
+static camxpt_code take(camxpt *x, const camxpt_event *event)
+{
+    const camxpt_code told = camxpt_refusal(x, event);
+
+    DUE(camxpt_take(x, event), told);
+    return told;
+}
+
+static camxpt_code take_send(camxpt *x, uint32_t lane, uint32_t ccb)
+{
+    const camxpt_event event = send_of(lane, ccb);
+
+    return take(x, &event);
+}
+
+/* The refusals that a send has. */
+static void sends(void)
+{
+    camxpt x = CAMXPT_INIT;
+    camxpt_command command = {0, 0, 0, 0, 0};
+    camxpt_event event = event_of(12);
+    uint32_t n = 0;
+
+    DUE(camxpt_open(&x, two_adapters, 2, apart, 2, two_lanes, 2, &most), CAMXPT_OK);
+    DUE(take(&x, &event), CAMXPT_E_KIND);
+    DUE(submit(&x, 0, &n), CAMXPT_OK);
+    DUE(submit(&x, 0, &n), CAMXPT_OK);
+    DUE(submit(&x, 0, &n), CAMXPT_OK);
+    DUE(take_send(&x, 2, 0), CAMXPT_NO_LANE);
+    DUE(take_send(&x, 0, 3), CAMXPT_NO_CCB);
+    DUE(take_send(&x, 1, 0), CAMXPT_WRONG_LANE);
+    DUE(take_send(&x, 0, 1), CAMXPT_NOT_HEAD);
+    DUE(camxpt_freeze_dev(&x, 0, 1), CAMXPT_OK);
+    DUE(take_send(&x, 0, 0), CAMXPT_DEVICE_FROZEN);
+    DUE(camxpt_release_dev(&x, 0, 1), CAMXPT_OK);
+    DUE(camxpt_freeze_sim(&x, 0, 1), CAMXPT_OK);
+    DUE(take_send(&x, 0, 0), CAMXPT_ADAPTER_FROZEN);
+    DUE(camxpt_release_sim(&x, 0), CAMXPT_OK);
+    DUE(take_send(&x, 0, 0), CAMXPT_OK);
+    DUE(take_send(&x, 0, 0), CAMXPT_NOT_QUEUED);
+    DUE(camxpt_send_next(&x, 0, &command), CAMXPT_OK);
+    DUE(take_send(&x, 0, 2), CAMXPT_NO_OPENING);
+    DUE(camxpt_send_next(&x, 0, &command), CAMXPT_IDLE_ADAPTER_BUSY);
+    DUE(camxpt_close(&x), CAMXPT_OK);
+}
+
+/* Each kind of event is read as it was written: the events of one transport, taken by a second one, are the same there. */
+static void events(void)
+{
+    static const uint8_t sense[20] = {0x70, 1, 2, 3, 4, 5, 6, 7, 8, 9, 10, 11, 12, 13, 14, 15, 16, 17, 18, 19};
+    static char first[4096], second[4096];
+    static camxpt_event told[32], again[32];
+    camxpt x = CAMXPT_INIT, y = CAMXPT_INIT;
+    camxpt_command command = {0, 0, 0, 0, 0};
+    camxpt_completion done = {0, 0};
+    size_t count = 0, part = 0, size = 0;
+    uint32_t n = 0;
+
+    DUE(camxpt_open(&x, two_adapters, 2, apart, 2, two_lanes, 2, &most), CAMXPT_OK);
+    DUE(camxpt_open(&y, two_adapters, 2, apart, 2, two_lanes, 2, &most), CAMXPT_OK);
+    DUE(camxpt_submit(&x, 201, 1, 1033, 6, true, false, &n), CAMXPT_OK);
+    DUE(camxpt_submit(&x, 202, 0, 17, 5, false, true, &n), CAMXPT_OK);
+    DUE(camxpt_freeze_dev(&x, 1, 600), CAMXPT_OK);
+    DUE(camxpt_release_dev(&x, 1, 600), CAMXPT_OK);
+    DUE(camxpt_freeze_sim(&x, 1, 1), CAMXPT_OK);
+    DUE(camxpt_release_sim(&x, 1), CAMXPT_OK);
+    DUE(camxpt_adjust(&x, 1, 200), CAMXPT_OK);
+    DUE(camxpt_send_next(&x, 1, &command), CAMXPT_OK);
+    DUE(camxpt_send_next(&x, 0, &command), CAMXPT_OK);
+    DUE(camxpt_done(&x, 0, CAM_BUSY, 0, NULL, 0, &done), CAMXPT_OK);
+    DUE(camxpt_done(&x, 1, CAM_DATA_RUN_ERR | 0x80, 0x18, sense, sizeof sense, &done), CAMXPT_OK);
+    DUE(camxpt_requeue(&x, 0), CAMXPT_OK);
+    DUE(camxpt_finish(&x, 1), CAMXPT_OK);
+    DUE(camxpt_tick(&x, &n), CAMXPT_OK);
+    DUE(camxpt_events(&x, 0, told, 32, &count), CAMXPT_OK);
+    HOLDS(count == 14 && told[14].kind == 0);
+    HOLDS(told[0].kind == CAMXPT_SUBMIT && told[0].driver == 201 && told[0].device == 1 && told[0].priority == 1033);
+    HOLDS(told[0].retries == 6 && told[0].qfreeze == 1 && told[0].qfrzdis == 0 && told[1].qfreeze == 0 && told[1].qfrzdis == 1);
+    HOLDS(told[2].kind == CAMXPT_FREEZE_DEV && told[2].device == 1 && told[2].count == 600);
+    HOLDS(told[3].kind == CAMXPT_RELEASE_DEV && told[3].device == 1 && told[3].count == 600);
+    HOLDS(told[4].kind == CAMXPT_FREEZE_SIM && told[4].sim == 1 && told[4].count == 1);
+    HOLDS(told[5].kind == CAMXPT_RELEASE_SIM && told[5].sim == 1);
+    HOLDS(told[6].kind == CAMXPT_ADJUST && told[6].device == 1 && told[6].openings == 200);
+    HOLDS(told[7].kind == CAMXPT_SEND && told[7].lane == 1 && told[7].ccb == 0 && told[8].ccb == 1);
+    HOLDS(told[9].kind == CAMXPT_DONE && told[9].ccb == 0 && told[9].status == CAM_BUSY && told[9].sense_len == 0);
+    HOLDS(told[10].status == (CAM_DATA_RUN_ERR | 0x80) && told[10].scsi == 0x18 && told[10].sense_len == 18);
+    HOLDS(memcmp(told[10].sense, sense, 18) == 0);
+    HOLDS(told[11].kind == CAMXPT_REQUEUE && told[11].ccb == 0 && told[12].kind == CAMXPT_FINISH && told[12].ccb == 1);
+    HOLDS(told[13].kind == CAMXPT_TICK);
+    for (size_t k = 0; k < count; k++)
+        DUE(take(&y, &told[k]), CAMXPT_OK);
+    DUE(camxpt_events(&y, 9, again, 3, &part), CAMXPT_OK);
+    HOLDS(part == 3 && memcmp(again, told + 9, 3 * sizeof again[0]) == 0 && again[3].kind == 0);
+    DUE(camxpt_events(&y, 14, again, 3, &part), CAMXPT_OK);
+    HOLDS(part == 0);
+    DUE(camxpt_events(&y, UINT32_MAX, again, 3, &part), CAMXPT_OK);
+    HOLDS(part == 0);
+    /* more of the sense data counts than there is */
+    told[10].sense_len = 255;
+    DUE(camxpt_refusal(&y, &told[10]), CAMXPT_NOT_IN_FLIGHT);
+    DUE(camxpt_trace(&x, first, sizeof first, &size), CAMXPT_OK);
+    DUE(camxpt_trace(&y, second, sizeof second, &part), CAMXPT_OK);
+    HOLDS(size == part && memcmp(first, second, sizeof first) == 0 && first[size - 1] == '\n' && first[size] == 0);
+    memset(second, 'x', sizeof second);
+    part = 5;
+    DUE(camxpt_trace(&y, second, size - 1, &part), CAMXPT_E_SPACE);
+    HOLDS(part == size && second[0] == 'x');
+    DUE(camxpt_trace(&y, second, size, &part), CAMXPT_OK);
+    HOLDS(memcmp(first, second, size) == 0 && second[size] == 'x');
+    DUE(camxpt_close(&x), CAMXPT_OK);
+    DUE(camxpt_close(&y), CAMXPT_OK);
+    HOLDS(blocks == 0);
+}
+
+/* Each request for memory of the opening and of a trace is refused in turn. */
+static void memory(void)
+{
+    static const camxpt_weight weights[] = CAMXPT_STANDARD_WEIGHTS;
+    static const camxpt_adapter on_link[] = {{2, 0}};
+    static const uint32_t links[] = {255};
+    static const camxpt_config c = {weights, 5, links, 1, on_link, 1, two_disks, 2, one_lane, 1};
+    static char text[4096];
+    camxpt x = CAMXPT_INIT;
+    camxpt_code code;
+    size_t needed = 5;
+    long counts[3] = {0, 0, 0}, before;
+
+    for (int linked = 0; linked < 2; linked++) {
+        do {
+            granted = counts[linked];
+            code = linked ? camxpt_open_with(&x, &c, &most) : open_small(&x, &most);
+            granted = -1;
+            DUE(code, code == CAMXPT_OK ? CAMXPT_OK : CAMXPT_E_MEMORY);
+            HOLDS(code == CAMXPT_OK || blocks == 0);
+            counts[linked]++;
+        } while (code != CAMXPT_OK);
+        if (!linked)
+            DUE(camxpt_close(&x), CAMXPT_OK);
+    }
+    before = blocks;
+    do {
+        granted = counts[2];
+        needed = 5;
+        text[0] = 'x';
+        code = camxpt_trace(&x, text, sizeof text, &needed);
+        granted = -1;
+        DUE(code, code == CAMXPT_OK ? CAMXPT_OK : CAMXPT_E_MEMORY);
+        HOLDS(blocks == before && (code == CAMXPT_OK || (needed == 5 && text[0] == 'x')));
+        counts[2]++;
+    } while (code != CAMXPT_OK);
+    DUE(camxpt_close(&x), CAMXPT_OK);
+    HOLDS(blocks == 0 && counts[0] > 1 && counts[1] > 1 && counts[2] > 1);
+    printf("requests for memory: %ld to open, %ld with links, %ld for a trace\n", counts[0] - 1, counts[1] - 1, counts[2] - 1);
+}
+
+int main(void)
+{
+    handles();
+    closed();
+    nulls();
+    faults();
+    refusals();
+    sends();
+    events();
+    memory();
+    for (camxpt_code code = LEAST; code <= MOST; code++)
+        if (strcmp(camxpt_code_name(code), "Unknown") != 0 && !reached[code - LEAST]) {
+            fprintf(stderr, "misuse: no call answers %s\n", camxpt_code_name(code));
+            return EXIT_FAILURE;
+        }
+    printf("%u checks, each code was answered\n", checks);
+    return EXIT_SUCCESS;
+}

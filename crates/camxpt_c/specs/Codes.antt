@@ -1,0 +1,63 @@
+-- the numbers that the functions for C answer
+use Rattle.std.specs.Prelude.{ℕ, ℤ, pos}
+use Rattle.cam_types.specs.declared.config_fault.ConfigFault.{ConfigFault}
+use Rattle.cam_types.specs.declared.config_fault.ConfigFault.TheVariants as faults
+use Rattle.event_rules.specs.declared.refusal.Refusal.{Refusal}
+use Rattle.event_rules.specs.declared.refusal.Refusal.TheVariants as refusals
+use Rattle.sense_class.specs.declared.class.Class.{Class}
+use Rattle.sense_class.specs.declared.class.Class.TheVariants as classes
+use Rattle.sense_class.specs.declared.class.Why.TheVariants as failures
+use Rattle.xpt_state.specs.declared.idle.Idle.{Idle}
+use Rattle.xpt_state.specs.declared.idle.Idle.TheVariants as idles
+
+-- a refusal's place in the list of causes
+abbrev pub code_of : Refusal → ℤ
+code_of (refusals.HistoryFull _) = pos 1
+code_of refusals.NoDevice = pos 2
+code_of refusals.NoAdapter = pos 3
+code_of refusals.NoLane = pos 4
+code_of refusals.NoCcb = pos 5
+code_of refusals.BadPriority = pos 6
+code_of refusals.BadRetries = pos 7
+code_of refusals.BadCount = pos 8
+code_of refusals.BadOpenings = pos 9
+code_of refusals.BadStatus = pos 10
+code_of refusals.CcbFull = pos 11
+code_of refusals.StaysFull = pos 12
+code_of refusals.NotQueued = pos 13
+code_of refusals.WrongLane = pos 14
+code_of refusals.DeviceFrozen = pos 15
+code_of refusals.AdapterFrozen = pos 16
+code_of refusals.NoOpening = pos 17
+code_of refusals.NotHead = pos 18
+code_of refusals.NotInFlight = pos 19
+code_of refusals.NotRecovering = pos 20
+code_of refusals.WrongDecision = pos 21
+code_of refusals.FreezeOverflow = pos 22
+code_of refusals.ReleaseTooMany = pos 23
+code_of refusals.InFlight = pos 24
+code_of refusals.RoundsFull = pos 25
+
+abbrev pub idle_code : Idle → ℤ
+idle_code idles.Empty = pos 32
+idle_code idles.AdapterFrozen = pos 33
+idle_code idles.AdapterBusy = pos 34
+idle_code idles.DevicesHeld = pos 35
+
+abbrev pub fault_code : ConfigFault → ℤ
+fault_code faults.NoAdapters = pos 48
+fault_code faults.TooMany = pos 49
+fault_code faults.BadOpenings = pos 50
+fault_code faults.NoAdapter = pos 51
+fault_code faults.BadAddress = pos 52
+fault_code faults.DoubleDevice = pos 53
+fault_code faults.BadWeight = pos 54
+fault_code faults.NoLink = pos 55
+
+abbrev pub class_code : Class → ℕ
+class_code classes.Complete = 0
+class_code classes.FreeRequeue = 1
+class_code classes.CountedRequeue = 2
+class_code (classes.Fail failures.Recovered) = 3
+class_code (classes.Fail failures.Spent) = 4
+class_code (classes.Fail failures.Other) = 5

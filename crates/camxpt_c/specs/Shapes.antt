@@ -1,0 +1,29 @@
+-- what the structs of C's say
+use Rattle.std.specs.Prelude.{◌≡◌}
+use Rattle.cam_types.specs.declared.command.Command.{Command}
+use Rattle.camxpt_c.specs.Codes.{class_code}
+use Rattle.camxpt_c.specs.declared.shapes.CamxptCommand.{CamxptCommand}
+use Rattle.camxpt_c.specs.declared.shapes.CamxptDone.{CamxptDone}
+use Rattle.camxpt_c.specs.declared.shapes.CamxptCase.{CamxptCase}
+use Rattle.camxpt_c.specs.declared.shapes.CamxptLook.{CamxptLook}
+use Rattle.xpt_state.specs.declared.done.Done as done
+use Rattle.xpt_state.specs.declared.look.Case as case
+use Rattle.xpt_state.specs.declared.look.Look as look
+
+-- the command that the struct says
+abbrev pub command_of : CamxptCommand → Command
+command_of c = record { ccb = c.ccb; attempt = c.attempt; driver = c.driver; device = c.device; priority = c.priority }
+
+-- what a completion comes to
+abbrev pub IsDone : done.Done → CamxptDone → Type 0
+IsDone d shape = (shape.class ≡ class_code d.class) × (shape.value ≡ d.value)
+
+-- the CCB that waits for a decision
+abbrev pub IsCase : case.Case → CamxptCase → Type 0
+IsCase c shape = (shape.ccb ≡ c.ccb) × (shape.class ≡ class_code c.class)
+
+-- all counts
+abbrev pub IsLook : look.Look → CamxptLook → Type 0
+IsLook l shape =
+    (shape.length ≡ l.length) × (shape.round ≡ l.round) × (shape.in_flight ≡ l.in_flight) × (shape.cases ≡ l.cases)
+    × (shape.waiting ≡ l.waiting) × (shape.heads ≡ l.heads)

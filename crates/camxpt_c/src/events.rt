@@ -1,0 +1,105 @@
+//! The events: any one to be taken or asked about, and all so far.
+
+ghost use Rattle.std.specs.Prelude.{◌≡◌, Some, None, MatchOption, drop};
+ghost use Rattle.xpt_core.specs.Takes.{refused};
+ghost use Rattle.camxpt_c.specs.Codes.{code_of};
+ghost use Rattle.camxpt_c.specs.EventShapes.{event_of};
+ghost use Rattle.camxpt_c.specs.Events.{IsTake, IsAnswer, AreCopied, refusal_code};
+ghost use Rattle.camxpt_c.specs.declared.codes.TheConstants.{OK, E_CLOSED, E_KIND};
+
+use crate::calls::push;
+use crate::codes::{E_CLOSED, E_KIND, OK, code_of};
+use crate::event_shapes::{CamxptEvent, event_of, event_shape};
+use event_rules::{Event, Refusal};
+use std::alloc::Global;
+use xpt_handle::CamXpt;
+
+/// Takes an event of any kind, by the rules of the call of that kind. A send is refused unless it is of the next command of its
+/// lane's adapter.
+#[unsafe(no_mangle)]
+pub extern "C" fn camxpt_raw_take(alloc: Global, x: &mut CamXpt, event: &CamxptEvent) -> i32
+    ensures { IsTake (event_of event.now) x.old.body.kept x.new.body.kept result }
+{
+    match event_of(event) {
+        Some(event) => push(alloc, x, event),
+        None => unknown(alloc, x),
+    }
+}
+
+/// Why the event would be refused now: `OK` if it would be taken.
+#[unsafe(no_mangle)]
+pub extern "C" fn camxpt_raw_refusal(alloc: Global, x: &mut CamXpt, event: &CamxptEvent) -> i32
+    ensures same { x.new.body.kept ≡ x.old.body.kept }
+    ensures answer { IsAnswer (event_of event.now) x.old.body.kept result }
+{
+    let Some(event) = event_of(event) else {
+        return unknown(alloc, x);
+    };
+    let Some(xpt) = x.take(alloc) else {
+        return E_CLOSED;
+    };
+    let code = refusal_code(xpt.refusal(&event));
+    x.put(xpt);
+    code
+}
+
+fn refusal_code(refusal: Option<Refusal>) -> i32
+    ensures { result ≡ refusal_code refusal }
+{
+    match refusal {
+        Some(why) => code_of(why),
+        None => OK,
+    }
+}
+
+// What an event of no kind is answered with.
+fn unknown(alloc: Global, x: &mut CamXpt) -> i32
+    ensures same { x.new.body.kept ≡ x.old.body.kept }
+    ensures code { MatchOption x.old.body.kept (result ≡ E_CLOSED) (λ _. result ≡ E_KIND) }
+{
+    let Some(xpt) = x.take(alloc) else {
+        return E_CLOSED;
+    };
+    x.put(xpt);
+    E_KIND
+}
+
+/// Copies the events from this number on, numbered from 0, as many as there are and as there is room for, and gives how many
+/// these are.
+#[unsafe(no_mangle)]
+pub extern "C" fn camxpt_raw_events(
+    alloc: Global,
+    x: &mut CamXpt,
+    first: u32,
+    events: &mut [CamxptEvent],
+    copied: &mut usize,
+) -> i32
+    ensures same { x.new.body.kept ≡ x.old.body.kept }
+    ensures events { MatchOption x.old.body.kept
+        ((result ≡ E_CLOSED) × (events.new ≡ events.old) × (copied.new ≡ copied.old))
+        (λ t. (result ≡ OK) × AreCopied (drop first t.events) events.old events.new copied.new) }
+{
+    let Some(xpt) = x.take(alloc) else {
+        return E_CLOSED;
+    };
+    *copied = copy_from(xpt.events(), first as usize, events);
+    x.put(xpt);
+    OK
+}
+
+fn copy_from(all: &[Event], first: usize, shapes: &mut [CamxptEvent]) -> usize
+    ensures { AreCopied (drop first all.now) shapes.old shapes.new result }
+{
+    let first = first.min(all.len());
+    copy(&all[first..], shapes)
+}
+
+fn copy(events: &[Event], shapes: &mut [CamxptEvent]) -> usize
+    ensures { AreCopied events.now shapes.old shapes.new result }
+{
+    let count = events.len().min(shapes.len());
+    for k in 0..count {
+        shapes[k] = event_shape(events[k]);
+    }
+    count
+}

@@ -1,0 +1,158 @@
+//! Opens a transport.
+
+ghost use Rattle.std.specs.Prelude.{◌≡◌, IfOk, IfErr, MatchResult, Some};
+ghost use Rattle.camxpt_c.specs.Configs.{plain_topology, linked_topology, bounds_of};
+ghost use Rattle.camxpt_c.specs.Openings.{IsOpening, IsConfigOf, opened, error_code, limits_in};
+ghost use Rattle.camxpt_c.specs.declared.codes.TheConstants.{OK, E_MEMORY};
+
+use crate::codes::{E_LIMIT, E_MEMORY, E_OPEN, OK, fault_code};
+use crate::configs::{adapters_of, devices_of, weights_of};
+use crate::shapes::{CamxptAdapter, CamxptDevice, CamxptLimits, CamxptWeight};
+use cam_types::{Config, ConfigError, Limits};
+use std::alloc::Global;
+use xpt_handle::CamXpt;
+use xpt_state::Xpt;
+
+/// Opens a closed handle: adapters of these openings on no link, these devices, and a lane on each of these adapters, with
+/// the standard table of weights.
+#[unsafe(no_mangle)]
+pub extern "C" fn camxpt_raw_open(
+    alloc: Global,
+    x: &mut CamXpt,
+    adapters: &[u32],
+    devices: &[CamxptDevice],
+    lanes: &[u32],
+    limits: &CamxptLimits,
+) -> i32
+    ensures { IsOpening (plain_topology adapters.now devices.now lanes.now) (bounds_of limits.now) x.old.body.kept x.new.body.kept result }
+{
+    if let Some(xpt) = x.take(alloc) {
+        x.put(xpt);
+        return E_OPEN;
+    }
+    let Some(limits) = limits_in(limits) else {
+        return E_LIMIT;
+    };
+    match plain_config(alloc, adapters, devices, lanes) {
+        Ok(config) => keep(x, boxed(alloc, config, limits)),
+        Err(code) => code,
+    }
+}
+
+/// The same with this table of weights, with links of these openings, and with adapters of which each is on a link or on none.
+#[unsafe(no_mangle)]
+pub extern "C" fn camxpt_raw_open_with(
+    alloc: Global,
+    x: &mut CamXpt,
+    weights: &[CamxptWeight],
+    links: &[u32],
+    adapters: &[CamxptAdapter],
+    devices: &[CamxptDevice],
+    lanes: &[u32],
+    limits: &CamxptLimits,
+) -> i32
+    ensures { IsOpening (linked_topology weights.now links.now adapters.now devices.now lanes.now) (bounds_of limits.now) x.old.body.kept x.new.body.kept result }
+{
+    if let Some(xpt) = x.take(alloc) {
+        x.put(xpt);
+        return E_OPEN;
+    }
+    let Some(limits) = limits_in(limits) else {
+        return E_LIMIT;
+    };
+    match linked_config(alloc, weights, links, adapters, devices, lanes) {
+        Ok(config) => keep(x, boxed(alloc, config, limits)),
+        Err(code) => code,
+    }
+}
+
+// The limits, if each is in its range.
+fn limits_in(limits: &CamxptLimits) -> Option<Limits>
+    ensures { result ≡ limits_in (bounds_of limits.now) }
+{
+    match Limits::new(limits.ccbs, limits.rounds, limits.stays, limits.events) {
+        Ok(limits) => Some(limits),
+        Err(_) => None,
+    }
+}
+
+fn plain_config(
+    alloc: Global,
+    adapters: &[u32],
+    devices: &[CamxptDevice],
+    lanes: &[u32],
+) -> Result<Config, i32>
+    ensures { IsConfigOf (plain_topology adapters.now devices.now lanes.now) result }
+{
+    let Ok(devices) = devices_of(alloc, devices) else {
+        return Err(E_MEMORY);
+    };
+    match Config::new(alloc, adapters, &devices, lanes) {
+        Ok(config) => Ok(config),
+        Err(error) => Err(error_code(error)),
+    }
+}
+
+fn linked_config(
+    alloc: Global,
+    weights: &[CamxptWeight],
+    links: &[u32],
+    adapters: &[CamxptAdapter],
+    devices: &[CamxptDevice],
+    lanes: &[u32],
+) -> Result<Config, i32>
+    ensures { IsConfigOf (linked_topology weights.now links.now adapters.now devices.now lanes.now) result }
+{
+    let Ok(weights) = weights_of(alloc, weights) else {
+        return Err(E_MEMORY);
+    };
+    let Ok(adapters) = adapters_of(alloc, adapters) else {
+        return Err(E_MEMORY);
+    };
+    let Ok(devices) = devices_of(alloc, devices) else {
+        return Err(E_MEMORY);
+    };
+    match Config::with_links(alloc, &weights, links, &adapters, &devices, lanes) {
+        Ok(config) => Ok(config),
+        Err(error) => Err(error_code(error)),
+    }
+}
+
+// The number of the rule that is broken, or of want of memory.
+fn error_code(error: ConfigError) -> i32
+    ensures { result ≡ error_code error }
+{
+    match error {
+        ConfigError::Fault(fault) => fault_code(fault),
+        ConfigError::OutOfMemory => E_MEMORY,
+    }
+}
+
+// A transport in a box.
+fn boxed(alloc: Global, config: Config, limits: Limits) -> Result<Box<Xpt>, i32>
+    ensures ok { IfOk result (λ made. made.value ≡ opened config limits) }
+    ensures err { IfErr result (λ code. code ≡ E_MEMORY) }
+{
+    let Ok(xpt) = Xpt::open(alloc, config, limits) else {
+        return Err(E_MEMORY);
+    };
+    match Box::new(alloc, xpt) {
+        Ok(made) => Ok(made),
+        Err(_) => Err(E_MEMORY),
+    }
+}
+
+// Puts what was made into the handle.
+fn keep(x: &mut CamXpt, made: Result<Box<Xpt>, i32>) -> i32
+    ensures { MatchResult made
+        (λ xpt. (result ≡ OK) × (x.new.body.kept ≡ Some xpt.value))
+        (λ code. (result ≡ code) × (x.new.body.kept ≡ x.old.body.kept)) }
+{
+    match made {
+        Ok(xpt) => {
+            x.put(xpt);
+            OK
+        }
+        Err(code) => code,
+    }
+}

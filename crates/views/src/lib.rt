@@ -12,6 +12,6 @@ mod drawing;
 mod labels;
 mod making;
 mod notes;
+mod numbers;
 mod plain_words;
 mod text;
-mod times;

@@ -10,7 +10,7 @@ use crate::as_json::line::line;
 use crate::as_json::parts::{Costs, Tables};
 use crate::as_json::stays::{ListedStay, stay_list};
 use crate::labels::Labels;
-use crate::times::nanoseconds;
+use crate::numbers::nanoseconds;
 use round_net::Net;
 use serde::Serialize;
 use std::alloc::{AllocError, Global};

@@ -2,6 +2,7 @@
 
 use crate::labels::Labels;
 use crate::making::Page;
+use crate::numbers::{push_share, push_span};
 use crate::plain_words::plain_words;
 use crate::text::freezes::push_freezes;
 use crate::text::order::{first_of, most_first};
@@ -9,7 +10,6 @@ use crate::text::stays::push_stays;
 use crate::text::tables::push_tables;
 use crate::text::weights::push_weights;
 use crate::text::worst::push_worst;
-use crate::times::time_of_rounds;
 use cam_types::Config;
 use recording_file::Span;
 use std::alloc::{AllocError, Global};
@@ -31,7 +31,7 @@ pub fn page(
 ) -> Result<String, AllocError> {
     let mut page = Page::new(alloc);
     let whole = explanation.whole(alloc)?;
-    push_totals(alloc, &mut page, explanation.unit(), &whole)?;
+    push_totals(&mut page, explanation.unit(), &whole);
     push_weights(&mut page, config);
     let labels = Labels::of(config, explanation);
     push_costs(alloc, &mut page, labels, explanation, &whole, top)?;
@@ -39,70 +39,45 @@ pub fn page(
 }
 
 // Puts what the waiting cost beside the other schedule on the page, by our words and by those of who looks after storage.
-fn push_totals(
-    alloc: Global,
-    page: &mut Page,
-    unit: Option<Span>,
-    whole: &Part,
-) -> Result<(), AllocError> {
-    push_total(page, "stays", u64::from(whole.stays), "requests in a queue");
+fn push_totals(page: &mut Page, unit: Option<Span>, whole: &Part) {
     push_total(
         page,
-        "waited rounds",
-        whole.waited,
-        &waited_time(alloc, unit, whole.waited)?,
+        "stays",
+        u64::from(whole.stays),
+        "  requests in a queue\n",
     );
+    push_total(page, "waited rounds", whole.waited, "");
+    push_waited(page, unit, whole.waited);
     push_total(
         page,
         "live cost",
         whole.live,
-        "the recorded wait, by weight",
+        "  the recorded wait, by weight\n",
     );
-    push_total(page, "best cost", whole.best, "the least possible");
+    push_total(page, "best cost", whole.best, "  the least possible\n");
     let excess = whole.live.saturating_sub(whole.best);
-    push_total(
-        page,
-        "excess",
-        excess,
-        &avoidable(alloc, excess, whole.live)?,
-    );
-    Ok(())
-}
-
-// A line on a number of the whole.
-fn push_total(page: &mut Page, name: &str, number: u64, words: &str) {
-    page.show(format_args!("{name:<13} {number:>9}"));
-    if !words.is_empty() {
-        page.words(&["  ", words]);
+    push_total(page, "excess", excess, "  avoidable");
+    if whole.live > 0 {
+        page.put(", ");
+        push_share(page, excess, whole.live);
     }
     page.put("\n");
 }
 
-// What waiting rounds are in time, if it is known how long a round is.
-fn waited_time(alloc: Global, unit: Option<Span>, waited: u64) -> Result<String, AllocError> {
-    match unit {
-        Some(unit) => {
-            let round = time_of_rounds(alloc, unit, 1)?;
-            format!(in alloc;
-                "{} in rounds of {round}",
-                time_of_rounds(alloc, unit, waited)?
-            )
-        }
-        None => Ok(String::new(alloc)),
-    }
+// A line on a number of the whole, up to its end or to what else there is to say.
+fn push_total(page: &mut Page, name: &str, number: u64, words: &str) {
+    page.show(format_args!("{name:<13} {number:>9}{words}"));
 }
 
-// What share of the live cost was avoidable.
-fn avoidable(alloc: Global, excess: u64, live: u64) -> Result<String, AllocError> {
-    if live == 0 {
-        return String::from_str(alloc, "avoidable");
+// What waiting rounds are in time, if it is known how long a round is, to the end of the line.
+fn push_waited(page: &mut Page, unit: Option<Span>, waited: u64) {
+    if let Some(unit) = unit {
+        page.put("  ");
+        push_span(page, unit, waited);
+        page.put(" in rounds of ");
+        push_span(page, unit, 1);
     }
-    let live = u128::from(live);
-    let thousandths = u128::from(excess)
-        .saturating_mul(1000)
-        .saturating_add(live / 2)
-        / live;
-    format!(in alloc; "avoidable, {}.{} %", thousandths / 10, thousandths % 10)
+    page.put("\n");
 }
 
 // Puts what cost most on the page, and the cost by cause and in tables.

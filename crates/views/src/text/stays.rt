@@ -2,8 +2,8 @@
 
 use crate::labels::{Labels, shortened};
 use crate::making::Page;
+use crate::numbers::push_time;
 use crate::text::columns::push_columns;
-use crate::times::in_time;
 use recording_file::Span;
 use std::alloc::{AllocError, Global};
 use wait_causes::{ExplainedStay, Explanation, InputKind};
@@ -44,7 +44,7 @@ pub(crate) fn push_stays(
             push_stay(page, kind, stay);
             push_rest(page, &device, width, stay);
             push_waits(page, kind, stay, width);
-            push_span(alloc, page, explanation.unit(), stay)?;
+            push_span(page, explanation.unit(), stay);
         }
     }
     Ok(())
@@ -102,17 +102,12 @@ fn push_between(page: &mut Page, shown: u32, width: usize) {
 }
 
 // Which rounds a stay waited, and how long that is if it is known, to the end of the line.
-fn push_span(
-    alloc: Global,
-    page: &mut Page,
-    unit: Option<Span>,
-    stay: &ExplainedStay,
-) -> Result<(), AllocError> {
+fn push_span(page: &mut Page, unit: Option<Span>, stay: &ExplainedStay) {
     let waited = stay.live.saturating_sub(stay.arrival);
     page.put(if waited == 1 { "round " } else { "rounds " });
     push_rounds(page, stay.arrival, stay.live.saturating_sub(1));
-    page.show(format_args!("{}\n", in_time(alloc, unit, u64::from(waited))?));
-    Ok(())
+    push_time(page, unit, u64::from(waited));
+    page.put("\n");
 }
 
 /// Puts a range of rounds on the page.

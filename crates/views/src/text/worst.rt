@@ -2,9 +2,9 @@
 
 use crate::labels::Labels;
 use crate::making::Page;
+use crate::numbers::push_time;
 use crate::text::freezes::{frozen_by, frozen_name};
 use crate::text::stays::push_rounds;
-use crate::times::in_time;
 use std::alloc::{AllocError, Global};
 use wait_causes::{ExplainedStay, Explanation, Freeze, Grouping, InputKind, Row};
 
@@ -18,7 +18,7 @@ pub(crate) fn push_worst(
     freeze: Option<&Freeze>,
 ) -> Result<(), AllocError> {
     if let Some(stay) = stay {
-        push_worst_stay(alloc, page, explanation, stay)?;
+        push_worst_stay(page, explanation, stay);
         push_worst_device(alloc, page, labels, explanation)?;
     }
     if let Some(freeze) = freeze {
@@ -28,12 +28,7 @@ pub(crate) fn push_worst(
 }
 
 // Puts a sentence on the stay that cost most on the page.
-fn push_worst_stay(
-    alloc: Global,
-    page: &mut Page,
-    explanation: &Explanation,
-    stay: &ExplainedStay,
-) -> Result<(), AllocError> {
+fn push_worst_stay(page: &mut Page, explanation: &Explanation, stay: &ExplainedStay) {
     match explanation.kind() {
         InputKind::Trace => {
             page.show(format_args!("\nCCB {} (try {})", stay.ccb, stay.attempt));
@@ -41,25 +36,18 @@ fn push_worst_stay(
         InputKind::Recording => page.show(format_args!("\nRequest {}", stay.ccb)),
     }
     page.show(format_args!(" cost most: {}, from ", stay.cost()));
-    push_round(alloc, page, explanation, stay.arrival)?;
+    push_round(page, explanation, stay.arrival);
     page.put(" to its send in ");
-    push_round(alloc, page, explanation, stay.live)?;
+    push_round(page, explanation, stay.live);
     page.put("; the best schedule sends it in ");
-    push_round(alloc, page, explanation, stay.best)?;
+    push_round(page, explanation, stay.best);
     page.put(".\n");
-    Ok(())
 }
 
 // Puts a round on the page, and when it ended if that is known.
-fn push_round(
-    alloc: Global,
-    page: &mut Page,
-    explanation: &Explanation,
-    round: u32,
-) -> Result<(), AllocError> {
-    let time = in_time(alloc, explanation.unit(), u64::from(round))?;
-    page.show(format_args!("round {round}{time}"));
-    Ok(())
+fn push_round(page: &mut Page, explanation: &Explanation, round: u32) {
+    page.show(format_args!("round {round}"));
+    push_time(page, explanation.unit(), u64::from(round));
 }
 
 // Puts a sentence on the device whose stays cost most on the page, if one cost anything.

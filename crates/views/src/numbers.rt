@@ -1,0 +1,120 @@
+//! Numbers as people read them: with commas, as shares, and rounds in time.
+
+use crate::making::Page;
+use recording_file::{Span, TimeUnit};
+
+/// Puts a number on the page, with commas between its thousands.
+pub(crate) fn push_number(page: &mut Page, number: u64) {
+    let mut has_begun = false;
+    for power in &[
+        1_000_000_000_000_000_000u64,
+        1_000_000_000_000_000,
+        1_000_000_000_000,
+        1_000_000_000,
+        1_000_000,
+        1_000,
+        1,
+    ] {
+        let three = number.checked_div(*power).unwrap_or(0) % 1_000;
+        if has_begun {
+            page.show(format_args!(",{three:03}"));
+        } else if three > 0 || *power == 1 {
+            page.show(three);
+            has_begun = true;
+        }
+    }
+}
+
+/// Puts each of these words with its number on the page, and then the last word.
+pub(crate) fn push_numbers(page: &mut Page, parts: &[(&str, u64)], end: &str) {
+    for (word, number) in parts {
+        page.put(word);
+        push_number(page, *number);
+    }
+    page.put(end);
+}
+
+/// Puts a number that may be below 0 on the page.
+pub(crate) fn push_signed(page: &mut Page, number: i128) {
+    if number < 0 {
+        page.put("-");
+    }
+    push_number(
+        page,
+        u64::try_from(number.unsigned_abs()).unwrap_or(u64::MAX),
+    );
+}
+
+/// Puts the share of a part in a whole on the page, in percent with a tenth.
+pub(crate) fn push_share(page: &mut Page, part: u64, whole: u64) {
+    let tenths = part
+        .saturating_mul(1_000)
+        .saturating_add(whole / 2)
+        .checked_div(whole)
+        .unwrap_or(0);
+    page.show(format_args!("{}.{} %", tenths / 10, tenths % 10));
+}
+
+/// Puts how long that many rounds are on the page, in brackets, if it is known how long one is.
+pub(crate) fn push_time(page: &mut Page, unit: Option<Span>, rounds: u64) {
+    if let Some(span) = unit {
+        page.put(" (");
+        push_span(page, span, rounds);
+        page.put(")");
+    }
+}
+
+/// Puts how long that many rounds of this length are on the page, in the largest unit of which there is one, to a hundredth.
+pub(crate) fn push_span(page: &mut Page, span: Span, rounds: u64) {
+    let all = u128::from(nanoseconds(span)).saturating_mul(u128::from(rounds));
+    match all {
+        0..=999 => page.show(format_args!("{all} ns")),
+        1_000..=999_999 => push_hundredths(page, all / 10, " us"),
+        1_000_000..=999_999_999 => push_hundredths(page, all / 10_000, " ms"),
+        _ => push_hundredths(page, all / 10_000_000, " s"),
+    }
+}
+
+/// How many nanoseconds a span has.
+pub(crate) fn nanoseconds(span: Span) -> u64 {
+    let each = match span.unit {
+        TimeUnit::Nanosecond => 1,
+        TimeUnit::Microsecond => 1_000,
+        TimeUnit::Millisecond => 1_000_000,
+        TimeUnit::Second => 1_000_000_000,
+    };
+    u64::from(span.count).saturating_mul(each)
+}
+
+// Puts that many hundredths on the page as a decimal number, with its unit.
+fn push_hundredths(page: &mut Page, hundredths: u128, unit: &str) {
+    push_number(page, u64::try_from(hundredths / 100).unwrap_or(u64::MAX));
+    let rest = hundredths % 100;
+    if rest % 10 > 0 {
+        page.show(format_args!(".{rest:02}"));
+    } else if rest > 0 {
+        page.show(format_args!(".{}", rest / 10));
+    }
+    page.put(unit);
+}
+
+/// Puts the number of a round on the page, with the time at which it ended.
+pub(crate) fn push_round(page: &mut Page, unit: Option<Span>, round: u32) {
+    push_number(page, u64::from(round));
+    push_time(page, unit, u64::from(round));
+}
+
+/// Puts how many rounds these are on the page, with their time.
+pub(crate) fn push_rounds(page: &mut Page, unit: Option<Span>, rounds: u64) {
+    push_number(page, rounds);
+    page.put(if rounds == 1 { " round" } else { " rounds" });
+    push_time(page, unit, rounds);
+}
+
+/// Puts a range of rounds on the page.
+pub(crate) fn push_range(page: &mut Page, first: u32, last: u32) {
+    page.show(first);
+    if first < last {
+        page.show(format_args!("-{last}"));
+    }
+}

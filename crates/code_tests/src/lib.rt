@@ -33,8 +33,6 @@ mod levels;
 #[cfg(test)]
 mod linked;
 #[cfg(test)]
-mod long_reports;
-#[cfg(test)]
 mod made;
 #[cfg(test)]
 mod meeting;

@@ -19,6 +19,10 @@ pub enum Failure {
     StandardInputTwice,
     /// No words are completed for a shell of this name.
     NoShell,
+    /// The rounds to be drawn aren't two rounds of which the first is from 1 on and not after the second.
+    NoRange,
+    /// Rounds after the last one, which is this, are to be drawn.
+    NoSuchRounds(u32),
     /// A file that can't be opened: the one that this argument names, and the system's reason.
     CannotOpen(Argument, io::Error),
     /// A text that isn't what it has to be, a read or write that failed, or no memory.
@@ -34,6 +38,7 @@ impl Failure {
     pub fn exit_code(&self) -> ExitCode {
         ExitCode::from(match self {
             Failure::WordNotUtf8 | Failure::StandardInputTwice | Failure::NoShell => 2,
+            Failure::NoRange | Failure::NoSuchRounds(_) => 2,
             Failure::CannotOpen(_, _) => 4,
             Failure::Audit(AuditFault::Trace(fault)) => trace_status(fault),
             Failure::Audit(AuditFault::Recording(fault)) => recording_status(fault),
@@ -94,6 +99,8 @@ impl fmt::Display for Failure {
                 f.write_str("only one of TRACE and REPORT can be standard input")
             }
             Failure::NoShell => f.write_str("only bash, zsh and fish complete words"),
+            Failure::NoRange => f.write_str("--rounds takes A-B, rounds from A to B, as 412-500"),
+            Failure::NoSuchRounds(last) => write!(f, "--rounds: the last round is {last}"),
             Failure::CannotOpen(_, _) => f.write_str("cannot open"),
             Failure::Audit(fault) => fault.fmt(f),
             Failure::Live(fault) => fault.fmt(f),

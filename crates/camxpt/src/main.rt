@@ -1,10 +1,11 @@
-//! Audits traces of a CAM transport and recordings of any scheduler, explains and draws traces, and runs scripts that record them.
+//! Audits, explains and draws traces of a CAM transport and recordings of any scheduler, and runs scripts that record traces.
 #![tactic(auto)]
 
 use std::io::IsTerminal;
 use std::process::ExitCode;
 
 mod completion;
+mod drawing_run;
 mod failure;
 mod import_fault;
 mod import_layout;

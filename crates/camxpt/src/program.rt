@@ -1,6 +1,7 @@
 //! Runs the subcommand that the command line asks for.
 
 use crate::completion::script;
+use crate::drawing_run::range_of;
 use crate::failure::Failure;
 use crate::import_run::import;
 use crate::note::{note_on, reason_note};
@@ -137,6 +138,10 @@ fn obey_words<R: Runtime + AllocGlobal + Threads + Wait + Sync>(
     words: &ArgMatches<'_>,
     on_terminal: bool,
 ) -> Result<ExitCode, Failure> {
+    if name == "draw" {
+        let rounds = range_of(words)?;
+        return over_trace(rt, words, TraceRun::Draw { rounds }, on_terminal);
+    }
     if let Some(run) = trace_run(name, words) {
         return over_trace(rt, words, run, on_terminal);
     }
@@ -161,7 +166,6 @@ fn trace_run(name: &str, words: &ArgMatches<'_>) -> Option<TraceRun> {
         "explain" => Some(TraceRun::Explain {
             top: words.get_one("top").unwrap_or(TOP),
         }),
-        "draw" => Some(TraceRun::Draw),
         "migrate" => Some(TraceRun::Migrate),
         "record" => Some(TraceRun::Record),
         _ => None,

@@ -36,9 +36,9 @@ pub(crate) const SUBCOMMANDS: [Subcommand; 11] = [
     },
     Subcommand {
         name: "draw",
-        about: "Draws where the commands of a trace waited, as a page for a browser",
+        about: "Draws where the commands of a trace or the requests of a recording waited, as a page for a browser",
         example: "Example: camxpt draw examples/frozen-device.csv > page.html",
-        words: &[Word::Verbose, Word::Trace],
+        words: &[Word::Rounds, Word::Verbose, Word::Either],
     },
     Subcommand {
         name: "prove",

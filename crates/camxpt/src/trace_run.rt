@@ -1,27 +1,25 @@
-//! Checks, audits and explains a trace or a recording; draws, migrates or records a trace.
+//! Checks, audits, explains and draws a trace or a recording; migrates or records a trace.
 
+use crate::drawing_run::{Range, drawn};
 use crate::failure::Failure;
-use crate::note::title;
-use crate::output::{Output, closed, print};
+use crate::output::{Output, closed, made, print};
 use crate::progress::{ProgressLine, ToldReader, ToldWriter};
 use crate::source::Source;
 use audit_report::{
-    AuditFault, Input, read_input, read_net, read_rounds, run_audit_with, run_check, run_migrate,
-    run_record,
+    AuditFault, Input, read_input, read_net, run_audit_with, run_check, run_migrate, run_record,
 };
 use cam_event::History;
 use cam_types::Watched;
 use cost_plan::plan_with;
 use recording_file::Recording;
 use round_net::{Net, NetFault, RoundTable};
-use std::alloc::AllocError;
 use std::io::{Read, Write};
 use std::thread::Threads;
 use std::time::Clock;
-use views::{audit_json, check_json, draw, explain_json, page};
+use views::{audit_json, check_json, explain_json, page};
 use wait_causes::Explanation;
 
-/// What is done with a trace, or a recording where it is checked, audited or explained.
+/// What is done with a trace, or a recording where it is checked, audited, explained or drawn.
 #[derive(Clone, Copy)]
 pub enum TraceRun {
     /// It is checked.
@@ -37,7 +35,10 @@ pub enum TraceRun {
         top: usize,
     },
     /// It is drawn.
-    Draw,
+    Draw {
+        /// The rounds whose bars are drawn, if they were asked for.
+        rounds: Option<Range>,
+    },
     /// It is written in the newest version.
     Migrate,
     /// It is written as a recording.
@@ -73,8 +74,8 @@ impl TraceRun {
                 line.clear();
                 print(out, &text)
             }
-            TraceRun::Draw => {
-                let text = drawn(rt, line, name, &mut trace)?;
+            TraceRun::Draw { rounds } => {
+                let text = drawn(rt, line, name, &mut trace, rounds)?;
                 line.clear();
                 print(out, &text)
             }
@@ -131,24 +132,8 @@ fn explained<R: AllocGlobal + Threads + Clock + Eprint + Sync, D: Read>(
     }
 }
 
-// What is printed of the drawing of a trace.
-fn drawn<R: AllocGlobal + Threads + Clock + Eprint + Sync, D: Read>(
-    rt: &R,
-    line: &ProgressLine<'_, R>,
-    name: &str,
-    trace: &mut Watched<D>,
-) -> Result<String, Failure>
-    requires { has_failed trace.old ≡ false }
-{
-    let alloc = rt.alloc();
-    let (history, table, net) = read_rounds(alloc, trace)?;
-    let best = plan_with(rt, alloc, &net, line)?;
-    let explanation = Explanation::of(alloc, &history, table, &net, &best.schedule)?;
-    made(draw(alloc, title(name), net.config(), &net, &explanation))
-}
-
-// The net of a history, and its explanation beside a best schedule.
-fn of_history<R: AllocGlobal + Threads + Clock + Eprint + Sync>(
+/// The net of a history, and its explanation beside a best schedule.
+pub fn of_history<R: AllocGlobal + Threads + Clock + Eprint + Sync>(
     rt: &R,
     line: &ProgressLine<'_, R>,
     history: &History,
@@ -165,8 +150,8 @@ fn of_history<R: AllocGlobal + Threads + Clock + Eprint + Sync>(
     Ok((net, explanation))
 }
 
-// The net of a recording, and its explanation beside a best schedule.
-fn of_recording<R: AllocGlobal + Threads + Clock + Eprint + Sync>(
+/// The net of a recording, and its explanation beside a best schedule.
+pub fn of_recording<R: AllocGlobal + Threads + Clock + Eprint + Sync>(
     rt: &R,
     line: &ProgressLine<'_, R>,
     recording: Recording,
@@ -176,9 +161,4 @@ fn of_recording<R: AllocGlobal + Threads + Clock + Eprint + Sync>(
     let best = plan_with(rt, alloc, &net, line)?;
     let explanation = Explanation::of_recording(alloc, recording, &net, &best.schedule)?;
     Ok((net, explanation))
-}
-
-// The text, unless there was no memory.
-fn made(text: Result<String, AllocError>) -> Result<String, Failure> {
-    Ok(text?)
 }

@@ -8,6 +8,7 @@ use std::alloc::Global;
 pub(crate) enum Word {
     Summary,
     Top,
+    Rounds,
     Json,
     Verbose,
     RequireDrained,
@@ -44,6 +45,12 @@ impl Word {
                 "Prints the first seven lines of the report alone",
             ),
             Word::Top => top(alloc),
+            Word::Rounds => option(
+                alloc,
+                "rounds",
+                "A-B",
+                "Draws the bars of the rounds from A to B alone",
+            ),
             Word::Json => flag(alloc, "json", "Prints one line of JSON"),
             Word::Verbose => flag(
                 alloc,

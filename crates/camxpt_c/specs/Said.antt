@@ -13,11 +13,11 @@ use Rattle.camxpt_c.specs.Shapes.{command_of}
 use Rattle.camxpt_c.specs.declared.codes.TheConstants.{OK, E_CLOSED}
 use Rattle.camxpt_c.specs.declared.shapes.CamxptCommand.{CamxptCommand}
 
--- the handle is closed, and stays it
+-- the handle is closed, and stays closed
 abbrev pub IsClosed : Option Transport → ℤ → Type 0
 IsClosed new code = (code ≡ E_CLOSED) × (new ≡ None)
 
--- A closed handle stays closed. An open one takes the event, which is then behind the others; or the event is refused for the
+-- A closed handle stays closed. An open one takes the event, which is then after the others; or the event is refused for the
 -- first cause that holds, whose number is the answer, and nothing changes.
 abbrev pub IsCall : Event → Option Transport → Option Transport → ℤ → Type 0
 IsCall event old new code =
@@ -28,7 +28,7 @@ IsCall event old new code =
 abbrev pub Gives : Event → Option Transport → (Transport → Type 0) → Type 0 → Type 0
 Gives event old Given Left = MatchOption old Left (λ t. MatchOption (refused t event) (Given t) (λ _. Left))
 
--- the command whose turn it is was sent: its send is behind the other events, and the struct says it
+-- the command whose turn it is was sent: its send is after the other events, and the struct says it
 abbrev pub IsSent : Transport → ℕ → Option Transport → ℤ → CamxptCommand → Type 0
 IsSent t lane new code shape =
     (code ≡ OK) × ((new ≡ Some (with_event t (Send lane shape.ccb))) × (next_command t.config t.events lane ≡ Some (command_of shape)))

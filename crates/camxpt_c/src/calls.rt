@@ -10,87 +10,92 @@ use std::alloc::Global;
 use xpt_handle::CamXpt;
 
 /// Takes an event of any kind.
-pub(crate) fn push(alloc: Global, x: &mut CamXpt, event: Event) -> i32
-    ensures { IsCall event x.old.body.kept x.new.body.kept result }
+pub(crate) fn push(alloc: Global, handle: &mut CamXpt, event: Event) -> i32
+    ensures { IsCall event handle.old.body.kept handle.new.body.kept result }
 {
-    let Some(mut xpt) = x.take(alloc) else {
+    let Some(mut xpt) = handle.take(alloc) else {
         return E_CLOSED;
     };
     let code = match xpt.take(event) {
         Ok(_) => OK,
         Err(why) => code_of(why),
     };
-    x.put(xpt);
+    handle.put(xpt);
     code
 }
 
 /// Puts a CCB that failed back into its device's queue.
 #[unsafe(no_mangle)]
-pub extern "C" fn camxpt_raw_requeue(alloc: Global, x: &mut CamXpt, ccb: u32) -> i32
-    ensures { IsCall (Requeue ccb) x.old.body.kept x.new.body.kept result }
+pub extern "C" fn camxpt_raw_requeue(alloc: Global, handle: &mut CamXpt, ccb: u32) -> i32
+    ensures { IsCall (Requeue ccb) handle.old.body.kept handle.new.body.kept result }
 {
-    push(alloc, x, Event::Requeue { ccb })
+    push(alloc, handle, Event::Requeue { ccb })
 }
 
 /// Gives a CCB that failed back to its driver.
 #[unsafe(no_mangle)]
-pub extern "C" fn camxpt_raw_finish(alloc: Global, x: &mut CamXpt, ccb: u32) -> i32
-    ensures { IsCall (Finish ccb) x.old.body.kept x.new.body.kept result }
+pub extern "C" fn camxpt_raw_finish(alloc: Global, handle: &mut CamXpt, ccb: u32) -> i32
+    ensures { IsCall (Finish ccb) handle.old.body.kept handle.new.body.kept result }
 {
-    push(alloc, x, Event::Finish { ccb })
+    push(alloc, handle, Event::Finish { ccb })
 }
 
 /// Freezes the device's queue that many times.
 #[unsafe(no_mangle)]
 pub extern "C" fn camxpt_raw_freeze_dev(
     alloc: Global,
-    x: &mut CamXpt,
+    handle: &mut CamXpt,
     device: u32,
     count: u32,
 ) -> i32
-    ensures { IsCall (FreezeDev device count) x.old.body.kept x.new.body.kept result }
+    ensures { IsCall (FreezeDev device count) handle.old.body.kept handle.new.body.kept result }
 {
-    push(alloc, x, Event::FreezeDev { device, count })
+    push(alloc, handle, Event::FreezeDev { device, count })
 }
 
 /// Takes that many freezes of the device away.
 #[unsafe(no_mangle)]
 pub extern "C" fn camxpt_raw_release_dev(
     alloc: Global,
-    x: &mut CamXpt,
+    handle: &mut CamXpt,
     device: u32,
     count: u32,
 ) -> i32
-    ensures { IsCall (ReleaseDev device count) x.old.body.kept x.new.body.kept result }
+    ensures { IsCall (ReleaseDev device count) handle.old.body.kept handle.new.body.kept result }
 {
-    push(alloc, x, Event::ReleaseDev { device, count })
+    push(alloc, handle, Event::ReleaseDev { device, count })
 }
 
 /// Freezes the adapter that many times.
 #[unsafe(no_mangle)]
-pub extern "C" fn camxpt_raw_freeze_sim(alloc: Global, x: &mut CamXpt, sim: u32, count: u32) -> i32
-    ensures { IsCall (FreezeSim sim count) x.old.body.kept x.new.body.kept result }
+pub extern "C" fn camxpt_raw_freeze_sim(
+    alloc: Global,
+    handle: &mut CamXpt,
+    sim: u32,
+    count: u32,
+) -> i32
+    ensures { IsCall (FreezeSim sim count) handle.old.body.kept handle.new.body.kept result }
 {
-    push(alloc, x, Event::FreezeSim { sim, count })
+    push(alloc, handle, Event::FreezeSim { sim, count })
 }
 
 /// Takes one freeze of the adapter away.
 #[unsafe(no_mangle)]
-pub extern "C" fn camxpt_raw_release_sim(alloc: Global, x: &mut CamXpt, sim: u32) -> i32
-    ensures { IsCall (ReleaseSim sim) x.old.body.kept x.new.body.kept result }
+pub extern "C" fn camxpt_raw_release_sim(alloc: Global, handle: &mut CamXpt, sim: u32) -> i32
+    ensures { IsCall (ReleaseSim sim) handle.old.body.kept handle.new.body.kept result }
 {
-    push(alloc, x, Event::ReleaseSim { sim })
+    push(alloc, handle, Event::ReleaseSim { sim })
 }
 
 /// Gives the device that many openings from the next round on.
 #[unsafe(no_mangle)]
 pub extern "C" fn camxpt_raw_adjust(
     alloc: Global,
-    x: &mut CamXpt,
+    handle: &mut CamXpt,
     device: u32,
     openings: u32,
 ) -> i32
-    ensures { IsCall (Adjust device openings) x.old.body.kept x.new.body.kept result }
+    ensures { IsCall (Adjust device openings) handle.old.body.kept handle.new.body.kept result }
 {
-    push(alloc, x, Event::Adjust { device, openings })
+    push(alloc, handle, Event::Adjust { device, openings })
 }

@@ -9,11 +9,11 @@ use xpt_handle::CamXpt;
 
 /// Closes the handle and frees all memory of its transport. A closed handle stays closed.
 #[unsafe(no_mangle)]
-pub extern "C" fn camxpt_raw_close(alloc: Global, x: &mut CamXpt) -> i32
-    ensures closed { x.new.body.kept ≡ None }
-    ensures code { MatchOption x.old.body.kept (result ≡ E_CLOSED) (λ _. result ≡ OK) }
+pub extern "C" fn camxpt_raw_close(alloc: Global, handle: &mut CamXpt) -> i32
+    ensures closed { handle.new.body.kept ≡ None }
+    ensures code { MatchOption handle.old.body.kept (result ≡ E_CLOSED) (λ _. result ≡ OK) }
 {
-    match x.take(alloc) {
+    match handle.take(alloc) {
         Some(_) => OK,
         None => E_CLOSED,
     }

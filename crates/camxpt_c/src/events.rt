@@ -17,29 +17,29 @@ use xpt_handle::CamXpt;
 /// Takes an event of any kind, by the rules of the call of that kind. A send is refused unless it is of the next command of its
 /// lane's adapter.
 #[unsafe(no_mangle)]
-pub extern "C" fn camxpt_raw_take(alloc: Global, x: &mut CamXpt, event: &CamxptEvent) -> i32
-    ensures { IsTake (event_of event.now) x.old.body.kept x.new.body.kept result }
+pub extern "C" fn camxpt_raw_take(alloc: Global, handle: &mut CamXpt, event: &CamxptEvent) -> i32
+    ensures { IsTake (event_of event.now) handle.old.body.kept handle.new.body.kept result }
 {
     match event_of(event) {
-        Some(event) => push(alloc, x, event),
-        None => unknown(alloc, x),
+        Some(event) => push(alloc, handle, event),
+        None => unknown(alloc, handle),
     }
 }
 
 /// Why the event would be refused now: `OK` if it would be taken.
 #[unsafe(no_mangle)]
-pub extern "C" fn camxpt_raw_refusal(alloc: Global, x: &mut CamXpt, event: &CamxptEvent) -> i32
-    ensures same { x.new.body.kept ≡ x.old.body.kept }
-    ensures answer { IsAnswer (event_of event.now) x.old.body.kept result }
+pub extern "C" fn camxpt_raw_refusal(alloc: Global, handle: &mut CamXpt, event: &CamxptEvent) -> i32
+    ensures same { handle.new.body.kept ≡ handle.old.body.kept }
+    ensures answer { IsAnswer (event_of event.now) handle.old.body.kept result }
 {
     let Some(event) = event_of(event) else {
-        return unknown(alloc, x);
+        return unknown(alloc, handle);
     };
-    let Some(xpt) = x.take(alloc) else {
+    let Some(xpt) = handle.take(alloc) else {
         return E_CLOSED;
     };
     let code = refusal_code(xpt.refusal(&event));
-    x.put(xpt);
+    handle.put(xpt);
     code
 }
 
@@ -53,14 +53,14 @@ fn refusal_code(refusal: Option<Refusal>) -> i32
 }
 
 // What an event of no kind is answered with.
-fn unknown(alloc: Global, x: &mut CamXpt) -> i32
-    ensures same { x.new.body.kept ≡ x.old.body.kept }
-    ensures code { MatchOption x.old.body.kept (result ≡ E_CLOSED) (λ _. result ≡ E_KIND) }
+fn unknown(alloc: Global, handle: &mut CamXpt) -> i32
+    ensures same { handle.new.body.kept ≡ handle.old.body.kept }
+    ensures code { MatchOption handle.old.body.kept (result ≡ E_CLOSED) (λ _. result ≡ E_KIND) }
 {
-    let Some(xpt) = x.take(alloc) else {
+    let Some(xpt) = handle.take(alloc) else {
         return E_CLOSED;
     };
-    x.put(xpt);
+    handle.put(xpt);
     E_KIND
 }
 
@@ -69,21 +69,21 @@ fn unknown(alloc: Global, x: &mut CamXpt) -> i32
 #[unsafe(no_mangle)]
 pub extern "C" fn camxpt_raw_events(
     alloc: Global,
-    x: &mut CamXpt,
+    handle: &mut CamXpt,
     first: u32,
     events: &mut [CamxptEvent],
     copied: &mut usize,
 ) -> i32
-    ensures same { x.new.body.kept ≡ x.old.body.kept }
-    ensures events { MatchOption x.old.body.kept
+    ensures same { handle.new.body.kept ≡ handle.old.body.kept }
+    ensures events { MatchOption handle.old.body.kept
         ((result ≡ E_CLOSED) × (events.new ≡ events.old) × (copied.new ≡ copied.old))
         (λ t. (result ≡ OK) × AreCopied (drop first t.events) events.old events.new copied.new) }
 {
-    let Some(xpt) = x.take(alloc) else {
+    let Some(xpt) = handle.take(alloc) else {
         return E_CLOSED;
     };
     *copied = copy_from(xpt.events(), first as usize, events);
-    x.put(xpt);
+    handle.put(xpt);
     OK
 }
 

@@ -18,23 +18,23 @@ use xpt_state::Xpt;
 #[unsafe(no_mangle)]
 pub extern "C" fn camxpt_raw_open(
     alloc: Global,
-    x: &mut CamXpt,
+    handle: &mut CamXpt,
     adapters: &[u32],
     devices: &[CamxptDevice],
     lanes: &[u32],
     limits: &CamxptLimits,
 ) -> i32
-    ensures { IsOpening (plain_topology adapters.now devices.now lanes.now) (bounds_of limits.now) x.old.body.kept x.new.body.kept result }
+    ensures { IsOpening (plain_topology adapters.now devices.now lanes.now) (bounds_of limits.now) handle.old.body.kept handle.new.body.kept result }
 {
-    if let Some(xpt) = x.take(alloc) {
-        x.put(xpt);
+    if let Some(xpt) = handle.take(alloc) {
+        handle.put(xpt);
         return E_OPEN;
     }
     let Some(limits) = limits_in(limits) else {
         return E_LIMIT;
     };
     match plain_config(alloc, adapters, devices, lanes) {
-        Ok(config) => keep(x, boxed(alloc, config, limits)),
+        Ok(config) => keep(handle, boxed(alloc, config, limits)),
         Err(code) => code,
     }
 }
@@ -43,7 +43,7 @@ pub extern "C" fn camxpt_raw_open(
 #[unsafe(no_mangle)]
 pub extern "C" fn camxpt_raw_open_with(
     alloc: Global,
-    x: &mut CamXpt,
+    handle: &mut CamXpt,
     weights: &[CamxptWeight],
     links: &[u32],
     adapters: &[CamxptAdapter],
@@ -51,17 +51,17 @@ pub extern "C" fn camxpt_raw_open_with(
     lanes: &[u32],
     limits: &CamxptLimits,
 ) -> i32
-    ensures { IsOpening (linked_topology weights.now links.now adapters.now devices.now lanes.now) (bounds_of limits.now) x.old.body.kept x.new.body.kept result }
+    ensures { IsOpening (linked_topology weights.now links.now adapters.now devices.now lanes.now) (bounds_of limits.now) handle.old.body.kept handle.new.body.kept result }
 {
-    if let Some(xpt) = x.take(alloc) {
-        x.put(xpt);
+    if let Some(xpt) = handle.take(alloc) {
+        handle.put(xpt);
         return E_OPEN;
     }
     let Some(limits) = limits_in(limits) else {
         return E_LIMIT;
     };
     match linked_config(alloc, weights, links, adapters, devices, lanes) {
-        Ok(config) => keep(x, boxed(alloc, config, limits)),
+        Ok(config) => keep(handle, boxed(alloc, config, limits)),
         Err(code) => code,
     }
 }
@@ -143,14 +143,14 @@ fn boxed(alloc: Global, config: Config, limits: Limits) -> Result<Box<Xpt>, i32>
 }
 
 // Puts what was made into the handle.
-fn keep(x: &mut CamXpt, made: Result<Box<Xpt>, i32>) -> i32
+fn keep(handle: &mut CamXpt, made: Result<Box<Xpt>, i32>) -> i32
     ensures { MatchResult made
-        (λ xpt. (result ≡ OK) × (x.new.body.kept ≡ Some xpt.value))
-        (λ code. (result ≡ code) × (x.new.body.kept ≡ x.old.body.kept)) }
+        (λ xpt. (result ≡ OK) × (handle.new.body.kept ≡ Some xpt.value))
+        (λ code. (result ≡ code) × (handle.new.body.kept ≡ handle.old.body.kept)) }
 {
     match made {
         Ok(xpt) => {
-            x.put(xpt);
+            handle.put(xpt);
             OK
         }
         Err(code) => code,

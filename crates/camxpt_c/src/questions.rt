@@ -12,28 +12,32 @@ use xpt_handle::CamXpt;
 
 /// Whether the lane's adapter has something to send: `OK` or `NONE`. A lane that isn't there has nothing.
 #[unsafe(no_mangle)]
-pub extern "C" fn camxpt_raw_has_head(alloc: Global, x: &mut CamXpt, lane: u32) -> i32
-    ensures same { x.new.body.kept ≡ x.old.body.kept }
-    ensures head { MatchOption x.old.body.kept (result ≡ E_CLOSED) (λ t. result ≡ (if has_head t.config t.events lane then OK else NONE)) }
+pub extern "C" fn camxpt_raw_has_head(alloc: Global, handle: &mut CamXpt, lane: u32) -> i32
+    ensures same { handle.new.body.kept ≡ handle.old.body.kept }
+    ensures head { MatchOption handle.old.body.kept (result ≡ E_CLOSED) (λ t. result ≡ (if has_head t.config t.events lane then OK else NONE)) }
 {
-    let Some(xpt) = x.take(alloc) else {
+    let Some(xpt) = handle.take(alloc) else {
         return E_CLOSED;
     };
     let code = if xpt.has_head(lane) { OK } else { NONE };
-    x.put(xpt);
+    handle.put(xpt);
     code
 }
 
 /// Of the CCBs that wait for a decision, the one that completed first: `OK`, or `NONE` if none waits.
 #[unsafe(no_mangle)]
-pub extern "C" fn camxpt_raw_next_case(alloc: Global, x: &mut CamXpt, case: &mut CamxptCase) -> i32
-    ensures same { x.new.body.kept ≡ x.old.body.kept }
-    ensures case { MatchOption x.old.body.kept ((result ≡ E_CLOSED) × (case.new ≡ case.old)) (λ t.
+pub extern "C" fn camxpt_raw_next_case(
+    alloc: Global,
+    handle: &mut CamXpt,
+    case: &mut CamxptCase,
+) -> i32
+    ensures same { handle.new.body.kept ≡ handle.old.body.kept }
+    ensures case { MatchOption handle.old.body.kept ((result ≡ E_CLOSED) × (case.new ≡ case.old)) (λ t.
         MatchOption (next_case t.events)
         ((result ≡ NONE) × (case.new ≡ case.old))
         (λ c. (result ≡ OK) × IsCase c case.new)) }
 {
-    let Some(xpt) = x.take(alloc) else {
+    let Some(xpt) = handle.take(alloc) else {
         return E_CLOSED;
     };
     let code = match xpt.next_case() {
@@ -43,17 +47,17 @@ pub extern "C" fn camxpt_raw_next_case(alloc: Global, x: &mut CamXpt, case: &mut
         }
         None => NONE,
     };
-    x.put(xpt);
+    handle.put(xpt);
     code
 }
 
 /// All that there is to see, in counts.
 #[unsafe(no_mangle)]
-pub extern "C" fn camxpt_raw_look(alloc: Global, x: &mut CamXpt, look: &mut CamxptLook) -> i32
-    ensures same { x.new.body.kept ≡ x.old.body.kept }
-    ensures look { MatchOption x.old.body.kept ((result ≡ E_CLOSED) × (look.new ≡ look.old)) (λ t. (result ≡ OK) × IsLook (look_of t.config t.events) look.new) }
+pub extern "C" fn camxpt_raw_look(alloc: Global, handle: &mut CamXpt, look: &mut CamxptLook) -> i32
+    ensures same { handle.new.body.kept ≡ handle.old.body.kept }
+    ensures look { MatchOption handle.old.body.kept ((result ≡ E_CLOSED) × (look.new ≡ look.old)) (λ t. (result ≡ OK) × IsLook (look_of t.config t.events) look.new) }
 {
-    let Some(xpt) = x.take(alloc) else {
+    let Some(xpt) = handle.take(alloc) else {
         return E_CLOSED;
     };
     let seen = xpt.look();
@@ -65,6 +69,6 @@ pub extern "C" fn camxpt_raw_look(alloc: Global, x: &mut CamXpt, look: &mut Camx
         waiting: seen.waiting,
         heads: seen.heads,
     };
-    x.put(xpt);
+    handle.put(xpt);
     OK
 }

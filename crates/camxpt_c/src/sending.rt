@@ -19,7 +19,7 @@ use xpt_state::Sent;
 #[unsafe(no_mangle)]
 pub extern "C" fn camxpt_raw_submit(
     alloc: Global,
-    x: &mut CamXpt,
+    handle: &mut CamXpt,
     driver: u8,
     device: u32,
     priority: u32,
@@ -28,10 +28,10 @@ pub extern "C" fn camxpt_raw_submit(
     qfrzdis: bool,
     ccb: &mut u32,
 ) -> i32
-    ensures call { IsCall (Submit driver device priority retries (record { qfreeze = qfreeze; qfrzdis = qfrzdis })) x.old.body.kept x.new.body.kept result }
-    ensures number { Gives (Submit driver device priority retries (record { qfreeze = qfreeze; qfrzdis = qfrzdis })) x.old.body.kept (λ t. ccb.new ≡ commands t.events) (ccb.new ≡ ccb.old) }
+    ensures call { IsCall (Submit driver device priority retries (record { qfreeze = qfreeze; qfrzdis = qfrzdis })) handle.old.body.kept handle.new.body.kept result }
+    ensures number { Gives (Submit driver device priority retries (record { qfreeze = qfreeze; qfrzdis = qfrzdis })) handle.old.body.kept (λ t. ccb.new ≡ commands t.events) (ccb.new ≡ ccb.old) }
 {
-    let Some(mut xpt) = x.take(alloc) else {
+    let Some(mut xpt) = handle.take(alloc) else {
         return E_CLOSED;
     };
     let flags = Flags { qfreeze, qfrzdis };
@@ -42,7 +42,7 @@ pub extern "C" fn camxpt_raw_submit(
         }
         Err(why) => code_of(why),
     };
-    x.put(xpt);
+    handle.put(xpt);
     code
 }
 
@@ -50,13 +50,13 @@ pub extern "C" fn camxpt_raw_submit(
 #[unsafe(no_mangle)]
 pub extern "C" fn camxpt_raw_send_next(
     alloc: Global,
-    x: &mut CamXpt,
+    handle: &mut CamXpt,
     lane: u32,
     command: &mut CamxptCommand,
 ) -> i32
-    ensures { IsSendNext lane x.old.body.kept x.new.body.kept result command.old command.new }
+    ensures { IsSendNext lane handle.old.body.kept handle.new.body.kept result command.old command.new }
 {
-    let Some(mut xpt) = x.take(alloc) else {
+    let Some(mut xpt) = handle.take(alloc) else {
         return E_CLOSED;
     };
     let code = match xpt.send_next(lane) {
@@ -67,7 +67,7 @@ pub extern "C" fn camxpt_raw_send_next(
         Ok(Sent::Idle(why)) => idle_code(why),
         Err(why) => code_of(why),
     };
-    x.put(xpt);
+    handle.put(xpt);
     code
 }
 
@@ -75,17 +75,17 @@ pub extern "C" fn camxpt_raw_send_next(
 #[unsafe(no_mangle)]
 pub extern "C" fn camxpt_raw_done(
     alloc: Global,
-    x: &mut CamXpt,
+    handle: &mut CamXpt,
     ccb: u32,
     status: u8,
     scsi: u8,
     sense: &[u8],
     done: &mut CamxptDone,
 ) -> i32
-    ensures call { IsCall (Done ccb (record { status = status; scsi = scsi; sense = take MOST_SENSE sense.now })) x.old.body.kept x.new.body.kept result }
-    ensures answer { Gives (Done ccb (record { status = status; scsi = scsi; sense = take MOST_SENSE sense.now })) x.old.body.kept (λ t. IsDone (done_of t.events ccb (record { status = status; scsi = scsi; sense = take MOST_SENSE sense.now })) done.new) (done.new ≡ done.old) }
+    ensures call { IsCall (Done ccb (record { status = status; scsi = scsi; sense = take MOST_SENSE sense.now })) handle.old.body.kept handle.new.body.kept result }
+    ensures answer { Gives (Done ccb (record { status = status; scsi = scsi; sense = take MOST_SENSE sense.now })) handle.old.body.kept (λ t. IsDone (done_of t.events ccb (record { status = status; scsi = scsi; sense = take MOST_SENSE sense.now })) done.new) (done.new ≡ done.old) }
 {
-    let Some(mut xpt) = x.take(alloc) else {
+    let Some(mut xpt) = handle.take(alloc) else {
         return E_CLOSED;
     };
     let outcome = Outcome {
@@ -100,17 +100,17 @@ pub extern "C" fn camxpt_raw_done(
         }
         Err(why) => code_of(why),
     };
-    x.put(xpt);
+    handle.put(xpt);
     code
 }
 
 /// Opens the next round, and gives its number.
 #[unsafe(no_mangle)]
-pub extern "C" fn camxpt_raw_tick(alloc: Global, x: &mut CamXpt, number: &mut u32) -> i32
-    ensures call { IsCall Tick x.old.body.kept x.new.body.kept result }
-    ensures number { Gives Tick x.old.body.kept (λ t. number.new ≡ round t.events + 1) (number.new ≡ number.old) }
+pub extern "C" fn camxpt_raw_tick(alloc: Global, handle: &mut CamXpt, number: &mut u32) -> i32
+    ensures call { IsCall Tick handle.old.body.kept handle.new.body.kept result }
+    ensures number { Gives Tick handle.old.body.kept (λ t. number.new ≡ round t.events + 1) (number.new ≡ number.old) }
 {
-    let Some(mut xpt) = x.take(alloc) else {
+    let Some(mut xpt) = handle.take(alloc) else {
         return E_CLOSED;
     };
     let code = match xpt.tick() {
@@ -120,6 +120,6 @@ pub extern "C" fn camxpt_raw_tick(alloc: Global, x: &mut CamXpt, number: &mut u3
         }
         Err(why) => code_of(why),
     };
-    x.put(xpt);
+    handle.put(xpt);
     code
 }

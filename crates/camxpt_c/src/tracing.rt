@@ -17,20 +17,20 @@ use xpt_state::Xpt;
 #[unsafe(no_mangle)]
 pub extern "C" fn camxpt_raw_trace(
     alloc: Global,
-    x: &mut CamXpt,
+    handle: &mut CamXpt,
     buffer: &mut [u8],
     needed: &mut usize,
 ) -> i32
-    ensures same { x.new.body.kept ≡ x.old.body.kept }
-    ensures trace { MatchOption x.old.body.kept
+    ensures same { handle.new.body.kept ≡ handle.old.body.kept }
+    ensures trace { MatchOption handle.old.body.kept
         ((result ≡ E_CLOSED) × (buffer.new ≡ buffer.old) × (needed.new ≡ needed.old))
         (λ t. IsTraceOf (record { config = t.config; events = t.events }) buffer.old needed.old buffer.new needed.new result) }
 {
-    let Some(xpt) = x.take(alloc) else {
+    let Some(xpt) = handle.take(alloc) else {
         return E_CLOSED;
     };
     let text = text_of(alloc, &xpt);
-    x.put(xpt);
+    handle.put(xpt);
     let Ok(text) = text else {
         return E_MEMORY;
     };

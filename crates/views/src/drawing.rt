@@ -1,18 +1,26 @@
-//! The page for a browser that draws where the commands of a history waited, and why.
+//! The page for a browser that draws where the commands of a history or the requests of a recording waited, and why.
 
 pub use layout::draw;
 
-mod bands;
+mod axis;
 mod bars;
+mod choice;
+mod columns;
+mod dearest;
 mod device_row;
+mod foot;
 mod lanes;
 mod layout;
 mod legend;
-mod openings;
-mod rounds;
-mod scale;
-mod stay_table;
+mod loads;
+mod names;
+mod order;
+mod overview;
+mod section;
+mod shades;
+mod stretch;
 mod style;
+mod summary;
 mod tables;
-mod weights;
+mod timeline;
 mod words;

@@ -58,13 +58,6 @@ impl Page {
         self.put(end);
     }
 
-    /// Puts each of these numbers on the page, as a cell of a table.
-    pub(crate) fn cells(&mut self, cells: &[u64]) {
-        for cell in cells {
-            self.parts(&[("<td>", *cell)], "</td>");
-        }
-    }
-
     /// Puts words that may hold anything on the page: what XML keeps for itself is escaped, and characters that it doesn't
     /// allow are left out.
     pub(crate) fn escaped(&mut self, words: &str) {

@@ -1,18 +1,109 @@
-//! The bar of a stay.
+//! The bar of a stay in a stretch.
 
-use crate::drawing::scale::Scale;
-use crate::drawing::words::letter;
+use crate::drawing::device_row::Scene;
+use crate::drawing::stretch::Stretch;
 use crate::making::Page;
-use wait_causes::{Cause, ExplainedStay, Wait};
+use crate::numbers::{push_number, push_range, push_round, push_rounds};
+use recording_file::NameKind;
+use std::alloc::{AllocError, Global};
+use wait_causes::{ExplainedStay, InputKind, Wait};
 
-/// How many of a stay's waits are told in words; a bar shows them all.
+// How many of a stay's waits are told one by one.
 const TOLD: usize = 8;
 
-/// Puts the waits on the page, each with its rounds and cause.
-pub(crate) fn push_waits(page: &mut Page, waits: &[Wait]) {
+/// Puts the bar of the stay at this place on the page: the rounds of this stretch that it waited, the round of its send, and
+/// the mark where the best schedule sends it. All that is known of it stands where it is sent, or where not all bars are
+/// drawn.
+pub(crate) fn push_bar(
+    alloc: Global,
+    page: &mut Page,
+    scene: &Scene,
+    stretch: &Stretch,
+    place: usize,
+) -> Result<(), AllocError> {
+    let Some(stay) = scene.explanation.stays().get(place) else {
+        return Ok(());
+    };
+    push_begin(page, stretch, stay);
+    push_name(page, scene.explanation.kind(), stay);
+    if stretch.has(stay.live) || !scene.has_all {
+        push_hover(page, scene, stay);
+        push_waits(page, &scene.explanation.waits(alloc, place)?);
+    }
+    page.put("</title>");
+    push_waited(page, scene, stretch, stay);
+    push_marks(page, stretch, stay);
+    page.put("</g>");
+    Ok(())
+}
+
+// Puts the beginning of a bar on the page; where the stay is sent, with the name by which it is linked to.
+fn push_begin(page: &mut Page, stretch: &Stretch, stay: &ExplainedStay) {
+    if stretch.has(stay.live) {
+        page.parts(
+            &[
+                ("<g id='s", u64::from(stay.ccb)),
+                ("-", u64::from(stay.attempt)),
+            ],
+            "'><title>",
+        );
+    } else {
+        page.put("<g><title>");
+    }
+}
+
+/// Puts the name of a stay on the page.
+pub(crate) fn push_name(page: &mut Page, kind: InputKind, stay: &ExplainedStay) {
+    match kind {
+        InputKind::Trace => page.parts(
+            &[
+                ("CCB ", u64::from(stay.ccb)),
+                (" try ", u64::from(stay.attempt)),
+            ],
+            "",
+        ),
+        InputKind::Recording => page.parts(&[("Request ", u64::from(stay.ccb))], ""),
+    }
+}
+
+// Puts what is said of a stay where the pointer is over it on the page, up to its waits.
+fn push_hover(page: &mut Page, scene: &Scene, stay: &ExplainedStay) {
+    let unit = scene.names.unit();
+    page.put(", ");
+    scene
+        .names
+        .push(page, NameKind::Driver, u32::from(stay.driver));
+    page.parts(
+        &[
+            (", priority ", u64::from(stay.priority)),
+            (", class ", u64::from(stay.level)),
+        ],
+        ": came in round ",
+    );
+    push_round(page, unit, stay.arrival);
+    page.put(", waited ");
+    push_rounds(
+        page,
+        unit,
+        u64::from(stay.live.saturating_sub(stay.arrival)),
+    );
+    page.parts(
+        &[
+            (", sent in ", u64::from(stay.live)),
+            (", best in ", u64::from(stay.best)),
+        ],
+        ", cost ",
+    );
+    push_number(page, stay.cost());
+}
+
+// Puts the first waits on the page, each with its rounds and cause.
+fn push_waits(page: &mut Page, waits: &[Wait]) {
     let mut is_first = true;
     for wait in waits.iter().take(TOLD) {
-        push_wait(page, wait, is_first);
+        page.put(if is_first { "\n" } else { ", " });
+        push_range(page, wait.first, wait.last);
+        page.words(&[" ", wait.cause.name()]);
         is_first = false;
     }
     if waits.len() > TOLD {
@@ -21,111 +112,41 @@ pub(crate) fn push_waits(page: &mut Page, waits: &[Wait]) {
     }
 }
 
-// Puts a wait on the page, with a comma between it and the one before.
-fn push_wait(page: &mut Page, wait: &Wait, is_first: bool) {
-    if !is_first {
-        page.put(", ");
-    }
-    page.show(wait.first);
-    if wait.first < wait.last {
-        page.parts(&[("-", u64::from(wait.last))], "");
-    }
-    page.words(&[" ", wait.cause.name()]);
-}
-
-/// Puts the bar of a stay on the page: its rounds in its causes' colours, the round of its send, and the mark where the
-/// best schedule sends it.
-pub(crate) fn push_bar(
-    page: &mut Page,
-    scale: &Scale,
-    stay: &ExplainedStay,
-    waits: &[Wait],
-    lane: u32,
-) {
-    page.parts(
-        &[
-            ("<g class='stay' id='s", u64::from(stay.ccb)),
-            ("-", u64::from(stay.attempt)),
-            ("' transform='translate(0 ", scale.lane(lane)),
-        ],
-        ")'><title>",
-    );
-    push_hover(page, stay, waits);
-    for cause in &[
-        Cause::Error,
-        Cause::Caller,
-        Cause::AdapterFrozen,
-        Cause::DeviceFull,
-        Cause::AdapterFull,
-        Cause::LinkFull,
-        Cause::NotAsked,
-    ] {
-        push_segments(page, scale, waits, *cause);
-    }
-    push_marks(page, scale, stay);
-}
-
-// Puts what is said of a stay where the pointer is over it on the page.
-fn push_hover(page: &mut Page, stay: &ExplainedStay, waits: &[Wait]) {
-    page.parts(
-        &[
-            ("CCB ", u64::from(stay.ccb)),
-            (" try ", u64::from(stay.attempt)),
-            (", driver ", u64::from(stay.driver)),
-            (", priority ", u64::from(stay.priority)),
-            (": arrives ", u64::from(stay.arrival)),
-            (", sent ", u64::from(stay.live)),
-            (", best ", u64::from(stay.best)),
-            (", cost ", stay.cost()),
-        ],
-        "\n",
-    );
-    push_waits(page, waits);
-    page.put("</title>");
-}
-
-// Puts the rounds of one cause on the page, if there are some.
-fn push_segments(page: &mut Page, scale: &Scale, waits: &[Wait], cause: Cause) {
-    let mut is_open = false;
-    for wait in waits {
-        if wait.cause == cause {
-            if !is_open {
-                page.words(&["<path class='", letter(cause), "' d='"]);
-                is_open = true;
-            }
-            let rounds = wait.last.saturating_sub(wait.first).saturating_add(1);
-            page.parts(
-                &[("M", scale.left(wait.first)), (" 0h", scale.width(rounds))],
-                "",
-            );
-        }
-    }
-    if is_open {
-        page.put("'/>");
-    }
-}
-
-// Puts the marks of the send and of the best schedule's send on the page, with a line to the one if it comes later.
-fn push_marks(page: &mut Page, scale: &Scale, stay: &ExplainedStay) {
-    if stay.live < stay.best {
+// Puts the rounds of the stretch that the stay waited on the page, if there are some.
+fn push_waited(page: &mut Page, scene: &Scene, stretch: &Stretch, stay: &ExplainedStay) {
+    let first = stay.arrival.max(stretch.first);
+    let end = stay.live.min(stretch.last.saturating_add(1));
+    if first < end {
         page.parts(
             &[
-                ("<path class='later' d='M", scale.middle(stay.live)),
-                (" 0H", scale.middle(stay.best)),
+                ("<path class='w v", scene.rank(stay.driver)),
+                (" l", u64::from(stay.level)),
+                ("' d='M", u64::from(stretch.offset(first))),
+                (" 0h", u64::from(end.saturating_sub(first))),
             ],
             "'/>",
         );
     }
-    page.parts(
-        &[
-            (
-                "<path class='sent' d='M",
-                scale.left(stay.live).saturating_add(1),
-            ),
-            (" 0h", scale.step.saturating_sub(2)),
-            ("'/><circle cx='", scale.middle(stay.best)),
-            ("' r='", scale.pitch / 4),
-        ],
-        "'/></g>\n",
-    );
+}
+
+// Puts the marks of the send and of the best schedule's send on the page, with a line to the one if it comes later.
+fn push_marks(page: &mut Page, stretch: &Stretch, stay: &ExplainedStay) {
+    if stretch.has(stay.live) {
+        let sent = u64::from(stretch.offset(stay.live));
+        page.parts(&[("<path class='t' d='M", sent)], " 0h1'/>");
+        if stay.live < stay.best {
+            let end = stretch
+                .offset(stay.best.min(stretch.last))
+                .saturating_add(1);
+            page.parts(
+                &[("<path class='z' d='M", sent), (" 0H", u64::from(end))],
+                "'/>",
+            );
+        }
+    }
+    if stretch.has(stay.best) {
+        let best = u64::from(stretch.offset(stay.best));
+        page.parts(&[("<path class='o' d='M", best)], ".5 0h0'/>");
+        page.parts(&[("<path class='i' d='M", best)], ".5 0h0'/>");
+    }
 }

@@ -1,91 +1,138 @@
-//! The row of a device: bands, bars and openings; and those of adapters and links.
+//! The rows of devices, adapters and links in a stretch.
 
-use crate::drawing::bands::push_bands;
 use crate::drawing::bars::push_bar;
-use crate::drawing::lanes::{Lanes, lanes_of};
-use crate::drawing::openings::{Owner, STRIP, push_strip};
-use crate::drawing::scale::Scale;
+use crate::drawing::lanes::{Lane, bars_in, lanes_of};
+use crate::drawing::loads::{Loads, Owner, STRIP};
+use crate::drawing::names::Names;
+use crate::drawing::shades::Shades;
+use crate::drawing::stretch::Stretch;
 use crate::making::Page;
-use cam_path::path_name;
-use cam_types::Config;
+use crate::numbers::push_number;
+use recording_file::NameKind;
 use round_net::Net;
 use std::alloc::{AllocError, Global};
-use wait_causes::{ExplainedStay, Explanation, Freeze};
+use wait_causes::Explanation;
 
 /// What is drawn.
 #[derive(Drop)]
 pub(crate) struct Scene<'a> {
-    /// The devices and adapters.
-    pub(crate) config: &'a Config,
     /// The openings.
     pub(crate) net: &'a Net,
     /// The stays, and why they waited.
     pub(crate) explanation: &'a Explanation,
-    /// The freezes.
-    pub(crate) freezes: &'a [Freeze],
-    /// How large.
-    pub(crate) scale: Scale,
+    /// What there is called what.
+    pub(crate) names: Names<'a>,
+    /// For each driver its place among those that cost most, from 0; 8 of all others.
+    pub(crate) ranks: Vec<u64>,
+    /// Whether all bars are drawn.
+    pub(crate) has_all: bool,
 }
 
-/// Puts the row of each link on the page.
-pub(crate) fn push_links(page: &mut Page, scene: &Scene) {
-    for link in 0..scene.net.links() {
-        push_shared(page, scene, "link ", link, Owner::Link(link));
+impl Scene<'_> {
+    /// The place of the driver among those that cost most; 8 of all others.
+    pub(crate) fn rank(&self, driver: u8) -> u64 {
+        self.ranks.get(driver as usize).copied().unwrap_or(8)
+    }
+
+    // The height of a lane in pixels.
+    fn pitch(&self, lanes: usize) -> u64 {
+        match lanes {
+            0..=40 => 14,
+            41..=200 => 8,
+            _ => 5,
+        }
     }
 }
 
-/// Puts the row of each adapter on the page, and below each the rows of its devices.
-pub(crate) fn push_adapters(
+// A stretch as it is drawn.
+#[derive(Drop)]
+struct Drawn {
+    stretch: Stretch,
+    // The places of the stays with a bar.
+    places: Vec<usize>,
+    loads: Loads,
+}
+
+/// Puts the rows of the links and adapters on the page, and below each adapter those of its devices that have bars.
+pub(crate) fn push_rows(
     alloc: Global,
     page: &mut Page,
     scene: &Scene,
+    stretch: Stretch,
 ) -> Result<(), AllocError> {
+    let stays = scene.explanation.stays();
+    let drawn = Drawn {
+        stretch,
+        places: stretch.places(alloc, stays)?,
+        loads: Loads::of(alloc, scene.net, stays, stretch)?,
+    };
+    for link in 0..scene.net.links() {
+        push_shared(page, scene, &drawn, NameKind::Link, link, Owner::Link(link));
+    }
     for adapter in 0..scene.net.adapters() {
-        push_shared(page, scene, "adapter ", adapter, Owner::Adapter(adapter));
-        push_devices(alloc, page, scene, adapter)?;
+        push_shared(
+            page,
+            scene,
+            &drawn,
+            NameKind::Adapter,
+            adapter,
+            Owner::Adapter(adapter),
+        );
+        push_devices(alloc, page, scene, &drawn, adapter)?;
     }
     Ok(())
 }
 
 // Puts the openings of an adapter or a link on the page, which several devices share.
-fn push_shared(page: &mut Page, scene: &Scene, word: &str, number: u32, owner: Owner) {
-    page.words(&["<div class='row adapter'><div class='label'>", word]);
-    page.parts(
-        &[
-            ("", u64::from(number)),
-            (
-                "</div><svg xmlns='http://www.w3.org/2000/svg' role='img' width='",
-                scene.scale.whole(),
-            ),
-            ("' height='", STRIP),
-        ],
-        "' aria-label='openings used of ",
-    );
-    page.parts(&[(word, u64::from(number))], ", by round'>\n");
-    push_strip(
-        page,
-        &scene.scale,
-        scene.net,
-        scene.explanation.stays(),
-        owner,
-        0,
-    );
+fn push_shared(
+    page: &mut Page,
+    scene: &Scene,
+    drawn: &Drawn,
+    kind: NameKind,
+    number: u32,
+    owner: Owner,
+) {
+    page.put("<div class='row shared'><p class='label'>");
+    scene.names.push(page, kind, number);
+    page.put("</p>");
+    push_svg(page, drawn, STRIP);
+    page.put("<title>");
+    scene.names.push(page, kind, number);
+    page.put("</title>");
+    drawn.loads.push(page, scene.net, owner);
     page.put("</svg></div>\n");
 }
 
-// Puts the rows of the adapter's devices on the page.
+// Puts the beginning of a drawing of that height on the page.
+fn push_svg(page: &mut Page, drawn: &Drawn, height: u64) {
+    page.parts(
+        &[
+            (
+                "<svg xmlns='http://www.w3.org/2000/svg' role='img' preserveAspectRatio='none' viewBox='0 0 ",
+                u64::from(drawn.stretch.rounds()),
+            ),
+            (" ", height),
+            ("' height='", height),
+        ],
+        "'>",
+    );
+}
+
+// Puts the rows of the adapter's devices that have bars on the page.
 fn push_devices(
     alloc: Global,
     page: &mut Page,
     scene: &Scene,
+    drawn: &Drawn,
     adapter: u32,
 ) -> Result<(), AllocError> {
-    let mut number = 0u32;
-    for device in scene.config.devices() {
-        if u32::from(device.bus) == adapter {
-            push_device(alloc, page, scene, number, adapter)?;
+    for device in 0..scene.net.devices() {
+        if scene.net.adapter_of(device) == adapter {
+            let lanes = lanes_of(alloc, scene.explanation.stays(), &drawn.places, device)?;
+            if !lanes.is_empty() {
+                push_device(alloc, page, scene, drawn, device, &lanes)?;
+            }
         }
-        number = number.saturating_add(1);
     }
     Ok(())
 }
@@ -95,87 +142,97 @@ fn push_device(
     alloc: Global,
     page: &mut Page,
     scene: &Scene,
+    drawn: &Drawn,
     device: u32,
-    adapter: u32,
+    lanes: &[Lane],
 ) -> Result<(), AllocError> {
-    let stays = scene.explanation.stays();
-    let lanes = lanes_of(alloc, stays, device)?;
-    let height = scene.scale.height(lanes.count).max(4);
-    push_label(alloc, page, scene, device, &lanes)?;
+    let pitch = scene.pitch(lanes.len());
+    let height = pitch.saturating_mul(lanes.len() as u64);
+    page.put("<div class='row'><p class='label'>");
+    scene.names.push(page, NameKind::Device, device);
+    page.put("</p>");
+    push_svg(page, drawn, height.saturating_add(STRIP + 2));
+    push_title(page, scene, device, lanes);
+    push_shades(alloc, page, scene, drawn, device, pitch)?;
+    push_lanes(alloc, page, scene, drawn, device, lanes, pitch)?;
+    page.parts(
+        &[("<g transform='translate(0 ", height.saturating_add(2))],
+        ")'>",
+    );
+    drawn.loads.push(page, scene.net, Owner::Device(device));
+    page.put("</g></svg></div>\n");
+    Ok(())
+}
+
+// Puts what a device's drawing is on the page.
+fn push_title(page: &mut Page, scene: &Scene, device: u32, lanes: &[Lane]) {
+    page.put("<title>");
+    scene.names.push(page, NameKind::Device, device);
+    page.put("</title><desc>Requests in its queue in these rounds: ");
+    push_number(page, bars_in(lanes) as u64);
+    page.put(", a bar each</desc>");
+}
+
+// Puts the shades of a device's bars on the page.
+fn push_shades(
+    alloc: Global,
+    page: &mut Page,
+    scene: &Scene,
+    drawn: &Drawn,
+    device: u32,
+    pitch: u64,
+) -> Result<(), AllocError> {
+    let stretch = drawn.stretch;
+    let shades = Shades::of(alloc, scene.explanation, &drawn.places, device, stretch)?;
     page.parts(
         &[
-            ("' width='", scene.scale.whole()),
-            ("' height='", height.saturating_add(STRIP)),
+            ("<pattern id='p", u64::from(stretch.first)),
+            ("-", u64::from(device)),
+            (
+                "' patternUnits='userSpaceOnUse' width='",
+                u64::from(stretch.rounds()),
+            ),
+            ("' height='", pitch),
+            ("' patternTransform='translate(0 -", pitch / 2),
+            (")'><g stroke-width='", pitch.saturating_mul(2)),
         ],
-        "'>\n",
+        "'>",
     );
-    push_bands(page, &scene.scale, scene.freezes, device, adapter, height);
-    push_bars(alloc, page, scene, &lanes)?;
-    push_strip(
-        page,
-        &scene.scale,
-        scene.net,
-        stays,
-        Owner::Device(device),
-        height,
-    );
-    page.put("</svg></div>\n");
+    shades.push(page, scene.explanation.kind());
+    page.put("</g></pattern>\n");
     Ok(())
 }
 
-// Puts the label of a device on the page, and the beginning of its drawing.
-fn push_label(
+// Puts the bars of a device on the page, a lane after the other.
+fn push_lanes(
     alloc: Global,
     page: &mut Page,
     scene: &Scene,
+    drawn: &Drawn,
     device: u32,
-    lanes: &Lanes,
-) -> Result<(), AllocError> {
-    let path = path_name(alloc, scene.config, device)?;
-    let stays = lanes.stays.len() as u64;
-    let cost = cost_on(scene.explanation.stays(), device);
-    page.words(&[
-        "<div class='row device'><div class='label'><b>",
-        &path,
-        "</b>",
-    ]);
-    page.parts(
-        &[("<span>stays ", stays), ("</span><span>cost ", cost)],
-        "</span></div><svg xmlns='http://www.w3.org/2000/svg' role='img' aria-label='device ",
-    );
-    page.put(&path);
-    page.parts(&[(", stays ", stays), (", cost ", cost)], "");
-    Ok(())
-}
-
-// The weighted rounds that the stays of a device waited.
-fn cost_on(stays: &[ExplainedStay], device: u32) -> u64 {
-    let mut cost = 0u64;
-    for stay in stays {
-        if stay.device == device {
-            cost = cost.saturating_add(stay.cost());
-        }
-    }
-    cost
-}
-
-// Puts the bars of a device's stays on the page.
-fn push_bars(
-    alloc: Global,
-    page: &mut Page,
-    scene: &Scene,
-    lanes: &Lanes,
+    lanes: &[Lane],
+    pitch: u64,
 ) -> Result<(), AllocError> {
     page.parts(
-        &[("<g class='bars' stroke-width='", scene.scale.bar())],
-        "'>\n",
+        &[
+            (
+                "<g class='b' stroke='url(#p",
+                u64::from(drawn.stretch.first),
+            ),
+            ("-", u64::from(device)),
+            (")' stroke-width='", pitch.saturating_sub(pitch / 4)),
+        ],
+        "'>",
     );
-    for (place, lane) in &lanes.stays {
-        if let Some(stay) = scene.explanation.stays().get(*place as usize) {
-            let waits = scene.explanation.waits(alloc, *place as usize)?;
-            push_bar(page, &scene.scale, stay, &waits, *lane);
+    let mut top = pitch / 2;
+    for lane in lanes {
+        page.parts(&[("<g transform='translate(0 ", top)], ")'>");
+        for place in &lane.places {
+            push_bar(alloc, page, scene, &drawn.stretch, *place)?;
         }
+        page.put("</g>\n");
+        top = top.saturating_add(pitch);
     }
-    page.put("</g>\n");
+    page.put("</g>");
     Ok(())
 }

@@ -3,48 +3,59 @@
 use std::alloc::{AllocError, Global};
 use wait_causes::ExplainedStay;
 
-/// The lanes of a device's stays.
+/// A lane.
 #[derive(Drop)]
-pub(crate) struct Lanes {
-    /// The place of each stay of the device, and its lane from 0.
-    pub(crate) stays: Vec<(u32, u32)>,
-    /// How many lanes there are.
-    pub(crate) count: u32,
+pub(crate) struct Lane {
+    // The last round that is taken.
+    end: u32,
+    /// The places of its stays.
+    pub(crate) places: Vec<usize>,
 }
 
-/// Gives each stay of the device the first lane that is free from its arrival to its last mark.
+/// The lanes of the device's stays at these places: each has the first lane that is free from its arrival to its last mark.
 pub(crate) fn lanes_of(
     alloc: Global,
     stays: &[ExplainedStay],
+    places: &[usize],
     device: u32,
-) -> Result<Lanes, AllocError> {
-    let mut lanes = Lanes {
-        stays: Vec::new(alloc),
-        count: 0,
-    };
-    let mut ends = Vec::new(alloc);
-    let mut place = 0u32;
-    for stay in stays {
-        if stay.device == device {
-            let lane = take_lane(&mut ends, stay.arrival, stay.live.max(stay.best))?;
-            lanes.stays.push((place, lane))?;
-            lanes.count = lanes.count.max(lane.saturating_add(1));
+) -> Result<Vec<Lane>, AllocError> {
+    let mut lanes = Vec::new(alloc);
+    for place in places {
+        if let Some(stay) = stays.get(*place)
+            && stay.device == device
+        {
+            put(alloc, &mut lanes, *place, stay)?;
         }
-        place = place.saturating_add(1);
     }
     Ok(lanes)
 }
 
-// Takes the first lane whose last round lies before the first one of these, or a new one.
-fn take_lane(ends: &mut Vec<u32>, first: u32, last: u32) -> Result<u32, AllocError> {
-    let mut lane = 0u32;
-    for end in ends.iter_mut() {
-        if *end < first {
-            *end = last;
-            return Ok(lane);
+// Puts the stay into the first lane that is free, or a new one.
+fn put(
+    alloc: Global,
+    lanes: &mut Vec<Lane>,
+    place: usize,
+    stay: &ExplainedStay,
+) -> Result<(), AllocError> {
+    let end = stay.live.max(stay.best);
+    for lane in lanes.iter_mut() {
+        if lane.end < stay.arrival {
+            lane.end = end;
+            lane.places.push(place)?;
+            return Ok(());
         }
-        lane = lane.saturating_add(1);
     }
-    ends.push(last)?;
-    Ok(lane)
+    let mut places = Vec::new(alloc);
+    places.push(place)?;
+    lanes.push(Lane { end, places })?;
+    Ok(())
+}
+
+/// How many stays the lanes have.
+pub(crate) fn bars_in(lanes: &[Lane]) -> usize {
+    let mut bars = 0usize;
+    for lane in lanes {
+        bars = bars.saturating_add(lane.places.len());
+    }
+    bars
 }

@@ -1,132 +1,128 @@
 //! The page.
 
-use crate::drawing::device_row::{Scene, push_adapters, push_links};
-use crate::drawing::legend::push_legend;
-use crate::drawing::rounds::push_rounds;
-use crate::drawing::scale::Scale;
-use crate::drawing::stay_table::push_stay_table;
-use crate::drawing::style::{HEAD, LINK_STYLE, STYLE};
+use crate::drawing::choice::Choice;
+use crate::drawing::dearest::push_dearest;
+use crate::drawing::device_row::Scene;
+use crate::drawing::foot::push_words;
+use crate::drawing::legend::ranks;
+use crate::drawing::names::Names;
+use crate::drawing::order::dearest_first;
+use crate::drawing::overview::push_overview;
+use crate::drawing::section::push_stretches;
+use crate::drawing::stretch::MOST_BARS;
+use crate::drawing::style::{HEAD, STYLE};
+use crate::drawing::summary::push_summary;
 use crate::drawing::tables::{push_freezes, push_tables};
-use crate::drawing::weights::push_weights;
+use crate::drawing::timeline::moments;
 use crate::making::Page;
-use cam_types::Config;
 use round_net::Net;
 use std::alloc::{AllocError, Global};
-use wait_causes::{Cause, Explanation, Freeze, Part};
+use wait_causes::{Explanation, Freeze, Part};
 
-/// The page on the explanation of a history beside its net, which any browser opens: a drawing of the stays with the
-/// causes of their waiting, a legend, totals and tables. All costs are weighted rounds. Its text is well-formed XML; of the
-/// title, characters that XML doesn't allow are left out.
+/// The page on the explanation of a history or a recording beside its net, which any browser opens: sentences on what the
+/// waiting cost, what cost most, an overview of all rounds, bars of stays with the causes of their waiting, tables, and what
+/// the words mean. All costs are weighted rounds. Any text may be the title. There is a bar for each stay if there are at most
+/// 4,096, or for those in the rounds that are asked for, by the first and the last of them, at most 4,096; otherwise for those in the dearest stretches of rounds. Its text is well-formed
+/// XML; of names, characters that XML doesn't allow are left out.
 pub fn draw(
     alloc: Global,
     title: &str,
-    config: &Config,
+    rounds: Option<(u32, u32)>,
     net: &Net,
     explanation: &Explanation,
 ) -> Result<String, AllocError> {
+    let scene = Scene {
+        net,
+        explanation,
+        names: Names::of(alloc, net.config(), explanation)?,
+        ranks: ranks(alloc, explanation)?,
+        has_all: rounds.is_none() && explanation.stays().len() <= MOST_BARS,
+    };
     let mut page = Page::new(alloc);
-    push_top(
-        &mut page,
-        title,
-        config,
-        &explanation.whole(alloc)?,
-        net.rounds(),
-    );
-    push_rest(alloc, &mut page, config, net, explanation)?;
+    push_head(&mut page, &scene, title);
+    push_body(alloc, &mut page, &scene, rounds)?;
+    push_rest(alloc, &mut page, &scene)?;
     page.finish()
 }
 
-// Puts what stands above the drawing on the page.
-fn push_top(page: &mut Page, title: &str, config: &Config, whole: &Part, rounds: u32) {
-    push_head(page, title, config);
-    push_totals(page, whole, rounds);
-    push_weights(page, config);
-    push_legend(page, config, whole);
-}
-
-// Puts the drawing and what stands below it on the page.
-fn push_rest(
-    alloc: Global,
-    page: &mut Page,
-    config: &Config,
-    net: &Net,
-    explanation: &Explanation,
-) -> Result<(), AllocError> {
-    let freezes = explanation.freezes(alloc)?;
-    let scene = Scene {
-        config,
-        net,
-        explanation,
-        freezes: &freezes,
-        scale: Scale::of(net.rounds(), explanation.stays().len()),
-    };
-    push_drawing(alloc, page, &scene)?;
-    push_all_tables(alloc, page, config, explanation, &freezes)
-}
-
-// Puts the tables and the end of the page on the page.
-fn push_all_tables(
-    alloc: Global,
-    page: &mut Page,
-    config: &Config,
-    explanation: &Explanation,
-    freezes: &[Freeze],
-) -> Result<(), AllocError> {
-    push_tables(alloc, page, config, explanation)?;
-    push_freezes(alloc, page, config, freezes)?;
-    push_stay_table(alloc, page, config, explanation)?;
-    page.put("</main></body></html>\n");
-    Ok(())
-}
-
-// Puts what stands before the totals on the page.
-fn push_head(page: &mut Page, title: &str, config: &Config) {
-    let has_links = Cause::LinkFull.can_hold(config);
-    let link_style = if has_links { LINK_STYLE } else { "" };
+// Puts what stands before the summary on the page.
+fn push_head(page: &mut Page, scene: &Scene, title: &str) {
     page.put(HEAD);
     page.escaped(title);
-    let style = [
-        "</title><style>\n",
-        STYLE,
-        link_style,
-        "</style></head><body><main><h1>",
-    ];
-    page.words(&style);
+    page.words(&["</title><style>\n", STYLE]);
+    push_labels(page, scene);
+    page.put("</style></head><body><main><h1>");
     page.escaped(title);
     page.put("</h1>\n");
 }
 
-// Puts the totals on the page.
-fn push_totals(page: &mut Page, whole: &Part, rounds: u32) {
-    page.parts(
-        &[
-            (
-                "<dl id='totals'><div><dt>stays</dt><dd>",
-                u64::from(whole.stays),
-            ),
-            ("</dd></div><div><dt>rounds</dt><dd>", u64::from(rounds)),
-            ("</dd></div><div><dt>waited rounds</dt><dd>", whole.waited),
-            ("</dd></div><div><dt>live cost</dt><dd>", whole.live),
-            ("</dd></div><div><dt>best cost</dt><dd>", whole.best),
-        ],
-        "</dd></div><div><dt>excess</dt><dd>",
-    );
-    page.show(whole.excess());
-    page.put("</dd></div></dl>\n");
+// Puts the labels that the cells of the tables of causes have on a narrow page into the style sheet.
+fn push_labels(page: &mut Page, scene: &Scene) {
+    page.put("@media(max-width:1059px){");
+    let mut column = 2u64;
+    for cause in &scene.explanation.kind().causes() {
+        if cause.can_hold(scene.net.config()) {
+            push_label(page, column, cause.name());
+            column = column.saturating_add(1);
+        }
+    }
+    for word in &["behind less urgent", "behind equal", "behind more urgent"] {
+        push_label(page, column, word);
+        column = column.saturating_add(1);
+    }
+    page.put("}\n");
 }
 
-// Puts the drawing on the page.
-fn push_drawing(alloc: Global, page: &mut Page, scene: &Scene) -> Result<(), AllocError> {
-    page.parts(
-        &[(
-            "<div class='scroll' role='region' tabindex='0' aria-label='Stays by device, rounds across' style='--step:",
-            scene.scale.step,
-        )],
-        "px'><div class='rows'>\n",
+// Puts the label of a column into the style sheet.
+fn push_label(page: &mut Page, column: u64, word: &str) {
+    page.parts(&[(".costs td:nth-child(", column)], ")::before{content:'");
+    page.words(&[word, "'}"]);
+}
+
+// Puts the summary, the overview and the bars on the page.
+fn push_body(
+    alloc: Global,
+    page: &mut Page,
+    scene: &Scene,
+    rounds: Option<(u32, u32)>,
+) -> Result<(), AllocError> {
+    let whole = scene.explanation.whole(alloc)?;
+    let stays = scene.explanation.stays();
+    let moments = moments(alloc, scene.net, stays)?;
+    let choice = Choice::of(alloc, &moments, stays, rounds)?;
+    push_top(page, scene, &whole);
+    push_dearest(alloc, page, scene, &choice, &whole)?;
+    push_overview(alloc, page, scene, &choice, &moments, &whole)?;
+    push_stretches(alloc, page, scene, &choice, &whole)
+}
+
+// Puts the summary on the page.
+fn push_top(page: &mut Page, scene: &Scene, whole: &Part) {
+    push_summary(
+        page,
+        &scene.names,
+        scene.net.config(),
+        scene.explanation.kind(),
+        whole,
+        scene.net.rounds(),
     );
-    push_rounds(page, &scene.scale);
-    push_links(page, scene);
-    push_adapters(alloc, page, scene)?;
-    page.put("</div></div>\n");
+}
+
+// Puts the tables, the words and the end of the page on the page.
+fn push_rest(alloc: Global, page: &mut Page, scene: &Scene) -> Result<(), AllocError> {
+    push_tables(alloc, page, scene)?;
+    let freezes = scene.explanation.freezes(alloc)?;
+    push_freezes(page, scene, &freezes, &freeze_order(alloc, &freezes)?);
+    push_words(page, scene.explanation.kind(), scene.net.config());
+    page.put("</main></body></html>\n");
     Ok(())
+}
+
+// The places of the freezes, the dearest first.
+fn freeze_order(alloc: Global, freezes: &[Freeze]) -> Result<Vec<usize>, AllocError> {
+    let mut costs = Vec::with_capacity(alloc, freezes.len())?;
+    for freeze in freezes {
+        costs.push(freeze.cost)?;
+    }
+    dearest_first(alloc, &costs)
 }

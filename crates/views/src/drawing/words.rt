@@ -1,26 +1,28 @@
-//! The words and letters of causes and freezes.
+//! The words and classes of causes and freezes.
 
 use wait_causes::{Cause, FreezeKind};
 
-/// The letter by which the style sheet knows a cause.
-pub(crate) fn letter(cause: Cause) -> &'static str {
+/// The class by which the style sheet knows a cause.
+pub(crate) fn class_of(cause: Cause) -> &'static str {
     match cause {
-        Cause::Error => "e",
-        Cause::Caller => "c",
-        Cause::AdapterFrozen | Cause::DeviceStopped | Cause::AdapterStopped | Cause::LinkStopped =>
-            "z",
-        Cause::DeviceFull => "d",
-        Cause::AdapterFull => "a",
-        Cause::LinkFull => "l",
-        Cause::NotAsked => "n",
+        Cause::Error => "er",
+        Cause::Caller => "ca",
+        Cause::AdapterFrozen => "az",
+        Cause::DeviceStopped => "ds",
+        Cause::AdapterStopped => "as",
+        Cause::LinkStopped => "ls",
+        Cause::DeviceFull => "df",
+        Cause::AdapterFull => "af",
+        Cause::LinkFull => "lf",
+        Cause::NotAsked => "na",
     }
 }
 
-/// What froze, in words, and the letter by which the style sheet knows it.
-pub(crate) fn freeze_words(kind: FreezeKind) -> (&'static str, &'static str) {
+/// What froze, in words.
+pub(crate) fn freeze_words(kind: FreezeKind) -> &'static str {
     match kind {
-        FreezeKind::Error => ("frozen by an error", "e"),
-        FreezeKind::Caller => ("frozen by a caller", "c"),
-        FreezeKind::Adapter => ("adapter frozen by a caller", "z"),
+        FreezeKind::Error => "frozen by an error",
+        FreezeKind::Caller => "frozen by a caller",
+        FreezeKind::Adapter => "adapter frozen by a caller",
     }
 }

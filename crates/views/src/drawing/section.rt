@@ -1,0 +1,137 @@
+//! The drawing of a stretch.
+
+use crate::drawing::axis::push_axis;
+use crate::drawing::choice::{Choice, Shown};
+use crate::drawing::device_row::{Scene, push_rows};
+use crate::drawing::legend::push_legends;
+use crate::drawing::shades::cell_rounds;
+use crate::drawing::stretch::{MOST_BARS, Stretch};
+use crate::making::Page;
+use crate::numbers::{push_number, push_numbers, push_share, push_span};
+use std::alloc::{AllocError, Global};
+use wait_causes::Part;
+
+/// Puts the drawings of the stretches on the page, below how they are coloured.
+pub(crate) fn push_stretches(
+    alloc: Global,
+    page: &mut Page,
+    scene: &Scene,
+    choice: &Choice,
+    whole: &Part,
+) -> Result<(), AllocError> {
+    page.put("<section id='bars'><h2>Bars</h2>\n");
+    push_choice(page, choice, whole);
+    push_legends(alloc, page, scene, whole)?;
+    for stretch in &choice.stretches {
+        if stretch.stays > 0 {
+            push_stretch(alloc, page, scene, *stretch, whole)?;
+        }
+    }
+    page.put("</section>\n");
+    Ok(())
+}
+
+// Says which stretches are drawn.
+fn push_choice(page: &mut Page, choice: &Choice, whole: &Part) {
+    page.put("<p id='shown'>");
+    match choice.shown {
+        Shown::All => page.put("A bar for each request"),
+        Shown::Asked => page.put("A bar for each request in the rounds that were asked for"),
+        Shown::Dearest => push_numbers(
+            page,
+            &[
+                (
+                    "A bar for each request in the dearest ",
+                    choice.stretches.len() as u64,
+                ),
+                (" of all stretches of ", u64::from(choice.length)),
+            ],
+            " rounds",
+        ),
+    }
+    if choice.shown != Shown::All {
+        page.put(": ");
+        push_share(page, choice.cost(), whole.live);
+        page.put(
+            " of what the waiting cost. <code>camxpt draw --rounds A-B</code> draws the rounds from A to B",
+        );
+    }
+    if choice.shown == Shown::All && choice.stretches.len() > 1 {
+        push_numbers(
+            page,
+            &[(", in stretches of ", u64::from(choice.length))],
+            " rounds. If a request is in several, the one in which it was sent tells all of it",
+        );
+    }
+    page.put(". A bar begins where the request came and ends where it was sent.</p>\n");
+}
+
+// Puts the drawing of a stretch on the page.
+fn push_stretch(
+    alloc: Global,
+    page: &mut Page,
+    scene: &Scene,
+    stretch: Stretch,
+    whole: &Part,
+) -> Result<(), AllocError> {
+    page.parts(
+        &[("<section class='stretch' id='r", u64::from(stretch.first))],
+        "'><h3>",
+    );
+    push_stretch_name(page, scene, &stretch);
+    page.put("</h3><p>");
+    push_stretch_costs(page, &stretch, whole);
+    page.put("</p>\n<div class='row'><p class='label'>round</p>");
+    push_axis(page, &scene.names, stretch.first, stretch.last);
+    page.put("</div>\n");
+    push_rows(alloc, page, scene, stretch)?;
+    page.put("<p class='back'><a href='#overview'>Overview</a></p></section>\n");
+    Ok(())
+}
+
+/// Puts the rounds and times of a stretch on the page.
+pub(crate) fn push_stretch_name(page: &mut Page, scene: &Scene, stretch: &Stretch) {
+    push_numbers(
+        page,
+        &[
+            ("Rounds ", u64::from(stretch.first)),
+            (" to ", u64::from(stretch.last)),
+        ],
+        "",
+    );
+    if let Some(span) = scene.names.unit() {
+        page.put(" (");
+        push_span(page, span, u64::from(stretch.first.saturating_sub(1)));
+        page.put(" to ");
+        push_span(page, span, u64::from(stretch.last));
+        page.put(")");
+    }
+}
+
+// Says what the waiting in a stretch cost, and which bars are drawn.
+fn push_stretch_costs(page: &mut Page, stretch: &Stretch, whole: &Part) {
+    push_numbers(page, &[("Waiting cost ", stretch.cost)], " here, ");
+    push_share(page, stretch.cost, whole.live);
+    page.put(" of all. ");
+    push_number(page, stretch.stays as u64);
+    page.put(if stretch.stays == 1 {
+        " request waited or was sent."
+    } else {
+        " requests waited or were sent."
+    });
+    if stretch.is_crowded() {
+        push_numbers(
+            page,
+            &[(" The ", MOST_BARS as u64)],
+            " whose waiting cost most here have a bar.",
+        );
+    }
+    let each = cell_rounds(stretch);
+    if each > 1 {
+        push_numbers(
+            page,
+            &[(" A step of the shades and strips is ", u64::from(each))],
+            " rounds: the fullest of them, and the cause of the first one in which a request waited.",
+        );
+    }
+}

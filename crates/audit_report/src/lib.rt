@@ -10,7 +10,6 @@ pub use migrate::run_migrate;
 pub use prove::run_prove;
 pub use reading::{read_input, read_net};
 pub use record::run_record;
-pub use rounds::read_rounds;
 
 mod audit;
 mod audit_at_once;
@@ -23,4 +22,3 @@ mod migrate;
 mod prove;
 mod reading;
 mod record;
-mod rounds;

@@ -32,7 +32,7 @@ def recording(number):
     adapters = [(rng.randint(1, 3), rng.choice([None, *range(len(links))])) for _ in range(rng.randint(1, 3))]
     devices = [(rng.randrange(len(adapters)), target, rng.randint(1, 2)) for target in range(rng.randint(1, 5))]
     rows = [record("camrecord1", *"abcdefg")]
-    rows += [record("unit", rng.randint(1, 2**32 - 1), rng.choice(["ns", "us", "ms", "s"]))] if rng.random() < 0.5 else []
+    rows += [record("unit", rng.randint(1, 10**6), rng.choice(["ns", "us", "ms", "s"]))] if rng.random() < 0.5 else []
     rows += [record("rounds", rounds)]
     rows += weights(rng) if rng.random() < 0.5 else []
     rows += [record("link", openings) for openings in links]

@@ -7,8 +7,7 @@ use crate::failure::Failure;
 use crate::note::title;
 use crate::output::made;
 use crate::progress::ProgressLine;
-use crate::trace_run::{of_history, of_recording};
-use audit_report::{Input, read_input};
+use crate::trace_run::explanation_of;
 use cam_types::Watched;
 use clap::ArgMatches;
 use round_net::Net;
@@ -68,10 +67,7 @@ pub fn drawn<R: AllocGlobal + Threads + Clock + Eprint + Sync, D: Read>(
     requires { has_failed trace.old ≡ false }
 {
     let alloc = rt.alloc();
-    let (net, explanation) = match read_input(alloc, trace)? {
-        Input::Trace(history) => of_history(rt, line, &history)?,
-        Input::Recording(recording) => of_recording(rt, line, recording)?,
-    };
+    let (net, explanation) = explanation_of(rt, line, trace)?;
     page_on(alloc, name, &net, &explanation, range)
 }
 

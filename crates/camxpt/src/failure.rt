@@ -15,8 +15,8 @@ use trace_file::{TraceFault, WriteFault};
 pub enum Failure {
     /// A word of the command line isn't UTF-8.
     WordNotUtf8,
-    /// Two files are to be read from standard input, which there is once.
-    StandardInputTwice,
+    /// The files of these two arguments are to be read from standard input, which there is once.
+    StandardInputTwice(&'static str, &'static str),
     /// No words are completed for a shell of this name.
     NoShell,
     /// The rounds to be drawn aren't two rounds of which the first is from 1 on and not after the second.
@@ -37,7 +37,7 @@ impl Failure {
     /// isn't a run of the script.
     pub fn exit_code(&self) -> ExitCode {
         ExitCode::from(match self {
-            Failure::WordNotUtf8 | Failure::StandardInputTwice | Failure::NoShell => 2,
+            Failure::WordNotUtf8 | Failure::StandardInputTwice(_, _) | Failure::NoShell => 2,
             Failure::NoRange | Failure::NoSuchRounds(_) => 2,
             Failure::CannotOpen(_, _) => 4,
             Failure::Audit(AuditFault::Trace(fault)) => trace_status(fault),
@@ -95,8 +95,8 @@ impl fmt::Display for Failure {
     fn fmt<W: fmt::Write>(&self, f: &mut fmt::Formatter<W>) -> fmt::Result {
         match self {
             Failure::WordNotUtf8 => f.write_str("a word of the command line isn't UTF-8"),
-            Failure::StandardInputTwice => {
-                f.write_str("only one of TRACE and REPORT can be standard input")
+            Failure::StandardInputTwice(one, other) => {
+                write!(f, "only one of {one} and {other} can be standard input")
             }
             Failure::NoShell => f.write_str("only bash, zsh and fish complete words"),
             Failure::NoRange => f.write_str("--rounds takes A-B, rounds from A to B, as 412-500"),

@@ -1,9 +1,10 @@
-//! Audits, explains and draws traces of a CAM transport and recordings of any scheduler, and runs scripts that record traces.
+//! Audits, explains, compares and draws traces of a CAM transport and recordings of any scheduler, and runs scripts that record traces.
 #![tactic(auto)]
 
 use std::io::IsTerminal;
 use std::process::ExitCode;
 
+mod compare_run;
 mod completion;
 mod drawing_run;
 mod failure;

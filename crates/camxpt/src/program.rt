@@ -1,5 +1,6 @@
 //! Runs the subcommand that the command line asks for.
 
+use crate::compare_run::compare;
 use crate::completion::script;
 use crate::drawing_run::range_of;
 use crate::failure::Failure;
@@ -150,6 +151,7 @@ fn obey_words<R: Runtime + AllocGlobal + Threads + Wait + Sync>(
     }
     match name {
         "prove" => over_report(rt, words),
+        "compare" => compare(rt, words, on_terminal),
         "completions" => complete(rt, words.get_str("SHELL").unwrap_or("")),
         "import" => Ok(import(rt, words)),
         _ => over_input(rt, on_terminal),
@@ -166,6 +168,7 @@ fn trace_run(name: &str, words: &ArgMatches<'_>) -> Option<TraceRun> {
         "explain" => Some(TraceRun::Explain {
             top: words.get_one("top").unwrap_or(TOP),
         }),
+        "timeline" => Some(TraceRun::Timeline),
         "migrate" => Some(TraceRun::Migrate),
         "record" => Some(TraceRun::Record),
         _ => None,
@@ -230,7 +233,7 @@ fn over_report<R: Runtime + AllocGlobal + Threads + Sync>(
         Argument::Report.file_name(words),
     );
     if trace == STANDARD_INPUT && report == STANDARD_INPUT {
-        return Err(Failure::StandardInputTwice);
+        return Err(Failure::StandardInputTwice("TRACE", "REPORT"));
     }
     // If standard input was closed, the next file would get its descriptor and be read in its place. A folder takes it, which
     // can't be read.

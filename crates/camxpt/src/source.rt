@@ -21,6 +21,10 @@ pub enum Argument {
     Report,
     /// That of a script.
     Script,
+    /// That of a trace or recording before a change.
+    Before,
+    /// That of one after it.
+    After,
 }
 
 impl Argument {
@@ -30,6 +34,8 @@ impl Argument {
             Argument::Trace => "TRACE",
             Argument::Report => "REPORT",
             Argument::Script => "SCRIPT",
+            Argument::Before => "BEFORE",
+            Argument::After => "AFTER",
         };
         words.get_str(argument).unwrap_or(STANDARD_INPUT)
     }

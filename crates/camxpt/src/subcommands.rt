@@ -15,7 +15,7 @@ pub(crate) struct Subcommand {
 }
 
 /// The subcommands, in the order of the help.
-pub(crate) const SUBCOMMANDS: [Subcommand; 11] = [
+pub(crate) const SUBCOMMANDS: [Subcommand; 13] = [
     Subcommand {
         name: "check",
         about: "Tests a trace or a recording and prints its counts and what its waiting cost",
@@ -35,10 +35,22 @@ pub(crate) const SUBCOMMANDS: [Subcommand; 11] = [
         words: &[Word::Top, Word::Json, Word::Verbose, Word::Either],
     },
     Subcommand {
+        name: "compare",
+        about: "Puts two traces or recordings side by side: what the waiting cost before a change and after it, for whom, and why",
+        example: "Example: camxpt compare examples/one-opening.csv examples/four-openings.csv",
+        words: &[Word::Json, Word::Verbose, Word::Before, Word::After],
+    },
+    Subcommand {
         name: "draw",
         about: "Draws where the commands of a trace or the requests of a recording waited, as a page for a browser",
         example: "Example: camxpt draw examples/frozen-device.csv > page.html",
         words: &[Word::Rounds, Word::Verbose, Word::Either],
+    },
+    Subcommand {
+        name: "timeline",
+        about: "Prints a trace or a recording as a timeline in Chrome's trace-event format, for Perfetto or chrome://tracing",
+        example: "Example: camxpt timeline examples/frozen-device.csv > timeline.json",
+        words: &[Word::Verbose, Word::Either],
     },
     Subcommand {
         name: "prove",

@@ -2,6 +2,7 @@
 
 use crate::drawing_run::{Range, drawn};
 use crate::failure::Failure;
+use crate::note::title;
 use crate::output::{Output, closed, made, print};
 use crate::progress::{ProgressLine, ToldReader, ToldWriter};
 use crate::source::Source;
@@ -16,7 +17,7 @@ use round_net::{Net, NetFault, RoundTable};
 use std::io::{Read, Write};
 use std::thread::Threads;
 use std::time::Clock;
-use views::{audit_json, check_json, explain_json, page};
+use views::{audit_json, check_json, explain_json, page, timeline_json};
 use wait_causes::Explanation;
 
 /// What is done with a trace, or a recording where it is checked, audited, explained or drawn.
@@ -39,6 +40,8 @@ pub enum TraceRun {
         /// The rounds whose bars are drawn, if they were asked for.
         rounds: Option<Range>,
     },
+    /// It is written as a timeline for a viewer of trace events.
+    Timeline,
     /// It is written in the newest version.
     Migrate,
     /// It is written as a recording.
@@ -68,22 +71,33 @@ impl TraceRun {
             TraceRun::Audit { summary } if !as_json => Ok(run_audit_with(
                 rt, alloc, &mut trace, &mut told, summary, line,
             )?),
+            _ => {
+                let text = self.text_on(rt, line, name, &mut trace, as_json)?;
+                line.clear();
+                print(out, &text)
+            }
+        }
+    }
+
+    // What is made whole before it is printed.
+    fn text_on<R: AllocGlobal + Threads + Clock + Eprint + Sync, D: Read>(
+        self,
+        rt: &R,
+        line: &ProgressLine<'_, R>,
+        name: &str,
+        trace: &mut Watched<D>,
+        as_json: bool,
+    ) -> Result<String, Failure>
+        requires { has_failed trace.old ≡ false }
+    {
+        match self {
             TraceRun::Explain { top } => {
                 let top = if as_json { None } else { Some(top) };
-                let text = explained(rt, line, name, &mut trace, top)?;
-                line.clear();
-                print(out, &text)
+                explained(rt, line, name, trace, top)
             }
-            TraceRun::Draw { rounds } => {
-                let text = drawn(rt, line, name, &mut trace, rounds)?;
-                line.clear();
-                print(out, &text)
-            }
-            _ => {
-                let text = self.json_on(rt, line, name, &mut trace)?;
-                line.clear();
-                print(out, &text)
-            }
+            TraceRun::Timeline => timeline(rt, line, name, trace),
+            TraceRun::Draw { rounds } => drawn(rt, line, name, trace, rounds),
+            _ => self.json_on(rt, line, name, trace),
         }
     }
 
@@ -110,8 +124,8 @@ impl TraceRun {
 ghost use Rattle.std.specs.Prelude.{◌≡◌, false};
 ghost use Rattle.cam_types.specs.Watched.{has_failed};
 
-// What is printed of the explanation of a trace or a recording: a page with that many of the dearest stays and freezes, or one
-// line of JSON.
+// What is printed of the explanation of a trace or a recording: a page with that many of the dearest stays and freezes, or
+// one line of JSON.
 fn explained<R: AllocGlobal + Threads + Clock + Eprint + Sync, D: Read>(
     rt: &R,
     line: &ProgressLine<'_, R>,
@@ -122,18 +136,42 @@ fn explained<R: AllocGlobal + Threads + Clock + Eprint + Sync, D: Read>(
     requires { has_failed trace.old ≡ false }
 {
     let alloc = rt.alloc();
-    let (net, explanation) = match read_input(alloc, trace)? {
-        Input::Trace(history) => of_history(rt, line, &history)?,
-        Input::Recording(recording) => of_recording(rt, line, recording)?,
-    };
+    let (net, explanation) = explanation_of(rt, line, trace)?;
     match top {
         Some(top) => made(page(alloc, net.config(), &explanation, top)),
         None => closed(explain_json(alloc, name, &net, &explanation)),
     }
 }
 
-/// The net of a history, and its explanation beside a best schedule.
-pub fn of_history<R: AllocGlobal + Threads + Clock + Eprint + Sync>(
+// What is printed of the timeline of a trace or a recording.
+fn timeline<R: AllocGlobal + Threads + Clock + Eprint + Sync, D: Read>(
+    rt: &R,
+    line: &ProgressLine<'_, R>,
+    name: &str,
+    trace: &mut Watched<D>,
+) -> Result<String, Failure>
+    requires { has_failed trace.old ≡ false }
+{
+    let (net, explanation) = explanation_of(rt, line, trace)?;
+    closed(timeline_json(rt.alloc(), title(name), &net, &explanation))
+}
+
+/// The net of a trace or a recording, and its explanation beside a best schedule.
+pub fn explanation_of<R: AllocGlobal + Threads + Clock + Eprint + Sync, D: Read>(
+    rt: &R,
+    line: &ProgressLine<'_, R>,
+    input: &mut Watched<D>,
+) -> Result<(Net, Explanation), Failure>
+    requires { has_failed input.old ≡ false }
+{
+    match read_input(rt.alloc(), input)? {
+        Input::Trace(history) => of_history(rt, line, &history),
+        Input::Recording(recording) => of_recording(rt, line, recording),
+    }
+}
+
+// The same of a history.
+fn of_history<R: AllocGlobal + Threads + Clock + Eprint + Sync>(
     rt: &R,
     line: &ProgressLine<'_, R>,
     history: &History,
@@ -150,8 +188,8 @@ pub fn of_history<R: AllocGlobal + Threads + Clock + Eprint + Sync>(
     Ok((net, explanation))
 }
 
-/// The net of a recording, and its explanation beside a best schedule.
-pub fn of_recording<R: AllocGlobal + Threads + Clock + Eprint + Sync>(
+// The same of a recording.
+fn of_recording<R: AllocGlobal + Threads + Clock + Eprint + Sync>(
     rt: &R,
     line: &ProgressLine<'_, R>,
     recording: Recording,

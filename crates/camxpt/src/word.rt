@@ -18,6 +18,8 @@ pub(crate) enum Word {
     // The same of `prove`, which can't be left out.
     Proved,
     Report,
+    Before,
+    After,
     Script,
     Seed,
     Shell,
@@ -84,6 +86,18 @@ impl Word {
                 alloc,
                 "REPORT",
                 "A report on it, by audit or by anyone else; - is standard input, unless TRACE is",
+            )
+            .required(true),
+            Word::Before => named(
+                alloc,
+                "BEFORE",
+                "The trace or recording before a change; - is standard input",
+            )
+            .required(true),
+            Word::After => named(
+                alloc,
+                "AFTER",
+                "The one after it; - is standard input, unless BEFORE is",
             )
             .required(true),
             Word::Script => named(

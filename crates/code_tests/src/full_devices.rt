@@ -45,22 +45,49 @@ fn prove(alloc: Global, room: usize, fails: bool) -> (Result<bool, AuditFault>, 
     (answer, full.taken)
 }
 
+// Whether a full device has the front of the text for which it had room, and the answer says that a write failed.
+fn is_front<T: PartialEq + Drop>(
+    answer: &Result<T, AuditFault>,
+    taken: &[u8],
+    whole: &[u8],
+    room: usize,
+) -> bool {
+    matches!(answer, Err(AuditFault::WriteFailed)) && whole.get(..room) == Some(taken)
+}
+
+fn is_front_of_audit(
+    alloc: Global,
+    trace: &str,
+    summary: bool,
+    whole: &[u8],
+    room: usize,
+    fails: bool,
+) -> bool {
+    let (answer, taken) = audit(alloc, trace, summary, room, fails);
+    is_front(&answer, &taken, whole, room)
+}
+
+fn is_front_of_proof(alloc: Global, whole: &[u8], room: usize, fails: bool) -> bool {
+    let (answer, taken) = prove(alloc, room, fails);
+    is_front(&answer, &taken, whole, room)
+}
+
+fn is_whole_audit(alloc: Global, trace: &str, summary: bool, whole: &[u8]) -> bool {
+    let (answer, taken) = audit(alloc, trace, summary, whole.len(), false);
+    answer.is_ok() && taken.as_slice() == whole
+}
+
 #[test]
 fn an_audit_leaves_the_front_on_a_full_device(rt: HostRuntime) {
     for (trace, summary, whole) in [(FROZEN, true, SUMMARY), (NO_EVENTS, false, WHOLE)] {
         let whole = whole.as_bytes();
         for fails in [true, false] {
             for room in 0..whole.len() {
-                let (answer, taken) = audit(rt.alloc(), trace, summary, room, fails);
-                assert_eq!(rt;
-                    (answer, taken.as_slice()),
-                    (Err(AuditFault::WriteFailed), &whole[..room]),
-                    "room for {room}"
-                );
+                let is_front = is_front_of_audit(rt.alloc(), trace, summary, whole, room, fails);
+                assert!(rt; is_front, "room for {room}");
             }
         }
-        let (answer, taken) = audit(rt.alloc(), trace, summary, whole.len(), false);
-        assert_eq!(rt; (answer, taken.as_slice()), (Ok(()), whole));
+        assert!(rt; is_whole_audit(rt.alloc(), trace, summary, whole));
     }
 }
 
@@ -69,14 +96,12 @@ fn a_proof_leaves_the_front_on_a_full_device(rt: HostRuntime) {
     let whole = b"proved\n".as_slice();
     for fails in [true, false] {
         for room in 0..whole.len() {
-            let (answer, taken) = prove(rt.alloc(), room, fails);
-            assert_eq!(rt;
-                (answer, taken.as_slice()),
-                (Err(AuditFault::WriteFailed), &whole[..room]),
+            assert!(rt;
+                is_front_of_proof(rt.alloc(), whole, room, fails),
                 "room for {room}"
             );
         }
     }
     let (answer, taken) = prove(rt.alloc(), whole.len(), false);
-    assert_eq!(rt; (answer, taken.as_slice()), (Ok(true), whole));
+    assert!(rt; answer == Ok(true) && taken.as_slice() == whole);
 }

@@ -1,12 +1,14 @@
-//! What a check, an audit, an explanation and a proof of a trace give, each as one object of JSON on one line.
+//! What a check, an audit, an explanation, a comparison and a proof give, each as one object of JSON on one line.
 
 pub use audit::audit_json;
 pub use check::check_json;
+pub use compare::compare_json;
 pub use explain::explain_json;
 pub use prove::prove_json;
 
 mod audit;
 mod check;
+mod compare;
 mod counts;
 mod explain;
 mod freezes;
@@ -14,4 +16,5 @@ mod line;
 mod parts;
 mod prices;
 mod prove;
+mod shifts;
 mod stays;

@@ -1,6 +1,7 @@
 //! The page for a browser that draws where the commands of a history or the requests of a recording waited, and why.
 
 pub use layout::draw;
+pub(crate) use moment::{Moment, moments};
 
 mod axis;
 mod bars;
@@ -13,6 +14,7 @@ mod lanes;
 mod layout;
 mod legend;
 mod loads;
+mod moment;
 mod names;
 mod order;
 mod overview;
@@ -22,5 +24,4 @@ mod stretch;
 mod style;
 mod summary;
 mod tables;
-mod timeline;
 mod words;

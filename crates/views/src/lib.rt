@@ -1,13 +1,18 @@
 //! What there is to read of a history and its audit: the text that explains where commands waited, the same as a page for a
-//! browser, objects of JSON, and what helps to find a fault.
+//! browser, two explanations side by side, objects of JSON, a timeline, and what helps to find a fault.
 #![tactic(auto)]
 
-pub use as_json::{audit_json, check_json, explain_json, prove_json};
+pub use as_json::{audit_json, check_json, compare_json, explain_json, prove_json};
+pub use compare::compare_page;
+pub use compared::Compared;
 pub use drawing::draw;
 pub use notes::{recording_note, report_note, shown_name, trace_note, unsent_note};
 pub use text::page;
+pub use timeline::timeline_json;
 
 mod as_json;
+mod compare;
+mod compared;
 mod drawing;
 mod labels;
 mod making;
@@ -15,3 +20,4 @@ mod notes;
 mod numbers;
 mod plain_words;
 mod text;
+mod timeline;

@@ -45,6 +45,11 @@ pub(crate) fn push_signed(page: &mut Page, number: i128) {
     );
 }
 
+/// How much more the second is.
+pub(crate) fn shift(before: u64, after: u64) -> i128 {
+    after as i128 - before as i128
+}
+
 /// Puts the share of a part in a whole on the page, in percent with a tenth.
 pub(crate) fn push_share(page: &mut Page, part: u64, whole: u64) {
     let tenths = part

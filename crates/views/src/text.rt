@@ -1,5 +1,6 @@
 //! The text that says where the commands of a history waited, and why.
 
+pub(crate) use columns::push_columns;
 pub use layout::page;
 
 mod columns;

@@ -116,10 +116,17 @@ struct TableRow {
     costs: Costs,
 }
 
-// How many stays there are, and how many rounds they waited: together, and the median, 90 %, 99 %, 99.9 % and longest wait.
+/// How many stays there are, and how many rounds they waited.
 #[derive(Clone, Copy, Drop, Serialize)]
-struct Waited {
+pub(crate) struct Waited {
     stays: u32,
+    #[serde(flatten)]
+    waits: Waits,
+}
+
+/// How many rounds some stays waited: together, and the median, 90 %, 99 %, 99.9 % and longest wait.
+#[derive(Clone, Copy, Drop, Serialize)]
+pub(crate) struct Waits {
     waited: u64,
     p50: u32,
     p90: u32,
@@ -129,10 +136,19 @@ struct Waited {
 }
 
 impl Waited {
-    // That of the stays of a part.
-    fn of(part: &Part) -> Waited {
+    /// That of the stays of a part.
+    pub(crate) fn of(part: &Part) -> Waited {
         Waited {
             stays: part.stays,
+            waits: Waits::of(part),
+        }
+    }
+}
+
+impl Waits {
+    /// Those of the stays of a part.
+    pub(crate) fn of(part: &Part) -> Waits {
+        Waits {
             waited: part.waited,
             p50: part.p50,
             p90: part.p90,
@@ -200,8 +216,8 @@ fn row_of(
     })
 }
 
-// The kind of the names of a table's rows; run levels have none.
-fn named_by(by: Grouping) -> Option<NameKind> {
+/// The kind of the names of a table's rows; run levels have none.
+pub(crate) fn named_by(by: Grouping) -> Option<NameKind> {
     match by {
         Grouping::Adapter => Some(NameKind::Adapter),
         Grouping::Device => Some(NameKind::Device),

@@ -1,6 +1,6 @@
 //! Columns over rounds, the greatest of each bin.
 
-use crate::drawing::timeline::Moment;
+use crate::drawing::moment::Moment;
 use crate::making::Page;
 
 /// The most bins across the overview.

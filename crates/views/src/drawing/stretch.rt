@@ -1,7 +1,7 @@
 //! Stretches: runs of rounds whose bars are drawn together.
 
+use crate::drawing::moment::{Moment, count_of};
 use crate::drawing::order::dearest_first;
-use crate::drawing::timeline::{Moment, count_of};
 use std::alloc::{AllocError, Global};
 use wait_causes::ExplainedStay;
 

@@ -39,9 +39,17 @@ fn push_worst_stay(page: &mut Page, explanation: &Explanation, stay: &ExplainedS
     push_round(page, explanation, stay.arrival);
     page.put(" to its send in ");
     push_round(page, explanation, stay.live);
-    page.put("; the best schedule sends it in ");
+    page.put(between(explanation));
     push_round(page, explanation, stay.best);
     page.put(".\n");
+}
+
+// What stands between the two sends: rounds with their times make a line of their own each.
+fn between(explanation: &Explanation) -> &'static str {
+    match explanation.unit() {
+        Some(_) => ".\nThe best schedule sends it in ",
+        None => "; the best schedule sends it in ",
+    }
 }
 
 // Puts a round on the page, and when it ended if that is known.

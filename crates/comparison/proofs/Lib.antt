@@ -1,0 +1,4 @@
+pub mod PairLemmas
+pub mod TableLemmas
+pub mod ChangeLemmas
+pub mod SameLemmas

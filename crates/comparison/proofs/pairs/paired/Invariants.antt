@@ -1,0 +1,7 @@
+use Rattle.std.proofs.Common.{◌≡◌, flat_map}
+use Rattle.std.specs.List.{range_with_len}
+use Rattle.comparison.specs.Pairs.{pair_at}
+use Rattle.comparison.proofs.pairs.paired.Given as goal
+
+abbrev pub invariant-loop-number : goal.invariant-loop-number
+invariant-loop-number l = l.rows.items ≡ flat_map (pair_at l.before l.after) (range_with_len 0 l.number)

@@ -1,0 +1,4 @@
+pub mod Pairs
+pub mod Changes
+pub mod PairLaws
+pub mod Terms

@@ -1,0 +1,29 @@
+//! The page: in what two inputs differ, what waiting cost in each, and what changed most.
+
+use crate::compare::differences::push_differences;
+use crate::compare::most::push_most;
+use crate::compare::rows::push_rows;
+use crate::compare::totals::{push_causes, push_totals};
+use crate::compared::Compared;
+use crate::making::Page;
+use std::alloc::{AllocError, Global};
+
+/// The page on two explanations: in what the inputs differ beside their requests, how much the stays of each waited and what
+/// that cost, by cause and by what full rows sent, each with the difference; what changed most; and the same by adapter,
+/// device, driver and run level. All costs are weighted rounds.
+pub fn compare_page(
+    alloc: Global,
+    before: Compared<'_>,
+    after: Compared<'_>,
+) -> Result<String, AllocError> {
+    let mut page = Page::new(alloc);
+    page.show(format_args!("before  {}\nafter   {}\n", before.name, after.name));
+    let was = before.explanation.whole(alloc)?;
+    let is = after.explanation.whole(alloc)?;
+    push_differences(&mut page, before, after);
+    push_totals(&mut page, &was, &is);
+    push_causes(&mut page, before, after, &was, &is);
+    push_most(alloc, &mut page, before, after, &was, &is)?;
+    push_rows(alloc, &mut page, before, after)?;
+    page.finish()
+}

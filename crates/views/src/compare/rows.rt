@@ -1,0 +1,89 @@
+//! The tables of a comparison: what adapters, devices, drivers and run levels waited before and after.
+
+use crate::compare::most::{live_of, rows_of};
+use crate::compared::{Compared, GROUPINGS, label_in};
+use crate::making::Page;
+use crate::numbers::shift;
+use crate::text::push_columns;
+use comparison::PairedRow;
+use std::alloc::{AllocError, Global};
+use wait_causes::{Grouping, Part};
+
+// What stands above the columns, and above those two by two.
+const HEAD: &str = "before after    before     after difference    before     after before after";
+
+const PAIRS: &str = "stays                  live                         excess               p99";
+
+/// Puts the tables on the page.
+pub(crate) fn push_rows(
+    alloc: Global,
+    page: &mut Page,
+    before: Compared<'_>,
+    after: Compared<'_>,
+) -> Result<(), AllocError> {
+    let width = before.labels().width().max(after.labels().width());
+    page.show(format_args!("\n{:<width$} {PAIRS}\n{:<width$} {HEAD}\n", "", ""));
+    for (by, _) in &GROUPINGS {
+        push_table(alloc, page, before, after, *by, width)?;
+    }
+    Ok(())
+}
+
+fn push_table(
+    alloc: Global,
+    page: &mut Page,
+    before: Compared<'_>,
+    after: Compared<'_>,
+    by: Grouping,
+    width: usize,
+) -> Result<(), AllocError> {
+    for row in &rows_of(alloc, before, after, by)? {
+        let label = label_in(alloc, before, after, by, row.number, row.before.is_some())?;
+        page.show(format_args!("{label:<width$}"));
+        push_row(page, row);
+    }
+    Ok(())
+}
+
+// Puts the numbers of a row on the page: 0 where it had no stay.
+fn push_row(page: &mut Page, row: &PairedRow) {
+    let (was, is) = (live_of(&row.before), live_of(&row.after));
+    push_columns(
+        page,
+        &[
+            (6, stays_of(&row.before)),
+            (5, stays_of(&row.after)),
+            (9, was),
+            (9, is),
+        ],
+    );
+    page.show(format_args!(
+        " {:>10} {:>9} {:>9}",
+        shift(was, is),
+        excess_of(&row.before),
+        excess_of(&row.after)
+    ));
+    push_columns(page, &[(6, p99_of(&row.before)), (5, p99_of(&row.after))]);
+    page.put("\n");
+}
+
+fn stays_of(part: &Option<Part>) -> u64 {
+    match part {
+        Some(part) => u64::from(part.stays),
+        None => 0,
+    }
+}
+
+fn excess_of(part: &Option<Part>) -> i128 {
+    match part {
+        Some(part) => part.excess(),
+        None => 0,
+    }
+}
+
+fn p99_of(part: &Option<Part>) -> u64 {
+    match part {
+        Some(part) => u64::from(part.p99),
+        None => 0,
+    }
+}

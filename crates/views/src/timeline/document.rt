@@ -1,0 +1,60 @@
+//! The document: a process for each device and adapter, with its requests, freezes and counters.
+
+use crate::labels::Labels;
+use crate::timeline::clock::RoundClock;
+use crate::timeline::counters::put_counters;
+use crate::timeline::freezes::put_freezes;
+use crate::timeline::requests::put_requests;
+use crate::timeline::writer::EventWriter;
+use round_net::Net;
+use std::alloc::{AllocError, Global};
+use wait_causes::{Explanation, Grouping};
+
+/// The timeline as JSON in Chrome's trace-event format, without a line feed at its end, which viewers such as Perfetto and
+/// `chrome://tracing` open. Each device is a process. Its rows are slots: a request stands in one from the beginning of the
+/// round in which it arrived to the end of the one in which it was sent, and in it stand its waits, by cause, and its send.
+/// Rows of their own have the freezes of devices and adapters, and counters how many waited at a device and how many of its
+/// openings were used. A round has its length, or a millisecond if that isn't known.
+pub fn timeline_json(
+    alloc: Global,
+    name: &str,
+    net: &Net,
+    explanation: &Explanation,
+) -> Result<String, AllocError> {
+    let labels = Labels::of(net.config(), explanation);
+    let clock = RoundClock::of(explanation.unit());
+    let mut writer = EventWriter::new(alloc, name, clock)?;
+    put_processes(alloc, &mut writer, labels, net)?;
+    put_freezes(alloc, &mut writer, net, explanation)?;
+    put_requests(alloc, &mut writer, net, explanation)?;
+    put_counters(alloc, &mut writer, net, explanation)?;
+    writer.finish()
+}
+
+// Names the processes: devices come first.
+fn put_processes(
+    alloc: Global,
+    writer: &mut EventWriter,
+    labels: Labels<'_>,
+    net: &Net,
+) -> Result<(), AllocError> {
+    for device in 0..net.devices() {
+        let label = labels.label(alloc, Grouping::Device, device)?;
+        writer.process(device_process(device), &label)?;
+    }
+    for adapter in 0..net.adapters() {
+        let label = labels.label(alloc, Grouping::Adapter, adapter)?;
+        writer.process(adapter_process(net, adapter), &label)?;
+    }
+    Ok(())
+}
+
+/// The process of a device.
+pub(crate) fn device_process(device: u32) -> u32 {
+    device.saturating_add(1)
+}
+
+/// The process of an adapter.
+pub(crate) fn adapter_process(net: &Net, adapter: u32) -> u32 {
+    device_process(net.devices().saturating_add(adapter))
+}

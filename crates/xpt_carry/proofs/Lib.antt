@@ -1,0 +1,13 @@
+pub mod OrderLemmas
+pub mod ReplayLemmas
+pub mod RowLemmas
+pub mod EventLemmas
+pub mod IdleLemmas
+pub mod AnewLemmas
+pub mod CcbLemmas
+pub mod QueueLaws
+pub mod OpeningLaws
+pub mod FreezeLaws
+pub mod BoundLemmas
+pub mod LegalLemmas
+pub mod RoomLaws

@@ -11,14 +11,17 @@
  *   - A handle is used by one thread at a time. It goes to another one by a lock, or by a start or a join of a thread. No call
  *     waits, and none starts a thread.
  *   - An out-parameter is initialized memory that overlaps no other argument. A call that doesn't answer CAMXPT_OK leaves it as
- *     it was; camxpt_trace alone sets *needed at CAMXPT_E_SPACE too.
+ *     it was. But at CAMXPT_E_SPACE camxpt_trace, camxpt_recording and camxpt_carry say how much room they need; and
+ *     camxpt_recording says which cap or request is wrong.
  *   - A null pointer answers CAMXPT_E_NULL, unless it is an array of length 0. No other wrong pointer is noticed.
  *   - No call comes from a signal handler, or in the child of a fork of a process with threads. Memory is this program's
- *     malloc, realloc and free. Only camxpt_open, camxpt_open_with and camxpt_trace ask for any.
+ *     malloc, realloc and free. Only camxpt_open, camxpt_open_with, camxpt_carry, camxpt_trace and camxpt_recording ask for
+ *     any.
  *
  * A transport takes 65,535 events, 512 rounds and 4,096 stays at most (a stay is one passage of a CCB through its queue, so a
- * submit or a requeue begins one). A driver that runs longer lets its CCBs come to an end, writes the trace if it wants it,
- * closes the handle and opens it anew; docs/c.md shows how.
+ * submit or a requeue begins one). A driver that runs longer carries what waits over to a fresh transport by camxpt_carry, at
+ * the end of a round in which all results are in. If it keeps its requests in an array, camxpt_recording writes what all the
+ * transports did as one recording, for `camxpt audit`. docs/c.md shows how.
  *
  * Link with libcamxpt_c.a, and after it with liblibc_c.a of the Rattle kit: cc driver.c -L. -lcamxpt_c -llibc_c
  */
@@ -62,6 +65,10 @@ enum {
     CAMXPT_E_NULL = -6,   /**< a pointer is null */
     CAMXPT_E_COPIED = -7, /**< the handle is a copy of one that was opened, was moved, or is no handle */
     CAMXPT_E_KIND = -8,   /**< no event is of this kind */
+    CAMXPT_E_UNIT = -9,   /**< no unit of time is of this number */
+    CAMXPT_E_ROUNDS = -10,   /**< there are no rounds, or more than 65,535 */
+    CAMXPT_E_REQUESTS = -11, /**< there are more than 1,048,576 requests */
+    CAMXPT_E_CAP = -12,      /**< a cap can't be one of the recording */
     /* refusals: the first one that holds, in this order; nothing has changed */
     CAMXPT_HISTORY_FULL = 1,
     CAMXPT_NO_DEVICE = 2,
@@ -95,6 +102,8 @@ enum {
     CAMXPT_IDLE_DEVICES_HELD = 35,
     /** there is none (camxpt_next_case, camxpt_has_head) */
     CAMXPT_NONE = 36,
+    /** CCBs wait for a decision (camxpt_carry) */
+    CAMXPT_UNDECIDED = 37,
     /* the first rule that a configuration breaks (camxpt_open, camxpt_open_with) */
     CAMXPT_FAULT_NO_ADAPTERS = 48,
     CAMXPT_FAULT_TOO_MANY = 49,
@@ -103,7 +112,16 @@ enum {
     CAMXPT_FAULT_BAD_ADDRESS = 52,
     CAMXPT_FAULT_DOUBLE_DEVICE = 53,
     CAMXPT_FAULT_BAD_WEIGHT = 54,
-    CAMXPT_FAULT_NO_LINK = 55
+    CAMXPT_FAULT_NO_LINK = 55,
+    /* why a request can't be one of a recording: the first cause that holds, in this order (camxpt_recording) */
+    CAMXPT_CAUSE_NO_DEVICE = 64,
+    CAMXPT_CAUSE_BAD_PRIORITY = 65,
+    CAMXPT_CAUSE_BAD_WINDOW = 66,
+    CAMXPT_CAUSE_EARLY = 67,
+    CAMXPT_CAUSE_LATE = 68,
+    CAMXPT_CAUSE_DEVICE_FULL = 69,
+    CAMXPT_CAUSE_ADAPTER_FULL = 70,
+    CAMXPT_CAUSE_LINK_FULL = 71
 };
 
 /** Whether the code says that a lane had nothing to send. */
@@ -122,6 +140,10 @@ static inline const char *camxpt_code_name(camxpt_code code)
     case CAMXPT_E_NULL: return "Null";
     case CAMXPT_E_COPIED: return "Copied";
     case CAMXPT_E_KIND: return "BadKind";
+    case CAMXPT_E_UNIT: return "BadUnit";
+    case CAMXPT_E_ROUNDS: return "BadRounds";
+    case CAMXPT_E_REQUESTS: return "TooManyRequests";
+    case CAMXPT_E_CAP: return "BadCap";
     case CAMXPT_HISTORY_FULL: return "HistoryFull";
     case CAMXPT_NO_DEVICE: return "NoDevice";
     case CAMXPT_NO_ADAPTER: return "NoAdapter";
@@ -152,6 +174,7 @@ static inline const char *camxpt_code_name(camxpt_code code)
     case CAMXPT_IDLE_ADAPTER_BUSY: return "AdapterBusy";
     case CAMXPT_IDLE_DEVICES_HELD: return "DevicesHeld";
     case CAMXPT_NONE: return "None";
+    case CAMXPT_UNDECIDED: return "Undecided";
     case CAMXPT_FAULT_NO_ADAPTERS: return "NoAdapters";
     case CAMXPT_FAULT_TOO_MANY: return "TooMany";
     case CAMXPT_FAULT_BAD_OPENINGS: return "BadOpenings";
@@ -160,6 +183,14 @@ static inline const char *camxpt_code_name(camxpt_code code)
     case CAMXPT_FAULT_DOUBLE_DEVICE: return "DoubleDevice";
     case CAMXPT_FAULT_BAD_WEIGHT: return "BadWeight";
     case CAMXPT_FAULT_NO_LINK: return "NoLink";
+    case CAMXPT_CAUSE_NO_DEVICE: return "NoDevice";
+    case CAMXPT_CAUSE_BAD_PRIORITY: return "BadPriority";
+    case CAMXPT_CAUSE_BAD_WINDOW: return "BadWindow";
+    case CAMXPT_CAUSE_EARLY: return "Early";
+    case CAMXPT_CAUSE_LATE: return "Late";
+    case CAMXPT_CAUSE_DEVICE_FULL: return "DeviceFull";
+    case CAMXPT_CAUSE_ADAPTER_FULL: return "AdapterFull";
+    case CAMXPT_CAUSE_LINK_FULL: return "LinkFull";
     default: return "Unknown";
     }
 }
@@ -322,6 +353,48 @@ typedef struct camxpt_event {
     uint8_t sense[18];
 } camxpt_event;
 
+/** The units of time. */
+enum {
+    CAMXPT_NANOSECONDS = 0,
+    CAMXPT_MICROSECONDS = 1,
+    CAMXPT_MILLISECONDS = 2,
+    CAMXPT_SECONDS = 3
+};
+
+/** How long a round of a recording is: that many of a unit of time. If the count is 0, it isn't said. */
+typedef struct camxpt_span {
+    uint32_t count, unit;
+} camxpt_span;
+
+/** What a cap is for. */
+enum {
+    CAMXPT_CAP_DEVICE = 0,
+    CAMXPT_CAP_ADAPTER = 1,
+    CAMXPT_CAP_LINK = 2
+};
+
+/** A cap of a recording: in rounds first to last, the device, adapter or link of this number takes at most that many requests,
+ *  0 to 65,535, in place of its openings. Caps stand by rising kind, then number, then rounds, and don't overlap. */
+typedef struct camxpt_cap {
+    uint32_t kind, number, first, last, most;
+} camxpt_cap;
+
+/** In place of a request's last round: the recording's last round. */
+enum {
+    CAMXPT_NO_LAST = 0
+};
+
+/** A request of a recording. One that was sent again is several: the last round of each but the last is the round before the
+ *  next one arrives. */
+typedef struct camxpt_request {
+    uint32_t device;   /**< the number of its device */
+    uint32_t priority; /**< 0 to 1279, the smaller number the more urgent */
+    uint32_t arrival;  /**< the round in which it arrived, from 1 on */
+    uint32_t last;     /**< the last round in which it could have been started, or CAMXPT_NO_LAST */
+    uint32_t start;    /**< the round in which it was started */
+    uint8_t driver;    /**< who asked for it */
+} camxpt_request;
+
 #if SIZE_MAX != UINT64_MAX
 #error "camxpt.h: the library is for 64-bit targets"
 #endif
@@ -380,6 +453,22 @@ CAMXPT_AT_(camxpt_event, status, 39);
 CAMXPT_AT_(camxpt_event, scsi, 40);
 CAMXPT_AT_(camxpt_event, sense_len, 41);
 CAMXPT_AT_(camxpt_event, sense, 42);
+CAMXPT_SIZE_(camxpt_span, 8);
+CAMXPT_AT_(camxpt_span, count, 0);
+CAMXPT_AT_(camxpt_span, unit, 4);
+CAMXPT_SIZE_(camxpt_cap, 20);
+CAMXPT_AT_(camxpt_cap, kind, 0);
+CAMXPT_AT_(camxpt_cap, number, 4);
+CAMXPT_AT_(camxpt_cap, first, 8);
+CAMXPT_AT_(camxpt_cap, last, 12);
+CAMXPT_AT_(camxpt_cap, most, 16);
+CAMXPT_SIZE_(camxpt_request, 24);
+CAMXPT_AT_(camxpt_request, device, 0);
+CAMXPT_AT_(camxpt_request, priority, 4);
+CAMXPT_AT_(camxpt_request, arrival, 8);
+CAMXPT_AT_(camxpt_request, last, 12);
+CAMXPT_AT_(camxpt_request, start, 16);
+CAMXPT_AT_(camxpt_request, driver, 20);
 
 /* ---- the library's own symbols. Call the functions below them, which test for null: here no pointer may be null -------- */
 
@@ -410,6 +499,13 @@ camxpt_code camxpt_raw_take(camxpt_raw *x, const camxpt_event *event);
 camxpt_code camxpt_raw_refusal(camxpt_raw *x, const camxpt_event *event);
 camxpt_code camxpt_raw_events(camxpt_raw *x, uint32_t first, camxpt_event *events, size_t room, size_t *copied);
 camxpt_code camxpt_raw_trace(camxpt_raw *x, uint8_t *buffer, size_t room, size_t *needed);
+camxpt_code camxpt_raw_carry(camxpt_raw *from, camxpt_raw *to, const camxpt_limits *limits, uint32_t *numbers, size_t room,
+                             size_t *count);
+camxpt_code camxpt_raw_recording(const camxpt_weight *weights, size_t weight_count, const uint32_t *links, size_t link_count,
+                                 const camxpt_adapter *adapters, size_t adapter_count, const camxpt_device *devices,
+                                 size_t device_count, const camxpt_span *unit, uint32_t rounds, const camxpt_cap *caps,
+                                 size_t cap_count, const camxpt_request *requests, size_t request_count, uint8_t *buffer,
+                                 size_t room, size_t *needed, size_t *wrong);
 
 /* ---- calls -------------------------------------------------------------------------------------------------------------- */
 
@@ -613,6 +709,77 @@ CAMXPT_NODISCARD static inline camxpt_code camxpt_trace(camxpt *x, void *buffer,
 
     return CAMXPT_CALL_(x, needed && (buffer || !room),
                         camxpt_raw_trace(&x->raw_, buffer ? (uint8_t *)buffer : &no_byte, room, needed));
+}
+
+/** Opens the closed handle `to` with what waits in `from`, which stays as it is: the way on where a transport comes to its
+ *  limits. It is called at the end of a round in place of camxpt_tick, when all results are in and all cases are decided.
+ *
+ *  `to` has the configuration of `from`, these limits, and an empty first round; it is in its second one, which stands for the
+ *  next round of `from`. Its openings are those that the next round of `from` would have, and its freezes those that callers
+ *  made. Each CCB that waits is submitted to it, with the retries that it has left, so that each queue has the same commands
+ *  in the same order; its attempts begin at 0 again. Of devices whose next commands have one priority, the one of the lowest
+ *  number has the first turn. numbers[k] is set to the number that CCB k of `to` has in `from`, and *count to how many these
+ *  are.
+ *
+ *  Answers CAMXPT_E_OPEN if `to` is open, or is `from`; CAMXPT_E_LIMIT; CAMXPT_E_MEMORY; CAMXPT_IN_FLIGHT if a result is due;
+ *  CAMXPT_UNDECIDED if a CCB waits for a decision; ROUNDS_FULL, CCB_FULL, STAYS_FULL or HISTORY_FULL if the limits have no room
+ *  for a second round and what waits (CAMXPT_MOST always has); or CAMXPT_E_SPACE if there are more numbers than room for them:
+ *  then *count is set. 1,024 are always enough. */
+CAMXPT_NODISCARD static inline camxpt_code camxpt_carry(camxpt *from, camxpt *to, const camxpt_limits *limits,
+                                                        uint32_t *numbers, size_t room, size_t *count)
+{
+    uint32_t no_number = 0;
+    camxpt_code code = camxpt_bad_(from);
+
+    if (code != CAMXPT_OK)
+        return code;
+    if (!to || !limits || !count || (!numbers && room))
+        return CAMXPT_E_NULL;
+    if (to->self_)
+        return to->self_ == to ? CAMXPT_E_OPEN : CAMXPT_E_COPIED;
+    code = camxpt_raw_carry(&from->raw_, &to->raw_, limits, numbers ? numbers : &no_number, room, count);
+    if (code == CAMXPT_OK)
+        to->self_ = to;
+    return code;
+}
+
+/** Writes a recording into the buffer, without a zero byte behind it: what some scheduler did with these requests in rounds 1
+ *  to `rounds`, which are at most 65,535. It needs no handle. `camxpt audit`, `explain` and `draw` take such a text. *needed is
+ *  set to its length, at CAMXPT_E_SPACE too, so a call with (NULL, 0) asks for the length.
+ *
+ *  The configuration is as for camxpt_open_with, but its lanes aren't read: a recording has none. The unit says how long a
+ *  round is; it may be null. There may be at most 1,048,576 requests, in any order.
+ *
+ *  Answers what is wrong first, in this order: CAMXPT_E_UNIT; CAMXPT_E_ROUNDS; CAMXPT_E_REQUESTS; a CAMXPT_FAULT_*;
+ *  CAMXPT_E_CAP, if a cap's kind is none, if there is no such device, adapter or link, if the cap doesn't come after the caps
+ *  before it, if it isn't so that 1 <= first <= last <= rounds, or if it is for more than 65,535; or, of a request, the first
+ *  of CAMXPT_CAUSE_NO_DEVICE, _BAD_PRIORITY, _BAD_WINDOW (not 1 <= arrival <= last <= rounds), _EARLY (it was started before it
+ *  arrived), _LATE (after its last round), and _DEVICE_FULL, _ADAPTER_FULL and _LINK_FULL (beside the requests before it, more
+ *  were started in its round than the cap). *wrong is set to the number of the first such cap or request, from 0 on, and isn't
+ *  set otherwise. Or answers CAMXPT_E_MEMORY. */
+CAMXPT_NODISCARD static inline camxpt_code camxpt_recording(const camxpt_config *c, const camxpt_span *unit, uint32_t rounds,
+                                                            const camxpt_cap *caps, size_t cap_count,
+                                                            const camxpt_request *requests, size_t request_count,
+                                                            void *buffer, size_t room, size_t *needed, size_t *wrong)
+{
+    static const camxpt_weight no_weight = {0, 0};
+    static const uint32_t no_number = 0;
+    static const camxpt_adapter no_adapter = {0, 0};
+    static const camxpt_device no_device = {0, 0, 0, 0};
+    static const camxpt_span no_span = {0, 0};
+    static const camxpt_cap no_cap = {0, 0, 0, 0, 0};
+    static const camxpt_request no_request = {0, 0, 0, 0, 0, 0};
+    uint8_t no_byte = 0;
+
+    if (!c || !needed || !wrong || (!c->weights && c->weight_count) || (!c->links && c->link_count) ||
+        (!c->adapters && c->adapter_count) || (!c->devices && c->device_count) || (!caps && cap_count) ||
+        (!requests && request_count) || (!buffer && room))
+        return CAMXPT_E_NULL;
+    return camxpt_raw_recording(c->weights ? c->weights : &no_weight, c->weight_count, c->links ? c->links : &no_number,
+                                c->link_count, c->adapters ? c->adapters : &no_adapter, c->adapter_count,
+                                c->devices ? c->devices : &no_device, c->device_count, unit ? unit : &no_span, rounds,
+                                caps ? caps : &no_cap, cap_count, requests ? requests : &no_request, request_count,
+                                buffer ? (uint8_t *)buffer : &no_byte, room, needed, wrong);
 }
 
 #ifdef __cplusplus

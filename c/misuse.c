@@ -45,7 +45,7 @@ void __wrap_free(void *old)
     __real_free(old);
 }
 
-enum { LEAST = -8, MOST = 55 };
+enum { LEAST = -12, MOST = 71 };
 
 static unsigned checks;
 static bool reached[MOST - LEAST + 1];
@@ -116,7 +116,7 @@ static void handles(void)
 /* Each call on a closed handle. */
 static void closed(void)
 {
-    camxpt x = CAMXPT_INIT;
+    camxpt x = CAMXPT_INIT, y = CAMXPT_INIT;
     camxpt_command command = {1, 2, 3, 4, 5};
     camxpt_completion done = {1, 2};
     camxpt_case found = {1, 2};
@@ -145,6 +145,7 @@ static void closed(void)
     DUE(camxpt_refusal(&x, &event), CAMXPT_E_CLOSED);
     DUE(camxpt_events(&x, 0, &event, 1, &size), CAMXPT_E_CLOSED);
     DUE(camxpt_trace(&x, text, sizeof text, &size), CAMXPT_E_CLOSED);
+    DUE(camxpt_carry(&x, &y, &most, &n, 1, &size), CAMXPT_E_CLOSED);
     /* the library's own tests, behind those of the header */
     DUE(camxpt_raw_submit(&x.raw_, 1, 0, 0, 0, false, false, &n), CAMXPT_E_CLOSED);
     DUE(camxpt_raw_send_next(&x.raw_, 0, &command), CAMXPT_E_CLOSED);
@@ -157,6 +158,7 @@ static void closed(void)
     DUE(camxpt_raw_refusal(&x.raw_, &event), CAMXPT_E_CLOSED);
     DUE(camxpt_raw_events(&x.raw_, 0, &event, 1, &size), CAMXPT_E_CLOSED);
     DUE(camxpt_raw_trace(&x.raw_, (uint8_t *)text, sizeof text, &size), CAMXPT_E_CLOSED);
+    DUE(camxpt_raw_carry(&x.raw_, &y.raw_, &most, &n, 1, &size), CAMXPT_E_CLOSED);
     event.kind = 0;
     DUE(camxpt_raw_take(&x.raw_, &event), CAMXPT_E_CLOSED);
     DUE(camxpt_raw_refusal(&x.raw_, &event), CAMXPT_E_CLOSED);
@@ -170,9 +172,10 @@ static void closed(void)
 /* Null in the place of each pointer of an open handle's calls. */
 static void nulls(void)
 {
-    camxpt x = CAMXPT_INIT;
+    camxpt x = CAMXPT_INIT, y = CAMXPT_INIT;
     camxpt_event event;
     size_t size = 9;
+    uint32_t n = 0;
 
     DUE(camxpt_open(&x, NULL, 1, two_disks, 2, one_lane, 1, &most), CAMXPT_E_NULL);
     DUE(camxpt_open(&x, one_adapter, 1, NULL, 2, one_lane, 1, &most), CAMXPT_E_NULL);
@@ -191,6 +194,11 @@ static void nulls(void)
     DUE(camxpt_events(&x, 0, &event, 1, NULL), CAMXPT_E_NULL);
     DUE(camxpt_trace(&x, NULL, 3, &size), CAMXPT_E_NULL);
     DUE(camxpt_trace(&x, &event, 3, NULL), CAMXPT_E_NULL);
+    DUE(camxpt_carry(NULL, &y, &most, &n, 1, &size), CAMXPT_E_NULL);
+    DUE(camxpt_carry(&x, NULL, &most, &n, 1, &size), CAMXPT_E_NULL);
+    DUE(camxpt_carry(&x, &y, NULL, &n, 1, &size), CAMXPT_E_NULL);
+    DUE(camxpt_carry(&x, &y, &most, NULL, 1, &size), CAMXPT_E_NULL);
+    DUE(camxpt_carry(&x, &y, &most, &n, 1, NULL), CAMXPT_E_NULL);
     DUE(camxpt_events(&x, 0, NULL, 0, &size), CAMXPT_OK);
     HOLDS(size == 0);
     DUE(camxpt_close(&x), CAMXPT_OK);
@@ -472,7 +480,195 @@ static void events(void)
     HOLDS(blocks == 0);
 }
 
-/* Each request for memory of the opening and of a trace is refused in turn. */
+/* What a carry is refused for, and what it gives. */
+static void carries(void)
+{
+    static const camxpt_limits few_ccbs = {2, 512, 4096, 65535}, one_round = {1024, 1, 4096, 65535};
+    static const camxpt_limits few_stays = {1024, 512, 2, 65535}, few_events = {1024, 512, 4096, 3}, none = {0, 1, 1, 1};
+    camxpt x = CAMXPT_INIT, y = CAMXPT_INIT, copy;
+    camxpt_command command = {0, 0, 0, 0, 0};
+    camxpt_completion done = {0, 0};
+    camxpt_counts counts = {0, 0, 0, 0, 0, 0};
+    camxpt_event told[8];
+    uint32_t numbers[4] = {9, 9, 9, 9}, n = 0;
+    size_t count = 77;
+
+    DUE(open_small(&x, &most), CAMXPT_OK);
+    DUE(camxpt_carry(&x, &x, &most, numbers, 4, &count), CAMXPT_E_OPEN);
+    DUE(open_small(&y, &most), CAMXPT_OK);
+    DUE(camxpt_carry(&x, &y, &most, numbers, 4, &count), CAMXPT_E_OPEN);
+    DUE(camxpt_raw_carry(&x.raw_, &y.raw_, &most, numbers, 4, &count), CAMXPT_E_OPEN);
+    copy = y;
+    DUE(camxpt_carry(&x, &copy, &most, numbers, 4, &count), CAMXPT_E_COPIED);
+    DUE(camxpt_carry(&copy, &y, &most, numbers, 4, &count), CAMXPT_E_COPIED);
+    DUE(camxpt_close(&y), CAMXPT_OK);
+    DUE(camxpt_carry(&x, &y, &none, numbers, 4, &count), CAMXPT_E_LIMIT);
+    for (uint32_t disk = 0; disk < 2; disk++)
+        DUE(submit(&x, disk, &n), CAMXPT_OK);
+    DUE(camxpt_submit(&x, 1, 1, 128, 3, false, true, &n), CAMXPT_OK);
+    DUE(submit(&x, 0, &n), CAMXPT_OK);
+    DUE(camxpt_send_next(&x, 0, &command), CAMXPT_OK);
+    DUE(camxpt_carry(&x, &y, &most, numbers, 4, &count), CAMXPT_IN_FLIGHT);
+    DUE(camxpt_done(&x, 2, CAM_BUSY, 0, NULL, 0, &done), CAMXPT_OK);
+    HOLDS(command.ccb == 2 && done.class_ == CAMXPT_COUNTED_REQUEUE);
+    DUE(camxpt_carry(&x, &y, &most, numbers, 4, &count), CAMXPT_UNDECIDED);
+    DUE(camxpt_requeue(&x, 2), CAMXPT_OK);
+    DUE(camxpt_send_next(&x, 0, &command), CAMXPT_OK);
+    DUE(camxpt_done(&x, 0, CAM_REQ_CMP, 0, NULL, 0, &done), CAMXPT_OK);
+    DUE(camxpt_adjust(&x, 0, 7), CAMXPT_OK);
+    DUE(camxpt_freeze_dev(&x, 1, 2), CAMXPT_OK);
+    DUE(camxpt_freeze_sim(&x, 0, 1), CAMXPT_OK);
+    DUE(camxpt_carry(&x, &y, &few_ccbs, numbers, 4, &count), CAMXPT_CCB_FULL);
+    DUE(camxpt_carry(&x, &y, &one_round, numbers, 4, &count), CAMXPT_ROUNDS_FULL);
+    DUE(camxpt_carry(&x, &y, &few_stays, numbers, 4, &count), CAMXPT_STAYS_FULL);
+    DUE(camxpt_carry(&x, &y, &few_events, numbers, 4, &count), CAMXPT_HISTORY_FULL);
+    HOLDS(count == 77);
+    DUE(camxpt_carry(&x, &y, &most, numbers, 2, &count), CAMXPT_E_SPACE);
+    HOLDS(count == 3 && numbers[0] == 9 && numbers[1] == 9);
+    DUE(camxpt_carry(&x, &y, &most, NULL, 0, &count), CAMXPT_E_SPACE);
+    DUE(camxpt_tick(&y, &n), CAMXPT_E_CLOSED);
+    DUE(camxpt_carry(&x, &y, &most, numbers, 4, &count), CAMXPT_OK);
+    HOLDS(count == 3 && numbers[0] == 2 && numbers[1] == 1 && numbers[2] == 3 && numbers[3] == 9);
+    DUE(camxpt_look(&y, &counts), CAMXPT_OK);
+    HOLDS(counts.length == 7 && counts.round == 2 && counts.in_flight == 0 && counts.cases == 0 && counts.waiting == 3);
+    DUE(camxpt_events(&y, 0, told, 8, &count), CAMXPT_OK);
+    HOLDS(told[0].kind == CAMXPT_ADJUST && told[0].device == 0 && told[0].openings == 7 && told[1].kind == CAMXPT_TICK);
+    HOLDS(told[2].kind == CAMXPT_FREEZE_DEV && told[2].device == 1 && told[2].count == 2);
+    HOLDS(told[3].kind == CAMXPT_FREEZE_SIM && told[3].sim == 0 && told[3].count == 1);
+    HOLDS(told[4].kind == CAMXPT_SUBMIT && told[4].device == 1 && told[4].priority == 128 && told[4].retries == 2);
+    HOLDS(told[4].driver == 1 && told[4].qfreeze == 0 && told[4].qfrzdis == 1);
+    HOLDS(told[5].kind == CAMXPT_SUBMIT && told[5].device == 1 && told[5].priority == 1152 && told[5].retries == 3);
+    HOLDS(told[6].kind == CAMXPT_SUBMIT && told[6].device == 0 && told[6].priority == 1152 && told[6].retries == 3);
+    /* the old one is as it was */
+    DUE(camxpt_look(&x, &counts), CAMXPT_OK);
+    HOLDS(counts.length == 12 && counts.round == 1 && counts.waiting == 3);
+    DUE(camxpt_tick(&x, &n), CAMXPT_OK);
+    DUE(camxpt_close(&x), CAMXPT_OK);
+    DUE(camxpt_close(&y), CAMXPT_OK);
+    HOLDS(blocks == 0);
+}
+
+static const camxpt_weight standard[] = CAMXPT_STANDARD_WEIGHTS;
+static const camxpt_adapter linked[] = {{2, 0}};
+static const uint32_t narrow[] = {1};
+/* There are no lanes, and they aren't read. */
+static const camxpt_config shelf = {standard, 5, narrow, 1, linked, 1, two_disks, 2, NULL, 9};
+
+/* Two caps and two requests. */
+struct recording {
+    camxpt_span unit;
+    uint32_t rounds;
+    camxpt_cap caps[2];
+    camxpt_request requests[2];
+};
+
+static const struct recording plain = {
+    {5, CAMXPT_MILLISECONDS},
+    3,
+    {{CAMXPT_CAP_DEVICE, 1, 1, 2, 1}, {CAMXPT_CAP_ADAPTER, 0, 2, 3, 1}},
+    {{1, 1152, 1, 2, 1, 7}, {0, 896, 1, CAMXPT_NO_LAST, 3, 201}},
+};
+static const char plain_text[] = "camrecord1,a,b,c,d,e,f,g\nunit,5,ms,,,,,\nrounds,3,,,,,,\n"
+                                 "weight,255,16,,,,,\nweight,511,8,,,,,\nweight,767,4,,,,,\n"
+                                 "weight,1023,2,,,,,\nweight,1279,1,,,,,\n"
+                                 "link,1,,,,,,\nsim,2,0,,,,,\ndev,0,0,0,1,,,\ndev,0,1,0,1,,,\n"
+                                 "cap,dev,1,1,2,1,,\ncap,sim,0,2,3,1,,\n"
+                                 "request,7,1,1152,1,2,1,\nrequest,201,0,896,1,,3,\n";
+
+static camxpt_code write_recording(const struct recording *r, char *text, size_t room, size_t *needed, size_t *wrong)
+{
+    return camxpt_recording(&shelf, &r->unit, r->rounds, r->caps, 2, r->requests, 2, text, room, needed, wrong);
+}
+
+enum { NO_NUMBER = 99 };
+
+/* One that isn't a recording gives nothing but the number of its wrong cap or request, if one of them is wrong. */
+static void wrong_recording(const struct recording *r, camxpt_code wanted, size_t number, int line)
+{
+    char text[4] = "abc";
+    size_t needed = 77, wrong = NO_NUMBER;
+
+    due(write_recording(r, text, sizeof text, &needed, &wrong), wanted, line);
+    holds(needed == 77 && wrong == number && strcmp(text, "abc") == 0 && blocks == 0, line);
+}
+
+#define WRONG(change, wanted, number)                      \
+    do {                                                   \
+        struct recording r = plain;                        \
+        change;                                            \
+        wrong_recording(&r, (wanted), (number), __LINE__); \
+    } while (0)
+
+/* What may be wrong with a recording, by the first that is. */
+static void wrong_recordings(void)
+{
+    static camxpt_request many[1048577];
+    camxpt_config c = shelf;
+    size_t needed = 77, wrong = NO_NUMBER;
+
+    WRONG(r.unit.unit = 4; r.rounds = 0, CAMXPT_E_UNIT, NO_NUMBER);
+    WRONG(r.rounds = 0; r.caps[0].kind = 3, CAMXPT_E_ROUNDS, NO_NUMBER);
+    WRONG(r.rounds = 65536, CAMXPT_E_ROUNDS, NO_NUMBER);
+    WRONG(r.caps[0].kind = 3; r.caps[1].kind = 3; r.requests[0].device = 2, CAMXPT_E_CAP, 0);
+    WRONG(r.caps[1].kind = 3, CAMXPT_E_CAP, 1);
+    WRONG(r.caps[0].number = 2, CAMXPT_E_CAP, 0);
+    WRONG(r.caps[1].number = 1, CAMXPT_E_CAP, 1);
+    WRONG(r.caps[1].kind = CAMXPT_CAP_LINK; r.caps[1].number = 1, CAMXPT_E_CAP, 1);
+    WRONG(r.caps[0].first = 0, CAMXPT_E_CAP, 0);
+    WRONG(r.caps[0].first = 3, CAMXPT_E_CAP, 0);
+    WRONG(r.caps[0].last = 4, CAMXPT_E_CAP, 0);
+    WRONG(r.caps[0].most = 65536, CAMXPT_E_CAP, 0);
+    WRONG(r.caps[1] = r.caps[0], CAMXPT_E_CAP, 1);
+    WRONG(r.caps[0] = plain.caps[1]; r.caps[1] = plain.caps[0], CAMXPT_E_CAP, 1);
+    WRONG(r.requests[1].device = 2, CAMXPT_CAUSE_NO_DEVICE, 1);
+    WRONG(r.requests[0].priority = 1280; r.requests[1].device = 2, CAMXPT_CAUSE_BAD_PRIORITY, 0);
+    WRONG(r.requests[0].arrival = 0, CAMXPT_CAUSE_BAD_WINDOW, 0);
+    WRONG(r.requests[0].last = 4, CAMXPT_CAUSE_BAD_WINDOW, 0);
+    WRONG(r.requests[1].arrival = 4, CAMXPT_CAUSE_BAD_WINDOW, 1);
+    WRONG(r.requests[1].arrival = 2; r.requests[1].start = 1, CAMXPT_CAUSE_EARLY, 1);
+    WRONG(r.requests[0].start = 3, CAMXPT_CAUSE_LATE, 0);
+    WRONG(r.requests[1].start = 4, CAMXPT_CAUSE_LATE, 1);
+    WRONG(r.requests[1] = r.requests[0], CAMXPT_CAUSE_DEVICE_FULL, 1);
+    WRONG(r.requests[0].start = 2; r.requests[1].start = 2, CAMXPT_CAUSE_ADAPTER_FULL, 1);
+    WRONG(r.requests[1].start = 1, CAMXPT_CAUSE_LINK_FULL, 1);
+    DUE(camxpt_recording(&c, NULL, 1, NULL, 0, many, 1048577, NULL, 0, &needed, &wrong), CAMXPT_E_REQUESTS);
+    c.adapter_count = 0;
+    DUE(camxpt_recording(&c, NULL, 1, NULL, 0, many, 1048577, NULL, 0, &needed, &wrong), CAMXPT_E_REQUESTS);
+    DUE(camxpt_recording(&c, NULL, 1, plain.caps, 1, NULL, 0, NULL, 0, &needed, &wrong), CAMXPT_FAULT_NO_ADAPTERS);
+    HOLDS(needed == 77 && wrong == NO_NUMBER && blocks == 0);
+}
+
+/* What a recording is. */
+static void recordings(void)
+{
+    static char text[1024];
+    const struct recording *r = &plain;
+    camxpt_config c = shelf;
+    size_t needed = 77, wrong = NO_NUMBER;
+    static const char short_text[] = "camrecord1,a,b,c,d,e,f,g\nrounds,65535,,,,,,\nweight,";
+
+    DUE(camxpt_recording(NULL, NULL, 1, NULL, 0, NULL, 0, text, 9, &needed, &wrong), CAMXPT_E_NULL);
+    DUE(camxpt_recording(&c, NULL, 1, NULL, 1, NULL, 0, text, 9, &needed, &wrong), CAMXPT_E_NULL);
+    DUE(camxpt_recording(&c, NULL, 1, NULL, 0, NULL, 1, text, 9, &needed, &wrong), CAMXPT_E_NULL);
+    DUE(camxpt_recording(&c, NULL, 1, NULL, 0, NULL, 0, NULL, 9, &needed, &wrong), CAMXPT_E_NULL);
+    DUE(camxpt_recording(&c, NULL, 1, NULL, 0, NULL, 0, text, 9, NULL, &wrong), CAMXPT_E_NULL);
+    DUE(camxpt_recording(&c, NULL, 1, NULL, 0, NULL, 0, text, 9, &needed, NULL), CAMXPT_E_NULL);
+    c.devices = NULL;
+    DUE(camxpt_recording(&c, NULL, 1, NULL, 0, NULL, 0, text, 9, &needed, &wrong), CAMXPT_E_NULL);
+    HOLDS(needed == 77);
+    DUE(write_recording(r, NULL, 0, &needed, &wrong), CAMXPT_E_SPACE);
+    HOLDS(needed == sizeof plain_text - 1);
+    memset(text, 'x', sizeof text);
+    DUE(write_recording(r, text, needed - 1, &needed, &wrong), CAMXPT_E_SPACE);
+    HOLDS(needed == sizeof plain_text - 1 && text[0] == 'x');
+    DUE(write_recording(r, text, needed, &needed, &wrong), CAMXPT_OK);
+    HOLDS(needed == sizeof plain_text - 1 && memcmp(text, plain_text, needed) == 0 && text[needed] == 'x');
+    c.device_count = 0;
+    DUE(camxpt_recording(&c, NULL, 65535, NULL, 0, NULL, 0, text, sizeof text, &needed, &wrong), CAMXPT_OK);
+    HOLDS(memcmp(text, short_text, sizeof short_text - 1) == 0 && wrong == NO_NUMBER && blocks == 0);
+}
+
+/* Each request for memory of the opening, of a trace, of a carry and of a recording is refused in turn. */
 static void memory(void)
 {
     static const camxpt_weight weights[] = CAMXPT_STANDARD_WEIGHTS;
@@ -480,10 +676,11 @@ static void memory(void)
     static const uint32_t links[] = {255};
     static const camxpt_config c = {weights, 5, links, 1, on_link, 1, two_disks, 2, one_lane, 1};
     static char text[4096];
-    camxpt x = CAMXPT_INIT;
+    camxpt x = CAMXPT_INIT, y = CAMXPT_INIT;
     camxpt_code code;
-    size_t needed = 5;
-    long counts[3] = {0, 0, 0}, before;
+    size_t needed = 5, wrong = 5;
+    uint32_t n = 5;
+    long counts[5] = {0, 0, 0, 0, 0}, before;
 
     for (int linked = 0; linked < 2; linked++) {
         do {
@@ -508,9 +705,34 @@ static void memory(void)
         HOLDS(blocks == before && (code == CAMXPT_OK || (needed == 5 && text[0] == 'x')));
         counts[2]++;
     } while (code != CAMXPT_OK);
+    DUE(submit(&x, 0, &n), CAMXPT_OK);
+    n = 5;
+    do {
+        granted = counts[3];
+        needed = 5;
+        code = camxpt_carry(&x, &y, &most, &n, 1, &needed);
+        granted = -1;
+        DUE(code, code == CAMXPT_OK ? CAMXPT_OK : CAMXPT_E_MEMORY);
+        HOLDS(code == CAMXPT_OK || (blocks == before && needed == 5 && n == 5));
+        counts[3]++;
+    } while (code != CAMXPT_OK);
+    DUE(camxpt_close(&y), CAMXPT_OK);
     DUE(camxpt_close(&x), CAMXPT_OK);
-    HOLDS(blocks == 0 && counts[0] > 1 && counts[1] > 1 && counts[2] > 1);
-    printf("requests for memory: %ld to open, %ld with links, %ld for a trace\n", counts[0] - 1, counts[1] - 1, counts[2] - 1);
+    HOLDS(blocks == 0);
+    do {
+        granted = counts[4];
+        needed = 5;
+        text[0] = 'x';
+        code = write_recording(&plain, text, sizeof text, &needed, &wrong);
+        granted = -1;
+        DUE(code, code == CAMXPT_OK ? CAMXPT_OK : CAMXPT_E_MEMORY);
+        HOLDS(blocks == 0 && wrong == 5 && (code == CAMXPT_OK || (needed == 5 && text[0] == 'x')));
+        counts[4]++;
+    } while (code != CAMXPT_OK);
+    for (int k = 0; k < 5; k++)
+        HOLDS(counts[k] > 1);
+    printf("requests for memory: %ld to open, %ld with links, %ld for a trace, %ld to carry, %ld for a recording\n",
+           counts[0] - 1, counts[1] - 1, counts[2] - 1, counts[3] - 1, counts[4] - 1);
 }
 
 int main(void)
@@ -522,6 +744,9 @@ int main(void)
     refusals();
     sends();
     events();
+    carries();
+    wrong_recordings();
+    recordings();
     memory();
     for (camxpt_code code = LEAST; code <= MOST; code++)
         if (strcmp(camxpt_code_name(code), "Unknown") != 0 && !reached[code - LEAST]) {

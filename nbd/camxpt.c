@@ -142,19 +142,20 @@ static int config_complete(void)
 /* ---- the transport, under the lock -------------------------------------------------------------------------------------- */
 
 struct request {
-    struct request *next; /* among those that wait, in the order in which they came */
     pthread_cond_t turn;
-    uint32_t ccb, arrival, sent, retries;
+    uint32_t ccb, arrival, sent;
     unsigned driver;
     bool is_sent;
 };
 
 static pthread_mutex_t lock = PTHREAD_MUTEX_INITIALIZER;
-static pthread_cond_t room = PTHREAD_COND_INITIALIZER;
-static camxpt xpt = CAMXPT_INIT;
-static struct request *by_ccb[MOST_STAYS], *waiting, **waiting_end = &waiting;
-static uint32_t ended_rounds, stays, alive, in_flight, served;
-static bool is_late, is_renewed;
+static pthread_cond_t room = PTHREAD_COND_INITIALIZER, renewed = PTHREAD_COND_INITIALIZER;
+/* The transport, and the handle of the one after it. */
+static camxpt handles[2] = { CAMXPT_INIT, CAMXPT_INIT }, *xpt = &handles[0];
+static struct request *by_ccb[MOST_STAYS];
+/* Round r of the transport is round skipped + r of all. Late are the requests that wait for a fresh transport. */
+static uint32_t skipped, stays, alive, late, served;
+static bool is_renewed;
 static int disk = -1;
 
 /* What is recorded of each try. */
@@ -178,83 +179,70 @@ static void expect(camxpt_code code, const char *call)
 static camxpt_counts counts(void)
 {
     camxpt_counts counts = { 0, 0, 0, 0, 0, 0 };
-    expect(camxpt_look(&xpt, &counts), "camxpt_look");
+    expect(camxpt_look(xpt, &counts), "camxpt_look");
     return counts;
 }
 
 /* The round, over all transports. */
 static uint32_t round_now(void)
 {
-    return ended_rounds + counts().round;
+    return skipped + counts().round;
 }
+
+static bool is_late(void)
+{
+    return stays > LATE_STAYS || counts().length > LATE_EVENTS;
+}
+
+static const camxpt_limits limits = CAMXPT_MOST;
 
 static void open_transport(void)
 {
     const uint32_t adapters[] = { host }, lanes[] = { 0 };
     const camxpt_device devices[] = { { 0, 0, 0, openings } };
-    const camxpt_limits limits = CAMXPT_MOST;
-    expect(camxpt_open(&xpt, adapters, 1, devices, 1, lanes, 1, &limits), "camxpt_open");
-    stays = 0;
-    is_late = false;
+    expect(camxpt_open(xpt, adapters, 1, devices, 1, lanes, 1, &limits), "camxpt_open");
 }
 
-static void enqueue(struct request *request)
-{
-    request->next = NULL;
-    *waiting_end = request;
-    waiting_end = &request->next;
-}
-
-static void dequeue(struct request *request)
-{
-    struct request **at = &waiting;
-    while (*at != request)
-        at = &(*at)->next;
-    *at = request->next;
-    if (!*at)
-        waiting_end = at;
-}
-
-static void submit(struct request *request)
-{
-    uint32_t priority = drivers[request->driver].priority;
-    expect(camxpt_submit(&xpt, (uint8_t)request->driver, 0, priority, request->retries, false, false, &request->ccb), "camxpt_submit");
-    by_ccb[request->ccb] = request;
-    stays++;
-}
-
-/* Opens a fresh transport at the end of a round, and submits what waits, in its order. */
+/* Opens the next round in a fresh transport, with what waits. */
 static void renew(void)
 {
-    ended_rounds += counts().round;
-    expect(camxpt_close(&xpt), "camxpt_close");
+    static uint32_t numbers[MOST_CCBS];
+    static struct request *old[MOST_STAYS];
+    camxpt *fresh = xpt == &handles[0] ? &handles[1] : &handles[0];
+    size_t count = 0;
+    /* The fresh one's round 2 comes after this one's last. */
+    skipped += counts().round - 1;
+    expect(camxpt_carry(xpt, fresh, &limits, numbers, MOST_CCBS, &count), "camxpt_carry");
+    expect(camxpt_close(xpt), "camxpt_close");
+    xpt = fresh;
+    memcpy(old, by_ccb, sizeof old);
+    for (uint32_t ccb = 0; ccb < count; ccb++) {
+        by_ccb[ccb] = old[numbers[ccb]];
+        by_ccb[ccb]->ccb = ccb;
+    }
+    stays = (uint32_t)count;
     is_renewed = true;
-    open_transport();
-    for (struct request *request = waiting; request; request = request->next)
-        submit(request);
+    pthread_cond_broadcast(&renewed);
 }
 
 /* Sends what can be sent, and opens rounds while something waits that no command in flight holds up. */
 static void pump(void)
 {
     for (;;) {
-        camxpt_command command;
-        if (!is_late && camxpt_send_next(&xpt, 0, &command) == CAMXPT_OK) {
+        camxpt_command command = { 0, 0, 0, 0, 0 };
+        uint32_t round = 0;
+        while (!is_late() && camxpt_send_next(xpt, 0, &command) == CAMXPT_OK) {
             struct request *request = by_ccb[command.ccb];
             request->is_sent = true;
             request->sent = round_now();
-            dequeue(request);
-            in_flight++;
             pthread_cond_signal(&request->turn);
-            continue;
         }
-        if (in_flight > 0 || !waiting)
+        if (counts().in_flight > 0 || (counts().waiting == 0 && !(is_late() && late > 0)))
             return;
-        uint32_t round = 0;
-        if (is_late || counts().round == MOST_ROUNDS)
+        if (is_late() || counts().round == MOST_ROUNDS)
             renew();
         else
-            expect(camxpt_tick(&xpt, &round), "camxpt_tick");
+            expect(camxpt_tick(xpt, &round), "camxpt_tick");
     }
 }
 
@@ -286,22 +274,19 @@ static enum outcome done(struct request *request, uint8_t status)
 {
     camxpt_completion completion = { 0, 0 };
     uint32_t round = round_now();
-    in_flight--;
-    expect(camxpt_done(&xpt, request->ccb, status, 0, NULL, 0, &completion), "camxpt_done");
+    expect(camxpt_done(xpt, request->ccb, status, 0, NULL, 0, &completion), "camxpt_done");
     if (CAMXPT_ASKS_REQUEUE(completion.class_)) {
-        expect(camxpt_requeue(&xpt, request->ccb), "camxpt_requeue");
+        expect(camxpt_requeue(xpt, request->ccb), "camxpt_requeue");
         record(request, round);
         stays++;
-        request->retries -= completion.class_ == CAMXPT_COUNTED_REQUEUE;
         request->arrival = round + 1;
         request->is_sent = false;
-        enqueue(request);
         return AGAIN;
     }
     record(request, 0);
     if (completion.class_ == CAMXPT_COMPLETE)
         return COMPLETE;
-    expect(camxpt_finish(&xpt, request->ccb), "camxpt_finish");
+    expect(camxpt_finish(xpt, request->ccb), "camxpt_finish");
     return FAILED;
 }
 
@@ -350,10 +335,17 @@ static void enter(struct request *request)
         pthread_cond_wait(&room, &lock);
     alive++;
     request->arrival = round_now();
-    is_late = is_late || stays > LATE_STAYS || counts().length > LATE_EVENTS;
-    enqueue(request);
-    if (!is_late)
-        submit(request);
+    if (is_late()) {
+        late++;
+        pump();
+        while (is_late())
+            pthread_cond_wait(&renewed, &lock);
+        late--;
+    }
+    uint32_t priority = drivers[request->driver].priority;
+    expect(camxpt_submit(xpt, (uint8_t)request->driver, 0, priority, RETRIES, false, false, &request->ccb), "camxpt_submit");
+    by_ccb[request->ccb] = request;
+    stays++;
     pump();
 }
 
@@ -366,7 +358,7 @@ static void leave(void)
 /* Serves the job once its request was sent, and again if it was busy: 0, or -1 with an error. */
 static int go_through(void *handle, const struct job *job)
 {
-    struct request request = { .driver = *(unsigned *)handle, .retries = RETRIES };
+    struct request request = { .driver = *(unsigned *)handle };
     enum outcome outcome = AGAIN;
     int error = 0;
     pthread_cond_init(&request.turn, NULL);
@@ -494,9 +486,9 @@ static void put_recording(FILE *out)
 static void put_trace(FILE *out)
 {
     size_t needed = 0;
-    camxpt_code code = camxpt_trace(&xpt, NULL, 0, &needed);
+    camxpt_code code = camxpt_trace(xpt, NULL, 0, &needed);
     char *text = code == CAMXPT_E_SPACE ? malloc(needed) : NULL;
-    if (text && camxpt_trace(&xpt, text, needed, &needed) == CAMXPT_OK)
+    if (text && camxpt_trace(xpt, text, needed, &needed) == CAMXPT_OK)
         fwrite(text, 1, needed, out);
     else
         nbdkit_error("the trace: no memory");
@@ -521,7 +513,7 @@ static void unload(void)
             nbdkit_error("%s: not written, since there were more events than a trace has", trace);
         else if (trace)
             put_file(trace, put_trace);
-        (void)camxpt_close(&xpt);
+        (void)camxpt_close(xpt);
         close(disk);
     }
     for (unsigned k = 0; k < driver_count; k++)

@@ -4,6 +4,8 @@ use Rattle.std.proofs.lemmas.List.Elements.{All-from_get_or}
 use Rattle.audit_report.specs.Words.{Topology, MOST_NET_STAYS, MOST_NET_ROUNDS, MOST_WEIGHT, unsent, live_cost, Event, Stay, NetRows, instance_of_rows, live_of_rows, Instance, IsSound, IsAdmissible, cost, ProvesBest, instance_of, live_of, pricing_of_rows, IsPriced, IsPricingFor, IsBest, report_text, summary_text, plan_text, live_cost_of, most_bytes, Claim, history_rules}
 use Rattle.round_net.specs.declared.price_range.TheConstants.{MOST_PRICE}
 use Rattle.price_check.specs.Forms.{most_number}
+use Rattle.cost_plan.specs.InTurn.{TakesTurns}
+use Rattle.cost_plan.specs.Ties.{KeepsLive}
 use Rattle.event_rules.proofs.LiveLemmas.{live_cost_sent}
 use Rattle.event_rules.proofs.LawLemmas.{sends_stand_free}
 use Rattle.price_check.proofs.DualityLemmas.{best_where_proved}
@@ -43,6 +45,8 @@ pub record IsBestClaim (summary : Bool) (text : List ℕ) (n : NetRows) (live : 
   pub cells : IsPricingFor (instance_of_rows n) claim.prices
   pub priced : IsPriced claim.prices
   pub proved : ProvesBest (instance_of_rows n) (slice_index claim.schedule) (pricing_of_rows claim.prices)
+  pub keeps : KeepsLive (instance_of_rows n) (live_of_rows n) (slice_index claim.schedule)
+  pub turns : TakesTurns (instance_of_rows n) (live_of_rows n) (slice_index claim.schedule)
   pub small : live ≤ MOST_NET_STAYS * (MOST_WEIGHT * MOST_NET_ROUNDS)
   pub lived : live ≡ cost (instance_of_rows n) (live_of_rows n)
   pub best : claim.best ≡ cost (instance_of_rows n) (slice_index claim.schedule)
@@ -93,6 +97,8 @@ audited summary i text live claim b sent legal short =
         best = b.best;
         excess = b.excess ∙ ap (λ k. k - claim.best) b.lived ∙ ap (λ k. cost net (live_of_rows n) - k) b.best;
       };
+      live = b.keeps;
+      turns = b.turns;
       least = λ other fits. omega (arith, least other fits, b.best);
       short = short;
       lines = b.made ∙ ap (λ k. summary_text n k claim.best claim.excess ++ (if summary then [] else plan_text n (slice_index claim.schedule) (pricing_of_rows claim.prices))) b.lived ∙ text_cases summary n claim;

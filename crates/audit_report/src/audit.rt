@@ -1,8 +1,10 @@
 //! The audit of a trace or a recording: the report on it, or the report's first seven lines.
 
 ghost use Rattle.std.specs.Prelude.{◌≡◌, ◌≢◌, ℕ, ◌+◌, ◌*◌, ◌≤◌, Bool, true, false, if◌then◌else◌, Option, None, Err, List, [], ◌++◌, length, slice_index, IfOk, IfErr, OnOk};
-ghost use Rattle.audit_report.specs.Words.{device_of, has_failed, is_flushed, unsent, rows, instance_of_rows, pricing_of_rows, IsPricingFor, ProvesBest, net_of, plan_text, WasTrace};
+ghost use Rattle.audit_report.specs.Words.{device_of, has_failed, is_flushed, unsent, rows, instance_of_rows, live_of_rows, pricing_of_rows, IsPricingFor, ProvesBest, net_of, plan_text, WasTrace};
 ghost use Rattle.audit_report.specs.Audit.{IsAudit};
+ghost use Rattle.cost_plan.specs.InTurn.{TakesTurns};
+ghost use Rattle.cost_plan.specs.Ties.{KeepsLive};
 ghost use Rattle.audit_report.specs.Inputs.{net_of_input, unsent_of, IsLegal, WasRead};
 ghost use Rattle.audit_report.specs.Runs.{Ended};
 
@@ -56,6 +58,8 @@ pub fn write_audit<W: Write>(
     requires proved { ProvesBest (instance_of_rows net.now) (slice_index best.now.schedule) (pricing_of_rows best.now.prices) }
     requires stays { length best.now.schedule ≡ (instance_of_rows net.now).stays }
     requires cells { IsPricingFor (instance_of_rows net.now) best.now.prices }
+    requires live { KeepsLive (instance_of_rows net.now) (live_of_rows net.now) (slice_index best.now.schedule) }
+    requires turns { TakesTurns (instance_of_rows net.now) (live_of_rows net.now) (slice_index best.now.schedule) }
     ensures ended { (before after : Option (List ℕ)) (failed : Bool) → WasRead before after input.now → Ended (IsAudit summary) before after failed (W.contents (device_of out.old)) (W.contents (device_of out.new)) (has_failed out.new) result }
     ensures flushed { OnOk result (is_flushed out.new ≡ true) }
     ensures calm { result ≢ Err AuditFault.WriteFailed → has_failed out.new ≡ false }
@@ -78,6 +82,8 @@ fn audit_text(
     requires proved { ProvesBest (instance_of_rows net.now) (slice_index best.now.schedule) (pricing_of_rows best.now.prices) }
     requires stays { length best.now.schedule ≡ (instance_of_rows net.now).stays }
     requires cells { IsPricingFor (instance_of_rows net.now) best.now.prices }
+    requires live { KeepsLive (instance_of_rows net.now) (live_of_rows net.now) (slice_index best.now.schedule) }
+    requires turns { TakesTurns (instance_of_rows net.now) (live_of_rows net.now) (slice_index best.now.schedule) }
     ensures { IfOk result (λ text. (i : Input) → net.now ≡ net_of_input i → unsent_of i ≡ None → IsLegal i → IsAudit summary i text.items) }
 {
     let lines = net.stays() as usize + best.prices.cells();

@@ -27,7 +27,7 @@ pub fn compare<R: Runtime + AllocGlobal + Threads + Sync>(
     on_terminal: bool,
 ) -> Result<ExitCode, Failure> {
     if is_standard_input_twice(words) {
-        return Err(Failure::StandardInputTwice("BEFORE", "AFTER"));
+        return Err(Failure::StandardInputTwice(Argument::Before, Argument::After));
     }
     // If standard input was closed, the next file would get its descriptor and be read in its place. A folder takes it, which
     // can't be read.

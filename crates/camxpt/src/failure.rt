@@ -16,7 +16,7 @@ pub enum Failure {
     /// A word of the command line isn't UTF-8.
     WordNotUtf8,
     /// The files of these two arguments are to be read from standard input, which there is once.
-    StandardInputTwice(&'static str, &'static str),
+    StandardInputTwice(Argument, Argument),
     /// No words are completed for a shell of this name.
     NoShell,
     /// The rounds to be drawn aren't two rounds of which the first is from 1 on and not after the second.
@@ -96,7 +96,12 @@ impl fmt::Display for Failure {
         match self {
             Failure::WordNotUtf8 => f.write_str("a word of the command line isn't UTF-8"),
             Failure::StandardInputTwice(one, other) => {
-                write!(f, "only one of {one} and {other} can be standard input")
+                write!(
+                    f,
+                    "only one of {} and {} can be standard input",
+                    one.word(),
+                    other.word()
+                )
             }
             Failure::NoShell => f.write_str("only bash, zsh and fish complete words"),
             Failure::NoRange => f.write_str("--rounds takes A-B, rounds from A to B, as 412-500"),

@@ -233,7 +233,7 @@ fn over_report<R: Runtime + AllocGlobal + Threads + Sync>(
         Argument::Report.file_name(words),
     );
     if trace == STANDARD_INPUT && report == STANDARD_INPUT {
-        return Err(Failure::StandardInputTwice("TRACE", "REPORT"));
+        return Err(Failure::StandardInputTwice(Argument::Trace, Argument::Report));
     }
     // If standard input was closed, the next file would get its descriptor and be read in its place. A folder takes it, which
     // can't be read.

@@ -28,16 +28,20 @@ pub enum Argument {
 }
 
 impl Argument {
-    /// The name that the words give the file; standard input's if it is left out.
-    pub fn file_name<'a>(self, words: &ArgMatches<'a>) -> &'a str {
-        let argument = match self {
+    /// What it is called in the help.
+    pub fn word(self) -> &'static str {
+        match self {
             Argument::Trace => "TRACE",
             Argument::Report => "REPORT",
             Argument::Script => "SCRIPT",
             Argument::Before => "BEFORE",
             Argument::After => "AFTER",
-        };
-        words.get_str(argument).unwrap_or(STANDARD_INPUT)
+        }
+    }
+
+    /// The name that the words give the file; standard input's if it is left out.
+    pub fn file_name<'a>(self, words: &ArgMatches<'a>) -> &'a str {
+        words.get_str(self.word()).unwrap_or(STANDARD_INPUT)
     }
 }
 

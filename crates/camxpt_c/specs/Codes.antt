@@ -4,6 +4,8 @@ use Rattle.cam_types.specs.declared.config_fault.ConfigFault.{ConfigFault}
 use Rattle.cam_types.specs.declared.config_fault.ConfigFault.TheVariants as faults
 use Rattle.event_rules.specs.declared.refusal.Refusal.{Refusal}
 use Rattle.event_rules.specs.declared.refusal.Refusal.TheVariants as refusals
+use Rattle.recording_file.specs.declared.cause.Cause.{Cause}
+use Rattle.recording_file.specs.declared.cause.Cause.TheVariants as causes
 use Rattle.sense_class.specs.declared.class.Class.{Class}
 use Rattle.sense_class.specs.declared.class.Class.TheVariants as classes
 use Rattle.sense_class.specs.declared.class.Why.TheVariants as failures
@@ -53,6 +55,16 @@ fault_code faults.BadAddress = pos 52
 fault_code faults.DoubleDevice = pos 53
 fault_code faults.BadWeight = pos 54
 fault_code faults.NoLink = pos 55
+
+abbrev pub cause_code : Cause → ℤ
+cause_code causes.NoDevice = pos 64
+cause_code causes.BadPriority = pos 65
+cause_code causes.BadWindow = pos 66
+cause_code causes.Early = pos 67
+cause_code causes.Late = pos 68
+cause_code causes.DeviceFull = pos 69
+cause_code causes.AdapterFull = pos 70
+cause_code causes.LinkFull = pos 71
 
 abbrev pub class_code : Class → ℕ
 class_code classes.Complete = 0

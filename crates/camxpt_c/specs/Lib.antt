@@ -1,8 +1,11 @@
+pub mod Carries
 pub mod Codes
 pub mod Configs
 pub mod EventShapes
 pub mod Events
 pub mod Openings
+pub mod RecordShapes
+pub mod Recordings
 pub mod Said
 pub mod Shapes
 pub mod Tracing

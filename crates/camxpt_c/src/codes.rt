@@ -1,10 +1,11 @@
 //! The numbers that the functions answer.
 
 ghost use Rattle.std.specs.Prelude.{◌≡◌};
-ghost use Rattle.camxpt_c.specs.Codes.{code_of, idle_code, fault_code, class_code};
+ghost use Rattle.camxpt_c.specs.Codes.{code_of, idle_code, fault_code, class_code, cause_code};
 
 use cam_types::ConfigFault;
 use event_rules::Refusal;
+use recording_file::Cause;
 use sense_class::{Class, Why};
 use xpt_state::Idle;
 
@@ -23,8 +24,18 @@ pub const E_SPACE: i32 = -5;
 // -6 and -7, of null pointers and of copied handles, are answered by the header's own functions.
 /// No event is of this kind.
 pub const E_KIND: i32 = -8;
+/// No unit of time is of this number.
+pub const E_UNIT: i32 = -9;
+/// There are no rounds, or more than a recording has.
+pub const E_ROUNDS: i32 = -10;
+/// There are more requests than a recording has.
+pub const E_REQUESTS: i32 = -11;
+/// A cap can't be one of the recording.
+pub const E_CAP: i32 = -12;
 /// There is none.
 pub const NONE: i32 = 36;
+/// CCBs wait for a decision.
+pub const UNDECIDED: i32 = 37;
 
 /// The number of a refusal: 1 to 25, in the order of the list.
 pub fn code_of(why: Refusal) -> i32
@@ -84,6 +95,22 @@ pub fn fault_code(fault: ConfigFault) -> i32
         ConfigFault::DoubleDevice => 53,
         ConfigFault::BadWeight => 54,
         ConfigFault::NoLink => 55,
+    }
+}
+
+/// The number of the cause why a request can't be one of a recording: 64 to 71.
+pub fn cause_code(cause: Cause) -> i32
+    ensures { result ≡ cause_code cause }
+{
+    match cause {
+        Cause::NoDevice => 64,
+        Cause::BadPriority => 65,
+        Cause::BadWindow => 66,
+        Cause::Early => 67,
+        Cause::Late => 68,
+        Cause::DeviceFull => 69,
+        Cause::AdapterFull => 70,
+        Cause::LinkFull => 71,
     }
 }
 

@@ -2,6 +2,7 @@
 #![tactic(auto)]
 
 mod calls;
+mod carrying;
 mod closing;
 mod codes;
 mod configs;
@@ -9,6 +10,10 @@ mod event_shapes;
 mod events;
 mod opening;
 mod questions;
+mod record_fault;
+mod record_shapes;
+mod recording;
+mod recording_items;
 mod sending;
 mod shapes;
 mod tracing;

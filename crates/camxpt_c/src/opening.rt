@@ -66,8 +66,8 @@ pub extern "C" fn camxpt_raw_open_with(
     }
 }
 
-// The limits, if each is in its range.
-fn limits_in(limits: &CamxptLimits) -> Option<Limits>
+/// The limits, if each is in its range.
+pub(crate) fn limits_in(limits: &CamxptLimits) -> Option<Limits>
     ensures { result ≡ limits_in (bounds_of limits.now) }
 {
     match Limits::new(limits.ccbs, limits.rounds, limits.stays, limits.events) {
@@ -93,7 +93,8 @@ fn plain_config(
     }
 }
 
-fn linked_config(
+/// The configuration of these lists.
+pub(crate) fn linked_config(
     alloc: Global,
     weights: &[CamxptWeight],
     links: &[u32],

@@ -38,8 +38,8 @@ pub extern "C" fn camxpt_raw_trace(
     copy_text(&text, buffer)
 }
 
-// Copies the text to the start of the buffer, if there is room.
-fn copy_text(text: &[u8], buffer: &mut [u8]) -> i32
+/// Copies the text to the start of the buffer, if there is room.
+pub(crate) fn copy_text(text: &[u8], buffer: &mut [u8]) -> i32
     ensures { IsCopy text.now buffer.old buffer.new result }
 {
     if text.len() > buffer.len() {

@@ -1,6 +1,6 @@
 //! Adapters planned at once.
 
-use crate::texts::{FROZEN, TWO_ADAPTERS};
+use crate::texts::{FROZEN, SECOND_ADAPTER, TWO_ADAPTERS};
 use cam_types::Watched;
 use cost_plan::{Gate, plan_with};
 use round_net::{Net, cost};
@@ -67,19 +67,24 @@ fn each_adapter_begins_before_the_other_is_planned(rt: HostRuntime) -> Result<()
 }
 
 #[test]
-fn the_gate_is_told_of_the_one_adapter_there_is(rt: HostRuntime) -> Result<(), Fail> {
-    let net = net(rt.alloc(), FROZEN)?;
-    let gate = Meeting::new();
-    let best = plan_with(&rt, rt.alloc(), &net, &gate)?;
-    let here = [
-        gate.here[0].load(Ordering::SeqCst),
-        gate.here[1].load(Ordering::SeqCst),
-    ];
-    let given = (
-        here,
-        gate.gave_up.load(Ordering::SeqCst),
-        cost(&net, &best.schedule),
-    );
-    assert_eq!(rt; given, ([true, false], true, Some(2)));
+fn the_gate_is_told_of_the_one_adapter_that_has_a_stay(rt: HostRuntime) -> Result<(), Fail> {
+    for (trace, told, due) in [
+        (FROZEN, [true, false], 2),
+        (SECOND_ADAPTER, [false, true], 0),
+    ] {
+        let net = net(rt.alloc(), trace)?;
+        let gate = Meeting::new();
+        let best = plan_with(&rt, rt.alloc(), &net, &gate)?;
+        let here = [
+            gate.here[0].load(Ordering::SeqCst),
+            gate.here[1].load(Ordering::SeqCst),
+        ];
+        let given = (
+            here,
+            gate.gave_up.load(Ordering::SeqCst),
+            cost(&net, &best.schedule),
+        );
+        assert_eq!(rt; given, (told, true, Some(due)), "{trace}");
+    }
     Ok(())
 }

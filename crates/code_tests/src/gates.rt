@@ -10,11 +10,12 @@ use std::alloc::Global;
 use std::sync::atomic::{AtomicBool, AtomicU32, Ordering};
 use std::test::Fail;
 
-// How often a gate was told that a part begins; how far the plan by levels was of which it was told last, and whether it was
-// no further than the time before.
+// How often a gate was told that a part begins, and how often of levels; how far the plan by levels was of which it was told
+// last, and whether it was no further than the time before.
 #[derive(Drop)]
 struct Told {
     begun: AtomicU32,
+    levels: AtomicU32,
     far: AtomicU32,
     is_back: AtomicBool,
 }
@@ -23,6 +24,7 @@ impl Told {
     fn nothing() -> Told {
         Told {
             begun: AtomicU32::new(0),
+            levels: AtomicU32::new(0),
             far: AtomicU32::new(0),
             is_back: AtomicBool::new(false),
         }
@@ -32,9 +34,9 @@ impl Told {
         self.begun.load(Ordering::SeqCst)
     }
 
-    // Whether it was told of levels, of each once.
+    // Whether it was told of several levels, of each once.
     fn has_levels(&self) -> bool {
-        self.far.load(Ordering::SeqCst) > 0 && !self.is_back.load(Ordering::SeqCst)
+        self.levels.load(Ordering::SeqCst) > 4 && !self.is_back.load(Ordering::SeqCst)
     }
 }
 
@@ -44,6 +46,7 @@ impl Gate for Told {
     }
 
     fn planned(&self, done: Done) {
+        self.levels.fetch_add(1, Ordering::SeqCst);
         let left = 32u32.saturating_sub(done.levels_left);
         let far = done.planned.saturating_mul(32).saturating_add(left);
         if self.far.swap(far, Ordering::SeqCst) >= far {
@@ -52,19 +55,24 @@ impl Gate for Told {
     }
 }
 
+const LINKED: &str = "link,64,,,,,,\nsim,64,0,,,,,\nsim,64,0,,,,,\n";
+
+const UNLINKED: &str = "sim,48,,,,,,\nsim,48,,,,,,\n";
+
 // The net of a recording of that many requests on eight devices of two adapters on a link, which come in half of the time in
 // which they are sent, and stand from the last one to the first: 64 a round go over the link, in the order in which they come,
-// though each fourth is urgent. In round 1 the link takes none.
-pub(crate) fn net(alloc: Global, requests: u32) -> Result<Net, Fail> {
+// though each fourth is urgent. In round 1 the link takes none. Or there is no link, and each adapter takes 48 a round.
+pub(crate) fn net(alloc: Global, requests: u32, is_linked: bool) -> Result<Net, Fail> {
     let mut text = String::new(alloc);
-    text.push_str(
-        "camrecord1,a,b,c,d,e,f,g\nrounds,128,,,,,,\nlink,64,,,,,,\nsim,64,0,,,,,\nsim,64,0,,,,,\n",
-    )?;
+    text.push_str("camrecord1,a,b,c,d,e,f,g\nrounds,128,,,,,,\n")?;
+    text.push_str(if is_linked { LINKED } else { UNLINKED })?;
     for device in 0..8u32 {
         let adapter = device / 4;
         text.push_str(format!(in alloc; "dev,{adapter},{device},0,16,,,\n")?.as_str())?;
     }
-    text.push_str("cap,link,0,1,1,0,,\n")?;
+    if is_linked {
+        text.push_str("cap,link,0,1,1,0,,\n")?;
+    }
     for number in (0..requests).rev() {
         let (device, priority) = (number % 8, if number % 4 == 0 { 128 } else { 1152 });
         let (arrival, sent) = (number / 128 + 1, number / 64 + 2);
@@ -77,8 +85,13 @@ pub(crate) fn net(alloc: Global, requests: u32) -> Result<Net, Fail> {
 
 #[test]
 fn only_more_than_4096_stays_are_planned_by_levels(rt: HostRuntime) -> Result<(), Fail> {
-    for (requests, parts, is_by_levels) in [(4096, 1, false), (4097, 0, true)] {
-        let net = net(rt.alloc(), requests)?;
+    for (requests, is_linked, parts, is_by_levels) in [
+        (4096, true, 1, false),
+        (4097, true, 0, true),
+        (4096, false, 2, false),
+        (4097, false, 0, true),
+    ] {
+        let net = net(rt.alloc(), requests, is_linked)?;
         let gate = Told::nothing();
         let best = plan_with(&rt, rt.alloc(), &net, &gate)?;
         let given = (net.stays(), gate.parts(), gate.has_levels());

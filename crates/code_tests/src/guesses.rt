@@ -85,7 +85,7 @@ fn a_guess_of_1024_stays_is_best(rt: HostRuntime) -> Result<(), Fail> {
         );
     }
     // Over a link.
-    let net = gates::net(rt.alloc(), 1024)?;
+    let net = gates::net(rt.alloc(), 1024, true)?;
     assert_eq!(rt; guessed(&rt, rt.alloc(), &net)?, (1024, true, true));
     Ok(())
 }

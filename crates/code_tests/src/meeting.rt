@@ -6,11 +6,13 @@ ghost use Rattle.trace_file.specs.Scenarios.{is_answer};
 use crate::scripts::script;
 use crate::telling::Told;
 use cam_types::{Command, Outcome};
-use sim_worker::{Ending, Port, Served, run_live, run_live_with};
+use event_rules::Event;
+use sim_worker::{Ending, LiveFault, Port, Progress, Served, run_live, run_live_with};
 use std::alloc::{AllocError, Global};
 use std::sync::atomic::{AtomicBool, Ordering};
 use std::test::Fail;
 use std::thread;
+use xpt_state::Look;
 
 // How often a port that waits looks whether the other one has begun.
 const MOST_TURNS: u32 = 1_000_000;
@@ -130,7 +132,126 @@ fn who_has_nothing_to_do_sleeps(rt: HostRuntime) -> Result<(), Fail> {
     assert_eq!(rt; (run.ending, busy.gave_up), (Ending::RoundsFull, true));
     // Two rounds opened. One driver rested once, the other one in each of three rounds, and the lane once.
     assert!(rt; told.times() <= 1 + 2 + 5, "{}", told.times());
+    // No round opened before the busy one was done.
+    assert!(rt; !opens_in_flight(run.history.events()));
     // A submit and two ticks woke the idle lane.
     assert!(rt; idle.asked <= 1 + 3, "{}", idle.asked);
+    Ok(())
+}
+
+// Whether a round opens while a command is in flight.
+fn opens_in_flight(events: &[Event]) -> bool {
+    let mut in_flight = 0u32;
+    for event in events {
+        match event {
+            Event::Send { .. } => in_flight = in_flight.saturating_add(1),
+            Event::Done { .. } => in_flight = in_flight.saturating_sub(1),
+            Event::Tick if in_flight > 0 => return true,
+            _ => {}
+        }
+    }
+    false
+}
+
+// Sets a flag once it is told of a command in flight.
+#[derive(Clone, Copy)]
+struct InFlight<'f> {
+    told: &'f AtomicBool,
+}
+
+impl Progress for InFlight<'_> {
+    fn show(&self, look: Look) {
+        if look.in_flight > 0 {
+            self.told.store(true, Ordering::SeqCst);
+        }
+    }
+}
+
+// One lane serves until that was told. The other one is done before, and rests.
+#[test]
+fn a_rest_is_told_while_a_lane_serves(rt: HostRuntime) -> Result<(), Fail> {
+    let alloc = rt.alloc();
+    let script = script(
+        alloc,
+        "sim,1,,,,,,\nsim,1,,,,,,\ndev,0,1,0,1,,,\ndev,1,1,0,1,,,\nlane,0,,,,,,\nlane,1,,,,,,\nsubmit,0,0:1:0,1152,4,none,,\nsubmit,0,1:1:0,1152,4,none,,\n",
+    )?;
+    let (one, other) = (AtomicBool::new(false), AtomicBool::new(false));
+    let told = AtomicBool::new(false);
+    let mut ports = Vec::new(alloc);
+    ports.push(Meeting::new(alloc, &one, &told))?;
+    ports.push(Meeting::new(alloc, &other, &one))?;
+    assert_eq!(rt; script.config().lanes().len(), ports.len());
+    let run = run_live_with(&rt, alloc, &script, ports, &InFlight { told: &told })?;
+    assert_eq!(rt; run.ending, Ending::Drained);
+    for port in &run.ports {
+        assert!(rt; !port.gave_up);
+    }
+    Ok(())
+}
+
+// A port for which there is no memory.
+#[derive(Drop)]
+struct NoRoom {
+    served: Vec<Served>,
+}
+
+impl NoRoom {
+    fn new(alloc: Global) -> NoRoom
+        ensures { result.served.items ≡ [] }
+    {
+        NoRoom {
+            served: Vec::new(alloc),
+        }
+    }
+}
+
+impl Port for NoRoom {
+    ghost list = { λ p. p.served.items };
+
+    ghost room = { λ _. 0 };
+
+    fn make_room(&mut self) -> Result<(), AllocError>
+        ensures list { self.new.served.items ≡ self.old.served.items }
+        ensures room { IfOk result (λ _. 0 < 0) }
+    {
+        Err(AllocError)
+    }
+
+    fn serve(&mut self, command: &Command) -> Outcome
+        requires { 0 < 0 }
+        ensures list { self.new.served.items ≡ self.old.served.items ++ record { command = command.now; outcome = result } ∷ [] }
+        ensures status { IsTrue (is_answer result) }
+    {
+        let outcome = Outcome::of_status(0x01);
+        let given = outcome;
+        self.served.push_reserved(Served {
+            command: *command,
+            outcome,
+        });
+        given
+    }
+
+    fn served(&self) -> &[Served]
+        ensures { result.now ≡ self.now.served.items }
+    {
+        &self.served
+    }
+}
+
+#[test]
+fn a_port_without_memory_ends_the_run_so(rt: HostRuntime) -> Result<(), Fail> {
+    let alloc = rt.alloc();
+    let script = script(
+        alloc,
+        "sim,1,,,,,,\ndev,0,1,0,1,,,\nlane,0,,,,,,\nsubmit,0,0:1:0,1152,4,none,,\n",
+    )?;
+    let mut ports = Vec::new(alloc);
+    ports.push(NoRoom::new(alloc))?;
+    assert_eq!(rt; script.config().lanes().len(), ports.len());
+    let is_due = matches!(
+        run_live(&rt, alloc, &script, ports),
+        Err(LiveFault::OutOfMemory)
+    );
+    assert!(rt; is_due);
     Ok(())
 }

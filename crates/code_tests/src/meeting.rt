@@ -7,7 +7,7 @@ use crate::scripts::script;
 use crate::telling::Told;
 use cam_types::{Command, Outcome};
 use event_rules::Event;
-use sim_worker::{Ending, LiveFault, Port, Progress, Served, run_live, run_live_with};
+use sim_worker::{Ending, Port, Progress, Served, run_live, run_live_with};
 use std::alloc::{AllocError, Global};
 use std::sync::atomic::{AtomicBool, Ordering};
 use std::test::Fail;
@@ -186,72 +186,5 @@ fn a_rest_is_told_while_a_lane_serves(rt: HostRuntime) -> Result<(), Fail> {
     for port in &run.ports {
         assert!(rt; !port.gave_up);
     }
-    Ok(())
-}
-
-// A port for which there is no memory.
-#[derive(Drop)]
-struct NoRoom {
-    served: Vec<Served>,
-}
-
-impl NoRoom {
-    fn new(alloc: Global) -> NoRoom
-        ensures { result.served.items ≡ [] }
-    {
-        NoRoom {
-            served: Vec::new(alloc),
-        }
-    }
-}
-
-impl Port for NoRoom {
-    ghost list = { λ p. p.served.items };
-
-    ghost room = { λ _. 0 };
-
-    fn make_room(&mut self) -> Result<(), AllocError>
-        ensures list { self.new.served.items ≡ self.old.served.items }
-        ensures room { IfOk result (λ _. 0 < 0) }
-    {
-        Err(AllocError)
-    }
-
-    fn serve(&mut self, command: &Command) -> Outcome
-        requires { 0 < 0 }
-        ensures list { self.new.served.items ≡ self.old.served.items ++ record { command = command.now; outcome = result } ∷ [] }
-        ensures status { IsTrue (is_answer result) }
-    {
-        let outcome = Outcome::of_status(0x01);
-        let given = outcome;
-        self.served.push_reserved(Served {
-            command: *command,
-            outcome,
-        });
-        given
-    }
-
-    fn served(&self) -> &[Served]
-        ensures { result.now ≡ self.now.served.items }
-    {
-        &self.served
-    }
-}
-
-#[test]
-fn a_port_without_memory_ends_the_run_so(rt: HostRuntime) -> Result<(), Fail> {
-    let alloc = rt.alloc();
-    let script = script(
-        alloc,
-        "sim,1,,,,,,\ndev,0,1,0,1,,,\nlane,0,,,,,,\nsubmit,0,0:1:0,1152,4,none,,\n",
-    )?;
-    let mut ports = Vec::new(alloc);
-    ports.push(NoRoom::new(alloc))?;
-    assert_eq!(rt; script.config().lanes().len(), ports.len());
-    let is_due = matches!(
-        run_live(&rt, alloc, &script, ports),
-        Err(LiveFault::OutOfMemory)
-    );
-    assert!(rt; is_due);
     Ok(())
 }

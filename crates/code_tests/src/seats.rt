@@ -209,26 +209,6 @@ fn all_seats<R: Wait>(rt: &R, alloc: Global) -> Result<u32, Fail> {
     takes_all_seats::<Brand, R>(rt, alloc, Blank::new(65))
 }
 
-// Whether a driver of the greatest number gets its seat.
-fn has_seat<L: Ledger, R: Wait>(rt: &R, alloc: Global, blank: Blank) -> Result<bool, Fail>
-    requires name { blank.name ≡ L.name }
-    requires parts { (blank.parts ≡ L.parts) × (blank.parts ≡ 65) }
-{
-    let shared: SharedXpt<L> = shared(alloc, Limits::most(), blank)?;
-    let seat = shared.seat(rt, alloc, SeatName::Driver(255))?;
-    Ok(seat.name() == SeatName::Driver(255))
-}
-
-fn has_last_seat<R: Wait>(rt: &R, alloc: Global) -> Result<bool, Fail> {
-    has_seat::<Brand, R>(rt, alloc, Blank::new(65))
-}
-
-#[test]
-fn a_driver_has_any_number(rt: HostRuntime) -> Result<(), Fail> {
-    assert!(&rt; has_last_seat(&rt, rt.alloc())?);
-    Ok(())
-}
-
 #[test]
 fn there_are_64_seats(rt: HostRuntime) -> Result<(), Fail> {
     assert_eq!(&rt; all_seats(&rt, rt.alloc())?, 64);

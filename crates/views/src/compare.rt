@@ -1,7 +1,7 @@
 //! The text that puts two explanations side by side.
 
-pub(crate) use most::rows_of;
 pub use page::compare_page;
+pub(crate) use rows::rows_of;
 
 mod differences;
 mod most;

@@ -179,7 +179,7 @@ fn rows(
     after: Compared<'_>,
     by: Grouping,
 ) -> Result<Vec<PairedPart>, AllocError> {
-    let table = rows_of(alloc, before, after, by)?;
+    let table = rows_of(alloc, before.explanation, after.explanation, by)?;
     let mut rows = Vec::with_capacity(alloc, table.len())?;
     for row in &table {
         rows.push(row_of(alloc, before, after, by, row)?)?;

@@ -29,12 +29,23 @@ pub(crate) fn push_differences(page: &mut Page, before: Compared<'_>, after: Com
         ));
     }
     push_parts(page, &differences);
-    if before.explanation.kind() != after.explanation.kind() {
+    let is_other_kind = before.explanation.kind() != after.explanation.kind();
+    if is_other_kind {
         page.put(
             "\nOne is a trace and the other a recording: each has causes that the other one doesn't tell.",
         );
     }
-    page.put("\n");
+    if is_other_kind || stays.0 != stays.1 || is_some(&differences) {
+        page.put("\n");
+    }
+}
+
+fn is_some(differences: &Differences) -> bool {
+    differences.weights
+        || differences.round
+        || differences.devices
+        || differences.adapters
+        || differences.links
 }
 
 // Puts a sentence on rounds of different lengths on the page.

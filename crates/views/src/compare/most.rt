@@ -4,47 +4,42 @@ use crate::compare::totals::cost_of;
 use crate::compared::{Compared, GROUPINGS, label_in};
 use crate::making::Page;
 use crate::numbers::{push_number, push_share};
-use comparison::{PairedRow, most_changed, paired};
+use comparison::{PairedRow, most_changed};
 use std::alloc::{AllocError, Global};
-use wait_causes::{Cause, Explanation, Grouping, Part};
+use wait_causes::{Cause, Explanation, Part};
 
-/// Puts sentences on the page: how much the cost changed, and which cause, adapter, device, driver and run level changed
-/// most.
-pub(crate) fn push_most(
+/// Puts sentences on the page: how much the cost changed, and which cause changed most.
+pub(crate) fn push_most_cause(
+    page: &mut Page,
+    before: &Explanation,
+    after: &Explanation,
+    was: &Part,
+    is: &Part,
+) {
+    page.put("\n");
+    push_change(page, was.live, is.live);
+    if let Some(cause) = most_changed_cause(before, after, was, is) {
+        page.show(format_args!("Of the causes {} changed most", cause.name()));
+        push_from_to(page, cost_of(&was.costs, cause), cost_of(&is.costs, cause));
+    }
+}
+
+/// Puts a sentence on the page for each table: which adapter, device, driver and run level changed most.
+pub(crate) fn push_most_rows(
     alloc: Global,
     page: &mut Page,
     before: Compared<'_>,
     after: Compared<'_>,
-    was: &Part,
-    is: &Part,
+    tables: &[Vec<PairedRow>],
 ) -> Result<(), AllocError> {
-    page.put("\n");
-    push_change(page, was.live, is.live);
-    if let Some(cause) = most_changed_cause(before.explanation, after.explanation, was, is) {
-        page.show(format_args!("Of the causes {} changed most", cause.name()));
-        push_from_to(page, cost_of(&was.costs, cause), cost_of(&is.costs, cause));
-    }
-    for (by, words) in &GROUPINGS {
-        let rows = rows_of(alloc, before, after, *by)?;
-        if let Some(row) = most_changed(&rows) {
+    for ((by, words), rows) in GROUPINGS.iter().zip(tables) {
+        if let Some(row) = most_changed(rows) {
             let label = label_in(alloc, before, after, *by, row.number, row.before.is_some())?;
             page.show(format_args!("Of the {words} {label} changed most"));
             push_from_to(page, live_of(&row.before), live_of(&row.after));
         }
     }
     Ok(())
-}
-
-/// The rows of a table before and after.
-pub(crate) fn rows_of(
-    alloc: Global,
-    before: Compared<'_>,
-    after: Compared<'_>,
-    by: Grouping,
-) -> Result<Vec<PairedRow>, AllocError> {
-    let was = before.explanation.table(alloc, by)?;
-    let is = after.explanation.table(alloc, by)?;
-    paired(alloc, &was, &is)
 }
 
 /// The weighted rounds of a part, and 0 of none.

@@ -1,8 +1,8 @@
 //! The page: in what two inputs differ, what waiting cost in each, and what changed most.
 
 use crate::compare::differences::push_differences;
-use crate::compare::most::push_most;
-use crate::compare::rows::push_rows;
+use crate::compare::most::{push_most_cause, push_most_rows};
+use crate::compare::rows::{push_rows, tables_of};
 use crate::compare::totals::{push_causes, push_totals};
 use crate::compared::Compared;
 use crate::making::Page;
@@ -23,7 +23,9 @@ pub fn compare_page(
     push_differences(&mut page, before, after);
     push_totals(&mut page, &was, &is);
     push_causes(&mut page, before, after, &was, &is);
-    push_most(alloc, &mut page, before, after, &was, &is)?;
-    push_rows(alloc, &mut page, before, after)?;
+    push_most_cause(&mut page, before.explanation, after.explanation, &was, &is);
+    let tables = tables_of(alloc, before.explanation, after.explanation)?;
+    push_most_rows(alloc, &mut page, before, after, &tables)?;
+    push_rows(alloc, &mut page, before, after, &tables)?;
     page.finish()
 }

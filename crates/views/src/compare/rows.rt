@@ -1,18 +1,43 @@
 //! The tables of a comparison: what adapters, devices, drivers and run levels waited before and after.
 
-use crate::compare::most::{live_of, rows_of};
+use crate::compare::most::live_of;
 use crate::compared::{Compared, GROUPINGS, label_in};
 use crate::making::Page;
 use crate::numbers::shift;
 use crate::text::push_columns;
-use comparison::PairedRow;
+use comparison::{PairedRow, paired};
 use std::alloc::{AllocError, Global};
-use wait_causes::{Grouping, Part};
+use wait_causes::{Explanation, Grouping, Part};
 
 // What stands above the columns, and above those two by two.
 const HEAD: &str = "before after    before     after difference    before     after before after";
 
-const PAIRS: &str = "stays                  live                         excess               p99";
+const PAIRS: &str = "stays           live                           excess           p99";
+
+/// The rows of each table before and after, in the order of `GROUPINGS`.
+pub(crate) fn tables_of(
+    alloc: Global,
+    before: &Explanation,
+    after: &Explanation,
+) -> Result<Vec<Vec<PairedRow>>, AllocError> {
+    let mut tables = Vec::with_capacity(alloc, GROUPINGS.len())?;
+    for (by, _) in &GROUPINGS {
+        tables.push(rows_of(alloc, before, after, *by)?)?;
+    }
+    Ok(tables)
+}
+
+/// The rows of a table before and after.
+pub(crate) fn rows_of(
+    alloc: Global,
+    before: &Explanation,
+    after: &Explanation,
+    by: Grouping,
+) -> Result<Vec<PairedRow>, AllocError> {
+    let was = before.table(alloc, by)?;
+    let is = after.table(alloc, by)?;
+    paired(alloc, &was, &is)
+}
 
 /// Puts the tables on the page.
 pub(crate) fn push_rows(
@@ -20,11 +45,12 @@ pub(crate) fn push_rows(
     page: &mut Page,
     before: Compared<'_>,
     after: Compared<'_>,
+    tables: &[Vec<PairedRow>],
 ) -> Result<(), AllocError> {
     let width = before.labels().width().max(after.labels().width());
     page.show(format_args!("\n{:<width$} {PAIRS}\n{:<width$} {HEAD}\n", "", ""));
-    for (by, _) in &GROUPINGS {
-        push_table(alloc, page, before, after, *by, width)?;
+    for ((by, _), rows) in GROUPINGS.iter().zip(tables) {
+        push_table(alloc, page, before, after, *by, rows, width)?;
     }
     Ok(())
 }
@@ -35,9 +61,10 @@ fn push_table(
     before: Compared<'_>,
     after: Compared<'_>,
     by: Grouping,
+    rows: &[PairedRow],
     width: usize,
 ) -> Result<(), AllocError> {
-    for row in &rows_of(alloc, before, after, by)? {
+    for row in rows {
         let label = label_in(alloc, before, after, by, row.number, row.before.is_some())?;
         page.show(format_args!("{label:<width$}"));
         push_row(page, row);

@@ -8,7 +8,7 @@ use std::alloc::{AllocError, Global};
 use std::sync::Wait;
 use std::sync::ledger::Ledger;
 use std::thread::{Threads, join};
-use xpt_lock::{Seat, SeatName, SharedXpt};
+use xpt_lock::{Seat, SeatName, SeatsFull, SharedXpt};
 use xpt_state::{Case, Sent};
 
 // How many blocks a driver submits in a round.
@@ -22,34 +22,60 @@ struct Driver<L: Ledger> {
     next: usize,
 }
 
+/// Two seats.
+#[derive(Drop)]
+struct Pair<L: Ledger> {
+    first: Seat<L>,
+    second: Seat<L>,
+}
+
+impl<L: Ledger> Pair<L> {
+    fn new<R: Wait>(
+        rt: &R,
+        alloc: Global,
+        shared: &SharedXpt<L>,
+        first: SeatName,
+        second: SeatName,
+    ) -> Result<Pair<L>, SeatsFull> {
+        let first = shared.seat(rt, alloc, first)?;
+        let second = shared.seat(rt, alloc, second)?;
+        Ok(Pair { first, second })
+    }
+}
+
 /// All that make calls, each with a seat of its own.
 #[derive(Drop)]
 pub struct Crew<L: Ledger> {
     even: Driver<L>,
     odd: Driver<L>,
-    lane_0: Seat<L>,
-    lane_1: Seat<L>,
-    recovery: Seat<L>,
-    keeper: Seat<L>,
+    lanes: Pair<L>,
+    // Recovery, and the keeper of the rounds.
+    others: Pair<L>,
 }
 
 impl<L: Ledger + Send + Sync> Crew<L> {
-    pub fn new<R: Wait>(rt: &R, alloc: Global, shared: &SharedXpt<L>) -> Result<Crew<L>, Fault> {
+    pub fn new<R: Wait>(
+        rt: &R,
+        alloc: Global,
+        shared: &SharedXpt<L>,
+    ) -> Result<Crew<L>, SeatsFull> {
+        let drivers = Pair::new(rt, alloc, shared, SeatName::Driver(0), SeatName::Driver(1))?;
+        let lanes = Pair::new(rt, alloc, shared, SeatName::Lane(0), SeatName::Lane(1))?;
+        let others = Pair::new(rt, alloc, shared, SeatName::Recovery, SeatName::Keeper)?;
+        let Pair { first, second } = drivers;
         Ok(Crew {
             even: Driver {
-                seat: shared.seat(rt, alloc, SeatName::Driver(0))?,
+                seat: first,
                 number: 0,
                 next: 0,
             },
             odd: Driver {
-                seat: shared.seat(rt, alloc, SeatName::Driver(1))?,
+                seat: second,
                 number: 1,
                 next: 1,
             },
-            lane_0: shared.seat(rt, alloc, SeatName::Lane(0))?,
-            lane_1: shared.seat(rt, alloc, SeatName::Lane(1))?,
-            recovery: shared.seat(rt, alloc, SeatName::Recovery)?,
-            keeper: shared.seat(rt, alloc, SeatName::Keeper)?,
+            lanes,
+            others,
         })
     }
 
@@ -62,7 +88,7 @@ impl<L: Ledger + Send + Sync> Crew<L> {
         blocks: &Blocks,
     ) -> Result<(), Fault> {
         let (even, odd) = (&mut self.even, &mut self.odd);
-        let (lane_0, lane_1) = (&mut self.lane_0, &mut self.lane_1);
+        let (lane_0, lane_1) = (&mut self.lanes.first, &mut self.lanes.second);
         let (drivers, lanes) = join(
             rt,
             move || {
@@ -84,8 +110,8 @@ impl<L: Ledger + Send + Sync> Crew<L> {
         drivers.1?;
         lanes.0?;
         lanes.1?;
-        decide(rt, shared, &mut self.recovery)?;
-        shared.tick(rt, &mut self.keeper)?;
+        decide(rt, shared, &mut self.others.first)?;
+        shared.tick(rt, &mut self.others.second)?;
         Ok(())
     }
 
@@ -100,12 +126,10 @@ impl<L: Ledger + Send + Sync> Crew<L> {
         let Crew {
             even,
             odd,
-            lane_0,
-            lane_1,
-            recovery,
-            keeper,
+            lanes,
+            others,
         } = self;
-        Ok(vec![in alloc; even.seat, odd.seat, lane_0, lane_1, recovery, keeper]?)
+        Ok(vec![in alloc; even.seat, odd.seat, lanes.first, lanes.second, others.first, others.second]?)
     }
 }
 

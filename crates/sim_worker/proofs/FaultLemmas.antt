@@ -9,7 +9,7 @@ use Rattle.xpt_lock.specs.declared.fault.GatherFault.{GatherFault}
 use Rattle.xpt_lock.specs.Receipts.{all_receipts, naming}
 use Rattle.xpt_lock.specs.declared.fault.GatherFault.TheVariants as gathers
 use Rattle.sim_worker.specs.Words.{AreInterleaved, IsPast, due_of, Past, Scenario, Held, Receipt, Event}
-use Rattle.sim_worker.specs.Faults.{IsFailing, IsLiveFault, IsSeatless, IsUnstarted, as_live, IsNaming, IsNoRun, LiveFault, Mismatch, Unnamed, NoThread, OutOfMemory}
+use Rattle.sim_worker.specs.Faults.{IsFailing, IsLiveFault, IsSeatless, IsUnjudged, IsUnstarted, as_live, IsNaming, IsNoRun, LiveFault, Mismatch, Unnamed, NoThread, OutOfMemory}
 
 -- no receipt names the place, of one list and then of another
 pub none_names : (place : ℕ) (before : List Held) (log : Held) → naming place (all_receipts before) ≡ 0 → naming place log.receipts ≡ 0 → naming place (all_receipts (before ++ log ∷ [])) ≡ 0
@@ -58,13 +58,19 @@ unstarted_fault s NoThread h = tt
 unstarted_fault s (Mismatch r) h = absurd h
 unstarted_fault s (Unnamed place) h = absurd h
 
-pub ungathered_fault : (s : Scenario) (logs : List Held) (fault : GatherFault) → ((h : Past) × IsWhyNot h logs fault) → IsLiveFault s (as_live fault)
+pub unjudged_fault : (s : Scenario) (fault : LiveFault) → IsUnjudged s fault → IsLiveFault s fault
+unjudged_fault s OutOfMemory h = tt
+unjudged_fault s NoThread h = absurd h
+unjudged_fault s (Mismatch r) h = h
+unjudged_fault s (Unnamed place) h = inr h
+
+pub ungathered_fault : (s : Scenario) (logs : List Held) (fault : GatherFault) → ((h : Past) × IsWhyNot h logs fault) → IsUnjudged s (as_live fault)
 ungathered_fault s logs gathers.OutOfMemory h = tt
 ungathered_fault s logs (gathers.Mismatch r) h = record { history = h.0; logs = logs; past = h.1.0; why = inl h.1.1 }
-ungathered_fault s logs (gathers.Unnamed place) h = inr (record { history = h.0; logs = logs; past = h.1.0; why = inl h.1.1 })
+ungathered_fault s logs (gathers.Unnamed place) h = record { history = h.0; logs = logs; past = h.1.0; why = inl h.1.1 }
 
-pub judged_fault : (s : Scenario) (h : Past) (logs : List Held) (fault : LiveFault) → IsPast h → AreInterleaved (due_of h) logs → IsNoRun s h logs fault → IsLiveFault s fault
+pub judged_fault : (s : Scenario) (h : Past) (logs : List Held) (fault : LiveFault) → IsPast h → AreInterleaved (due_of h) logs → IsNoRun s h logs fault → IsUnjudged s fault
 judged_fault s h logs OutOfMemory past together said = tt
 judged_fault s h logs NoThread past together said = absurd said
 judged_fault s h logs (Mismatch r) past together (its, fails) = record { history = h; logs = logs; past = past; why = inr (together, (its, fails)) }
-judged_fault s h logs (Unnamed place) past together (first, none) = inr (record { history = h; logs = logs; past = past; why = inr (together, (first, none)) })
+judged_fault s h logs (Unnamed place) past together (first, none) = record { history = h; logs = logs; past = past; why = inr (together, (first, none)) }

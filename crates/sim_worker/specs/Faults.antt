@@ -55,6 +55,13 @@ pub record IsFailed (s : Scenario) (fault : LiveFault) : Type 0 where
   pub past : IsPast history
   pub why : IsUngathered history logs fault ⊎ (AreInterleaved (due_of history) logs × IsNoRun s history logs fault)
 
+-- why what the threads did is no run, once they have ended: memory ran out, or a comparison failed
+abbrev pub IsUnjudged : Scenario → LiveFault → Type 0
+IsUnjudged s OutOfMemory = Unit {0}
+IsUnjudged s NoThread = ⊥
+IsUnjudged s (Mismatch r) = IsFailed s (Mismatch r)
+IsUnjudged s (Unnamed place) = IsFailed s (Unnamed place)
+
 -- Why there is no run: memory ran out, or a thread couldn't be started; else the fault has the receipt or the place at which a
 -- comparison failed, or place 0 if a seat was missing.
 abbrev pub IsLiveFault : Scenario → LiveFault → Type 0

@@ -16,7 +16,7 @@
 
 ghost use Rattle.std.specs.Prelude.{◌≡◌, ℕ, [], get_or, length, map, All, IfOk, IfErr, ◌<◌};
 ghost use Rattle.std.specs.List.{range_with_len};
-ghost use Rattle.sim_worker.specs.Faults.{IsLiveFault, IsSeatless, IsUnstarted, as_live, Unnamed};
+ghost use Rattle.sim_worker.specs.Faults.{IsLiveFault, IsSeatless, IsUnjudged, IsUnstarted, as_live, Unnamed};
 ghost use Rattle.sim_worker.specs.LiveRuns.{IsLiveRun};
 
 use crate::ending::Ending;
@@ -261,11 +261,29 @@ fn finish<L: Ledger, P: Port, H: Handed>(
     ensures fault { IfErr result (IsLiveFault script.now) }
 {
     let (seats, lanes) = parted(alloc, workers)?;
-    let logs = logs_of(alloc, &seats)?;
     let ports = match hand_back(alloc, lanes, script.config().lanes().len()) {
         Ok(ports) => ports,
         Err(fault) => return Err(fault),
     };
+    match judged(alloc, script, place, seats, ports) {
+        Ok(run) => Ok(run),
+        Err(fault) => Err(fault),
+    }
+}
+
+// What the seats and the ports have, if that is a run of the script.
+fn judged<L: Ledger, P: Port>(
+    alloc: Global,
+    script: &Script,
+    place: Workplace<L>,
+    seats: Vec<Seat<L>>,
+    ports: Vec<P>,
+) -> Result<LiveRun<P>, LiveFault>
+    ensures run { IfOk result (λ run. IsLiveRun script.now run.history run.seats.items (map (λ p. P.list p) run.ports.items) run.ending) }
+    ensures ports { IfOk result (λ run. run.ports ≡ ports) }
+    ensures fault { IfErr result (IsUnjudged script.now) }
+{
+    let logs = logs_of(alloc, &seats)?;
     let history = match place.shared.gather(alloc, seats) {
         Ok(history) => history,
         Err(fault) => return Err(live_fault(fault)),
@@ -277,7 +295,7 @@ fn finish<L: Ledger, P: Port, H: Handed>(
             seats: logs,
             ports,
         }),
-        Err(fault) => Err(fault),
+        Err(why) => Err(why),
     }
 }
 

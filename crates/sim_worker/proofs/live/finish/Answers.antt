@@ -1,20 +1,13 @@
 use Rattle.std.proofs.Common.{◌≡◌, ◌∙◌, ℕ, List, length, map, ap}
 use Rattle.std.specs.List.{range_with_len}
 use Rattle.sim_worker.specs.Words.{Topology}
-use Rattle.sim_worker.proofs.FaultLemmas.{judged_fault, ungathered_fault}
+use Rattle.sim_worker.proofs.FaultLemmas.{unjudged_fault}
 use Rattle.sim_worker.proofs.live.finish.Goals as goal
 
-pub returns-in-Err-gather-clause-fault : goal.returns-in-Err-gather-clause-fault
-returns-in-Err-gather-clause-fault g c = rw (c.live_fault.ensures) (ungathered_fault c.args.script.now _ c.in-Err-gather.fault c.in-Err-gather.ensures)
-
-pub returns-in-Ok-judge-clause-run : goal.returns-in-Ok-judge-clause-run
-returns-in-Ok-judge-clause-run g c = rw (c.deref-2.ensures.value, c.deref-3.ensures.value) at c.in-Ok-judge.ensures.run
-
-pub returns-in-Ok-judge-clause-ports : goal.returns-in-Ok-judge-clause-ports
-returns-in-Ok-judge-clause-ports g c =
+pub returns-in-Ok-judged-clause-ports : goal.returns-in-Ok-judged-clause-ports
+returns-in-Ok-judged-clause-ports g c =
     let count : length c.lanes.result.now ≡ length c.args.script.now.config.lanes = ap (λ (ls : List ℕ). length ls) c.lanes.ensures.same ∙ ap (λ (t : Topology). length t.lanes) c.config.ensures in
-    c.in-Ok.ensures.ports ∙ ap (λ n. map (λ lane. g.H.Handed.answers lane) (range_with_len 0 n)) count
+    rw (c.in-Ok-judged.ensures.ports) (c.in-Ok.ensures.ports ∙ ap (λ n. map (λ lane. g.H.Handed.answers lane) (range_with_len 0 n)) count)
 
 pub returns-clause-fault : goal.returns-clause-fault
-returns-clause-fault g c =
-    judged_fault c.args.script.now c.in-Ok-gather.history _ c.in-Err-judge.fault c.in-Ok-gather.ensures.0 c.in-Ok-gather.ensures.1 (rw (c.deref-2.ensures.value, c.in_ok-logs.ensures, c.deref.ensures.value) at c.in-Err-judge.ensures.fault)
+returns-clause-fault g c = unjudged_fault c.args.script.now c.in-Err-judged.fault c.in-Err-judged.ensures.fault

@@ -58,12 +58,6 @@ unstarted_fault s NoThread h = tt
 unstarted_fault s (Mismatch r) h = absurd h
 unstarted_fault s (Unnamed place) h = absurd h
 
-pub unjudged_fault : (s : Scenario) (fault : LiveFault) → IsUnjudged s fault → IsLiveFault s fault
-unjudged_fault s OutOfMemory h = tt
-unjudged_fault s NoThread h = absurd h
-unjudged_fault s (Mismatch r) h = h
-unjudged_fault s (Unnamed place) h = inr h
-
 pub ungathered_fault : (s : Scenario) (logs : List Held) (fault : GatherFault) → ((h : Past) × IsWhyNot h logs fault) → IsUnjudged s (as_live fault)
 ungathered_fault s logs gathers.OutOfMemory h = tt
 ungathered_fault s logs (gathers.Mismatch r) h = record { history = h.0; logs = logs; past = h.1.0; why = inl h.1.1 }

@@ -1,4 +1,3 @@
-use Rattle.std.proofs.Common.{◌≡◌}
 use Rattle.sim_worker.proofs.FaultLemmas.{judged_fault, ungathered_fault}
 use Rattle.sim_worker.proofs.live.judged.Goals as goal
 

@@ -9,14 +9,17 @@ pub mod PushLaws
 pub mod RowLaws
 pub mod RowsAgain
 pub mod ScriptAgain
+pub mod ScriptBack
 pub mod ScriptFaults
 pub mod ScriptItems
 pub mod ScriptLaws
 pub mod ScriptLists
+pub mod ScriptNumbered
 pub mod ScriptOrder
 pub mod ScriptRowLaws
 pub mod ScriptRules
 pub mod ScriptStageLemmas
+pub mod ScriptTextLaws
 pub mod StageLaws
 pub mod StageLemmas
 pub mod TextLaws

@@ -1,13 +1,13 @@
 -- A record of more than eight fields is refused, whatever they are.
-use Rattle.std.proofs.Common.{◌≡◌, ◌<◌, ℕ, Bool, Ok, Err, true, false, cond, length, refl}
-use Rattle.cam_types.specs.Bounds.{Bounds, most_bounds}
+use Rattle.std.proofs.Common.{◌≡◌, ◌<◌, ℕ, Bool, Option, None, Ok, Err, true, false, cond, length, refl}
+use Rattle.cam_types.specs.Bounds.{Bounds}
 use Rattle.record_text.specs.Front.{RefusesLong, most_fields}
 use Rattle.record_text.specs.Steps.{◌>>=◌}
 use Rattle.std.specs.Prelude.{◌==◌}
 use Rattle.record_text.proofs.FrontLemmas.{not_eight}
 use Rattle.trace_file.specs.Fields.{Row, field_of}
 use Rattle.trace_file.specs.Reading.{BadHeader, BadRecord, TraceFault, TraceStage, is_header, placed, row_step, step}
-use Rattle.trace_file.specs.ScriptReading.{config_step, first_row, is_config_word, is_limits, item_word, roomy_word, rows_step, script_step}
+use Rattle.trace_file.specs.ScriptReading.{config_step, first_row, first_stage, is_config_word, is_limits, item_word, roomy_word, rows_step, script_step}
 use Rattle.trace_file.specs.declared.script_stage.ScriptStage.{ScriptStage}
 use Rattle.trace_file.specs.declared.script_stage.ScriptStage.TheVariants as script
 use Rattle.trace_file.specs.declared.trace_stage.TraceStage.TheVariants as trace
@@ -35,12 +35,12 @@ long_step n (trace.Events p) row many = long_row n (trace.Events p) row many
 pub trace_refuses : RefusesLong step
 trace_refuses = (fault, long_step)
 
-long_config : (n : ℕ) (limits : Bounds) (t : TraceStage) (row : Row) → most_fields < length row → config_step n limits t row ≡ Err (BadRecord n)
+long_config : (n : ℕ) (given : Option Bounds) (t : TraceStage) (row : Row) → most_fields < length row → config_step n given t row ≡ Err (BadRecord n)
 unfolding config_step first_row item_word
-long_config n limits t row many = by (is_config_word (field_of row 0)) (long_row n t row many) (not_eight row many)
+long_config n given t row many = by (is_config_word (field_of row 0)) (long_row n t row many) (not_eight row many)
   where
     by : (b : Bool) → row_step n t row ≡ Err (BadRecord n) → (length row == 8) ≡ false
-        → cond b (row_step n t row >>= λ u. Ok (script.Config limits u)) (first_row n limits t row) ≡ Err (BadRecord n)
+        → cond b (row_step n t row >>= λ u. Ok (script.Config given u)) (first_row n given t row) ≡ Err (BadRecord n)
     by true refused long = rw refused refl
     by false refused long = rw long refl
 
@@ -51,8 +51,8 @@ script_fault n s = BadRecord n
 long_script : (n : ℕ) (s : ScriptStage) (row : Row) → most_fields < length row → script_step n s row ≡ Err (script_fault n s)
 unfolding script_step is_header is_limits rows_step roomy_word item_word script_fault
 long_script n script.Header row many = rw (not_eight row many) refl
-long_script n script.First row many = rw (not_eight row many) (long_config n most_bounds trace.First row many)
-long_script n (script.Config limits t) row many = long_config n limits t row many
+long_script n (script.First v) row many = rw (not_eight row many) (long_config n None (first_stage v) row many)
+long_script n (script.Config given t) row many = long_config n given t row many
 long_script n (script.Rows s steps answers) row many = rw (not_eight row many) refl
 
 -- .. and in scripts

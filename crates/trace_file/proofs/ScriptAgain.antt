@@ -1,23 +1,26 @@
 -- The records of a script are read as its scenario.
-use Rattle.std.proofs.Common.{◌≡◌, ◌≢◌, ◌≤◌, ◌+◌, ℕ, List, [], ◌∷◌, ◌++◌, length, map, Bool, true, false, cond, refl, sym, ap, ◌∙◌, arith, subst, append_assoc, Option, Some, None, IfSome, Result, Ok, Err, is_ok, not, unwrap_or}
-use Rattle.std.specs.List.{AllByRecursion, fold}
+use Rattle.std.proofs.Common.{◌≡◌, ◌≢◌, ◌≤◌, ◌+◌, ◌==◌, ◌&&◌, ℕ, List, [], ◌∷◌, ◌++◌, length, map, Bool, true, false, cond, refl, sym, ap, ◌∙◌, arith, rules, tests, subst, append-nil, length-append, bytes_eq, codes, Option, Some, None, IfSome, Result, Ok, Err, is_ok, not}
+use Rattle.std.specs.List.{All, AllByRecursion, fold}
 use Rattle.std.proofs.lemmas.Bool.{false≢true, eq-eqb}
 use Rattle.std.proofs.lemmas.List.Sums.{sum_by-cons}
+use Rattle.std.proofs.lemmas.List.{length-map}
 use Rattle.std.proofs.lemmas.List.Elements.{All-append, All-map, All-nil, recursion_from_All}
 use Rattle.std.proofs.lemmas.Bool.Decides.{nat_tests}
 use Rattle.csv.specs.Records.{field_at}
-use Rattle.cam_types.specs.Bounds.{Bounds, are_within, most_bounds}
+use Rattle.cam_types.specs.Bounds.{Bounds, are_within}
 use Rattle.trace_file.specs.ScriptRows.{script_header, script_row, ScriptRow}
-use Rattle.trace_file.specs.ScriptReading.{config_step, first_row, has_room, is_config_word, is_configuring, is_limits, limits_step, roomy_word, rows_step, script_ended, script_reading, script_step, ScriptItem, ScriptStage}
+use Rattle.trace_file.specs.ScriptVersions.{trace_version, ScriptVersion}
+use Rattle.trace_file.specs.declared.script_version.ScriptVersion.TheVariants as script
+use Rattle.trace_file.specs.ScriptReading.{config_step, first_row, first_stage, has_room, is_config_word, is_configuring, is_limits, limits_of, limits_step, roomy_word, rows_step, script_ended, script_reading, script_step, ScriptItem, ScriptStage}
 use Rattle.trace_file.specs.declared.script_stage.ScriptStage.TheVariants as stage
 use Rattle.trace_file.specs.Reading.{config_of, has_letters, is_header, lacks_adapters, row_step, step, TraceStage}
 use Rattle.trace_file.specs.declared.trace_stage.TraceStage.TheVariants as trace
 use Rattle.trace_file.specs.Fields.{Row, field_of}
-use Rattle.trace_file.specs.Histories.{Adapter, Past, Refusal, Topology}
-use Rattle.trace_file.specs.Records.{adapter_row, device_row, holds, lane_row}
-use Rattle.trace_file.specs.declared.version.Version.TheVariants as version
+use Rattle.trace_file.specs.Histories.{Device, Past, Refusal, Topology, config_fault}
+use Rattle.trace_file.specs.Records.{adapter_row, device_row, holds, lane_row, link_row, weight_row, weight_rows}
+use Rattle.trace_file.specs.Versions.{Version, has_table}
 use Rattle.trace_file.specs.Scenarios.{Scenario, empty_scenario, is_answer_row, is_answer_word, item_of, MOST_ROWS}
-use Rattle.trace_file.specs.Script.{FitsRow, IsManuscript, Manuscript, answer_rows, limits_rows, put_row, scenario_of, script_records, step_rows}
+use Rattle.trace_file.specs.Script.{FitsRow, IsManuscript, Manuscript, answer_rows, config_rows, limits_rows, put_row, scenario_of, script_records, step_rows}
 use Rattle.record_text.specs.Steps.{taken}
 use Rattle.trace_file.proofs.RowLaws.{ok_is, on_ok}
 use Rattle.trace_file.proofs.ScriptItems.{item_kind}
@@ -25,7 +28,9 @@ use Rattle.trace_file.proofs.ScriptLaws.{fold_config, item_added, more_answers, 
 use Rattle.trace_file.proofs.ScriptRowLaws.{limits_again, row_again, row_of, word_of_row}
 use Rattle.trace_file.proofs.ScriptStageLemmas.{configures}
 use Rattle.trace_file.proofs.StageLemmas.{step_behind, is_legal-nil}
-use Rattle.trace_file.proofs.WholeLaws.{IsBase, at_config, at_lanes, first_base, kept, no_links, taken_all}
+use Rattle.trace_file.specs.Trace.{IsHistory}
+use Rattle.trace_file.proofs.FieldLaws.{same_bytes}
+use Rattle.trace_file.proofs.WholeLaws.{at_config, at_lanes, by_version, first_at, kept}
 use Rattle.trace_file.proofs.AgainLaws.{taken_on}
 
 -- ---- rows
@@ -49,13 +54,13 @@ row_step_again n s k a x fits ok p q =
     rw (is.word, room, row_again x fits, made.1) (item_added n s k a made.0 ∙ rw kind refl)
 
 -- the first row
-first_row_again : (n : ℕ) (limits : Bounds) (t : TraceStage) (x : ScriptRow) → FitsRow x → lacks_adapters t ≡ false → is_ok (item_of (config_of t) x) ≡ true
-    → script_step n (stage.Config limits t) (script_row x)
-    ≡ Ok (stage.Rows (put_row (empty_scenario (config_of t) limits) x) (more_steps (is_answer_row x) 0) (more_answers (is_answer_row x) 0))
+first_row_again : (n : ℕ) (given : Option Bounds) (t : TraceStage) (x : ScriptRow) → FitsRow x → lacks_adapters t ≡ false → is_ok (item_of (config_of t) x) ≡ true
+    → script_step n (stage.Config given t) (script_row x)
+    ≡ Ok (stage.Rows (put_row (empty_scenario (config_of t) (limits_of given)) x) (more_steps (is_answer_row x) 0) (more_answers (is_answer_row x) 0))
 unfolding script_step config_step first_row
-first_row_again n limits t x fits some ok =
+first_row_again n given t x fits some ok =
     let is = row_of x in
-    let s = empty_scenario (config_of t) limits in
+    let s = empty_scenario (config_of t) (limits_of given) in
     let made = put_ok (item_of (config_of t) x) ok in
     let kind = item_kind (config_of t) x made.0 made.1 in
     rw (is.config, is.word, row_again x fits, some, made.1) (item_added n s 0 0 made.0 ∙ rw kind refl)
@@ -86,89 +91,134 @@ rows_again n s k a (x ∷ xs) fits ok p q =
 abbrev IsConfigRow : Row → Type 0
 IsConfigRow fields = is_config_word (field_of fields 0) ≡ true
 
-config_one : (n : ℕ) (limits : Bounds) (t u : TraceStage) (fields : Row) → t ≢ trace.Header → IsConfigRow fields → step n t fields ≡ Ok u
-    → (script_step n (stage.Config limits t) fields ≡ Ok (stage.Config limits u)) × (u ≢ trace.Header)
+config_one : (n : ℕ) (given : Option Bounds) (t u : TraceStage) (fields : Row) → t ≢ trace.Header → IsConfigRow fields → step n t fields ≡ Ok u
+    → (script_step n (stage.Config given t) fields ≡ Ok (stage.Config given u)) × (u ≢ trace.Header)
 unfolding script_step config_step
-config_one n limits t u fields behind word e =
+config_one n given t u fields behind word e =
     let is : row_step n t fields ≡ Ok u = sym (step_behind n t fields behind) ∙ e in
     let on = configures n t u fields word is in
     (rw (word, is) refl, (λ h. false≢true (sym (ap is_configuring h) ∙ on)))
 
-config_again : (n : ℕ) (limits : Bounds) (t u : TraceStage) (rows : List Row) → t ≢ trace.Header → AllByRecursion IsConfigRow rows → taken step n t rows ≡ Ok u
-    → taken script_step n (stage.Config limits t) rows ≡ Ok (stage.Config limits u)
-config_again n limits t u [] behind words e = ap (λ (v : TraceStage). Ok (stage.Config limits v)) (ok_is t u e)
-config_again n limits t u (fields ∷ rows) behind words e =
+config_again : (n : ℕ) (given : Option Bounds) (t u : TraceStage) (rows : List Row) → t ≢ trace.Header → AllByRecursion IsConfigRow rows → taken step n t rows ≡ Ok u
+    → taken script_step n (stage.Config given t) rows ≡ Ok (stage.Config given u)
+config_again n given t u [] behind words e = ap (λ (v : TraceStage). Ok (stage.Config given v)) (ok_is t u e)
+config_again n given t u (fields ∷ rows) behind words e =
     on_ok (step n t fields) (λ v. taken step (n + 1) v rows) u e (λ v ev r.
-    let one = config_one n limits t v fields behind words.0 ev in
-    rw one.0 (config_again (n + 1) limits v u rows one.1 words.1 r))
+    let one = config_one n given t v fields behind words.0 ev in
+    rw one.0 (config_again (n + 1) given v u rows one.1 words.1 r))
 
-abbrev config_rows : Topology → List Row
-config_rows c = map adapter_row c.adapters ++ (map device_row c.devices ++ (map lane_row c.lanes ++ []))
-
-config_words : (c : Topology) → AllByRecursion IsConfigRow (config_rows c)
+weight_words : (v : Version) (c : Topology) → All IsConfigRow (weight_rows v c.weights)
 unfolding is_config_word field_at
-config_words c =
+weight_words v c = by (has_table v)
+  where
+    by : (b : Bool) → All IsConfigRow (cond b (map weight_row c.weights) [])
+    by true = All-map IsConfigRow weight_row c.weights (λ k d h. refl)
+    by false = All-nil IsConfigRow
+
+config_words : (v : ScriptVersion) (c : Topology) → AllByRecursion IsConfigRow (config_rows v c)
+unfolding is_config_word field_at
+config_words v c =
     recursion_from_All IsConfigRow _
+    (All-append IsConfigRow (weight_rows (trace_version v) c.weights) _ (weight_words (trace_version v) c)
+    (All-append IsConfigRow (map link_row c.links) _ (All-map IsConfigRow link_row c.links (λ k d h. refl))
     (All-append IsConfigRow (map adapter_row c.adapters) _ (All-map IsConfigRow adapter_row c.adapters (λ k d h. refl))
     (All-append IsConfigRow (map device_row c.devices) _ (All-map IsConfigRow device_row c.devices (λ k d h. refl))
-    (All-append IsConfigRow (map lane_row c.lanes) [] (All-map IsConfigRow lane_row c.lanes (λ k d h. refl)) (All-nil IsConfigRow))))
+    (All-map IsConfigRow lane_row c.lanes (λ k d h. refl))))))
+
+-- a configuration with an adapter has a record
+some_row : (v : ScriptVersion) (c : Topology) → (length c.adapters ≡ 0 → ⊥) → length (config_rows v c) ≡ 0 → ⊥
+some_row v c some none =
+    let as' = map adapter_row c.adapters in
+    let rest = map device_row c.devices ++ map lane_row c.lanes in
+    let a = length-append (weight_rows (trace_version v) c.weights) (map link_row c.links ++ (as' ++ rest)) in
+    let b = length-append (map link_row c.links) (as' ++ rest) in
+    let d = length-append as' rest in
+    let e = length-map c.adapters adapter_row in
+    some (omega arith)
+
+-- a record of the configuration isn't the limits
+other_word : (field : List ℕ) → field ≡ codes "limits" → is_config_word field ≡ true → ⊥
+unfolding is_config_word
+other_word field e h = let no = rw e at h in false≢true no
+
+no_limits : (fields : Row) → IsConfigRow fields → is_limits fields ≡ false
+unfolding is_limits
+no_limits fields word = by (bytes_eq (field_of fields 0) (codes "limits")) refl
+  where
+    by : (b : Bool) → bytes_eq (field_of fields 0) (codes "limits") ≡ b → ((length fields == 8) && b) ≡ false
+    by true e = absurd (other_word (field_of fields 0) (same_bytes (field_of fields 0) (codes "limits") e) word)
+    by false e = search (rules, tests)
 
 -- where no limits are given, the configuration begins at once
-begins : (n : ℕ) (as' : List Adapter) (rest : List Row) → (length as' ≡ 0 → ⊥)
-    → taken script_step n stage.First (map adapter_row as' ++ rest) ≡ taken script_step n (stage.Config most_bounds trace.First) (map adapter_row as' ++ rest)
-unfolding script_step is_limits field_at
-begins n [] rest some = absurd (some refl)
-begins n (a ∷ as') rest some = refl
+begins : (n : ℕ) (v : ScriptVersion) (rows rest : List Row) → AllByRecursion IsConfigRow rows → (length rows ≡ 0 → ⊥)
+    → taken script_step n (stage.First v) (rows ++ rest) ≡ taken script_step n (stage.Config None (first_stage v)) (rows ++ rest)
+unfolding script_step
+begins n v [] rest words some = absurd (some refl)
+begins n v (fields ∷ rows) rest words some = rw (no_limits fields words.0) refl
 
-from_limits : (n : ℕ) (given : Option Bounds) (as' : List Adapter) (rest : List Row) → IfSome given (λ b. are_within b ≡ true) → (length as' ≡ 0 → ⊥)
-    → (m : ℕ) × (taken script_step n stage.First (limits_rows given ++ (map adapter_row as' ++ rest)) ≡ taken script_step m (stage.Config (unwrap_or given most_bounds) trace.First) (map adapter_row as' ++ rest))
+from_limits : (n : ℕ) (v : ScriptVersion) (given : Option Bounds) (rows rest : List Row) → IfSome given (λ b. are_within b ≡ true) → AllByRecursion IsConfigRow rows → (length rows ≡ 0 → ⊥)
+    → (m : ℕ) × (taken script_step n (stage.First v) (limits_rows given ++ (rows ++ rest)) ≡ taken script_step m (stage.Config given (first_stage v)) (rows ++ rest))
 unfolding script_step limits_step
-from_limits n None as' rest within some = (n, begins n as' rest some)
-from_limits n (Some b) as' rest within some = let k = limits_again b within in (n + 1, rw (k.0, k.1) refl)
+from_limits n v None rows rest within words some = (n, begins n v rows rest words some)
+from_limits n v (Some b) rows rest within words some = let k = limits_again b within in (n + 1, rw (k.0, k.1) refl)
 
 -- ---- a whole script
 
-header_one : script_step 1 stage.Header script_header ≡ Ok stage.First
+header_one : (v : ScriptVersion) → script_step 1 stage.Header (script_header v) ≡ Ok (stage.First v)
 unfolding script_step is_header has_letters script_header field_at
-header_one = refl
+header_one script.One = refl
+header_one script.Two = refl
+
+first_same : (v : ScriptVersion) → (first_at (trace_version v) ≡ first_stage v) × (first_stage v ≢ trace.Header)
+first_same script.One = (refl, λ e. cc)
+first_same script.Two = (refl, λ e. cc)
 
 -- the rows after a configuration
-rows_of : (n : ℕ) (limits : Bounds) (t : TraceStage) (c : Topology) (xs : List ScriptRow) → lacks_adapters t ≡ false → config_of t ≡ c → AllByRecursion FitsRow xs → AllByRecursion (λ x. is_ok (item_of c x) ≡ true) xs
-    → step_rows xs ≤ MOST_ROWS → answer_rows xs ≤ MOST_ROWS → Ends n (stage.Config limits t) (map script_row xs) (fold put_row (empty_scenario c limits) xs)
+rows_of : (n : ℕ) (given : Option Bounds) (t : TraceStage) (c : Topology) (xs : List ScriptRow) → lacks_adapters t ≡ false → config_of t ≡ c → AllByRecursion FitsRow xs → AllByRecursion (λ x. is_ok (item_of c x) ≡ true) xs
+    → step_rows xs ≤ MOST_ROWS → answer_rows xs ≤ MOST_ROWS → Ends n (stage.Config given t) (map script_row xs) (fold put_row (empty_scenario c (limits_of given)) xs)
 unfolding script_ended
-rows_of n limits t c [] some is fits ok p q = record { last = stage.Config limits t; reached = refl; ends = rw (some, is) refl }
-rows_of n limits t c (x ∷ xs) some is fits ok p q =
+rows_of n given t c [] some is fits ok p q = record { last = stage.Config given t; reached = refl; ends = rw (some, is) refl }
+rows_of n given t c (x ∷ xs) some is fits ok p q =
     let steps = sum_by-cons (λ y. cond (not (is_answer_row y)) 1 0) x xs in
     let answers = sum_by-cons (λ y. cond (is_answer_row y) 1 0) x xs in
     let fine = subst (λ (y : Topology). is_ok (item_of y x) ≡ true) (sym is) ok.0 in
-    let one = rw is at (first_row_again n limits t x fits.0 some fine) in
-    let s = put_row (empty_scenario c limits) x in
-    let rest = subst (λ (y : Topology). AllByRecursion (λ z. is_ok (item_of y z) ≡ true) xs) (sym (put_config (empty_scenario c limits) x)) ok.1 in
+    let one = rw is at (first_row_again n given t x fits.0 some fine) in
+    let s = put_row (empty_scenario c (limits_of given)) x in
+    let rest = subst (λ (y : Topology). AllByRecursion (λ z. is_ok (item_of y z) ≡ true) xs) (sym (put_config (empty_scenario c (limits_of given)) x)) ok.1 in
     let more = rows_again (n + 1) s (more_steps (is_answer_row x) 0) (more_answers (is_answer_row x) 0) xs fits.1 rest (omega arith) (omega arith) in
     record { last = more.last; reached = rw one more.reached; ends = more.ends }
 
-regroup : (a d l x : List Row) → (a ++ (d ++ (l ++ []))) ++ x ≡ a ++ (d ++ (l ++ x))
-regroup a d l x = simp append_assoc
+regroup : (w k a d l : List Row) → w ++ (k ++ (a ++ (d ++ (l ++ [])))) ≡ w ++ (k ++ (a ++ (d ++ l)))
+regroup w k a d l = simp append-nil
+
+-- the records of a configuration are taken as those of a trace
+config_taken : (n : ℕ) (v : ScriptVersion) (c : Topology) → config_fault c ≡ None → holds (trace_version v) c ≡ true → AllByRecursion (λ (d : Device). d.target ≤ 65535) c.devices
+    → taken step n (first_stage v) (config_rows v c) ≡ Ok (at_lanes (trace_version v) c.weights c.links c.adapters c.devices c.lanes)
+config_taken n v c config held targets =
+    let w = trace_version v in
+    let past : Past = record { config = c; events = [] } in
+    let h : IsHistory past = record { config = config; legal = is_legal-nil c; targets = targets; events = tt } in
+    let same = regroup (weight_rows w c.weights) (map link_row c.links) (map adapter_row c.adapters) (map device_row c.devices) (map lane_row c.lanes) in
+    rw (← (first_same v).0, ← same) (by_version w past h held n)
 
 -- what is spelled so is read
 pub script_again : (m : Manuscript) → IsManuscript m → script_reading (script_records m) ≡ Ok (scenario_of m)
 unfolding script_reading script_records scenario_of
 script_again m h =
     let c = m.config in
-    let ws = c.weights in
-    let held : holds version.One c ≡ true = rw (h.weights, h.unlinked) refl in
-    let k = kept version.One c h.config held in
-    let base : IsBase version.One ws c.links trace.First = rw (h.weights, no_links c h.unlinked) first_base in
+    let v = m.version in
+    let w = trace_version v in
+    let given = m.limits in
+    let k = kept w c h.config h.held in
     let some : length c.adapters ≡ 0 → ⊥ = (λ e. false≢true (sym k.some ∙ eq-eqb (length c.adapters) 0 e)) in
     let rows = map script_row m.rows in
-    let limits = unwrap_or m.limits most_bounds in
-    let f = from_limits 2 m.limits c.adapters (map device_row c.devices ++ (map lane_row c.lanes ++ rows)) h.limits some in
-    let t = at_lanes version.One ws c.links c.adapters c.devices c.lanes in
-    let at = at_config version.One ws c.links c.adapters c.devices c.lanes in
-    let config_read = config_again f.0 limits trace.First t (config_rows c) (λ e. cc) (config_words c) (taken_all version.One ws c.links trace.First c.adapters c.devices c.lanes [] base k h.targets (is_legal-nil c) tt f.0) in
-    let behind = taken_on script_step f.0 (stage.Config limits trace.First) (stage.Config limits t) (config_rows c) rows config_read in
+    let words = config_words v c in
+    let f = from_limits 2 v given (config_rows v c) rows h.limits words (some_row v c some) in
+    let t = at_lanes w c.weights c.links c.adapters c.devices c.lanes in
+    let at = at_config w c.weights c.links c.adapters c.devices c.lanes in
+    let config_read = config_again f.0 given (first_stage v) t (config_rows v c) (first_same v).1 words (config_taken f.0 v c h.config h.held h.targets) in
+    let behind = taken_on script_step f.0 (stage.Config given (first_stage v)) (stage.Config given t) (config_rows v c) rows config_read in
     let is : config_of t ≡ c = ap (λ (p : Past). p.config) at.2 in
-    let last = rows_of (f.0 + length (config_rows c)) limits t c m.rows at.1 is h.fits h.ruled h.steps h.answers in
-    let same = sym (regroup (map adapter_row c.adapters) (map device_row c.devices) (map lane_row c.lanes) rows) in
-    let reached = f.1 ∙ ap (taken script_step f.0 (stage.Config limits trace.First)) same ∙ behind ∙ last.reached in
-    rw (header_one, reached) last.ends
+    let last = rows_of (f.0 + length (config_rows v c)) given t c m.rows at.1 is h.fits h.ruled h.steps h.answers in
+    let reached = f.1 ∙ behind ∙ last.reached in
+    rw (header_one v, reached) last.ends

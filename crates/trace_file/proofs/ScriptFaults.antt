@@ -1,13 +1,14 @@
 -- The first record of a script that fails, and its fault.
-use Rattle.std.proofs.Common.{ℕ, List, Result, Ok, Err, ok_or, codes}
-use Rattle.cam_types.specs.Bounds.{Bounds, most_bounds}
-use Rattle.trace_file.specs.Histories.{NoAdapters, Refusal}
-use Rattle.trace_file.specs.ScriptReading.{config_step, configured, first_row, is_config_word, is_limits, item_word, limits_step, roomy_word, rows_step, script_ended, script_step, with_item, ScriptItem, ScriptStage}
+use Rattle.std.proofs.Common.{ℕ, List, Option, None, Result, Ok, Err, ok_or}
+use Rattle.cam_types.specs.Bounds.{Bounds}
+use Rattle.trace_file.specs.Histories.{Refusal}
+use Rattle.trace_file.specs.ScriptReading.{config_step, configured, configured_last, first_row, first_stage, is_config_word, is_limits, item_word, limits_of, limits_step, roomy_word, rows_step, script_ended, script_step, with_item, ScriptItem, ScriptStage}
 use Rattle.trace_file.specs.declared.script_row.ScriptItem.TheVariants as item
 use Rattle.trace_file.specs.declared.script_stage.ScriptStage.TheVariants as stage
 use Rattle.trace_file.specs.declared.trace_fault.TraceFault.TheVariants as fault
-use Rattle.trace_file.specs.Reading.{config_of, in_record, is_header, lacks_adapters, row_step, TraceStage}
-use Rattle.trace_file.specs.declared.trace_stage.TraceStage.TheVariants as trace
+use Rattle.trace_file.specs.Reading.{config_of, in_record, is_header, lacking, lacks_adapters, row_step, TraceStage}
+use Rattle.trace_file.specs.ScriptVersions.{script_name}
+use Rattle.trace_file.specs.declared.script_version.ScriptVersion.TheVariants as script
 use Rattle.trace_file.specs.Fields.{Row, field_of}
 use Rattle.trace_file.specs.Scenarios.{Scenario, empty_scenario, item_of}
 use Rattle.trace_file.specs.ScriptRows.{limits_at, script_row_at}
@@ -19,7 +20,7 @@ item_fails n s steps answers (Ok (item.Step driver one)) = tt
 item_fails n s steps answers _ = tt
 
 configured_fails : (n : ℕ) (t : TraceStage) → FailsByText (configured n t)
-configured_fails n t = by_test (lacks_adapters t) (Err (fault.BadConfig n NoAdapters)) (Ok (config_of t)) tt tt
+configured_fails n t = by_test (lacks_adapters t) (Err (fault.BadConfig n (lacking (config_of t).weights))) (Ok (config_of t)) tt tt
 
 rows_fail : (n : ℕ) (s : Scenario) (steps answers : ℕ) (row : Row) → FailsByText (rows_step n s steps answers row)
 unfolding rows_step
@@ -28,31 +29,33 @@ rows_fail n s steps answers row =
     bound (in_record n (script_row_at w row)) _ (by_field n (script_row_at w row)) (λ said.
     item_fails n s steps answers (item_of s.config said)))
 
-first_fails : (n : ℕ) (limits : Bounds) (t : TraceStage) (row : Row) → FailsByText (first_row n limits t row)
+first_fails : (n : ℕ) (given : Option Bounds) (t : TraceStage) (row : Row) → FailsByText (first_row n given t row)
 unfolding first_row
-first_fails n limits t row =
+first_fails n given t row =
     bound (ok_or (item_word row) (fault.BadRecord n)) _ (by_word n (item_word row)) (λ w.
     bound (in_record n (script_row_at w row)) _ (by_field n (script_row_at w row)) (λ said.
     bound (configured n t) _ (configured_fails n t) (λ c.
-    item_fails n (empty_scenario c limits) 0 0 (item_of c said))))
+    item_fails n (empty_scenario c (limits_of given)) 0 0 (item_of c said))))
 
-config_fails : (n : ℕ) (limits : Bounds) (t : TraceStage) (row : Row) → FailsByText (config_step n limits t row)
+config_fails : (n : ℕ) (given : Option Bounds) (t : TraceStage) (row : Row) → FailsByText (config_step n given t row)
 unfolding config_step
-config_fails n limits t row =
-    by_test (is_config_word (field_of row 0)) (row_step n t row >>= λ u. Ok (stage.Config limits u)) (first_row n limits t row) (bound (row_step n t row) _ (behind_fails n t row) (λ u. tt)) (first_fails n limits t row)
+config_fails n given t row =
+    by_test (is_config_word (field_of row 0)) (row_step n t row >>= λ u. Ok (stage.Config given u)) (first_row n given t row) (bound (row_step n t row) _ (behind_fails n t row) (λ u. tt)) (first_fails n given t row)
 
 step_fails : (n : ℕ) (s : ScriptStage) (row : Row) → FailsByText (script_step n s row)
 unfolding script_step limits_step
-step_fails n stage.Header row = by_test (is_header (codes "camscript1") row) (Ok stage.First) (Err fault.BadHeader) tt tt
-step_fails n stage.First row = by_test (is_limits row) (limits_step n row) (config_step n most_bounds trace.First row) (bound (in_record n (limits_at row)) _ (by_field n (limits_at row)) (λ limits. tt)) (config_fails n most_bounds trace.First row)
-step_fails n (stage.Config limits t) row = config_fails n limits t row
+step_fails n stage.Header row =
+    by_test (is_header (script_name script.One) row) (Ok (stage.First script.One)) _ tt (by_test (is_header (script_name script.Two) row) (Ok (stage.First script.Two)) (Err fault.BadHeader) tt tt)
+step_fails n (stage.First v) row =
+    by_test (is_limits row) (limits_step n v row) (config_step n None (first_stage v) row) (bound (in_record n (limits_at row)) _ (by_field n (limits_at row)) (λ limits. tt)) (config_fails n None (first_stage v) row)
+step_fails n (stage.Config given t) row = config_fails n given t row
 step_fails n (stage.Rows s steps answers) row = rows_fail n s steps answers row
 
 end_fails : (s : ScriptStage) → FailsByText (script_ended s)
 unfolding script_ended
 end_fails stage.Header = tt
-end_fails stage.First = tt
-end_fails (stage.Config limits t) = bound (configured 3 t) _ (configured_fails 3 t) (λ c. tt)
+end_fails (stage.First v) = bound (configured_last None (first_stage v)) _ (configured_fails _ (first_stage v)) (λ c. tt)
+end_fails (stage.Config given t) = bound (configured_last given t) _ (configured_fails _ t) (λ c. tt)
 end_fails (stage.Rows s steps answers) = tt
 
 pub reading_fails : (rows : List Row) → FailsByText (taken script_step 1 stage.Header rows >>= script_ended)

@@ -1,35 +1,33 @@
 -- What the stages of a script have read is spelled so.
-use Rattle.std.proofs.Common.{◌≡◌, ◌≤◌, ◌+◌, ℕ, List, [], ◌∷◌, ◌++◌, map, Bool, true, false, cond, refl, sym, ap, ◌∙◌, subst, arith, append_assoc, append-nil, Option, Some, None, IfSome, Result, Ok, Err, ok_or, codes, is_ok, not, option_and_then, unwrap_or, fold}
+use Rattle.std.proofs.Common.{◌≡◌, ◌≤◌, ◌+◌, ℕ, List, [], ◌∷◌, ◌++◌, map, Bool, true, false, cond, refl, sym, ap, ◌∙◌, subst, arith, append_assoc, append-nil, Option, Some, None, IfSome, Result, Ok, Err, ok_or, is_ok, not, option_and_then, fold}
 use Rattle.std.proofs.lemmas.List.{map-append}
 use Rattle.std.proofs.lemmas.Option.{cond_some}
-use Rattle.std.proofs.lemmas.Bool.{and_parts}
 use Rattle.std.proofs.lemmas.Bool.Decides.{nat_tests}
 use Rattle.std.proofs.lemmas.List.Sums.{fold_push}
-use Rattle.cam_types.specs.Bounds.{Bounds, are_within, most_bounds}
+use Rattle.cam_types.specs.Bounds.{Bounds, are_within}
 use Rattle.cam_types.specs.Whole.{IsWhole}
 use Rattle.event_rules.proofs.ListFacts.{count_by-push}
+use Rattle.trace_file.specs.ScriptVersions.{script_name, trace_version, ScriptVersion}
+use Rattle.trace_file.specs.declared.script_version.ScriptVersion.TheVariants as script
 use Rattle.trace_file.specs.ScriptRows.{limits_at, script_header, script_row, script_row_at, ScriptRow, ScriptWord}
-use Rattle.trace_file.specs.ScriptReading.{config_step, configured, first_row, has_room, is_config_word, is_configuring, is_limits, item_word, limits_step, roomy_word, rows_step, script_ended, script_reading, script_step, with_item, ScriptItem, ScriptStage}
+use Rattle.trace_file.specs.ScriptReading.{config_step, configured, configured_last, first_row, first_stage, has_room, is_config_word, is_configuring, is_limits, item_word, limits_of, limits_step, roomy_word, rows_step, script_ended, script_reading, script_step, with_item, ScriptItem, ScriptStage}
 use Rattle.trace_file.specs.declared.script_row.ScriptItem.TheVariants as item
 use Rattle.trace_file.specs.declared.script_stage.ScriptStage.TheVariants as stage
-use Rattle.trace_file.specs.Reading.{config_of, in_record, is_header, lacks_adapters, past_of, row_step, BadConfig, BadHeader, BadRecord, TraceStage}
+use Rattle.trace_file.specs.Reading.{config_of, in_record, is_header, lacking, lacks_adapters, past_of, row_step, BadConfig, BadHeader, BadRecord, TraceStage}
 use Rattle.trace_file.specs.declared.trace_stage.TraceStage.TheVariants as trace
 use Rattle.trace_file.specs.Fields.{Row, field_of}
-use Rattle.trace_file.specs.Histories.{NoAdapters, Past, Refusal, Topology}
-use Rattle.cam_types.specs.Weights.{are_standard}
-use Rattle.cam_types.proofs.WeightLemmas.{standard_is}
-use Rattle.trace_file.specs.declared.version.Version.TheVariants as version
-use Rattle.trace_file.specs.Records.{adapter_row, device_row, has_no_links, header, lane_row, records_of}
+use Rattle.trace_file.specs.Histories.{Past, Refusal, Topology}
+use Rattle.trace_file.specs.Versions.{Version}
+use Rattle.trace_file.specs.Records.{adapter_row, device_row, header, lane_row, link_row, records_of, weight_rows}
 use Rattle.trace_file.specs.Scenarios.{Scenario, add_item, empty_scenario, is_answer_item, is_answer_row, is_answer_word, item_of, MOST_ROWS}
-use Rattle.trace_file.specs.Script.{FitsRow, IsManuscript, Manuscript, WasScript, answer_rows, limits_rows, put_item, put_row, scenario_of, script_records, step_rows}
+use Rattle.trace_file.specs.Script.{FitsRow, IsManuscript, Manuscript, WasScript, answer_rows, config_rows, limits_rows, put_item, put_row, scenario_of, script_records, step_rows}
 use Rattle.trace_file.specs.Sound.{IsSound}
 use Rattle.record_text.specs.Steps.{◌>>=◌, taken}
 use Rattle.record_text.specs.Text.{records_in}
-use Rattle.trace_file.proofs.RowLaws.{ok_is, on_ok, if_ok}
+use Rattle.trace_file.proofs.RowLaws.{ok_is, on_ok}
 use Rattle.trace_file.proofs.ScriptItems.{item_kind}
 use Rattle.trace_file.proofs.ScriptRowLaws.{limits_take, row_takes}
 use Rattle.trace_file.proofs.ScriptStageLemmas.{configures}
-use Rattle.trace_file.proofs.WholeLaws.{no_links}
 use Rattle.trace_file.proofs.StageLaws.{Reads, event_ready, guarded, in_record_ok, named_header, reads_behind, taken_keeps}
 use Rattle.trace_file.proofs.FieldLaws.{ok_or_ok}
 use Rattle.trace_file.proofs.HexLaws.{on_some}
@@ -66,27 +64,26 @@ fold_config s (x ∷ xs) = fold_config (put_row s x) xs ∙ put_config s (item_o
 
 pub scenario_config : (m : Manuscript) → (scenario_of m).config ≡ m.config
 unfolding scenario_of
-scenario_config m = fold_config (empty_scenario m.config (unwrap_or m.limits most_bounds)) m.rows
+scenario_config m = fold_config (empty_scenario m.config (limits_of m.limits)) m.rows
 
 scenario_push : (m : Manuscript) (x : ScriptRow) → scenario_of (record m { rows = m.rows ++ x ∷ [] }) ≡ put_row (scenario_of m) x
 unfolding scenario_of
-scenario_push m x = fold_push put_row (empty_scenario m.config (unwrap_or m.limits most_bounds)) m.rows x
+scenario_push m x = fold_push put_row (empty_scenario m.config (limits_of m.limits)) m.rows x
 
 records_push : (m : Manuscript) (x : ScriptRow) → script_records m ++ script_row x ∷ [] ≡ script_records (record m { rows = m.rows ++ x ∷ [] })
 unfolding script_records
-records_push m x = ap (λ (rs : List Row). script_header ∷ rs) (simp (map-append, append_assoc) refl)
+records_push m x = ap (λ (rs : List Row). script_header m.version ∷ rs) (simp (map-append, append_assoc) refl)
 
 -- ---- what a stage has read
 
 -- the header, the limits if they were given, and records of the configuration, as a trace has them after its header
-pub record ReadsConfig (bounds : Bounds) (t : TraceStage) (rows : List Row) : Type 0 where
-  pub given : Option Bounds
-  pub limits : bounds ≡ unwrap_or given most_bounds
+pub record ReadsConfig (given : Option Bounds) (t : TraceStage) (rows : List Row) : Type 0 where
+  pub version : ScriptVersion
   pub within : IfSome given (λ b. are_within b ≡ true)
   pub trace : List Row
-  pub reads : Reads version.One t (header version.One ∷ trace)
+  pub reads : Reads (trace_version version) t (header (trace_version version) ∷ trace)
   pub configuring : is_configuring t ≡ true
-  pub parts : rows ≡ script_header ∷ (limits_rows given ++ trace)
+  pub parts : rows ≡ script_header version ∷ (limits_rows given ++ trace)
 
 -- the records of a manuscript, of which this is the scenario, with that many rows of drivers and that many answers
 pub record ReadsRows (s : Scenario) (k a : ℕ) (rows : List Row) : Type 0 where
@@ -99,31 +96,43 @@ pub record ReadsRows (s : Scenario) (k a : ℕ) (rows : List Row) : Type 0 where
 
 abbrev pub ReadsScript : ScriptStage → List Row → Type 0
 ReadsScript stage.Header rows = rows ≡ []
-ReadsScript stage.First rows = rows ≡ script_header ∷ []
-ReadsScript (stage.Config limits t) rows = ReadsConfig limits t rows
+ReadsScript (stage.First v) rows = rows ≡ script_header v ∷ []
+ReadsScript (stage.Config given t) rows = ReadsConfig given t rows
 ReadsScript (stage.Rows s steps answers) rows = ReadsRows s steps answers rows
 
 -- ---- the configuration
 
-first_reads : Reads version.One trace.First (header version.One ∷ [])
+first_reads : (v : ScriptVersion) → Reads (trace_version v) (first_stage v) (header (trace_version v) ∷ [])
 unfolding records_of IsSound
-first_reads = record { spelled = refl; held = refl; sound = tt; targets = tt; events = tt }
-
-reads_given : (given : Option Bounds) (rows : List Row) → IfSome given (λ b. are_within b ≡ true) → rows ≡ script_header ∷ limits_rows given → ReadsConfig (unwrap_or given most_bounds) trace.First rows
-reads_given given rows within e =
-    record { given = given; limits = refl; within = within; trace = []; reads = first_reads; configuring = refl; parts = e ∙ ap (λ (l : List Row). script_header ∷ l) (sym (append-nil (limits_rows given))) }
-
-config_row : (n : ℕ) (limits : Bounds) (t u : TraceStage) (fields : Row) (rows : List Row) → ReadsConfig limits t rows → is_config_word (field_of fields 0) ≡ true → row_step n t fields ≡ Ok u
-    → ReadsConfig limits u (rows ++ fields ∷ [])
-config_row n limits t u fields rows h word e =
+first_reads script.One = record { spelled = refl; held = refl; sound = tt; targets = tt; events = tt }
+first_reads script.Two =
     record {
-      given = h.given;
-      limits = h.limits;
+      spelled = refl;
+      held = (refl, refl);
+      sound = (record { weights = refl; links = refl; adapters = refl; devices = refl; lanes = refl }, refl, refl, refl, refl);
+      targets = tt;
+      events = tt;
+    }
+
+first_configures : (v : ScriptVersion) → is_configuring (first_stage v) ≡ true
+first_configures script.One = refl
+first_configures script.Two = refl
+
+reads_given : (v : ScriptVersion) (given : Option Bounds) (rows : List Row) → IfSome given (λ b. are_within b ≡ true) → rows ≡ script_header v ∷ limits_rows given → ReadsConfig given (first_stage v) rows
+reads_given v given rows within e =
+    record { version = v; within = within; trace = []; reads = first_reads v; configuring = first_configures v; parts = e ∙ ap (λ (l : List Row). script_header v ∷ l) (sym (append-nil (limits_rows given))) }
+
+config_row : (n : ℕ) (given : Option Bounds) (t u : TraceStage) (fields : Row) (rows : List Row) → ReadsConfig given t rows → is_config_word (field_of fields 0) ≡ true → row_step n t fields ≡ Ok u
+    → ReadsConfig given u (rows ++ fields ∷ [])
+config_row n given t u fields rows h word e =
+    let v = trace_version h.version in
+    record {
+      version = h.version;
       within = h.within;
       trace = h.trace ++ fields ∷ [];
-      reads = reads_behind version.One n t u fields (header version.One ∷ h.trace) h.reads e;
+      reads = reads_behind v n t u fields (header v ∷ h.trace) h.reads e;
       configuring = configures n t u fields word e;
-      parts = ap (λ (l : List Row). l ++ fields ∷ []) h.parts ∙ ap (λ (l : List Row). script_header ∷ l) (append_assoc (limits_rows h.given) h.trace (fields ∷ []));
+      parts = ap (λ (l : List Row). l ++ fields ∷ []) h.parts ∙ ap (λ (l : List Row). script_header h.version ∷ l) (append_assoc (limits_rows given) h.trace (fields ∷ []));
     }
 
 no_events : (t : TraceStage) → is_configuring t ≡ true → (past_of t).events ≡ []
@@ -131,35 +140,43 @@ no_events trace.Header e = absurd cc
 no_events (trace.Events p) e = absurd cc
 no_events _ e = refl
 
-config_records : (p : Past) (rows : List Row) → header version.One ∷ rows ≡ records_of version.One p → p.config.links ≡ [] → p.events ≡ [] → rows ≡ map adapter_row p.config.adapters ++ (map device_row p.config.devices ++ (map lane_row p.config.lanes ++ []))
+abbrev pub grouped : Version → Topology → List Row
+grouped v c = weight_rows v c.weights ++ (map link_row c.links ++ (map adapter_row c.adapters ++ (map device_row c.devices ++ (map lane_row c.lanes ++ []))))
+
+config_records : (v : Version) (p : Past) (rows : List Row) → header v ∷ rows ≡ records_of v p → p.events ≡ [] → rows ≡ grouped v p.config
 unfolding records_of
-config_records p rows e no_link none =
-    let is = rw (no_link, none) at e in
+config_records v p rows e none =
+    let is = rw none at e in
     cc
 
+regroup : (w k a d l : List Row) → w ++ (k ++ (a ++ (d ++ (l ++ [])))) ≡ (w ++ (k ++ (a ++ (d ++ l)))) ++ []
+regroup w k a d l = simp append_assoc
+
+pub config_spelled : (v : ScriptVersion) (c : Topology) → grouped (trace_version v) c ≡ config_rows v c ++ []
+config_spelled v c = regroup (weight_rows (trace_version v) c.weights) (map link_row c.links) (map adapter_row c.adapters) (map device_row c.devices) (map lane_row c.lanes)
+
 -- a whole configuration, without a row
-whole_config : (limits : Bounds) (t : TraceStage) (rows : List Row) → ReadsConfig limits t rows → lacks_adapters t ≡ false → ReadsRows (empty_scenario (config_of t) limits) 0 0 rows
+whole_config : (given : Option Bounds) (t : TraceStage) (rows : List Row) → ReadsConfig given t rows → lacks_adapters t ≡ false → ReadsRows (empty_scenario (config_of t) (limits_of given)) 0 0 rows
 unfolding script_records scenario_of
-whole_config limits t rows h some =
+whole_config given t rows h some =
     let c = config_of t in
-    let ready = event_ready version.One t h.reads.sound h.reads.held some in
-    let held = and_parts (are_standard c.weights) (has_no_links c) ready.1 in
-    let behind = config_records (past_of t) h.trace (h.reads.spelled ∙ ready.0) (no_links c held.1) (no_events t h.configuring) in
+    let v = trace_version h.version in
+    let ready = event_ready v t h.reads.sound h.reads.held some in
+    let behind = config_records v (past_of t) h.trace (h.reads.spelled ∙ ready.0) (no_events t h.configuring) ∙ config_spelled h.version c in
     record {
-      made = record { limits = h.given; config = c; rows = [] };
+      made = record { version = h.version; limits = given; config = c; rows = [] };
       kept = record {
         limits = h.within;
         config = ready.2.config;
-        weights = standard_is c.weights held.0;
-        unlinked = held.1;
+        held = ready.1;
         targets = h.reads.targets;
         fits = tt;
         ruled = tt;
         steps = omega arith;
         answers = omega arith;
       };
-      spelled = h.parts ∙ ap (λ (l : List Row). script_header ∷ (limits_rows h.given ++ l)) behind;
-      value = ap (λ (l : Bounds). empty_scenario c l) h.limits;
+      spelled = h.parts ∙ ap (λ (l : List Row). script_header h.version ∷ (limits_rows given ++ l)) behind;
+      value = refl;
       steps = refl;
       answers = refl;
     }
@@ -190,8 +207,7 @@ push_row s k a rows fields w x i h word room said is =
       kept = record {
         limits = h.kept.limits;
         config = h.kept.config;
-        weights = h.kept.weights;
-        unlinked = h.kept.unlinked;
+        held = h.kept.held;
         targets = h.kept.targets;
         fits = all_push FitsRow m.rows x h.kept.fits t.1;
         ruled = all_push (λ y. is_ok (item_of m.config y) ≡ true) m.rows x h.kept.ruled fine;
@@ -225,44 +241,53 @@ none_yet : (b : Bool) → has_room b 0 0 ≡ true
 none_yet true = refl
 none_yet false = refl
 
-first_read : (n : ℕ) (limits : Bounds) (t : TraceStage) (u : ScriptStage) (fields : Row) (rows : List Row) → ReadsConfig limits t rows → first_row n limits t fields ≡ Ok u → ReadsScript u (rows ++ fields ∷ [])
+first_read : (n : ℕ) (given : Option Bounds) (t : TraceStage) (u : ScriptStage) (fields : Row) (rows : List Row) → ReadsConfig given t rows → first_row n given t fields ≡ Ok u → ReadsScript u (rows ++ fields ∷ [])
 unfolding first_row
-first_read n limits t u fields rows h e =
+first_read n given t u fields rows h e =
     on_ok (ok_or (item_word fields) (BadRecord n)) _ u e (λ w ew r1.
     on_ok (in_record n (script_row_at w fields)) _ u r1 (λ x ex r2.
     on_ok (configured n t) _ u r2 (λ c ec r3.
-    let g = guarded (lacks_adapters t) (BadConfig n NoAdapters) (Ok (config_of t)) c ec in
+    let limits = limits_of given in
+    let g = guarded (lacks_adapters t) (BadConfig n (lacking (config_of t).weights)) (Ok (config_of t)) c ec in
     let same : config_of t ≡ c = ok_is (config_of t) c g.1 in
-    let whole = subst (λ (y : Topology). ReadsRows (empty_scenario y limits) 0 0 rows) same (whole_config limits t rows h g.0) in
+    let whole = subst (λ (y : Topology). ReadsRows (empty_scenario y limits) 0 0 rows) same (whole_config given t rows h g.0) in
     with_ok n (empty_scenario c limits) 0 0 (item_of c x) u r3 (λ i ei is.
     subst (λ (v : ScriptStage). ReadsScript v (rows ++ fields ∷ [])) is
     (push_row (empty_scenario c limits) 0 0 rows fields w x i whole (ok_or_ok (item_word fields) (BadRecord n) w ew) (none_yet (is_answer_word w)) (in_record_ok n (script_row_at w fields) x ex) ei)))))
 
-config_read : (n : ℕ) (limits : Bounds) (t : TraceStage) (u : ScriptStage) (fields : Row) (rows : List Row) → ReadsConfig limits t rows → config_step n limits t fields ≡ Ok u → ReadsScript u (rows ++ fields ∷ [])
+config_read : (n : ℕ) (given : Option Bounds) (t : TraceStage) (u : ScriptStage) (fields : Row) (rows : List Row) → ReadsConfig given t rows → config_step n given t fields ≡ Ok u → ReadsScript u (rows ++ fields ∷ [])
 unfolding config_step
-config_read n limits t u fields rows h e = by (is_config_word (field_of fields 0)) refl e
+config_read n given t u fields rows h e = by (is_config_word (field_of fields 0)) refl e
   where
-    by : (b : Bool) → is_config_word (field_of fields 0) ≡ b → cond b (row_step n t fields >>= λ v. Ok (stage.Config limits v)) (first_row n limits t fields) ≡ Ok u → ReadsScript u (rows ++ fields ∷ [])
+    by : (b : Bool) → is_config_word (field_of fields 0) ≡ b → cond b (row_step n t fields >>= λ v. Ok (stage.Config given v)) (first_row n given t fields) ≡ Ok u → ReadsScript u (rows ++ fields ∷ [])
     by true word k =
-        on_ok (row_step n t fields) (λ v. Ok (stage.Config limits v)) u k (λ v ev s.
-        subst (λ (y : ScriptStage). ReadsScript y (rows ++ fields ∷ [])) (ok_is _ u s) (config_row n limits t v fields rows h word ev))
-    by false word k = first_read n limits t u fields rows h k
+        on_ok (row_step n t fields) (λ v. Ok (stage.Config given v)) u k (λ v ev s.
+        subst (λ (y : ScriptStage). ReadsScript y (rows ++ fields ∷ [])) (ok_is _ u s) (config_row n given t v fields rows h word ev))
+    by false word k = first_read n given t u fields rows h k
 
 -- a stage that took a record has read it
 step_reads : (n : ℕ) (s t : ScriptStage) (fields : Row) (rows : List Row) → ReadsScript s rows → script_step n s fields ≡ Ok t → ReadsScript t (rows ++ fields ∷ [])
 unfolding script_step script_header limits_step
 step_reads n stage.Header t fields rows h e =
-    let k = if_ok (is_header (codes "camscript1") fields) _ t BadHeader e in
-    subst (λ (y : ScriptStage). ReadsScript y (rows ++ fields ∷ [])) (ok_is _ t k.1) (rw (h, named_header (codes "camscript1") fields k.0) refl)
-step_reads n stage.First t fields rows h e = by (is_limits fields) refl e
+    by (is_header (script_name script.One) fields) (is_header (script_name script.Two) fields) refl refl e
   where
-    by : (b : Bool) → is_limits fields ≡ b → cond b (limits_step n fields) (config_step n most_bounds trace.First fields) ≡ Ok t → ReadsScript t (rows ++ fields ∷ [])
+    named : (v : ScriptVersion) → is_header (script_name v) fields ≡ true → stage.First v ≡ t → ReadsScript t (rows ++ fields ∷ [])
+    named v is same = subst (λ (y : ScriptStage). ReadsScript y (rows ++ fields ∷ [])) same (rw (h, named_header (script_name v) fields is) refl)
+
+    by : (one two : Bool) → is_header (script_name script.One) fields ≡ one → is_header (script_name script.Two) fields ≡ two
+        → cond one (Ok (stage.First script.One)) (cond two (Ok (stage.First script.Two)) (Err BadHeader)) ≡ Ok t → ReadsScript t (rows ++ fields ∷ [])
+    by true two is_one is_two k = named script.One is_one (ok_is _ t k)
+    by false true is_one is_two k = named script.Two is_two (ok_is _ t k)
+    by false false is_one is_two k = absurd cc
+step_reads n (stage.First v) t fields rows h e = by (is_limits fields) refl e
+  where
+    by : (b : Bool) → is_limits fields ≡ b → cond b (limits_step n v fields) (config_step n None (first_stage v) fields) ≡ Ok t → ReadsScript t (rows ++ fields ∷ [])
     by true is k =
-        on_ok (in_record n (limits_at fields)) (λ limits. Ok (stage.Config limits trace.First)) t k (λ limits el s.
+        on_ok (in_record n (limits_at fields)) (λ limits. Ok (stage.Config (Some limits) (first_stage v))) t k (λ limits el s.
         let l = limits_take fields limits is (in_record_ok n (limits_at fields) limits el) in
-        subst (λ (y : ScriptStage). ReadsScript y (rows ++ fields ∷ [])) (ok_is _ t s) (reads_given (Some limits) (rows ++ fields ∷ []) l.1 (rw (h, l.0) refl)))
-    by false is k = config_read n most_bounds trace.First t fields rows (reads_given None rows tt h) k
-step_reads n (stage.Config limits t') t fields rows h e = config_read n limits t' t fields rows h e
+        subst (λ (y : ScriptStage). ReadsScript y (rows ++ fields ∷ [])) (ok_is _ t s) (reads_given v (Some limits) (rows ++ fields ∷ []) l.1 (rw (h, l.0) refl)))
+    by false is k = config_read n None (first_stage v) t fields rows (reads_given v None rows tt h) k
+step_reads n (stage.Config given t') t fields rows h e = config_read n given t' t fields rows h e
 step_reads n (stage.Rows s k a) t fields rows h e = rows_read n s k a t fields rows h e
 
 -- ---- the end
@@ -276,11 +301,13 @@ pub record IsSpelled (rows : List Row) (s : Scenario) : Type 0 where
 ended_reads : (t : ScriptStage) (s : Scenario) (rows : List Row) → ReadsScript t rows → script_ended t ≡ Ok s → IsSpelled rows s
 unfolding script_ended
 ended_reads stage.Header s rows h e = absurd cc
-ended_reads stage.First s rows h e = absurd cc
-ended_reads (stage.Config limits t) s rows h e =
-    on_ok (configured 3 t) (λ c. Ok (empty_scenario c limits)) s e (λ c ec r.
-    let g = guarded (lacks_adapters t) (BadConfig 3 NoAdapters) (Ok (config_of t)) c ec in
-    let w = whole_config limits t rows h g.0 in
+ended_reads (stage.First script.One) s rows h e = absurd cc
+ended_reads (stage.First script.Two) s rows h e = absurd cc
+ended_reads (stage.Config given t) s rows h e =
+    let limits = limits_of given in
+    on_ok (configured_last given t) (λ c. Ok (empty_scenario c limits)) s e (λ c ec r.
+    let g = guarded (lacks_adapters t) _ (Ok (config_of t)) c ec in
+    let w = whole_config given t rows h g.0 in
     let same : empty_scenario (config_of t) limits ≡ s = ap (λ (y : Topology). empty_scenario y limits) (ok_is (config_of t) c g.1) ∙ ok_is _ s r in
     record { made = w.made; kept = w.kept; spelled = w.spelled; value = sym same ∙ w.value })
 ended_reads (stage.Rows one k a) s rows h e =

@@ -1,9 +1,8 @@
 -- A scenario's lists are the rows in order.
-use Rattle.std.proofs.Common.{◌≡◌, ◌<◌, ℕ, List, [], ◌∷◌, ◌++◌, length, get_or, refl, sym, ap, ◌∙◌, arith, append-nil, append_assoc, Result, Ok, unwrap_or, flat_map, fold}
+use Rattle.std.proofs.Common.{◌≡◌, ◌<◌, ℕ, List, [], ◌∷◌, ◌++◌, length, get_or, refl, sym, ap, ◌∙◌, arith, append-nil, append_assoc, Result, Ok, flat_map, fold}
 use Rattle.std.proofs.lemmas.List.{get_or-replicate, length-replicate}
-use Rattle.cam_types.specs.Bounds.{most_bounds}
 use Rattle.trace_file.specs.ScriptRows.{ScriptRow}
-use Rattle.trace_file.specs.ScriptReading.{ScriptItem}
+use Rattle.trace_file.specs.ScriptReading.{limits_of, ScriptItem}
 use Rattle.trace_file.specs.declared.script_row.ScriptItem.TheVariants as item
 use Rattle.trace_file.specs.Scenarios.{Scenario, empty_scenario, item_of, Step}
 use Rattle.trace_file.specs.Histories.{Outcome, Refusal, Topology}
@@ -40,13 +39,13 @@ rows_add {X = X} lists said i c s (x ∷ xs) one is h =
 pub steps_in_order : (m : Manuscript) (driver : ℕ) → driver < 8 → get_or (scenario_of m).drivers driver [] ≡ steps_of m.config driver m.rows
 unfolding scenario_of steps_of
 steps_in_order m driver h =
-    let s = empty_scenario m.config (unwrap_or m.limits most_bounds) in
+    let s = empty_scenario m.config (limits_of m.limits) in
     let eight = length-replicate {A = List Step} 8 [] in
     rows_add (λ s. s.drivers) (step_said driver) driver m.config s m.rows (one_step driver) refl (omega arith) ∙ ap (λ (l : List Step). l ++ flat_map (λ said. step_said driver (item_of m.config said)) m.rows) (get_or-replicate 8 driver [] [] h)
 
 pub answers_in_order : (m : Manuscript) (lane : ℕ) → lane < length m.config.lanes → get_or (scenario_of m).answers lane [] ≡ answers_of m.config lane m.rows
 unfolding scenario_of answers_of
 answers_in_order m lane h =
-    let s = empty_scenario m.config (unwrap_or m.limits most_bounds) in
+    let s = empty_scenario m.config (limits_of m.limits) in
     let size = length-replicate {A = List Outcome} (length m.config.lanes) [] in
     rows_add (λ s. s.answers) (answer_said lane) lane m.config s m.rows (one_answer lane) refl (omega arith) ∙ ap (λ (l : List Outcome). l ++ flat_map (λ said. answer_said lane (item_of m.config said)) m.rows) (get_or-replicate (length m.config.lanes) lane [] [] h)

@@ -76,26 +76,26 @@ row-le : (field : List ℕ) (rest : Row) → length (row_text default_writer (fi
 row-le field rest =
     with_end (field_text default_writer field) (fields_text default_writer rest) _ (length field) (size rest) (length rest) (field-le field) (fields-le rest) (end-le (is_blank default_writer (field ∷ rest)))
 
-abbrev IsShort : Row → Type 0
-IsShort row = length (row_text default_writer row) ≤ 135
+abbrev pub IsShort : Row → Type 0
+IsShort row = length (row_text default_writer row) ≤ 140
 
--- eight fields of 54 bytes together
-abbrev short_by : (a b c d e f g h : List ℕ) → Type 0
-short_by a b c d e f g h = length a + (length b + (length c + (length d + (length e + (length f + (length g + length h)))))) ≤ 54
+-- eight fields of 57 bytes together
+abbrev pub short_by : (a b c d e f g h : List ℕ) → Type 0
+short_by a b c d e f g h = length a + (length b + (length c + (length d + (length e + (length f + (length g + length h)))))) ≤ 57
 
-eight : (a b c d e f g h : List ℕ) → short_by a b c d e f g h → IsShort (a ∷ b ∷ c ∷ d ∷ e ∷ f ∷ g ∷ h ∷ [])
+pub eight : (a b c d e f g h : List ℕ) → short_by a b c d e f g h → IsShort (a ∷ b ∷ c ∷ d ∷ e ∷ f ∷ g ∷ h ∷ [])
 eight a b c d e f g h few = let le = row-le a (b ∷ c ∷ d ∷ e ∷ f ∷ g ∷ h ∷ []) in omega arith
 
-ten : (n : ℕ) → n ≤ most_number → length (decimal n) ≤ 10
+pub ten : (n : ℕ) → n ≤ most_number → length (decimal n) ≤ 10
 ten n h = length-decimal-le 10 n (omega arith) (omega arith) (omega arith)
 
 one_number : (w : List ℕ) (n : ℕ) → length w ≤ 8 → n ≤ most_number → IsShort (w ∷ decimal n ∷ [] ∷ [] ∷ [] ∷ [] ∷ [] ∷ [] ∷ [])
 one_number w n h a = let x = ten n a in eight w (decimal n) [] [] [] [] [] [] (omega arith)
 
-two_numbers : (w : List ℕ) (m n : ℕ) → length w ≤ 8 → m ≤ most_number → n ≤ most_number → IsShort (w ∷ decimal m ∷ decimal n ∷ [] ∷ [] ∷ [] ∷ [] ∷ [] ∷ [])
+pub two_numbers : (w : List ℕ) (m n : ℕ) → length w ≤ 8 → m ≤ most_number → n ≤ most_number → IsShort (w ∷ decimal m ∷ decimal n ∷ [] ∷ [] ∷ [] ∷ [] ∷ [] ∷ [])
 two_numbers w m n h a b = let x = ten m a in let y = ten n b in eight w (decimal m) (decimal n) [] [] [] [] [] (omega arith)
 
-short_flags : (a b : Bool) → length (flags_word a b) ≤ 7
+pub short_flags : (a b : Bool) → length (flags_word a b) ≤ 7
 short_flags a b = grind arith
 
 short_event : (e : Event) → FitsEvent e → IsShort (event_row e)
@@ -131,7 +131,7 @@ short_device d a b c o =
 -- ---- a whole history
 
 -- a record that is written whole, in few bytes
-abbrev IsGood : Row → Type 0
+abbrev pub IsGood : Row → Type 0
 IsGood row = (read_back row ≡ row) × IsShort row
 
 good_event : (e : Event) → FitsEvent e → IsGood (event_row e)
@@ -173,7 +173,7 @@ good_adapter links few before a e = by a.link (link_number links a.link few (ada
     by None h = let s = small in (refl, one_number (codes "sim") a.openings (omega arith) (omega arith))
     by (Some l) h = let s = small in (refl, two_numbers (codes "sim") a.openings l (omega arith) (omega arith) h)
 
-text-le : (rows : List Row) → AllByRecursion IsGood rows → length (text_of rows) ≤ 135 * length rows
+pub text-le : (rows : List Row) → AllByRecursion IsGood rows → length (text_of rows) ≤ 140 * length rows
 unfolding text_of
 text-le [] h = omega arith
 text-le (row ∷ rows) h =
@@ -183,7 +183,7 @@ text-le (row ∷ rows) h =
     omega arith
 
 -- a history's records: each is good, and they aren't many
-good_records : (v : Version) (past : Past) → IsHistory past → length past.events ≤ MOST_EVENTS
+pub good_records : (v : Version) (past : Past) → IsHistory past → length past.events ≤ MOST_EVENTS
     → All IsGood (records_of v past) × (length (records_of v past) ≤ MOST_EVENTS + (1 + MOST_WEIGHT_ROWS + MOST_LINKS + MOST_ADAPTERS + MOST_DEVICES + MOST_ADAPTERS * MOST_LANES))
 unfolding records_of
 good_records v past h few =

@@ -17,7 +17,7 @@ use Rattle.event_rules.proofs.LegalLemmas.{none-legal}
 use Rattle.trace_file.specs.Histories.{Adapter, Topology, WeightRow, weight_fault, reaches_last, standard_weights, Device, Event, Past, link_fault, adapter_fault, device_fault, lane_fault, refusal, config_fault, is_legal, is_legal_event}
 use Rattle.trace_file.specs.Reading.{add_weight, add_link, add_adapter, add_device, add_event, add_lane, config_of, ended, has_letters, is_header, lacks_adapters, past_of, reading, stands, step, version_of, TraceFault, TraceStage}
 use Rattle.trace_file.specs.declared.trace_stage.TraceStage.TheVariants as stage
-use Rattle.trace_file.specs.Records.{weight_row, link_row, adapter_row, device_row, event_row, has_no_links, header, holds, is_unlinked, lane_row, least_version, records_of}
+use Rattle.trace_file.specs.Records.{weight_row, link_row, adapter_row, device_row, event_row, has_no_links, header, holds, is_unlinked, lane_row, least_version, records_of, weight_rows}
 use Rattle.trace_file.specs.Rows.{most_number}
 use Rattle.trace_file.specs.Versions.{has_table, name_of, Version}
 use Rattle.trace_file.specs.Fields.{Row}
@@ -297,10 +297,10 @@ links_base version.Two t table held h = rw (no_links t held) (weights_base versi
 links_base version.Three t table held h = three_base t.weights t.links h
 
 -- what is spelled so is read: its stages, in version 1 and in those with a table of weights
-abbrev at_past : Version → Past → TraceStage
+abbrev pub at_past : Version → Past → TraceStage
 at_past v past = let t = past.config in at_events v t.weights t.links t.adapters t.devices t.lanes past.events
 
-abbrev behind_links : Past → List Row
+abbrev pub behind_links : Past → List Row
 behind_links past = let t = past.config in map adapter_row t.adapters ++ (map device_row t.devices ++ (map lane_row t.lanes ++ map event_row past.events))
 
 taken_past : (v : Version) (past : Past) (base : TraceStage) → IsHistory past → holds v past.config ≡ true → IsBase v past.config.weights past.config.links base → (n : ℕ) → taken step n base (behind_links past) ≡ Ok (at_past v past)
@@ -308,37 +308,48 @@ taken_past v past base h held on n =
     let t = past.config in
     taken_all v t.weights t.links base t.adapters t.devices t.lanes past.events on (kept v t h.config held) h.targets h.legal h.events n
 
-by_standard : (past : Past) → IsHistory past → holds version.One past.config ≡ true → taken step 1 stage.Header (records_of version.One past) ≡ Ok (at_past version.One past)
-unfolding records_of
-by_standard past h held =
+-- the stage after the header of a version, and the records after the header
+abbrev pub first_at : Version → TraceStage
+first_at version.One = stage.First
+first_at v = at_weights v []
+
+abbrev pub behind_header : Version → Past → List Row
+behind_header v past = weight_rows v past.config.weights ++ (map link_row past.config.links ++ behind_links past)
+
+header_first : (v : Version) → step 1 stage.Header (header v) ≡ Ok (first_at v)
+header_first version.One = header_one
+header_first version.Two = header_table version.Two refl
+header_first version.Three = header_table version.Three refl
+
+by_standard : (past : Past) → IsHistory past → holds version.One past.config ≡ true → (n : ℕ) → taken step n stage.First (behind_header version.One past) ≡ Ok (at_past version.One past)
+by_standard past h held n =
     let t = past.config in
     let parts = and_parts (are_standard t.weights) (has_no_links t) held in
     let none = no_links t parts.1 in
     let base : IsBase version.One t.weights t.links stage.First = rw (standard_is t.weights parts.0, none) first_base in
     let gone : map link_row t.links ++ behind_links past ≡ behind_links past = rw none refl in
-    rw header_one (ap (taken step 2 stage.First) gone ∙ taken_past version.One past stage.First h held base 2)
+    ap (taken step n stage.First) gone ∙ taken_past version.One past stage.First h held base n
 
-by_table : (v : Version) (past : Past) → has_table v ≡ true → IsHistory past → holds v past.config ≡ true → taken step 1 stage.Header (records_of v past) ≡ Ok (at_past v past)
-unfolding records_of
-by_table v past table h held =
+by_table : (v : Version) (past : Past) → has_table v ≡ true → IsHistory past → holds v past.config ≡ true → (n : ℕ) → taken step n (at_weights v []) (behind_header v past) ≡ Ok (at_past v past)
+by_table v past table h held n =
     let t = past.config in
     let k = kept v t h.config held in
-    let weights = run weight_row (at_weights v) (λ b x. weight_fault (b, x) ≡ None) (one_weight v) [] t.weights 2 k.weights in
+    let weights = run weight_row (at_weights v) (λ b x. weight_fault (b, x) ≡ None) (one_weight v) [] t.weights n k.weights in
     let rest = behind_links past in
-    rw (table, header_table v table) (then_taken step 2 (at_weights v []) (at_weights v t.weights) (at_past v past) (map weight_row t.weights) (map link_row t.links ++ rest) weights (λ n.
-    then_taken step n (at_weights v t.weights) (at_links v t.weights t.links) (at_past v past) (map link_row t.links) rest (taken_links v t table held k n) (λ m.
+    rw table (then_taken step n (at_weights v []) (at_weights v t.weights) (at_past v past) (map weight_row t.weights) (map link_row t.links ++ rest) weights (λ i.
+    then_taken step i (at_weights v t.weights) (at_links v t.weights t.links) (at_past v past) (map link_row t.links) rest (taken_links v t table held k i) (λ m.
     taken_past v past (at_links v t.weights t.links) h held (links_base v t table held k.reaches) m)))
 
-by_version : (v : Version) (past : Past) → IsHistory past → holds v past.config ≡ true → taken step 1 stage.Header (records_of v past) ≡ Ok (at_past v past)
-by_version version.One past h held = by_standard past h held
-by_version version.Two past h held = by_table version.Two past refl h held
-by_version version.Three past h held = by_table version.Three past refl h held
+pub by_version : (v : Version) (past : Past) → IsHistory past → holds v past.config ≡ true → (n : ℕ) → taken step n (first_at v) (behind_header v past) ≡ Ok (at_past v past)
+by_version version.One past h held n = by_standard past h held n
+by_version version.Two past h held n = by_table version.Two past refl h held n
+by_version version.Three past h held n = by_table version.Three past refl h held n
 
 pub reading_again : (v : Version) (past : Past) → IsHistory past → holds v past.config ≡ true → reading (records_of v past) ≡ Ok past
-unfolding reading
+unfolding reading records_of
 reading_again v past h held =
     let t = past.config in
-    rw (by_version v past h held) (at_end v t.weights t.links t.adapters t.devices t.lanes past.events)
+    rw (header_first v, by_version v past h held 2) (at_end v t.weights t.links t.adapters t.devices t.lanes past.events)
 
 -- two histories have no list of records in common
 pub one_past : (v w : Version) (one other : Past) → IsHistory one → IsHistory other → holds v one.config ≡ true → holds w other.config ≡ true → records_of v one ≡ records_of w other → one ≡ other

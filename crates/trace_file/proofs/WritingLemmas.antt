@@ -6,13 +6,18 @@ use Rattle.std.specs.List.{AllByRecursion}
 use Rattle.std.proofs.KnownBytes.{Appends-trans}
 use Rattle.std.proofs.lemmas.List.{map-append, take_more, take_more_set}
 use Rattle.std.proofs.lemmas.List.Concat.{flat_map-append}
+use Rattle.std.proofs.lemmas.List.Elements.{All-from_recursion}
 use Rattle.csv.specs.Writing.{default_writer, row_text, text_written}
 use Rattle.csv.specs.declared.writer.Writer.{Writer}
 use Rattle.csv.proofs.WriteFacts.{appends-none}
 use Rattle.trace_file.specs.Fields.{Row}
 use Rattle.trace_file.specs.Records.{hex}
 use Rattle.trace_file.specs.Writing.{IsBetween, Wrote, text_of}
+use Rattle.trace_file.specs.Script.{FitsRow}
+use Rattle.trace_file.specs.ScriptRows.{script_row, ScriptRow}
+use Rattle.trace_file.specs.ScriptWriting.{numbered}
 use Rattle.trace_file.proofs.ListLaws.{all_push}
+use Rattle.trace_file.proofs.ScriptNumbered.{all_both, numbered_more}
 
 -- no record was written yet
 pub wrote_none : {W : Type 0} (contents : W → Option (List ℕ)) (writer : Writer W) → IsBetween writer → Wrote contents writer writer []
@@ -65,3 +70,46 @@ hex_more text bytes i a b h k ea eb e =
     let spelled : hex (take (i + 1) bytes) ≡ hex (take i bytes) ++ a ∷ b ∷ [] =
     ap hex (take_more bytes i 0 k) ∙ hex-append (take i bytes) (get_or bytes i 0 ∷ []) ∙ rw (ea, eb) refl in
     rw (two, written, spelled, e) (append_assoc (hex (take i bytes)) (a ∷ []) (b ∷ []))
+
+-- ---- the rows of a script
+
+-- the record of one item's row more
+pub wrote_row : {W X : Type 0} (contents : W → Option (List ℕ)) (a b c : Writer W) (row : X → ScriptRow) (items : List X) (i : ℕ) (x : X) → i < length items → get_or items i x ≡ x
+    → Wrote contents a b (map script_row (map row (take i items))) → Wrote contents b c (script_row (row x) ∷ []) → Wrote contents a c (map script_row (map row (take (i + 1) items)))
+wrote_row contents a b c row items i x h is one other =
+    let items_more : map row (take (i + 1) items) ≡ map row (take i items) ++ row x ∷ [] =
+    ap (map row) (take_more items i x h ∙ ap (λ (y : _). take i items ++ y ∷ []) is) ∙ map-append row (take i items) (x ∷ []) in
+    let more = ap (map script_row) items_more ∙ map-append script_row (map row (take i items)) (row x ∷ []) in
+    subst (Wrote contents a c) (sym more) (wrote_both contents a b c (map script_row (map row (take i items))) (script_row (row x) ∷ []) one other)
+
+-- and its numbers fit
+pub fits_row : {X : Type 0} (row : X → ScriptRow) (items : List X) (i : ℕ) (x : X) → i < length items → get_or items i x ≡ x → AllByRecursion FitsRow (map row (take i items)) → FitsRow (row x)
+    → AllByRecursion FitsRow (map row (take (i + 1) items))
+fits_row row items i x h is all one =
+    let more : map row (take (i + 1) items) ≡ map row (take i items) ++ row x ∷ [] =
+    ap (map row) (take_more items i x h ∙ ap (λ (y : _). take i items ++ y ∷ []) is) ∙ map-append row (take i items) (x ∷ []) in
+    subst (AllByRecursion FitsRow) (sym more) (all_push FitsRow (map row (take i items)) (row x) all one)
+
+one_list : {X : Type 0} (row : ℕ → X → ScriptRow) (lists : List (List X)) (i : ℕ) (here : List X) → i < length lists → get_or lists i [] ≡ here → numbered row 0 (take (i + 1) lists) ≡ numbered row 0 (take i lists) ++ map (row i) here
+one_list row lists i here h is =
+    let same : 0 + i ≡ i = omega arith in
+    numbered_more row 0 lists i h ∙ ap (λ (k : ℕ). numbered row 0 (take i lists) ++ map (row k) (get_or lists i [])) same ∙ ap (λ (l : List _). numbered row 0 (take i lists) ++ map (row i) l) is
+
+-- the records of one list's rows more
+pub wrote_list : {W X : Type 0} (contents : W → Option (List ℕ)) (a b c : Writer W) (row : ℕ → X → ScriptRow) (lists : List (List X)) (i : ℕ) (here : List X) → i < length lists → get_or lists i [] ≡ here
+    → Wrote contents a b (map script_row (numbered row 0 (take i lists))) → Wrote contents b c (map script_row (map (row i) here)) → Wrote contents a c (map script_row (numbered row 0 (take (i + 1) lists)))
+wrote_list contents a b c row lists i here h is one other =
+    let rows = one_list row lists i here h is in
+    let more = ap (map script_row) rows ∙ map-append script_row (numbered row 0 (take i lists)) (map (row i) here) in
+    subst (Wrote contents a c) (sym more) (wrote_both contents a b c (map script_row (numbered row 0 (take i lists))) (map script_row (map (row i) here)) one other)
+
+-- and their numbers fit
+pub fits_list : {X : Type 0} (row : ℕ → X → ScriptRow) (lists : List (List X)) (i : ℕ) (here : List X) → i < length lists → get_or lists i [] ≡ here → AllByRecursion FitsRow (numbered row 0 (take i lists)) → AllByRecursion FitsRow (map (row i) here)
+    → AllByRecursion FitsRow (numbered row 0 (take (i + 1) lists))
+fits_list row lists i here h is all one =
+    let rows = one_list row lists i here h is in
+    subst (AllByRecursion FitsRow) (sym rows) (all_both FitsRow (numbered row 0 (take i lists)) (map (row i) here) all one)
+
+-- one driver's steps of those that all keep a rule
+pub ruled_at : {X : Type 0} (P : X → Type 0) (xs : List X) (i : ℕ) (x : X) → i < length xs → get_or xs i x ≡ x → AllByRecursion P xs → P x
+ruled_at P xs i x h is all = subst P is (All-from_recursion P xs all i x h)

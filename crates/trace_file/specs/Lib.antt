@@ -8,6 +8,8 @@ pub mod Scenarios
 pub mod Script
 pub mod ScriptReading
 pub mod ScriptRows
+pub mod ScriptVersions
+pub mod ScriptWriting
 pub mod Sound
 pub mod Trace
 pub mod TraceRows

@@ -1,26 +1,28 @@
 -- Texts of scripts, and what a reader of scripts answers.
-use Rattle.std.specs.Prelude.{◌≡◌, ℕ, ◌≤◌, Bool, true, not, List, [], ◌∷◌, ◌++◌, length, map, count_by, Option, Some, None, IfSome, unwrap_or, Result, Ok, Err, is_ok, if◌then◌else◌, ◌==◌}
+use Rattle.std.specs.Prelude.{◌≡◌, ℕ, ◌≤◌, Bool, true, not, List, [], ◌∷◌, ◌++◌, length, map, count_by, Option, Some, None, IfSome, Result, Ok, Err, is_ok, if◌then◌else◌, ◌==◌}
 use Rattle.std.specs.List.{AllByRecursion, flat_map, fold}
-use Rattle.cam_types.specs.Bounds.{Bounds, are_within, most_bounds}
+use Rattle.cam_types.specs.Bounds.{Bounds, are_within}
 use Rattle.cam_types.specs.Whole.{IsWhole}
 use Rattle.cam_types.specs.declared.maxima.TheConstants.{MOST_BYTES}
 use Rattle.cam_path.specs.Paths.{Fits}
 use Rattle.trace_file.specs.ScriptRows.{limits_row, script_header, script_row, ScriptRow}
+use Rattle.trace_file.specs.ScriptVersions.{trace_version, ScriptVersion}
 use Rattle.trace_file.specs.declared.script_row.ScriptRow.TheVariants as row
-use Rattle.trace_file.specs.ScriptReading.{script_ended, script_step, ScriptItem}
+use Rattle.trace_file.specs.ScriptReading.{limits_of, script_ended, script_step, ScriptItem}
 use Rattle.trace_file.specs.declared.script_row.ScriptItem.TheVariants as item
 use Rattle.trace_file.specs.Scenarios.{Scenario, add_item, empty_scenario, is_answer_row, item_of, Step, MOST_ROWS}
 use Rattle.trace_file.specs.declared.script_stage.ScriptStage.TheVariants as stage
 use Rattle.trace_file.specs.Reading.{TraceFault}
 use Rattle.trace_file.specs.Fields.{Row}
-use Rattle.trace_file.specs.Histories.{Device, Outcome, Refusal, Topology, config_fault, standard_weights}
-use Rattle.trace_file.specs.Records.{adapter_row, device_row, has_no_links, lane_row}
+use Rattle.trace_file.specs.Histories.{Device, Outcome, Refusal, Topology, config_fault}
+use Rattle.trace_file.specs.Records.{adapter_row, device_row, holds, lane_row, link_row, weight_rows}
 use Rattle.trace_file.specs.Rows.{most_number}
 use Rattle.record_text.specs.Text.{records_in}
 use Rattle.trace_file.specs.Trace.{FitsOutcome, ExplainsBy}
 
--- what the records of a script say: limits, if they are given, a configuration, and rows
+-- what the records of a script say: its version, limits, if they are given, a configuration, and rows
 pub record Manuscript : Type 0 where
+  pub version : ScriptVersion
   pub limits : Option Bounds
   pub config : Topology
   pub rows : List ScriptRow
@@ -29,10 +31,15 @@ abbrev pub limits_rows : Option Bounds → List Row
 limits_rows None = []
 limits_rows (Some b) = limits_row b ∷ []
 
--- its records: the header, the limits, one for each adapter, device and lane, and one for each row
+-- the records of a configuration: one for each row of the weights, where the version has them, link, adapter, device and lane
+abbrev pub config_rows : ScriptVersion → Topology → List Row
+config_rows v c =
+    weight_rows (trace_version v) c.weights ++ (map link_row c.links
+    ++ (map adapter_row c.adapters ++ (map device_row c.devices ++ map lane_row c.lanes)))
+
+-- its records: the header, the limits, those of the configuration, and one for each row
 unfoldable pub script_records : Manuscript → List Row
-script_records m =
-    script_header ∷ (limits_rows m.limits ++ (map adapter_row m.config.adapters ++ (map device_row m.config.devices ++ (map lane_row m.config.lanes ++ map script_row m.rows))))
+script_records m = script_header m.version ∷ (limits_rows m.limits ++ (config_rows m.version m.config ++ map script_row m.rows))
 
 -- a row is put after the others of its driver, or of its lane
 abbrev pub put_item : Scenario → Result ScriptItem Refusal → Scenario
@@ -44,7 +51,7 @@ put_row s said = put_item s (item_of s.config said)
 
 -- the scenario: its rows in order, each after the others of its driver or of its lane
 unfoldable pub scenario_of : Manuscript → Scenario
-scenario_of m = fold put_row (empty_scenario m.config (unwrap_or m.limits most_bounds)) m.rows
+scenario_of m = fold put_row (empty_scenario m.config (limits_of m.limits)) m.rows
 
 -- what a row says to this driver, and to this lane
 abbrev pub step_said : ℕ → Result ScriptItem Refusal → List Step
@@ -80,13 +87,12 @@ step_rows rows = count_by (λ said. not (is_answer_row said)) rows
 abbrev pub answer_rows : List ScriptRow → ℕ
 answer_rows rows = count_by is_answer_row rows
 
--- limits within their ranges, a configuration within its rules with the standard weights and no link, rows whose numbers fit and that no static cause refuses,
--- and at most 4,096 rows of drivers and as many answers
+-- limits within their ranges, a configuration within its rules that the version can hold (version 1 only one with the standard weights and no
+-- link), rows whose numbers fit and that no static cause refuses, and at most 4,096 rows of drivers and as many answers
 pub record IsManuscript (m : Manuscript) : Type 0 where
   pub limits : IfSome m.limits (λ b. are_within b ≡ true)
   pub config : config_fault m.config ≡ None
-  pub weights : m.config.weights ≡ standard_weights
-  pub unlinked : has_no_links m.config ≡ true
+  pub held : holds (trace_version m.version) m.config ≡ true
   pub targets : AllByRecursion (λ (d : Device). d.target ≤ 65535) m.config.devices
   pub fits : AllByRecursion FitsRow m.rows
   pub ruled : AllByRecursion (λ said. is_ok (item_of m.config said) ≡ true) m.rows

@@ -1,34 +1,57 @@
 -- How a list of records is read as a script: record by record, each by the stage that it finds.
-use Rattle.std.specs.Prelude.{ℕ, ◌+◌, ◌==◌, Bool, true, false, nat_lt, ◌&&◌, ◌||◌, if◌then◌else◌, List, length, Option, Some, None, option_and_then, ok_or, Result, Ok, Err, codes, bytes_eq}
+use Rattle.std.specs.Prelude.{ℕ, ◌+◌, ◌==◌, Bool, true, false, nat_lt, ◌&&◌, ◌||◌, if◌then◌else◌, List, length, Option, Some, None, option_and_then, unwrap_or, ok_or, Result, Ok, Err, codes, bytes_eq}
 use Rattle.cam_types.specs.Bounds.{Bounds, most_bounds}
-use Rattle.trace_file.specs.Histories.{NoAdapters, Refusal, Topology}
+use Rattle.trace_file.specs.Histories.{Refusal, Topology}
 pub use Rattle.trace_file.specs.declared.script_row.ScriptItem.{ScriptItem}
 use Rattle.trace_file.specs.declared.script_row.ScriptItem.TheVariants as item
 pub use Rattle.trace_file.specs.declared.script_stage.ScriptStage.{ScriptStage}
 use Rattle.trace_file.specs.declared.script_stage.ScriptStage.TheVariants as stage
 use Rattle.trace_file.specs.ScriptRows.{limits_at, script_row_at, script_word_of, ScriptWord}
-use Rattle.trace_file.specs.Reading.{config_of, in_record, is_header, lacks_adapters, row_step, TraceFault, BadHeader, BadRecord, BadConfig, Illegal, TraceStage}
+use Rattle.trace_file.specs.Reading.{config_of, empty, in_record, is_header, lacking, lacks_adapters, row_step, TraceFault, BadHeader, BadRecord, BadConfig, Illegal, TraceStage}
 use Rattle.trace_file.specs.declared.trace_stage.TraceStage.TheVariants as trace
 use Rattle.trace_file.specs.Fields.{Row, field_of}
+use Rattle.trace_file.specs.ScriptVersions.{script_name, ScriptVersion}
+use Rattle.trace_file.specs.declared.script_version.ScriptVersion.TheVariants as script
+use Rattle.trace_file.specs.declared.version.Version.TheVariants as version
 use Rattle.trace_file.specs.Scenarios.{Scenario, add_item, empty_scenario, is_answer_word, item_of, MOST_ROWS}
 use Rattle.record_text.specs.Steps.{◌>>=◌, taken}
 pub use Rattle.trace_file.specs.declared.script_stage.ScriptStage.TheVariants.{Header}
 
--- a configuration with the standard weights is in the making, or an adapter is due
+-- a configuration is in the making, or its first record is due
 abbrev pub is_configuring : TraceStage → Bool
 is_configuring trace.Header = false
-is_configuring (trace.Weights v t) = false
-is_configuring (trace.Links t) = false
 is_configuring (trace.Events p) = false
 is_configuring _ = true
 
+-- what a version has said of the configuration after the header
+abbrev pub first_stage : ScriptVersion → TraceStage
+first_stage script.One = trace.First
+first_stage script.Two = trace.Weights version.Three empty
+
 -- the configuration, unless no adapter has come
 abbrev pub configured : ℕ → TraceStage → Result Topology TraceFault
-configured n t = if lacks_adapters t then Err (BadConfig n NoAdapters) else Ok (config_of t)
+configured n t = if lacks_adapters t then Err (BadConfig n (lacking (config_of t).weights)) else Ok (config_of t)
+
+-- how many rows of weights and links have come, where no adapter has
+abbrev pub rows_before : TraceStage → ℕ
+rows_before (trace.Weights v t) = length t.weights
+rows_before (trace.Links t) = length t.weights + length t.links
+rows_before _ = 0
+
+-- the number of the record after the header and the limits, if they are given
+abbrev pub first_number : Option Bounds → ℕ
+first_number None = 2
+first_number (Some limits) = 3
+
+-- the limits that are given, or the largest
+abbrev pub limits_of : Option Bounds → Bounds
+limits_of given = unwrap_or given most_bounds
 
 -- the words of the configuration, and of the limits
 unfoldable pub is_config_word : List ℕ → Bool
-is_config_word field = bytes_eq field (codes "sim") || bytes_eq field (codes "dev") || bytes_eq field (codes "lane")
+is_config_word field =
+    bytes_eq field (codes "weight") || bytes_eq field (codes "link") || bytes_eq field (codes "sim") || bytes_eq field (codes "dev")
+    || bytes_eq field (codes "lane")
 
 unfoldable pub is_limits : Row → Bool
 is_limits row = (length row == 8) && bytes_eq (field_of row 0) (codes "limits")
@@ -60,35 +83,42 @@ rows_step n s steps answers row = do
   with_item n s steps answers (item_of s.config said)
 
 -- the first row, which ends the configuration
-unfoldable pub first_row : ℕ → Bounds → TraceStage → Row → Result ScriptStage TraceFault
-first_row n limits t row = do
+unfoldable pub first_row : ℕ → Option Bounds → TraceStage → Row → Result ScriptStage TraceFault
+first_row n given t row = do
   w ← ok_or (item_word row) (BadRecord n)
   said ← in_record n (script_row_at w row)
   c ← configured n t
-  with_item n (empty_scenario c limits) 0 0 (item_of c said)
+  with_item n (empty_scenario c (limits_of given)) 0 0 (item_of c said)
 
 -- a record after the header and the limits: of the configuration, as in a trace, or the first row
-unfoldable pub config_step : ℕ → Bounds → TraceStage → Row → Result ScriptStage TraceFault
-config_step n limits t row =
-    if is_config_word (field_of row 0) then (row_step n t row >>= λ u. Ok (stage.Config limits u))
-    else first_row n limits t row
+unfoldable pub config_step : ℕ → Option Bounds → TraceStage → Row → Result ScriptStage TraceFault
+config_step n given t row =
+    if is_config_word (field_of row 0) then (row_step n t row >>= λ u. Ok (stage.Config given u))
+    else first_row n given t row
 
 -- the limits
-unfoldable pub limits_step : ℕ → Row → Result ScriptStage TraceFault
-limits_step n row = in_record n (limits_at row) >>= λ limits. Ok (stage.Config limits trace.First)
+unfoldable pub limits_step : ℕ → ScriptVersion → Row → Result ScriptStage TraceFault
+limits_step n v row = in_record n (limits_at row) >>= λ limits. Ok (stage.Config (Some limits) (first_stage v))
 
 -- the record of this number
 unfoldable pub script_step : ℕ → ScriptStage → Row → Result ScriptStage TraceFault
-script_step n stage.Header row = if is_header (codes "camscript1") row then Ok stage.First else Err BadHeader
-script_step n stage.First row = if is_limits row then limits_step n row else config_step n most_bounds trace.First row
-script_step n (stage.Config limits t) row = config_step n limits t row
+script_step n stage.Header row =
+    if is_header (script_name script.One) row then Ok (stage.First script.One)
+    else if is_header (script_name script.Two) row then Ok (stage.First script.Two)
+    else Err BadHeader
+script_step n (stage.First v) row = if is_limits row then limits_step n v row else config_step n None (first_stage v) row
+script_step n (stage.Config given t) row = config_step n given t row
 script_step n (stage.Rows s steps answers) row = rows_step n s steps answers row
+
+-- the configuration where the records end: what is lacking is due after the rows of weights and links
+abbrev pub configured_last : Option Bounds → TraceStage → Result Topology TraceFault
+configured_last given t = configured (first_number given + rows_before t) t
 
 -- the end of the records
 unfoldable pub script_ended : ScriptStage → Result Scenario TraceFault
 script_ended stage.Header = Err BadHeader
-script_ended stage.First = Err (BadConfig 2 NoAdapters)
-script_ended (stage.Config limits t) = configured 3 t >>= λ c. Ok (empty_scenario c limits)
+script_ended (stage.First v) = configured_last None (first_stage v) >>= λ c. Ok (empty_scenario c (limits_of None))
+script_ended (stage.Config given t) = configured_last given t >>= λ c. Ok (empty_scenario c (limits_of given))
 script_ended (stage.Rows s steps answers) = Ok s
 
 -- the scenario of these records, or the first fault

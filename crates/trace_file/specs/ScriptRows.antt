@@ -11,6 +11,7 @@ use Rattle.trace_file.specs.declared.script_word.ScriptWord.TheVariants as word
 use Rattle.trace_file.specs.Fields.{Row, field_of, flags_at, flags_text, number_at, unused_from}
 use Rattle.trace_file.specs.Records.{padded, hex}
 use Rattle.trace_file.specs.Rows.{most_number, outcome_at}
+use Rattle.trace_file.specs.ScriptVersions.{script_name, ScriptVersion}
 use Rattle.record_text.specs.Steps.{◌>>=◌}
 
 -- how a word is spelled
@@ -32,9 +33,9 @@ all_words =
 unfoldable pub script_word_of : List ℕ → Option ScriptWord
 script_word_of field = find (λ w. bytes_eq field (spelled w)) all_words
 
--- the header, the limits, and a row
-unfoldable pub script_header : Row
-script_header = codes "camscript1" ∷ codes "a" ∷ codes "b" ∷ codes "c" ∷ codes "d" ∷ codes "e" ∷ codes "f" ∷ codes "g" ∷ []
+-- the header of a version, the limits, and a row
+unfoldable pub script_header : ScriptVersion → Row
+script_header v = script_name v ∷ codes "a" ∷ codes "b" ∷ codes "c" ∷ codes "d" ∷ codes "e" ∷ codes "f" ∷ codes "g" ∷ []
 
 abbrev pub limits_row : Bounds → Row
 limits_row b = padded (codes "limits" ∷ decimal b.ccbs ∷ decimal b.rounds ∷ decimal b.stays ∷ decimal b.events ∷ [])

@@ -33,6 +33,6 @@ IsSound _ = ⊤
 -- what holds at a stage of a script, which counts the steps of all drivers and the answers of all lanes
 unfoldable pub IsSoundScript : ScriptStage → Type 0
 IsSoundScript script.Header = ⊤
-IsSoundScript script.First = ⊤
-IsSoundScript (script.Config limits t) = IsSound t × (is_configuring t ≡ true)
+IsSoundScript (script.First v) = ⊤
+IsSoundScript (script.Config given t) = IsSound t × (is_configuring t ≡ true)
 IsSoundScript (script.Rows s steps answers) = (steps ≡ sum_by length s.drivers) × (answers ≡ sum_by length s.answers)

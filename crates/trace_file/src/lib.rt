@@ -1,4 +1,4 @@
-//! Traces and scripts as text: what is read is spelled so, and what is spelled so is read; and traces are written.
+//! Traces and scripts as text: what is read is spelled so, and what is spelled so is read; and both are written.
 #![tactic(auto)]
 
 pub use event_number::event_record;
@@ -6,6 +6,7 @@ pub use reading::{one_history, parse_trace, read_trace};
 pub use script::{DRIVERS, Script};
 pub use script_reading::{read_script, rows_in_order};
 pub use script_stage::MOST_ROWS;
+pub use script_text::write_script;
 pub use step::Step;
 pub use trace_fault::TraceFault;
 pub use trace_text::{migrate_trace, trace_bytes, write_trace};
@@ -26,7 +27,10 @@ mod script_row;
 mod script_rows;
 mod script_rules;
 mod script_stage;
+mod script_text;
+mod script_version;
 mod script_word;
+mod script_writing;
 mod stage_items;
 mod step;
 mod trace_fault;

@@ -64,3 +64,23 @@ pub(crate) fn write_two<W: Write + Drop>(
     let second = other.format(second).as_bytes();
     write_row(writer, &[word, first, second, b"", b"", b"", b"", b""])
 }
+
+/// Writes a record of a word and three numbers.
+pub(crate) fn write_three<W: Write + Drop>(
+    writer: &mut Writer<W>,
+    word: &[u8],
+    first: u32,
+    second: u32,
+    third: u32,
+) -> Result<(), AllocError>
+    requires { IsBetween writer.old }
+    ensures { OnOk result (Wrote W.contents writer.old writer.new (padded (word.now ∷ decimal first ∷ decimal second ∷ decimal third ∷ []) ∷ [])) }
+{
+    let mut one = Buffer::new();
+    let mut two = Buffer::new();
+    let mut three = Buffer::new();
+    let first = one.format(first).as_bytes();
+    let second = two.format(second).as_bytes();
+    let third = three.format(third).as_bytes();
+    write_row(writer, &[word, first, second, third, b"", b"", b"", b""])
+}

@@ -4,7 +4,8 @@ ghost use Rattle.std.specs.Prelude.{◌≡◌, ◌≢◌, Err, IfOk, IfSome, IsT
 ghost use Rattle.csv.specs.Records.{fields_of};
 ghost use Rattle.trace_file.specs.Fields.{field_of};
 ghost use Rattle.trace_file.specs.Scenarios.{is_answer_row, is_answer_word, item_of, names_driver, MOST_ROWS};
-ghost use Rattle.trace_file.specs.ScriptReading.{config_step, first_row, has_room, is_config_word, is_configuring, is_limits, item_word, limits_step, roomy_word, rows_step, script_ended, script_step, with_item};
+ghost use Rattle.trace_file.specs.ScriptVersions.{ScriptVersion};
+ghost use Rattle.trace_file.specs.ScriptReading.{config_step, first_row, has_room, first_number, first_stage, is_config_word, is_configuring, is_limits, item_word, limits_of, limits_step, roomy_word, rows_step, script_ended, script_step, with_item};
 ghost use Rattle.trace_file.specs.Sound.{IsSound, IsSoundScript};
 
 use crate::fields::{field, is_text};
@@ -13,10 +14,11 @@ use crate::script::Script;
 use crate::script_item::item_of;
 use crate::script_row::{ScriptItem, ScriptRow};
 use crate::script_rows::{limits_at, script_row_at};
+use crate::script_version::ScriptVersion;
 use crate::script_word::ScriptWord;
 use crate::trace_fault::TraceFault;
 use crate::trace_stage::{TraceStage, in_record};
-use cam_types::{ConfigFault, Limits};
+use cam_types::Limits;
 use csv::ByteRecord;
 use record_text::Stage;
 use std::alloc::Global;
@@ -29,10 +31,10 @@ pub const MOST_ROWS: u32 = 4096;
 pub(crate) enum ScriptStage {
     /// Nothing: the header is due.
     Header,
-    /// The header: the limits or an adapter are due.
-    First,
-    /// The limits, or none, and a configuration in the making.
-    Config(Limits, TraceStage),
+    /// The header of this version: the limits or the configuration are due.
+    First(ScriptVersion),
+    /// The limits, if they were given, and a configuration in the making.
+    Config(Option<Limits>, TraceStage),
     /// A whole configuration, that many rows of drivers, and that many answers.
     Rows(Script, u32, u32),
 }
@@ -46,14 +48,8 @@ impl ScriptStage {
     {
         match self {
             ScriptStage::Header => Err(TraceFault::BadHeader),
-            ScriptStage::First => Err(TraceFault::BadConfig(2, ConfigFault::NoAdapters)),
-            ScriptStage::Config(limits, stage) => {
-                let config = stage.configured(3)?;
-                match Script::empty(alloc, config, limits) {
-                    Ok(script) => Ok(script),
-                    Err(_) => Err(TraceFault::OutOfMemory),
-                }
-            }
+            ScriptStage::First(version) => without_rows(alloc, None, version.first_stage(alloc)),
+            ScriptStage::Config(given, stage) => without_rows(alloc, given, stage),
             ScriptStage::Rows(script, _, _) => Ok(script),
         }
     }
@@ -80,20 +76,23 @@ impl Stage for ScriptStage {
     fn take(self, alloc: Global, number: u32, row: &ByteRecord) -> Result<ScriptStage, TraceFault> {
         match self {
             ScriptStage::Header => {
-                if is_header(b"camscript1", row) {
-                    Ok(ScriptStage::First)
+                if is_header(ScriptVersion::One.name(), row) {
+                    Ok(ScriptStage::First(ScriptVersion::One))
+                } else if is_header(ScriptVersion::Two.name(), row) {
+                    Ok(ScriptStage::First(ScriptVersion::Two))
                 } else {
                     Err(TraceFault::BadHeader)
                 }
             }
-            ScriptStage::First => {
+            ScriptStage::First(version) => {
+                let stage = version.first_stage(alloc);
                 if is_limits(row) {
-                    take_limits(number, row)
+                    take_limits(number, stage, row)
                 } else {
-                    take_config(alloc, number, Limits::most(), TraceStage::First, row)
+                    take_config(alloc, number, None, stage, row)
                 }
             }
-            ScriptStage::Config(limits, stage) => take_config(alloc, number, limits, stage, row),
+            ScriptStage::Config(given, stage) => take_config(alloc, number, given, stage, row),
             ScriptStage::Rows(script, steps, answers) => {
                 take_item(number, script, steps, answers, row)
             }
@@ -101,47 +100,89 @@ impl Stage for ScriptStage {
     }
 }
 
+// The script of a configuration without a row, where the records end here.
+#[tactic(auto, unfolding(crate::specs::ScriptReading::script_ended))]
+fn without_rows(
+    alloc: Global,
+    given: Option<Limits>,
+    stage: TraceStage,
+) -> Result<Script, TraceFault>
+    requires sound { IsSound stage }
+    requires configuring { IsTrue (is_configuring stage) }
+    ensures { result ≢ Err TraceFault.OutOfMemory → result ≡ script_ended (ScriptStage.Config given stage) }
+{
+    let number = first_number(&given) + stage.rows_before();
+    let config = stage.configured(number)?;
+    match Script::empty(alloc, config, limits_of(given)) {
+        Ok(script) => Ok(script),
+        Err(_) => Err(TraceFault::OutOfMemory),
+    }
+}
+
+// The number of the record after the header and the limits, if they are given.
+fn first_number(given: &Option<Limits>) -> u32
+    ensures value { result ≡ first_number given.now }
+    ensures small { result ≤ 3 }
+{
+    match given {
+        None => 2,
+        Some(_) => 3,
+    }
+}
+
+// The limits that are given, or the largest.
+fn limits_of(given: Option<Limits>) -> Limits
+    ensures { result ≡ limits_of given }
+{
+    match given {
+        None => Limits::most(),
+        Some(limits) => limits,
+    }
+}
+
 #[tactic(auto, unfolding(crate::specs::ScriptReading::limits_step, crate::specs::Sound::IsSoundScript, crate::specs::Sound::IsSound))]
-fn take_limits(number: u32, row: &ByteRecord) -> Result<ScriptStage, TraceFault>
-    requires { length (fields_of row.now) ≡ 8 }
-    ensures value { result ≡ limits_step number (fields_of row.now) }
+fn take_limits(number: u32, stage: TraceStage, row: &ByteRecord) -> Result<ScriptStage, TraceFault>
+    requires eight { length (fields_of row.now) ≡ 8 }
+    requires sound { IsSound stage }
+    requires configuring { IsTrue (is_configuring stage) }
+    ensures value { (v : ScriptVersion) → stage ≡ first_stage v → result ≡ limits_step number v (fields_of row.now) }
     ensures sound { IfOk result (λ s. IsSoundScript s) }
 {
     let limits = in_record(number, limits_at(row))?;
-    Ok(ScriptStage::Config(limits, TraceStage::First))
+    Ok(ScriptStage::Config(Some(limits), stage))
 }
 
 #[tactic(auto, unfolding(crate::specs::ScriptReading::config_step, crate::specs::Sound::IsSoundScript))]
 fn take_config(
     alloc: Global,
     number: u32,
-    limits: Limits,
+    given: Option<Limits>,
     stage: TraceStage,
     row: &ByteRecord,
 ) -> Result<ScriptStage, TraceFault>
     requires sound { IsSound stage }
     requires configuring { IsTrue (is_configuring stage) }
-    ensures value { result ≢ Err TraceFault.OutOfMemory → result ≡ config_step number limits stage (fields_of row.now) }
+    ensures value { result ≢ Err TraceFault.OutOfMemory → result ≡ config_step number given stage (fields_of row.now) }
     ensures sound { IfOk result (λ s. IsSoundScript s) }
 {
     if !is_config_word(field(row, 0)) {
-        return take_first(alloc, number, limits, stage, row);
+        return take_first(alloc, number, given, stage, row);
     }
     let stage = stage.take_row(alloc, number, row)?;
-    Ok(ScriptStage::Config(limits, stage))
+    Ok(ScriptStage::Config(given, stage))
 }
 
 #[tactic(auto, unfolding(crate::specs::ScriptReading::first_row, crate::specs::Sound::IsSoundScript))]
 fn take_first(
     alloc: Global,
     number: u32,
-    limits: Limits,
+    given: Option<Limits>,
     stage: TraceStage,
     row: &ByteRecord,
 ) -> Result<ScriptStage, TraceFault>
     requires sound { IsSound stage }
     requires configuring { IsTrue (is_configuring stage) }
-    ensures value { result ≢ Err TraceFault.OutOfMemory → result ≡ first_row number limits stage (fields_of row.now) }
+    ensures value { result ≢ Err TraceFault.OutOfMemory → result ≡ first_row number given stage (fields_of row.now) }
     ensures sound { IfOk result (λ s. IsSoundScript s) }
 {
     let Some(word) = item_word(row) else {
@@ -149,7 +190,7 @@ fn take_first(
     };
     let said = in_record(number, script_row_at(word, row))?;
     let config = stage.configured(number)?;
-    match Script::empty(alloc, config, limits) {
+    match Script::empty(alloc, config, limits_of(given)) {
         Ok(script) => with_row(number, script, 0, 0, said),
         Err(_) => Err(TraceFault::OutOfMemory),
     }
@@ -213,7 +254,11 @@ fn is_limits(row: &ByteRecord) -> bool
 fn is_config_word(field: &[u8]) -> bool
     ensures { result ≡ is_config_word field.now }
 {
-    is_text(field, b"sim") || is_text(field, b"dev") || is_text(field, b"lane")
+    is_text(field, b"weight")
+        || is_text(field, b"link")
+        || is_text(field, b"sim")
+        || is_text(field, b"dev")
+        || is_text(field, b"lane")
 }
 
 #[tactic(auto, unfolding(crate::specs::ScriptReading::item_word))]

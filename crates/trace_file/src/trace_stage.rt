@@ -1,6 +1,6 @@
 //! What a trace has said so far, record by record.
 
-ghost use Rattle.std.specs.Prelude.{◌≡◌, ◌≢◌, length, Err, IfOk, IfSome, IsTrue, MatchResult};
+ghost use Rattle.std.specs.Prelude.{◌≡◌, ◌≢◌, ◌≤◌, length, Err, IfOk, IfSome, IsTrue, MatchResult};
 ghost use Rattle.csv.specs.Records.{fields_of};
 ghost use Rattle.trace_file.specs.Reading.{in_record};
 ghost use Rattle.trace_file.specs.Sound.{IsKept};
@@ -48,7 +48,7 @@ pub(crate) enum TraceStage {
 impl TraceStage {
     ghost use Rattle.trace_file.specs.Reading.{stage_rank, version_of, stands, placed, add_weight, add_link, add_adapter, add_device, add_lane, add_event, add_row, row_step, step, ended};
     ghost use Rattle.trace_file.specs.TraceRows.{add_said, has_place};
-    ghost use Rattle.trace_file.specs.ScriptReading.{configured, is_configuring};
+    ghost use Rattle.trace_file.specs.ScriptReading.{configured, is_configuring, rows_before};
     ghost use Rattle.trace_file.specs.Sound.{IsSound};
 
     /// Whether a record of this word may come next.
@@ -232,10 +232,24 @@ impl TraceStage {
     {
         match self {
             TraceStage::First => Err(TraceFault::BadConfig(number, ConfigFault::NoAdapters)),
+            TraceStage::Weights(_, draft) => Err(TraceFault::BadConfig(number, lacking(&draft))),
+            TraceStage::Links(draft) => Err(TraceFault::BadConfig(number, lacking(&draft))),
             TraceStage::Adapters(_, draft) => Ok(finished(draft)),
             TraceStage::Devices(draft) => Ok(finished(draft)),
             TraceStage::Lanes(draft) => Ok(finished(draft)),
             _ => unreachable!(),
+        }
+    }
+
+    /// How many rows of weights and links have come, where no adapter has: at most 20.
+    pub(crate) fn rows_before(&self) -> u32
+        ensures value { result ≡ rows_before self.now }
+        ensures few { result ≤ 20 }
+    {
+        match self {
+            TraceStage::Weights(_, draft) => draft.weight_count(),
+            TraceStage::Links(draft) => draft.weight_count() + draft.link_count(),
+            _ => 0,
         }
     }
 

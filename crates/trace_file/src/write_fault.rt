@@ -1,4 +1,4 @@
-//! Why a trace wasn't written.
+//! Why a trace or a script wasn't written.
 
 ghost use Rattle.std.specs.Prelude.{◌≡◌};
 ghost use Rattle.trace_file.specs.declared.write_fault.WriteFault.TheVariants.{OutOfMemory};
@@ -6,7 +6,7 @@ ghost use Rattle.trace_file.specs.declared.write_fault.WriteFault.TheVariants.{O
 use std::alloc::AllocError;
 use thiserror::Error;
 
-/// Why a trace wasn't written.
+/// Why a trace or a script wasn't written.
 #[derive(Clone, Copy, Debug, PartialEq, Eq, Error)]
 pub enum WriteFault {
     /// A write or the flush failed. A part of the text may have been written, from its start.

@@ -6,7 +6,7 @@ ghost use Rattle.cam_types.specs.Topology.{IsConfig};
 ghost use Rattle.trace_file.specs.Histories.{Device};
 ghost use Rattle.trace_file.specs.Records.{padded, weight_row, weight_rows, link_row, adapter_row, device_row, lane_row, event_row, hex};
 ghost use Rattle.trace_file.specs.Fields.{flags_text};
-ghost use Rattle.trace_file.specs.Trace.{FitsEvent};
+ghost use Rattle.trace_file.specs.Trace.{FitsEvent, FitsOutcome};
 ghost use Rattle.trace_file.specs.Writing.{IsBetween, Wrote};
 
 use crate::hex::hex_text;
@@ -168,7 +168,7 @@ fn write_event<W: Write + Drop>(writer: &mut Writer<W>, event: Event) -> Result<
             flags,
         } => write_submit(writer, driver, device, priority, retries, flags),
         Event::Send { lane, ccb } => write_two(writer, b"send", lane, ccb),
-        Event::Done { ccb, outcome } => write_done(writer, ccb, outcome),
+        Event::Done { ccb, outcome } => write_outcome(writer, b"done", ccb, outcome),
         Event::Requeue { ccb } => write_one(writer, b"requeue", ccb),
         Event::Finish { ccb } => write_one(writer, b"finish", ccb),
         Event::FreezeDev { device, count } => write_two(writer, b"freeze", device, count),
@@ -208,25 +208,27 @@ fn write_submit<W: Write + Drop>(
     )
 }
 
-fn write_done<W: Write + Drop>(
+/// Writes a record of a word, a number and an outcome.
+pub(crate) fn write_outcome<W: Write + Drop>(
     writer: &mut Writer<W>,
-    ccb: u32,
+    word: &[u8],
+    number: u32,
     outcome: Outcome,
 ) -> Result<(), AllocError>
     requires { IsBetween writer.old }
-    ensures rows { OnOk result (Wrote W.contents writer.old writer.new (event_row (Event.Done ccb outcome) ∷ [])) }
-    ensures fits { FitsEvent (Event.Done ccb outcome) }
+    ensures rows { OnOk result (Wrote W.contents writer.old writer.new (padded (word.now ∷ decimal number ∷ hex (outcome.status ∷ []) ∷ hex (outcome.scsi ∷ []) ∷ hex outcome.sense ∷ []) ∷ [])) }
+    ensures fits { FitsOutcome number outcome }
 {
     let mut digits = Buffer::new();
-    let ccb = digits.format(ccb).as_bytes();
+    let number = digits.format(number).as_bytes();
     let (status, _) = hex_text(&[outcome.status]);
     let (scsi, _) = hex_text(&[outcome.scsi]);
     let (sense, count) = hex_text(outcome.sense.bytes());
     write_row(
         writer,
         &[
-            b"done",
-            ccb,
+            word,
+            number,
             &status[..2],
             &scsi[..2],
             &sense[..count],

@@ -1,0 +1,64 @@
+//! The versions of scripts.
+
+use crate::trace_stage::TraceStage;
+use crate::version::Version;
+use cam_types::{Config, ConfigDraft};
+use std::alloc::Global;
+
+/// Which records of the configuration a script may have.
+#[derive(Clone, Copy)]
+pub(crate) enum ScriptVersion {
+    /// Those of a trace of version 1, which has the standard weights and no link.
+    One,
+    /// Those of a trace of version 3: a table of weights and links too.
+    Two,
+}
+
+impl ScriptVersion {
+    ghost use Rattle.std.specs.Prelude.{◌≡◌};
+    ghost use Rattle.trace_file.specs.ScriptReading.{first_stage};
+    ghost use Rattle.trace_file.specs.ScriptVersions.{least_script, script_name, trace_version};
+    ghost use Rattle.trace_file.specs.Sound.{IsSound};
+
+    /// The least version that holds a configuration.
+    pub(crate) fn least(config: &Config) -> ScriptVersion
+        ensures { result ≡ least_script config.now }
+    {
+        match Version::least(config) {
+            Version::One => ScriptVersion::One,
+            Version::Two | Version::Three => ScriptVersion::Two,
+        }
+    }
+
+    /// The version of the traces whose records of the configuration it has.
+    pub(crate) fn traces(self) -> Version
+        ensures { result ≡ trace_version self }
+    {
+        match self {
+            ScriptVersion::One => Version::One,
+            ScriptVersion::Two => Version::Three,
+        }
+    }
+
+    /// The word that a script of this version begins with.
+    pub(crate) fn name(self) -> &'static [u8]
+        ensures { result.now ≡ script_name self }
+    {
+        match self {
+            ScriptVersion::One => b"camscript1",
+            ScriptVersion::Two => b"camscript2",
+        }
+    }
+
+    /// A configuration in the making, of which nothing has been said.
+    #[tactic(auto, unfolding(crate::specs::Sound::IsSound))]
+    pub(crate) fn first_stage(self, alloc: Global) -> TraceStage
+        ensures value { result ≡ first_stage self }
+        ensures sound { IsSound result }
+    {
+        match self {
+            ScriptVersion::One => TraceStage::First,
+            ScriptVersion::Two => TraceStage::Weights(Version::Three, ConfigDraft::new(alloc)),
+        }
+    }
+}

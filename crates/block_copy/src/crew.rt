@@ -129,7 +129,14 @@ impl<L: Ledger + Send + Sync> Crew<L> {
             lanes,
             others,
         } = self;
-        Ok(vec![in alloc; even.seat, odd.seat, lanes.first, lanes.second, others.first, others.second]?)
+        Ok(vec![in alloc;
+            even.seat,
+            odd.seat,
+            lanes.first,
+            lanes.second,
+            others.first,
+            others.second,
+        ]?)
     }
 }
 

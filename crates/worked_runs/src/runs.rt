@@ -3,6 +3,7 @@
 use crate::calls::make_all;
 use crate::fault::Fault;
 use crate::nets::{show_cost, show_net};
+use crate::scripts;
 use crate::scripts::show_script;
 use crate::spellings::{show_number, show_paths};
 use crate::traces::{show_trace, write_again};
@@ -41,6 +42,7 @@ fn do_over_file(rt: &HostRuntime, kind: &str, rest: &str) -> io::Result<()> {
     match kind {
         "script" => show_script(rt, file),
         "again" => write_again(rt, file),
+        "script-again" => scripts::write_again(rt, file),
         "net" => show_net(rt, file),
         "cost" => show_cost(rt, file, numbers),
         _ => show_trace(rt, file, kind),

@@ -1,9 +1,9 @@
-//! What scripts ask for.
+//! What scripts ask for, and scripts written again.
 
 use cam_types::Watched;
 use std::io;
 use std::io::Read;
-use trace_file::{Script, read_script};
+use trace_file::{Script, read_script, write_script};
 
 /// Prints what a script asks for, or why it is none.
 pub fn show_script(rt: &HostRuntime, script: impl Read + Drop) -> io::Result<()> {
@@ -20,6 +20,18 @@ pub fn show_script(rt: &HostRuntime, script: impl Read + Drop) -> io::Result<()>
             show_steps(rt, &script)?;
             show_answers(rt, &script)
         }
+        Err(fault) => rt.println(fault),
+    }
+}
+
+/// Prints a script in its plain form, or why it is none or wasn't written.
+pub fn write_again(rt: &HostRuntime, script: impl Read + Drop) -> io::Result<()> {
+    let script = match read_script(rt.alloc(), &mut Watched::new(script)) {
+        Ok(script) => script,
+        Err(fault) => return rt.println(fault),
+    };
+    match write_script(rt.alloc(), &script, &mut Watched::new(io::writer(rt))) {
+        Ok(()) => Ok(()),
         Err(fault) => rt.println(fault),
     }
 }

@@ -35,7 +35,7 @@ const OF_RECORDINGS: [&[u8]; 9] = [
 
 const OF_REQUESTS: [&[u8]; 1] = [b"request"];
 
-const OF_SCRIPTS: [&[u8]; 4] = [b"limits", b"sim", b"dev", b"lane"];
+const OF_SCRIPTS: [&[u8]; 6] = [b"limits", b"weight", b"link", b"sim", b"dev", b"lane"];
 
 const OF_DRIVERS: [&[u8]; 7] = [
     b"submit",

@@ -1,0 +1,9 @@
+pub mod ArrivalLemmas
+pub mod AnswerLemmas
+pub mod ServedLemmas
+pub mod ScriptLemmas
+pub mod ConfigLemmas
+pub mod GreatestLemmas
+pub mod HistoryLemmas
+pub mod RequestLemmas
+pub mod LawLemmas

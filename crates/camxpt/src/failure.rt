@@ -3,11 +3,13 @@
 use crate::source::Argument;
 use audit_report::AuditFault;
 use price_check::ReportFault;
+use recorded_script::ScriptFault;
 use recording_file::RecordingFault;
 use sim_worker::LiveFault;
 use std::alloc::AllocError;
 use std::process::ExitCode;
 use std::{fmt, io};
+use sweep::PlanFault;
 use trace_file::{TraceFault, WriteFault};
 
 /// Why the program didn't do what its words asked. Its text is the line on standard error, after the program's name.
@@ -23,6 +25,10 @@ pub enum Failure {
     NoRange,
     /// Rounds after the last one, which is this, are to be drawn.
     NoSuchRounds(u32),
+    /// A sweep by no seed, of more runs than there may be, or without memory for it.
+    Sweep(PlanFault),
+    /// A load that is more than a script may have.
+    Load(ScriptFault),
     /// A file that can't be opened: the one that this argument names, and the system's reason.
     CannotOpen(Argument, io::Error),
     /// A text that isn't what it has to be, a read or write that failed, or no memory.
@@ -39,7 +45,11 @@ impl Failure {
         ExitCode::from(match self {
             Failure::WordNotUtf8 | Failure::StandardInputTwice(_, _) | Failure::NoShell => 2,
             Failure::NoRange | Failure::NoSuchRounds(_) => 2,
+            Failure::Sweep(PlanFault::OutOfMemory) => 5,
+            Failure::Sweep(_) => 2,
             Failure::CannotOpen(_, _) => 4,
+            Failure::Load(ScriptFault::OutOfMemory) => 5,
+            Failure::Load(_) => 3,
             Failure::Audit(AuditFault::Trace(fault)) => trace_status(fault),
             Failure::Audit(AuditFault::Recording(fault)) => recording_status(fault),
             Failure::Audit(AuditFault::Unsent(_)) => 3,
@@ -106,9 +116,14 @@ impl fmt::Display for Failure {
             Failure::NoShell => f.write_str("only bash, zsh and fish complete words"),
             Failure::NoRange => f.write_str("--rounds takes A-B, rounds from A to B, as 412-500"),
             Failure::NoSuchRounds(last) => write!(f, "--rounds: the last round is {last}"),
-            Failure::CannotOpen(_, _) => f.write_str("cannot open"),
+            Failure::Sweep(fault) => fault.fmt(f),
+            Failure::CannotOpen(argument, _) => match argument {
+                Argument::Before | Argument::After => write!(f, "cannot open {}", argument.word()),
+                _ => f.write_str("cannot open"),
+            },
             Failure::Audit(fault) => fault.fmt(f),
             Failure::Live(fault) => fault.fmt(f),
+            Failure::Load(fault) => fault.fmt(f),
         }
     }
 }
@@ -116,6 +131,18 @@ impl fmt::Display for Failure {
 impl From<AuditFault> for Failure {
     fn from(fault: AuditFault) -> Failure {
         Failure::Audit(fault)
+    }
+}
+
+impl From<PlanFault> for Failure {
+    fn from(fault: PlanFault) -> Failure {
+        Failure::Sweep(fault)
+    }
+}
+
+impl From<ScriptFault> for Failure {
+    fn from(fault: ScriptFault) -> Failure {
+        Failure::Load(fault)
     }
 }
 

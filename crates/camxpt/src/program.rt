@@ -13,6 +13,7 @@ use crate::script_run::ScriptRun;
 use crate::shell::Shell;
 use crate::source::{Argument, STANDARD_INPUT, Source, input, is_verbose, open};
 use crate::subcommands::command;
+use crate::sweep_run::sweep_script;
 use crate::trace_run::TraceRun;
 use crate::words::words;
 use audit_report::AuditFault;
@@ -152,6 +153,7 @@ fn obey_words<R: Runtime + AllocGlobal + Threads + Wait + Sync>(
     match name {
         "prove" => over_report(rt, words),
         "compare" => compare(rt, words, on_terminal),
+        "sweep" => sweep_script(rt, words, on_terminal),
         "completions" => complete(rt, words.get_str("SHELL").unwrap_or("")),
         "import" => Ok(import(rt, words)),
         _ => over_input(rt, on_terminal),
@@ -171,6 +173,7 @@ fn trace_run(name: &str, words: &ArgMatches<'_>) -> Option<TraceRun> {
         "timeline" => Some(TraceRun::Timeline),
         "migrate" => Some(TraceRun::Migrate),
         "record" => Some(TraceRun::Record),
+        "script" => Some(TraceRun::Script),
         _ => None,
     }
 }

@@ -1,11 +1,16 @@
-//! Shows on a terminal how far a run or an audit is.
+//! Shows on a terminal how far a run, a sweep or an audit is.
+
+ghost use Rattle.std.specs.Prelude.{◌≡◌};
 
 use cost_plan::{Done, Gate};
 use sim_worker::Progress;
+use std::alloc::AllocError;
 use std::io;
 use std::io::{Read, Write};
 use std::sync::atomic::{AtomicU64, Ordering};
 use std::time::{Clock, Instant};
+use sweep::{Runner, Tally};
+use trace_file::Script;
 use xpt_state::Look;
 
 // How many milliseconds it is old when it is first shown, and how many lie between two lines at least.
@@ -16,7 +21,7 @@ const BETWEEN: u64 = 100;
 // When the next line is due after the last.
 const NEVER: u64 = u64::MAX;
 
-/// A line on standard error that says how far a run or an audit is, if that is a terminal and it takes more than a second.
+/// A line on standard error that says how far a run, a sweep or an audit is, if that is a terminal and it takes more than a second.
 #[derive(Drop)]
 pub struct ProgressLine<'a, R> {
     rt: &'a R,
@@ -66,6 +71,15 @@ impl<'a, R: Clock + Eprint> ProgressLine<'a, R> {
     fn elapsed(&self) -> Option<u64> {
         let elapsed = self.start?.elapsed(self.rt).ok()?;
         u64::try_from(elapsed.as_millis()).ok()
+    }
+
+    // Shows that so many runs of so many are over.
+    fn show_runs(&self, over: u64, runs: u32) {
+        if self.is_due() {
+            let _ = self
+                .rt
+                .eprint(format_args!("\r\u{1b}[Kcamxpt: {over} of {runs} runs"));
+        }
     }
 
     // Shows that so many bytes were read.
@@ -167,5 +181,40 @@ impl<W: Write, R: Clock + Eprint> Write for ToldWriter<'_, '_, W, R> {
     /// Flushes as the device does.
     fn flush(&mut self) -> io::Result<()> {
         self.device.flush()
+    }
+}
+
+/// Who runs scripts as another does, and whose line says how many runs are over.
+#[derive(Drop)]
+pub struct ToldRunner<'a, 'b, W, R> {
+    runner: W,
+    line: &'a ProgressLine<'b, R>,
+    runs: u32,
+    over: AtomicU64,
+}
+
+impl<'a, 'b, W, R> ToldRunner<'a, 'b, W, R> {
+    /// Runs scripts as this runner does, so many times in all.
+    pub fn new(runner: W, line: &'a ProgressLine<'b, R>, runs: u32) -> ToldRunner<'a, 'b, W, R>
+        ensures { result.runner ≡ runner }
+    {
+        ToldRunner {
+            runner,
+            line,
+            runs,
+            over: AtomicU64::new(0),
+        }
+    }
+}
+
+impl<W: Runner, R: Clock + Eprint> Runner for ToldRunner<'_, '_, W, R> {
+    ghost comes_to = { λ r. W.comes_to r.runner };
+
+    /// Runs as the runner does.
+    fn run(&self, script: &Script, seed: u64) -> Result<Tally, AllocError> {
+        let tally = self.runner.run(script, seed);
+        let before = self.over.fetch_add(1, Ordering::Relaxed);
+        self.line.show_runs(before.saturating_add(1), self.runs);
+        tally
     }
 }

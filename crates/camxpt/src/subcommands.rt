@@ -15,7 +15,7 @@ pub(crate) struct Subcommand {
 }
 
 /// The subcommands, in the order of the help.
-pub(crate) const SUBCOMMANDS: [Subcommand; 13] = [
+pub(crate) const SUBCOMMANDS: [Subcommand; 15] = [
     Subcommand {
         name: "check",
         about: "Tests a trace or a recording and prints its counts and what its waiting cost",
@@ -76,6 +76,19 @@ pub(crate) const SUBCOMMANDS: [Subcommand; 13] = [
         words: &[Word::RequireDrained, Word::Verbose, Word::Script],
     },
     Subcommand {
+        name: "sweep",
+        about: "Runs a script with several numbers of openings, in all combinations, and prints what the waiting cost in each",
+        example: "Example: camxpt sweep examples/script-sweep.csv --openings 0:1,2,4,8 --seeds 5",
+        words: &[
+            Word::Openings,
+            Word::AdapterOpenings,
+            Word::Seeds,
+            Word::Json,
+            Word::Verbose,
+            Word::Script,
+        ],
+    },
+    Subcommand {
         name: "migrate",
         about: "Prints a trace of any version in version 3, which has a table of weights and links",
         example: "Example: camxpt migrate examples/frozen-device.csv",
@@ -86,6 +99,12 @@ pub(crate) const SUBCOMMANDS: [Subcommand; 13] = [
         about: "Prints the recording of a trace: its requests with their windows, and what each device, adapter and link took",
         example: "Example: camxpt record examples/frozen-device.csv",
         words: &[Word::Verbose, Word::Trace],
+    },
+    Subcommand {
+        name: "script",
+        about: "Prints the script of what the drivers of a trace or a recording asked for, to be run again under other settings",
+        example: "Example: camxpt script examples/frozen-device.csv",
+        words: &[Word::Verbose, Word::Either],
     },
     Subcommand {
         name: "import",

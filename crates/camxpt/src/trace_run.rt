@@ -1,7 +1,8 @@
-//! Checks, audits, explains and draws a trace or a recording; migrates or records a trace.
+//! Checks, audits, explains and draws a trace or a recording, or writes its script; migrates or records a trace.
 
 use crate::drawing_run::{Range, drawn};
 use crate::failure::Failure;
+use crate::load_run::write_load;
 use crate::note::title;
 use crate::output::{Output, closed, made, print};
 use crate::progress::{ProgressLine, ToldReader, ToldWriter};
@@ -20,7 +21,7 @@ use std::time::Clock;
 use views::{audit_json, check_json, explain_json, page, timeline_json};
 use wait_causes::Explanation;
 
-/// What is done with a trace, or a recording where it is checked, audited, explained or drawn.
+/// What is done with a trace, or with a recording unless it is migrated or recorded.
 #[derive(Clone, Copy)]
 pub enum TraceRun {
     /// It is checked.
@@ -46,6 +47,8 @@ pub enum TraceRun {
     Migrate,
     /// It is written as a recording.
     Record,
+    /// The script of its load is written.
+    Script,
 }
 
 impl TraceRun {
@@ -68,6 +71,12 @@ impl TraceRun {
             TraceRun::Check if !as_json => Ok(run_check(alloc, &mut trace, &mut told)?),
             TraceRun::Migrate => Ok(run_migrate(alloc, &mut trace, &mut told)?),
             TraceRun::Record => Ok(run_record(alloc, &mut trace, &mut told)?),
+            TraceRun::Script => {
+                let left = write_load(rt, &mut trace, &mut told)?;
+                line.clear();
+                left.tell(rt);
+                Ok(())
+            }
             TraceRun::Audit { summary } if !as_json => Ok(run_audit_with(
                 rt, alloc, &mut trace, &mut told, summary, line,
             )?),

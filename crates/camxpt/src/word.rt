@@ -22,6 +22,9 @@ pub(crate) enum Word {
     After,
     Script,
     Seed,
+    Openings,
+    AdapterOpenings,
+    Seeds,
     Shell,
     From,
     Round,
@@ -108,6 +111,32 @@ impl Word {
             .required(true),
             Word::Seed => seed(alloc),
             Word::Shell => named(alloc, "SHELL", "bash, zsh or fish").required(true),
+            _ => self.sweep_arg(alloc),
+        }
+    }
+
+    // The same of an argument of `sweep`, or of `import`.
+    fn sweep_arg<'a>(self, alloc: Global) -> Arg<'a> {
+        match self {
+            Word::Openings => several(
+                alloc,
+                "openings",
+                "DEVICE:N,N",
+                "The numbers of openings that are tried of a device, which goes by its number from 0 on",
+            ),
+            Word::AdapterOpenings => several(
+                alloc,
+                "adapter",
+                "ADAPTER:N,N",
+                "The same of an adapter",
+            ),
+            Word::Seeds => option(
+                alloc,
+                "seeds",
+                "N",
+                "Runs each setting by the seeds from 1 to N; 1 if it is left out",
+            )
+            .value_parser(value_parser!(u32)),
             _ => self.import_arg(alloc),
         }
     }

@@ -1,10 +1,11 @@
-//! What a check, an audit, an explanation, a comparison and a proof give, each as one object of JSON on one line.
+//! What a check, an audit, an explanation, a comparison, a sweep and a proof give, each as one object of JSON on one line.
 
 pub use audit::audit_json;
 pub use check::check_json;
 pub use compare::compare_json;
 pub use explain::explain_json;
 pub use prove::prove_json;
+pub use sweep_object::sweep_json;
 
 mod audit;
 mod check;
@@ -18,3 +19,4 @@ mod prices;
 mod prove;
 mod shifts;
 mod stays;
+mod sweep_object;

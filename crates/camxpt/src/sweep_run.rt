@@ -1,0 +1,108 @@
+//! Runs a script under several settings by several seeds.
+
+use crate::failure::Failure;
+use crate::note::{note_on, title};
+use crate::output::{closed, made, print, standard_output};
+use crate::progress::{ProgressLine, ToldRunner};
+use crate::source::{Argument, Source, open};
+use crate::sweep_words::{WordFault, choices_of, refusal};
+use cam_types::Watched;
+use clap::ArgMatches;
+use std::process::ExitCode;
+use std::rt::Runtime;
+use std::thread::Threads;
+use std::time::Clock;
+use sweep::{Choice, Row, SimRunner, SweepPlan, first_refused, run_sweep};
+use trace_file::{Script, read_script};
+use views::{Swept, sweep_json, sweep_page};
+
+/// How many seeds run a setting where no number is given.
+const SEEDS: u32 = 1;
+
+/// Prints a row for each setting of the script, as one line of JSON if that is asked for.
+pub fn sweep_script<R: Runtime + AllocGlobal + Threads + Sync>(
+    rt: &R,
+    words: &ArgMatches<'_>,
+    on_terminal: bool,
+) -> Result<ExitCode, Failure> {
+    let choices = match choices_of(rt.alloc(), words)? {
+        Ok(choices) => choices,
+        Err(fault) => return Ok(tell_word(rt, fault)),
+    };
+    let mut source = open(rt, words, Argument::Script)?;
+    match read_script(rt.alloc(), &mut Watched::new(&mut source)) {
+        Ok(script) => over_script(rt, words, &script, &choices, on_terminal),
+        Err(fault) => Ok(tell_script(rt, &fault.into(), &source)),
+    }
+}
+
+// Says which word is refused, and why.
+fn tell_word<R: Runtime>(rt: &R, fault: WordFault<'_>) -> ExitCode {
+    let _ = rt.eprintln(format_args!("camxpt: {fault}"));
+    ExitCode::from(2)
+}
+
+// Says why the script is refused, and after that line what helps to find the fault, if that is asked for.
+fn tell_script<R: Runtime + AllocGlobal, D>(
+    rt: &R,
+    failure: &Failure,
+    script: &Source<'_, D>,
+) -> ExitCode {
+    let _ = rt.eprintln(format_args!("camxpt: {failure}"));
+    if let Some(note) = note_on(rt.alloc(), failure, script) {
+        let _ = rt.eprint(&note);
+    }
+    failure.exit_code()
+}
+
+// Runs the script under the settings that the choices make, unless one of these is refused, or they are too many.
+fn over_script<R: Runtime + AllocGlobal + Threads + Sync>(
+    rt: &R,
+    words: &ArgMatches<'_>,
+    script: &Script,
+    choices: &[Choice],
+    on_terminal: bool,
+) -> Result<ExitCode, Failure> {
+    if let Some(refused) = first_refused(script.config(), choices) {
+        return Ok(tell_word(rt, refusal(words, refused.at, refused.why)));
+    }
+    let seeds = words.get_one("seeds").unwrap_or(SEEDS);
+    let plan = SweepPlan::of(rt.alloc(), script.config(), choices, seeds)?;
+    let line = ProgressLine::new(rt, on_terminal);
+    let rows = rows_of(rt, &line, script, &plan);
+    line.clear();
+    let rows = rows?;
+    let swept = Swept {
+        name: title(Argument::Script.file_name(words)),
+        config: script.config(),
+        plan: &plan,
+        rows: &rows,
+    };
+    print_rows(rt, swept, words.get_flag("json"))
+}
+
+// Runs the script under each setting by each seed. The line says how many of the runs are over.
+fn rows_of<R: AllocGlobal + Threads + Clock + Eprint + Sync>(
+    rt: &R,
+    line: &ProgressLine<'_, R>,
+    script: &Script,
+    plan: &SweepPlan,
+) -> Result<Vec<Row>, Failure> {
+    let alloc = rt.alloc();
+    let runner = ToldRunner::new(SimRunner { alloc }, line, plan.runs());
+    Ok(run_sweep(rt, alloc, &runner, script, plan)?)
+}
+
+fn print_rows<R: Runtime + AllocGlobal>(
+    rt: &R,
+    swept: Swept<'_>,
+    as_json: bool,
+) -> Result<ExitCode, Failure> {
+    let text = if as_json {
+        closed(sweep_json(rt.alloc(), swept))?
+    } else {
+        made(sweep_page(rt.alloc(), swept))?
+    };
+    print(&mut standard_output(rt), &text)?;
+    Ok(ExitCode::SUCCESS)
+}

@@ -1,0 +1,6 @@
+use Rattle.std.proofs.Common.{◌≡◌, take}
+use Rattle.sweep.specs.Changes.{changed_devices}
+use Rattle.sweep.proofs.config.changed_devices.Given as goal
+
+abbrev pub invariant-loop-number : goal.invariant-loop-number
+invariant-loop-number l = l.all.items ≡ changed_devices l.changes 0 (take l.number l.devices)

@@ -1,0 +1,103 @@
+//! The table of a sweep.
+
+use crate::making::Page;
+use crate::notes::shown_name;
+use crate::swept::Swept;
+use crate::swept::title::{push_blank, push_openings, push_titles, titles};
+use crate::text::push_columns;
+use std::alloc::{AllocError, Global};
+use sweep::{Figures, Row, Setting, Spread};
+
+// How wide a column of costs is, and one of rounds.
+const COST: usize = 9;
+
+const ROUNDS: usize = 8;
+
+/// The table of a sweep: a row for each setting, with what its runs' waiting cost live and in a best schedule, how much of that
+/// could have been avoided, and the rounds that 99 in a hundred stays didn't pass. Of several seeds it has the least, the median
+/// and the greatest of each; of one seed just the number. The row of a setting of which a run didn't drain says so, and how many
+/// commands a run left.
+pub fn sweep_page(alloc: Global, swept: Swept<'_>) -> Result<String, AllocError> {
+    let mut page = Page::new(alloc);
+    let (settings, seeds) = (swept.plan.settings(), swept.plan.seeds());
+    push_first(alloc, &mut page, swept.name, seeds)?;
+    let titles = match settings.first() {
+        Some(setting) => titles(alloc, swept.config, &setting.changes)?,
+        None => Vec::new(alloc),
+    };
+    push_head(&mut page, &titles, seeds);
+    for (setting, row) in settings.iter().zip(swept.rows.iter()) {
+        push_row(&mut page, &titles, seeds, setting, row);
+    }
+    page.finish()
+}
+
+// Puts the line on what was run on the page.
+fn push_first(alloc: Global, page: &mut Page, name: &str, seeds: u32) -> Result<(), AllocError> {
+    page.put(&shown_name(alloc, name)?);
+    if seeds == 1 {
+        page.put(", run by seed 1\n\n");
+    } else {
+        page.show(format_args!(", run by seeds 1 to {seeds}\n\n"));
+    }
+    Ok(())
+}
+
+// Puts what stands above the columns on the page.
+fn push_head(page: &mut Page, titles: &[String], seeds: u32) {
+    if seeds == 1 {
+        push_titles(page, titles);
+        page.show(format_args!(
+            " {:>COST$} {:>COST$} {:>COST$} {:>ROUNDS$}\n",
+            "live", "best", "excess", "p99"
+        ));
+        return;
+    }
+    push_blank(page, titles);
+    for name in &["live", "best", "excess"] {
+        page.show(format_args!("{name:>20}{:>10}", ""));
+    }
+    page.put("               p99\n");
+    push_titles(page, titles);
+    for _ in 0..3 {
+        page.put("     least    median  greatest");
+    }
+    page.put("    least   median greatest\n");
+}
+
+// Puts the row of a setting on the page.
+fn push_row(page: &mut Page, titles: &[String], seeds: u32, setting: &Setting, row: &Row) {
+    push_openings(page, titles, &setting.changes);
+    match row {
+        Row::Drained(figures) => push_figures(page, seeds, figures),
+        Row::Undrained { runs, left } => push_left(page, seeds, *runs, left),
+    }
+    page.put("\n");
+}
+
+fn push_figures(page: &mut Page, seeds: u32, figures: &Figures) {
+    for spread in &[figures.live, figures.best, figures.excess] {
+        push_spread(page, seeds, COST, spread);
+    }
+    push_spread(page, seeds, ROUNDS, &figures.p99);
+}
+
+// Puts a spread on the page: of one seed just the number.
+fn push_spread(page: &mut Page, seeds: u32, width: usize, spread: &Spread) {
+    push_columns(page, &[(width, spread.least)]);
+    if seeds > 1 {
+        push_columns(page, &[(width, spread.median), (width, spread.greatest)]);
+    }
+}
+
+// Puts on the page that runs didn't drain, and what was left.
+fn push_left(page: &mut Page, seeds: u32, runs: u32, left: &Spread) {
+    if seeds == 1 {
+        page.show(format_args!(" not drained, commands left: {}", left.least));
+    } else {
+        page.show(format_args!(
+            " {runs} of {seeds} runs not drained, commands left: {} to {}, median {}",
+            left.least, left.greatest, left.median
+        ));
+    }
+}

@@ -196,22 +196,22 @@ fn takes_all_seats<L: Ledger, R: Wait>(rt: &R, alloc: Global, blank: Blank) -> R
 
 // How many seats are taken before one is refused or has another name, 65 at most.
 fn seats_of<L: Ledger, R: Wait>(rt: &R, alloc: Global, shared: &SharedXpt<L>) -> u32 {
-    for number in 0..65 {
+    for number in 0u8..65 {
         let name = name_of(number);
         match shared.seat(rt, alloc, name) {
             Ok(seat) if seat.name() == name => {}
-            _ => return number,
+            _ => return u32::from(number),
         }
     }
     65
 }
 
 // A lane's or a driver's name, of any number: a seat doesn't ask whether the transport has them.
-fn name_of(number: u32) -> SeatName {
+fn name_of(number: u8) -> SeatName {
     if number % 2 == 0 {
-        SeatName::Lane(number)
+        SeatName::Lane(u32::from(number))
     } else {
-        SeatName::Driver(number as u8)
+        SeatName::Driver(number)
     }
 }
 

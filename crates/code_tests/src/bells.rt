@@ -100,3 +100,28 @@ fn ring_each<R: Wait + Abort>(rt: &R, alloc: Global) -> Result<(), Fail> {
 fn each_call_rings_its_bells(rt: HostRuntime) -> Result<(), Fail> {
     ring_each(&rt, rt.alloc())
 }
+
+// The bell of rest rings a thousand times. Answers how often it rang, and how often that of rounds had when a thread would have
+// waited for another moment than that.
+fn rings_often<L: Ledger, R: Wait>(rt: &R, alloc: Global, blank: Blank) -> Result<(u64, u64), Fail>
+    requires name { blank.name ≡ L.name }
+    requires parts { (blank.parts ≡ L.parts) × (blank.parts ≡ 65) }
+{
+    let shared: SharedXpt<L> = shared(alloc, Limits::most(), blank)?;
+    for _ in 0..1000 {
+        shared.ring(rt, Bell::Rest);
+    }
+    let rest = shared.moment(rt, Bell::Rest);
+    let round = shared.wait_past(rt, Bell::Round, rest);
+    Ok((rest.rings, round.rings))
+}
+
+fn ring_often<R: Wait>(rt: &R, alloc: Global) -> Result<(u64, u64), Fail> {
+    rings_often::<Brand, R>(rt, alloc, Blank::new(65))
+}
+
+#[test]
+fn a_moment_has_all_rings_and_a_greater_one_is_another(rt: HostRuntime) -> Result<(), Fail> {
+    assert_eq!(rt; ring_often(&rt, rt.alloc())?, (1000, 0));
+    Ok(())
+}

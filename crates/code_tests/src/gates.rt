@@ -10,12 +10,15 @@ use std::alloc::Global;
 use std::sync::atomic::{AtomicBool, AtomicU32, Ordering};
 use std::test::Fail;
 
-// How often a gate was told that a part begins, and how often of levels; how far the plan by levels was of which it was told
-// last, and whether it was no further than the time before.
+// How often a gate was told that a part begins, of which adapters, a bit each, and how often of levels; how far the plan by
+// levels was of which it was told last, of how many parts it was, and whether it was no further than the time before.
 #[derive(Drop)]
 struct Told {
     begun: AtomicU32,
+    adapters: AtomicU32,
     levels: AtomicU32,
+    planned: AtomicU32,
+    parts: AtomicU32,
     far: AtomicU32,
     is_back: AtomicBool,
 }
@@ -24,7 +27,10 @@ impl Told {
     fn nothing() -> Told {
         Told {
             begun: AtomicU32::new(0),
+            adapters: AtomicU32::new(0),
             levels: AtomicU32::new(0),
+            planned: AtomicU32::new(0),
+            parts: AtomicU32::new(0),
             far: AtomicU32::new(0),
             is_back: AtomicBool::new(false),
         }
@@ -34,19 +40,30 @@ impl Told {
         self.begun.load(Ordering::SeqCst)
     }
 
-    // Whether it was told of several levels, of each once.
-    fn has_levels(&self) -> bool {
-        self.levels.load(Ordering::SeqCst) > 4 && !self.is_back.load(Ordering::SeqCst)
+    // Whether it was told of several levels of so many parts, of each once, and at last of all.
+    fn has_levels(&self, parts: u32) -> bool {
+        let of = self.parts.load(Ordering::SeqCst);
+        let is_whole = of == parts && self.planned.load(Ordering::SeqCst) == parts;
+        is_whole && self.levels.load(Ordering::SeqCst) > 4 && !self.is_back.load(Ordering::SeqCst)
+    }
+
+    // Whether it was told of no level.
+    fn has_no_level(&self) -> bool {
+        self.levels.load(Ordering::SeqCst) == 0
     }
 }
 
 impl Gate for Told {
-    fn begun(&self, _adapter: u32) {
+    fn begun(&self, adapter: u32) {
         self.begun.fetch_add(1, Ordering::SeqCst);
+        self.adapters
+            .fetch_or(1 << (adapter % 32), Ordering::SeqCst);
     }
 
     fn planned(&self, done: Done) {
         self.levels.fetch_add(1, Ordering::SeqCst);
+        self.planned.store(done.planned, Ordering::SeqCst);
+        self.parts.store(done.parts, Ordering::SeqCst);
         let left = 32u32.saturating_sub(done.levels_left);
         let far = done.planned.saturating_mul(32).saturating_add(left);
         if self.far.swap(far, Ordering::SeqCst) >= far {
@@ -59,10 +76,10 @@ const LINKED: &str = "link,64,,,,,,\nsim,64,0,,,,,\nsim,64,0,,,,,\n";
 
 const UNLINKED: &str = "sim,48,,,,,,\nsim,48,,,,,,\n";
 
-// The net of a recording of that many requests on eight devices of two adapters on a link, which come in half of the time in
+// The text of a recording of that many requests on eight devices of two adapters on a link, which come in half of the time in
 // which they are sent, and stand from the last one to the first: 64 a round go over the link, in the order in which they come,
 // though each fourth is urgent. In round 1 the link takes none. Or there is no link, and each adapter takes 48 a round.
-pub(crate) fn net(alloc: Global, requests: u32, is_linked: bool) -> Result<Net, Fail> {
+fn text(alloc: Global, requests: u32, is_linked: bool) -> Result<String, Fail> {
     let mut text = String::new(alloc);
     text.push_str("camrecord1,a,b,c,d,e,f,g\nrounds,128,,,,,,\n")?;
     text.push_str(if is_linked { LINKED } else { UNLINKED })?;
@@ -79,41 +96,75 @@ pub(crate) fn net(alloc: Global, requests: u32, is_linked: bool) -> Result<Net, 
         let row = format!(in alloc; "request,0,{device},{priority},{arrival},,{sent},\n")?;
         text.push_str(row.as_str())?;
     }
+    Ok(text)
+}
+
+// The net of a recording's text.
+pub(crate) fn net_of(alloc: Global, text: &str) -> Result<Net, Fail> {
     let recording = read_recording(alloc, &mut Watched::new(text.as_bytes()))?;
     Ok(Net::of_recording(alloc, &recording)?)
 }
 
+// The net of that recording.
+pub(crate) fn net(alloc: Global, requests: u32, is_linked: bool) -> Result<Net, Fail> {
+    net_of(alloc, text(alloc, requests, is_linked)?.as_str())
+}
+
 #[test]
 fn only_more_than_4096_stays_are_planned_by_levels(rt: HostRuntime) -> Result<(), Fail> {
-    for (requests, is_linked, parts, is_by_levels) in [
-        (4096, true, 1, false),
-        (4097, true, 0, true),
-        (4096, false, 2, false),
-        (4097, false, 0, true),
+    for (requests, is_linked, begun, parts) in [
+        (4096, true, 1, None),
+        (4097, true, 0, Some(1)),
+        (4096, false, 2, None),
+        (4097, false, 0, Some(2)),
     ] {
         let net = net(rt.alloc(), requests, is_linked)?;
         let gate = Told::nothing();
         let best = plan_with(&rt, rt.alloc(), &net, &gate)?;
-        let given = (net.stays(), gate.parts(), gate.has_levels());
-        assert_eq!(rt; given, (requests, parts, is_by_levels));
+        let is_told = match parts {
+            Some(parts) => gate.has_levels(parts),
+            None => gate.has_no_level(),
+        };
+        assert!(rt; is_told && gate.parts() == begun && net.stays() == requests);
         assert!(rt; cost(&net, &best.schedule) < Some(net.stays() as u64 * 64));
     }
     Ok(())
 }
 
+const THREE: &str =
+    "camrecord1,a,b,c,d,e,f,g\nrounds,1,,,,,,\nsim,1,,,,,,\nsim,1,,,,,,\nsim,1,,,,,,\ndev,0,0,0,1,,,\ndev,1,0,0,1,,,\ndev,2,0,0,1,,,\nrequest,0,0,128,1,,1,\nrequest,0,1,128,1,,1,\nrequest,0,2,128,1,,1,\n";
+
+#[test]
+fn the_gate_is_told_of_each_of_three_adapters(rt: HostRuntime) -> Result<(), Fail> {
+    let net = net_of(rt.alloc(), THREE)?;
+    let gate = Told::nothing();
+    plan_with(&rt, rt.alloc(), &net, &gate)?;
+    assert!(rt; gate.parts() == 3 && gate.adapters.load(Ordering::SeqCst) == 0b111);
+    Ok(())
+}
+
 #[test]
 fn the_gate_of_an_audit_is_told_of_its_parts(rt: HostRuntime) -> Result<(), Fail> {
-    let mut text = Vec::new(rt.alloc());
-    let gate = Told::nothing();
-    let mut reader = Watched::new(FROZEN.as_bytes());
-    run_audit_with(
-        &rt,
-        rt.alloc(),
-        &mut reader,
-        &mut Watched::new(&mut text),
-        true,
-        &gate,
-    )?;
-    assert_eq!(rt; (gate.parts(), gate.has_levels()), (1, false));
+    let alloc = rt.alloc();
+    let many = text(alloc, 4097, true)?;
+    for (given, begun) in [(FROZEN, 1), (many.as_str(), 0)] {
+        let mut report = Vec::new(alloc);
+        let gate = Told::nothing();
+        let mut reader = Watched::new(given.as_bytes());
+        run_audit_with(
+            &rt,
+            alloc,
+            &mut reader,
+            &mut Watched::new(&mut report),
+            true,
+            &gate,
+        )?;
+        let is_told = if begun == 1 {
+            gate.has_no_level()
+        } else {
+            gate.has_levels(1)
+        };
+        assert!(rt; is_told && gate.parts() == begun);
+    }
     Ok(())
 }

@@ -89,3 +89,20 @@ fn a_guess_of_1024_stays_is_best(rt: HostRuntime) -> Result<(), Fail> {
     assert_eq!(rt; guessed(&rt, rt.alloc(), &net)?, (1024, true, true));
     Ok(())
 }
+
+// A round that takes 300.
+const WIDE: &str =
+    "camrecord1,a,b,c,d,e,f,g\nrounds,3,,,,,,\nsim,1,,,,,,\ndev,0,0,0,1,,,\ncap,dev,0,1,1,300,,\ncap,sim,0,1,1,300,,\n";
+
+#[test]
+fn a_guess_of_a_wide_round_is_best(rt: HostRuntime) -> Result<(), Fail> {
+    let alloc = rt.alloc();
+    let mut text = String::new(alloc);
+    text.push_str(WIDE)?;
+    for _ in 0..300 {
+        text.push_str("request,0,0,128,1,,1,\n")?;
+    }
+    let net = gates::net_of(alloc, text.as_str())?;
+    assert_eq!(rt; guessed(&rt, alloc, &net)?, (300, true, true));
+    Ok(())
+}

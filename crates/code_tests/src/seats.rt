@@ -94,9 +94,9 @@ fn submits<L: Ledger, R: Wait + Abort>(
     driver: &mut Seat<L>,
 ) -> Result<(), Fail> {
     let (number, receipt) = shared.submit(rt, driver, 0, 0, 1152, 4, Flags::default())?;
-    assert_eq!(rt; (number, receipt.at, receipt.reply), (0, 0, Reply::Ccb(0)));
-    assert_eq!(rt; driver.name(), SeatName::Driver(0));
-    assert_eq!(rt; driver.receipts(), [receipt].as_slice());
+    assert!(rt; number == 0 && receipt.at == 0 && receipt.reply == Reply::Ccb(0));
+    assert!(rt; driver.name() == SeatName::Driver(0));
+    assert!(rt; driver.receipts() == [receipt].as_slice());
     Ok(())
 }
 
@@ -113,27 +113,23 @@ fn serves<L: Ledger, R: Wait + Abort>(
         priority: 1152,
     };
     let (sent, receipt) = shared.send_next(rt, lane, 0)?;
-    assert_eq!(rt; sent, Sent::Command(command));
-    assert_eq!(rt; placed(&receipt), Some((1, Reply::Command(command))));
+    assert!(rt; sent == Sent::Command(command));
+    assert!(rt; is_placed(&receipt, 1, Reply::Command(command)));
     let done = Done {
         class: Class::Complete,
         value: 0x01,
     };
     let (given, receipt) = shared.done(rt, lane, 0, Outcome::of_status(0x01))?;
-    assert_eq!(rt;
-        (given, receipt.at, receipt.reply),
-        (done, 2, Reply::Done(done))
-    );
-    assert_eq!(rt; lane.receipts().len(), 2);
-    assert_eq!(rt; lane.receipts().last().copied(), Some(receipt));
+    assert!(rt; given == done && receipt.at == 2 && receipt.reply == Reply::Done(done));
+    assert!(rt; lane.receipts().len() == 2 && lane.receipts().last() == Some(&receipt));
     Ok(())
 }
 
-// Where the event of the receipt stands, if there is one, and the reply to it.
-fn placed(receipt: &Option<Receipt>) -> Option<(u32, Reply)> {
+// Whether there is a receipt of an event at this place, with this reply.
+fn is_placed(receipt: &Option<Receipt>, at: u32, reply: Reply) -> bool {
     match receipt {
-        Some(receipt) => Some((receipt.at, receipt.reply)),
-        None => None,
+        Some(receipt) => receipt.at == at && receipt.reply == reply,
+        None => false,
     }
 }
 

@@ -10,12 +10,18 @@ use xpt_state::Look;
 const LATE: &str =
     "sim,1,,,,,,\ndev,0,1,0,1,,,\nlane,0,,,,,,\npause,0,20,,,,,\nsubmit,0,0:1:0,1152,4,none,,\n";
 
-// How often something was told, the rounds of it, a bit each, and the greatest count of events.
+// In the last of three rounds the device is frozen, and a failed command waits for a decision: there is no room for its requeue.
+const STUCK: &str =
+    "limits,1024,3,2,65535,,,\nsim,2,,,,,,\ndev,0,1,0,1,,,\ndev,0,2,0,1,,,\nlane,0,,,,,,\nfreeze,0,0:1:0,1,,,,\nsubmit,0,0:1:0,1152,4,none,,\nsubmit,0,0:2:0,1152,4,none,,\nanswer,0,05,00,,,,\n";
+
+// How often something was told, the rounds of it, a bit each, and the greatest counts of events, of CCBs that wait, and of cases.
 #[derive(Drop)]
 pub(crate) struct Told {
     times: AtomicU32,
     rounds: AtomicU32,
     events: AtomicU32,
+    waiting: AtomicU32,
+    cases: AtomicU32,
 }
 
 impl Told {
@@ -24,6 +30,8 @@ impl Told {
             times: AtomicU32::new(0),
             rounds: AtomicU32::new(0),
             events: AtomicU32::new(0),
+            waiting: AtomicU32::new(0),
+            cases: AtomicU32::new(0),
         }
     }
 
@@ -39,6 +47,8 @@ impl Progress for Told {
         self.rounds
             .fetch_or(1 << (look.round % 32), Ordering::SeqCst);
         self.events.fetch_max(look.length, Ordering::SeqCst);
+        self.waiting.fetch_max(look.waiting, Ordering::SeqCst);
+        self.cases.fetch_max(look.cases, Ordering::SeqCst);
     }
 }
 
@@ -55,5 +65,21 @@ fn each_round_and_all_events_are_told(rt: HostRuntime) -> Result<(), Fail> {
     assert_eq!(rt; told.rounds.load(Ordering::SeqCst), (1 << 21) - 2);
     // The keeper looks first, after each round that it opens, and after each rest: two of the driver and one of the lane.
     assert!(rt; told.times() <= 1 + 19 + 3, "{}", told.times());
+    Ok(())
+}
+
+#[test]
+fn what_waits_is_told(rt: HostRuntime) -> Result<(), Fail> {
+    let alloc = rt.alloc();
+    let script = script(alloc, STUCK)?;
+    let ports = ScriptPort::for_lanes(alloc, &script)?;
+    let told = Told::nothing();
+    let run = run_live_with(&rt, alloc, &script, ports, &told)?;
+    assert_eq!(rt; run.ending, Ending::RoundsFull);
+    let (waiting, cases) = (
+        told.waiting.load(Ordering::SeqCst),
+        told.cases.load(Ordering::SeqCst),
+    );
+    assert!(rt; waiting >= 1 && waiting <= 2 && cases == 1);
     Ok(())
 }

@@ -8,11 +8,11 @@ use std::alloc::Global;
 use std::marker::Brand;
 use std::process::Abort;
 use std::sync::Wait;
-use std::sync::atomic::{AtomicBool, Ordering};
+use std::sync::atomic::{AtomicBool, AtomicU32, Ordering};
 use std::sync::ledger::{Blank, Ledger};
 use std::test::Fail;
 use std::thread::{Threads, join, yield_now};
-use xpt_lock::{Bell, Seat, SeatName, SharedXpt};
+use xpt_lock::{Bell, Moment, Seat, SeatName, SharedXpt};
 use xpt_state::Reply;
 
 // Submits 100 CCBs and gives the seat back.
@@ -89,52 +89,77 @@ fn two_threads_get_each_number_once(rt: HostRuntime) -> Result<(), Fail> {
     Ok(())
 }
 
-// By what a bell rings.
+// What rings a bell.
 #[derive(Clone, Copy, Debug)]
-enum By {
-    // An event that rings it; the bell of rest has none.
-    Event,
-    // A call that names it.
+enum Deed {
+    Submit,
+    Busy,
+    Requeue,
+    Finish,
+    ReleaseDevice,
+    ReleaseAdapter,
+    Tick,
+    // A call that names the bell.
     Ring,
 }
 
-// Rings the bell.
-fn rings<L: Ledger, R: Wait>(rt: &R, shared: &SharedXpt<L>, seat: Seat<L>, bell: Bell, by: By) {
-    match by {
-        By::Event => happens(rt, shared, seat, bell),
-        By::Ring => shared.ring(rt, bell),
+// What stands before the deed: a device or an adapter that is frozen, or a command that is in flight or failed.
+fn prepare<L: Ledger, R: Wait>(rt: &R, shared: &SharedXpt<L>, seat: &mut Seat<L>, deed: Deed) {
+    match deed {
+        Deed::Busy => sends(rt, shared, seat),
+        Deed::Requeue => fails(rt, shared, seat, 0x05),
+        Deed::Finish => fails(rt, shared, seat, 0x04),
+        Deed::ReleaseDevice => {
+            let _ = shared.freeze_dev(rt, seat, 0, 1);
+        }
+        Deed::ReleaseAdapter => {
+            let _ = shared.freeze_sim(rt, seat, 0, 1);
+        }
+        Deed::Submit | Deed::Tick | Deed::Ring => {}
     }
 }
 
-// Makes the event that rings the bell of rounds, of work or of cases, or rings that of rest.
-fn happens<L: Ledger, R: Wait>(rt: &R, shared: &SharedXpt<L>, seat: Seat<L>, bell: Bell) {
-    let mut seat = seat;
-    match bell {
-        Bell::Round => {
-            let _ = shared.tick(rt, &mut seat);
-        }
-        Bell::Work => {
-            let _ = shared.submit(rt, &mut seat, 0, 0, 1152, 4, Flags::default());
-        }
-        Bell::Case => fails(rt, shared, &mut seat),
-        Bell::Rest => shared.ring(rt, Bell::Rest),
-    }
-}
-
-// A command that comes back busy.
-fn fails<L: Ledger, R: Wait>(rt: &R, shared: &SharedXpt<L>, seat: &mut Seat<L>) {
+// A command is in flight.
+fn sends<L: Ledger, R: Wait>(rt: &R, shared: &SharedXpt<L>, seat: &mut Seat<L>) {
     let _ = shared.submit(rt, seat, 0, 0, 1152, 4, Flags::default());
     let _ = shared.send_next(rt, seat, 0);
-    let _ = shared.done(rt, seat, 0, Outcome::of_status(0x05));
 }
 
-// How often a thread looks whether the other one is about to sleep, and how often it lets that one run then.
+// A command comes back with this status.
+fn fails<L: Ledger, R: Wait>(rt: &R, shared: &SharedXpt<L>, seat: &mut Seat<L>, status: u8) {
+    sends(rt, shared, seat);
+    let _ = shared.done(rt, seat, 0, Outcome::of_status(status));
+}
+
+// Rings the bell by the deed.
+fn rings<L: Ledger, R: Wait>(rt: &R, shared: &SharedXpt<L>, seat: Seat<L>, bell: Bell, deed: Deed) {
+    let mut seat = seat;
+    let is_taken = match deed {
+        Deed::Submit => shared
+            .submit(rt, &mut seat, 0, 0, 1152, 4, Flags::default())
+            .is_ok(),
+        Deed::Busy => shared
+            .done(rt, &mut seat, 0, Outcome::of_status(0x05))
+            .is_ok(),
+        Deed::Requeue => shared.requeue(rt, &mut seat, 0).is_ok(),
+        Deed::Finish => shared.finish(rt, &mut seat, 0).is_ok(),
+        Deed::ReleaseDevice => shared.release_dev(rt, &mut seat, 0, 1).is_ok(),
+        Deed::ReleaseAdapter => shared.release_sim(rt, &mut seat, 0).is_ok(),
+        Deed::Tick => shared.tick(rt, &mut seat).is_ok(),
+        Deed::Ring => false,
+    };
+    if !is_taken {
+        shared.ring(rt, bell);
+    }
+}
+
+// How often a thread looks whether the others are about to sleep, and how often it lets them run then.
 const TURNS: u32 = 10_000;
 
-// Waits until the other thread is likely to sleep, but not for ever.
-fn let_sleep(is_about_to: &AtomicBool) {
+// Waits until the other two threads are likely to sleep, but not for ever.
+fn let_sleep(about_to: &AtomicU32) {
     for _ in 0..TURNS {
-        if is_about_to.load(Ordering::SeqCst) {
+        if about_to.load(Ordering::SeqCst) == 2 {
             break;
         }
         yield_now();
@@ -144,54 +169,151 @@ fn let_sleep(is_about_to: &AtomicBool) {
     }
 }
 
-// A thread sleeps at the bell until another rings it. Answers how often the bell rang when it woke, and whether the other one
-// had come to ring it.
-fn sleeper<L: Ledger + Send + Sync, R: Threads + Wait + Abort + Sync>(
+// Sleeps at the bell. Answers whether it rang once since it was seen, after the one who rings had come.
+fn is_woken<L: Ledger, R: Wait>(
+    rt: &R,
+    shared: &SharedXpt<L>,
+    bell: Bell,
+    seen: Moment,
+    about_to: &AtomicU32,
+    comes: &AtomicBool,
+) -> bool {
+    about_to.fetch_add(1, Ordering::SeqCst);
+    let woken = shared.wait_past(rt, bell, seen);
+    seen.rings.checked_add(1) == Some(woken.rings) && comes.load(Ordering::SeqCst)
+}
+
+// Two threads sleep at the bell until another one rings it. Answers whether both woke by that.
+fn sleepers<L: Ledger + Send + Sync, R: Threads + Wait + Abort + Sync>(
     rt: &R,
     alloc: Global,
     blank: Blank,
     bell: Bell,
-    by: By,
-) -> Result<(u64, bool), Fail>
+    deed: Deed,
+) -> Result<bool, Fail>
     requires name { blank.name ≡ L.name }
     requires parts { (blank.parts ≡ L.parts) × (blank.parts ≡ 65) }
 {
     let shared: SharedXpt<L> = shared(alloc, Limits::most(), blank)?;
-    let seat = shared.seat(rt, alloc, SeatName::Keeper)?;
+    let mut seat = shared.seat(rt, alloc, SeatName::Keeper)?;
+    prepare(rt, &shared, &mut seat, deed);
     let seen = shared.moment(rt, bell);
-    let (board, is_about_to, comes) = (&shared, &AtomicBool::new(false), &AtomicBool::new(false));
-    let (woken, _) = join(
+    let (board, about_to, comes) = (&shared, &AtomicU32::new(0), &AtomicBool::new(false));
+    let ((one, other), _) = join(
         rt,
         move || {
-            is_about_to.store(true, Ordering::SeqCst);
-            let woken = board.wait_past(rt, bell, seen);
-            (woken.rings, comes.load(Ordering::SeqCst))
+            join(
+                rt,
+                move || is_woken(rt, board, bell, seen, about_to, comes),
+                move || is_woken(rt, board, bell, seen, about_to, comes),
+            )
         },
         move || {
-            let_sleep(is_about_to);
+            let_sleep(about_to);
             comes.store(true, Ordering::SeqCst);
-            rings(rt, board, seat, bell, by);
+            rings(rt, board, seat, bell, deed);
         },
     );
-    Ok(woken)
+    Ok(one && other)
 }
 
-fn sleep<R: Threads + Wait + Abort + Sync>(
+fn are_woken<R: Threads + Wait + Abort + Sync>(
     rt: &R,
     alloc: Global,
     bell: Bell,
-    by: By,
-) -> Result<(u64, bool), Fail> {
-    sleeper::<Brand, R>(rt, alloc, Blank::new(65), bell, by)
+    deed: Deed,
+) -> Result<bool, Fail> {
+    sleepers::<Brand, R>(rt, alloc, Blank::new(65), bell, deed)
 }
 
 #[test]
-fn each_bell_wakes_who_sleeps(rt: HostRuntime) -> Result<(), Fail> {
-    for bell in [Bell::Round, Bell::Work, Bell::Case, Bell::Rest] {
-        for by in [By::Event, By::Ring] {
-            let woken = sleep(&rt, rt.alloc(), bell, by)?;
-            assert_eq!(rt; woken, (1, true), "{bell:?} by {by:?}");
-        }
+fn each_bell_wakes_all_who_sleep(rt: HostRuntime) -> Result<(), Fail> {
+    for (bell, deed) in [
+        (Bell::Round, Deed::Tick),
+        (Bell::Round, Deed::Ring),
+        (Bell::Work, Deed::Submit),
+        (Bell::Work, Deed::Requeue),
+        (Bell::Work, Deed::Finish),
+        (Bell::Work, Deed::ReleaseDevice),
+        (Bell::Work, Deed::ReleaseAdapter),
+        (Bell::Work, Deed::Tick),
+        (Bell::Work, Deed::Ring),
+        (Bell::Case, Deed::Busy),
+        (Bell::Case, Deed::Ring),
+        (Bell::Rest, Deed::Ring),
+    ] {
+        assert!(rt;
+            are_woken(&rt, rt.alloc(), bell, deed)?,
+            "{bell:?} by {deed:?}"
+        );
     }
+    Ok(())
+}
+
+// One thread makes events all the time, and another takes 60 seats. Answers how many it got.
+fn takes_seats<L: Ledger + Send + Sync, R: Threads + Wait + Abort + Sync>(
+    rt: &R,
+    alloc: Global,
+    blank: Blank,
+) -> Result<usize, Fail>
+    requires name { blank.name ≡ L.name }
+    requires parts { (blank.parts ≡ L.parts) × (blank.parts ≡ 65) }
+{
+    let shared: SharedXpt<L> = shared(alloc, Limits::most(), blank)?;
+    let seat = shared.seat(rt, alloc, SeatName::Driver(0))?;
+    let (board, is_over) = (&shared, &AtomicBool::new(false));
+    let (seats, seat) = join(
+        rt,
+        move || {
+            let seats = seats_of(rt, alloc, board);
+            is_over.store(true, Ordering::SeqCst);
+            seats
+        },
+        move || adjusts_until(rt, board, seat, is_over),
+    );
+    let (mut seats, count) = (seats?, seat.receipts().len());
+    let taken = seats.len();
+    seats.push(seat)?;
+    let is_whole = shared.gather(alloc, seats)?.events().len() == count;
+    Ok(if is_whole { taken } else { 0 })
+}
+
+fn seats_of<L: Ledger, R: Wait>(
+    rt: &R,
+    alloc: Global,
+    shared: &SharedXpt<L>,
+) -> Result<Vec<Seat<L>>, Fail> {
+    let mut seats = Vec::new(alloc);
+    for number in 0u8..60 {
+        yield_now();
+        seats.push(shared.seat(rt, alloc, SeatName::Driver(number))?)?;
+    }
+    Ok(seats)
+}
+
+// Adjusts the device again and again until the other thread is done, but not for ever.
+fn adjusts_until<L: Ledger, R: Wait>(
+    rt: &R,
+    shared: &SharedXpt<L>,
+    seat: Seat<L>,
+    is_over: &AtomicBool,
+) -> Seat<L> {
+    let mut seat = seat;
+    for _ in 0..60_000 {
+        if is_over.load(Ordering::SeqCst) {
+            break;
+        }
+        let _ = shared.adjust(rt, &mut seat, 0, 1);
+    }
+    seat
+}
+
+fn seats_taken<R: Threads + Wait + Abort + Sync>(rt: &R, alloc: Global) -> Result<usize, Fail> {
+    takes_seats::<Brand, R>(rt, alloc, Blank::new(65))
+}
+
+#[test]
+fn seats_are_taken_and_gathered_while_others_act(rt: HostRuntime) -> Result<(), Fail> {
+    assert_eq!(&rt; seats_taken(&rt, rt.alloc())?, 60);
     Ok(())
 }

@@ -49,6 +49,7 @@ pub fn plan<P: Progress>(
         levels.take(alloc, network, part, &level)?;
         done.planned = done.planned.saturating_add(1);
     }
+    progress.level_planned(done);
     Ok(Some(levels))
 }
 

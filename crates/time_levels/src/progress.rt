@@ -13,7 +13,7 @@ pub struct Done {
 
 /// Is told how far a plan is, on the thread that plans.
 pub trait Progress {
-    /// A level of a part is planned.
+    /// A level of a part is planned; at last, all levels of all parts.
     fn level_planned(&self, done: Done);
 }
 

@@ -1,4 +1,4 @@
-use Rattle.code_tests.proofs.threads.sleep.Given as goal
+use Rattle.code_tests.proofs.threads.are_woken.Given as goal
 
-abbrev pub ghosts-sleeper : goal.ghosts-sleeper
-ghosts-sleeper g a = record { name = a.blank.name; parts = a.blank.parts }
+abbrev pub ghosts-sleepers : goal.ghosts-sleepers
+ghosts-sleepers g a = record { name = a.blank.name; parts = a.blank.parts }

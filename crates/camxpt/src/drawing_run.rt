@@ -10,12 +10,12 @@ use crate::progress::ProgressLine;
 use crate::trace_run::explanation_of;
 use cam_types::Watched;
 use clap::ArgMatches;
+use drawing::draw;
 use round_net::Net;
 use std::alloc::Global;
 use std::io::Read;
 use std::thread::Threads;
 use std::time::Clock;
-use views::draw;
 use wait_causes::Explanation;
 
 /// Rounds in a row.

@@ -13,12 +13,13 @@ use audit_report::{
 use cam_event::History;
 use cam_types::Watched;
 use cost_plan::plan_with;
+use drawing::timeline_json;
 use recording_file::Recording;
 use round_net::{Net, NetFault, RoundTable};
 use std::io::{Read, Write};
 use std::thread::Threads;
 use std::time::Clock;
-use views::{audit_json, check_json, explain_json, page, timeline_json};
+use views::{audit_json, check_json, explain_json, page};
 use wait_causes::Explanation;
 
 /// What is done with a trace, or with a recording unless it is migrated or recorded.

@@ -1,8 +1,7 @@
 //! The rounds and times below a drawing.
 
-use crate::drawing::names::Names;
-use crate::making::Page;
-use crate::numbers::{push_number, push_span};
+use crate::names::Names;
+use wording::{Page, push_number, push_span};
 
 /// Puts the axis of these rounds on the page: up to four of them, each where it begins, and below it when it ends.
 pub(crate) fn push_axis(page: &mut Page, names: &Names, first: u32, last: u32) {

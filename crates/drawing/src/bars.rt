@@ -1,12 +1,11 @@
 //! The bar of a stay in a stretch.
 
-use crate::drawing::device_row::Scene;
-use crate::drawing::stretch::Stretch;
-use crate::making::Page;
-use crate::numbers::{push_number, push_range, push_round, push_rounds};
+use crate::device_row::Scene;
+use crate::stretch::Stretch;
 use recording_file::NameKind;
 use std::alloc::{AllocError, Global};
 use wait_causes::{ExplainedStay, InputKind, Wait};
+use wording::{Page, push_number, push_range, push_round, push_rounds};
 
 // How many of a stay's waits are told one by one.
 const TOLD: usize = 8;

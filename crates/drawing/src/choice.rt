@@ -1,8 +1,8 @@
 //! Which stretches are drawn.
 
-use crate::drawing::moment::{Moment, count_of};
-use crate::drawing::order::dearest_first;
-use crate::drawing::stretch::{MOST_BARS, Stretch, cost_of, cut};
+use crate::moment::{Moment, count_of};
+use crate::order::dearest_first;
+use crate::stretch::{MOST_BARS, Stretch, cost_of, cut};
 use std::alloc::{AllocError, Global};
 use wait_causes::ExplainedStay;
 

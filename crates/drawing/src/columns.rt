@@ -1,7 +1,7 @@
 //! Columns over rounds, the greatest of each bin.
 
-use crate::drawing::moment::Moment;
-use crate::making::Page;
+use crate::moment::Moment;
+use wording::Page;
 
 /// The most bins across the overview.
 const MOST_BINS: usize = 240;

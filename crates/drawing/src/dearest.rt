@@ -1,17 +1,16 @@
 //! What cost most: a part of each kind, and stays.
 
-use crate::drawing::bars::push_name;
-use crate::drawing::choice::Choice;
-use crate::drawing::device_row::Scene;
-use crate::drawing::legend::dearest_rows;
-use crate::drawing::order::dearest_first;
-use crate::making::Page;
-use crate::numbers::{
-    push_number, push_numbers, push_range, push_round, push_rounds, push_share, push_signed,
-};
+use crate::bars::push_name;
+use crate::choice::Choice;
+use crate::device_row::Scene;
+use crate::legend::dearest_rows;
+use crate::order::dearest_first;
 use recording_file::NameKind;
 use std::alloc::{AllocError, Global};
 use wait_causes::{ExplainedStay, Grouping, InputKind, Part, Row};
+use wording::{
+    Page, push_number, push_numbers, push_range, push_round, push_rounds, push_share, push_signed,
+};
 
 // How many stays are listed.
 const LISTED: usize = 10;

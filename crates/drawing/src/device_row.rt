@@ -1,17 +1,16 @@
 //! The rows of devices, adapters and links in a stretch.
 
-use crate::drawing::bars::push_bar;
-use crate::drawing::lanes::{Lane, bars_in, lanes_of};
-use crate::drawing::loads::{Loads, Owner, STRIP};
-use crate::drawing::names::Names;
-use crate::drawing::shades::Shades;
-use crate::drawing::stretch::Stretch;
-use crate::making::Page;
-use crate::numbers::push_number;
+use crate::bars::push_bar;
+use crate::lanes::{Lane, bars_in, lanes_of};
+use crate::loads::{Loads, Owner, STRIP};
+use crate::names::Names;
+use crate::shades::Shades;
+use crate::stretch::Stretch;
 use recording_file::NameKind;
 use round_net::Net;
 use std::alloc::{AllocError, Global};
 use wait_causes::Explanation;
+use wording::{Page, push_number};
 
 /// What is drawn.
 #[derive(Drop)]

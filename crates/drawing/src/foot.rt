@@ -1,8 +1,8 @@
 //! What the words of the page mean.
 
-use crate::making::Page;
 use cam_types::Config;
 use wait_causes::{Cause, InputKind};
+use wording::Page;
 
 // The words of all pages, those that storage people use first, and after them those of a trace and of a recording.
 const WORDS: &str = "<section id='words'><h2>Words</h2>\n<dl>\

@@ -1,23 +1,23 @@
 //! The page.
 
-use crate::drawing::choice::Choice;
-use crate::drawing::dearest::push_dearest;
-use crate::drawing::device_row::Scene;
-use crate::drawing::foot::push_words;
-use crate::drawing::legend::ranks;
-use crate::drawing::moment::moments;
-use crate::drawing::names::Names;
-use crate::drawing::order::dearest_first;
-use crate::drawing::overview::push_overview;
-use crate::drawing::section::push_stretches;
-use crate::drawing::stretch::MOST_BARS;
-use crate::drawing::style::{HEAD, STYLE};
-use crate::drawing::summary::push_summary;
-use crate::drawing::tables::{push_freezes, push_tables};
-use crate::making::Page;
+use crate::choice::Choice;
+use crate::dearest::push_dearest;
+use crate::device_row::Scene;
+use crate::foot::push_words;
+use crate::legend::ranks;
+use crate::moment::moments;
+use crate::names::Names;
+use crate::order::dearest_first;
+use crate::overview::push_overview;
+use crate::section::push_stretches;
+use crate::stretch::MOST_BARS;
+use crate::style::{HEAD, STYLE};
+use crate::summary::push_summary;
+use crate::tables::{push_freezes, push_tables};
 use round_net::Net;
 use std::alloc::{AllocError, Global};
 use wait_causes::{Explanation, Freeze, Part};
+use wording::Page;
 
 /// The page on the explanation of a history or a recording beside its net, which any browser opens: sentences on what the
 /// waiting cost, what cost most, an overview of all rounds, bars of stays with the causes of their waiting, tables, and what

@@ -1,13 +1,12 @@
 //! How bars are coloured: by cause, by driver or by class.
 
-use crate::drawing::device_row::Scene;
-use crate::drawing::order::dearest_first;
-use crate::drawing::words::class_of;
-use crate::making::Page;
-use crate::numbers::{push_number, push_share};
+use crate::device_row::Scene;
+use crate::order::dearest_first;
+use crate::words::class_of;
 use recording_file::NameKind;
 use std::alloc::{AllocError, Global};
 use wait_causes::{Explanation, Grouping, Part, Row};
+use wording::{Page, push_number, push_share};
 
 /// How many drivers have a colour of their own.
 const COLOURS: usize = 8;

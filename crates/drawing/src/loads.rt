@@ -1,12 +1,11 @@
 //! How many of their openings devices, adapters and links used in each round of a stretch.
 
-use crate::drawing::shades::cell_rounds;
-use crate::drawing::stretch::Stretch;
-use crate::making::Page;
-use crate::numbers::push_numbers;
+use crate::shades::cell_rounds;
+use crate::stretch::Stretch;
 use round_net::Net;
 use std::alloc::{AllocError, Global};
 use wait_causes::ExplainedStay;
+use wording::{Page, push_numbers};
 
 /// The height of a strip in pixels.
 pub(crate) const STRIP: u64 = 8;

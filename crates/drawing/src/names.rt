@@ -1,13 +1,11 @@
 //! What drivers, devices, adapters and links are called on the page.
 
-use crate::labels::Labels;
-use crate::making::Page;
-use crate::numbers::push_number;
 use cam_path::path_name;
 use cam_types::Config;
 use recording_file::{NameKind, Span};
 use std::alloc::{AllocError, Global};
 use wait_causes::{Explanation, Grouping};
+use wording::{Labels, Page, push_number};
 
 /// What there is called what, with the paths of devices.
 #[derive(Drop)]

@@ -1,16 +1,15 @@
 //! The overview: how many waited and how many openings were used over time, with the stretches that are drawn.
 
-use crate::drawing::axis::push_axis;
-use crate::drawing::choice::{Choice, by_cost};
-use crate::drawing::columns::{Shown, bin_rounds, most_of, push_columns, push_line};
-use crate::drawing::device_row::Scene;
-use crate::drawing::moment::{Moment, count_of};
-use crate::drawing::section::push_stretch_name;
-use crate::drawing::stretch::Stretch;
-use crate::making::Page;
-use crate::numbers::{push_number, push_numbers, push_round, push_share};
+use crate::axis::push_axis;
+use crate::choice::{Choice, by_cost};
+use crate::columns::{Shown, bin_rounds, most_of, push_columns, push_line};
+use crate::device_row::Scene;
+use crate::moment::{Moment, count_of};
+use crate::section::push_stretch_name;
+use crate::stretch::Stretch;
 use std::alloc::{AllocError, Global};
 use wait_causes::Part;
+use wording::{Page, push_number, push_numbers, push_round, push_share};
 
 // The heights of the two drawings, one above the other, and where they stand.
 const WAITING: u64 = 96;

@@ -1,15 +1,14 @@
 //! The drawing of a stretch.
 
-use crate::drawing::axis::push_axis;
-use crate::drawing::choice::{Choice, Shown};
-use crate::drawing::device_row::{Scene, push_rows};
-use crate::drawing::legend::push_legends;
-use crate::drawing::shades::cell_rounds;
-use crate::drawing::stretch::{MOST_BARS, Stretch};
-use crate::making::Page;
-use crate::numbers::{push_number, push_numbers, push_share, push_span};
+use crate::axis::push_axis;
+use crate::choice::{Choice, Shown};
+use crate::device_row::{Scene, push_rows};
+use crate::legend::push_legends;
+use crate::shades::cell_rounds;
+use crate::stretch::{MOST_BARS, Stretch};
 use std::alloc::{AllocError, Global};
 use wait_causes::Part;
+use wording::{Page, push_number, push_numbers, push_share, push_span};
 
 /// Puts the drawings of the stretches on the page, below how they are coloured.
 pub(crate) fn push_stretches(

@@ -1,10 +1,10 @@
 //! The causes of a device's rounds, as the shades that its bars have: all that wait for a device in a round wait for one cause.
 
-use crate::drawing::stretch::Stretch;
-use crate::drawing::words::class_of;
-use crate::making::Page;
+use crate::stretch::Stretch;
+use crate::words::class_of;
 use std::alloc::{AllocError, Global};
 use wait_causes::{Cause, ExplainedStay, Explanation, InputKind, Wait};
+use wording::Page;
 
 // The most rounds of a stretch that have a cell each, and the most cells across a longer one.
 const MOST_ROUNDS: u32 = 512;

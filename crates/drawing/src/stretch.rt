@@ -1,7 +1,7 @@
 //! Stretches: runs of rounds whose bars are drawn together.
 
-use crate::drawing::moment::{Moment, count_of};
-use crate::drawing::order::dearest_first;
+use crate::moment::{Moment, count_of};
+use crate::order::dearest_first;
 use std::alloc::{AllocError, Global};
 use wait_causes::ExplainedStay;
 

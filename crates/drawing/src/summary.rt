@@ -1,10 +1,9 @@
 //! What the waiting cost, in sentences.
 
-use crate::drawing::names::Names;
-use crate::making::Page;
-use crate::numbers::{push_number, push_numbers, push_rounds, push_share, push_signed};
+use crate::names::Names;
 use cam_types::Config;
 use wait_causes::{Cause, InputKind, Part};
+use wording::{Page, push_number, push_numbers, push_rounds, push_share, push_signed};
 
 /// Puts the sentences and totals on the page.
 pub(crate) fn push_summary(

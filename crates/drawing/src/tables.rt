@@ -1,13 +1,12 @@
 //! The tables of parts and freezes.
 
-use crate::drawing::device_row::Scene;
-use crate::drawing::legend::dearest_rows;
-use crate::drawing::words::freeze_words;
-use crate::making::Page;
-use crate::numbers::{push_number, push_numbers, push_signed};
+use crate::device_row::Scene;
+use crate::legend::dearest_rows;
+use crate::words::freeze_words;
 use recording_file::NameKind;
 use std::alloc::{AllocError, Global};
 use wait_causes::{Freeze, FreezeKind, Grouping, Part, Row};
+use wording::{Page, push_number, push_numbers, push_signed};
 
 // The columns of how long stays waited.
 const WAITS: &str =

@@ -1,9 +1,9 @@
 //! An input of which two are put side by side.
 
-use crate::labels::Labels;
 use round_net::Net;
 use std::alloc::{AllocError, Global};
 use wait_causes::{Explanation, Grouping};
+use wording::Labels;
 
 /// An input before a change, or after it: what it is called, its net, and its explanation beside a best schedule.
 #[derive(Clone, Copy)]

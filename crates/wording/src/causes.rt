@@ -3,7 +3,7 @@
 use round_net::Cause;
 
 /// The cause in the words of people who look after storage.
-pub(crate) fn plain_words(cause: Cause) -> &'static str {
+pub fn plain_words(cause: Cause) -> &'static str {
     match cause {
         Cause::Error => "frozen for error recovery",
         Cause::Caller => "frozen by the driver",

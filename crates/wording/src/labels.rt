@@ -11,14 +11,14 @@ const MOST: usize = 26;
 
 /// What a configuration's parts are called: by their numbers and paths, and by the names of the recording if it has any.
 #[derive(Clone, Copy)]
-pub(crate) struct Labels<'a> {
+pub struct Labels<'a> {
     config: &'a Config,
     names: &'a [Name],
 }
 
 impl<'a> Labels<'a> {
     /// Those of what is explained.
-    pub(crate) fn of(config: &'a Config, explanation: &'a Explanation) -> Labels<'a> {
+    pub fn of(config: &'a Config, explanation: &'a Explanation) -> Labels<'a> {
         Labels {
             config,
             names: explanation.names(),
@@ -26,22 +26,17 @@ impl<'a> Labels<'a> {
     }
 
     /// The configuration.
-    pub(crate) fn config(self) -> &'a Config {
+    pub fn config(self) -> &'a Config {
         self.config
     }
 
     /// How wide a column of labels is.
-    pub(crate) fn width(self) -> usize {
+    pub fn width(self) -> usize {
         if self.names.is_empty() { 14 } else { MOST }
     }
 
     /// The adapter, device, driver or run level of this number, in words, as `driver 3 database`: at most 26 characters.
-    pub(crate) fn label(
-        self,
-        alloc: Global,
-        by: Grouping,
-        number: u32,
-    ) -> Result<String, AllocError> {
+    pub fn label(self, alloc: Global, by: Grouping, number: u32) -> Result<String, AllocError> {
         match by {
             Grouping::Device => {
                 let device = self.device(alloc, number)?;
@@ -54,7 +49,7 @@ impl<'a> Labels<'a> {
     }
 
     /// The device's path, and its name if it has one.
-    pub(crate) fn device(self, alloc: Global, device: u32) -> Result<String, AllocError> {
+    pub fn device(self, alloc: Global, device: u32) -> Result<String, AllocError> {
         let path = path_name(alloc, self.config, device)?;
         match self.name(NameKind::Device, device) {
             Some(name) => format!(in alloc; "{path} {name}"),
@@ -77,7 +72,7 @@ impl<'a> Labels<'a> {
     }
 
     /// The name of this kind and number, if there is one.
-    pub(crate) fn name(self, kind: NameKind, number: u32) -> Option<&'a str> {
+    pub fn name(self, kind: NameKind, number: u32) -> Option<&'a str> {
         for name in self.names {
             if name.kind() == kind && name.number() == number {
                 return Some(name.text());
@@ -88,7 +83,7 @@ impl<'a> Labels<'a> {
 }
 
 /// The text itself, or its beginning and an ellipsis where it has more than 26 characters.
-pub(crate) fn shortened(alloc: Global, text: &str) -> Result<String, AllocError> {
+pub fn shortened(alloc: Global, text: &str) -> Result<String, AllocError> {
     if text.chars().count() <= MOST {
         return String::from_str(alloc, text);
     }

@@ -5,14 +5,14 @@ use std::fmt::Display;
 
 /// A text that is put together piece by piece. Once memory has run out it takes nothing more, and there is no text in the end.
 #[derive(Drop)]
-pub(crate) struct Page {
+pub struct Page {
     text: String,
     is_short: bool,
 }
 
 impl Page {
     /// An empty page.
-    pub(crate) fn new(alloc: Global) -> Page {
+    pub fn new(alloc: Global) -> Page {
         Page {
             text: String::new(alloc),
             is_short: false,
@@ -20,7 +20,7 @@ impl Page {
     }
 
     /// The text, unless memory ran out.
-    pub(crate) fn finish(self) -> Result<String, AllocError> {
+    pub fn finish(self) -> Result<String, AllocError> {
         if self.is_short {
             return Err(AllocError);
         }
@@ -28,7 +28,7 @@ impl Page {
     }
 
     /// Puts these words on the page.
-    pub(crate) fn put(&mut self, words: &str) {
+    pub fn put(&mut self, words: &str) {
         self.is_short = self.is_short || self.text.push_str(words).is_err();
     }
 
@@ -38,19 +38,19 @@ impl Page {
     }
 
     /// Puts what this shows on the page.
-    pub(crate) fn show<T: Display + Drop>(&mut self, shown: T) {
+    pub fn show<T: Display + Drop>(&mut self, shown: T) {
         self.is_short = self.is_short || write!(self.text, "{shown}").is_err();
     }
 
     /// Puts each of these words on the page.
-    pub(crate) fn words(&mut self, words: &[&str]) {
+    pub fn words(&mut self, words: &[&str]) {
         for word in words {
             self.put(word);
         }
     }
 
     /// Puts each of these words with its number on the page, and then the last word.
-    pub(crate) fn parts(&mut self, parts: &[(&str, u64)], end: &str) {
+    pub fn parts(&mut self, parts: &[(&str, u64)], end: &str) {
         for (word, number) in parts {
             self.put(word);
             self.show(*number);
@@ -60,7 +60,7 @@ impl Page {
 
     /// Puts words that may hold anything on the page: what XML keeps for itself is escaped, and characters that it doesn't
     /// allow are left out.
-    pub(crate) fn escaped(&mut self, words: &str) {
+    pub fn escaped(&mut self, words: &str) {
         for letter in words.chars() {
             match letter {
                 '&' => self.put("&amp;"),

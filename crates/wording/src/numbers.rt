@@ -4,7 +4,7 @@ use crate::making::Page;
 use recording_file::{Span, TimeUnit};
 
 /// Puts a number on the page, with commas between its thousands.
-pub(crate) fn push_number(page: &mut Page, number: u64) {
+pub fn push_number(page: &mut Page, number: u64) {
     let mut has_begun = false;
     for power in &[
         1_000_000_000_000_000_000u64,
@@ -26,7 +26,7 @@ pub(crate) fn push_number(page: &mut Page, number: u64) {
 }
 
 /// Puts each of these words with its number on the page, and then the last word.
-pub(crate) fn push_numbers(page: &mut Page, parts: &[(&str, u64)], end: &str) {
+pub fn push_numbers(page: &mut Page, parts: &[(&str, u64)], end: &str) {
     for (word, number) in parts {
         page.put(word);
         push_number(page, *number);
@@ -35,7 +35,7 @@ pub(crate) fn push_numbers(page: &mut Page, parts: &[(&str, u64)], end: &str) {
 }
 
 /// Puts a number that may be below 0 on the page.
-pub(crate) fn push_signed(page: &mut Page, number: i128) {
+pub fn push_signed(page: &mut Page, number: i128) {
     if number < 0 {
         page.put("-");
     }
@@ -46,12 +46,12 @@ pub(crate) fn push_signed(page: &mut Page, number: i128) {
 }
 
 /// How much more the second is.
-pub(crate) fn shift(before: u64, after: u64) -> i128 {
+pub fn shift(before: u64, after: u64) -> i128 {
     after as i128 - before as i128
 }
 
 /// Puts the share of a part in a whole on the page, in percent with a tenth.
-pub(crate) fn push_share(page: &mut Page, part: u64, whole: u64) {
+pub fn push_share(page: &mut Page, part: u64, whole: u64) {
     let tenths = part
         .saturating_mul(1_000)
         .saturating_add(whole / 2)
@@ -61,7 +61,7 @@ pub(crate) fn push_share(page: &mut Page, part: u64, whole: u64) {
 }
 
 /// Puts how long that many rounds are on the page, in brackets, if it is known how long one is.
-pub(crate) fn push_time(page: &mut Page, unit: Option<Span>, rounds: u64) {
+pub fn push_time(page: &mut Page, unit: Option<Span>, rounds: u64) {
     if let Some(span) = unit {
         page.put(" (");
         push_span(page, span, rounds);
@@ -70,7 +70,7 @@ pub(crate) fn push_time(page: &mut Page, unit: Option<Span>, rounds: u64) {
 }
 
 /// Puts how long that many rounds of this length are on the page, in the largest unit of which there is one, to a hundredth.
-pub(crate) fn push_span(page: &mut Page, span: Span, rounds: u64) {
+pub fn push_span(page: &mut Page, span: Span, rounds: u64) {
     let all = u128::from(nanoseconds(span)).saturating_mul(u128::from(rounds));
     match all {
         0..=999 => page.show(format_args!("{all} ns")),
@@ -81,7 +81,7 @@ pub(crate) fn push_span(page: &mut Page, span: Span, rounds: u64) {
 }
 
 /// How many nanoseconds a span has.
-pub(crate) fn nanoseconds(span: Span) -> u64 {
+pub fn nanoseconds(span: Span) -> u64 {
     let each = match span.unit {
         TimeUnit::Nanosecond => 1,
         TimeUnit::Microsecond => 1_000,
@@ -104,20 +104,20 @@ fn push_hundredths(page: &mut Page, hundredths: u128, unit: &str) {
 }
 
 /// Puts the number of a round on the page, with the time at which it ended.
-pub(crate) fn push_round(page: &mut Page, unit: Option<Span>, round: u32) {
+pub fn push_round(page: &mut Page, unit: Option<Span>, round: u32) {
     push_number(page, u64::from(round));
     push_time(page, unit, u64::from(round));
 }
 
 /// Puts how many rounds these are on the page, with their time.
-pub(crate) fn push_rounds(page: &mut Page, unit: Option<Span>, rounds: u64) {
+pub fn push_rounds(page: &mut Page, unit: Option<Span>, rounds: u64) {
     push_number(page, rounds);
     page.put(if rounds == 1 { " round" } else { " rounds" });
     push_time(page, unit, rounds);
 }
 
 /// Puts a range of rounds on the page.
-pub(crate) fn push_range(page: &mut Page, first: u32, last: u32) {
+pub fn push_range(page: &mut Page, first: u32, last: u32) {
     page.show(first);
     if first < last {
         page.show(format_args!("-{last}"));

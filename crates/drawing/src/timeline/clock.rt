@@ -1,8 +1,7 @@
 //! Rounds in time, as the format counts it.
 
-use crate::making::Page;
-use crate::numbers::nanoseconds;
 use recording_file::Span;
+use wording::{Page, nanoseconds};
 
 // How long a round is drawn whose length isn't known: a millisecond.
 const UNKNOWN: u64 = 1_000_000;

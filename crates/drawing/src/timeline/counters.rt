@@ -1,6 +1,6 @@
 //! The counters of a timeline: how many waited at a device, and how many of its openings were used.
 
-use crate::drawing::{Moment, moments};
+use crate::moment::{Moment, moments};
 use crate::timeline::document::device_process;
 use crate::timeline::writer::EventWriter;
 use round_net::Net;

@@ -1,6 +1,5 @@
 //! The document: a process for each device and adapter, with its requests, freezes and counters.
 
-use crate::labels::Labels;
 use crate::timeline::clock::RoundClock;
 use crate::timeline::counters::put_counters;
 use crate::timeline::freezes::put_freezes;
@@ -9,6 +8,7 @@ use crate::timeline::writer::EventWriter;
 use round_net::Net;
 use std::alloc::{AllocError, Global};
 use wait_causes::{Explanation, Grouping};
+use wording::Labels;
 
 /// The timeline as JSON in Chrome's trace-event format, without a line feed at its end, which viewers such as Perfetto and
 /// `chrome://tracing` open. Each device is a process. Its rows are slots: a request stands in one from the beginning of the

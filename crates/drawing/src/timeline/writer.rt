@@ -1,8 +1,8 @@
 //! Events of the format, one after another.
 
-use crate::making::Page;
 use crate::timeline::clock::RoundClock;
 use std::alloc::{AllocError, Global};
+use wording::Page;
 
 /// The events that were written so far.
 #[derive(Drop)]

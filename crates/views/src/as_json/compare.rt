@@ -10,12 +10,12 @@ use crate::as_json::parts::{Costs, Waited, Waits, named_by};
 use crate::as_json::shifts::Shifts;
 use crate::compare::rows_of;
 use crate::compared::Compared;
-use crate::numbers::nanoseconds;
 use cam_path::path_name;
 use comparison::{Differences, PairedRow};
 use serde::Serialize;
 use std::alloc::{AllocError, Global};
 use wait_causes::{Grouping, Part};
+use wording::nanoseconds;
 
 // What is compared, in what its inputs differ beside their requests, and each part before and after.
 #[derive(Drop, Serialize)]

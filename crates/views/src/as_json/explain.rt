@@ -9,12 +9,11 @@ use crate::as_json::freezes::{ListedFreeze, freeze_list};
 use crate::as_json::line::line;
 use crate::as_json::parts::{Costs, Tables};
 use crate::as_json::stays::{ListedStay, stay_list};
-use crate::labels::Labels;
-use crate::numbers::nanoseconds;
 use round_net::Net;
 use serde::Serialize;
 use std::alloc::{AllocError, Global};
 use wait_causes::Explanation;
+use wording::{Labels, nanoseconds};
 
 #[derive(Drop, Serialize)]
 struct Explained<'a> {

@@ -1,12 +1,12 @@
 //! What some stays waited, and what that cost.
 
-use crate::labels::Labels;
 use cam_path::path_name;
 use cam_types::Config;
 use recording_file::NameKind;
 use serde::Serialize;
 use std::alloc::{AllocError, Global};
 use wait_causes::{BehindCosts, Cause, CauseCosts, Explanation, Grouping, InputKind, Part, Row};
+use wording::Labels;
 
 // Weighted rounds by cause: those of a trace or of a recording, and those of links only where there are links.
 #[derive(Clone, Copy, Drop, Serialize)]

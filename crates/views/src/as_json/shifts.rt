@@ -1,8 +1,8 @@
 //! How much more numbers are after a change than before it.
 
-use crate::numbers::shift;
 use serde::Serialize;
 use wait_causes::{BehindCosts, CauseCosts, Part};
+use wording::shift;
 
 // The same of each cause: of those that only the other kind of input tells, 0.
 #[derive(Clone, Copy, Drop, Serialize)]

@@ -1,10 +1,9 @@
 //! Sentences on that in which two inputs differ beside what waited.
 
 use crate::compared::Compared;
-use crate::making::Page;
-use crate::numbers::push_span;
 use comparison::Differences;
 use recording_file::Span;
+use wording::{Page, push_span};
 
 /// Puts a sentence on the page for each thing in which the inputs differ, those first by which costs don't compare.
 pub(crate) fn push_differences(page: &mut Page, before: Compared<'_>, after: Compared<'_>) {

@@ -2,11 +2,10 @@
 
 use crate::compare::totals::cost_of;
 use crate::compared::{Compared, GROUPINGS, label_in};
-use crate::making::Page;
-use crate::numbers::{push_number, push_share};
 use comparison::{PairedRow, most_changed};
 use std::alloc::{AllocError, Global};
 use wait_causes::{Cause, Explanation, Part};
+use wording::{Page, push_number, push_share};
 
 /// Puts sentences on the page: how much the cost changed, and which cause changed most.
 pub(crate) fn push_most_cause(

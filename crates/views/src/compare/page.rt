@@ -5,8 +5,8 @@ use crate::compare::most::{push_most_cause, push_most_rows};
 use crate::compare::rows::{push_rows, tables_of};
 use crate::compare::totals::{push_causes, push_totals};
 use crate::compared::Compared;
-use crate::making::Page;
 use std::alloc::{AllocError, Global};
+use wording::Page;
 
 /// The page on two explanations: in what the inputs differ beside their requests, how much the stays of each waited and what
 /// that cost, by cause and by what full rows sent, each with the difference; what changed most; and the same by adapter,

@@ -2,12 +2,11 @@
 
 use crate::compare::most::live_of;
 use crate::compared::{Compared, GROUPINGS, label_in};
-use crate::making::Page;
-use crate::numbers::shift;
 use crate::text::push_columns;
 use comparison::{PairedRow, paired};
 use std::alloc::{AllocError, Global};
 use wait_causes::{Explanation, Grouping, Part};
+use wording::{Page, shift};
 
 // What stands above the columns, and above those two by two.
 const HEAD: &str = "before after    before     after difference    before     after before after";

@@ -1,9 +1,8 @@
 //! What all stays waited before and after, and what that cost.
 
 use crate::compared::Compared;
-use crate::making::Page;
-use crate::numbers::{push_share, shift};
 use wait_causes::{Cause, CauseCosts, InputKind, Part};
+use wording::{Page, push_share, shift};
 
 /// Puts on the page how many stays there were, how long they waited and what that cost, before and after.
 pub(crate) fn push_totals(page: &mut Page, before: &Part, after: &Part) {

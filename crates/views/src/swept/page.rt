@@ -1,12 +1,12 @@
 //! The table of a sweep.
 
-use crate::making::Page;
 use crate::notes::shown_name;
 use crate::swept::Swept;
 use crate::swept::title::{push_blank, push_openings, push_titles, titles};
 use crate::text::push_columns;
 use std::alloc::{AllocError, Global};
 use sweep::{Figures, Row, Setting, Spread};
+use wording::Page;
 
 // How wide a column of costs is, and one of rounds.
 const COST: usize = 9;

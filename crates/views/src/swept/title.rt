@@ -1,10 +1,10 @@
 //! What the changes of a sweep's settings are called.
 
-use crate::making::Page;
 use cam_path::path_name;
 use cam_types::Config;
 use std::alloc::{AllocError, Global};
 use sweep::{Change, Place};
+use wording::Page;
 
 /// What each of the changes is of, as `device 0:1:0` and `adapter 0`.
 pub(crate) fn titles(

@@ -1,6 +1,6 @@
 //! The columns of tables.
 
-use crate::making::Page;
+use wording::Page;
 
 /// Puts each of these widths' numbers on the page, flush right after a space.
 pub(crate) fn push_columns(page: &mut Page, columns: &[(usize, u64)]) {

@@ -1,10 +1,9 @@
 //! The freezes that cost most.
 
-use crate::labels::Labels;
-use crate::making::Page;
 use crate::text::columns::push_columns;
 use std::alloc::{AllocError, Global};
 use wait_causes::{Freeze, FreezeKind, Grouping};
+use wording::{Labels, Page};
 
 // What stands above the freezes.
 const HEAD: &str = "\nThe freezes that cost most:\n\n\

@@ -1,9 +1,5 @@
 //! The page: what the waiting cost and why, and the stays that cost most.
 
-use crate::labels::Labels;
-use crate::making::Page;
-use crate::numbers::{push_share, push_span};
-use crate::plain_words::plain_words;
 use crate::text::freezes::push_freezes;
 use crate::text::order::{first_of, most_first};
 use crate::text::stays::push_stays;
@@ -14,6 +10,7 @@ use cam_types::Config;
 use recording_file::Span;
 use std::alloc::{AllocError, Global};
 use wait_causes::{BehindCosts, ExplainedStay, Explanation, Freeze, InputKind, Part};
+use wording::{Labels, Page, plain_words, push_share, push_span};
 
 // What stands below the costs by cause.
 const NO_SAVING: &str =

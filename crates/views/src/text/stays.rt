@@ -1,12 +1,10 @@
 //! The stays that cost most.
 
-use crate::labels::{Labels, shortened};
-use crate::making::Page;
-use crate::numbers::push_time;
 use crate::text::columns::push_columns;
 use recording_file::Span;
 use std::alloc::{AllocError, Global};
 use wait_causes::{ExplainedStay, Explanation, InputKind};
+use wording::{Labels, Page, push_time, shortened};
 
 // What stands above the stays of a trace, and above the requests of a recording.
 const TRACE_HEAD: &str = "\nThe stays whose waiting cost most:\n\n  CCB try";

@@ -1,11 +1,10 @@
 //! The tables of the page: what adapters, devices, drivers and run levels waited.
 
-use crate::labels::Labels;
-use crate::making::Page;
 use crate::text::columns::push_columns;
 use cam_types::Config;
 use std::alloc::{AllocError, Global};
 use wait_causes::{Cause, Explanation, Grouping, InputKind, Part, Row};
+use wording::{Labels, Page};
 
 // What stands above the columns of waits.
 const WAITS: &str = "stays  waited   p50   p90   p99 p99.9   max      live      best    excess";

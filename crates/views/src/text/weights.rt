@@ -1,7 +1,7 @@
 //! The table of weights.
 
-use crate::making::Page;
 use cam_types::Config;
+use wording::Page;
 
 /// Puts what a round of waiting costs by priority on the page, unless the weights are the standard ones.
 pub(crate) fn push_weights(page: &mut Page, config: &Config) {

@@ -1,12 +1,10 @@
 //! A sentence each on the stay, the device and the freeze that cost most.
 
-use crate::labels::Labels;
-use crate::making::Page;
-use crate::numbers::push_time;
 use crate::text::freezes::{frozen_by, frozen_name};
 use crate::text::stays::push_rounds;
 use std::alloc::{AllocError, Global};
 use wait_causes::{ExplainedStay, Explanation, Freeze, Grouping, InputKind, Row};
+use wording::{Labels, Page, push_time};
 
 /// Puts the sentences on the stay and the freeze that cost most on the page, and on the device if a stay cost anything.
 pub(crate) fn push_worst(

@@ -1,0 +1,30 @@
+//! What draws where the commands of a history or the requests of a recording waited, and why: a page for a browser, and a
+//! timeline for a viewer of traces.
+#![tactic(auto)]
+
+pub use layout::draw;
+pub use timeline::timeline_json;
+
+mod axis;
+mod bars;
+mod choice;
+mod columns;
+mod dearest;
+mod device_row;
+mod foot;
+mod lanes;
+mod layout;
+mod legend;
+mod loads;
+mod moment;
+mod names;
+mod order;
+mod overview;
+mod section;
+mod shades;
+mod stretch;
+mod style;
+mod summary;
+mod tables;
+mod timeline;
+mod words;

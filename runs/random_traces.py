@@ -10,7 +10,8 @@ import random
 import subprocess
 
 top = os.path.dirname(os.path.dirname(os.path.abspath(__file__)))
-program = os.path.join(top, "camxpt")
+# What the script at the top runs, which looks each time whether this is built: `build` does so once.
+program = os.path.join(top, "crates", "camxpt", "out", "camxpt")
 
 MOST_ROUNDS = 512
 EVENTS = "submit", "done", "requeue", "finish", "freeze", "release", "sfreeze", "srelease", "adjust", "tick"
@@ -18,6 +19,11 @@ FLAGS = "none", "none", "none", "none", "qfreeze", "qfrzdis", "both"
 # What lanes answer: a good command, a timeout, a busy device, a requeue, an error that isn't tried again, and check
 # conditions: unit attention, and an illegal request.
 ANSWERS = ["01,00,"] * 3 + ["0b,00,", "05,00,", "1b,00,", "04,00,", "0c,02,70000600000000", "0c,02,70000500000000"]
+
+
+def build():
+    """Builds the program, if it is missing or older than a source."""
+    subprocess.run([os.path.join(top, "runs", "build"), "camxpt"], check=True)
 
 
 def record(*fields):

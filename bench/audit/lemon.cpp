@@ -1,4 +1,4 @@
-// Solves the net on standard input, as `workbench net` prints it, by the network simplex of LEMON (lemon.cs.elte.hu). The
+// Solves the net on standard input, as `benches net` prints it, by the network simplex of LEMON (lemon.cs.elte.hu). The
 // graph has a node for each stay, for each round of each device, adapter and link, and a root. An arc leads from a stay to each
 // round of its device in which it could be sent, at what its waiting costs; one from there to the adapter's round, one from
 // there to its link's, if it is on one, and one to the root, each for as many stays as the device, the adapter and the link take. Prints the least cost, and the least processor time

@@ -1,0 +1,57 @@
+//! Times parts of the project alone: with the word `queues` a heap of entries, with `lock` calls of seats by four threads, with
+//! `records`, `plan` or `check` a part of the audit of the trace on standard input, and with no word each of these. With `net`
+//! it prints the trace's net; with `refused` two seats make calls on one thread, and what comes of them is told.
+#![tactic(auto)]
+
+use lock::fault::Fault;
+use std::process::ExitCode;
+use std::rt::Runtime;
+use std::sync::Wait;
+use std::thread::Threads;
+use std::time::{Clock, CpuClock};
+use std::{env, io};
+
+mod audit;
+mod lock;
+mod queues;
+
+fn main(rt: HostRuntime) -> io::Result<ExitCode> {
+    match obey(&rt) {
+        Ok(status) => Ok(status),
+        Err(fault) => {
+            eprintln!(rt; "benches: {fault}")?;
+            Ok(ExitCode::FAILURE)
+        }
+    }
+}
+
+fn obey<R: Runtime + AllocGlobal + Threads + Wait + Clock + CpuClock + Sync>(
+    rt: &R,
+) -> Result<ExitCode, Fault> {
+    let words: Vec<String> = env::args(rt)?.collect(rt.alloc())?;
+    match words.get(1) {
+        Some(word) => time_part(rt, word),
+        None => time_all(rt),
+    }
+}
+
+fn time_all<R: Runtime + AllocGlobal + Threads + Wait + Clock + CpuClock + Sync>(
+    rt: &R,
+) -> Result<ExitCode, Fault> {
+    lock::time(rt)?;
+    queues::time(rt)?;
+    Ok(audit::time(rt, None)?)
+}
+
+fn time_part<R: Runtime + AllocGlobal + Threads + Wait + Clock + CpuClock + Sync>(
+    rt: &R,
+    word: &str,
+) -> Result<ExitCode, Fault> {
+    match word {
+        "queues" => queues::time(rt)?,
+        "lock" => lock::time(rt)?,
+        "refused" => lock::refused(rt)?,
+        _ => return Ok(audit::time(rt, Some(word))?),
+    }
+    Ok(ExitCode::SUCCESS)
+}

@@ -1,4 +1,0 @@
-use Rattle.workbench.proofs.timed.lock.seated.seated.Given as goal
-
-abbrev pub ghosts-timed : goal.ghosts-timed
-ghosts-timed g a = record { name = a.blank.name; parts = a.blank.parts }

@@ -1,5 +1,0 @@
-//! Parts of the project that are timed alone.
-
-pub mod audit;
-pub mod lock;
-pub mod queues;

@@ -10,7 +10,7 @@ use std::process::Abort;
 use std::sync::Wait;
 use std::sync::ledger::{Blank, Ledger};
 use std::test::Fail;
-use xpt_lock::{Bell, Seat, SeatName, SharedXpt};
+use xpt_lock::{Bell, Moment, Seat, SeatName, SharedXpt};
 
 // The bells of rounds, of work, of cases and of rest rang this often.
 fn expect<L: Ledger, R: Wait + Abort>(rt: &R, shared: &SharedXpt<L>, due: [u64; 4]) {
@@ -112,7 +112,11 @@ fn rings_often<L: Ledger, R: Wait>(rt: &R, alloc: Global, blank: Blank) -> Resul
         shared.ring(rt, Bell::Rest);
     }
     let rest = shared.moment(rt, Bell::Rest);
-    let round = shared.wait_past(rt, Bell::Round, rest);
+    let greater = Moment {
+        bell: Bell::Round,
+        ..rest
+    };
+    let round = shared.wait_past(rt, greater);
     Ok((rest.rings, round.rings))
 }
 

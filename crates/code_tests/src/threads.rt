@@ -169,17 +169,16 @@ fn let_sleep(about_to: &AtomicU32) {
     }
 }
 
-// Sleeps at the bell. Answers whether it rang once since it was seen, after the one who rings had come.
+// Sleeps at the bell of a moment. Answers whether it rang once since then, after the one who rings had come.
 fn is_woken<L: Ledger, R: Wait>(
     rt: &R,
     shared: &SharedXpt<L>,
-    bell: Bell,
     seen: Moment,
     about_to: &AtomicU32,
     comes: &AtomicBool,
 ) -> bool {
     about_to.fetch_add(1, Ordering::SeqCst);
-    let woken = shared.wait_past(rt, bell, seen);
+    let woken = shared.wait_past(rt, seen);
     seen.rings.checked_add(1) == Some(woken.rings) && comes.load(Ordering::SeqCst)
 }
 
@@ -204,8 +203,8 @@ fn sleepers<L: Ledger + Send + Sync, R: Threads + Wait + Abort + Sync>(
         move || {
             join(
                 rt,
-                move || is_woken(rt, board, bell, seen, about_to, comes),
-                move || is_woken(rt, board, bell, seen, about_to, comes),
+                move || is_woken(rt, board, seen, about_to, comes),
+                move || is_woken(rt, board, seen, about_to, comes),
             )
         },
         move || {

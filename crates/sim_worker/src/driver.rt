@@ -40,7 +40,7 @@ pub(crate) fn drive<L: Ledger, R: Wait>(
         }
         let round = place.shared.look(rt).round;
         if round <= stand.until {
-            place.shared.wait_past(rt, Bell::Round, seen);
+            place.shared.wait_past(rt, seen);
             continue;
         }
         match do_rows(rt, place, steps, stand.row, round, seat) {

@@ -26,7 +26,7 @@ pub(crate) fn keep<L: Ledger, W: Progress, R: Wait>(
         let look = place.shared.look(rt);
         progress.show(look);
         if !is_round_over(rests, look) {
-            place.shared.wait_past(rt, Bell::Rest, seen);
+            place.shared.wait_past(rt, seen);
             continue;
         }
         if is_drained(rests, look) {

@@ -42,9 +42,9 @@ pub(crate) fn run_lane<L: Ledger, P: Port, H: Handed, R: Wait>(
         }
         // Openings come back with the next round.
         if idle == Idle::AdapterBusy {
-            place.shared.wait_past(rt, Bell::Round, round);
+            place.shared.wait_past(rt, round);
         } else {
-            place.shared.wait_past(rt, Bell::Work, work);
+            place.shared.wait_past(rt, work);
         }
     }
 }

@@ -20,7 +20,7 @@ pub(crate) fn recover<L: Ledger, R: Wait>(rt: &R, place: &Workplace<L>, seat: &m
                 has_decided = false;
                 place.shared.ring(rt, Bell::Rest);
             }
-            place.shared.wait_past(rt, Bell::Case, seen);
+            place.shared.wait_past(rt, seen);
             continue;
         };
         if let Err(fault) = decide(rt, place, case, seat) {
@@ -54,7 +54,7 @@ fn decide<L: Ledger, R: Wait>(
     match made {
         Err(SharedFault::Refused(why)) if !matches!(why, Refusal::HistoryFull(_)) => {
             place.rest_recovery(rt, round);
-            place.shared.wait_past(rt, Bell::Round, seen);
+            place.shared.wait_past(rt, seen);
             Ok(())
         }
         Err(fault) => Err(fault),

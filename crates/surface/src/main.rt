@@ -33,6 +33,7 @@ mod dev_queue_calls;
 mod frame_config;
 mod price_check_calls;
 mod refused_memory;
+mod refused_seats;
 mod round_net_calls;
 mod sense_class_calls;
 mod sim_queue_calls;

@@ -1,6 +1,9 @@
 //! Calls that take memory, for runs in which a request is refused. Each says where it found none, has then left all as it was,
 //! and is made again.
 
+ghost use Rattle.std.specs.Prelude.{◌≡◌};
+
+use crate::refused_seats::{Seats, wide_config};
 use crate::texts::FROZEN;
 use anyhow::{Result, bail};
 use audit_report::{AuditFault, run_audit};
@@ -14,9 +17,13 @@ use sim_worker::{Port, ScriptPort};
 use std::alloc::Global;
 use std::io;
 use std::io::Write;
+use std::marker::Brand;
 use std::rt::Runtime;
+use std::sync::Wait;
+use std::sync::ledger::{Blank, Ledger};
 use std::thread::Threads;
 use trace_file::{Script, TraceFault, read_script};
+use xpt_lock::SharedXpt;
 use xpt_state::{Sent, Xpt};
 
 // A lane that answers the first command with a timeout.
@@ -35,8 +42,21 @@ const COMMAND: Command = Command {
 const BURST: u32 = 256;
 
 /// Makes the calls once all that they need is there.
-pub fn call_refused<R: Runtime + AllocGlobal + Threads + Sync>(rt: &R) -> Result<()> {
+pub fn call_refused<R: Runtime + AllocGlobal + Threads + Wait + Sync>(rt: &R) -> Result<()> {
+    call_all::<Brand, R>(rt, Blank::new(65))
+}
+
+fn call_all<L: Ledger, R: Runtime + AllocGlobal + Threads + Wait + Sync>(
+    rt: &R,
+    blank: Blank,
+) -> Result<()>
+    requires name { blank.name ≡ L.name }
+    requires parts { (blank.parts ≡ L.parts) × (blank.parts ≡ 65) }
+{
     let alloc: Global = rt.alloc();
+    let xpt = Xpt::open(alloc, wide_config(alloc)?, Limits::most())?;
+    let shared: SharedXpt<L> = SharedXpt::new(xpt, blank);
+    let seats = Seats::taken(rt, alloc, &shared)?;
     let script: Script = read_script(alloc, &mut Watched::new(SCRIPT.as_bytes()))?;
     if script.config().lanes().len() == 0 {
         bail!("no lane");
@@ -51,7 +71,8 @@ pub fn call_refused<R: Runtime + AllocGlobal + Threads + Sync>(rt: &R) -> Result
     serve_all(rt, &mut port)?;
     write_audit(rt, &mut audit)?;
     plan_burst(rt, &net)?;
-    plan_at_once(rt, &net)
+    plan_at_once(rt, &net)?;
+    seats.call(rt, alloc, shared)
 }
 
 // Puts a path after what is there.

@@ -161,16 +161,20 @@ impl<L: Ledger> Kept<L> {
 
     // The moment that it is at the bell.
     pub(crate) fn moment(&self, bell: Bell) -> Moment
-        ensures { result.rings ≡ rings_of self.now.rings bell }
+        ensures bell { result.bell ≡ bell }
+        ensures rings { result.rings ≡ rings_of self.now.rings bell }
     {
         self.rings.moment(bell)
     }
 
-    // Rings the bell, though nothing happened to the transport.
-    pub(crate) fn ring(&mut self, bell: Bell)
+    // Rings the bell, though nothing happened to the transport. The answer is the moment after that.
+    pub(crate) fn ring(&mut self, bell: Bell) -> Moment
         ensures rung { self.new.rings ≡ rung_by (is_bell bell) self.old.rings }
         ensures xpt { self.new.xpt ≡ self.old.xpt }
+        ensures bell { result.bell ≡ bell }
+        ensures rings { result.rings ≡ rings_of self.new.rings bell }
     {
         self.rings.ring(bell);
+        self.rings.moment(bell)
     }
 }

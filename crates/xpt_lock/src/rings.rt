@@ -33,7 +33,8 @@ impl Rings {
 
     // The moment that it is at the bell.
     pub(crate) fn moment(&self, bell: Bell) -> Moment
-        ensures { result.rings ≡ rings_of self.now bell }
+        ensures bell { result.bell ≡ bell }
+        ensures rings { result.rings ≡ rings_of self.now bell }
     {
         let rings = match bell {
             Bell::Round => self.round,
@@ -41,7 +42,7 @@ impl Rings {
             Bell::Case => self.case,
             Bell::Rest => self.rest,
         };
-        Moment { rings }
+        Moment { bell, rings }
     }
 
     // Counts a ring of each bell that rings with the event.

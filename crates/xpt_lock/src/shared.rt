@@ -290,30 +290,36 @@ impl<L: Ledger> SharedXpt<L> {
     }
 
     /// The moment that it is at the bell. A worker takes it before it looks for something to do, and finds nothing.
-    pub fn moment<R: Wait>(&self, rt: &R, bell: Bell) -> Moment {
+    pub fn moment<R: Wait>(&self, rt: &R, bell: Bell) -> Moment
+        ensures { result.bell ≡ bell }
+    {
         self.lock(rt).moment(bell)
     }
 
     /// Sleeps until it is another moment at the bell than the one that was seen there, which is the answer: until the bell rang
     /// since then. If it did so already, it returns at once.
-    pub fn wait_past<R: Wait>(&self, rt: &R, bell: Bell, seen: Moment) -> Moment
-        ensures { result ≢ seen }
+    pub fn wait_past<R: Wait>(&self, rt: &R, seen: Moment) -> Moment
+        ensures bell { result.bell ≡ seen.bell }
+        ensures rung { result.rings ≢ seen.rings }
     {
         let mut kept = self.lock(rt);
         for _ in rt.forever() {
-            let now = kept.moment(bell);
-            if now != seen {
+            let now = kept.moment(seen.bell);
+            if now.rings != seen.rings {
                 return now;
             }
-            kept = self.sleepers.at(bell).wait(rt, kept);
+            kept = self.sleepers.at(seen.bell).wait(rt, kept);
         }
         unreachable!()
     }
 
     /// Rings the bell, so that whoever sleeps at it looks again, as where a worker rests or all are to stop. The transport
-    /// stays as it is.
-    pub fn ring<R: Wait>(&self, rt: &R, bell: Bell) {
-        self.lock(rt).ring(bell);
+    /// stays as it is. The answer is the moment that comes with the ring.
+    pub fn ring<R: Wait>(&self, rt: &R, bell: Bell) -> Moment
+        ensures { result.bell ≡ bell }
+    {
+        let rung = self.lock(rt).ring(bell);
         self.sleepers.at(bell).notify_all();
+        rung
     }
 }

@@ -4,7 +4,6 @@ use alone::alone;
 use fault::Fault;
 use listed::listed;
 use load::{EVENTS, THREADS};
-pub use refused::refused;
 use seated::seated;
 use std::sync::Wait;
 use std::thread::Threads;
@@ -15,7 +14,6 @@ mod call;
 pub mod fault;
 mod listed;
 mod load;
-mod refused;
 mod seated;
 
 /// Says on standard error how many nanoseconds an event took through the seats, on the list, and of one thread alone.

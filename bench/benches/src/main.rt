@@ -1,6 +1,6 @@
 //! Times parts of the project alone: with the word `queues` a heap of entries, with `lock` calls of seats by four threads, with
 //! `records`, `plan` or `check` a part of the audit of the trace on standard input, and with no word each of these. With `net`
-//! it prints the trace's net; with `refused` two seats make calls on one thread, and what comes of them is told.
+//! it prints the trace's net.
 #![tactic(auto)]
 
 use lock::fault::Fault;
@@ -50,7 +50,6 @@ fn time_part<R: Runtime + AllocGlobal + Threads + Wait + Clock + CpuClock + Sync
     match word {
         "queues" => queues::time(rt)?,
         "lock" => lock::time(rt)?,
-        "refused" => lock::refused(rt)?,
         _ => return Ok(audit::time(rt, Some(word))?),
     }
     Ok(ExitCode::SUCCESS)

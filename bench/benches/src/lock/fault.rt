@@ -15,9 +15,6 @@ pub enum Fault {
     Seats(#[from] SeatsFull),
     #[error("{0}")]
     Call(#[from] SharedFault),
-    /// A call without memory left a seat or the transport other than it was.
-    #[error("a refused call changed something")]
-    Changed,
     #[error("{0}")]
     Gather(#[from] GatherFault),
     #[error("out of memory")]

@@ -6,7 +6,7 @@ import subprocess
 top = os.path.dirname(os.path.dirname(os.path.abspath(__file__)))
 PARTS = "src", "specs", "proofs"
 # The lists of crates, each with the folder where its crates stand: those that the gate proves, and what the benches time.
-LISTS = {"crates.txt": "crates", "bench/crates.txt": "bench"}
+LISTS = {"crates.txt": "crates", "bench/programs.txt": "bench"}
 
 
 @functools.cache

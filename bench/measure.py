@@ -5,8 +5,7 @@ import subprocess
 import sys
 
 top = os.path.dirname(os.path.dirname(os.path.abspath(__file__)))
-sys.path.insert(0, os.path.join(top, "runs"))
-from crates import program_of  # noqa: E402
+crates = os.path.join(top, "crates")
 
 
 def camxpt():
@@ -17,7 +16,7 @@ def camxpt():
 def built(crate):
     """The program of a crate, which is proved and built first if that is due."""
     subprocess.run([os.path.join(top, "runs", "build"), crate], check=True)
-    return program_of(crate)
+    return os.path.join(crates, crate, "out", crate)
 
 
 def measured(*words, source=os.devnull, runs=5, errors=None):

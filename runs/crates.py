@@ -5,36 +5,24 @@ import subprocess
 
 top = os.path.dirname(os.path.dirname(os.path.abspath(__file__)))
 PARTS = "src", "specs", "proofs"
-# The lists of crates, each with the folder where its crates stand: those that the gate proves, and what the benches time.
-LISTS = {"crates.txt": "crates", "bench/programs.txt": "bench"}
 
 
-@functools.cache
 def lines():
-    """Of each line of the lists what stands before the colon and after it, and the folder where its crate stands."""
-    found = []
-    for path, folder in LISTS.items():
-        with open(os.path.join(top, path)) as file:
-            rows = [line.partition("#")[0].partition(":") for line in file]
-        found += [(head.split(), libraries.split(), folder) for head, colon, libraries in rows if colon]
-    return found
+    """What stands before the colon of each line of crates.txt, and after it."""
+    with open(os.path.join(top, "crates.txt")) as file:
+        rows = [line.partition("#")[0].partition(":") for line in file]
+    return [(head.split(), libraries.split()) for head, colon, libraries in rows if colon]
 
 
 @functools.cache
 def read_uses():
-    """The libraries that each crate of the repository names in its list."""
-    return {head[0]: libraries for head, libraries, _ in lines()}
-
-
-@functools.cache
-def folder_of(name):
-    """The folder of a crate, from the top of the repository."""
-    return next(os.path.join(folder, name) for head, _, folder in lines() if head[0] == name)
+    """The libraries that each crate of the repository names in crates.txt."""
+    return {head[0]: libraries for head, libraries in lines()}
 
 
 def is_static(name):
     """Whether a crate is a static library, for C."""
-    return [name, "staticlib"] in [head for head, *_ in lines()]
+    return [name, "staticlib"] in [head for head, _ in lines()]
 
 
 @functools.cache
@@ -45,13 +33,13 @@ def below(name):
 
 
 def is_program(name):
-    return os.path.isfile(os.path.join(top, folder_of(name), "src", "main.rt"))
+    return os.path.isfile(os.path.join(top, "crates", name, "src", "main.rt"))
 
 
 def sources(name, root=top):
     """The files and folders that a crate is made of: a folder is newer than the last file that was taken out of it."""
     for part in PARTS:
-        for at, folders, files in os.walk(os.path.join(root, folder_of(name), part)):
+        for at, folders, files in os.walk(os.path.join(root, "crates", name, part)):
             folders.sort()
             yield at
             yield from (os.path.join(at, it) for it in sorted(files) if it.endswith((".rt", ".antt")))
@@ -59,7 +47,7 @@ def sources(name, root=top):
 
 def newest(names):
     """When the last of the sources of these crates was changed, in nanoseconds."""
-    paths = [*(os.path.join(top, path) for path in LISTS), *(path for name in names for path in sources(name))]
+    paths = [os.path.join(top, "crates.txt"), *(path for name in names for path in sources(name))]
     return max(os.stat(path).st_mtime_ns for path in paths)
 
 
@@ -67,11 +55,6 @@ def newest(names):
 def kit():
     """The folder of the kit."""
     return os.path.dirname(subprocess.check_output(["rt", "doc"], text=True).strip())
-
-
-def program_of(name, root=top):
-    """The program of a crate."""
-    return os.path.join(root, folder_of(name), "out", name)
 
 
 def library_of(name):
@@ -82,7 +65,7 @@ def library_of(name):
 def proved(names):
     """Where the libraries of crates are: those that the gate left, if each is newer than all that it is made of, or else those of
     `runs/build`, which proves what isn't proved yet. If it fails, there are none."""
-    found = {name: os.path.join(top, folder_of(name), "out", "rlib", name + ".rlib") for name in names}
+    found = {name: os.path.join(top, "crates", name, "out", "rlib", name + ".rlib") for name in names}
     if all(os.path.exists(path) and os.stat(path).st_mtime_ns > newest([*below(name), name]) for name, path in found.items()):
         return found
     built = subprocess.run([os.path.join(top, "runs", "build"), *names])

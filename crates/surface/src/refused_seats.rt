@@ -41,7 +41,12 @@ impl<L: Ledger> Seats<L> {
     }
 
     /// Submits by one seat, sends by the other and gathers both.
-    pub fn call<R: Runtime + Wait>(self, rt: &R, alloc: Global, shared: SharedXpt<L>) -> Result<()> {
+    pub fn call<R: Runtime + Wait>(
+        self,
+        rt: &R,
+        alloc: Global,
+        shared: SharedXpt<L>,
+    ) -> Result<()> {
         let Seats {
             mut driver,
             mut lane,

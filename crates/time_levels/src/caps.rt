@@ -1,7 +1,6 @@
 //! The caps of units by round, lowered to what the units below and above them let through.
 
 use crate::columns::Columns;
-use crate::level::Level;
 use crate::network::Network;
 use crate::parts::Part;
 use std::alloc::{AllocError, Global};
@@ -82,56 +81,6 @@ impl RoundCaps {
                 _ => cap,
             };
             put(&mut self.tight, number, cap);
-        }
-    }
-}
-
-/// The lowered caps of all rounds.
-#[derive(Drop)]
-pub struct Caps {
-    caps: Vec<u32>,
-    rounds: u32,
-}
-
-impl Caps {
-    /// The caps of a part of a network.
-    pub fn of(alloc: Global, network: &Network, part: &Part) -> Result<Caps, AllocError> {
-        let mut round_caps = RoundCaps::new(alloc, part)?;
-        let mut caps = Vec::new(alloc);
-        for round in 0..network.rounds {
-            round_caps.load(network, &part.columns, round);
-            caps.extend_from_slice(&round_caps.tight)?;
-        }
-        Ok(Caps {
-            caps,
-            rounds: network.rounds,
-        })
-    }
-
-    /// How many rounds there are.
-    pub fn rounds(&self) -> u32 {
-        self.rounds
-    }
-
-    /// Adds the caps of all rounds to those of their blocks, which have two to this power of rounds.
-    pub fn fill(&self, level: &mut Level, power: u32) {
-        for round in 0..self.rounds {
-            let block = round.checked_shr(power).unwrap_or(0);
-            self.fill_round(level, round, block);
-        }
-    }
-
-    fn fill_round(&self, level: &mut Level, round: u32, block: u32) {
-        let from = (round as usize).saturating_mul(level.width as usize);
-        let to = level.at(block, 0);
-        for column in 0..level.width {
-            let cap = self
-                .caps
-                .get(from.saturating_add(column as usize))
-                .copied()
-                .unwrap_or(0);
-            let number = to.saturating_add(column);
-            level.set_cap(number, level.node(number).cap.saturating_add(cap));
         }
     }
 }

@@ -1,6 +1,7 @@
 //! A level of time: blocks of rounds, with a node in each block for each column.
 
 use crate::columns::{Column, Columns};
+use crate::outline::Outline;
 use std::alloc::{AllocError, Global};
 
 /// The distance of a node that no search has reached.
@@ -50,15 +51,18 @@ pub struct Level {
 }
 
 impl Level {
-    /// Blocks of empty nodes.
-    pub fn new(alloc: Global, blocks: u32, width: u32) -> Result<Level, AllocError> {
-        let Some(count) = blocks.checked_mul(width) else {
-            return Err(AllocError);
-        };
-        let nodes = vec![in alloc; Node::EMPTY; count as usize]?;
+    /// The level of an outline, with caps alone.
+    pub fn of(alloc: Global, outline: &Outline) -> Result<Level, AllocError> {
+        let mut nodes = Vec::with_capacity(alloc, outline.caps.len())?;
+        for cap in &outline.caps {
+            nodes.push(Node {
+                cap: *cap,
+                ..Node::EMPTY
+            })?;
+        }
         Ok(Level {
-            blocks,
-            width,
+            blocks: outline.blocks,
+            width: outline.width,
             nodes,
         })
     }
@@ -72,12 +76,6 @@ impl Level {
     #[inline]
     pub fn at(&self, block: u32, column: u32) -> u32 {
         block.saturating_mul(self.width).saturating_add(column)
-    }
-
-    /// The block of a node.
-    #[inline]
-    pub fn block_of(&self, number: u32) -> u32 {
-        number.checked_div(self.width).unwrap_or(0)
     }
 
     /// The place in its block of a node.
@@ -185,14 +183,6 @@ impl Level {
     pub fn set_wait(&mut self, number: u32, wait: u32) {
         if let Some(node) = self.nodes.get_mut(number as usize) {
             node.wait = wait;
-        }
-    }
-
-    /// Sets how many may go on from a node.
-    #[inline]
-    pub fn set_cap(&mut self, number: u32, cap: u32) {
-        if let Some(node) = self.nodes.get_mut(number as usize) {
-            node.cap = cap;
         }
     }
 

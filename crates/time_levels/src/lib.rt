@@ -8,7 +8,6 @@ pub use planning::plan;
 pub use progress::{Done, Progress, Untold};
 
 mod answer;
-mod arrivals;
 mod caps;
 mod columns;
 mod course;
@@ -17,6 +16,7 @@ mod hop;
 mod layout;
 mod level;
 mod network;
+mod outline;
 mod parts;
 mod passing;
 mod planning;

@@ -5,25 +5,18 @@ ghost use Rattle.std.specs.Prelude.{◌≡◌, ◌*◌, length, IfOk};
 ghost use Rattle.std.specs.Option.{IfSome};
 
 use crate::answer::Levels;
-use crate::arrivals::add_arrivals;
-use crate::caps::Caps;
-use crate::level::Level;
+use crate::level::{Level, as_excess};
 use crate::network::Network;
+use crate::outline::{Outline, outlines};
 use crate::parts::{Part, parts};
 use crate::progress::{Done, Progress};
 use crate::raising::raise_labels;
-use crate::refining::{blocks, empty, refined};
-use crate::repair::{finish, repair};
+use crate::refining::refined;
+use crate::repair::{Needs, finish, repair};
 use crate::search::Search;
 use crate::settling::settle;
 use crate::stopped::label_stopped;
 use std::alloc::{AllocError, Global};
-
-/// How many blocks there are at most on the first level.
-const FEW_BLOCKS: u32 = 4;
-
-/// The most halvings that a number of rounds can take.
-const MOST_HALVINGS: u32 = 31;
 
 /// A guess at a best plan: when the requests of each row are sent so that their waiting costs least in all. There is none if
 /// it finds no room for some of them in the rounds that there are. The only error is that there is no memory left.
@@ -61,19 +54,24 @@ fn finest<P: Progress>(
     progress: &P,
     done: Done,
 ) -> Result<Option<Level>, AllocError> {
-    let caps = Caps::of(alloc, network, part)?;
+    let mut outlines = outlines(alloc, network, part)?;
     let mut search = Search::new(alloc);
-    let halvings = halvings(network.rounds);
-    let Some(mut level) = coarsest(alloc, part, &caps, &mut search, halvings)? else {
+    let Some(outline) = outlines.pop() else {
         return Ok(None);
     };
-    for power in (0..halvings).rev() {
+    let Some(mut level) = coarsest(alloc, part, &outline, &mut search)? else {
+        return Ok(None);
+    };
+    for left in (0..outlines.len()).rev() {
         progress.level_planned(Done {
-            levels_left: power.saturating_add(1),
+            levels_left: u32::try_from(left).unwrap_or(u32::MAX).saturating_add(1),
             ..done
         });
         label_stopped(&mut level, &part.columns);
-        level = match finer(alloc, part, &caps, &mut search, &level, power)? {
+        let Some(outline) = outlines.pop() else {
+            return Ok(None);
+        };
+        level = match finer(alloc, part, &outline, &mut search, &level)? {
             Some(finer) => finer,
             None => return Ok(None),
         };
@@ -81,27 +79,19 @@ fn finest<P: Progress>(
     Ok(Some(level))
 }
 
-// How often rounds are put together in pairs until few are left.
-fn halvings(rounds: u32) -> u32 {
-    for power in 0..MOST_HALVINGS {
-        if blocks(rounds, power) <= FEW_BLOCKS {
-            return power;
-        }
-    }
-    MOST_HALVINGS
-}
-
 // The first level, planned from nothing.
 fn coarsest(
     alloc: Global,
     part: &Part,
-    caps: &Caps,
+    outline: &Outline,
     search: &mut Search,
-    power: u32,
 ) -> Result<Option<Level>, AllocError> {
-    let mut level = empty(alloc, part, caps, power)?;
-    add_arrivals(&mut level, &part.comings, power);
-    if finish(alloc, &mut level, &part.columns, search)? {
+    let mut level = Level::of(alloc, outline)?;
+    for number in 0..level.len() {
+        level.set_excess(number, as_excess(outline.comes(number)));
+    }
+    let needs = Needs::of(alloc, &level)?;
+    if finish(alloc, &mut level, &part.columns, search, needs)? {
         Ok(Some(level))
     } else {
         Ok(None)
@@ -112,12 +102,11 @@ fn coarsest(
 fn finer(
     alloc: Global,
     part: &Part,
-    caps: &Caps,
+    outline: &Outline,
     search: &mut Search,
     whole: &Level,
-    power: u32,
 ) -> Result<Option<Level>, AllocError> {
-    let mut level = refined(alloc, part, caps, whole, power)?;
+    let mut level = refined(alloc, &part.columns, outline, whole)?;
     raise_labels(alloc, &mut level, &part.columns)?;
     settle(&mut level, &part.columns);
     if repair(alloc, &mut level, &part.columns, search)? {

@@ -33,15 +33,16 @@ const TURNS: u64 = 64;
 /// How often budgets are multiplied at most, which is more than what it takes to reach the most that there is.
 const BUDGETS: u32 = 32;
 
-// Nodes with an excess above 0, and below.
+/// Nodes with an excess above 0, and below.
 #[derive(Drop)]
-struct Needs {
+pub struct Needs {
     pushes: Vec<u32>,
     pulls: Vec<u32>,
 }
 
 impl Needs {
-    fn of(alloc: Global, level: &Level) -> Result<Needs, AllocError> {
+    /// Those of a level.
+    pub fn of(alloc: Global, level: &Level) -> Result<Needs, AllocError> {
         let mut needs = Needs {
             pushes: Vec::new(alloc),
             pulls: Vec::new(alloc),
@@ -78,9 +79,9 @@ pub fn repair(
     columns: &Columns,
     search: &mut Search,
 ) -> Result<bool, AllocError> {
+    let mut needs = Needs::of(alloc, level)?;
     let mut budget = QUEUE_BUDGET;
     for turn in 0..PASSES {
-        let needs = Needs::of(alloc, level)?;
         if needs.len() == 0 || (turn >= 2 && needs.len() < ENOUGH) {
             break;
         }
@@ -92,9 +93,10 @@ pub fn repair(
             Direction::Backward
         };
         pass(level, columns, search, direction)?;
+        needs = Needs::of(alloc, level)?;
         budget = budget.saturating_mul(GROWTH);
     }
-    finish(alloc, level, columns, search)
+    finish(alloc, level, columns, search, needs)
 }
 
 // Moves the excess of these nodes to where it is needed, or to queues.
@@ -114,14 +116,14 @@ fn to_queues(
     Ok(())
 }
 
-/// Moves all excess of a level, and says whether it could.
+/// Moves all excess of a level, which these nodes have, and says whether it could.
 pub fn finish(
     alloc: Global,
     level: &mut Level,
     columns: &Columns,
     search: &mut Search,
+    mut needs: Needs,
 ) -> Result<bool, AllocError> {
-    let mut needs = Needs::of(alloc, level)?;
     let mut budget = BUDGET;
     for _ in 0..BUDGETS {
         let last = is_last(level, &needs, budget);

@@ -2,7 +2,7 @@
 
 ghost use Rattle.std.specs.Prelude.{◌≡◌, ◌*◌, length, IfOk};
 
-use crate::caps::{RoundCaps, cap_at};
+use crate::caps::{RoundCaps, number_at};
 use crate::columns::{Column, Columns};
 use crate::level::Level;
 use crate::network::Network;
@@ -114,7 +114,7 @@ impl Line {
     fn move_up(&mut self, columns: &Columns) {
         for number in (0..columns.len()).rev() {
             if let Some(above) = columns.column(number).above
-                && cap_at(&self.caps.tight, number) < cap_at(&self.caps.narrowed, number)
+                && number_at(&self.caps.tight, number) < number_at(&self.caps.narrowed, number)
             {
                 let price = self.price(number).saturating_add(self.price(above));
                 self.put(above, price);
@@ -136,7 +136,7 @@ impl Line {
     }
 
     fn is_narrowed(&self, number: u32) -> bool {
-        cap_at(&self.caps.narrowed, number) < cap_at(&self.caps.own, number)
+        number_at(&self.caps.narrowed, number) < number_at(&self.caps.own, number)
     }
 
     // Writes the prices of units.

@@ -61,7 +61,7 @@ impl RoundCaps {
                 let sum = sum_at(&self.sums, number);
                 u32::try_from(sum)
                     .unwrap_or(u32::MAX)
-                    .min(cap_at(&self.own, number))
+                    .min(number_at(&self.own, number))
             };
             put(&mut self.narrowed, number, cap);
             if let Some(above) = column.above {
@@ -75,9 +75,9 @@ impl RoundCaps {
     fn tighten(&mut self, columns: &Columns) {
         for number in 0..columns.len() {
             let column = columns.column(number);
-            let cap = cap_at(&self.narrowed, number);
+            let cap = number_at(&self.narrowed, number);
             let cap = match column.above {
-                Some(above) if !column.is_row() => cap.min(cap_at(&self.tight, above)),
+                Some(above) if !column.is_row() => cap.min(number_at(&self.tight, above)),
                 _ => cap,
             };
             put(&mut self.tight, number, cap);
@@ -85,10 +85,10 @@ impl RoundCaps {
     }
 }
 
-/// A cap in a list.
+/// A number in a list, and 0 past all.
 #[inline]
-pub fn cap_at(caps: &[u32], place: u32) -> u32 {
-    caps.get(place as usize).copied().unwrap_or(0)
+pub fn number_at(numbers: &[u32], place: u32) -> u32 {
+    numbers.get(place as usize).copied().unwrap_or(0)
 }
 
 #[inline]

@@ -1,6 +1,6 @@
 //! What is known of a level of time before it is planned: what comes in each of its nodes, and what may go on from there.
 
-use crate::caps::RoundCaps;
+use crate::caps::{RoundCaps, number_at};
 use crate::network::Network;
 use crate::parts::{Coming, Part};
 use std::alloc::{AllocError, Global};
@@ -41,9 +41,12 @@ pub fn outlines(alloc: Global, network: &Network, part: &Part) -> Result<Vec<Out
 }
 
 impl Outline {
-    // That of the level whose blocks are rounds.
+    // That of the level whose blocks are rounds. Nodes are numbered, so that there can't be more of them than numbers.
     fn of_rounds(alloc: Global, network: &Network, part: &Part) -> Result<Outline, AllocError> {
         let width = part.columns.len();
+        if network.rounds.checked_mul(width).is_none() {
+            return Err(AllocError);
+        }
         let caps = caps_of(alloc, network, part)?;
         let mut comes = vec![in alloc; 0; caps.len()]?;
         for coming in &part.comings {
@@ -63,15 +66,15 @@ impl Outline {
         Ok(Outline {
             blocks,
             width: self.width,
-            caps: in_pairs(alloc, &self.caps, blocks, self.width)?,
-            comes: in_pairs(alloc, &self.comes, blocks, self.width)?,
+            caps: sums_of_pairs(alloc, &self.caps, blocks, self.width)?,
+            comes: sums_of_pairs(alloc, &self.comes, blocks, self.width)?,
         })
     }
 
     /// How many come in a node.
     #[inline]
     pub fn comes(&self, number: u32) -> u32 {
-        number_at(&self.comes, number as usize)
+        number_at(&self.comes, number)
     }
 }
 
@@ -96,29 +99,20 @@ fn add_coming(comes: &mut [u32], width: u32, coming: &Coming) {
 }
 
 // The sums of the numbers of two blocks each.
-fn in_pairs(
+fn sums_of_pairs(
     alloc: Global,
     numbers: &[u32],
     blocks: u32,
     width: u32,
 ) -> Result<Vec<u32>, AllocError> {
-    let width = width as usize;
     let mut sums = Vec::with_capacity(alloc, numbers.len().div_ceil(2))?;
     for block in 0..blocks {
-        let first = (block as usize).saturating_mul(width).saturating_mul(2);
+        let first = block.saturating_mul(2).saturating_mul(width);
         for column in 0..width {
             let here = first.saturating_add(column);
-            let sum = number_at(numbers, here).saturating_add(number_at(
-                numbers,
-                here.saturating_add(width),
-            ));
-            sums.push(sum)?;
+            let second = number_at(numbers, here.saturating_add(width));
+            sums.push(number_at(numbers, here).saturating_add(second))?;
         }
     }
     Ok(sums)
-}
-
-#[inline]
-fn number_at(numbers: &[u32], place: usize) -> u32 {
-    numbers.get(place).copied().unwrap_or(0)
 }

@@ -1,13 +1,13 @@
-//! One pass over all blocks, which carries excess along queues to where it is needed.
+//! One pass over all blocks, which carries excess along rows to where it is needed.
 
 use crate::columns::{Columns, Span};
 use crate::course::Course;
 use crate::level::{Level, as_excess};
-use crate::search::{Ends, Search, is_queue};
+use crate::search::{Ends, Search};
 use std::alloc::AllocError;
 
 /// How many nodes a search may take on the way.
-const BUDGET: u64 = 64;
+const BUDGET: u64 = 32;
 
 /// The direction of a pass.
 #[derive(Clone, Copy)]
@@ -84,10 +84,10 @@ fn meet(
 // Carries the excess of these rows one block on.
 fn carry_all(level: &mut Level, columns: &Columns, span: Span, direction: Direction) {
     for number in span.first..span.end {
-        if level.node(number).excess == 0 || !is_queue(level, number) {
+        let column = columns.column(number.saturating_sub(span.first));
+        if level.node(number).excess == 0 || !column.is_row() {
             continue;
         }
-        let column = columns.column(number.saturating_sub(span.first));
         match direction {
             Direction::Forward => carry_on(level, number, i64::from(column.weight)),
             Direction::Backward => carry_back(level, number, i64::from(column.weight)),

@@ -7,31 +7,17 @@ use crate::passing::{Direction, pass};
 use crate::search::{Ends, Found, Search, is_queue};
 use std::alloc::{AllocError, Global};
 
-/// How often excess is moved to queues and carried along them.
-const PASSES: u32 = 4;
+/// In which directions excess is carried, one time after another.
+const PASSES: [Direction; 3] = [Direction::Forward, Direction::Backward, Direction::Forward];
 
-/// From the third time on, that is done only if there are so many nodes with excess.
-const ENOUGH: usize = 6;
+/// How many nodes a search to a queue may take.
+const QUEUE_BUDGET: u64 = 1024;
 
-/// How many nodes a search to a queue may take, the first time.
-const QUEUE_BUDGET: u64 = 256;
-
-/// How many nodes other searches may take, the first time.
-const BUDGET: u64 = 64;
-
-/// By how much each time these budgets are multiplied.
-const GROWTH: u64 = 4;
-
-/// From this budget on there is none any more if fewer than so many nodes are left.
-const LATE_BUDGET: u64 = 1024;
-
-const FEW: usize = 50;
+/// How many nodes other searches may take, one time after another. At last they have no such budget.
+const BUDGETS: [u64; 2] = [64, 256];
 
 /// How many nodes a search may take without a budget, for each node that there is. With good labels it takes about one.
 const TURNS: u64 = 64;
-
-/// How often budgets are multiplied at most, which is more than what it takes to reach the most that there is.
-const BUDGETS: u32 = 32;
 
 /// Nodes with an excess above 0, and below.
 #[derive(Drop)]
@@ -80,21 +66,14 @@ pub fn repair(
     search: &mut Search,
 ) -> Result<bool, AllocError> {
     let mut needs = Needs::of(alloc, level)?;
-    let mut budget = QUEUE_BUDGET;
-    for turn in 0..PASSES {
-        if needs.len() == 0 || (turn >= 2 && needs.len() < ENOUGH) {
+    for direction in PASSES {
+        if needs.len() == 0 {
             break;
         }
-        to_queues(level, columns, search, &needs.pushes, Course::Push, budget)?;
-        to_queues(level, columns, search, &needs.pulls, Course::Pull, budget)?;
-        let direction = if turn % 2 == 0 {
-            Direction::Forward
-        } else {
-            Direction::Backward
-        };
+        to_queues(level, columns, search, &needs.pushes, Course::Push)?;
+        to_queues(level, columns, search, &needs.pulls, Course::Pull)?;
         pass(level, columns, search, direction)?;
         needs = Needs::of(alloc, level)?;
-        budget = budget.saturating_mul(GROWTH);
     }
     finish(alloc, level, columns, search, needs)
 }
@@ -106,11 +85,10 @@ fn to_queues(
     search: &mut Search,
     needs: &[u32],
     course: Course,
-    budget: u64,
 ) -> Result<(), AllocError> {
     for number in needs.iter().rev() {
         if !is_queue(level, *number) {
-            search.move_all(level, columns, *number, course, Ends::AtQueue, budget)?;
+            search.move_all(level, columns, *number, course, Ends::AtQueue, QUEUE_BUDGET)?;
         }
     }
     Ok(())
@@ -124,28 +102,17 @@ pub fn finish(
     search: &mut Search,
     mut needs: Needs,
 ) -> Result<bool, AllocError> {
-    let mut budget = BUDGET;
-    for _ in 0..BUDGETS {
-        let last = is_last(level, &needs, budget);
-        if last {
-            budget = u64::from(level.len()).saturating_mul(TURNS);
-        }
+    for budget in BUDGETS {
         if !move_some(level, columns, search, &needs, budget)? {
             return Ok(false);
         }
         needs = needs.left(alloc, level)?;
-        if last || needs.len() == 0 {
-            break;
-        }
-        budget = budget.saturating_mul(GROWTH);
     }
-    Ok(needs.len() == 0)
-}
-
-// Whether a budget is so large, or so few nodes are left, that there need not be one.
-fn is_last(level: &Level, needs: &Needs, budget: u64) -> bool {
-    let most = u64::from(level.len()).saturating_mul(GROWTH);
-    budget > most || (budget >= LATE_BUDGET && needs.len() < FEW)
+    let no_budget = u64::from(level.len()).saturating_mul(TURNS);
+    if !move_some(level, columns, search, &needs, no_budget)? {
+        return Ok(false);
+    }
+    Ok(needs.left(alloc, level)?.len() == 0)
 }
 
 // Moves what it can of the excess of these nodes. Says whether there may be a way for all that is left.

@@ -8,7 +8,7 @@ use crate::level::{Level, Node, UNREACHED, as_excess};
 use std::alloc::{AllocError, Global};
 
 /// At a row of a queue at least so many wait, in its block and in the one before.
-const QUEUE: u32 = 8;
+const QUEUE: u32 = 16;
 
 /// Where a search ends.
 #[derive(Clone, Copy)]

@@ -14,6 +14,8 @@ use Rattle.std.proofs.lemmas.Grind.{flat_map-append}
 use Rattle.std.proofs.lemmas.List.{append-nil}
 use Rattle.std.proofs.lemmas.Nat.{mul-le}
 use Rattle.std.proofs.lemmas.List.Sums.{sum_by-cons}
+use Rattle.std.specs.List.Sorted.{IsPermutation, IsPartitionPoint}
+use Rattle.std.proofs.lemmas.List.Sorted.{length_permutation, sum_by-IsPermutation}
 use Rattle.round_net.proofs.CountLemmas.{count_by-weaker}
 use Rattle.event_rules.proofs.ListFacts.{range_with_len-push}
 use Rattle.event_rules.proofs.LiveLemmas.{live_cost_unsent, live_cost_sent}
@@ -104,6 +106,37 @@ unfolding rank_of
 sought_none thousandths xs low high le kept =
     let over : MOST_NET_ROUNDS - low ≡ 0 = omega (arith, le) in
     ap (λ o. unwrap_or o 0) (sym (sought_left thousandths xs low high kept ∙ ap (λ n. find (is_enough thousandths xs) (range_with_len low n)) over))
+
+-- 1 for one that passes
+abbrev pass : Bool → ℕ
+pass b = cond b 1 0
+
+-- where no number that passes comes after one that fails, the place between them is how many pass
+pub point_counts : (p : ℕ → Bool) (xs : List ℕ) (i : ℕ) → i ≤ length xs → IsPartitionPoint (λ y. p y ≡ true) (λ y. p y ≡ false) xs i → i ≡ count_by p xs
+point_counts p [] zero le point = refl
+point_counts p [] (suc i) le point = absurd (omega (arith, le))
+point_counts p (x ∷ xs) zero le point =
+    let here : p x ≡ false = point.1 0 x (omega arith) (omega arith) in
+    let rest = point_counts p xs zero (omega arith) ((λ k d from to. absurd (omega (arith, to))), (λ k d from to. point.1 (suc k) d (omega arith) (omega (arith, to)))) in
+    let one : pass (p x) ≡ 0 = ap pass here in
+    omega (arith, rest, one, sum_by-cons (λ y. cond (p y) 1 0) x xs)
+point_counts p (x ∷ xs) (suc i) le point =
+    let here : p x ≡ true = point.0 0 x (omega arith) (omega arith) in
+    let rest = point_counts p xs i (omega (arith, le)) ((λ k d from to. point.0 (suc k) d (omega arith) (omega (arith, to))), (λ k d from to. point.1 (suc k) d (omega (arith, from)) (omega (arith, to)))) in
+    let one : pass (p x) ≡ 1 = ap pass here in
+    omega (arith, rest, one, sum_by-cons (λ y. cond (p y) 1 0) x xs)
+
+find_alike : (p q : ℕ → Bool) (xs : List ℕ) → ((n : ℕ) → p n ≡ q n) → find p xs ≡ find q xs
+find_alike p q [] same = refl
+find_alike p q (x ∷ xs) same = rw (same x) (ap (cond (q x) (Some x)) (find_alike p q xs same))
+
+-- numbers in another order have the same ranks
+pub rank_moved : (thousandths : ℕ) (xs ys : List ℕ) → IsPermutation xs ys → rank_of thousandths ys ≡ rank_of thousandths xs
+unfolding rank_of
+rank_moved thousandths xs ys moved =
+    let long = length_permutation xs ys moved in
+    let alike : (n : ℕ) → is_enough thousandths ys n ≡ is_enough thousandths xs n = λ n. rw (long, sum_by-IsPermutation (λ x. cond (nat_le x n) 1 0) xs ys moved) refl in
+    ap (λ o. unwrap_or o 0) (find_alike (is_enough thousandths ys) (is_enough thousandths xs) (range_with_len 0 MOST_NET_ROUNDS) alike)
 
 -- the rows so far and those of one number more
 pub rows_step : {X : Type 0} (f : ℕ → List X) (old new : List X) (n : ℕ) → old ≡ flat_map f (range_with_len 0 n) → new ≡ old ++ f n → new ≡ flat_map f (range_with_len 0 (n + 1))

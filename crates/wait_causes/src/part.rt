@@ -1,8 +1,9 @@
 //! What some stays waited, and what that cost.
 
-ghost use Rattle.std.specs.Prelude.{◌≡◌, ◌≤◌, ◌*◌, ◌-ℤ◌, pos, length, map, sum_by, count_by, nat_le, IfOk};
+ghost use Rattle.std.specs.Prelude.{◌≡◌, ◌≤◌, ◌*◌, ◌-ℤ◌, ℕ, pos, length, map, sum_by, count_by, nat_le, IfOk};
+ghost use Rattle.std.specs.List.Sorted.{IsNonDecreasing};
 ghost use Rattle.wait_causes.specs.Words.{MOST_NET_STAYS};
-ghost use Rattle.wait_causes.specs.Parts.{behind_for, waited, measure, rank_of, costs_of, behind_costs, part_of, AreLight, IsLight};
+ghost use Rattle.wait_causes.specs.Parts.{behind_for, waited, measure, rank_of, nearest_rank, costs_of, behind_costs, part_of, AreLight, IsLight};
 
 use crate::behind::{Behind, FullBehind};
 use crate::explained_stay::ExplainedStay;
@@ -194,18 +195,31 @@ fn costs_of(stays: &[ExplainedStay]) -> CauseCosts
     requires light { AreLight stays.now }
     ensures { result ≡ costs_of stays.now }
 {
-    CauseCosts {
-        error: total(stays, Measure::Cost(Cause::Error)),
-        caller: total(stays, Measure::Cost(Cause::Caller)),
-        adapter_frozen: total(stays, Measure::Cost(Cause::AdapterFrozen)),
-        device_stopped: total(stays, Measure::Cost(Cause::DeviceStopped)),
-        adapter_stopped: total(stays, Measure::Cost(Cause::AdapterStopped)),
-        link_stopped: total(stays, Measure::Cost(Cause::LinkStopped)),
-        device_full: total(stays, Measure::Cost(Cause::DeviceFull)),
-        adapter_full: total(stays, Measure::Cost(Cause::AdapterFull)),
-        link_full: total(stays, Measure::Cost(Cause::LinkFull)),
-        not_asked: total(stays, Measure::Cost(Cause::NotAsked)),
+    let mut costs = CauseCosts {
+        error: 0,
+        caller: 0,
+        adapter_frozen: 0,
+        device_stopped: 0,
+        adapter_stopped: 0,
+        link_stopped: 0,
+        device_full: 0,
+        adapter_full: 0,
+        link_full: 0,
+        not_asked: 0,
+    };
+    for stay in stays {
+        costs.error += Measure::Cost(Cause::Error).of(stay);
+        costs.caller += Measure::Cost(Cause::Caller).of(stay);
+        costs.adapter_frozen += Measure::Cost(Cause::AdapterFrozen).of(stay);
+        costs.device_stopped += Measure::Cost(Cause::DeviceStopped).of(stay);
+        costs.adapter_stopped += Measure::Cost(Cause::AdapterStopped).of(stay);
+        costs.link_stopped += Measure::Cost(Cause::LinkStopped).of(stay);
+        costs.device_full += Measure::Cost(Cause::DeviceFull).of(stay);
+        costs.adapter_full += Measure::Cost(Cause::AdapterFull).of(stay);
+        costs.link_full += Measure::Cost(Cause::LinkFull).of(stay);
+        costs.not_asked += Measure::Cost(Cause::NotAsked).of(stay);
     }
+    costs
 }
 
 // What it cost to wait behind others.
@@ -214,11 +228,17 @@ fn behind_of(stays: &[ExplainedStay]) -> BehindCosts
     requires light { AreLight stays.now }
     ensures { result ≡ behind_costs stays.now }
 {
-    BehindCosts {
-        less_urgent: total(stays, Measure::Full(Behind::LessUrgent)),
-        equal: total(stays, Measure::Full(Behind::Equal)),
-        more_urgent: total(stays, Measure::Full(Behind::MoreUrgent)),
+    let mut costs = BehindCosts {
+        less_urgent: 0,
+        equal: 0,
+        more_urgent: 0,
+    };
+    for stay in stays {
+        costs.less_urgent += Measure::Full(Behind::LessUrgent).of(stay);
+        costs.equal += Measure::Full(Behind::Equal).of(stay);
+        costs.more_urgent += Measure::Full(Behind::MoreUrgent).of(stay);
     }
+    costs
 }
 
 // The measure of all stays together.
@@ -234,15 +254,27 @@ fn total(stays: &[ExplainedStay], of: Measure) -> u64
     total
 }
 
-// The rounds that each stay waited.
+// The rounds that each stay waited, in ascending order.
 fn waits_of(alloc: Global, stays: &[ExplainedStay]) -> Result<Vec<u32>, AllocError>
+    ensures count { IfOk result (λ waits. length waits.items ≡ length stays.now) }
+    ensures ascending { IfOk result (λ waits. IsNonDecreasing waits.items) }
+    ensures ranks { IfOk result (λ waits. (thousandths : ℕ) → rank_of thousandths waits.items ≡ nearest_rank thousandths stays.now) }
+{
+    let mut waits = unsorted_waits(alloc, stays)?;
+    waits.sort_unstable();
+    Ok(waits)
+}
+
+// The rounds that each stay waited.
+fn unsorted_waits(alloc: Global, stays: &[ExplainedStay]) -> Result<Vec<u32>, AllocError>
     ensures { IfOk result (λ waits. waits.items ≡ map waited stays.now) }
 {
     stays.iter().map(|stay| stay.waited()).collect(alloc)
 }
 
-// The least of these numbers of rounds that that many in a thousand of them don't pass.
+// The least of these ascending numbers of rounds that that many in a thousand of them don't pass.
 fn nearest_rank(waits: &[u32], thousandths: usize) -> u32
+    requires ascending { IsNonDecreasing waits.now }
     requires few { length waits.now ≤ MOST_NET_STAYS }
     requires thousandths { thousandths ≤ 1000 }
     ensures { result ≡ rank_of thousandths waits.now }
@@ -261,10 +293,15 @@ fn nearest_rank(waits: &[u32], thousandths: usize) -> u32
     if low < MOST_NET_ROUNDS { low } else { 0 }
 }
 
-// How many are no more than this.
+// How many of these ascending numbers are no more than this.
 fn within(waits: &[u32], rounds: u32) -> usize
+    requires { IsNonDecreasing waits.now }
     ensures same { result ≡ count_by (λ wait. nat_le wait rounds) waits.now }
     ensures few { result ≤ length waits.now }
 {
-    waits.iter().filter(|wait| **wait <= rounds).count()
+    waits.partition_point(
+        |wait: &u32| -> bool
+            ensures { result ≡ nat_le wait.now rounds }
+        { *wait <= rounds },
+    )
 }

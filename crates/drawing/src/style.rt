@@ -48,9 +48,9 @@ label{padding:4px 0}
 .v4,.l4{--k:var(--c4);--g:9 1 2 1}.v5{--k:var(--c5);--g:6 2}.v6{--k:var(--c6);--g:3 2}.v7{--k:var(--c7);--g:1 1}.v8{--k:var(--c8);--g:12 2}
 .by-driver,.by-class{display:none}
 .legend .w{stroke:var(--k);stroke-dasharray:var(--g);vector-effect:non-scaling-stroke}
-main:has(#by-driver:checked) .by-cause,main:has(#by-class:checked) .by-cause{display:none}
-main:has(#by-driver:checked) .by-driver,main:has(#by-class:checked) .by-class{display:flex}
-main:has(#by-driver:checked) .b .w,main:has(#by-class:checked) .b .w{stroke:var(--k);stroke-dasharray:var(--g);vector-effect:non-scaling-stroke}
+#colours:has(#by-driver:checked,#by-class:checked)~.by-cause{display:none}
+#colours:has(#by-driver:checked)~.by-driver,#colours:has(#by-class:checked)~.by-class{display:flex}
+#colours:has(#by-driver:checked,#by-class:checked)~.stretch .w{stroke:var(--k);stroke-dasharray:var(--g);vector-effect:non-scaling-stroke}
 .t{stroke:var(--ink)}
 .z{stroke:var(--soft);stroke-width:1px;stroke-dasharray:3 2;vector-effect:non-scaling-stroke}
 .o,.i{stroke:var(--ink);stroke-width:7px;stroke-linecap:round;vector-effect:non-scaling-stroke}
@@ -84,6 +84,9 @@ h1,.label,.legend li,th[scope=row],#stays td:nth-child(2),#stays td:nth-child(3)
 #parts td:nth-child(2)::before{content:'live'}#parts td:nth-child(3)::before{content:'share'}#parts td:nth-child(4)::before{content:'best'}
 #parts td:nth-child(5)::before{content:'excess'}#freezes td:nth-child(3)::before{content:'rounds'}
 #freezes td:nth-child(4)::before{content:'to'}#freezes td:nth-child(5)::before{content:'cost'}}
-@media print{main{padding:0;max-width:none}.back{display:none}a{color:inherit}tr,.row,h2,h3{break-inside:avoid}h2,h3{break-after:avoid}
+@media print{main{padding:0;max-width:none}.back{display:none}a{color:inherit}tr,.row,.legend,h2,h3{break-inside:avoid}
+h2,h3,caption,.stretch>p,.stretch>p+.row{break-after:avoid}.shared+.row:not(.shared){break-before:avoid}
+.row svg:not(:has(.b>:nth-child(250))){max-height:calc(100vh - 14em)}
+.b{--e:-6px}.b[stroke-width='6']{--e:-3px}.b[stroke-width='4']{--e:-2px}.b .w{clip-path:inset(var(--e) 0) fill-box}
 *{print-color-adjust:exact;-webkit-print-color-adjust:exact}}
 ";

@@ -25,7 +25,7 @@ const LOOSE: Shape = Shape {
 };
 
 // Bursts, overload and closed loops, with and without links, closed cells, and one adapter alone.
-const SHAPES: [Shape; 9] = [
+const SHAPES: [Shape; 10] = [
     LOOSE,
     Shape {
         links: 1,
@@ -73,6 +73,13 @@ const SHAPES: [Shape; 9] = [
         links: 1,
         rounds: 150,
         closed: 10,
+        ..LOOSE
+    },
+    Shape {
+        kind: Kind::Loop,
+        links: 1,
+        adapters: 3,
+        devices: 9,
         ..LOOSE
     },
     Shape {

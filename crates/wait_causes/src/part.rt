@@ -3,7 +3,7 @@
 ghost use Rattle.std.specs.Prelude.{◌≡◌, ◌≤◌, ◌*◌, ◌-ℤ◌, ℕ, pos, length, map, sum_by, count_by, nat_le, IfOk};
 ghost use Rattle.std.specs.List.Sorted.{IsNonDecreasing};
 ghost use Rattle.wait_causes.specs.Words.{MOST_NET_STAYS};
-ghost use Rattle.wait_causes.specs.Parts.{behind_for, waited, measure, rank_of, nearest_rank, costs_of, behind_costs, part_of, AreLight, IsLight};
+ghost use Rattle.wait_causes.specs.Parts.{behind_for, waited, measure, Waited, Live, Best, rank_of, nearest_rank, costs_of, behind_costs, part_of, AreLight, IsLight};
 
 use crate::behind::{Behind, FullBehind};
 use crate::explained_stay::ExplainedStay;
@@ -174,84 +174,88 @@ pub(crate) fn part_of(alloc: Global, stays: &[ExplainedStay]) -> Result<Part, Al
     ensures { IfOk result (λ part. part ≡ part_of stays.now) }
 {
     let waits = waits_of(alloc, stays)?;
+    let sums = sums_of(stays);
     Ok(Part {
         stays: stays.len() as u32,
-        waited: total(stays, Measure::Waited),
+        waited: sums.waited,
         p50: nearest_rank(&waits, 500),
         p90: nearest_rank(&waits, 900),
         p99: nearest_rank(&waits, 990),
         p999: nearest_rank(&waits, 999),
         max: nearest_rank(&waits, 1000),
-        live: total(stays, Measure::Live),
-        best: total(stays, Measure::Best),
-        costs: costs_of(stays),
-        behind: behind_of(stays),
+        live: sums.live,
+        best: sums.best,
+        costs: sums.costs,
+        behind: sums.behind,
     })
 }
 
-// What each cause cost.
-fn costs_of(stays: &[ExplainedStay]) -> CauseCosts
-    requires few { length stays.now ≤ MOST_NET_STAYS }
-    requires light { AreLight stays.now }
-    ensures { result ≡ costs_of stays.now }
-{
-    let mut costs = CauseCosts {
-        error: 0,
-        caller: 0,
-        adapter_frozen: 0,
-        device_stopped: 0,
-        adapter_stopped: 0,
-        link_stopped: 0,
-        device_full: 0,
-        adapter_full: 0,
-        link_full: 0,
-        not_asked: 0,
-    };
-    for stay in stays {
-        costs.error += Measure::Cost(Cause::Error).of(stay);
-        costs.caller += Measure::Cost(Cause::Caller).of(stay);
-        costs.adapter_frozen += Measure::Cost(Cause::AdapterFrozen).of(stay);
-        costs.device_stopped += Measure::Cost(Cause::DeviceStopped).of(stay);
-        costs.adapter_stopped += Measure::Cost(Cause::AdapterStopped).of(stay);
-        costs.link_stopped += Measure::Cost(Cause::LinkStopped).of(stay);
-        costs.device_full += Measure::Cost(Cause::DeviceFull).of(stay);
-        costs.adapter_full += Measure::Cost(Cause::AdapterFull).of(stay);
-        costs.link_full += Measure::Cost(Cause::LinkFull).of(stay);
-        costs.not_asked += Measure::Cost(Cause::NotAsked).of(stay);
-    }
-    costs
+// Sums over stays.
+#[derive(Clone, Copy)]
+struct Sums {
+    waited: u64,
+    live: u64,
+    best: u64,
+    costs: CauseCosts,
+    behind: BehindCosts,
 }
 
-// What it cost to wait behind others.
-fn behind_of(stays: &[ExplainedStay]) -> BehindCosts
-    requires few { length stays.now ≤ MOST_NET_STAYS }
-    requires light { AreLight stays.now }
-    ensures { result ≡ behind_costs stays.now }
-{
-    let mut costs = BehindCosts {
-        less_urgent: 0,
-        equal: 0,
-        more_urgent: 0,
+impl Sums {
+    // Those over no stay.
+    const NONE: Sums = Sums {
+        waited: 0,
+        live: 0,
+        best: 0,
+        costs: CauseCosts {
+            error: 0,
+            caller: 0,
+            adapter_frozen: 0,
+            device_stopped: 0,
+            adapter_stopped: 0,
+            link_stopped: 0,
+            device_full: 0,
+            adapter_full: 0,
+            link_full: 0,
+            not_asked: 0,
+        },
+        behind: BehindCosts {
+            less_urgent: 0,
+            equal: 0,
+            more_urgent: 0,
+        },
     };
-    for stay in stays {
-        costs.less_urgent += Measure::Full(Behind::LessUrgent).of(stay);
-        costs.equal += Measure::Full(Behind::Equal).of(stay);
-        costs.more_urgent += Measure::Full(Behind::MoreUrgent).of(stay);
-    }
-    costs
 }
 
-// The measure of all stays together.
-fn total(stays: &[ExplainedStay], of: Measure) -> u64
+// The sums over these stays, of which each is read once.
+fn sums_of(stays: &[ExplainedStay]) -> Sums
     requires few { length stays.now ≤ MOST_NET_STAYS }
     requires light { AreLight stays.now }
-    ensures { result ≡ sum_by (measure of) stays.now }
+    ensures waited { result.waited ≡ sum_by (measure Waited) stays.now }
+    ensures live { result.live ≡ sum_by (measure Live) stays.now }
+    ensures best { result.best ≡ sum_by (measure Best) stays.now }
+    ensures costs { result.costs ≡ costs_of stays.now }
+    ensures behind { result.behind ≡ behind_costs stays.now }
 {
-    let mut total = 0;
+    let mut sums = Sums::NONE;
     for stay in stays {
-        total += of.of(stay);
+        sums.waited += Measure::Waited.of(stay);
+        sums.live += Measure::Live.of(stay);
+        sums.best += Measure::Best.of(stay);
+        sums.costs.error += Measure::Cost(Cause::Error).of(stay);
+        sums.costs.caller += Measure::Cost(Cause::Caller).of(stay);
+        sums.costs.adapter_frozen += Measure::Cost(Cause::AdapterFrozen).of(stay);
+        sums.costs.device_stopped += Measure::Cost(Cause::DeviceStopped).of(stay);
+        sums.costs.adapter_stopped += Measure::Cost(Cause::AdapterStopped).of(stay);
+        sums.costs.link_stopped += Measure::Cost(Cause::LinkStopped).of(stay);
+        sums.costs.device_full += Measure::Cost(Cause::DeviceFull).of(stay);
+        sums.costs.adapter_full += Measure::Cost(Cause::AdapterFull).of(stay);
+        sums.costs.link_full += Measure::Cost(Cause::LinkFull).of(stay);
+        sums.costs.not_asked += Measure::Cost(Cause::NotAsked).of(stay);
+        sums.behind.less_urgent += Measure::Full(Behind::LessUrgent).of(stay);
+        sums.behind.equal += Measure::Full(Behind::Equal).of(stay);
+        sums.behind.more_urgent += Measure::Full(Behind::MoreUrgent).of(stay);
     }
-    total
+    sums
 }
 
 // The rounds that each stay waited, in ascending order.

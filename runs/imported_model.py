@@ -73,6 +73,7 @@ class Options:
     priorities: str = "by-class"
     begin: int = 0
     end: int = 2**64
+    hosts: tuple[tuple[str, int, int], ...] = ()
 
     def listed(self, name: str) -> str | None:
         return next((it for pick in self.picks if (it := takes(pick, name)) is not None), None) if self.picks else name
@@ -89,8 +90,9 @@ class Reader:
     def take(self, line: str) -> None:
         raise NotImplementedError
 
-    def add(self, request: Request) -> Request:
-        self.name(request.driver, self.drivers, MOST_DRIVERS)
+    def add(self, request: Request, counts: bool = True) -> Request:
+        if counts:
+            self.name(request.driver, self.drivers, MOST_DRIVERS)
         self.name(self.options.listed(request.device) or "", self.devices, 2**64)
         self.requests.append(request)
         return request
@@ -105,6 +107,13 @@ class Reader:
         own = [priority for name, priority in self.options.drivers if name == driver]
         usual = {"by-class": by_direction if by_class is None else by_class, "by-direction": by_direction, "flat": 896}
         return own[0] if own else usual[self.options.priorities]
+
+    def may_be_empty(self) -> bool:
+        """Whether the file that was begun may have no lines."""
+        return False
+
+    def end(self) -> None:
+        """No file comes any more."""
 
     def all(self) -> list[Request]:
         return self.requests
@@ -121,7 +130,7 @@ class Reader:
         for kind, names in ("device", self.devices), ("driver", self.drivers):
             names[:] = [name for name in names if any(getattr(request, kind) == name for request in taken)]
         if len(self.devices) > MOST_DEVICES:
-            raise Refused("camxpt: more than 32 devices: pick some by --device, or several as one\n")
+            raise Refused(f"camxpt: {len(self.devices)} devices, and a recording has at most 32: pick some by --device, or several as one\n")
         return taken
 
 
@@ -157,6 +166,8 @@ class Blkparse(Reader):
         elif action not in IGNORED and listed is not None:
             self.name(listed, self.devices, 2**64)
             self.starts |= {head[1]} if action == "D" else set()
+            if place is None and action == "C" and not head[7].startswith("F"):
+                place = -1
             self.counts["without_arrival"] += place == -1 and action != "Q"
             if place != -1:
                 self.apply(time, head[1], action, head[7], place, end, process[1] if process else "")
@@ -168,7 +179,7 @@ class Blkparse(Reader):
         if words[0][0] in "[(":
             return (None if words[0][0] == "[" else -1), 0
         sector, kind = number(words[0]), words[1][0] if len(words) > 1 else ""
-        must(kind in ("+", "(", "[") and (kind != "[" or sector == 0) and (kind != "+" or len(words) > 2))
+        must(kind in ("+", "(", "[") and (kind != "+" or len(words) > 2))
         return {"(": (-1, 0), "[": (None, 0)}.get(kind) or (sector, sector + number(words[2]))
 
     @staticmethod
@@ -182,7 +193,7 @@ class Blkparse(Reader):
     def apply(self, time: int, device: str, action: str, flags: str, place: int | None, end: int, process: str) -> None:
         if action == "Q":
             priority = self.priority(process, None, self.by_direction(flags))
-            self.waiting.append(self.add(Request(time, device, process, priority, place=place)))
+            self.waiting.append(self.add(Request(time, device, process, priority, place=place), time < self.options.end))
             return
         if action == "F":
             behind = pick(self.waiting, device, end) if place is not None else None
@@ -203,7 +214,7 @@ class Blkparse(Reader):
             self.running.append(request)
         elif request is not None and action == "R":
             request.retried = time
-            self.waiting.append(self.add(Request(time, device, request.driver, request.priority, place=place)))
+            self.waiting.append(self.add(Request(time, device, request.driver, request.priority, place=place), False))
         elif request is None:
             ended = pick(self.waiting, device, place) if action == "C" else None
             self.counts["without_arrival"] += ended is None
@@ -224,9 +235,13 @@ class Fio(Reader):
         self.jobs: dict[str, list[tuple[tuple[int, ...], Request]]] = {}
         self.epochs: dict[str, int] = {}
         self.job, self.kind, self.clock = "", "none", 0
+        self.first: dict[str, str] = {}
+        self.logs: set[str] = set()
 
     def begin_file(self, path: str) -> None:
         self.job, self.kind = re.sub(r"(\.iolog|(_lat)?(\.[0-9.]+)?\.log)$", "", os.path.basename(path)), "begun"
+        self.first.setdefault(self.job, path)
+        self.logs |= {self.job} & set(self.jobs)
 
     def take(self, line: str) -> None:
         line = line.strip(BLANKS)
@@ -275,6 +290,14 @@ class Fio(Reader):
                 epoch = ms * 10**6 - request.started
                 self.epochs[self.job] = min(epoch, self.epochs.get(self.job, epoch))
 
+    def may_be_empty(self) -> bool:
+        return self.job in self.logs
+
+    def end(self) -> None:
+        lacking = [self.first[job] for job, pairs in self.jobs.items() if pairs and job not in self.logs]
+        if lacking:
+            raise Refused(f"camxpt: {lacking[0]}: no latency log of this job comes after it: ")
+
     def all(self) -> list[Request]:
         origin = min(self.epochs.values(), default=0)
         for job, pairs in self.jobs.items():
@@ -291,14 +314,18 @@ class Csv(Reader):
     def __init__(self, options: Options, digits: int) -> None:
         super().__init__(options)
         self.digits, self.header = digits, [""][:0]
+        self.others = self.header
 
     def take(self, line: str) -> None:
-        must(not line.strip(BLANKS) or "\r" not in line)
+        if not line.strip(BLANKS):
+            return
         line = line.removeprefix("\ufeff")
+        # A quoted field, or one that doesn't begin with a quote.
+        must(re.fullmatch(r'(?:"(?:[^"]|"")*"|(?!")[^,]*)(?:,(?:"(?:[^"]|"")*"|(?!")[^,]*))*', line) is not None)
         row = [cell.strip(BLANKS) for cell in next(csv.reader([line]), [])]
-        if not line.strip(BLANKS) or not self.header:
-            must(not line.strip(BLANKS) or NEEDED <= set(row) <= set(COLUMNS) and len(set(row)) == len(row))
-            self.header = self.header if self.header or not line.strip(BLANKS) else row
+        if not self.header:
+            must(NEEDED <= set(row) and all(row.count(name) < 2 for name in COLUMNS))
+            self.header, self.others = row, [name for name in row if name not in COLUMNS]
             return
         must(len(row) == len(self.header))
         cells = dict(zip(self.header, row))
@@ -309,7 +336,8 @@ class Csv(Reader):
         if self.options.listed(cells["device"]) is None:
             self.counts["other_devices"] += 1
         else:
-            self.add(Request(arrival, cells["device"], driver, self.priority(driver, said, 896), started))
+            taken = self.options.begin <= arrival < self.options.end
+            self.add(Request(arrival, cells["device"], driver, self.priority(driver, said, 896), started), taken)
 
     def all(self) -> list[Request]:
         if not self.header:

@@ -5,13 +5,10 @@ In a run of a script each lane sends what it can, and each failed command is dec
 rounds end otherwise, ticks are put in, and decisions are put off. Some of this makes the trace illegal; `camxpt check` tells,
 and then the trace is that of the run as it is.
 """
-import os
 import random
 import subprocess
 
-top = os.path.dirname(os.path.dirname(os.path.abspath(__file__)))
-# What the script at the top runs, which looks each time whether this is built: `build` does so once.
-program = os.path.join(top, "crates", "camxpt", "out", "camxpt")
+from program import build, program, top  # noqa: F401 (others take them from here)
 
 MOST_ROUNDS = 512
 EVENTS = "submit", "done", "requeue", "finish", "freeze", "release", "sfreeze", "srelease", "adjust", "tick"
@@ -19,11 +16,6 @@ FLAGS = "none", "none", "none", "none", "qfreeze", "qfrzdis", "both"
 # What lanes answer: a good command, a timeout, a busy device, a requeue, an error that isn't tried again, and check
 # conditions: unit attention, and an illegal request.
 ANSWERS = ["01,00,"] * 3 + ["0b,00,", "05,00,", "1b,00,", "04,00,", "0c,02,70000600000000", "0c,02,70000500000000"]
-
-
-def build():
-    """Builds the program, if it is missing or older than a source."""
-    subprocess.run([os.path.join(top, "runs", "build"), "camxpt"], check=True)
 
 
 def record(*fields):

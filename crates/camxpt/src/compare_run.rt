@@ -1,11 +1,12 @@
 //! Puts two traces or recordings side by side.
 
 use crate::failure::Failure;
-use crate::note::{note_on, title};
+use crate::note::{capture_note, note_on, title};
 use crate::output::{closed, made, print, standard_output};
 use crate::progress::{ProgressLine, ToldReader};
 use crate::source::{Argument, STANDARD_INPUT, Source, open};
 use crate::trace_run::explanation_of;
+use crate::word::BY_NUMBER;
 use cam_types::Watched;
 use clap::ArgMatches;
 use round_net::Net;
@@ -16,11 +17,11 @@ use std::process::ExitCode;
 use std::rt::Runtime;
 use std::thread::Threads;
 use std::time::Clock;
-use views::{Compared, compare_json, compare_page, shown_name};
+use views::{Compared, PairBy, compare_json, compare_page, shown_name};
 use wait_causes::Explanation;
 
 /// Prints what the waiting cost in the input before a change and in the one after it, as one line of JSON if that is asked
-/// for.
+/// for. Drivers and devices are paired by name or by number, as the words ask.
 pub fn compare<R: Runtime + AllocGlobal + Threads + Sync>(
     rt: &R,
     words: &ArgMatches<'_>,
@@ -46,8 +47,22 @@ pub fn compare<R: Runtime + AllocGlobal + Threads + Sync>(
         (_, Err(failure)) => Ok(tell_of(rt, failure, &after)),
         (Ok(was), Ok(is)) => {
             let sides = (side(before.name, was), side(after.name, is));
-            print_both(rt, sides.0, sides.1, words.get_flag("json"))
+            print_both(
+                rt,
+                paired_by(words),
+                sides.0,
+                sides.1,
+                words.get_flag("json"),
+            )
         }
+    }
+}
+
+// By what drivers and devices are paired.
+fn paired_by(words: &ArgMatches<'_>) -> PairBy {
+    match words.get_str("by") {
+        Some(word) if word == BY_NUMBER => PairBy::Number,
+        _ => PairBy::Name,
     }
 }
 
@@ -75,25 +90,27 @@ fn side<'a>(name: &'a str, explained: &'a (Net, Explanation)) -> Compared<'a> {
 
 fn print_both<R: Runtime + AllocGlobal>(
     rt: &R,
+    by: PairBy,
     before: Compared<'_>,
     after: Compared<'_>,
     as_json: bool,
 ) -> Result<ExitCode, Failure> {
-    let text = text_of(rt.alloc(), before, after, as_json)?;
+    let text = text_of(rt.alloc(), by, before, after, as_json)?;
     print(&mut standard_output(rt), &text)?;
     Ok(ExitCode::SUCCESS)
 }
 
 fn text_of(
     alloc: Global,
+    by: PairBy,
     before: Compared<'_>,
     after: Compared<'_>,
     as_json: bool,
 ) -> Result<String, Failure> {
     if as_json {
-        closed(compare_json(alloc, before, after))
+        closed(compare_json(alloc, by, before, after))
     } else {
-        made(compare_page(alloc, before, after))
+        made(compare_page(alloc, by, before, after))
     }
 }
 
@@ -108,8 +125,13 @@ fn tell_of<R: Runtime + AllocGlobal, D>(
         Ok(name) => rt.eprintln(format_args!("camxpt: {name}: {failure}")),
         Err(_) => rt.eprintln(format_args!("camxpt: {failure}")),
     };
-    if let Some(note) = note_on(rt.alloc(), failure, input) {
-        let _ = rt.eprint(&note);
+    for note in [
+        capture_note(rt.alloc(), failure, input),
+        note_on(rt.alloc(), failure, input),
+    ] {
+        if let Some(note) = note {
+            let _ = rt.eprint(&note);
+        }
     }
     failure.exit_code()
 }

@@ -1,6 +1,7 @@
 //! Why the program failed, and the exit status that says so.
 
 use crate::source::Argument;
+use crate::words::Number;
 use audit_report::AuditFault;
 use price_check::ReportFault;
 use recorded_script::ScriptFault;
@@ -31,6 +32,10 @@ pub enum Failure {
     Load(ScriptFault),
     /// A file that can't be opened: the one that this argument names, and the system's reason.
     CannotOpen(Argument, io::Error),
+    /// A write to standard output that failed, and the system's reason.
+    CannotWrite(io::Error),
+    /// A number after this option or argument that isn't of digits alone.
+    NoNumber(Number),
     /// A text that isn't what it has to be, a read or write that failed, or no memory.
     Audit(AuditFault),
     /// A run on many threads that gave nothing.
@@ -44,10 +49,10 @@ impl Failure {
     pub fn exit_code(&self) -> ExitCode {
         ExitCode::from(match self {
             Failure::WordNotUtf8 | Failure::StandardInputTwice(_, _) | Failure::NoShell => 2,
-            Failure::NoRange | Failure::NoSuchRounds(_) => 2,
+            Failure::NoRange | Failure::NoSuchRounds(_) | Failure::NoNumber(_) => 2,
             Failure::Sweep(PlanFault::OutOfMemory) => 5,
             Failure::Sweep(_) => 2,
-            Failure::CannotOpen(_, _) => 4,
+            Failure::CannotOpen(_, _) | Failure::CannotWrite(_) => 4,
             Failure::Load(ScriptFault::OutOfMemory) => 5,
             Failure::Load(_) => 3,
             Failure::Audit(AuditFault::Trace(fault)) => trace_status(fault),
@@ -97,7 +102,19 @@ impl Failure {
 
     /// Whether a write failed.
     pub fn is_of_write(&self) -> bool {
-        matches!(self, Failure::Audit(AuditFault::WriteFailed))
+        matches!(
+            self,
+            Failure::CannotWrite(_) | Failure::Audit(AuditFault::WriteFailed)
+        )
+    }
+
+    /// Whether the input doesn't begin as a trace or a recording.
+    pub fn is_of_header(&self) -> bool {
+        matches!(
+            self,
+            Failure::Audit(AuditFault::Trace(TraceFault::BadHeader))
+                | Failure::Audit(AuditFault::Recording(RecordingFault::BadHeader))
+        )
     }
 }
 
@@ -121,6 +138,12 @@ impl fmt::Display for Failure {
                 Argument::Before | Argument::After => write!(f, "cannot open {}", argument.word()),
                 _ => f.write_str("cannot open"),
             },
+            Failure::CannotWrite(_) => AuditFault::WriteFailed.fmt(f),
+            Failure::NoNumber(number) => write!(
+                f,
+                "{} takes a number, of digits alone",
+                number.word()
+            ),
             Failure::Audit(fault) => fault.fmt(f),
             Failure::Live(fault) => fault.fmt(f),
             Failure::Load(fault) => fault.fmt(f),

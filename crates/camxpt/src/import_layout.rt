@@ -7,28 +7,27 @@ use crate::import_fault::ImportFault;
 use crate::import_options::ImportOptions;
 use crate::import_words::{Host, value_of};
 use cam_types::{Adapter, Config, Device, standard_weights};
-use capture::Capture;
+use capture::{Capture, shared_openings};
 use capture_file::Capture as Read;
 use recording_file::{Name, NameKind};
 use std::alloc::{AllocError, Global};
 
-// The most openings of an adapter.
-const MOST: u32 = 255;
-
-/// The adapters that are given for devices, and whether each takes what it is sent. Devices without an adapter share one after
-/// those that are given.
+/// The adapters, and of each whether nobody said what it takes: then it takes what its devices take together. Devices without an
+/// adapter share one after those that are given.
 pub fn adapters_of(
     alloc: Global,
     hosts: &[(String, Host)],
     names: &[String],
+    devices: &[Device],
 ) -> Result<(Vec<Adapter>, Vec<bool>), AllocError> {
     let mut adapters = Vec::new(alloc);
     let mut open = Vec::new(alloc);
     for number in 0..count_of(hosts, names) {
         let openings = openings_of(hosts, names, number);
         open.push(openings.is_none())?;
+        let shared = shared_openings(devices, bus_of(number));
         adapters.push(Adapter {
-            openings: openings.unwrap_or(MOST),
+            openings: openings.unwrap_or(shared),
             link: None,
         })?;
     }
@@ -92,7 +91,7 @@ pub fn devices_of(
 
 // The next device of an adapter: targets are numbered from 1.
 fn device_on(devices: &[Device], adapter: u32, openings: u32) -> Device {
-    let bus = u8::try_from(adapter).unwrap_or(u8::MAX);
+    let bus = bus_of(adapter);
     let before = devices.iter().filter(|device| device.bus == bus).count();
     Device {
         bus,
@@ -100,6 +99,11 @@ fn device_on(devices: &[Device], adapter: u32, openings: u32) -> Device {
         lun: 0,
         openings,
     }
+}
+
+// An adapter as a device names it.
+fn bus_of(adapter: u32) -> u8 {
+    u8::try_from(adapter).unwrap_or(u8::MAX)
 }
 
 /// A configuration with the standard weights and without lanes.

@@ -2,8 +2,8 @@
 
 use crate::import_fault::ImportFault;
 use crate::import_words::{
-    Host, Kind, drivers_of, hosts_of, kind_of, picks_of, priorities_of, ratings_of, round_of,
-    time_of,
+    Host, Kind, check_files, drivers_of, hosts_of, kind_of, picks_of, priorities_of, ratings_of,
+    round_of, time_of,
 };
 use capture_file::Options;
 use clap::ArgMatches;
@@ -34,6 +34,7 @@ impl ImportOptions {
     ///
     /// `Word` of a word that hasn't its form, or that contradicts an earlier one; `OutOfMemory`.
     pub fn of(alloc: Global, words: &ArgMatches<'_>) -> Result<ImportOptions, ImportFault> {
+        check_files(words)?;
         let kind = kind_of(words)?;
         let round = round_of(words)?;
         let taken = taken_of(alloc, words)?;

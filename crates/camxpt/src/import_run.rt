@@ -2,17 +2,22 @@
 
 use crate::import_fault::ImportFault;
 use crate::import_layout::{adapters_of, config_of, devices_of, names_of};
+use crate::import_note::note_on;
 use crate::import_options::ImportOptions;
-use crate::import_warnings::{tell_counts, warn_missing, warn_read, warn_recorded};
+use crate::import_warnings::{tell_counts, warn_columns, warn_missing, warn_read, warn_recorded};
 use crate::import_words::{Kind, count, word_at};
 use crate::note::title;
 use crate::output::standard_output;
-use crate::source::STANDARD_INPUT;
+use crate::source::{STANDARD_INPUT, is_verbose};
 use cam_types::Watched;
-use capture::{Capture, longest_round, span_nanoseconds, span_of, usual_round};
-use capture_file::{BlkparseReader, Capture as Read, CsvReader, FioReader, LineReader, read_lines};
+use capture::{
+    Capture, CaptureFault, longest_round, short_from, shortest_round, span_nanoseconds, usual_round,
+};
+use capture_file::{
+    BlkparseReader, Capture as Read, CsvReader, FioReader, LineReader, ReadFault, read_lines,
+};
 use clap::ArgMatches;
-use recording_file::{Recording, Span, TimeUnit, write_recording};
+use recording_file::{Recording, Span, WriteFault, write_recording};
 use std::alloc::Global;
 use std::fs::File;
 use std::process::ExitCode;
@@ -20,12 +25,16 @@ use std::rt::Runtime;
 use views::shown_name;
 
 /// Reads the files that the words name and prints their recording. Says on standard error what a round is, what was counted, and
-/// what to beware of; or why there is none.
+/// what to beware of; or why there is none, and what helps to find that if it is asked for.
 pub fn import<R: Runtime + AllocGlobal>(rt: &R, words: &ArgMatches<'_>) -> ExitCode {
-    match imported(rt, words) {
+    let mut line = Vec::new(rt.alloc());
+    match imported(rt, words, &mut line) {
         Ok(()) => ExitCode::SUCCESS,
         Err(fault) => {
             tell(rt, words, &fault);
+            if is_verbose(rt, words) {
+                tell_more(rt, words, &fault, &line);
+            }
             ExitCode::from(fault.status())
         }
     }
@@ -43,17 +52,38 @@ fn tell<R: Runtime + AllocGlobal>(rt: &R, words: &ArgMatches<'_>, fault: &Import
     };
 }
 
-fn imported<R: Runtime + AllocGlobal>(rt: &R, words: &ArgMatches<'_>) -> Result<(), ImportFault> {
+fn tell_more<R: Runtime + AllocGlobal>(
+    rt: &R,
+    words: &ArgMatches<'_>,
+    fault: &ImportFault,
+    line: &[u8],
+) {
+    if let Some(note) = note_on(rt.alloc(), words, fault, line) {
+        let _ = rt.eprint(&note);
+    }
+}
+
+// If a line is refused, `line` has it.
+fn imported<R: Runtime + AllocGlobal>(
+    rt: &R,
+    words: &ArgMatches<'_>,
+    line: &mut Vec<u8>,
+) -> Result<(), ImportFault> {
     let options = ImportOptions::of(rt.alloc(), words)?;
-    let read = read_all(rt, words, &options)?;
+    let read = read_all(rt, words, &options, line)?;
     warn_missing(rt, &options, &read);
+    warn_columns(rt, &read);
     let round = round_for(rt.alloc(), options.round, &read)?;
     let recording = recording_of(rt.alloc(), &options, round, &read)?;
     tell_counts(rt, round, &recording, &read.counts);
     warn_read(rt, round, &read);
     warn_recorded(rt, &options, &read, &recording);
     let mut out = standard_output(rt);
-    Ok(write_recording(rt.alloc(), &recording, &mut Watched::new(&mut out))?)
+    match write_recording(rt.alloc(), &recording, &mut Watched::new(&mut out)) {
+        Ok(()) => Ok(()),
+        Err(WriteFault::WriteFailed) => Err(ImportFault::WriteFailed(out.failed())),
+        Err(fault) => Err(fault.into()),
+    }
 }
 
 // Reads all files.
@@ -61,25 +91,23 @@ fn read_all<R: Runtime + AllocGlobal>(
     rt: &R,
     words: &ArgMatches<'_>,
     options: &ImportOptions,
+    line: &mut Vec<u8>,
 ) -> Result<Read, ImportFault> {
     let lenient = options.is_lenient;
     match options.kind {
         Kind::Blkparse => {
             let mut reader = BlkparseReader::new(rt.alloc(), &options.taken);
-            read_each(rt, words, lenient, &mut reader)?;
+            read_each(rt, words, lenient, &mut reader, line)?;
             Ok(reader.finish()?)
         }
         Kind::Csv(unit) => {
             let mut reader = CsvReader::new(rt.alloc(), &options.taken, unit);
-            read_each(rt, words, lenient, &mut reader)?;
+            read_each(rt, words, lenient, &mut reader, line)?;
             Ok(reader.finish()?)
         }
         Kind::Fio => {
             let mut reader = FioReader::new(rt.alloc(), &options.taken);
-            for place in 0..count(words, "FILE") {
-                reader.begin_file(word_at(words, "FILE", place))?;
-                read_file(rt, words, place, lenient, &mut reader)?;
-            }
+            read_logs(rt, words, lenient, &mut reader, line)?;
             Ok(reader.finish()?)
         }
     }
@@ -90,72 +118,104 @@ fn read_each<R: Runtime + AllocGlobal, T: LineReader>(
     words: &ArgMatches<'_>,
     lenient: bool,
     reader: &mut T,
+    line: &mut Vec<u8>,
 ) -> Result<(), ImportFault> {
     for place in 0..count(words, "FILE") {
-        read_file(rt, words, place, lenient, reader)?;
+        if !read_file(rt, words, place, lenient, reader, line)? {
+            return Err(ImportFault::File(place, ReadFault::Empty));
+        }
     }
     Ok(())
 }
 
-// Reads the lines of a file; `-` is standard input.
+// Reads fio's logs. A latency log of a job whose requests had no time to end is empty.
+fn read_logs<R: Runtime + AllocGlobal>(
+    rt: &R,
+    words: &ArgMatches<'_>,
+    lenient: bool,
+    reader: &mut FioReader<'_>,
+    line: &mut Vec<u8>,
+) -> Result<(), ImportFault> {
+    for place in 0..count(words, "FILE") {
+        reader.begin_file(word_at(words, "FILE", place))?;
+        let may_be_empty = reader.may_be_empty();
+        if !read_file(rt, words, place, lenient, reader, line)? && !may_be_empty {
+            return Err(ImportFault::File(place, ReadFault::Empty));
+        }
+    }
+    match reader.lacks_log() {
+        None => Ok(()),
+        Some(place) => Err(ImportFault::NoLatencyLog(place)),
+    }
+}
+
+// Reads the lines of a file; `-` is standard input. False if it has none but blank ones.
 fn read_file<R: Runtime + AllocGlobal, T: LineReader>(
     rt: &R,
     words: &ArgMatches<'_>,
     place: usize,
     lenient: bool,
     reader: &mut T,
-) -> Result<(), ImportFault> {
+    line: &mut Vec<u8>,
+) -> Result<bool, ImportFault> {
     let name = word_at(words, "FILE", place);
     let done = if name == STANDARD_INPUT {
-        read_lines(rt.alloc(), &mut rt.reader(), lenient, reader)
+        read_lines(rt.alloc(), &mut rt.reader(), lenient, reader, line)
     } else {
         match File::open(rt, name) {
-            Ok(mut file) => read_lines(rt.alloc(), &mut file, lenient, reader),
+            Ok(mut file) => read_lines(rt.alloc(), &mut file, lenient, reader, line),
             Err(error) => return Err(ImportFault::CannotOpen(place, error)),
         }
     };
     match done {
-        Ok(()) => Ok(()),
+        Ok(has_text) => Ok(has_text),
         Err(fault) => Err(ImportFault::File(place, fault)),
     }
 }
 
-// How long a round is: that which is given, or the usual one. A round that is longer than the mean wait is refused.
+// How long a round is: that which is given, or the usual one.
 fn round_for(alloc: Global, given: Option<Span>, read: &Read) -> Result<Span, ImportFault> {
-    let round = match given {
-        Some(round) => round,
-        None => spanned(usual_round(alloc, &read.requests, device_count(read))?),
-    };
-    let length = span_nanoseconds(round);
-    let wait = longest_round(&read.requests).unwrap_or(0).saturating_mul(2);
-    if given.is_some() && wait > 0 && length > wait {
-        return Err(ImportFault::LongRound(length, wait));
+    if let Some(round) = given {
+        return checked_round(round, read);
+    }
+    match usual_round(alloc, &read.requests, device_count(read))? {
+        Some(round) => Ok(round),
+        None => Err(ImportFault::NoRound(longest_round(&read.requests).unwrap_or(0))),
+    }
+}
+
+// A round that is longer than the mean wait is refused.
+fn checked_round(round: Span, read: &Read) -> Result<Span, ImportFault> {
+    let wait = mean_wait(read);
+    if wait > 0 && span_nanoseconds(round) > wait {
+        return Err(ImportFault::LongRound(round, wait));
     }
     Ok(round)
+}
+
+// In nanoseconds, and 0 if nobody waits.
+fn mean_wait(read: &Read) -> u64 {
+    longest_round(&read.requests).unwrap_or(0).saturating_mul(2)
 }
 
 fn device_count(read: &Read) -> u32 {
     u32::try_from(read.devices.len()).unwrap_or(u32::MAX)
 }
 
-// A span of at least that many nanoseconds, as near as there is one.
-fn spanned(nanoseconds: u64) -> Span {
-    for unit in [1u64, 1_000, 1_000_000, 1_000_000_000] {
-        if let Some(span) = span_of(rounded_up(nanoseconds.max(1), unit)) {
-            return span;
+// The requests in rounds. If there are too many rounds, the fault has a longer round that fits, unless that hides the waits.
+fn capture_of(alloc: Global, round: Span, read: &Read) -> Result<Capture, ImportFault> {
+    let round = Span {
+        count: round.count.max(1),
+        ..round
+    };
+    match Capture::of(alloc, round, &read.requests) {
+        Ok(capture) => Ok(capture),
+        Err(CaptureFault::TooManyRounds(rounds)) => {
+            let fit = short_from(shortest_round(alloc, &read.requests)?);
+            let fit = fit.filter(|fit| checked_round(*fit, read).is_ok());
+            Err(ImportFault::TooManyRounds(rounds, round, fit))
         }
-    }
-    Span {
-        count: u32::MAX,
-        unit: TimeUnit::Second,
-    }
-}
-
-// The next whole number of units.
-fn rounded_up(nanoseconds: u64, unit: u64) -> u64 {
-    match nanoseconds.checked_rem(unit) {
-        None | Some(0) => nanoseconds,
-        Some(rest) => nanoseconds.saturating_add(unit.saturating_sub(rest)),
+        Err(fault) => Err(fault.into()),
     }
 }
 
@@ -165,13 +225,9 @@ fn recording_of(
     round: Span,
     read: &Read,
 ) -> Result<Recording, ImportFault> {
-    let round = Span {
-        count: round.count.max(1),
-        ..round
-    };
-    let capture = Capture::of(alloc, round, &read.requests)?;
-    let (adapters, open) = adapters_of(alloc, &options.hosts, &read.devices)?;
+    let capture = capture_of(alloc, round, read)?;
     let (devices, rated) = devices_of(alloc, options, &capture, &read.devices)?;
+    let (adapters, open) = adapters_of(alloc, &options.hosts, &read.devices, &devices)?;
     let config = config_of(alloc, &adapters, &devices)?;
     let names = names_of(alloc, read)?;
     Ok(capture.recording(alloc, &config, &rated, &open, names)?)

@@ -1,10 +1,12 @@
 //! What `import` says on standard error: what was counted, and what to beware of.
 
 use crate::import_options::ImportOptions;
+use crate::import_span::unit_word;
 use cam_types::standard_weights;
 use capture::{longest_round, span_nanoseconds};
 use capture_file::{Capture as Read, Counts};
-use recording_file::{PartKind, Recording, Span, TimeUnit};
+use recording_file::{PartKind, Recording, Span};
+use std::alloc::{AllocError, Global};
 use std::rt::Runtime;
 use views::shown_name;
 
@@ -49,15 +51,6 @@ pub fn tell_counts<R: Runtime>(rt: &R, round: Span, recording: &Recording, count
     }
 }
 
-fn unit_word(unit: TimeUnit) -> &'static str {
-    match unit {
-        TimeUnit::Nanosecond => "ns",
-        TimeUnit::Microsecond => "us",
-        TimeUnit::Millisecond => "ms",
-        TimeUnit::Second => "s",
-    }
-}
-
 // A warning of something that has a name.
 fn warn<R: Runtime + AllocGlobal>(rt: &R, before: &str, name: &str, after: &str) {
     if let Ok(name) = shown_name(rt.alloc(), name) {
@@ -81,6 +74,44 @@ pub fn warn_missing<R: Runtime + AllocGlobal>(rt: &R, options: &ImportOptions, r
     for (name, _) in &options.ratings {
         warn_device(rt, "--rated names", name, read);
     }
+}
+
+/// Warns of the columns of a table that aren't read: of eight, and how many more there are.
+pub fn warn_columns<R: Runtime + AllocGlobal>(rt: &R, read: &Read) {
+    if read.other_columns.is_empty() {
+        return;
+    }
+    if let Ok(names) = column_names(rt.alloc(), &read.other_columns) {
+        let _ = rt.eprintln(format_args!("camxpt: warning: columns that aren't read: {names}"));
+    }
+}
+
+// How many names of columns are shown.
+const MOST_COLUMNS: usize = 8;
+
+fn column_names(alloc: Global, names: &[String]) -> Result<String, AllocError> {
+    let mut list = String::new(alloc);
+    for (place, name) in names.iter().take(MOST_COLUMNS).enumerate() {
+        push_name(alloc, &mut list, place > 0, name)?;
+    }
+    let more = names.len().saturating_sub(MOST_COLUMNS);
+    if more > 0 {
+        write!(list, ", and {more} more")?;
+    }
+    Ok(list)
+}
+
+// Puts a name after those that are there, if there are any.
+fn push_name(
+    alloc: Global,
+    list: &mut String,
+    has_others: bool,
+    name: &str,
+) -> Result<(), AllocError> {
+    if has_others {
+        list.push_str(", ")?;
+    }
+    list.push_str(&shown_name(alloc, name)?)
 }
 
 fn warn_device<R: Runtime + AllocGlobal>(rt: &R, option: &str, name: &str, read: &Read) {

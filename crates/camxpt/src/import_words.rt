@@ -1,6 +1,7 @@
 //! The words of `import`, one by one.
 
 use crate::import_fault::ImportFault;
+use crate::source::STANDARD_INPUT;
 use cam_types::MOST_PRIORITY;
 use capture_file::{DevicePick, Priorities, TimeUnit as CsvUnit};
 use clap::ArgMatches;
@@ -29,6 +30,20 @@ pub enum Kind {
 pub struct Host {
     pub adapter: u32,
     pub openings: u32,
+}
+
+/// Tests that standard input is at most one of the files.
+pub fn check_files(words: &ArgMatches<'_>) -> Result<(), ImportFault> {
+    let mut is_taken = false;
+    for place in 0..count(words, "FILE") {
+        if word_at(words, "FILE", place) == STANDARD_INPUT {
+            if is_taken {
+                return Err(ImportFault::Word("only one FILE can be standard input"));
+            }
+            is_taken = true;
+        }
+    }
+    Ok(())
 }
 
 /// What kind of text the files are, by the words after `--from` and `--unit`. CSV has seconds if no unit is given.
@@ -73,7 +88,7 @@ fn span(word: &str) -> Option<Span> {
         "s" => TimeUnit::Second,
         _ => return None,
     };
-    let count = digits.parse::<u32>().ok()?;
+    let count = number_in(digits)?;
     if count > 0 {
         Some(Span { count, unit })
     } else {
@@ -159,7 +174,7 @@ fn check_host(hosts: &[(String, Host)], name: &str, host: Host) -> Result<(), Im
 fn host_in(word: &str) -> Result<(&str, Host), ImportFault> {
     if let Some((name, rest)) = word.rsplit_once('=')
         && let Some((adapter, openings)) = rest.split_once(':')
-        && let (Ok(adapter), Ok(openings)) = (adapter.parse::<u32>(), openings.parse::<u32>())
+        && let (Some(adapter), Some(openings)) = (number_in(adapter), number_in(openings))
         && adapter < 8
         && openings > 0
         && openings < 256
@@ -224,9 +239,18 @@ fn named_number<'a>(
     let Some((name, number)) = word.rsplit_once('=') else {
         return Err(ImportFault::Word(what));
     };
-    match number.parse::<u32>() {
-        Ok(number) if number <= most => Ok((name, number)),
+    match number_in(number) {
+        Some(number) if number <= most => Ok((name, number)),
         _ => Err(ImportFault::Word(what)),
+    }
+}
+
+// A number of decimal digits alone: no sign stands before it.
+fn number_in(word: &str) -> Option<u32> {
+    if word.as_bytes().iter().all(|byte| byte.is_ascii_digit()) {
+        word.parse::<u32>().ok()
+    } else {
+        None
     }
 }
 

@@ -25,6 +25,24 @@ pub fn note_on<D>(alloc: Global, failure: &Failure, input: &Source<'_, D>) -> Op
     }
 }
 
+/// What a capture is that was given in the place of a trace or a recording, and what to do with it.
+pub fn capture_note<D>(alloc: Global, failure: &Failure, input: &Source<'_, D>) -> Option<String> {
+    if !failure.is_of_header() {
+        return None;
+    }
+    let (kind, what) = input.front().capture()?;
+    capture_line(alloc, kind, what).ok()
+}
+
+fn capture_line(alloc: Global, kind: &str, what: &str) -> Result<String, AllocError> {
+    let mut note = String::new(alloc);
+    writeln!(
+        note,
+        "camxpt: this is {what}: `camxpt import --from {kind}` makes a recording of it"
+    )?;
+    Ok(note)
+}
+
 /// A line with the name of a file and the system's reason.
 pub fn reason_note(alloc: Global, name: &str, error: io::Error) -> Result<String, AllocError> {
     let mut note = String::new(alloc);

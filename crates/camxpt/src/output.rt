@@ -57,9 +57,12 @@ pub fn standard_output<R: Print>(rt: &R) -> Output<io::Printer<'_, R>> {
 
 /// Writes a text.
 pub fn print<W: Write>(out: &mut Output<W>, text: &str) -> Result<(), Failure> {
-    match write_whole(&mut Watched::new(out), text.as_bytes()) {
+    match write_whole(&mut Watched::new(&mut *out), text.as_bytes()) {
         Ok(()) => Ok(()),
-        Err(_) => Err(Failure::Audit(AuditFault::WriteFailed)),
+        Err(_) => Err(match out.failed {
+            Some(error) => Failure::CannotWrite(error),
+            None => Failure::Audit(AuditFault::WriteFailed),
+        }),
     }
 }
 

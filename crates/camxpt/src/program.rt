@@ -5,21 +5,22 @@ use crate::completion::script;
 use crate::drawing_run::range_of;
 use crate::failure::Failure;
 use crate::import_run::import;
-use crate::note::{note_on, reason_note};
+use crate::note::{capture_note, note_on, reason_note};
 use crate::output::{Output, print, standard_output};
 use crate::progress::ProgressLine;
 use crate::proof_run::prove;
 use crate::script_run::ScriptRun;
 use crate::shell::Shell;
-use crate::source::{Argument, STANDARD_INPUT, Source, input, is_verbose, open};
+use crate::source::{Argument, STANDARD_INPUT, Source, asks_more, input, is_verbose, open};
 use crate::subcommands::command;
 use crate::sweep_run::sweep_script;
-use crate::trace_run::TraceRun;
-use crate::words::words;
+use crate::trace_run::{TraceRun, most_waits};
+use crate::words::{check_numbers, words};
 use audit_report::AuditFault;
 use clap::ArgMatches;
 use clap::error::ErrorKind;
 use sim_worker::Ending;
+use std::alloc::{AllocError, Global};
 use std::fs::File;
 use std::io;
 use std::io::Read;
@@ -27,6 +28,7 @@ use std::process::ExitCode;
 use std::rt::Runtime;
 use std::sync::Wait;
 use std::thread::Threads;
+use views::shown_lines;
 
 /// How many stays and freezes are listed where no number is given.
 const TOP: usize = 10;
@@ -61,6 +63,9 @@ fn tell_on<R: Runtime + AllocGlobal, D, W>(
     out: &Output<W>,
 ) -> ExitCode {
     let status = tell(rt, failure);
+    if let Some(note) = capture_note(rt.alloc(), failure, input) {
+        let _ = rt.eprint(&note);
+    }
     let note = match out.failed() {
         Some(error) if failure.is_of_write() && input.kept().is_some() => {
             reason_note(rt.alloc(), "standard output", error).ok()
@@ -89,15 +94,22 @@ fn read_and_obey<R: Runtime + AllocGlobal + Threads + Wait + Sync>(
 }
 
 // Prints help or the version, or why the words are refused: then the status is 2, whether or not this can be printed.
-fn show<R: Runtime>(rt: &R, error: &clap::Error) -> Result<ExitCode, Failure> {
-    let printed = error.print(rt);
+fn show<R: Runtime + AllocGlobal>(rt: &R, error: &clap::Error) -> Result<ExitCode, Failure> {
     if error.use_stderr() {
-        Ok(ExitCode::from(2))
-    } else if printed.is_ok() {
-        Ok(ExitCode::SUCCESS)
-    } else {
-        Err(Failure::Audit(AuditFault::WriteFailed))
+        let _ = rt.eprint(&refusal(rt.alloc(), error)?);
+        return Ok(ExitCode::from(2));
     }
+    match error.print(rt) {
+        Ok(()) => Ok(ExitCode::SUCCESS),
+        Err(reason) => Ok(tell_unwritten(rt, reason, asks_more(rt))),
+    }
+}
+
+// Why words are refused. It may have a word as it was given, whose control characters are escaped.
+fn refusal(alloc: Global, error: &clap::Error) -> Result<String, AllocError> {
+    let mut text = String::new(alloc);
+    write!(text, "{error}")?;
+    shown_lines(alloc, &text)
 }
 
 // The exit status of what the command line asks.
@@ -113,6 +125,7 @@ fn obey<R: Runtime + AllocGlobal + Threads + Wait + Sync>(
         Err(Failure::CannotOpen(argument, error)) => {
             Ok(tell_unopened(rt, words, argument, error))
         }
+        Err(Failure::CannotWrite(error)) => { Ok(tell_unwritten(rt, error, is_verbose(rt, words))) }
         done => done,
     }
 }
@@ -133,6 +146,17 @@ fn tell_unopened<R: Runtime + AllocGlobal>(
     status
 }
 
+// Says that standard output can't be written, and after that line why, if that is asked for.
+fn tell_unwritten<R: Runtime + AllocGlobal>(rt: &R, error: io::Error, says_why: bool) -> ExitCode {
+    let status = tell(rt, &Failure::CannotWrite(error));
+    if says_why {
+        if let Ok(note) = reason_note(rt.alloc(), "standard output", error) {
+            let _ = rt.eprint(&note);
+        }
+    }
+    status
+}
+
 // The exit status of the subcommand of this name with these words.
 fn obey_words<R: Runtime + AllocGlobal + Threads + Wait + Sync>(
     rt: &R,
@@ -140,6 +164,7 @@ fn obey_words<R: Runtime + AllocGlobal + Threads + Wait + Sync>(
     words: &ArgMatches<'_>,
     on_terminal: bool,
 ) -> Result<ExitCode, Failure> {
+    check_numbers(words)?;
     if name == "draw" {
         let rounds = range_of(words)?;
         return over_trace(rt, words, TraceRun::Draw { rounds }, on_terminal);
@@ -169,8 +194,11 @@ fn trace_run(name: &str, words: &ArgMatches<'_>) -> Option<TraceRun> {
         }),
         "explain" => Some(TraceRun::Explain {
             top: words.get_one("top").unwrap_or(TOP),
+            waits: most_waits(words),
         }),
-        "timeline" => Some(TraceRun::Timeline),
+        "timeline" => Some(TraceRun::Timeline {
+            waits: most_waits(words),
+        }),
         "migrate" => Some(TraceRun::Migrate),
         "record" => Some(TraceRun::Record),
         "script" => Some(TraceRun::Script),

@@ -1,6 +1,7 @@
 //! Where a text comes from: a file, or standard input.
 
 use crate::failure::Failure;
+use crate::front::Front;
 use clap::ArgMatches;
 use either::{Either, Left, Right};
 use std::env::Env;
@@ -52,10 +53,16 @@ pub struct Source<'a, D> {
     pub name: &'a str,
     device: D,
     kept: Option<Vec<u8>>,
+    front: Front,
     failed: Option<io::Error>,
 }
 
 impl<D> Source<'_, D> {
+    /// The first bytes that were read.
+    pub fn front(&self) -> &Front {
+        &self.front
+    }
+
     /// What was read so far, if that is kept.
     pub fn kept(&self) -> Option<&[u8]> {
         self.kept.as_deref()
@@ -79,6 +86,7 @@ impl<D: Read> Read for Source<'_, D> {
                 return Err(error);
             }
         };
+        self.front.keep(&buf[..count]);
         if let Some(kept) = &mut self.kept {
             // Without memory for them nothing is kept any more.
             if kept.extend_from_slice(&buf[..count]).is_err() {
@@ -130,6 +138,7 @@ pub fn open<'a, R: Files + Input + Env + AllocGlobal>(
         name,
         device,
         kept: room(rt, is_verbose(rt, words)),
+        front: Front::new(),
         failed: None,
     })
 }
@@ -140,6 +149,7 @@ pub fn input<R: Input + Env + AllocGlobal>(rt: &R) -> Source<'static, R::Reader>
         name: STANDARD_INPUT,
         device: rt.reader(),
         kept: room(rt, asks_more(rt)),
+        front: Front::new(),
         failed: None,
     }
 }

@@ -32,13 +32,25 @@ pub(crate) const SUBCOMMANDS: [Subcommand; 15] = [
         name: "explain",
         about: "Says where the commands of a trace or the requests of a recording waited, and why",
         example: "Example: camxpt explain examples/frozen-device.csv",
-        words: &[Word::Top, Word::Json, Word::Verbose, Word::Either],
+        words: &[
+            Word::Top,
+            Word::AllWaits,
+            Word::Json,
+            Word::Verbose,
+            Word::Either,
+        ],
     },
     Subcommand {
         name: "compare",
         about: "Puts two traces or recordings side by side: what the waiting cost before a change and after it, for whom, and why",
         example: "Example: camxpt compare examples/one-opening.csv examples/four-openings.csv",
-        words: &[Word::Json, Word::Verbose, Word::Before, Word::After],
+        words: &[
+            Word::PairBy,
+            Word::Json,
+            Word::Verbose,
+            Word::Before,
+            Word::After,
+        ],
     },
     Subcommand {
         name: "draw",
@@ -50,7 +62,7 @@ pub(crate) const SUBCOMMANDS: [Subcommand; 15] = [
         name: "timeline",
         about: "Prints a trace or a recording as a timeline in Chrome's trace-event format, for Perfetto or chrome://tracing",
         example: "Example: camxpt timeline examples/frozen-device.csv > timeline.json",
-        words: &[Word::Verbose, Word::Either],
+        words: &[Word::AllWaits, Word::Verbose, Word::Either],
     },
     Subcommand {
         name: "prove",
@@ -122,6 +134,7 @@ pub(crate) const SUBCOMMANDS: [Subcommand; 15] = [
             Word::FromTime,
             Word::ToTime,
             Word::Lenient,
+            Word::Verbose,
             Word::Files,
         ],
     },
@@ -129,14 +142,14 @@ pub(crate) const SUBCOMMANDS: [Subcommand; 15] = [
         name: "completions",
         about: "Prints the script by which a shell completes these words",
         example: "Example: camxpt completions bash",
-        words: &[Word::Shell],
+        words: &[Word::Verbose, Word::Shell],
     },
 ];
 
 /// The words that the program takes.
 pub fn command<'a>(alloc: Global) -> Result<Command<'a>, AllocError> {
     let mut command = Command::new(alloc, "camxpt")
-        .version("0.1.0")
+        .version("0.2.0")
         .about(
             "Audits traces of a CAM transport and recordings of any scheduler, and runs scripts that record traces. With no arguments it prints the summary of the audit of the trace or recording on standard input.",
         )

@@ -14,7 +14,7 @@ use std::thread::Threads;
 use std::time::Clock;
 use sweep::{Choice, Row, SimRunner, SweepPlan, first_refused, run_sweep};
 use trace_file::{Script, read_script};
-use views::{Swept, sweep_json, sweep_page};
+use views::{Swept, shown_name, sweep_json, sweep_page};
 
 /// How many seeds run a setting where no number is given.
 const SEEDS: u32 = 1;
@@ -27,7 +27,7 @@ pub fn sweep_script<R: Runtime + AllocGlobal + Threads + Sync>(
 ) -> Result<ExitCode, Failure> {
     let choices = match choices_of(rt.alloc(), words)? {
         Ok(choices) => choices,
-        Err(fault) => return Ok(tell_word(rt, fault)),
+        Err(fault) => return tell_word(rt, fault),
     };
     let mut source = open(rt, words, Argument::Script)?;
     match read_script(rt.alloc(), &mut Watched::new(&mut source)) {
@@ -36,10 +36,12 @@ pub fn sweep_script<R: Runtime + AllocGlobal + Threads + Sync>(
     }
 }
 
-// Says which word is refused, and why.
-fn tell_word<R: Runtime>(rt: &R, fault: WordFault<'_>) -> ExitCode {
-    let _ = rt.eprintln(format_args!("camxpt: {fault}"));
-    ExitCode::from(2)
+// Says which word is refused, and why. Control characters of the word are escaped.
+fn tell_word<R: Runtime + AllocGlobal>(rt: &R, fault: WordFault<'_>) -> Result<ExitCode, Failure> {
+    let line = format!(in rt.alloc(); "{fault}")?;
+    let line = shown_name(rt.alloc(), &line)?;
+    let _ = rt.eprintln(format_args!("camxpt: {line}"));
+    Ok(ExitCode::from(2))
 }
 
 // Says why the script is refused, and after that line what helps to find the fault, if that is asked for.
@@ -64,7 +66,7 @@ fn over_script<R: Runtime + AllocGlobal + Threads + Sync>(
     on_terminal: bool,
 ) -> Result<ExitCode, Failure> {
     if let Some(refused) = first_refused(script.config(), choices) {
-        return Ok(tell_word(rt, refusal(words, refused.at, refused.why)));
+        return tell_word(rt, refusal(words, refused.at, refused.why));
     }
     let seeds = words.get_one("seeds").unwrap_or(SEEDS);
     let plan = SweepPlan::of(rt.alloc(), script.config(), choices, seeds)?;

@@ -12,6 +12,7 @@ use audit_report::{
 };
 use cam_event::History;
 use cam_types::Watched;
+use clap::ArgMatches;
 use cost_plan::plan_with;
 use drawing::timeline_json;
 use recording_file::Recording;
@@ -21,6 +22,18 @@ use std::thread::Threads;
 use std::time::Clock;
 use views::{audit_json, check_json, explain_json, page};
 use wait_causes::Explanation;
+
+/// How many waits of a stay are listed where not all are asked for.
+const MOST_WAITS: usize = 64;
+
+/// How many waits of a stay are listed at most, as the words ask.
+pub fn most_waits(words: &ArgMatches<'_>) -> usize {
+    if words.get_flag("all-waits") {
+        usize::MAX
+    } else {
+        MOST_WAITS
+    }
+}
 
 /// What is done with a trace, or with a recording unless it is migrated or recorded.
 #[derive(Clone, Copy)]
@@ -36,6 +49,8 @@ pub enum TraceRun {
     Explain {
         /// How many stays and freezes are listed at most.
         top: usize,
+        /// How many waits of each stay are listed at most, in JSON.
+        waits: usize,
     },
     /// It is drawn.
     Draw {
@@ -43,7 +58,10 @@ pub enum TraceRun {
         rounds: Option<Range>,
     },
     /// It is written as a timeline for a viewer of trace events.
-    Timeline,
+    Timeline {
+        /// How many waits of each stay are listed at most.
+        waits: usize,
+    },
     /// It is written in the newest version.
     Migrate,
     /// It is written as a recording.
@@ -101,11 +119,11 @@ impl TraceRun {
         requires { has_failed trace.old ≡ false }
     {
         match self {
-            TraceRun::Explain { top } => {
-                let top = if as_json { None } else { Some(top) };
-                explained(rt, line, name, trace, top)
+            TraceRun::Explain { waits, .. } if as_json => {
+                explained(rt, line, name, trace, Listed::Waits(waits))
             }
-            TraceRun::Timeline => timeline(rt, line, name, trace),
+            TraceRun::Explain { top, .. } => explained(rt, line, name, trace, Listed::Top(top)),
+            TraceRun::Timeline { waits } => timeline(rt, line, name, trace, waits),
             TraceRun::Draw { rounds } => drawn(rt, line, name, trace, rounds),
             _ => self.json_on(rt, line, name, trace),
         }
@@ -134,22 +152,30 @@ impl TraceRun {
 ghost use Rattle.std.specs.Prelude.{◌≡◌, false};
 ghost use Rattle.cam_types.specs.Watched.{has_failed};
 
-// What is printed of the explanation of a trace or a recording: a page with that many of the dearest stays and freezes, or
-// one line of JSON.
+// How an explanation is printed.
+#[derive(Clone, Copy)]
+enum Listed {
+    // As a page with that many of the dearest stays and freezes.
+    Top(usize),
+    // As one line of JSON with that many waits of each stay.
+    Waits(usize),
+}
+
+// What is printed of the explanation of a trace or a recording.
 fn explained<R: AllocGlobal + Threads + Clock + Eprint + Sync, D: Read>(
     rt: &R,
     line: &ProgressLine<'_, R>,
     name: &str,
     trace: &mut Watched<D>,
-    top: Option<usize>,
+    listed: Listed,
 ) -> Result<String, Failure>
     requires { has_failed trace.old ≡ false }
 {
     let alloc = rt.alloc();
     let (net, explanation) = explanation_of(rt, line, trace)?;
-    match top {
-        Some(top) => made(page(alloc, net.config(), &explanation, top)),
-        None => closed(explain_json(alloc, name, &net, &explanation)),
+    match listed {
+        Listed::Top(top) => made(page(alloc, net.config(), &explanation, top)),
+        Listed::Waits(waits) => closed(explain_json(alloc, name, &net, &explanation, waits)),
     }
 }
 
@@ -159,11 +185,12 @@ fn timeline<R: AllocGlobal + Threads + Clock + Eprint + Sync, D: Read>(
     line: &ProgressLine<'_, R>,
     name: &str,
     trace: &mut Watched<D>,
+    waits: usize,
 ) -> Result<String, Failure>
     requires { has_failed trace.old ≡ false }
 {
     let (net, explanation) = explanation_of(rt, line, trace)?;
-    closed(timeline_json(rt.alloc(), title(name), &net, &explanation))
+    closed(timeline_json(rt.alloc(), title(name), &net, &explanation, waits))
 }
 
 /// The net of a trace or a recording, and its explanation beside a best schedule.

@@ -3,6 +3,12 @@
 use clap::{Arg, ArgAction, value_parser};
 use std::alloc::Global;
 
+/// By what drivers and devices are paired, as the command line says it.
+const PAIRED_BY: &[&str] = &["name", BY_NUMBER];
+
+/// The word for pairing by numbers.
+pub(crate) const BY_NUMBER: &str = "number";
+
 /// An argument of a subcommand.
 #[derive(Clone, Copy, PartialEq)]
 pub(crate) enum Word {
@@ -20,6 +26,8 @@ pub(crate) enum Word {
     Report,
     Before,
     After,
+    PairBy,
+    AllWaits,
     Script,
     Seed,
     Openings,
@@ -103,6 +111,18 @@ impl Word {
                 "The one after it; - is standard input, unless BEFORE is",
             )
             .required(true),
+            Word::PairBy => option(
+                alloc,
+                "by",
+                "HOW",
+                "Pairs drivers and devices by name, where both inputs have names, or by number; by name if it is left out",
+            )
+            .value_parser(PAIRED_BY),
+            Word::AllWaits => flag(
+                alloc,
+                "all-waits",
+                "Lists all waits of each stay, and not just the first 64, in JSON and timelines",
+            ),
             Word::Script => named(
                 alloc,
                 "SCRIPT",
@@ -155,7 +175,7 @@ impl Word {
                 alloc,
                 "round",
                 "TIME",
-                "How long a round is, as 10ms; the mean time between starts of the busiest device if it is left out",
+                "How long a round is, as 10ms; if it is left out, the mean time between starts of the busiest device, but at most half of the mean wait",
             ),
             Word::Unit => option(
                 alloc,
@@ -185,7 +205,7 @@ impl Word {
                 alloc,
                 "host",
                 "NAME=ADAPTER:OPENINGS",
-                "The adapter of a device, and how many requests that adapter takes in a round",
+                "The adapter of a device, from 0 to 7, and how many requests that adapter takes in a round; what its devices take together if it is left out",
             ),
             Word::Rated => several(
                 alloc,
@@ -208,7 +228,7 @@ impl Word {
             Word::Lenient => flag(
                 alloc,
                 "lenient",
-                "Counts lines that aren't of their form and leaves them out",
+                "Counts lines that are refused and leaves them out",
             ),
             _ => named(
                 alloc,

@@ -1,5 +1,5 @@
 -- the requests of a capture keep the rules of recordings
-use Rattle.std.proofs.Common.{◌≡◌, ℕ, zero, suc, ◌+◌, ◌<◌, ◌≤◌, Bool, true, false, cond, List, [], ◌∷◌, if◌then◌else◌, length, take, get_or, max, refl, arith, Option, Some, None, inl, inr, ◌==◌, ◌&&◌, find, count_by, slice_get, All}
+use Rattle.std.proofs.Common.{◌≡◌, ℕ, zero, suc, ◌+◌, ◌<◌, ◌≤◌, Bool, true, false, cond, List, [], ◌∷◌, length, take, get_or, max, min, nat_lt, refl, arith, Option, Some, None, inl, inr, ◌==◌, ◌&&◌, find, count_by, slice_get, All}
 use Rattle.std.specs.List.{flat_map}
 use Rattle.std.specs.Option.{option_map_or}
 use Rattle.std.proofs.lemmas.Bool.{and_from, ltb-true, le-ltb, le-leb, lt-leb, eq-eqb}
@@ -17,7 +17,7 @@ use Rattle.recording_file.specs.declared.part.Part.{Part}
 use Rattle.recording_file.specs.declared.part.PartKind.{PartKind}
 use Rattle.recording_file.specs.declared.part.PartKind.TheVariants as kind
 use Rattle.recording_file.specs.declared.request.Request.{Request}
-use Rattle.capture.specs.Captured.{is_measured, is_open, cap_of, part_caps}
+use Rattle.capture.specs.Captured.{is_measured, is_open, own_cap, open_cap, sum_on, cap_of, part_caps}
 use Rattle.capture.specs.Faults.{IsInRounds, starts_in}
 use Rattle.capture.specs.Loads.{is_pressed}
 use Rattle.capture.specs.Parts.{all_parts}
@@ -37,14 +37,20 @@ load_few c qs p r = sum_by-le-sum_by (λ (q : Request). one (takes_of c p q.devi
     part_le false true = omega arith
     part_le false false = omega arith
 
-pub load_capped : (c : Topology) (rated opened : List Bool) (qs : List Request) (p : Part) (r : ℕ) → starts_in qs r ≤ MOST_IN_ROUND → load c qs p r ≤ cap_of c rated opened qs p r
-unfolding cap_of
-load_capped c rated opened qs p r few =
+own_capped : (c : Topology) (rated : List Bool) (qs : List Request) (p : Part) (r : ℕ) → load c qs p r ≤ own_cap c rated qs p r
+unfolding own_cap
+own_capped c rated qs p r = elim (is_measured rated p && is_pressed qs p.number r) as (λ b. load c qs p r ≤ cond b (load c qs p r) (max (openings c p) (load c qs p r))) [ true ↦ omega arith | false ↦ omega arith ]
+
+open_capped : (c : Topology) (rated : List Bool) (qs : List Request) (p : Part) (r : ℕ) → starts_in qs r ≤ MOST_IN_ROUND → load c qs p r ≤ open_cap c rated qs p r
+unfolding open_cap
+open_capped c rated qs p r few =
     let load' = load_few c qs p r in
-    elim (is_open opened p) as (λ a. load c qs p r ≤ cond a MOST_IN_ROUND (if is_measured rated p && is_pressed qs p.number r then load c qs p r else max (openings c p) (load c qs p r))) [
-      | true ↦ omega arith
-      | false ↦ elim (is_measured rated p && is_pressed qs p.number r) as (λ b. load c qs p r ≤ cond b (load c qs p r) (max (openings c p) (load c qs p r))) [ true ↦ omega arith | false ↦ omega arith ]
-    ]
+    let sums : ℕ = sum_on c p.number (λ d. own_cap c rated qs d r) in
+    elim (nat_lt (openings c p) (sum_on c p.number (openings c))) as (λ b. load c qs p r ≤ cond b MOST_IN_ROUND (min MOST_IN_ROUND (max (max (openings c p) (load c qs p r)) sums))) [ true ↦ omega arith | false ↦ omega arith ]
+
+pub load_capped : (c : Topology) (rated opened : List Bool) (qs : List Request) (p : Part) (r : ℕ) → starts_in qs r ≤ MOST_IN_ROUND → load c qs p r ≤ cap_of c rated opened qs p r
+load_capped c rated opened qs p r few =
+    elim (is_open opened p) as (λ b. load c qs p r ≤ cond b (open_cap c rated qs p r) (own_cap c rated qs p r)) [ true ↦ open_capped c rated qs p r few | false ↦ own_capped c rated qs p r ]
 
 element : {X : Type 0} (xs : List X) (i : ℕ) → i < length xs → (x : X) × (slice_get xs i ≡ Some x)
 element xs i lt = elim (slice_get_cases xs i).1 [
@@ -64,16 +70,23 @@ openings_by c config kind.Device n = found_small (λ (d : Device). d.openings) c
 openings_by c config kind.Adapter n = found_small (λ (a : Adapter). a.openings) c.adapters n (small_adapters c config)
 openings_by c config kind.Link n = found_small (λ n. n) c.links n (small_links c config)
 
-pub cap_few : (c : Topology) (rated opened : List Bool) (qs : List Request) (k : PartKind) (n r : ℕ) → IsConfig c → starts_in qs r ≤ MOST_IN_ROUND → cap_of c rated opened qs (part_of k n) r ≤ MOST_IN_ROUND
-unfolding cap_of
-cap_few c rated opened qs k n r config few =
+own_few : (c : Topology) (rated : List Bool) (qs : List Request) (k : PartKind) (n r : ℕ) → IsConfig c → starts_in qs r ≤ MOST_IN_ROUND → own_cap c rated qs (part_of k n) r ≤ MOST_IN_ROUND
+unfolding own_cap
+own_few c rated qs k n r config few =
     let p : Part = part_of k n in
     let open' = openings_by c config k n in
     let load' = load_few c qs p r in
-    elim (is_open opened p) as (λ a. cond a MOST_IN_ROUND (if is_measured rated p && is_pressed qs p.number r then load c qs p r else max (openings c p) (load c qs p r)) ≤ MOST_IN_ROUND) [
-      | true ↦ omega arith
-      | false ↦ elim (is_measured rated p && is_pressed qs p.number r) as (λ b. cond b (load c qs p r) (max (openings c p) (load c qs p r)) ≤ MOST_IN_ROUND) [ true ↦ omega arith | false ↦ omega arith ]
-    ]
+    elim (is_measured rated p && is_pressed qs p.number r) as (λ b. cond b (load c qs p r) (max (openings c p) (load c qs p r)) ≤ MOST_IN_ROUND) [ true ↦ omega arith | false ↦ omega arith ]
+
+open_few : (c : Topology) (rated : List Bool) (qs : List Request) (p : Part) (r : ℕ) → open_cap c rated qs p r ≤ MOST_IN_ROUND
+unfolding open_cap
+open_few c rated qs p r =
+    let sums : ℕ = sum_on c p.number (λ d. own_cap c rated qs d r) in
+    elim (nat_lt (openings c p) (sum_on c p.number (openings c))) as (λ b. cond b MOST_IN_ROUND (min MOST_IN_ROUND (max (max (openings c p) (load c qs p r)) sums)) ≤ MOST_IN_ROUND) [ true ↦ omega arith | false ↦ omega arith ]
+
+pub cap_few : (c : Topology) (rated opened : List Bool) (qs : List Request) (k : PartKind) (n r : ℕ) → IsConfig c → starts_in qs r ≤ MOST_IN_ROUND → cap_of c rated opened qs (part_of k n) r ≤ MOST_IN_ROUND
+cap_few c rated opened qs k n r config few =
+    elim (is_open opened (part_of k n)) as (λ b. cond b (open_cap c rated qs (part_of k n) r) (own_cap c rated qs (part_of k n) r) ≤ MOST_IN_ROUND) [ true ↦ open_few c rated qs (part_of k n) r | false ↦ own_few c rated qs k n r config few ]
 
 -- ---- no cause speaks against a request
 

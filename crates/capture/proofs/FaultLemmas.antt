@@ -62,13 +62,13 @@ devices_there c qs n le none =
 
 -- ---- rounds with too many starts
 
-pub crowd_found : (unit : Span) (qs : List Request) (n last k : ℕ) → n < last → find (is_crowded qs) (range_with_len 1 n) ≡ None → k ≡ starts_in qs (n + 1) → MOST_IN_ROUND < k → crowd_fault (record { unit = unit; rounds = last; requests = qs }) ≡ Some (TooManyInRound (n + 1))
+pub crowd_found : (unit : Span) (qs : List Request) (n last k : ℕ) → n < last → find (is_crowded qs) (range_with_len 1 n) ≡ None → k ≡ starts_in qs (n + 1) → MOST_IN_ROUND < k → crowd_fault (record { unit = unit; rounds = last; requests = qs }) ≡ Some (TooManyInRound (n + 1) k)
 unfolding crowd_fault
 crowd_found unit qs n last k lt none is many =
     let at : 1 + n ≡ n + 1 = omega arith in
     let here : is_crowded qs (1 + n) ≡ true = rw (at, ← is) (lt-ltb MOST_IN_ROUND k many) in
     let found = found_in_range (is_crowded qs) 1 n last lt none here in
-    rw (found, at) refl
+    rw (found, at, is) refl
 
 pub crowd_more : (qs : List Request) (n k : ℕ) → find (is_crowded qs) (range_with_len 1 n) ≡ None → k ≡ starts_in qs (n + 1) → k ≤ MOST_IN_ROUND → find (is_crowded qs) (range_with_len 1 (n + 1)) ≡ None
 crowd_more qs n k none is few =

@@ -7,11 +7,13 @@ pub mod CapLemmas
 pub mod CapRowLemmas
 pub mod CauseLemmas
 pub mod LengthLemmas
+pub mod OpenLemmas
 pub mod RecorderLemmas
 pub mod RangeLemmas
 pub mod RequestLemmas
 pub mod RoundLemmas
 pub mod SortLemmas
+pub mod SpanBoundLemmas
 pub mod SpanLemmas
 pub mod UsualLemmas
 pub mod WaitLemmas

@@ -117,11 +117,11 @@ pub record IsSize (requests rounds : ℕ) : Type 0 where
 
 pub size_fits : (requests rounds : ℕ) → size_fault requests rounds ≡ None → IsSize requests rounds
 unfolding size_fault
-size_fits requests rounds = elim (requests == 0) as (λ b. cond b (Some NothingStarted) (cond (nat_lt MOST_REQUESTS requests) (Some TooManyRequests) (cond (nat_lt MOST_RECORDED_ROUNDS rounds) (Some TooManyRounds) None)) ≡ None → IsSize requests rounds) [
+size_fits requests rounds = elim (requests == 0) as (λ b. cond b (Some NothingStarted) (cond (nat_lt MOST_REQUESTS requests) (Some (TooManyRequests requests)) (cond (nat_lt MOST_RECORDED_ROUNDS rounds) (Some (TooManyRounds rounds)) None)) ≡ None → IsSize requests rounds) [
   | true ↦ λ e. absurd cc
-  | false ↦ elim (nat_lt MOST_REQUESTS requests) as (λ b. nat_lt MOST_REQUESTS requests ≡ b → cond b (Some TooManyRequests) (cond (nat_lt MOST_RECORDED_ROUNDS rounds) (Some TooManyRounds) None) ≡ None → IsSize requests rounds) [
+  | false ↦ elim (nat_lt MOST_REQUESTS requests) as (λ b. nat_lt MOST_REQUESTS requests ≡ b → cond b (Some (TooManyRequests requests)) (cond (nat_lt MOST_RECORDED_ROUNDS rounds) (Some (TooManyRounds rounds)) None) ≡ None → IsSize requests rounds) [
     | true ↦ λ is e. absurd cc
-    | false ↦ λ few. elim (nat_lt MOST_RECORDED_ROUNDS rounds) as (λ b. nat_lt MOST_RECORDED_ROUNDS rounds ≡ b → cond b (Some TooManyRounds) None ≡ None → IsSize requests rounds) [
+    | false ↦ λ few. elim (nat_lt MOST_RECORDED_ROUNDS rounds) as (λ b. nat_lt MOST_RECORDED_ROUNDS rounds ≡ b → cond b (Some (TooManyRounds rounds)) None ≡ None → IsSize requests rounds) [
       | true ↦ λ is e. absurd cc
       | false ↦ λ short e. record { many = ltb-false MOST_REQUESTS requests few; short = ltb-false MOST_RECORDED_ROUNDS rounds short }
     ] refl

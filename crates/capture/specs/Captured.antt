@@ -1,9 +1,12 @@
 -- the recording of a capture
-use Rattle.std.specs.Prelude.{ℕ, max, Bool, false, not, ◌&&◌, if◌then◌else◌, List, map, slice_get, Some}
-use Rattle.std.specs.List.{flat_map}
+use Rattle.std.specs.Prelude.{◌≡◌, ℕ, ◌<◌, ◌≤◌, ◌==◌, max, min, nat_lt, Bool, true, false, not, ◌&&◌, if◌then◌else◌, List, length, map, filter, slice_get, Some}
+use Rattle.std.specs.List.{flat_map, range_with_len, sum_by}
 use Rattle.std.specs.Option.{option_map_or}
 use Rattle.cam_types.specs.Topology.{Topology}
-use Rattle.recording_file.specs.Caps.{openings}
+use Rattle.cam_types.specs.declared.device.Device.{Device}
+use Rattle.cam_types.specs.Questions.{is_on}
+use Rattle.cam_types.specs.declared.maxima.TheConstants.{MOST_OPENINGS}
+use Rattle.recording_file.specs.Caps.{openings, part_of, cap_in}
 use Rattle.recording_file.specs.declared.cap.Cap.{Cap}
 use Rattle.recording_file.specs.declared.part.Part.{Part}
 use Rattle.recording_file.specs.declared.part.PartKind.{PartKind}
@@ -31,7 +34,7 @@ is_measured rated p = by p.kind
     by kind.Adapter = false
     by kind.Link = false
 
--- an adapter of which nobody said what it takes: as good as unlimited
+-- an adapter of which nobody said what it takes
 abbrev pub is_open : List Bool → Part → Bool
 is_open opened p = by p.kind
   where
@@ -40,13 +43,31 @@ is_open opened p = by p.kind
     by kind.Adapter = is_flagged opened p.number
     by kind.Link = false
 
--- how many a part takes in a round: an open adapter takes the most that a cap says; a device that is measured and pressed
--- takes what it took; and anything else takes its openings, or what it took if that is more
-unfoldable pub cap_of : Topology → List Bool → List Bool → List Request → Part → ℕ → ℕ
-cap_of c rated opened qs p round =
-    if is_open opened p then MOST_IN_ROUND
-    else if is_measured rated p && is_pressed qs p.number round then load c qs p round
+-- how many a part takes in a round by itself: a device that is measured and pressed takes what it took; and anything else takes
+-- its openings, or what it took if that is more
+unfoldable pub own_cap : Topology → List Bool → List Request → Part → ℕ → ℕ
+own_cap c rated qs p round =
+    if is_measured rated p && is_pressed qs p.number round then load c qs p round
     else max (openings c p) (load c qs p round)
+
+-- the devices on an adapter
+abbrev pub devices_on : Topology → ℕ → List ℕ
+devices_on c adapter = filter (is_on c adapter) (range_with_len 0 (length c.devices))
+
+-- a number of its devices, summed up
+abbrev pub sum_on : Topology → ℕ → (Part → ℕ) → ℕ
+sum_on c adapter number = sum_by (λ n. number (part_of kind.Device n)) (devices_on c adapter)
+
+-- how many an adapter takes of which nobody said that: what its devices take together, but no fewer than its openings and what it
+-- took. If the devices' openings are more than its own, it takes the most that a cap says.
+unfoldable pub open_cap : Topology → List Bool → List Request → Part → ℕ → ℕ
+open_cap c rated qs p round =
+    if nat_lt (openings c p) (sum_on c p.number (openings c)) then MOST_IN_ROUND
+    else min MOST_IN_ROUND (max (max (openings c p) (load c qs p round)) (sum_on c p.number (λ d. own_cap c rated qs d round)))
+
+-- how many a part takes in a round
+abbrev pub cap_of : Topology → List Bool → List Bool → List Request → Part → ℕ → ℕ
+cap_of c rated opened qs p round = if is_open opened p then open_cap c rated qs p round else own_cap c rated qs p round
 
 -- the cap of a part in the run of rounds that begins in this one, by its number in each round
 unfoldable pub run_cap : Part → (ℕ → ℕ) → ℕ → ℕ → Cap
@@ -79,3 +100,12 @@ recorded_of c rated opened names r = record {
 -- the recording of requests in time
 abbrev pub captured : Span → Topology → List Bool → List Bool → List Label → List TimedRequest → Recorded
 captured unit c rated opened names qs = recorded_of c rated opened names (in_rounds unit qs)
+
+-- the openings of an adapter of which nobody said them: those of its devices together, but no more than there may be
+abbrev pub shared_openings : List Device → ℕ → ℕ
+shared_openings devices adapter = max 1 (min MOST_OPENINGS (sum_by (λ (d : Device). d.openings) (filter (λ (d : Device). d.bus == adapter) devices)))
+
+-- an adapter of which nobody said what it takes is never what limits: in each round it takes what its devices take together, or the
+-- most that a cap says
+abbrev pub NeverLimits : List Bool → Recorded → Type 0
+NeverLimits opened r = (a round : ℕ) → a < length r.config.adapters → is_flagged opened a ≡ true → 1 ≤ round → round ≤ r.rounds → min MOST_IN_ROUND (sum_on r.config a (λ d. cap_in r.config r.caps d round)) ≤ cap_in r.config r.caps (part_of kind.Adapter a) round

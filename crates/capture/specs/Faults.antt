@@ -32,8 +32,8 @@ request_fault m =
 unfoldable pub size_fault : ℕ → ℕ → Option CaptureFault
 size_fault requests rounds =
     if requests == 0 then Some NothingStarted
-    else if nat_lt MOST_REQUESTS requests then Some TooManyRequests
-    else if nat_lt MOST_RECORDED_ROUNDS rounds then Some TooManyRounds
+    else if nat_lt MOST_REQUESTS requests then Some (TooManyRequests requests)
+    else if nat_lt MOST_RECORDED_ROUNDS rounds then Some (TooManyRounds rounds)
     else None
 
 -- how many of the requests were started in a round
@@ -44,8 +44,9 @@ starts_in qs round = count_by (λ (q : Request). q.sent == round) qs
 abbrev pub is_crowded : List Request → ℕ → Bool
 is_crowded qs round = nat_lt MOST_IN_ROUND (starts_in qs round)
 
+-- the first such round, and how many were started in it
 unfoldable pub crowd_fault : Rounded → Option CaptureFault
-crowd_fault r = option_map TooManyInRound (find (is_crowded r.requests) (range_with_len 1 r.rounds))
+crowd_fault r = option_map (λ round. TooManyInRound round (starts_in r.requests round)) (find (is_crowded r.requests) (range_with_len 1 r.rounds))
 
 -- the first reason why requests in time are not a capture
 abbrev pub capture_fault : Span → List TimedRequest → Option CaptureFault

@@ -1,5 +1,6 @@
 pub mod Timed
 pub mod Rounds
+pub mod Spans
 pub mod Faults
 pub mod Loads
 pub mod Parts

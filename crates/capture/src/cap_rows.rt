@@ -1,7 +1,9 @@
 //! How many requests a part takes in each round.
 
-ghost use Rattle.std.specs.Prelude.{◌≡◌, ◌<◌, ◌≤◌, ◌^◌, IfOk, All, ℕ, max, nat_lt, if◌then◌else◌, length, slice_index};
-ghost use Rattle.capture.specs.Captured.{is_flagged, is_measured, is_open, cap_of};
+ghost use Rattle.std.specs.Prelude.{◌≡◌, ◌<◌, ◌≤◌, ◌^◌, ◌+◌, IfOk, All, ℕ, max, min, nat_lt, if◌then◌else◌, length, slice_index};
+ghost use Rattle.recording_file.specs.Caps.{openings};
+ghost use Rattle.capture.specs.Captured.{is_flagged, is_measured, is_open, own_cap, open_cap, cap_of, sum_on};
+ghost use Rattle.capture.specs.declared.capture_fault.TheConstants.{MOST_IN_ROUND};
 ghost use Rattle.capture.specs.Faults.{IsInRounds};
 ghost use Rattle.capture.specs.Loads.{IsRow};
 
@@ -28,8 +30,25 @@ pub fn cap_row(
     ensures { IfOk result (λ row. IsRow (cap_of config.now rated.now open.now requests.now part) last row.items) }
 {
     if is_open(open, part) {
-        return vec![in alloc; MOST_IN_ROUND; last as usize + 1];
+        open_row(alloc, last, config, rated, requests, part)
+    } else {
+        own_row(alloc, last, config, rated, requests, part)
     }
+}
+
+// The cap of a part by itself.
+fn own_row(
+    alloc: Global,
+    last: u32,
+    config: &Config,
+    rated: &[bool],
+    requests: &[Request],
+    part: Part,
+) -> Result<Vec<u32>, AllocError>
+    requires within { All (IsInRounds last) requests.now }
+    requires few { length requests.now < 2 ^ 32 }
+    ensures { IfOk result (λ row. IsRow (own_cap config.now rated.now requests.now part) last row.items) }
+{
     let mut row = load_row(alloc, last, config, requests, part)?;
     let usual = openings(config, part);
     if is_measured(rated, part) {
@@ -39,6 +58,93 @@ pub fn cap_row(
         raise(&mut row, usual);
     }
     Ok(row)
+}
+
+// The cap of an adapter of which nobody said what it takes.
+fn open_row(
+    alloc: Global,
+    last: u32,
+    config: &Config,
+    rated: &[bool],
+    requests: &[Request],
+    part: Part,
+) -> Result<Vec<u32>, AllocError>
+    requires within { All (IsInRounds last) requests.now }
+    requires few { length requests.now < 2 ^ 32 }
+    ensures { IfOk result (λ row. IsRow (open_cap config.now rated.now requests.now part) last row.items) }
+{
+    let usual = openings(config, part);
+    if u64::from(usual) < openings_on(config, part.number) {
+        return vec![in alloc; MOST_IN_ROUND; last as usize + 1];
+    }
+    let mut row = load_row(alloc, last, config, requests, part)?;
+    let devices = devices_row(alloc, last, config, rated, requests, part.number)?;
+    raise_to(&mut row, usual, &devices);
+    Ok(row)
+}
+
+// The openings of an adapter's devices together.
+fn openings_on(config: &Config, adapter: u32) -> u64
+    ensures { result ≡ sum_on config.now adapter (openings config.now) }
+{
+    let mut sum: u64 = 0;
+    for number in 0..config.devices().len() as u32 {
+        if config.is_on(adapter, number) {
+            let part = Part {
+                kind: PartKind::Device,
+                number,
+            };
+            sum += u64::from(openings(config, part));
+        }
+    }
+    sum
+}
+
+// What an adapter's devices take together in each round, or the most that a cap says if that is less.
+fn devices_row(
+    alloc: Global,
+    last: u32,
+    config: &Config,
+    rated: &[bool],
+    requests: &[Request],
+    adapter: u32,
+) -> Result<Vec<u32>, AllocError>
+    requires within { All (IsInRounds last) requests.now }
+    requires few { length requests.now < 2 ^ 32 }
+    ensures { IfOk result (λ row. IsRow (λ round. min MOST_IN_ROUND (sum_on config.now adapter (λ d. own_cap config.now rated.now requests.now d round))) last row.items) }
+{
+    let mut sums = vec![in alloc; 0; last as usize + 1]?;
+    for number in 0..config.devices().len() as u32 {
+        if config.is_on(adapter, number) {
+            let part = Part {
+                kind: PartKind::Device,
+                number,
+            };
+            let own = own_row(alloc, last, config, rated, requests, part)?;
+            add_row(&mut sums, &own);
+        }
+    }
+    Ok(sums)
+}
+
+// Adds the numbers of another row, up to the most that a cap says.
+fn add_row(sums: &mut [u32], row: &[u32])
+    requires { length sums.old ≡ length row.now }
+    ensures { (round : ℕ) → round < length sums.old → slice_index sums.new round ≡ min MOST_IN_ROUND (slice_index sums.old round + slice_index row.now round) }
+{
+    for round in 0..sums.len() {
+        sums[round] = MOST_IN_ROUND.min(sums[round].saturating_add(row[round]));
+    }
+}
+
+// Raises each number to the usual one and to that of another row, up to the most that a cap says.
+fn raise_to(row: &mut [u32], usual: u32, least: &[u32])
+    requires { length row.old ≡ length least.now }
+    ensures { (round : ℕ) → round < length row.old → slice_index row.new round ≡ min MOST_IN_ROUND (max (max usual (slice_index row.old round)) (slice_index least.now round)) }
+{
+    for round in 0..row.len() {
+        row[round] = MOST_IN_ROUND.min(usual.max(row[round]).max(least[round]));
+    }
 }
 
 // Whether a part is an adapter of which nobody said what it takes.

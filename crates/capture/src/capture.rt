@@ -38,7 +38,7 @@ impl Model for Capture {
 impl Capture {
     ghost use Rattle.std.specs.Prelude.{◌≡◌, ◌≢◌, ◌≤◌, List, [], length, count_by, None, Some, IfOk, IfErr, OnOk};
     ghost use Rattle.cam_types.specs.declared.maxima.TheConstants.{MOST_OPENINGS};
-    ghost use Rattle.capture.specs.Captured.{recorded_of, captured};
+    ghost use Rattle.capture.specs.Captured.{recorded_of, captured, NeverLimits};
     ghost use Rattle.capture.specs.Timed.{TimedRequest, is_started};
     ghost use Rattle.capture.specs.Faults.{IsCapture, capture_fault, recording_fault, OutOfMemory};
     ghost use Rattle.capture.specs.Rounds.{in_rounds};
@@ -106,8 +106,9 @@ impl Capture {
     /// The recording: these requests, and a cap for each longest run of rounds in which a device, an adapter or a link takes
     /// one number of requests that isn't its openings. In a round at whose end a request of a device waits, the device takes
     /// what it took, unless it is rated at its openings, as `rated` says by the device's number. An adapter of which nobody said
-    /// what it takes, as `open` says by the adapter's number, takes 65,535 in each round. Everything else takes its openings, or
-    /// what it took if that is more. In both lists a missing entry is false.
+    /// what it takes, as `open` says by the adapter's number, takes what its devices take together, but no less than its openings;
+    /// and 65,535 in each round if its devices have more openings than it. Everything else takes its openings, or what it took if
+    /// that is more. In both lists a missing entry is false.
     ///
     /// # Errors
     ///
@@ -124,6 +125,8 @@ impl Capture {
         requires { config.now.lanes ≡ [] }
         ensures recording { IfOk result (λ r. r ≡ recorded_of config.now rated.now open.now names.items self.now) }
         ensures captured { IfOk result (λ r. (requests : List TimedRequest) → self.now ≡ in_rounds self.now.unit requests → r ≡ captured self.now.unit config.now rated.now open.now names.items requests) }
+        // Where nobody said what an adapter takes, only its devices limit.
+        ensures never_limits { IfOk result (λ r. NeverLimits open.now r) }
         ensures ok { OnOk result (recording_fault config.now names.items self.now ≡ None) }
         ensures err { IfErr result (λ e. e ≢ OutOfMemory → recording_fault config.now names.items self.now ≡ Some e) }
     {

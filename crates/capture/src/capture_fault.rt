@@ -21,15 +21,15 @@ pub enum CaptureFault {
     /// No request was started.
     #[error("nothing was started")]
     NothingStarted,
-    /// More than 1,048,576 requests were started.
-    #[error("too many requests")]
-    TooManyRequests,
-    /// The last start is after round 65,535.
-    #[error("too many rounds")]
-    TooManyRounds,
-    /// More than 65,535 requests were started in this round.
-    #[error("round {0}: too many requests")]
-    TooManyInRound(u32),
+    /// So many requests were started: more than 1,048,576.
+    #[error("{0} requests were started, and a recording has at most 1,048,576")]
+    TooManyRequests(usize),
+    /// The last start is in this round, after round 65,535.
+    #[error("there are {0} rounds, and a recording has at most 65,535")]
+    TooManyRounds(u128),
+    /// In the round of the first number so many requests were started as the second says: more than 65,535.
+    #[error("round {0}: {1} requests were started, and a recording has at most 65,535 in a round")]
+    TooManyInRound(u32, u32),
     /// A started request has this device, and the configuration doesn't.
     #[error("device {0}: no such device")]
     NoDevice(u32),

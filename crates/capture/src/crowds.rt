@@ -21,8 +21,9 @@ pub fn check_crowds(alloc: Global, last: u32, requests: &[Request]) -> Result<()
     let row = starts_row(alloc, last, requests)?;
     for before in 0..last {
         let round = before + 1;
-        if row[round as usize] > MOST_IN_ROUND {
-            return Err(CaptureFault::TooManyInRound(round));
+        let starts = row[round as usize];
+        if starts > MOST_IN_ROUND {
+            return Err(CaptureFault::TooManyInRound(round, starts));
         }
     }
     Ok(())

@@ -3,7 +3,9 @@
 
 pub use capture::Capture;
 pub use capture_fault::{CaptureFault, MOST_IN_ROUND};
-pub use lengths::{left_out, longest_round, usual_round};
+pub use lengths::{left_out, longest_round, shortest_round, usual_round};
+pub use shared_adapters::shared_openings;
+pub use span_bounds::{short_from, short_within, span_within};
 pub use span_time::{span_nanoseconds, span_of};
 pub use timed_request::TimedRequest;
 
@@ -20,6 +22,8 @@ mod recording;
 mod request_faults;
 mod rounds;
 mod runs;
+mod shared_adapters;
+mod span_bounds;
 mod span_time;
 mod started;
 mod tally;

@@ -38,11 +38,11 @@ pub fn rounds_of(span: u64, requests: &[TimedRequest]) -> Result<u32, CaptureFau
         return Err(CaptureFault::NothingStarted);
     }
     if requests.len() > MOST_REQUESTS {
-        return Err(CaptureFault::TooManyRequests);
+        return Err(CaptureFault::TooManyRequests(requests.len()));
     }
     let before = last_start(requests).saturating_sub(first_arrival(requests)) / span;
     if before >= u64::from(MOST_RECORDED_ROUNDS) {
-        return Err(CaptureFault::TooManyRounds);
+        return Err(CaptureFault::TooManyRounds(u128::from(before) + 1));
     }
     Ok(before as u32 + 1)
 }

@@ -46,7 +46,8 @@ fn span_in(nanoseconds: u64, unit: TimeUnit) -> Option<Span>
     }
 }
 
-fn unit_nanoseconds(unit: TimeUnit) -> u64
+/// How many nanoseconds a unit has.
+pub fn unit_nanoseconds(unit: TimeUnit) -> u64
     ensures same { result ≡ unit_nanoseconds unit }
     ensures some { 1 ≤ result }
     ensures most { result ≤ 1000000000 }

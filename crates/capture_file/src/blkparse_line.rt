@@ -210,12 +210,13 @@ fn extent_of(text: &[u8]) -> Result<Extent, LineFault> {
     }
 }
 
+// The end of a flush, or of a write's flush, has a sector and no count of them.
 fn extent_from(sector: u64, text: &[u8]) -> Result<Extent, LineFault> {
     let (second, rest) = word(text)?;
     match second.first() {
         Some(b'+') => Ok(Extent::Sectors(sector, sectors_of(rest)?)),
         Some(b'(') => Ok(Extent::Command),
-        Some(b'[') => flush_completion(sector),
+        Some(b'[') => Ok(Extent::Flush),
         _ => Err(LineFault::NotAnEvent),
     }
 }
@@ -223,13 +224,4 @@ fn extent_from(sector: u64, text: &[u8]) -> Result<Extent, LineFault> {
 fn sectors_of(text: &[u8]) -> Result<u64, LineFault> {
     let (digits, _) = word(text)?;
     number(digits).ok_or(LineFault::BadNumber(Field::Sectors))
-}
-
-// A flush is completed at sector 0.
-fn flush_completion(sector: u64) -> Result<Extent, LineFault> {
-    if sector == 0 {
-        Ok(Extent::Flush)
-    } else {
-        Err(LineFault::NotAnEvent)
-    }
 }

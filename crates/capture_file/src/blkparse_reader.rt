@@ -26,7 +26,7 @@ struct OwnDevice {
 /// A request is a device and a first sector, or a device's flush. It arrives when it is queued (`Q`) and starts when it is issued
 /// (`D`). One that is merged (`M`, `F`) into another that waits is part of that one, which keeps its arrival. If one is put back
 /// (`R`), its next attempt is a request that arrives then. Of several requests of one place the first one that waits starts
-/// first. Commands of `SG_IO` have no arrival. The text has no I/O classes, so priorities go by direction.
+/// first. Commands of `SG_IO` have no arrival, and the kernel's own flushes, which follow a write, have none either. The text has no I/O classes, so priorities go by direction.
 #[derive(Drop)]
 pub struct BlkparseReader<'a> {
     alloc: Global,
@@ -89,6 +89,7 @@ impl<'a> BlkparseReader<'a> {
         };
         match event.extent {
             Extent::Command => Ok(self.pass_command(device, event.action)),
+            Extent::Flush if ends_a_write(event) => Ok(self.count_stray()),
             Extent::Flush => {
                 let sector = None;
                 self.apply_at(time, Place { device, sector }, 0, event)
@@ -135,7 +136,7 @@ impl<'a> BlkparseReader<'a> {
             None => self.listed.add(listed)?,
         };
         let Ok(listed) = u32::try_from(number) else {
-            return Err(LineFault::TooManyDevices);
+            return Err(LineFault::TooManyDevices(number));
         };
         self.own.push(OwnDevice {
             listed,
@@ -168,9 +169,14 @@ impl<'a> BlkparseReader<'a> {
         place: Place,
         event: RequestEvent<'_>,
     ) -> Result<(), LineFault> {
-        let (driver, own) = self.drivers.number(self.options, event.process)?;
+        // What arrives after the times that are taken is left out, and so are its drivers.
+        let (driver, own) = if self.options.is_before_end(time) {
+            self.drivers.number(self.options, event.process)?
+        } else {
+            (0, None)
+        };
         let Ok(device) = u32::try_from(place.device) else {
-            return Err(LineFault::TooManyDevices);
+            return Err(LineFault::TooManyDevices(place.device));
         };
         let usual = usual_priority(self.options.priorities, event.flags);
         let request = TimedRequest {
@@ -231,6 +237,11 @@ impl LineReader for BlkparseReader<'_> {
     fn count_refused(&mut self) {
         self.counts.refused_lines = self.counts.refused_lines.saturating_add(1);
     }
+}
+
+// Whether a completion without sectors is that of a write which was flushed after it: its sectors were completed before.
+fn ends_a_write(event: RequestEvent<'_>) -> bool {
+    event.action == Action::Completes && !event.flags.starts_with(b"F")
 }
 
 fn usual_priority(priorities: Priorities, flags: &[u8]) -> u32 {

@@ -6,7 +6,7 @@ use capture::TimedRequest;
 use std::alloc::{AllocError, Global};
 
 /// Where a request is: its device and its first sector. A flush has none.
-#[derive(Clone, Copy, PartialEq, Eq, Hash)]
+#[derive(Clone, Copy, PartialEq, Eq, PartialOrd, Ord)]
 pub struct Place {
     pub device: usize,
     pub sector: Option<u64>,

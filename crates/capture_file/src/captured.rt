@@ -15,6 +15,8 @@ pub struct Capture {
     /// Of each device, whether its started requests differ much in size: the largest is more than 16 times as large as the lower
     /// median. CSV has no sizes.
     pub uneven: Vec<bool>,
+    /// The names of a table's columns that aren't read.
+    pub other_columns: Vec<String>,
     /// What was read and what was left out.
     pub counts: Counts,
 }

@@ -2,6 +2,7 @@
 
 use crate::line_fault::LineFault;
 use csv::ByteRecord;
+use std::alloc::{AllocError, Global};
 
 /// Where the columns are, from 0 on.
 #[derive(Clone, Copy)]
@@ -18,19 +19,15 @@ pub struct Columns {
 
 const NAMES: [&str; 6] = ["arrival", "start", "device", "end", "driver", "priority"];
 
-/// The columns that a header names.
+/// The columns that a header names, in any order, among others that aren't read.
 ///
 /// # Errors
 ///
-/// `BadColumn` of the first column with another name or with the name of an earlier one, `MissingColumn`.
+/// `DoubleColumn` of the first column with the name of an earlier one that is read, `MissingColumn`.
 pub fn columns_of(header: &ByteRecord) -> Result<Columns, LineFault> {
     let mut found = [None; 6];
     for place in 0..header.len() {
-        let name = header.get(place).unwrap_or(b"");
-        let is_new = find(&mut found, name.trim_ascii(), place);
-        if is_new.is_none() {
-            return Err(LineFault::BadColumn(place.saturating_add(1) as u64));
-        }
+        find(&mut found, header.get(place).unwrap_or(b""), place)?;
     }
     let [
         Some(arrival),
@@ -54,13 +51,34 @@ pub fn columns_of(header: &ByteRecord) -> Result<Columns, LineFault> {
     })
 }
 
-// None if no column has the name, or an earlier one has it.
-fn find(found: &mut [Option<usize>; 6], name: &[u8], place: usize) -> Option<()> {
-    let which = NAMES.iter().position(|column| column.as_bytes() == name)?;
-    let column = found.get_mut(which)?;
-    if column.is_some() {
-        return None;
+// Puts down the place of a column, if it is one that is read.
+fn find(found: &mut [Option<usize>; 6], name: &[u8], place: usize) -> Result<(), LineFault> {
+    let Some(which) = read_name(name) else {
+        return Ok(());
+    };
+    if let Some(column) = found.get_mut(which) {
+        if column.is_some() {
+            return Err(LineFault::DoubleColumn(place.saturating_add(1) as u64));
+        }
+        *column = Some(place);
     }
-    *column = Some(place);
-    Some(())
+    Ok(())
+}
+
+// Which of the columns that are read has this name.
+fn read_name(name: &[u8]) -> Option<usize> {
+    let name = name.trim_ascii();
+    NAMES.iter().position(|column| column.as_bytes() == name)
+}
+
+/// The names of the columns that aren't read.
+pub fn other_columns(alloc: Global, header: &ByteRecord) -> Result<Vec<String>, AllocError> {
+    let mut names = Vec::new(alloc);
+    for place in 0..header.len() {
+        let name = header.get(place).unwrap_or(b"");
+        if read_name(name).is_none() {
+            names.push(String::from_utf8_lossy(alloc, name.trim_ascii())?)?;
+        }
+    }
+    Ok(names)
 }

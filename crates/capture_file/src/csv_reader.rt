@@ -1,7 +1,7 @@
 //! Reads CSV with named columns.
 
 use crate::captured::{Capture, Counts};
-use crate::columns::{Columns, columns_of};
+use crate::columns::{Columns, columns_of, other_columns};
 use crate::csv_row::{CsvRow, csv_row};
 use crate::finishing::{Drivers, capture_of};
 use crate::line_fault::LineFault;
@@ -9,6 +9,7 @@ use crate::line_reader::LineReader;
 use crate::names::Names;
 use crate::options::{Options, Priorities, TimeUnit};
 use crate::priority::USUAL;
+use crate::quotes::are_quotes_whole;
 use crate::sizes::Sizes;
 use capture::TimedRequest;
 use csv::{ByteRecord, ReaderBuilder};
@@ -19,8 +20,8 @@ const BYTE_ORDER_MARK: &[u8] = b"\xef\xbb\xbf";
 
 /// Reads a CSV file, line by line: a header, then a request in each line.
 ///
-/// The header names the columns `arrival`, `start`, `end`, `device`, `driver` and `priority` in any order; `arrival`, `start` and
-/// `device` are needed. Times are decimal numbers of a unit, also with a fraction, of which the part below a nanosecond is
+/// The header names the columns `arrival`, `start`, `end`, `device`, `driver` and `priority` in any order, and others, which aren't
+/// read; `arrival`, `start` and `device` are needed. Times are decimal numbers of a unit, also with a fraction, of which the part below a nanosecond is
 /// dropped. A request with an empty start was never started. `end` may be empty and isn't used. With no driver a request is of
 /// the driver `driver`, with no priority it is as best effort of level 4. No field has an end of a line.
 #[derive(Drop)]
@@ -29,6 +30,7 @@ pub struct CsvReader<'a> {
     options: &'a Options,
     unit: TimeUnit,
     columns: Option<Columns>,
+    other_columns: Vec<String>,
     devices: Names,
     drivers: Drivers,
     requests: Vec<TimedRequest>,
@@ -43,6 +45,7 @@ impl<'a> CsvReader<'a> {
             options,
             unit,
             columns: None,
+            other_columns: Vec::new(alloc),
             devices: Names::new(alloc),
             drivers: Drivers::new(alloc),
             requests: Vec::new(alloc),
@@ -61,7 +64,7 @@ impl<'a> CsvReader<'a> {
             return Err(LineFault::MissingColumn);
         }
         let requests = self.requests;
-        capture_of(
+        let capture = capture_of(
             self.alloc,
             self.options,
             requests,
@@ -69,7 +72,27 @@ impl<'a> CsvReader<'a> {
             self.drivers.list(),
             &Sizes::new(self.alloc),
             self.counts,
-        )
+        )?;
+        Ok(Capture {
+            other_columns: self.other_columns,
+            ..capture
+        })
+    }
+
+    fn header(&mut self, row: &ByteRecord) -> Result<(), LineFault> {
+        self.columns = Some(columns_of(row)?);
+        self.other_columns = other_columns(self.alloc, row)?;
+        Ok(())
+    }
+
+    // A line after the header. One that isn't a request may be another header.
+    fn row(&mut self, columns: Columns, row: &ByteRecord) -> Result<(), LineFault> {
+        match self.request(columns, row) {
+            Err(fault) if fault != LineFault::OutOfMemory && columns_of(row).is_ok() => {
+                Err(LineFault::SecondHeader)
+            }
+            done => done,
+        }
     }
 
     fn request(&mut self, columns: Columns, row: &ByteRecord) -> Result<(), LineFault> {
@@ -84,7 +107,12 @@ impl<'a> CsvReader<'a> {
     }
 
     fn add(&mut self, row: CsvRow<'_>, device: &[u8]) -> Result<(), LineFault> {
-        let (driver, own) = self.drivers.number(self.options, row.driver)?;
+        // What arrives at other times is left out, and so are its drivers.
+        let (driver, own) = if self.options.takes_time(row.arrival) {
+            self.drivers.number(self.options, row.driver)?
+        } else {
+            (0, None)
+        };
         let device = self.device(device)?;
         let priority = own.unwrap_or(usual_priority(self.options.priorities, row.priority));
         self.requests.push(TimedRequest {
@@ -103,7 +131,7 @@ impl<'a> CsvReader<'a> {
             Some(number) => number,
             None => self.devices.add(name)?,
         };
-        u32::try_from(number).map_err(|_| LineFault::TooManyDevices)
+        u32::try_from(number).map_err(|_| LineFault::TooManyDevices(number))
     }
 }
 
@@ -112,23 +140,17 @@ impl LineReader for CsvReader<'_> {
     ///
     /// # Errors
     ///
-    /// `BadColumn` and `MissingColumn` of the header; `BadRecord`, `BadNumber`, `StartedEarly` and `TooManyDrivers` of the other
-    /// lines; `OutOfMemory`.
+    /// `DoubleColumn` and `MissingColumn` of the header; `SecondHeader`, `BadRecord`, `BadNumber`, `StartedEarly` and
+    /// `TooManyDrivers` of the other lines; `BadQuotes`; `OutOfMemory`.
     fn take(&mut self, line: &[u8]) -> Result<(), LineFault> {
         self.counts.lines = self.counts.lines.saturating_add(1);
         if line.trim_ascii().is_empty() {
             return Ok(());
         }
-        if line.contains(&b'\r') {
-            return Err(LineFault::BadRecord);
-        }
         let row = row_of(self.alloc, line)?;
         match self.columns {
-            Some(columns) => self.request(columns, &row),
-            None => {
-                self.columns = Some(columns_of(&row)?);
-                Ok(())
-            }
+            Some(columns) => self.row(columns, &row),
+            None => self.header(&row),
         }
     }
 
@@ -138,16 +160,14 @@ impl LineReader for CsvReader<'_> {
 }
 
 fn row_of(alloc: Global, line: &[u8]) -> Result<ByteRecord, LineFault> {
-    if is_plain(line) {
+    let line = line.strip_prefix(BYTE_ORDER_MARK).unwrap_or(line);
+    if !line.contains(&b'"') {
         Ok(plain_row(alloc, line)?)
-    } else {
+    } else if are_quotes_whole(line) {
         quoted_row(alloc, line)
+    } else {
+        Err(LineFault::BadQuotes)
     }
-}
-
-// Whether a line has no quote and no byte order mark: then commas alone part its fields.
-fn is_plain(line: &[u8]) -> bool {
-    !line.contains(&b'"') && !line.starts_with(BYTE_ORDER_MARK)
 }
 
 fn plain_row(alloc: Global, line: &[u8]) -> Result<ByteRecord, AllocError> {

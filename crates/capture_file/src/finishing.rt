@@ -84,13 +84,14 @@ pub fn capture_of(
     count_requests(&mut counts, &requests);
     let devices = used_names(alloc, devices, &used_devices)?;
     if devices.len() > MOST_DEVICES {
-        return Err(LineFault::TooManyDevices);
+        return Err(LineFault::TooManyDevices(devices.len()));
     }
     Ok(Capture {
         requests,
         devices,
         drivers: used_names(alloc, drivers, &used_drivers)?,
         uneven: uneven_devices(alloc, &used_devices, sizes)?,
+        other_columns: Vec::new(alloc),
         counts,
     })
 }

@@ -14,7 +14,7 @@ pub enum IologVersion {
 }
 
 /// What a request does.
-#[derive(Clone, Copy, PartialEq, Eq, Hash)]
+#[derive(Clone, Copy, PartialEq, Eq, PartialOrd, Ord)]
 pub enum Direction {
     Read,
     Write,
@@ -43,7 +43,7 @@ const ACTIONS: [(&str, IologAction); 10] = [
 ];
 
 /// What joins a line of an iolog and a record of a latency log.
-#[derive(Clone, Copy, PartialEq, Eq, Hash)]
+#[derive(Clone, Copy, PartialEq, Eq, PartialOrd, Ord)]
 pub struct Piece {
     pub direction: Direction,
     pub bytes: u64,

@@ -24,6 +24,13 @@ enum FileKind {
     LatencyLog(usize),
 }
 
+// The files of a job: which one was the first, and whether one came after its iolog.
+#[derive(Clone, Copy)]
+struct JobFiles {
+    first: usize,
+    has_log: bool,
+}
+
 /// Reads fio's iologs and latency logs, file by file and line by line.
 ///
 /// A file is an iolog if its first line is `fio version 2 iolog` or `fio version 3 iolog`, else a latency log. A job's iolog
@@ -39,6 +46,8 @@ pub struct FioReader<'a> {
     drivers: Drivers,
     job_names: Names,
     jobs: Vec<Option<Job>>,
+    job_files: Vec<JobFiles>,
+    files: usize,
     file: FileKind,
     counts: Counts,
 }
@@ -53,6 +62,8 @@ impl<'a> FioReader<'a> {
             drivers: Drivers::new(alloc),
             job_names: Names::new(alloc),
             jobs: Vec::new(alloc),
+            job_files: Vec::new(alloc),
+            files: 0,
             file: FileKind::None,
             counts: Counts::default(),
         }
@@ -67,13 +78,45 @@ impl<'a> FioReader<'a> {
         let name = job_name(path.as_bytes());
         let job = match self.job_names.number_of(name) {
             Some(job) => job,
-            None => {
-                self.jobs.push(None)?;
-                self.job_names.add(name)?
-            }
+            None => self.add_job(name)?,
         };
+        let has_iolog = matches!(self.jobs.get(job), Some(Some(_)));
+        if let Some(files) = self.job_files.get_mut(job) {
+            files.has_log = has_iolog;
+        }
+        self.files = self.files.saturating_add(1);
         self.file = FileKind::Begun(job);
         Ok(())
+    }
+
+    fn add_job(&mut self, name: &[u8]) -> Result<usize, AllocError> {
+        self.jobs.push(None)?;
+        self.job_files.push(JobFiles {
+            first: self.files,
+            has_log: false,
+        })?;
+        self.job_names.add(name)
+    }
+
+    /// Whether the file that was begun last may have no lines: it is the latency log of a job whose iolog came.
+    pub fn may_be_empty(&self) -> bool {
+        match self.file {
+            FileKind::Begun(job) => matches!(self.jobs.get(job), Some(Some(_))),
+            _ => false,
+        }
+    }
+
+    /// The place among the files, from 0 on, of the first iolog that has requests and no latency log of its job after it.
+    pub fn lacks_log(&self) -> Option<usize> {
+        for (job, files) in self.jobs.iter().zip(self.job_files.iter()) {
+            if let Some(job) = job
+                && !job.requests.is_empty()
+                && !files.has_log
+            {
+                return Some(files.first);
+            }
+        }
+        None
     }
 
     /// What was read.
@@ -169,7 +212,7 @@ impl<'a> FioReader<'a> {
             Some(number) => number,
             None => self.devices.add(name)?,
         };
-        u32::try_from(number).map_err(|_| LineFault::TooManyDevices)
+        u32::try_from(number).map_err(|_| LineFault::TooManyDevices(number))
     }
 
     fn record(&mut self, job: usize, line: &[u8]) -> Result<(), LineFault> {

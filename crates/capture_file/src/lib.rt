@@ -31,5 +31,6 @@ mod number;
 mod options;
 mod priority;
 mod queues;
+mod quotes;
 mod sizes;
 mod words;

@@ -58,11 +58,11 @@ pub enum LineFault {
     #[error("the {0} isn't a number in its range")]
     BadNumber(Field),
     /// The line names one driver more than there may be.
-    #[error("more than 256 drivers")]
+    #[error("a 257th driver, and a recording has at most 256: take fewer requests by --device or --to-time")]
     TooManyDrivers,
-    /// The requests have more devices than there may be. Only the end of the input has this fault.
-    #[error("more than 32 devices: pick some by --device, or several as one")]
-    TooManyDevices,
+    /// The requests have so many devices: more than there may be. Only the end of the input has this fault.
+    #[error("{0} devices, and a recording has at most 32: pick some by --device, or several as one")]
+    TooManyDevices(usize),
     /// The line isn't one of an iolog.
     #[error("not a line of an iolog")]
     NotAnAction,
@@ -84,15 +84,24 @@ pub enum LineFault {
     /// No file was begun.
     #[error("no file was begun")]
     NoFile,
-    /// The header of a CSV file has a column of another name, or the same name twice. Columns are numbered from 1.
-    #[error("column {0} is not one of arrival, start, end, device, driver and priority, or is there twice")]
-    BadColumn(u64),
+    /// The header of a CSV file names a column twice that is read. Columns are numbered from 1.
+    #[error("column {0} has the name of an earlier one: leave one of them out")]
+    DoubleColumn(u64),
     /// The header of a CSV file lacks a column that is needed.
     #[error("a column is missing: arrival, start and device are needed")]
     MissingColumn,
     /// The record hasn't as many fields as the header.
     #[error("not as many fields as the header has columns")]
     BadRecord,
+    /// The line names the columns again.
+    #[error("a second header: leave it out, or import each table by itself")]
+    SecondHeader,
+    /// A quoted field has no end, or goes on after its end.
+    #[error("a quote that doesn't end, or ends before its field does: a quote inside a quoted field is written twice")]
+    BadQuotes,
+    /// A carriage return stands inside the line.
+    #[error("a carriage return inside the line: end lines with a line feed, with or without a carriage return before it")]
+    CarriageReturn,
     /// The request was started before it arrived.
     #[error("the start is before the arrival")]
     StartedEarly,

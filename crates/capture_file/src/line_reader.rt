@@ -1,7 +1,9 @@
 //! Feeds a reader of captures line by line.
 
 use crate::line_fault::LineFault;
+use memchr::memchr;
 use std::alloc::{AllocError, Global};
+use std::io;
 use std::io::Read;
 use thiserror::Error;
 
@@ -21,36 +23,43 @@ pub trait LineReader {
 }
 
 /// Why an input wasn't read to its end.
-#[derive(Clone, Copy, Debug, PartialEq, Eq, Error)]
+#[derive(Clone, Copy, Debug, Error)]
 pub enum ReadFault {
     /// The line of this number, from 1 on, is refused.
     #[error("line {0}: {1}")]
     Line(u64, LineFault),
+    /// The input has no line, blank ones aside.
+    #[error("there is nothing in it: capture again, and see what the tool says on standard error")]
+    Empty,
     /// A read failed.
     #[error("read failed")]
-    ReadFailed,
+    ReadFailed(io::Error),
     /// There is no memory left.
     #[error("out of memory")]
     OutOfMemory,
 }
 
-/// Feeds the lines of an input to a reader. A line ends with a line feed, or with a carriage return and a line feed; the last one
-/// may lack its end. Besides what the reader keeps this takes 128 KiB.
+/// Feeds the lines of an input to a reader, and answers whether there was one that isn't blank. A line ends with a line feed, or
+/// with a carriage return and a line feed; the last one may lack its end. Besides what the reader keeps this takes 128 KiB. If a
+/// line is refused, `line` has it, or its first 65,536 bytes.
 ///
 /// # Errors
 ///
-/// `Line` with the first line that is refused. If `lenient`, such lines are counted and left out. `ReadFailed` if a read fails,
-/// `OutOfMemory` if no memory is left, lenient or not.
+/// `Line` with the first line that is refused: also one that has a carriage return inside, or more than 65,536 bytes, which isn't
+/// read to its end. If `lenient`, such lines are counted and left out. `ReadFailed` if a read fails, `OutOfMemory` if no memory is
+/// left, lenient or not.
 pub fn read_lines<R: Read, T: LineReader>(
     alloc: Global,
     input: &mut R,
     lenient: bool,
     reader: &mut T,
-) -> Result<(), ReadFault> {
+    line: &mut Vec<u8>,
+) -> Result<bool, ReadFault> {
     let Ok(mut chunk) = vec![in alloc; 0u8; CHUNK] else {
         return Err(ReadFault::OutOfMemory);
     };
-    let mut lines = Lines::new(alloc, lenient);
+    line.clear();
+    let mut lines = Lines::new(line, lenient);
     for _ in 0..u64::MAX {
         let count = read_some(input, chunk.as_mut_slice())?;
         if count == 0 {
@@ -64,26 +73,28 @@ pub fn read_lines<R: Read, T: LineReader>(
 fn read_some<R: Read>(input: &mut R, chunk: &mut [u8]) -> Result<usize, ReadFault> {
     match input.read(chunk) {
         Ok(count) => Ok(count),
-        Err(_) => Err(ReadFault::ReadFailed),
+        Err(error) => Err(ReadFault::ReadFailed(error)),
     }
 }
 
-// The line that is being put together, and how many came before it.
+// The line that is being put together, how many came before it, and whether one of them isn't blank.
 #[derive(Drop)]
-struct Lines {
-    line: Vec<u8>,
+struct Lines<'a> {
+    line: &'a mut Vec<u8>,
     too_long: bool,
     before: u64,
     lenient: bool,
+    has_text: bool,
 }
 
-impl Lines {
-    fn new(alloc: Global, lenient: bool) -> Lines {
+impl<'a> Lines<'a> {
+    fn new(line: &'a mut Vec<u8>, lenient: bool) -> Lines<'a> {
         Lines {
-            line: Vec::new(alloc),
+            line,
             too_long: false,
             before: 0,
             lenient,
+            has_text: false,
         }
     }
 
@@ -97,41 +108,65 @@ impl Lines {
             if self.add(piece).is_err() {
                 return Err(ReadFault::OutOfMemory);
             }
+            if self.too_long && !self.lenient {
+                return Err(ReadFault::Line(self.number(), LineFault::TooLong));
+            }
         }
         Ok(())
     }
 
+    fn number(&self) -> u64 {
+        self.before.saturating_add(1)
+    }
+
     fn add(&mut self, piece: &[u8]) -> Result<(), AllocError> {
-        if self.line.len().saturating_add(piece.len()) > MOST_LINE_BYTES {
+        let room = MOST_LINE_BYTES.saturating_sub(self.line.len());
+        if piece.len() > room {
             self.too_long = true;
-            return Ok(());
         }
-        self.line.extend_from_slice(piece)
+        self.line
+            .extend_from_slice(piece.get(..room).unwrap_or(piece))
     }
 
     fn end_line<T: LineReader>(&mut self, reader: &mut T) -> Result<(), ReadFault> {
         let answer = if self.too_long {
             Err(LineFault::TooLong)
         } else {
-            reader.take(without_return(&self.line))
+            take_line(reader, without_return(self.line.as_slice()))
         };
+        match answer {
+            Ok(is_blank) => self.has_text = self.has_text || !is_blank,
+            Err(LineFault::OutOfMemory) => return Err(ReadFault::OutOfMemory),
+            Err(_) if self.lenient => self.pass(reader),
+            Err(fault) => return Err(ReadFault::Line(self.number(), fault)),
+        }
         self.line.clear();
         self.too_long = false;
-        self.before = self.before.saturating_add(1);
-        match answer {
-            Ok(()) => Ok(()),
-            Err(LineFault::OutOfMemory) => Err(ReadFault::OutOfMemory),
-            Err(_) if self.lenient => Ok(reader.count_refused()),
-            Err(fault) => Err(ReadFault::Line(self.before, fault)),
-        }
+        self.before = self.number();
+        Ok(())
     }
 
-    fn finish<T: LineReader>(mut self, reader: &mut T) -> Result<(), ReadFault> {
-        if self.line.is_empty() && !self.too_long {
-            return Ok(());
-        }
-        self.end_line(reader)
+    // Passes a line that is refused.
+    fn pass<T: LineReader>(&mut self, reader: &mut T) {
+        reader.count_refused();
+        self.has_text = true;
     }
+
+    fn finish<T: LineReader>(mut self, reader: &mut T) -> Result<bool, ReadFault> {
+        if !self.line.is_empty() || self.too_long {
+            self.end_line(reader)?;
+        }
+        Ok(self.has_text)
+    }
+}
+
+// Gives a line to the reader, and answers whether it is blank.
+fn take_line<T: LineReader>(reader: &mut T, line: &[u8]) -> Result<bool, LineFault> {
+    if memchr(b'\r', line).is_some() {
+        return Err(LineFault::CarriageReturn);
+    }
+    reader.take(line)?;
+    Ok(line.trim_ascii_start().is_empty())
 }
 
 fn without_return(line: &[u8]) -> &[u8] {

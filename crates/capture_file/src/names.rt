@@ -1,14 +1,14 @@
 //! Names, numbered by first appearance.
 
 use std::alloc::{AllocError, Global};
-use std::collections::HashMap;
+use std::collections::BTreeMap;
 
 /// Names, numbered from 0 on in the order in which they came.
 #[derive(Drop)]
 pub struct Names {
     alloc: Global,
     list: Vec<Vec<u8>>,
-    numbers: HashMap<Vec<u8>, usize>,
+    numbers: BTreeMap<Vec<u8>, usize>,
 }
 
 impl Names {
@@ -17,7 +17,7 @@ impl Names {
         Names {
             alloc,
             list: Vec::new(alloc),
-            numbers: HashMap::new(alloc),
+            numbers: BTreeMap::new(alloc),
         }
     }
 

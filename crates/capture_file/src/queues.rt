@@ -2,8 +2,7 @@
 
 use slab::Slab;
 use std::alloc::{AllocError, Global};
-use std::collections::HashMap;
-use std::hash::Hash;
+use std::collections::BTreeMap;
 
 #[derive(Clone, Copy)]
 struct Ends {
@@ -17,18 +16,19 @@ struct Link {
     next: Option<usize>,
 }
 
-/// A queue of numbers for each key, first in first out. Each call takes constant time.
+/// A queue of numbers for each key, first in first out. A call takes a time that grows as the logarithm of the number of keys,
+/// whatever the keys are.
 #[derive(Drop)]
-pub struct Queues<K: Copy + Eq + Hash + Drop> {
-    ends: HashMap<K, Ends>,
+pub struct Queues<K: Copy + Ord + Drop> {
+    ends: BTreeMap<K, Ends>,
     links: Slab<Link>,
 }
 
-impl<K: Copy + Eq + Hash + Drop> Queues<K> {
+impl<K: Copy + Ord + Drop> Queues<K> {
     /// Empty queues.
     pub fn new(alloc: Global) -> Queues<K> {
         Queues {
-            ends: HashMap::new(alloc),
+            ends: BTreeMap::new(alloc),
             links: Slab::new(alloc),
         }
     }

@@ -1,4 +1,4 @@
-//! A recording that is made item by item, and written.
+//! A recording that is made item by item and written, and a text that is too long for one.
 
 ghost use Rattle.std.specs.Prelude.{◌≡◌, [], IfOk};
 ghost use Rattle.cam_types.specs.Topology.{IsConfig, Topology};
@@ -6,8 +6,8 @@ ghost use Rattle.cam_types.specs.Topology.{IsConfig, Topology};
 use crate::events::device;
 use cam_types::{Config, Watched};
 use recording_file::{
-    Cap, Name, NameKind, Part, PartKind, Recorder, Recording, Request, Span, TimeUnit,
-    one_recording, write_recording,
+    Cap, Name, NameKind, Part, PartKind, Recorder, Recording, RecordingFault, Request, Span,
+    TimeUnit, one_recording, read_recording, write_recording,
 };
 use std::alloc::Global;
 use std::test::Fail;
@@ -109,5 +109,23 @@ fn writes_what_was_recorded(rt: HostRuntime) -> Result<(), Fail> {
     let mut text = Vec::new(rt.alloc());
     write_recording(rt.alloc(), &recording, &mut Watched::new(&mut text))?;
     assert_eq!(rt; text.as_slice(), TEXT.as_bytes());
+    Ok(())
+}
+
+// A text that isn't headed as a recording may have 16,777,216 bytes.
+#[test]
+fn a_byte_too_many_is_too_long(rt: HostRuntime) -> Result<(), Fail> {
+    let alloc = rt.alloc();
+    for (size, due) in [
+        (16_777_216, RecordingFault::BadHeader),
+        (16_777_217, RecordingFault::TooLong),
+    ] {
+        let text = vec![in alloc; 0u8; size]?;
+        let answer = match read_recording(alloc, &mut Watched::new(text.as_slice())) {
+            Ok(_) => None,
+            Err(fault) => Some(fault),
+        };
+        assert_eq!(rt; answer, Some(due), "{size} bytes");
+    }
     Ok(())
 }

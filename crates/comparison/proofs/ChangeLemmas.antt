@@ -1,6 +1,6 @@
 -- what changed most, row by row
-use Rattle.std.proofs.Common.{◌≡◌, ℕ, ◌+◌, ◌<◌, ◌≤◌, Bool, true, false, List, [], ◌∷◌, ◌++◌, refl, sym, ap, subst, ◌∙◌, arith, nat_lt, None, Some}
-use Rattle.std.specs.Prelude.{All, Contains, Option}
+use Rattle.std.proofs.Common.{◌≡◌, ◌<◌, ◌≤◌, Bool, true, false, List, [], ◌∷◌, ◌++◌, refl, sym, subst, arith, nat_lt, None, Some}
+use Rattle.std.specs.Prelude.{All, Option}
 use Rattle.std.proofs.lemmas.Bool.Decides.{nat_tests}
 use Rattle.std.proofs.lemmas.List.Elements.{All-push, All-weaker, Contains-push, Contains-append_left}
 use Rattle.comparison.specs.Pairs.{PairedRow}
@@ -39,4 +39,4 @@ most_more rows r m h = chosen rows r m (nat_lt (change_of m) (change r)) refl h
 
 -- one row
 abbrev pub blank : PairedRow
-blank = record { number = 0; before = None; after = None }
+blank = record { before = None; after = None }

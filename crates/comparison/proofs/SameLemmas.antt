@@ -1,6 +1,6 @@
 -- what the tests of equality say of rows of weights, adapters and devices
 use lib.Pointwise.{pointwise}
-use Rattle.std.proofs.Common.{◌≡◌, ◌≢◌, ℕ, Bool, true, false, not, List, refl, sym, ap, subst, ◌∙◌, nat_eq, ◌&&◌, eqb-true, eq-eqb, None, Some}
+use Rattle.std.proofs.Common.{◌≡◌, ℕ, Bool, true, false, not, List, refl, sym, ap, subst, ◌∙◌, nat_eq, ◌&&◌, eqb-true, eq-eqb, None, Some}
 use Rattle.std.specs.Prelude.{Decides, Option}
 use Rattle.std.specs.Option.{option_eq}
 use Rattle.std.proofs.lemmas.Bool.{and_parts}

@@ -1,12 +1,12 @@
 -- what changed most
 use Rattle.std.specs.Prelude.{◌≡◌, ℕ, ◌+◌, ◌-◌, ◌≤◌, ◌<◌, if◌then◌else◌, nat_lt, List, Option, Some, None, All, Contains}
-use Rattle.wait_causes.specs.declared.part.Part.{Part}
+use Rattle.wait_causes.specs.declared.table.Row.{Row}
 use Rattle.comparison.specs.Pairs.{PairedRow}
 
--- the weighted rounds of a part, and 0 of none
-abbrev pub live_of : Option Part → ℕ
+-- the weighted rounds of a row, and 0 of none
+abbrev pub live_of : Option Row → ℕ
 live_of None = 0
-live_of (Some p) = p.live
+live_of (Some r) = r.part.live
 
 -- by how much they changed, to less or to more
 abbrev pub change : PairedRow → ℕ

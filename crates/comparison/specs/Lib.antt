@@ -1,3 +1,4 @@
+pub mod Keys
 pub mod Pairs
 pub mod Changes
 pub mod PairLaws

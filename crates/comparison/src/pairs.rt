@@ -1,21 +1,24 @@
 //! The rows of two tables side by side.
 
-ghost use Rattle.std.specs.Prelude.{◌≡◌, ◌≤◌, ◌^◌, ◌++◌, option_to_list, IfOk};
+ghost use Rattle.std.specs.Prelude.{◌≡◌, ◌≤◌, ◌^◌, ◌++◌, find, IfOk};
+ghost use Rattle.std.specs.List.{list_any};
 ghost use Rattle.comparison.specs.Changes.{live_of, change, change_of, more_changed, IsMostChanged};
-ghost use Rattle.comparison.specs.Pairs.{numbers, part_at, pair_for, paired};
+ghost use Rattle.comparison.specs.Keys.{is_pair};
+ghost use Rattle.comparison.specs.Pairs.{numbers, row_at, pair_of, alone, paired};
+ghost use Rattle.wait_causes.specs.declared.table.Row.{Row as TableRow};
 
+use crate::keys::is_pair;
+use recording_file::{Name, NameKind};
 use std::alloc::{AllocError, Global};
-use wait_causes::{Part, Row};
+use wait_causes::Row;
 
-/// What the stays of a number waited before a change, and after it.
+/// What the stays of an adapter, device, driver or run level waited before a change, and after it.
 #[derive(Clone, Copy, Debug, PartialEq, Eq)]
 pub struct PairedRow {
-    /// The number of the adapter, device, driver or run level.
-    pub number: u32,
-    /// What its stays waited before; none if it had no stay.
-    pub before: Option<Part>,
-    /// What its stays waited after; none if it had no stay.
-    pub after: Option<Part>,
+    /// Its row before; none if it had no stay, or nothing before is called so.
+    pub before: Option<Row>,
+    /// Its row after; none if it had no stay, or nothing after is called so.
+    pub after: Option<Row>,
 }
 
 impl PairedRow {
@@ -32,32 +35,82 @@ impl PairedRow {
     }
 }
 
-// The weighted rounds of a part, and 0 of none.
-fn live_of(part: &Option<Part>) -> u64
-    ensures { result ≡ live_of part.now }
+// The weighted rounds of a row, and 0 of none.
+fn live_of(row: &Option<Row>) -> u64
+    ensures { result ≡ live_of row.now }
 {
-    match part {
-        Some(part) => part.live,
+    match row {
+        Some(row) => row.part.live,
         None => 0,
     }
 }
 
-/// A row for each number of which the table before or the one after has a row, in ascending order.
-pub fn paired(alloc: Global, before: &[Row], after: &[Row]) -> Result<Vec<PairedRow>, AllocError>
-    ensures { IfOk result (λ rows. rows.items ≡ paired before.now after.now) }
+/// The rows of the table before and of the one after, each in one pair, by ascending number: that before, and where it stands
+/// alone that after; of one number that before first. Rows are a pair if they are called the same by the names of this kind, of
+/// several that are called so in the order of their numbers; or if neither has a name and they have one number. Without a kind
+/// they are a pair if they have one number.
+pub fn paired(
+    alloc: Global,
+    by: Option<NameKind>,
+    names_before: &[Name],
+    names_after: &[Name],
+    before: &[Row],
+    after: &[Row],
+) -> Result<Vec<PairedRow>, AllocError>
+    ensures { IfOk result (λ rows. rows.items ≡ paired (is_pair by names_before.now names_after.now) before.now after.now) }
 {
     let count = numbers(before).max(numbers(after));
     let mut rows = Vec::new(alloc);
     for number in 0..count {
         let number = number as u32;
-        push_pair(
-            &mut rows,
-            number,
-            part_at(before, number),
-            part_at(after, number),
-        )?;
+        let (row, other) = (row_at(before, number), row_at(after, number));
+        push_pair(&mut rows, by, names_before, names_after, row, after)?;
+        push_alone(&mut rows, by, names_before, names_after, before, other)?;
     }
     Ok(rows)
+}
+
+// Puts a row before after the others, beside the row after that is a pair with it.
+fn push_pair(
+    rows: &mut Vec<PairedRow>,
+    by: Option<NameKind>,
+    names_before: &[Name],
+    names_after: &[Name],
+    row: Option<Row>,
+    after: &[Row],
+) -> Result<(), AllocError>
+    ensures { IfOk result (λ _. rows.new.items ≡ rows.old.items ++ pair_of (is_pair by names_before.now names_after.now) after.now row) }
+{
+    if let Some(row) = row {
+        let after = partner_of(by, names_before, names_after, &row, after);
+        rows.push(PairedRow {
+            before: Some(row),
+            after,
+        })?;
+    }
+    Ok(())
+}
+
+// Puts a row after after the others, if no row before is a pair with it.
+fn push_alone(
+    rows: &mut Vec<PairedRow>,
+    by: Option<NameKind>,
+    names_before: &[Name],
+    names_after: &[Name],
+    before: &[Row],
+    row: Option<Row>,
+) -> Result<(), AllocError>
+    ensures { IfOk result (λ _. rows.new.items ≡ rows.old.items ++ alone (is_pair by names_before.now names_after.now) before.now row) }
+{
+    if let Some(row) = row
+        && !has_partner(by, names_before, names_after, before, &row)
+    {
+        rows.push(PairedRow {
+            before: None,
+            after: Some(row),
+        })?;
+    }
+    Ok(())
 }
 
 // One more than the greatest number of these rows, and 0 of none.
@@ -73,42 +126,39 @@ fn numbers(rows: &[Row]) -> usize
     most
 }
 
-// The part of this number, if there is a row of it.
-fn part_at(rows: &[Row], number: u32) -> Option<Part>
-    ensures { result ≡ part_at rows.now number }
+// The row of this number, if there is one.
+fn row_at(rows: &[Row], number: u32) -> Option<Row>
+    ensures { result ≡ row_at rows.now number }
 {
-    let row = rows.iter().find(|row| row.number == number)?;
-    Some(row.part)
+    rows.iter().copied().find(|row| row.number == number)
 }
 
-// Puts the row of a number after the others, if there is a part of it.
-fn push_pair(
-    rows: &mut Vec<PairedRow>,
-    number: u32,
-    before: Option<Part>,
-    after: Option<Part>,
-) -> Result<(), AllocError>
-    ensures { IfOk result (λ _. rows.new.items ≡ rows.old.items ++ pair_for number before after) }
+// The row after that is a pair with this one before, if there is one.
+fn partner_of(
+    by: Option<NameKind>,
+    names_before: &[Name],
+    names_after: &[Name],
+    row: &Row,
+    after: &[Row],
+) -> Option<Row>
+    ensures { result ≡ find (λ (s : TableRow). is_pair by names_before.now names_after.now row.now.number s.number) after.now }
 {
-    if let Some(row) = pair_for(number, before, after) {
-        rows.push(row)?;
-    }
-    Ok(())
+    let number = row.number;
+    after.iter().copied().find(|other| is_pair(by, names_before, names_after, number, other.number))
 }
 
-// The row of a number's parts, if there is one of them.
-#[tactic(auto, unfolding(crate::specs::Pairs::pair_for))]
-fn pair_for(number: u32, before: Option<Part>, after: Option<Part>) -> Option<PairedRow>
-    ensures { option_to_list result ≡ pair_for number before after }
+// Whether a row before is a pair with this one after.
+fn has_partner(
+    by: Option<NameKind>,
+    names_before: &[Name],
+    names_after: &[Name],
+    before: &[Row],
+    row: &Row,
+) -> bool
+    ensures { result ≡ list_any (λ (r : TableRow). is_pair by names_before.now names_after.now r.number row.now.number) before.now }
 {
-    match (before, after) {
-        (None, None) => None,
-        (before, after) => Some(PairedRow {
-            number,
-            before,
-            after,
-        }),
-    }
+    let number = row.number;
+    before.iter().any(|other| is_pair(by, names_before, names_after, other.number, number))
 }
 
 /// The row whose stays' weighted rounds changed most, to less or to more; of equal ones the first. None if none changed.

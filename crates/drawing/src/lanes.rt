@@ -1,53 +1,68 @@
 //! Lanes of bars: stays that are drawn side by side don't cover one another.
 
+use crate::slots::{Slots, by_arrival};
 use std::alloc::{AllocError, Global};
 use wait_causes::ExplainedStay;
 
 /// A lane.
 #[derive(Drop)]
 pub(crate) struct Lane {
-    // The last round that is taken.
-    end: u32,
     /// The places of its stays.
     pub(crate) places: Vec<usize>,
 }
 
-/// The lanes of the device's stays at these places: each has the first lane that is free from its arrival to its last mark.
+/// The lanes of the device's stays at these places: in the order in which they arrived each has the first lane that is free
+/// from its arrival to its last mark.
 pub(crate) fn lanes_of(
     alloc: Global,
     stays: &[ExplainedStay],
     places: &[usize],
     device: u32,
 ) -> Result<Vec<Lane>, AllocError> {
+    let mut slots = Slots::new(alloc);
     let mut lanes = Vec::new(alloc);
-    for place in places {
-        if let Some(stay) = stays.get(*place)
-            && stay.device == device
-        {
-            put(alloc, &mut lanes, *place, stay)?;
+    let here = places_at(alloc, stays, places, device)?;
+    for place in &by_arrival(alloc, stays, &here)? {
+        if let Some(stay) = stays.get(*place) {
+            let slot = slots.take(stay.arrival, stay.live.max(stay.best))?;
+            put(alloc, &mut lanes, slot as usize, *place)?;
         }
     }
     Ok(lanes)
 }
 
-// Puts the stay into the first lane that is free, or a new one.
+// Those of these places at which a stay of the device is.
+fn places_at(
+    alloc: Global,
+    stays: &[ExplainedStay],
+    places: &[usize],
+    device: u32,
+) -> Result<Vec<usize>, AllocError> {
+    let mut here = Vec::new(alloc);
+    for place in places {
+        if let Some(stay) = stays.get(*place)
+            && stay.device == device
+        {
+            here.push(*place)?;
+        }
+    }
+    Ok(here)
+}
+
+// Puts the stay into the lane of this number, or into a new one behind the last.
 fn put(
     alloc: Global,
     lanes: &mut Vec<Lane>,
+    number: usize,
     place: usize,
-    stay: &ExplainedStay,
 ) -> Result<(), AllocError> {
-    let end = stay.live.max(stay.best);
-    for lane in lanes.iter_mut() {
-        if lane.end < stay.arrival {
-            lane.end = end;
-            lane.places.push(place)?;
-            return Ok(());
-        }
+    if let Some(lane) = lanes.get_mut(number) {
+        lane.places.push(place)?;
+        return Ok(());
     }
     let mut places = Vec::new(alloc);
     places.push(place)?;
-    lanes.push(Lane { end, places })?;
+    lanes.push(Lane { places })?;
     Ok(())
 }
 

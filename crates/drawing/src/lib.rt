@@ -22,6 +22,7 @@ mod order;
 mod overview;
 mod section;
 mod shades;
+mod slots;
 mod stretch;
 mod style;
 mod summary;

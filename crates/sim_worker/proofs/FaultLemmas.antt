@@ -9,6 +9,7 @@ use Rattle.xpt_lock.specs.declared.fault.GatherFault.{GatherFault}
 use Rattle.xpt_lock.specs.Receipts.{all_receipts, naming}
 use Rattle.xpt_lock.specs.declared.fault.GatherFault.TheVariants as gathers
 use Rattle.sim_worker.specs.Words.{AreInterleaved, IsPast, due_of, Past, Scenario, Held, Receipt, Event}
+use Rattle.sim_worker.specs.Ports.{Served}
 use Rattle.sim_worker.specs.Faults.{IsFailing, IsLiveFault, IsSeatless, IsUnjudged, IsUnstarted, as_live, IsNaming, IsNoRun, LiveFault, Mismatch, Unnamed, NoThread, OutOfMemory}
 
 -- no receipt names the place, of one list and then of another
@@ -28,22 +29,24 @@ past_none : (es : List Event) (place : ℕ) → place ≡ length es - 1 → (pla
 past_none [] place last never = refl
 past_none (e ∷ es) place last never = absurd (never (omega arith))
 
-nothing : (s : Scenario) (h : Past) (logs : List Held) (place : ℕ) → IsFailing s h logs place → (place < length h.events → ⊥) → h.events ≡ []
-nothing s h logs place fails never = elim fails [
-  | inl (inl here) ↦ absurd (never here.0)
-  | inl (inr last) ↦ past_none h.events place last.0 never
-  | inr last ↦ past_none h.events place last.0 never
+nothing : (s : Scenario) (h : Past) (logs : List Held) (served : List (List Served)) (place : ℕ) → IsFailing s h logs served place → (place < length h.events → ⊥) → (h.events ≡ []) × (place ≡ 0)
+nothing s h logs served place fails never = elim fails [
+  | inl (inl here) ↦ absurd (never here.there)
+  | inl (inr last) ↦ at_first (past_none h.events place last.0 never) last.0
+  | inr last ↦ at_first (past_none h.events place last.0 never) last.0
 ]
+  where
+    at_first : h.events ≡ [] → place ≡ length h.events - 1 → (h.events ≡ []) × (place ≡ 0)
+    at_first none last = (none, last ∙ ap (λ (es : List Event). length es - 1) none)
 
 -- the fault that names where a comparison fails
-pub no_run : (s : Scenario) (h : Past) (logs : List Held) (place : ℕ) (fault : LiveFault) → AreInterleaved (due_of h) logs → IsFailing s h logs place → IsNaming logs place fault → IsNoRun s h logs fault
-no_run s h logs place (Mismatch r) fit fails named = (named.1, subst (IsFailing s h logs) (sym named.0) fails)
-no_run s h logs place (Unnamed first) fit fails named = (
-  named.0,
-  nothing s h logs place fails (λ lt. let one = fit.all_named place (omega (arith, lt, length_receipts_of h.config h.events)) in let none = named.1 in absurd (omega arith)),
-)
-no_run s h logs place NoThread fit fails named = absurd named
-no_run s h logs place OutOfMemory fit fails named = absurd named
+pub no_run : (s : Scenario) (h : Past) (logs : List Held) (served : List (List Served)) (place : ℕ) (fault : LiveFault) → AreInterleaved (due_of h) logs → IsFailing s h logs served place → IsNaming logs place fault → IsNoRun s h logs served fault
+no_run s h logs served place (Mismatch r) fit fails named = (named.1, subst (IsFailing s h logs served) (sym named.0) fails)
+no_run s h logs served place (Unnamed first) fit fails named =
+    let none = nothing s h logs served place fails (λ lt. let one = fit.all_named place (omega (arith, lt, length_receipts_of h.config h.events)) in let none = named.1 in absurd (omega arith)) in
+    (named.0, none.0, subst (IsFailing s h logs served) none.1 fails)
+no_run s h logs served place NoThread fit fails named = absurd named
+no_run s h logs served place OutOfMemory fit fails named = absurd named
 
 -- what a run says of each fault
 pub seatless_fault : (s : Scenario) (fault : LiveFault) → IsSeatless fault → IsLiveFault s fault
@@ -60,11 +63,11 @@ unstarted_fault s (Unnamed place) h = absurd h
 
 pub ungathered_fault : (s : Scenario) (logs : List Held) (fault : GatherFault) → ((h : Past) × IsWhyNot h logs fault) → IsUnjudged s (as_live fault)
 ungathered_fault s logs gathers.OutOfMemory h = tt
-ungathered_fault s logs (gathers.Mismatch r) h = record { history = h.0; logs = logs; past = h.1.0; why = inl h.1.1 }
-ungathered_fault s logs (gathers.Unnamed place) h = record { history = h.0; logs = logs; past = h.1.0; why = inl h.1.1 }
+ungathered_fault s logs (gathers.Mismatch r) h = record { history = h.0; logs = logs; served = []; past = h.1.0; why = inl h.1.1 }
+ungathered_fault s logs (gathers.Unnamed place) h = record { history = h.0; logs = logs; served = []; past = h.1.0; why = inl h.1.1 }
 
-pub judged_fault : (s : Scenario) (h : Past) (logs : List Held) (fault : LiveFault) → IsPast h → AreInterleaved (due_of h) logs → IsNoRun s h logs fault → IsUnjudged s fault
-judged_fault s h logs OutOfMemory past together said = tt
-judged_fault s h logs NoThread past together said = absurd said
-judged_fault s h logs (Mismatch r) past together (its, fails) = record { history = h; logs = logs; past = past; why = inr (together, (its, fails)) }
-judged_fault s h logs (Unnamed place) past together (first, none) = record { history = h; logs = logs; past = past; why = inr (together, (first, none)) }
+pub judged_fault : (s : Scenario) (h : Past) (logs : List Held) (served : List (List Served)) (fault : LiveFault) → IsPast h → AreInterleaved (due_of h) logs → IsNoRun s h logs served fault → IsUnjudged s fault
+judged_fault s h logs served OutOfMemory past together said = tt
+judged_fault s h logs served NoThread past together said = absurd said
+judged_fault s h logs served (Mismatch r) past together said = record { history = h; logs = logs; served = served; past = past; why = inr (together, said) }
+judged_fault s h logs served (Unnamed place) past together said = record { history = h; logs = logs; served = served; past = past; why = inr (together, said) }

@@ -10,13 +10,17 @@ pub mod LaneFacts
 pub mod LaneLemmas
 pub mod LeftLemmas
 pub mod ListFacts
+pub mod MadeLemmas
 pub mod NameLemmas
 pub mod OpenLemmas
 pub mod PassLemmas
 pub mod PortLemmas
 pub mod RestLemmas
+pub mod RightLemmas
 pub mod RunLemmas
 pub mod RunListFacts
 pub mod StepLemmas
+pub mod TickLemmas
 pub mod TurnLemmas
+pub mod UnfitLemmas
 pub mod WalkLemmas

@@ -1,7 +1,8 @@
 -- a run on one thread before its first turn
-use Rattle.std.proofs.Common.{◌≡◌, ℕ, zero, suc, ◌≤◌, true, false, List, [], ◌∷◌, ◌++◌, length, get_or, replicate, inl, inr, refl, sym, ap, ◌∙◌, subst, arith, Some, None, slice_get}
+use Rattle.std.proofs.Common.{◌≡◌, ℕ, zero, suc, ◌≤◌, true, false, List, [], ◌∷◌, ◌++◌, length, get_or, replicate, inl, inr, refl, sym, ap, ◌∙◌, subst, arith, Some, None, take, slice_get}
 use Rattle.sim_worker.specs.Words.{is_in_flight, Topology, Rules, rules_of, is_legal, Scenario, IsScenario, Transport}
 use Rattle.sim_worker.specs.Ports.{first_answers, outcomes}
+use Rattle.sim_worker.specs.Logs.{acts}
 use Rattle.sim_worker.specs.Runs.{outcomes_by}
 use Rattle.sim_worker.specs.Work.{IsWork, AreFresh, HasDone, calls_done, steps_of, Driver, Lane}
 use Rattle.sim_worker.proofs.CallLemmas.{none_done}
@@ -39,6 +40,12 @@ opened s t ds ls scenario a_round is first size fresh =
       drivers = λ d w at.
           let one = in_replicate 8 d (record { done = 0; refused = false }) w (ap (λ (v : List Driver). slice_get v d) (sym first) ∙ at) in
           subst (λ (v : Driver). HasDone (steps_of s d) d [] v.done) (sym one) (record { within = omega arith; submits = refl; pauses = refl });
+      made = record {
+        makers = [];
+        each = refl;
+        known = refl;
+        rows = λ d w at. sym (ap (λ (v : Driver). acts (take v.done (steps_of s d))) (in_replicate 8 d (record { done = 0; refused = false }) w (ap (λ (v : List Driver). slice_get v d) (sym first) ∙ at)));
+      };
       calls = sym (ap (λ v. calls_done v s.drivers) first ∙ none_done 8 s.drivers);
       strangers = λ d le. refl;
       lanes = λ lane w at.

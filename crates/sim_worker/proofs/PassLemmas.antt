@@ -1,18 +1,20 @@
 -- the drivers of a run after one event more
-use Rattle.std.proofs.Common.{◌≡◌, ℕ, zero, suc, ◌+◌, ◌<◌, ◌≤◌, true, false, List, [], ◌∷◌, ◌++◌, length, set, get_or, replicate, refl, sym, ap, ◌∙◌, subst, arith, Some, inl, inr, take, slice_get, All}
+use Rattle.std.proofs.Common.{◌≡◌, ℕ, zero, suc, ◌+◌, ◌<◌, ◌≤◌, true, false, List, [], ◌∷◌, ◌++◌, length, set, get_or, replicate, refl, sym, ap, ◌∙◌, subst, arith, Some, None, inl, inr, nat_lt, take, slice_get, All}
 use Rattle.std.proofs.lemmas.List.Elements.{All-head, All-tail, All-cons, All-nil}
 use Rattle.std.specs.List.{list_all}
-use Rattle.std.proofs.lemmas.Bool.{and_from}
+use Rattle.std.proofs.lemmas.Bool.{and_from, and_parts, ltb-true}
 use Rattle.std.proofs.lemmas.List.Folds.{list_all-append}
 use Rattle.cam_types.proofs.ListLemmas.{moments-push}
-use Rattle.sim_worker.specs.Words.{Bounds, Rules, is_legal, due_of, Past, moments, Topology, is_tick, Event, Tick, Scenario, Transport, AreInterleaved, is_rising, Held, Receipt, Driver, IsTaken}
+use Rattle.event_rules.proofs.LegalLemmas.{none-legal}
+use Rattle.event_rules.proofs.LimitLemmas.{legal-front, legal-next}
+use Rattle.sim_worker.specs.Words.{Bounds, Rules, Refusal, is_allowed, is_legal_event, refusal, refused, rules_of, is_legal, due_of, Past, moments, Topology, is_tick, Event, Tick, Scenario, Transport, AreInterleaved, is_rising, Held, Receipt, Driver, IsTaken}
 use Rattle.xpt_lock.specs.Receipts.{all_receipts}
 use Rattle.xpt_lock.proofs.ReplayLemmas.{length_receipts_of}
-use Rattle.sim_worker.specs.LiveRuns.{IsLiveEnding, rows}
-use Rattle.sim_worker.specs.Endings.{Ending}
+use Rattle.sim_worker.specs.LiveRuns.{IsAllDone, IsLastRound, IsLiveEnding, rows}
+use Rattle.sim_worker.specs.Endings.{Ending, Drained, RoundsFull, HistoryFull}
 use Rattle.sim_worker.proofs.WalkLemmas.{on_start}
 use Rattle.sim_worker.specs.Runs.{is_in_time, are_ticks_in_time, may_tick}
-use Rattle.sim_worker.specs.Walks.{AreOn, ArePlaced, AreRising, IsFollowed, IsFollowedTo, IsOf, IsOn, Walk}
+use Rattle.sim_worker.specs.Walks.{AreOn, ArePlaced, AreRising, IsFollowed, IsFollowedTo, IsOf, IsOn, IsSoFar, Walk}
 use Rattle.sim_worker.proofs.RunListFacts.{some_is, take_one, get_is, less_or_not, get_in_set, get_there, set_beside, there_is}
 
 -- one driver more is after the event
@@ -61,6 +63,38 @@ log_more P logs i log lt is one others k h less at = elim (less_or_not k i) [
   | inl before ↦ others k h before at
   | inr rest ↦ let same : k ≡ i = omega arith in subst P (some_is log h (sym (get_is logs i log lt is) ∙ ap (slice_get logs) (sym same) ∙ at)) one
 ]
+
+-- ---- an event that isn't one of a run
+
+is_in_time_of : (c : Topology) (limits : Bounds) (before : List Event) (e : Event) → are_ticks_in_time c limits (before ++ e ∷ []) ≡ true → is_in_time c limits (before, e) ≡ true
+is_in_time_of c limits before e h =
+    let parts = and_parts (list_all (is_in_time c limits) (moments before)) (list_all (is_in_time c limits) ((before, e) ∷ [])) (sym (ap (list_all (is_in_time c limits)) (moments-push before e) ∙ list_all-append (is_in_time c limits) (moments before) ((before, e) ∷ [])) ∙ h) in
+    (and_parts (is_in_time c limits (before, e)) true parts.1).0
+
+room_for : (rules : Rules) (c : Topology) (before : List Event) (e : Event) → is_legal_event rules c (before, e) ≡ true → length before < rules.events
+unfolding is_legal_event
+room_for rules c before e h = ltb-true (length before) rules.events (and_parts (nat_lt (length before) rules.events) (is_allowed rules c before e) h).0
+
+-- what a legal list with one event more says
+so_far : (s : Scenario) (before : List Event) (e : Event) → is_legal (rules_of s.limits) s.config (before ++ e ∷ []) ≡ true → IsSoFar s before × (refusal (rules_of s.limits) s.config before e ≡ None)
+so_far s before e legal =
+    let here = legal-next (rules_of s.limits) s.config before e [] legal in
+    (record { legal = legal-front (rules_of s.limits) s.config before (e ∷ []) legal; room = room_for (rules_of s.limits) s.config before e here }, none-legal (rules_of s.limits) s.config before e here)
+
+-- a round that opens though a lane or recovery could act
+pub opened_early : (s : Scenario) (logs : List Held) (t : Transport) (e : Event) → is_tick e ≡ true → IsOf s t → (IsSoFar s t.events → may_tick s.config s.limits t.events ≡ true → ⊥) → IsFollowedTo s (t.events ++ e ∷ []) logs → ⊥
+opened_early s logs t Tick tick of busy h = busy (so_far s t.events Tick h.legal).0 (is_in_time_of s.config s.limits t.events Tick h.ticks)
+opened_early s logs t _ tick of busy h = absurd (cc)
+
+-- an event that the transport refuses
+pub refused_event : (s : Scenario) (logs : List Held) (t : Transport) (e : Event) (why : Refusal) → IsOf s t → refused t e ≡ Some why → IsFollowedTo s (t.events ++ e ∷ []) logs → ⊥
+refused_event s logs t e why of said h =
+    let none = (so_far s t.events e h.legal).1 in
+    let same : refused t e ≡ refusal (rules_of s.limits) s.config t.events e = ap (λ (r : Rules). refusal r t.config t.events e) of.1 ∙ ap (λ (c : Topology). refusal (rules_of s.limits) c t.events e) of.0 in
+    never why (sym said ∙ same ∙ none)
+  where
+    never : (why : Refusal) → Some why ≡ None → ⊥
+    never why e = cc
 
 -- ---- a whole run
 
@@ -119,3 +153,9 @@ pub logs_placed : (h : Past) (logs : List Held) → AreInterleaved (due_of h) lo
 logs_placed h logs fit i j log r at there =
     let stands = of_each (λ (x : Receipt). slice_get (due_of h) x.at ≡ Some x) logs i j log r fit.consistent.stand at there in
     omega (arith, there_is (due_of h) r.at r stands, length_receipts_of h.config h.events)
+
+-- where none of the three endings fits
+pub unended : (s : Scenario) (events : List Event) (logs : List Held) → (IsAllDone s events logs → ⊥) → (length events ≡ s.limits.events → ⊥) → (IsLastRound s events logs → ⊥) → (said : Ending) → IsLiveEnding s events logs said → ⊥
+unended s events logs busy room rounds Drained over = busy over
+unended s events logs busy room rounds RoundsFull over = rounds over.1
+unended s events logs busy room rounds HistoryFull over = room over.1

@@ -37,7 +37,7 @@ quiet t seen is sent landed decided = record {
 }
 
 -- none at all are none of a count
-none_found : {X : Type 0} → (p : X → Bool) (xs : List X) → list_any p xs ≡ false → count_by p xs ≡ 0
+pub none_found : {X : Type 0} → (p : X → Bool) (xs : List X) → list_any p xs ≡ false → count_by p xs ≡ 0
 none_found p [] h = refl
 none_found p (x ∷ xs) h = sum_by-cons (λ y. cond {A = ℕ} (p y) 1 0) x xs ∙ elim (p x) as (λ b. (b || list_any p xs) ≡ false → cond {A = ℕ} b 1 0 + count_by p xs ≡ 0) [
   | true ↦ λ some. absurd (no some)

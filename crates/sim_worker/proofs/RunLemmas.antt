@@ -11,6 +11,7 @@ use Rattle.sim_worker.specs.SimRuns.{IsSimRun}
 use Rattle.sim_worker.specs.Work.{Work, IsWork, outcome_in_hand, Hand}
 use Rattle.sim_worker.proofs.KeepLemmas.{prefixes}
 use Rattle.sim_worker.proofs.ListFacts.{heads, tails}
+use Rattle.sim_worker.proofs.MadeLemmas.{by_rows}
 use Rattle.sim_worker.proofs.RunListFacts.{get_there}
 use Rattle.sim_worker.proofs.PortLemmas.{first_answers-push}
 
@@ -38,6 +39,7 @@ pub run_is : (w : Work) (h : Past) (said : Ending) → IsWork w → h ≡ record
 run_is w h said is made ending = subst (λ (v : Past). IsSimRun w.script v said) (sym made) (record {
   config = is.config;
   legal = subst (λ (r : Rules). is_legal r w.script.config w.transport.events ≡ true) is.rules (subst (λ (c : Topology). is_legal w.transport.rules c w.transport.events ≡ true) is.config is.legal);
+  calls = by_rows w.script w.transport.events w.drivers is.eight is.made;
   submits = prefixes w is;
   outcomes = λ lane lt.
       let x = get_there w.lanes lane (omega (arith, lt, is.size, is.scenario.lanes)) in

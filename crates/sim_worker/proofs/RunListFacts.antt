@@ -1,5 +1,5 @@
 -- facts on lists that std lacks
-use Rattle.std.proofs.Common.{◌≡◌, ◌≢◌, ℕ, zero, suc, ◌+◌, ◌<◌, ◌≤◌, Bool, true, false, List, [], ◌∷◌, ◌++◌, length, set, get_or, refl, sym, ap, ◌∙◌, arith, Some, inl, inr, Vec, Global, map, ◌⊎◌, take, slice_get}
+use Rattle.std.proofs.Common.{◌≡◌, ◌≢◌, ℕ, zero, suc, ◌+◌, ◌<◌, ◌≤◌, Bool, true, false, List, [], ◌∷◌, ◌++◌, length, set, get_or, refl, sym, ap, ◌∙◌, arith, Option, Some, None, IfNone, inl, inr, Vec, Global, map, ◌⊎◌, take, slice_get}
 use Rattle.std.specs.List.{list_all}
 use Rattle.std.proofs.lemmas.Bool.{and_from, and_parts}
 use Rattle.std.proofs.lemmas.List.Folds.{list_all-append}
@@ -105,3 +105,13 @@ set_beside (x ∷ xs) (suc i) (suc k) y ne = set_beside xs i k y (λ e. ne (ap (
 -- the list after one of a list of vectors
 pub list_at : {X : Type 0} → (all : List (Vec X Global)) (lists : List (List X)) (n : ℕ) (v : Vec X Global) → map (λ (l : Vec X Global). l.items) all ≡ lists → n < length all → v ≡ get_or all n v → v.items ≡ get_or lists n []
 list_at {X} all lists n v same lt is = sym (ap (λ (ls : List (List X)). get_or ls n []) (sym same) ∙ get_or-map (λ (l : Vec X Global). l.items) all n v [] lt ∙ ap (λ (l : Vec X Global). l.items) (sym is))
+
+-- what follows from what holds where there is none
+pub none_maps : {X : Type 0} {P Q : Type 0} → (o : Option X) → (P → Q) → IfNone o P → IfNone o Q
+none_maps None f h = f h
+none_maps (Some x) f h = h
+
+-- what holds, holds where there is none
+pub if_none : {X : Type 0} {P : Type 0} → (o : Option X) → P → IfNone o P
+if_none None p = p
+if_none (Some x) p = tt

@@ -15,6 +15,7 @@ use Rattle.sim_worker.proofs.FullLemmas.{false_true}
 use Rattle.sim_worker.specs.Endings.{is_call}
 use Rattle.sim_worker.proofs.CallLemmas.{calls_done-same, calls_done-set, calls_of-act, no_call, one_call, ruled_call}
 use Rattle.sim_worker.proofs.DriverLemmas.{drivers-call, drivers-other, drivers-set, strangers-call, strangers-other}
+use Rattle.sim_worker.proofs.MadeLemmas.{made-call, made-other, made-same, made-set}
 use Rattle.sim_worker.proofs.LaneFacts.{in_hand, is_lane_event, lanes-other, flights-other, lanes-done, flights-done, lanes-send, flights-send}
 
 -- what a driver may ask for is its own, and no tick
@@ -51,6 +52,7 @@ call_step s t new ds ls r after d w y e here there one made h =
       eight = length-set ds d y ∙ h.eight;
       size = h.size;
       drivers = drivers-call s t.events e ds d w y ruled here there one h.drivers;
+      made = made-call s t.events e ds d w y (ruled_call s.config d e ruled) (omega (arith, there_is ds d w here, h.eight)) here there one h.made;
       calls = omega (arith, one_call t.events e (ruled_call s.config d e ruled), h.calls, calls_done-set ds s.drivers d w y here, calls_of-act (steps_of s d) w.done e there, ap (calls_of (steps_of s d)) one);
       strangers = strangers-call s t.events e d ruled (omega (arith, there_is ds d w here, h.eight)) h.strangers;
       lanes = lanes-other s t.events e ls (ruled_apart s.config d e ruled) h.lanes;
@@ -70,6 +72,7 @@ driver_step s t ds ls r after d w y here same done h = record {
   eight = length-set ds d y ∙ h.eight;
   size = h.size;
   drivers = drivers-set s t.events ds d y done h.drivers;
+  made = made-set s t.events ds d w y here same h.made;
   calls = omega (arith, h.calls, calls_done-set ds s.drivers d w y here, same);
   strangers = h.strangers;
   lanes = h.lanes;
@@ -90,6 +93,7 @@ other_step s t new ds ls r after e apart uncalled none here made h =
       eight = h.eight;
       size = h.size;
       drivers = drivers-other s t.events e ds none h.drivers;
+      made = made-other s t.events e ds uncalled h.made;
       calls = no_call t.events e uncalled ∙ h.calls;
       strangers = strangers-other t.events e none h.strangers;
       lanes = lanes-other s t.events e ls apart h.lanes;
@@ -111,6 +115,7 @@ done_step s t new ds ls r lane w y hand here holds number port empty made h =
       eight = h.eight;
       size = length-set ls lane y ∙ h.size;
       drivers = drivers-other s t.events (Done hand.ccb hand.outcome) ds (λ d. refl) h.drivers;
+      made = made-other s t.events (Done hand.ccb hand.outcome) ds refl h.made;
       calls = no_call t.events (Done hand.ccb hand.outcome) refl ∙ h.calls;
       strangers = strangers-other t.events (Done hand.ccb hand.outcome) (λ d. refl) h.strangers;
       lanes = lanes-done s t.events ls lane w y hand here holds number port empty h.lanes;
@@ -133,6 +138,7 @@ send_step s t new ds ls r lane ccb w y one grounded here empty number answers se
       eight = h.eight;
       size = length-set ls lane y ∙ h.size;
       drivers = drivers-other s t.events (Send lane ccb) ds (λ d. refl) h.drivers;
+      made = made-other s t.events (Send lane ccb) ds refl h.made;
       calls = no_call t.events (Send lane ccb) refl ∙ h.calls;
       strangers = strangers-other t.events (Send lane ccb) (λ d. refl) h.strangers;
       lanes = lanes-send s t.events ls lane ccb w y one grounded here empty number answers served next holds fine h.lanes;
@@ -178,6 +184,7 @@ port_step s t ds ls r lane w y here number answers served hand h = record {
   eight = h.eight;
   size = length-set ls lane y ∙ h.size;
   drivers = h.drivers;
+  made = h.made;
   calls = h.calls;
   strangers = h.strangers;
   lanes = lanes-port s t.events ls lane w y here number answers served hand h.lanes;
@@ -196,6 +203,7 @@ mark_step s t ds ls r after h = record {
   eight = h.eight;
   size = h.size;
   drivers = h.drivers;
+  made = h.made;
   calls = h.calls;
   strangers = h.strangers;
   lanes = h.lanes;
@@ -218,6 +226,7 @@ tick_step s t new ds after ls r refused done len may made h =
       drivers = λ d w at.
           let old = map_at (λ (x : Driver). x.done) after ds d w done at in
           subst (λ n. HasDone (steps_of s d) d (t.events ++ Tick ∷ []) n) (sym old.2) (drivers-other s t.events Tick ds (λ k. refl) h.drivers d old.0 old.1);
+      made = made-other s t.events Tick after refl (made-same s t.events ds after done h.made);
       calls = no_call t.events Tick refl ∙ h.calls ∙ sym (calls_done-same after ds s.drivers done);
       strangers = strangers-other t.events Tick (λ d. refl) h.strangers;
       lanes = lanes-other s t.events Tick ls refl h.lanes;

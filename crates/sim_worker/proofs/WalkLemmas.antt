@@ -1,5 +1,5 @@
 -- a driver after one event more
-use Rattle.std.proofs.Common.{◌≡◌, ◌≢◌, ℕ, zero, suc, ◌+◌, ◌<◌, ◌≤◌, Bool, true, false, List, [], ◌∷◌, ◌++◌, length, refl, sym, ap, ◌∙◌, subst, arith, Some, inl, inr, append-nil, append_assoc, ◌⊎◌, nat_lt, filter, take, slice_get, length-append}
+use Rattle.std.proofs.Common.{◌≡◌, ◌≢◌, ℕ, zero, suc, ◌+◌, ◌<◌, ◌≤◌, Bool, true, false, List, [], ◌∷◌, ◌++◌, length, refl, sym, ap, ◌∙◌, subst, arith, cond, Some, inl, inr, append-nil, ◌⊎◌, nat_lt, ◌==◌, ◌&&◌, ◌||◌, filter, take, drop, slice_get, length-append, eqb-true, eq-eqb}
 use Rattle.std.specs.List.{list_all}
 use Rattle.std.proofs.lemmas.Bool.{and_from, and_parts, lt-ltb, ltb-true}
 use Rattle.std.proofs.lemmas.List.Folds.{list_all-append}
@@ -7,15 +7,17 @@ use Rattle.std.proofs.lemmas.List.{map-append, length-map}
 use Rattle.sim_worker.specs.Words.{round, Event, Tick, rules_of, Scenario, Step, Transport, is_rising, Receipt, Rules, refusal, Topology, refused, is_tick}
 use Rattle.event_rules.proofs.ListFacts.{filter_map-push}
 use Rattle.event_rules.proofs.QueueLaws.{le_test, test_le}
+use Rattle.event_rules.proofs.PushLaws.{round-push}
 use Rattle.event_rules.proofs.TurnLaws.{round-more}
 use Rattle.event_rules.proofs.TestLemmas.{list_all-weaker}
 use Rattle.trace_file.specs.declared.step.Step.TheVariants as step
 use Rattle.sim_worker.specs.Logs.{StandsAt, FollowsRows, IsDriverLog, LetsRest, Rests, WasRefused, act, acts, events_of, made_before}
 use Rattle.sim_worker.specs.Runs.{is_over}
-use Rattle.sim_worker.specs.Walks.{IsOf, IsOn, IsSplit, IsThrough, IsWalk, Walk}
+use Rattle.sim_worker.specs.Walks.{IsBehindPauses, IsEarlier, IsOf, IsOn, IsSettled, IsSplit, IsThrough, IsWalk, MarksRefusal, Walk}
 use Rattle.event_rules.proofs.QueueLaws.{round-still}
 use Rattle.sim_worker.specs.Logs.{is_of_rules, HasDoneAll}
 use Rattle.xpt_lock.specs.declared.seat.SeatName.TheVariants as names
+use Rattle.sim_worker.proofs.ListFacts.{take_and_drop}
 use Rattle.sim_worker.proofs.RunListFacts.{some_is, take_one, all_at, there_is, get_there, get_pushed, take_front, take_whole, less_or_not}
 
 -- ---- places of receipts
@@ -133,21 +135,62 @@ follows_before steps log before e h j r at lt =
     let known = h j r at lt in
     (known.0, subst (λ es. StandsAt steps (made_before r.at log) (round es) known.0) (sym (take_front before (e ∷ []) r.at (omega arith))) known.1, known.2)
 
-refused_here : (s : Scenario) (t : Transport) (e : Event) → IsOf s t → is_of_rules (refused t e) ≡ true → WasRefused s t.events e
-refused_here s t e of h = record {
-  then = t.events;
-  earlier = ([], append-nil t.events);
-  same_round = refl;
-  refused = ap (λ (c : Topology). is_of_rules (refusal (rules_of s.limits) c t.events e)) (sym of.0) ∙ ap (λ (r : Rules). is_of_rules (refusal r t.config t.events e)) (sym of.1) ∙ h;
-}
+-- what the walk's transport would answer now
+refused_now : (s : Scenario) (t : Transport) (e : Event) → IsOf s t → is_of_rules (refused t e) ≡ is_of_rules (refusal (rules_of s.limits) s.config t.events e)
+refused_now s t e of = ap (λ (r : Rules). is_of_rules (refusal r t.config t.events e)) of.1 ∙ ap (λ (c : Topology). is_of_rules (refusal (rules_of s.limits) c t.events e)) of.0
 
-pub walk_refused : (s : Scenario) (t : Transport) (steps : List Step) (log : List Receipt) (w : Walk) (row : ℕ) (b : Bool) → ((events : List Event) → StandsAt steps events (round t.events) w.row → StandsAt steps events (round t.events) row) →
-    (b ≡ true → (e : Event) → slice_get steps row ≡ Some (step.Act e) → is_of_rules (refused t e) ≡ true) → IsOf s t → IsWalk s steps log t.events w → IsWalk s steps log t.events (record { row = row; made = w.made; refused = b })
-walk_refused s t steps log w row b moves known of h = record {
-  within = h.within;
-  split = h.split;
-  stands = moves _ h.stands;
-  refused = λ is e there. refused_here s t e of (known is e there);
+refused_here : (s : Scenario) (t : Transport) (log : List Receipt) (e : Event) → IsOf s t → is_of_rules (refused t e) ≡ true → WasRefused s log t.events e
+refused_here s t log e of h =
+    let whole : take (length t.events) t.events ≡ t.events = take_whole t.events (length t.events) (omega arith) in
+    record {
+      place = length t.events;
+      within = omega arith;
+      same_round = ap round whole;
+      same_calls = refl;
+      refused = ap (λ es. is_of_rules (refusal (rules_of s.limits) s.config es e)) whole ∙ sym (refused_now s t e of) ∙ h;
+    }
+
+either_mark : (a b : Bool) → (a || b) ≡ true → (a ≡ true) ⊎ (b ≡ true)
+either_mark true b h = inl refl
+either_mark false b h = inr h
+
+mark_right : (a b : Bool) → b ≡ true → (a || b) ≡ true
+mark_right true b h = refl
+mark_right false b h = h
+
+mark_left : (a b : Bool) → a ≡ true → (a || b) ≡ true
+mark_left true b h = refl
+mark_left false b h = absurd (cc)
+
+both_marks : (a b : Bool) → a ≡ true → b ≡ true → (a && b) ≡ true
+both_marks true true h k = refl
+both_marks _ _ h k = absurd (cc)
+
+-- after the pauses that are over, and marked where the event of the row is refused now
+pub walk_settled : (s : Scenario) (t : Transport) (steps : List Step) (log : List Receipt) (w : Walk) (row : ℕ) (now : Bool) → ((events : List Event) → StandsAt steps events (round t.events) w.row → StandsAt steps events (round t.events) row) →
+    IsBehindPauses steps (round t.events) row → (IsBehindPauses steps (round t.events) w.row → row ≡ w.row) → ((e : Event) → slice_get steps row ≡ Some (step.Act e) → now ≡ is_of_rules (refused t e)) → IsOf s t → IsWalk s steps log t.events w →
+    IsSettled s steps log t.events (record { row = row; made = w.made; refused = (row == w.row && w.refused) || now })
+walk_settled s t steps log w row now moves behind stays known of h = record {
+  walk = record {
+    within = h.within;
+    split = h.split;
+    stands = moves _ h.stands;
+    refused = λ is e there. elim (either_mark (row == w.row && w.refused) now is) [
+      | inl kept ↦
+          let parts = and_parts (row == w.row) w.refused kept in
+          h.refused parts.1 e (ap (slice_get steps) (sym (eqb-true row w.row parts.0)) ∙ there)
+      | inr new ↦ refused_here s t log e of (sym (known e there) ∙ new)
+    ];
+    marked = λ place early. (
+      behind,
+      λ e there said.
+          let kept = h.marked place early in
+          let same : row ≡ w.row = stays kept.0 in
+          mark_left _ now (both_marks _ _ (eq-eqb row w.row same) (kept.1 e (ap (slice_get steps) (sym same) ∙ there) said)),
+    );
+  };
+  behind = behind;
+  now = λ e there said. mark_right (row == w.row && w.refused) now (known e there ∙ refused_now s t e of ∙ said);
 }
 
 one_longer : (before : List Event) (e : Event) → length (before ++ e ∷ []) ≡ length before + 1
@@ -159,19 +202,51 @@ same_split before e m log h = subst (λ n. IsSplit n m log) (sym (one_longer bef
 made_is : (place m : ℕ) (log : List Receipt) → IsSplit place m log → m ≤ length log → made_before place log ≡ events_of (take m log)
 made_is place m log h le = ap events_of (split_filter place m log h le)
 
--- what was refused in the round stays so while no round opens
-refused_later : (s : Scenario) (before : List Event) (e x : Event) → is_tick e ≡ false → WasRefused s before x → WasRefused s (before ++ e ∷ []) x
-refused_later s before e x still h = record {
-  then = h.then;
-  earlier = (h.earlier.0 ++ e ∷ [], sym (append_assoc h.then h.earlier.0 (e ∷ [])) ∙ ap (λ xs. xs ++ e ∷ []) h.earlier.1);
-  same_round = h.same_round ∙ sym (round-still before e still);
-  refused = h.refused;
-}
+-- what was refused in the round stays so while no round opens, and the driver makes no call
+refused_later : (s : Scenario) (log : List Receipt) (before : List Event) (e x : Event) → is_tick e ≡ false → made_before (length (before ++ e ∷ [])) log ≡ made_before (length before) log → WasRefused s log before x → WasRefused s log (before ++ e ∷ []) x
+refused_later s log before e x still same h =
+    let front : take h.place (before ++ e ∷ []) ≡ take h.place before = take_front before (e ∷ []) h.place h.within in
+    record {
+      place = h.place;
+      within = omega (arith, h.within, one_longer before e);
+      same_round = ap round front ∙ h.same_round ∙ sym (round-still before e still);
+      same_calls = h.same_calls ∙ sym same;
+      refused = ap (λ es. is_of_rules (refusal (rules_of s.limits) s.config es x)) front ∙ h.refused;
+    }
+
+-- a round that opens is later than that of any place before it
+no_tick_between : (before : List Event) (e : Event) (place : ℕ) → place ≤ length before → round (take place (before ++ e ∷ [])) ≡ round (before ++ e ∷ []) → is_tick e ≡ false
+no_tick_between before e place le same = elim (is_tick e) as (λ b. is_tick e ≡ b → b ≡ false) [
+  | true ↦ λ tick. absurd (
+      let front : take place (before ++ e ∷ []) ≡ take place before = take_front before (e ∷ []) place le in
+      let more : round (take place before) ≤ round before = subst (λ es. round (take place before) ≤ round es) (take_and_drop before place) (round-more (take place before) (drop place before)) in
+      let opens : round (before ++ e ∷ []) ≡ round before + 1 = round-push before e ∙ ap (λ b. round before + cond {A = ℕ} b 1 0) tick in
+      omega (arith, ap round front, more, opens, same))
+  | false ↦ λ still. refl
+] refl
+
+-- the marks of a settled driver hold after an event that isn't its own
+marked_beside : (s : Scenario) (steps : List Step) (log : List Receipt) (before : List Event) (e : Event) (w : Walk) (b : Bool) → made_before (length (before ++ e ∷ [])) log ≡ made_before (length before) log → (w.refused ≡ true → is_tick e ≡ false → b ≡ true) →
+    IsSettled s steps log before w → (place : ℕ) → IsEarlier log (before ++ e ∷ []) place → IsBehindPauses steps (round (before ++ e ∷ [])) w.row × MarksRefusal s steps (take place (before ++ e ∷ [])) (record { row = w.row; made = w.made; refused = b })
+marked_beside s steps log before e w b same keeps h place early =
+    let le : place ≤ length before = omega (arith, early.less, one_longer before e) in
+    let still = no_tick_between before e place le early.same_round in
+    let now : round (before ++ e ∷ []) ≡ round before = round-still before e still in
+    let front : take place (before ++ e ∷ []) ≡ take place before = take_front before (e ∷ []) place le in (
+      subst (λ n. IsBehindPauses steps n w.row) (sym now) h.behind,
+      λ x there said. keeps (elim (less_or_not place (length before)) [
+        | inl less ↦ (h.walk.marked place (record { less = less; same_round = ap round (sym front) ∙ early.same_round ∙ now; same_calls = early.same_calls ∙ same })).1 x there (ap (λ es. is_of_rules (refusal (rules_of s.limits) s.config es x)) (sym front) ∙ said)
+        | inr last ↦
+            let whole : take place before ≡ before = take_whole before place last in
+            h.now x there (ap (λ es. is_of_rules (refusal (rules_of s.limits) s.config es x)) (sym (front ∙ whole)) ∙ said)
+      ]) still,
+    )
 
 -- the event isn't of the driver's log
-pub walk_beside : (s : Scenario) (steps : List Step) (log : List Receipt) (before : List Event) (e : Event) (w : Walk) (b : Bool) → is_rising log ≡ true → ((r : Receipt) → slice_get log w.made ≡ Some r → r.at ≢ length before) → (b ≡ true → (w.refused ≡ true) × (is_tick e ≡ false)) →
-    IsWalk s steps log before w → FollowsRows steps log before → IsWalk s steps log (before ++ e ∷ []) (record { row = w.row; made = w.made; refused = b }) × FollowsRows steps log (before ++ e ∷ [])
-walk_beside s steps log before e w b rising other keeps h follows =
+pub walk_beside : (s : Scenario) (steps : List Step) (log : List Receipt) (before : List Event) (e : Event) (w : Walk) (b : Bool) → is_rising log ≡ true → ((r : Receipt) → slice_get log w.made ≡ Some r → r.at ≢ length before) → (b ≡ true → (w.refused ≡ true) × (is_tick e ≡ false)) → (w.refused ≡ true → is_tick e ≡ false → b ≡ true) →
+    IsSettled s steps log before w → FollowsRows steps log before → IsWalk s steps log (before ++ e ∷ []) (record { row = w.row; made = w.made; refused = b }) × FollowsRows steps log (before ++ e ∷ [])
+walk_beside s steps log before e w b rising other keeps marks settled follows =
+    let h = settled.walk in
     let split = split_still (length before) w.made log rising h.split other in
     let later = same_split before e w.made log split in
     let same : made_before (length (before ++ e ∷ [])) log ≡ made_before (length before) log = made_is _ w.made log later h.within ∙ sym (made_is _ w.made log h.split h.within) in (
@@ -179,13 +254,34 @@ walk_beside s steps log before e w b rising other keeps h follows =
         within = h.within;
         split = later;
         stands = subst (λ es. StandsAt steps es (round (before ++ e ∷ [])) w.row) (sym same) (stands_later steps _ (round before) (round (before ++ e ∷ [])) w.row (round-more before (e ∷ [])) h.stands);
-        refused = λ is x there. refused_later s before e x (keeps is).1 (h.refused (keeps is).0 x there);
+        refused = λ is x there. refused_later s log before e x (keeps is).1 same (h.refused (keeps is).0 x there);
+        marked = marked_beside s steps log before e w b same marks settled;
       },
       λ j r at lt. follows_before steps log before e follows j r at (elim (less_or_not r.at (length before)) [
         | inl less ↦ less
         | inr more ↦ let back = (split j r at).1 (omega (arith, one_longer before e, lt)) in (h.split j r at).0 back
       ]),
     )
+
+-- no more calls were made before an earlier place
+few_made : (log : List Receipt) (a b : ℕ) → a ≤ b → length (made_before a log) ≤ length (made_before b log)
+few_made [] a b le = omega arith
+few_made (r ∷ rs) a b le = elim (nat_lt r.at a) as (λ x. nat_lt r.at a ≡ x → length (events_of (cond {A = List Receipt} x (r ∷ filter (λ (y : Receipt). nat_lt y.at a) rs) (filter (λ (y : Receipt). nat_lt y.at a) rs))) ≤ length (made_before b (r ∷ rs))) [
+  | true ↦ λ is.
+      let later : nat_lt r.at b ≡ true = lt-ltb r.at b (let lt = ltb-true r.at a is in omega arith) in
+      rw later (omega (arith, few_made rs a b le))
+  | false ↦ λ is. elim (nat_lt r.at b) as (λ y. length (made_before a rs) ≤ length (events_of (cond {A = List Receipt} y (r ∷ filter (λ (z : Receipt). nat_lt z.at b) rs) (filter (λ (z : Receipt). nat_lt z.at b) rs)))) [
+    | true ↦ omega (arith, few_made rs a b le)
+    | false ↦ few_made rs a b le
+  ]
+] refl
+
+-- a call more was made since
+called_since : (log : List Receipt) (place here : ℕ) → place ≤ here → (all : List Event) (e : Event) → all ≡ made_before here log ++ e ∷ [] → made_before place log ≡ all → ⊥
+called_since log place here le all e more same =
+    let few = few_made log place here le in
+    let long = length-append (made_before here log) (e ∷ []) in
+    omega (arith, few, long, ap (λ (es : List Event). length es) more, ap (λ (es : List Event). length es) same)
 
 abbrev IsMade : Scenario → List Step → List Receipt → List Event → Event → ℕ → ℕ → Type 0
 IsMade s steps log before e row made = IsWalk s steps log (before ++ e ∷ []) (record { row = row; made = made; refused = false }) × FollowsRows steps log (before ++ e ∷ [])
@@ -206,6 +302,7 @@ made_here s steps log before e w r rising here at row h follows =
         split = later;
         stands = subst (λ es. StandsAt steps es (round (before ++ e ∷ [])) (w.row + 1)) (sym same) (stands_later steps _ (round before) (round (before ++ e ∷ [])) (w.row + 1) (round-more before (e ∷ [])) (stands_behind_act steps _ (round before) w.row r.event row h.stands));
         refused = λ is. absurd (no is);
+        marked = λ place early. absurd (called_since log place (length before) (omega (arith, early.less, one_longer before e)) (made_before (length (before ++ e ∷ [])) log) r.event same early.same_calls);
       },
       λ j x there lt. elim (less_or_not x.at (length before)) [
         | inl less ↦ follows_before steps log before e follows j x there less
@@ -235,7 +332,7 @@ walk_made s steps log before e due w place row made rising here found called h f
     subst (λ m. IsMade s steps log before e row m) (sym found.4) (subst (λ k. IsMade s steps log before e k (w.made + 1)) (sym called.1) (made_here s steps log before e w found.0 rising found.1 at calls h follows))
 
 -- a driver that rests where a round opens goes on following its rows
-pub on_later : (s : Scenario) (steps : List Step) (log : List Receipt) (before : List Event) (e : Event) (here : Walk) → IsDriverLog s steps log before → IsWalk s steps log before here → (is_tick e ≡ true → LetsRest s before (slice_get steps here.row)) → FollowsRows steps log (before ++ e ∷ []) →
+pub on_later : (s : Scenario) (steps : List Step) (log : List Receipt) (before : List Event) (e : Event) (here : Walk) → IsDriverLog s steps log before → IsWalk s steps log before here → (is_tick e ≡ true → LetsRest s log before (slice_get steps here.row)) → FollowsRows steps log (before ++ e ∷ []) →
     IsDriverLog s steps log (before ++ e ∷ [])
 on_later s steps log before e here h w rests follows = record {
   follows = follows;
@@ -290,7 +387,7 @@ through_done steps log events h =
       ap (list_all (is_over (round events))) (sym whole) ∙ h.over,
     )
 
-pub rests_now : (s : Scenario) (steps : List Step) (log : List Receipt) (before : List Event) (w : Walk) → LetsRest s before (slice_get steps w.row) → IsWalk s steps log before w → Rests s steps log before
+pub rests_now : (s : Scenario) (steps : List Step) (log : List Receipt) (before : List Event) (w : Walk) → LetsRest s log before (slice_get steps w.row) → IsWalk s steps log before w → Rests s steps log before
 rests_now s steps log before w rests h = record { row = w.row; stands = h.stands; rests = rests }
 
 -- nothing has happened, and nothing was done
@@ -302,6 +399,7 @@ on_start s steps log = record {
     split = λ j r at. (λ lt. absurd (omega arith), λ lt. absurd (omega arith));
     stands = record { within = omega arith; made = ap events_of (split_filter 0 0 log (λ j r at. (λ lt. absurd (omega arith), λ lt. absurd (omega arith))) (omega arith)); over = refl };
     refused = λ is. absurd (no is);
+    marked = λ place early. absurd (let less = early.less in omega arith);
   };
 }
   where

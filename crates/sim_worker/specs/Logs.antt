@@ -4,7 +4,7 @@ use Rattle.std.specs.List.{list_all, filter_map, flat_map}
 use Rattle.sim_worker.specs.Words.{is_tick, round, Event, Send, Done, Requeue, Finish, Tick, rules_of, refusal, Refusal, HistoryFull, Command, Scenario, Step, Receipt, Reply}
 use Rattle.trace_file.specs.declared.step.Step.TheVariants as step
 use Rattle.xpt_state.specs.declared.reply.Reply.TheVariants as replies
-use Rattle.sim_worker.specs.Runs.{IsPrefix, is_over}
+use Rattle.sim_worker.specs.Runs.{is_over}
 use Rattle.sim_worker.specs.Ports.{Served}
 
 abbrev pub events_of : List Receipt → List Event
@@ -42,24 +42,25 @@ is_of_rules None = false
 is_of_rules (Some (HistoryFull n)) = false
 is_of_rules (Some why) = true
 
--- at some place of this round so far the event was refused
-pub record WasRefused (s : Scenario) (before : List Event) (event : Event) : Type 0 where
-  pub then : List Event
-  pub earlier : IsPrefix then before
-  pub same_round : round then ≡ round before
-  pub refused : is_of_rules (refusal (rules_of s.limits) s.config then event) ≡ true
+-- at some place of this round at which the driver had made the calls that it has made now, the event was refused
+pub record WasRefused (s : Scenario) (log : List Receipt) (before : List Event) (event : Event) : Type 0 where
+  pub place : ℕ
+  pub within : place ≤ length before
+  pub same_round : round (take place before) ≡ round before
+  pub same_calls : made_before place log ≡ made_before (length before) log
+  pub refused : is_of_rules (refusal (rules_of s.limits) s.config (take place before) event) ≡ true
 
 -- the row lets its driver rest: there is none, it waits for a later round, or its event was refused in this one
-abbrev pub LetsRest : Scenario → List Event → Option Step → Type 0
-LetsRest s before None = Unit {0}
-LetsRest s before (Some (step.Pause n)) = round before < n
-LetsRest s before (Some (step.Act event)) = WasRefused s before event
+abbrev pub LetsRest : Scenario → List Receipt → List Event → Option Step → Type 0
+LetsRest s log before None = Unit {0}
+LetsRest s log before (Some (step.Pause n)) = round before < n
+LetsRest s log before (Some (step.Act event)) = WasRefused s log before event
 
 -- after these events a driver with these rows rests
 pub record Rests (s : Scenario) (steps : List Step) (log : List Receipt) (before : List Event) : Type 0 where
   pub row : ℕ
   pub stands : StandsAt steps (made_before (length before) log) (round before) row
-  pub rests : LetsRest s before (slice_get steps row)
+  pub rests : LetsRest s log before (slice_get steps row)
 
 -- the driver has done all of its rows
 abbrev pub HasDoneAll : List Step → List Receipt → List Event → Type 0
@@ -84,6 +85,10 @@ command_of r = sent_in r.reply
     sent_in (replies.Command c) = Some c
     sent_in _ = None
 
+-- what the calls for a command give: the send gives the command, and the completion none
+abbrev pub commands_for : Served → List (Option Command)
+commands_for one = Some one.command ∷ None ∷ []
+
 -- A lane's log is a send and a completion for each item that its port served, with that command and that outcome; of the
 -- last the completion may lack, where the history is full.
 pub record IsLaneLog (lane : ℕ) (full : Bool) (log : List Receipt) (served : List Served) : Type 0 where
@@ -91,7 +96,7 @@ pub record IsLaneLog (lane : ℕ) (full : Bool) (log : List Receipt) (served : L
   pub events : events_of log ++ lacking ≡ flat_map (calls_for lane) served
   pub few : length lacking ≤ 1
   pub whole : full ≡ false → lacking ≡ []
-  pub commands : filter_map command_of log ≡ map (λ (one : Served). one.command) served
+  pub commands : map command_of log ≡ take (length log) (flat_map commands_for served)
 
 -- ---- recovery and the round keeper
 

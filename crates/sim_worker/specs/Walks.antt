@@ -1,25 +1,46 @@
 -- how far a driver is after some of a run's events
-use Rattle.std.specs.Prelude.{◌≡◌, ◌↔◌, ℕ, ◌<◌, ◌≤◌, true, List, length, map, slice_get, Some, None, filter_map, flat_map}
-use Rattle.sim_worker.specs.Words.{Send, Done, round, Event, rules_of, is_legal, Scenario, Step, Act, Transport, is_rising, Held, Receipt, Driver}
+use Rattle.std.specs.Prelude.{◌≡◌, ◌↔◌, ◌⊎◌, ℕ, ◌+◌, ◌*◌, ◌<◌, ◌≤◌, Bool, true, List, length, map, take, slice_get, Some, None, flat_map}
+use Rattle.sim_worker.specs.Words.{Send, Done, round, Event, rules_of, refusal, is_legal, Scenario, Step, Act, Pause, Transport, is_rising, Held, Receipt, Driver}
 use Rattle.sim_worker.specs.Ports.{Served}
 use Rattle.sim_worker.specs.LiveRuns.{EachDriver, IsLiveEnding, rows}
 use Rattle.sim_worker.specs.Runs.{are_ticks_in_time, is_over}
 use Rattle.std.specs.List.{list_all}
 use Rattle.sim_worker.specs.Endings.{Ending}
-use Rattle.sim_worker.specs.Logs.{StandsAt, IsDriverLog, WasRefused, acts, made_before, events_of, calls_for, command_of}
+use Rattle.sim_worker.specs.Logs.{StandsAt, IsDriverLog, WasRefused, acts, made_before, events_of, calls_for, command_of, commands_for, is_of_rules}
 pub use Rattle.sim_worker.specs.declared.walk.Walk.{Walk}
 
 -- the first m receipts are those of before the place
 abbrev pub IsSplit : ℕ → ℕ → List Receipt → Type 0
 IsSplit place m log = (j : ℕ) (r : Receipt) → slice_get log j ≡ Some r → (j < m) ↔ (r.at < place)
 
+-- an earlier place of this round at which the driver had made the calls that it has made now
+pub record IsEarlier (log : List Receipt) (before : List Event) (place : ℕ) : Type 0 where
+  pub less : place < length before
+  pub same_round : round (take place before) ≡ round before
+  pub same_calls : made_before place log ≡ made_before (length before) log
+
+-- the row isn't a pause that is over
+abbrev pub IsBehindPauses : List Step → ℕ → ℕ → Type 0
+IsBehindPauses steps now row = (n : ℕ) → slice_get steps row ≡ Some (Pause n) → now < n
+
+-- where the event of the walk's row is refused after the events then, the walk is marked
+abbrev pub MarksRefusal : Scenario → List Step → List Event → Walk → Type 0
+MarksRefusal s steps then w = (event : Event) → slice_get steps w.row ≡ Some (Act event) → is_of_rules (refusal (rules_of s.limits) s.config then event) ≡ true → w.refused ≡ true
+
 -- After these events the driver stands at the walk's row, with that many of its log's receipts taken. If the walk is
--- marked, the event of its row was refused in this round.
+-- marked, the event of its row was refused in this round; if that was so at an earlier place, the walk is marked.
 pub record IsWalk (s : Scenario) (steps : List Step) (log : List Receipt) (before : List Event) (w : Walk) : Type 0 where
   pub within : w.made ≤ length log
   pub split : IsSplit (length before) w.made log
   pub stands : StandsAt steps (made_before (length before) log) (round before) w.row
-  pub refused : w.refused ≡ true → (event : Event) → slice_get steps w.row ≡ Some (Act event) → WasRefused s before event
+  pub refused : w.refused ≡ true → (event : Event) → slice_get steps w.row ≡ Some (Act event) → WasRefused s log before event
+  pub marked : (place : ℕ) → IsEarlier log before place → IsBehindPauses steps (round before) w.row × MarksRefusal s steps (take place before) w
+
+-- the same, where all pauses that are over are passed, and the walk is marked if its event is refused now
+pub record IsSettled (s : Scenario) (steps : List Step) (log : List Receipt) (before : List Event) (w : Walk) : Type 0 where
+  pub walk : IsWalk s steps log before w
+  pub behind : IsBehindPauses steps (round before) w.row
+  pub now : MarksRefusal s steps before w
 
 -- so far the driver followed its rows, and this is how far it is
 pub record IsOn (s : Scenario) (steps : List Step) (receipts : List Receipt) (before : List Event) (w : Walk) : Type 0 where
@@ -50,6 +71,11 @@ ArePlaced logs events = (i j : ℕ) (h : Held) (r : Receipt) → slice_get logs 
 abbrev pub IsThrough : List Step → ℕ → ℕ → Type 0
 IsThrough steps calls now = (calls ≡ length (acts steps)) × (list_all (is_over now) steps ≡ true)
 
+-- the events are legal by the script's limits, and one more may happen
+pub record IsSoFar (s : Scenario) (events : List Event) : Type 0 where
+  pub legal : is_legal (rules_of s.limits) s.config events ≡ true
+  pub room : length events < s.limits.events
+
 -- so far the drivers followed their rows, the limits allowed each event, and no round opened before it might
 pub record IsFollowedTo (s : Scenario) (before : List Event) (logs : List Held) : Type 0 where
   pub drivers : EachDriver (λ d h. IsDriverLog s (rows s d) h.receipts before) logs
@@ -75,4 +101,12 @@ pub record IsDone (r : Receipt) (one : Served) : Type 0 where
 -- a send and a completion for each item
 pub record ArePairs (lane : ℕ) (log : List Receipt) (served : List Served) : Type 0 where
   pub events : events_of log ≡ flat_map (calls_for lane) served
-  pub commands : filter_map command_of log ≡ map (λ (one : Served). one.command) served
+  pub commands : map command_of log ≡ flat_map commands_for served
+
+-- each of the first items has its send and its completion in the log
+abbrev pub EachPair : ℕ → List Receipt → List Served → ℕ → Type 0
+EachPair lane log served count = (k : ℕ) (a b : Receipt) (one : Served) → k < count → slice_get log (k * 2) ≡ Some a → slice_get log (k * 2 + 1) ≡ Some b → slice_get served k ≡ Some one → IsSent lane a one × IsDone b one
+
+-- how long a lane's log may be for that many items: two for each, and one less if the history is full
+abbrev pub IsLaneLength : Bool → ℕ → ℕ → Type 0
+IsLaneLength full log served = (log ≡ served * 2) ⊎ ((full ≡ true) × (log + 1 ≡ served * 2))

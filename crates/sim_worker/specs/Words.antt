@@ -31,7 +31,7 @@ pub use Rattle.sense_class.specs.declared.class.Kind.{Kind}
 pub use Rattle.sense_class.specs.declared.sense.Sense.{Sense}
 pub use Rattle.trace_file.specs.Scenarios.{IsScenario, Scenario, is_answer, is_ruled}
 pub use Rattle.trace_file.specs.declared.step.Step.{Step}
-pub use Rattle.trace_file.specs.declared.step.Step.TheVariants.{Act}
+pub use Rattle.trace_file.specs.declared.step.Step.TheVariants.{Act, Pause}
 unfoldable pub use Rattle.xpt_core.specs.Cases.{cases}
 pub use Rattle.xpt_core.specs.Laws.{is_for_room}
 pub use Rattle.xpt_core.specs.Takes.{IsTaken, refused}

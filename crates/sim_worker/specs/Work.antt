@@ -7,6 +7,7 @@ use Rattle.sim_worker.specs.Ports.{first_answers, outcomes}
 use Rattle.sim_worker.specs.Held.{is_held_up}
 use Rattle.sim_worker.specs.Endings.{is_call}
 use Rattle.sim_worker.specs.Logs.{acts}
+use Rattle.sim_worker.specs.SimRuns.{calls, calls_by}
 use Rattle.sim_worker.specs.Runs.{submits, submits_asked, is_over, sender, outcomes_by, are_ticks_in_time}
 use Rattle.sim_worker.specs.declared.actor.Actor.{Actor}
 use Rattle.sim_worker.specs.declared.actor.Actor.TheVariants as actor
@@ -32,6 +33,13 @@ pub record HasDone (steps : List Step) (d : ℕ) (events : List Event) (done : �
   pub within : done ≤ length steps
   pub submits : submits d events ≡ submits_asked (take done steps)
   pub pauses : list_all (is_over (round events)) (take done steps) ≡ true
+
+-- some driver made each call, and those of each driver are the calls of the rows that it has done
+pub record AreMade (s : Scenario) (events : List Event) (drivers : List Driver) : Type 0 where
+  pub makers : List ℕ
+  pub each : length makers ≡ length (calls events)
+  pub known : list_all (λ d. nat_lt d 8) makers ≡ true
+  pub rows : (d : ℕ) (w : Driver) → slice_get drivers d ≡ Some w → calls_by d makers (calls events) ≡ acts (take w.done (steps_of s d))
 
 abbrev pub AreDriversAt : Scenario → List Event → List Driver → Type 0
 AreDriversAt s events drivers = (d : ℕ) (w : Driver) → slice_get drivers d ≡ Some w → HasDone (steps_of s d) d events w.done
@@ -84,6 +92,7 @@ pub record IsWork (w : Work) : Type 0 where
   pub eight : length w.drivers ≡ 8
   pub size : length w.lanes ≡ length w.script.config.lanes
   pub drivers : AreDriversAt w.script w.transport.events w.drivers
+  pub made : AreMade w.script w.transport.events w.drivers
   pub calls : count_by is_call w.transport.events ≡ calls_done w.drivers w.script.drivers
   pub strangers : (d : ℕ) → 8 ≤ d → submits d w.transport.events ≡ []
   pub lanes : AreLanesAt w.script w.transport.events w.lanes

@@ -1,9 +1,9 @@
 //! How a run ended, by its events.
 
-ghost use Rattle.std.specs.Prelude.{◌≡◌, ◌<◌, ℕ, List, IfSome, is_some, length, true, false};
+ghost use Rattle.std.specs.Prelude.{◌≡◌, ◌<◌, ◌↔◌, ℕ, List, IfSome, IfNone, IsTrue, is_some, length, true, false};
 ghost use Rattle.std.specs.List.{list_all};
 ghost use Rattle.xpt_lock.specs.declared.seat.SeatName.TheVariants as names;
-ghost use Rattle.sim_worker.specs.Endings.{IsQuiet};
+ghost use Rattle.sim_worker.specs.Endings.{Ending, IsQuiet};
 ghost use Rattle.sim_worker.specs.LiveRuns.{EachDriver, IsAllDone, IsLastRound, IsLiveEnding, rows};
 ghost use Rattle.sim_worker.specs.Logs.{HasDoneAll, Rests, act, acts};
 ghost use Rattle.sim_worker.specs.Runs.{is_over};
@@ -24,7 +24,8 @@ pub(crate) fn ending(script: &Script, logs: &[SeatLog], walks: &[Walk], xpt: &Xp
     requires of { IsOf script.now xpt.now }
     requires on { AreOn script.now logs.now xpt.now.events walks.now }
     requires placed { ArePlaced logs.now xpt.now.events }
-    ensures { IfSome result (IsLiveEnding script.now xpt.now.events logs.now) }
+    ensures some { IfSome result (IsLiveEnding script.now xpt.now.events logs.now) }
+    ensures none { IfNone result ((said : Ending) → ¬ IsLiveEnding script.now xpt.now.events logs.now said) }
 {
     if is_all_done(script, logs, xpt) {
         return Some(Ending::Drained);
@@ -45,22 +46,26 @@ fn is_last_round(script: &Script, logs: &[SeatLog], walks: &[Walk], xpt: &Xpt) -
     requires same { length walks.now ≡ length logs.now }
     requires of { IsOf script.now xpt.now }
     requires on { AreOn script.now logs.now xpt.now.events walks.now }
-    ensures { result ≡ true → IsLastRound script.now xpt.now.events logs.now }
+    ensures yes { result ≡ true → IsLastRound script.now xpt.now.events logs.now }
+    ensures no { result ≡ false → ¬ IsLastRound script.now xpt.now.events logs.now }
 {
-    let look = xpt.look();
-    let limits = script.limits();
+    // They are legal by the script's limits.
+    let _events = xpt.events();
     if !has_room(script, xpt) {
         return false;
     }
-    if look.round == limits.rounds() && may_tick(xpt) && are_resting(script, logs, walks, xpt) {
-        return true;
+    if xpt.round() != script.limits().rounds() {
+        return false;
     }
-    false
+    if !may_tick(xpt) {
+        return false;
+    }
+    are_resting(script, logs, walks, xpt)
 }
 
 // Whether fewer events happened than may.
 fn has_room(script: &Script, xpt: &Xpt) -> bool
-    ensures { result ≡ true → length xpt.now.events < script.now.limits.events }
+    ensures { IsTrue result ↔ (length xpt.now.events < script.now.limits.events) }
 {
     xpt.look().length < script.limits().events()
 }
@@ -162,7 +167,8 @@ fn is_over(row: &Step, now: u32) -> bool
 
 fn are_resting(script: &Script, logs: &[SeatLog], walks: &[Walk], xpt: &Xpt) -> bool
     requires same { length walks.now ≡ length logs.now }
-    ensures { result ≡ true → IsOf script.now xpt.now → AreOn script.now logs.now xpt.now.events walks.now → EachDriver (λ d h. Rests script.now (rows script.now d) h.receipts xpt.now.events) logs.now }
+    ensures yes { result ≡ true → IsOf script.now xpt.now → AreOn script.now logs.now xpt.now.events walks.now → EachDriver (λ d h. Rests script.now (rows script.now d) h.receipts xpt.now.events) logs.now }
+    ensures no { result ≡ false → IsOf script.now xpt.now → AreOn script.now logs.now xpt.now.events walks.now → ¬ EachDriver (λ d h. Rests script.now (rows script.now d) h.receipts xpt.now.events) logs.now }
 {
     for i in 0..logs.len() {
         if !is_resting(script, &logs[i], walk_at(walks, i), xpt) {
@@ -174,7 +180,8 @@ fn are_resting(script: &Script, logs: &[SeatLog], walks: &[Walk], xpt: &Xpt) -> 
 
 // Whether the log's actor, if it is a driver, rests in this round.
 fn is_resting(script: &Script, log: &SeatLog, walk: Walk, xpt: &Xpt) -> bool
-    ensures { result ≡ true → (d : ℕ) → log.now.name ≡ names.Driver d → IsOf script.now xpt.now → IsOn script.now (rows script.now d) log.now.receipts xpt.now.events walk → Rests script.now (rows script.now d) log.now.receipts xpt.now.events }
+    ensures yes { result ≡ true → (d : ℕ) → log.now.name ≡ names.Driver d → IsOf script.now xpt.now → IsOn script.now (rows script.now d) log.now.receipts xpt.now.events walk → Rests script.now (rows script.now d) log.now.receipts xpt.now.events }
+    ensures no { result ≡ false → (d : ℕ) × (log.now.name ≡ names.Driver d) × (IsOf script.now xpt.now → IsOn script.now (rows script.now d) log.now.receipts xpt.now.events walk → ¬ Rests script.now (rows script.now d) log.now.receipts xpt.now.events) }
 {
     match log.name {
         SeatName::Driver(driver) => {

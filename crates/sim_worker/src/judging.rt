@@ -2,7 +2,8 @@
 
 ghost use Rattle.std.specs.Prelude.{◌≡◌, ℕ, IfOk, IfErr, IfSome, IfNone, Some, List, map, get_or, slice_get, true, false, []};
 ghost use Rattle.xpt_lock.specs.Receipts.{naming};
-ghost use Rattle.sim_worker.specs.Faults.{AreOfScript, IsNaming, IsNoRun};
+ghost use Rattle.sim_worker.specs.Faults.{AreOfScript, IsNaming, IsNoRun, OutOfMemory};
+ghost use Rattle.sim_worker.specs.Endings.{Ending};
 ghost use Rattle.std.specs.List.{list_all};
 ghost use Rattle.sim_worker.specs.Words.{IsPast, due_of, AreInterleaved, Held, Event, Scenario};
 ghost use Rattle.xpt_lock.specs.declared.seat.SeatName.TheVariants as seats;
@@ -26,7 +27,9 @@ use xpt_lock::{Receipt, SeatName};
 
 /// How the run ended whose history, logs and ports these are, if it is one of the script.
 ///
-/// Otherwise the fault has the receipt of the first event that the script doesn't allow there, or else that of the last event.
+/// Otherwise the fault has the receipt of the first event that the script doesn't allow there. It has that of the last event if
+/// the script allows them all but no ending fits, or if something else than an event differs: the configuration, the actors,
+/// or what a lane, recovery or the keeper did. Of a run of the script no fault but `OutOfMemory` is told.
 pub fn judge<P: Port>(
     alloc: Global,
     script: &Script,
@@ -37,7 +40,8 @@ pub fn judge<P: Port>(
     requires legal { IsPast history.now }
     requires together { AreInterleaved (due_of history.now) logs.now }
     ensures run { IfOk result (λ ending. IsLiveRun script.now history.now logs.now (map (λ p. P.list p) ports.now) ending) }
-    ensures fault { IfErr result (λ fault. IsNoRun script.now history.now logs.now fault) }
+    ensures fault { IfErr result (λ fault. IsNoRun script.now history.now logs.now (map (λ p. P.list p) ports.now) fault) }
+    ensures right { IfErr result (λ fault. (said : Ending) → IsLiveRun script.now history.now logs.now (map (λ p. P.list p) ports.now) said → fault ≡ OutOfMemory) }
 {
     let events = history.events();
     let last = events.len().saturating_sub(1);
@@ -121,8 +125,9 @@ fn is_config(one: &Config, other: &Config) -> bool
 
 // Whether each log but a driver's is what its actor may do: what its port served, decisions, or ticks.
 fn are_as_served<P: Port>(logs: &[SeatLog], ports: &[P], full: bool) -> bool
-    ensures { result ≡ true → (s : Scenario) (events : List Event) → EachDriver (λ d h. IsDriverLog s (rows s d) h.receipts events) logs.now →
+    ensures yes { result ≡ true → (s : Scenario) (events : List Event) → EachDriver (λ d h. IsDriverLog s (rows s d) h.receipts events) logs.now →
         EachLog (λ h. IsLog s events (map (λ p. P.list p) ports.now) full h.name h) logs.now }
+    ensures no { result ≡ false → (s : Scenario) (events : List Event) → ¬ EachLog (λ h. IsLog s events (map (λ p. P.list p) ports.now) full h.name h) logs.now }
 {
     for log in logs {
         if !is_as_served(log, ports, full) {
@@ -133,8 +138,9 @@ fn are_as_served<P: Port>(logs: &[SeatLog], ports: &[P], full: bool) -> bool
 }
 
 fn is_as_served<P: Port>(log: &SeatLog, ports: &[P], full: bool) -> bool
-    ensures { result ≡ true → (s : Scenario) (events : List Event) → ((d : ℕ) → log.now.name ≡ seats.Driver d → IsDriverLog s (rows s d) log.now.receipts events) →
+    ensures yes { result ≡ true → (s : Scenario) (events : List Event) → ((d : ℕ) → log.now.name ≡ seats.Driver d → IsDriverLog s (rows s d) log.now.receipts events) →
         IsLog s events (map (λ p. P.list p) ports.now) full log.now.name log.now }
+    ensures no { result ≡ false → (s : Scenario) (events : List Event) → ¬ IsLog s events (map (λ p. P.list p) ports.now) full log.now.name log.now }
 {
     match log.name {
         SeatName::Driver(_) => true,
@@ -155,7 +161,7 @@ fn served_by<P: Port>(ports: &[P], lane: u32) -> &[Served]
 }
 
 fn are_decisions(receipts: &[Receipt]) -> bool
-    ensures { result ≡ true → list_all is_decision receipts.now ≡ true }
+    ensures { result ≡ list_all is_decision receipts.now }
 {
     for receipt in receipts {
         if !is_decision(receipt) {
@@ -166,7 +172,7 @@ fn are_decisions(receipts: &[Receipt]) -> bool
 }
 
 fn are_ticks(receipts: &[Receipt]) -> bool
-    ensures { result ≡ true → list_all is_opening receipts.now ≡ true }
+    ensures { result ≡ list_all is_opening receipts.now }
 {
     for receipt in receipts {
         if !receipt.event.is_tick() {

@@ -1,13 +1,14 @@
 //! A run's history, gone through beside a transport of its own.
 
-ghost use Rattle.std.specs.Prelude.{◌≡◌, ℕ, ◌++◌, [], ◌∷◌, ◌<◌, true, false, length, replicate, take, slice_get, Some, IfOk, IfErr, IfSome};
+ghost use Rattle.std.specs.Prelude.{◌≡◌, ℕ, ◌++◌, [], ◌∷◌, ◌<◌, true, false, length, replicate, take, slice_get, Some, IfOk, IfErr, IfSome, IfNone};
 ghost use Rattle.sim_worker.specs.Words.{is_rising, Scenario};
 ghost use Rattle.xpt_lock.specs.declared.seat.SeatName.TheVariants as names;
-ghost use Rattle.sim_worker.specs.LiveRuns.{rows};
+ghost use Rattle.sim_worker.specs.LiveRuns.{EachDriver, rows};
+ghost use Rattle.sim_worker.specs.Logs.{IsDriverLog};
 ghost use Rattle.sim_worker.specs.Runs.{is_in_time, are_ticks_in_time, may_recovery_rest, may_tick};
 ghost use Rattle.sim_worker.specs.Held.{is_held_up};
 ghost use Rattle.sim_worker.specs.Faults.{IsStop};
-ghost use Rattle.sim_worker.specs.Walks.{AreOn, ArePlaced, AreRising, IsFollowed, IsFollowedTo, IsOf, IsOn};
+ghost use Rattle.sim_worker.specs.Walks.{AreOn, ArePlaced, AreRising, IsFollowed, IsFollowedTo, IsOf, IsOn, IsSoFar};
 
 use crate::ending::Ending;
 use crate::endings::ending;
@@ -31,13 +32,15 @@ pub(crate) fn rows(script: &Script, driver: u8) -> &[Step]
 
 /// Whether a round may open now, as far as lanes and recovery are concerned.
 pub(crate) fn may_tick(xpt: &Xpt) -> bool
-    ensures { result ≡ true → (s : Scenario) → IsOf s xpt.now → may_tick s.config s.limits xpt.now.events ≡ true }
+    ensures yes { result ≡ true → (s : Scenario) → IsOf s xpt.now → may_tick s.config s.limits xpt.now.events ≡ true }
+    ensures no { result ≡ false → (s : Scenario) → IsOf s xpt.now → IsSoFar s xpt.now.events → may_tick s.config s.limits xpt.now.events ≡ true → ⊥ }
 {
     xpt.look().heads == 0 && may_recovery_rest(xpt)
 }
 
 fn may_recovery_rest(xpt: &Xpt) -> bool
-    ensures { result ≡ true → (s : Scenario) → IsOf s xpt.now → may_recovery_rest s.limits xpt.now.events ≡ true }
+    ensures yes { result ≡ true → (s : Scenario) → IsOf s xpt.now → may_recovery_rest s.limits xpt.now.events ≡ true }
+    ensures no { result ≡ false → (s : Scenario) → IsOf s xpt.now → IsSoFar s xpt.now.events → may_recovery_rest s.limits xpt.now.events ≡ true → ⊥ }
 {
     match xpt.next_case() {
         Some(case) => is_held_up(xpt, case),
@@ -55,8 +58,10 @@ pub fn is_held_up(xpt: &Xpt, case: Case) -> bool
 
 // How far the log's driver is after the event that the transport takes next, if it fits. Of another actor nothing is asked.
 fn walk_on(script: &Script, log: &SeatLog, walk: Walk, xpt: &Xpt, event: &Event) -> Option<Walk>
-    ensures { (d : ℕ) → log.now.name ≡ names.Driver d → IsOf script.now xpt.now → is_rising log.now.receipts ≡ true → IsOn script.now (rows script.now d) log.now.receipts xpt.now.events walk →
+    ensures fits { (d : ℕ) → log.now.name ≡ names.Driver d → IsOf script.now xpt.now → is_rising log.now.receipts ≡ true → IsOn script.now (rows script.now d) log.now.receipts xpt.now.events walk →
         IfSome result (λ w. IsOn script.now (rows script.now d) log.now.receipts (xpt.now.events ++ event.now ∷ []) w) }
+    ensures none { IfNone result ((d : ℕ) × (log.now.name ≡ names.Driver d) × (IsOf script.now xpt.now → is_rising log.now.receipts ≡ true → IsOn script.now (rows script.now d) log.now.receipts xpt.now.events walk →
+        ¬ IsDriverLog script.now (rows script.now d) log.now.receipts (xpt.now.events ++ event.now ∷ []))) }
 {
     match log.name {
         SeatName::Driver(driver) => { walk.behind(xpt, rows(script, driver), &log.receipts, event) }
@@ -77,6 +82,8 @@ fn walk_all(script: &Script, logs: &[SeatLog], walks: &mut [Walk], xpt: &Xpt, ev
     requires { length walks.old ≡ length logs.now }
     ensures len { length walks.new ≡ length walks.old }
     ensures on { result ≡ true → IsOf script.now xpt.now → AreRising logs.now → AreOn script.now logs.now xpt.now.events walks.old → AreOn script.now logs.now (xpt.now.events ++ event.now ∷ []) walks.new }
+    ensures off { result ≡ false → IsOf script.now xpt.now → AreRising logs.now → AreOn script.now logs.now xpt.now.events walks.old →
+        ¬ EachDriver (λ d h. IsDriverLog script.now (rows script.now d) h.receipts (xpt.now.events ++ event.now ∷ [])) logs.now }
 {
     for i in 0..logs.len() {
         let walk = walk_at(walks, i);
@@ -94,6 +101,7 @@ fn step(script: &Script, logs: &[SeatLog], walks: &mut [Walk], xpt: &mut Xpt, ev
     ensures len { length walks.new ≡ length walks.old }
     ensures step { result ≡ true → IsOf script.now xpt.old → AreRising logs.now → AreOn script.now logs.now xpt.old.events walks.old →
         IsOf script.now xpt.new × (xpt.new.events ≡ xpt.old.events ++ event.now ∷ []) × AreOn script.now logs.now xpt.new.events walks.new × (is_in_time script.now.config script.now.limits (xpt.old.events, event.now) ≡ true) }
+    ensures none { result ≡ false → IsOf script.now xpt.old → AreRising logs.now → AreOn script.now logs.now xpt.old.events walks.old → ¬ IsFollowedTo script.now (xpt.old.events ++ event.now ∷ []) logs.now }
 {
     if !walk_all(script, logs, walks, xpt, event) {
         return false;
@@ -121,7 +129,7 @@ fn pass(
     requires rising { AreRising logs.now }
     requires start { AreOn script.now logs.now [] walks.old }
     ensures len { length walks.new ≡ length walks.old }
-    ensures failed { IfErr result (λ place. (place < length events.now) × IsFollowedTo script.now (take place events.now) logs.now) }
+    ensures failed { IfErr result (λ place. IsStop script.now events.now logs.now place) }
     ensures passed { IfOk result (λ _. IsOf script.now xpt.new × (xpt.new.events ≡ events.now) × AreOn script.now logs.now events.now walks.new × (are_ticks_in_time script.now.config script.now.limits events.now ≡ true)) }
 {
     for place in 0..events.len() {

@@ -1,6 +1,6 @@
 //! The run of a script by a seed.
 
-ghost use Rattle.std.specs.Prelude.{IfOk};
+ghost use Rattle.std.specs.Prelude.{◌≡◌, IfOk};
 ghost use Rattle.sim_worker.specs.SimRuns.{IsSimRun};
 
 use crate::ending::Ending;
@@ -18,6 +18,8 @@ pub struct SimRun {
     pub history: History,
     /// Why no more happened.
     pub ending: Ending,
+    /// By which seed it was run.
+    pub seed: u64,
 }
 
 /// Runs the script on one thread. Drivers, lanes and recovery take turns, of which each is one call of the transport;
@@ -28,7 +30,8 @@ pub struct SimRun {
 /// drivers by number, lanes by number, recovery; the word's remainder by their count picks one. A refused call uses its
 /// turn, and is made again in the next round.
 pub fn sim_run(alloc: Global, script: &Script, seed: u64) -> Result<SimRun, AllocError>
-    ensures { IfOk result (λ run. IsSimRun script.now run.history run.ending) }
+    ensures run { IfOk result (λ run. IsSimRun script.now run.history run.ending) }
+    ensures seed { IfOk result (λ run. run.seed ≡ seed) }
 {
     let mut sim = Sim::open(alloc, script)?;
     let mut random = Lcg64Xsh32::seed_from_u64(seed);
@@ -38,5 +41,5 @@ pub fn sim_run(alloc: Global, script: &Script, seed: u64) -> Result<SimRun, Allo
             break ending;
         }
     };
-    sim.into_run(alloc, ending)
+    sim.into_run(alloc, ending, seed)
 }

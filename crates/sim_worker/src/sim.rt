@@ -225,10 +225,16 @@ impl<'s> Sim<'s> {
         true
     }
 
-    /// The run of which this is the ending.
-    pub(crate) fn into_run(self, alloc: Global, ending: Ending) -> Result<SimRun, AllocError>
+    /// The run by this seed, of which this is the ending.
+    pub(crate) fn into_run(
+        self,
+        alloc: Global,
+        ending: Ending,
+        seed: u64,
+    ) -> Result<SimRun, AllocError>
         requires { IsEnding self.script self.transport.events ending }
-        ensures { IfOk result (λ run. IsSimRun self.entry.script run.history run.ending) }
+        ensures run { IfOk result (λ run. IsSimRun self.entry.script run.history run.ending) }
+        ensures seed { IfOk result (λ run. run.seed ≡ seed) }
     {
         let Sim {
             script: _,
@@ -240,6 +246,7 @@ impl<'s> Sim<'s> {
         Ok(SimRun {
             history: xpt.into_history(alloc)?,
             ending,
+            seed,
         })
     }
 }

@@ -9,6 +9,7 @@ use Rattle.trace_file.specs.Scenarios.{Scenario}
 use Rattle.trace_file.specs.declared.step.Step.{Step}
 use Rattle.trace_file.specs.declared.step.Step.TheVariants as step
 use Rattle.sim_worker.specs.SimRuns.{IsSimRun}
+use Rattle.sim_worker.specs.declared.seeded.SimRun.{SimRun}
 use Rattle.sim_worker.specs.declared.ending.Ending.{Ending}
 use Rattle.sim_worker.specs.declared.ending.Ending.TheVariants.{Drained, RoundsFull, HistoryFull}
 use Rattle.round_net.specs.Nets.{net_of}
@@ -62,9 +63,9 @@ abbrev pub IsTallyOf : Scenario → Past → Ending → Tally → Type 0
 IsTallyOf s h said (tally.Drained n) = (has_drained h.events said ≡ true) × AreNumbersOf h n
 IsTallyOf s h said (tally.Left k) = (has_drained h.events said ≡ false) × (k ≡ commands_left s h.events)
 
--- it is that of some run of the script on one thread
-pub record IsSimTally (s : Scenario) (t : Tally) : Type 0 where
-  pub history : Past
-  pub said : Ending
-  pub run : IsSimRun s history said
-  pub tally : IsTallyOf s history said t
+-- it is that of a run of the script on one thread by the seed
+pub record IsSimTally (s : Scenario) (seed : ℕ) (t : Tally) : Type 0 where
+  pub run : SimRun
+  pub by : run.seed ≡ seed
+  pub made : IsSimRun s run.history run.ending
+  pub tally : IsTallyOf s run.history run.ending t

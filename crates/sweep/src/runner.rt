@@ -47,7 +47,7 @@ pub struct SimRunner {
 }
 
 impl Runner for SimRunner {
-    ghost comes_to = { λ _ s seed. IsSimTally s };
+    ghost comes_to = { λ _. IsSimTally };
 
     fn run(&self, script: &Script, seed: u64) -> Result<Tally, AllocError> {
         sim_tally(self.alloc, script, seed)

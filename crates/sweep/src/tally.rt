@@ -17,7 +17,7 @@ use wait_causes::Explanation;
 
 /// Runs the script by the seed, and explains the history beside a best schedule, if the run drained and each stay was sent.
 pub(crate) fn sim_tally(alloc: Global, script: &Script, seed: u64) -> Result<Tally, AllocError>
-    ensures { IfOk result (IsSimTally script.now) }
+    ensures { IfOk result (IsSimTally script.now seed) }
 {
     let run = sim_run(alloc, script, seed)?;
     if has_drained(&run) {

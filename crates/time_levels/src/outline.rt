@@ -1,5 +1,7 @@
 //! What is known of a level of time before it is planned: what comes in each of its nodes, and what may go on from there.
 
+ghost use Rattle.std.specs.Prelude.{◌≡◌, ◌*◌, ◌^◌, ◌<◌, IfOk};
+
 use crate::caps::{RoundCaps, number_at};
 use crate::network::Network;
 use crate::parts::{Coming, Part};
@@ -42,7 +44,10 @@ pub fn outlines(alloc: Global, network: &Network, part: &Part) -> Result<Vec<Out
 
 impl Outline {
     // That of the level whose blocks are rounds. Nodes are numbered, so that there can't be more of them than numbers.
-    fn of_rounds(alloc: Global, network: &Network, part: &Part) -> Result<Outline, AllocError> {
+    fn of_rounds(alloc: Global, network: &Network, part: &Part) -> Result<Outline, AllocError>
+        ensures rounds { IfOk result (λ outline. outline.blocks ≡ network.now.rounds) }
+        ensures numbered { IfOk result (λ outline. outline.blocks * outline.width < 2 ^ 32) }
+    {
         let width = part.columns.len();
         if network.rounds.checked_mul(width).is_none() {
             return Err(AllocError);

@@ -16,3 +16,4 @@ pub mod OriginLemmas
 pub mod CountingLemmas
 pub mod RequestLemmas
 pub mod ExplainedLemmas
+pub mod FirstWaitsLemmas

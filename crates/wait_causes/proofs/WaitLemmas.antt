@@ -26,7 +26,7 @@ same_cause _ _ e = absurd (cc)
 rounds-push : (f : ℕ → Cause) (first n : ℕ) → map (beside f) (range_with_len first (n + 1)) ≡ map (beside f) (range_with_len first n) ++ (first + n, f (first + n)) ∷ []
 rounds-push f first n = ap (map (beside f)) (range_with_len-push first n) ∙ map-append (beside f) (range_with_len first n) ((first + n) ∷ [])
 
-written-push : (ws : List Wait) (w : Wait) → flat_map rounds_of (ws ++ w ∷ []) ≡ flat_map rounds_of ws ++ rounds_of w
+pub written-push : (ws : List Wait) (w : Wait) → flat_map rounds_of (ws ++ w ∷ []) ≡ flat_map rounds_of ws ++ rounds_of w
 written-push ws w = flat_map-append rounds_of ws (w ∷ []) ∙ ap (λ xs. flat_map rounds_of ws ++ xs) (append-nil (rounds_of w))
 
 longer : (w : Wait) (round k : ℕ) → w.first + k ≡ round → round + 1 - w.first ≡ k + 1 → w.last + 1 - w.first ≡ k → rounds_of (record w { last = round }) ≡ rounds_of w ++ (round, w.cause) ∷ []
@@ -40,7 +40,7 @@ apart-same ws w v e =
     map-append (λ (x : Wait). x.cause) ws (w ∷ []) ∙ ap (λ x. map (λ (x : Wait). x.cause) ws ++ x ∷ []) e
     ∙ sym (map-append (λ (x : Wait). x.cause) ws (v ∷ []))
 
-apart-push : (xs : List Cause) (x y : Cause) → are_apart (xs ++ x ∷ []) ≡ true → is_cause x y ≡ false → are_apart ((xs ++ x ∷ []) ++ y ∷ []) ≡ true
+pub apart-push : (xs : List Cause) (x y : Cause) → are_apart (xs ++ x ∷ []) ≡ true → is_cause x y ≡ false → are_apart ((xs ++ x ∷ []) ++ y ∷ []) ≡ true
 apart-push [] x y apart ne = rw ne refl
 apart-push (a ∷ []) x y apart ne =
     let parts = and_parts (not (is_cause a x)) true apart in
@@ -55,7 +55,7 @@ some-parts ws w all =
     let parts = and_parts (list_all (λ (x : Wait). nat_le x.first x.last) ws) (nat_le w.first w.last && true) both in
     (parts.0, (and_parts (nat_le w.first w.last) true parts.1).0)
 
-some-push : (ws : List Wait) (w : Wait) → list_all (λ (x : Wait). nat_le x.first x.last) ws ≡ true → nat_le w.first w.last ≡ true → list_all (λ (x : Wait). nat_le x.first x.last) (ws ++ w ∷ []) ≡ true
+pub some-push : (ws : List Wait) (w : Wait) → list_all (λ (x : Wait). nat_le x.first x.last) ws ≡ true → nat_le w.first w.last ≡ true → list_all (λ (x : Wait). nat_le x.first x.last) (ws ++ w ∷ []) ≡ true
 some-push ws w all here = list_all-append (λ (x : Wait). nat_le x.first x.last) ws (w ∷ []) ∙ rw (all, here) refl
 
 -- the first round

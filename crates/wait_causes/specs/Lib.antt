@@ -17,3 +17,4 @@ pub mod TableLaws
 pub mod Freezes
 pub mod FreezeLaws
 pub mod BehindLaws
+pub mod FirstWaits

@@ -1,7 +1,9 @@
 //! Where the stays of a history or a recording waited, and why.
 
+use crate::cause_runs::CauseRuns;
 use crate::counting::count_waits;
 use crate::explained_stay::ExplainedStay;
+use crate::first_waits::{FirstWaits, first_waits};
 use crate::freeze::Freeze;
 use crate::freeze_list::freezes_of;
 use crate::kind::InputKind;
@@ -22,6 +24,7 @@ use std::marker::Model;
 /// Where the stays of a history or a recording waited, and why, beside another schedule.
 pub struct Explanation {
     origin: Origin,
+    runs: CauseRuns,
     stays: Vec<ExplainedStay>,
 }
 
@@ -30,6 +33,7 @@ impl Drop for Explanation {
     fn drop(self) {
         let Explanation {
             origin: _,
+            runs: _,
             stays: _,
         } = self;
     }
@@ -39,13 +43,14 @@ impl Model for Explanation {
     ghost use Rattle.std.specs.Prelude.{map};
     ghost use Rattle.wait_causes.specs.declared.explained_stay.ExplainedStay.{ExplainedStay as Listed};
     ghost use Rattle.wait_causes.specs.Explained.{Explained};
+    ghost use Rattle.wait_causes.specs.FirstWaits.{AreRunsOf};
     ghost use Rattle.wait_causes.specs.Sound.{IsExplained};
 
     ghost Value = { Explained };
 
     ghost view = { λ x. record { origin = x.origin; best = map (λ (s : Listed). s.best) x.stays.items } };
 
-    ghost invariant = { λ x. IsExplained x.origin (map (λ (s : Listed). s.best) x.stays.items) x.stays.items };
+    ghost invariant = { λ x. IsExplained x.origin (map (λ (s : Listed). s.best) x.stays.items) x.stays.items × AreRunsOf x.origin x.runs };
 }
 
 impl Explanation {
@@ -59,6 +64,7 @@ impl Explanation {
     ghost use Rattle.wait_causes.specs.Tables.{table_of};
     ghost use Rattle.wait_causes.specs.Freezes.{freezes_in};
     ghost use Rattle.wait_causes.specs.Waits.{AreWaitsOf};
+    ghost use Rattle.wait_causes.specs.FirstWaits.{AreFirstWaitsOf};
     ghost use Rattle.wait_causes.specs.declared.explained_stay.ExplainedStay.{ExplainedStay as Listed};
 
     /// Explains the history of this table of rounds beside a schedule of its net.
@@ -80,7 +86,12 @@ impl Explanation {
         let listed = list_stays(alloc, &table, history.stays(), best)?;
         let origin = Origin::Trace(table);
         let stays = count_waits(alloc, &origin, net, &sends, &listed)?;
-        Ok(Explanation { origin, stays })
+        let runs = CauseRuns::of(alloc, &origin, net.devices(), net.rounds())?;
+        Ok(Explanation {
+            origin,
+            runs,
+            stays,
+        })
     }
 
     /// Explains the recording of this net beside a schedule of it.
@@ -100,7 +111,12 @@ impl Explanation {
         let rounds = RecordedRounds::of(alloc, recording, net, &sends)?;
         let origin = Origin::Recording(rounds);
         let stays = count_waits(alloc, &origin, net, &sends, &listed)?;
-        Ok(Explanation { origin, stays })
+        let runs = CauseRuns::of(alloc, &origin, net.devices(), net.rounds())?;
+        Ok(Explanation {
+            origin,
+            runs,
+            stays,
+        })
     }
 
     /// What kind of input is explained.
@@ -143,6 +159,31 @@ impl Explanation {
             return Ok(Vec::new(alloc));
         };
         waits_in(alloc, &self.origin, kept.device, kept.arrival, kept.live)
+    }
+
+    /// The first waits of the stay at this place of `stays`, at most so many; none if no stay is there. These take as long to
+    /// find as there are of them, however long the stay waited.
+    pub fn first_waits(
+        &self,
+        alloc: Global,
+        place: usize,
+        most: usize,
+    ) -> Result<FirstWaits, AllocError>
+        ensures waits { (s : Listed) → slice_get (explained self.now.origin self.now.best) place ≡ Some s → IfOk result (AreFirstWaitsOf self.now.origin s most) }
+        ensures none { length (explained self.now.origin self.now.best) ≤ place → IfOk result (λ w. w.listed.items ≡ []) }
+    {
+        let Some(kept) = self.stays.get(place) else {
+            return Ok(FirstWaits::none(alloc));
+        };
+        first_waits(
+            alloc,
+            &self.origin,
+            &self.runs.devices[kept.device as usize],
+            kept.device,
+            kept.arrival,
+            kept.live,
+            most,
+        )
     }
 
     /// What all stays waited, and what that cost: the costs by cause add up to `live`, which is the cost of the live

@@ -3,8 +3,10 @@
 #![tactic(auto)]
 
 pub use behind::{Behind, FullBehind};
+pub use cause_runs::{CauseRuns, DeviceRuns};
 pub use explained_stay::{CauseRounds, ExplainedStay};
 pub use explanation::Explanation;
+pub use first_waits::FirstWaits;
 pub use freeze::Freeze;
 pub use kind::InputKind;
 pub use laws::{behind_adds_up, freezes_add_up, rows_add_up};
@@ -14,9 +16,11 @@ pub use table::{Grouping, Row};
 pub use wait::Wait;
 
 mod behind;
+mod cause_runs;
 mod counting;
 mod explained_stay;
 mod explanation;
+mod first_waits;
 mod freeze;
 mod freeze_list;
 mod kind;

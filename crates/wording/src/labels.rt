@@ -48,6 +48,21 @@ impl<'a> Labels<'a> {
         }
     }
 
+    /// The adapter, device or driver of this number by its name alone, as `driver database`, or as `label` does if it has none:
+    /// at most 26 characters.
+    pub fn by_name(self, alloc: Global, by: Grouping, number: u32) -> Result<String, AllocError> {
+        let (word, kind) = match by {
+            Grouping::Device => ("device", NameKind::Device),
+            Grouping::Adapter => ("adapter", NameKind::Adapter),
+            Grouping::Driver => ("driver", NameKind::Driver),
+            Grouping::Level => return self.label(alloc, by, number),
+        };
+        match self.name(kind, number) {
+            Some(name) => shortened(alloc, &format!(in alloc; "{word} {name}")?),
+            None => self.label(alloc, by, number),
+        }
+    }
+
     /// The device's path, and its name if it has one.
     pub fn device(self, alloc: Global, device: u32) -> Result<String, AllocError> {
         let path = path_name(alloc, self.config, device)?;

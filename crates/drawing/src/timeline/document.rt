@@ -14,19 +14,21 @@ use wording::Labels;
 /// `chrome://tracing` open. Each device is a process. Its rows are slots: a request stands in one from the beginning of the
 /// round in which it arrived to the end of the one in which it was sent, and in it stand its waits, by cause, and its send.
 /// Rows of their own have the freezes of devices and adapters, and counters how many waited at a device and how many of its
-/// openings were used. A round has its length, or a millisecond if that isn't known.
+/// openings were used. A round has its length, or a millisecond if that isn't known. Of each request at most so many waits stand
+/// there, and one slice more for what it waited after them.
 pub fn timeline_json(
     alloc: Global,
     name: &str,
     net: &Net,
     explanation: &Explanation,
+    most_waits: usize,
 ) -> Result<String, AllocError> {
     let labels = Labels::of(net.config(), explanation);
     let clock = RoundClock::of(explanation.unit());
     let mut writer = EventWriter::new(alloc, name, clock)?;
     put_processes(alloc, &mut writer, labels, net)?;
     put_freezes(alloc, &mut writer, net, explanation)?;
-    put_requests(alloc, &mut writer, net, explanation)?;
+    put_requests(alloc, &mut writer, net, explanation, most_waits)?;
     put_counters(alloc, &mut writer, net, explanation)?;
     writer.finish()
 }

@@ -1,63 +1,75 @@
 //! The requests of a timeline: the slots of each device, with what stood in them.
 
+use crate::slots::{Slots, by_arrival};
 use crate::timeline::document::device_process;
 use crate::timeline::freezes::FREEZE_ROWS;
 use crate::timeline::writer::{EventWriter, Track};
 use round_net::Net;
 use std::alloc::{AllocError, Global};
-use wait_causes::{ExplainedStay, Explanation, InputKind};
+use wait_causes::{ExplainedStay, Explanation, FirstWaits, InputKind};
 
-/// Puts the requests: each has the first slot of its device that is free from its arrival to its send.
+/// Puts the requests: in the order in which they arrived each has the first slot of its device that is free from its arrival to
+/// its send. At most so many waits of a request are listed, and what is left of them is one slice more.
 pub(crate) fn put_requests(
     alloc: Global,
     writer: &mut EventWriter,
     net: &Net,
     explanation: &Explanation,
+    most: usize,
 ) -> Result<(), AllocError> {
-    let mut slots = no_slots(alloc, net.devices() as usize)?;
-    for (place, stay) in explanation.stays().iter().enumerate() {
-        if let Some(ends) = slots.get_mut(stay.device as usize) {
-            let slot = slot_for(ends, stay)?;
-            let process = device_process(stay.device);
-            let row = slot.saturating_add(1).saturating_add(FREEZE_ROWS);
-            let track = Track { process, row };
-            put_request(alloc, writer, explanation, place, stay, track)?;
-        }
+    let stays = explanation.stays();
+    let mut slots = no_slots(alloc, net.devices())?;
+    let taken = slots_of(alloc, &mut slots, stays)?;
+    for (place, stay) in stays.iter().enumerate() {
+        let slot = taken.get(place).copied().unwrap_or(0);
+        let track = track_of(stay.device, slot);
+        let waits = explanation.first_waits(alloc, place, most)?;
+        put_request(alloc, writer, explanation.kind(), stay, &waits, track)?;
     }
-    for device in 0..net.devices() {
-        name_slots(alloc, writer, device, slots_of(&slots, device))?;
+    for (device, slots) in slots.iter().enumerate() {
+        name_slots(
+            alloc,
+            writer,
+            u32::try_from(device).unwrap_or(u32::MAX),
+            slots.count(),
+        )?;
     }
     Ok(())
 }
 
-// For each device the rounds in which its slots were last taken: it has none so far.
-fn no_slots(alloc: Global, devices: usize) -> Result<Vec<Vec<u32>>, AllocError> {
-    let mut slots = Vec::with_capacity(alloc, devices)?;
+// For each device its slots: it has none so far.
+fn no_slots(alloc: Global, devices: u32) -> Result<Vec<Slots>, AllocError> {
+    let mut slots = Vec::with_capacity(alloc, devices as usize)?;
     for _device in 0..devices {
-        slots.push(Vec::new(alloc))?;
+        slots.push(Slots::new(alloc))?;
     }
     Ok(slots)
 }
 
-// Takes the first slot that is free when a stay arrives, or a new one, up to its send.
-fn slot_for(ends: &mut Vec<u32>, stay: &ExplainedStay) -> Result<u32, AllocError> {
-    let mut slot = 0u32;
-    for end in ends.iter_mut() {
-        if *end < stay.arrival {
-            *end = stay.live;
-            return Ok(slot);
+// The slot of each stay.
+fn slots_of(
+    alloc: Global,
+    slots: &mut [Slots],
+    stays: &[ExplainedStay],
+) -> Result<Vec<u32>, AllocError> {
+    let all: Vec<usize> = (0..stays.len()).collect(alloc)?;
+    let mut taken = vec![in alloc; 0u32; stays.len()]?;
+    for place in &by_arrival(alloc, stays, &all)? {
+        if let Some(stay) = stays.get(*place)
+            && let Some(there) = slots.get_mut(stay.device as usize)
+            && let Some(slot) = taken.get_mut(*place)
+        {
+            *slot = there.take(stay.arrival, stay.live)?;
         }
-        slot = slot.saturating_add(1);
     }
-    ends.push(stay.live)?;
-    Ok(slot)
+    Ok(taken)
 }
 
-// How many slots a device has.
-fn slots_of(slots: &[Vec<u32>], device: u32) -> u32 {
-    match slots.get(device as usize) {
-        Some(ends) => u32::try_from(ends.len()).unwrap_or(u32::MAX),
-        None => 0,
+// The row of a slot.
+fn track_of(device: u32, slot: u32) -> Track {
+    Track {
+        process: device_process(device),
+        row: slot.saturating_add(1).saturating_add(FREEZE_ROWS),
     }
 }
 
@@ -69,24 +81,22 @@ fn name_slots(
     count: u32,
 ) -> Result<(), AllocError> {
     for slot in 0..count {
-        let row = slot.saturating_add(1).saturating_add(FREEZE_ROWS);
         let name = format!(in alloc; "slot {slot}")?;
-        let process = device_process(device);
-        writer.row(Track { process, row }, &name)?;
+        writer.row(track_of(device, slot), &name)?;
     }
     Ok(())
 }
 
-// Puts a request, with its waits and its send in it.
+// Puts a request, with these of its waits and its send in it, and a slice for what it waited after them.
 fn put_request(
     alloc: Global,
     writer: &mut EventWriter,
-    explanation: &Explanation,
-    place: usize,
+    kind: InputKind,
     stay: &ExplainedStay,
+    waits: &FirstWaits,
     track: Track,
 ) -> Result<(), AllocError> {
-    let name = name_of(alloc, explanation.kind(), stay)?;
+    let name = name_of(alloc, kind, stay)?;
     let last = stay.live.max(stay.arrival);
     writer.slice(
         track,
@@ -103,10 +113,33 @@ fn put_request(
             ("cost", stay.cost()),
         ],
     )?;
-    for wait in &explanation.waits(alloc, place)? {
+    for wait in &waits.listed {
         writer.slice(track, wait.cause.name(), wait.first, wait.last, &[])?;
     }
+    if waits.more > 0 {
+        put_more(alloc, writer, stay, waits, track)?;
+    }
     writer.slice(track, "sent", last, last, &[])
+}
+
+// Puts what a request waited after these waits as one slice, with how many waits they are and what they cost.
+fn put_more(
+    alloc: Global,
+    writer: &mut EventWriter,
+    stay: &ExplainedStay,
+    waits: &FirstWaits,
+    track: Track,
+) -> Result<(), AllocError> {
+    let name = format!(in alloc; "{} more waits", waits.more)?;
+    let rounds = stay.live.saturating_sub(waits.next);
+    let cost = u64::from(stay.weight).saturating_mul(u64::from(rounds));
+    writer.slice(
+        track,
+        &name,
+        waits.next,
+        stay.live.saturating_sub(1),
+        &[("waits", waits.more), ("cost", cost)],
+    )
 }
 
 fn name_of(alloc: Global, kind: InputKind, stay: &ExplainedStay) -> Result<String, AllocError> {

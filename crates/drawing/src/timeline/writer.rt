@@ -138,10 +138,21 @@ impl EventWriter {
     }
 }
 
-// The words as a string of JSON.
+// The words as a string of JSON, whose control characters are all escaped: U+007F to U+009F too, which a terminal may obey.
 fn quoted(alloc: Global, words: &str) -> Result<String, AllocError> {
-    match serde_json::to_string(alloc, &words) {
-        Ok(text) => Ok(text),
-        Err(_) => Err(AllocError),
+    let Ok(text) = serde_json::to_string(alloc, &words) else {
+        return Err(AllocError);
+    };
+    if text.bytes().all(|byte| byte < 0x7f) {
+        return Ok(text);
     }
+    let mut quoted = String::new(alloc);
+    for letter in text.chars() {
+        if letter.is_control() {
+            write!(quoted, "\\u{:04x}", u32::from(letter))?;
+        } else {
+            quoted.push(letter)?;
+        }
+    }
+    Ok(quoted)
 }

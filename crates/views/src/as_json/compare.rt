@@ -6,15 +6,14 @@ ghost use Rattle.json.specs.Print.{print};
 
 use crate::as_json::counts::Counts;
 use crate::as_json::line::line;
-use crate::as_json::parts::{Costs, Waited, Waits, named_by};
+use crate::as_json::parts::{Costs, TableRow, Waits, row_of};
 use crate::as_json::shifts::Shifts;
 use crate::compare::rows_of;
-use crate::compared::Compared;
-use cam_path::path_name;
-use comparison::{Differences, PairedRow};
+use crate::compared::{Compared, Pairing, differences, pairing_of};
+use comparison::{PairBy, PairedRow};
 use serde::Serialize;
 use std::alloc::{AllocError, Global};
-use wait_causes::{Grouping, Part};
+use wait_causes::{Grouping, Part, Row};
 use wording::nanoseconds;
 
 // What is compared, in what its inputs differ beside their requests, and each part before and after.
@@ -24,8 +23,25 @@ struct Comparison<'a> {
     after: Side<'a>,
     difference: Shifts,
     differ: Differ,
+    pairing: Pairings,
     #[serde(flatten)]
     tables: PairedTables,
+}
+
+// How the rows of devices and of drivers are paired.
+#[derive(Clone, Copy, Drop, Serialize)]
+struct Pairings {
+    devices: PairedBy,
+    drivers: PairedBy,
+}
+
+// By names or by numbers; which input has no names, if the other one has some; and whether one of them has a name twice.
+#[derive(Clone, Copy, Drop, Serialize)]
+struct PairedBy {
+    by: &'static str,
+    #[serde(skip_serializing_if = "Option::is_none")]
+    unnamed: Option<&'static str>,
+    namesakes: bool,
 }
 
 // The rows of each table.
@@ -60,46 +76,34 @@ struct Differ {
     round: bool,
 }
 
-// What some stays waited, and what that cost.
-#[derive(Clone, Copy, Drop, Serialize)]
-struct PartObject {
-    #[serde(flatten)]
-    waited: Waited,
-    #[serde(flatten)]
-    costs: Costs,
-}
-
-// The parts of a number before and after; a device has its path too, and what has a name has that.
+// The parts of a pair before and after.
 #[derive(Drop, Serialize)]
 struct PairedPart {
-    number: u32,
-    #[serde(skip_serializing_if = "Option::is_none")]
-    path: Option<String>,
-    #[serde(skip_serializing_if = "Option::is_none")]
-    name: Option<String>,
-    before: Option<PartObject>,
-    after: Option<PartObject>,
+    before: Option<TableRow>,
+    after: Option<TableRow>,
     #[serde(skip_serializing_if = "Option::is_none")]
     difference: Option<Shifts>,
 }
 
 /// A line without its line feed: of each input its counts, how many nanoseconds a round has where that is known, and what its
-/// stays waited and what that cost; the differences, and in what the inputs differ beside their requests; and the same by
-/// adapter, device, driver and run level.
+/// stays waited and what that cost; the differences, in what the inputs differ beside their requests, and how devices and
+/// drivers are paired; and the same by adapter, device, driver and run level, whose rows are paired so.
 pub fn compare_json(
     alloc: Global,
+    asked: PairBy,
     before: Compared<'_>,
     after: Compared<'_>,
 ) -> Result<String, AllocError>
     ensures { IfOk result (λ s. string_bytes s ≡ print (tokens (string_bytes s))) }
 {
-    let tables = tables(alloc, before, after)?;
-    line(alloc, &compared(alloc, before, after, tables)?)
+    let tables = tables(alloc, asked, before, after)?;
+    line(alloc, &compared(alloc, asked, before, after, tables)?)
 }
 
 // The comparison with these tables.
 fn compared<'a>(
     alloc: Global,
+    asked: PairBy,
     before: Compared<'a>,
     after: Compared<'a>,
     tables: PairedTables,
@@ -110,21 +114,26 @@ fn compared<'a>(
         before: whole_of(alloc, before, &was)?,
         after: whole_of(alloc, after, &is)?,
         difference: Shifts::between(&was, &is),
-        differ: what_differs(before, after),
+        differ: what_differs(asked, before, after),
+        pairing: Pairings {
+            devices: paired_by(pairing_of(asked, Grouping::Device, before, after)),
+            drivers: paired_by(pairing_of(asked, Grouping::Driver, before, after)),
+        },
         tables,
     })
 }
 
 fn tables(
     alloc: Global,
+    asked: PairBy,
     before: Compared<'_>,
     after: Compared<'_>,
 ) -> Result<PairedTables, AllocError> {
     Ok(PairedTables {
-        adapters: rows(alloc, before, after, Grouping::Adapter)?,
-        devices: rows(alloc, before, after, Grouping::Device)?,
-        drivers: rows(alloc, before, after, Grouping::Driver)?,
-        levels: rows(alloc, before, after, Grouping::Level)?,
+        adapters: rows(alloc, asked, before, after, Grouping::Adapter)?,
+        devices: rows(alloc, asked, before, after, Grouping::Device)?,
+        drivers: rows(alloc, asked, before, after, Grouping::Driver)?,
+        levels: rows(alloc, asked, before, after, Grouping::Level)?,
     })
 }
 
@@ -137,13 +146,8 @@ fn whole_of<'a>(alloc: Global, side: Compared<'a>, whole: &Part) -> Result<Side<
     })
 }
 
-fn what_differs(before: Compared<'_>, after: Compared<'_>) -> Differ {
-    let differences = Differences::between(
-        before.net.config(),
-        before.explanation.unit(),
-        after.net.config(),
-        after.explanation.unit(),
-    );
+fn what_differs(asked: PairBy, before: Compared<'_>, after: Compared<'_>) -> Differ {
+    let differences = differences(asked, before, after);
     Differ {
         weights: differences.weights,
         links: differences.links,
@@ -153,11 +157,15 @@ fn what_differs(before: Compared<'_>, after: Compared<'_>) -> Differ {
     }
 }
 
-// A part of an input.
-fn part_of(side: Compared<'_>, part: &Part) -> PartObject {
-    PartObject {
-        waited: Waited::of(part),
-        costs: costs_of(side, part),
+fn paired_by(pairing: Pairing) -> PairedBy {
+    PairedBy {
+        by: if pairing.by_name { "name" } else { "number" },
+        unnamed: match (pairing.none_before, pairing.none_after) {
+            (true, _) => Some("before"),
+            (_, true) => Some("after"),
+            _ => None,
+        },
+        namesakes: pairing.has_namesakes,
     }
 }
 
@@ -165,67 +173,38 @@ fn costs_of(side: Compared<'_>, part: &Part) -> Costs {
     Costs::of(part, side.explanation.kind(), side.net.config())
 }
 
-fn some_part_of(side: Compared<'_>, part: &Option<Part>) -> Option<PartObject> {
-    match part {
-        Some(part) => Some(part_of(side, part)),
-        None => None,
-    }
-}
-
-// The rows of a table, by number.
+// The rows of a table.
 fn rows(
     alloc: Global,
+    asked: PairBy,
     before: Compared<'_>,
     after: Compared<'_>,
     by: Grouping,
 ) -> Result<Vec<PairedPart>, AllocError> {
-    let table = rows_of(alloc, before.explanation, after.explanation, by)?;
+    let table = rows_of(alloc, asked, before, after, by)?;
     let mut rows = Vec::with_capacity(alloc, table.len())?;
     for row in &table {
-        rows.push(row_of(alloc, before, after, by, row)?)?;
+        rows.push(PairedPart {
+            before: part_of(alloc, before, by, &row.before)?,
+            after: part_of(alloc, after, by, &row.after)?,
+            difference: shifts_of(row),
+        })?;
     }
     Ok(rows)
 }
 
-fn row_of(
-    alloc: Global,
-    before: Compared<'_>,
-    after: Compared<'_>,
-    by: Grouping,
-    row: &PairedRow,
-) -> Result<PairedPart, AllocError> {
-    let side = if row.before.is_some() { before } else { after };
-    Ok(PairedPart {
-        number: row.number,
-        path: path_of(alloc, side, by, row.number)?,
-        name: name_of(alloc, side, by, row.number)?,
-        before: some_part_of(before, &row.before),
-        after: some_part_of(after, &row.after),
-        difference: shifts_of(row),
-    })
-}
-
-// The path of a device.
-fn path_of(
+// A row of an input, if there is one.
+fn part_of(
     alloc: Global,
     side: Compared<'_>,
     by: Grouping,
-    number: u32,
-) -> Result<Option<String>, AllocError> {
-    match by {
-        Grouping::Device => Ok(Some(path_name(alloc, side.net.config(), number)?)),
-        _ => Ok(None),
-    }
-}
-
-fn name_of(
-    alloc: Global,
-    side: Compared<'_>,
-    by: Grouping,
-    number: u32,
-) -> Result<Option<String>, AllocError> {
-    match named_by(by).and_then(|kind| side.labels().name(kind, number)) {
-        Some(name) => Ok(Some(String::from_str(alloc, name)?)),
+    row: &Option<Row>,
+) -> Result<Option<TableRow>, AllocError> {
+    match row {
+        Some(row) => {
+            let kind = side.explanation.kind();
+            Ok(Some(row_of(alloc, side.labels(), kind, row, by)?))
+        }
         None => Ok(None),
     }
 }
@@ -233,7 +212,7 @@ fn name_of(
 // The differences, if there are stays before and after.
 fn shifts_of(row: &PairedRow) -> Option<Shifts> {
     match (&row.before, &row.after) {
-        (Some(before), Some(after)) => Some(Shifts::between(before, after)),
+        (Some(before), Some(after)) => Some(Shifts::between(&before.part, &after.part)),
         _ => None,
     }
 }

@@ -29,14 +29,16 @@ struct Explained<'a> {
     list: Vec<ListedStay>,
 }
 
-/// A line without its line feed: the counts of the net, how many nanoseconds a round has where that is known, what its live schedule and the other one cost in weighted
-/// rounds, the difference, and the live cost by cause and by what full rows sent; the tables by adapter, device, driver and run level; the freezes; and
-/// all stays in order of birth, each with its waits. Any text may be the name.
+/// A line without its line feed: the counts of the net, how many nanoseconds a round has where that is known, what its live
+/// schedule and the other one cost in weighted rounds, the difference, and the live cost by cause and by what full rows sent; the
+/// tables by adapter, device, driver and run level; the freezes; and all stays in order of birth, each with its first waits, at
+/// most so many, and what the others cost together. Any text may be the name.
 pub fn explain_json(
     alloc: Global,
     trace: &str,
     net: &Net,
     explanation: &Explanation,
+    most_waits: usize,
 ) -> Result<String, AllocError>
     ensures { IfOk result (λ s. string_bytes s ≡ print (tokens (string_bytes s))) }
 {
@@ -47,7 +49,7 @@ pub fn explain_json(
         costs: Costs::of(&explanation.whole(alloc)?, kind, config),
         tables: Tables::of(alloc, Labels::of(config, explanation), explanation)?,
         freezes: freeze_list(alloc, explanation)?,
-        list: stay_list(alloc, explanation)?,
+        list: stay_list(alloc, config, explanation, most_waits)?,
     };
     line(alloc, &explained)
 }

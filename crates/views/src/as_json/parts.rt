@@ -8,9 +8,9 @@ use std::alloc::{AllocError, Global};
 use wait_causes::{BehindCosts, Cause, CauseCosts, Explanation, Grouping, InputKind, Part, Row};
 use wording::Labels;
 
-// Weighted rounds by cause: those of a trace or of a recording, and those of links only where there are links.
+/// Weighted rounds by cause: those of a trace or of a recording, and those of links only where there are links.
 #[derive(Clone, Copy, Drop, Serialize)]
-struct Causes {
+pub(crate) struct Causes {
     #[serde(skip_serializing_if = "Option::is_none")]
     error: Option<u64>,
     #[serde(skip_serializing_if = "Option::is_none")]
@@ -31,8 +31,8 @@ struct Causes {
 }
 
 impl Causes {
-    // Those of these costs of such an input in a configuration.
-    fn of(costs: &CauseCosts, kind: InputKind, config: &Config) -> Causes {
+    /// Those of these costs of such an input in a configuration.
+    pub(crate) fn of(costs: &CauseCosts, kind: InputKind, config: &Config) -> Causes {
         let is_trace = kind == InputKind::Trace;
         let has_links = Cause::LinkFull.can_hold(config);
         Causes {
@@ -102,9 +102,9 @@ pub(crate) struct Tables {
     levels: Vec<TableRow>,
 }
 
-// A row of a table; a device has its path too, and what has a name has that.
+/// A row of a table; a device has its path too, and what has a name has that.
 #[derive(Drop, Serialize)]
-struct TableRow {
+pub(crate) struct TableRow {
     number: u32,
     #[serde(skip_serializing_if = "Option::is_none")]
     path: Option<String>,
@@ -116,9 +116,9 @@ struct TableRow {
     costs: Costs,
 }
 
-/// How many stays there are, and how many rounds they waited.
+// How many stays there are, and how many rounds they waited.
 #[derive(Clone, Copy, Drop, Serialize)]
-pub(crate) struct Waited {
+struct Waited {
     stays: u32,
     #[serde(flatten)]
     waits: Waits,
@@ -136,8 +136,8 @@ pub(crate) struct Waits {
 }
 
 impl Waited {
-    /// That of the stays of a part.
-    pub(crate) fn of(part: &Part) -> Waited {
+    // That of the stays of a part.
+    fn of(part: &Part) -> Waited {
         Waited {
             stays: part.stays,
             waits: Waits::of(part),
@@ -190,8 +190,8 @@ fn rows(
     Ok(rows)
 }
 
-// The row of a table by this, with the path of a device, and the name if there is one.
-fn row_of(
+/// The row of a table by this, with the path of a device, and the name if there is one.
+pub(crate) fn row_of(
     alloc: Global,
     labels: Labels<'_>,
     kind: InputKind,
@@ -216,8 +216,8 @@ fn row_of(
     })
 }
 
-/// The kind of the names of a table's rows; run levels have none.
-pub(crate) fn named_by(by: Grouping) -> Option<NameKind> {
+// The kind of the names of a table's rows; run levels have none.
+fn named_by(by: Grouping) -> Option<NameKind> {
     match by {
         Grouping::Adapter => Some(NameKind::Adapter),
         Grouping::Device => Some(NameKind::Device),

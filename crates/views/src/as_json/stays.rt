@@ -1,8 +1,10 @@
 //! The stays of an explanation, each with its waits.
 
+use crate::as_json::parts::Causes;
+use cam_types::Config;
 use serde::Serialize;
 use std::alloc::{AllocError, Global};
-use wait_causes::{Cause, ExplainedStay, Explanation, Wait};
+use wait_causes::{Cause, CauseCosts, ExplainedStay, Explanation, FirstWaits, InputKind, Wait};
 
 /// A stay, where both schedules send it, and why it waited.
 #[derive(Drop, Serialize)]
@@ -12,6 +14,18 @@ pub(crate) struct ListedStay {
     #[serde(flatten)]
     rounds: Rounds,
     waits: Vec<ListedWait>,
+    #[serde(skip_serializing_if = "Option::is_none")]
+    more: Option<MoreWaits>,
+}
+
+// What a stay waited after the waits that are listed: how many waits these are, their rounds, and what they cost.
+#[derive(Clone, Copy, Drop, Serialize)]
+struct MoreWaits {
+    waits: u64,
+    first: u32,
+    last: u32,
+    cost: u64,
+    causes: Causes,
 }
 
 // A stay's name, and what its driver asked for.
@@ -56,27 +70,30 @@ struct ListedWait {
     last: u32,
 }
 
-/// All stays, in order of birth.
+/// All stays, in order of birth, each with at most so many of its waits.
 pub(crate) fn stay_list(
     alloc: Global,
+    config: &Config,
     explanation: &Explanation,
+    most: usize,
 ) -> Result<Vec<ListedStay>, AllocError> {
     let stays = explanation.stays();
     let mut list = Vec::with_capacity(alloc, stays.len())?;
     for (place, stay) in stays.iter().enumerate() {
-        list.push(listed(alloc, explanation, stay, place)?)?;
+        let waits = explanation.first_waits(alloc, place, most)?;
+        list.push(listed(alloc, config, explanation.kind(), stay, &waits)?)?;
     }
     Ok(list)
 }
 
-// The stay at this place with its waits.
+// The stay with these of its waits.
 fn listed(
     alloc: Global,
-    explanation: &Explanation,
+    config: &Config,
+    kind: InputKind,
     stay: &ExplainedStay,
-    place: usize,
+    waits: &FirstWaits,
 ) -> Result<ListedStay, AllocError> {
-    let waits = explanation.waits(alloc, place)?;
     Ok(ListedStay {
         asked: Asked::of(stay),
         rounds: Rounds {
@@ -84,8 +101,53 @@ fn listed(
             live: stay.live,
             best: stay.best,
         },
-        waits: wait_list(alloc, &waits)?,
+        waits: wait_list(alloc, &waits.listed)?,
+        more: (waits.more > 0).then_some(more_waits(config, kind, stay, waits)),
     })
+}
+
+// What the stay waited after these waits.
+fn more_waits(
+    config: &Config,
+    kind: InputKind,
+    stay: &ExplainedStay,
+    waits: &FirstWaits,
+) -> MoreWaits {
+    let rounds = stay.live.saturating_sub(waits.next);
+    MoreWaits {
+        waits: waits.more,
+        first: waits.next,
+        last: stay.live.saturating_sub(1),
+        cost: u64::from(stay.weight).saturating_mul(u64::from(rounds)),
+        causes: Causes::of(&costs_after(stay, &waits.listed), kind, config),
+    }
+}
+
+// What the rounds of a stay cost that aren't in these waits, by cause.
+fn costs_after(stay: &ExplainedStay, waits: &[Wait]) -> CauseCosts {
+    CauseCosts {
+        error: cost_after(stay, waits, Cause::Error),
+        caller: cost_after(stay, waits, Cause::Caller),
+        adapter_frozen: cost_after(stay, waits, Cause::AdapterFrozen),
+        device_stopped: cost_after(stay, waits, Cause::DeviceStopped),
+        adapter_stopped: cost_after(stay, waits, Cause::AdapterStopped),
+        link_stopped: cost_after(stay, waits, Cause::LinkStopped),
+        device_full: cost_after(stay, waits, Cause::DeviceFull),
+        adapter_full: cost_after(stay, waits, Cause::AdapterFull),
+        link_full: cost_after(stay, waits, Cause::LinkFull),
+        not_asked: cost_after(stay, waits, Cause::NotAsked),
+    }
+}
+
+fn cost_after(stay: &ExplainedStay, waits: &[Wait], cause: Cause) -> u64 {
+    let mut rounds = stay.rounds.for_cause(cause);
+    for wait in waits {
+        if wait.cause == cause {
+            let length = wait.last.saturating_sub(wait.first).saturating_add(1);
+            rounds = rounds.saturating_sub(length);
+        }
+    }
+    u64::from(stay.weight).saturating_mul(u64::from(rounds))
 }
 
 // The waits under their causes' keys.

@@ -1,10 +1,10 @@
 //! Sentences on what changed most.
 
 use crate::compare::totals::cost_of;
-use crate::compared::{Compared, GROUPINGS, label_in};
+use crate::compared::{Compared, GROUPINGS, label_of};
 use comparison::{PairedRow, most_changed};
 use std::alloc::{AllocError, Global};
-use wait_causes::{Cause, Explanation, Part};
+use wait_causes::{Cause, Explanation, Part, Row};
 use wording::{Page, push_number, push_share};
 
 /// Puts sentences on the page: how much the cost changed, and which cause changed most.
@@ -33,7 +33,7 @@ pub(crate) fn push_most_rows(
 ) -> Result<(), AllocError> {
     for ((by, words), rows) in GROUPINGS.iter().zip(tables) {
         if let Some(row) = most_changed(rows) {
-            let label = label_in(alloc, before, after, *by, row.number, row.before.is_some())?;
+            let label = label_of(alloc, before, after, *by, &row)?;
             page.show(format_args!("Of the {words} {label} changed most"));
             push_from_to(page, live_of(&row.before), live_of(&row.after));
         }
@@ -41,10 +41,10 @@ pub(crate) fn push_most_rows(
     Ok(())
 }
 
-/// The weighted rounds of a part, and 0 of none.
-pub(crate) fn live_of(part: &Option<Part>) -> u64 {
-    match part {
-        Some(part) => part.live,
+/// The weighted rounds of a row, and 0 of none.
+pub(crate) fn live_of(row: &Option<Row>) -> u64 {
+    match row {
+        Some(row) => row.part.live,
         None => 0,
     }
 }

@@ -1,11 +1,11 @@
 //! The tables of a comparison: what adapters, devices, drivers and run levels waited before and after.
 
 use crate::compare::most::live_of;
-use crate::compared::{Compared, GROUPINGS, label_in};
+use crate::compared::{Compared, GROUPINGS, label_of};
 use crate::text::push_columns;
-use comparison::{PairedRow, paired};
+use comparison::{PairBy, PairedRow, names_for, paired};
 use std::alloc::{AllocError, Global};
-use wait_causes::{Explanation, Grouping, Part};
+use wait_causes::{Grouping, Row};
 use wording::{Page, shift};
 
 // What stands above the columns, and above those two by two.
@@ -13,29 +13,33 @@ const HEAD: &str = "before after    before     after difference    before     af
 
 const PAIRS: &str = "stays           live                           excess           p99";
 
-/// The rows of each table before and after, in the order of `GROUPINGS`.
+/// The rows of each table before and after, paired so, in the order of `GROUPINGS`.
 pub(crate) fn tables_of(
     alloc: Global,
-    before: &Explanation,
-    after: &Explanation,
+    asked: PairBy,
+    before: Compared<'_>,
+    after: Compared<'_>,
 ) -> Result<Vec<Vec<PairedRow>>, AllocError> {
     let mut tables = Vec::with_capacity(alloc, GROUPINGS.len())?;
     for (by, _) in &GROUPINGS {
-        tables.push(rows_of(alloc, before, after, *by)?)?;
+        tables.push(rows_of(alloc, asked, before, after, *by)?)?;
     }
     Ok(tables)
 }
 
-/// The rows of a table before and after.
+/// The rows of a table before and after, paired so.
 pub(crate) fn rows_of(
     alloc: Global,
-    before: &Explanation,
-    after: &Explanation,
+    asked: PairBy,
+    before: Compared<'_>,
+    after: Compared<'_>,
     by: Grouping,
 ) -> Result<Vec<PairedRow>, AllocError> {
-    let was = before.table(alloc, by)?;
-    let is = after.table(alloc, by)?;
-    paired(alloc, &was, &is)
+    let (names_before, names_after) = (before.explanation.names(), after.explanation.names());
+    let was = before.explanation.table(alloc, by)?;
+    let is = after.explanation.table(alloc, by)?;
+    let kind = names_for(asked, by, names_before, names_after);
+    paired(alloc, kind, names_before, names_after, &was, &is)
 }
 
 /// Puts the tables on the page.
@@ -64,7 +68,7 @@ fn push_table(
     width: usize,
 ) -> Result<(), AllocError> {
     for row in rows {
-        let label = label_in(alloc, before, after, by, row.number, row.before.is_some())?;
+        let label = label_of(alloc, before, after, by, row)?;
         page.show(format_args!("{label:<width$}"));
         push_row(page, row);
     }
@@ -93,23 +97,23 @@ fn push_row(page: &mut Page, row: &PairedRow) {
     page.put("\n");
 }
 
-fn stays_of(part: &Option<Part>) -> u64 {
-    match part {
-        Some(part) => u64::from(part.stays),
+fn stays_of(row: &Option<Row>) -> u64 {
+    match row {
+        Some(row) => u64::from(row.part.stays),
         None => 0,
     }
 }
 
-fn excess_of(part: &Option<Part>) -> i128 {
-    match part {
-        Some(part) => part.excess(),
+fn excess_of(row: &Option<Row>) -> i128 {
+    match row {
+        Some(row) => row.part.excess(),
         None => 0,
     }
 }
 
-fn p99_of(part: &Option<Part>) -> u64 {
-    match part {
-        Some(part) => u64::from(part.p99),
+fn p99_of(row: &Option<Row>) -> u64 {
+    match row {
+        Some(row) => u64::from(row.part.p99),
         None => 0,
     }
 }

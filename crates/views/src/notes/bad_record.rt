@@ -35,6 +35,9 @@ const OF_RECORDINGS: [&[u8]; 9] = [
 
 const OF_REQUESTS: [&[u8]; 1] = [b"request"];
 
+// The words that headers of scripts begin with.
+const SCRIPT_HEADERS: [&[u8]; 2] = [b"camscript1", b"camscript2"];
+
 const OF_SCRIPTS: [&[u8]; 6] = [b"limits", b"weight", b"link", b"sim", b"dev", b"lane"];
 
 const OF_DRIVERS: [&[u8]; 7] = [
@@ -68,7 +71,7 @@ pub(crate) fn push_reason(
     if fields < FIELDS {
         return writeln!(note, "  it has {fields} fields, and not 8");
     }
-    if text.starts_with(b"camscript1") {
+    if is_script(alloc, text) {
         push_of_script(alloc, note, text, &row, record)
     } else if is_recording {
         push_of_recording(alloc, note, text, &row, record)
@@ -76,6 +79,14 @@ pub(crate) fn push_reason(
         note.push_str("  no record of this word can stand here\n")
     } else {
         note.push_str("  no record of a trace begins with this word\n")
+    }
+}
+
+// Whether the header is that of a script. A byte-order mark and empty lines before it are no part of it.
+fn is_script(alloc: Global, text: &[u8]) -> bool {
+    match record_at(alloc, text, 1) {
+        Some(header) => begins_with(&header, &SCRIPT_HEADERS),
+        None => false,
     }
 }
 

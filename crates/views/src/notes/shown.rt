@@ -18,19 +18,39 @@ pub(crate) fn push_line(
     writeln!(note, "  {name}, line {number}: {shown}")
 }
 
-/// The name of a file as it is shown: control characters are written as Rust escapes them, as `\n` and `\u{1b}`.
+/// The name of a file as it is shown: control characters (U+0000 to U+001F and U+007F to U+009F) are written as Rust escapes
+/// them, as `\n` and `\u{1b}`.
 pub fn shown_name(alloc: Global, name: &str) -> Result<String, AllocError> {
     let mut shown = String::new(alloc);
     for character in name.chars() {
-        if character.is_control() {
-            for escaped in character.escape_default() {
-                shown.push(escaped)?;
-            }
-        } else {
+        push_shown(&mut shown, character)?;
+    }
+    Ok(shown)
+}
+
+/// A text of several lines as it is shown: the same, but that line feeds stay. So words of the command line that stand in it
+/// can't change a terminal's state.
+pub fn shown_lines(alloc: Global, text: &str) -> Result<String, AllocError> {
+    let mut shown = String::new(alloc);
+    for character in text.chars() {
+        if character == '\n' {
             shown.push(character)?;
+        } else {
+            push_shown(&mut shown, character)?;
         }
     }
     Ok(shown)
+}
+
+// Puts a character after the text, or if it is a control character its escape.
+fn push_shown(shown: &mut String, character: char) -> Result<(), AllocError> {
+    if !character.is_control() {
+        return shown.push(character);
+    }
+    for escaped in character.escape_default() {
+        shown.push(escaped)?;
+    }
+    Ok(())
 }
 
 fn shown(alloc: Global, line: &[u8]) -> Result<String, AllocError> {

@@ -109,7 +109,7 @@ fn push_causes(page: &mut Page, config: &Config, kind: InputKind, whole: &Part) 
     page.put("\nWhat the waiting cost, by cause:\n\n");
     for (cause, cost) in &whole.costs.by_cause(kind) {
         if cause.can_hold(config) {
-            let (name, words) = (cause.name(), plain_words(*cause));
+            let (name, words) = (cause.name(), plain_words(kind, *cause));
             page.show(format_args!("  {name:<18} {cost:>9}  {words}\n"));
         }
     }

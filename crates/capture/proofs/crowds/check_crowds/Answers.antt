@@ -4,14 +4,14 @@ use Rattle.capture.specs.Faults.{starts_in}
 use Rattle.capture.proofs.FaultLemmas.{crowd_found, crowd_more, crowd_none, none_crowded}
 use Rattle.capture.proofs.crowds.check_crowds.Goals as goal
 
-pub returns-then-index-gt-MOST_IN_ROUND-clause-err : goal.returns-then-index-gt-MOST_IN_ROUND-clause-err
-returns-then-index-gt-MOST_IN_ROUND-clause-err c = λ _ unit.
+pub returns-then-starts-gt-MOST_IN_ROUND-clause-err : goal.returns-then-starts-gt-MOST_IN_ROUND-clause-err
+returns-then-starts-gt-MOST_IN_ROUND-clause-err c = λ _ unit.
     let n = c.loop-before.before in
     let row = c.in_ok-row.ensures in
     let size = row.size in
     let lt = c.loop-before-test.true in
-    let is : c.index.result.now ≡ starts_in c.args.requests.now (n + 1) = c.index.ensures ∙ get_or_default c.in_ok-row.row.items (n + 1) _ 0 (omega arith) ∙ row.each (n + 1) (omega arith) in
-    crowd_found unit c.args.requests.now n c.args.last c.index.result.now lt c.loop-before.invariant is c.if-index-gt-MOST_IN_ROUND.true
+    let is : c.index-starts.result.now ≡ starts_in c.args.requests.now (n + 1) = c.index-starts.ensures ∙ get_or_default c.in_ok-row.row.items (n + 1) _ 0 (omega arith) ∙ row.each (n + 1) (omega arith) in
+    crowd_found unit c.args.requests.now n c.args.last c.index-starts.result.now lt c.loop-before.invariant is c.if-starts-gt-MOST_IN_ROUND.true
 
 pub loop-before-preserved : goal.loop-before-preserved
 loop-before-preserved c =
@@ -19,8 +19,8 @@ loop-before-preserved c =
     let row = c.in_ok-row.ensures in
     let size = row.size in
     let lt = c.loop-before-test.true in
-    let is : c.index.result.now ≡ starts_in c.args.requests.now (n + 1) = c.index.ensures ∙ get_or_default c.in_ok-row.row.items (n + 1) _ 0 (omega arith) ∙ row.each (n + 1) (omega arith) in
-    crowd_more c.args.requests.now n c.index.result.now c.loop-before.invariant is c.if-index-gt-MOST_IN_ROUND.false
+    let is : c.index-starts.result.now ≡ starts_in c.args.requests.now (n + 1) = c.index-starts.ensures ∙ get_or_default c.in_ok-row.row.items (n + 1) _ 0 (omega arith) ∙ row.each (n + 1) (omega arith) in
+    crowd_more c.args.requests.now n c.index-starts.result.now c.loop-before.invariant is c.if-starts-gt-MOST_IN_ROUND.false
 
 pub returns-clause-ok : goal.returns-clause-ok
 returns-clause-ok c = λ unit. crowd_none unit c.args.requests.now c.loop-before.before c.args.last (omega (arith, c.loop-before-test.false, c.loop-before.auto.before-end)) c.loop-before.invariant

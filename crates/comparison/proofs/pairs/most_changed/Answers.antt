@@ -1,4 +1,4 @@
-use Rattle.std.proofs.Common.{◌≡◌, ◌++◌, ◌∷◌, [], sym, subst, get_or, take}
+use Rattle.std.proofs.Common.{◌++◌, ◌∷◌, [], sym, subst, get_or, take}
 use Rattle.std.proofs.lemmas.List.{take_more}
 use Rattle.comparison.specs.Changes.{IsMostChanged}
 use Rattle.comparison.proofs.ChangeLemmas.{blank, most_more}

@@ -1,4 +1,4 @@
-use Rattle.std.proofs.Common.{◌≡◌, ◌≤◌, ◌+◌, ◌^◌, take, fold, max}
+use Rattle.std.proofs.Common.{◌≡◌, ◌≤◌, ◌^◌, take}
 use Rattle.comparison.specs.Pairs.{numbers}
 use Rattle.comparison.proofs.pairs.numbers.Given as goal
 

@@ -9,4 +9,4 @@ returns-in-Ok-judge-clause-run g c = rw (c.deref-2.ensures.value, c.deref-3.ensu
 
 pub returns-clause-fault : goal.returns-clause-fault
 returns-clause-fault g c =
-    judged_fault c.args.script.now c.in-Ok.history _ c.in-Err-judge.why c.in-Ok.ensures.0 c.in-Ok.ensures.1 (rw (c.deref-2.ensures.value, c.in_ok-logs.ensures, c.deref.ensures.value) at c.in-Err-judge.ensures.fault)
+    judged_fault c.args.script.now c.in-Ok.history _ _ c.in-Err-judge.why c.in-Ok.ensures.0 c.in-Ok.ensures.1 (rw (c.deref-2.ensures.value, c.in_ok-logs.ensures, c.deref.ensures.value) at c.in-Err-judge.ensures.fault)

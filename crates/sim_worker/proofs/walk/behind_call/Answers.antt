@@ -4,10 +4,10 @@ use Rattle.trace_file.specs.declared.step.Step.TheVariants as steps
 use Rattle.sim_worker.proofs.RunListFacts.{get_is}
 use Rattle.sim_worker.proofs.walk.behind_call.Goals as goal
 
-pub returns-in-Some-Act : goal.returns-in-Some-Act
-returns-in-Some-Act c = (
+pub returns-in-Some-Act-clause-some : goal.returns-in-Some-Act-clause-some
+returns-in-Some-Act-clause-some c = (
   get_is c.args.rows.now c.args.row c.in-Some-Act.field-0.now (ltb-true _ _ (sym c.in-Some-Act.ensures.lookup.0)) c.in-Some-Act.ensures.lookup.1
       ∙ ap (λ v. Some v) c.in-Some-Act.field-0-is
-      ∙ ap (λ (e : Event). Some (steps.Act e)) (c.are_same.ensures c.if-are_same.true),
+      ∙ ap (λ (e : Event). Some (steps.Act e)) (c.are_same.ensures.0 c.if-are_same.true),
   refl,
 )

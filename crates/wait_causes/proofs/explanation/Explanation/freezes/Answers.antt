@@ -8,10 +8,10 @@ use Rattle.wait_causes.proofs.explanation.Explanation.freezes.Goals as goal
 pub freezes_of-requires : goal.freezes_of-requires
 freezes_of-requires c =
     let x = c.self.inside in
-    record { few = rw c.deref.ensures.value (few_in_history x.origin c.in-Trace.table x.stays.items c.in-Trace.is c.self.invariant) }
+    record { few = rw c.deref.ensures.value (few_in_history x.origin c.in-Trace.table x.stays.items c.in-Trace.is c.self.invariant.0) }
 
 pub returns-in-Trace : goal.returns-in-Trace
 returns-in-Trace c =
     let x = c.self.inside in
     subst (λ (e : Explained). IfOk c.freezes_of.result (λ rows. rows.items ≡ freezes_in e.origin (explained e.origin e.best))) c.self.view_is
-    (rw (c.deref.ensures.value, found_freezes x.origin c.in-Trace.table x.stays.items c.in-Trace.is c.self.invariant) at c.freezes_of.ensures)
+    (rw (c.deref.ensures.value, found_freezes x.origin c.in-Trace.table x.stays.items c.in-Trace.is c.self.invariant.0) at c.freezes_of.ensures)

@@ -50,7 +50,7 @@ invariant_of-result c =
     let count : c.in_ok-stays.stays.items ≡ map (counted (origin.Trace past)) c.in_ok-listed.listed.items = c.in_ok-stays.ensures ∙ ap (λ (xs : List ExplainedStay). map (counted (origin.Trace past)) xs) c.deref-2.ensures.value in
     let all : length c.args.best.now ≡ (instance_in (origin.Trace past)).stays = c.requires.stays ∙ ap (λ (n : NetRows). (instance_of_rows n).stays) net_is in
     let legal : is_legal history_rules past.config past.events ≡ true = subst (λ (p : Past). is_legal history_rules p.config p.events ≡ true) (sym c.requires.table) c.events-events.ensures.legal in
-    trace_explained past c.args.best.now c.in_ok-listed.listed.items c.in_ok-stays.stays.items legal sound is count all
+    (trace_explained past c.args.best.now c.in_ok-listed.listed.items c.in_ok-stays.stays.items legal sound is count all, c.in_ok-runs.ensures)
 
 pub returns : goal.returns
 returns c =

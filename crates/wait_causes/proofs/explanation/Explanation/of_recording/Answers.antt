@@ -31,7 +31,7 @@ invariant_of-result c =
     c.in_ok-listed.ensures ∙ ap (λ (q : Recorded). map (request_by q.config) (zip (moments q.requests) c.args.best.now)) (sym c.in_ok-rounds.ensures) in
     let count : c.in_ok-stays.stays.items ≡ map (counted (origin.Recording r)) c.in_ok-listed.listed.items = c.in_ok-stays.ensures ∙ ap (λ (xs : List ExplainedStay). map (counted (origin.Recording r)) xs) c.deref-3.ensures.value in
     let all : length c.args.best.now ≡ (instance_in (origin.Recording r)).stays = c.requires.stays ∙ ap (λ (n : NetRows). (instance_of_rows n).stays) net_is in
-    recording_explained r c.args.best.now c.in_ok-listed.listed.items c.in_ok-stays.stays.items sound is count all
+    (recording_explained r c.args.best.now c.in_ok-listed.listed.items c.in_ok-stays.stays.items sound is count all, c.in_ok-runs.ensures)
 
 pub returns : goal.returns
 returns c =

@@ -8,14 +8,14 @@ use Rattle.wait_causes.proofs.explanation.Explanation.table.Goals as goal
 pub table_of-requires-clause-few : goal.table_of-requires-clause-few
 table_of-requires-clause-few c =
     let x = c.self.inside in
-    rw c.deref.ensures.value (few_explained x.origin x.stays.items c.self.invariant)
+    rw c.deref.ensures.value (few_explained x.origin x.stays.items c.self.invariant.0)
 
 pub table_of-requires-clause-light : goal.table_of-requires-clause-light
 table_of-requires-clause-light c =
     let x = c.self.inside in
-    rw c.deref.ensures.value (light_explained x.origin x.stays.items c.self.invariant)
+    rw c.deref.ensures.value (light_explained x.origin x.stays.items c.self.invariant.0)
 
 pub returns : goal.returns
 returns c =
     subst (λ (e : Explained). IfOk c.table_of.result (λ rows. rows.items ≡ table_of c.args.by (explained e.origin e.best))) c.self.view_is
-    (rw (c.deref.ensures.value, c.self.invariant.rows) at c.table_of.ensures)
+    (rw (c.deref.ensures.value, c.self.invariant.0.rows) at c.table_of.ensures)

@@ -15,7 +15,7 @@ waits_in-requires-clause-device c =
     let found = c.in-Some.ensures.lookup in
     let lt : c.args.place < length x.stays.items = omega (arith, ltb-true _ _ (sym found.0), ap (λ (xs : List ExplainedStay). length xs) c.deref.ensures.value) in
     let read : kept ≡ get_or x.stays.items c.args.place kept = found.1 ∙ ap (λ (xs : List ExplainedStay). get_or xs c.args.place kept) c.deref.ensures.value in
-    let within : IsWithin (instance_in x.origin) kept = subst (IsWithin (instance_in x.origin)) (sym read) (within_explained x.origin x.stays.items c.self.invariant c.args.place kept lt) in
+    let within : IsWithin (instance_in x.origin) kept = subst (IsWithin (instance_in x.origin)) (sym read) (within_explained x.origin x.stays.items c.self.invariant.0 c.args.place kept lt) in
     within.device
 
 pub waits_in-requires-clause-first : goal.waits_in-requires-clause-first
@@ -25,7 +25,7 @@ waits_in-requires-clause-first c =
     let found = c.in-Some.ensures.lookup in
     let lt : c.args.place < length x.stays.items = omega (arith, ltb-true _ _ (sym found.0), ap (λ (xs : List ExplainedStay). length xs) c.deref.ensures.value) in
     let read : kept ≡ get_or x.stays.items c.args.place kept = found.1 ∙ ap (λ (xs : List ExplainedStay). get_or xs c.args.place kept) c.deref.ensures.value in
-    let within : IsWithin (instance_in x.origin) kept = subst (IsWithin (instance_in x.origin)) (sym read) (within_explained x.origin x.stays.items c.self.invariant c.args.place kept lt) in
+    let within : IsWithin (instance_in x.origin) kept = subst (IsWithin (instance_in x.origin)) (sym read) (within_explained x.origin x.stays.items c.self.invariant.0 c.args.place kept lt) in
     within.first
 
 pub waits_in-requires-clause-last : goal.waits_in-requires-clause-last
@@ -35,7 +35,7 @@ waits_in-requires-clause-last c =
     let found = c.in-Some.ensures.lookup in
     let lt : c.args.place < length x.stays.items = omega (arith, ltb-true _ _ (sym found.0), ap (λ (xs : List ExplainedStay). length xs) c.deref.ensures.value) in
     let read : kept ≡ get_or x.stays.items c.args.place kept = found.1 ∙ ap (λ (xs : List ExplainedStay). get_or xs c.args.place kept) c.deref.ensures.value in
-    let within : IsWithin (instance_in x.origin) kept = subst (IsWithin (instance_in x.origin)) (sym read) (within_explained x.origin x.stays.items c.self.invariant c.args.place kept lt) in
+    let within : IsWithin (instance_in x.origin) kept = subst (IsWithin (instance_in x.origin)) (sym read) (within_explained x.origin x.stays.items c.self.invariant.0 c.args.place kept lt) in
     within.last
 
 pub returns-clause-waits : goal.returns-clause-waits
@@ -47,5 +47,5 @@ returns-clause-waits c =
     let read : kept ≡ get_or x.stays.items c.args.place kept = found.1 ∙ ap (λ (xs : List ExplainedStay). get_or xs c.args.place kept) c.deref.ensures.value in
     let best : List ℕ = map (λ (s : ExplainedStay). s.best) x.stays.items in
     subst (λ (e : Explained). (s : ExplainedStay) → slice_get (explained e.origin e.best) c.args.place ≡ Some s → IfOk c.waits_in.result (λ waits. AreWaitsOf e.origin s waits.items)) c.self.view_is (λ s at.
-    let same : kept ≡ s = read ∙ ap (λ (xs : List ExplainedStay). get_or xs c.args.place kept) c.self.invariant.rows ∙ get_or_from_slice_get (explained x.origin best) c.args.place s kept at in
+    let same : kept ≡ s = read ∙ ap (λ (xs : List ExplainedStay). get_or xs c.args.place kept) c.self.invariant.0.rows ∙ get_or_from_slice_get (explained x.origin best) c.args.place s kept at in
     subst (λ (k : ExplainedStay). IfOk c.waits_in.result (λ waits. AreWaitsOf x.origin k waits.items)) same c.waits_in.ensures)

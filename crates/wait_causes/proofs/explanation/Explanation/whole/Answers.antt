@@ -13,17 +13,17 @@ use Rattle.wait_causes.proofs.explanation.Explanation.whole.Goals as goal
 pub part_of-requires-clause-few : goal.part_of-requires-clause-few
 part_of-requires-clause-few c =
     let x = c.self.inside in
-    rw c.deref.ensures.value (few_explained x.origin x.stays.items c.self.invariant)
+    rw c.deref.ensures.value (few_explained x.origin x.stays.items c.self.invariant.0)
 
 pub part_of-requires-clause-light : goal.part_of-requires-clause-light
 part_of-requires-clause-light c =
     let x = c.self.inside in
-    rw c.deref.ensures.value (light_explained x.origin x.stays.items c.self.invariant)
+    rw c.deref.ensures.value (light_explained x.origin x.stays.items c.self.invariant.0)
 
 pub returns-clause-part : goal.returns-clause-part
 returns-clause-part c =
     subst (λ (e : Explained). IfOk c.part_of.result (λ part. part ≡ part_of (explained e.origin e.best))) c.self.view_is
-    (rw (c.deref.ensures.value, c.self.invariant.rows) at c.part_of.ensures)
+    (rw (c.deref.ensures.value, c.self.invariant.0.rows) at c.part_of.ensures)
 
 pub returns-clause-add_up : goal.returns-clause-add_up
 returns-clause-add_up c =
@@ -31,7 +31,7 @@ returns-clause-add_up c =
     let best : List ℕ = map (λ (s : ExplainedStay). s.best) x.stays.items in
     IfOk-weaker c.part_of.result (λ part. part ≡ part_of (explained x.origin best)) (λ part. all_costs part.costs ≡ part.live)
     (λ part is. subst (λ (p : Part). all_costs p.costs ≡ p.live) (sym is) (part_adds_up x.origin best))
-    (rw (c.deref.ensures.value, c.self.invariant.rows) at c.part_of.ensures)
+    (rw (c.deref.ensures.value, c.self.invariant.0.rows) at c.part_of.ensures)
 
 pub returns-clause-behind : goal.returns-clause-behind
 returns-clause-behind c =
@@ -39,7 +39,7 @@ returns-clause-behind c =
     let best : List ℕ = map (λ (s : ExplainedStay). s.best) x.stays.items in
     IfOk-weaker c.part_of.result (λ part. part ≡ part_of (explained x.origin best)) IsSplitPart
     (λ part is. subst IsSplitPart (sym is) (whole_split x.origin best))
-    (rw (c.deref.ensures.value, c.self.invariant.rows) at c.part_of.ensures)
+    (rw (c.deref.ensures.value, c.self.invariant.0.rows) at c.part_of.ensures)
 
 pub returns-clause-live : goal.returns-clause-live
 returns-clause-live c =
@@ -47,5 +47,5 @@ returns-clause-live c =
     let best : List ℕ = map (λ (s : ExplainedStay). s.best) x.stays.items in
     subst (λ (e : Explained). IfOk c.part_of.result (λ part. IsLiveCost e.origin part.live)) c.self.view_is
     (IfOk-weaker c.part_of.result (λ part. part ≡ part_of (explained x.origin best)) (λ part. IsLiveCost x.origin part.live)
-    (λ part is. subst (λ (p : Part). IsLiveCost x.origin p.live) (sym is) (whole_live x.origin best c.self.invariant.all))
-    (rw (c.deref.ensures.value, c.self.invariant.rows) at c.part_of.ensures))
+    (λ part is. subst (λ (p : Part). IsLiveCost x.origin p.live) (sym is) (whole_live x.origin best c.self.invariant.0.all))
+    (rw (c.deref.ensures.value, c.self.invariant.0.rows) at c.part_of.ensures))

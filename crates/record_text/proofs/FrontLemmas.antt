@@ -1,5 +1,5 @@
 -- What the front of a text says.
-use Rattle.std.proofs.Common.{◌≡◌, ◌⊎◌, ◌<◌, ◌≤◌, ◌+◌, ◌-◌, ℕ, zero, suc, List, [], ◌∷◌, ◌++◌, length, length-append, length-take, take-append-drop, take, drop, fold, Bool, true, false, cond, nat_eq, refl, sym, ap, ◌∙◌, inl, inr, arith, add-one, Option, Some, None, Result, Ok, Err}
+use Rattle.std.proofs.Common.{◌≡◌, ◌⊎◌, ◌<◌, ◌≤◌, ◌+◌, ◌-◌, ℕ, zero, suc, List, [], ◌∷◌, ◌++◌, length, length-append, length-take, take-append-drop, take, drop, fold, Bool, true, false, cond, nat_eq, refl, sym, ap, ◌∙◌, inl, inr, arith, Option, Some, Result, Ok, Err}
 use Rattle.std.specs.Prelude.{◌==◌}
 use Rattle.std.specs.List.{starts_with}
 use Rattle.std.proofs.lemmas.Bool.Decides.{nat_tests}
@@ -13,7 +13,7 @@ use Rattle.record_text.specs.Text.{Row, records_in}
 use Rattle.record_text.specs.Cuts.{CutsOff, count_after, next}
 use Rattle.record_text.specs.Front.{IsCut, IsFront, RefusesLong, most_fields}
 use Rattle.record_text.specs.Steps.{taken, ◌>>=◌}
-use Rattle.record_text.proofs.RecordLemmas.{enough, next_shorter}
+use Rattle.record_text.proofs.RecordLemmas.{enough}
 
 -- a record is open, and goes on until a byte or the end of the text ends it
 abbrev is_open : State → Bool

@@ -1,3 +1,13 @@
 pub mod RecordLemmas
 pub mod FrontLemmas
 pub mod CutLemmas
+pub mod FieldLemmas
+pub mod FieldLaws
+pub mod RowLaws
+pub mod StepLemmas
+pub mod ListLemmas
+pub mod FaultLaws
+pub mod ConfigLemmas
+pub mod WritingLemmas
+pub mod RowSizes
+pub mod GoodRows

@@ -3,3 +3,8 @@ pub mod Steps
 pub mod Places
 pub mod Front
 pub mod Cuts
+pub mod Fields
+pub mod Header
+pub mod ConfigRows
+pub mod Writing
+pub mod Faults

@@ -19,10 +19,12 @@ use Rattle.recording_file.specs.declared.word.Word.TheVariants as word
 use Rattle.recording_file.specs.Caps.{Cap, is_cap}
 use Rattle.recording_file.specs.Counts.{counts_of}
 use Rattle.recording_file.specs.Names.{Label, is_name}
-use Rattle.recording_file.specs.Fields.{most_number}
+use Rattle.record_text.specs.Fields.{most_number}
 use Rattle.recording_file.specs.Records.{cap_row, name_row, request_row, FitsRequest}
 use Rattle.record_text.specs.Steps.{taken}
-use Rattle.recording_file.proofs.AgainLaws.{Along, along_both, along_few, along_to, along_with, none_along, true_along, then_taken, run, said_step}
+use Rattle.recording_file.proofs.AgainLaws.{said_step}
+use Rattle.record_text.proofs.ListLemmas.{Along, along_both, along_few, along_to, along_with, none_along, true_along}
+use Rattle.record_text.proofs.StepLemmas.{then_taken, run}
 use Rattle.recording_file.proofs.PlacingLemmas.{not_some, plain_none}
 use Rattle.recording_file.proofs.SaidAgain.{IsCounted}
 use Rattle.recording_file.proofs.HeadLaws.{at_devices, config, start_of, base_of}
@@ -198,9 +200,9 @@ taken_book r base h is n =
     let names = true_along (is_name (counts_of r.config)) [] r.names head.names in
     let caps = true_along (is_cap r.rounds (counts_of r.config)) [] r.caps head.caps in
     let final = at_book base r.names r.caps r.requests in
-    then_taken step n base (at_book base r.names [] []) final (map name_row r.names) _ (run name_row (λ ns. at_book base ns [] []) (λ b x. is_name (counts_of r.config) (b, x) ≡ true) (one_name r base h) [] r.names n names) (λ m.
-    then_taken step m (at_book base r.names [] []) (at_book base r.names r.caps []) final (map cap_row r.caps) _ (run cap_row (λ cs. at_book base r.names cs []) (λ b x. is_cap r.rounds (counts_of r.config) (b, x) ≡ true) (one_cap r base h r.names) [] r.caps m caps) (λ k.
-    run request_row (λ qs. at_book base r.names r.caps qs) (GoodRequest r) (one_request r base h) [] r.requests k (good_requests r is)))
+    then_taken step n base (at_book base r.names [] []) final (map name_row r.names) _ (run step name_row (λ ns. at_book base ns [] []) (λ b x. is_name (counts_of r.config) (b, x) ≡ true) (one_name r base h) [] r.names n names) (λ m.
+    then_taken step m (at_book base r.names [] []) (at_book base r.names r.caps []) final (map cap_row r.caps) _ (run step cap_row (λ cs. at_book base r.names cs []) (λ b x. is_cap r.rounds (counts_of r.config) (b, x) ≡ true) (one_cap r base h r.names) [] r.caps m caps) (λ k.
+    run step request_row (λ qs. at_book base r.names r.caps qs) (GoodRequest r) (one_request r base h) [] r.requests k (good_requests r is)))
 
 -- ---- the stage after the devices
 

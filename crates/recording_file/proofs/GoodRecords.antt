@@ -1,82 +1,23 @@
 -- Each record of a recording is read as it was written, and is short.
-use Rattle.std.proofs.Common.{◌≡◌, ◌≤◌, ◌+◌, ◌*◌, ℕ, List, [], ◌∷◌, ◌++◌, length, map, true, refl, ap, arith, length-append, Option, Some, None, IfSome, decimal, codes, nat_le, nat_lt, add-mul}
-use Rattle.std.specs.List.{AllByRecursion, flat_map}
+use Rattle.std.proofs.Common.{◌≡◌, ◌≤◌, ℕ, List, [], length, true, refl, arith, Option, Some, None, IfSome, decimal, codes, nat_le, nat_lt}
 use Rattle.std.proofs.lemmas.Bool.{and_parts, leb-true, ltb-true}
-use Rattle.std.proofs.lemmas.List.Concat.{flat_map-append}
-use Rattle.csv.specs.Writing.{default_writer, escaped, read_back, row_text}
-use Rattle.cam_types.specs.Topology.{adapter_fault, link_fault}
-use Rattle.cam_types.specs.Weights.{weight_fault}
-use Rattle.cam_types.specs.declared.adapter.Adapter.{Adapter}
-use Rattle.cam_types.specs.declared.device.Device.{Device}
-use Rattle.cam_types.specs.declared.weight_row.WeightRow.{WeightRow}
-use Rattle.cam_types.specs.declared.maxima.TheConstants.{MOST_ADAPTERS, MOST_LINKS}
+use Rattle.csv.specs.Writing.{escaped}
 use Rattle.recording_file.specs.Names.{Label, is_name, is_name_text, is_next_name, named_count, NameKind}
 use Rattle.recording_file.specs.declared.name.NameKind.TheVariants as named
 use Rattle.recording_file.specs.Caps.{Cap, is_cap, is_next_cap, part_count, PartKind}
 use Rattle.recording_file.specs.declared.part.PartKind.TheVariants as part
-use Rattle.recording_file.specs.Words.{named_text, part_text, spelled, time_text, TimeUnit, Word}
+use Rattle.recording_file.specs.Words.{named_text, part_text, spelled, time_text, TimeUnit, Word, name_text}
 use Rattle.recording_file.specs.declared.span.TimeUnit.TheVariants as time
 use Rattle.recording_file.specs.declared.word.Word.TheVariants as word
 use Rattle.recording_file.specs.Recorded.{Request, Span, MOST_RECORDED_ROUNDS}
 use Rattle.recording_file.specs.Counts.{Counts}
-use Rattle.recording_file.specs.Fields.{Row, most_number}
-use Rattle.recording_file.specs.Header.{name_text}
-use Rattle.recording_file.specs.Records.{adapter_row, cap_row, device_row, header, link_row, name_row, optional_text, request_row, unit_row, unit_rows, weight_row, FitsRequest}
-use Rattle.recording_file.specs.Writing.{text_of}
-use Rattle.recording_file.proofs.AgainLaws.{Along}
-use Rattle.recording_file.proofs.HeadLaws.{GoodDevice, adapter_link, adapter_small, link_number, link_small, weight_numbers}
-use Rattle.recording_file.proofs.RowSizes.{FitsIn, IsShort, eight, escaped-le, five, nothing_in, ten}
+use Rattle.record_text.specs.Fields.{most_number}
+use Rattle.recording_file.specs.Records.{cap_row, header, name_row, request_row, rounds_row, unit_row, unit_rows, FitsRequest}
+use Rattle.record_text.specs.ConfigRows.{optional_text}
+use Rattle.record_text.proofs.GoodRows.{AreGood, IsGood, and_more, good_header_of, none_good, one_good, optional_in, two_good, weaker}
+use Rattle.record_text.proofs.RowSizes.{FitsIn, eight, escaped-le, five, nothing_in, ten}
 use Rattle.recording_file.proofs.SaidAgain.{IsCounted, named_small}
-use Rattle.recording_file.proofs.StageLemmas.{device_small}
-
--- ---- records that are read again, in so many bytes
-
--- a record that is written whole, in so many bytes
-abbrev pub IsGood : ℕ → Row → Type 0
-IsGood most row = (read_back row ≡ row) × IsShort most row
-
-pub record AreGood (most : ℕ) (rows : List Row) : Type 0 where
-  pub whole : AllByRecursion (λ (row : Row). read_back row ≡ row) rows
-  pub short : length (text_of rows) ≤ most
-
-pub none_good : AreGood 0 []
-unfolding text_of
-none_good = record { whole = tt; short = omega arith }
-
--- there may be more bytes
-pub weaker : (m n : ℕ) (rows : List Row) → m ≤ n → AreGood m rows → AreGood n rows
-weaker m n rows le h = let s = h.short in record { whole = h.whole; short = omega arith }
-
-pub and_more : (m n : ℕ) (row : Row) (rows : List Row) → IsGood m row → AreGood n rows → AreGood (m + n) (row ∷ rows)
-unfolding text_of
-and_more m n row rows one more =
-    let both = length-append (row_text default_writer row) (flat_map (row_text default_writer) rows) in
-    let a = one.1 in
-    let b = more.short in
-    record { whole = (one.0, more.whole); short = omega arith }
-
-all_whole : (xs ys : List Row) → AllByRecursion (λ (row : Row). read_back row ≡ row) xs → AllByRecursion (λ (row : Row). read_back row ≡ row) ys → AllByRecursion (λ (row : Row). read_back row ≡ row) (xs ++ ys)
-all_whole [] ys p q = q
-all_whole (x ∷ xs) ys p q = (p.0, all_whole xs ys p.1 q)
-
-pub both_good : (m n : ℕ) (xs ys : List Row) → AreGood m xs → AreGood n ys → AreGood (m + n) (xs ++ ys)
-unfolding text_of
-both_good m n xs ys one other =
-    let joined = ap (length {A = ℕ}) (flat_map-append (row_text default_writer) xs ys) in
-    let both = length-append (text_of xs) (text_of ys) in
-    let a = one.short in
-    let b = other.short in
-    record { whole = all_whole xs ys one.whole other.whole; short = omega arith }
-
--- a record for each of some items
-pub each_good : {X : Type 0} (P : List X → X → Type 0) (row : X → Row) (most : ℕ) (before xs : List X) → ((b : List X) (x : X) → P b x → IsGood most (row x)) → Along P before xs → AreGood (length xs * most) (map row xs)
-each_good P row most before [] f h = weaker 0 _ [] (omega arith) none_good
-each_good P row most before (x ∷ xs) f h =
-    let more = each_good P row most (before ++ x ∷ []) xs f h.1 in
-    let all = and_more most (length xs * most) (row x) (map row xs) (f before x h.0) more in
-    let s = all.short in
-    let e = add-mul (length xs) 1 most in
-    record { whole = all.whole; short = omega arith }
+use Rattle.record_text.specs.Header.{header_row}
 
 -- ---- the records of a recording
 
@@ -100,46 +41,20 @@ unfolding escaped
 part_in part.Device = omega arith
 part_in _ = omega arith
 
-optional_in : (o : Option ℕ) → IfSome o (λ n. n ≤ most_number) → FitsIn 10 (optional_text o)
-optional_in None h = let none = nothing_in in omega arith
-optional_in (Some n) h = ten n h
-
 pub good_header : IsGood 43 header
-unfolding header escaped
-good_header = (refl, eight name_text (codes "a") (codes "b") (codes "c") (codes "d") (codes "e") (codes "f") (codes "g") 10 1 1 1 1 1 1 1 (omega arith) (omega arith) (omega arith) (omega arith) (omega arith) (omega arith) (omega arith) (omega arith))
+unfolding header_row escaped
+good_header = good_header_of name_text (omega arith) refl
 
-pub one_number : (w : Word) (n : ℕ) → n ≤ most_number → IsGood 43 (spelled w ∷ decimal n ∷ [] ∷ [] ∷ [] ∷ [] ∷ [] ∷ [] ∷ [])
-one_number w n h =
-    let z = nothing_in in
-    (refl, eight (spelled w) (decimal n) [] [] [] [] [] [] 7 10 0 0 0 0 0 0 (word_in w) (ten n h) z z z z z z)
+pub good_rounds : (n : ℕ) → n ≤ most_number → IsGood 44 (rounds_row n)
+unfolding escaped
+good_rounds n h = (refl, one_good (codes "rounds") n (omega arith) h)
 
-two_numbers : (w : Word) (n : ℕ) (field : List ℕ) → n ≤ most_number → FitsIn 10 field → IsGood 53 (spelled w ∷ decimal n ∷ field ∷ [] ∷ [] ∷ [] ∷ [] ∷ [] ∷ [])
-two_numbers w n field h k =
-    let z = nothing_in in
-    (refl, eight (spelled w) (decimal n) field [] [] [] [] [] 7 10 10 0 0 0 0 0 (word_in w) (ten n h) k z z z z z)
-
-pub good_unit : (o : Option Span) → IfSome o (λ (u : Span). u.count ≤ 4294967295) → AreGood 53 (unit_rows o)
-good_unit None h = weaker 0 53 [] (omega arith) none_good
+pub good_unit : (o : Option Span) → IfSome o (λ (u : Span). u.count ≤ 4294967295) → AreGood 54 (unit_rows o)
+unfolding escaped
+good_unit None h = weaker 0 54 [] (omega arith) none_good
 good_unit (Some u) h =
     let unit = time_in u.unit in
-    and_more 53 0 (unit_row u) [] (two_numbers word.Unit u.count (time_text u.unit) h (omega arith)) none_good
-
-pub good_weight : (before : List WeightRow) (w : WeightRow) → weight_fault (before, w) ≡ None → IsGood 53 (weight_row w)
-good_weight before w e = let s = weight_numbers before w e in two_numbers word.Weight w.last (decimal w.weight) (omega arith) (ten w.weight (omega arith))
-
-pub good_link : (before : List ℕ) (k : ℕ) → link_fault (before, k) ≡ None → IsGood 43 (link_row k)
-good_link before k e = let s = link_small before k e in one_number word.Link k (omega arith)
-
-pub good_adapter : (links : ℕ) → links ≤ MOST_LINKS → (before : List Adapter) (a : Adapter) → adapter_fault links (before, a) ≡ None → IsGood 53 (adapter_row a)
-good_adapter links few before a e =
-    let s = adapter_small links before a e in
-    two_numbers word.Sim a.openings (optional_text a.link) (omega arith) (optional_in a.link (link_number links a.link few (adapter_link links before a e)))
-
-pub good_device : (adapters : List Adapter) → length adapters ≤ MOST_ADAPTERS → (before : List Device) (d : Device) → GoodDevice adapters before d → IsGood 73 (device_row d)
-good_device adapters few before d h =
-    let s = device_small (length adapters) before d h.0 in
-    let z = nothing_in in
-    (refl, eight (codes "dev") (decimal d.bus) (decimal d.target) (decimal d.lun) (decimal d.openings) [] [] [] 7 10 10 10 10 0 0 0 (word_in word.Dev) (ten d.bus (omega arith)) (ten d.target (omega (arith, h.1))) (ten d.lun (omega arith)) (ten d.openings (omega arith)) z z z)
+    and_more 54 0 (unit_row u) [] (refl, two_good (codes "unit") u.count (time_text u.unit) (omega arith) h (omega arith)) none_good
 
 pub good_name : (counts : Counts) → IsCounted counts → (before : List Label) (x : Label) → is_name counts (before, x) ≡ true → IsGood 177 (name_row x)
 unfolding is_name is_name_text

@@ -1,59 +1,27 @@
 -- The records before the names are read as the head of the recording.
-use Rattle.std.proofs.Common.{◌≡◌, ◌<◌, ◌≤◌, ◌+◌, ℕ, List, [], ◌∷◌, ◌++◌, length, map, Bool, true, false, cond, refl, ◌∙◌, subst, arith, Option, Some, None, IfSome, Ok, ◌==◌, ◌||◌, nat_lt}
-use Rattle.std.proofs.lemmas.Bool.{and_parts, leb-true, ltb-true, not-false}
-use Rattle.std.proofs.lemmas.Bool.Decides.{nat_tests}
-use Rattle.cam_types.specs.Topology.{Topology, IsConfig, names_link, openings_fault, link_fault, adapter_fault, device_fault}
+use Rattle.std.proofs.Common.{◌≡◌, ◌≤◌, ◌+◌, ℕ, List, [], ◌∷◌, ◌++◌, length, map, Bool, true, false, refl, ◌∙◌, subst, arith, Option, Some, None, IfSome, Ok, ◌==◌, ◌||◌}
+use Rattle.cam_types.specs.Topology.{Topology, IsConfig, link_fault, adapter_fault, device_fault}
 use Rattle.cam_types.specs.Weights.{are_standard, reaches_last, weight_fault}
 use Rattle.cam_types.specs.declared.adapter.Adapter.{Adapter}
 use Rattle.cam_types.specs.declared.device.Device.{Device}
 use Rattle.cam_types.specs.declared.weight_row.WeightRow.{WeightRow}
-use Rattle.cam_types.specs.declared.config_fault.ConfigFault.TheVariants.{NoLink}
 use Rattle.cam_types.specs.declared.maxima.TheConstants.{MOST_ADAPTERS, MOST_LINKS}
 use Rattle.cam_types.proofs.ConfigLemmas.{adapter_items, device_items, few_adapters, few_links, link_items, reaches, some_adapter}
-use Rattle.cam_types.proofs.ListLemmas.{or_left, or_right}
 use Rattle.cam_types.proofs.WeightLemmas.{standard_is}
-use Rattle.recording_file.specs.Rows.{DeviceRow}
+use Rattle.record_text.specs.ConfigRows.{adapter_row, device_row, link_row, weight_row}
+use Rattle.record_text.specs.declared.device_row.DeviceRow.{DeviceRow}
 use Rattle.recording_file.specs.Reading.{add_said, stands, standard, step, RecordingStage, Start}
 use Rattle.recording_file.specs.declared.recording_stage.RecordingStage.TheVariants as stage
 use Rattle.recording_file.specs.declared.said.Said.TheVariants as said
 use Rattle.recording_file.specs.Recorded.{Recorded, Span, IsRecording, MOST_RECORDED_ROUNDS}
-use Rattle.recording_file.specs.Fields.{Row, most_number}
-use Rattle.recording_file.specs.Records.{adapter_row, device_row, link_row, rounds_row, unit_rows, weight_row, weight_rows}
+use Rattle.record_text.specs.Text.{Row}
+use Rattle.recording_file.specs.Records.{rounds_row, unit_rows, weight_rows}
 use Rattle.record_text.specs.Steps.{taken}
-use Rattle.recording_file.proofs.AgainLaws.{Along, along_both, none_along, then_taken, run, said_step}
-use Rattle.recording_file.proofs.StageLemmas.{cond_none, device_small}
-
--- ---- what the rules of the configuration say of its numbers
-
-pub adapter_small : (links : ℕ) (before : List Adapter) (a : Adapter) → adapter_fault links (before, a) ≡ None → a.openings ≤ 255
-unfolding adapter_fault
-adapter_small links before a e = leb-true _ _ (and_parts _ _ (not-false _ (cond_none _ _ _ (cond_none _ _ _ (or_left _ _ e)).1).0)).1
-
-pub link_small : (before : List ℕ) (k : ℕ) → link_fault (before, k) ≡ None → k ≤ 255
-unfolding link_fault
-link_small before k e = leb-true _ _ (and_parts _ _ (not-false _ (cond_none _ _ _ (cond_none _ _ _ e).1).0)).1
-
--- an adapter's link is one of that many
-pub adapter_link : (links : ℕ) (before : List Adapter) (a : Adapter) → adapter_fault links (before, a) ≡ None → IfSome a.link (λ l. l < links)
-unfolding adapter_fault
-adapter_link links before a e = by a.link (or_right (openings_fault MOST_ADAPTERS (length before) a.openings) _ e)
-  where
-    passed : (b : Bool) → cond b None (Some NoLink) ≡ None → b ≡ true
-    passed true e = refl
-    passed false e = absurd cc
-
-    by : (link : Option ℕ) → cond (names_link links link) None (Some NoLink) ≡ None → IfSome link (λ l. l < links)
-    by None e = tt
-    by (Some l) e = ltb-true _ _ (passed (nat_lt l links) e)
-
-pub weight_numbers : (before : List WeightRow) (w : WeightRow) → weight_fault (before, w) ≡ None → (w.last ≤ 1279) × (w.weight ≤ 1000)
-unfolding weight_fault
-weight_numbers before w e = (grind (arith, nat_tests), grind (arith, nat_tests))
-
--- an adapter's link is a number
-pub link_number : (links : ℕ) (link : Option ℕ) → links ≤ MOST_LINKS → IfSome link (λ l. l < links) → IfSome link (λ l. l ≤ most_number)
-link_number links None few h = tt
-link_number links (Some l) few h = omega arith
+use Rattle.recording_file.proofs.AgainLaws.{said_step}
+use Rattle.record_text.proofs.ListLemmas.{Along, along_both, none_along}
+use Rattle.record_text.proofs.StepLemmas.{then_taken, run}
+use Rattle.record_text.proofs.ConfigLemmas.{device_small, adapter_link, adapter_small, link_number, link_small, weight_numbers}
+use Rattle.record_text.proofs.GoodRows.{GoodDevice}
 
 -- ---- the stages that the records lead through
 
@@ -113,9 +81,6 @@ one_adapter start ws ks reaches few n (b ∷ bs) a e =
     let s = adapter_small (length ks) (b ∷ bs) a e in
     said_step n (at_adapters start ws ks (b ∷ bs)) (said.Sim a) (λ z. cc) tt refl (omega arith, link_number (length ks) a.link few (adapter_link (length ks) (b ∷ bs) a e)) ∙ rw (reaches, e) refl
 
-abbrev pub GoodDevice : List Adapter → List Device → Device → Type 0
-GoodDevice as' before d = (device_fault (length as') (before, d) ≡ None) × (d.target ≤ 65535)
-
 abbrev row_for : Device → DeviceRow
 row_for d = record { bus = d.bus; target = d.target; lun = d.lun; openings = d.openings }
 
@@ -147,7 +112,7 @@ taken_weights false unit rounds ws rest u reaches held along k n =
     subst (λ (x : List WeightRow). taken step n (stage.Weights start (config x [] [] [])) rest ≡ Ok u) (standard_is ws held) (k n)
 taken_weights true unit rounds [] rest u reaches held along k n = absurd cc
 taken_weights true unit rounds (w ∷ ws) rest u reaches held along k n =
-    then_taken step n (at_weights unit rounds []) (at_weights unit rounds (w ∷ ws)) u (map weight_row (w ∷ ws)) rest (run weight_row (at_weights unit rounds) (λ b x. weight_fault (b, x) ≡ None) (one_weight unit rounds) [] (w ∷ ws) n along) k
+    then_taken step n (at_weights unit rounds []) (at_weights unit rounds (w ∷ ws)) u (map weight_row (w ∷ ws)) rest (run step weight_row (at_weights unit rounds) (λ b x. weight_fault (b, x) ≡ None) (one_weight unit rounds) [] (w ∷ ws) n along) k
 
 -- an adapter has come
 some_came : (start : Start) (ws : List WeightRow) (ks : List ℕ) (as' : List Adapter) → (length as' == 0) ≡ false → at_adapters start ws ks as' ≡ at_devices start ws ks as' []
@@ -167,7 +132,7 @@ taken_config table r h rest u k n =
     let links = none_along link_fault [] t.links (link_items t is) in
     let adapters = none_along (adapter_fault (length t.links)) [] t.adapters (adapter_items t is) in
     let devices = along_both (λ b x. device_fault (length t.adapters) (b, x) ≡ None) (λ (d : Device). d.target ≤ 65535) [] t.devices (none_along (device_fault (length t.adapters)) [] t.devices (device_items t is)) h.targets in
-    then_taken step n (at_links start t.weights []) (at_links start t.weights t.links) u (map link_row t.links) _ (run link_row (at_links start t.weights) (λ b x. link_fault (b, x) ≡ None) (one_link start t.weights (reaches t is)) [] t.links n links) (λ n1.
-    then_taken step n1 (at_links start t.weights t.links) (at_adapters start t.weights t.links t.adapters) u (map adapter_row t.adapters) _ (run adapter_row (at_adapters start t.weights t.links) (λ b x. adapter_fault (length t.links) (b, x) ≡ None) (one_adapter start t.weights t.links (reaches t is) (few_links t is)) [] t.adapters n1 adapters) (λ n2.
+    then_taken step n (at_links start t.weights []) (at_links start t.weights t.links) u (map link_row t.links) _ (run step link_row (at_links start t.weights) (λ b x. link_fault (b, x) ≡ None) (one_link start t.weights (reaches t is)) [] t.links n links) (λ n1.
+    then_taken step n1 (at_links start t.weights t.links) (at_adapters start t.weights t.links t.adapters) u (map adapter_row t.adapters) _ (run step adapter_row (at_adapters start t.weights t.links) (λ b x. adapter_fault (length t.links) (b, x) ≡ None) (one_adapter start t.weights t.links (reaches t is) (few_links t is)) [] t.adapters n1 adapters) (λ n2.
     rw (some_came start t.weights t.links t.adapters (some_adapter t is))
-    (then_taken step n2 (at_devices start t.weights t.links t.adapters []) (at_devices start t.weights t.links t.adapters t.devices) u (map device_row t.devices) rest (run device_row (at_devices start t.weights t.links t.adapters) (GoodDevice t.adapters) (one_device start t.weights t.links t.adapters (few_adapters t is)) [] t.devices n2 devices) k)))
+    (then_taken step n2 (at_devices start t.weights t.links t.adapters []) (at_devices start t.weights t.links t.adapters t.devices) u (map device_row t.devices) rest (run step device_row (at_devices start t.weights t.links t.adapters) (GoodDevice t.adapters) (one_device start t.weights t.links t.adapters (few_adapters t is)) [] t.devices n2 devices) k)))

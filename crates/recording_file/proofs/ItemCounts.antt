@@ -10,7 +10,7 @@ use Rattle.recording_file.specs.declared.part.PartKind.TheVariants as part
 use Rattle.recording_file.specs.Counts.{Counts, counts_of}
 use Rattle.recording_file.specs.Recorded.{Recorded, IsHead}
 use Rattle.recording_file.specs.Room.{IsLaid, cell_of, row_by, row_of, rows_by}
-use Rattle.recording_file.proofs.AgainLaws.{Along, along_both, along_to, true_along}
+use Rattle.record_text.proofs.ListLemmas.{Along, along_both, along_to, true_along}
 use Rattle.recording_file.proofs.BookLaws.{counted_so}
 use Rattle.recording_file.proofs.PlacingLemmas.{caps_laid, head_config}
 use Rattle.recording_file.proofs.RoomLemmas.{apart, row_few}

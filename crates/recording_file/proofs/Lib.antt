@@ -2,7 +2,6 @@ pub mod AgainLaws
 pub mod BookLaws
 pub mod FaultLaws
 pub mod FieldLaws
-pub mod FieldLemmas
 pub mod GoodRecords
 pub mod HeadLaws
 pub mod ItemCounts
@@ -14,7 +13,6 @@ pub mod PlacingLemmas
 pub mod PushLaws
 pub mod ReadLaws
 pub mod RoomLemmas
-pub mod RowSizes
 pub mod RunLemmas
 pub mod SaidAgain
 pub mod SaidLaws
@@ -24,5 +22,4 @@ pub mod StageReady
 pub mod TakenLemmas
 pub mod TextLaws
 pub mod WholeLaws
-pub mod WritingLemmas
 pub mod LongRows

@@ -3,7 +3,7 @@ use Rattle.std.proofs.Common.{◌≡◌, ◌<◌, ◌≤◌, ℕ, List, ◌++◌
 use Rattle.std.proofs.lemmas.List.{take-append-le}
 use Rattle.cam_types.specs.declared.maxima.TheConstants.{MOST_BYTES}
 use Rattle.recording_file.specs.Recorded.{MOST_RECORDING_BYTES}
-use Rattle.recording_file.specs.Header.{name_text}
+use Rattle.recording_file.specs.Words.{name_text}
 use Rattle.recording_file.specs.Whole.{most_bytes, IsTooLong}
 
 pub most_within : (text : List ℕ) → (10 ≤ most_bytes text) × (most_bytes text ≤ MOST_RECORDING_BYTES)

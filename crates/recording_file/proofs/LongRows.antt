@@ -2,8 +2,8 @@
 use Rattle.std.proofs.Common.{◌≡◌, ◌<◌, ℕ, Err, length, refl}
 use Rattle.record_text.specs.Front.{RefusesLong, most_fields}
 use Rattle.record_text.proofs.FrontLemmas.{not_eight}
-use Rattle.recording_file.specs.Fields.{Row}
-use Rattle.recording_file.specs.Header.{is_header}
+use Rattle.record_text.specs.Text.{Row}
+use Rattle.record_text.specs.Header.{is_header}
 use Rattle.recording_file.specs.Reading.{BadHeader, BadRecord, RecordingFault, RecordingStage, placed, row_step, step}
 use Rattle.recording_file.specs.declared.recording_stage.RecordingStage.TheVariants as stage
 

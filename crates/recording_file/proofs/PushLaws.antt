@@ -8,9 +8,10 @@ use Rattle.cam_types.specs.declared.weight_row.WeightRow.{WeightRow}
 use Rattle.recording_file.specs.Reading.{begun, given, Start}
 use Rattle.recording_file.specs.Caps.{Cap}
 use Rattle.recording_file.specs.Names.{Label}
-use Rattle.recording_file.specs.Fields.{Row}
+use Rattle.record_text.specs.Text.{Row}
 use Rattle.recording_file.specs.Recorded.{Recorded, Request}
-use Rattle.recording_file.specs.Records.{adapter_row, cap_row, device_row, header, link_row, name_row, records_of, request_row, rounds_row, unit_rows, weight_row, weight_rows}
+use Rattle.recording_file.specs.Records.{cap_row, header, name_row, records_of, request_row, rounds_row, unit_rows, weight_rows}
+use Rattle.record_text.specs.ConfigRows.{adapter_row, device_row, link_row, weight_row}
 
 -- one record more after those of a list, and the same after others
 last_more : {X : Type 0} (row : X → Row) (xs : List X) (x : X) → (map row xs ++ []) ++ row x ∷ [] ≡ map row (xs ++ x ∷ []) ++ []

@@ -1,32 +1,33 @@
 -- What is read is spelled so.
-use Rattle.std.proofs.Common.{◌≡◌, ◌≤◌, ◌+◌, ℕ, List, [], ◌∷◌, ◌++◌, length, drop, Bool, true, false, cond, refl, sym, ap, ◌∙◌, subst, arith, append_assoc, append-nil, rules, tests, Option, Some, None, Result, Ok, Err, ok_or, option_and_then, codes, ◌==◌, not, nat_le, nat_lt}
+use Rattle.std.proofs.Common.{◌≡◌, ◌≤◌, ℕ, List, [], ◌∷◌, ◌++◌, length, Bool, true, false, cond, refl, sym, ap, ◌∙◌, subst, Option, Some, None, Result, Ok, Err, ok_or, option_and_then, ◌==◌, not, nat_le, nat_lt}
 use Rattle.std.proofs.lemmas.Bool.{and_parts, eqb-true, ltb-true}
-use Rattle.std.proofs.lemmas.Bool.Decides.{nat_tests}
-use Rattle.std.proofs.lemmas.List.{nil_from_length, length-drop}
-use Rattle.std.proofs.lemmas.Slice.Eq.{bytes_eq-Decides}
+use Rattle.std.proofs.lemmas.List.{nil_from_length}
 use Rattle.cam_types.proofs.TopologyLemmas.{standard_draft}
 use Rattle.recording_file.specs.Recorded.{Recorded, Request, has_items, MOST_REQUESTS}
 use Rattle.recording_file.specs.Reading.{add_said, add_name, add_cap, add_request, book_rank, ended, lacks_adapters, placed, reading, recorded_of, row_step, said_by, step, stands, RecordingFault, BadHeader, BadRecord, RecordingStage, Said}
 use Rattle.recording_file.specs.declared.recording_stage.RecordingStage.TheVariants as stage
 use Rattle.recording_file.specs.declared.said.Said.TheVariants as said
-use Rattle.recording_file.specs.Words.{spelled, word_of, Word}
+use Rattle.recording_file.specs.Words.{spelled, word_of, Word, name_text}
 use Rattle.recording_file.specs.declared.word.Word.TheVariants as word
-use Rattle.recording_file.specs.Fields.{Row, field_of}
-use Rattle.recording_file.specs.Header.{has_letters, is_header, name_text}
+use Rattle.record_text.specs.Text.{Row, records_in}
+use Rattle.record_text.specs.Fields.{field_of}
+use Rattle.record_text.specs.Header.{is_header}
 use Rattle.recording_file.specs.Names.{Label}
 use Rattle.recording_file.specs.Caps.{Cap}
 use Rattle.recording_file.specs.Recordings.{WasRecording}
-use Rattle.recording_file.specs.Records.{cap_row, header, name_row, records_of, request_row, said_row, word_for, FitsSaid}
+use Rattle.recording_file.specs.Records.{cap_row, name_row, records_of, request_row, said_row, word_for, FitsSaid}
 use Rattle.recording_file.specs.Sound.{IsSound}
 use Rattle.record_text.specs.Steps.{taken}
-use Rattle.record_text.specs.Text.{records_in}
 use Rattle.recording_file.specs.Whole.{IsLongWhole}
-use Rattle.recording_file.proofs.FieldLaws.{ok_or_ok, word_spelled}
+use Rattle.recording_file.proofs.FieldLaws.{word_spelled}
+use Rattle.record_text.proofs.StepLemmas.{ok_or_ok, ok_is, on_ok, taken_keeps}
 use Rattle.recording_file.proofs.PlacingLemmas.{kept_name, kept_cap, kept_request}
 use Rattle.recording_file.proofs.PushLaws.{push_name, push_cap, push_request}
-use Rattle.recording_file.proofs.SaidLaws.{ok_is, on_ok, peel, said_takes}
+use Rattle.recording_file.proofs.SaidLaws.{said_takes}
+use Rattle.record_text.proofs.RowLaws.{named_header}
 use Rattle.recording_file.proofs.StageReady.{rounds_small}
-use Rattle.recording_file.proofs.StageReads.{Reads, all_push, next_reads, no_cause, reads_adapter, reads_config, reads_device, reads_link, reads_weight, reads_whole}
+use Rattle.recording_file.proofs.StageReads.{Reads, next_reads, no_cause, reads_adapter, reads_config, reads_device, reads_link, reads_weight, reads_whole}
+use Rattle.record_text.proofs.ListLemmas.{all_push}
 
 -- ---- names, caps and requests
 
@@ -172,39 +173,14 @@ reads_after n s t row rows h e =
 
 -- ---- the header
 
-eight_fields : (row : Row) (a b c d e f g h : List ℕ) → length row ≡ 8 → field_of row 0 ≡ a → field_of row 1 ≡ b → field_of row 2 ≡ c → field_of row 3 ≡ d
-    → field_of row 4 ≡ e → field_of row 5 ≡ f → field_of row 6 ≡ g → field_of row 7 ≡ h → row ≡ a ∷ b ∷ c ∷ d ∷ e ∷ f ∷ g ∷ h ∷ []
-eight_fields row a b c d e f g h n e0 e1 e2 e3 e4 e5 e6 e7 =
-    let none : drop 8 row ≡ [] = nil_from_length (drop 8 row) (omega (arith, length-drop 8 row)) in
-    peel row 0 a _ n (omega arith) e0 (peel row 1 b _ n (omega arith) e1 (peel row 2 c _ n (omega arith) e2 (peel row 3 d _ n (omega arith) e3
-    (peel row 4 e _ n (omega arith) e4 (peel row 5 f _ n (omega arith) e5 (peel row 6 g _ n (omega arith) e6 (peel row 7 h [] n (omega arith) e7 none)))))))
-
-named_so : (name : List ℕ) (row : Row) → is_header name row ≡ true
-    → row ≡ name ∷ codes "a" ∷ codes "b" ∷ codes "c" ∷ codes "d" ∷ codes "e" ∷ codes "f" ∷ codes "g" ∷ []
-unfolding is_header has_letters
-named_so name row t =
-    eight_fields row name (codes "a") (codes "b") (codes "c") (codes "d") (codes "e") (codes "f") (codes "g") (grind (arith, nat_tests))
-    (search (rules, tests, bytes_eq-Decides)) (search (rules, tests, bytes_eq-Decides)) (search (rules, tests, bytes_eq-Decides)) (search (rules, tests, bytes_eq-Decides))
-    (search (rules, tests, bytes_eq-Decides)) (search (rules, tests, bytes_eq-Decides)) (search (rules, tests, bytes_eq-Decides)) (search (rules, tests, bytes_eq-Decides))
-
-named_header : (row : Row) → is_header name_text row ≡ true → row ≡ header
-unfolding header
-named_header row t = named_so name_text row t
-
 step_reads : (n : ℕ) (s t : RecordingStage) (row : Row) (rows : List Row) → Reads s rows → step n s row ≡ Ok t → Reads t (rows ++ row ∷ [])
 unfolding step IsSound
 step_reads n stage.Header t row rows h e = by (is_header name_text row) refl e
   where
     by : (b : Bool) → is_header name_text row ≡ b → cond b (Ok stage.First) (Err BadHeader) ≡ Ok t → Reads t (rows ++ row ∷ [])
-    by true named k = next_reads false stage.First t row rows (ok_is _ t k) (rw (h.spelled, named_header row named) refl) tt tt (record { unit = tt; targets = tt; drivers = tt })
+    by true named k = next_reads false stage.First t row rows (ok_is _ t k) (rw (h.spelled, named_header name_text row named) refl) tt tt (record { unit = tt; targets = tt; drivers = tt })
     by false named k = absurd cc
 step_reads n s t row rows h e = reads_after n s t row rows h e
-
-taken_reads : (n : ℕ) (s t : RecordingStage) (rows more : List Row) → Reads s rows → taken step n s more ≡ Ok t → Reads t (rows ++ more)
-taken_reads n s t rows [] h e = rw (append-nil rows, ← ok_is s t e) h
-taken_reads n s t rows (row ∷ more) h e =
-    on_ok (step n s row) _ t e (λ u eu r.
-    subst (Reads t) (append_assoc rows (row ∷ []) more) (taken_reads (n + 1) u t (rows ++ row ∷ []) more (step_reads n s u row rows h eu) r))
 
 -- ---- the end
 
@@ -222,7 +198,7 @@ unfolding reading IsSound
 was_recording before after text whole r e =
     on_ok (taken step 1 stage.Header (records_in text)) ended r e (λ t et k.
     let start : Reads stage.Header [] = record { table = false; spelled = refl; held = tt; sound = tt; ranged = record { unit = tt; targets = tt; drivers = tt } } in
-    let h = taken_reads 1 stage.Header t [] (records_in text) start et in
+    let h = taken_keeps step Reads step_reads 1 stage.Header t [] (records_in text) start et in
     let end = ended_ok t r k in
     let w = reads_whole t (records_in text) end.0 h in
     let made : WasRecording before after (recorded_of t) = record {

@@ -1,11 +1,9 @@
 -- What is spelled as a record is said again.
 use Rattle.std.proofs.Common.{◌≡◌, ◌<◌, ◌≤◌, ℕ, true, refl, arith}
-use Rattle.std.specs.Prelude.{IfSome, Ok, nat_le, nat_lt, ⊤}
+use Rattle.std.specs.Prelude.{Ok, codes, nat_le, nat_lt, ⊤}
 use Rattle.std.proofs.lemmas.Bool.{and_parts, leb-true, ltb-true}
 use Rattle.csv.specs.Records.{field_at}
-use Rattle.cam_types.specs.declared.adapter.Adapter.{Adapter}
-use Rattle.cam_types.specs.declared.weight_row.WeightRow.{WeightRow}
-use Rattle.recording_file.specs.Rows.{one_number, span_at, rounds_at, weight_at, adapter_at, device_at, device_of, named_at, text_at, capped_at, most_at, request_at, DeviceRow}
+use Rattle.recording_file.specs.Rows.{span_at, rounds_at, named_at, text_at, capped_at, most_at, request_at}
 use Rattle.recording_file.specs.Recorded.{Recorded, Request, Span, MOST_RECORDED_ROUNDS}
 use Rattle.recording_file.specs.Names.{Label, is_name, is_name_text, is_next_name, named_count, NameKind}
 use Rattle.recording_file.specs.declared.name.NameKind.TheVariants as named
@@ -13,10 +11,12 @@ use Rattle.recording_file.specs.Caps.{Cap, is_cap, is_next_cap, part_count, Part
 use Rattle.recording_file.specs.declared.part.PartKind.TheVariants as part
 use Rattle.recording_file.specs.Reading.{said_by, name_said, cap_said, Said}
 use Rattle.recording_file.specs.declared.said.Said.TheVariants as said
-use Rattle.recording_file.specs.Fields.{most_number, unused_from}
+use Rattle.record_text.specs.Fields.{most_number, unused_from}
 use Rattle.recording_file.specs.Counts.{Counts, counts_of}
-use Rattle.recording_file.specs.Records.{unit_row, rounds_row, weight_row, link_row, adapter_row, device_row, name_row, cap_row, request_row, said_row, word_for, FitsSaid, FitsRequest}
-use Rattle.recording_file.proofs.FieldLaws.{number_again, optional_again, within_again, below_again, time_again, named_again, part_again}
+use Rattle.recording_file.specs.Records.{unit_row, rounds_row, name_row, cap_row, request_row, said_row, word_for, FitsSaid, FitsRequest}
+use Rattle.record_text.proofs.RowLaws.{adapter_again, device_again, one_again, weight_again}
+use Rattle.recording_file.proofs.FieldLaws.{time_again, named_again, part_again}
+use Rattle.record_text.proofs.FieldLaws.{number_again, optional_again, within_again, below_again}
 
 -- the numbers of what there is fit a field
 pub record IsCounted (c : Counts) : Type 0 where
@@ -42,29 +42,6 @@ unit_again u a b = rw (within_again (unit_row u) 1 1 most_number u.count (omega 
 rounds_again : (n : ℕ) → 1 ≤ n → n ≤ MOST_RECORDED_ROUNDS → rounds_at (rounds_row n) ≡ Ok n
 unfolding rounds_at unused_from field_at
 rounds_again n a b = rw (within_again (rounds_row n) 1 1 MOST_RECORDED_ROUNDS n (omega arith) a b refl) refl
-
-weight_again : (w : WeightRow) → w.last ≤ most_number → w.weight ≤ most_number → weight_at (weight_row w) ≡ Ok w
-unfolding weight_at unused_from field_at
-weight_again w a b = rw (number_again (weight_row w) 1 most_number w.last (omega arith) a refl, number_again (weight_row w) 2 most_number w.weight (omega arith) b refl) refl
-
-link_again : (n : ℕ) → n ≤ most_number → one_number (link_row n) ≡ Ok n
-unfolding one_number unused_from field_at
-link_again n h = rw (number_again (link_row n) 1 most_number n (omega arith) h refl) refl
-
-adapter_again : (a : Adapter) → a.openings ≤ most_number → IfSome a.link (λ l. l ≤ most_number) → adapter_at (adapter_row a) ≡ Ok a
-unfolding adapter_at unused_from field_at
-adapter_again a o l = rw (number_again (adapter_row a) 1 most_number a.openings (omega arith) o refl, optional_again (adapter_row a) 2 most_number a.link (omega arith) l refl) refl
-
-device_again : (d : DeviceRow) → d.bus ≤ most_number → d.target ≤ 65535 → d.lun ≤ 16383 → d.openings ≤ most_number → device_at (device_row (device_of d)) ≡ Ok d
-unfolding device_at unused_from field_at
-device_again d a b c o =
-    let row = device_row (device_of d) in
-    rw (
-      number_again row 1 most_number d.bus (omega arith) a refl,
-      number_again row 2 65535 d.target (omega arith) b refl,
-      number_again row 3 16383 d.lun (omega arith) c refl,
-      number_again row 4 most_number d.openings (omega arith) o refl,
-    ) refl
 
 request_again : (q : Request) → FitsRequest q → request_at (request_row q) ≡ Ok q
 unfolding request_at unused_from field_at
@@ -133,9 +110,9 @@ unfolding said_by
 said_again n r (said.Unit u) h f = rw (unit_again u f.0 f.1) refl
 said_again n r (said.Rounds k) h f = rw (rounds_again k f.0 f.1) refl
 said_again n r (said.Weight w) h f = rw (weight_again w f.0 f.1) refl
-said_again n r (said.Link k) h f = rw (link_again k f) refl
+said_again n r (said.Link k) h f = rw (one_again (codes "link") k f) refl
 said_again n r (said.Sim a) h f = rw (adapter_again a f.0 f.1) refl
-said_again n r (said.Dev d) h f = rw (device_again d f.0 f.1 f.2 f.3) refl
+said_again n r (said.Dev d) h f = rw (device_again d f) refl
 said_again n r (said.Name x) h f = name_again n r x h.0 f
 said_again n r (said.Cap x) h f = cap_again n r x h.0 h.1 f
 said_again n r (said.Request q) h f = rw (request_again q f) refl

@@ -1,72 +1,23 @@
 -- What a record says is spelled so, and what is spelled so is said.
-use Rattle.std.proofs.Common.{◌≡◌, ◌<◌, ◌≤◌, ◌+◌, ℕ, subst, List, [], ◌∷◌, length, drop, replicate, Bool, true, false, cond, refl, sym, ap, ◌∙◌, arith, eqb-true, le-leb, lt-ltb}
-use Rattle.std.specs.Prelude.{IfSome, Result, Ok, Err, decimal, ◌==◌, ⊤}
-use Rattle.std.proofs.lemmas.List.{length-drop, nil_from_length}
-use Rattle.cam_types.specs.declared.adapter.Adapter.{Adapter}
-use Rattle.cam_types.specs.declared.weight_row.WeightRow.{WeightRow}
-use Rattle.recording_file.specs.Rows.{one_number, span_at, rounds_at, weight_at, adapter_at, device_at, named_at, text_at, capped_at, most_at, request_at, DeviceRow}
+use Rattle.std.proofs.Common.{◌≡◌, ◌<◌, ◌≤◌, ℕ, subst, List, [], ◌∷◌, length, drop, replicate, true, refl, sym, ap, ◌∙◌, arith, le-leb, lt-ltb}
+use Rattle.std.specs.Prelude.{IfSome, Result, Ok, Err, codes, decimal, ⊤}
+use Rattle.recording_file.specs.Rows.{span_at, rounds_at, named_at, text_at, capped_at, most_at, request_at}
+use Rattle.record_text.specs.ConfigRows.{one_number, weight_at, adapter_at, device_at, optional_text}
 use Rattle.recording_file.specs.Recorded.{Recorded, Request, Span, MOST_RECORDED_ROUNDS}
 use Rattle.recording_file.specs.Names.{is_name, is_name_text, is_next_name, named_count, NameKind}
 use Rattle.recording_file.specs.Reading.{in_record, says, said_by, name_said, cap_said, BadRecord, Said}
 use Rattle.recording_file.specs.declared.said.Said.TheVariants as said
 use Rattle.recording_file.specs.Words.{spelled, time_text, time_of, named_text, named_of, part_text, part_kind_of, Word}
 use Rattle.recording_file.specs.declared.word.Word.TheVariants as word
-use Rattle.record_text.specs.Steps.{◌>>=◌}
-use Rattle.recording_file.specs.Fields.{Row, field_of, formed, most_number, number_at, optional_at, within_at, below_at, unused, unused_from}
+use Rattle.record_text.specs.Text.{Row}
+use Rattle.record_text.specs.Fields.{field_of, formed, most_number, optional_at, within_at, below_at, unused_from}
 use Rattle.recording_file.specs.Counts.{Counts, counts_of}
 use Rattle.recording_file.specs.Caps.{Part, part_of, is_cap, is_next_cap, part_count}
-use Rattle.recording_file.specs.Records.{optional_text, said_row, word_for, FitsSaid}
-use Rattle.recording_file.proofs.FieldLemmas.{drop_field}
-use Rattle.recording_file.proofs.FieldLaws.{formed_takes, number_takes, optional_takes, within_takes, below_takes, time_spelled, named_spelled, part_spelled}
-
--- the value of a step that didn't fail
-pub on_ok : {A B E Q : Type 0} (r : Result A E) (f : A → Result B E) (y : B) → (r >>= f) ≡ Ok y → ((x : A) → r ≡ Ok x → f x ≡ Ok y → Q) → Q
-on_ok (Ok x) f y e k = k x refl e
-on_ok (Err d) f y e k = absurd cc
-
-pub ok_is : {A E : Type 0} (x y : A) → ◌≡◌ {A = Result A E} (Ok x) (Ok y) → x ≡ y
-ok_is x y e = cc
-
--- the value where a test passes
-pub if_ok : {A E : Type 0} (b : Bool) (r : Result A E) (y : A) (d : E) → cond b r (Err d) ≡ Ok y → (b ≡ true) × (r ≡ Ok y)
-if_ok true r y d e = (refl, e)
-if_ok false r y d e = absurd cc
-
--- the fields from a place on, by the field there
-pub peel : (row : Row) (at : ℕ) (f : List ℕ) (rest : Row) → length row ≡ 8 → at < 8 → field_of row at ≡ f → drop (at + 1) row ≡ rest → drop at row ≡ f ∷ rest
-peel row at f rest eight h e r = drop_field row at (omega arith) ∙ rw (e, r) refl
-
--- ---- fields that aren't used
-
-unused_all : (k : ℕ) (fs : Row) (u : ⊤) → unused k fs ≡ Ok u → fs ≡ replicate (length fs) []
-unused_all k [] u e = refl
-unused_all k (f ∷ fs) u e =
-    let g = if_ok (length f == 0) _ u k e in
-    let none = nil_from_length f (eqb-true _ _ g.0) in
-    rw none (ap (λ (l : Row). [] ∷ l) (unused_all (k + 1) fs u g.1))
-
-unused_rest : (row : Row) (at n : ℕ) (u : ⊤) → length row ≡ 8 → at + n ≡ 8 → unused_from row at ≡ Ok u → drop at row ≡ replicate n []
-unfolding unused_from
-unused_rest row at n u eight e h =
-    let size : length (drop at row) ≡ n = omega (arith, length-drop at row) in
-    unused_all (at + 1) (drop at row) u h ∙ ap (λ (k : ℕ). replicate k []) size
-
--- ---- what is read is spelled so
-
--- the next field that is read: its value, what is known of that, and how the fields from it on are spelled
-pub next_field : {X B Q : Type 0} (row : Row) (at : ℕ) (r : Result X ℕ) (f : X → Result B ℕ) (y : B) (spell : X → List ℕ) (F : X → Type 0) → length row ≡ 8 → at < 8
-    → ((x : X) → r ≡ Ok x → (field_of row at ≡ spell x) × F x) → (r >>= f) ≡ Ok y
-    → ((x : X) → F x → ((rest : Row) → drop (at + 1) row ≡ rest → drop at row ≡ spell x ∷ rest) → f x ≡ Ok y → Q) → Q
-next_field row at r f y spell F eight h takes e k =
-    on_ok r f y e (λ x ex s. let t = takes x ex in k x t.1 (λ rest more. peel row at (spell x) rest eight h t.0 more) s)
-
-pub next_number : {B Q : Type 0} (row : Row) (at most : ℕ) (f : ℕ → Result B ℕ) (y : B) → length row ≡ 8 → at < 8 → most ≤ most_number → (number_at row at most >>= f) ≡ Ok y
-    → ((n : ℕ) → n ≤ most → ((rest : Row) → drop (at + 1) row ≡ rest → drop at row ≡ decimal n ∷ rest) → f n ≡ Ok y → Q) → Q
-next_number row at most f y eight h le e k = next_field row at (number_at row at most) f y decimal (λ n. n ≤ most) eight h (λ n. number_takes row at most n le) e k
-
--- no field more
-pub no_more : {B : Type 0} (row : Row) (at n : ℕ) (x y : B) (P : B → Type 0) → length row ≡ 8 → at + n ≡ 8 → (unused_from row at >>= λ _. Ok x) ≡ Ok y → (drop at row ≡ replicate n [] → P x) → P y
-no_more row at n x y P eight size e made = on_ok (unused_from row at) _ y e (λ u eu s. subst P (ok_is x y s) (made (unused_rest row at n u eight size eu)))
+use Rattle.recording_file.specs.Records.{said_row, word_for, FitsSaid}
+use Rattle.record_text.proofs.RowLaws.{adapter_takes, device_takes, next_field, next_number, no_more, one_takes, peel, unused_rest, weight_takes}
+use Rattle.record_text.proofs.StepLemmas.{if_ok, ok_is, on_ok}
+use Rattle.recording_file.proofs.FieldLaws.{time_spelled, named_spelled, part_spelled}
+use Rattle.record_text.proofs.FieldLaws.{formed_takes, optional_takes, within_takes, below_takes}
 
 -- ---- the forms of each row
 
@@ -91,35 +42,6 @@ unfolding rounds_at
 rounds_tells r row n eight e =
     next_field row 1 (within_at row 1 1 MOST_RECORDED_ROUNDS) _ n decimal (λ m. (1 ≤ m) × (m ≤ MOST_RECORDED_ROUNDS)) eight (omega arith) (λ m em. let t = within_takes row 1 1 MOST_RECORDED_ROUNDS m (omega arith) em in (t.0, (t.1, t.2))) e (λ m a t1 r1.
     no_more row 2 6 m n (λ v. Tells r row (said.Rounds v)) eight refl r1 (λ rest. (ap (λ (l : Row). spelled word.Rounds ∷ l) (t1 _ rest), a)))
-
-weight_tells : (r : Recorded) (row : Row) (w : WeightRow) → length row ≡ 8 → weight_at row ≡ Ok w → Tells r row (said.Weight w)
-unfolding weight_at
-weight_tells r row w eight e =
-    next_number row 1 most_number _ w eight (omega arith) (omega arith) e (λ last a t1 r1.
-    next_number row 2 most_number _ w eight (omega arith) (omega arith) r1 (λ weight b t2 r2.
-    no_more row 3 5 _ w (λ v. Tells r row (said.Weight v)) eight refl r2 (λ rest. (ap (λ (l : Row). spelled word.Weight ∷ l) (t1 _ (t2 _ rest)), (a, b)))))
-
-link_tells : (r : Recorded) (row : Row) (n : ℕ) → length row ≡ 8 → one_number row ≡ Ok n → Tells r row (said.Link n)
-unfolding one_number
-link_tells r row n eight e =
-    next_number row 1 most_number _ n eight (omega arith) (omega arith) e (λ m a t1 r1.
-    no_more row 2 6 m n (λ v. Tells r row (said.Link v)) eight refl r1 (λ rest. (ap (λ (l : Row). spelled word.Link ∷ l) (t1 _ rest), a)))
-
-adapter_tells : (r : Recorded) (row : Row) (x : Adapter) → length row ≡ 8 → adapter_at row ≡ Ok x → Tells r row (said.Sim x)
-unfolding adapter_at
-adapter_tells r row x eight e =
-    next_number row 1 most_number _ x eight (omega arith) (omega arith) e (λ openings a t1 r1.
-    next_field row 2 (optional_at row 2 most_number) _ x optional_text (λ l. IfSome l (λ n. n ≤ most_number)) eight (omega arith) (λ l el. optional_takes row 2 most_number l (omega arith) el) r1 (λ link b t2 r2.
-    no_more row 3 5 _ x (λ v. Tells r row (said.Sim v)) eight refl r2 (λ rest. (ap (λ (l : Row). spelled word.Sim ∷ l) (t1 _ (t2 _ rest)), (a, b)))))
-
-device_tells : (r : Recorded) (row : Row) (d : DeviceRow) → length row ≡ 8 → device_at row ≡ Ok d → Tells r row (said.Dev d)
-unfolding device_at
-device_tells r row d eight e =
-    next_number row 1 most_number _ d eight (omega arith) (omega arith) e (λ bus a t1 r1.
-    next_number row 2 65535 _ d eight (omega arith) (omega arith) r1 (λ target b t2 r2.
-    next_number row 3 16383 _ d eight (omega arith) (omega arith) r2 (λ lun c t3 r3.
-    next_number row 4 most_number _ d eight (omega arith) (omega arith) r3 (λ openings o t4 r4.
-    no_more row 5 3 _ d (λ v. Tells r row (said.Dev v)) eight refl r4 (λ rest. (ap (λ (l : Row). spelled word.Dev ∷ l) (t1 _ (t2 _ (t3 _ (t4 _ rest)))), (a, b, c, o)))))))
 
 request_tells : (r : Recorded) (row : Row) (q : Request) → length row ≡ 8 → request_at row ≡ Ok q → Tells r row (said.Request q)
 unfolding request_at
@@ -224,10 +146,10 @@ pub said_tells : (n : ℕ) (r : Recorded) (w : Word) (row : Row) (x : Said) → 
 unfolding said_by
 said_tells n r word.Unit row x eight le e = (say_word n (span_at row) said.Unit x word.Unit e (λ y. refl), say_takes r n row (span_at row) said.Unit x e (λ y ey. unit_tells r row y eight ey))
 said_tells n r word.Rounds row x eight le e = (say_word n (rounds_at row) said.Rounds x word.Rounds e (λ y. refl), say_takes r n row (rounds_at row) said.Rounds x e (λ y ey. rounds_tells r row y eight ey))
-said_tells n r word.Weight row x eight le e = (say_word n (weight_at row) said.Weight x word.Weight e (λ y. refl), say_takes r n row (weight_at row) said.Weight x e (λ y ey. weight_tells r row y eight ey))
-said_tells n r word.Link row x eight le e = (say_word n (one_number row) said.Link x word.Link e (λ y. refl), say_takes r n row (one_number row) said.Link x e (λ y ey. link_tells r row y eight ey))
-said_tells n r word.Sim row x eight le e = (say_word n (adapter_at row) said.Sim x word.Sim e (λ y. refl), say_takes r n row (adapter_at row) said.Sim x e (λ y ey. adapter_tells r row y eight ey))
-said_tells n r word.Dev row x eight le e = (say_word n (device_at row) said.Dev x word.Dev e (λ y. refl), say_takes r n row (device_at row) said.Dev x e (λ y ey. device_tells r row y eight ey))
+said_tells n r word.Weight row x eight le e = (say_word n (weight_at row) said.Weight x word.Weight e (λ y. refl), say_takes r n row (weight_at row) said.Weight x e (λ y ey. weight_takes row y eight ey))
+said_tells n r word.Link row x eight le e = (say_word n (one_number row) said.Link x word.Link e (λ y. refl), say_takes r n row (one_number row) said.Link x e (λ y ey. one_takes row (codes "link") y eight ey))
+said_tells n r word.Sim row x eight le e = (say_word n (adapter_at row) said.Sim x word.Sim e (λ y. refl), say_takes r n row (adapter_at row) said.Sim x e (λ y ey. adapter_takes row y eight ey))
+said_tells n r word.Dev row x eight le e = (say_word n (device_at row) said.Dev x word.Dev e (λ y. refl), say_takes r n row (device_at row) said.Dev x e (λ y ey. device_takes row y eight ey))
 said_tells n r word.Name row x eight le e = name_tells n r row x eight e
 said_tells n r word.Cap row x eight le e = cap_tells n r row x eight le e
 said_tells n r word.Request row x eight le e = (say_word n (request_at row) said.Request x word.Request e (λ y. refl), say_takes r n row (request_at row) said.Request x e (λ y ey. request_tells r row y eight ey))

@@ -1,8 +1,7 @@
 -- What a record does to the configuration in the making.
-use Rattle.std.proofs.Common.{◌≡◌, ◌≢◌, ◌<◌, ◌≤◌, ℕ, List, [], ◌∷◌, ◌++◌, length, Bool, true, false, cond, min, refl, sym, ap, ◌∙◌, arith, length-append, ◌==◌, Option, Some, None, Result, Ok, Err, MatchOption, IsOkUnless}
-use Rattle.std.proofs.lemmas.Bool.{leb-false, ne_eqb, and_parts, leb-true, ltb-false, not-false}
-use Rattle.std.proofs.lemmas.Bool.Decides.{nat_tests}
-use Rattle.cam_types.specs.Topology.{Topology, IsDraft, address_fault, link_fault, adapter_fault, device_fault, config_fault}
+use Rattle.std.proofs.Common.{◌≡◌, ◌≢◌, ℕ, [], ◌∷◌, ◌++◌, length, true, false, refl, sym, ap, ◌∙◌, arith, length-append, ◌==◌, Option, Some, None, Result, Ok, Err, MatchOption, IsOkUnless}
+use Rattle.std.proofs.lemmas.Bool.{ne_eqb}
+use Rattle.cam_types.specs.Topology.{Topology, IsDraft, link_fault, adapter_fault, device_fault, config_fault}
 use Rattle.cam_types.specs.Weights.{weight_fault, reaches_last}
 use Rattle.cam_types.specs.declared.adapter.Adapter.{Adapter}
 use Rattle.cam_types.specs.declared.device.Device.{Device}
@@ -10,28 +9,14 @@ use Rattle.cam_types.specs.declared.weight_row.WeightRow.{WeightRow}
 use Rattle.cam_types.specs.declared.config_fault.ConfigFault.{ConfigFault}
 use Rattle.cam_types.specs.declared.config.ConfigError.{ConfigError}
 use Rattle.cam_types.specs.declared.config.ConfigError.TheVariants as error
-use Rattle.cam_types.proofs.ListLemmas.{or_left}
 use Rattle.cam_types.proofs.TopologyLemmas.{config_fault-draft, draft_weight, draft_link, draft_adapter, draft_device}
-use Rattle.cam_types.specs.declared.maxima.TheConstants.{MOST_ADAPTERS}
-use Rattle.recording_file.specs.Rows.{device_of, clamped, DeviceRow}
+use Rattle.record_text.specs.ConfigRows.{device_of, clamped}
+use Rattle.record_text.specs.declared.device_row.DeviceRow.{DeviceRow}
 use Rattle.recording_file.specs.Reading.{unless_fault, row_step, step, BadConfig, RecordingStage, Start}
 use Rattle.recording_file.specs.declared.recording_stage.RecordingStage.TheVariants as stage
-use Rattle.recording_file.specs.Fields.{Row}
+use Rattle.record_text.specs.Text.{Row}
 use Rattle.recording_file.specs.Sound.{IsBare, IsBegun, IsSound, IsStart}
-
--- an item that was added breaks no rule
-pub none_where_ok : {U : Type 0} (o : Option ConfigFault) (r : Result U ConfigError) (u : U) → MatchOption o (IsOkUnless r error.OutOfMemory) (λ f. r ≡ Err (error.Fault f)) → r ≡ Ok u → o ≡ None
-none_where_ok None r u h e = refl
-none_where_ok (Some f) r u h e = absurd (cc)
-
--- a chain of rules that answers none has none broken
-pub cond_none : {X : Type 0} (b : Bool) (x : X) (rest : Option X) → cond b (Some x) rest ≡ None → (b ≡ false) × (rest ≡ None)
-cond_none true x rest e = absurd cc
-cond_none false x rest e = (refl, e)
-
-pub few_adapters : (links : ℕ) (adapters : List Adapter) (a : Adapter) → adapter_fault links (adapters, a) ≡ None → length adapters < MOST_ADAPTERS
-unfolding adapter_fault
-few_adapters links adapters a none = leb-false _ _ (cond_none _ _ _ (or_left _ _ none)).0
+use Rattle.record_text.proofs.ConfigLemmas.{clamped_fault, clamped_same, few_adapters}
 
 -- ---- one item more
 
@@ -78,32 +63,6 @@ sound_adapter start t t' a head d reaches devices lanes none e =
     )
 
 -- ---- devices
-
-clamped_small : (d : DeviceRow) → d.bus ≤ 255 → clamped d ≡ device_of d
-clamped_small d h =
-    let same : min d.bus 255 ≡ d.bus = omega arith in
-    ap (λ (b : ℕ). let x : Device = record { bus = b; target = d.target; lun = d.lun; openings = d.openings } in x) same
-
--- a bus above 255 names no adapter, whichever it is
-pub clamped_fault : (n : ℕ) (before : List Device) (d : DeviceRow) → n ≤ MOST_ADAPTERS → device_fault n (before, clamped d) ≡ device_fault n (before, device_of d)
-unfolding device_fault address_fault
-clamped_fault n before d few = grind (arith, nat_tests)
-
--- what the rules of the configuration say of a device's numbers
-pub device_small : (n : ℕ) (before : List Device) (d : Device) → device_fault n (before, d) ≡ None → (d.bus < n) × (d.lun ≤ 16383) × (d.openings ≤ 255)
-unfolding device_fault address_fault
-device_small n before d e =
-    let a = cond_none _ _ _ e in
-    let b = cond_none _ _ _ a.1 in
-    let c = cond_none _ _ _ b.1 in
-    let l = cond_none _ _ _ c.1 in
-    (leb-false _ _ c.0, ltb-false _ _ l.0, leb-true _ _ (and_parts _ _ (not-false _ b.0)).1)
-
--- a device that breaks no rule is the one that the record spells
-pub clamped_same : (n : ℕ) (before : List Device) (d : DeviceRow) → n ≤ MOST_ADAPTERS → device_fault n (before, clamped d) ≡ None → clamped d ≡ device_of d
-clamped_same n before d few none =
-    let small = device_small n before (clamped d) none in
-    clamped_small d (omega arith)
 
 pub sound_device : (start : Start) (t t' : Topology) (d : Device) → IsBegun start t → device_fault (length t.adapters) (t.devices, d) ≡ None
     → t' ≡ record t { devices = t.devices ++ d ∷ [] } → IsSound (stage.Devices start t')

@@ -10,15 +10,17 @@ use Rattle.cam_types.specs.declared.weight_row.WeightRow.{WeightRow}
 use Rattle.cam_types.specs.declared.config_fault.ConfigFault.{ConfigFault}
 use Rattle.cam_types.specs.declared.config_fault.ConfigFault.TheVariants.{BadWeight}
 use Rattle.recording_file.specs.Recorded.{Recorded, Request, Span, IsKept, Cause}
-use Rattle.recording_file.specs.Rows.{device_of, DeviceRow}
+use Rattle.record_text.specs.ConfigRows.{device_of, adapter_row, device_row, link_row, weight_row}
+use Rattle.record_text.specs.declared.device_row.DeviceRow.{DeviceRow}
 use Rattle.recording_file.specs.Reading.{adapter_added, begun, device_added, given, lacks_adapters, link_added, recorded_of, unless_fault, unless_illegal, BadConfig, RecordingStage, Start}
 use Rattle.recording_file.specs.declared.recording_stage.RecordingStage.TheVariants as stage
-use Rattle.recording_file.specs.Fields.{Row}
-use Rattle.recording_file.specs.Records.{adapter_row, device_row, header, link_row, records_of, unit_row, weight_row}
+use Rattle.record_text.specs.Text.{Row}
+use Rattle.recording_file.specs.Records.{header, records_of, unit_row}
 use Rattle.recording_file.specs.Sound.{IsBare, IsBegun, IsSound, IsStart}
 use Rattle.recording_file.proofs.PushLaws.{push_weight, push_link, push_adapter, push_device}
-use Rattle.recording_file.proofs.SaidLaws.{if_ok, ok_is}
+use Rattle.record_text.proofs.StepLemmas.{if_ok, ok_is}
 use Rattle.recording_file.proofs.StageLemmas.{config_whole, sound_weight, sound_link, sound_adapter, sound_device}
+use Rattle.record_text.proofs.ListLemmas.{all_push}
 
 -- the records that a stage has read, with rows of weights or without
 abbrev pub rows_at : Bool → RecordingStage → List Row
@@ -59,10 +61,6 @@ no_fault n (Some f) s t e = absurd cc
 pub no_cause : (n : ℕ) (o : Option Cause) (s t : RecordingStage) → unless_illegal n o s ≡ Ok t → (o ≡ None) × (s ≡ t)
 no_cause n None s t e = (refl, ok_is s t e)
 no_cause n (Some f) s t e = absurd cc
-
-pub all_push : {X : Type 0} (P : X → Type 0) (xs : List X) (x : X) → AllByRecursion P xs → P x → AllByRecursion P (xs ++ x ∷ [])
-all_push P [] x h p = (p, tt)
-all_push P (y ∷ ys) x h p = (h.0, all_push P ys x h.1 p)
 
 -- a stage with one record more
 pub next_reads : (table : Bool) (next t : RecordingStage) (row : Row) (rows : List Row) → next ≡ t → rows ++ row ∷ [] ≡ rows_at table next → IsIn next table → IsSound next → IsRanged (recorded_of next) → Reads t (rows ++ row ∷ [])

@@ -7,7 +7,8 @@ use Rattle.recording_file.specs.Reading.{add_row, add_said, add_name, add_cap, a
 use Rattle.recording_file.specs.declared.recording_stage.RecordingStage.TheVariants as stage
 use Rattle.recording_file.specs.Words.{word_rank, Word}
 use Rattle.recording_file.specs.declared.word.Word.TheVariants as word
-use Rattle.recording_file.specs.Fields.{Row, most_number}
+use Rattle.record_text.specs.Text.{Row}
+use Rattle.record_text.specs.Fields.{most_number}
 use Rattle.recording_file.specs.Records.{FitsSaid, word_for}
 use Rattle.recording_file.specs.Caps.{Cap, is_next_cap}
 use Rattle.recording_file.specs.Names.{Label, is_next_name}

@@ -6,18 +6,18 @@ use Rattle.cam_types.specs.Weights.{are_standard, weight_fault}
 use Rattle.cam_types.proofs.ConfigLemmas.{reaches, weight_items}
 use Rattle.recording_file.specs.Reading.{ended, lacks_adapters, reading, recorded_of, step, RecordingFault, RecordingStage}
 use Rattle.recording_file.specs.declared.recording_stage.RecordingStage.TheVariants as stage
-use Rattle.recording_file.specs.Header.{has_letters, is_header}
+use Rattle.record_text.specs.Header.{has_letters, is_header, header_row}
 use Rattle.recording_file.specs.Recorded.{Recorded, IsRecording}
 use Rattle.recording_file.specs.Records.{header, records_of}
 use Rattle.record_text.specs.Steps.{taken}
-use Rattle.recording_file.proofs.AgainLaws.{none_along}
+use Rattle.record_text.proofs.ListLemmas.{none_along}
 use Rattle.recording_file.proofs.HeadLaws.{base_of, taken_config, taken_start, taken_weights}
 use Rattle.recording_file.proofs.BookLaws.{at_book, book_at, is_base, taken_book}
 
 -- ---- the head
 
 header_first : step 1 stage.Header header ≡ Ok stage.First
-unfolding step is_header has_letters header field_at
+unfolding step is_header has_letters header_row field_at
 header_first = refl
 
 taken_all : (table : Bool) (r : Recorded) → IsRecording r → (table || are_standard r.config.weights) ≡ true → taken step 1 stage.Header (records_of table r) ≡ Ok (at_book (base_of table r) r.names r.caps r.requests)

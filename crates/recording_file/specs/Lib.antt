@@ -1,7 +1,5 @@
 pub mod Caps
 pub mod Counts
-pub mod Fields
-pub mod Header
 pub mod Names
 pub mod Places
 pub mod Reading

@@ -8,7 +8,9 @@ use Rattle.cam_types.specs.declared.weight_row.WeightRow.{WeightRow}
 use Rattle.cam_types.specs.declared.config_fault.ConfigFault.{ConfigFault}
 use Rattle.cam_types.specs.declared.config_fault.ConfigFault.TheVariants.{NoAdapters, BadWeight}
 use Rattle.recording_file.specs.Recorded.{Recorded, Request, Span, has_items, request_cause, Cause, MOST_REQUESTS}
-use Rattle.recording_file.specs.Rows.{one_number, span_at, rounds_at, weight_at, adapter_at, device_at, device_of, named_at, text_at, capped_at, most_at, request_at, DeviceRow}
+use Rattle.recording_file.specs.Rows.{span_at, rounds_at, named_at, text_at, capped_at, most_at, request_at}
+use Rattle.record_text.specs.ConfigRows.{one_number, weight_at, adapter_at, device_at, device_of}
+use Rattle.record_text.specs.declared.device_row.DeviceRow.{DeviceRow}
 pub use Rattle.recording_file.specs.declared.recording_fault.RecordingFault.{RecordingFault}
 pub use Rattle.recording_file.specs.declared.recording_fault.RecordingFault.TheVariants.{BadHeader, BadRecord, BadField, BadConfig, Illegal}
 pub use Rattle.recording_file.specs.declared.recording_stage.RecordingStage.{RecordingStage}
@@ -16,11 +18,12 @@ use Rattle.recording_file.specs.declared.recording_stage.RecordingStage.TheVaria
 pub use Rattle.recording_file.specs.declared.said.Said.{Said}
 use Rattle.recording_file.specs.declared.said.Said.TheVariants as said
 pub use Rattle.recording_file.specs.declared.start.Start.{Start}
-use Rattle.recording_file.specs.Words.{word_of, word_rank, Word}
+use Rattle.recording_file.specs.Words.{word_of, word_rank, Word, name_text}
 use Rattle.recording_file.specs.declared.word.Word.TheVariants as word
 use Rattle.record_text.specs.Steps.{◌>>=◌, taken}
-use Rattle.recording_file.specs.Fields.{Row, field_of}
-use Rattle.recording_file.specs.Header.{is_header, name_text}
+use Rattle.record_text.specs.Text.{Row}
+use Rattle.record_text.specs.Fields.{field_of}
+use Rattle.record_text.specs.Header.{is_header}
 use Rattle.recording_file.specs.Counts.{counts_of}
 use Rattle.recording_file.specs.Names.{Label, is_next_name}
 use Rattle.recording_file.specs.Caps.{Cap, is_next_cap}

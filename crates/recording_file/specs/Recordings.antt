@@ -1,15 +1,14 @@
 -- Texts of recordings, and what a reader of recordings answers.
-use Rattle.std.specs.Prelude.{◌≡◌, ℕ, ◌+◌, ◌≤◌, ◌||◌, ◌++◌, ◌∷◌, [], true, ⊤, List, length, Option, Ok, Err, Bool}
+use Rattle.std.specs.Prelude.{◌≡◌, ℕ, ◌≤◌, ◌||◌, true, ⊤, List, length, Option, Bool}
 use Rattle.cam_types.specs.Weights.{are_standard}
-use Rattle.recording_file.specs.Reading.{ended, step, RecordingFault, RecordingStage}
+use Rattle.recording_file.specs.Reading.{ended, step, RecordingFault}
 use Rattle.recording_file.specs.declared.recording_fault.RecordingFault.TheVariants as fault
 use Rattle.recording_file.specs.declared.recording_stage.RecordingStage.TheVariants as stage
-use Rattle.recording_file.specs.Fields.{Row}
+use Rattle.record_text.specs.Text.{records_in}
 use Rattle.recording_file.specs.Recorded.{Recorded, IsRecording}
 use Rattle.recording_file.specs.Records.{records_of}
-use Rattle.record_text.specs.Steps.{◌>>=◌, taken}
-use Rattle.record_text.specs.Text.{records_in}
 use Rattle.recording_file.specs.Whole.{most_bytes, IsLongWhole, IsTooLong}
+use Rattle.record_text.specs.Faults.{IsFirstFault}
 
 -- the text's records are those of the recording; where its weights are the standard ones, their rows may be left out
 pub record IsRecordingText (text : List ℕ) (r : Recorded) : Type 0 where
@@ -25,26 +24,11 @@ pub record WasRecording (before after : Option (List ℕ)) (r : Recorded) : Type
   pub spelled : IsRecordingText text r
   pub recording : IsRecording r
 
--- a stage fails at the next record, or at the end where there is none
-abbrev pub FailsAt : ℕ → RecordingStage → List Row → RecordingFault → Type 0
-FailsAt n s [] e = ended s ≡ Err e
-FailsAt n s (row ∷ rest) e = step n s row ≡ Err e
-
--- the first record that fails, after those that don't, has this fault
-pub record IsFirstFault (rows : List Row) (e : RecordingFault) : Type 0 where
-  pub exact : (taken step 1 stage.Header rows >>= ended) ≡ Err e
-  pub before : List Row
-  pub rest : List Row
-  pub reached : RecordingStage
-  pub parts : rows ≡ before ++ rest
-  pub good : taken step 1 stage.Header before ≡ Ok reached
-  pub fails : FailsAt (1 + length before) reached rest e
-
 -- what was read to its end has this fault first
 pub record WasFaulty (before after : Option (List ℕ)) (e : RecordingFault) : Type 0 where
   pub text : List ℕ
   pub whole : IsLongWhole before after text
-  pub fault : IsFirstFault (records_in text) e
+  pub fault : IsFirstFault step ended stage.Header (records_in text) e
 
 -- why no recording was read, where the reader's note says at last whether a call failed
 abbrev pub Explains : Option (List ℕ) → Option (List ℕ) → Bool → RecordingFault → Type 0

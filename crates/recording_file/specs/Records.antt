@@ -1,49 +1,27 @@
 -- The records of a recording.
-use Rattle.std.specs.Prelude.{◌≡◌, ◌≤◌, ℕ, ◌-◌, Bool, true, if◌then◌else◌, List, [], ◌∷◌, ◌++◌, length, map, replicate, Option, Some, None, IfSome, codes, decimal}
-use Rattle.std.specs.Option.{option_map_or}
-use Rattle.cam_types.specs.declared.adapter.Adapter.{Adapter}
-use Rattle.cam_types.specs.declared.device.Device.{Device}
+use Rattle.std.specs.Prelude.{◌≡◌, ◌≤◌, ℕ, Bool, true, if◌then◌else◌, List, [], ◌∷◌, ◌++◌, map, Option, Some, None, IfSome, decimal}
 use Rattle.cam_types.specs.declared.weight_row.WeightRow.{WeightRow}
 use Rattle.recording_file.specs.Recorded.{Recorded, Request, Span, MOST_RECORDED_ROUNDS}
 use Rattle.recording_file.specs.Reading.{Said}
 use Rattle.recording_file.specs.declared.said.Said.TheVariants as said
-use Rattle.recording_file.specs.Words.{spelled, time_text, named_text, part_text, Word}
+use Rattle.recording_file.specs.Words.{spelled, time_text, named_text, part_text, Word, name_text}
 use Rattle.recording_file.specs.declared.word.Word.TheVariants as word
 use Rattle.recording_file.specs.Counts.{counts_of}
-use Rattle.recording_file.specs.Fields.{Row, most_number}
-use Rattle.recording_file.specs.Header.{name_text}
+use Rattle.record_text.specs.Text.{Row}
+use Rattle.record_text.specs.Fields.{most_number}
 use Rattle.recording_file.specs.Names.{Label, is_name}
 use Rattle.recording_file.specs.Caps.{Cap, is_cap}
-use Rattle.recording_file.specs.Rows.{device_of}
+use Rattle.record_text.specs.ConfigRows.{device_of, adapter_row, device_row, link_row, optional_text, padded, weight_row}
+use Rattle.record_text.specs.Header.{header_row}
 
--- these fields, and empty ones up to eight
-abbrev pub padded : List (List ℕ) → Row
-padded fields = fields ++ replicate (8 - length fields) []
-
-unfoldable pub header : Row
-header = name_text ∷ codes "a" ∷ codes "b" ∷ codes "c" ∷ codes "d" ∷ codes "e" ∷ codes "f" ∷ codes "g" ∷ []
-
--- a number, or no byte
-abbrev pub optional_text : Option ℕ → List ℕ
-optional_text n = option_map_or decimal n []
+abbrev pub header : Row
+header = header_row name_text
 
 abbrev pub unit_row : Span → Row
 unit_row u = padded (spelled word.Unit ∷ decimal u.count ∷ time_text u.unit ∷ [])
 
 abbrev pub rounds_row : ℕ → Row
 rounds_row n = padded (spelled word.Rounds ∷ decimal n ∷ [])
-
-abbrev pub weight_row : WeightRow → Row
-weight_row w = padded (spelled word.Weight ∷ decimal w.last ∷ decimal w.weight ∷ [])
-
-abbrev pub link_row : ℕ → Row
-link_row openings = padded (spelled word.Link ∷ decimal openings ∷ [])
-
-abbrev pub adapter_row : Adapter → Row
-adapter_row a = padded (spelled word.Sim ∷ decimal a.openings ∷ optional_text a.link ∷ [])
-
-abbrev pub device_row : Device → Row
-device_row d = padded (spelled word.Dev ∷ decimal d.bus ∷ decimal d.target ∷ decimal d.lun ∷ decimal d.openings ∷ [])
 
 abbrev pub name_row : Label → Row
 name_row x = padded (spelled word.Name ∷ named_text x.kind ∷ decimal x.number ∷ x.text ∷ [])

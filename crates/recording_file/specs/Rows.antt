@@ -1,24 +1,14 @@
 -- What the records of a recording say: their words' fields, in order.
-use Rattle.std.specs.Prelude.{ℕ, min, Result, Ok, Err, List, if◌then◌else◌}
-use Rattle.cam_types.specs.declared.adapter.Adapter.{Adapter}
-use Rattle.cam_types.specs.declared.device.Device.{Device}
-use Rattle.cam_types.specs.declared.weight_row.WeightRow.{WeightRow}
-use Rattle.cam_types.specs.Weights.{row_to}
-pub use Rattle.recording_file.specs.declared.device_row.DeviceRow.{DeviceRow}
+use Rattle.std.specs.Prelude.{ℕ, Result, Ok, Err, List, if◌then◌else◌}
+pub use Rattle.record_text.specs.declared.device_row.DeviceRow.{DeviceRow}
 use Rattle.recording_file.specs.Recorded.{Request, Span, MOST_RECORDED_ROUNDS}
 use Rattle.recording_file.specs.Names.{named_count, is_name_text, NameKind}
 use Rattle.recording_file.specs.Counts.{Counts}
 use Rattle.recording_file.specs.Caps.{Part, part_of, part_count}
 use Rattle.record_text.specs.Steps.{◌>>=◌}
-use Rattle.recording_file.specs.Fields.{Row, field_of, formed, most_number, number_at, optional_at, within_at, below_at, unused_from}
+use Rattle.record_text.specs.Text.{Row}
+use Rattle.record_text.specs.Fields.{field_of, formed, most_number, number_at, optional_at, within_at, below_at, unused_from}
 use Rattle.recording_file.specs.Words.{time_of, named_of, part_kind_of}
-
--- a number, and no field more
-unfoldable pub one_number : Row → Result ℕ ℕ
-one_number row = do
-  n ← number_at row 1 most_number
-  _ ← unused_from row 2
-  Ok n
 
 -- how long a round is
 unfoldable pub span_at : Row → Result Span ℕ
@@ -34,31 +24,6 @@ rounds_at row = do
   n ← within_at row 1 1 MOST_RECORDED_ROUNDS
   _ ← unused_from row 2
   Ok n
-
--- a row of the table of weights
-unfoldable pub weight_at : Row → Result WeightRow ℕ
-weight_at row = do
-  last ← number_at row 1 most_number
-  weight ← number_at row 2 most_number
-  _ ← unused_from row 3
-  Ok (row_to last weight)
-
--- openings, and the number of a link or none
-unfoldable pub adapter_at : Row → Result Adapter ℕ
-adapter_at row = do
-  openings ← number_at row 1 most_number
-  link ← optional_at row 2 most_number
-  _ ← unused_from row 3
-  Ok (record { openings = openings; link = link })
-
-unfoldable pub device_at : Row → Result DeviceRow ℕ
-device_at row = do
-  bus ← number_at row 1 most_number
-  target ← number_at row 2 65535
-  lun ← number_at row 3 16383
-  openings ← number_at row 4 most_number
-  _ ← unused_from row 5
-  Ok (record { bus = bus; target = target; lun = lun; openings = openings })
 
 -- what a name is for
 unfoldable pub named_at : Counts → Row → Result (NameKind × ℕ) ℕ
@@ -97,11 +62,3 @@ request_at row = do
   sent ← number_at row 6 most_number
   _ ← unused_from row 7
   Ok (record { driver = driver; device = device; priority = priority; arrival = arrival; last = last; sent = sent })
-
--- the device that a record spells
-abbrev pub device_of : DeviceRow → Device
-device_of d = record { bus = d.bus; target = d.target; lun = d.lun; openings = d.openings }
-
--- the same with a bus of at most 255
-abbrev pub clamped : DeviceRow → Device
-clamped d = record { bus = min d.bus 255; target = d.target; lun = d.lun; openings = d.openings }

@@ -3,7 +3,7 @@ use Rattle.std.specs.Prelude.{ℕ, ◌<◌, ◌≤◌, List, length, take, Optio
 use Rattle.std.specs.Io.KnownBytes.{Consumes, IsAtEnd}
 use Rattle.cam_types.specs.declared.maxima.TheConstants.{MOST_BYTES}
 use Rattle.recording_file.specs.Recorded.{MOST_RECORDING_BYTES}
-use Rattle.recording_file.specs.Header.{name_text}
+use Rattle.recording_file.specs.Words.{name_text}
 
 -- how many bytes a text may have
 unfoldable pub most_bytes : List ℕ → ℕ

@@ -9,6 +9,10 @@ use Rattle.recording_file.specs.declared.part.PartKind.TheVariants as part
 pub use Rattle.recording_file.specs.declared.span.TimeUnit.{TimeUnit}
 use Rattle.recording_file.specs.declared.span.TimeUnit.TheVariants as time
 
+-- the word that a recording begins with
+abbrev pub name_text : List ℕ
+name_text = codes "camrecord1"
+
 -- how a word is spelled
 abbrev pub spelled : Word → List ℕ
 spelled word.Unit = codes "unit"

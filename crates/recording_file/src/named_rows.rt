@@ -2,17 +2,17 @@
 
 ghost use Rattle.std.specs.Prelude.{◌≡◌, ◌≢◌, ◌<◌, ◌≤◌, length, Ok, Err, IfOk, MatchOption};
 ghost use Rattle.csv.specs.Records.{fields_of};
-ghost use Rattle.recording_file.specs.Fields.{field_of, formed};
+ghost use Rattle.record_text.specs.Fields.{field_of, formed};
 ghost use Rattle.recording_file.specs.Rows.{named_at, capped_at, most_at};
 ghost use Rattle.recording_file.specs.Words.{named_of, part_kind_of};
 ghost use Rattle.recording_file.specs.Names.{named_count};
 ghost use Rattle.recording_file.specs.Caps.{part_count};
 
 use crate::counts::Counts;
-use crate::fields::{below_at, field, is_text, number_at, unused_from, within_at};
 use crate::name::NameKind;
 use crate::part::{Part, PartKind};
 use csv::ByteRecord;
+use record_text::{below_at, field, is_text, number_at, unused_from, within_at};
 
 /// What the name of a record is for, or the number of the first field that hasn't its form.
 #[tactic(auto, unfolding(crate::specs::Rows::named_at))]

@@ -4,13 +4,13 @@ ghost use Rattle.std.specs.Prelude.{◌≡◌, length, IfSome, true};
 ghost use Rattle.csv.specs.Records.{fields_of};
 ghost use Rattle.recording_file.specs.Reading.{has_place, placed, rank_of, stands, book_rank};
 
-use crate::fields::field;
 use crate::recorder::Recorder;
 use crate::span::Span;
 use crate::start::Start;
 use crate::word::Word;
 use cam_types::ConfigDraft;
 use csv::ByteRecord;
+use record_text::field;
 
 /// What a recording has said so far.
 #[derive(Drop)]

@@ -6,19 +6,18 @@ ghost use Rattle.cam_types.specs.Whole.{AppendsFront};
 ghost use Rattle.std.specs.Io.KnownBytes.{Appends};
 ghost use Rattle.recording_file.specs.Recorded.{IsRecording, Span};
 ghost use Rattle.recording_file.specs.Recordings.{IsRecordingText};
-ghost use Rattle.recording_file.specs.Writing.{recording_text, IsBetween, Wrote, head_rows};
+ghost use Rattle.recording_file.specs.Writing.{recording_text, head_rows};
+ghost use Rattle.record_text.specs.Writing.{IsBetween, Wrote};
 ghost use Rattle.std.specs.List.{AllByRecursion};
 ghost use Rattle.cam_types.specs.declared.device.Device.{Device};
 
 use crate::recording::Recording;
-use crate::row_writer::{write_one, write_row};
-use crate::write_fault::WriteFault;
-use crate::writing::{
-    write_adapters, write_caps, write_devices, write_links, write_names, write_requests,
-    write_unit, write_weights,
-};
+use crate::writing::{write_caps, write_names, write_requests, write_unit};
 use cam_types::{Watched, write_whole};
 use csv::{Writer, WriterBuilder};
+use record_text::{
+    WriteFault, write_adapters, write_devices, write_links, write_one, write_row, write_weights,
+};
 use std::alloc::{AllocError, Global};
 use std::io::Write;
 

@@ -1,11 +1,11 @@
 //! What a recording's record says, by its word and its fields.
 
 use crate::cap::Cap;
-use crate::device_row::DeviceRow;
 use crate::name::Name;
 use crate::request::Request;
 use crate::span::Span;
 use cam_types::{Adapter, WeightRow};
+use record_text::DeviceRow;
 
 /// What a record of a recording says after the header.
 #[derive(Drop)]

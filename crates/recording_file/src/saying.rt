@@ -4,26 +4,27 @@ ghost use Rattle.std.specs.Prelude.{◌≡◌, ◌≢◌, length, Err, IfOk, ◌
 ghost use Rattle.csv.specs.Records.{fields_of};
 ghost use Rattle.recording_file.specs.Counts.{counts_of};
 ghost use Rattle.recording_file.specs.Caps.{is_next_cap, is_cap};
-ghost use Rattle.recording_file.specs.Fields.{field_of};
+ghost use Rattle.record_text.specs.Fields.{field_of};
 ghost use Rattle.recording_file.specs.Names.{is_name_text, is_next_name, is_name};
 ghost use Rattle.recording_file.specs.Reading.{in_record, recorded_of, said_by, name_said, cap_said, lacks_adapters, says};
 ghost use Rattle.recording_file.specs.Recorded.{Recorded};
-ghost use Rattle.recording_file.specs.Rows.{text_at, span_at, rounds_at, weight_at, one_number, adapter_at, device_at, request_at};
+ghost use Rattle.recording_file.specs.Rows.{text_at, span_at, rounds_at, request_at};
+ghost use Rattle.record_text.specs.ConfigRows.{weight_at, one_number, adapter_at, device_at};
 ghost use Rattle.recording_file.specs.Sound.{IsSound};
 ghost use Rattle.recording_file.specs.Saying.{IsNaming};
 
 use crate::cap::Cap;
 use crate::counts::Counts;
-use crate::fields::{field, unused_from};
 use crate::name::{Name, NameKind};
 use crate::named_rows::{capped_at, most_at, named_at};
 use crate::part::Part;
 use crate::recording_fault::RecordingFault;
 use crate::recording_stage::RecordingStage;
-use crate::rows::{adapter_at, device_at, one_number, request_at, rounds_at, span_at, weight_at};
+use crate::rows::{request_at, rounds_at, span_at};
 use crate::said::Said;
 use crate::word::Word;
 use csv::ByteRecord;
+use record_text::{adapter_at, device_at, field, one_number, unused_from, weight_at};
 use std::alloc::Global;
 
 /// A field without its form is a fault of the record.
@@ -52,15 +53,15 @@ impl RecordingStage {
         ensures { result ≢ Err RecordingFault.OutOfMemory → result ≡ said_by number (recorded_of self.now) word (fields_of row.now) }
     {
         match word {
-            Word::Unit => unit_said(number, row),
-            Word::Rounds => rounds_said(number, row),
-            Word::Weight => weight_said(number, row),
-            Word::Link => link_said(number, row),
-            Word::Sim => adapter_said(number, row),
-            Word::Dev => device_said(number, row),
+            Word::Unit => Ok(Said::Unit(in_record(number, span_at(row))?)),
+            Word::Rounds => Ok(Said::Rounds(in_record(number, rounds_at(row))?)),
+            Word::Weight => Ok(Said::Weight(in_record(number, weight_at(row))?)),
+            Word::Link => Ok(Said::Link(in_record(number, one_number(row))?)),
+            Word::Sim => Ok(Said::Sim(in_record(number, adapter_at(row))?)),
+            Word::Dev => Ok(Said::Dev(in_record(number, device_at(row))?)),
             Word::Name => self.name_said(alloc, number, row),
             Word::Cap => self.cap_said(number, row),
-            Word::Request => request_said(number, row),
+            Word::Request => Ok(Said::Request(in_record(number, request_at(row))?)),
         }
     }
 
@@ -112,8 +113,9 @@ impl RecordingStage {
         ensures { result ≡ counts_of (recorded_of self.now).config }
     {
         match self {
-            RecordingStage::Weights(_, draft) => bare_counts(draft.link_count()),
-            RecordingStage::Links(_, draft) => bare_counts(draft.link_count()),
+            RecordingStage::Weights(_, draft) | RecordingStage::Links(_, draft) => {
+                bare_counts(draft.link_count())
+            }
             RecordingStage::Book(recorder) => recorder.counts(),
             _ => unreachable!(),
         }
@@ -124,8 +126,7 @@ impl RecordingStage {
         ensures { result ≡ (recorded_of self.now).rounds }
     {
         match self {
-            RecordingStage::Weights(start, _) => start.rounds,
-            RecordingStage::Links(start, _) => start.rounds,
+            RecordingStage::Weights(start, _) | RecordingStage::Links(start, _) => start.rounds,
             RecordingStage::Book(recorder) => recorder.rounds(),
             _ => unreachable!(),
         }
@@ -158,62 +159,6 @@ fn bare_counts(links: u32) -> Counts
         adapters: 0,
         links,
     }
-}
-
-fn unit_said(number: u32, row: &ByteRecord) -> Result<Said, RecordingFault>
-    requires { length (fields_of row.now) ≡ 8 }
-    ensures { result ≡ says number (span_at (fields_of row.now)) Said.Unit }
-{
-    let unit = in_record(number, span_at(row))?;
-    Ok(Said::Unit(unit))
-}
-
-fn rounds_said(number: u32, row: &ByteRecord) -> Result<Said, RecordingFault>
-    requires { length (fields_of row.now) ≡ 8 }
-    ensures { result ≡ says number (rounds_at (fields_of row.now)) Said.Rounds }
-{
-    let rounds = in_record(number, rounds_at(row))?;
-    Ok(Said::Rounds(rounds))
-}
-
-fn weight_said(number: u32, row: &ByteRecord) -> Result<Said, RecordingFault>
-    requires { length (fields_of row.now) ≡ 8 }
-    ensures { result ≡ says number (weight_at (fields_of row.now)) Said.Weight }
-{
-    let weight = in_record(number, weight_at(row))?;
-    Ok(Said::Weight(weight))
-}
-
-fn link_said(number: u32, row: &ByteRecord) -> Result<Said, RecordingFault>
-    requires { length (fields_of row.now) ≡ 8 }
-    ensures { result ≡ says number (one_number (fields_of row.now)) Said.Link }
-{
-    let openings = in_record(number, one_number(row))?;
-    Ok(Said::Link(openings))
-}
-
-fn adapter_said(number: u32, row: &ByteRecord) -> Result<Said, RecordingFault>
-    requires { length (fields_of row.now) ≡ 8 }
-    ensures { result ≡ says number (adapter_at (fields_of row.now)) Said.Sim }
-{
-    let adapter = in_record(number, adapter_at(row))?;
-    Ok(Said::Sim(adapter))
-}
-
-fn device_said(number: u32, row: &ByteRecord) -> Result<Said, RecordingFault>
-    requires { length (fields_of row.now) ≡ 8 }
-    ensures { result ≡ says number (device_at (fields_of row.now)) Said.Dev }
-{
-    let device = in_record(number, device_at(row))?;
-    Ok(Said::Dev(device))
-}
-
-fn request_said(number: u32, row: &ByteRecord) -> Result<Said, RecordingFault>
-    requires { length (fields_of row.now) ≡ 8 }
-    ensures { result ≡ says number (request_at (fields_of row.now)) Said.Request }
-{
-    let request = in_record(number, request_at(row))?;
-    Ok(Said::Request(request))
 }
 
 // The name of a record, whose kind and number were read.

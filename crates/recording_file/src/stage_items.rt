@@ -4,15 +4,15 @@ ghost use Rattle.std.specs.Prelude.{◌≡◌, ◌≢◌, true, length, [], ◌�
 ghost use Rattle.cam_types.specs.Topology.{IsConfig, link_fault, adapter_fault, device_fault, IsDraft};
 ghost use Rattle.cam_types.specs.Weights.{reaches_last, weight_fault};
 ghost use Rattle.recording_file.specs.Reading.{lacking, unless_fault, standard, begun, given, link_added, adapter_added, device_added};
-ghost use Rattle.recording_file.specs.Rows.{device_of};
+ghost use Rattle.record_text.specs.ConfigRows.{device_of};
 ghost use Rattle.recording_file.specs.Sound.{IsBare, IsBegun, IsSound, IsStart};
 
-use crate::device_row::DeviceRow;
 use crate::recorder::Recorder;
 use crate::recording_fault::RecordingFault;
 use crate::recording_stage::RecordingStage;
 use crate::start::Start;
 use cam_types::{Adapter, Config, ConfigDraft, ConfigError, ConfigFault, WeightRow};
+use record_text::DeviceRow;
 use std::alloc::Global;
 
 /// The standard weights, and nothing else yet.

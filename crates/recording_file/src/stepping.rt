@@ -6,12 +6,11 @@ ghost use Rattle.recording_file.specs.Reading.{add_row, row_step};
 ghost use Rattle.recording_file.specs.Saying.{IsAt, ready_for};
 ghost use Rattle.recording_file.specs.Sound.{IsSound};
 
-use crate::header::is_header;
 use crate::recording_fault::RecordingFault;
 use crate::recording_stage::RecordingStage;
 use crate::word::Word;
 use csv::ByteRecord;
-use record_text::Stage;
+use record_text::{Stage, is_header};
 use std::alloc::Global;
 
 impl RecordingStage {

@@ -13,7 +13,6 @@ ghost use Rattle.recording_file.specs.Sound.{IsSound};
 ghost use Rattle.std.specs.Option.{option_map_or};
 
 use crate::cap::Cap;
-use crate::device_row::DeviceRow;
 use crate::name::Name;
 use crate::recorder::Recorder;
 use crate::recording::Recording;
@@ -29,6 +28,7 @@ use crate::stage_items::{
 use crate::start::Start;
 use crate::word::Word;
 use cam_types::{Adapter, WeightRow};
+use record_text::DeviceRow;
 use std::alloc::Global;
 
 impl RecordingStage {
@@ -92,8 +92,8 @@ impl RecordingStage {
         ensures sound { IfOk result (λ s. IsSound s) }
     {
         match self {
-            RecordingStage::Weights(start, draft) => with_link(start, draft, number, openings),
-            RecordingStage::Links(start, draft) => with_link(start, draft, number, openings),
+            RecordingStage::Weights(start, draft) | RecordingStage::Links(start, draft) =>
+                with_link(start, draft, number, openings),
             _ => Err(RecordingFault::BadRecord(number)),
         }
     }
@@ -105,9 +105,9 @@ impl RecordingStage {
         ensures sound { IfOk result (λ s. IsSound s) }
     {
         match self {
-            RecordingStage::Weights(start, draft) => with_adapter(start, draft, number, adapter),
-            RecordingStage::Links(start, draft) => with_adapter(start, draft, number, adapter),
-            RecordingStage::Adapters(start, draft) => with_adapter(start, draft, number, adapter),
+            RecordingStage::Weights(start, draft)
+            | RecordingStage::Links(start, draft)
+            | RecordingStage::Adapters(start, draft) => with_adapter(start, draft, number, adapter),
             _ => Err(RecordingFault::BadRecord(number)),
         }
     }
@@ -120,12 +120,9 @@ impl RecordingStage {
         ensures sound { IfOk result (λ s. IsSound s) }
     {
         match self {
-            RecordingStage::Adapters(start, draft) => with_device(start, draft, number, device),
-            RecordingStage::Devices(start, draft) => with_device(start, draft, number, device),
-            RecordingStage::Weights(_, draft) => {
-                Err(RecordingFault::BadConfig(number, lacking(&draft)))
-            }
-            RecordingStage::Links(_, draft) => {
+            RecordingStage::Adapters(start, draft) | RecordingStage::Devices(start, draft) =>
+                with_device(start, draft, number, device),
+            RecordingStage::Weights(_, draft) | RecordingStage::Links(_, draft) => {
                 Err(RecordingFault::BadConfig(number, lacking(&draft)))
             }
             _ => unreachable!(),
@@ -142,10 +139,7 @@ impl RecordingStage {
     {
         match self {
             RecordingStage::Book(recorder) => with_name(recorder, name),
-            RecordingStage::Weights(_, draft) => {
-                Err(RecordingFault::BadConfig(number, lacking(&draft)))
-            }
-            RecordingStage::Links(_, draft) => {
+            RecordingStage::Weights(_, draft) | RecordingStage::Links(_, draft) => {
                 Err(RecordingFault::BadConfig(number, lacking(&draft)))
             }
             _ => unreachable!(),
@@ -163,10 +157,7 @@ impl RecordingStage {
     {
         match self {
             RecordingStage::Book(recorder) => with_cap(recorder, cap),
-            RecordingStage::Weights(_, draft) => {
-                Err(RecordingFault::BadConfig(number, lacking(&draft)))
-            }
-            RecordingStage::Links(_, draft) => {
+            RecordingStage::Weights(_, draft) | RecordingStage::Links(_, draft) => {
                 Err(RecordingFault::BadConfig(number, lacking(&draft)))
             }
             _ => unreachable!(),
@@ -188,10 +179,7 @@ impl RecordingStage {
     {
         match self {
             RecordingStage::Book(recorder) => with_request(alloc, recorder, number, request),
-            RecordingStage::Weights(_, draft) => {
-                Err(RecordingFault::BadConfig(number, lacking(&draft)))
-            }
-            RecordingStage::Links(_, draft) => {
+            RecordingStage::Weights(_, draft) | RecordingStage::Links(_, draft) => {
                 Err(RecordingFault::BadConfig(number, lacking(&draft)))
             }
             _ => unreachable!(),
@@ -233,10 +221,7 @@ impl RecordingStage {
         ensures sound { IsSound result }
     {
         match self {
-            RecordingStage::Adapters(start, draft) => {
-                RecordingStage::Book(begun(alloc, start, draft))
-            }
-            RecordingStage::Devices(start, draft) => {
+            RecordingStage::Adapters(start, draft) | RecordingStage::Devices(start, draft) => {
                 RecordingStage::Book(begun(alloc, start, draft))
             }
             stage => stage,
@@ -262,8 +247,9 @@ impl RecordingStage {
                 let number = before_links(start, draft.weight_count()) + draft.link_count() + 1;
                 Err(RecordingFault::BadConfig(number, lacking(&draft)))
             }
-            RecordingStage::Adapters(start, draft) => Ok(begun(alloc, start, draft).finish()),
-            RecordingStage::Devices(start, draft) => Ok(begun(alloc, start, draft).finish()),
+            RecordingStage::Adapters(start, draft) | RecordingStage::Devices(start, draft) => {
+                Ok(begun(alloc, start, draft).finish())
+            }
             RecordingStage::Book(recorder) => Ok(recorder.finish()),
         }
     }

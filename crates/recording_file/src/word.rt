@@ -1,6 +1,6 @@
 //! The words of a recording's records.
 
-use crate::fields::is_text;
+use record_text::is_text;
 
 /// What the first field of a recording's record names.
 #[derive(Clone, Copy)]

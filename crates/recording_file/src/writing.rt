@@ -5,19 +5,19 @@ ghost use Rattle.std.specs.List.{AllByRecursion};
 ghost use Rattle.cam_types.specs.declared.device.Device.{Device};
 ghost use Rattle.recording_file.specs.Names.{Label};
 ghost use Rattle.recording_file.specs.Recorded.{Request, Span};
-ghost use Rattle.recording_file.specs.Records.{padded, unit_rows, unit_row, weight_row, link_row, adapter_row, device_row, name_row, cap_row, request_row, optional_text};
+ghost use Rattle.recording_file.specs.Records.{unit_rows, unit_row, name_row, cap_row, request_row};
+ghost use Rattle.record_text.specs.ConfigRows.{padded, weight_row, link_row, adapter_row, device_row, optional_text};
 ghost use Rattle.recording_file.specs.Words.{time_text, named_text, part_text};
-ghost use Rattle.recording_file.specs.Writing.{IsBetween, Wrote};
+ghost use Rattle.record_text.specs.Writing.{IsBetween, Wrote};
 
 use crate::cap::Cap;
 use crate::name::{Name, NameKind};
 use crate::part::PartKind;
 use crate::request::Request;
-use crate::row_writer::{write_one, write_row, write_two};
 use crate::span::{Span, TimeUnit};
-use cam_types::{Adapter, Device, WeightRow};
 use csv::Writer;
 use itoa::Buffer;
+use record_text::write_row;
 use std::alloc::AllocError;
 use std::io::Write;
 
@@ -56,92 +56,6 @@ fn time_text(unit: TimeUnit) -> &'static [u8]
         TimeUnit::Millisecond => b"ms",
         TimeUnit::Second => b"s",
     }
-}
-
-/// Writes a record for each row of the table of weights.
-pub(crate) fn write_weights<W: Write + Drop>(
-    writer: &mut Writer<W>,
-    weights: &[WeightRow],
-) -> Result<(), AllocError>
-    requires { IsBetween writer.old }
-    ensures { OnOk result (Wrote W.contents writer.old writer.new (map weight_row weights.now)) }
-{
-    for row in weights {
-        write_two(writer, b"weight", row.last, row.weight)?;
-    }
-    Ok(())
-}
-
-/// Writes a record for each link.
-pub(crate) fn write_links<W: Write + Drop>(
-    writer: &mut Writer<W>,
-    links: &[u32],
-) -> Result<(), AllocError>
-    requires { IsBetween writer.old }
-    ensures { OnOk result (Wrote W.contents writer.old writer.new (map link_row links.now)) }
-{
-    for openings in links {
-        write_one(writer, b"link", *openings)?;
-    }
-    Ok(())
-}
-
-/// Writes a record for each adapter.
-pub(crate) fn write_adapters<W: Write + Drop>(
-    writer: &mut Writer<W>,
-    adapters: &[Adapter],
-) -> Result<(), AllocError>
-    requires { IsBetween writer.old }
-    ensures { OnOk result (Wrote W.contents writer.old writer.new (map adapter_row adapters.now)) }
-{
-    for adapter in adapters {
-        write_adapter(writer, *adapter)?;
-    }
-    Ok(())
-}
-
-fn write_adapter<W: Write + Drop>(
-    writer: &mut Writer<W>,
-    adapter: Adapter,
-) -> Result<(), AllocError>
-    requires { IsBetween writer.old }
-    ensures { OnOk result (Wrote W.contents writer.old writer.new (adapter_row adapter ∷ [])) }
-{
-    match adapter.link {
-        None => write_one(writer, b"sim", adapter.openings),
-        Some(link) => write_two(writer, b"sim", adapter.openings, link),
-    }
-}
-
-/// Writes a record for each device.
-pub(crate) fn write_devices<W: Write + Drop>(
-    writer: &mut Writer<W>,
-    devices: &[Device],
-) -> Result<(), AllocError>
-    requires { IsBetween writer.old }
-    ensures rows { OnOk result (Wrote W.contents writer.old writer.new (map device_row devices.now)) }
-    ensures fits { OnOk result (AllByRecursion (λ (d : Device). d.target ≤ 65535) devices.now) }
-{
-    for device in devices {
-        write_device(writer, *device)?;
-    }
-    Ok(())
-}
-
-fn write_device<W: Write + Drop>(writer: &mut Writer<W>, device: Device) -> Result<(), AllocError>
-    requires { IsBetween writer.old }
-    ensures rows { OnOk result (Wrote W.contents writer.old writer.new (device_row device ∷ [])) }
-    ensures fits { device.target ≤ 65535 }
-{
-    let mut bus = Buffer::new();
-    let mut target = Buffer::new();
-    let mut lun = Buffer::new();
-    let mut openings = Buffer::new();
-    let bus = bus.format(device.bus).as_bytes();
-    let target = target.format(device.target).as_bytes();
-    let lun = lun.format(device.lun).as_bytes();
-    let openings = openings.format(device.openings).as_bytes();
-    write_row(writer, &[b"dev", bus, target, lun, openings, b"", b"", b""])
 }
 
 /// Writes a record for each name.

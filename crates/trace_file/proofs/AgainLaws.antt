@@ -1,72 +1,26 @@
 -- The records of a history are read as that history.
-use Rattle.std.proofs.Common.{◌≡◌, ◌≢◌, ◌<◌, ◌≤◌, ◌+◌, ℕ, List, [], ◌∷◌, ◌++◌, length, map, Bool, true, refl, sym, ap, ◌∙◌, append_assoc, append-nil, arith}
-use Rattle.std.specs.Prelude.{Option, None, Result, Ok, ⊤, IfSome, nat_le, ◌&&◌}
-use Rattle.std.specs.List.{AllByRecursion, list_all}
-use Rattle.std.proofs.lemmas.Bool.{and_parts}
+use Rattle.std.proofs.Common.{◌≡◌, ◌≢◌, ◌<◌, ◌≤◌, ℕ, length, true, refl, sym, ap, ◌∙◌, arith}
+use Rattle.std.specs.Prelude.{IfSome, nat_le, ◌&&◌}
 use Rattle.csv.specs.Records.{field_at}
-use Rattle.cam_types.specs.Lists.{first_answer, moments_after}
 use Rattle.event_rules.specs.declared.event.Event.TheVariants as event
-use Rattle.cam_types.proofs.ListLemmas.{or_left, or_right}
-use Rattle.trace_file.specs.Histories.{Adapter, Device, Event}
-use Rattle.trace_file.specs.Rows.{most_number, DeviceRow, Word}
-use Rattle.trace_file.specs.Reading.{add_weight, add_link, add_adapter, add_device, add_event, add_lane, add_row, placed, row_step, stage_rank, stands, step, version_of, TraceFault, TraceStage}
+use Rattle.trace_file.specs.Histories.{Adapter, Device, Event, WeightRow}
+use Rattle.trace_file.specs.Rows.{Word}
+use Rattle.record_text.specs.Fields.{most_number, field_of}
+use Rattle.record_text.specs.declared.device_row.DeviceRow.{DeviceRow}
+use Rattle.trace_file.specs.Reading.{add_weight, add_link, add_adapter, add_device, add_event, add_lane, add_row, placed, row_step, stage_rank, stands, step, version_of, TraceStage}
 use Rattle.trace_file.specs.declared.trace_stage.TraceStage.TheVariants as stage
 use Rattle.trace_file.specs.Versions.{has_word, Version}
 use Rattle.trace_file.specs.declared.word.Word.TheVariants as word
-use Rattle.trace_file.specs.Fields.{Row, field_of}
-use Rattle.trace_file.specs.Histories.{WeightRow}
-use Rattle.trace_file.specs.Records.{weight_row, link_row, adapter_row, device_row, event_row, lane_row}
-use Rattle.record_text.specs.Steps.{taken}
+use Rattle.record_text.specs.Text.{Row}
+use Rattle.trace_file.specs.Records.{event_row, lane_row}
+use Rattle.record_text.specs.ConfigRows.{weight_row, link_row, adapter_row, device_row}
 use Rattle.trace_file.specs.Trace.{FitsEvent}
 use Rattle.trace_file.specs.Words.{spelled, word_rank}
 use Rattle.trace_file.proofs.FieldLaws.{word_again}
-use Rattle.trace_file.proofs.RowsAgain.{adapter_again, device_again, event_again, one_again, two_again, word_for}
+use Rattle.trace_file.proofs.RowsAgain.{adapter_in_again, event_again, word_for}
+use Rattle.record_text.proofs.RowLaws.{device_again, one_again, weight_again}
 use Rattle.trace_file.proofs.StageLemmas.{step_behind, add_row_event}
-use Rattle.trace_file.proofs.RowLaws.{can_spell, ok_is, on_ok}
-
--- ---- a fact of each element beside those before it
-
-abbrev pub Along : {X : Type 0} → (List X → X → Type 0) → List X → List X → Type 0
-Along P before [] = ⊤
-Along P before (x ∷ xs) = P before x × Along P (before ++ x ∷ []) xs
-
--- what each element keeps beside those before it, and what it keeps by itself
-pub along_both : {X : Type 0} (P : List X → X → Type 0) (Q : X → Type 0) (before xs : List X) → Along P before xs → AllByRecursion Q xs → Along (λ b x. P b x × Q x) before xs
-along_both P Q before [] p q = tt
-along_both P Q before (x ∷ xs) p q = ((p.0, q.0), along_both P Q (before ++ x ∷ []) xs p.1 q.1)
-
-pub all_true : {X : Type 0} (p : X → Bool) (xs : List X) → list_all p xs ≡ true → AllByRecursion (λ x. p x ≡ true) xs
-all_true p [] e = tt
-all_true p (x ∷ xs) e = let n = and_parts _ _ e in (n.0, all_true p xs n.1)
-
-pub none_along : {X F : Type 0} (f : List X × X → Option F) (before xs : List X) → first_answer f (moments_after before xs) ≡ None → Along (λ b x. f (b, x) ≡ None) before xs
-none_along f before [] e = tt
-none_along f before (x ∷ xs) e = (or_left (f (before, x)) _ e, none_along f (before ++ x ∷ []) xs (or_right (f (before, x)) _ e))
-
-pub true_along : {X : Type 0} (p : List X × X → Bool) (before xs : List X) → list_all p (moments_after before xs) ≡ true → Along (λ b x. p (b, x) ≡ true) before xs
-true_along p before [] e = tt
-true_along p before (x ∷ xs) e = let n = and_parts _ _ e in (n.0, true_along p (before ++ x ∷ []) xs n.1)
-
--- ---- records one after the other
-
-pub taken_on : {S : Type 0} (next : ℕ → S → Row → Result S TraceFault) (n : ℕ) (s t : S) (xs ys : List Row) → taken next n s xs ≡ Ok t → taken next n s (xs ++ ys) ≡ taken next (n + length xs) t ys
-taken_on next n s t [] ys e =
-    let same : s ≡ t = ok_is s t e in
-    let none : n ≡ n + 0 = omega arith in
-    ap (λ (u : _). taken next n u ys) same ∙ ap (λ (m : ℕ). taken next m t ys) none
-taken_on next n s t (x ∷ xs) ys e =
-    let same : n + 1 + length xs ≡ n + length (x ∷ xs) = omega arith in
-    on_ok (next n s x) _ t e (λ v ev r. rw ev (taken_on next (n + 1) v t xs ys r ∙ ap (λ (m : ℕ). taken next m t ys) same))
-
-pub then_taken : {S : Type 0} (next : ℕ → S → Row → Result S TraceFault) (n : ℕ) (s t u : S) (xs ys : List Row) → taken next n s xs ≡ Ok t → ((m : ℕ) → taken next m t ys ≡ Ok u) → taken next n s (xs ++ ys) ≡ Ok u
-then_taken next n s t u xs ys e k = taken_on next n s t xs ys e ∙ k (n + length xs)
-
-pub run : {X : Type 0} (row : X → Row) (at : List X → TraceStage) (P : List X → X → Type 0)
-    → ((n : ℕ) (before : List X) (x : X) → P before x → step n (at before) (row x) ≡ Ok (at (before ++ x ∷ [])))
-    → (before xs : List X) (n : ℕ) → Along P before xs → taken step n (at before) (map row xs) ≡ Ok (at (before ++ xs))
-run row at P one before [] n h = ap (λ (l : List _). Ok (at l)) (sym (append-nil before))
-run row at P one before (x ∷ xs) n h =
-    rw (one n before x h.0) (run row at P one (before ++ x ∷ []) xs (n + 1) h.1 ∙ ap (λ (l : List _). Ok (at l)) (append_assoc before (x ∷ []) xs))
+use Rattle.trace_file.proofs.RowLaws.{can_spell}
 
 -- ---- a record is placed, and read by its word
 
@@ -77,7 +31,7 @@ row_again n s row w behind eight is place = step_behind n s row behind ∙ rw (e
 pub weight_step : (n : ℕ) (s : TraceStage) (w : WeightRow) → s ≢ stage.Header → stands s word.Weight ≡ true → w.last ≤ most_number → w.weight ≤ most_number → step n s (weight_row w) ≡ add_weight n s w
 unfolding add_row field_at
 weight_step n s w behind place a b =
-    row_again n s (weight_row w) word.Weight behind refl refl place ∙ rw (two_again (spelled word.Weight) w.last w.weight a b) refl
+    row_again n s (weight_row w) word.Weight behind refl refl place ∙ rw (weight_again w a b) refl
 
 pub link_step : (n : ℕ) (s : TraceStage) (k : ℕ) → s ≢ stage.Header → stands s word.Link ≡ true → k ≤ most_number → step n s (link_row k) ≡ add_link n s k
 unfolding add_row field_at
@@ -88,7 +42,7 @@ pub adapter_step : (n : ℕ) (s : TraceStage) (a : Adapter) → s ≢ stage.Head
     → step n s (adapter_row a) ≡ add_adapter n s a
 unfolding add_row field_at
 adapter_step n s a behind place spells fits link =
-    row_again n s (adapter_row a) word.Sim behind refl refl place ∙ rw (adapter_again (version_of s) a spells fits link) refl
+    row_again n s (adapter_row a) word.Sim behind refl refl place ∙ rw (adapter_in_again (version_of s) a spells fits link) refl
 
 pub lane_step : (n : ℕ) (s : TraceStage) (a : ℕ) → s ≢ stage.Header → stands s word.Lane ≡ true → a ≤ most_number → step n s (lane_row a) ≡ add_lane n s a
 unfolding add_row field_at
@@ -102,7 +56,7 @@ pub device_step : (n : ℕ) (s : TraceStage) (d : Device) → s ≢ stage.Header
     → step n s (device_row d) ≡ add_device n s (row_for d)
 unfolding add_row field_at
 device_step n s d behind place a b c o =
-    row_again n s (device_row d) word.Dev behind refl refl place ∙ rw (device_again (row_for d) a b c o) refl
+    row_again n s (device_row d) word.Dev behind refl refl place ∙ rw (device_again (row_for d) (a, b, c, o)) refl
 
 event_word : (e : Event) → (length (event_row e) ≡ 8) × (field_of (event_row e) 0 ≡ spelled (word_for e)) × (word_rank (word_for e) ≡ 5)
 unfolding field_at

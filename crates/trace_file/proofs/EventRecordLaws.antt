@@ -2,11 +2,11 @@
 use Rattle.std.proofs.Common.{◌≡◌, ◌<◌, ◌+◌, ℕ, List, [], ◌∷◌, ◌++◌, length, map, refl, ap, ◌∙◌, arith, append_assoc, length-append, Ok}
 use Rattle.std.proofs.lemmas.List.{length-map}
 use Rattle.trace_file.specs.EventRecord.{IsEventRecord, counted}
-use Rattle.trace_file.specs.Fields.{Row}
+use Rattle.record_text.specs.Text.{Row, records_in}
 use Rattle.trace_file.specs.Histories.{Past}
-use Rattle.trace_file.specs.Records.{adapter_row, device_row, event_row, header, lane_row, link_row, records_of, weight_rows}
+use Rattle.trace_file.specs.Records.{event_row, header, lane_row, records_of, weight_rows}
+use Rattle.record_text.specs.ConfigRows.{adapter_row, device_row, link_row}
 use Rattle.record_text.specs.Steps.{taken}
-use Rattle.record_text.specs.Text.{records_in}
 use Rattle.trace_file.specs.Trace.{IsTrace}
 use Rattle.trace_file.specs.declared.event_number.RecordCount.{RecordCount}
 use Rattle.trace_file.specs.Versions.{Version}

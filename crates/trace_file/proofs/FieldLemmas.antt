@@ -1,22 +1,8 @@
 -- Fields of a record, and the bytes that a field spells.
-use Rattle.std.proofs.Common.{◌≡◌, ◌≢◌, ◌<◌, ◌≤◌, ◌+◌, ◌*◌, ◌%◌, ℕ, zero, suc, List, [], ◌∷◌, ◌++◌, length, take, drop, get_or, set, refl, sym, ap, ◌∙◌, arith, append_assoc, add-one, Option, Some, None, option_map, option_and_then, Err, eq-eqb, ne_eqb, drop-cons}
+use Rattle.std.proofs.Common.{◌≡◌, ◌≢◌, ◌<◌, ◌≤◌, ◌+◌, ◌*◌, ◌%◌, ℕ, List, [], ◌∷◌, ◌++◌, length, take, drop, get_or, set, refl, sym, ap, ◌∙◌, arith, append_assoc, Option, Some, None, option_map, option_and_then, drop-cons}
 use Rattle.std.proofs.lemmas.List.{append-nil, drop_all, take_more_set}
 use Rattle.std.proofs.lemmas.Grind.{common_steps}
-use Rattle.csv.specs.Records.{field_at}
-use Rattle.trace_file.specs.Fields.{Row, field_of, unused, hex_byte, bytes_of}
-
--- the fields from a place on are the field there and those after it
-pub drop_field : (row : Row) (at : ℕ) → at < length row → drop at row ≡ field_of row at ∷ drop (at + 1) row
-unfolding field_at
-drop_field [] at h = absurd (omega arith)
-drop_field (f ∷ fs) zero h = refl
-drop_field (f ∷ fs) (suc at) h = rw (add-one (suc at)) (drop_field fs at (omega arith) ∙ rw (add-one at) refl)
-
-pub unused_step : (row : Row) (at : ℕ) → at < length row → length (field_of row at) ≡ 0 → unused (at + 1) (drop at row) ≡ unused (at + 1 + 1) (drop (at + 1) row)
-unused_step row at h e = ap (unused (at + 1)) (drop_field row at h) ∙ rw (eq-eqb _ _ e) refl
-
-pub unused_found : (row : Row) (at : ℕ) → at < length row → length (field_of row at) ≢ 0 → unused (at + 1) (drop at row) ≡ Err (at + 1)
-unused_found row at h e = ap (unused (at + 1)) (drop_field row at h) ∙ rw (ne_eqb _ _ e) refl
+use Rattle.trace_file.specs.Fields.{hex_byte, bytes_of}
 
 -- an odd number of digits spells no bytes
 pub bytes_of-odd : (text : List ℕ) → length text % 2 ≢ 0 → bytes_of text ≡ None

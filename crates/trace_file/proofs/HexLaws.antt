@@ -5,8 +5,10 @@ use Rattle.std.specs.List.{AllByRecursion}
 use Rattle.std.proofs.lemmas.Option.{same_Some}
 use Rattle.std.proofs.lemmas.Bool.Decides.{nat_tests}
 use Rattle.trace_file.specs.Records.{hex}
-use Rattle.trace_file.specs.Fields.{Row, field_of, byte_at, sense_at, byte_of, bytes_of, sense_of, hex_byte, hex_value}
-use Rattle.trace_file.proofs.FieldLaws.{ok_or_ok}
+use Rattle.trace_file.specs.Fields.{byte_at, sense_at, byte_of, bytes_of, sense_of, hex_byte, hex_value}
+use Rattle.record_text.specs.Text.{Row}
+use Rattle.record_text.specs.Fields.{field_of}
+use Rattle.record_text.proofs.StepLemmas.{ok_or_ok}
 
 -- a digit's value spells the digit
 abbrev SpellsDigit : ℕ → ℕ → Type 0

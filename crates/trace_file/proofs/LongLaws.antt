@@ -5,8 +5,10 @@ use Rattle.record_text.specs.Front.{RefusesLong, most_fields}
 use Rattle.record_text.specs.Steps.{◌>>=◌}
 use Rattle.std.specs.Prelude.{◌==◌}
 use Rattle.record_text.proofs.FrontLemmas.{not_eight}
-use Rattle.trace_file.specs.Fields.{Row, field_of}
-use Rattle.trace_file.specs.Reading.{BadHeader, BadRecord, TraceFault, TraceStage, is_header, placed, row_step, step}
+use Rattle.record_text.specs.Text.{Row}
+use Rattle.record_text.specs.Fields.{field_of}
+use Rattle.trace_file.specs.Reading.{BadHeader, BadRecord, TraceFault, TraceStage, placed, row_step, step}
+use Rattle.record_text.specs.Header.{is_header}
 use Rattle.trace_file.specs.ScriptReading.{config_step, first_row, first_stage, is_config_word, is_limits, item_word, roomy_word, rows_step, script_step}
 use Rattle.trace_file.specs.declared.script_stage.ScriptStage.{ScriptStage}
 use Rattle.trace_file.specs.declared.script_stage.ScriptStage.TheVariants as script

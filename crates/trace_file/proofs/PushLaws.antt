@@ -1,9 +1,10 @@
 -- The records of a history with one item more.
 use Rattle.std.proofs.Common.{◌≡◌, ℕ, List, [], ◌∷◌, ◌++◌, map, true, sym, ap, ◌∙◌, append_assoc, append-nil}
 use Rattle.std.proofs.lemmas.List.{map-append}
-use Rattle.trace_file.specs.Fields.{Row}
+use Rattle.record_text.specs.Text.{Row}
 use Rattle.trace_file.specs.Histories.{Adapter, Device, Event, Past, Topology, WeightRow}
-use Rattle.trace_file.specs.Records.{adapter_row, device_row, event_row, header, lane_row, link_row, records_of, weight_row, weight_rows}
+use Rattle.trace_file.specs.Records.{event_row, header, lane_row, records_of, weight_rows}
+use Rattle.record_text.specs.ConfigRows.{adapter_row, device_row, link_row, weight_row}
 use Rattle.trace_file.specs.Versions.{has_table, Version}
 
 -- one record more after those of a list, and the same after others

@@ -1,37 +1,24 @@
 -- What is spelled as a record is read again.
-use Rattle.std.proofs.Common.{◌≡◌, ◌≤◌, ℕ, List, [], ◌∷◌, true, false, refl, arith, Option, Some, None, Ok, IfSome, decimal}
+use Rattle.std.proofs.Common.{◌≡◌, ◌≤◌, ℕ, true, false, refl, arith, Option, Some, None, Ok, IfSome}
 use Rattle.std.specs.Option.{option_map_or}
 use Rattle.csv.specs.Records.{field_at}
 use Rattle.event_rules.specs.declared.event.Event.TheVariants as event
 use Rattle.trace_file.specs.Histories.{Adapter, Event, unlinked}
-use Rattle.trace_file.specs.Rows.{most_number, one_number, two_numbers, linked_at, adapter_at, device_at, submit_at, outcome_at, tick_at, event_at, DeviceRow, Word}
+use Rattle.trace_file.specs.Rows.{adapter_in, submit_at, outcome_at, tick_at, event_at, Word}
+use Rattle.record_text.specs.Fields.{most_number, unused_from}
+use Rattle.record_text.specs.ConfigRows.{one_number, adapter_row}
 use Rattle.trace_file.specs.Versions.{Version}
 use Rattle.trace_file.specs.declared.version.Version.TheVariants as version
 use Rattle.trace_file.specs.declared.word.Word.TheVariants as word
-use Rattle.trace_file.specs.Fields.{unused_from}
-use Rattle.trace_file.specs.Records.{padded, adapter_row, event_row, is_unlinked}
+use Rattle.trace_file.specs.Records.{event_row, is_unlinked}
 use Rattle.record_text.specs.Steps.{◌>>=◌}
 use Rattle.trace_file.specs.Trace.{FitsEvent}
 use Rattle.trace_file.specs.Words.{spelled}
-use Rattle.trace_file.proofs.FieldLaws.{number_again, optional_again, flags_again}
+use Rattle.trace_file.proofs.FieldLaws.{flags_again}
+use Rattle.record_text.proofs.FieldLaws.{number_again}
 use Rattle.trace_file.proofs.RowLaws.{can_spell}
 use Rattle.trace_file.proofs.HexLaws.{byte_at_again, sense_at_again}
-
-pub one_again : (w : List ℕ) (n : ℕ) → n ≤ most_number → one_number (padded (w ∷ decimal n ∷ [])) ≡ Ok n
-unfolding one_number unused_from field_at
-one_again w n h = rw (number_again (padded (w ∷ decimal n ∷ [])) 1 most_number n (omega arith) h refl) refl
-
-pub two_again : (w : List ℕ) (m n : ℕ) → m ≤ most_number → n ≤ most_number → two_numbers (padded (w ∷ decimal m ∷ decimal n ∷ [])) ≡ Ok (m, n)
-unfolding two_numbers unused_from field_at
-two_again w m n h k =
-    let row = padded (w ∷ decimal m ∷ decimal n ∷ []) in
-    rw (number_again row 1 most_number m (omega arith) h refl, number_again row 2 most_number n (omega arith) k refl) refl
-
-linked_again : (a : Adapter) → a.openings ≤ most_number → IfSome a.link (λ l. l ≤ most_number) → linked_at (adapter_row a) ≡ Ok a
-unfolding linked_at unused_from field_at
-linked_again a o l =
-    let row = adapter_row a in
-    rw (number_again row 1 most_number a.openings (omega arith) o refl, optional_again row 2 most_number a.link (omega arith) l refl) refl
+use Rattle.record_text.proofs.RowLaws.{adapter_again, one_again, two_again}
 
 alone_again : (a : Adapter) → is_unlinked a ≡ true → a.openings ≤ most_number → (one_number (adapter_row a) >>= λ n. Ok (unlinked n)) ≡ Ok a
 alone_again a alone o = by a.link alone
@@ -40,23 +27,11 @@ alone_again a alone o = by a.link alone
     by None e = rw (one_again (spelled word.Sim) a.openings o) refl
     by (Some l) e = absurd cc
 
-pub adapter_again : (v : Version) (a : Adapter) → can_spell v a ≡ true → a.openings ≤ most_number → IfSome a.link (λ l. l ≤ most_number) → adapter_at v (adapter_row a) ≡ Ok a
-unfolding adapter_at
-adapter_again version.One a alone o l = alone_again a alone o
-adapter_again version.Two a alone o l = alone_again a alone o
-adapter_again version.Three a alone o l = linked_again a o l
-
-pub device_again : (d : DeviceRow) → d.bus ≤ most_number → d.target ≤ 65535 → d.lun ≤ 16383 → d.openings ≤ most_number
-    → device_at (padded (spelled word.Dev ∷ decimal d.bus ∷ decimal d.target ∷ decimal d.lun ∷ decimal d.openings ∷ [])) ≡ Ok d
-unfolding device_at unused_from field_at
-device_again d a b c o =
-    let row = padded (spelled word.Dev ∷ decimal d.bus ∷ decimal d.target ∷ decimal d.lun ∷ decimal d.openings ∷ []) in
-    rw (
-      number_again row 1 most_number d.bus (omega arith) a refl,
-      number_again row 2 65535 d.target (omega arith) b refl,
-      number_again row 3 16383 d.lun (omega arith) c refl,
-      number_again row 4 most_number d.openings (omega arith) o refl,
-    ) refl
+pub adapter_in_again : (v : Version) (a : Adapter) → can_spell v a ≡ true → a.openings ≤ most_number → IfSome a.link (λ l. l ≤ most_number) → adapter_in v (adapter_row a) ≡ Ok a
+unfolding adapter_in
+adapter_in_again version.One a alone o l = alone_again a alone o
+adapter_in_again version.Two a alone o l = alone_again a alone o
+adapter_in_again version.Three a alone o l = adapter_again a o l
 
 -- the word that an event's record begins with
 abbrev pub word_for : Event → Word

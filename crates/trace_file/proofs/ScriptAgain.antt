@@ -13,25 +13,27 @@ use Rattle.trace_file.specs.ScriptVersions.{trace_version, ScriptVersion}
 use Rattle.trace_file.specs.declared.script_version.ScriptVersion.TheVariants as script
 use Rattle.trace_file.specs.ScriptReading.{config_step, first_row, first_stage, has_room, is_config_word, is_configuring, is_limits, limits_of, limits_step, roomy_word, rows_step, script_ended, script_reading, script_step, ScriptItem, ScriptStage}
 use Rattle.trace_file.specs.declared.script_stage.ScriptStage.TheVariants as stage
-use Rattle.trace_file.specs.Reading.{config_of, has_letters, is_header, lacks_adapters, row_step, step, TraceStage}
+use Rattle.trace_file.specs.Reading.{config_of, lacks_adapters, row_step, step, TraceStage}
+use Rattle.record_text.specs.Header.{has_letters, is_header, header_row}
 use Rattle.trace_file.specs.declared.trace_stage.TraceStage.TheVariants as trace
-use Rattle.trace_file.specs.Fields.{Row, field_of}
+use Rattle.record_text.specs.Text.{Row}
+use Rattle.record_text.specs.Fields.{field_of}
 use Rattle.trace_file.specs.Histories.{Device, Past, Refusal, Topology, config_fault}
-use Rattle.trace_file.specs.Records.{adapter_row, device_row, holds, lane_row, link_row, weight_row, weight_rows}
+use Rattle.trace_file.specs.Records.{holds, lane_row, weight_rows}
+use Rattle.record_text.specs.ConfigRows.{adapter_row, device_row, link_row, weight_row}
 use Rattle.trace_file.specs.Versions.{Version, has_table}
 use Rattle.trace_file.specs.Scenarios.{Scenario, empty_scenario, is_answer_row, is_answer_word, item_of, MOST_ROWS}
 use Rattle.trace_file.specs.Script.{FitsRow, IsManuscript, Manuscript, answer_rows, config_rows, limits_rows, put_row, scenario_of, script_records, step_rows}
 use Rattle.record_text.specs.Steps.{taken}
-use Rattle.trace_file.proofs.RowLaws.{ok_is, on_ok}
+use Rattle.record_text.proofs.StepLemmas.{ok_is, on_ok, taken_on}
 use Rattle.trace_file.proofs.ScriptItems.{item_kind}
 use Rattle.trace_file.proofs.ScriptLaws.{fold_config, item_added, more_answers, more_steps}
 use Rattle.trace_file.proofs.ScriptRowLaws.{limits_again, row_again, row_of, word_of_row}
 use Rattle.trace_file.proofs.ScriptStageLemmas.{configures}
 use Rattle.trace_file.proofs.StageLemmas.{step_behind, is_legal-nil}
 use Rattle.trace_file.specs.Trace.{IsHistory}
-use Rattle.trace_file.proofs.FieldLaws.{same_bytes}
+use Rattle.record_text.proofs.FieldLaws.{same_bytes}
 use Rattle.trace_file.proofs.WholeLaws.{at_config, at_lanes, by_version, first_at, kept}
-use Rattle.trace_file.proofs.AgainLaws.{taken_on}
 
 -- ---- rows
 
@@ -165,7 +167,7 @@ from_limits n v (Some b) rows rest within words some = let k = limits_again b wi
 -- ---- a whole script
 
 header_one : (v : ScriptVersion) → script_step 1 stage.Header (script_header v) ≡ Ok (stage.First v)
-unfolding script_step is_header has_letters script_header field_at
+unfolding script_step is_header has_letters header_row field_at
 header_one script.One = refl
 header_one script.Two = refl
 

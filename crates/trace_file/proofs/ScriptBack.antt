@@ -27,8 +27,8 @@ use Rattle.trace_file.specs.ScriptVersions.{least_script, trace_version}
 use Rattle.trace_file.specs.Scenarios.{IsScenario, Scenario, device_number, empty_scenario, is_answer, is_answer_row, is_at, is_ruled, item_of, scenario_by, Step}
 use Rattle.trace_file.specs.Script.{FitsRow, IsManuscript, answer_rows, answer_said, answers_of, put_item, put_row, scenario_of, step_rows, step_said, steps_of}
 use Rattle.trace_file.specs.ScriptWriting.{manuscript_of, numbered, path_of, rows_of, step_row}
-use Rattle.trace_file.proofs.AgainLaws.{Along, none_along}
-use Rattle.trace_file.proofs.StageLemmas.{cond_none}
+use Rattle.record_text.proofs.ListLemmas.{Along, none_along}
+use Rattle.record_text.proofs.ConfigLemmas.{cond_none}
 use Rattle.trace_file.proofs.ScriptLaws.{scenario_config}
 use Rattle.trace_file.proofs.ScriptLists.{length-pushed}
 use Rattle.trace_file.proofs.ScriptNumbered.{all_both, all_mapped, count_numbered, keep_all, said_all, silent_all}

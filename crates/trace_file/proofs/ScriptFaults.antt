@@ -6,57 +6,60 @@ use Rattle.trace_file.specs.ScriptReading.{config_step, configured, configured_l
 use Rattle.trace_file.specs.declared.script_row.ScriptItem.TheVariants as item
 use Rattle.trace_file.specs.declared.script_stage.ScriptStage.TheVariants as stage
 use Rattle.trace_file.specs.declared.trace_fault.TraceFault.TheVariants as fault
-use Rattle.trace_file.specs.Reading.{config_of, in_record, is_header, lacking, lacks_adapters, row_step, TraceStage}
+use Rattle.trace_file.specs.Reading.{config_of, in_record, lacking, lacks_adapters, row_step, TraceStage}
+use Rattle.record_text.specs.Header.{is_header}
 use Rattle.trace_file.specs.ScriptVersions.{script_name}
 use Rattle.trace_file.specs.declared.script_version.ScriptVersion.TheVariants as script
-use Rattle.trace_file.specs.Fields.{Row, field_of}
+use Rattle.record_text.specs.Text.{Row}
+use Rattle.record_text.specs.Fields.{field_of}
 use Rattle.trace_file.specs.Scenarios.{Scenario, empty_scenario, item_of}
 use Rattle.trace_file.specs.ScriptRows.{limits_at, script_row_at}
 use Rattle.record_text.specs.Steps.{◌>>=◌, taken}
-use Rattle.trace_file.proofs.FaultLaws.{FailsByText, behind_fails, bound, by_field, taken_fails, by_test, by_word}
+use Rattle.trace_file.proofs.FaultLaws.{IsOfText, FailsByText, behind_fails, by_field}
+use Rattle.record_text.proofs.FaultLaws.{bound, taken_fails, by_test, by_word}
 
 item_fails : (n : ℕ) (s : Scenario) (steps answers : ℕ) (r : Result ScriptItem Refusal) → FailsByText (with_item n s steps answers r)
 item_fails n s steps answers (Ok (item.Step driver one)) = tt
 item_fails n s steps answers _ = tt
 
 configured_fails : (n : ℕ) (t : TraceStage) → FailsByText (configured n t)
-configured_fails n t = by_test (lacks_adapters t) (Err (fault.BadConfig n (lacking (config_of t).weights))) (Ok (config_of t)) tt tt
+configured_fails n t = by_test IsOfText (lacks_adapters t) (Err (fault.BadConfig n (lacking (config_of t).weights))) (Ok (config_of t)) tt tt
 
 rows_fail : (n : ℕ) (s : Scenario) (steps answers : ℕ) (row : Row) → FailsByText (rows_step n s steps answers row)
 unfolding rows_step
 rows_fail n s steps answers row =
-    bound (ok_or (roomy_word steps answers row) (fault.BadRecord n)) _ (by_word n (roomy_word steps answers row)) (λ w.
-    bound (in_record n (script_row_at w row)) _ (by_field n (script_row_at w row)) (λ said.
+    bound IsOfText (ok_or (roomy_word steps answers row) (fault.BadRecord n)) _ (by_word IsOfText (roomy_word steps answers row) (fault.BadRecord n) tt) (λ w.
+    bound IsOfText (in_record n (script_row_at w row)) _ (by_field n (script_row_at w row)) (λ said.
     item_fails n s steps answers (item_of s.config said)))
 
 first_fails : (n : ℕ) (given : Option Bounds) (t : TraceStage) (row : Row) → FailsByText (first_row n given t row)
 unfolding first_row
 first_fails n given t row =
-    bound (ok_or (item_word row) (fault.BadRecord n)) _ (by_word n (item_word row)) (λ w.
-    bound (in_record n (script_row_at w row)) _ (by_field n (script_row_at w row)) (λ said.
-    bound (configured n t) _ (configured_fails n t) (λ c.
+    bound IsOfText (ok_or (item_word row) (fault.BadRecord n)) _ (by_word IsOfText (item_word row) (fault.BadRecord n) tt) (λ w.
+    bound IsOfText (in_record n (script_row_at w row)) _ (by_field n (script_row_at w row)) (λ said.
+    bound IsOfText (configured n t) _ (configured_fails n t) (λ c.
     item_fails n (empty_scenario c (limits_of given)) 0 0 (item_of c said))))
 
 config_fails : (n : ℕ) (given : Option Bounds) (t : TraceStage) (row : Row) → FailsByText (config_step n given t row)
 unfolding config_step
 config_fails n given t row =
-    by_test (is_config_word (field_of row 0)) (row_step n t row >>= λ u. Ok (stage.Config given u)) (first_row n given t row) (bound (row_step n t row) _ (behind_fails n t row) (λ u. tt)) (first_fails n given t row)
+    by_test IsOfText (is_config_word (field_of row 0)) (row_step n t row >>= λ u. Ok (stage.Config given u)) (first_row n given t row) (bound IsOfText (row_step n t row) _ (behind_fails n t row) (λ u. tt)) (first_fails n given t row)
 
 step_fails : (n : ℕ) (s : ScriptStage) (row : Row) → FailsByText (script_step n s row)
 unfolding script_step limits_step
 step_fails n stage.Header row =
-    by_test (is_header (script_name script.One) row) (Ok (stage.First script.One)) _ tt (by_test (is_header (script_name script.Two) row) (Ok (stage.First script.Two)) (Err fault.BadHeader) tt tt)
+    by_test IsOfText (is_header (script_name script.One) row) (Ok (stage.First script.One)) _ tt (by_test IsOfText (is_header (script_name script.Two) row) (Ok (stage.First script.Two)) (Err fault.BadHeader) tt tt)
 step_fails n (stage.First v) row =
-    by_test (is_limits row) (limits_step n v row) (config_step n None (first_stage v) row) (bound (in_record n (limits_at row)) _ (by_field n (limits_at row)) (λ limits. tt)) (config_fails n None (first_stage v) row)
+    by_test IsOfText (is_limits row) (limits_step n v row) (config_step n None (first_stage v) row) (bound IsOfText (in_record n (limits_at row)) _ (by_field n (limits_at row)) (λ limits. tt)) (config_fails n None (first_stage v) row)
 step_fails n (stage.Config given t) row = config_fails n given t row
 step_fails n (stage.Rows s steps answers) row = rows_fail n s steps answers row
 
 end_fails : (s : ScriptStage) → FailsByText (script_ended s)
 unfolding script_ended
 end_fails stage.Header = tt
-end_fails (stage.First v) = bound (configured_last None (first_stage v)) _ (configured_fails _ (first_stage v)) (λ c. tt)
-end_fails (stage.Config given t) = bound (configured_last given t) _ (configured_fails _ t) (λ c. tt)
+end_fails (stage.First v) = bound IsOfText (configured_last None (first_stage v)) _ (configured_fails _ (first_stage v)) (λ c. tt)
+end_fails (stage.Config given t) = bound IsOfText (configured_last given t) _ (configured_fails _ t) (λ c. tt)
 end_fails (stage.Rows s steps answers) = tt
 
 pub reading_fails : (rows : List Row) → FailsByText (taken script_step 1 stage.Header rows >>= script_ended)
-reading_fails rows = bound (taken script_step 1 stage.Header rows) script_ended (taken_fails script_step step_fails 1 stage.Header rows) end_fails
+reading_fails rows = bound IsOfText (taken script_step 1 stage.Header rows) script_ended (taken_fails IsOfText script_step step_fails 1 stage.Header rows) end_fails

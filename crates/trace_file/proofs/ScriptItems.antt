@@ -15,8 +15,7 @@ use Rattle.trace_file.specs.declared.script_row.ScriptRow.TheVariants as row
 use Rattle.trace_file.specs.ScriptReading.{ScriptItem}
 use Rattle.trace_file.specs.Histories.{Device, Refusal, Topology}
 use Rattle.trace_file.specs.Scenarios.{device_number, is_answer_item, is_answer_row, is_at, is_ruled_item, item_of, names_driver, refused_if}
-use Rattle.trace_file.proofs.FieldLaws.{ok_or_ok}
-use Rattle.trace_file.proofs.RowLaws.{ok_is, on_ok}
+use Rattle.record_text.proofs.StepLemmas.{ok_or_ok, ok_is, on_ok}
 
 -- a row of a driver adds a step, and an answer an answer
 pub item_kind : (c : Topology) (x : ScriptRow) (i : ScriptItem) → item_of c x ≡ Ok i → is_answer_item i ≡ is_answer_row x

@@ -13,25 +13,27 @@ use Rattle.trace_file.specs.ScriptRows.{limits_at, script_header, script_row, sc
 use Rattle.trace_file.specs.ScriptReading.{config_step, configured, configured_last, first_row, first_stage, has_room, is_config_word, is_configuring, is_limits, item_word, limits_of, limits_step, roomy_word, rows_step, script_ended, script_reading, script_step, with_item, ScriptItem, ScriptStage}
 use Rattle.trace_file.specs.declared.script_row.ScriptItem.TheVariants as item
 use Rattle.trace_file.specs.declared.script_stage.ScriptStage.TheVariants as stage
-use Rattle.trace_file.specs.Reading.{config_of, in_record, is_header, lacking, lacks_adapters, past_of, row_step, BadConfig, BadHeader, BadRecord, TraceStage}
+use Rattle.trace_file.specs.Reading.{config_of, in_record, lacking, lacks_adapters, past_of, row_step, BadConfig, BadHeader, BadRecord, TraceStage}
+use Rattle.record_text.specs.Header.{is_header, header_row}
 use Rattle.trace_file.specs.declared.trace_stage.TraceStage.TheVariants as trace
-use Rattle.trace_file.specs.Fields.{Row, field_of}
+use Rattle.record_text.specs.Text.{Row, records_in}
+use Rattle.record_text.specs.Fields.{field_of}
 use Rattle.trace_file.specs.Histories.{Past, Refusal, Topology}
 use Rattle.trace_file.specs.Versions.{Version}
-use Rattle.trace_file.specs.Records.{adapter_row, device_row, header, lane_row, link_row, records_of, weight_rows}
+use Rattle.trace_file.specs.Records.{header, lane_row, records_of, weight_rows}
+use Rattle.record_text.specs.ConfigRows.{adapter_row, device_row, link_row}
 use Rattle.trace_file.specs.Scenarios.{Scenario, add_item, empty_scenario, is_answer_item, is_answer_row, is_answer_word, item_of, MOST_ROWS}
 use Rattle.trace_file.specs.Script.{FitsRow, IsManuscript, Manuscript, WasScript, answer_rows, config_rows, limits_rows, put_item, put_row, scenario_of, script_records, step_rows}
 use Rattle.trace_file.specs.Sound.{IsSound}
 use Rattle.record_text.specs.Steps.{◌>>=◌, taken}
-use Rattle.record_text.specs.Text.{records_in}
-use Rattle.trace_file.proofs.RowLaws.{ok_is, on_ok}
+use Rattle.record_text.proofs.StepLemmas.{ok_is, on_ok, taken_keeps, ok_or_ok}
 use Rattle.trace_file.proofs.ScriptItems.{item_kind}
 use Rattle.trace_file.proofs.ScriptRowLaws.{limits_take, row_takes}
 use Rattle.trace_file.proofs.ScriptStageLemmas.{configures}
-use Rattle.trace_file.proofs.StageLaws.{Reads, event_ready, guarded, in_record_ok, named_header, reads_behind, taken_keeps}
-use Rattle.trace_file.proofs.FieldLaws.{ok_or_ok}
+use Rattle.trace_file.proofs.StageLaws.{Reads, event_ready, guarded, in_record_ok, reads_behind}
+use Rattle.record_text.proofs.RowLaws.{named_header}
 use Rattle.trace_file.proofs.HexLaws.{on_some}
-use Rattle.trace_file.proofs.ListLaws.{all_push}
+use Rattle.record_text.proofs.ListLemmas.{all_push}
 
 -- ---- items
 
@@ -267,7 +269,7 @@ config_read n given t u fields rows h e = by (is_config_word (field_of fields 0)
 
 -- a stage that took a record has read it
 step_reads : (n : ℕ) (s t : ScriptStage) (fields : Row) (rows : List Row) → ReadsScript s rows → script_step n s fields ≡ Ok t → ReadsScript t (rows ++ fields ∷ [])
-unfolding script_step script_header limits_step
+unfolding script_step header_row limits_step
 step_reads n stage.Header t fields rows h e =
     by (is_header (script_name script.One) fields) (is_header (script_name script.Two) fields) refl refl e
   where

@@ -8,7 +8,7 @@ use Rattle.std.proofs.lemmas.Grind.{common_steps}
 use Rattle.trace_file.specs.Scenarios.{IsScenario, Scenario, is_answer, is_ruled, push_at, Step, MOST_ROWS}
 use Rattle.cam_types.specs.Questions.{names_lane}
 use Rattle.trace_file.specs.Histories.{Outcome}
-use Rattle.trace_file.proofs.ListLaws.{all_push}
+use Rattle.record_text.proofs.ListLemmas.{all_push}
 
 -- one list grows by an item
 pub pushed : {V X : Type 0} (f : V → List X) (lists : List V) (i : ℕ) (old new : V) (x : X) → i < length lists → old ≡ get_or lists i old → f new ≡ f old ++ x ∷ []

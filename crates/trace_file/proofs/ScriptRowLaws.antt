@@ -13,16 +13,21 @@ use Rattle.cam_types.specs.declared.maxima.TheConstants.{MOST_CCBS, MOST_ROUNDS,
 use Rattle.trace_file.specs.ScriptRows.{adapter_freeze_at, all_words, by_number_at, by_path_at, driver_at, formed_path, limit_at, limits_at, limits_row, path_at, script_row, script_row_at, script_word_of, spelled, submission_at, ScriptRow, ScriptWord}
 use Rattle.trace_file.specs.declared.script_row.ScriptRow.TheVariants as row
 use Rattle.trace_file.specs.declared.script_word.ScriptWord.TheVariants as word
-use Rattle.trace_file.specs.Fields.{Row, field_of, flags_at, flags_text, number_at, unused_from}
-use Rattle.trace_file.specs.Records.{padded}
-use Rattle.trace_file.specs.Rows.{most_number, outcome_at}
+use Rattle.trace_file.specs.Fields.{flags_at, flags_text}
+use Rattle.record_text.specs.Text.{Row}
+use Rattle.record_text.specs.Fields.{field_of, number_at, unused_from, most_number}
+use Rattle.record_text.specs.ConfigRows.{padded}
+use Rattle.trace_file.specs.Rows.{outcome_at}
 use Rattle.trace_file.specs.Scenarios.{is_answer_row, is_answer_word}
 use Rattle.trace_file.specs.Script.{FitsRow}
 use Rattle.trace_file.specs.ScriptReading.{is_config_word, is_limits, item_word}
 use Rattle.record_text.specs.Steps.{◌>>=◌}
-use Rattle.trace_file.proofs.FieldLaws.{flags_again, flags_takes, number_again, number_takes, same_bytes}
+use Rattle.trace_file.proofs.FieldLaws.{flags_again, flags_takes}
+use Rattle.record_text.proofs.FieldLaws.{number_again, number_takes, same_bytes}
 use Rattle.trace_file.proofs.HexLaws.{byte_at_again, sense_at_again, guard_some}
-use Rattle.trace_file.proofs.RowLaws.{ok_is, on_ok, outcome_takes, peel, if_ok, next_field, next_number, no_more}
+use Rattle.trace_file.proofs.RowLaws.{outcome_takes}
+use Rattle.record_text.proofs.StepLemmas.{ok_is, on_ok, if_ok}
+use Rattle.record_text.proofs.RowLaws.{peel, next_field, next_number, no_more}
 
 -- ---- fields
 

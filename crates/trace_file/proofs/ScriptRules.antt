@@ -1,12 +1,12 @@
 -- lists of steps and of answers that keep the rules of a script
-use Rattle.std.proofs.Common.{◌≡◌, ℕ, zero, suc, ◌+◌, ◌<◌, ◌≤◌, Bool, true, false, List, [], ◌∷◌, length, map, get_or, nat_le, Vec, Global, refl, sym, ap, ◌∙◌, arith, sum_by}
+use Rattle.std.proofs.Common.{◌≡◌, ℕ, zero, suc, ◌+◌, ◌<◌, Bool, true, false, List, [], ◌∷◌, length, map, get_or, nat_le, Vec, Global, refl, sym, ap, ◌∙◌, arith, sum_by}
 use Rattle.std.specs.List.{AllByRecursion, list_all}
 use Rattle.std.proofs.lemmas.Bool.{and_parts, leb-false, leb-true, le-leb}
 use Rattle.std.proofs.lemmas.List.{get_or-map, get_or_past, length-map}
 use Rattle.std.proofs.lemmas.List.Folds.{list_all-map}
 use Rattle.std.proofs.lemmas.List.Sums.{sum_by-cons}
 use Rattle.cam_types.specs.Bounds.{Bounds}
-use Rattle.trace_file.proofs.AgainLaws.{all_true}
+use Rattle.record_text.proofs.ListLemmas.{all_true}
 use Rattle.trace_file.specs.Histories.{Outcome, Topology}
 use Rattle.trace_file.specs.Scenarios.{IsScenario, scenario_by, is_ruled, is_answer, MOST_ROWS, Step}
 

@@ -2,20 +2,21 @@
 use Rattle.std.proofs.Common.{◌≡◌, ℕ, true, sym, ap, ◌∙◌, Ok, ok_or}
 use Rattle.std.proofs.lemmas.Bool.{false≢true}
 use Rattle.trace_file.specs.Reading.{add_adapter, add_device, add_lane, add_link, add_row, add_weight, has_links, in_record, lacks_adapters, lacks_weights, placed, row_step, version_of, BadRecord, TraceStage}
-use Rattle.trace_file.specs.Rows.{adapter_at, device_at, one_number, two_numbers, Word}
+use Rattle.trace_file.specs.Rows.{adapter_in, Word}
+use Rattle.record_text.specs.ConfigRows.{device_at, one_number, weight_at}
 use Rattle.trace_file.specs.declared.word.Word.TheVariants as word
-use Rattle.trace_file.specs.Fields.{Row, field_of}
+use Rattle.record_text.specs.Text.{Row}
+use Rattle.record_text.specs.Fields.{field_of}
 use Rattle.trace_file.specs.ScriptReading.{is_config_word, is_configuring}
 use Rattle.trace_file.specs.Words.{spelled}
-use Rattle.trace_file.proofs.RowLaws.{on_ok}
+use Rattle.record_text.proofs.StepLemmas.{on_ok, ok_or_ok}
 use Rattle.trace_file.proofs.StageLaws.{guarded, no_fault, placed_some}
-use Rattle.trace_file.proofs.FieldLaws.{ok_or_ok}
 
 row_configures : (n : ℕ) (s t : TraceStage) (w : Word) (row : Row) → field_of row 0 ≡ spelled w → is_config_word (field_of row 0) ≡ true → add_row n s w row ≡ Ok t → is_configuring t ≡ true
 unfolding add_row add_weight add_link add_adapter add_device add_lane is_config_word
-row_configures n s t word.Weight row is h e = on_ok (in_record n (two_numbers row)) _ t e (λ p ep r. let k = no_fault n _ _ t (guarded (has_links s) _ _ t r).1 in ap is_configuring (sym k.1))
+row_configures n s t word.Weight row is h e = on_ok (in_record n (weight_at row)) _ t e (λ p ep r. let k = no_fault n _ _ t (guarded (has_links s) _ _ t r).1 in ap is_configuring (sym k.1))
 row_configures n s t word.Link row is h e = on_ok (in_record n (one_number row)) _ t e (λ o eo r. let k = no_fault n _ _ t (guarded (lacks_weights s) _ _ t r).1 in ap is_configuring (sym k.1))
-row_configures n s t word.Sim row is h e = on_ok (in_record n (adapter_at (version_of s) row)) _ t e (λ o eo r. let k = no_fault n _ _ t (guarded (lacks_weights s) _ _ t r).1 in ap is_configuring (sym k.1))
+row_configures n s t word.Sim row is h e = on_ok (in_record n (adapter_in (version_of s) row)) _ t e (λ o eo r. let k = no_fault n _ _ t (guarded (lacks_weights s) _ _ t r).1 in ap is_configuring (sym k.1))
 row_configures n s t word.Dev row is h e = on_ok (in_record n (device_at row)) _ t e (λ d ed r. let k = no_fault n _ _ t (guarded (lacks_adapters s) _ _ t r).1 in ap is_configuring (sym k.1))
 row_configures n s t word.Lane row is h e = on_ok (in_record n (one_number row)) _ t e (λ a ea r. let k = no_fault n _ _ t (guarded (lacks_adapters s) _ _ t r).1 in ap is_configuring (sym k.1))
 row_configures n s t w row is h e = absurd (false≢true (sym (ap is_config_word is) ∙ h))

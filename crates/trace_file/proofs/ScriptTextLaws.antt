@@ -12,10 +12,11 @@ use Rattle.cam_types.specs.Bounds.{Bounds, are_within, is_limit}
 use Rattle.cam_types.specs.declared.maxima.TheConstants.{MOST_ADAPTERS, MOST_CCBS, MOST_DEVICES, MOST_EVENTS, MOST_LANES, MOST_LINKS, MOST_ROUNDS, MOST_STAYS, MOST_WEIGHT_ROWS}
 use Rattle.cam_path.specs.Paths as path
 use Rattle.cam_path.specs.declared.path.CamPath.{CamPath}
-use Rattle.trace_file.specs.Fields.{Row, flags_text}
+use Rattle.trace_file.specs.Fields.{flags_text}
+use Rattle.record_text.specs.Text.{Row}
 use Rattle.trace_file.specs.Histories.{Past}
 use Rattle.trace_file.specs.Records.{hex, records_of}
-use Rattle.trace_file.specs.Rows.{most_number}
+use Rattle.record_text.specs.Fields.{most_number}
 use Rattle.trace_file.specs.Scenarios.{is_answer_row, MOST_ROWS}
 use Rattle.trace_file.specs.Script.{FitsRow, IsManuscript, IsScript, Manuscript, answer_rows, config_rows, limits_rows, script_records, step_rows}
 use Rattle.trace_file.specs.ScriptRows.{limits_row, script_header, script_row, ScriptRow}
@@ -23,17 +24,19 @@ use Rattle.trace_file.specs.declared.script_row.ScriptRow.TheVariants as row
 use Rattle.trace_file.specs.ScriptVersions.{trace_version, ScriptVersion}
 use Rattle.trace_file.specs.declared.script_version.ScriptVersion.TheVariants as script
 use Rattle.trace_file.specs.Trace.{IsHistory}
-use Rattle.trace_file.specs.Writing.{text_of}
+use Rattle.record_text.specs.Writing.{text_of}
 use Rattle.trace_file.proofs.HexLaws.{length-hex}
 use Rattle.trace_file.proofs.ScriptLaws.{config_spelled}
 use Rattle.trace_file.proofs.ScriptNumbered.{all_both, all_mapped}
 use Rattle.trace_file.proofs.StageLemmas.{is_legal-nil}
-use Rattle.trace_file.proofs.TextLaws.{IsGood, IsShort, eight, good_records, records_again, short_flags, ten, text-le, two_numbers}
+use Rattle.trace_file.proofs.TextLaws.{IsGood, IsShort, eight, good_records, short_flags, ten, text-le, two_numbers}
+use Rattle.record_text.proofs.GoodRows.{records_again}
+use Rattle.record_text.specs.Header.{header_row}
 
 -- ---- the header and the limits
 
 good_header : (v : ScriptVersion) → IsGood (script_header v)
-unfolding script_header
+unfolding header_row
 good_header script.One = (refl, eight (codes "camscript1") (codes "a") (codes "b") (codes "c") (codes "d") (codes "e") (codes "f") (codes "g") (omega arith))
 good_header script.Two = (refl, eight (codes "camscript2") (codes "a") (codes "b") (codes "c") (codes "d") (codes "e") (codes "f") (codes "g") (omega arith))
 
@@ -170,7 +173,7 @@ good_script m h =
 
 -- the text begins with the header's word, and so with no byte order mark
 no_mark : (v : ScriptVersion) (rows : List Row) → strip_bom (text_of (script_header v ∷ rows)) ≡ text_of (script_header v ∷ rows)
-unfolding strip_bom text_of script_header fields_text escaped is_blank
+unfolding strip_bom text_of header_row fields_text escaped is_blank
 no_mark script.One rows = refl
 no_mark script.Two rows = refl
 

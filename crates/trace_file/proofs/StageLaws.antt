@@ -1,37 +1,40 @@
 -- What the stages of reading have read is spelled so.
-use Rattle.std.proofs.Common.{◌≡◌, ◌≤◌, ◌+◌, ℕ, List, [], ◌∷◌, ◌++◌, length, drop, Bool, true, false, cond, refl, sym, ap, ◌∙◌, subst, arith, append_assoc, append-nil, rules, tests}
-use Rattle.std.specs.Prelude.{Option, Some, None, Result, Ok, Err, ok_or, codes, ◌==◌, ⊤}
+use Rattle.std.proofs.Common.{◌≡◌, ◌≤◌, ℕ, List, [], ◌∷◌, ◌++◌, length, Bool, true, false, cond, refl, sym, ap, ◌∙◌, subst}
+use Rattle.std.specs.Prelude.{Option, Some, None, Result, Ok, Err, ok_or, ◌==◌, ⊤}
 use Rattle.std.specs.List.{AllByRecursion, list_all}
 use Rattle.std.proofs.lemmas.Bool.{and_parts, eqb-true, not-false}
 use Rattle.std.proofs.lemmas.List.Folds.{list_all-append}
-use Rattle.std.proofs.lemmas.List.{nil_from_length, length-drop}
 use Rattle.std.proofs.lemmas.Option.{cond_some}
-use Rattle.std.proofs.lemmas.Slice.Eq.{bytes_eq-Decides}
-use Rattle.std.proofs.lemmas.Bool.Decides.{nat_tests}
 use Rattle.cam_types.specs.Topology.{IsDraft}
 use Rattle.event_rules.specs.Legal.{history_rules}
 use Rattle.event_rules.proofs.LegalLemmas.{legal-none}
 use Rattle.trace_file.specs.Histories.{Adapter, Topology, WeightRow, reaches_last, Device, Event, Past, ConfigFault, Refusal}
-use Rattle.trace_file.specs.Rows.{adapter_at, device_at, device_of, event_at, one_number, two_numbers, DeviceRow, Word}
-use Rattle.trace_file.specs.Reading.{add_weight, add_link, add_adapter, add_device, add_event, add_lane, add_row, config_of, empty, ended, has_letters, has_links, in_record, is_header, lacks_adapters, lacks_weights, past_of, placed, row_step, stands, step, unless_fault, unless_refused, version_of, TraceFault, BadHeader, BadRecord, TraceStage}
+use Rattle.trace_file.specs.Rows.{adapter_in, event_at, Word}
+use Rattle.record_text.specs.ConfigRows.{device_at, device_of, one_number, weight_row, link_row, adapter_row, device_row, weight_at}
+use Rattle.record_text.specs.declared.device_row.DeviceRow.{DeviceRow}
+use Rattle.trace_file.specs.Reading.{add_weight, add_link, add_adapter, add_device, add_event, add_lane, add_row, config_of, empty, ended, has_links, in_record, lacks_adapters, lacks_weights, past_of, placed, row_step, stands, step, unless_fault, unless_refused, version_of, TraceFault, BadHeader, BadRecord, TraceStage}
+use Rattle.record_text.specs.Header.{is_header}
 use Rattle.trace_file.specs.declared.trace_stage.TraceStage.TheVariants as stage
 use Rattle.trace_file.specs.declared.word.Word.TheVariants as word
-use Rattle.trace_file.specs.Fields.{Row, field_of}
-use Rattle.trace_file.specs.Records.{weight_row, link_row, adapter_row, device_row, event_row, has_no_links, header, holds, is_unlinked, lane_row, records_of}
+use Rattle.record_text.specs.Text.{Row}
+use Rattle.record_text.specs.Fields.{field_of}
+use Rattle.trace_file.specs.Records.{event_row, has_no_links, header, holds, is_unlinked, lane_row, records_of}
 use Rattle.trace_file.specs.Versions.{has_table, name_of, Version}
 use Rattle.trace_file.specs.declared.version.Version.TheVariants as version
-use Rattle.cam_types.specs.Weights.{are_standard, row_to}
+use Rattle.cam_types.specs.Weights.{are_standard}
 use Rattle.trace_file.specs.Sound.{IsBegun, IsKept, IsSound}
-use Rattle.record_text.specs.Steps.{◌>>=◌, taken}
+use Rattle.record_text.specs.Steps.{◌>>=◌}
 use Rattle.trace_file.specs.Trace.{FitsEvent, IsHistory}
 use Rattle.trace_file.specs.Words.{spelled, word_of}
-use Rattle.trace_file.proofs.FieldLaws.{word_spelled, ok_or_ok}
+use Rattle.trace_file.proofs.FieldLaws.{word_spelled}
+use Rattle.record_text.proofs.StepLemmas.{ok_or_ok, ok_is, on_ok}
 use Rattle.trace_file.proofs.PushLaws.{push_weight, push_link, push_adapter, push_device, push_lane, push_event}
-use Rattle.trace_file.proofs.RowLaws.{can_spell, weight_takes, link_takes, adapter_takes, device_row_takes, event_takes, lane_takes, ok_is, on_ok, peel}
+use Rattle.trace_file.proofs.RowLaws.{can_spell, adapter_in_takes, event_takes, row_is}
+use Rattle.record_text.proofs.RowLaws.{weight_takes, one_takes, device_takes, named_header}
 use Rattle.trace_file.proofs.StageLemmas.{kept_empty, sound_weight, sound_link, sound_adapter, sound_device, sound_event, sound_lane}
 use Rattle.cam_types.proofs.TopologyLemmas.{standard_draft}
 use Rattle.trace_file.proofs.HexLaws.{guard_some, on_some}
-use Rattle.trace_file.proofs.ListLaws.{all_push}
+use Rattle.record_text.proofs.ListLemmas.{all_push}
 
 -- ---- what a stage has read
 
@@ -223,23 +226,6 @@ reads_event v n s t x rows h fits e =
 
 -- ---- a record
 
--- a record of eight fields is these
-pub eight : (row : Row) (a b c d e f g h : List ℕ) → length row ≡ 8 → field_of row 0 ≡ a → field_of row 1 ≡ b → field_of row 2 ≡ c → field_of row 3 ≡ d
-    → field_of row 4 ≡ e → field_of row 5 ≡ f → field_of row 6 ≡ g → field_of row 7 ≡ h → row ≡ a ∷ b ∷ c ∷ d ∷ e ∷ f ∷ g ∷ h ∷ []
-eight row a b c d e f g h n e0 e1 e2 e3 e4 e5 e6 e7 =
-    let none : drop 8 row ≡ [] = nil_from_length (drop 8 row) (omega (arith, length-drop 8 row)) in
-    peel row 0 a _ n (omega arith) e0 (peel row 1 b _ n (omega arith) e1 (peel row 2 c _ n (omega arith) e2 (peel row 3 d _ n (omega arith) e3
-    (peel row 4 e _ n (omega arith) e4 (peel row 5 f _ n (omega arith) e5 (peel row 6 g _ n (omega arith) e6 (peel row 7 h [] n (omega arith) e7 none)))))))
-
--- the header of this name
-pub named_header : (name : List ℕ) (row : Row) → is_header name row ≡ true
-    → row ≡ name ∷ codes "a" ∷ codes "b" ∷ codes "c" ∷ codes "d" ∷ codes "e" ∷ codes "f" ∷ codes "g" ∷ []
-unfolding is_header has_letters
-named_header name row t =
-    eight row name (codes "a") (codes "b") (codes "c") (codes "d") (codes "e") (codes "f") (codes "g") (grind (arith, nat_tests))
-    (search (rules, tests, bytes_eq-Decides)) (search (rules, tests, bytes_eq-Decides)) (search (rules, tests, bytes_eq-Decides)) (search (rules, tests, bytes_eq-Decides))
-    (search (rules, tests, bytes_eq-Decides)) (search (rules, tests, bytes_eq-Decides)) (search (rules, tests, bytes_eq-Decides)) (search (rules, tests, bytes_eq-Decides))
-
 -- what a word that stands in its place says of the record
 pub record IsPlaced (s : TraceStage) (row : Row) (w : Word) : Type 0 where
   pub eight : length row ≡ 8
@@ -263,24 +249,25 @@ reads_other v n s t w row rows h p e =
 reads_row : (v : Version) (n : ℕ) (s t : TraceStage) (w : Word) (row : Row) (rows : List Row) → Reads v s rows → IsPlaced s row w → add_row n s w row ≡ Ok t → Reads v t (rows ++ row ∷ [])
 unfolding add_row
 reads_row v n s t word.Weight row rows h p e =
-    on_ok (in_record n (two_numbers row)) (λ m. add_weight n s (row_to m.0 m.1)) t e (λ m em r.
-    let k = weight_takes row m p.eight p.word (in_record_ok n (two_numbers row) m em) in
-    subst (λ (l : Row). Reads v t (rows ++ l ∷ [])) (sym k) (reads_weight v n s t (row_to m.0 m.1) rows h p.place r))
+    on_ok (in_record n (weight_at row)) (add_weight n s) t e (λ w ew r.
+    let k = row_is row word.Weight _ p.eight p.word (weight_takes row w p.eight (in_record_ok n (weight_at row) w ew)).0 in
+    subst (λ (l : Row). Reads v t (rows ++ l ∷ [])) (sym k) (reads_weight v n s t w rows h p.place r))
 reads_row v n s t word.Link row rows h p e =
     on_ok (in_record n (one_number row)) (add_link n s) t e (λ o eo r.
-    let k = link_takes row o p.eight p.word (in_record_ok n (one_number row) o eo) in
+    let k = row_is row word.Link _ p.eight p.word (one_takes row (spelled word.Link) o p.eight (in_record_ok n (one_number row) o eo)).0 in
     subst (λ (l : Row). Reads v t (rows ++ l ∷ [])) (sym k) (reads_link v n s t o rows h p.place r))
 reads_row v n s t word.Sim row rows h p e =
-    on_ok (in_record n (adapter_at (version_of s) row)) (add_adapter n s) t e (λ a ea r.
-    let k = adapter_takes (version_of s) row a p.eight p.word (in_record_ok n (adapter_at (version_of s) row) a ea) in
+    on_ok (in_record n (adapter_in (version_of s) row)) (add_adapter n s) t e (λ a ea r.
+    let k = adapter_in_takes (version_of s) row a p.eight p.word (in_record_ok n (adapter_in (version_of s) row) a ea) in
     subst (λ (l : Row). Reads v t (rows ++ l ∷ [])) (sym k.0) (reads_adapter v n s t a rows h p.place k.1 r))
 reads_row v n s t word.Dev row rows h p e =
     on_ok (in_record n (device_at row)) (add_device n s) t e (λ d ed r.
-    let k = device_row_takes row d p.eight p.word (in_record_ok n (device_at row) d ed) in
-    subst (λ (l : Row). Reads v t (rows ++ l ∷ [])) (sym k.0) (reads_device v n s t d rows h p.place k.1 r))
+    let took = device_takes row d p.eight (in_record_ok n (device_at row) d ed) in
+    let k = row_is row word.Dev _ p.eight p.word took.0 in
+    subst (λ (l : Row). Reads v t (rows ++ l ∷ [])) (sym k) (reads_device v n s t d rows h p.place took.1.1 r))
 reads_row v n s t word.Lane row rows h p e =
     on_ok (in_record n (one_number row)) (add_lane n s) t e (λ a ea r.
-    let k = lane_takes row a p.eight p.word (in_record_ok n (one_number row) a ea) in
+    let k = row_is row word.Lane _ p.eight p.word (one_takes row (spelled word.Lane) a p.eight (in_record_ok n (one_number row) a ea)).0 in
     subst (λ (l : Row). Reads v t (rows ++ l ∷ [])) (sym k) (reads_lane v n s t a rows h p.place r))
 reads_row v n s t w row rows h p e = reads_other v n s t w row rows h p e
 
@@ -297,7 +284,6 @@ pub record ReadsBy (s : TraceStage) (rows : List Row) : Type 0 where
 
 header_reads : (v : Version) (s t : TraceStage) (row : Row) (rows : List Row) → rows ≡ [] → is_header (name_of v) row ≡ true → rows_at v s ≡ header v ∷ [] → IsIn s v → IsSound s
     → ((config_of s).devices ≡ []) × ((past_of s).events ≡ []) → s ≡ t → ReadsBy t (rows ++ row ∷ [])
-unfolding header
 header_reads v s t row rows none named spelled held sound empty same =
     let made : Reads v s (rows ++ row ∷ []) = record { spelled = rw (none, named_header (name_of v) row named) (sym spelled); held = held; sound = sound; targets = rw empty.0 tt; events = rw empty.1 tt } in
     subst (λ (x : TraceStage). ReadsBy x (rows ++ row ∷ [])) same (record { version = v; reads = made })
@@ -320,15 +306,6 @@ step_reads n stage.Header t row rows h e = by (is_header (name_of version.One) r
     by false false true is_one is_two is_three k = table version.Three refl is_three (ok_is _ t k)
     by false false false is_one is_two is_three k = absurd cc
 step_reads n s t row rows h e = record { version = h.version; reads = reads_behind h.version n s t row rows h.reads e }
-
--- what each record keeps of what was read, many records keep
-pub taken_keeps : {S : Type 0} (next : ℕ → S → Row → Result S TraceFault) (P : S → List Row → Type 0)
-    → ((n : ℕ) (s t : S) (row : Row) (rows : List Row) → P s rows → next n s row ≡ Ok t → P t (rows ++ row ∷ []))
-    → (n : ℕ) (s t : S) (rows more : List Row) → P s rows → taken next n s more ≡ Ok t → P t (rows ++ more)
-taken_keeps next P each n s t rows [] h e = rw (append-nil rows, ← ok_is s t e) h
-taken_keeps next P each n s t rows (row ∷ more) h e =
-    on_ok (next n s row) _ t e (λ u eu r.
-    subst (P t) (append_assoc rows (row ∷ []) more) (taken_keeps next P each (n + 1) u t (rows ++ row ∷ []) more (each n s u row rows h eu) r))
 
 -- the end of the records after a stage with an adapter
 ended_ok : (s : TraceStage) (past : Past) → ended s ≡ Ok past → (lacks_adapters s ≡ false) × (past_of s ≡ past)

@@ -1,90 +1,50 @@
 -- The text of a history's records is a trace of the history.
-use Rattle.std.proofs.Common.{◌≡◌, ◌≤◌, ◌+◌, ◌*◌, ℕ, List, [], ◌∷◌, ◌++◌, length, map, Bool, true, false, cond, refl, ap, ◌∙◌, arith, length-append, suc, Option, Some, None, IfSome, decimal, codes, if◌then◌else◌}
+use Rattle.std.proofs.Common.{◌≡◌, ◌≤◌, ◌+◌, ◌*◌, ℕ, List, [], ◌∷◌, ◌++◌, length, map, Bool, true, false, cond, refl, ap, ◌∙◌, arith, length-append, Option, Some, None, IfSome, decimal, codes}
 use Rattle.std.specs.List.{AllByRecursion, flat_map, All}
-use Rattle.std.proofs.lemmas.Bool.Decides.{nat_tests}
 use Rattle.std.proofs.lemmas.Fmt.{length-decimal-le}
 use Rattle.std.proofs.lemmas.List.{length-map}
 use Rattle.std.proofs.lemmas.List.Elements.{All-append, All-cons, All-from_recursion, All-map, All-nil, All-weaker, recursion_from_All}
-use Rattle.csv.specs.Machine.{next_record}
 use Rattle.csv.specs.Reading.{default_config, records, strip_bom}
-use Rattle.csv.specs.Writing.{default_writer, escaped, field_text, fields_text, is_blank, read_back, row_text}
-use Rattle.csv.specs.declared.parser.State.TheVariants as st
-use Rattle.csv.proofs.RoundTrip.{read-write}
+use Rattle.csv.specs.Writing.{default_writer, escaped, fields_text, is_blank, read_back, row_text}
 use Rattle.event_rules.specs.declared.event.Event.TheVariants as event
-use Rattle.trace_file.specs.Fields.{Row, flags_text, flags_word}
+use Rattle.trace_file.specs.Fields.{flags_text, flags_word}
+use Rattle.record_text.specs.Text.{Row}
 use Rattle.trace_file.specs.Histories.{Adapter, WeightRow, weight_fault, Device, Event, Past, link_fault, adapter_fault, device_fault, lane_fault}
 use Rattle.trace_file.specs.Versions.{has_table, Version}
-use Rattle.trace_file.specs.Records.{weight_row, weight_rows, link_row, adapter_row, device_row, event_row, header, hex, holds, lane_row, records_of}
+use Rattle.trace_file.specs.Records.{weight_rows, event_row, header, hex, holds, lane_row, records_of}
+use Rattle.record_text.specs.ConfigRows.{weight_row, link_row, adapter_row, device_row}
 use Rattle.trace_file.specs.declared.version.Version.TheVariants as version
-use Rattle.trace_file.specs.Rows.{most_number}
+use Rattle.record_text.specs.Fields.{most_number}
 use Rattle.trace_file.specs.Trace.{FitsEvent, IsHistory, IsTrace}
-use Rattle.trace_file.specs.Writing.{text_of, text_in}
+use Rattle.trace_file.specs.Writing.{text_in}
+use Rattle.record_text.specs.Writing.{text_of}
 use Rattle.cam_types.specs.Topology.{IsConfig}
 use Rattle.cam_types.proofs.ConfigLemmas.{adapter_items, device_items, few_adapters, few_devices, few_links, few_weights, lane_items, link_items, weight_items}
 use Rattle.cam_types.specs.declared.maxima.TheConstants.{MOST_LINKS, MOST_ADAPTERS, MOST_DEVICES, MOST_LANES, MOST_EVENTS, MOST_WEIGHT_ROWS}
 use Rattle.event_rules.proofs.LaneCount.{few_lanes}
-use Rattle.trace_file.proofs.AgainLaws.{Along, along_both, none_along}
+use Rattle.record_text.proofs.ListLemmas.{Along, along_both, none_along}
 use Rattle.trace_file.proofs.HexLaws.{length-hex}
-use Rattle.record_text.proofs.RecordLemmas.{first_left, none_left}
-use Rattle.trace_file.proofs.StageLemmas.{device_small}
-use Rattle.trace_file.proofs.WholeLaws.{GoodDevice, adapter_link, adapter_small, lane_small, link_number, link_small, weight_numbers}
-
--- ---- records that are written are read again
-
-pub records_again : (rows : List Row) → AllByRecursion (λ (row : Row). read_back row ≡ row) rows → records default_config (text_of rows) ≡ rows
-unfolding text_of next_record
-records_again [] h = none_left st.StartRecord [] refl
-records_again (row ∷ rows) h =
-    let text = row_text default_writer row ++ text_of rows in
-    first_left st.StartRecord text (read_back row, st.StartRecord, text_of rows) refl (read-write row (text_of rows))
-    ∙ ap (λ (r : Row). r ∷ records default_config (text_of rows)) h.0
-    ∙ ap (λ (rs : List Row). row ∷ rs) (records_again rows h.1)
+use Rattle.record_text.proofs.ConfigLemmas.{device_small, adapter_link, adapter_small, link_number, link_small, weight_numbers}
+use Rattle.trace_file.proofs.WholeLaws.{lane_small}
+use Rattle.record_text.proofs.GoodRows.{GoodDevice, records_again}
+use Rattle.record_text.proofs.RowSizes as sizes
+use Rattle.record_text.proofs.RowSizes.{escaped-le}
+use Rattle.record_text.specs.Header.{header_row}
 
 -- ---- how long a record's text is
 
-escaped-le : (field : List ℕ) → length (escaped default_writer field) ≤ 2 * length field
-unfolding escaped
-escaped-le [] = omega arith
-escaped-le (b ∷ rest) = grind (arith, nat_tests, escaped-le rest)
-
-field-le : (field : List ℕ) → length (field_text default_writer field) ≤ 2 * length field + 2
-field-le field = grind (arith, escaped-le field, length-append (escaped default_writer field) (34 ∷ []))
-
--- the bytes of a record's fields
-abbrev size : Row → ℕ
-size [] = 0
-size (field ∷ rest) = length field + size rest
-
-field_more : (one more : List ℕ) (n k m : ℕ) → length one ≤ 2 * n + 2 → length more ≤ 2 * k + 3 * m → length (44 ∷ (one ++ more)) ≤ 2 * (n + k) + 3 * suc m
-field_more one more n k m a b = let both = length-append one more in omega arith
-
-fields-le : (row : Row) → length (fields_text default_writer row) ≤ 2 * size row + 3 * length row
-unfolding fields_text
-fields-le [] = omega arith
-fields-le (field ∷ rest) = field_more (field_text default_writer field) (fields_text default_writer rest) (length field) (size rest) (length rest) (field-le field) (fields-le rest)
-
-with_end : (one more end : List ℕ) (n k m : ℕ) → length one ≤ 2 * n + 2 → length more ≤ 2 * k + 3 * m → length end ≤ 3 → length ((one ++ more) ++ end) ≤ 2 * (n + k) + 3 * suc m + 2
-with_end one more end n k m a b c =
-    let both = length-append one more in
-    let all = length-append (one ++ more) end in
-    omega arith
-
-end-le : (blank : Bool) → length {A = ℕ} ((if blank then 34 ∷ 34 ∷ [] else []) ++ 10 ∷ []) ≤ 3
-end-le blank = grind arith
-
-row-le : (field : List ℕ) (rest : Row) → length (row_text default_writer (field ∷ rest)) ≤ 2 * size (field ∷ rest) + 3 * length (field ∷ rest) + 2
-row-le field rest =
-    with_end (field_text default_writer field) (fields_text default_writer rest) _ (length field) (size rest) (length rest) (field-le field) (fields-le rest) (end-le (is_blank default_writer (field ∷ rest)))
-
 abbrev pub IsShort : Row → Type 0
-IsShort row = length (row_text default_writer row) ≤ 140
+IsShort row = sizes.IsShort 140 row
 
 -- eight fields of 57 bytes together
 abbrev pub short_by : (a b c d e f g h : List ℕ) → Type 0
 short_by a b c d e f g h = length a + (length b + (length c + (length d + (length e + (length f + (length g + length h)))))) ≤ 57
 
 pub eight : (a b c d e f g h : List ℕ) → short_by a b c d e f g h → IsShort (a ∷ b ∷ c ∷ d ∷ e ∷ f ∷ g ∷ h ∷ [])
-eight a b c d e f g h few = let le = row-le a (b ∷ c ∷ d ∷ e ∷ f ∷ g ∷ h ∷ []) in omega arith
+eight a b c d e f g h few =
+    let le = sizes.eight a b c d e f g h (2 * length a) (2 * length b) (2 * length c) (2 * length d) (2 * length e) (2 * length f) (2 * length g) (2 * length h)
+    (escaped-le a) (escaped-le b) (escaped-le c) (escaped-le d) (escaped-le e) (escaped-le f) (escaped-le g) (escaped-le h) in
+    omega arith
 
 pub ten : (n : ℕ) → n ≤ most_number → length (decimal n) ≤ 10
 ten n h = length-decimal-le 10 n (omega arith) (omega arith) (omega arith)
@@ -146,7 +106,7 @@ along_good P row before [] f h = All-nil IsGood
 along_good P row before (x ∷ xs) f h = All-cons IsGood (row x) (map row xs) (f before x h.0) (along_good P row (before ++ x ∷ []) xs f h.1)
 
 good_header : (v : Version) → IsGood (header v)
-unfolding header
+unfolding header_row
 good_header version.One = (refl, eight (codes "camtrace1") (codes "a") (codes "b") (codes "c") (codes "d") (codes "e") (codes "f") (codes "g") (omega arith))
 good_header version.Two = (refl, eight (codes "camtrace2") (codes "a") (codes "b") (codes "c") (codes "d") (codes "e") (codes "f") (codes "g") (omega arith))
 good_header version.Three = (refl, eight (codes "camtrace3") (codes "a") (codes "b") (codes "c") (codes "d") (codes "e") (codes "f") (codes "g") (omega arith))
@@ -226,7 +186,7 @@ good_records v past h few =
 
 -- the text begins with the header's word, and so with no byte order mark
 no_mark : (v : Version) (past : Past) → strip_bom (text_in v past) ≡ text_in v past
-unfolding strip_bom text_in text_of records_of header fields_text escaped is_blank
+unfolding strip_bom text_in text_of records_of header_row fields_text escaped is_blank
 no_mark version.One past = refl
 no_mark version.Two past = refl
 no_mark version.Three past = refl

@@ -1,64 +1,40 @@
 -- The records of a whole history are read as that history.
-use Rattle.std.proofs.Common.{◌≡◌, ◌≢◌, ◌<◌, ◌≤◌, ℕ, List, [], ◌∷◌, ◌++◌, length, map, Bool, true, false, cond, refl, sym, ap, ◌∙◌, arith, Option, Some, None, IfSome, Result, Ok, ◌==◌, nat_lt, if◌then◌else◌}
+use Rattle.std.proofs.Common.{◌≡◌, ◌≢◌, ◌<◌, ◌≤◌, ℕ, List, [], ◌∷◌, ◌++◌, length, map, Bool, true, false, cond, refl, sym, ap, ◌∙◌, arith, None, Result, Ok, ◌==◌, if◌then◌else◌}
 use Rattle.std.specs.List.{AllByRecursion, list_all}
-use Rattle.std.proofs.lemmas.Bool.{and_parts, eqb-true, leb-true, leb-false, ltb-true, not-false}
+use Rattle.std.proofs.lemmas.Bool.{and_parts, eqb-true, leb-false}
 use Rattle.std.proofs.lemmas.List.{nil_from_length}
-use Rattle.std.proofs.lemmas.Bool.Decides.{nat_tests}
 use Rattle.csv.specs.Records.{field_at}
-use Rattle.cam_types.specs.Topology.{IsConfig, names_link, openings_fault}
-use Rattle.cam_types.specs.declared.config_fault.ConfigFault.TheVariants.{NoLink}
+use Rattle.cam_types.specs.Topology.{IsConfig}
 use Rattle.cam_types.proofs.ConfigLemmas.{adapter_items, device_items, few_adapters, few_links, lane_items, link_items, reaches, some_adapter, weight_items}
-use Rattle.cam_types.proofs.ListLemmas.{or_left, or_right}
 use Rattle.cam_types.proofs.WeightLemmas.{standard_is}
 use Rattle.cam_types.specs.Weights.{are_standard}
 use Rattle.cam_types.specs.declared.maxima.TheConstants.{MOST_ADAPTERS, MOST_LINKS}
 use Rattle.event_rules.specs.Legal.{history_rules, is_legal as legal_by}
 use Rattle.event_rules.proofs.LegalLemmas.{none-legal}
 use Rattle.trace_file.specs.Histories.{Adapter, Topology, WeightRow, weight_fault, reaches_last, standard_weights, Device, Event, Past, link_fault, adapter_fault, device_fault, lane_fault, refusal, config_fault, is_legal, is_legal_event}
-use Rattle.trace_file.specs.Reading.{add_weight, add_link, add_adapter, add_device, add_event, add_lane, config_of, ended, has_letters, is_header, lacks_adapters, past_of, reading, stands, step, version_of, TraceFault, TraceStage}
+use Rattle.trace_file.specs.Reading.{add_weight, add_link, add_adapter, add_device, add_event, add_lane, config_of, ended, lacks_adapters, past_of, reading, stands, step, version_of, TraceFault, TraceStage}
+use Rattle.record_text.specs.Header.{has_letters, is_header, header_row}
 use Rattle.trace_file.specs.declared.trace_stage.TraceStage.TheVariants as stage
-use Rattle.trace_file.specs.Records.{weight_row, link_row, adapter_row, device_row, event_row, has_no_links, header, holds, is_unlinked, lane_row, least_version, records_of, weight_rows}
-use Rattle.trace_file.specs.Rows.{most_number}
+use Rattle.trace_file.specs.Records.{event_row, has_no_links, header, holds, is_unlinked, lane_row, least_version, records_of, weight_rows}
+use Rattle.record_text.specs.ConfigRows.{weight_row, link_row, adapter_row, device_row}
 use Rattle.trace_file.specs.Versions.{has_table, name_of, Version}
-use Rattle.trace_file.specs.Fields.{Row}
+use Rattle.record_text.specs.Text.{Row}
 use Rattle.trace_file.specs.declared.version.Version.TheVariants as version
 use Rattle.trace_file.specs.declared.word.Word.TheVariants as word
 use Rattle.record_text.specs.Steps.{taken}
 use Rattle.trace_file.specs.Trace.{FitsEvent, IsHistory}
-use Rattle.trace_file.proofs.AgainLaws.{Along, all_true, along_both, none_along, true_along, then_taken, run, weight_step, link_step, adapter_step, lane_step, device_step, event_step}
+use Rattle.trace_file.proofs.AgainLaws.{weight_step, link_step, adapter_step, lane_step, device_step, event_step}
+use Rattle.record_text.proofs.ListLemmas.{Along, all_true, along_both, none_along, true_along}
+use Rattle.record_text.proofs.StepLemmas.{then_taken, run}
 use Rattle.trace_file.proofs.RowLaws.{can_spell}
-use Rattle.trace_file.proofs.StageLemmas.{cond_none, device_small}
+use Rattle.record_text.proofs.ConfigLemmas.{cond_none, device_small, adapter_link, adapter_small, link_number, link_small, weight_numbers}
+use Rattle.record_text.proofs.GoodRows.{GoodDevice}
 
 -- ---- what the rules of the configuration say of its numbers
-
-pub adapter_small : (links : ℕ) (before : List Adapter) (a : Adapter) → adapter_fault links (before, a) ≡ None → a.openings ≤ 255
-unfolding adapter_fault
-adapter_small links before a e = leb-true _ _ (and_parts _ _ (not-false _ (cond_none _ _ _ (cond_none _ _ _ (or_left _ _ e)).1).0)).1
-
-pub link_small : (before : List ℕ) (k : ℕ) → link_fault (before, k) ≡ None → k ≤ 255
-unfolding link_fault
-link_small before k e = leb-true _ _ (and_parts _ _ (not-false _ (cond_none _ _ _ (cond_none _ _ _ e).1).0)).1
-
--- an adapter's link is one of that many
-pub adapter_link : (links : ℕ) (before : List Adapter) (a : Adapter) → adapter_fault links (before, a) ≡ None → IfSome a.link (λ l. l < links)
-unfolding adapter_fault
-adapter_link links before a e = by a.link (or_right (openings_fault MOST_ADAPTERS (length before) a.openings) _ e)
-  where
-    passed : (b : Bool) → cond b None (Some NoLink) ≡ None → b ≡ true
-    passed true e = refl
-    passed false e = absurd cc
-
-    by : (link : Option ℕ) → cond (names_link links link) None (Some NoLink) ≡ None → IfSome link (λ l. l < links)
-    by None e = tt
-    by (Some l) e = ltb-true _ _ (passed (nat_lt l links) e)
 
 pub lane_small : (n : ℕ) (before : List ℕ) (a : ℕ) → lane_fault n (before, a) ≡ None → a < n
 unfolding lane_fault
 lane_small n before a e = leb-false _ _ (cond_none _ _ _ (cond_none _ _ _ e).1).0
-
-pub weight_numbers : (before : List WeightRow) (w : WeightRow) → weight_fault (before, w) ≡ None → (w.last ≤ 1279) × (w.weight ≤ 1000)
-unfolding weight_fault
-weight_numbers before w e = (grind (arith, nat_tests), grind (arith, nat_tests))
 
 -- ---- the stages that the records of a configuration and its events lead through
 
@@ -115,11 +91,6 @@ one_link ws reaches n (b ∷ bs) k e =
 abbrev GoodAdapter : Version → List ℕ → List Adapter → Adapter → Type 0
 GoodAdapter v ks before a = (adapter_fault (length ks) (before, a) ≡ None) × (can_spell v a ≡ true)
 
--- an adapter's link is a number
-pub link_number : (links : ℕ) (link : Option ℕ) → links ≤ MOST_LINKS → IfSome link (λ l. l < links) → IfSome link (λ l. l ≤ most_number)
-link_number links None few h = tt
-link_number links (Some l) few h = omega arith
-
 first_adapter : (v : Version) (ws : List WeightRow) (ks : List ℕ) (base : TraceStage) (n : ℕ) (a : Adapter) → IsBase v ws ks base → adapter_fault (length ks) ([], a) ≡ None
     → add_adapter n base a ≡ Ok (stage.Adapters v (config ws ks (a ∷ []) [] []))
 unfolding add_adapter
@@ -134,9 +105,6 @@ one_adapter v ws ks base h few n [] a e =
 one_adapter v ws ks base h few n (b ∷ bs) a e =
     let s = adapter_small (length ks) (b ∷ bs) a e.0 in
     adapter_step n (at_adapters v ws ks base (b ∷ bs)) a (λ k. cc) refl e.1 (omega arith) (link_number (length ks) a.link few (adapter_link (length ks) (b ∷ bs) a e.0)) ∙ rw (h.reaches, e.0) refl
-
-abbrev pub GoodDevice : List Adapter → List Device → Device → Type 0
-GoodDevice as' before d = (device_fault (length as') (before, d) ≡ None) × (d.target ≤ 65535)
 
 one_device : (v : Version) (ws : List WeightRow) (ks : List ℕ) (as' : List Adapter) → length as' ≤ MOST_ADAPTERS → (n : ℕ) (before : List Device) (d : Device) → GoodDevice as' before d
     → step n (at_devices v ws ks as' before) (device_row d) ≡ Ok (at_devices v ws ks as' (before ++ d ∷ []))
@@ -255,10 +223,10 @@ taken_all v ws ks base as' ds ls es h k targets legal fits n =
     let good_devices = along_both (λ b x. device_fault (length as') (b, x) ≡ None) (λ (x : Device). x.target ≤ 65535) [] ds k.devices targets in
     let good_events = along_both (λ b x. is_legal_event c (b, x) ≡ true) FitsEvent [] es (legal_along c es legal) fits in
     let final = at_events v ws ks as' ds ls es in
-    then_taken step n base (at_adapters v ws ks base as') final (map adapter_row as') _ (run adapter_row (at_adapters v ws ks base) (GoodAdapter v ks) (one_adapter v ws ks base h k.few_links) [] as' n k.adapters) (λ n1.
-    rw (begun v ws ks base as' k.some) (then_taken step n1 (at_devices v ws ks as' []) (at_devices v ws ks as' ds) final (map device_row ds) _ (run device_row (at_devices v ws ks as') (GoodDevice as') (one_device v ws ks as' k.few) [] ds n1 good_devices) (λ n2.
-    then_taken step n2 (at_lanes v ws ks as' ds []) (at_lanes v ws ks as' ds ls) final (map lane_row ls) _ (run lane_row (at_lanes v ws ks as' ds) (λ b x. lane_fault (length as') (b, x) ≡ None) (one_lane v ws ks as' ds k.few) [] ls n2 k.lanes) (λ n3.
-    run event_row (at_events v ws ks as' ds ls) (GoodEvent c) (one_event v ws ks as' ds ls) [] es n3 good_events))))
+    then_taken step n base (at_adapters v ws ks base as') final (map adapter_row as') _ (run step adapter_row (at_adapters v ws ks base) (GoodAdapter v ks) (one_adapter v ws ks base h k.few_links) [] as' n k.adapters) (λ n1.
+    rw (begun v ws ks base as' k.some) (then_taken step n1 (at_devices v ws ks as' []) (at_devices v ws ks as' ds) final (map device_row ds) _ (run step device_row (at_devices v ws ks as') (GoodDevice as') (one_device v ws ks as' k.few) [] ds n1 good_devices) (λ n2.
+    then_taken step n2 (at_lanes v ws ks as' ds []) (at_lanes v ws ks as' ds ls) final (map lane_row ls) _ (run step lane_row (at_lanes v ws ks as' ds) (λ b x. lane_fault (length as') (b, x) ≡ None) (one_lane v ws ks as' ds k.few) [] ls n2 k.lanes) (λ n3.
+    run step event_row (at_events v ws ks as' ds ls) (GoodEvent c) (one_event v ws ks as' ds ls) [] es n3 good_events))))
 
 -- after the header of version 1 stand the standard weights
 pub first_base : IsBase version.One standard_weights [] stage.First
@@ -275,11 +243,11 @@ three_base ws [] h = weights_base version.Three ws h
 three_base ws (k ∷ ks) h = record { behind = (λ k. cc); place = refl; version = refl; reaches = h; is = refl }
 
 header_one : step 1 stage.Header (header version.One) ≡ Ok stage.First
-unfolding step is_header has_letters header field_at
+unfolding step is_header has_letters header_row field_at
 header_one = refl
 
 header_table : (v : Version) → has_table v ≡ true → step 1 stage.Header (header v) ≡ Ok (at_weights v [])
-unfolding step is_header has_letters header field_at
+unfolding step is_header has_letters header_row field_at
 header_table version.One e = absurd cc
 header_table version.Two e = refl
 header_table version.Three e = refl
@@ -289,7 +257,7 @@ taken_links : (v : Version) (t : Topology) → has_table v ≡ true → holds v 
     → taken step n (at_weights v t.weights) (map link_row t.links) ≡ Ok (at_links v t.weights t.links)
 taken_links version.One t table held k n = absurd cc
 taken_links version.Two t table held k n = rw (no_links t held) refl
-taken_links version.Three t table held k n = run link_row (at_links version.Three t.weights) (λ b x. link_fault (b, x) ≡ None) (one_link t.weights k.reaches) [] t.links n k.links
+taken_links version.Three t table held k n = run step link_row (at_links version.Three t.weights) (λ b x. link_fault (b, x) ≡ None) (one_link t.weights k.reaches) [] t.links n k.links
 
 links_base : (v : Version) (t : Topology) → has_table v ≡ true → holds v t ≡ true → reaches_last t.weights ≡ true → IsBase v t.weights t.links (at_links v t.weights t.links)
 links_base version.One t table held h = absurd cc
@@ -334,7 +302,7 @@ by_table : (v : Version) (past : Past) → has_table v ≡ true → IsHistory pa
 by_table v past table h held n =
     let t = past.config in
     let k = kept v t h.config held in
-    let weights = run weight_row (at_weights v) (λ b x. weight_fault (b, x) ≡ None) (one_weight v) [] t.weights n k.weights in
+    let weights = run step weight_row (at_weights v) (λ b x. weight_fault (b, x) ≡ None) (one_weight v) [] t.weights n k.weights in
     let rest = behind_links past in
     rw table (then_taken step n (at_weights v []) (at_weights v t.weights) (at_past v past) (map weight_row t.weights) (map link_row t.links ++ rest) weights (λ i.
     then_taken step i (at_weights v t.weights) (at_links v t.weights t.links) (at_past v past) (map link_row t.links) rest (taken_links v t table held k i) (λ m.
@@ -363,7 +331,7 @@ named [] = version.One
 named (row ∷ rows) = if is_header (name_of version.Three) row then version.Three else if is_header (name_of version.Two) row then version.Two else version.One
 
 named_by : (v : Version) (past : Past) → named (records_of v past) ≡ v
-unfolding named records_of header is_header has_letters field_at
+unfolding named records_of header_row is_header has_letters field_at
 named_by version.One past = refl
 named_by version.Two past = refl
 named_by version.Three past = refl

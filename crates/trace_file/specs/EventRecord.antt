@@ -1,9 +1,8 @@
 -- The record of an event in a trace.
 use Rattle.std.specs.Prelude.{◌≡◌, ℕ, ◌+◌, ◌<◌, List, ◌++◌, length, map, Result, Ok}
-use Rattle.trace_file.specs.Fields.{Row}
+use Rattle.record_text.specs.Text.{Row, records_in}
 use Rattle.trace_file.specs.Histories.{Past}
 use Rattle.trace_file.specs.Records.{event_row}
-use Rattle.record_text.specs.Text.{records_in}
 use Rattle.trace_file.specs.declared.event_number.RecordCount.{RecordCount}
 use Rattle.trace_file.specs.Reading.{TraceFault}
 

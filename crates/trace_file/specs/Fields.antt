@@ -1,28 +1,7 @@
-use Rattle.std.specs.Prelude.{ℕ, ◌+◌, ◌*◌, ◌-◌, ◌==◌, Bool, true, false, ⊤, nat_le, ◌&&◌, if◌then◌else◌, List, [], ◌∷◌, length, drop, Option, Some, None, unwrap_or, option_and_then, option_map, Result, Ok, Err, codes, bytes_eq, find, ok_or}
-use Rattle.csv.specs.Records.{field_at}
-use Rattle.cam_types.specs.Number.{number_of}
+use Rattle.std.specs.Prelude.{ℕ, ◌+◌, ◌*◌, ◌-◌, Bool, true, false, nat_le, ◌&&◌, if◌then◌else◌, List, [], ◌∷◌, length, Option, Some, None, option_and_then, option_map, Result, codes, bytes_eq, find}
 use Rattle.cam_types.specs.declared.flags.Flags.{Flags}
-use Rattle.record_text.specs.Steps.{◌>>=◌}
-
--- a record: its fields, each of bytes
-abbrev pub Row : Type 0
-Row = List (List ℕ)
-
--- the field at a place from 0 on, which has no byte where the record is shorter
-abbrev pub field_of : Row → ℕ → List ℕ
-field_of row at = unwrap_or (field_at row at) []
-
--- what a field's form gives, or else the field's number
-abbrev pub formed : {X : Type 0} → Option X → ℕ → Result X ℕ
-formed value at = ok_or value (at + 1)
-
--- a number of at most `most`
-unfoldable pub number_at : Row → ℕ → ℕ → Result ℕ ℕ
-number_at row at most = formed (number_of most (field_of row at)) at
-
--- the same, or none where the field has no byte
-unfoldable pub optional_at : Row → ℕ → ℕ → Result (Option ℕ) ℕ
-optional_at row at most = if length (field_of row at) == 0 then Ok None else (number_at row at most >>= λ n. Ok (Some n))
+use Rattle.record_text.specs.Fields.{field_of, formed}
+use Rattle.record_text.specs.Text.{Row}
 
 -- the value of a lower-case hexadecimal digit
 unfoldable pub hex_value : ℕ → Option ℕ
@@ -67,15 +46,6 @@ flags_by qfreeze qfrzdis = record { qfreeze = qfreeze; qfrzdis = qfrzdis }
 unfoldable pub flags_of : List ℕ → Option Flags
 flags_of field =
     find (λ flags. bytes_eq field (flags_text flags)) (flags_by false false ∷ flags_by true false ∷ flags_by false true ∷ flags_by true true ∷ [])
-
--- fields that aren't used have no byte: the number of the first that has one, where the first field has this number
-abbrev pub unused : ℕ → Row → Result ⊤ ℕ
-unused number [] = Ok tt
-unused number (field ∷ fields) = if length field == 0 then unused (number + 1) fields else Err number
-
--- the fields from this place on are unused
-unfoldable pub unused_from : Row → ℕ → Result ⊤ ℕ
-unused_from row at = unused (at + 1) (drop at row)
 
 -- a field of each form at a place, or the field's number
 unfoldable pub byte_at : Row → ℕ → Result ℕ ℕ

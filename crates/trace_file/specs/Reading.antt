@@ -1,8 +1,9 @@
 -- How a list of records is read as a history: record by record, each by the stage that it finds.
-use Rattle.std.specs.Prelude.{ℕ, ◌+◌, ◌==◌, Bool, true, false, not, nat_le, ◌&&◌, if◌then◌else◌, List, [], ◌∷◌, ◌++◌, length, Option, Some, None, option_and_then, ok_or, Result, Ok, Err, codes, bytes_eq}
+use Rattle.std.specs.Prelude.{ℕ, ◌+◌, ◌==◌, Bool, true, false, not, nat_le, ◌&&◌, if◌then◌else◌, List, [], ◌∷◌, ◌++◌, length, Option, Some, None, option_and_then, ok_or, Result, Ok, Err}
 use Rattle.trace_file.specs.Histories.{Adapter, Topology, Past, Event, WeightRow, ConfigFault, NoAdapters, BadWeight, weight_fault, reaches_last, standard_weights, link_fault, adapter_fault, device_fault, lane_fault, Refusal, refusal}
-use Rattle.cam_types.specs.Weights.{row_to}
-use Rattle.trace_file.specs.Rows.{one_number, two_numbers, adapter_at, device_at, device_of, event_at, DeviceRow, Word}
+use Rattle.trace_file.specs.Rows.{adapter_in, event_at, Word}
+use Rattle.record_text.specs.ConfigRows.{one_number, device_at, device_of, weight_at}
+use Rattle.record_text.specs.declared.device_row.DeviceRow.{DeviceRow}
 pub use Rattle.trace_file.specs.declared.trace_fault.TraceFault.{TraceFault}
 pub use Rattle.trace_file.specs.declared.trace_fault.TraceFault.TheVariants.{BadHeader, BadRecord, BadField, BadConfig, Illegal}
 pub use Rattle.trace_file.specs.declared.trace_stage.TraceStage.{TraceStage}
@@ -11,20 +12,11 @@ use Rattle.trace_file.specs.Versions.{has_word, name_of, Version}
 use Rattle.trace_file.specs.declared.version.Version.TheVariants as version
 use Rattle.trace_file.specs.declared.word.Word.TheVariants as word
 use Rattle.record_text.specs.Steps.{◌>>=◌, taken}
-use Rattle.trace_file.specs.Fields.{Row, field_of}
+use Rattle.record_text.specs.Text.{Row}
+use Rattle.record_text.specs.Fields.{field_of}
 use Rattle.trace_file.specs.Words.{word_of, word_rank}
 pub use Rattle.trace_file.specs.declared.trace_stage.TraceStage.TheVariants.{Header}
-
--- the fields of the header that name the columns
-unfoldable pub has_letters : Row → Bool
-has_letters row =
-    bytes_eq (field_of row 1) (codes "a") && bytes_eq (field_of row 2) (codes "b") && bytes_eq (field_of row 3) (codes "c")
-    && bytes_eq (field_of row 4) (codes "d") && bytes_eq (field_of row 5) (codes "e") && bytes_eq (field_of row 6) (codes "f")
-    && bytes_eq (field_of row 7) (codes "g")
-
--- the header of this name
-unfoldable pub is_header : List ℕ → Row → Bool
-is_header name row = (length row == 8) && bytes_eq (field_of row 0) name && has_letters row
+use Rattle.record_text.specs.Header.{is_header}
 
 -- the rank of the words that may come next, and of those after them: a row of weights after the links is known as one
 abbrev pub stage_rank : TraceStage → ℕ
@@ -141,9 +133,9 @@ add_event n s e =
 
 -- a record of this word
 unfoldable pub add_row : ℕ → TraceStage → Word → Row → Result TraceStage TraceFault
-add_row n s word.Weight row = in_record n (two_numbers row) >>= λ p. add_weight n s (row_to p.0 p.1)
+add_row n s word.Weight row = in_record n (weight_at row) >>= add_weight n s
 add_row n s word.Link row = in_record n (one_number row) >>= add_link n s
-add_row n s word.Sim row = in_record n (adapter_at (version_of s) row) >>= add_adapter n s
+add_row n s word.Sim row = in_record n (adapter_in (version_of s) row) >>= add_adapter n s
 add_row n s word.Dev row = in_record n (device_at row) >>= add_device n s
 add_row n s word.Lane row = in_record n (one_number row) >>= add_lane n s
 add_row n s w row = in_record n (event_at w row) >>= add_event n s

@@ -1,48 +1,31 @@
 -- The records of a history.
-use Rattle.std.specs.Prelude.{ℕ, ◌-◌, ◌/◌, ◌%◌, ◌==◌, ◌&&◌, Bool, true, false, if◌then◌else◌, List, [], ◌∷◌, ◌++◌, length, map, replicate, Option, codes, decimal}
+use Rattle.std.specs.Prelude.{ℕ, ◌/◌, ◌%◌, ◌==◌, ◌&&◌, Bool, true, false, if◌then◌else◌, List, [], ◌∷◌, ◌++◌, length, map, decimal}
 use Rattle.std.specs.List.{list_all}
 use Rattle.std.specs.Option.{option_map_or}
 use Rattle.std.specs.Char.{digit_char}
 use Rattle.event_rules.specs.declared.event.Event.TheVariants as event
 use Rattle.trace_file.specs.declared.word.Word.TheVariants as word
 use Rattle.cam_types.specs.Weights.{are_standard}
-use Rattle.trace_file.specs.Histories.{Adapter, Device, Event, Past, Topology, WeightRow}
+use Rattle.trace_file.specs.Histories.{Adapter, Event, Past, Topology, WeightRow}
 use Rattle.trace_file.specs.Versions.{has_table, name_of, Version}
 use Rattle.trace_file.specs.declared.version.Version.TheVariants as version
-use Rattle.trace_file.specs.Fields.{Row, flags_text}
+use Rattle.trace_file.specs.Fields.{flags_text}
+use Rattle.record_text.specs.Text.{Row}
 use Rattle.trace_file.specs.Words.{spelled}
-
--- these fields, and empty ones up to eight
-abbrev pub padded : List (List ℕ) → Row
-padded fields = fields ++ replicate (8 - length fields) []
+use Rattle.record_text.specs.ConfigRows.{adapter_row, device_row, link_row, padded, weight_row}
+use Rattle.record_text.specs.Header.{header_row}
 
 -- bytes as two lower-case hexadecimal digits each
 abbrev pub hex : List ℕ → List ℕ
 hex [] = []
 hex (b ∷ bs) = digit_char (b / 16) ∷ digit_char (b % 16) ∷ hex bs
 
-unfoldable pub header : Version → Row
-header v = name_of v ∷ codes "a" ∷ codes "b" ∷ codes "c" ∷ codes "d" ∷ codes "e" ∷ codes "f" ∷ codes "g" ∷ []
-
-abbrev pub weight_row : WeightRow → Row
-weight_row w = padded (spelled word.Weight ∷ decimal w.last ∷ decimal w.weight ∷ [])
+abbrev pub header : Version → Row
+header v = header_row (name_of v)
 
 -- the table of weights, where a version has one
 abbrev pub weight_rows : Version → List WeightRow → List Row
 weight_rows v weights = if has_table v then map weight_row weights else []
-
-abbrev pub link_row : ℕ → Row
-link_row openings = padded (spelled word.Link ∷ decimal openings ∷ [])
-
--- the number of an adapter's link, and no byte if it is on none
-abbrev pub link_text : Option ℕ → List ℕ
-link_text link = option_map_or decimal link []
-
-abbrev pub adapter_row : Adapter → Row
-adapter_row a = padded (spelled word.Sim ∷ decimal a.openings ∷ link_text a.link ∷ [])
-
-abbrev pub device_row : Device → Row
-device_row d = padded (spelled word.Dev ∷ decimal d.bus ∷ decimal d.target ∷ decimal d.lun ∷ decimal d.openings ∷ [])
 
 abbrev pub lane_row : ℕ → Row
 lane_row adapter = padded (spelled word.Lane ∷ decimal adapter ∷ [])

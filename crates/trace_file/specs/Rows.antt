@@ -1,53 +1,19 @@
 -- What the records of a trace say: their words' fields, in order.
-use Rattle.std.specs.Prelude.{ℕ, min, if◌then◌else◌, Result, Ok, Err}
-use Rattle.trace_file.specs.Histories.{Adapter, Device, Event, Outcome, unlinked}
+use Rattle.std.specs.Prelude.{ℕ, if◌then◌else◌, Result, Ok, Err}
+use Rattle.trace_file.specs.Histories.{Adapter, Event, Outcome, unlinked}
 use Rattle.event_rules.specs.declared.event.Event.TheVariants as event
-pub use Rattle.trace_file.specs.declared.device_row.DeviceRow.{DeviceRow}
-use Rattle.trace_file.specs.Versions.{has_links, Version}
+pub use Rattle.trace_file.specs.Versions.{has_links, Version}
 pub use Rattle.trace_file.specs.declared.word.Word.{Word}
 use Rattle.trace_file.specs.declared.word.Word.TheVariants as word
 use Rattle.record_text.specs.Steps.{◌>>=◌}
-use Rattle.trace_file.specs.Fields.{Row, number_at, optional_at, byte_at, sense_at, flags_at, unused_from}
-
--- the largest number of a record
-abbrev pub most_number : ℕ
-most_number = 4294967295
-
--- a number, and no field more
-unfoldable pub one_number : Row → Result ℕ ℕ
-one_number row = do
-  n ← number_at row 1 most_number
-  _ ← unused_from row 2
-  Ok n
-
--- two numbers, and no field more
-unfoldable pub two_numbers : Row → Result (ℕ × ℕ) ℕ
-two_numbers row = do
-  n ← number_at row 1 most_number
-  m ← number_at row 2 most_number
-  _ ← unused_from row 3
-  Ok (n, m)
-
--- openings, and the number of a link or none
-unfoldable pub linked_at : Row → Result Adapter ℕ
-linked_at row = do
-  openings ← number_at row 1 most_number
-  link ← optional_at row 2 most_number
-  _ ← unused_from row 3
-  Ok (record { openings = openings; link = link })
+use Rattle.trace_file.specs.Fields.{byte_at, sense_at, flags_at}
+use Rattle.record_text.specs.Text.{Row}
+use Rattle.record_text.specs.Fields.{number_at, unused_from, most_number}
+use Rattle.record_text.specs.ConfigRows.{adapter_at, one_number, two_numbers}
 
 -- an adapter: its openings, and its link too in a version that has links
-unfoldable pub adapter_at : Version → Row → Result Adapter ℕ
-adapter_at v row = if has_links v then linked_at row else (one_number row >>= λ openings. Ok (unlinked openings))
-
-unfoldable pub device_at : Row → Result DeviceRow ℕ
-device_at row = do
-  bus ← number_at row 1 most_number
-  target ← number_at row 2 65535
-  lun ← number_at row 3 16383
-  openings ← number_at row 4 most_number
-  _ ← unused_from row 5
-  Ok (record { bus = bus; target = target; lun = lun; openings = openings })
+unfoldable pub adapter_in : Version → Row → Result Adapter ℕ
+adapter_in v row = if has_links v then adapter_at row else (one_number row >>= λ openings. Ok (unlinked openings))
 
 unfoldable pub submit_at : Row → Result Event ℕ
 submit_at row = do
@@ -88,11 +54,3 @@ event_at word.ReleaseSim row = one_number row >>= λ sim. Ok (event.ReleaseSim s
 event_at word.Adjust row = two_numbers row >>= λ p. Ok (event.Adjust p.0 p.1)
 event_at word.Tick row = tick_at row
 event_at _ row = Err 1
-
--- the device that a record spells
-abbrev pub device_of : DeviceRow → Device
-device_of d = record { bus = d.bus; target = d.target; lun = d.lun; openings = d.openings }
-
--- the same with a bus of at most 255
-abbrev pub clamped : DeviceRow → Device
-clamped d = record { bus = min d.bus 255; target = d.target; lun = d.lun; openings = d.openings }

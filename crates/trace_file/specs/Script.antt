@@ -13,11 +13,11 @@ use Rattle.trace_file.specs.declared.script_row.ScriptItem.TheVariants as item
 use Rattle.trace_file.specs.Scenarios.{Scenario, add_item, empty_scenario, is_answer_row, item_of, Step, MOST_ROWS}
 use Rattle.trace_file.specs.declared.script_stage.ScriptStage.TheVariants as stage
 use Rattle.trace_file.specs.Reading.{TraceFault}
-use Rattle.trace_file.specs.Fields.{Row}
+use Rattle.record_text.specs.Text.{Row, records_in}
 use Rattle.trace_file.specs.Histories.{Device, Outcome, Refusal, Topology, config_fault}
-use Rattle.trace_file.specs.Records.{adapter_row, device_row, holds, lane_row, link_row, weight_rows}
-use Rattle.trace_file.specs.Rows.{most_number}
-use Rattle.record_text.specs.Text.{records_in}
+use Rattle.trace_file.specs.Records.{holds, lane_row, weight_rows}
+use Rattle.record_text.specs.ConfigRows.{adapter_row, device_row, link_row}
+use Rattle.record_text.specs.Fields.{most_number}
 use Rattle.trace_file.specs.Trace.{FitsOutcome, ExplainsBy}
 
 -- what the records of a script say: its version, limits, if they are given, a configuration, and rows

@@ -7,9 +7,11 @@ use Rattle.trace_file.specs.declared.script_row.ScriptItem.TheVariants as item
 pub use Rattle.trace_file.specs.declared.script_stage.ScriptStage.{ScriptStage}
 use Rattle.trace_file.specs.declared.script_stage.ScriptStage.TheVariants as stage
 use Rattle.trace_file.specs.ScriptRows.{limits_at, script_row_at, script_word_of, ScriptWord}
-use Rattle.trace_file.specs.Reading.{config_of, empty, in_record, is_header, lacking, lacks_adapters, row_step, TraceFault, BadHeader, BadRecord, BadConfig, Illegal, TraceStage}
+use Rattle.trace_file.specs.Reading.{config_of, empty, in_record, lacking, lacks_adapters, row_step, TraceFault, BadHeader, BadRecord, BadConfig, Illegal, TraceStage}
+use Rattle.record_text.specs.Header.{is_header}
 use Rattle.trace_file.specs.declared.trace_stage.TraceStage.TheVariants as trace
-use Rattle.trace_file.specs.Fields.{Row, field_of}
+use Rattle.record_text.specs.Text.{Row}
+use Rattle.record_text.specs.Fields.{field_of}
 use Rattle.trace_file.specs.ScriptVersions.{script_name, ScriptVersion}
 use Rattle.trace_file.specs.declared.script_version.ScriptVersion.TheVariants as script
 use Rattle.trace_file.specs.declared.version.Version.TheVariants as version

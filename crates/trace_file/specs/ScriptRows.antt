@@ -8,11 +8,15 @@ pub use Rattle.trace_file.specs.declared.script_row.ScriptRow.{ScriptRow}
 use Rattle.trace_file.specs.declared.script_row.ScriptRow.TheVariants as row
 pub use Rattle.trace_file.specs.declared.script_word.ScriptWord.{ScriptWord}
 use Rattle.trace_file.specs.declared.script_word.ScriptWord.TheVariants as word
-use Rattle.trace_file.specs.Fields.{Row, field_of, flags_at, flags_text, number_at, unused_from}
-use Rattle.trace_file.specs.Records.{padded, hex}
-use Rattle.trace_file.specs.Rows.{most_number, outcome_at}
+use Rattle.trace_file.specs.Fields.{flags_at, flags_text}
+use Rattle.record_text.specs.Text.{Row}
+use Rattle.record_text.specs.Fields.{field_of, number_at, unused_from, most_number}
+use Rattle.trace_file.specs.Records.{hex}
+use Rattle.record_text.specs.ConfigRows.{padded}
+use Rattle.trace_file.specs.Rows.{outcome_at}
 use Rattle.trace_file.specs.ScriptVersions.{script_name, ScriptVersion}
 use Rattle.record_text.specs.Steps.{◌>>=◌}
+use Rattle.record_text.specs.Header.{header_row}
 
 -- how a word is spelled
 abbrev pub spelled : ScriptWord → List ℕ
@@ -34,8 +38,8 @@ unfoldable pub script_word_of : List ℕ → Option ScriptWord
 script_word_of field = find (λ w. bytes_eq field (spelled w)) all_words
 
 -- the header of a version, the limits, and a row
-unfoldable pub script_header : ScriptVersion → Row
-script_header v = script_name v ∷ codes "a" ∷ codes "b" ∷ codes "c" ∷ codes "d" ∷ codes "e" ∷ codes "f" ∷ codes "g" ∷ []
+abbrev pub script_header : ScriptVersion → Row
+script_header v = header_row (script_name v)
 
 abbrev pub limits_row : Bounds → Row
 limits_row b = padded (codes "limits" ∷ decimal b.ccbs ∷ decimal b.rounds ∷ decimal b.stays ∷ decimal b.events ∷ [])

@@ -10,7 +10,7 @@ use Rattle.trace_file.specs.ScriptVersions.{least_script}
 use Rattle.trace_file.specs.Histories.{Topology}
 use Rattle.trace_file.specs.Scenarios.{Scenario, Step}
 use Rattle.trace_file.specs.Script.{Manuscript, script_records}
-use Rattle.trace_file.specs.Writing.{text_of}
+use Rattle.record_text.specs.Writing.{text_of}
 
 -- the path of the device of this number
 abbrev pub path_of : Topology → ℕ → CamPath

@@ -1,5 +1,5 @@
 -- Traces of histories, and what a reader of traces answers.
-use Rattle.std.specs.Prelude.{◌≡◌, ℕ, ◌+◌, ◌<◌, ◌≤◌, ◌++◌, ◌∷◌, [], true, ⊤, List, length, Option, None, Result, Ok, Err, Bool}
+use Rattle.std.specs.Prelude.{◌≡◌, ℕ, ◌<◌, ◌≤◌, true, ⊤, List, length, Option, None, Result, Bool}
 use Rattle.std.specs.List.{AllByRecursion}
 use Rattle.event_rules.specs.declared.event.Event.TheVariants as event
 use Rattle.cam_types.specs.declared.maxima.TheConstants.{MOST_BYTES}
@@ -8,12 +8,11 @@ use Rattle.trace_file.specs.Histories.{Device, Event, Outcome, Past, config_faul
 use Rattle.trace_file.specs.Reading.{ended, step, TraceFault}
 use Rattle.trace_file.specs.declared.trace_fault.TraceFault.TheVariants as fault
 use Rattle.trace_file.specs.declared.trace_stage.TraceStage.TheVariants as stage
-use Rattle.trace_file.specs.Fields.{Row}
+use Rattle.record_text.specs.Text.{Row, records_in}
 use Rattle.trace_file.specs.Records.{holds, records_of}
 use Rattle.trace_file.specs.Versions.{Version}
-use Rattle.trace_file.specs.Rows.{most_number}
-use Rattle.record_text.specs.Steps.{◌>>=◌, taken}
-use Rattle.record_text.specs.Text.{records_in}
+use Rattle.record_text.specs.Fields.{most_number}
+use Rattle.record_text.specs.Faults.{IsFirstFault}
 
 -- the text's records are those of the history, in a version that can hold it
 pub record IsTrace (text : List ℕ) (past : Past) : Type 0 where
@@ -55,21 +54,6 @@ pub record WasTrace (before after : Option (List ℕ)) (past : Past) : Type 0 wh
   pub whole : IsWhole before after text
   pub trace : IsTrace text past
   pub history : IsHistory past
-
--- a stage fails at the next record, or at the end where there is none
-abbrev pub FailsAt : {S V : Type 0} → (ℕ → S → Row → Result S TraceFault) → (S → Result V TraceFault) → ℕ → S → List Row → TraceFault → Type 0
-FailsAt next end n s [] e = end s ≡ Err e
-FailsAt next end n s (row ∷ rest) e = next n s row ≡ Err e
-
--- where records are read from this first stage on, the first that fails, after those that don't, has this fault
-pub record IsFirstFault {S V : Type 0} (next : ℕ → S → Row → Result S TraceFault) (end : S → Result V TraceFault) (first : S) (rows : List Row) (e : TraceFault) : Type 0 where
-  pub exact : (taken next 1 first rows >>= end) ≡ Err e
-  pub before : List Row
-  pub rest : List Row
-  pub reached : S
-  pub parts : rows ≡ before ++ rest
-  pub good : taken next 1 first before ≡ Ok reached
-  pub fails : FailsAt next end (1 + length before) reached rest e
 
 -- what was read to its end has this fault first, where its records are taken from this stage on
 pub record WasFaulty {S V : Type 0} (next : ℕ → S → Row → Result S TraceFault) (end : S → Result V TraceFault) (first : S) (before after : Option (List ℕ)) (e : TraceFault) : Type 0 where

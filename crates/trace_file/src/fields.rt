@@ -1,57 +1,12 @@
-//! Reads the fields of a record, each by its form.
+//! Parses the fields that traces and scripts alone have: bytes in hexadecimal digits, sense data and flags.
 
-ghost use Rattle.std.specs.Prelude.{◌≡◌, ◌<◌, ◌≤◌, ◌+◌, length, IfOk, IfSome, drop, bytes_eq};
+ghost use Rattle.std.specs.Prelude.{◌≡◌, ◌<◌, IfSome};
 ghost use Rattle.csv.specs.Records.{fields_of};
-ghost use Rattle.trace_file.specs.Fields.{field_of, number_at, optional_at, hex_value, hex_byte, byte_of, byte_at, bytes_of, sense_of, sense_at, flags_of, flags_at, unused, unused_from};
+ghost use Rattle.trace_file.specs.Fields.{hex_value, hex_byte, byte_of, byte_at, bytes_of, sense_of, sense_at, flags_of, flags_at};
 
-use cam_types::{Flags, SenseBytes, read_number};
+use cam_types::{Flags, SenseBytes};
 use csv::ByteRecord;
-
-/// How many fields a record has.
-pub(crate) const FIELDS: u32 = 8;
-
-/// The field at a place from 0 on, which has no byte where the record is shorter.
-pub(crate) fn field(row: &ByteRecord, at: u32) -> &[u8]
-    ensures { result.now ≡ field_of (fields_of row.now) at }
-{
-    match row.get(at as usize) {
-        Some(field) => field,
-        None => b"",
-    }
-}
-
-/// Whether a field has these bytes.
-pub(crate) fn is_text(field: &[u8], text: &[u8]) -> bool
-    ensures { result ≡ bytes_eq field.now text.now }
-{
-    field == text
-}
-
-/// The number of at most `most` that the field at this place spells, or else the field's number.
-#[tactic(auto, unfolding(crate::specs::Fields::number_at))]
-pub(crate) fn number_at(row: &ByteRecord, at: u32, most: u32) -> Result<u32, u32>
-    requires { at < 8 }
-    ensures value { result ≡ number_at (fields_of row.now) at most }
-    ensures within { IfOk result (λ n. n ≤ most) }
-{
-    match read_number(field(row, at), u64::from(most)) {
-        Some(number) => Ok(number as u32),
-        None => Err(at + 1),
-    }
-}
-
-/// The same, or none where the field at this place has no byte.
-#[tactic(auto, unfolding(crate::specs::Fields::optional_at))]
-pub(crate) fn optional_at(row: &ByteRecord, at: u32, most: u32) -> Result<Option<u32>, u32>
-    requires { at < 8 }
-    ensures { result ≡ optional_at (fields_of row.now) at most }
-{
-    if field(row, at).is_empty() {
-        return Ok(None);
-    }
-    let number = number_at(row, at, most)?;
-    Ok(Some(number))
-}
+use record_text::{field, is_text};
 
 /// The byte that the field at this place spells by two hexadecimal digits, or else the field's number.
 #[tactic(auto, unfolding(crate::specs::Fields::byte_at))]
@@ -78,21 +33,6 @@ pub(crate) fn flags_at(row: &ByteRecord, at: u32) -> Result<Flags, u32>
     ensures { result ≡ flags_at (fields_of row.now) at }
 {
     flags_of(field(row, at)).ok_or(at + 1)
-}
-
-/// Whether the fields from this place on have no byte, or else the number of the first that has one.
-#[tactic(auto, using(crate::proofs::FieldLemmas::unused_step, crate::proofs::FieldLemmas::unused_found), unfolding(crate::specs::Fields::unused_from))]
-pub(crate) fn unused_from(row: &ByteRecord, at: u32) -> Result<(), u32>
-    requires inside { at ≤ 8 }
-    requires eight { length (fields_of row.now) ≡ 8 }
-    ensures { result ≡ unused_from (fields_of row.now) at }
-{
-    for place in at..FIELDS {
-        if !field(row, place).is_empty() {
-            return Err(place + 1);
-        }
-    }
-    Ok(())
 }
 
 #[tactic(auto, unfolding(crate::specs::Fields::byte_of))]

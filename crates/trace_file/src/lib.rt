@@ -3,6 +3,7 @@
 
 pub use event_number::event_record;
 pub use reading::{one_history, parse_trace, read_trace};
+pub use record_text::WriteFault;
 pub use script::{DRIVERS, Script};
 pub use script_reading::{read_script, rows_in_order};
 pub use script_stage::MOST_ROWS;
@@ -10,15 +11,11 @@ pub use script_text::write_script;
 pub use step::Step;
 pub use trace_fault::TraceFault;
 pub use trace_text::{migrate_trace, trace_bytes, write_trace};
-pub use write_fault::WriteFault;
 
-mod device_row;
 mod event_number;
 mod fields;
-mod header;
 mod hex;
 mod reading;
-mod row_writer;
 mod rows;
 mod script;
 mod script_item;
@@ -39,5 +36,4 @@ mod trace_stage;
 mod trace_text;
 mod version;
 mod word;
-mod write_fault;
 mod writing;

@@ -1,83 +1,30 @@
-//! Reads a record of a trace: its numbers, its device or its event.
+//! Parses the rows that traces alone have: an adapter in a version, and events.
 
 ghost use Rattle.std.specs.Prelude.{◌≡◌, length};
 ghost use Rattle.csv.specs.Records.{fields_of};
-ghost use Rattle.trace_file.specs.Rows.{one_number, two_numbers, linked_at, adapter_at, device_at, submit_at, outcome_at, tick_at, event_at};
+ghost use Rattle.trace_file.specs.Rows.{adapter_in, submit_at, outcome_at, tick_at, event_at};
 
-use crate::device_row::DeviceRow;
-use crate::fields::{byte_at, flags_at, number_at, optional_at, sense_at, unused_from};
+use crate::fields::{byte_at, flags_at, sense_at};
 use crate::version::Version;
 use crate::word::Word;
 use cam_types::{Adapter, Outcome};
 use csv::ByteRecord;
 use event_rules::Event;
-
-/// The one number of a record, or the number of the first field that hasn't its form.
-#[tactic(auto, unfolding(crate::specs::Rows::one_number))]
-pub(crate) fn one_number(row: &ByteRecord) -> Result<u32, u32>
-    requires { length (fields_of row.now) ≡ 8 }
-    ensures { result ≡ one_number (fields_of row.now) }
-{
-    let number = number_at(row, 1, u32::MAX)?;
-    unused_from(row, 2)?;
-    Ok(number)
-}
-
-/// The two numbers of a record, or the number of the first field that hasn't its form.
-#[tactic(auto, unfolding(crate::specs::Rows::two_numbers))]
-pub(crate) fn two_numbers(row: &ByteRecord) -> Result<(u32, u32), u32>
-    requires { length (fields_of row.now) ≡ 8 }
-    ensures { result ≡ two_numbers (fields_of row.now) }
-{
-    let first = number_at(row, 1, u32::MAX)?;
-    let second = number_at(row, 2, u32::MAX)?;
-    unused_from(row, 3)?;
-    Ok((first, second))
-}
+use record_text::{adapter_at, number_at, one_number, two_numbers, unused_from};
 
 /// The adapter of a record in this version, or the number of the first field that hasn't its form. Version 3 alone has links.
-#[tactic(auto, unfolding(crate::specs::Rows::adapter_at))]
-pub(crate) fn adapter_at(version: Version, row: &ByteRecord) -> Result<Adapter, u32>
+#[tactic(auto, unfolding(crate::specs::Rows::adapter_in))]
+pub(crate) fn adapter_in(version: Version, row: &ByteRecord) -> Result<Adapter, u32>
     requires { length (fields_of row.now) ≡ 8 }
-    ensures { result ≡ adapter_at version (fields_of row.now) }
+    ensures { result ≡ adapter_in version (fields_of row.now) }
 {
     if version.has_links() {
-        return linked_at(row);
+        return adapter_at(row);
     }
     let openings = one_number(row)?;
     Ok(Adapter {
         openings,
         link: None,
-    })
-}
-
-#[tactic(auto, unfolding(crate::specs::Rows::linked_at))]
-fn linked_at(row: &ByteRecord) -> Result<Adapter, u32>
-    requires { length (fields_of row.now) ≡ 8 }
-    ensures { result ≡ linked_at (fields_of row.now) }
-{
-    let openings = number_at(row, 1, u32::MAX)?;
-    let link = optional_at(row, 2, u32::MAX)?;
-    unused_from(row, 3)?;
-    Ok(Adapter { openings, link })
-}
-
-/// The device of a record, or the number of the first field that hasn't its form.
-#[tactic(auto, unfolding(crate::specs::Rows::device_at))]
-pub(crate) fn device_at(row: &ByteRecord) -> Result<DeviceRow, u32>
-    requires { length (fields_of row.now) ≡ 8 }
-    ensures { result ≡ device_at (fields_of row.now) }
-{
-    let bus = number_at(row, 1, u32::MAX)?;
-    let target = number_at(row, 2, 65535)? as u16;
-    let lun = number_at(row, 3, 16383)? as u16;
-    let openings = number_at(row, 4, u32::MAX)?;
-    unused_from(row, 5)?;
-    Ok(DeviceRow {
-        bus,
-        target,
-        lun,
-        openings,
     })
 }
 

@@ -5,13 +5,14 @@ ghost use Rattle.csv.specs.Records.{fields_of};
 ghost use Rattle.trace_file.specs.ScriptRows.{limit_at, limits_at, path_at, driver_at, by_path_at, by_number_at, submission_at, adapter_freeze_at, script_row_at};
 ghost use Rattle.trace_file.specs.Scenarios.{is_answer_row, is_answer_word, names_driver};
 
-use crate::fields::{field, flags_at, number_at, unused_from};
+use crate::fields::flags_at;
 use crate::rows::outcome_at;
 use crate::script_row::ScriptRow;
 use crate::script_word::ScriptWord;
 use cam_path::CamPath;
 use cam_types::{Limits, MOST_CCBS, MOST_EVENTS, MOST_ROUNDS, MOST_STAYS};
 use csv::ByteRecord;
+use record_text::{field, number_at, unused_from};
 
 /// The limits of a record, or the number of the first field that hasn't its form.
 #[tactic(auto, unfolding(crate::specs::ScriptRows::limits_at))]

@@ -2,14 +2,12 @@
 
 ghost use Rattle.std.specs.Prelude.{◌≡◌, ◌≢◌, Err, IfOk, IfSome, IsTrue, length};
 ghost use Rattle.csv.specs.Records.{fields_of};
-ghost use Rattle.trace_file.specs.Fields.{field_of};
+ghost use Rattle.record_text.specs.Fields.{field_of};
 ghost use Rattle.trace_file.specs.Scenarios.{is_answer_row, is_answer_word, item_of, names_driver, MOST_ROWS};
 ghost use Rattle.trace_file.specs.ScriptVersions.{ScriptVersion};
 ghost use Rattle.trace_file.specs.ScriptReading.{config_step, first_row, has_room, first_number, first_stage, is_config_word, is_configuring, is_limits, item_word, limits_of, limits_step, roomy_word, rows_step, script_ended, script_step, with_item};
 ghost use Rattle.trace_file.specs.Sound.{IsSound, IsSoundScript};
 
-use crate::fields::{field, is_text};
-use crate::header::is_header;
 use crate::script::Script;
 use crate::script_item::item_of;
 use crate::script_row::{ScriptItem, ScriptRow};
@@ -20,7 +18,7 @@ use crate::trace_fault::TraceFault;
 use crate::trace_stage::{TraceStage, in_record};
 use cam_types::Limits;
 use csv::ByteRecord;
-use record_text::Stage;
+use record_text::{Stage, field, is_header, is_text};
 use std::alloc::Global;
 
 /// The most rows of drivers, and the most answers, of a script.

@@ -7,14 +7,13 @@ ghost use Rattle.cam_types.specs.Whole.{AppendsFront};
 ghost use Rattle.trace_file.specs.Script.{IsManuscript, IsScript, scenario_of};
 ghost use Rattle.trace_file.specs.ScriptWriting.{manuscript_of, script_text};
 
-use crate::row_writer::write_row;
 use crate::script::Script;
 use crate::script_version::ScriptVersion;
 use crate::script_writing::{write_answers, write_drivers, write_limits};
-use crate::write_fault::WriteFault;
 use crate::writing::write_config;
 use cam_types::{Watched, write_whole};
 use csv::WriterBuilder;
+use record_text::{WriteFault, write_row};
 use std::alloc::{AllocError, Global};
 use std::io::Write;
 

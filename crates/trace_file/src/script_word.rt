@@ -1,6 +1,6 @@
 //! The words of a script's records.
 
-use crate::fields::is_text;
+use record_text::is_text;
 
 /// What the first field of a script's record names, after the configuration.
 #[derive(Clone, Copy)]

@@ -6,16 +6,15 @@ ghost use Rattle.cam_types.specs.Bounds.{are_within};
 ghost use Rattle.cam_types.specs.Questions.{names_device};
 ghost use Rattle.cam_path.specs.Paths.{spelled as path_spelled, Fits};
 ghost use Rattle.trace_file.specs.Fields.{flags_text};
-ghost use Rattle.trace_file.specs.Records.{padded};
-ghost use Rattle.trace_file.specs.Rows.{most_number};
+ghost use Rattle.record_text.specs.ConfigRows.{padded};
+ghost use Rattle.record_text.specs.Fields.{most_number};
 ghost use Rattle.trace_file.specs.Scenarios.{is_ruled, names_driver};
 ghost use Rattle.trace_file.specs.Script.{FitsRow};
 ghost use Rattle.trace_file.specs.ScriptRows.{limits_row, script_row};
 ghost use Rattle.trace_file.specs.ScriptWriting.{numbered, path_of, step_row};
-ghost use Rattle.trace_file.specs.Writing.{IsBetween, Wrote};
+ghost use Rattle.record_text.specs.Writing.{IsBetween, Wrote};
 ghost use Rattle.trace_file.specs.declared.step.Step.TheVariants as Step;
 
-use crate::row_writer::{write_row, write_three, write_two};
 use crate::script::DRIVERS;
 use crate::script_row::ScriptRow;
 use crate::step::Step;
@@ -25,6 +24,7 @@ use cam_types::{Config, Flags, Limits, Outcome};
 use csv::Writer;
 use event_rules::Event;
 use itoa::Buffer;
+use record_text::{write_row, write_three, write_two};
 use std::alloc::{AllocError, Global};
 use std::io::Write;
 

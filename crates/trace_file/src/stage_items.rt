@@ -4,16 +4,16 @@ ghost use Rattle.std.specs.Prelude.{◌≡◌, ◌≢◌, true, length, [], ◌�
 ghost use Rattle.cam_types.specs.Topology.{IsConfig, IsDraft};
 ghost use Rattle.trace_file.specs.Histories.{weight_fault, reaches_last, standard_weights, link_fault, adapter_fault, device_fault, lane_fault, refusal};
 ghost use Rattle.trace_file.specs.Reading.{lacking, unless_fault, unless_refused};
-ghost use Rattle.trace_file.specs.Rows.{device_of};
+ghost use Rattle.record_text.specs.ConfigRows.{device_of};
 ghost use Rattle.trace_file.specs.Sound.{IsBegun, IsKept, IsSound};
 
-use crate::device_row::DeviceRow;
 use crate::trace_fault::TraceFault;
 use crate::trace_stage::TraceStage;
 use crate::version::Version;
 use cam_event::{History, PushFault};
 use cam_types::{Adapter, Config, ConfigDraft, ConfigError, ConfigFault, WeightRow};
 use event_rules::Event;
+use record_text::DeviceRow;
 use std::alloc::Global;
 
 /// The standard weights, and nothing else yet.

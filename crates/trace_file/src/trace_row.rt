@@ -1,8 +1,8 @@
 //! What a trace's record says by its word and its fields.
 
-use crate::device_row::DeviceRow;
 use cam_types::{Adapter, WeightRow};
 use event_rules::Event;
+use record_text::DeviceRow;
 
 /// What a record of a trace says after the header, by its word and its fields.
 #[derive(Clone, Copy)]

@@ -5,10 +5,7 @@ ghost use Rattle.csv.specs.Records.{fields_of};
 ghost use Rattle.trace_file.specs.Reading.{in_record};
 ghost use Rattle.trace_file.specs.Sound.{IsKept};
 
-use crate::device_row::DeviceRow;
-use crate::fields::field;
-use crate::header::is_header;
-use crate::rows::{adapter_at, device_at, event_at, one_number, two_numbers};
+use crate::rows::{adapter_in, event_at};
 use crate::stage_items::{
     finished, first_event, lacking, standard, with_adapter, with_device, with_event, with_lane,
     with_link, with_weight, without_events,
@@ -21,7 +18,7 @@ use cam_event::History;
 use cam_types::{Adapter, Config, ConfigDraft, ConfigFault, WeightRow};
 use csv::ByteRecord;
 use event_rules::Event;
-use record_text::Stage;
+use record_text::{DeviceRow, Stage, device_at, field, is_header, one_number, weight_at};
 use std::alloc::Global;
 
 /// What a trace has said so far.
@@ -175,10 +172,12 @@ impl TraceStage {
     {
         match self {
             TraceStage::First => Err(TraceFault::BadConfig(number, ConfigFault::NoAdapters)),
-            TraceStage::Weights(_, draft) => Err(TraceFault::BadConfig(number, lacking(&draft))),
-            TraceStage::Links(draft) => Err(TraceFault::BadConfig(number, lacking(&draft))),
-            TraceStage::Adapters(_, draft) => with_device(draft, number, device),
-            TraceStage::Devices(draft) => with_device(draft, number, device),
+            TraceStage::Weights(_, draft) | TraceStage::Links(draft) => {
+                Err(TraceFault::BadConfig(number, lacking(&draft)))
+            }
+            TraceStage::Adapters(_, draft) | TraceStage::Devices(draft) => {
+                with_device(draft, number, device)
+            }
             _ => unreachable!(),
         }
     }
@@ -193,11 +192,12 @@ impl TraceStage {
     {
         match self {
             TraceStage::First => Err(TraceFault::BadConfig(number, ConfigFault::NoAdapters)),
-            TraceStage::Weights(_, draft) => Err(TraceFault::BadConfig(number, lacking(&draft))),
-            TraceStage::Links(draft) => Err(TraceFault::BadConfig(number, lacking(&draft))),
-            TraceStage::Adapters(_, draft) => with_lane(draft, number, adapter),
-            TraceStage::Devices(draft) => with_lane(draft, number, adapter),
-            TraceStage::Lanes(draft) => with_lane(draft, number, adapter),
+            TraceStage::Weights(_, draft) | TraceStage::Links(draft) => {
+                Err(TraceFault::BadConfig(number, lacking(&draft)))
+            }
+            TraceStage::Adapters(_, draft)
+            | TraceStage::Devices(draft)
+            | TraceStage::Lanes(draft) => with_lane(draft, number, adapter),
             _ => unreachable!(),
         }
     }
@@ -214,11 +214,12 @@ impl TraceStage {
                 number,
                 ConfigFault::NoAdapters,
             )),
-            TraceStage::Weights(_, draft) => Err(TraceFault::BadConfig(number, lacking(&draft))),
-            TraceStage::Links(draft) => Err(TraceFault::BadConfig(number, lacking(&draft))),
-            TraceStage::Adapters(_, draft) => first_event(alloc, draft, number, event),
-            TraceStage::Devices(draft) => first_event(alloc, draft, number, event),
-            TraceStage::Lanes(draft) => first_event(alloc, draft, number, event),
+            TraceStage::Weights(_, draft) | TraceStage::Links(draft) => {
+                Err(TraceFault::BadConfig(number, lacking(&draft)))
+            }
+            TraceStage::Adapters(_, draft)
+            | TraceStage::Devices(draft)
+            | TraceStage::Lanes(draft) => first_event(alloc, draft, number, event),
             TraceStage::Events(history) => with_event(history, number, event),
         }
     }
@@ -232,11 +233,12 @@ impl TraceStage {
     {
         match self {
             TraceStage::First => Err(TraceFault::BadConfig(number, ConfigFault::NoAdapters)),
-            TraceStage::Weights(_, draft) => Err(TraceFault::BadConfig(number, lacking(&draft))),
-            TraceStage::Links(draft) => Err(TraceFault::BadConfig(number, lacking(&draft))),
-            TraceStage::Adapters(_, draft) => Ok(finished(draft)),
-            TraceStage::Devices(draft) => Ok(finished(draft)),
-            TraceStage::Lanes(draft) => Ok(finished(draft)),
+            TraceStage::Weights(_, draft) | TraceStage::Links(draft) => {
+                Err(TraceFault::BadConfig(number, lacking(&draft)))
+            }
+            TraceStage::Adapters(_, draft)
+            | TraceStage::Devices(draft)
+            | TraceStage::Lanes(draft) => Ok(finished(draft)),
             _ => unreachable!(),
         }
     }
@@ -281,15 +283,15 @@ impl TraceStage {
         };
         match word {
             Word::Weight => {
-                let (last, weight) = in_record(number, two_numbers(row))?;
-                Ok(TraceRow::Weight(WeightRow { last, weight }))
+                let weight = in_record(number, weight_at(row))?;
+                Ok(TraceRow::Weight(weight))
             }
             Word::Link => {
                 let openings = in_record(number, one_number(row))?;
                 Ok(TraceRow::Link(openings))
             }
             Word::Sim => {
-                let adapter = in_record(number, adapter_at(self.version(), row))?;
+                let adapter = in_record(number, adapter_in(self.version(), row))?;
                 Ok(TraceRow::Sim(adapter))
             }
             Word::Dev => {
@@ -342,9 +344,9 @@ impl TraceStage {
                 let number = 2 + draft.weight_count() + draft.link_count();
                 Err(TraceFault::BadConfig(number, ConfigFault::NoAdapters))
             }
-            TraceStage::Adapters(_, draft) => without_events(alloc, draft),
-            TraceStage::Devices(draft) => without_events(alloc, draft),
-            TraceStage::Lanes(draft) => without_events(alloc, draft),
+            TraceStage::Adapters(_, draft)
+            | TraceStage::Devices(draft)
+            | TraceStage::Lanes(draft) => without_events(alloc, draft),
             TraceStage::Events(history) => Ok(history),
         }
     }

@@ -8,13 +8,12 @@ ghost use Rattle.trace_file.specs.Records.{holds};
 ghost use Rattle.trace_file.specs.Trace.{IsHistory, IsTrace};
 ghost use Rattle.trace_file.specs.Writing.{text_in, trace_text, migrated_text};
 
-use crate::row_writer::write_row;
 use crate::version::Version;
-use crate::write_fault::WriteFault;
 use crate::writing::{write_config, write_events};
 use cam_event::History;
 use cam_types::{Watched, write_whole};
 use csv::WriterBuilder;
+use record_text::{WriteFault, write_row};
 use std::alloc::{AllocError, Global};
 use std::io::Write;
 

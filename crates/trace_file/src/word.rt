@@ -1,6 +1,6 @@
 //! The words of a trace's records.
 
-use crate::fields::is_text;
+use record_text::is_text;
 
 /// What the first field of a trace's record names.
 #[derive(Clone, Copy)]

@@ -4,18 +4,22 @@ ghost use Rattle.std.specs.Prelude.{◌≡◌, ◌≤◌, ◌∷◌, ◌++◌, [
 ghost use Rattle.std.specs.List.{AllByRecursion};
 ghost use Rattle.cam_types.specs.Topology.{IsConfig};
 ghost use Rattle.trace_file.specs.Histories.{Device};
-ghost use Rattle.trace_file.specs.Records.{padded, weight_row, weight_rows, link_row, adapter_row, device_row, lane_row, event_row, hex};
+ghost use Rattle.trace_file.specs.Records.{weight_rows, lane_row, event_row, hex};
+ghost use Rattle.record_text.specs.ConfigRows.{padded, weight_row, link_row, adapter_row, device_row};
 ghost use Rattle.trace_file.specs.Fields.{flags_text};
 ghost use Rattle.trace_file.specs.Trace.{FitsEvent, FitsOutcome};
-ghost use Rattle.trace_file.specs.Writing.{IsBetween, Wrote};
+ghost use Rattle.record_text.specs.Writing.{IsBetween, Wrote};
 
 use crate::hex::hex_text;
-use crate::row_writer::{write_one, write_row, write_two, write_word};
 use crate::version::Version;
-use cam_types::{Adapter, Config, Device, Flags, Outcome, WeightRow};
+use cam_types::{Config, Flags, Outcome, WeightRow};
 use csv::Writer;
 use event_rules::Event;
 use itoa::Buffer;
+use record_text::{
+    write_adapters, write_devices, write_links, write_one, write_row, write_two, write_weights,
+    write_word,
+};
 use std::alloc::AllocError;
 use std::io::Write;
 
@@ -30,38 +34,11 @@ pub(crate) fn write_config<W: Write + Drop>(
     ensures fits { OnOk result (AllByRecursion (λ (d : Device). d.target ≤ 65535) config.now.devices) }
     ensures kept { OnOk result (IsConfig config.now) }
 {
-    write_weights(writer, version, config.weights())?;
-    write_numbers(writer, b"link", config.links())?;
+    write_table(writer, version, config.weights())?;
+    write_links(writer, config.links())?;
     write_adapters(writer, config.adapters())?;
     write_devices(writer, config.devices())?;
     write_numbers(writer, b"lane", config.lanes())
-}
-
-// Writes a record for each of these adapters.
-fn write_adapters<W: Write + Drop>(
-    writer: &mut Writer<W>,
-    adapters: &[Adapter],
-) -> Result<(), AllocError>
-    requires { IsBetween writer.old }
-    ensures { OnOk result (Wrote W.contents writer.old writer.new (map adapter_row adapters.now)) }
-{
-    for adapter in adapters {
-        write_adapter(writer, *adapter)?;
-    }
-    Ok(())
-}
-
-fn write_adapter<W: Write + Drop>(
-    writer: &mut Writer<W>,
-    adapter: Adapter,
-) -> Result<(), AllocError>
-    requires { IsBetween writer.old }
-    ensures { OnOk result (Wrote W.contents writer.old writer.new (adapter_row adapter ∷ [])) }
-{
-    match adapter.link {
-        None => write_one(writer, b"sim", adapter.openings),
-        Some(link) => write_two(writer, b"sim", adapter.openings, link),
-    }
 }
 
 // Writes a record of a word and a number for each of these numbers.
@@ -80,7 +57,7 @@ fn write_numbers<W: Write + Drop>(
 }
 
 // Writes a record for each row of the table of weights, where this version has them.
-fn write_weights<W: Write + Drop>(
+fn write_table<W: Write + Drop>(
     writer: &mut Writer<W>,
     version: Version,
     weights: &[WeightRow],
@@ -89,54 +66,10 @@ fn write_weights<W: Write + Drop>(
     ensures { OnOk result (Wrote W.contents writer.old writer.new (weight_rows version weights.now)) }
 {
     if version.has_table() {
-        write_table(writer, weights)
+        write_weights(writer, weights)
     } else {
         Ok(())
     }
-}
-
-fn write_table<W: Write + Drop>(
-    writer: &mut Writer<W>,
-    weights: &[WeightRow],
-) -> Result<(), AllocError>
-    requires { IsBetween writer.old }
-    ensures { OnOk result (Wrote W.contents writer.old writer.new (map weight_row weights.now)) }
-{
-    for row in weights {
-        write_two(writer, b"weight", row.last, row.weight)?;
-    }
-    Ok(())
-}
-
-// Writes a record for each of these devices.
-fn write_devices<W: Write + Drop>(
-    writer: &mut Writer<W>,
-    devices: &[Device],
-) -> Result<(), AllocError>
-    requires { IsBetween writer.old }
-    ensures rows { OnOk result (Wrote W.contents writer.old writer.new (map device_row devices.now)) }
-    ensures fits { OnOk result (AllByRecursion (λ (d : Device). d.target ≤ 65535) devices.now) }
-{
-    for device in devices {
-        write_device(writer, *device)?;
-    }
-    Ok(())
-}
-
-fn write_device<W: Write + Drop>(writer: &mut Writer<W>, device: Device) -> Result<(), AllocError>
-    requires { IsBetween writer.old }
-    ensures rows { OnOk result (Wrote W.contents writer.old writer.new (device_row device ∷ [])) }
-    ensures fits { device.target ≤ 65535 }
-{
-    let mut bus = Buffer::new();
-    let mut target = Buffer::new();
-    let mut lun = Buffer::new();
-    let mut openings = Buffer::new();
-    let bus = bus.format(device.bus).as_bytes();
-    let target = target.format(device.target).as_bytes();
-    let lun = lun.format(device.lun).as_bytes();
-    let openings = openings.format(device.openings).as_bytes();
-    write_row(writer, &[b"dev", bus, target, lun, openings, b"", b"", b""])
 }
 
 /// Writes a record for each of these events.

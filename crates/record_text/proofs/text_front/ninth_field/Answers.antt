@@ -1,4 +1,4 @@
-use Rattle.std.proofs.Common.{arith, ◌≡◌, ◌+◌, ◌∙◌, sym}
+use Rattle.std.proofs.Common.{arith, ◌∙◌, sym}
 use Rattle.record_text.proofs.CutLemmas.{count_field, count_nothing, count_record, cuts, read_more}
 use Rattle.record_text.proofs.text_front.ninth_field.Goals.{in-Nothing, in-Field-2, in-Record}
 use Rattle.record_text.proofs.text_front.ninth_field.Goals as goal

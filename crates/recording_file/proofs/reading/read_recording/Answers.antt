@@ -4,7 +4,8 @@ use Rattle.recording_file.specs.Recorded.{Recorded}
 use Rattle.recording_file.specs.Recordings.{IsRecordingText}
 use Rattle.recording_file.specs.Whole.{most_bytes}
 use Rattle.cam_types.specs.declared.whole.WholeFault.{WholeFault}
-use Rattle.recording_file.proofs.FaultLaws.{faults_law, found_law, only_law}
+use Rattle.recording_file.proofs.FaultLaws.{faults_law}
+use Rattle.record_text.proofs.FaultLaws.{found_law, only_law}
 use Rattle.recording_file.proofs.LongLemmas.{most_within, too_long}
 use Rattle.recording_file.proofs.ReadLaws.{was_recording}
 use Rattle.recording_file.proofs.WholeLaws.{reading_again}
@@ -17,11 +18,11 @@ parse_recording-requires g c =
     rw c.deref.ensures.value (omega arith)
 
 pub returns-in-Ok-clause-found : goal.returns-in-Ok-clause-found
-returns-in-Ok-clause-found g c = found_law _ _ _ (rw c.deref.ensures.value at c.parse_recording.ensures) (was_recording _ _ _ c.in-Ok.ensures.whole)
+returns-in-Ok-clause-found g c = found_law _ _ _ _ (rw c.deref.ensures.value at c.parse_recording.ensures) (was_recording _ _ _ c.in-Ok.ensures.whole)
 
 pub returns-in-Ok-clause-only : goal.returns-in-Ok-clause-only
 returns-in-Ok-clause-only g c = λ r h.
-    only_law (λ text. IsRecordingText text r) _ _ _ _ _ r c.in-Ok.ensures.whole (rw c.deref.ensures.value at c.parse_recording.ensures) (λ is. ap reading is.spelled ∙ reading_again is.table r h is.held)
+    only_law _ _ (λ text. IsRecordingText text r) _ _ _ _ _ r c.in-Ok.ensures.whole.read c.in-Ok.ensures.whole.ended (rw c.deref.ensures.value at c.parse_recording.ensures) (λ is. ap reading is.spelled ∙ reading_again is.table r h is.held)
 
 -- no recording's text is too long
 none_long : (P : List ℕ → Type 0) (r : Recorded) (before : Option (List ℕ)) → IfSome before (λ all. most_bytes all < length all) → IfSome before (λ all. IsRecordingText all r → P all)

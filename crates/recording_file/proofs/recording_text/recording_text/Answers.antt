@@ -1,11 +1,12 @@
 use Rattle.std.proofs.Common.{◌≡◌, ◌∙◌, ◌++◌, ◌∷◌, List, [], ap, append_assoc, map, refl, true}
-use Rattle.recording_file.specs.Fields.{Row}
+use Rattle.record_text.specs.Text.{Row}
 use Rattle.recording_file.specs.Recorded.{Recorded, IsRecording}
 use Rattle.recording_file.specs.Records.{cap_row, header, name_row, records_of, request_row}
 use Rattle.recording_file.specs.Writing.{head_rows, recording_text}
 use Rattle.recording_file.proofs.TextLaws.{is_text}
-use Rattle.recording_file.proofs.WritingLemmas.{wrote_both}
+use Rattle.record_text.proofs.WritingLemmas.{wrote_both}
 use Rattle.recording_file.proofs.recording_text.recording_text.Goals as goal
+use Rattle.record_text.specs.Header.{header_row}
 
 -- the head's rows come before those of names, caps and requests
 head_first : (r : Recorded) → header ∷ (head_rows r ++ (map name_row r.names ++ (map cap_row r.caps ++ map request_row r.requests))) ≡ records_of true r
@@ -13,7 +14,7 @@ unfolding records_of
 head_first r = ap (λ (l : List Row). header ∷ l) (simp append_assoc refl)
 
 pub returns-in-Ok-clause-written : goal.returns-in-Ok-clause-written
-unfolding recording_text header
+unfolding recording_text header_row
 returns-in-Ok-clause-written c =
     let r = c.args.recording.now in
     let names = rw c.names.ensures.same at c.in_ok-write_names.ensures in

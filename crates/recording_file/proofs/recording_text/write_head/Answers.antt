@@ -1,7 +1,8 @@
 use Rattle.std.proofs.Common.{◌∷◌, [], map}
 use Rattle.std.proofs.lemmas.Result.{on_ok_weaker}
-use Rattle.recording_file.specs.Records.{adapter_row, link_row, rounds_row, unit_rows, weight_row}
-use Rattle.recording_file.proofs.WritingLemmas.{wrote_both}
+use Rattle.recording_file.specs.Records.{rounds_row, unit_rows}
+use Rattle.record_text.specs.ConfigRows.{adapter_row, link_row, weight_row}
+use Rattle.record_text.proofs.WritingLemmas.{wrote_both}
 use Rattle.recording_file.proofs.recording_text.write_head.Goals as goal
 
 pub returns-clause-rows : goal.returns-clause-rows

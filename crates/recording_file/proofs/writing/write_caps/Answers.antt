@@ -1,7 +1,7 @@
 use Rattle.std.proofs.Common.{arith}
 use Rattle.std.proofs.lemmas.List.{get_or_default}
 use Rattle.recording_file.specs.Records.{cap_row}
-use Rattle.recording_file.proofs.WritingLemmas.{wrote_more, wrote_none}
+use Rattle.record_text.proofs.WritingLemmas.{wrote_more, wrote_none}
 use Rattle.recording_file.proofs.writing.write_caps.Goals as goal
 
 pub loop-cap-init : goal.loop-cap-init

@@ -1,6 +1,6 @@
 use Rattle.std.proofs.Common.{arith, sym}
 use Rattle.recording_file.specs.Records.{name_row}
-use Rattle.recording_file.proofs.WritingLemmas.{wrote_more, wrote_none}
+use Rattle.record_text.proofs.WritingLemmas.{wrote_more, wrote_none}
 use Rattle.recording_file.proofs.writing.write_names.Goals as goal
 
 pub loop-name-init : goal.loop-name-init

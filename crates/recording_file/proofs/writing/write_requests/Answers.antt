@@ -2,7 +2,7 @@ use Rattle.std.proofs.Common.{◌≤◌, arith}
 use Rattle.std.proofs.lemmas.List.{get_or_default}
 use Rattle.recording_file.specs.Recorded.{Request}
 use Rattle.recording_file.specs.Records.{request_row}
-use Rattle.recording_file.proofs.WritingLemmas.{all_more, wrote_more, wrote_none}
+use Rattle.record_text.proofs.WritingLemmas.{all_more, wrote_more, wrote_none}
 use Rattle.recording_file.proofs.writing.write_requests.Goals as goal
 
 pub loop-request-init : goal.loop-request-init

@@ -2,7 +2,7 @@ use Rattle.std.proofs.Common.{◌≤◌, map, take}
 use Rattle.std.specs.List.{AllByRecursion}
 use Rattle.recording_file.specs.Recorded.{Request}
 use Rattle.recording_file.specs.Records.{request_row}
-use Rattle.recording_file.specs.Writing.{Wrote}
+use Rattle.record_text.specs.Writing.{Wrote}
 use Rattle.recording_file.proofs.writing.write_requests.Given as goal
 
 abbrev pub invariant-loop-request : goal.invariant-loop-request

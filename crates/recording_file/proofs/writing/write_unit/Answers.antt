@@ -1,4 +1,4 @@
-use Rattle.recording_file.proofs.WritingLemmas.{wrote_none}
+use Rattle.record_text.proofs.WritingLemmas.{wrote_none}
 use Rattle.recording_file.proofs.writing.write_unit.Goals as goal
 
 pub returns-in-None-clause-rows : goal.returns-in-None-clause-rows

@@ -3,7 +3,7 @@ use Rattle.record_text.specs.Text.{records_in}
 use Rattle.trace_file.specs.declared.event_number.RecordCount.{RecordCount}
 use Rattle.trace_file.proofs.EventRecordLaws.{counted_all}
 use Rattle.record_text.proofs.RecordLemmas.{took_ok}
-use Rattle.trace_file.proofs.RowLaws.{ok_is}
+use Rattle.record_text.proofs.StepLemmas.{ok_is}
 use Rattle.trace_file.proofs.event_number.record_count.Goals as goal
 
 pub returns-in-Ok : goal.returns-in-Ok

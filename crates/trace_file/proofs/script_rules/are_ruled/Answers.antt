@@ -1,5 +1,4 @@
-use Rattle.std.proofs.Common.{◌≡◌, [], get_or, map, arith}
-use Rattle.std.proofs.lemmas.Bool.{not-false}
+use Rattle.std.proofs.Common.{arith}
 use Rattle.trace_file.proofs.ScriptRules.{items_at, not_both, ruled_more}
 use Rattle.trace_file.proofs.script_rules.are_ruled.Goals as goal
 

@@ -1,5 +1,5 @@
-use Rattle.std.proofs.Common.{◌≡◌, ◌∙◌, ap, sym, length, map, arith, Vec, Global}
-use Rattle.trace_file.proofs.ScriptRules.{all_items, few_items, scenario_kept, ruled_in, answered_in, not_both, rules_kept}
+use Rattle.std.proofs.Common.{◌∙◌, ap, sym, length, arith}
+use Rattle.trace_file.proofs.ScriptRules.{all_items, ruled_in, answered_in, not_both, rules_kept}
 use Rattle.trace_file.proofs.script_rules.keep_rules.Goals as goal
 
 pub returns-then-not-are_answers-clause-broken : goal.returns-then-not-are_answers-clause-broken

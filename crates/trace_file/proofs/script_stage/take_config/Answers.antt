@@ -1,6 +1,6 @@
 use Rattle.std.proofs.Common.{◌≡◌, sym, true}
 use Rattle.csv.specs.Records.{fields_of}
-use Rattle.trace_file.specs.Fields.{field_of}
+use Rattle.record_text.specs.Fields.{field_of}
 use Rattle.trace_file.specs.ScriptReading.{is_config_word}
 use Rattle.trace_file.specs.Sound.{IsSoundScript}
 use Rattle.record_text.proofs.RecordLemmas.{took_ok}

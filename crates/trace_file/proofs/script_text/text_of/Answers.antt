@@ -2,7 +2,7 @@ use Rattle.std.proofs.Common.{◌≡◌, ◌∙◌, ◌++◌, ◌∷◌, List, [
 use Rattle.std.proofs.lemmas.List.{length-map, map-append}
 use Rattle.cam_types.specs.Topology.{IsConfig}
 use Rattle.event_rules.proofs.LaneCount.{few_lanes}
-use Rattle.trace_file.specs.Fields.{Row}
+use Rattle.record_text.specs.Text.{Row}
 use Rattle.trace_file.specs.Scenarios.{Scenario}
 use Rattle.trace_file.specs.Script.{config_rows, script_records}
 use Rattle.trace_file.specs.ScriptRows.{limits_row, script_header, script_row}
@@ -11,8 +11,9 @@ use Rattle.trace_file.specs.ScriptVersions.{least_script}
 use Rattle.trace_file.specs.ScriptWriting.{manuscript_of, numbered, step_row, script_text}
 use Rattle.trace_file.proofs.ScriptBack.{manuscript_kept, scenario_back}
 use Rattle.trace_file.proofs.ScriptTextLaws.{is_script}
-use Rattle.trace_file.proofs.WritingLemmas.{wrote_both}
+use Rattle.record_text.proofs.WritingLemmas.{wrote_both}
 use Rattle.trace_file.proofs.script_text.text_of.Goals as goal
+use Rattle.record_text.specs.Header.{header_row}
 
 -- the records in the order in which they are written
 in_order : (s : Scenario)
@@ -36,7 +37,7 @@ write_answers-requires-clause-few c =
     omega arith
 
 pub returns-in-Ok-clause-text : goal.returns-in-Ok-clause-text
-unfolding script_text script_header
+unfolding script_text header_row
 returns-in-Ok-clause-text c =
     let s = c.args.script.now in
     let v = least_script s.config in

@@ -2,7 +2,8 @@ use Rattle.std.proofs.Common.{map, arith}
 use Rattle.std.proofs.lemmas.List.{length-map}
 use Rattle.trace_file.specs.declared.script_row.ScriptRow.TheVariants as row
 use Rattle.trace_file.proofs.ScriptRules.{items_at}
-use Rattle.trace_file.proofs.WritingLemmas.{fits_list, wrote_list, wrote_none}
+use Rattle.trace_file.proofs.WritingLemmas.{fits_list, wrote_list}
+use Rattle.record_text.proofs.WritingLemmas.{wrote_none}
 use Rattle.trace_file.proofs.script_writing.write_answers.Goals as goal
 
 pub loop-lane-init : goal.loop-lane-init

@@ -4,7 +4,8 @@ use Rattle.std.proofs.lemmas.List.{length-map}
 use Rattle.trace_file.specs.Scenarios.{is_ruled, Step}
 use Rattle.trace_file.specs.ScriptWriting.{step_row}
 use Rattle.trace_file.proofs.ScriptRules.{items_at}
-use Rattle.trace_file.proofs.WritingLemmas.{fits_list, wrote_list, wrote_none}
+use Rattle.trace_file.proofs.WritingLemmas.{fits_list, wrote_list}
+use Rattle.record_text.proofs.WritingLemmas.{wrote_none}
 use Rattle.trace_file.proofs.script_writing.write_drivers.Goals as goal
 
 pub loop-driver-init : goal.loop-driver-init

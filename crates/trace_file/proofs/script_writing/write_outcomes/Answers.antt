@@ -1,6 +1,7 @@
 use Rattle.std.proofs.Common.{arith, sym}
 use Rattle.trace_file.specs.declared.script_row.ScriptRow.TheVariants as row
-use Rattle.trace_file.proofs.WritingLemmas.{fits_row, wrote_none, wrote_row}
+use Rattle.trace_file.proofs.WritingLemmas.{fits_row, wrote_row}
+use Rattle.record_text.proofs.WritingLemmas.{wrote_none}
 use Rattle.trace_file.proofs.script_writing.write_outcomes.Goals as goal
 
 pub loop-outcome-init : goal.loop-outcome-init

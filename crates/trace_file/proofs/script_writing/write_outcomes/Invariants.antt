@@ -3,7 +3,7 @@ use Rattle.std.specs.List.{AllByRecursion}
 use Rattle.trace_file.specs.Script.{FitsRow}
 use Rattle.trace_file.specs.ScriptRows.{script_row}
 use Rattle.trace_file.specs.declared.script_row.ScriptRow.TheVariants as row
-use Rattle.trace_file.specs.Writing.{Wrote}
+use Rattle.record_text.specs.Writing.{Wrote}
 use Rattle.trace_file.proofs.script_writing.write_outcomes.Given as goal
 
 abbrev pub invariant-loop-outcome : goal.invariant-loop-outcome

@@ -1,7 +1,8 @@
 use Rattle.std.proofs.Common.{◌≡◌, true, arith, sym}
 use Rattle.trace_file.specs.Scenarios.{is_ruled, Step}
 use Rattle.trace_file.specs.ScriptWriting.{step_row}
-use Rattle.trace_file.proofs.WritingLemmas.{fits_row, ruled_at, wrote_none, wrote_row}
+use Rattle.trace_file.proofs.WritingLemmas.{fits_row, ruled_at, wrote_row}
+use Rattle.record_text.proofs.WritingLemmas.{wrote_none}
 use Rattle.trace_file.proofs.script_writing.write_steps.Goals as goal
 
 pub loop-step-init : goal.loop-step-init

@@ -1,7 +1,8 @@
 use Rattle.std.proofs.Common.{◌∙◌, ap, length, Err}
 use Rattle.cam_types.specs.declared.config.ConfigError.{ConfigError}
 use Rattle.trace_file.specs.Histories.{Device, device_fault}
-use Rattle.trace_file.proofs.StageLemmas.{none_where_ok, device_added, sound_device, clamped_fault, fault_named}
+use Rattle.trace_file.proofs.StageLemmas.{device_added, sound_device, fault_named}
+use Rattle.record_text.proofs.ConfigLemmas.{none_where_ok, clamped_fault}
 use Rattle.trace_file.proofs.stage_items.with_device.Goals as goal
 
 pub returns-in-Ok-clause-value : goal.returns-in-Ok-clause-value

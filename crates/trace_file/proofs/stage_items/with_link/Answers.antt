@@ -1,4 +1,5 @@
-use Rattle.trace_file.proofs.StageLemmas.{none_where_ok, sound_link}
+use Rattle.trace_file.proofs.StageLemmas.{sound_link}
+use Rattle.record_text.proofs.ConfigLemmas.{none_where_ok}
 use Rattle.trace_file.proofs.stage_items.with_link.Goals as goal
 
 pub returns-in-Ok-clause-sound : goal.returns-in-Ok-clause-sound

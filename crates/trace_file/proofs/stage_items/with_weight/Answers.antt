@@ -1,4 +1,5 @@
-use Rattle.trace_file.proofs.StageLemmas.{none_where_ok, sound_weight}
+use Rattle.trace_file.proofs.StageLemmas.{sound_weight}
+use Rattle.record_text.proofs.ConfigLemmas.{none_where_ok}
 use Rattle.trace_file.proofs.stage_items.with_weight.Goals as goal
 
 pub returns-in-Ok-clause-sound : goal.returns-in-Ok-clause-sound

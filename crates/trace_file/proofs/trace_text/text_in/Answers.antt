@@ -1,13 +1,15 @@
 use Rattle.std.proofs.Common.{◌≡◌, ◌∙◌, ◌++◌, ◌∷◌, List, [], ap, append_assoc, map, refl}
 use Rattle.trace_file.specs.Versions.{Version}
-use Rattle.trace_file.specs.Fields.{Row}
+use Rattle.record_text.specs.Text.{Row}
 use Rattle.trace_file.specs.Histories.{Past}
-use Rattle.trace_file.specs.Records.{adapter_row, device_row, event_row, header, lane_row, link_row, records_of, weight_rows}
+use Rattle.trace_file.specs.Records.{event_row, header, lane_row, records_of, weight_rows}
+use Rattle.record_text.specs.ConfigRows.{adapter_row, device_row, link_row}
 use Rattle.trace_file.specs.Trace.{IsHistory}
 use Rattle.trace_file.specs.Writing.{text_in}
 use Rattle.trace_file.proofs.TextLaws.{is_trace}
-use Rattle.trace_file.proofs.WritingLemmas.{wrote_both}
+use Rattle.record_text.proofs.WritingLemmas.{wrote_both}
 use Rattle.trace_file.proofs.trace_text.text_in.Goals as goal
+use Rattle.record_text.specs.Header.{header_row}
 
 -- the rows of the configuration come before those of the events
 config_first : (v : Version) (past : Past)
@@ -16,7 +18,7 @@ unfolding records_of
 config_first v past = ap (λ (l : List Row). header v ∷ l) (simp append_assoc refl)
 
 pub returns-in-Ok-clause-text : goal.returns-in-Ok-clause-text
-unfolding text_in header
+unfolding text_in header_row
 returns-in-Ok-clause-text c =
     let past = c.args.history.now in
     let v = c.args.version in

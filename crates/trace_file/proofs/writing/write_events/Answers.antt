@@ -1,7 +1,7 @@
 use Rattle.std.proofs.Common.{arith, sym}
 use Rattle.trace_file.specs.Records.{event_row}
 use Rattle.trace_file.specs.Trace.{FitsEvent}
-use Rattle.trace_file.proofs.WritingLemmas.{all_more, wrote_more, wrote_none}
+use Rattle.record_text.proofs.WritingLemmas.{all_more, wrote_more, wrote_none}
 use Rattle.trace_file.proofs.writing.write_events.Goals as goal
 
 pub loop-event-init : goal.loop-event-init

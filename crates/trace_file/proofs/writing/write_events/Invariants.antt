@@ -2,7 +2,7 @@ use Rattle.std.proofs.Common.{map, take}
 use Rattle.std.specs.List.{AllByRecursion}
 use Rattle.trace_file.specs.Records.{event_row}
 use Rattle.trace_file.specs.Trace.{FitsEvent}
-use Rattle.trace_file.specs.Writing.{Wrote}
+use Rattle.record_text.specs.Writing.{Wrote}
 use Rattle.trace_file.proofs.writing.write_events.Given as goal
 
 abbrev pub invariant-loop-event : goal.invariant-loop-event

@@ -1,7 +1,7 @@
 use Rattle.std.proofs.Common.{ℕ, ◌∷◌, [], arith, get_or, decimal}
 use Rattle.std.proofs.lemmas.List.{get_or_default}
-use Rattle.trace_file.specs.Records.{padded}
-use Rattle.trace_file.proofs.WritingLemmas.{wrote_more, wrote_none}
+use Rattle.record_text.specs.ConfigRows.{padded}
+use Rattle.record_text.proofs.WritingLemmas.{wrote_more, wrote_none}
 use Rattle.trace_file.proofs.writing.write_numbers.Goals as goal
 
 pub loop-number-init : goal.loop-number-init

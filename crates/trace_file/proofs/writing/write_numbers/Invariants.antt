@@ -1,6 +1,6 @@
 use Rattle.std.proofs.Common.{[], ◌∷◌, map, take, decimal}
-use Rattle.trace_file.specs.Records.{padded}
-use Rattle.trace_file.specs.Writing.{Wrote}
+use Rattle.record_text.specs.ConfigRows.{padded}
+use Rattle.record_text.specs.Writing.{Wrote}
 use Rattle.trace_file.proofs.writing.write_numbers.Given as goal
 
 abbrev pub invariant-loop-number : goal.invariant-loop-number

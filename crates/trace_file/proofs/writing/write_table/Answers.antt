@@ -1,14 +1,9 @@
-use Rattle.std.proofs.Common.{arith}
-use Rattle.std.proofs.lemmas.List.{get_or_default}
-use Rattle.trace_file.specs.Records.{weight_row}
-use Rattle.trace_file.proofs.WritingLemmas.{wrote_more, wrote_none}
+use Rattle.std.proofs.Common.{◌≡◌, ◌∙◌, false, sym}
+use Rattle.trace_file.specs.Versions.{has_table}
+use Rattle.record_text.proofs.WritingLemmas.{wrote_none}
 use Rattle.trace_file.proofs.writing.write_table.Goals as goal
 
-pub loop-row-init : goal.loop-row-init
-loop-row-init g c = wrote_none g.W.Write.contents c.args.writer.now c.requires
-
-pub loop-row-preserved : goal.loop-row-preserved
-loop-row-preserved g c =
-    let weights = c.args.weights.now in
-    let i = c.loop-row.row-index in
-    wrote_more g.W.Write.contents c.args.writer.now c.loop-row.writer c.write_two.new.writer weight_row weights i _ (omega arith) (get_or_default weights i _ _ (omega arith)) c.loop-row.invariant c.in_ok-write_two.ensures
+pub returns-else-has_table : goal.returns-else-has_table
+returns-else-has_table g c =
+    let none : has_table c.args.version ≡ false = sym c.has_table.ensures ∙ c.if-has_table.false in
+    rw none (wrote_none g.W.Write.contents c.args.writer.now c.requires)

@@ -1,0 +1,89 @@
+-- What the rules of a configuration say of the numbers in its rows.
+use Rattle.std.proofs.Common.{◌≡◌, ◌<◌, ◌≤◌, ℕ, List, Bool, true, false, cond, length, min, refl, ap, arith, Option, Some, None, IfSome, Result, Ok, Err, MatchOption, IsOkUnless, nat_lt}
+use Rattle.std.proofs.lemmas.Bool.{and_parts, leb-true, leb-false, ltb-true, ltb-false, not-false}
+use Rattle.std.proofs.lemmas.Bool.Decides.{nat_tests}
+use Rattle.cam_types.specs.Topology.{address_fault, names_link, openings_fault, link_fault, adapter_fault, device_fault}
+use Rattle.cam_types.specs.Weights.{weight_fault}
+use Rattle.cam_types.specs.declared.adapter.Adapter.{Adapter}
+use Rattle.cam_types.specs.declared.device.Device.{Device}
+use Rattle.cam_types.specs.declared.weight_row.WeightRow.{WeightRow}
+use Rattle.cam_types.specs.declared.config.ConfigError.{ConfigError}
+use Rattle.cam_types.specs.declared.config.ConfigError.TheVariants as error
+use Rattle.cam_types.specs.declared.config_fault.ConfigFault.{ConfigFault}
+use Rattle.cam_types.specs.declared.config_fault.ConfigFault.TheVariants.{NoLink}
+use Rattle.cam_types.specs.declared.maxima.TheConstants.{MOST_ADAPTERS, MOST_LINKS}
+use Rattle.cam_types.proofs.ListLemmas.{or_left, or_right}
+use Rattle.record_text.specs.ConfigRows.{clamped, device_of, DeviceRow}
+use Rattle.record_text.specs.Fields.{most_number}
+
+-- an item that was added breaks no rule
+pub none_where_ok : {U : Type 0} (o : Option ConfigFault) (r : Result U ConfigError) (u : U) → MatchOption o (IsOkUnless r error.OutOfMemory) (λ f. r ≡ Err (error.Fault f)) → r ≡ Ok u → o ≡ None
+none_where_ok None r u h e = refl
+none_where_ok (Some f) r u h e = absurd (cc)
+
+-- a chain of rules that answers none has none broken
+pub cond_none : {X : Type 0} (b : Bool) (x : X) (rest : Option X) → cond b (Some x) rest ≡ None → (b ≡ false) × (rest ≡ None)
+cond_none true x rest e = absurd cc
+cond_none false x rest e = (refl, e)
+
+pub few_adapters : (links : ℕ) (adapters : List Adapter) (a : Adapter) → adapter_fault links (adapters, a) ≡ None → length adapters < MOST_ADAPTERS
+unfolding adapter_fault
+few_adapters links adapters a none = leb-false _ _ (cond_none _ _ _ (or_left _ _ none)).0
+
+pub adapter_small : (links : ℕ) (before : List Adapter) (a : Adapter) → adapter_fault links (before, a) ≡ None → a.openings ≤ 255
+unfolding adapter_fault
+adapter_small links before a e = leb-true _ _ (and_parts _ _ (not-false _ (cond_none _ _ _ (cond_none _ _ _ (or_left _ _ e)).1).0)).1
+
+pub link_small : (before : List ℕ) (k : ℕ) → link_fault (before, k) ≡ None → k ≤ 255
+unfolding link_fault
+link_small before k e = leb-true _ _ (and_parts _ _ (not-false _ (cond_none _ _ _ (cond_none _ _ _ e).1).0)).1
+
+-- an adapter's link is one of that many
+pub adapter_link : (links : ℕ) (before : List Adapter) (a : Adapter) → adapter_fault links (before, a) ≡ None → IfSome a.link (λ l. l < links)
+unfolding adapter_fault
+adapter_link links before a e = by a.link (or_right (openings_fault MOST_ADAPTERS (length before) a.openings) _ e)
+  where
+    passed : (b : Bool) → cond b None (Some NoLink) ≡ None → b ≡ true
+    passed true e = refl
+    passed false e = absurd cc
+
+    by : (link : Option ℕ) → cond (names_link links link) None (Some NoLink) ≡ None → IfSome link (λ l. l < links)
+    by None e = tt
+    by (Some l) e = ltb-true _ _ (passed (nat_lt l links) e)
+
+pub weight_numbers : (before : List WeightRow) (w : WeightRow) → weight_fault (before, w) ≡ None → (w.last ≤ 1279) × (w.weight ≤ 1000)
+unfolding weight_fault
+weight_numbers before w e = (grind (arith, nat_tests), grind (arith, nat_tests))
+
+-- an adapter's link is a number
+pub link_number : (links : ℕ) (link : Option ℕ) → links ≤ MOST_LINKS → IfSome link (λ l. l < links) → IfSome link (λ l. l ≤ most_number)
+link_number links None few h = tt
+link_number links (Some l) few h = omega arith
+
+-- ---- devices
+
+clamped_small : (d : DeviceRow) → d.bus ≤ 255 → clamped d ≡ device_of d
+clamped_small d h =
+    let same : min d.bus 255 ≡ d.bus = omega arith in
+    ap (λ (b : ℕ). let x : Device = record { bus = b; target = d.target; lun = d.lun; openings = d.openings } in x) same
+
+-- a bus above 255 names no adapter, whichever it is
+pub clamped_fault : (n : ℕ) (before : List Device) (d : DeviceRow) → n ≤ MOST_ADAPTERS → device_fault n (before, clamped d) ≡ device_fault n (before, device_of d)
+unfolding device_fault address_fault
+clamped_fault n before d few = grind (arith, nat_tests)
+
+-- what the rules of the configuration say of a device's numbers
+pub device_small : (n : ℕ) (before : List Device) (d : Device) → device_fault n (before, d) ≡ None → (d.bus < n) × (d.lun ≤ 16383) × (d.openings ≤ 255)
+unfolding device_fault address_fault
+device_small n before d e =
+    let a = cond_none _ _ _ e in
+    let b = cond_none _ _ _ a.1 in
+    let c = cond_none _ _ _ b.1 in
+    let l = cond_none _ _ _ c.1 in
+    (leb-false _ _ c.0, ltb-false _ _ l.0, leb-true _ _ (and_parts _ _ (not-false _ b.0)).1)
+
+-- a device that breaks no rule is the one that the record spells
+pub clamped_same : (n : ℕ) (before : List Device) (d : DeviceRow) → n ≤ MOST_ADAPTERS → device_fault n (before, clamped d) ≡ None → clamped d ≡ device_of d
+clamped_same n before d few none =
+    let small = device_small n before (clamped d) none in
+    clamped_small d (omega arith)

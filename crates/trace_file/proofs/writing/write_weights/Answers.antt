@@ -1,9 +1,0 @@
-use Rattle.std.proofs.Common.{◌≡◌, ◌∙◌, false, sym}
-use Rattle.trace_file.specs.Versions.{has_table}
-use Rattle.trace_file.proofs.WritingLemmas.{wrote_none}
-use Rattle.trace_file.proofs.writing.write_weights.Goals as goal
-
-pub returns-else-has_table : goal.returns-else-has_table
-returns-else-has_table g c =
-    let none : has_table c.args.version ≡ false = sym c.has_table.ensures ∙ c.if-has_table.false in
-    rw none (wrote_none g.W.Write.contents c.args.writer.now c.requires)

@@ -5,7 +5,7 @@ ghost use Rattle.csv.specs.Records.{fields_of};
 ghost use Rattle.recording_file.specs.Names.{is_name};
 ghost use Rattle.recording_file.specs.Caps.{is_cap};
 ghost use Rattle.recording_file.specs.Counts.{counts_of};
-ghost use Rattle.recording_file.specs.Reading.{add_unit, add_rounds, add_weight, add_link, add_adapter, add_device, add_name, add_cap, add_request, add_said, add_row, row_step, ended, stands, recorded_of, unless_illegal, lacks_adapters};
+ghost use Rattle.recording_file.specs.Reading.{add_unit, add_rounds, add_weight, add_link, add_adapter, add_device, add_said, add_row, row_step, ended, stands, recorded_of, unless_illegal, lacking, lacks_adapters};
 ghost use Rattle.recording_file.specs.Recorded.{IsKept, Span, request_cause, MOST_RECORDED_ROUNDS, MOST_REQUESTS};
 ghost use Rattle.recording_file.specs.Records.{FitsSaid, word_for};
 ghost use Rattle.recording_file.specs.Saying.{IsAt, IsOpen, booked};
@@ -129,56 +129,17 @@ impl RecordingStage {
         }
     }
 
+    /// The recorder where a configuration is whole, or what is lacking of one.
     #[tactic(auto, unfolding(crate::specs::Sound::IsSound))]
-    fn add_name(self, number: u32, name: Name) -> Result<RecordingStage, RecordingFault>
+    fn recorder(self, number: u32) -> Result<Recorder, RecordingFault>
         requires sound { IsSound self }
         requires place { IsOpen self }
-        requires next { lacks_adapters self ≡ false → is_name (counts_of (recorded_of self).config) ((recorded_of self).names, name) ≡ true }
-        ensures value { result ≢ Err RecordingFault.OutOfMemory → result ≡ add_name number self name }
-        ensures sound { IfOk result (λ s. IsSound s) }
+        ensures whole { lacks_adapters self ≡ false → result ≡ Ok (recorded_of self) }
+        ensures lacking { lacks_adapters self ≡ true → result ≡ Err (RecordingFault.BadConfig number (lacking (recorded_of self).config.weights)) }
+        ensures kept { IfOk result IsKept }
     {
         match self {
-            RecordingStage::Book(recorder) => with_name(recorder, name),
-            RecordingStage::Weights(_, draft) | RecordingStage::Links(_, draft) => {
-                Err(RecordingFault::BadConfig(number, lacking(&draft)))
-            }
-            _ => unreachable!(),
-        }
-    }
-
-    #[tactic(auto, unfolding(crate::specs::Sound::IsSound))]
-    fn add_cap(self, number: u32, cap: Cap) -> Result<RecordingStage, RecordingFault>
-        requires sound { IsSound self }
-        requires place { IsOpen self }
-        requires next { lacks_adapters self ≡ false → is_cap (recorded_of self).rounds (counts_of (recorded_of self).config) ((recorded_of self).caps, cap) ≡ true }
-        requires first { (recorded_of self).requests ≡ [] }
-        ensures value { result ≢ Err RecordingFault.OutOfMemory → result ≡ add_cap number self cap }
-        ensures sound { IfOk result (λ s. IsSound s) }
-    {
-        match self {
-            RecordingStage::Book(recorder) => with_cap(recorder, cap),
-            RecordingStage::Weights(_, draft) | RecordingStage::Links(_, draft) => {
-                Err(RecordingFault::BadConfig(number, lacking(&draft)))
-            }
-            _ => unreachable!(),
-        }
-    }
-
-    #[tactic(auto, unfolding(crate::specs::Sound::IsSound))]
-    fn add_request(
-        self,
-        alloc: Global,
-        number: u32,
-        request: Request,
-    ) -> Result<RecordingStage, RecordingFault>
-        requires sound { IsSound self }
-        requires place { IsOpen self }
-        requires few { length (recorded_of self).requests < MOST_REQUESTS }
-        ensures value { result ≢ Err RecordingFault.OutOfMemory → result ≡ add_request number self request }
-        ensures sound { IfOk result (λ s. IsSound s) }
-    {
-        match self {
-            RecordingStage::Book(recorder) => with_request(alloc, recorder, number, request),
+            RecordingStage::Book(recorder) => Ok(recorder),
             RecordingStage::Weights(_, draft) | RecordingStage::Links(_, draft) => {
                 Err(RecordingFault::BadConfig(number, lacking(&draft)))
             }
@@ -207,9 +168,9 @@ impl RecordingStage {
             Said::Link(openings) => self.add_link(number, openings),
             Said::Sim(adapter) => self.add_adapter(number, adapter),
             Said::Dev(device) => self.add_device(number, device),
-            Said::Name(name) => self.add_name(number, name),
-            Said::Cap(cap) => self.add_cap(number, cap),
-            Said::Request(request) => self.add_request(alloc, number, request),
+            Said::Name(name) => with_name(self.recorder(number)?, name),
+            Said::Cap(cap) => with_cap(self.recorder(number)?, cap),
+            Said::Request(request) => with_request(alloc, self.recorder(number)?, number, request),
         }
     }
 

@@ -34,10 +34,10 @@ def measured(*words, source=os.devnull, runs=5, errors=None):
 
 
 def peak(*words, source=os.devnull):
-    """The peak memory of a run in MB. GNU time says it, since what Python is told of a child is at least its own memory."""
+    """The peak memory of a run in MB. GNU time prints it, since what Python gets for a child is at least its own memory."""
     with open(source) as text:
-        told = subprocess.run(["/usr/bin/time", "-f", "%M", *words], stdin=text, capture_output=True, text=True, check=True)
-    return int(told.stderr.split()[-1]) / 1024
+        output = subprocess.run(["/usr/bin/time", "-f", "%M", *words], stdin=text, capture_output=True, text=True, check=True)
+    return int(output.stderr.split()[-1]) / 1024
 
 
 def milliseconds(name, text):

@@ -42,7 +42,7 @@ SHAPES = {
 }
 # How many wait in a closed loop.
 WAITING = 256
-MOST_BURST = 64
+MAX_BURST = 64
 
 
 def rounds_of(kind, requests):
@@ -69,7 +69,7 @@ def cap_rows(shape, stopped):
 
 
 def closed_arrivals(choose, shape, rounds, requests):
-    """For each round, the devices for which a request comes. It is told how many were sent to each in the round before."""
+    """For each round, the devices for which a request comes. It gets how many were sent to each in the round before."""
     left = requests
     coming = [device for device in range(shape.devices) for _ in range(WAITING // shape.devices)]
     for _ in range(rounds):
@@ -82,7 +82,7 @@ def closed_arrivals(choose, shape, rounds, requests):
 def burst_arrivals(choose, shape, rounds, requests):
     """The same of bursts, which end so early that the last is sent in the last rounds."""
     bursts = collections.defaultdict(list)
-    left, last, most = requests, rounds - max(20, rounds // 20), max(1, min(MOST_BURST, requests // 1500))
+    left, last, most = requests, rounds - max(20, rounds // 20), max(1, min(MAX_BURST, requests // 1500))
     while left:
         count = min(left, choose.randint(1, most))
         left -= count

@@ -285,7 +285,7 @@ typedef struct camxpt_config {
     size_t lane_count;
 } camxpt_config;
 
-/** A command on its way to a device. */
+/** A command that is sent to a device. */
 typedef struct camxpt_command {
     uint32_t ccb;      /**< the number of its CCB */
     uint32_t attempt;  /**< how many stays of its CCB were before this one */
@@ -324,7 +324,7 @@ typedef struct camxpt_case {
 typedef struct camxpt_counts {
     uint32_t length;    /**< the events so far */
     uint32_t round;     /**< the round, from 1 */
-    uint32_t in_flight; /**< the CCBs on their way */
+    uint32_t in_flight; /**< the CCBs in flight */
     uint32_t cases;     /**< the CCBs that wait for a decision */
     uint32_t waiting;   /**< the stays without a send */
     size_t heads;       /**< the lanes whose adapter has something to send */
@@ -361,7 +361,7 @@ enum {
     CAMXPT_SECONDS = 3
 };
 
-/** How long a round of a recording is: that many of a unit of time. If the count is 0, it isn't said. */
+/** How long a round of a recording is: that many of a unit of time. If the count is 0, it isn't known. */
 typedef struct camxpt_span {
     uint32_t count, unit;
 } camxpt_span;
@@ -711,7 +711,7 @@ CAMXPT_NODISCARD static inline camxpt_code camxpt_trace(camxpt *x, void *buffer,
                         camxpt_raw_trace(&x->raw_, buffer ? (uint8_t *)buffer : &no_byte, room, needed));
 }
 
-/** Opens the closed handle `to` with what waits in `from`, which stays as it is: the way on where a transport comes to its
+/** Opens the closed handle `to` with what waits in `from`, which stays as it is: how to go on if a transport comes to its
  *  limits. It is called at the end of a round in place of camxpt_tick, when all results are in and all cases are decided.
  *
  *  `to` has the configuration of `from`, these limits, and an empty first round; it is in its second one, which stands for the

@@ -368,10 +368,10 @@ static camxpt_event send_of(uint32_t lane, uint32_t ccb)
 /* What camxpt_take answers to an event, and camxpt_refusal before it. */
 static camxpt_code take(camxpt *x, const camxpt_event *event)
 {
-    const camxpt_code told = camxpt_refusal(x, event);
+    const camxpt_code got = camxpt_refusal(x, event);
 
-    DUE(camxpt_take(x, event), told);
-    return told;
+    DUE(camxpt_take(x, event), got);
+    return got;
 }
 
 static camxpt_code take_send(camxpt *x, uint32_t lane, uint32_t ccb)
@@ -417,7 +417,7 @@ static void events(void)
 {
     static const uint8_t sense[20] = {0x70, 1, 2, 3, 4, 5, 6, 7, 8, 9, 10, 11, 12, 13, 14, 15, 16, 17, 18, 19};
     static char first[4096], second[4096];
-    static camxpt_event told[32], again[32];
+    static camxpt_event got[32], again[32];
     camxpt x = CAMXPT_INIT, y = CAMXPT_INIT;
     camxpt_command command = {0, 0, 0, 0, 0};
     camxpt_completion done = {0, 0};
@@ -440,32 +440,32 @@ static void events(void)
     DUE(camxpt_requeue(&x, 0), CAMXPT_OK);
     DUE(camxpt_finish(&x, 1), CAMXPT_OK);
     DUE(camxpt_tick(&x, &n), CAMXPT_OK);
-    DUE(camxpt_events(&x, 0, told, 32, &count), CAMXPT_OK);
-    HOLDS(count == 14 && told[14].kind == 0);
-    HOLDS(told[0].kind == CAMXPT_SUBMIT && told[0].driver == 201 && told[0].device == 1 && told[0].priority == 1033);
-    HOLDS(told[0].retries == 6 && told[0].qfreeze == 1 && told[0].qfrzdis == 0 && told[1].qfreeze == 0 && told[1].qfrzdis == 1);
-    HOLDS(told[2].kind == CAMXPT_FREEZE_DEV && told[2].device == 1 && told[2].count == 600);
-    HOLDS(told[3].kind == CAMXPT_RELEASE_DEV && told[3].device == 1 && told[3].count == 600);
-    HOLDS(told[4].kind == CAMXPT_FREEZE_SIM && told[4].sim == 1 && told[4].count == 1);
-    HOLDS(told[5].kind == CAMXPT_RELEASE_SIM && told[5].sim == 1);
-    HOLDS(told[6].kind == CAMXPT_ADJUST && told[6].device == 1 && told[6].openings == 200);
-    HOLDS(told[7].kind == CAMXPT_SEND && told[7].lane == 1 && told[7].ccb == 0 && told[8].ccb == 1);
-    HOLDS(told[9].kind == CAMXPT_DONE && told[9].ccb == 0 && told[9].status == CAM_BUSY && told[9].sense_len == 0);
-    HOLDS(told[10].status == (CAM_DATA_RUN_ERR | 0x80) && told[10].scsi == 0x18 && told[10].sense_len == 18);
-    HOLDS(memcmp(told[10].sense, sense, 18) == 0);
-    HOLDS(told[11].kind == CAMXPT_REQUEUE && told[11].ccb == 0 && told[12].kind == CAMXPT_FINISH && told[12].ccb == 1);
-    HOLDS(told[13].kind == CAMXPT_TICK);
+    DUE(camxpt_events(&x, 0, got, 32, &count), CAMXPT_OK);
+    HOLDS(count == 14 && got[14].kind == 0);
+    HOLDS(got[0].kind == CAMXPT_SUBMIT && got[0].driver == 201 && got[0].device == 1 && got[0].priority == 1033);
+    HOLDS(got[0].retries == 6 && got[0].qfreeze == 1 && got[0].qfrzdis == 0 && got[1].qfreeze == 0 && got[1].qfrzdis == 1);
+    HOLDS(got[2].kind == CAMXPT_FREEZE_DEV && got[2].device == 1 && got[2].count == 600);
+    HOLDS(got[3].kind == CAMXPT_RELEASE_DEV && got[3].device == 1 && got[3].count == 600);
+    HOLDS(got[4].kind == CAMXPT_FREEZE_SIM && got[4].sim == 1 && got[4].count == 1);
+    HOLDS(got[5].kind == CAMXPT_RELEASE_SIM && got[5].sim == 1);
+    HOLDS(got[6].kind == CAMXPT_ADJUST && got[6].device == 1 && got[6].openings == 200);
+    HOLDS(got[7].kind == CAMXPT_SEND && got[7].lane == 1 && got[7].ccb == 0 && got[8].ccb == 1);
+    HOLDS(got[9].kind == CAMXPT_DONE && got[9].ccb == 0 && got[9].status == CAM_BUSY && got[9].sense_len == 0);
+    HOLDS(got[10].status == (CAM_DATA_RUN_ERR | 0x80) && got[10].scsi == 0x18 && got[10].sense_len == 18);
+    HOLDS(memcmp(got[10].sense, sense, 18) == 0);
+    HOLDS(got[11].kind == CAMXPT_REQUEUE && got[11].ccb == 0 && got[12].kind == CAMXPT_FINISH && got[12].ccb == 1);
+    HOLDS(got[13].kind == CAMXPT_TICK);
     for (size_t k = 0; k < count; k++)
-        DUE(take(&y, &told[k]), CAMXPT_OK);
+        DUE(take(&y, &got[k]), CAMXPT_OK);
     DUE(camxpt_events(&y, 9, again, 3, &part), CAMXPT_OK);
-    HOLDS(part == 3 && memcmp(again, told + 9, 3 * sizeof again[0]) == 0 && again[3].kind == 0);
+    HOLDS(part == 3 && memcmp(again, got + 9, 3 * sizeof again[0]) == 0 && again[3].kind == 0);
     DUE(camxpt_events(&y, 14, again, 3, &part), CAMXPT_OK);
     HOLDS(part == 0);
     DUE(camxpt_events(&y, UINT32_MAX, again, 3, &part), CAMXPT_OK);
     HOLDS(part == 0);
     /* more of the sense data counts than there is */
-    told[10].sense_len = 255;
-    DUE(camxpt_refusal(&y, &told[10]), CAMXPT_NOT_IN_FLIGHT);
+    got[10].sense_len = 255;
+    DUE(camxpt_refusal(&y, &got[10]), CAMXPT_NOT_IN_FLIGHT);
     DUE(camxpt_trace(&x, first, sizeof first, &size), CAMXPT_OK);
     DUE(camxpt_trace(&y, second, sizeof second, &part), CAMXPT_OK);
     HOLDS(size == part && memcmp(first, second, sizeof first) == 0 && first[size - 1] == '\n' && first[size] == 0);
@@ -489,7 +489,7 @@ static void carries(void)
     camxpt_command command = {0, 0, 0, 0, 0};
     camxpt_completion done = {0, 0};
     camxpt_counts counts = {0, 0, 0, 0, 0, 0};
-    camxpt_event told[8];
+    camxpt_event got[8];
     uint32_t numbers[4] = {9, 9, 9, 9}, n = 0;
     size_t count = 77;
 
@@ -531,14 +531,14 @@ static void carries(void)
     HOLDS(count == 3 && numbers[0] == 2 && numbers[1] == 1 && numbers[2] == 3 && numbers[3] == 9);
     DUE(camxpt_look(&y, &counts), CAMXPT_OK);
     HOLDS(counts.length == 7 && counts.round == 2 && counts.in_flight == 0 && counts.cases == 0 && counts.waiting == 3);
-    DUE(camxpt_events(&y, 0, told, 8, &count), CAMXPT_OK);
-    HOLDS(told[0].kind == CAMXPT_ADJUST && told[0].device == 0 && told[0].openings == 7 && told[1].kind == CAMXPT_TICK);
-    HOLDS(told[2].kind == CAMXPT_FREEZE_DEV && told[2].device == 1 && told[2].count == 2);
-    HOLDS(told[3].kind == CAMXPT_FREEZE_SIM && told[3].sim == 0 && told[3].count == 1);
-    HOLDS(told[4].kind == CAMXPT_SUBMIT && told[4].device == 1 && told[4].priority == 128 && told[4].retries == 2);
-    HOLDS(told[4].driver == 1 && told[4].qfreeze == 0 && told[4].qfrzdis == 1);
-    HOLDS(told[5].kind == CAMXPT_SUBMIT && told[5].device == 1 && told[5].priority == 1152 && told[5].retries == 3);
-    HOLDS(told[6].kind == CAMXPT_SUBMIT && told[6].device == 0 && told[6].priority == 1152 && told[6].retries == 3);
+    DUE(camxpt_events(&y, 0, got, 8, &count), CAMXPT_OK);
+    HOLDS(got[0].kind == CAMXPT_ADJUST && got[0].device == 0 && got[0].openings == 7 && got[1].kind == CAMXPT_TICK);
+    HOLDS(got[2].kind == CAMXPT_FREEZE_DEV && got[2].device == 1 && got[2].count == 2);
+    HOLDS(got[3].kind == CAMXPT_FREEZE_SIM && got[3].sim == 0 && got[3].count == 1);
+    HOLDS(got[4].kind == CAMXPT_SUBMIT && got[4].device == 1 && got[4].priority == 128 && got[4].retries == 2);
+    HOLDS(got[4].driver == 1 && got[4].qfreeze == 0 && got[4].qfrzdis == 1);
+    HOLDS(got[5].kind == CAMXPT_SUBMIT && got[5].device == 1 && got[5].priority == 1152 && got[5].retries == 3);
+    HOLDS(got[6].kind == CAMXPT_SUBMIT && got[6].device == 0 && got[6].priority == 1152 && got[6].retries == 3);
     /* the old one is as it was */
     DUE(camxpt_look(&x, &counts), CAMXPT_OK);
     HOLDS(counts.length == 12 && counts.round == 1 && counts.waiting == 3);

@@ -22,16 +22,16 @@
 
 #include "camxpt.h"
 
-#define MOST_DRIVERS 256
-#define MOST_CCBS 1024
-#define MOST_STAYS 4096
-#define MOST_ROUNDS 512
+#define MAX_DRIVERS 256
+#define MAX_CCBS 1024
+#define MAX_STAYS 4096
+#define MAX_ROUNDS 512
 /* From here on a transport takes nothing new: what is in flight, at most 255 commands, can still come to its end. */
 #define LATE_STAYS 3800
 #define LATE_EVENTS 64000
 /* What a recording may have. */
-#define MOST_REQUESTS 1048576
-#define MOST_RECORDED_ROUNDS 65535
+#define MAX_REQUESTS 1048576
+#define MAX_RECORDED_ROUNDS 65535
 #define RETRIES 4
 
 /* ---- options ------------------------------------------------------------------------------------------------------------ */
@@ -43,7 +43,7 @@ static unsigned openings = 4, host = 255, failing, busy, service;
 static struct {
     char *name;
     uint32_t priority;
-} drivers[MOST_DRIVERS];
+} drivers[MAX_DRIVERS];
 static unsigned driver_count;
 
 /* The number of the driver of this name, which is added if there is none; -1 if there is no room or memory. */
@@ -52,7 +52,7 @@ static int driver_named(const char *name, uint32_t priority)
     for (unsigned k = 0; k < driver_count; k++)
         if (strcmp(drivers[k].name, name) == 0)
             return (int)k;
-    char *copy = driver_count < MOST_DRIVERS ? strdup(name) : NULL;
+    char *copy = driver_count < MAX_DRIVERS ? strdup(name) : NULL;
     if (!copy)
         return -1;
     drivers[driver_count].name = copy;
@@ -152,7 +152,7 @@ static pthread_mutex_t lock = PTHREAD_MUTEX_INITIALIZER;
 static pthread_cond_t room = PTHREAD_COND_INITIALIZER, renewed = PTHREAD_COND_INITIALIZER;
 /* The transport, and the handle of the one after it. */
 static camxpt handles[2] = { CAMXPT_INIT, CAMXPT_INIT }, *xpt = &handles[0];
-static struct request *by_ccb[MOST_STAYS];
+static struct request *by_ccb[MAX_STAYS];
 /* Round r of the transport is round skipped + r of all. Late are the requests that wait for a fresh transport. */
 static uint32_t skipped, stays, alive, late, served;
 static bool is_renewed;
@@ -206,13 +206,13 @@ static void open_transport(void)
 /* Opens the next round in a fresh transport, with what waits. */
 static void renew(void)
 {
-    static uint32_t numbers[MOST_CCBS];
-    static struct request *old[MOST_STAYS];
+    static uint32_t numbers[MAX_CCBS];
+    static struct request *old[MAX_STAYS];
     camxpt *fresh = xpt == &handles[0] ? &handles[1] : &handles[0];
     size_t count = 0;
     /* The fresh one's round 2 comes after this one's last. */
     skipped += counts().round - 1;
-    expect(camxpt_carry(xpt, fresh, &limits, numbers, MOST_CCBS, &count), "camxpt_carry");
+    expect(camxpt_carry(xpt, fresh, &limits, numbers, MAX_CCBS, &count), "camxpt_carry");
     expect(camxpt_close(xpt), "camxpt_close");
     xpt = fresh;
     memcpy(old, by_ccb, sizeof old);
@@ -239,7 +239,7 @@ static void pump(void)
         }
         if (counts().in_flight > 0 || (counts().waiting == 0 && !(is_late() && late > 0)))
             return;
-        if (is_late() || counts().round == MOST_ROUNDS)
+        if (is_late() || counts().round == MAX_ROUNDS)
             renew();
         else
             expect(camxpt_tick(xpt, &round), "camxpt_tick");
@@ -258,7 +258,7 @@ static void record(const struct request *request, uint32_t last)
             row_room = more;
         }
     }
-    if (row_count == row_room || row_count == MOST_REQUESTS || request->sent > MOST_RECORDED_ROUNDS) {
+    if (row_count == row_room || row_count == MAX_REQUESTS || request->sent > MAX_RECORDED_ROUNDS) {
         is_recorded = false;
         nbdkit_debug("the recording ends after %zu requests", row_count);
         return;
@@ -331,7 +331,7 @@ static uint8_t tried(const struct job *job, uint32_t number, int *error)
 /* Takes the request into the queue, once there is room. */
 static void enter(struct request *request)
 {
-    while (alive == MOST_CCBS)
+    while (alive == MAX_CCBS)
         pthread_cond_wait(&room, &lock);
     alive++;
     request->arrival = round_now();

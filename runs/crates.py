@@ -1,4 +1,4 @@
-"""The crates of the repository, what they are made of, and what the kit's compiler is told of one."""
+"""The crates of the repository, what they are made of, and what the kit's compiler is passed for one."""
 import functools
 import os
 import subprocess
@@ -73,7 +73,7 @@ def proved(names):
 
 
 def words(name, libraries):
-    """What the kit's compiler is told of a crate, over these libraries of the crates below it."""
+    """What the kit's compiler is passed for a crate, over these libraries of the crates below it."""
     given = ["--crate-name", name, "src/main.rt" if is_program(name) else "src/lib.rt"]
     for it in ["std", *read_uses()[name]]:
         given += ["--extern", f"{it}={libraries.get(it) or f'{kit()}/rlibs/{it}.rlib'}"]

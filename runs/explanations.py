@@ -3,7 +3,7 @@ report of `camxpt audit`."""
 import model
 
 # How many waits of a stay are listed unless all are asked for.
-MOST_WAITS = 64
+MAX_WAITS = 64
 ERROR, CALLER, ADAPTER_FROZEN = "error", "caller", "adapter_frozen"
 DEVICE_STOPPED, ADAPTER_STOPPED, LINK_STOPPED = "device_stopped", "adapter_stopped", "link_stopped"
 DEVICE_FULL, ADAPTER_FULL, LINK_FULL, NOT_ASKED = ENDS = "device_full", "adapter_full", "link_full", "not_asked"
@@ -185,7 +185,7 @@ def planned(text, report):
     return replay
 
 
-def explained(name, text, report, most=MOST_WAITS):
+def explained(name, text, report, most=MAX_WAITS):
     """The object, from the texts of the trace or recording and of the report."""
     replay = planned(text, report)
     counts = {word: int(number) for word, number in (line.split() for line in report.splitlines()[1:7])}

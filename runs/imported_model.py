@@ -10,7 +10,7 @@ from dataclasses import dataclass
 
 STATISTICS = ("CPU", "Total (", "Throughput", "Events (", "Skips", "Input file", "Read", "PC Read", "IO unplugs")
 IGNORED = ("G", "I", "A", "X", "m", "P", "U", "UT", "B", "S")
-MOST_DRIVERS, MOST_DEVICES, MOST_LINE, MOST_TIMES = 256, 32, 65_536, 16
+MAX_DRIVERS, MAX_DEVICES, MAX_LINE, MAX_TIMES = 256, 32, 65_536, 16
 NEEDED, COLUMNS = {"arrival", "start", "device"}, ("arrival", "start", "end", "device", "driver", "priority")
 COUNTS = ("never_started", "without_arrival", "without_start", "requests_without_starts", "other_devices", "other_times",
           "refused_lines", "without_partner", "dropped_runs")
@@ -92,7 +92,7 @@ class Reader:
 
     def add(self, request: Request, counts: bool = True) -> Request:
         if counts:
-            self.name(request.driver, self.drivers, MOST_DRIVERS)
+            self.name(request.driver, self.drivers, MAX_DRIVERS)
         self.name(self.options.listed(request.device) or "", self.devices, 2**64)
         self.requests.append(request)
         return request
@@ -129,7 +129,7 @@ class Reader:
         self.counts["never_started"] = sum(request.started is None for request in taken)
         for kind, names in ("device", self.devices), ("driver", self.drivers):
             names[:] = [name for name in names if any(getattr(request, kind) == name for request in taken)]
-        if len(self.devices) > MOST_DEVICES:
+        if len(self.devices) > MAX_DEVICES:
             raise Refused(f"camxpt: {len(self.devices)} devices, and a recording has at most 32: pick some by --device, or several as one\n")
         return taken
 
@@ -250,7 +250,7 @@ class Fio(Reader):
         if header and self.kind != "lat":
             self.counts["dropped_runs"] += self.kind != "begun"
             self.jobs[self.job], self.clock, self.kind = [], 0, header[1]
-            self.name(self.job, self.drivers, MOST_DRIVERS)
+            self.name(self.job, self.drivers, MAX_DRIVERS)
         elif line and self.kind in "23":
             self.action(line.split())
         elif line:
@@ -262,10 +262,10 @@ class Fio(Reader):
         name = words[1] if len(words) > 1 else ""
         if name in ("read", "write", "trim"):
             must(len(words) == 4)
-            way = ("read", "write", "trim").index(name)
+            mode = ("read", "write", "trim").index(name)
             offset, size = number(words[2]), number(words[3])
-            request = Request(time, words[0], self.job, self.priority(self.job, None, (640, 1152, 1279)[way]), size=size)
-            self.jobs[self.job].append(((way, size, offset), request))
+            request = Request(time, words[0], self.job, self.priority(self.job, None, (640, 1152, 1279)[mode]), size=size)
+            self.jobs[self.job].append(((mode, size, offset), request))
             if self.options.listed(words[0]) is not None:
                 self.name(self.options.listed(words[0]) or "", self.devices, 2**64)
         elif name == "wait" and len(words) > 2:
@@ -331,13 +331,13 @@ class Csv(Reader):
         cells = dict(zip(self.header, row))
         arrival = time_of(cells["arrival"], self.digits)
         started, _ = (time_of(cells[n], self.digits) if cells.get(n) else None for n in ("start", "end"))
-        said, driver = number(cells.get("priority") or "896"), cells.get("driver") or "driver"
-        must(said <= 1279 and (started is None or started >= arrival))
+        message, driver = number(cells.get("priority") or "896"), cells.get("driver") or "driver"
+        must(message <= 1279 and (started is None or started >= arrival))
         if self.options.listed(cells["device"]) is None:
             self.counts["other_devices"] += 1
         else:
             taken = self.options.begin <= arrival < self.options.end
-            self.add(Request(arrival, cells["device"], driver, self.priority(driver, said, 896), started), taken)
+            self.add(Request(arrival, cells["device"], driver, self.priority(driver, message, 896), started), taken)
 
     def all(self) -> list[Request]:
         if not self.header:

@@ -4,14 +4,14 @@ and what to beware of."""
 import csv
 import io
 
-from imported_model import MOST_TIMES
+from imported_model import MAX_TIMES
 
 WEIGHTS = (255, 16), (511, 8), (767, 4), (1023, 2), (1279, 1)
 UNITS = {"ns": 1, "us": 1_000, "ms": 1_000_000, "s": 1_000_000_000}
 SHORT = "camxpt: warning: a round is longer than half of the mean wait, {} ns: shorter waits than a round are not seen"
 ONE_WEIGHT = "camxpt: warning: all requests of {} weigh the same: little can be avoided there"
 UNEVEN = "camxpt: warning: the largest request of {} has more than 16 times the median size, and each counts as one"
-MOST_ROUNDS, MOST_COUNT, MOST_CAP, MOST_OPENINGS = 65535, 2**32 - 1, 65535, 255
+MAX_ROUNDS, MAX_COUNT, MAX_CAP, MAX_OPENINGS = 65535, 2**32 - 1, 65535, 255
 
 
 def lower_median(numbers):
@@ -36,7 +36,7 @@ def caps(numbers, usual):
 
 def exact(time):
     """That many nanoseconds as a number and its unit, the coarsest in which it is whole."""
-    return next((time // size, unit) for unit, size in reversed(UNITS.items()) if time % size == 0 and time // size <= MOST_COUNT)
+    return next((time // size, unit) for unit, size in reversed(UNITS.items()) if time % size == 0 and time // size <= MAX_COUNT)
 
 
 def short(time):
@@ -51,12 +51,12 @@ def usual_round(reader, taken):
     whole = max(request.started for request in taken) - taken[0].arrival
     busiest = max(sum(request.device == device for request in taken) for device in reader.devices)
     half = sum(request.started - request.arrival for request in taken) // (2 * len(taken))
-    shortest = whole // MOST_ROUNDS + 1
+    shortest = whole // MAX_ROUNDS + 1
     usual = max(whole // busiest, shortest)
-    size = next(size for size in UNITS.values() if -(-usual // size) <= MOST_COUNT)
+    size = next(size for size in UNITS.values() if -(-usual // size) <= MAX_COUNT)
     usual = -(-usual // size) * size
     if half and usual > half:
-        usual = max(min(half // size, MOST_COUNT) * size for size in UNITS.values())
+        usual = max(min(half // size, MAX_COUNT) * size for size in UNITS.values())
     return exact(usual) if usual >= shortest else None
 
 
@@ -66,8 +66,8 @@ def on_adapters(reader, options):
     last = max((given[device][0] for device in reader.devices if device in given), default=-1)
     has_shared = not all(device in given for device in reader.devices)
     of = [given[device][0] if device in given else last + 1 for device in reader.devices]
-    said = {given[device][0]: given[device][1] for device in reader.devices if device in given}
-    return of, [said.get(number) for number in range(last + 1 + has_shared)]
+    message = {given[device][0]: given[device][1] for device in reader.devices if device in given}
+    return of, [message.get(number) for number in range(last + 1 + has_shared)]
 
 
 def recording(reader, taken, span, unit):
@@ -76,7 +76,7 @@ def recording(reader, taken, span, unit):
     at = lambda time: 1 + (time - begin) // span
     last = max(at(request.started) for request in taken)
     rounds = range(1, last + 1)
-    adapters, said = on_adapters(reader, reader.options)
+    adapters, message = on_adapters(reader, reader.options)
     devices, sent, usual, caps_of = [], [], [], []
     for number, device in enumerate(reader.devices):
         own = [request for request in taken if request.device == device]
@@ -86,14 +86,14 @@ def recording(reader, taken, span, unit):
         caps_of.append([n if is_pressed else max(n, usual[-1]) for n, is_pressed in zip(sent[-1], pressed)])
         devices.append(("dev", adapters[number], adapters[: number + 1].count(adapters[number]), 0, usual[-1]))
     sims, sim_caps = [], []
-    for number, openings in enumerate(said):
+    for number, openings in enumerate(message):
         on = [device for device, adapter in enumerate(adapters) if adapter == number]
         loads = [sum(sent[device][at] for device in on) for at in range(last)]
         together = sum(usual[device] for device in on)
-        sims.append(openings or max(1, min(MOST_OPENINGS, together)))
+        sims.append(openings or max(1, min(MAX_OPENINGS, together)))
         least = [0] * last if openings else [sum(caps_of[device][at] for device in on) for at in range(last)]
-        numbers = [min(MOST_CAP, max(sims[-1], *both)) for both in zip(loads, least)]
-        sim_caps.append([MOST_CAP] * last if not openings and together > MOST_OPENINGS else numbers)
+        numbers = [min(MAX_CAP, max(sims[-1], *both)) for both in zip(loads, least)]
+        sim_caps.append([MAX_CAP] * last if not openings and together > MAX_OPENINGS else numbers)
     rows = [("camrecord1", *"abcdefg"), ("unit", *unit), ("rounds", last)]
     rows += [("weight", *row) for row in WEIGHTS] + [("sim", openings) for openings in sims] + devices
     for kind, all in ("driver", reader.drivers), ("dev", reader.devices):
@@ -118,5 +118,5 @@ def warnings(reader, taken, half, span):
         weights = {next(weight for last, weight in WEIGHTS if request.priority <= last) for request in own}
         sizes = [request.size for request in own if request.size]
         lines += [ONE_WEIGHT.format(device)] * (len(weights) == 1)
-        lines += [UNEVEN.format(device)] * (max(sizes, default=0) > MOST_TIMES * lower_median(sizes))
+        lines += [UNEVEN.format(device)] * (max(sizes, default=0) > MAX_TIMES * lower_median(sizes))
     return lines

@@ -10,7 +10,7 @@ import subprocess
 
 from program import build, program, top  # noqa: F401 (others take them from here)
 
-MOST_ROUNDS = 512
+MAX_ROUNDS = 512
 EVENTS = "submit", "done", "requeue", "finish", "freeze", "release", "sfreeze", "srelease", "adjust", "tick"
 FLAGS = "none", "none", "none", "none", "qfreeze", "qfrzdis", "both"
 # What lanes answer: a good command, a timeout, a busy device, a requeue, an error that isn't tried again, and check
@@ -87,7 +87,7 @@ def slowed(rng, text):
             late.append(line)
             continue
         given.append(line)
-        if rounds == MOST_ROUNDS:
+        if rounds == MAX_ROUNDS:
             continue
         if word == "tick" and late:
             given += late

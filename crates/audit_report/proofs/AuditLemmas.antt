@@ -1,9 +1,9 @@
 -- what is written of a net with a best plan of it
 use Rattle.std.proofs.Common.{◌≡◌, ℕ, ◌*◌, ◌-◌, ◌<◌, ◌≤◌, Bool, true, false, cond, nat_le, List, [], ◌++◌, length, refl, sym, ap, subst, ◌∙◌, arith, append-nil, Option, Some, None, is_some, slice_index, if◌then◌else◌, All}
 use Rattle.std.proofs.lemmas.List.Elements.{All-from_get_or}
-use Rattle.audit_report.specs.Words.{Topology, MOST_NET_STAYS, MOST_NET_ROUNDS, MOST_WEIGHT, unsent, live_cost, Event, Stay, NetRows, instance_of_rows, live_of_rows, Instance, IsSound, IsAdmissible, cost, ProvesBest, instance_of, live_of, pricing_of_rows, IsPriced, IsPricingFor, IsBest, report_text, summary_text, plan_text, live_cost_of, most_bytes, Claim, history_rules}
-use Rattle.round_net.specs.declared.price_range.TheConstants.{MOST_PRICE}
-use Rattle.price_check.specs.Forms.{most_number}
+use Rattle.audit_report.specs.Words.{Topology, MAX_NET_STAYS, MAX_NET_ROUNDS, MAX_WEIGHT, unsent, live_cost, Event, Stay, NetRows, instance_of_rows, live_of_rows, Instance, IsSound, IsAdmissible, cost, ProvesBest, instance_of, live_of, pricing_of_rows, IsPriced, IsPricingFor, IsBest, report_text, summary_text, plan_text, live_cost_of, max_bytes, Claim, history_rules}
+use Rattle.round_net.specs.declared.price_range.TheConstants.{MAX_PRICE}
+use Rattle.price_check.specs.Forms.{max_number}
 use Rattle.cost_plan.specs.InTurn.{TakesTurns}
 use Rattle.cost_plan.specs.Ties.{KeepsLive}
 use Rattle.event_rules.proofs.LiveLemmas.{live_cost_sent}
@@ -47,20 +47,20 @@ pub record IsBestClaim (summary : Bool) (text : List ℕ) (n : NetRows) (live : 
   pub proved : ProvesBest (instance_of_rows n) (slice_index claim.schedule) (pricing_of_rows claim.prices)
   pub keeps : KeepsLive (instance_of_rows n) (live_of_rows n) (slice_index claim.schedule)
   pub turns : TakesTurns (instance_of_rows n) (live_of_rows n) (slice_index claim.schedule)
-  pub small : live ≤ MOST_NET_STAYS * (MOST_WEIGHT * MOST_NET_ROUNDS)
+  pub small : live ≤ MAX_NET_STAYS * (MAX_WEIGHT * MAX_NET_ROUNDS)
   pub lived : live ≡ cost (instance_of_rows n) (live_of_rows n)
   pub best : claim.best ≡ cost (instance_of_rows n) (slice_index claim.schedule)
   pub excess : claim.excess ≡ live - claim.best
   pub made : text ≡ summary_text n live claim.best claim.excess ++ (if summary then [] else plan_text n (slice_index claim.schedule) (pricing_of_rows claim.prices))
 
 -- its rounds are few
-most_number-rounds : (net : Instance) → MOST_NET_ROUNDS ≤ most_number net
-most_number-rounds net = elim (nat_le net.most_price MOST_PRICE) as (λ b. MOST_NET_ROUNDS ≤ cond {A = ℕ} b 65535 1048576) [ true ↦ omega arith | false ↦ omega arith ]
+max_number-rounds : (net : Instance) → MAX_NET_ROUNDS ≤ max_number net
+max_number-rounds net = elim (nat_le net.max_price MAX_PRICE) as (λ b. MAX_NET_ROUNDS ≤ cond {A = ℕ} b 65535 1048576) [ true ↦ omega arith | false ↦ omega arith ]
 
-rounds_few : (net : Instance) (live : ℕ → ℕ) (f : List ℕ) → IsSound net live → IsAdmissible net (slice_index f) → length f ≡ net.stays → All (λ r. r ≤ most_number net) f
+rounds_few : (net : Instance) (live : ℕ → ℕ) (f : List ℕ) → IsSound net live → IsAdmissible net (slice_index f) → length f ≡ net.stays → All (λ r. r ≤ max_number net) f
 rounds_few net live f sound fits long =
-    All-from_get_or (λ r. r ≤ most_number net) f 0
-    (λ s lt. let within : s < net.stays = omega (arith, lt, long) in omega (arith, fits.not_late s within, sound.to_last s within, sound.few_rounds, most_number-rounds net))
+    All-from_get_or (λ r. r ≤ max_number net) f 0
+    (λ s lt. let within : s < net.stays = omega (arith, lt, long) in omega (arith, fits.not_late s within, sound.to_last s within, sound.few_rounds, max_number-rounds net))
 
 text_cases : (summary : Bool) (n : NetRows) (claim : Claim) →
     summary_text n (live_cost_of n) claim.best claim.excess
@@ -71,7 +71,7 @@ text_cases true n claim = append-nil (summary_text n (live_cost_of n) claim.best
 text_cases false n claim = refl
 
 audited : (summary : Bool) (i : Input) (text : List ℕ) (live : ℕ) (claim : Claim) → IsBestClaim summary text (net_of_input i) live claim →
-    unsent_of i ≡ None → IsLegal i → length text ≤ most_bytes (instance_of_rows (net_of_input i)) → IsAudit summary i text
+    unsent_of i ≡ None → IsLegal i → length text ≤ max_bytes (instance_of_rows (net_of_input i)) → IsAudit summary i text
 audited summary i text live claim b sent legal short =
     let n : NetRows = net_of_input i in
     let net : Instance = instance_of_rows n in
@@ -105,6 +105,6 @@ audited summary i text live claim b sent legal short =
     }
 
 pub is_audit : (summary : Bool) (i : Input) (text : List ℕ) (n : NetRows) (live : ℕ) (claim : Claim) → n ≡ net_of_input i → IsBestClaim summary text n live claim →
-    unsent_of i ≡ None → IsLegal i → length text ≤ most_bytes (instance_of_rows n) → IsAudit summary i text
+    unsent_of i ≡ None → IsLegal i → length text ≤ max_bytes (instance_of_rows n) → IsAudit summary i text
 is_audit summary i text n live claim e b sent legal short =
-    audited summary i text live claim (subst (λ k. IsBestClaim summary text k live claim) e b) sent legal (subst (λ k. length text ≤ most_bytes (instance_of_rows k)) e short)
+    audited summary i text live claim (subst (λ k. IsBestClaim summary text k live claim) e b) sent legal (subst (λ k. length text ≤ max_bytes (instance_of_rows k)) e short)

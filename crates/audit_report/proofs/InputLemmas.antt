@@ -1,20 +1,20 @@
--- what a text is read as, and what is said of it
+-- what a text is read as
 use Rattle.std.proofs.Common.{◌≡◌, ◌≤◌, ◌<◌, ℕ, Bool, true, false, cond, List, [], ◌++◌, length, take, refl, sym, ap, subst, ◌∙◌, arith, append-nil, nat_le, Option, Some, None, Result, Ok, Err, IfOk, IfErr, IfSome, bytes_eq, codes, ◌∷◌, ◌&&◌, ◌==◌, rules, tests}
 use Rattle.std.proofs.lemmas.Bool.{leb-true, le-leb, lt-leb, and_parts}
 use Rattle.std.proofs.lemmas.Slice.Eq.{bytes_eq-Decides}
-use Rattle.audit_report.specs.Words.{MOST_BYTES, Past, Explains, IsLongWhole}
+use Rattle.audit_report.specs.Words.{MAX_BYTES, Past, Explains, IsLongWhole}
 use Rattle.audit_report.specs.Inputs.{Input, IsInput, IsTextOf, IsFaultOf, WasRead, WhyNotRead, WhyNoNetOf, WhyNoNet, IsFailure, IsReadOrFailed, unsent_of}
-use Rattle.audit_report.specs.Reading.{AsRead, as_either, as_trace, said, said_unheaded}
+use Rattle.audit_report.specs.Reading.{AsRead, as_either, as_trace, parsed, parsed_unheaded}
 use Rattle.audit_report.specs.declared.input.Input.TheVariants as input
 use Rattle.audit_report.specs.declared.audit_fault.AuditFault.{AuditFault}
 use Rattle.audit_report.specs.declared.audit_fault.AuditFault.TheVariants as fault
 use Rattle.recording_file.specs.Header.{has_letters, is_header, name_text}
 use Rattle.recording_file.specs.Fields.{Row, field_of}
 use Rattle.recording_file.specs.Recorded.{Recorded}
-use Rattle.recording_file.specs.declared.maxima.TheConstants.{MOST_RECORDING_BYTES}
+use Rattle.recording_file.specs.declared.limits.TheConstants.{MAX_RECORDING_BYTES}
 use Rattle.recording_file.specs.Reading as recordings
 use Rattle.record_text.specs.Text.{records_in}
-use Rattle.recording_file.specs.Whole.{most_bytes, IsTooLong}
+use Rattle.recording_file.specs.Whole.{max_bytes, IsTooLong}
 use Rattle.recording_file.specs.declared.recording_fault.RecordingFault.{RecordingFault}
 use Rattle.recording_file.specs.declared.recording_fault.RecordingFault.TheVariants as recording_fault
 use Rattle.recording_file.proofs.FaultLaws as recording_laws
@@ -29,11 +29,11 @@ use Rattle.trace_file.proofs.WholeLaws as trace_again
 
 -- ---- how long a text may be
 
-pub most_least : (text : List ℕ) → MOST_BYTES ≤ most_bytes text
-unfolding most_bytes
+pub most_least : (text : List ℕ) → MAX_BYTES ≤ max_bytes text
+unfolding max_bytes
 most_least text = by (bytes_eq name_text (take 10 text))
   where
-    by : (b : Bool) → MOST_BYTES ≤ cond b MOST_RECORDING_BYTES MOST_BYTES
+    by : (b : Bool) → MAX_BYTES ≤ cond b MAX_RECORDING_BYTES MAX_BYTES
     by true = omega arith
     by false = omega arith
 
@@ -41,29 +41,29 @@ most_least text = by (bytes_eq name_text (take 10 text))
 
 record SaysTrace (text : List ℕ) (past : Past) : Type 0 where
   header : recordings.reading (records_in text) ≡ Err recording_fault.BadHeader
-  bound : length text ≤ MOST_BYTES
+  bound : length text ≤ MAX_BYTES
   reading : traces.reading (records_in text) ≡ Ok past
 
-unheaded_trace : (text : List ℕ) (past : Past) → recordings.reading (records_in text) ≡ Err recording_fault.BadHeader → said_unheaded text ≡ Ok (input.Trace past) → SaysTrace text past
-unfolding said_unheaded
-unheaded_trace text past bare e = by (nat_le (length text) MOST_BYTES) (traces.reading (records_in text)) refl refl e
+unheaded_trace : (text : List ℕ) (past : Past) → recordings.reading (records_in text) ≡ Err recording_fault.BadHeader → parsed_unheaded text ≡ Ok (input.Trace past) → SaysTrace text past
+unfolding parsed_unheaded
+unheaded_trace text past bare e = by (nat_le (length text) MAX_BYTES) (traces.reading (records_in text)) refl refl e
   where
-    by : (b : Bool) (r : Result Past TraceFault) → nat_le (length text) MOST_BYTES ≡ b → traces.reading (records_in text) ≡ r → cond b (as_trace r) (Err (fault.Recording recording_fault.BadHeader)) ≡ Ok (input.Trace past) → SaysTrace text past
-    by true (Ok read) is was k = let same : read ≡ past = cc in record { header = bare; bound = leb-true (length text) MOST_BYTES is; reading = was ∙ ap (λ (p : Past). Ok p) same }
+    by : (b : Bool) (r : Result Past TraceFault) → nat_le (length text) MAX_BYTES ≡ b → traces.reading (records_in text) ≡ r → cond b (as_trace r) (Err (fault.Recording recording_fault.BadHeader)) ≡ Ok (input.Trace past) → SaysTrace text past
+    by true (Ok read) is was k = let same : read ≡ past = cc in record { header = bare; bound = leb-true (length text) MAX_BYTES is; reading = was ∙ ap (λ (p : Past). Ok p) same }
     by true (Err f) is was k = absurd cc
     by false r is was k = absurd cc
 
-unheaded_recording : (text : List ℕ) (r : Recorded) → said_unheaded text ≡ Ok (input.Recording r) → ⊥
-unfolding said_unheaded
-unheaded_recording text r e = by (nat_le (length text) MOST_BYTES) (traces.reading (records_in text)) e
+unheaded_recording : (text : List ℕ) (r : Recorded) → parsed_unheaded text ≡ Ok (input.Recording r) → ⊥
+unfolding parsed_unheaded
+unheaded_recording text r e = by (nat_le (length text) MAX_BYTES) (traces.reading (records_in text)) e
   where
     by : (b : Bool) (read : Result Past TraceFault) → cond b (as_trace read) (Err (fault.Recording recording_fault.BadHeader)) ≡ Ok (input.Recording r) → ⊥
     by true (Ok past) k = absurd cc
     by true (Err f) k = absurd cc
     by false read k = absurd cc
 
-says_trace : (text : List ℕ) (past : Past) → said text ≡ Ok (input.Trace past) → SaysTrace text past
-unfolding said
+says_trace : (text : List ℕ) (past : Past) → parsed text ≡ Ok (input.Trace past) → SaysTrace text past
+unfolding parsed
 says_trace text past e = by (recordings.reading (records_in text)) refl e
   where
     by : (r : Result Recorded RecordingFault) → recordings.reading (records_in text) ≡ r → as_either text r ≡ Ok (input.Trace past) → SaysTrace text past
@@ -71,8 +71,8 @@ says_trace text past e = by (recordings.reading (records_in text)) refl e
     by (Err recording_fault.BadHeader) is k = unheaded_trace text past is k
     by (Err f) is k = absurd cc
 
-says_recording : (text : List ℕ) (r : Recorded) → said text ≡ Ok (input.Recording r) → recordings.reading (records_in text) ≡ Ok r
-unfolding said
+says_recording : (text : List ℕ) (r : Recorded) → parsed text ≡ Ok (input.Recording r) → recordings.reading (records_in text) ≡ Ok r
+unfolding parsed
 says_recording text r e = by (recordings.reading (records_in text)) refl e
   where
     by : (read : Result Recorded RecordingFault) → recordings.reading (records_in text) ≡ read → as_either text read ≡ Ok (input.Recording r) → recordings.reading (records_in text) ≡ Ok r
@@ -81,7 +81,7 @@ says_recording text r e = by (recordings.reading (records_in text)) refl e
     by (Err f) is k = absurd cc
 
 -- what was read is what the text says
-was_read : (before after : Option (List ℕ)) (text : List ℕ) → IsLongWhole before after text → (i : Input) → said text ≡ Ok i → WasRead before after i
+was_read : (before after : Option (List ℕ)) (text : List ℕ) → IsLongWhole before after text → (i : Input) → parsed text ≡ Ok i → WasRead before after i
 was_read before after text whole (input.Recording r) e =
     let w = was_recording before after text whole r (says_recording text r e) in
     record { text = w.text; whole = w.whole; spelled = w.spelled; kept = w.recording }
@@ -125,13 +125,13 @@ trace_bare (row ∷ rest) past e = by (is_header name_text row) refl
         absurd (let both : Ok past ≡ Err trace_fault.BadHeader = sym e ∙ none in cc)
     by false is = rw is refl
 
-text_said : (text : List ℕ) (i : Input) → IsInput i → IsTextOf text i → said text ≡ Ok i
-unfolding said said_unheaded
-text_said text (input.Recording r) kept is = ap (as_either text) (ap recordings.reading is.spelled ∙ recording_again.reading_again is.table r kept is.held)
-text_said text (input.Trace past) kept is =
+text_parsed : (text : List ℕ) (i : Input) → IsInput i → IsTextOf text i → parsed text ≡ Ok i
+unfolding parsed parsed_unheaded
+text_parsed text (input.Recording r) kept is = ap (as_either text) (ap recordings.reading is.spelled ∙ recording_again.reading_again is.table r kept is.held)
+text_parsed text (input.Trace past) kept is =
     let read : traces.reading (records_in text) ≡ Ok past = ap traces.reading is.spelled ∙ trace_again.reading_again is.version past kept is.held in
     let bare = trace_bare (records_in text) past read in
-    let short : nat_le (length text) MOST_BYTES ≡ true = grind (arith, is.bounded) in
+    let short : nat_le (length text) MAX_BYTES ≡ true = grind (arith, is.bounded) in
     ap (as_either text) bare ∙ ap (λ b. cond b (as_trace (traces.reading (records_in text))) (Err (fault.Recording recording_fault.BadHeader))) short ∙ ap as_trace read
 
 -- ---- faults
@@ -144,29 +144,29 @@ record SaysFault (text : List ℕ) (e : AuditFault) : Type 0 where
   first : IsFaultOf text e
   none : (f : TraceFault) → e ≡ fault.Trace f → trace_laws.IsOfText f
 
-trace_fault_of : (text : List ℕ) (e : TraceFault) → length text ≤ MOST_BYTES → traces.reading (records_in text) ≡ Err e → Explains (Some text) (Some []) false e
+trace_fault_of : (text : List ℕ) (e : TraceFault) → length text ≤ MAX_BYTES → traces.reading (records_in text) ≡ Err e → Explains (Some text) (Some []) false e
 unfolding traces.reading
 trace_fault_of text e short is =
     trace_laws.faults_law traces.step traces.ended _ (Some text) (Some []) false text (Err e) trace_laws.reading_fails (record { bounded = short; read = sym (append-nil text); ended = refl }) (λ other. sym is)
 
-fault_unheaded : (text : List ℕ) (e : AuditFault) → recordings.reading (records_in text) ≡ Err recording_fault.BadHeader → said_unheaded text ≡ Err e → SaysFault text e
-unfolding said_unheaded recordings.reading traces.reading
-fault_unheaded text e bare h = by (nat_le (length text) MOST_BYTES) (traces.reading (records_in text)) refl refl h
+fault_unheaded : (text : List ℕ) (e : AuditFault) → recordings.reading (records_in text) ≡ Err recording_fault.BadHeader → parsed_unheaded text ≡ Err e → SaysFault text e
+unfolding parsed_unheaded recordings.reading traces.reading
+fault_unheaded text e bare h = by (nat_le (length text) MAX_BYTES) (traces.reading (records_in text)) refl refl h
   where
-    by : (b : Bool) (r : Result Past TraceFault) → nat_le (length text) MOST_BYTES ≡ b → traces.reading (records_in text) ≡ r → cond b (as_trace r) (Err (fault.Recording recording_fault.BadHeader)) ≡ Err e → SaysFault text e
+    by : (b : Bool) (r : Result Past TraceFault) → nat_le (length text) MAX_BYTES ≡ b → traces.reading (records_in text) ≡ r → cond b (as_trace r) (Err (fault.Recording recording_fault.BadHeader)) ≡ Err e → SaysFault text e
     by true (Ok past) short was k = absurd cc
     by true (Err f) short was k =
         let same : fault.Trace f ≡ e = cc in
         subst (SaysFault text) same (record {
-          first = (bare, trace_fault_of text f (leb-true (length text) MOST_BYTES short) was);
+          first = (bare, trace_fault_of text f (leb-true (length text) MAX_BYTES short) was);
           none = λ g is. let other : f ≡ g = cc in subst trace_laws.IsOfText other (of_text _ f (trace_laws.reading_fails (records_in text)) was);
         })
     by false r short was k =
         let same : fault.Recording recording_fault.BadHeader ≡ e = cc in
         subst (SaysFault text) same (record { first = recording_laws.first_fault (records_in text) recording_fault.BadHeader bare; none = λ g is. absurd cc })
 
-fault_of : (text : List ℕ) (e : AuditFault) → said text ≡ Err e → SaysFault text e
-unfolding said recordings.reading
+fault_of : (text : List ℕ) (e : AuditFault) → parsed text ≡ Err e → SaysFault text e
+unfolding parsed recordings.reading
 fault_of text e h = by (recordings.reading (records_in text)) refl h
   where
     by : (r : Result Recorded RecordingFault) → recordings.reading (records_in text) ≡ r → as_either text r ≡ Err e → SaysFault text e
@@ -185,11 +185,11 @@ not_read before after failed text whole e h = record { text = text; whole = whol
 
 -- ---- what a reader of either answers
 
-pub found_read : (before after : Option (List ℕ)) (text : List ℕ) (r : Result Input AuditFault) → IsLongWhole before after text → AsRead r (said text) → IfOk r (WasRead before after)
+pub found_read : (before after : Option (List ℕ)) (text : List ℕ) (r : Result Input AuditFault) → IsLongWhole before after text → AsRead r (parsed text) → IfOk r (WasRead before after)
 found_read before after text (Ok i) whole h = was_read before after text whole i (sym h)
 found_read before after text (Err e) whole h = tt
 
-pub faults_read : (before after : Option (List ℕ)) (failed : Bool) (text : List ℕ) (r : Result Input AuditFault) → IsLongWhole before after text → AsRead r (said text) → IfErr r (WhyNotRead before after failed)
+pub faults_read : (before after : Option (List ℕ)) (failed : Bool) (text : List ℕ) (r : Result Input AuditFault) → IsLongWhole before after text → AsRead r (parsed text) → IfErr r (WhyNotRead before after failed)
 faults_read before after failed text (Ok i) whole h = tt
 faults_read before after failed text (Err (fault.Trace trace_fault.OutOfMemory)) whole h = tt
 faults_read before after failed text (Err (fault.Recording recording_fault.OutOfMemory)) whole h = tt
@@ -201,19 +201,19 @@ answered i (Err (fault.Trace trace_fault.OutOfMemory)) h = tt
 answered i (Err (fault.Recording recording_fault.OutOfMemory)) h = tt
 answered i (Err e) h = absurd cc
 
-pub only_read : (before after : Option (List ℕ)) (text : List ℕ) (i : Input) (r : Result Input AuditFault) → IsInput i → IsLongWhole before after text → AsRead r (said text) → IfSome before (λ all. IsTextOf all i → IsReadOrFailed i r)
+pub only_read : (before after : Option (List ℕ)) (text : List ℕ) (i : Input) (r : Result Input AuditFault) → IsInput i → IsLongWhole before after text → AsRead r (parsed text) → IfSome before (λ all. IsTextOf all i → IsReadOrFailed i r)
 only_read None after text i r kept whole h = tt
 only_read (Some all) None text i r kept whole h = absurd whole.read
 only_read (Some all) (Some left) text i r kept whole h = λ is.
     let same : all ≡ text = whole.read ∙ ap (λ (l : List ℕ). text ++ l) whole.ended ∙ append-nil text in
-    answered i r (subst (AsRead r) (text_said text i kept (subst (λ t. IsTextOf t i) same is)) h)
+    answered i r (subst (AsRead r) (text_parsed text i kept (subst (λ t. IsTextOf t i) same is)) h)
 
 -- no text of either is too long
-bounded : (text : List ℕ) (i : Input) → IsTextOf text i → length text ≤ most_bytes text
+bounded : (text : List ℕ) (i : Input) → IsTextOf text i → length text ≤ max_bytes text
 bounded text (input.Trace past) is = omega (arith, is.bounded, most_least text)
 bounded text (input.Recording r) is = is.bounded
 
-none_long : (P : Type 0) (i : Input) (before : Option (List ℕ)) → IfSome before (λ all. most_bytes all < length all) → IfSome before (λ all. IsTextOf all i → P)
+none_long : (P : Type 0) (i : Input) (before : Option (List ℕ)) → IfSome before (λ all. max_bytes all < length all) → IfSome before (λ all. IsTextOf all i → P)
 none_long P i None h = tt
 none_long P i (Some all) h = λ is. absurd (let bound = bounded all i is in omega (arith, bound, h))
 
@@ -240,39 +240,39 @@ failure_of_net i _ sent h = absurd h
 
 -- ---- a reader's own steps
 
-pub long_unheaded : (text : List ℕ) → MOST_BYTES < length text → Err (fault.Recording recording_fault.BadHeader) ≡ said_unheaded text
-unfolding said_unheaded
-long_unheaded text long = sym (ap (λ b. cond b (as_trace (traces.reading (records_in text))) (Err (fault.Recording recording_fault.BadHeader))) (lt-leb (length text) MOST_BYTES long))
+pub long_unheaded : (text : List ℕ) → MAX_BYTES < length text → Err (fault.Recording recording_fault.BadHeader) ≡ parsed_unheaded text
+unfolding parsed_unheaded
+long_unheaded text long = sym (ap (λ b. cond b (as_trace (traces.reading (records_in text))) (Err (fault.Recording recording_fault.BadHeader))) (lt-leb (length text) MAX_BYTES long))
 
-short_unheaded : (text : List ℕ) → length text ≤ MOST_BYTES → said_unheaded text ≡ as_trace (traces.reading (records_in text))
-unfolding said_unheaded
-short_unheaded text short = ap (λ b. cond b (as_trace (traces.reading (records_in text))) (Err (fault.Recording recording_fault.BadHeader))) (le-leb (length text) MOST_BYTES short)
+short_unheaded : (text : List ℕ) → length text ≤ MAX_BYTES → parsed_unheaded text ≡ as_trace (traces.reading (records_in text))
+unfolding parsed_unheaded
+short_unheaded text short = ap (λ b. cond b (as_trace (traces.reading (records_in text))) (Err (fault.Recording recording_fault.BadHeader))) (le-leb (length text) MAX_BYTES short)
 
-pub trace_said : (text : List ℕ) (r : Result Past TraceFault) → length text ≤ MOST_BYTES → trace_laws.Gives r (traces.reading (records_in text)) → AsRead (as_trace r) (said_unheaded text)
-trace_said text (Ok past) short h = ap as_trace (h (λ k. cc)) ∙ sym (short_unheaded text short)
-trace_said text (Err trace_fault.OutOfMemory) short h = tt
-trace_said text (Err e) short h = ap as_trace (h (λ k. cc)) ∙ sym (short_unheaded text short)
+pub trace_parsed : (text : List ℕ) (r : Result Past TraceFault) → length text ≤ MAX_BYTES → trace_laws.Gives r (traces.reading (records_in text)) → AsRead (as_trace r) (parsed_unheaded text)
+trace_parsed text (Ok past) short h = ap as_trace (h (λ k. cc)) ∙ sym (short_unheaded text short)
+trace_parsed text (Err trace_fault.OutOfMemory) short h = tt
+trace_parsed text (Err e) short h = ap as_trace (h (λ k. cc)) ∙ sym (short_unheaded text short)
 
-pub recording_said : (text : List ℕ) (r : Result Recorded RecordingFault) (read : Recorded) → recording_laws.Gives r (recordings.reading (records_in text)) → r ≡ Ok read → Ok (input.Recording read) ≡ said text
-unfolding said
-recording_said text r read h is = ap (as_either text) (sym is ∙ h (λ k. let both : Ok read ≡ Err recording_fault.OutOfMemory = sym is ∙ k in cc))
+pub recording_parsed : (text : List ℕ) (r : Result Recorded RecordingFault) (read : Recorded) → recording_laws.Gives r (recordings.reading (records_in text)) → r ≡ Ok read → Ok (input.Recording read) ≡ parsed text
+unfolding parsed
+recording_parsed text r read h is = ap (as_either text) (sym is ∙ h (λ k. let both : Ok read ≡ Err recording_fault.OutOfMemory = sym is ∙ k in cc))
 
-bare_said : (text : List ℕ) → recordings.reading (records_in text) ≡ Err recording_fault.BadHeader → said text ≡ said_unheaded text
-unfolding said
-bare_said text is = ap (as_either text) is
+bare_parsed : (text : List ℕ) → recordings.reading (records_in text) ≡ Err recording_fault.BadHeader → parsed text ≡ parsed_unheaded text
+unfolding parsed
+bare_parsed text is = ap (as_either text) is
 
-pub unheaded_said : (text : List ℕ) (r : Result Recorded RecordingFault) (e : RecordingFault) (answer : Result Input AuditFault) → recording_laws.Gives r (recordings.reading (records_in text)) → r ≡ Err e → e ≡ recording_fault.BadHeader
-    → AsRead answer (said_unheaded text) → AsRead answer (said text)
-unheaded_said text r e answer h is bare reads =
+pub unheaded_parsed : (text : List ℕ) (r : Result Recorded RecordingFault) (e : RecordingFault) (answer : Result Input AuditFault) → recording_laws.Gives r (recordings.reading (records_in text)) → r ≡ Err e → e ≡ recording_fault.BadHeader
+    → AsRead answer (parsed_unheaded text) → AsRead answer (parsed text)
+unheaded_parsed text r e answer h is bare reads =
     let none : r ≡ Err recording_fault.BadHeader = is ∙ ap (λ (x : RecordingFault). Err x) bare in
     let read : recordings.reading (records_in text) ≡ Err recording_fault.BadHeader = sym (h (λ k. let both : Err recording_fault.BadHeader ≡ Err recording_fault.OutOfMemory = sym none ∙ k in cc)) ∙ none in
-    subst (AsRead answer) (sym (bare_said text read)) reads
+    subst (AsRead answer) (sym (bare_parsed text read)) reads
 
-faulty_said : (text : List ℕ) (e : RecordingFault) → (e ≡ recording_fault.BadHeader → ⊥) → recordings.reading (records_in text) ≡ Err e → Err (fault.Recording e) ≡ said text
-unfolding said
-faulty_said text recording_fault.BadHeader other is = absurd (other refl)
-faulty_said text e other is = sym (ap (as_either text) is)
+faulty_parsed : (text : List ℕ) (e : RecordingFault) → (e ≡ recording_fault.BadHeader → ⊥) → recordings.reading (records_in text) ≡ Err e → Err (fault.Recording e) ≡ parsed text
+unfolding parsed
+faulty_parsed text recording_fault.BadHeader other is = absurd (other refl)
+faulty_parsed text e other is = sym (ap (as_either text) is)
 
-pub fault_said : (text : List ℕ) (r : Result Recorded RecordingFault) (e : RecordingFault) → recording_laws.Gives r (recordings.reading (records_in text)) → r ≡ Err e → (e ≡ recording_fault.BadHeader → ⊥) → AsRead (Err (fault.Recording e)) (said text)
-fault_said text r recording_fault.OutOfMemory h is other = tt
-fault_said text r e h is other = faulty_said text e other (sym (h (λ k. let both : Err e ≡ Err recording_fault.OutOfMemory = sym is ∙ k in cc)) ∙ is)
+pub fault_parsed : (text : List ℕ) (r : Result Recorded RecordingFault) (e : RecordingFault) → recording_laws.Gives r (recordings.reading (records_in text)) → r ≡ Err e → (e ≡ recording_fault.BadHeader → ⊥) → AsRead (Err (fault.Recording e)) (parsed text)
+fault_parsed text r recording_fault.OutOfMemory h is other = tt
+fault_parsed text r e h is other = faulty_parsed text e other (sym (h (λ k. let both : Err e ≡ Err recording_fault.OutOfMemory = sym is ∙ k in cc)) ∙ is)

@@ -18,7 +18,7 @@ use Rattle.audit_report.specs.Runs.{AuditFault}
 abbrev pub ReadsInput : Option (List ℕ) → Result (Input × NetRows) AuditFault → Type 0
 ReadsInput r read = (i : Input) → IsInput i → unsent_of i ≡ None → IfSome r (λ all. IsTextOf all i → IsNettedOrFailed i read)
 
--- where it was not read, nothing is said of a report
+-- if it was not read, no report is read
 err_cases : (i : Input) (read : Result (Input × NetRows) AuditFault) (fault : AuditFault) (result : Result Bool AuditFault) → read ≡ Err fault → IsErrAnd result (λ f. f ≡ fault) →
     IsNettedOrFailed i read → IsProvedOrFailed result
 err_cases i read fault (Ok answer) is there h = absurd there

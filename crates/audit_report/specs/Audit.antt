@@ -1,6 +1,6 @@
 -- what an audit of a trace or a recording writes
 use Rattle.std.specs.Prelude.{◌≡◌, ℕ, ◌≤◌, Bool, if◌then◌else◌, List, length, slice_index, None}
-use Rattle.audit_report.specs.Words.{NetRows, instance_of_rows, live_of_rows, IsAdmissible, cost, IsClaim, live_cost_of, most_bytes, report_text, summary_text, Claim}
+use Rattle.audit_report.specs.Words.{NetRows, instance_of_rows, live_of_rows, IsAdmissible, cost, IsClaim, live_cost_of, max_bytes, report_text, summary_text, Claim}
 use Rattle.cost_plan.specs.InTurn.{TakesTurns}
 use Rattle.cost_plan.specs.Ties.{KeepsLive}
 use Rattle.audit_report.specs.Findings.{IsRight}
@@ -26,5 +26,5 @@ pub record IsAudit (summary : Bool) (i : Input) (text : List ℕ) : Type 0 where
   pub live : KeepsLive (instance_of_rows (net_of_input i)) (live_of_rows (net_of_input i)) (slice_index claim.schedule)
   pub turns : TakesTurns (instance_of_rows (net_of_input i)) (live_of_rows (net_of_input i)) (slice_index claim.schedule)
   pub least : (other : ℕ → ℕ) → IsAdmissible (instance_of_rows (net_of_input i)) other → claim.best ≤ cost (instance_of_rows (net_of_input i)) other
-  pub short : length text ≤ most_bytes (instance_of_rows (net_of_input i))
+  pub short : length text ≤ max_bytes (instance_of_rows (net_of_input i))
   pub lines : text ≡ audit_text summary (net_of_input i) claim

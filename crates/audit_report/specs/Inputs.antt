@@ -1,7 +1,7 @@
 -- What is checked, audited and proved: a trace of this transport, or a recording of any scheduler.
 use Rattle.std.specs.Prelude.{◌≡◌, ℕ, Bool, true, false, List, [], Option, Some, None, Result, Ok, Err, ⊤, IsTrue}
 use Rattle.std.specs.List.{list_all}
-use Rattle.audit_report.specs.Words.{moments, Stay, NetRows, net_of, instance_of, live_of, instance_of_rows, live_of_rows, cost, live_cost, stands_free, unsent, history_rules, is_legal, IsTrace, IsHistory}
+use Rattle.audit_report.specs.Words.{prefixed, Stay, NetRows, net_of, instance_of, live_of, instance_of_rows, live_of_rows, cost, live_cost, stands_free, unsent, history_rules, is_legal, IsTrace, IsHistory}
 use Rattle.audit_report.specs.Words.{net_of_recording, IsRecording, IsRecordingText, IsLongWhole}
 use Rattle.recording_file.specs.Whole.{IsTooLong}
 use Rattle.recording_file.specs.Reading as recordings
@@ -21,7 +21,7 @@ abbrev pub net_of_input : Input → NetRows
 net_of_input (input.Trace past) = net_of past.config past.events
 net_of_input (input.Recording r) = net_of_recording r
 
--- the first of its stays, by birth, that has no send; each request of a recording was started
+-- the first of its stays, in creation order, that has no send; each request of a recording was started
 abbrev pub unsent_of : Input → Option Stay
 unsent_of (input.Trace past) = unsent past.events
 unsent_of (input.Recording r) = None
@@ -33,7 +33,7 @@ IsLiveCost (input.Recording r) n = n ≡ cost (instance_of_rows (net_of_recordin
 
 -- each send of a history stands where its device and adapter were free
 abbrev pub StandsFree : Input → Type 0
-StandsFree (input.Trace past) = IsTrue (list_all (stands_free past.config) (moments past.events))
+StandsFree (input.Trace past) = IsTrue (list_all (stands_free past.config) (prefixed past.events))
 StandsFree (input.Recording r) = ⊤
 
 -- a history is legal

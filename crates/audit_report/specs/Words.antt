@@ -1,9 +1,9 @@
 -- The words of the crates below that most clauses and proofs cite, passed on from one place. Declares nothing.
-pub use Rattle.cam_types.specs.Lists.{moments}
+pub use Rattle.cam_types.specs.Lists.{prefixed}
 pub use Rattle.cam_types.specs.Topology.{Topology}
 pub use Rattle.cam_types.specs.Watched.{device_of, has_failed, is_flushed}
 pub use Rattle.cam_types.specs.Whole.{AppendsFront}
-pub use Rattle.cam_types.specs.declared.maxima.TheConstants.{MOST_ADAPTERS, MOST_BYTES, MOST_DEVICES, MOST_LINKS, MOST_ROUNDS, MOST_STAYS, MOST_WEIGHT}
+pub use Rattle.cam_types.specs.declared.limits.TheConstants.{MAX_ADAPTERS, MAX_BYTES, MAX_DEVICES, MAX_LINKS, MAX_ROUNDS, MAX_STAYS, MAX_WEIGHT}
 pub use Rattle.event_rules.specs.Counts.{commands, round}
 pub use Rattle.event_rules.specs.Laws.{stands_free}
 pub use Rattle.event_rules.specs.Legal.{history_rules, is_legal}
@@ -16,7 +16,7 @@ pub use Rattle.event_rules.specs.declared.passage.Passage.{Passage}
 pub use Rattle.event_rules.specs.declared.stay.Stay.{Stay}
 pub use Rattle.price_check.specs.Claims.{IsClaim}
 unfoldable pub use Rattle.price_check.specs.Claims.{report_text}
-pub use Rattle.price_check.specs.Forms.{most_bytes}
+pub use Rattle.price_check.specs.Forms.{max_bytes}
 pub use Rattle.price_check.specs.Lines.{line}
 pub use Rattle.price_check.specs.Report.{live_cost_of, number_text, plan_text, summary_text}
 pub use Rattle.price_check.specs.Verdicts.{IsBest, IsGap, IsRefused}
@@ -39,7 +39,7 @@ pub use Rattle.round_net.specs.Schedules.{IsAdmissible, cost}
 pub use Rattle.round_net.specs.Sound.{IsSound}
 pub use Rattle.round_net.specs.Sums.{sum_below}
 pub use Rattle.round_net.specs.Value.{ProvesBest}
-pub use Rattle.round_net.specs.declared.maxima.TheConstants.{MOST_NET_ROUNDS, MOST_NET_STAYS}
+pub use Rattle.round_net.specs.declared.limits.TheConstants.{MAX_NET_ROUNDS, MAX_NET_STAYS}
 pub use Rattle.round_net.specs.declared.stay_row.StayRow.{StayRow}
 pub use Rattle.trace_file.specs.Trace.{Explains, IsHistory, IsTrace, WasTrace}
 pub use Rattle.trace_file.specs.Writing.{migrated_text}

@@ -9,20 +9,20 @@ use crate::audit::write_audit;
 use crate::audit_fault::AuditFault;
 use crate::reading::read_net;
 use cam_types::Watched;
-use cost_plan::{Gate, plan_with};
+use cost_plan::{PlanProgress, plan_with};
 use std::alloc::Global;
 use std::io::{Read, Write};
 use std::thread::Threads;
 use trace_file::TraceFault;
 
-/// As `run_audit`, but that the adapters are planned at once, by threads that tell the gate of each, as `plan_with` does.
-pub fn run_audit_with<H: Threads + Sync, R: Read, W: Write, G: Gate + Sync>(
+/// As `run_audit`, but that the adapters are planned at once, by threads that report each to `progress`, as `plan_with` does.
+pub fn run_audit_with<H: Threads + Sync, R: Read, W: Write, G: PlanProgress + Sync>(
     rt: &H,
     alloc: Global,
     trace: &mut Watched<R>,
     out: &mut Watched<W>,
     summary: bool,
-    gate: &G,
+    progress: &G,
 ) -> Result<(), AuditFault>
     requires trace_calm { has_failed trace.old ≡ false }
     requires out_calm { has_failed out.old ≡ false }
@@ -32,6 +32,6 @@ pub fn run_audit_with<H: Threads + Sync, R: Read, W: Write, G: Gate + Sync>(
     ensures out_calm { result ≢ Err AuditFault.WriteFailed → has_failed out.new ≡ false }
 {
     let (input, net) = read_net(alloc, trace)?;
-    let best = plan_with(rt, alloc, &net, gate)?;
+    let best = plan_with(rt, alloc, &net, progress)?;
     write_audit(alloc, &input, &net, &best, out, summary)
 }

@@ -10,7 +10,7 @@ use std::alloc::AllocError;
 use thiserror::Error;
 use trace_file::TraceFault;
 
-/// Why a run ended without its output. Where nothing else is said, nothing was written.
+/// Why a run ended without its output. Nothing was written unless a variant states otherwise.
 #[derive(Clone, Copy, Debug, PartialEq, Eq, Error)]
 pub enum AuditFault {
     /// The input is no trace, or wasn't read.
@@ -19,7 +19,7 @@ pub enum AuditFault {
     /// The input is no recording, though it begins with the header of one.
     #[error("{0}")]
     Recording(RecordingFault),
-    /// The history isn't complete: this is the first of its stays, by birth, that has no send.
+    /// The history isn't complete: this is the first of its stays, in creation order, that has no send.
     #[error("unsent ccb {} try {}", .0.ccb, .0.attempt)]
     Unsent(Stay),
     /// The report isn't one of the net, or wasn't read.

@@ -1,7 +1,7 @@
 //! What the live schedule cost, what a best one costs, and the excess.
 
 ghost use Rattle.std.specs.Prelude.{◌≡◌, ◌-◌, ◌*◌, ◌≤◌, length, slice_index};
-ghost use Rattle.audit_report.specs.Words.{instance_of_rows, live_of_rows, IsAdmissible, cost, IsBest, MOST_NET_STAYS, MOST_NET_ROUNDS, MOST_WEIGHT};
+ghost use Rattle.audit_report.specs.Words.{instance_of_rows, live_of_rows, IsAdmissible, cost, IsBest, MAX_NET_STAYS, MAX_NET_ROUNDS, MAX_WEIGHT};
 
 use round_net::{Net, Schedule, cost, live_cost};
 
@@ -25,7 +25,7 @@ impl Costs {
         ensures live { result.live ≡ cost (instance_of_rows net.now) (live_of_rows net.now) }
         ensures best { result.best ≡ cost (instance_of_rows net.now) (slice_index schedule.now) }
         ensures excess { result.excess ≡ result.live - result.best }
-        ensures small { result.live ≤ MOST_NET_STAYS * (MOST_WEIGHT * MOST_NET_ROUNDS) }
+        ensures small { result.live ≤ MAX_NET_STAYS * (MAX_WEIGHT * MAX_NET_ROUNDS) }
     {
         let live = live_cost(net);
         let Some(best) = cost(net, schedule) else {

@@ -18,11 +18,11 @@ pub enum Finding {
     Proved,
     /// The schedule is admissible, but costs so much more than the prices are worth.
     Gap(u128),
-    /// The schedule isn't admissible: the first stay, in order of birth, with whose place something is wrong.
+    /// The schedule isn't admissible: the first stay, in creation order, with whose place something is wrong.
     NotAdmissible(Stay, Cause),
-    /// The prices prove the schedule, but it doesn't cost what is said.
+    /// The prices prove the schedule, but the stated cost is wrong.
     WrongBest,
-    /// The prices prove the schedule, and it costs what is said, but the live one isn't so much above it.
+    /// The prices prove the schedule, and the stated cost is right, but the stated excess is wrong.
     WrongExcess,
 }
 

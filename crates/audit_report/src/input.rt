@@ -19,7 +19,7 @@ impl Input {
     ghost use Rattle.std.specs.Prelude.{◌≡◌, None, IfOk, IfErr};
     ghost use Rattle.audit_report.specs.Inputs.{net_of_input, unsent_of, IsLegal, WhyNoNetOf};
 
-    /// The net. Where a stay of a history has no send, the first of these by birth is named.
+    /// The net. Where a stay of a history has no send, the first of these in creation order is named.
     pub fn net(&self, alloc: Global) -> Result<Net, AuditFault>
         ensures net { IfOk result (λ net. net ≡ net_of_input self.now) }
         ensures complete { IfOk result (λ _. unsent_of self.now ≡ None) }

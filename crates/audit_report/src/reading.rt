@@ -3,12 +3,12 @@
 ghost use Rattle.std.specs.Prelude.{◌≡◌, ◌≢◌, ◌≤◌, ℕ, List, false, length, Ok, Err, IfOk, IfErr, IfSome};
 ghost use Rattle.audit_report.specs.Words.{device_of, has_failed};
 ghost use Rattle.audit_report.specs.Inputs.{Input, IsInput, IsTextOf, IsReadOrFailed, IsNettedOrFailed, WasRead, WhyNotRead, unsent_of, net_of_input, IsLegal, WhyNoNet};
-ghost use Rattle.audit_report.specs.Reading.{said, said_unheaded, AsRead};
-ghost use Rattle.recording_file.specs.Whole.{most_bytes};
+ghost use Rattle.audit_report.specs.Reading.{parsed, parsed_unheaded, AsRead};
+ghost use Rattle.recording_file.specs.Whole.{max_bytes};
 
 use crate::audit_fault::AuditFault;
 use crate::input::Input;
-use cam_types::{MOST_BYTES, Watched, WholeFault};
+use cam_types::{MAX_BYTES, Watched, WholeFault};
 use recording_file::{RecordingFault, parse_recording, read_long};
 use round_net::Net;
 use std::alloc::Global;
@@ -35,8 +35,8 @@ pub fn read_input<R: Read>(alloc: Global, reader: &mut Watched<R>) -> Result<Inp
 
 // What a text says, read as a recording where its first record is the header of one, else as a trace.
 fn parse_input(alloc: Global, text: &[u8]) -> Result<Input, AuditFault>
-    requires { length text.now ≤ most_bytes text.now }
-    ensures { AsRead result (said text.now) }
+    requires { length text.now ≤ max_bytes text.now }
+    ensures { AsRead result (parsed text.now) }
 {
     match parse_recording(alloc, text) {
         Ok(recording) => Ok(Input::Recording(recording)),
@@ -49,9 +49,9 @@ fn parse_input(alloc: Global, text: &[u8]) -> Result<Input, AuditFault>
 
 // The same of a text without that header. One that is too long for a trace stays a recording without its header.
 fn parse_unheaded(alloc: Global, text: &[u8]) -> Result<Input, AuditFault>
-    ensures { AsRead result (said_unheaded text.now) }
+    ensures { AsRead result (parsed_unheaded text.now) }
 {
-    if text.len() > MOST_BYTES {
+    if text.len() > MAX_BYTES {
         return Err(AuditFault::Recording(RecordingFault::BadHeader));
     }
     match parse_trace(alloc, text) {

@@ -141,7 +141,7 @@ impl<L: Ledger + Send + Sync> Crew<L> {
 }
 
 // A driver's thread: it submits a CCB for each of its next blocks. It holds the table's lock over a submit, so that the lane
-// that is told to send the CCB finds its block there. A lane holds no lock while it asks for the table's.
+// that is asked to send the CCB finds its block there. A lane holds no lock while it asks for the table's.
 fn submit<L: Ledger, R: Wait>(
     rt: &R,
     shared: &SharedXpt<L>,

@@ -41,7 +41,7 @@ impl Model for History {
 }
 
 impl History {
-    ghost use Rattle.cam_types.specs.declared.maxima.TheConstants.{MOST_ROUNDS, MOST_STAYS, MOST_EVENTS};
+    ghost use Rattle.cam_types.specs.declared.limits.TheConstants.{MAX_ROUNDS, MAX_STAYS, MAX_EVENTS};
     ghost use Rattle.event_rules.specs.Counts.{round, commands};
     ghost use Rattle.event_rules.specs.Stays.{stays_begun, unsent};
     ghost use Rattle.event_rules.specs.Live.{live_cost};
@@ -94,7 +94,7 @@ impl History {
     pub fn events(&self) -> &[Event]
         ensures same { result.now ≡ self.now.events }
         ensures legal { IsTrue (is_legal history_rules self.now.config self.now.events) }
-        ensures short { length result.now ≤ MOST_EVENTS }
+        ensures short { length result.now ≤ MAX_EVENTS }
     {
         self.state.events()
     }
@@ -104,7 +104,7 @@ impl History {
     pub fn round(&self) -> u32
         ensures same { result ≡ round self.now.events }
         ensures first { 1 ≤ result }
-        ensures most { result ≤ MOST_ROUNDS }
+        ensures most { result ≤ MAX_ROUNDS }
     {
         let _events = self.events();
         self.state.devices().round()
@@ -121,20 +121,20 @@ impl History {
     #[tactic(auto, using(event_rules::proofs::LimitLemmas::stays_most))]
     pub fn stay_count(&self) -> u32
         ensures same { result ≡ length (stays_begun self.now.events) }
-        ensures most { result ≤ MOST_STAYS }
+        ensures most { result ≤ MAX_STAYS }
     {
         let _events = self.events();
         self.state.devices().stay_count()
     }
 
-    /// All stays with their sends, in order of birth.
+    /// All stays with their sends, in creation order.
     pub fn stays(&self) -> &[StayRecord]
         ensures { result.now ≡ records self.now.events }
     {
         self.state.records()
     }
 
-    /// The first stay by birth that has no send.
+    /// The first stay in creation order that has no send.
     pub fn unsent(&self) -> Option<Stay>
         ensures { result ≡ unsent self.now.events }
     {

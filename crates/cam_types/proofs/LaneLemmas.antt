@@ -2,9 +2,9 @@
 use Rattle.std.proofs.Common.{◌≡◌, ℕ, zero, suc, ◌<◌, Bool, true, false, cond, List, [], ◌∷◌, ◌++◌, length, get_or, Option, Some, None, refl, sym, ap, slice_get, ◌∙◌, ◌==◌, nat_le, count_by, leb-false, ltb-true}
 use Rattle.std.specs.Option.{option_map_or, option_or}
 use Rattle.std.proofs.lemmas.Option.{slice_get-get_or}
-use Rattle.cam_types.specs.Lists.{moments_after, first_answer}
+use Rattle.cam_types.specs.Lists.{prefixed_after, first_answer}
 use Rattle.cam_types.specs.Questions.{names_lane, lane_adapter}
-use Rattle.cam_types.specs.Topology.{Topology, IsConfig, lane_fault, TooMany, NoAdapter, MOST_LANES}
+use Rattle.cam_types.specs.Topology.{Topology, IsConfig, lane_fault, TooMany, NoAdapter, MAX_LANES}
 use Rattle.cam_types.proofs.ConfigLemmas.{lane_items}
 
 pub lane_named : (c : Topology) (lane : ℕ) → names_lane c lane ≡ true → slice_get c.lanes lane ≡ Some (lane_adapter c lane)
@@ -23,9 +23,9 @@ fault_cases _ _ h = absurd (cc)
 
 without_fault : (n : ℕ) (earlier : List ℕ) (a : ℕ) → lane_fault n (earlier, a) ≡ None → a < n
 unfolding lane_fault
-without_fault n earlier a h = leb-false n a (fault_cases (nat_le MOST_LANES (count_by (λ x. x == a) earlier)) (nat_le n a) h)
+without_fault n earlier a h = leb-false n a (fault_cases (nat_le MAX_LANES (count_by (λ x. x == a) earlier)) (nat_le n a) h)
 
-lanes_within : (n : ℕ) (earlier rest : List ℕ) (lane a : ℕ) → first_answer (lane_fault n) (moments_after earlier rest) ≡ None → slice_get rest lane ≡ Some a → a < n
+lanes_within : (n : ℕ) (earlier rest : List ℕ) (lane a : ℕ) → first_answer (lane_fault n) (prefixed_after earlier rest) ≡ None → slice_get rest lane ≡ Some a → a < n
 lanes_within n earlier [] lane a free is = absurd (cc)
 lanes_within n earlier (x ∷ xs) zero a free is =
     let same : x ≡ a = cc in

@@ -2,16 +2,16 @@ use Rattle.std.proofs.Common.{◌≡◌, Bool, true, ℕ, ◌+◌, ◌<◌, ◌�
 use Rattle.std.specs.Option.{option_or}
 use Rattle.std.proofs.lemmas.Bool.{and_parts}
 use lib.Pointwise.{pointwise}
-use Rattle.cam_types.specs.Lists.{moments, moments_after, first_answer}
+use Rattle.cam_types.specs.Lists.{prefixed, prefixed_after, first_answer}
 
--- one element more is one moment more
-pub moments_after-push : {X : Type 0} → (before xs : List X) (x : X) → moments_after before (xs ++ x ∷ []) ≡ moments_after before xs ++ (before ++ xs, x) ∷ []
-moments_after-push before [] x = simp append-nil refl
-moments_after-push before (y ∷ ys) x =
-    ap (λ ms. (before, y) ∷ ms) (moments_after-push (before ++ y ∷ []) ys x ∙ simp append_assoc refl)
+-- one element more, and what stands before it
+pub prefixed_after-push : {X : Type 0} → (before xs : List X) (x : X) → prefixed_after before (xs ++ x ∷ []) ≡ prefixed_after before xs ++ (before ++ xs, x) ∷ []
+prefixed_after-push before [] x = simp append-nil refl
+prefixed_after-push before (y ∷ ys) x =
+    ap (λ ms. (before, y) ∷ ms) (prefixed_after-push (before ++ y ∷ []) ys x ∙ simp append_assoc refl)
 
-pub moments-push : {X : Type 0} → (xs : List X) (x : X) → moments (xs ++ x ∷ []) ≡ moments xs ++ (xs, x) ∷ []
-moments-push xs x = moments_after-push [] xs x
+pub prefixed-push : {X : Type 0} → (xs : List X) (x : X) → prefixed (xs ++ x ∷ []) ≡ prefixed xs ++ (xs, x) ∷ []
+prefixed-push xs x = prefixed_after-push [] xs x
 
 -- the first answer over two lists is that of the first, or else that of the second
 pub first_answer-append : {X F : Type 0} → (f : X → Option F) (xs ys : List X) → first_answer f (xs ++ ys) ≡ option_or (first_answer f xs) (first_answer f ys)
@@ -22,8 +22,8 @@ first_answer-append f (x ∷ xs) ys = elim (f x) as (λ o. option_or o (first_an
 ]
 
 -- where no element has an answer so far and one more has none, there is none
-pub first_answer-push : {X F : Type 0} → (f : List X × X → Option F) (xs : List X) (x : X) → first_answer f (moments xs) ≡ None → f (xs, x) ≡ None → first_answer f (moments (xs ++ x ∷ [])) ≡ None
-first_answer-push f xs x none here = rw (moments-push, first_answer-append) (rw (none, here) refl)
+pub first_answer-push : {X F : Type 0} → (f : List X × X → Option F) (xs : List X) (x : X) → first_answer f (prefixed xs) ≡ None → f (xs, x) ≡ None → first_answer f (prefixed (xs ++ x ∷ [])) ≡ None
+first_answer-push f xs x none here = rw (prefixed-push, first_answer-append) (rw (none, here) refl)
 
 pub or_left : {F : Type 0} → (o p : Option F) → option_or o p ≡ None → o ≡ None
 or_left None p e = refl
@@ -35,7 +35,7 @@ or_right (Some x) p e = absurd (cc)
 
 -- where an answer comes at the latest after n elements and there is none, there are at most n
 few_after : {X F : Type 0} → (f : List X × X → Option F) (n : ℕ) → ((before : List X) (x : X) → f (before, x) ≡ None → length before < n) →
-    (before xs : List X) → length before ≤ n → first_answer f (moments_after before xs) ≡ None → length before + length xs ≤ n
+    (before xs : List X) → length before ≤ n → first_answer f (prefixed_after before xs) ≡ None → length before + length xs ≤ n
 few_after f n h before [] le none = omega arith
 few_after f n h before (x ∷ xs) le none =
     let here : f (before, x) ≡ None = or_left (f (before, x)) _ none in
@@ -43,7 +43,7 @@ few_after f n h before (x ∷ xs) le none =
     omega (arith, length-append before (x ∷ []), few_after f n h (before ++ x ∷ []) xs (omega (arith, length-append before (x ∷ []))) (or_right (f (before, x)) _ none))
 
 pub few_where_none : {X F : Type 0} → (f : List X × X → Option F) (n : ℕ) → ((before : List X) (x : X) → f (before, x) ≡ None → length before < n) →
-    (xs : List X) → first_answer f (moments xs) ≡ None → length xs ≤ n
+    (xs : List X) → first_answer f (prefixed xs) ≡ None → length xs ≤ n
 few_where_none f n h xs none = omega (arith, few_after f n h [] xs (omega arith) none)
 
 -- lists that are equal place by place are equal

@@ -3,13 +3,13 @@ use Rattle.std.specs.List.{list_all}
 use Rattle.std.specs.Option.{option_or}
 
 -- each element beside the elements before it, which follow those given
-abbrev pub moments_after : {X : Type 0} → List X → List X → List (List X × X)
-moments_after earlier [] = []
-moments_after earlier (x ∷ xs) = (earlier, x) ∷ moments_after (earlier ++ x ∷ []) xs
+abbrev pub prefixed_after : {X : Type 0} → List X → List X → List (List X × X)
+prefixed_after earlier [] = []
+prefixed_after earlier (x ∷ xs) = (earlier, x) ∷ prefixed_after (earlier ++ x ∷ []) xs
 
 -- each element beside the elements before it
-abbrev pub moments : {X : Type 0} → List X → List (List X × X)
-moments xs = moments_after [] xs
+abbrev pub prefixed : {X : Type 0} → List X → List (List X × X)
+prefixed xs = prefixed_after [] xs
 
 -- the first answer that f gives
 abbrev pub first_answer : {X F : Type 0} → (X → Option F) → List X → Option F

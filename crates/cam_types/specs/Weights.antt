@@ -6,10 +6,10 @@ use lib.Pointwise.{pointwise}
 pub use Rattle.cam_types.specs.declared.weight_row.WeightRow.{WeightRow}
 use Rattle.cam_types.specs.declared.config_fault.ConfigFault.{ConfigFault}
 use Rattle.cam_types.specs.declared.config_fault.ConfigFault.TheVariants.{BadWeight}
-use Rattle.cam_types.specs.declared.maxima.TheConstants.{MOST_PRIORITY, MOST_WEIGHT, MOST_WEIGHT_ROWS}
+use Rattle.cam_types.specs.declared.limits.TheConstants.{MAX_PRIORITY, MAX_WEIGHT, MAX_WEIGHT_ROWS}
 
 abbrev pub is_weight : ℕ → Bool
-is_weight n = nat_le 1 n && nat_le n MOST_WEIGHT
+is_weight n = nat_le 1 n && nat_le n MAX_WEIGHT
 
 -- the row's range has a priority after those of the rows before it
 abbrev pub is_behind : List WeightRow → WeightRow → Bool
@@ -18,12 +18,12 @@ is_behind before row = list_all (λ (b : WeightRow). nat_lt b.last row.last) bef
 -- the rule that a row breaks, beside those before it
 unfoldable pub weight_fault : List WeightRow × WeightRow → Option ConfigFault
 weight_fault m =
-    if nat_lt (length m.0) MOST_WEIGHT_ROWS && (is_behind m.0 m.1 && (nat_le m.1.last MOST_PRIORITY && is_weight m.1.weight)) then None
+    if nat_lt (length m.0) MAX_WEIGHT_ROWS && (is_behind m.0 m.1 && (nat_le m.1.last MAX_PRIORITY && is_weight m.1.weight)) then None
     else Some BadWeight
 
 -- some range ends at the last priority
 abbrev pub reaches_last : List WeightRow → Bool
-reaches_last rows = list_any (λ (row : WeightRow). row.last == MOST_PRIORITY) rows
+reaches_last rows = list_any (λ (row : WeightRow). row.last == MAX_PRIORITY) rows
 
 -- the weight of the first row whose range isn't over before a priority
 abbrev pub weight_in : List WeightRow → ℕ → ℕ

@@ -1,6 +1,6 @@
 use Rattle.std.specs.Prelude.{ℕ, ◌<◌, ◌≤◌, List, length, take, Option}
 use Rattle.std.specs.Io.KnownBytes.{Appends, Consumes, IsAtEnd}
-use Rattle.cam_types.specs.Topology.{MOST_BYTES}
+use Rattle.cam_types.specs.Topology.{MAX_BYTES}
 
 -- a reader's bytes before and after the text was read, which is all of them and at most that many
 pub record IsWholeWithin (most : ℕ) (before after : Option (List ℕ)) (text : List ℕ) : Type 0 where
@@ -14,10 +14,10 @@ IsLongerThan most before after = (came : List ℕ) × (most < length came) × Co
 
 -- the same by the bound of traces
 abbrev pub IsWhole : Option (List ℕ) → Option (List ℕ) → List ℕ → Type 0
-IsWhole = IsWholeWithin MOST_BYTES
+IsWhole = IsWholeWithin MAX_BYTES
 
 abbrev pub IsTooLong : Option (List ℕ) → Option (List ℕ) → Type 0
-IsTooLong = IsLongerThan MOST_BYTES
+IsTooLong = IsLongerThan MAX_BYTES
 
 -- what a writer holds after some of the text, from its start
 abbrev pub AppendsFront : Option (List ℕ) → Option (List ℕ) → List ℕ → Type 0

@@ -1,6 +1,6 @@
 //! What an adapter gets to serve.
 
-/// A command on its way to a device.
+/// A command that is sent to a device.
 #[derive(Clone, Copy, Debug, PartialEq, Eq)]
 pub struct Command {
     /// The number of its CCB: how many were submitted before it.

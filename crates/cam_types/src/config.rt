@@ -1,7 +1,7 @@
 //! Configurations: weights, links, adapters, devices and lanes that keep the rules.
 
 ghost use Rattle.std.specs.Prelude.{◌≡◌, [], ◌≤◌, length, map, IfOk};
-ghost use Rattle.cam_types.specs.Topology.{unlinked, IsConfig, MOST_DEVICES};
+ghost use Rattle.cam_types.specs.Topology.{unlinked, IsConfig, MAX_DEVICES};
 ghost use Rattle.cam_types.specs.Weights.{standard_weights};
 ghost use Rattle.cam_types.specs.Made.{MadeFrom};
 ghost use Rattle.cam_types.specs.declared.config.ConfigError.TheVariants.{OutOfMemory};
@@ -171,7 +171,7 @@ impl Config {
     /// The devices.
     pub fn devices(&self) -> &[Device]
         ensures same { result.now ≡ self.now.devices }
-        ensures few { length result.now ≤ MOST_DEVICES }
+        ensures few { length result.now ≤ MAX_DEVICES }
         ensures kept { IsConfig self.now }
     {
         &self.devices

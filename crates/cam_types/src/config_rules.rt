@@ -3,15 +3,15 @@
 ghost use Rattle.std.specs.Prelude.{◌≡◌, ℕ, ◌==◌, List, length, count_by, map};
 ghost use Rattle.cam_types.specs.Topology.{unlinked, are_openings, openings_fault, names_link, is_same_address, link_fault, adapter_fault, address_fault, device_fault, lane_fault, weight_lack, adapter_lack, lack, config_fault, Adapter};
 ghost use Rattle.cam_types.specs.Weights.{is_behind, is_weight, reaches_last, weight_fault};
-ghost use Rattle.cam_types.specs.Lists.{moments, first_answer};
+ghost use Rattle.cam_types.specs.Lists.{prefixed, first_answer};
 ghost use Rattle.std.specs.List.{list_any};
 
 use crate::adapter::Adapter;
 use crate::config_fault::ConfigFault;
 use crate::device::Device;
-use crate::maxima::{
-    MOST_ADAPTERS, MOST_DEVICES, MOST_LANES, MOST_LINKS, MOST_LUN, MOST_OPENINGS, MOST_PRIORITY,
-    MOST_WEIGHT, MOST_WEIGHT_ROWS,
+use crate::limits::{
+    MAX_ADAPTERS, MAX_DEVICES, MAX_LANES, MAX_LINKS, MAX_LUN, MAX_OPENINGS, MAX_PRIORITY,
+    MAX_WEIGHT, MAX_WEIGHT_ROWS,
 };
 use crate::weight_row::WeightRow;
 
@@ -20,9 +20,9 @@ use crate::weight_row::WeightRow;
 pub fn weight_fault(before: &[WeightRow], row: WeightRow) -> Option<ConfigFault>
     ensures { result ≡ weight_fault (before.now, row) }
 {
-    let is_due = before.len() < MOST_WEIGHT_ROWS
+    let is_due = before.len() < MAX_WEIGHT_ROWS
         && is_behind(before, row)
-        && row.last <= MOST_PRIORITY
+        && row.last <= MAX_PRIORITY
         && is_weight(row.weight);
     if is_due {
         None
@@ -40,14 +40,14 @@ fn is_behind(before: &[WeightRow], row: WeightRow) -> bool
 fn is_weight(weight: u32) -> bool
     ensures { result ≡ is_weight weight }
 {
-    1 <= weight && weight <= MOST_WEIGHT
+    1 <= weight && weight <= MAX_WEIGHT
 }
 
 /// Whether a table of weights reaches the last priority.
 pub fn reaches_last(weights: &[WeightRow]) -> bool
     ensures { result ≡ reaches_last weights.now }
 {
-    weights.iter().any(|row| row.last == MOST_PRIORITY)
+    weights.iter().any(|row| row.last == MAX_PRIORITY)
 }
 
 /// What a configuration of such a table and that many adapters lacks.
@@ -95,7 +95,7 @@ pub fn openings_fault(most: usize, before: usize, openings: u32) -> Option<Confi
 pub fn link_fault(before: &[u32], openings: u32) -> Option<ConfigFault>
     ensures { result ≡ link_fault (before.now, openings) }
 {
-    openings_fault(MOST_LINKS, before.len(), openings)
+    openings_fault(MAX_LINKS, before.len(), openings)
 }
 
 /// The first rule that an adapter breaks, after those before it, where there are that many links.
@@ -108,7 +108,7 @@ pub fn adapter_fault(links: usize, before: &[Adapter], adapter: Adapter) -> Opti
     } else {
         Some(ConfigFault::NoLink)
     };
-    openings_fault(MOST_ADAPTERS, before.len(), adapter.openings).or(link_fault)
+    openings_fault(MAX_ADAPTERS, before.len(), adapter.openings).or(link_fault)
 }
 
 // Whether an adapter is on no link, or on one of that many.
@@ -126,7 +126,7 @@ fn names_link(links: usize, link: Option<u32>) -> bool
 pub fn device_fault(adapters: usize, before: &[Device], device: Device) -> Option<ConfigFault>
     ensures { result ≡ device_fault adapters (before.now, device) }
 {
-    if before.len() >= MOST_DEVICES {
+    if before.len() >= MAX_DEVICES {
         Some(ConfigFault::TooMany)
     } else if !are_openings(device.openings) {
         Some(ConfigFault::BadOpenings)
@@ -142,7 +142,7 @@ fn address_fault(adapters: usize, before: &[Device], device: Device) -> Option<C
 {
     if usize::from(device.bus) >= adapters {
         Some(ConfigFault::NoAdapter)
-    } else if device.lun > MOST_LUN {
+    } else if device.lun > MAX_LUN {
         Some(ConfigFault::BadAddress)
     } else if has_address(before, device) {
         Some(ConfigFault::DoubleDevice)
@@ -156,7 +156,7 @@ fn address_fault(adapters: usize, before: &[Device], device: Device) -> Option<C
 pub fn lane_fault(adapters: usize, before: &[u32], adapter: u32) -> Option<ConfigFault>
     ensures { result ≡ lane_fault adapters (before.now, adapter) }
 {
-    if lanes_of(before, adapter) >= MOST_LANES {
+    if lanes_of(before, adapter) >= MAX_LANES {
         Some(ConfigFault::TooMany)
     } else if adapter as usize >= adapters {
         Some(ConfigFault::NoAdapter)
@@ -175,7 +175,7 @@ fn lanes_of(lanes: &[u32], adapter: u32) -> usize
 pub fn are_openings(openings: u32) -> bool
     ensures { result ≡ are_openings openings }
 {
-    0 < openings && openings <= MOST_OPENINGS
+    0 < openings && openings <= MAX_OPENINGS
 }
 
 // Whether a device before has this device's address.
@@ -193,7 +193,7 @@ fn is_same_address(one: Device, other: Device) -> bool
 
 // The first rule that one of the rows breaks.
 fn weights_fault(weights: &[WeightRow]) -> Option<ConfigFault>
-    ensures { result ≡ first_answer weight_fault (moments weights.now) }
+    ensures { result ≡ first_answer weight_fault (prefixed weights.now) }
 {
     for (i, row) in weights.iter().enumerate() {
         let fault = weight_fault(&weights[..i], *row);
@@ -206,7 +206,7 @@ fn weights_fault(weights: &[WeightRow]) -> Option<ConfigFault>
 
 // The first rule that one of some items of these openings breaks, of which there may be that many.
 fn openings_faults(most: usize, items: &[u32]) -> Option<ConfigFault>
-    ensures { result ≡ first_answer (λ (m : List ℕ × ℕ). openings_fault most (length m.0) m.1) (moments items.now) }
+    ensures { result ≡ first_answer (λ (m : List ℕ × ℕ). openings_fault most (length m.0) m.1) (prefixed items.now) }
 {
     for (i, openings) in items.iter().enumerate() {
         let fault = openings_fault(most, i, *openings);
@@ -219,21 +219,21 @@ fn openings_faults(most: usize, items: &[u32]) -> Option<ConfigFault>
 
 // The first rule that one of the links breaks.
 fn links_fault(links: &[u32]) -> Option<ConfigFault>
-    ensures { result ≡ first_answer link_fault (moments links.now) }
+    ensures { result ≡ first_answer link_fault (prefixed links.now) }
 {
-    openings_faults(MOST_LINKS, links)
+    openings_faults(MAX_LINKS, links)
 }
 
 /// The first rule that one of some adapters of these openings breaks, each on no link.
 pub fn unlinked_fault(adapters: &[u32]) -> Option<ConfigFault>
-    ensures { result ≡ first_answer (adapter_fault 0) (moments (map unlinked adapters.now)) }
+    ensures { result ≡ first_answer (adapter_fault 0) (prefixed (map unlinked adapters.now)) }
 {
-    openings_faults(MOST_ADAPTERS, adapters)
+    openings_faults(MAX_ADAPTERS, adapters)
 }
 
 /// The first rule that one of the adapters breaks, where there are that many links.
 pub fn adapters_fault(links: usize, adapters: &[Adapter]) -> Option<ConfigFault>
-    ensures { result ≡ first_answer (adapter_fault links) (moments adapters.now) }
+    ensures { result ≡ first_answer (adapter_fault links) (prefixed adapters.now) }
 {
     for (i, adapter) in adapters.iter().enumerate() {
         let fault = adapter_fault(links, &adapters[..i], *adapter);
@@ -246,7 +246,7 @@ pub fn adapters_fault(links: usize, adapters: &[Adapter]) -> Option<ConfigFault>
 
 // The first rule that one of the devices breaks.
 fn devices_fault(adapters: usize, devices: &[Device]) -> Option<ConfigFault>
-    ensures { result ≡ first_answer (device_fault adapters) (moments devices.now) }
+    ensures { result ≡ first_answer (device_fault adapters) (prefixed devices.now) }
 {
     for (i, device) in devices.iter().enumerate() {
         let fault = device_fault(adapters, &devices[..i], *device);
@@ -259,7 +259,7 @@ fn devices_fault(adapters: usize, devices: &[Device]) -> Option<ConfigFault>
 
 // The first rule that one of the lanes breaks.
 fn lanes_fault(adapters: usize, lanes: &[u32]) -> Option<ConfigFault>
-    ensures { result ≡ first_answer (lane_fault adapters) (moments lanes.now) }
+    ensures { result ≡ first_answer (lane_fault adapters) (prefixed lanes.now) }
 {
     for (i, adapter) in lanes.iter().enumerate() {
         let fault = lane_fault(adapters, &lanes[..i], *adapter);
@@ -280,7 +280,7 @@ pub fn config_fault(
     devices: &[Device],
     lanes: &[u32],
 ) -> Option<ConfigFault>
-    ensures { (list : List Adapter) → length list ≡ adapters → first_answer (adapter_fault (length links.now)) (moments list) ≡ adapters_fault →
+    ensures { (list : List Adapter) → length list ≡ adapters → first_answer (adapter_fault (length links.now)) (prefixed list) ≡ adapters_fault →
         result ≡ config_fault (record { weights = weights.now; links = links.now; adapters = list; devices = devices.now; lanes = lanes.now }) }
 {
     weights_fault(weights)

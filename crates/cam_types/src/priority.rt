@@ -2,9 +2,9 @@
 
 ghost use Rattle.std.specs.Prelude.{◌≡◌, ℕ, ◌<◌, ◌≤◌, MatchResult};
 ghost use Rattle.cam_types.specs.Priority.{run_level};
-ghost use Rattle.cam_types.specs.Topology.{MOST_PRIORITY};
+ghost use Rattle.cam_types.specs.Topology.{MAX_PRIORITY};
 
-use crate::maxima::MOST_PRIORITY;
+use crate::limits::MAX_PRIORITY;
 use std::marker::Model;
 use thiserror::Error;
 
@@ -19,7 +19,7 @@ impl Model for Priority {
 
     ghost view = { λ p. p.number };
 
-    ghost invariant = { λ p. p.number ≤ MOST_PRIORITY };
+    ghost invariant = { λ p. p.number ≤ MAX_PRIORITY };
 
     ghost inverse = { λ n. record { number = n } };
 }
@@ -32,9 +32,9 @@ pub struct BadPriority(pub u32);
 impl Priority {
     /// The priority of this number, which is at most 1279.
     pub fn new(number: u32) -> Result<Priority, BadPriority>
-        ensures { MatchResult result (λ p. (p ≡ number) × (number ≤ MOST_PRIORITY)) (λ e. (e.0 ≡ number) × (MOST_PRIORITY < number)) }
+        ensures { MatchResult result (λ p. (p ≡ number) × (number ≤ MAX_PRIORITY)) (λ e. (e.0 ≡ number) × (MAX_PRIORITY < number)) }
     {
-        if number <= MOST_PRIORITY {
+        if number <= MAX_PRIORITY {
             Ok(Priority { number })
         } else {
             Err(BadPriority(number))
@@ -44,7 +44,7 @@ impl Priority {
     /// Its number.
     pub fn number(self) -> u32
         ensures same { result ≡ self }
-        ensures most { result ≤ MOST_PRIORITY }
+        ensures most { result ≤ MAX_PRIORITY }
     {
         self.number
     }

@@ -1,9 +1,9 @@
 //! The bytes of sense data that a result keeps.
 
 ghost use Rattle.std.specs.Prelude.{◌≡◌, ℕ, ◌≤◌, List, length, take};
-ghost use Rattle.cam_types.specs.Topology.{MOST_SENSE};
+ghost use Rattle.cam_types.specs.Topology.{MAX_SENSE};
 
-use crate::maxima::MOST_SENSE;
+use crate::limits::MAX_SENSE;
 use std::marker::Model;
 
 /// The first 18 bytes of some sense data, or all of it where it is shorter.
@@ -32,10 +32,10 @@ impl Model for SenseBytes {
 impl SenseBytes {
     /// Keeps the first 18 bytes.
     pub fn first(bytes: &[u8]) -> SenseBytes
-        ensures { result ≡ take MOST_SENSE bytes.now }
+        ensures { result ≡ take MAX_SENSE bytes.now }
     {
         let mut kept = [0; 18];
-        let len = bytes.len().min(MOST_SENSE);
+        let len = bytes.len().min(MAX_SENSE);
         kept[..len].copy_from_slice(&bytes[..len]);
         SenseBytes {
             bytes: kept,
@@ -46,7 +46,7 @@ impl SenseBytes {
     /// The bytes that are kept.
     pub fn bytes(&self) -> &[u8]
         ensures same { result.now ≡ self.now }
-        ensures most { length result.now ≤ MOST_SENSE }
+        ensures most { length result.now ≤ MAX_SENSE }
     {
         &self.bytes[..usize::from(self.len)]
     }

@@ -3,7 +3,7 @@
 ghost use Rattle.std.specs.Prelude.{◌≡◌, ℕ, ◌≤◌};
 ghost use Rattle.cam_types.specs.Priority.{run_level, level_weight};
 ghost use Rattle.cam_types.specs.Weights.{standard_weights, are_standard, weight_in};
-ghost use Rattle.cam_types.specs.Topology.{MOST_PRIORITY};
+ghost use Rattle.cam_types.specs.Topology.{MAX_PRIORITY};
 
 /// A row of a table of weights: a range of priorities, and what a round of waiting costs there. The first row's range begins
 /// at priority 0, and each next one's after that of the row before it.
@@ -45,7 +45,7 @@ pub fn standard_weights() -> [WeightRow; 5]
 
 /// By the standard table, what a round of waiting costs goes by the run level alone.
 pub fn standard_weights_go_by_run_level()
-    ensures { (priority : ℕ) → priority ≤ MOST_PRIORITY → weight_in standard_weights priority ≡ level_weight (run_level priority) }
+    ensures { (priority : ℕ) → priority ≤ MAX_PRIORITY → weight_in standard_weights priority ≡ level_weight (run_level priority) }
 {}
 
 /// The weight of the first row whose range isn't over before a priority, and 1 where there is none.

@@ -5,7 +5,7 @@ ghost use Rattle.std.specs.Io.KnownBytes.{Appends};
 ghost use Rattle.cam_types.specs.Watched.{device_of, has_failed, is_flushed};
 ghost use Rattle.cam_types.specs.Whole.{IsWhole, IsTooLong, IsWholeWithin, IsLongerThan, AppendsFront};
 
-use crate::maxima::MOST_BYTES;
+use crate::limits::MAX_BYTES;
 use crate::watched::Watched;
 use std::alloc::Global;
 use std::io::{Read, Write};
@@ -42,7 +42,7 @@ pub fn read_whole<R: Read>(alloc: Global, reader: &mut Watched<R>) -> Result<Vec
     ensures read_failed { result ≡ Err WholeFault.ReadFailed → has_failed reader.new ≡ true }
     ensures calm { result ≢ Err WholeFault.ReadFailed → has_failed reader.new ≡ false }
 {
-    read_within(alloc, reader, MOST_BYTES)
+    read_within(alloc, reader, MAX_BYTES)
 }
 
 /// The same with a bound of one's own, below 2^31: it stops once more than `most` bytes came.

@@ -2,5 +2,5 @@ pub mod HeapLemmas
 pub mod SiftLemmas
 pub mod OrderLemmas
 pub mod RankLemmas
-pub mod EditLemmas
+pub mod ListChangeLemmas
 pub mod QueueLemmas

@@ -6,7 +6,7 @@ use Rattle.std.proofs.lemmas.List.Sorted.{All-permutation, length_permutation, I
 use Rattle.camq_heap.specs.Queue.{Queue, key, has_generation, change_priority, IsSound, Entry}
 use Rattle.camq_heap.specs.Order.{place, in_order, rank, AllApart}
 use Rattle.camq_heap.specs.Heap.{IsHeap}
-use Rattle.camq_heap.proofs.EditLemmas.{IsHeap-short}
+use Rattle.camq_heap.proofs.ListChangeLemmas.{IsHeap-short}
 use Rattle.camq_heap.proofs.OrderLemmas.{place-after, place-before, IsAmong, Contains-from_among, AllApart-head, AllApart-tail, AllApart-cons, AllApart-permutation, in_order-has, in_order-permutation}
 use Rattle.camq_heap.proofs.RankLemmas.{HasAt, HasAt-from, slice_get-heap, rank-root}
 
@@ -149,7 +149,7 @@ module _ {T : Type 0} where
     order = in_order-permutation key xs ys p (keys_apart xs s.apart s.fits);
   }
 
-  -- what taking out an entry of this rank leaves
+  -- what is left if an entry of this rank is removed
   pub HasAt-place : (xs ys : List (Entry T)) (i capacity memory : ℕ) (e : Entry T) → rank key (key e) xs ≡ i → IsPermutation xs (e ∷ ys) → IsSound xs capacity memory → HasAt key xs e i ys
   HasAt-place xs ys i capacity memory e place p s = subst (λ j. HasAt key xs e j ys) place (HasAt-take xs ys e capacity memory p s)
 

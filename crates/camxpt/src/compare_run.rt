@@ -3,7 +3,7 @@
 use crate::failure::Failure;
 use crate::note::{capture_note, note_on, title};
 use crate::output::{closed, made, print, standard_output};
-use crate::progress::{ProgressLine, ToldReader};
+use crate::progress::{CountedReader, ProgressLine};
 use crate::source::{Argument, STANDARD_INPUT, Source, open};
 use crate::trace_run::explanation_of;
 use crate::word::BY_NUMBER;
@@ -77,7 +77,7 @@ fn explained<R: AllocGlobal + Threads + Clock + Eprint + Sync, D: Read>(
     line: &ProgressLine<'_, R>,
     input: &mut Source<'_, D>,
 ) -> Result<(Net, Explanation), Failure> {
-    explanation_of(rt, line, &mut Watched::new(ToldReader::new(input, line)))
+    explanation_of(rt, line, &mut Watched::new(CountedReader::new(input, line)))
 }
 
 fn side<'a>(name: &'a str, explained: &'a (Net, Explanation)) -> Compared<'a> {

@@ -2,7 +2,7 @@
 
 use crate::shell::{SHELLS, Shell};
 use crate::subcommands::{SUBCOMMANDS, Subcommand};
-use crate::word::Word;
+use crate::word::NamedArgument;
 use std::alloc::{AllocError, Global};
 
 // What a script has before the names of the subcommands, after them, and after the lines on each.
@@ -107,13 +107,15 @@ fn push_lines(
     for word in subcommand.words {
         push_word(alloc, script, shell, name, *word)?;
     }
-    script.push_str(match (shell, subcommand.words.contains(&Word::Shell)) {
-        (Shell::Bash, false) => "--help\" ;;\n",
-        (Shell::Bash, true) => "--help\" files= ;;\n",
-        (Shell::Zsh, false) => "--help ;;\n",
-        (Shell::Zsh, true) => "--help; return ;;\n",
-        (Shell::Fish, _) => "",
-    })
+    script.push_str(
+        match (shell, subcommand.words.contains(&NamedArgument::Shell)) {
+            (Shell::Bash, false) => "--help\" ;;\n",
+            (Shell::Bash, true) => "--help\" files= ;;\n",
+            (Shell::Zsh, false) => "--help ;;\n",
+            (Shell::Zsh, true) => "--help; return ;;\n",
+            (Shell::Fish, _) => "",
+        },
+    )
 }
 
 // Puts what completes an argument of the subcommand of this name after the script, unless files do.
@@ -122,7 +124,7 @@ fn push_word(
     script: &mut String,
     shell: Shell,
     name: &str,
-    word: Word,
+    word: NamedArgument,
 ) -> Result<(), AllocError> {
     let arg = word.arg(alloc);
     let value = if arg.get_action().takes_values() {
@@ -131,12 +133,15 @@ fn push_word(
         ""
     };
     match (shell, word, arg.get_long()) {
-        (Shell::Fish, Word::Shell, _) => writeln!(script, "{FISH_WORD}{name}\" -f -a \"{SHELLS}\""),
+        (Shell::Fish, NamedArgument::Shell, _) => writeln!(
+            script,
+            "{FISH_WORD}{name}\" -f -a \"{SHELLS}\""
+        ),
         (Shell::Fish, _, Some(option)) => writeln!(
             script,
             "{FISH_WORD}{name}\" -l {option}{value}"
         ),
-        (_, Word::Shell, _) => write!(script, "{SHELLS} "),
+        (_, NamedArgument::Shell, _) => write!(script, "{SHELLS} "),
         (_, _, Some(option)) => write!(script, "--{option} "),
         (_, _, None) => Ok(()),
     }

@@ -1,4 +1,4 @@
-//! The front of an input: a capture that is given in the place of a trace or a recording is told by it.
+//! The front of an input, by which a capture is recognized that is given in place of a trace or a recording.
 
 /// How many bytes are kept.
 const KEPT: usize = 128;

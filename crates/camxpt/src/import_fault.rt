@@ -12,7 +12,7 @@ use std::{fmt, io};
 #[derive(Clone, Copy)]
 pub enum ImportFault {
     /// An option whose word hasn't its form, or contradicts another one, and how.
-    Word(&'static str),
+    NamedArgument(&'static str),
     /// A file that can't be opened: its place among the files.
     CannotOpen(usize, io::Error),
     /// A file that isn't what it has to be, or can't be read: its place among the files.
@@ -42,7 +42,7 @@ impl ImportFault {
     /// memory.
     pub fn status(&self) -> u8 {
         match self {
-            ImportFault::Word(_) => 2,
+            ImportFault::NamedArgument(_) => 2,
             ImportFault::CannotOpen(_, _)
             | ImportFault::File(_, ReadFault::ReadFailed(_))
             | ImportFault::WriteFailed(_) => 4,
@@ -68,7 +68,7 @@ impl ImportFault {
 impl fmt::Display for ImportFault {
     fn fmt<W: fmt::Write>(&self, f: &mut fmt::Formatter<W>) -> fmt::Result {
         match self {
-            ImportFault::Word(form) => f.write_str(form),
+            ImportFault::NamedArgument(form) => f.write_str(form),
             ImportFault::CannotOpen(_, _) => f.write_str("cannot open"),
             ImportFault::File(_, fault) => fault.fmt(f),
             ImportFault::Files(fault) => fault.fmt(f),

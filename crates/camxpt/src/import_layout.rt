@@ -12,7 +12,7 @@ use capture_file::Capture as Read;
 use recording_file::{Name, NameKind};
 use std::alloc::{AllocError, Global};
 
-/// The adapters, and of each whether nobody said what it takes: then it takes what its devices take together. Devices without an
+/// The adapters, and of each whether its openings are unknown: then it takes what its devices take together. Devices without an
 /// adapter share one after those that are given.
 pub fn adapters_of(
     alloc: Global,

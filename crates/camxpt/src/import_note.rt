@@ -9,7 +9,7 @@ use std::alloc::{AllocError, Global};
 use views::shown_name;
 
 // How many bytes of a line are shown.
-const MOST_SHOWN: usize = 200;
+const MAX_SHOWN: usize = 200;
 
 /// A line with the system's reason why a file can't be opened or read or why a write failed, or with the line of the capture that is
 /// refused. None for other faults, and where there is no memory for it.
@@ -38,7 +38,7 @@ pub fn note_on(
 fn line_note(alloc: Global, name: &str, number: u64, line: &[u8]) -> Result<String, AllocError> {
     let mut note = String::new(alloc);
     let shown = shown_name(alloc, title(name))?;
-    let front = line.get(..MOST_SHOWN).unwrap_or(line);
+    let front = line.get(..MAX_SHOWN).unwrap_or(line);
     let text = String::from_utf8_lossy(alloc, front)?;
     let text = shown_name(alloc, &text)?;
     writeln!(note, "  {shown}, line {number}: {text}")?;

@@ -32,7 +32,7 @@ impl ImportOptions {
     ///
     /// # Errors
     ///
-    /// `Word` of a word that hasn't its form, or that contradicts an earlier one; `OutOfMemory`.
+    /// `NamedArgument` of a word that hasn't its form, or that contradicts an earlier one; `OutOfMemory`.
     pub fn of(alloc: Global, words: &ArgMatches<'_>) -> Result<ImportOptions, ImportFault> {
         check_files(words)?;
         let kind = kind_of(words)?;

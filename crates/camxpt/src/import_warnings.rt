@@ -87,14 +87,14 @@ pub fn warn_columns<R: Runtime + AllocGlobal>(rt: &R, read: &Read) {
 }
 
 // How many names of columns are shown.
-const MOST_COLUMNS: usize = 8;
+const MAX_COLUMNS: usize = 8;
 
 fn column_names(alloc: Global, names: &[String]) -> Result<String, AllocError> {
     let mut list = String::new(alloc);
-    for (place, name) in names.iter().take(MOST_COLUMNS).enumerate() {
+    for (place, name) in names.iter().take(MAX_COLUMNS).enumerate() {
         push_name(alloc, &mut list, place > 0, name)?;
     }
-    let more = names.len().saturating_sub(MOST_COLUMNS);
+    let more = names.len().saturating_sub(MAX_COLUMNS);
     if more > 0 {
         write!(list, ", and {more} more")?;
     }

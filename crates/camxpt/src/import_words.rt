@@ -2,8 +2,8 @@
 
 use crate::import_fault::ImportFault;
 use crate::source::STANDARD_INPUT;
-use cam_types::MOST_PRIORITY;
-use capture_file::{DevicePick, Priorities, TimeUnit as CsvUnit};
+use cam_types::MAX_PRIORITY;
+use capture_file::{CsvTimeUnit as CsvUnit, DevicePick, Priorities};
 use clap::ArgMatches;
 use recording_file::{Span, TimeUnit};
 use std::alloc::{AllocError, Global};
@@ -38,7 +38,7 @@ pub fn check_files(words: &ArgMatches<'_>) -> Result<(), ImportFault> {
     for place in 0..count(words, "FILE") {
         if word_at(words, "FILE", place) == STANDARD_INPUT {
             if is_taken {
-                return Err(ImportFault::Word("only one FILE can be standard input"));
+                return Err(ImportFault::NamedArgument("only one FILE can be standard input"));
             }
             is_taken = true;
         }
@@ -53,7 +53,7 @@ pub fn kind_of(words: &ArgMatches<'_>) -> Result<Kind, ImportFault> {
         Some("blkparse") => Ok(Kind::Blkparse),
         Some("fio") => Ok(Kind::Fio),
         Some("csv") => Ok(Kind::Csv(unit)),
-        _ => Err(ImportFault::Word("--from takes blkparse, fio or csv")),
+        _ => Err(ImportFault::NamedArgument("--from takes blkparse, fio or csv")),
     }
 }
 
@@ -63,7 +63,7 @@ fn unit_of(words: &ArgMatches<'_>) -> Result<CsvUnit, ImportFault> {
         Some("ms") => Ok(CsvUnit::Milliseconds),
         Some("us") => Ok(CsvUnit::Microseconds),
         Some("ns") => Ok(CsvUnit::Nanoseconds),
-        Some(_) => Err(ImportFault::Word("--unit takes ns, us, ms or s")),
+        Some(_) => Err(ImportFault::NamedArgument("--unit takes ns, us, ms or s")),
     }
 }
 
@@ -73,7 +73,7 @@ pub fn round_of(words: &ArgMatches<'_>) -> Result<Option<Span>, ImportFault> {
         None => Ok(None),
         Some(word) => match span(word) {
             Some(span) => Ok(Some(span)),
-            None => Err(ImportFault::Word(ROUND)),
+            None => Err(ImportFault::NamedArgument(ROUND)),
         },
     }
 }
@@ -102,7 +102,9 @@ pub fn priorities_of(words: &ArgMatches<'_>) -> Result<Priorities, ImportFault> 
         None | Some("by-class") => Ok(Priorities::Class),
         Some("by-direction") => Ok(Priorities::Direction),
         Some("flat") => Ok(Priorities::Flat),
-        Some(_) => Err(ImportFault::Word("--priority takes by-class, by-direction or flat")),
+        Some(_) => Err(ImportFault::NamedArgument(
+            "--priority takes by-class, by-direction or flat",
+        )),
     }
 }
 
@@ -113,13 +115,9 @@ pub fn drivers_of(
 ) -> Result<Vec<(String, u32)>, ImportFault> {
     let mut drivers = Vec::new(alloc);
     for place in 0..count(words, "driver") {
-        let (name, priority) = named_number(
-            word_at(words, "driver", place),
-            MOST_PRIORITY,
-            DRIVER,
-        )?;
+        let (name, priority) = named_number(word_at(words, "driver", place), MAX_PRIORITY, DRIVER)?;
         if value_of(&drivers, name).is_some() {
-            return Err(ImportFault::Word("--driver names a driver twice"));
+            return Err(ImportFault::NamedArgument("--driver names a driver twice"));
         }
         drivers.push((String::from_str(alloc, name)?, priority))?;
     }
@@ -138,7 +136,7 @@ pub fn picks_of(alloc: Global, words: &ArgMatches<'_>) -> Result<Vec<DevicePick>
 fn pick_of(alloc: Global, word: &str) -> Result<DevicePick, ImportFault> {
     match word.rsplit_once('=') {
         None => Ok(DevicePick::Name(String::from_str(alloc, word)?)),
-        Some((_, "")) => Err(ImportFault::Word("--device takes NAME or PATTERN=NAME")),
+        Some((_, "")) => Err(ImportFault::NamedArgument("--device takes NAME or PATTERN=NAME")),
         Some((pattern, name)) => Ok(DevicePick::Pattern {
             pattern: String::from_str(alloc, pattern)?,
             name: String::from_str(alloc, name)?,
@@ -160,11 +158,13 @@ pub fn hosts_of(alloc: Global, words: &ArgMatches<'_>) -> Result<Vec<(String, Ho
 // A device has one adapter, and an adapter one number of openings.
 fn check_host(hosts: &[(String, Host)], name: &str, host: Host) -> Result<(), ImportFault> {
     if value_of(hosts, name).is_some() {
-        return Err(ImportFault::Word("--host names a device twice"));
+        return Err(ImportFault::NamedArgument("--host names a device twice"));
     }
     for (_, other) in hosts {
         if other.adapter == host.adapter && other.openings != host.openings {
-            return Err(ImportFault::Word("--host gives an adapter two numbers of openings"));
+            return Err(ImportFault::NamedArgument(
+                "--host gives an adapter two numbers of openings",
+            ));
         }
     }
     Ok(())
@@ -181,7 +181,7 @@ fn host_in(word: &str) -> Result<(&str, Host), ImportFault> {
     {
         Ok((name, Host { adapter, openings }))
     } else {
-        Err(ImportFault::Word(HOST))
+        Err(ImportFault::NamedArgument(HOST))
     }
 }
 
@@ -194,10 +194,10 @@ pub fn ratings_of(
     for place in 0..count(words, "rated") {
         let (name, openings) = named_number(word_at(words, "rated", place), 255, RATED)?;
         if openings == 0 {
-            return Err(ImportFault::Word(RATED));
+            return Err(ImportFault::NamedArgument(RATED));
         }
         if value_of(&ratings, name).is_some() {
-            return Err(ImportFault::Word("--rated names a device twice"));
+            return Err(ImportFault::NamedArgument("--rated names a device twice"));
         }
         ratings.push((String::from_str(alloc, name)?, openings))?;
     }
@@ -237,11 +237,11 @@ fn named_number<'a>(
     what: &'static str,
 ) -> Result<(&'a str, u32), ImportFault> {
     let Some((name, number)) = word.rsplit_once('=') else {
-        return Err(ImportFault::Word(what));
+        return Err(ImportFault::NamedArgument(what));
     };
     match number_in(number) {
         Some(number) if number <= most => Ok((name, number)),
-        _ => Err(ImportFault::Word(what)),
+        _ => Err(ImportFault::NamedArgument(what)),
     }
 }
 
@@ -260,7 +260,9 @@ pub fn time_of(words: &ArgMatches<'_>, id: &str) -> Result<Option<u64>, ImportFa
         None => Ok(None),
         Some(word) => match capture_file::time_of(word.as_bytes(), CsvUnit::Seconds.nanoseconds()) {
             Some(time) => Ok(Some(time)),
-            None => Err(ImportFault::Word("--from-time and --to-time take seconds, as 1.5")),
+            None => Err(ImportFault::NamedArgument(
+                "--from-time and --to-time take seconds, as 1.5",
+            )),
         },
     }
 }

@@ -14,7 +14,7 @@ use crate::shell::Shell;
 use crate::source::{Argument, STANDARD_INPUT, Source, asks_more, input, is_verbose, open};
 use crate::subcommands::command;
 use crate::sweep_run::sweep_script;
-use crate::trace_run::{TraceRun, most_waits};
+use crate::trace_run::{TraceRun, max_waits};
 use crate::words::{check_numbers, words};
 use audit_report::AuditFault;
 use clap::ArgMatches;
@@ -194,10 +194,10 @@ fn trace_run(name: &str, words: &ArgMatches<'_>) -> Option<TraceRun> {
         }),
         "explain" => Some(TraceRun::Explain {
             top: words.get_one("top").unwrap_or(TOP),
-            waits: most_waits(words),
+            waits: max_waits(words),
         }),
         "timeline" => Some(TraceRun::Timeline {
-            waits: most_waits(words),
+            waits: max_waits(words),
         }),
         "migrate" => Some(TraceRun::Migrate),
         "record" => Some(TraceRun::Record),

@@ -2,7 +2,7 @@
 
 ghost use Rattle.std.specs.Prelude.{◌≡◌};
 
-use cost_plan::{Done, Gate};
+use cost_plan::{Done, PlanProgress};
 use sim_worker::Progress;
 use std::alloc::AllocError;
 use std::io;
@@ -103,7 +103,7 @@ impl<R: Clock + Eprint> Progress for ProgressLine<'_, R> {
     }
 }
 
-impl<R: Clock + Eprint> Gate for ProgressLine<'_, R> {
+impl<R: Clock + Eprint> PlanProgress for ProgressLine<'_, R> {
     fn begun(&self, _adapter: u32) {}
 
     fn planned(&self, done: Done) {
@@ -126,16 +126,16 @@ fn hundredths(done: Done) -> u64 {
 
 /// A reader whose line says how much of it was read.
 #[derive(Drop)]
-pub struct ToldReader<'a, 'b, S, R> {
+pub struct CountedReader<'a, 'b, S, R> {
     source: S,
     line: &'a ProgressLine<'b, R>,
     bytes: u64,
 }
 
-impl<'a, 'b, S, R> ToldReader<'a, 'b, S, R> {
+impl<'a, 'b, S, R> CountedReader<'a, 'b, S, R> {
     /// A reader of which nothing was read yet.
-    pub fn new(source: S, line: &'a ProgressLine<'b, R>) -> ToldReader<'a, 'b, S, R> {
-        ToldReader {
+    pub fn new(source: S, line: &'a ProgressLine<'b, R>) -> CountedReader<'a, 'b, S, R> {
+        CountedReader {
             source,
             line,
             bytes: 0,
@@ -143,7 +143,7 @@ impl<'a, 'b, S, R> ToldReader<'a, 'b, S, R> {
     }
 }
 
-impl<S: Read, R: Clock + Eprint> Read for ToldReader<'_, '_, S, R> {
+impl<S: Read, R: Clock + Eprint> Read for CountedReader<'_, '_, S, R> {
     ghost remaining = { λ s. S.remaining s.source };
 
     /// Reads as the source does.
@@ -157,19 +157,19 @@ impl<S: Read, R: Clock + Eprint> Read for ToldReader<'_, '_, S, R> {
 
 /// A writer before whose first bytes the line is cleared.
 #[derive(Drop)]
-pub struct ToldWriter<'a, 'b, W, R> {
+pub struct CountedWriter<'a, 'b, W, R> {
     device: W,
     line: &'a ProgressLine<'b, R>,
 }
 
-impl<'a, 'b, W, R> ToldWriter<'a, 'b, W, R> {
+impl<'a, 'b, W, R> CountedWriter<'a, 'b, W, R> {
     /// A writer to which nothing was written yet.
-    pub fn new(device: W, line: &'a ProgressLine<'b, R>) -> ToldWriter<'a, 'b, W, R> {
-        ToldWriter { device, line }
+    pub fn new(device: W, line: &'a ProgressLine<'b, R>) -> CountedWriter<'a, 'b, W, R> {
+        CountedWriter { device, line }
     }
 }
 
-impl<W: Write, R: Clock + Eprint> Write for ToldWriter<'_, '_, W, R> {
+impl<W: Write, R: Clock + Eprint> Write for CountedWriter<'_, '_, W, R> {
     ghost contents = { λ w. W.contents w.device };
 
     /// Writes as the device does.
@@ -186,19 +186,19 @@ impl<W: Write, R: Clock + Eprint> Write for ToldWriter<'_, '_, W, R> {
 
 /// Who runs scripts as another does, and whose line says how many runs are over.
 #[derive(Drop)]
-pub struct ToldRunner<'a, 'b, W, R> {
+pub struct CountedRunner<'a, 'b, W, R> {
     runner: W,
     line: &'a ProgressLine<'b, R>,
     runs: u32,
     over: AtomicU64,
 }
 
-impl<'a, 'b, W, R> ToldRunner<'a, 'b, W, R> {
+impl<'a, 'b, W, R> CountedRunner<'a, 'b, W, R> {
     /// Runs scripts as this runner does, so many times in all.
-    pub fn new(runner: W, line: &'a ProgressLine<'b, R>, runs: u32) -> ToldRunner<'a, 'b, W, R>
+    pub fn new(runner: W, line: &'a ProgressLine<'b, R>, runs: u32) -> CountedRunner<'a, 'b, W, R>
         ensures { result.runner ≡ runner }
     {
-        ToldRunner {
+        CountedRunner {
             runner,
             line,
             runs,
@@ -207,7 +207,7 @@ impl<'a, 'b, W, R> ToldRunner<'a, 'b, W, R> {
     }
 }
 
-impl<W: Runner, R: Clock + Eprint> Runner for ToldRunner<'_, '_, W, R> {
+impl<W: Runner, R: Clock + Eprint> Runner for CountedRunner<'_, '_, W, R> {
     ghost comes_to = { λ r. W.comes_to r.runner };
 
     /// Runs as the runner does.

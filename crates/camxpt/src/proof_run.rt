@@ -10,7 +10,7 @@ use std::io::{Read, Write};
 use views::prove_json;
 
 // More bytes than the line has that says what comes of a report.
-const MOST_FINDING: usize = 256;
+const MAX_FINDING: usize = 256;
 
 /// Prints whether the report's prices prove its schedule, as one line of JSON if that is asked for, and answers it.
 pub fn prove<D: Read, W: Write>(
@@ -33,7 +33,7 @@ fn prove_as_json<D: Read, W: Write>(
     out: &mut Output<W>,
 ) -> Result<bool, Failure> {
     let (trace_name, report_name) = (trace.name, report.name);
-    let mut finding = Vec::with_capacity(alloc, MOST_FINDING)?;
+    let mut finding = Vec::with_capacity(alloc, MAX_FINDING)?;
     let is_proved = find(alloc, trace, report, &mut finding)?;
     let finding = str::from_utf8(&finding).unwrap_or("").trim_end();
     let line = closed(prove_json(alloc, trace_name, report_name, finding))?;

@@ -97,7 +97,7 @@ impl<D: Read> Read for Source<'_, D> {
     }
 }
 
-/// Whether more is to be said of a fault than its line: by `--verbose`, or by the environment.
+/// Whether a fault gets more than its line: by `--verbose`, or by the environment.
 pub fn is_verbose<R: Env + AllocGlobal>(rt: &R, words: &ArgMatches<'_>) -> bool {
     words.get_flag("verbose") || asks_more(rt)
 }
@@ -119,7 +119,7 @@ fn room<R: AllocGlobal>(rt: &R, is_kept: bool) -> Option<Vec<u8>> {
     }
 }
 
-/// Opens the file that an argument names; `-` is standard input. What is read of it is kept if more is to be said of a fault.
+/// Opens the file that an argument names; `-` is standard input. What is read of it is kept if a fault gets more than its line.
 pub fn open<'a, R: Files + Input + Env + AllocGlobal>(
     rt: &R,
     words: &ArgMatches<'a>,

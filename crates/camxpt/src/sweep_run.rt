@@ -3,7 +3,7 @@
 use crate::failure::Failure;
 use crate::note::{note_on, title};
 use crate::output::{closed, made, print, standard_output};
-use crate::progress::{ProgressLine, ToldRunner};
+use crate::progress::{CountedRunner, ProgressLine};
 use crate::source::{Argument, Source, open};
 use crate::sweep_words::{WordFault, choices_of, refusal};
 use cam_types::Watched;
@@ -91,7 +91,7 @@ fn rows_of<R: AllocGlobal + Threads + Clock + Eprint + Sync>(
     plan: &SweepPlan,
 ) -> Result<Vec<Row>, Failure> {
     let alloc = rt.alloc();
-    let runner = ToldRunner::new(SimRunner { alloc }, line, plan.runs());
+    let runner = CountedRunner::new(SimRunner { alloc }, line, plan.runs());
     Ok(run_sweep(rt, alloc, &runner, script, plan)?)
 }
 

@@ -5,7 +5,7 @@ use crate::failure::Failure;
 use crate::load_run::write_load;
 use crate::note::title;
 use crate::output::{Output, closed, made, print};
-use crate::progress::{ProgressLine, ToldReader, ToldWriter};
+use crate::progress::{CountedReader, CountedWriter, ProgressLine};
 use crate::source::Source;
 use audit_report::{
     AuditFault, Input, read_input, read_net, run_audit_with, run_check, run_migrate, run_record,
@@ -24,14 +24,14 @@ use views::{audit_json, check_json, explain_json, page};
 use wait_causes::Explanation;
 
 /// How many waits of a stay are listed where not all are asked for.
-const MOST_WAITS: usize = 64;
+const MAX_WAITS: usize = 64;
 
 /// How many waits of a stay are listed at most, as the words ask.
-pub fn most_waits(words: &ArgMatches<'_>) -> usize {
+pub fn max_waits(words: &ArgMatches<'_>) -> usize {
     if words.get_flag("all-waits") {
         usize::MAX
     } else {
-        MOST_WAITS
+        MAX_WAITS
     }
 }
 
@@ -84,20 +84,25 @@ impl TraceRun {
         as_json: bool,
     ) -> Result<(), Failure> {
         let (alloc, name) = (rt.alloc(), trace.name);
-        let mut trace = Watched::new(ToldReader::new(trace, line));
-        let mut told = Watched::new(ToldWriter::new(&mut *out, line));
+        let mut trace = Watched::new(CountedReader::new(trace, line));
+        let mut counted = Watched::new(CountedWriter::new(&mut *out, line));
         match self {
-            TraceRun::Check if !as_json => Ok(run_check(alloc, &mut trace, &mut told)?),
-            TraceRun::Migrate => Ok(run_migrate(alloc, &mut trace, &mut told)?),
-            TraceRun::Record => Ok(run_record(alloc, &mut trace, &mut told)?),
+            TraceRun::Check if !as_json => Ok(run_check(alloc, &mut trace, &mut counted)?),
+            TraceRun::Migrate => Ok(run_migrate(alloc, &mut trace, &mut counted)?),
+            TraceRun::Record => Ok(run_record(alloc, &mut trace, &mut counted)?),
             TraceRun::Script => {
-                let left = write_load(rt, &mut trace, &mut told)?;
+                let left = write_load(rt, &mut trace, &mut counted)?;
                 line.clear();
                 left.tell(rt);
                 Ok(())
             }
             TraceRun::Audit { summary } if !as_json => Ok(run_audit_with(
-                rt, alloc, &mut trace, &mut told, summary, line,
+                rt,
+                alloc,
+                &mut trace,
+                &mut counted,
+                summary,
+                line,
             )?),
             _ => {
                 let text = self.text_on(rt, line, name, &mut trace, as_json)?;
@@ -155,7 +160,7 @@ ghost use Rattle.cam_types.specs.Watched.{has_failed};
 // How an explanation is printed.
 #[derive(Clone, Copy)]
 enum Listed {
-    // As a page with that many of the dearest stays and freezes.
+    // As a page with that many of the costliest stays and freezes.
     Top(usize),
     // As one line of JSON with that many waits of each stay.
     Waits(usize),

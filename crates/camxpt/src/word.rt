@@ -11,7 +11,7 @@ pub(crate) const BY_NUMBER: &str = "number";
 
 /// An argument of a subcommand.
 #[derive(Clone, Copy, PartialEq)]
-pub(crate) enum Word {
+pub(crate) enum NamedArgument {
     Summary,
     Top,
     Rounds,
@@ -48,44 +48,44 @@ pub(crate) enum Word {
     Files,
 }
 
-impl Word {
+impl NamedArgument {
     /// The argument, as the command line takes and explains it.
     pub(crate) fn arg<'a>(self, alloc: Global) -> Arg<'a> {
         match self {
-            Word::Summary => flag(
+            NamedArgument::Summary => flag(
                 alloc,
                 "summary",
                 "Prints the first seven lines of the report alone",
             ),
-            Word::Top => top(alloc),
-            Word::Rounds => option(
+            NamedArgument::Top => top(alloc),
+            NamedArgument::Rounds => option(
                 alloc,
                 "rounds",
                 "A-B",
                 "Draws the bars of the rounds from A to B alone",
             ),
-            Word::Json => flag(alloc, "json", "Prints one line of JSON"),
-            Word::Verbose => flag(
+            NamedArgument::Json => flag(alloc, "json", "Prints one line of JSON"),
+            NamedArgument::Verbose => flag(
                 alloc,
                 "verbose",
                 "Says after a fault where it stands and what stands there, or why a file failed",
             ),
-            Word::RequireDrained => flag(
+            NamedArgument::RequireDrained => flag(
                 alloc,
                 "require-drained",
                 "Ends with status 7 if the run ended before all was done",
             ),
-            Word::Trace => named(
+            NamedArgument::Trace => named(
                 alloc,
                 "TRACE",
                 "The recorded trace; standard input if it is left out or -",
             ),
-            Word::Either => named(
+            NamedArgument::Either => named(
                 alloc,
                 "TRACE",
                 "The trace or recording; standard input if it is left out or -",
             ),
-            Word::Proved => {
+            NamedArgument::Proved => {
                 named(
                     alloc,
                     "TRACE",
@@ -93,44 +93,44 @@ impl Word {
                 )
                 .required(true)
             }
-            Word::Report => named(
+            NamedArgument::Report => named(
                 alloc,
                 "REPORT",
                 "A report on it, by audit or by anyone else; - is standard input, unless TRACE is",
             )
             .required(true),
-            Word::Before => named(
+            NamedArgument::Before => named(
                 alloc,
                 "BEFORE",
                 "The trace or recording before a change; - is standard input",
             )
             .required(true),
-            Word::After => named(
+            NamedArgument::After => named(
                 alloc,
                 "AFTER",
                 "The one after it; - is standard input, unless BEFORE is",
             )
             .required(true),
-            Word::PairBy => option(
+            NamedArgument::PairBy => option(
                 alloc,
                 "by",
                 "HOW",
                 "Pairs drivers and devices by name, where both inputs have names, or by number; by name if it is left out",
             )
             .value_parser(PAIRED_BY),
-            Word::AllWaits => flag(
+            NamedArgument::AllWaits => flag(
                 alloc,
                 "all-waits",
                 "Lists all waits of each stay, and not just the first 64, in JSON and timelines",
             ),
-            Word::Script => named(
+            NamedArgument::Script => named(
                 alloc,
                 "SCRIPT",
                 "What the drivers do and the lanes answer; - is standard input",
             )
             .required(true),
-            Word::Seed => seed(alloc),
-            Word::Shell => named(alloc, "SHELL", "bash, zsh or fish").required(true),
+            NamedArgument::Seed => seed(alloc),
+            NamedArgument::Shell => named(alloc, "SHELL", "bash, zsh or fish").required(true),
             _ => self.sweep_arg(alloc),
         }
     }
@@ -138,19 +138,19 @@ impl Word {
     // The same of an argument of `sweep`, or of `import`.
     fn sweep_arg<'a>(self, alloc: Global) -> Arg<'a> {
         match self {
-            Word::Openings => several(
+            NamedArgument::Openings => several(
                 alloc,
                 "openings",
                 "DEVICE:N,N",
                 "The numbers of openings that are tried of a device, which goes by its number from 0 on",
             ),
-            Word::AdapterOpenings => several(
+            NamedArgument::AdapterOpenings => several(
                 alloc,
                 "adapter",
                 "ADAPTER:N,N",
                 "The same of an adapter",
             ),
-            Word::Seeds => option(
+            NamedArgument::Seeds => option(
                 alloc,
                 "seeds",
                 "N",
@@ -164,68 +164,68 @@ impl Word {
     // The same of an argument of `import`.
     fn import_arg<'a>(self, alloc: Global) -> Arg<'a> {
         match self {
-            Word::From => option(
+            NamedArgument::From => option(
                 alloc,
                 "from",
                 "KIND",
                 "What the files are: blkparse, fio or csv",
             )
             .required(true),
-            Word::Round => option(
+            NamedArgument::Round => option(
                 alloc,
                 "round",
                 "TIME",
                 "How long a round is, as 10ms; if it is left out, the mean time between starts of the busiest device, but at most half of the mean wait",
             ),
-            Word::Unit => option(
+            NamedArgument::Unit => option(
                 alloc,
                 "unit",
                 "UNIT",
                 "The unit of times in CSV: ns, us, ms or s; s if it is left out",
             ),
-            Word::Priority => option(
+            NamedArgument::Priority => option(
                 alloc,
                 "priority",
                 "HOW",
                 "Where priorities come from: by-class, by-direction or flat; by-class if it is left out",
             ),
-            Word::Driver => several(
+            NamedArgument::Driver => several(
                 alloc,
                 "driver",
                 "NAME=PRIORITY",
                 "The priority of all requests of a process or job",
             ),
-            Word::Device => several(
+            NamedArgument::Device => several(
                 alloc,
                 "device",
                 "PICK",
                 "A device to take, or PATTERN=NAME for all that match, as one; * stands for any characters; all if it is left out",
             ),
-            Word::Host => several(
+            NamedArgument::Host => several(
                 alloc,
                 "host",
                 "NAME=ADAPTER:OPENINGS",
                 "The adapter of a device, from 0 to 7, and how many requests that adapter takes in a round; what its devices take together if it is left out",
             ),
-            Word::Rated => several(
+            NamedArgument::Rated => several(
                 alloc,
                 "rated",
                 "NAME=OPENINGS",
                 "How many requests a device takes in a round, where it isn't measured",
             ),
-            Word::FromTime => option(
+            NamedArgument::FromTime => option(
                 alloc,
                 "from-time",
                 "SECONDS",
                 "Leaves out what arrives before this time of the capture",
             ),
-            Word::ToTime => option(
+            NamedArgument::ToTime => option(
                 alloc,
                 "to-time",
                 "SECONDS",
                 "Leaves out what arrives at this time of the capture or later",
             ),
-            Word::Lenient => flag(
+            NamedArgument::Lenient => flag(
                 alloc,
                 "lenient",
                 "Counts lines that are refused and leaves them out",

@@ -1,7 +1,7 @@
 -- Recordings in the making, and what is wrong with them first.
 use Rattle.std.proofs.Common.{◌≡◌, ℕ, zero, suc, ◌+◌, ◌<◌, ◌≤◌, true, false, List, [], ◌∷◌, ◌++◌, map, length, get_or, take, drop, refl, sym, ap, ◌∙◌, arith, append_assoc, Option, Some, None}
 use Rattle.std.proofs.lemmas.List.{take_more, take_all, length-take-le, length-map, append-nil, map-append}
-use Rattle.cam_types.specs.Lists.{moments, moments_after, first_answer}
+use Rattle.cam_types.specs.Lists.{prefixed, prefixed_after, first_answer}
 use Rattle.cam_types.specs.Topology.{Topology}
 use Rattle.cam_types.proofs.ListLemmas.{first_answer-append, first_answer-push}
 use Rattle.recording_file.specs.declared.cap.Cap.{Cap}
@@ -33,13 +33,13 @@ requests_all first now xs n le so_far = so_far ∙ ap (λ ys. record first { req
 
 -- ---- the first answer
 
-moments-append : {X : Type 0} (before xs ys : List X) → moments_after before (xs ++ ys) ≡ moments_after before xs ++ moments_after (before ++ xs) ys
-moments-append before [] ys = ap (λ b. moments_after b ys) (sym (append-nil before))
-moments-append before (x ∷ xs) ys = ap (λ ms. (before, x) ∷ ms) (moments-append (before ++ x ∷ []) xs ys ∙ rw append_assoc refl)
+prefixed-append : {X : Type 0} (before xs ys : List X) → prefixed_after before (xs ++ ys) ≡ prefixed_after before xs ++ prefixed_after (before ++ xs) ys
+prefixed-append before [] ys = ap (λ b. prefixed_after b ys) (sym (append-nil before))
+prefixed-append before (x ∷ xs) ys = ap (λ ms. (before, x) ∷ ms) (prefixed-append (before ++ x ∷ []) xs ys ∙ rw append_assoc refl)
 
 -- the first answer is that of an element where none before it has one
-answer_here : {X F : Type 0} (f : List X × X → Option F) (before : List X) (x : X) (rest : List X) (e : F) → first_answer f (moments before) ≡ None → f (before, x) ≡ Some e → first_answer f (moments (before ++ x ∷ rest)) ≡ Some e
-answer_here f before x rest e none here = ap (first_answer f) (moments-append [] before (x ∷ rest)) ∙ first_answer-append f (moments before) (moments_after before (x ∷ rest)) ∙ rw (none, here) refl
+answer_here : {X F : Type 0} (f : List X × X → Option F) (before : List X) (x : X) (rest : List X) (e : F) → first_answer f (prefixed before) ≡ None → f (before, x) ≡ Some e → first_answer f (prefixed (before ++ x ∷ rest)) ≡ Some e
+answer_here f before x rest e none here = ap (first_answer f) (prefixed-append [] before (x ∷ rest)) ∙ first_answer-append f (prefixed before) (prefixed_after before (x ∷ rest)) ∙ rw (none, here) refl
 
 -- a list in front of one of its elements, that element, and the rest
 parts_at : {X : Type 0} (xs : List X) (n : ℕ) (d : X) → n < length xs → xs ≡ take n xs ++ get_or xs n d ∷ drop (suc n) xs
@@ -47,14 +47,14 @@ parts_at [] n d lt = absurd (omega arith)
 parts_at (x ∷ xs) zero d lt = refl
 parts_at (x ∷ xs) (suc n) d lt = ap (λ ys. x ∷ ys) (parts_at xs n d (omega arith))
 
-fault_here : {X F : Type 0} (f : List X × X → Option F) (xs : List X) (n : ℕ) (d : X) (e : F) → n < length xs → first_answer f (moments (take n xs)) ≡ None → f (take n xs, get_or xs n d) ≡ Some e → first_answer f (moments xs) ≡ Some e
-fault_here f xs n d e lt none here = ap (λ ys. first_answer f (moments ys)) (parts_at xs n d lt) ∙ answer_here f (take n xs) (get_or xs n d) (drop (suc n) xs) e none here
+fault_here : {X F : Type 0} (f : List X × X → Option F) (xs : List X) (n : ℕ) (d : X) (e : F) → n < length xs → first_answer f (prefixed (take n xs)) ≡ None → f (take n xs, get_or xs n d) ≡ Some e → first_answer f (prefixed xs) ≡ Some e
+fault_here f xs n d e lt none here = ap (λ ys. first_answer f (prefixed ys)) (parts_at xs n d lt) ∙ answer_here f (take n xs) (get_or xs n d) (drop (suc n) xs) e none here
 
-no_fault_more : {X F : Type 0} (f : List X × X → Option F) (xs : List X) (n : ℕ) (d : X) → n < length xs → first_answer f (moments (take n xs)) ≡ None → f (take n xs, get_or xs n d) ≡ None → first_answer f (moments (take (n + 1) xs)) ≡ None
-no_fault_more f xs n d lt none here = ap (λ ys. first_answer f (moments ys)) (take_more xs n d lt) ∙ first_answer-push f (take n xs) (get_or xs n d) none here
+no_fault_more : {X F : Type 0} (f : List X × X → Option F) (xs : List X) (n : ℕ) (d : X) → n < length xs → first_answer f (prefixed (take n xs)) ≡ None → f (take n xs, get_or xs n d) ≡ None → first_answer f (prefixed (take (n + 1) xs)) ≡ None
+no_fault_more f xs n d lt none here = ap (λ ys. first_answer f (prefixed ys)) (take_more xs n d lt) ∙ first_answer-push f (take n xs) (get_or xs n d) none here
 
-pub no_fault_all : {X F : Type 0} (f : List X × X → Option F) (xs : List X) (n : ℕ) → length xs ≤ n → first_answer f (moments (take n xs)) ≡ None → first_answer f (moments xs) ≡ None
-no_fault_all f xs n le none = ap (λ ys. first_answer f (moments ys)) (sym (take_all n xs le)) ∙ none
+pub no_fault_all : {X F : Type 0} (f : List X × X → Option F) (xs : List X) (n : ℕ) → length xs ≤ n → first_answer f (prefixed (take n xs)) ≡ None → first_answer f (prefixed xs) ≡ None
+no_fault_all f xs n le none = ap (λ ys. first_answer f (prefixed ys)) (sym (take_all n xs le)) ∙ none
 
 -- ---- caps
 
@@ -66,13 +66,13 @@ right_cap : (rounds : ℕ) (c : Topology) (before : List CamxptCap) (x : CamxptC
 unfolding cap_fault
 right_cap rounds c before x good = rw good refl
 
-pub cap_wrong : (first now : Recorded) (xs : List CamxptCap) (n : ℕ) (d : CamxptCap) (e : RecordFault) → n < length xs → now ≡ record first { caps = map cap_of (take n xs) } → first_answer (cap_fault first.rounds first.config) (moments (take n xs)) ≡ None → is_next now.rounds now.config now.caps (get_or xs n d) ≡ false → e ≡ Item E_CAP n
-    → first_answer (cap_fault first.rounds first.config) (moments xs) ≡ Some e
+pub cap_wrong : (first now : Recorded) (xs : List CamxptCap) (n : ℕ) (d : CamxptCap) (e : RecordFault) → n < length xs → now ≡ record first { caps = map cap_of (take n xs) } → first_answer (cap_fault first.rounds first.config) (prefixed (take n xs)) ≡ None → is_next now.rounds now.config now.caps (get_or xs n d) ≡ false → e ≡ Item E_CAP n
+    → first_answer (cap_fault first.rounds first.config) (prefixed xs) ≡ Some e
 cap_wrong first now xs n d e lt so_far none bad is =
     fault_here (cap_fault first.rounds first.config) xs n d e lt none (wrong_cap first.rounds first.config xs n (get_or xs n d) lt (rw so_far at bad) ∙ ap Some (sym is))
 
-pub cap_right : (first now : Recorded) (xs : List CamxptCap) (n : ℕ) (d : CamxptCap) → n < length xs → now ≡ record first { caps = map cap_of (take n xs) } → first_answer (cap_fault first.rounds first.config) (moments (take n xs)) ≡ None → is_next now.rounds now.config now.caps (get_or xs n d) ≡ true
-    → first_answer (cap_fault first.rounds first.config) (moments (take (n + 1) xs)) ≡ None
+pub cap_right : (first now : Recorded) (xs : List CamxptCap) (n : ℕ) (d : CamxptCap) → n < length xs → now ≡ record first { caps = map cap_of (take n xs) } → first_answer (cap_fault first.rounds first.config) (prefixed (take n xs)) ≡ None → is_next now.rounds now.config now.caps (get_or xs n d) ≡ true
+    → first_answer (cap_fault first.rounds first.config) (prefixed (take (n + 1) xs)) ≡ None
 cap_right first now xs n d lt so_far none good =
     no_fault_more (cap_fault first.rounds first.config) xs n d lt none (right_cap first.rounds first.config (take n xs) (get_or xs n d) (rw so_far at good))
 
@@ -86,13 +86,13 @@ right_request : (rounds : ℕ) (c : Topology) (caps : List Cap) (before : List C
 unfolding request_fault
 right_request rounds c caps before x no_cause = rw no_cause refl
 
-pub request_wrong : (first now : Recorded) (xs : List CamxptRequest) (n : ℕ) (d : CamxptRequest) (e : RecordFault) → n < length xs → now ≡ record first { requests = map request_of (take n xs) } → first_answer (request_fault first.rounds first.config first.caps) (moments (take n xs)) ≡ None
-    → numbered n (request_cause now.rounds now.config now.caps (now.requests, request_of (get_or xs n d))) ≡ Some e → first_answer (request_fault first.rounds first.config first.caps) (moments xs) ≡ Some e
+pub request_wrong : (first now : Recorded) (xs : List CamxptRequest) (n : ℕ) (d : CamxptRequest) (e : RecordFault) → n < length xs → now ≡ record first { requests = map request_of (take n xs) } → first_answer (request_fault first.rounds first.config first.caps) (prefixed (take n xs)) ≡ None
+    → numbered n (request_cause now.rounds now.config now.caps (now.requests, request_of (get_or xs n d))) ≡ Some e → first_answer (request_fault first.rounds first.config first.caps) (prefixed xs) ≡ Some e
 request_wrong first now xs n d e lt so_far none bad =
     fault_here (request_fault first.rounds first.config first.caps) xs n d e lt none (wrong_request first.rounds first.config first.caps xs n (get_or xs n d) e lt (rw so_far at bad))
 
-pub request_right : (first now : Recorded) (xs : List CamxptRequest) (n : ℕ) (d : CamxptRequest) → n < length xs → now ≡ record first { requests = map request_of (take n xs) } → first_answer (request_fault first.rounds first.config first.caps) (moments (take n xs)) ≡ None
-    → request_cause now.rounds now.config now.caps (now.requests, request_of (get_or xs n d)) ≡ None → first_answer (request_fault first.rounds first.config first.caps) (moments (take (n + 1) xs)) ≡ None
+pub request_right : (first now : Recorded) (xs : List CamxptRequest) (n : ℕ) (d : CamxptRequest) → n < length xs → now ≡ record first { requests = map request_of (take n xs) } → first_answer (request_fault first.rounds first.config first.caps) (prefixed (take n xs)) ≡ None
+    → request_cause now.rounds now.config now.caps (now.requests, request_of (get_or xs n d)) ≡ None → first_answer (request_fault first.rounds first.config first.caps) (prefixed (take (n + 1) xs)) ≡ None
 request_right first now xs n d lt so_far none good =
     no_fault_more (request_fault first.rounds first.config first.caps) xs n d lt none (right_request first.rounds first.config first.caps (take n xs) (get_or xs n d) (rw so_far at good))
 

@@ -43,7 +43,7 @@ IsCarried t within old new code =
     (new.count ≡ length (old_numbers t)) × IsCopy (old_numbers t) old.numbers new.numbers code
     × (((code ≡ OK) × (new.to ≡ Some (gone_on t within))) ⊎ ((code ≡ E_SPACE) × (new.to ≡ old.to)))
 
--- What waits is carried over to a transport of these limits, or the fault is told, and nothing is given.
+-- What waits is carried over to a transport of these limits, or the fault is reported, and nothing is given.
 abbrev pub IsCarryWithin : Transport → Bounds → CarryGiven → CarryGiven → ℤ → Type 0
 IsCarryWithin t within old new code =
     let known = carry_fault (rules_of within) t.config t.events in

@@ -4,8 +4,8 @@ use Rattle.cam_types.specs.declared.config_fault.ConfigFault.{ConfigFault}
 use Rattle.cam_types.specs.declared.config_fault.ConfigFault.TheVariants as faults
 use Rattle.event_rules.specs.declared.refusal.Refusal.{Refusal}
 use Rattle.event_rules.specs.declared.refusal.Refusal.TheVariants as refusals
-use Rattle.recording_file.specs.declared.cause.Cause.{Cause}
-use Rattle.recording_file.specs.declared.cause.Cause.TheVariants as causes
+use Rattle.recording_file.specs.declared.cause.RequestFault.{RequestFault}
+use Rattle.recording_file.specs.declared.cause.RequestFault.TheVariants as causes
 use Rattle.sense_class.specs.declared.class.Class.{Class}
 use Rattle.sense_class.specs.declared.class.Class.TheVariants as classes
 use Rattle.sense_class.specs.declared.class.Why.TheVariants as failures
@@ -56,7 +56,7 @@ fault_code faults.DoubleDevice = pos 53
 fault_code faults.BadWeight = pos 54
 fault_code faults.NoLink = pos 55
 
-abbrev pub cause_code : Cause → ℤ
+abbrev pub cause_code : RequestFault → ℤ
 cause_code causes.NoDevice = pos 64
 cause_code causes.BadPriority = pos 65
 cause_code causes.BadWindow = pos 66

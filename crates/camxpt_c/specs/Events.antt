@@ -1,4 +1,4 @@
--- what is said of the events
+-- what holds of the events
 use Rattle.std.specs.Prelude.{ℕ, ℤ, List, Option, Some, None, MatchOption, ◌≡◌, length, map, take, drop, min}
 use Rattle.event_rules.specs.declared.event.Event.{Event}
 use Rattle.event_rules.specs.declared.refusal.Refusal.{Refusal}
@@ -6,7 +6,7 @@ use Rattle.xpt_core.specs.Transport.{Transport}
 use Rattle.xpt_core.specs.Takes.{refused}
 use Rattle.camxpt_c.specs.Codes.{code_of}
 use Rattle.camxpt_c.specs.EventShapes.{event_of}
-use Rattle.camxpt_c.specs.Said.{IsCall, IsClosed}
+use Rattle.camxpt_c.specs.CallTerms.{IsCall, IsClosed}
 use Rattle.camxpt_c.specs.declared.codes.TheConstants.{OK, E_CLOSED, E_KIND}
 use Rattle.camxpt_c.specs.declared.event_shapes.CamxptEvent.{CamxptEvent}
 

@@ -6,6 +6,6 @@ pub mod Events
 pub mod Openings
 pub mod RecordShapes
 pub mod Recordings
-pub mod Said
+pub mod CallTerms
 pub mod Shapes
 pub mod Tracing

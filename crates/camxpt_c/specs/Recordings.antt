@@ -1,15 +1,15 @@
 -- the recording of what C hands in, and what is wrong with it first
 use Rattle.std.specs.Prelude.{ℕ, ℤ, Bool, ◌≡◌, ◌⊎◌, ◌==◌, nat_lt, nat_le, not, ◌&&◌, ◌||◌, List, [], length, map, Option, Some, None, option_map, if◌then◌else◌, MatchOption}
 use Rattle.std.specs.Option.{option_or}
-use Rattle.cam_types.specs.Lists.{moments, first_answer}
+use Rattle.cam_types.specs.Lists.{prefixed, first_answer}
 use Rattle.cam_types.specs.Topology.{Topology, config_fault}
 use Rattle.cam_types.specs.declared.config_fault.ConfigFault.{ConfigFault}
 use Rattle.recording_file.specs.Caps.{is_cap}
 use Rattle.recording_file.specs.Counts.{counts_of}
 use Rattle.recording_file.specs.Recorded.{Recorded, request_cause}
 use Rattle.recording_file.specs.declared.cap.Cap.{Cap}
-use Rattle.recording_file.specs.declared.cause.Cause.{Cause}
-use Rattle.recording_file.specs.declared.maxima.TheConstants.{MOST_RECORDED_ROUNDS, MOST_REQUESTS}
+use Rattle.recording_file.specs.declared.cause.RequestFault.{RequestFault}
+use Rattle.recording_file.specs.declared.limits.TheConstants.{MAX_RECORDED_ROUNDS, MAX_REQUESTS}
 use Rattle.recording_file.specs.Recordings.{IsRecordingText}
 use Rattle.recording_file.specs.Writing.{recording_text}
 use Rattle.camxpt_c.specs.Codes.{fault_code, cause_code}
@@ -46,8 +46,8 @@ recorded_of h = record {
 unfoldable pub size_fault : CamxptSpan → ℕ → ℕ → Option RecordFault
 size_fault span rounds requests =
     if not (span.count == 0) && nat_lt SECONDS span.unit then Some (Call E_UNIT)
-    else if (rounds == 0) || nat_lt MOST_RECORDED_ROUNDS rounds then Some (Call E_ROUNDS)
-    else if nat_lt MOST_REQUESTS requests then Some (Call E_REQUESTS)
+    else if (rounds == 0) || nat_lt MAX_RECORDED_ROUNDS rounds then Some (Call E_ROUNDS)
+    else if nat_lt MAX_REQUESTS requests then Some (Call E_REQUESTS)
     else None
 
 -- the first rule that the configuration breaks
@@ -63,7 +63,7 @@ unfoldable pub cap_fault : ℕ → Topology → List CamxptCap × CamxptCap → 
 cap_fault rounds c m = if is_next rounds c (map cap_of m.0) m.1 then None else Some (Item E_CAP (length m.0))
 
 -- a cause as what is wrong with the request of this number
-abbrev pub numbered : ℕ → Option Cause → Option RecordFault
+abbrev pub numbered : ℕ → Option RequestFault → Option RecordFault
 numbered number cause = option_map (λ why. Item (cause_code why) number) cause
 
 -- what is wrong with a request, beside those before it
@@ -73,8 +73,8 @@ request_fault rounds c caps m = numbered (length m.0) (request_cause rounds c ca
 -- what is wrong first with a cap, or else with a request
 unfoldable pub item_fault : Handed → Option RecordFault
 item_fault h =
-    option_or (first_answer (cap_fault h.rounds h.config) (moments h.caps))
-    (first_answer (request_fault h.rounds h.config (map cap_of h.caps)) (moments h.requests))
+    option_or (first_answer (cap_fault h.rounds h.config) (prefixed h.caps))
+    (first_answer (request_fault h.rounds h.config (map cap_of h.caps)) (prefixed h.requests))
 
 -- what is wrong first, in this order: with the unit, the rounds or the number of requests, with the configuration, with a cap,
 -- with a request
@@ -89,20 +89,20 @@ pub record Given : Type 0 where
   pub wrong : ℕ
 
 -- the answer is the fault's code; the number of a cap or a request is given, and nothing else
-abbrev pub IsTold : Given → Given → ℤ → RecordFault → Type 0
-IsTold old new code (Call told) = (code ≡ told) × (new ≡ old)
-IsTold old new code (Item told number) = (code ≡ told) × (new ≡ record old { wrong = number })
-IsTold old new code OutOfMemory = (code ≡ E_MEMORY) × (new ≡ old)
+abbrev pub IsReported : Given → Given → ℤ → RecordFault → Type 0
+IsReported old new code (Call reported) = (code ≡ reported) × (new ≡ old)
+IsReported old new code (Item reported number) = (code ≡ reported) × (new ≡ record old { wrong = number })
+IsReported old new code OutOfMemory = (code ≡ E_MEMORY) × (new ≡ old)
 
 -- the text is copied if there is room, and its length is given in any case
 abbrev pub IsWritten : List ℕ → Given → Given → ℤ → Type 0
 IsWritten text old new code = (new.needed ≡ length text) × (new.wrong ≡ old.wrong) × IsCopy text old.buffer new.buffer code
 
--- The buffer has the text of the recording, which a reader of recordings takes, or what is wrong first is told; or there is no
+-- The buffer has the text of the recording, which a reader of recordings takes, or what is wrong first is reported; or there is no
 -- memory, and all is as it was.
 abbrev pub IsRecordingOf : Handed → Given → Given → ℤ → Type 0
 IsRecordingOf h old new code =
     MatchOption (record_fault h)
     (IsRecordingText (recording_text (recorded_of h)) (recorded_of h) × IsWritten (recording_text (recorded_of h)) old new code)
-    (IsTold old new code)
-    ⊎ IsTold old new code OutOfMemory
+    (IsReported old new code)
+    ⊎ IsReported old new code OutOfMemory

@@ -2,7 +2,7 @@
 
 ghost use Rattle.std.specs.Prelude.{◌≡◌};
 ghost use Rattle.event_rules.specs.declared.event.Event.TheVariants.{Requeue, Finish, FreezeDev, ReleaseDev, FreezeSim, ReleaseSim, Adjust};
-ghost use Rattle.camxpt_c.specs.Said.{IsCall};
+ghost use Rattle.camxpt_c.specs.CallTerms.{IsCall};
 
 use crate::codes::{E_CLOSED, OK, code_of};
 use event_rules::Event;

@@ -5,7 +5,7 @@ ghost use Rattle.camxpt_c.specs.Codes.{code_of, idle_code, fault_code, class_cod
 
 use cam_types::ConfigFault;
 use event_rules::Refusal;
-use recording_file::Cause;
+use recording_file::RequestFault;
 use sense_class::{Class, Why};
 use xpt_state::Idle;
 
@@ -99,18 +99,18 @@ pub fn fault_code(fault: ConfigFault) -> i32
 }
 
 /// The number of the cause why a request can't be one of a recording: 64 to 71.
-pub fn cause_code(cause: Cause) -> i32
+pub fn cause_code(cause: RequestFault) -> i32
     ensures { result ≡ cause_code cause }
 {
     match cause {
-        Cause::NoDevice => 64,
-        Cause::BadPriority => 65,
-        Cause::BadWindow => 66,
-        Cause::Early => 67,
-        Cause::Late => 68,
-        Cause::DeviceFull => 69,
-        Cause::AdapterFull => 70,
-        Cause::LinkFull => 71,
+        RequestFault::NoDevice => 64,
+        RequestFault::BadPriority => 65,
+        RequestFault::BadWindow => 66,
+        RequestFault::Early => 67,
+        RequestFault::Late => 68,
+        RequestFault::DeviceFull => 69,
+        RequestFault::AdapterFull => 70,
+        RequestFault::LinkFull => 71,
     }
 }
 

@@ -25,7 +25,7 @@ pub const CAP_LINK: u32 = 2;
 /// Stands for the recording's last round where a request's last round is due.
 pub const NO_LAST: u32 = 0;
 
-/// How long a round is: that many of a unit of time. If the count is 0, it isn't said.
+/// How long a round is: that many of a unit of time. If the count is 0, it isn't known.
 #[repr(C)]
 #[derive(Clone, Copy)]
 pub struct CamxptSpan {
@@ -56,7 +56,7 @@ pub struct CamxptRequest {
     pub driver: u8,
 }
 
-/// How long a round is, if that is said.
+/// How long a round is, if that is known.
 pub(crate) fn span_of(shape: CamxptSpan) -> Option<Span>
     ensures value { result ≡ span_of shape }
     ensures some { IfSome result (λ (s : Span). 1 ≤ s.count) }

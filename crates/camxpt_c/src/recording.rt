@@ -3,11 +3,11 @@
 ghost use Rattle.std.specs.Prelude.{ℕ, List, ◌≡◌, ◌≢◌, ◌≤◌, [], false, None, Some, length, OnOk, IfOk, IfErr};
 ghost use Rattle.cam_types.specs.Topology.{config_fault};
 ghost use Rattle.cam_types.specs.Watched.{device_of, has_failed};
-ghost use Rattle.recording_file.specs.declared.maxima.TheConstants.{MOST_RECORDED_ROUNDS, MOST_REQUESTS};
+ghost use Rattle.recording_file.specs.declared.limits.TheConstants.{MAX_RECORDED_ROUNDS, MAX_REQUESTS};
 ghost use Rattle.recording_file.specs.Recordings.{IsRecordingText};
 ghost use Rattle.recording_file.specs.Writing.{recording_text};
 ghost use Rattle.camxpt_c.specs.Configs.{linked_topology};
-ghost use Rattle.camxpt_c.specs.Recordings.{IsRecordingOf, IsTold, recorded_of, record_fault, item_fault, rule_fault, size_fault, Call, OutOfMemory};
+ghost use Rattle.camxpt_c.specs.Recordings.{IsRecordingOf, IsReported, recorded_of, record_fault, item_fault, rule_fault, size_fault, Call, OutOfMemory};
 ghost use Rattle.camxpt_c.specs.declared.codes.TheConstants.{E_MEMORY};
 
 use crate::codes::{E_MEMORY, E_REQUESTS, E_ROUNDS, E_UNIT};
@@ -19,7 +19,7 @@ use crate::shapes::{CamxptAdapter, CamxptDevice, CamxptWeight};
 use crate::tracing::copy_text;
 use cam_types::{Config, Watched};
 use recording_file::{
-    MOST_RECORDED_ROUNDS, MOST_REQUESTS, Recorder, Recording, read_long, write_recording,
+    MAX_RECORDED_ROUNDS, MAX_REQUESTS, Recorder, Recording, read_long, write_recording,
 };
 use std::alloc::{AllocError, Global};
 use std::collections::VecDeque;
@@ -61,7 +61,7 @@ pub extern "C" fn camxpt_raw_recording(
 
 // Answers the code of what is wrong, and gives the number of a cap or a request.
 fn tell(fault: RecordFault, wrong: &mut usize) -> i32
-    ensures { (buffer : List ℕ) (needed : ℕ) → IsTold (record { buffer = buffer; needed = needed; wrong = wrong.old }) (record { buffer = buffer; needed = needed; wrong = wrong.new }) result fault }
+    ensures { (buffer : List ℕ) (needed : ℕ) → IsReported (record { buffer = buffer; needed = needed; wrong = wrong.old }) (record { buffer = buffer; needed = needed; wrong = wrong.new }) result fault }
 {
     match fault {
         RecordFault::Call(code) => code,
@@ -105,17 +105,17 @@ fn text_of(
 fn check_sizes(span: CamxptSpan, rounds: u32, requests: usize) -> Result<(), RecordFault>
     ensures ok { OnOk result (size_fault span rounds requests ≡ None) }
     ensures some { OnOk result (1 ≤ rounds) }
-    ensures few { OnOk result (rounds ≤ MOST_RECORDED_ROUNDS) }
-    ensures many { OnOk result (requests ≤ MOST_REQUESTS) }
+    ensures few { OnOk result (rounds ≤ MAX_RECORDED_ROUNDS) }
+    ensures many { OnOk result (requests ≤ MAX_REQUESTS) }
     ensures err { IfErr result (λ e. size_fault span rounds requests ≡ Some e) }
 {
     if span.count != 0 && span.unit > SECONDS {
         return Err(RecordFault::Call(E_UNIT));
     }
-    if rounds == 0 || rounds > MOST_RECORDED_ROUNDS {
+    if rounds == 0 || rounds > MAX_RECORDED_ROUNDS {
         return Err(RecordFault::Call(E_ROUNDS));
     }
-    if requests > MOST_REQUESTS {
+    if requests > MAX_REQUESTS {
         return Err(RecordFault::Call(E_REQUESTS));
     }
     Ok(())
@@ -162,8 +162,8 @@ fn recording_of(
     requests: &[CamxptRequest],
 ) -> Result<Recording, RecordFault>
     requires some { 1 ≤ rounds }
-    requires few { rounds ≤ MOST_RECORDED_ROUNDS }
-    requires many { length requests.now ≤ MOST_REQUESTS }
+    requires few { rounds ≤ MAX_RECORDED_ROUNDS }
+    requires many { length requests.now ≤ MAX_REQUESTS }
     requires kept { config_fault config ≡ None }
     requires lanes { config.lanes ≡ [] }
     ensures same { IfOk result (λ r. r ≡ recorded_of (record { config = config; span = span; rounds = rounds; caps = caps.now; requests = requests.now })) }

@@ -1,9 +1,9 @@
 //! Adds caps and requests to a recording in the making.
 
 ghost use Rattle.std.specs.Prelude.{◌≡◌, ◌≢◌, ◌<◌, ◌≤◌, ◌++◌, ◌∷◌, [], true, false, None, Some, map, length, OnOk, IfErr};
-ghost use Rattle.cam_types.specs.Lists.{moments, first_answer};
+ghost use Rattle.cam_types.specs.Lists.{prefixed, first_answer};
 ghost use Rattle.recording_file.specs.Recorded.{request_cause};
-ghost use Rattle.recording_file.specs.declared.maxima.TheConstants.{MOST_REQUESTS};
+ghost use Rattle.recording_file.specs.declared.limits.TheConstants.{MAX_REQUESTS};
 ghost use Rattle.camxpt_c.specs.RecordShapes.{cap_of, request_of};
 ghost use Rattle.camxpt_c.specs.Recordings.{is_next, cap_fault, numbered, request_fault, Item, OutOfMemory};
 ghost use Rattle.camxpt_c.specs.declared.codes.TheConstants.{E_CAP};
@@ -19,8 +19,8 @@ pub(crate) fn add_caps(recorder: &mut Recorder, shapes: &[CamxptCap]) -> Result<
     requires no_cap { recorder.old.caps ≡ [] }
     requires no_request { recorder.old.requests ≡ [] }
     ensures made { OnOk result (recorder.new ≡ record recorder.old { caps = map cap_of shapes.now }) }
-    ensures ok { OnOk result (first_answer (cap_fault recorder.old.rounds recorder.old.config) (moments shapes.now) ≡ None) }
-    ensures err { IfErr result (λ e. e ≢ OutOfMemory → first_answer (cap_fault recorder.old.rounds recorder.old.config) (moments shapes.now) ≡ Some e) }
+    ensures ok { OnOk result (first_answer (cap_fault recorder.old.rounds recorder.old.config) (prefixed shapes.now) ≡ None) }
+    ensures err { IfErr result (λ e. e ≢ OutOfMemory → first_answer (cap_fault recorder.old.rounds recorder.old.config) (prefixed shapes.now) ≡ Some e) }
 {
     for (number, shape) in shapes.iter().enumerate() {
         add_cap(recorder, number, *shape)?;
@@ -56,10 +56,10 @@ pub(crate) fn add_requests(
     shapes: &[CamxptRequest],
 ) -> Result<(), RecordFault>
     requires no_request { recorder.old.requests ≡ [] }
-    requires few { length shapes.now ≤ MOST_REQUESTS }
+    requires few { length shapes.now ≤ MAX_REQUESTS }
     ensures made { OnOk result (recorder.new ≡ record recorder.old { requests = map request_of shapes.now }) }
-    ensures ok { OnOk result (first_answer (request_fault recorder.old.rounds recorder.old.config recorder.old.caps) (moments shapes.now) ≡ None) }
-    ensures err { IfErr result (λ e. e ≢ OutOfMemory → first_answer (request_fault recorder.old.rounds recorder.old.config recorder.old.caps) (moments shapes.now) ≡ Some e) }
+    ensures ok { OnOk result (first_answer (request_fault recorder.old.rounds recorder.old.config recorder.old.caps) (prefixed shapes.now) ≡ None) }
+    ensures err { IfErr result (λ e. e ≢ OutOfMemory → first_answer (request_fault recorder.old.rounds recorder.old.config recorder.old.caps) (prefixed shapes.now) ≡ Some e) }
 {
     for (number, shape) in shapes.iter().enumerate() {
         add_request(alloc, recorder, number, *shape)?;
@@ -74,7 +74,7 @@ fn add_request(
     number: usize,
     shape: CamxptRequest,
 ) -> Result<(), RecordFault>
-    requires { length recorder.old.requests < MOST_REQUESTS }
+    requires { length recorder.old.requests < MAX_REQUESTS }
     ensures made { OnOk result (recorder.new ≡ record recorder.old { requests = recorder.old.requests ++ request_of shape ∷ [] }) }
     ensures ok { OnOk result (request_cause recorder.old.rounds recorder.old.config recorder.old.caps (recorder.old.requests, request_of shape) ≡ None) }
     ensures err { IfErr result (λ e. e ≢ OutOfMemory → numbered number (request_cause recorder.old.rounds recorder.old.config recorder.old.caps (recorder.old.requests, request_of shape)) ≡ Some e) }

@@ -1,12 +1,12 @@
 //! The calls that take an event and give something back.
 
 ghost use Rattle.std.specs.Prelude.{◌≡◌, ◌+◌, take};
-ghost use Rattle.cam_types.specs.declared.maxima.TheConstants.{MOST_SENSE};
+ghost use Rattle.cam_types.specs.declared.limits.TheConstants.{MAX_SENSE};
 ghost use Rattle.event_rules.specs.Counts.{round, commands};
 ghost use Rattle.event_rules.specs.declared.event.Event.TheVariants.{Submit, Done, Tick};
 ghost use Rattle.xpt_state.specs.Replies.{done_of};
 ghost use Rattle.camxpt_c.specs.Shapes.{IsDone};
-ghost use Rattle.camxpt_c.specs.Said.{IsCall, IsSendNext, Gives};
+ghost use Rattle.camxpt_c.specs.CallTerms.{IsCall, IsSendNext, Gives};
 
 use crate::codes::{E_CLOSED, OK, code_of, idle_code};
 use crate::shapes::{CamxptCommand, CamxptDone, command_shape, done_shape};
@@ -82,8 +82,8 @@ pub extern "C" fn camxpt_raw_done(
     sense: &[u8],
     done: &mut CamxptDone,
 ) -> i32
-    ensures call { IsCall (Done ccb (record { status = status; scsi = scsi; sense = take MOST_SENSE sense.now })) handle.old.body.kept handle.new.body.kept result }
-    ensures answer { Gives (Done ccb (record { status = status; scsi = scsi; sense = take MOST_SENSE sense.now })) handle.old.body.kept (λ t. IsDone (done_of t.events ccb (record { status = status; scsi = scsi; sense = take MOST_SENSE sense.now })) done.new) (done.new ≡ done.old) }
+    ensures call { IsCall (Done ccb (record { status = status; scsi = scsi; sense = take MAX_SENSE sense.now })) handle.old.body.kept handle.new.body.kept result }
+    ensures answer { Gives (Done ccb (record { status = status; scsi = scsi; sense = take MAX_SENSE sense.now })) handle.old.body.kept (λ t. IsDone (done_of t.events ccb (record { status = status; scsi = scsi; sense = take MAX_SENSE sense.now })) done.new) (done.new ≡ done.old) }
 {
     let Some(mut xpt) = handle.take(alloc) else {
         return E_CLOSED;

@@ -15,7 +15,7 @@ use Rattle.recording_file.specs.declared.request.Request.{Request}
 use Rattle.recording_file.proofs.ListLemmas.{range_more}
 use Rattle.capture.specs.Captured.{is_measured, is_open, own_cap, open_cap, cap_of, sum_on}
 use Rattle.capture.specs.Loads.{IsRow, waiting}
-use Rattle.capture.specs.declared.capture_fault.TheConstants.{MOST_IN_ROUND}
+use Rattle.capture.specs.declared.capture_fault.TheConstants.{MAX_IN_ROUND}
 
 -- by itself or not
 pub row_of_open : (c : Topology) (rated opened : List Bool) (qs : List Request) (p : Part) (last : ℕ) (row : List ℕ) → is_open opened p ≡ true → IsRow (open_cap c rated qs p) last row → IsRow (cap_of c rated opened qs p) last row
@@ -44,27 +44,27 @@ steady_row c rated qs p last usual old new steady is loads size raised =
       each = λ r few. raised r (omega arith) ∙ rw (loads.each r few, is, steady) refl;
     }
 
--- ---- of an adapter of which nobody said what it takes
+-- ---- of an adapter of unknown openings
 
 -- the devices on it have more openings than it
-pub full_row : (c : Topology) (rated : List Bool) (qs : List Request) (p : Part) (last : ℕ) (new : List ℕ) → nat_lt (openings c p) (sum_on c p.number (openings c)) ≡ true → new ≡ replicate (last + 1) MOST_IN_ROUND → IsRow (open_cap c rated qs p) last new
+pub full_row : (c : Topology) (rated : List Bool) (qs : List Request) (p : Part) (last : ℕ) (new : List ℕ) → nat_lt (openings c p) (sum_on c p.number (openings c)) ≡ true → new ≡ replicate (last + 1) MAX_IN_ROUND → IsRow (open_cap c rated qs p) last new
 unfolding open_cap
 full_row c rated qs p last new more is = record {
-  size = ap length is ∙ length-replicate (last + 1) MOST_IN_ROUND;
-  each = λ r few. ap (λ row. slice_index row r) is ∙ get_or-replicate (last + 1) r MOST_IN_ROUND 0 (omega arith) ∙ rw more refl;
+  size = ap length is ∙ length-replicate (last + 1) MAX_IN_ROUND;
+  each = λ r few. ap (λ row. slice_index row r) is ∙ get_or-replicate (last + 1) r MAX_IN_ROUND 0 (omega arith) ∙ rw more refl;
 }
 
 least_max : (m x s : ℕ) → min m (max x (min m s)) ≡ min m (max x s)
 least_max m x s = omega arith
 
 -- they don't
-pub shared_row : (c : Topology) (rated : List Bool) (qs : List Request) (p : Part) (last usual : ℕ) (old devices new : List ℕ) → nat_lt (openings c p) (sum_on c p.number (openings c)) ≡ false → usual ≡ openings c p → IsRow (load c qs p) last old → IsRow (λ round. min MOST_IN_ROUND (sum_on c p.number (λ d. own_cap c rated qs d round))) last devices → length new ≡ length old → ((round : ℕ) → round < length old → slice_index new round ≡ min MOST_IN_ROUND (max (max usual (slice_index old round)) (slice_index devices round))) → IsRow (open_cap c rated qs p) last new
+pub shared_row : (c : Topology) (rated : List Bool) (qs : List Request) (p : Part) (last usual : ℕ) (old devices new : List ℕ) → nat_lt (openings c p) (sum_on c p.number (openings c)) ≡ false → usual ≡ openings c p → IsRow (load c qs p) last old → IsRow (λ round. min MAX_IN_ROUND (sum_on c p.number (λ d. own_cap c rated qs d round))) last devices → length new ≡ length old → ((round : ℕ) → round < length old → slice_index new round ≡ min MAX_IN_ROUND (max (max usual (slice_index old round)) (slice_index devices round))) → IsRow (open_cap c rated qs p) last new
 unfolding open_cap
 shared_row c rated qs p last usual old devices new fewer is loads sums size raised =
     let many = loads.size in
     record {
       size = size ∙ loads.size;
-      each = λ r few. raised r (omega arith) ∙ rw (sums.each r few, loads.each r few, is, fewer) (least_max MOST_IN_ROUND (max (openings c p) (load c qs p r)) (sum_on c p.number (λ d. own_cap c rated qs d r)));
+      each = λ r few. raised r (omega arith) ∙ rw (sums.each r few, loads.each r few, is, fewer) (least_max MAX_IN_ROUND (max (openings c p) (load c qs p r)) (sum_on c p.number (λ d. own_cap c rated qs d r)));
     }
 
 -- ---- sums over the devices on an adapter
@@ -87,7 +87,7 @@ sum_passed c a n f off =
 
 -- such sums in each round, up to the most that a cap says
 abbrev pub IsSumRow : Topology → ℕ → (ℕ → ℕ → ℕ) → ℕ → ℕ → List ℕ → Type 0
-IsSumRow c a number n last row = IsRow (λ r. min MOST_IN_ROUND (sum_below c a (λ d. number d r) n)) last row
+IsSumRow c a number n last row = IsRow (λ r. min MAX_IN_ROUND (sum_below c a (λ d. number d r) n)) last row
 
 pub sum_row_none : (c : Topology) (a : ℕ) (number : ℕ → ℕ → ℕ) (last : ℕ) (row : List ℕ) → row ≡ replicate (last + 1) 0 → IsSumRow c a number 0 last row
 sum_row_none c a number last row is = record {
@@ -98,14 +98,14 @@ sum_row_none c a number last row is = record {
 least_sum : (m s x : ℕ) → min m (min m s + x) ≡ min m (s + x)
 least_sum m s x = omega arith
 
-pub sum_row_taken : (c : Topology) (a : ℕ) (number : ℕ → ℕ → ℕ) (n last : ℕ) (old own new : List ℕ) → is_on c a n ≡ true → IsSumRow c a number n last old → IsRow (number n) last own → length new ≡ length old → ((r : ℕ) → r < length old → slice_index new r ≡ min MOST_IN_ROUND (slice_index old r + slice_index own r)) → IsSumRow c a number (n + 1) last new
+pub sum_row_taken : (c : Topology) (a : ℕ) (number : ℕ → ℕ → ℕ) (n last : ℕ) (old own new : List ℕ) → is_on c a n ≡ true → IsSumRow c a number n last old → IsRow (number n) last own → length new ≡ length old → ((r : ℕ) → r < length old → slice_index new r ≡ min MAX_IN_ROUND (slice_index old r + slice_index own r)) → IsSumRow c a number (n + 1) last new
 sum_row_taken c a number n last old own new on sums owned size added =
     let many = sums.size in
     record {
       size = size ∙ sums.size;
       each = λ r few.
           let more = sum_taken c a n (λ d. number d r) on in
-          added r (omega arith) ∙ rw (sums.each r few, owned.each r few, more) (least_sum MOST_IN_ROUND (sum_below c a (λ d. number d r) n) (number n r));
+          added r (omega arith) ∙ rw (sums.each r few, owned.each r few, more) (least_sum MAX_IN_ROUND (sum_below c a (λ d. number d r) n) (number n r));
     }
 
 pub sum_row_passed : (c : Topology) (a : ℕ) (number : ℕ → ℕ → ℕ) (n last : ℕ) (row : List ℕ) → is_on c a n ≡ false → IsSumRow c a number n last row → IsSumRow c a number (n + 1) last row

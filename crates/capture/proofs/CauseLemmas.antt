@@ -9,7 +9,7 @@ use Rattle.cam_types.specs.Topology.{Topology, IsConfig, names_link}
 use Rattle.cam_types.specs.Questions.{names_device, device_adapter, adapter_link}
 use Rattle.cam_types.specs.declared.adapter.Adapter.{Adapter}
 use Rattle.cam_types.specs.declared.device.Device.{Device}
-use Rattle.cam_types.specs.declared.maxima.TheConstants.{MOST_PRIORITY, MOST_OPENINGS}
+use Rattle.cam_types.specs.declared.limits.TheConstants.{MAX_PRIORITY, MAX_OPENINGS}
 use Rattle.cam_types.proofs.ConfigLemmas.{bus-there, adapters_on_links, small_devices, small_adapters, small_links}
 use Rattle.recording_file.specs.Caps.{openings, part_of, cap_in}
 use Rattle.recording_file.specs.Recorded.{takes_of, load, last_of, link_parts, is_full, window_cause, crowd_cause, plain_cause, request_cause}
@@ -21,7 +21,7 @@ use Rattle.capture.specs.Captured.{is_measured, is_open, own_cap, open_cap, sum_
 use Rattle.capture.specs.Faults.{IsInRounds, starts_in}
 use Rattle.capture.specs.Loads.{is_pressed}
 use Rattle.capture.specs.Parts.{all_parts}
-use Rattle.capture.specs.declared.capture_fault.TheConstants.{MOST_IN_ROUND}
+use Rattle.capture.specs.declared.capture_fault.TheConstants.{MAX_IN_ROUND}
 use Rattle.capture.proofs.CapLemmas.{cap_in_all}
 use Rattle.capture.proofs.CountLemmas.{one, count_by-cons}
 use Rattle.capture.proofs.FoundLemmas.{at_element}
@@ -41,14 +41,14 @@ own_capped : (c : Topology) (rated : List Bool) (qs : List Request) (p : Part) (
 unfolding own_cap
 own_capped c rated qs p r = elim (is_measured rated p && is_pressed qs p.number r) as (λ b. load c qs p r ≤ cond b (load c qs p r) (max (openings c p) (load c qs p r))) [ true ↦ omega arith | false ↦ omega arith ]
 
-open_capped : (c : Topology) (rated : List Bool) (qs : List Request) (p : Part) (r : ℕ) → starts_in qs r ≤ MOST_IN_ROUND → load c qs p r ≤ open_cap c rated qs p r
+open_capped : (c : Topology) (rated : List Bool) (qs : List Request) (p : Part) (r : ℕ) → starts_in qs r ≤ MAX_IN_ROUND → load c qs p r ≤ open_cap c rated qs p r
 unfolding open_cap
 open_capped c rated qs p r few =
     let load' = load_few c qs p r in
     let sums : ℕ = sum_on c p.number (λ d. own_cap c rated qs d r) in
-    elim (nat_lt (openings c p) (sum_on c p.number (openings c))) as (λ b. load c qs p r ≤ cond b MOST_IN_ROUND (min MOST_IN_ROUND (max (max (openings c p) (load c qs p r)) sums))) [ true ↦ omega arith | false ↦ omega arith ]
+    elim (nat_lt (openings c p) (sum_on c p.number (openings c))) as (λ b. load c qs p r ≤ cond b MAX_IN_ROUND (min MAX_IN_ROUND (max (max (openings c p) (load c qs p r)) sums))) [ true ↦ omega arith | false ↦ omega arith ]
 
-pub load_capped : (c : Topology) (rated opened : List Bool) (qs : List Request) (p : Part) (r : ℕ) → starts_in qs r ≤ MOST_IN_ROUND → load c qs p r ≤ cap_of c rated opened qs p r
+pub load_capped : (c : Topology) (rated opened : List Bool) (qs : List Request) (p : Part) (r : ℕ) → starts_in qs r ≤ MAX_IN_ROUND → load c qs p r ≤ cap_of c rated opened qs p r
 load_capped c rated opened qs p r few =
     elim (is_open opened p) as (λ b. load c qs p r ≤ cond b (open_cap c rated qs p r) (own_cap c rated qs p r)) [ true ↦ open_capped c rated qs p r few | false ↦ own_capped c rated qs p r ]
 
@@ -59,34 +59,34 @@ element xs i lt = elim (slice_get_cases xs i).1 [
 ]
 
 -- the openings of a thing that is looked up
-found_small : {X : Type 0} (f : X → ℕ) (xs : List X) (i : ℕ) → All (λ x. f x ≤ MOST_OPENINGS) xs → option_map_or f (slice_get xs i) 0 ≤ MOST_OPENINGS
-found_small f xs i h = elim (slice_get xs i) as (λ o. slice_get xs i ≡ o → option_map_or f o 0 ≤ MOST_OPENINGS) [
+found_small : {X : Type 0} (f : X → ℕ) (xs : List X) (i : ℕ) → All (λ x. f x ≤ MAX_OPENINGS) xs → option_map_or f (slice_get xs i) 0 ≤ MAX_OPENINGS
+found_small f xs i h = elim (slice_get xs i) as (λ o. slice_get xs i ≡ o → option_map_or f o 0 ≤ MAX_OPENINGS) [
   | None ↦ λ e. omega arith
-  | Some x ↦ λ e. at_element (λ x. f x ≤ MOST_OPENINGS) xs i x h e
+  | Some x ↦ λ e. at_element (λ x. f x ≤ MAX_OPENINGS) xs i x h e
 ] refl
 
-openings_by : (c : Topology) → IsConfig c → (k : PartKind) (n : ℕ) → openings c (part_of k n) ≤ MOST_OPENINGS
+openings_by : (c : Topology) → IsConfig c → (k : PartKind) (n : ℕ) → openings c (part_of k n) ≤ MAX_OPENINGS
 openings_by c config kind.Device n = found_small (λ (d : Device). d.openings) c.devices n (small_devices c config)
 openings_by c config kind.Adapter n = found_small (λ (a : Adapter). a.openings) c.adapters n (small_adapters c config)
 openings_by c config kind.Link n = found_small (λ n. n) c.links n (small_links c config)
 
-own_few : (c : Topology) (rated : List Bool) (qs : List Request) (k : PartKind) (n r : ℕ) → IsConfig c → starts_in qs r ≤ MOST_IN_ROUND → own_cap c rated qs (part_of k n) r ≤ MOST_IN_ROUND
+own_few : (c : Topology) (rated : List Bool) (qs : List Request) (k : PartKind) (n r : ℕ) → IsConfig c → starts_in qs r ≤ MAX_IN_ROUND → own_cap c rated qs (part_of k n) r ≤ MAX_IN_ROUND
 unfolding own_cap
 own_few c rated qs k n r config few =
     let p : Part = part_of k n in
     let open' = openings_by c config k n in
     let load' = load_few c qs p r in
-    elim (is_measured rated p && is_pressed qs p.number r) as (λ b. cond b (load c qs p r) (max (openings c p) (load c qs p r)) ≤ MOST_IN_ROUND) [ true ↦ omega arith | false ↦ omega arith ]
+    elim (is_measured rated p && is_pressed qs p.number r) as (λ b. cond b (load c qs p r) (max (openings c p) (load c qs p r)) ≤ MAX_IN_ROUND) [ true ↦ omega arith | false ↦ omega arith ]
 
-open_few : (c : Topology) (rated : List Bool) (qs : List Request) (p : Part) (r : ℕ) → open_cap c rated qs p r ≤ MOST_IN_ROUND
+open_few : (c : Topology) (rated : List Bool) (qs : List Request) (p : Part) (r : ℕ) → open_cap c rated qs p r ≤ MAX_IN_ROUND
 unfolding open_cap
 open_few c rated qs p r =
     let sums : ℕ = sum_on c p.number (λ d. own_cap c rated qs d r) in
-    elim (nat_lt (openings c p) (sum_on c p.number (openings c))) as (λ b. cond b MOST_IN_ROUND (min MOST_IN_ROUND (max (max (openings c p) (load c qs p r)) sums)) ≤ MOST_IN_ROUND) [ true ↦ omega arith | false ↦ omega arith ]
+    elim (nat_lt (openings c p) (sum_on c p.number (openings c))) as (λ b. cond b MAX_IN_ROUND (min MAX_IN_ROUND (max (max (openings c p) (load c qs p r)) sums)) ≤ MAX_IN_ROUND) [ true ↦ omega arith | false ↦ omega arith ]
 
-pub cap_few : (c : Topology) (rated opened : List Bool) (qs : List Request) (k : PartKind) (n r : ℕ) → IsConfig c → starts_in qs r ≤ MOST_IN_ROUND → cap_of c rated opened qs (part_of k n) r ≤ MOST_IN_ROUND
+pub cap_few : (c : Topology) (rated opened : List Bool) (qs : List Request) (k : PartKind) (n r : ℕ) → IsConfig c → starts_in qs r ≤ MAX_IN_ROUND → cap_of c rated opened qs (part_of k n) r ≤ MAX_IN_ROUND
 cap_few c rated opened qs k n r config few =
-    elim (is_open opened (part_of k n)) as (λ b. cond b (open_cap c rated qs (part_of k n) r) (own_cap c rated qs (part_of k n) r) ≤ MOST_IN_ROUND) [ true ↦ open_few c rated qs (part_of k n) r | false ↦ own_few c rated qs k n r config few ]
+    elim (is_open opened (part_of k n)) as (λ b. cond b (open_cap c rated qs (part_of k n) r) (own_cap c rated qs (part_of k n) r) ≤ MAX_IN_ROUND) [ true ↦ open_few c rated qs (part_of k n) r | false ↦ own_few c rated qs k n r config few ]
 
 -- ---- no cause speaks against a request
 
@@ -103,7 +103,7 @@ unfolding plain_cause window_cause
 no_plain_cause rounds c q is there =
     let arrived = is.arrived in
     let within = is.within in
-    let listed = le-ltb MOST_PRIORITY q.priority is.priority in
+    let listed = le-ltb MAX_PRIORITY q.priority is.priority in
     let first = le-leb 1 q.arrival is.first in
     let order = le-leb q.arrival (last_of rounds q) (omega arith) in
     let few = le-leb (last_of rounds q) rounds is.last in
@@ -112,7 +112,7 @@ no_plain_cause rounds c q is there =
     rw (there, listed, first, order, few, early, late) refl
 
 -- a part that is there and takes a request has room for it beside the requests before it
-has_room : (c : Topology) (rated opened : List Bool) (qs : List Request) (rounds n : ℕ) (d : Request) (k : PartKind) (m : ℕ) → n < length qs → IsInRounds rounds (get_or qs n d) → IsThere c (part_of k m) → takes_of c (part_of k m) (get_or qs n d).device ≡ true → starts_in qs (get_or qs n d).sent ≤ MOST_IN_ROUND
+has_room : (c : Topology) (rated opened : List Bool) (qs : List Request) (rounds n : ℕ) (d : Request) (k : PartKind) (m : ℕ) → n < length qs → IsInRounds rounds (get_or qs n d) → IsThere c (part_of k m) → takes_of c (part_of k m) (get_or qs n d).device ≡ true → starts_in qs (get_or qs n d).sent ≤ MAX_IN_ROUND
     → is_full c (flat_map (part_caps c rated opened qs rounds) (all_parts c)) (take n qs) (get_or qs n d).sent (part_of k m) ≡ false
 has_room c rated opened qs rounds n d k m lt is there takes few =
     let q : Request = get_or qs n d in
@@ -131,7 +131,7 @@ none_full : (t : Part → Bool) (device adapter : Part) (link : Option ℕ) → 
 none_full t device adapter None d a l = rw (d, a) refl
 none_full t device adapter (Some k) d a l = let none = l k refl in rw (d, a, none) refl
 
-no_crowd_cause : (c : Topology) (rated opened : List Bool) (qs : List Request) (rounds n : ℕ) (d : Request) → IsConfig c → n < length qs → IsInRounds rounds (get_or qs n d) → (get_or qs n d).device < length c.devices → starts_in qs (get_or qs n d).sent ≤ MOST_IN_ROUND → crowd_cause c (flat_map (part_caps c rated opened qs rounds) (all_parts c)) (take n qs) (get_or qs n d) ≡ None
+no_crowd_cause : (c : Topology) (rated opened : List Bool) (qs : List Request) (rounds n : ℕ) (d : Request) → IsConfig c → n < length qs → IsInRounds rounds (get_or qs n d) → (get_or qs n d).device < length c.devices → starts_in qs (get_or qs n d).sent ≤ MAX_IN_ROUND → crowd_cause c (flat_map (part_caps c rated opened qs rounds) (all_parts c)) (take n qs) (get_or qs n d) ≡ None
 unfolding crowd_cause
 no_crowd_cause c rated opened qs rounds n d config lt is there few =
     let q : Request = get_or qs n d in
@@ -152,7 +152,7 @@ no_crowd_cause c rated opened qs rounds n d config lt is there few =
     room kind.Link l lt is is_link (rw (device.1, under) (eq-eqb l l refl)) few) in
     rw none refl
 
-pub no_cause : (c : Topology) (rated opened : List Bool) (qs : List Request) (rounds n : ℕ) (d : Request) → IsConfig c → n < length qs → All (IsInRounds rounds) qs → ((round : ℕ) → 1 ≤ round → round ≤ rounds → starts_in qs round ≤ MOST_IN_ROUND) → names_device c (get_or qs n d).device ≡ true → request_cause rounds c (flat_map (part_caps c rated opened qs rounds) (all_parts c)) (take n qs, get_or qs n d) ≡ None
+pub no_cause : (c : Topology) (rated opened : List Bool) (qs : List Request) (rounds n : ℕ) (d : Request) → IsConfig c → n < length qs → All (IsInRounds rounds) qs → ((round : ℕ) → 1 ≤ round → round ≤ rounds → starts_in qs round ≤ MAX_IN_ROUND) → names_device c (get_or qs n d).device ≡ true → request_cause rounds c (flat_map (part_caps c rated opened qs rounds) (all_parts c)) (take n qs, get_or qs n d) ≡ None
 unfolding request_cause
 no_cause c rated opened qs rounds n d config lt h crowds there =
     let is = h n d lt in

@@ -4,7 +4,7 @@ use Rattle.std.specs.List.{range_with_len, remove}
 use Rattle.std.proofs.lemmas.List.{take_more, append-nil}
 use Rattle.std.proofs.lemmas.Option.{get_or_from_slice_get, slice_get_within}
 use Rattle.std.proofs.lemmas.List.Folds.{find-append}
-use Rattle.cam_types.specs.Lists.{moments, moments_after, first_answer}
+use Rattle.cam_types.specs.Lists.{prefixed, prefixed_after, first_answer}
 use Rattle.cam_types.proofs.ListLemmas.{first_answer-append}
 use Rattle.recording_file.proofs.ListLemmas.{range_more, found_longer}
 
@@ -28,14 +28,14 @@ none_in_range t a n none fails = ap (find t) (range_more a n) ∙ find-append t 
 pub found_in_range : (t : ℕ → Bool) (a n m : ℕ) → n < m → find t (range_with_len a n) ≡ None → t (a + n) ≡ true → find t (range_with_len a m) ≡ Some (a + n)
 found_in_range t a n m lt none passes = found_longer t a (n + 1) m (a + n) (omega arith) (ap (find t) (range_more a n) ∙ find-append t (range_with_len a n) ((a + n) ∷ []) ∙ rw (none, passes) refl)
 
--- the moments of two lists
-moments-append : {X : Type 0} (before xs ys : List X) → moments_after before (xs ++ ys) ≡ moments_after before xs ++ moments_after (before ++ xs) ys
-moments-append before [] ys = ap (λ b. moments_after b ys) (rw append-nil refl)
-moments-append before (x ∷ xs) ys = ap (λ ms. (before, x) ∷ ms) (moments-append (before ++ x ∷ []) xs ys ∙ rw append_assoc refl)
+-- the elements of two lists with what stands before them
+prefixed-append : {X : Type 0} (before xs ys : List X) → prefixed_after before (xs ++ ys) ≡ prefixed_after before xs ++ prefixed_after (before ++ xs) ys
+prefixed-append before [] ys = ap (λ b. prefixed_after b ys) (rw append-nil refl)
+prefixed-append before (x ∷ xs) ys = ap (λ ms. (before, x) ∷ ms) (prefixed-append (before ++ x ∷ []) xs ys ∙ rw append_assoc refl)
 
 -- the first answer is that of an element where none before it has one
-pub answer_here : {X F : Type 0} (f : List X × X → Option F) (before : List X) (x : X) (rest : List X) (e : F) → first_answer f (moments before) ≡ None → f (before, x) ≡ Some e → first_answer f (moments (before ++ x ∷ rest)) ≡ Some e
-answer_here f before x rest e none here = ap (first_answer f) (moments-append [] before (x ∷ rest)) ∙ first_answer-append f (moments before) (moments_after before (x ∷ rest)) ∙ rw (none, here) refl
+pub answer_here : {X F : Type 0} (f : List X × X → Option F) (before : List X) (x : X) (rest : List X) (e : F) → first_answer f (prefixed before) ≡ None → f (before, x) ≡ Some e → first_answer f (prefixed (before ++ x ∷ rest)) ≡ Some e
+answer_here f before x rest e none here = ap (first_answer f) (prefixed-append [] before (x ∷ rest)) ∙ first_answer-append f (prefixed before) (prefixed_after before (x ∷ rest)) ∙ rw (none, here) refl
 
 -- a list in front of one of its elements, that element, and the rest
 pub parts_at : {X : Type 0} (xs : List X) (n : ℕ) (d : X) → n < length xs → xs ≡ take n xs ++ get_or xs n d ∷ drop (suc n) xs

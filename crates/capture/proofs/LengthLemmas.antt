@@ -3,11 +3,11 @@ use Rattle.std.proofs.Common.{◌≡◌, ℕ, ◌+◌, ◌-◌, ◌*◌, ◌/◌
 use Rattle.std.specs.List.{sum_by, range_with_len}
 use Rattle.std.proofs.Math.Nat.{div-le_of_le-mul, div-add-mod', le-div_iff_mul-le}
 use Rattle.std.proofs.lemmas.Nat.{div_below, mod_below}
-use Rattle.recording_file.specs.declared.maxima.TheConstants.{MOST_RECORDED_ROUNDS}
+use Rattle.recording_file.specs.declared.limits.TheConstants.{MAX_RECORDED_ROUNDS}
 use Rattle.recording_file.proofs.ListLemmas.{range_more}
 use Rattle.std.specs.Option.{IfSome, IfNone}
 use Rattle.capture.specs.Rounds.{Span, round_at, span_nanoseconds}
-use Rattle.capture.specs.Spans.{MOST_COUNT}
+use Rattle.capture.specs.Spans.{MAX_COUNT}
 use Rattle.capture.proofs.SpanBoundLemmas.{span_some}
 use Rattle.std.proofs.lemmas.Bool.{ne_eqb}
 use Rattle.std.proofs.lemmas.List.{take_all}
@@ -46,28 +46,28 @@ most_of_range f n most so_far =
     omega arith
 
 -- a time in that many rounds of what this length makes of it
-pub rounds_fit : (span begin last : ℕ) → (last - begin) / MOST_RECORDED_ROUNDS + 1 ≤ span → round_at span begin last ≤ MOST_RECORDED_ROUNDS
+pub rounds_fit : (span begin last : ℕ) → (last - begin) / MAX_RECORDED_ROUNDS + 1 ≤ span → round_at span begin last ≤ MAX_RECORDED_ROUNDS
 rounds_fit span begin last long =
     let time : ℕ = last - begin in
-    let whole = div-add-mod' time MOST_RECORDED_ROUNDS in
-    let rest = mod_below time MOST_RECORDED_ROUNDS (omega arith) in
-    let below = div_below time span MOST_RECORDED_ROUNDS (omega arith) (omega arith) in
+    let whole = div-add-mod' time MAX_RECORDED_ROUNDS in
+    let rest = mod_below time MAX_RECORDED_ROUNDS (omega arith) in
+    let below = div_below time span MAX_RECORDED_ROUNDS (omega arith) (omega arith) in
     omega arith
 
 -- and no round as short as the last one that doesn't
-pub rounds_over : (span begin last : ℕ) → 1 ≤ span → span ≤ (last - begin) / MOST_RECORDED_ROUNDS → MOST_RECORDED_ROUNDS < round_at span begin last
+pub rounds_over : (span begin last : ℕ) → 1 ≤ span → span ≤ (last - begin) / MAX_RECORDED_ROUNDS → MAX_RECORDED_ROUNDS < round_at span begin last
 rounds_over span begin last some short =
     let time : ℕ = last - begin in
-    let whole = div-add-mod' time MOST_RECORDED_ROUNDS in
-    let enough : MOST_RECORDED_ROUNDS ≤ time / span = (le-div_iff_mul-le {k = span} {x = MOST_RECORDED_ROUNDS} {y = time} some).1 (omega arith) in
+    let whole = div-add-mod' time MAX_RECORDED_ROUNDS in
+    let enough : MAX_RECORDED_ROUNDS ≤ time / span = (le-div_iff_mul-le {k = span} {x = MAX_RECORDED_ROUNDS} {y = time} some).1 (omega arith) in
     omega arith
 
 -- the same of a span, if there is one
-pub fit_of : (begin last least : ℕ) (r : Option Span) → least ≡ (last - begin) / MOST_RECORDED_ROUNDS + 1 → IfSome r (λ s. least ≤ span_nanoseconds s) → IfSome r (λ s. round_at (span_nanoseconds s) begin last ≤ MOST_RECORDED_ROUNDS)
+pub fit_of : (begin last least : ℕ) (r : Option Span) → least ≡ (last - begin) / MAX_RECORDED_ROUNDS + 1 → IfSome r (λ s. least ≤ span_nanoseconds s) → IfSome r (λ s. round_at (span_nanoseconds s) begin last ≤ MAX_RECORDED_ROUNDS)
 fit_of begin last least None is h = tt
 fit_of begin last least (Some s) is h = rounds_fit (span_nanoseconds s) begin last (rw (← is) h)
 
 -- and of all that are too short, if there is none
-pub over_of : (begin last least half : ℕ) (r : Option Span) → least ≡ (last - begin) / MOST_RECORDED_ROUNDS + 1 → IfNone r ((s : Span) → s.count ≤ MOST_COUNT → span_nanoseconds s ≤ half → span_nanoseconds s < least) → IfNone r ((s : Span) → 1 ≤ s.count → s.count ≤ MOST_COUNT → span_nanoseconds s ≤ half → MOST_RECORDED_ROUNDS < round_at (span_nanoseconds s) begin last)
+pub over_of : (begin last least half : ℕ) (r : Option Span) → least ≡ (last - begin) / MAX_RECORDED_ROUNDS + 1 → IfNone r ((s : Span) → s.count ≤ MAX_COUNT → span_nanoseconds s ≤ half → span_nanoseconds s < least) → IfNone r ((s : Span) → 1 ≤ s.count → s.count ≤ MAX_COUNT → span_nanoseconds s ≤ half → MAX_RECORDED_ROUNDS < round_at (span_nanoseconds s) begin last)
 over_of begin last least half (Some s) is h = tt
 over_of begin last least half None is h = λ s some few le. rounds_over (span_nanoseconds s) begin last (span_some s some) (omega (arith, h s few le))

@@ -2,7 +2,7 @@
 use Rattle.std.proofs.Common.{◌≡◌, ℕ, ◌+◌, ◌<◌, ◌≤◌, Bool, List, [], ◌∷◌, ◌++◌, length, take, get_or, sym, ap, ◌∙◌, refl, Some}
 use Rattle.std.specs.List.{flat_map}
 use Rattle.std.proofs.lemmas.List.{take_more, take_all}
-use Rattle.recording_file.specs.Names.{Label}
+use Rattle.recording_file.specs.Names.{NameValue}
 use Rattle.recording_file.specs.Recorded.{Recorded}
 use Rattle.recording_file.specs.declared.cap.Cap.{Cap}
 use Rattle.recording_file.specs.declared.part.Part.{Part}
@@ -14,7 +14,7 @@ use Rattle.capture.specs.Rounds.{Rounded}
 use Rattle.capture.proofs.CapLemmas.{caps_more}
 
 -- one that has names of its own, and otherwise is as it was
-pub named_again : (first now new : Recorded) (names : List Label) → now ≡ record first { names = now.names } → new ≡ record now { names = names } → new ≡ record first { names = new.names }
+pub named_again : (first now new : Recorded) (names : List NameValue) → now ≡ record first { names = now.names } → new ≡ record now { names = names } → new ≡ record first { names = new.names }
 named_again first now new names so_far more =
     more ∙ ap (λ (r : Recorded). record r { names = names }) so_far ∙ ap (λ ns. record first { names = ns }) (sym (ap (λ (r : Recorded). r.names) more))
 
@@ -41,7 +41,7 @@ pub caps_all : (first now : Recorded) (f : Part → List Cap) (ps : List Part) (
 caps_all first now f ps n le so_far = so_far ∙ ap (λ qs. record first { caps = flat_map f qs }) (take_all n ps le)
 
 -- the recording that is made of all this
-pub recorded_made : (c copy : Topology) (rated opened : List Bool) (names : List Label) (r : Rounded) (first named capped whole last : Recorded) → copy ≡ c → first ≡ record { unit = Some r.unit; rounds = r.rounds; config = copy; names = []; caps = []; requests = [] } → named ≡ record first { names = names } → capped ≡ record named { caps = flat_map (part_caps c rated opened r.requests named.rounds) (all_parts c) } → whole ≡ record capped { requests = r.requests } → last ≡ whole → last ≡ recorded_of c rated opened names r
+pub recorded_made : (c copy : Topology) (rated opened : List Bool) (names : List NameValue) (r : Rounded) (first named capped whole last : Recorded) → copy ≡ c → first ≡ record { unit = Some r.unit; rounds = r.rounds; config = copy; names = []; caps = []; requests = [] } → named ≡ record first { names = names } → capped ≡ record named { caps = flat_map (part_caps c rated opened r.requests named.rounds) (all_parts c) } → whole ≡ record capped { requests = r.requests } → last ≡ whole → last ≡ recorded_of c rated opened names r
 unfolding recorded_of
 recorded_made c copy rated opened names r first named capped whole last same is by_names by_caps by_requests end =
     end ∙ by_requests ∙ rw (by_caps, by_names, is, same) refl

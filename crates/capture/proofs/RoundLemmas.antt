@@ -6,10 +6,10 @@ use Rattle.std.proofs.Math.Nat.{div-add-mod'}
 use Rattle.std.proofs.lemmas.Nat.{div_below, mod_below}
 use Rattle.std.proofs.lemmas.Bool.{ltb-true, ltb-false}
 use Rattle.std.proofs.lemmas.List.Elements.{All-nil, All-cons, All-filter, All-map}
-use Rattle.cam_types.specs.Lists.{moments_after, moments, first_answer}
-use Rattle.cam_types.specs.declared.maxima.TheConstants.{MOST_PRIORITY}
+use Rattle.cam_types.specs.Lists.{prefixed_after, prefixed, first_answer}
+use Rattle.cam_types.specs.declared.limits.TheConstants.{MAX_PRIORITY}
 use Rattle.cam_types.proofs.ListLemmas.{or_left, or_right}
-use Rattle.recording_file.specs.declared.maxima.TheConstants.{MOST_RECORDED_ROUNDS, MOST_REQUESTS}
+use Rattle.recording_file.specs.declared.limits.TheConstants.{MAX_RECORDED_ROUNDS, MAX_REQUESTS}
 use Rattle.recording_file.proofs.ListLemmas.{all_of_flat, all_of_filter}
 use Rattle.capture.specs.Timed.{TimedRequest, arrival_of, most_of, is_started, start_of, arriving, by_arrival, started}
 use Rattle.capture.specs.Rounds.{round_at, first_arrival, rounds_of, unless_end, last_round, request_in}
@@ -26,32 +26,32 @@ each_most f xs = below f xs (most_of f xs) (omega arith)
 -- ---- requests without a fault
 
 pub record IsTimely (q : TimedRequest) : Type 0 where
-  pub priority : q.priority ≤ MOST_PRIORITY
+  pub priority : q.priority ≤ MAX_PRIORITY
   pub order : is_started q ≡ true → q.arrival ≤ start_of q
 
 no_fault : (before : List TimedRequest) (q : TimedRequest) → request_fault (before, q) ≡ None → IsTimely q
 unfolding request_fault
-no_fault before q = elim (nat_lt MOST_PRIORITY q.priority) as (λ b. nat_lt MOST_PRIORITY q.priority ≡ b → cond b (Some (BadPriority (length before))) (cond (is_early q) (Some (StartedEarly (length before))) None) ≡ None → IsTimely q) [
+no_fault before q = elim (nat_lt MAX_PRIORITY q.priority) as (λ b. nat_lt MAX_PRIORITY q.priority ≡ b → cond b (Some (BadPriority (length before))) (cond (is_early q) (Some (StartedEarly (length before))) None) ≡ None → IsTimely q) [
   | true ↦ λ is e. absurd cc
   | false ↦ λ low. elim (is_early q) as (λ b. is_early q ≡ b → cond b (Some (StartedEarly (length before))) None ≡ None → IsTimely q) [
     | true ↦ λ is e. absurd cc
     | false ↦ λ late e. record {
-      priority = ltb-false MOST_PRIORITY q.priority low;
+      priority = ltb-false MAX_PRIORITY q.priority low;
       order = λ begun. ltb-false (start_of q) q.arrival (rw begun at late);
     }
   ] refl
 ] refl
 
-timely_after : (before qs : List TimedRequest) → first_answer request_fault (moments_after before qs) ≡ None → All IsTimely qs
+timely_after : (before qs : List TimedRequest) → first_answer request_fault (prefixed_after before qs) ≡ None → All IsTimely qs
 timely_after before [] none = All-nil IsTimely
 timely_after before (q ∷ qs) none = All-cons IsTimely q qs (no_fault before q (or_left (request_fault (before, q)) _ none)) (timely_after (before ++ q ∷ []) qs (or_right (request_fault (before, q)) _ none))
 
 -- a started request that is no earlier than it arrived
 pub record IsFit (q : TimedRequest) : Type 0 where
-  pub priority : q.priority ≤ MOST_PRIORITY
+  pub priority : q.priority ≤ MAX_PRIORITY
   pub order : q.arrival ≤ start_of q
 
-pub started_fit : (qs : List TimedRequest) → first_answer request_fault (moments qs) ≡ None → All IsFit (started qs)
+pub started_fit : (qs : List TimedRequest) → first_answer request_fault (prefixed qs) ≡ None → All IsFit (started qs)
 unfolding by_arrival
 started_fit qs none =
     let kept : List TimedRequest = filter is_started qs in
@@ -112,18 +112,18 @@ all_in_rounds span qs some fit =
 
 -- a size without a fault
 pub record IsSize (requests rounds : ℕ) : Type 0 where
-  pub many : requests ≤ MOST_REQUESTS
-  pub short : rounds ≤ MOST_RECORDED_ROUNDS
+  pub many : requests ≤ MAX_REQUESTS
+  pub short : rounds ≤ MAX_RECORDED_ROUNDS
 
 pub size_fits : (requests rounds : ℕ) → size_fault requests rounds ≡ None → IsSize requests rounds
 unfolding size_fault
-size_fits requests rounds = elim (requests == 0) as (λ b. cond b (Some NothingStarted) (cond (nat_lt MOST_REQUESTS requests) (Some (TooManyRequests requests)) (cond (nat_lt MOST_RECORDED_ROUNDS rounds) (Some (TooManyRounds rounds)) None)) ≡ None → IsSize requests rounds) [
+size_fits requests rounds = elim (requests == 0) as (λ b. cond b (Some NothingStarted) (cond (nat_lt MAX_REQUESTS requests) (Some (TooManyRequests requests)) (cond (nat_lt MAX_RECORDED_ROUNDS rounds) (Some (TooManyRounds rounds)) None)) ≡ None → IsSize requests rounds) [
   | true ↦ λ e. absurd cc
-  | false ↦ elim (nat_lt MOST_REQUESTS requests) as (λ b. nat_lt MOST_REQUESTS requests ≡ b → cond b (Some (TooManyRequests requests)) (cond (nat_lt MOST_RECORDED_ROUNDS rounds) (Some (TooManyRounds rounds)) None) ≡ None → IsSize requests rounds) [
+  | false ↦ elim (nat_lt MAX_REQUESTS requests) as (λ b. nat_lt MAX_REQUESTS requests ≡ b → cond b (Some (TooManyRequests requests)) (cond (nat_lt MAX_RECORDED_ROUNDS rounds) (Some (TooManyRounds rounds)) None) ≡ None → IsSize requests rounds) [
     | true ↦ λ is e. absurd cc
-    | false ↦ λ few. elim (nat_lt MOST_RECORDED_ROUNDS rounds) as (λ b. nat_lt MOST_RECORDED_ROUNDS rounds ≡ b → cond b (Some (TooManyRounds rounds)) None ≡ None → IsSize requests rounds) [
+    | false ↦ λ few. elim (nat_lt MAX_RECORDED_ROUNDS rounds) as (λ b. nat_lt MAX_RECORDED_ROUNDS rounds ≡ b → cond b (Some (TooManyRounds rounds)) None ≡ None → IsSize requests rounds) [
       | true ↦ λ is e. absurd cc
-      | false ↦ λ short e. record { many = ltb-false MOST_REQUESTS requests few; short = ltb-false MOST_RECORDED_ROUNDS rounds short }
+      | false ↦ λ short e. record { many = ltb-false MAX_REQUESTS requests few; short = ltb-false MAX_RECORDED_ROUNDS rounds short }
     ] refl
   ] refl
 ]

@@ -5,7 +5,7 @@ use Rattle.std.proofs.lemmas.Bool.{leb-true, cases_lt}
 use Rattle.recording_file.specs.declared.span.TimeUnit.{TimeUnit}
 use Rattle.recording_file.specs.declared.span.TimeUnit.TheVariants as time
 use Rattle.capture.specs.Rounds.{Span, unit_nanoseconds, span_nanoseconds}
-use Rattle.capture.specs.Spans.{MOST_COUNT, most_in, most_within, count_from, longest_span, unit_for}
+use Rattle.capture.specs.Spans.{MAX_COUNT, most_in, most_within, count_from, longest_span, unit_for}
 
 -- ---- the longest span of at most so many
 
@@ -19,7 +19,7 @@ pub is_within : (n : ℕ) → most_within n ≤ n
 unfolding most_within
 is_within n = omega (arith, most_in_within n time.Nanosecond, most_in_within n time.Microsecond, most_in_within n time.Millisecond, most_in_within n time.Second)
 
-span_in_unit : (n count : ℕ) (u : TimeUnit) → count ≤ MOST_COUNT → count * unit_nanoseconds u ≤ n → count * unit_nanoseconds u ≤ most_in n u
+span_in_unit : (n count : ℕ) (u : TimeUnit) → count ≤ MAX_COUNT → count * unit_nanoseconds u ≤ n → count * unit_nanoseconds u ≤ most_in n u
 span_in_unit n count time.Nanosecond few le = omega arith
 span_in_unit n count time.Microsecond few le = omega arith
 span_in_unit n count time.Millisecond few le = omega arith
@@ -32,7 +32,7 @@ most_of_units n time.Microsecond = omega arith
 most_of_units n time.Millisecond = omega arith
 most_of_units n time.Second = omega arith
 
-pub is_longest : (n : ℕ) (t : Span) → t.count ≤ MOST_COUNT → span_nanoseconds t ≤ n → span_nanoseconds t ≤ most_within n
+pub is_longest : (n : ℕ) (t : Span) → t.count ≤ MAX_COUNT → span_nanoseconds t ≤ n → span_nanoseconds t ≤ most_within n
 is_longest n t few le = omega (arith, span_in_unit n t.count t.unit few le, most_of_units n t.unit)
 
 -- no span has so many nanoseconds
@@ -47,7 +47,7 @@ no_count count time.Second is = omega arith
 
 none_in : (n : ℕ) (u : TimeUnit) → HasNoSpan (most_in n u) → most_in n u ≡ 0
 none_in n u none =
-    let count : ℕ = min (n / unit_nanoseconds u) MOST_COUNT in
+    let count : ℕ = min (n / unit_nanoseconds u) MAX_COUNT in
     elim (cases_lt 0 count) [
       | inl some ↦ absurd (none (record { count = count; unit = u }) some (omega arith) refl)
       | inr zero' ↦ let is : count ≡ 0 = omega arith in no_count count u is
@@ -75,7 +75,7 @@ pub within_of : (n m : ℕ) (r : Option Span) → m ≡ most_within n → IfSome
 within_of n m None is h = tt
 within_of n m (Some s) is h = omega (arith, is_within n)
 
-pub longest_of : (n m : ℕ) (r : Option Span) → m ≡ most_within n → IfSome r (λ s. span_nanoseconds s ≡ m) → IfSome r (λ s. (t : Span) → t.count ≤ MOST_COUNT → span_nanoseconds t ≤ n → span_nanoseconds t ≤ span_nanoseconds s)
+pub longest_of : (n m : ℕ) (r : Option Span) → m ≡ most_within n → IfSome r (λ s. span_nanoseconds s ≡ m) → IfSome r (λ s. (t : Span) → t.count ≤ MAX_COUNT → span_nanoseconds t ≤ n → span_nanoseconds t ≤ span_nanoseconds s)
 longest_of n m None is h = tt
 longest_of n m (Some s) is h = λ t few le. omega (arith, is_longest n t few le)
 

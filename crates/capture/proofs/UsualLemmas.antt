@@ -3,7 +3,7 @@ use Rattle.std.proofs.Common.{◌≡◌, ℕ, ◌+◌, ◌-◌, ◌<◌, ◌≤�
 use Rattle.std.specs.List.{range_with_len}
 use Rattle.std.proofs.lemmas.List.{map-append, append-nil}
 use Rattle.std.proofs.lemmas.List.Elements.{filter-append}
-use Rattle.cam_types.specs.declared.maxima.TheConstants.{MOST_OPENINGS}
+use Rattle.cam_types.specs.declared.limits.TheConstants.{MAX_OPENINGS}
 use Rattle.recording_file.proofs.ListLemmas.{range_more}
 use Rattle.std.proofs.lemmas.List.FromFn.{length-range_with_len}
 use Rattle.capture.specs.Rounds.{Rounded}
@@ -13,11 +13,11 @@ use Rattle.capture.proofs.RangeLemmas.{filter_alike, map_alike}
 use Rattle.capture.proofs.RequestLemmas.{few_kept}
 use Rattle.capture.proofs.FoundLemmas.{none_in_range, found_in_range}
 
-pub middle_found : (xs : List ℕ) (m : ℕ) → 1 ≤ m → m < MOST_OPENINGS → find (reaches_half xs) (range_with_len 1 (m - 1)) ≡ None → reaches_half xs m ≡ true → m ≡ middle xs
+pub middle_found : (xs : List ℕ) (m : ℕ) → 1 ≤ m → m < MAX_OPENINGS → find (reaches_half xs) (range_with_len 1 (m - 1)) ≡ None → reaches_half xs m ≡ true → m ≡ middle xs
 unfolding middle
 middle_found xs m some few none here =
     let at : 1 + (m - 1) ≡ m = omega arith in
-    let found = found_in_range (reaches_half xs) 1 (m - 1) MOST_OPENINGS (omega arith) none (rw at here) in
+    let found = found_in_range (reaches_half xs) 1 (m - 1) MAX_OPENINGS (omega arith) none (rw at here) in
     rw (found, at) refl
 
 pub middle_more : (xs : List ℕ) (m : ℕ) → 1 ≤ m → find (reaches_half xs) (range_with_len 1 (m - 1)) ≡ None → reaches_half xs m ≡ false → find (reaches_half xs) (range_with_len 1 (m + 1 - 1)) ≡ None
@@ -26,18 +26,18 @@ middle_more xs m some none fails =
     let next : m - 1 + 1 ≡ m + 1 - 1 = omega arith in
     rw (← next) (none_in_range (reaches_half xs) 1 (m - 1) none (rw at fails))
 
-pub middle_last : (xs : List ℕ) (m : ℕ) → m ≡ MOST_OPENINGS → find (reaches_half xs) (range_with_len 1 (m - 1)) ≡ None → MOST_OPENINGS ≡ middle xs
+pub middle_last : (xs : List ℕ) (m : ℕ) → m ≡ MAX_OPENINGS → find (reaches_half xs) (range_with_len 1 (m - 1)) ≡ None → MAX_OPENINGS ≡ middle xs
 unfolding middle
-middle_last xs m last none = elim (reaches_half xs m) as (λ b. reaches_half xs m ≡ b → MOST_OPENINGS ≡ middle xs) [
+middle_last xs m last none = elim (reaches_half xs m) as (λ b. reaches_half xs m ≡ b → MAX_OPENINGS ≡ middle xs) [
   | true ↦ λ here.
       let at : 1 + (m - 1) ≡ m = omega arith in
-      let found = found_in_range (reaches_half xs) 1 (m - 1) MOST_OPENINGS (omega arith) none (rw at here) in
+      let found = found_in_range (reaches_half xs) 1 (m - 1) MAX_OPENINGS (omega arith) none (rw at here) in
       rw (found, at, last) refl
   | false ↦ λ fails.
       let at : 1 + (m - 1) ≡ m = omega arith in
-      let next : m - 1 + 1 ≡ MOST_OPENINGS = omega arith in
+      let next : m - 1 + 1 ≡ MAX_OPENINGS = omega arith in
       let all = none_in_range (reaches_half xs) 1 (m - 1) none (rw at fails) in
-      let whole : find (reaches_half xs) (range_with_len 1 MOST_OPENINGS) ≡ None = rw next at all in
+      let whole : find (reaches_half xs) (range_with_len 1 MAX_OPENINGS) ≡ None = rw next at all in
       rw whole refl
 ] refl
 

@@ -5,13 +5,13 @@ use Rattle.std.specs.Option.{option_map_or}
 use Rattle.cam_types.specs.Topology.{Topology}
 use Rattle.cam_types.specs.declared.device.Device.{Device}
 use Rattle.cam_types.specs.Questions.{is_on}
-use Rattle.cam_types.specs.declared.maxima.TheConstants.{MOST_OPENINGS}
+use Rattle.cam_types.specs.declared.limits.TheConstants.{MAX_OPENINGS}
 use Rattle.recording_file.specs.Caps.{openings, part_of, cap_in}
 use Rattle.recording_file.specs.declared.cap.Cap.{Cap}
 use Rattle.recording_file.specs.declared.part.Part.{Part}
 use Rattle.recording_file.specs.declared.part.PartKind.{PartKind}
 use Rattle.recording_file.specs.declared.part.PartKind.TheVariants as kind
-use Rattle.recording_file.specs.Names.{Label}
+use Rattle.recording_file.specs.Names.{NameValue}
 use Rattle.recording_file.specs.Recorded.{Recorded, load}
 use Rattle.recording_file.specs.declared.request.Request.{Request}
 use Rattle.recording_file.specs.Runs.{run_starts, run_last}
@@ -19,7 +19,7 @@ use Rattle.capture.specs.Timed.{TimedRequest}
 use Rattle.capture.specs.Rounds.{Rounded, Span, in_rounds}
 use Rattle.capture.specs.Loads.{is_pressed}
 use Rattle.capture.specs.Parts.{all_parts}
-use Rattle.capture.specs.declared.capture_fault.TheConstants.{MOST_IN_ROUND}
+use Rattle.capture.specs.declared.capture_fault.TheConstants.{MAX_IN_ROUND}
 
 -- the flag of a number in a list, and false where the list has none
 abbrev pub is_flagged : List Bool → ℕ → Bool
@@ -34,7 +34,7 @@ is_measured rated p = by p.kind
     by kind.Adapter = false
     by kind.Link = false
 
--- an adapter of which nobody said what it takes
+-- an adapter of unknown openings
 abbrev pub is_open : List Bool → Part → Bool
 is_open opened p = by p.kind
   where
@@ -58,12 +58,12 @@ devices_on c adapter = filter (is_on c adapter) (range_with_len 0 (length c.devi
 abbrev pub sum_on : Topology → ℕ → (Part → ℕ) → ℕ
 sum_on c adapter number = sum_by (λ n. number (part_of kind.Device n)) (devices_on c adapter)
 
--- how many an adapter takes of which nobody said that: what its devices take together, but no fewer than its openings and what it
+-- how many an adapter takes of unknown openings: what its devices take together, but no fewer than its openings and what it
 -- took. If the devices' openings are more than its own, it takes the most that a cap says.
 unfoldable pub open_cap : Topology → List Bool → List Request → Part → ℕ → ℕ
 open_cap c rated qs p round =
-    if nat_lt (openings c p) (sum_on c p.number (openings c)) then MOST_IN_ROUND
-    else min MOST_IN_ROUND (max (max (openings c p) (load c qs p round)) (sum_on c p.number (λ d. own_cap c rated qs d round)))
+    if nat_lt (openings c p) (sum_on c p.number (openings c)) then MAX_IN_ROUND
+    else min MAX_IN_ROUND (max (max (openings c p) (load c qs p round)) (sum_on c p.number (λ d. own_cap c rated qs d round)))
 
 -- how many a part takes in a round
 abbrev pub cap_of : Topology → List Bool → List Bool → List Request → Part → ℕ → ℕ
@@ -87,7 +87,7 @@ abbrev pub part_caps : Topology → List Bool → List Bool → List Request →
 part_caps c rated opened qs rounds p = run_caps p (cap_of c rated opened qs p) (openings c p) rounds
 
 -- the recording of a capture
-unfoldable pub recorded_of : Topology → List Bool → List Bool → List Label → Rounded → Recorded
+unfoldable pub recorded_of : Topology → List Bool → List Bool → List NameValue → Rounded → Recorded
 recorded_of c rated opened names r = record {
   unit = Some r.unit;
   rounds = r.rounds;
@@ -98,14 +98,14 @@ recorded_of c rated opened names r = record {
 }
 
 -- the recording of requests in time
-abbrev pub captured : Span → Topology → List Bool → List Bool → List Label → List TimedRequest → Recorded
+abbrev pub captured : Span → Topology → List Bool → List Bool → List NameValue → List TimedRequest → Recorded
 captured unit c rated opened names qs = recorded_of c rated opened names (in_rounds unit qs)
 
--- the openings of an adapter of which nobody said them: those of its devices together, but no more than there may be
+-- the openings of an adapter that are unknown: those of its devices together, but no more than there may be
 abbrev pub shared_openings : List Device → ℕ → ℕ
-shared_openings devices adapter = max 1 (min MOST_OPENINGS (sum_by (λ (d : Device). d.openings) (filter (λ (d : Device). d.bus == adapter) devices)))
+shared_openings devices adapter = max 1 (min MAX_OPENINGS (sum_by (λ (d : Device). d.openings) (filter (λ (d : Device). d.bus == adapter) devices)))
 
--- an adapter of which nobody said what it takes is never what limits: in each round it takes what its devices take together, or the
+-- an adapter of unknown openings is never what limits: in each round it takes what its devices take together, or the
 -- most that a cap says
 abbrev pub NeverLimits : List Bool → Recorded → Type 0
-NeverLimits opened r = (a round : ℕ) → a < length r.config.adapters → is_flagged opened a ≡ true → 1 ≤ round → round ≤ r.rounds → min MOST_IN_ROUND (sum_on r.config a (λ d. cap_in r.config r.caps d round)) ≤ cap_in r.config r.caps (part_of kind.Adapter a) round
+NeverLimits opened r = (a round : ℕ) → a < length r.config.adapters → is_flagged opened a ≡ true → 1 ≤ round → round ≤ r.rounds → min MAX_IN_ROUND (sum_on r.config a (λ d. cap_in r.config r.caps d round)) ≤ cap_in r.config r.caps (part_of kind.Adapter a) round

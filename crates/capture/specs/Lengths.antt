@@ -1,7 +1,7 @@
 -- how long rounds may be
 use Rattle.std.specs.Prelude.{ℕ, ◌+◌, ◌-◌, ◌*◌, ◌/◌, ◌==◌, nat_le, if◌then◌else◌, List, length, filter, Option, Some, None, option_and_then, unwrap_or, count_by, not, max, ◌&&◌, ◌||◌}
 use Rattle.std.specs.List.{sum_by, range_with_len}
-use Rattle.recording_file.specs.declared.maxima.TheConstants.{MOST_RECORDED_ROUNDS}
+use Rattle.recording_file.specs.declared.limits.TheConstants.{MAX_RECORDED_ROUNDS}
 use Rattle.capture.specs.Rounds.{Span, first_arrival, span_nanoseconds}
 use Rattle.capture.specs.Spans.{span_within, span_from}
 use Rattle.capture.specs.Timed.{TimedRequest, is_started, start_of, most_of, started}
@@ -25,8 +25,8 @@ abbrev pub starts_on : List TimedRequest → ℕ → ℕ
 starts_on qs device = count_by (λ (q : TimedRequest). is_started q && (q.device == device)) qs
 
 -- how many of the busiest of that many devices were
-abbrev pub most_starts : List TimedRequest → ℕ → ℕ
-most_starts qs devices = most_of (starts_on qs) (range_with_len 0 devices)
+abbrev pub max_starts : List TimedRequest → ℕ → ℕ
+max_starts qs devices = most_of (starts_on qs) (range_with_len 0 devices)
 
 -- from the first arrival of a started request to the last start
 abbrev pub whole_time : List TimedRequest → ℕ
@@ -34,11 +34,11 @@ whole_time qs = most_of start_of (started qs) - first_arrival (started qs)
 
 -- the shortest round that keeps to the rounds that a recording may have
 abbrev pub shortest_round : List TimedRequest → ℕ
-shortest_round qs = whole_time qs / MOST_RECORDED_ROUNDS + 1
+shortest_round qs = whole_time qs / MAX_RECORDED_ROUNDS + 1
 
 -- the mean time from a start of the busiest device to its next, but no shorter than the shortest round
 abbrev pub usual_time : List TimedRequest → ℕ → ℕ
-usual_time qs devices = max (whole_time qs / max (most_starts qs devices) 1) (shortest_round qs)
+usual_time qs devices = max (whole_time qs / max (max_starts qs devices) 1) (shortest_round qs)
 
 -- half of the mean wait, and 0 if nothing was started
 abbrev pub half_wait : List TimedRequest → ℕ

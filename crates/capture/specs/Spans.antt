@@ -6,12 +6,12 @@ use Rattle.recording_file.specs.declared.span.TimeUnit.TheVariants as time
 use Rattle.capture.specs.Rounds.{Span, unit_nanoseconds, span_of}
 
 -- the most of a unit that a count says
-abbrev pub MOST_COUNT : ℕ
-MOST_COUNT = 4294967295
+abbrev pub MAX_COUNT : ℕ
+MAX_COUNT = 4294967295
 
 -- the most nanoseconds, up to so many, that whole numbers of a unit make
 abbrev pub most_in : ℕ → TimeUnit → ℕ
-most_in nanoseconds unit = min (nanoseconds / unit_nanoseconds unit) MOST_COUNT * unit_nanoseconds unit
+most_in nanoseconds unit = min (nanoseconds / unit_nanoseconds unit) MAX_COUNT * unit_nanoseconds unit
 
 -- the most nanoseconds, up to so many, that a span has
 unfoldable pub most_within : ℕ → ℕ
@@ -27,11 +27,11 @@ count_from nanoseconds unit = (nanoseconds + unit_nanoseconds unit - 1) / unit_n
 
 -- a whole number of a unit that is at least so many nanoseconds, if a count says it
 unfoldable pub span_up_in : ℕ → TimeUnit → Option Span
-span_up_in nanoseconds unit = if nat_le (count_from nanoseconds unit) MOST_COUNT then span_of (count_from nanoseconds unit * unit_nanoseconds unit) else None
+span_up_in nanoseconds unit = if nat_le (count_from nanoseconds unit) MAX_COUNT then span_of (count_from nanoseconds unit * unit_nanoseconds unit) else None
 
 -- the longest span of all
 abbrev pub longest_span : Span
-longest_span = record { count = MOST_COUNT; unit = time.Second }
+longest_span = record { count = MAX_COUNT; unit = time.Second }
 
 -- a span of at least so many nanoseconds, by the finest unit that has one; the longest of all if there is none
 unfoldable pub span_from : ℕ → Span

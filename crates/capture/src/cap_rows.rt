@@ -3,11 +3,11 @@
 ghost use Rattle.std.specs.Prelude.{◌≡◌, ◌<◌, ◌≤◌, ◌^◌, ◌+◌, IfOk, All, ℕ, max, min, nat_lt, if◌then◌else◌, length, slice_index};
 ghost use Rattle.recording_file.specs.Caps.{openings};
 ghost use Rattle.capture.specs.Captured.{is_flagged, is_measured, is_open, own_cap, open_cap, cap_of, sum_on};
-ghost use Rattle.capture.specs.declared.capture_fault.TheConstants.{MOST_IN_ROUND};
+ghost use Rattle.capture.specs.declared.capture_fault.TheConstants.{MAX_IN_ROUND};
 ghost use Rattle.capture.specs.Faults.{IsInRounds};
 ghost use Rattle.capture.specs.Loads.{IsRow};
 
-use crate::capture_fault::MOST_IN_ROUND;
+use crate::capture_fault::MAX_IN_ROUND;
 use crate::device_rounds::waiting_row;
 use crate::part_loads::load_row;
 use crate::parts::openings;
@@ -60,7 +60,7 @@ fn own_row(
     Ok(row)
 }
 
-// The cap of an adapter of which nobody said what it takes.
+// The cap of an adapter of unknown openings.
 fn open_row(
     alloc: Global,
     last: u32,
@@ -75,7 +75,7 @@ fn open_row(
 {
     let usual = openings(config, part);
     if u64::from(usual) < openings_on(config, part.number) {
-        return vec![in alloc; MOST_IN_ROUND; last as usize + 1];
+        return vec![in alloc; MAX_IN_ROUND; last as usize + 1];
     }
     let mut row = load_row(alloc, last, config, requests, part)?;
     let devices = devices_row(alloc, last, config, rated, requests, part.number)?;
@@ -111,7 +111,7 @@ fn devices_row(
 ) -> Result<Vec<u32>, AllocError>
     requires within { All (IsInRounds last) requests.now }
     requires few { length requests.now < 2 ^ 32 }
-    ensures { IfOk result (λ row. IsRow (λ round. min MOST_IN_ROUND (sum_on config.now adapter (λ d. own_cap config.now rated.now requests.now d round))) last row.items) }
+    ensures { IfOk result (λ row. IsRow (λ round. min MAX_IN_ROUND (sum_on config.now adapter (λ d. own_cap config.now rated.now requests.now d round))) last row.items) }
 {
     let mut sums = vec![in alloc; 0; last as usize + 1]?;
     for number in 0..config.devices().len() as u32 {
@@ -130,24 +130,24 @@ fn devices_row(
 // Adds the numbers of another row, up to the most that a cap says.
 fn add_row(sums: &mut [u32], row: &[u32])
     requires { length sums.old ≡ length row.now }
-    ensures { (round : ℕ) → round < length sums.old → slice_index sums.new round ≡ min MOST_IN_ROUND (slice_index sums.old round + slice_index row.now round) }
+    ensures { (round : ℕ) → round < length sums.old → slice_index sums.new round ≡ min MAX_IN_ROUND (slice_index sums.old round + slice_index row.now round) }
 {
     for round in 0..sums.len() {
-        sums[round] = MOST_IN_ROUND.min(sums[round].saturating_add(row[round]));
+        sums[round] = MAX_IN_ROUND.min(sums[round].saturating_add(row[round]));
     }
 }
 
 // Raises each number to the usual one and to that of another row, up to the most that a cap says.
 fn raise_to(row: &mut [u32], usual: u32, least: &[u32])
     requires { length row.old ≡ length least.now }
-    ensures { (round : ℕ) → round < length row.old → slice_index row.new round ≡ min MOST_IN_ROUND (max (max usual (slice_index row.old round)) (slice_index least.now round)) }
+    ensures { (round : ℕ) → round < length row.old → slice_index row.new round ≡ min MAX_IN_ROUND (max (max usual (slice_index row.old round)) (slice_index least.now round)) }
 {
     for round in 0..row.len() {
-        row[round] = MOST_IN_ROUND.min(usual.max(row[round]).max(least[round]));
+        row[round] = MAX_IN_ROUND.min(usual.max(row[round]).max(least[round]));
     }
 }
 
-// Whether a part is an adapter of which nobody said what it takes.
+// Whether a part is an adapter of unknown openings.
 fn is_open(open: &[bool], part: Part) -> bool
     ensures { result ≡ is_open open.now part }
 {

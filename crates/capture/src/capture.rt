@@ -1,11 +1,11 @@
 //! The requests of a capture in rounds.
 
 use crate::capture_fault::CaptureFault;
-use crate::crowds::check_crowds;
 use crate::device_rounds::{sends_row, waiting_row};
-use crate::middle::{middle, numbers_where};
+use crate::median::{middle, numbers_where};
 use crate::recording::recording_with;
 use crate::request_faults::check_requests;
+use crate::round_starts::check_crowds;
 use crate::rounds::{first_arrival, requests_in, rounds_of};
 use crate::span_time::span_nanoseconds;
 use crate::started::started;
@@ -37,7 +37,7 @@ impl Model for Capture {
 
 impl Capture {
     ghost use Rattle.std.specs.Prelude.{◌≡◌, ◌≢◌, ◌≤◌, List, [], length, count_by, None, Some, IfOk, IfErr, OnOk};
-    ghost use Rattle.cam_types.specs.declared.maxima.TheConstants.{MOST_OPENINGS};
+    ghost use Rattle.cam_types.specs.declared.limits.TheConstants.{MAX_OPENINGS};
     ghost use Rattle.capture.specs.Captured.{recorded_of, captured, NeverLimits};
     ghost use Rattle.capture.specs.Timed.{TimedRequest, is_started};
     ghost use Rattle.capture.specs.Faults.{IsCapture, capture_fault, recording_fault, OutOfMemory};
@@ -95,7 +95,7 @@ impl Capture {
     pub fn usual_taken(&self, alloc: Global, device: u32) -> Result<u32, AllocError>
         ensures same { IfOk result (λ n. n ≡ usual_taken self.now device) }
         ensures some { IfOk result (λ n. 1 ≤ n) }
-        ensures most { IfOk result (λ n. n ≤ MOST_OPENINGS) }
+        ensures most { IfOk result (λ n. n ≤ MAX_OPENINGS) }
     {
         let sends = sends_row(alloc, self.rounds, &self.requests, device)?;
         let waiting = waiting_row(alloc, self.rounds, &self.requests, device)?;
@@ -105,8 +105,7 @@ impl Capture {
 
     /// The recording: these requests, and a cap for each longest run of rounds in which a device, an adapter or a link takes
     /// one number of requests that isn't its openings. In a round at whose end a request of a device waits, the device takes
-    /// what it took, unless it is rated at its openings, as `rated` says by the device's number. An adapter of which nobody said
-    /// what it takes, as `open` says by the adapter's number, takes what its devices take together, but no less than its openings;
+    /// what it took, unless it is rated at its openings, as `rated` says by the device's number. An adapter of unknown openings, as `open` says by the adapter's number, takes what its devices take together, but no less than its openings;
     /// and 65,535 in each round if its devices have more openings than it. Everything else takes its openings, or what it took if
     /// that is more. In both lists a missing entry is false.
     ///
@@ -125,7 +124,7 @@ impl Capture {
         requires { config.now.lanes ≡ [] }
         ensures recording { IfOk result (λ r. r ≡ recorded_of config.now rated.now open.now names.items self.now) }
         ensures captured { IfOk result (λ r. (requests : List TimedRequest) → self.now ≡ in_rounds self.now.unit requests → r ≡ captured self.now.unit config.now rated.now open.now names.items requests) }
-        // Where nobody said what an adapter takes, only its devices limit.
+        // If an adapter's openings are unknown, only its devices limit.
         ensures never_limits { IfOk result (λ r. NeverLimits open.now r) }
         ensures ok { OnOk result (recording_fault config.now names.items self.now ≡ None) }
         ensures err { IfErr result (λ e. e ≢ OutOfMemory → recording_fault config.now names.items self.now ≡ Some e) }

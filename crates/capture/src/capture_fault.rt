@@ -7,7 +7,7 @@ use std::alloc::AllocError;
 use thiserror::Error;
 
 /// The most requests that may be started in one round: the most that a cap of a recording says.
-pub const MOST_IN_ROUND: u32 = 65_535;
+pub const MAX_IN_ROUND: u32 = 65_535;
 
 /// Why there is no recording of a capture.
 #[derive(Clone, Copy, Debug, PartialEq, Eq, Error)]

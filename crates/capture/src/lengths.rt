@@ -1,10 +1,10 @@
 //! How long rounds may be.
 
 ghost use Rattle.std.specs.Prelude.{◌≡◌, ◌≤◌, ◌<◌, ◌^◌, IfOk, IfSome, IfNone};
-ghost use Rattle.recording_file.specs.declared.maxima.TheConstants.{MOST_RECORDED_ROUNDS};
-ghost use Rattle.capture.specs.Lengths.{left_out, longest_round, half_wait, starts_on, most_starts, whole_time, shortest_round, round_by, usual_round};
+ghost use Rattle.recording_file.specs.declared.limits.TheConstants.{MAX_RECORDED_ROUNDS};
+ghost use Rattle.capture.specs.Lengths.{left_out, longest_round, half_wait, starts_on, max_starts, whole_time, shortest_round, round_by, usual_round};
 ghost use Rattle.capture.specs.Rounds.{Span, rounds_of, span_nanoseconds};
-ghost use Rattle.capture.specs.Spans.{MOST_COUNT, longest_span};
+ghost use Rattle.capture.specs.Spans.{MAX_COUNT, longest_span};
 ghost use Rattle.capture.specs.Timed.{started};
 
 use crate::rounds::first_arrival;
@@ -12,7 +12,7 @@ use crate::span_bounds::{span_from, span_within};
 use crate::span_time::span_nanoseconds;
 use crate::started::{last_start, started};
 use crate::timed_request::TimedRequest;
-use recording_file::{MOST_RECORDED_ROUNDS, Span};
+use recording_file::{MAX_RECORDED_ROUNDS, Span};
 use std::alloc::{AllocError, Global};
 
 /// How many of the requests were never started.
@@ -48,10 +48,10 @@ pub fn longest_round(requests: &[TimedRequest]) -> Option<u64>
 /// The shortest round that keeps to 65,535 rounds, in nanoseconds. It fails only if there is no memory.
 pub fn shortest_round(alloc: Global, requests: &[TimedRequest]) -> Result<u64, AllocError>
     ensures same { IfOk result (λ n. n ≡ shortest_round requests.now) }
-    ensures fits { IfOk result (λ n. rounds_of n (started requests.now) ≤ MOST_RECORDED_ROUNDS) }
+    ensures fits { IfOk result (λ n. rounds_of n (started requests.now) ≤ MAX_RECORDED_ROUNDS) }
     ensures small { IfOk result (λ n. n < 2 ^ 63) }
 {
-    Ok(whole_time(alloc, requests)? / u64::from(MOST_RECORDED_ROUNDS) + 1)
+    Ok(whole_time(alloc, requests)? / u64::from(MAX_RECORDED_ROUNDS) + 1)
 }
 
 /// The round to take where none is given: the mean time from a start of the busiest of that many devices to its next, over the
@@ -67,12 +67,12 @@ pub fn usual_round(
 
     // Waits aren't hidden, if there are any, and a recording may have so many rounds.
     ensures waits { IfOk result (λ round. IfSome round (λ s. 1 ≤ half_wait requests.now → span_nanoseconds s ≤ half_wait requests.now)) }
-    ensures fits { IfOk result (λ round. IfSome round (λ s. rounds_of (span_nanoseconds s) (started requests.now) ≤ MOST_RECORDED_ROUNDS)) }
-    ensures none { IfOk result (λ round. IfNone round ((s : Span) → 1 ≤ s.count → s.count ≤ MOST_COUNT → span_nanoseconds s ≤ half_wait requests.now → MOST_RECORDED_ROUNDS < rounds_of (span_nanoseconds s) (started requests.now))) }
+    ensures fits { IfOk result (λ round. IfSome round (λ s. rounds_of (span_nanoseconds s) (started requests.now) ≤ MAX_RECORDED_ROUNDS)) }
+    ensures none { IfOk result (λ round. IfNone round ((s : Span) → 1 ≤ s.count → s.count ≤ MAX_COUNT → span_nanoseconds s ≤ half_wait requests.now → MAX_RECORDED_ROUNDS < rounds_of (span_nanoseconds s) (started requests.now))) }
 {
     let time = whole_time(alloc, requests)?;
-    let mean = time / most_starts(requests, devices).max(1);
-    let shortest = time / u64::from(MOST_RECORDED_ROUNDS) + 1;
+    let mean = time / max_starts(requests, devices).max(1);
+    let shortest = time / u64::from(MAX_RECORDED_ROUNDS) + 1;
     let half = longest_round(requests).unwrap_or(0);
     Ok(round_by(mean.max(shortest), shortest, half))
 }
@@ -95,7 +95,7 @@ fn round_by(usual: u64, shortest: u64, half: u64) -> Option<Span>
     ensures some { IfSome result (λ s. 1 ≤ s.count) }
     ensures waits { IfSome result (λ s. 1 ≤ half → span_nanoseconds s ≤ half) }
     ensures long { IfSome result (λ s. shortest ≤ span_nanoseconds s) }
-    ensures none { IfNone result ((s : Span) → s.count ≤ MOST_COUNT → span_nanoseconds s ≤ half → span_nanoseconds s < shortest) }
+    ensures none { IfNone result ((s : Span) → s.count ≤ MAX_COUNT → span_nanoseconds s ≤ half → span_nanoseconds s < shortest) }
 {
     let round = span_from(usual);
     if half == 0 || span_nanoseconds(round) <= half {
@@ -110,8 +110,8 @@ fn round_by(usual: u64, shortest: u64, half: u64) -> Option<Span>
 }
 
 // How many requests of the busiest of that many devices were started.
-fn most_starts(requests: &[TimedRequest], devices: u32) -> u64
-    ensures { result ≡ most_starts requests.now devices }
+fn max_starts(requests: &[TimedRequest], devices: u32) -> u64
+    ensures { result ≡ max_starts requests.now devices }
 {
     let mut most: u64 = 0;
     for device in 0..devices {

@@ -2,7 +2,7 @@
 #![tactic(auto)]
 
 pub use capture::Capture;
-pub use capture_fault::{CaptureFault, MOST_IN_ROUND};
+pub use capture_fault::{CaptureFault, MAX_IN_ROUND};
 pub use lengths::{left_out, longest_round, shortest_round, usual_round};
 pub use shared_adapters::shared_openings;
 pub use span_bounds::{short_from, short_within, span_within};
@@ -12,14 +12,14 @@ pub use timed_request::TimedRequest;
 mod cap_rows;
 mod capture;
 mod capture_fault;
-mod crowds;
 mod device_rounds;
 mod lengths;
-mod middle;
+mod median;
 mod part_loads;
 mod parts;
 mod recording;
 mod request_faults;
+mod round_starts;
 mod rounds;
 mod runs;
 mod shared_adapters;

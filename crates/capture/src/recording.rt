@@ -3,13 +3,13 @@
 ghost use Rattle.std.specs.Prelude.{◌≡◌, ◌≢◌, ◌<◌, ◌≤◌, ◌^◌, ◌++◌, ◌∷◌, None, Some, [], ℕ, All, IfOk, IfErr, OnOk, length};
 ghost use Rattle.std.specs.List.{flat_map};
 ghost use Rattle.cam_types.specs.Topology.{IsConfig};
-ghost use Rattle.cam_types.specs.Lists.{moments, first_answer};
+ghost use Rattle.cam_types.specs.Lists.{prefixed, first_answer};
 ghost use Rattle.recording_file.specs.Recorded.{request_cause};
-ghost use Rattle.recording_file.specs.declared.maxima.TheConstants.{MOST_REQUESTS};
+ghost use Rattle.recording_file.specs.declared.limits.TheConstants.{MAX_REQUESTS};
 ghost use Rattle.capture.specs.Captured.{recorded_of, part_caps};
 ghost use Rattle.capture.specs.Faults.{IsCapture, IsInRounds, starts_in, device_fault, name_fault, recording_fault, OutOfMemory};
 ghost use Rattle.capture.specs.Parts.{all_parts};
-ghost use Rattle.capture.specs.declared.capture_fault.TheConstants.{MOST_IN_ROUND};
+ghost use Rattle.capture.specs.declared.capture_fault.TheConstants.{MAX_IN_ROUND};
 
 use crate::cap_rows::cap_row;
 use crate::capture_fault::CaptureFault;
@@ -62,8 +62,8 @@ fn check_devices(config: &Config, requests: &[Request]) -> Result<(), CaptureFau
 fn add_names(recorder: &mut Recorder, mut names: Vec<Name>) -> Result<(), CaptureFault>
     requires { recorder.old.names ≡ [] }
     ensures names { OnOk result (recorder.new ≡ record recorder.old { names = names.items }) }
-    ensures ok { OnOk result (first_answer (name_fault recorder.old.config) (moments names.items) ≡ None) }
-    ensures err { IfErr result (λ e. e ≢ OutOfMemory → first_answer (name_fault recorder.old.config) (moments names.items) ≡ Some e) }
+    ensures ok { OnOk result (first_answer (name_fault recorder.old.config) (prefixed names.items) ≡ None) }
+    ensures err { IfErr result (λ e. e ≢ OutOfMemory → first_answer (name_fault recorder.old.config) (prefixed names.items) ≡ Some e) }
 {
     let mut number = 0;
     while !names.is_empty() {
@@ -91,7 +91,7 @@ fn add_caps(
     requires few { length requests.now < 2 ^ 32 }
     requires kept { IsConfig config.now }
     requires parts { parts.now ≡ all_parts config.now }
-    requires crowds { (round : ℕ) → 1 ≤ round → round ≤ recorder.old.rounds → starts_in requests.now round ≤ MOST_IN_ROUND }
+    requires crowds { (round : ℕ) → 1 ≤ round → round ≤ recorder.old.rounds → starts_in requests.now round ≤ MAX_IN_ROUND }
     requires config { recorder.old.config ≡ config.now }
     requires none { recorder.old.requests ≡ [] }
     requires empty { recorder.old.caps ≡ [] }
@@ -122,9 +122,9 @@ fn add_requests(
     requests: &[Request],
 ) -> Result<(), AllocError>
     requires within { All (IsInRounds recorder.old.rounds) requests.now }
-    requires few { length requests.now ≤ MOST_REQUESTS }
+    requires few { length requests.now ≤ MAX_REQUESTS }
     requires kept { IsConfig config.now }
-    requires crowds { (round : ℕ) → 1 ≤ round → round ≤ recorder.old.rounds → starts_in requests.now round ≤ MOST_IN_ROUND }
+    requires crowds { (round : ℕ) → 1 ≤ round → round ≤ recorder.old.rounds → starts_in requests.now round ≤ MAX_IN_ROUND }
     requires devices { device_fault config.now requests.now ≡ None }
     requires config { recorder.old.config ≡ config.now }
     requires none { recorder.old.requests ≡ [] }
@@ -139,7 +139,7 @@ fn add_requests(
 
 // Adds a request that no cause speaks against.
 fn add_request(alloc: Global, recorder: &mut Recorder, request: Request) -> Result<(), AllocError>
-    requires few { length recorder.old.requests < MOST_REQUESTS }
+    requires few { length recorder.old.requests < MAX_REQUESTS }
     requires fits { request_cause recorder.old.rounds recorder.old.config recorder.old.caps (recorder.old.requests, request) ≡ None }
     ensures { OnOk result (recorder.new ≡ record recorder.old { requests = recorder.old.requests ++ request ∷ [] }) }
 {

@@ -1,20 +1,20 @@
 //! Whether requests can be those of a capture.
 
 ghost use Rattle.std.specs.Prelude.{◌≡◌, None, Some, OnOk, IfErr, length};
-ghost use Rattle.cam_types.specs.Lists.{moments, first_answer};
+ghost use Rattle.cam_types.specs.Lists.{prefixed, first_answer};
 ghost use Rattle.capture.specs.Faults.{request_fault, is_early};
 
 use crate::capture_fault::CaptureFault;
 use crate::timed_request::TimedRequest;
-use cam_types::MOST_PRIORITY;
+use cam_types::MAX_PRIORITY;
 
 /// The first request that can't be one of a capture, if there is one.
 pub fn check_requests(requests: &[TimedRequest]) -> Result<(), CaptureFault>
-    ensures ok { OnOk result (first_answer request_fault (moments requests.now) ≡ None) }
-    ensures err { IfErr result (λ e. first_answer request_fault (moments requests.now) ≡ Some e) }
+    ensures ok { OnOk result (first_answer request_fault (prefixed requests.now) ≡ None) }
+    ensures err { IfErr result (λ e. first_answer request_fault (prefixed requests.now) ≡ Some e) }
 {
     for (number, request) in requests.iter().enumerate() {
-        if request.priority > MOST_PRIORITY {
+        if request.priority > MAX_PRIORITY {
             return Err(CaptureFault::BadPriority(number));
         }
         if is_early(request) {

@@ -1,7 +1,7 @@
 //! Times as rounds.
 
 ghost use Rattle.std.specs.Prelude.{◌≡◌, ◌≤◌, None, Some, IfOk, IfErr, OnOk, length, map, All};
-ghost use Rattle.recording_file.specs.declared.maxima.TheConstants.{MOST_RECORDED_ROUNDS};
+ghost use Rattle.recording_file.specs.declared.limits.TheConstants.{MAX_RECORDED_ROUNDS};
 ghost use Rattle.capture.specs.Timed.{start_of};
 ghost use Rattle.capture.specs.Rounds.{round_at, first_arrival, rounds_of, unless_end, last_round, request_in};
 ghost use Rattle.capture.specs.Faults.{size_fault};
@@ -9,7 +9,7 @@ ghost use Rattle.capture.specs.Faults.{size_fault};
 use crate::capture_fault::CaptureFault;
 use crate::started::{last_start, start_of};
 use crate::timed_request::TimedRequest;
-use recording_file::{MOST_RECORDED_ROUNDS, MOST_REQUESTS, Request};
+use recording_file::{MAX_RECORDED_ROUNDS, MAX_REQUESTS, Request};
 use std::alloc::{AllocError, Global};
 
 /// When the first of these arrives, and 0 where there is none.
@@ -37,11 +37,11 @@ pub fn rounds_of(span: u64, requests: &[TimedRequest]) -> Result<u32, CaptureFau
     if requests.is_empty() {
         return Err(CaptureFault::NothingStarted);
     }
-    if requests.len() > MOST_REQUESTS {
+    if requests.len() > MAX_REQUESTS {
         return Err(CaptureFault::TooManyRequests(requests.len()));
     }
     let before = last_start(requests).saturating_sub(first_arrival(requests)) / span;
-    if before >= u64::from(MOST_RECORDED_ROUNDS) {
+    if before >= u64::from(MAX_RECORDED_ROUNDS) {
         return Err(CaptureFault::TooManyRounds(u128::from(before) + 1));
     }
     Ok(before as u32 + 1)

@@ -4,9 +4,9 @@ ghost use Rattle.std.specs.Prelude.{◌≡◌, ℕ, ◌+◌, ◌<◌, ◌≤◌,
 ghost use Rattle.recording_file.specs.Caps.{part_count, is_part_before};
 ghost use Rattle.recording_file.specs.Counts.{counts_of};
 ghost use Rattle.recording_file.specs.Runs.{begins_run, run_last};
-ghost use Rattle.recording_file.specs.declared.maxima.TheConstants.{MOST_RECORDED_ROUNDS};
+ghost use Rattle.recording_file.specs.declared.limits.TheConstants.{MAX_RECORDED_ROUNDS};
 ghost use Rattle.capture.specs.Captured.{run_cap, run_caps};
-ghost use Rattle.capture.specs.declared.capture_fault.TheConstants.{MOST_IN_ROUND};
+ghost use Rattle.capture.specs.declared.capture_fault.TheConstants.{MAX_IN_ROUND};
 
 use recording_file::{Cap, Part, Recorder};
 use std::alloc::AllocError;
@@ -20,7 +20,7 @@ pub fn add_runs(
 ) -> Result<(), AllocError>
     requires there { part.number < part_count (counts_of recorder.old.config) part.kind }
     requires size { length row.now ≡ recorder.old.rounds + 1 }
-    requires most { (round : ℕ) → 1 ≤ round → round ≤ recorder.old.rounds → slice_index row.now round ≤ MOST_IN_ROUND }
+    requires most { (round : ℕ) → 1 ≤ round → round ≤ recorder.old.rounds → slice_index row.now round ≤ MAX_IN_ROUND }
     requires before { All (λ cap. is_part_before cap.part part ≡ true) recorder.old.caps }
     requires none { recorder.old.requests ≡ [] }
     ensures { OnOk result (recorder.new ≡ record recorder.old { caps = recorder.old.caps ++ run_caps part (slice_index row.now) usual recorder.old.rounds }) }
@@ -66,9 +66,9 @@ fn run_last(row: &[u32], rounds: u32, first: u32) -> u32
 fn run_cap(part: Part, row: &[u32], rounds: u32, first: u32) -> Cap
     requires last { first ≤ rounds }
     requires size { length row.now ≡ rounds + 1 }
-    requires most { slice_index row.now first ≤ MOST_IN_ROUND }
+    requires most { slice_index row.now first ≤ MAX_IN_ROUND }
     ensures same { result ≡ run_cap part (slice_index row.now) rounds first }
-    ensures most { result.most ≤ MOST_IN_ROUND }
+    ensures most { result.most ≤ MAX_IN_ROUND }
 {
     Cap {
         part,

@@ -2,7 +2,7 @@
 
 ghost use Rattle.std.specs.Prelude.{◌≡◌, ◌<◌, ◌≤◌, ◌+◌, ◌*◌, ◌^◌, IfSome, IfNone, min};
 ghost use Rattle.capture.specs.Rounds.{Span, span_nanoseconds};
-ghost use Rattle.capture.specs.Spans.{MOST_COUNT, most_in, most_within, span_within, count_from, span_up_in, span_from, longest_span, unit_for, short_within, short_from};
+ghost use Rattle.capture.specs.Spans.{MAX_COUNT, most_in, most_within, span_within, count_from, span_up_in, span_from, longest_span, unit_for, short_within, short_from};
 
 use crate::span_time::{span_of, unit_nanoseconds};
 use recording_file::{Span, TimeUnit};
@@ -11,7 +11,7 @@ use recording_file::{Span, TimeUnit};
 pub fn span_within(nanoseconds: u64) -> Option<Span>
     ensures same { result ≡ span_within nanoseconds }
     ensures within { IfSome result (λ s. span_nanoseconds s ≤ nanoseconds) }
-    ensures longest { IfSome result (λ s. (t : Span) → t.count ≤ MOST_COUNT → span_nanoseconds t ≤ nanoseconds → span_nanoseconds t ≤ span_nanoseconds s) }
+    ensures longest { IfSome result (λ s. (t : Span) → t.count ≤ MAX_COUNT → span_nanoseconds t ≤ nanoseconds → span_nanoseconds t ≤ span_nanoseconds s) }
     ensures some { IfSome result (λ s. 1 ≤ s.count) }
     ensures none { IfNone result (nanoseconds ≡ 0) }
 {

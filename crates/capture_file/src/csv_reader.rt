@@ -7,7 +7,7 @@ use crate::finishing::{Drivers, capture_of};
 use crate::line_fault::LineFault;
 use crate::line_reader::LineReader;
 use crate::names::Names;
-use crate::options::{Options, Priorities, TimeUnit};
+use crate::options::{CsvTimeUnit, Options, Priorities};
 use crate::priority::USUAL;
 use crate::quotes::are_quotes_whole;
 use crate::sizes::Sizes;
@@ -28,7 +28,7 @@ const BYTE_ORDER_MARK: &[u8] = b"\xef\xbb\xbf";
 pub struct CsvReader<'a> {
     alloc: Global,
     options: &'a Options,
-    unit: TimeUnit,
+    unit: CsvTimeUnit,
     columns: Option<Columns>,
     other_columns: Vec<String>,
     devices: Names,
@@ -39,7 +39,7 @@ pub struct CsvReader<'a> {
 
 impl<'a> CsvReader<'a> {
     /// A reader that has no lines yet. The times are of that unit.
-    pub fn new(alloc: Global, options: &'a Options, unit: TimeUnit) -> CsvReader<'a> {
+    pub fn new(alloc: Global, options: &'a Options, unit: CsvTimeUnit) -> CsvReader<'a> {
         CsvReader {
             alloc,
             options,
@@ -192,9 +192,9 @@ fn quoted_row(alloc: Global, line: &[u8]) -> Result<ByteRecord, LineFault> {
     }
 }
 
-fn usual_priority(priorities: Priorities, said: Option<u32>) -> u32 {
+fn usual_priority(priorities: Priorities, stated: Option<u32>) -> u32 {
     match priorities {
-        Priorities::Class => said.unwrap_or(USUAL),
+        Priorities::Class => stated.unwrap_or(USUAL),
         Priorities::Direction | Priorities::Flat => USUAL,
     }
 }

@@ -22,7 +22,7 @@ pub fn csv_row(unit: u64, columns: Columns, row: &ByteRecord) -> Result<CsvRow<'
         return Err(LineFault::BadRecord);
     }
     let (arrival, started) = times(unit, columns, row)?;
-    let priority = said_priority(field(row, columns.priority))?;
+    let priority = stated_priority(field(row, columns.priority))?;
     Ok(CsvRow {
         arrival,
         started,
@@ -66,12 +66,12 @@ fn driver_name(name: &[u8]) -> &[u8] {
     if name.is_empty() { b"driver" } else { name }
 }
 
-fn said_priority(text: &[u8]) -> Result<Option<u32>, LineFault> {
+fn stated_priority(text: &[u8]) -> Result<Option<u32>, LineFault> {
     if text.is_empty() {
         return Ok(None);
     }
-    match number(text).and_then(|said| u32::try_from(said).ok()) {
-        Some(said) if said <= LAST => Ok(Some(said)),
+    match number(text).and_then(|stated| u32::try_from(stated).ok()) {
+        Some(stated) if stated <= LAST => Ok(Some(stated)),
         _ => Err(LineFault::BadNumber(Field::Priority)),
     }
 }

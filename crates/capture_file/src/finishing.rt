@@ -9,7 +9,7 @@ use capture::TimedRequest;
 use std::alloc::{AllocError, Global};
 
 // The most devices that a capture has.
-const MOST_DEVICES: usize = 32;
+const MAX_DEVICES: usize = 32;
 
 /// The drivers of a capture, with the priorities that they have of their own.
 #[derive(Drop)]
@@ -83,7 +83,7 @@ pub fn capture_of(
     }
     count_requests(&mut counts, &requests);
     let devices = used_names(alloc, devices, &used_devices)?;
-    if devices.len() > MOST_DEVICES {
+    if devices.len() > MAX_DEVICES {
         return Err(LineFault::TooManyDevices(devices.len()));
     }
     Ok(Capture {

@@ -111,7 +111,7 @@ impl Job {
         };
         request.started = Some(completed);
         request.priority = priority.unwrap_or(request.priority);
-        if let Some(start) = start_said(record.milliseconds, completed) {
+        if let Some(start) = stated_start(record.milliseconds, completed) {
             self.start = Some(self.start.map_or(start, |earliest| earliest.min(start)));
         }
         Ok(true)
@@ -119,7 +119,7 @@ impl Job {
 }
 
 // When a job started, if a request that it completed so long after that ended at these milliseconds since 1970.
-fn start_said(milliseconds: u64, completed: u64) -> Option<u64> {
+fn stated_start(milliseconds: u64, completed: u64) -> Option<u64> {
     if milliseconds < FIRST_EPOCH_MILLISECOND {
         return None;
     }

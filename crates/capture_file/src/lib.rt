@@ -8,9 +8,9 @@ pub use csv_reader::CsvReader;
 pub use device_pick::DevicePick;
 pub use fio_reader::FioReader;
 pub use line_fault::{Field, LineFault};
-pub use line_reader::{LineReader, MOST_LINE_BYTES, ReadFault, read_lines};
+pub use line_reader::{LineReader, MAX_LINE_BYTES, ReadFault, read_lines};
 pub use number::time_of;
-pub use options::{Options, Priorities, TimeUnit};
+pub use options::{CsvTimeUnit, Options, Priorities};
 
 mod blkparse_line;
 mod blkparse_reader;

@@ -8,7 +8,7 @@ use std::io::Read;
 use thiserror::Error;
 
 /// The most bytes that a line has, without its end.
-pub const MOST_LINE_BYTES: usize = 65_536;
+pub const MAX_LINE_BYTES: usize = 65_536;
 
 // How many bytes a read asks for.
 const CHUNK: usize = 65_536;
@@ -120,7 +120,7 @@ impl<'a> Lines<'a> {
     }
 
     fn add(&mut self, piece: &[u8]) -> Result<(), AllocError> {
-        let room = MOST_LINE_BYTES.saturating_sub(self.line.len());
+        let room = MAX_LINE_BYTES.saturating_sub(self.line.len());
         if piece.len() > room {
             self.too_long = true;
         }

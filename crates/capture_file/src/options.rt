@@ -66,21 +66,21 @@ impl Options {
 
 /// The unit of the times of a CSV file.
 #[derive(Clone, Copy, Debug, PartialEq, Eq)]
-pub enum TimeUnit {
+pub enum CsvTimeUnit {
     Nanoseconds,
     Microseconds,
     Milliseconds,
     Seconds,
 }
 
-impl TimeUnit {
+impl CsvTimeUnit {
     /// How many nanoseconds the unit has.
     pub fn nanoseconds(self) -> u64 {
         match self {
-            TimeUnit::Nanoseconds => 1,
-            TimeUnit::Microseconds => 1_000,
-            TimeUnit::Milliseconds => 1_000_000,
-            TimeUnit::Seconds => 1_000_000_000,
+            CsvTimeUnit::Nanoseconds => 1,
+            CsvTimeUnit::Microseconds => 1_000,
+            CsvTimeUnit::Milliseconds => 1_000_000,
+            CsvTimeUnit::Seconds => 1_000_000_000,
         }
     }
 }

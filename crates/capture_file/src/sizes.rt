@@ -4,7 +4,7 @@ use std::alloc::{AllocError, Global};
 use std::collections::BTreeMap;
 
 // How many times as large as the lower median the largest request of a device may be.
-const MOST_TIMES: u64 = 16;
+const MAX_TIMES: u64 = 16;
 
 /// How many started requests of each size the devices have. The size is in the unit of the input: sectors or bytes.
 #[derive(Drop)]
@@ -36,7 +36,7 @@ impl Sizes {
 
     /// Whether the largest request of a device is more than 16 times as large as the lower median of its requests.
     pub fn are_uneven(&self, device: u32) -> bool {
-        self.largest(device) > self.median(device).saturating_mul(MOST_TIMES)
+        self.largest(device) > self.median(device).saturating_mul(MAX_TIMES)
     }
 
     fn largest(&self, device: u32) -> u64 {

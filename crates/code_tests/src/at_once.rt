@@ -2,7 +2,7 @@
 
 use crate::texts::{FROZEN, SECOND_ADAPTER, TWO_ADAPTERS};
 use cam_types::Watched;
-use cost_plan::{Gate, plan_with};
+use cost_plan::{PlanProgress, plan_with};
 use round_net::{Net, cost};
 use std::alloc::Global;
 use std::sync::atomic::{AtomicBool, Ordering};
@@ -12,7 +12,7 @@ use trace_file::read_trace;
 
 const TURNS: u32 = 1_000_000;
 
-// A gate at which each of two adapters waits for the other, but not for ever.
+// A progress in which each of two adapters waits for the other, but not for ever.
 #[derive(Drop)]
 struct Meeting {
     here: [AtomicBool; 2],
@@ -32,7 +32,7 @@ impl Meeting {
     }
 }
 
-impl Gate for Meeting {
+impl PlanProgress for Meeting {
     fn begun(&self, adapter: u32) {
         if let Some(here) = self.here.get(adapter as usize) {
             here.store(true, Ordering::SeqCst);
@@ -55,11 +55,11 @@ fn net(alloc: Global, text: &str) -> Result<Net, Fail> {
 #[test]
 fn each_adapter_begins_before_the_other_is_planned(rt: HostRuntime) -> Result<(), Fail> {
     let net = net(rt.alloc(), TWO_ADAPTERS)?;
-    let gate = Meeting::new();
-    let best = plan_with(&rt, rt.alloc(), &net, &gate)?;
+    let progress = Meeting::new();
+    let best = plan_with(&rt, rt.alloc(), &net, &progress)?;
     let given = (
-        gate.are_both_here(),
-        gate.gave_up.load(Ordering::SeqCst),
+        progress.are_both_here(),
+        progress.gave_up.load(Ordering::SeqCst),
         cost(&net, &best.schedule),
     );
     assert_eq!(rt; given, (true, false, Some(3)));
@@ -67,24 +67,24 @@ fn each_adapter_begins_before_the_other_is_planned(rt: HostRuntime) -> Result<()
 }
 
 #[test]
-fn the_gate_is_told_of_the_one_adapter_that_has_a_stay(rt: HostRuntime) -> Result<(), Fail> {
-    for (trace, told, due) in [
+fn progress_names_the_one_adapter_that_has_a_stay(rt: HostRuntime) -> Result<(), Fail> {
+    for (trace, reports, due) in [
         (FROZEN, [true, false], 2),
         (SECOND_ADAPTER, [false, true], 0),
     ] {
         let net = net(rt.alloc(), trace)?;
-        let gate = Meeting::new();
-        let best = plan_with(&rt, rt.alloc(), &net, &gate)?;
+        let progress = Meeting::new();
+        let best = plan_with(&rt, rt.alloc(), &net, &progress)?;
         let here = [
-            gate.here[0].load(Ordering::SeqCst),
-            gate.here[1].load(Ordering::SeqCst),
+            progress.here[0].load(Ordering::SeqCst),
+            progress.here[1].load(Ordering::SeqCst),
         ];
         let given = (
             here,
-            gate.gave_up.load(Ordering::SeqCst),
+            progress.gave_up.load(Ordering::SeqCst),
             cost(&net, &best.schedule),
         );
-        assert_eq!(rt; given, (told, true, Some(due)), "{trace}");
+        assert_eq!(rt; given, (reports, true, Some(due)), "{trace}");
     }
     Ok(())
 }

@@ -1,4 +1,4 @@
-//! Readers and writers that give or take a few bytes a call, and fail when they are told to.
+//! Readers and writers that give or take a few bytes a call, and fail when the test asks for it.
 
 use std::io;
 use std::io::{Read, Write};

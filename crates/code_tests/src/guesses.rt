@@ -1,8 +1,8 @@
 //! The guesses with which plans begin.
 
-use crate::gates;
-use crate::made::{Shape, history};
-use cost_plan::{OpenGate, guessed_plan, guessed_plan_with};
+use crate::generated::{Shape, history};
+use crate::plan_progress;
+use cost_plan::{NoPlanProgress, guessed_plan, guessed_plan_with};
 use round_net::Net;
 use std::alloc::Global;
 use std::test::Fail;
@@ -69,7 +69,7 @@ const SHAPES: [Shape; 7] = [
 // How many stays there are, and whether the guess alone is a best plan, and the one that is made at once.
 fn guessed<R: Threads + Sync>(rt: &R, alloc: Global, net: &Net) -> Result<(u32, bool, bool), Fail> {
     let alone = guessed_plan(alloc, net)?.is_some();
-    let at_once = guessed_plan_with(rt, alloc, net, &OpenGate)?.is_some();
+    let at_once = guessed_plan_with(rt, alloc, net, &NoPlanProgress)?.is_some();
     Ok((net.stays(), alone, at_once))
 }
 
@@ -85,7 +85,7 @@ fn a_guess_of_1024_stays_is_best(rt: HostRuntime) -> Result<(), Fail> {
         );
     }
     // Over a link.
-    let net = gates::net(rt.alloc(), 1024, true)?;
+    let net = plan_progress::net(rt.alloc(), 1024, true)?;
     assert_eq!(rt; guessed(&rt, rt.alloc(), &net)?, (1024, true, true));
     Ok(())
 }
@@ -102,7 +102,7 @@ fn a_guess_of_a_wide_round_is_best(rt: HostRuntime) -> Result<(), Fail> {
     for _ in 0..300 {
         text.push_str("request,0,0,128,1,,1,\n")?;
     }
-    let net = gates::net_of(alloc, text.as_str())?;
+    let net = plan_progress::net_of(alloc, text.as_str())?;
     assert_eq!(rt; guessed(&rt, alloc, &net)?, (300, true, true));
     Ok(())
 }

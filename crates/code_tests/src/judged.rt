@@ -24,22 +24,27 @@ const LATE: &str = "pause,0,2,,,,,\nsubmit,0,0:1:0,1152,4,none,,\n";
 
 // What a judge says: how the run ended, or the place of the receipt that doesn't fit.
 #[derive(Clone, Copy, Debug, PartialEq, Eq)]
-enum Said {
+enum Judgement {
     Run(Ending),
     MismatchAt(u32),
     Otherwise,
 }
 
-fn answer_of(judged: Result<Ending, LiveFault>) -> Said {
+fn answer_of(judged: Result<Ending, LiveFault>) -> Judgement {
     match judged {
-        Ok(ending) => Said::Run(ending),
-        Err(LiveFault::Mismatch(receipt)) => Said::MismatchAt(receipt.at),
-        Err(_) => Said::Otherwise,
+        Ok(ending) => Judgement::Run(ending),
+        Err(LiveFault::Mismatch(receipt)) => Judgement::MismatchAt(receipt.at),
+        Err(_) => Judgement::Otherwise,
     }
 }
 
-// What is said of the run by the script of these rows.
-fn judged(alloc: Global, run: &LiveRun<ScriptPort>, rows: &str, ports: usize) -> Result<Said, Fail>
+// What the run is judged to be by the script of these rows.
+fn judged(
+    alloc: Global,
+    run: &LiveRun<ScriptPort>,
+    rows: &str,
+    ports: usize,
+) -> Result<Judgement, Fail>
     requires { AreInterleaved (due_of run.now.history) run.now.seats.items }
 {
     let script = script(alloc, rows)?;
@@ -55,59 +60,59 @@ fn the_first_receipt_that_does_not_fit_is_named(rt: HostRuntime) -> Result<(), F
     let script = script(alloc, format!(in alloc; "{FRAME}{LATE}")?.as_str())?;
     let ports = ScriptPort::for_lanes(alloc, &script)?;
     let run = run_live(&rt, alloc, &script, ports)?;
-    // By another script: its configuration and rows, how many ports there are, and what is said.
+    // By another script: its configuration and rows, how many ports there are, and the judgement.
     let scripts = [
-        (FRAME, LATE, 1, Said::Run(Ending::Drained)),
+        (FRAME, LATE, 1, Judgement::Run(Ending::Drained)),
         // It comes in round 1, so no round may open before.
         (
             FRAME,
             "submit,0,0:1:0,1152,4,none,,\n",
             1,
-            Said::MismatchAt(0),
+            Judgement::MismatchAt(0),
         ),
         (
             FRAME,
             "pause,0,3,,,,,\nsubmit,0,0:1:0,1152,4,none,,\n",
             1,
-            Said::MismatchAt(1),
+            Judgement::MismatchAt(1),
         ),
         (
             FRAME,
             "pause,0,2,,,,,\nsubmit,0,0:1:0,128,4,none,,\n",
             1,
-            Said::MismatchAt(1),
+            Judgement::MismatchAt(1),
         ),
         (
             FRAME,
             "pause,0,2,,,,,\nfreeze,0,0:1:0,1,,,,\n",
             1,
-            Said::MismatchAt(1),
+            Judgement::MismatchAt(1),
         ),
         (
             "limits,1024,512,4096,2,,,\nsim,1,,,,,,\ndev,0,1,0,1,,,\nlane,0,,,,,,\n",
             LATE,
             1,
-            Said::MismatchAt(2),
+            Judgement::MismatchAt(2),
         ),
         // All of it went by the script, but not to an end, or not by the port; or it was another's.
         (
             FRAME,
             "pause,0,2,,,,,\nsubmit,0,0:1:0,1152,4,none,,\npause,0,3,,,,,\n",
             1,
-            Said::MismatchAt(3),
+            Judgement::MismatchAt(3),
         ),
-        (FRAME, LATE, 0, Said::MismatchAt(3)),
+        (FRAME, LATE, 0, Judgement::MismatchAt(3)),
         (
             FRAME,
             "pause,1,2,,,,,\nsubmit,1,0:1:0,1152,4,none,,\n",
             1,
-            Said::MismatchAt(3),
+            Judgement::MismatchAt(3),
         ),
         (
             "sim,2,,,,,,\ndev,0,1,0,1,,,\nlane,0,,,,,,\n",
             LATE,
             1,
-            Said::MismatchAt(3),
+            Judgement::MismatchAt(3),
         ),
     ];
     for (frame, rows, ports, due) in scripts {
@@ -167,13 +172,13 @@ fn logs_of<L: Ledger>(alloc: Global, seats: &[Seat<L>]) -> Result<Vec<SeatLog>, 
     Ok(logs)
 }
 
-// What is said of the run that is made so.
+// What the run that is made so is judged to be.
 fn released<L: Ledger, R: Wait>(
     rt: &R,
     alloc: Global,
     script: &Script,
     blank: Blank,
-) -> Result<Said, Fail>
+) -> Result<Judgement, Fail>
     requires name { blank.name ≡ L.name }
     requires parts { (blank.parts ≡ L.parts) × (blank.parts ≡ 65) }
 {
@@ -187,7 +192,7 @@ fn released<L: Ledger, R: Wait>(
     Ok(answer_of(judge(alloc, script, &history, &logs, &ports)))
 }
 
-fn release<R: Wait + Abort>(rt: &R, alloc: Global, script: &Script) -> Result<Said, Fail> {
+fn release<R: Wait + Abort>(rt: &R, alloc: Global, script: &Script) -> Result<Judgement, Fail> {
     released::<Brand, R>(rt, alloc, script, Blank::new(65))
 }
 
@@ -195,6 +200,9 @@ fn release<R: Wait + Abort>(rt: &R, alloc: Global, script: &Script) -> Result<Sa
 fn a_row_that_was_refused_rests_to_the_end_of_the_round(rt: HostRuntime) -> Result<(), Fail> {
     let alloc = rt.alloc();
     let script = script(alloc, format!(in alloc; "{FRAME}{RELEASED}")?.as_str())?;
-    assert_eq!(&rt; release(&rt, alloc, &script)?, Said::Run(Ending::Drained));
+    assert_eq!(&rt;
+        release(&rt, alloc, &script)?,
+        Judgement::Run(Ending::Drained)
+    );
     Ok(())
 }

@@ -1,13 +1,13 @@
 //! Plans of made networks. A plan is best if it sends all, keeps the caps, and costs as much as its prices are worth: no plan
 //! costs less than prices are worth.
 
-mod made;
+mod generated;
 mod verdict;
 
-use made::{Kind, Shape, network};
+use generated::{Kind, Shape, network};
 use std::alloc::Global;
 use std::test::Fail;
-use time_levels::{Untold, plan};
+use time_levels::{NoProgress, plan};
 use verdict::{Verdict, judge};
 
 const LOOSE: Shape = Shape {
@@ -92,7 +92,7 @@ const SHAPES: [Shape; 10] = [
 // What the plan of a network of this shape comes to, if there is one.
 fn verdict_of(alloc: Global, shape: Shape) -> Result<Option<Verdict>, Fail> {
     let network = network(alloc, shape)?;
-    match plan(alloc, &network, &Untold)? {
+    match plan(alloc, &network, &NoProgress)? {
         Some(levels) => Ok(Some(judge(alloc, &network, &levels)?)),
         None => Ok(None),
     }

@@ -7,8 +7,6 @@ mod any_answer;
 #[cfg(test)]
 mod at_once;
 #[cfg(test)]
-mod bells;
-#[cfg(test)]
 mod events;
 #[cfg(test)]
 mod failing_devices;
@@ -21,7 +19,7 @@ mod frame;
 #[cfg(test)]
 mod full_devices;
 #[cfg(test)]
-mod gates;
+mod generated;
 #[cfg(test)]
 mod guesses;
 #[cfg(test)]
@@ -33,11 +31,11 @@ mod levels;
 #[cfg(test)]
 mod linked;
 #[cfg(test)]
-mod made;
-#[cfg(test)]
 mod meeting;
 #[cfg(test)]
 mod own_reports;
+#[cfg(test)]
+mod plan_progress;
 #[cfg(test)]
 mod recorded;
 #[cfg(test)]
@@ -60,3 +58,5 @@ mod telling;
 mod texts;
 #[cfg(test)]
 mod threads;
+#[cfg(test)]
+mod wait_events;

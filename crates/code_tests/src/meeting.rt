@@ -4,7 +4,7 @@ ghost use Rattle.std.specs.Prelude.{◌≡◌, ◌<◌, ◌-◌, [], ◌∷◌, 
 ghost use Rattle.trace_file.specs.Scenarios.{is_answer};
 
 use crate::scripts::script;
-use crate::telling::Told;
+use crate::telling::Reports;
 use cam_types::{Command, Outcome};
 use event_rules::Event;
 use sim_worker::{Ending, Port, Progress, Served, run_live, run_live_with};
@@ -15,7 +15,7 @@ use std::thread;
 use xpt_state::Look;
 
 // How often a port that waits looks whether the other one has begun.
-const MOST_TURNS: u32 = 1_000_000;
+const MAX_TURNS: u32 = 1_000_000;
 
 // A port that holds its first command until the other port has begun with one, and counts how often it was asked for room.
 #[derive(Drop)]
@@ -81,7 +81,7 @@ impl<'f> Port for Meeting<'f> {
 
 // Waits until the flag is set, but not for ever.
 fn comes(flag: &AtomicBool) -> bool {
-    for _ in 0..MOST_TURNS {
+    for _ in 0..MAX_TURNS {
         if flag.load(Ordering::SeqCst) {
             return true;
         }
@@ -124,14 +124,14 @@ fn who_has_nothing_to_do_sleeps(rt: HostRuntime) -> Result<(), Fail> {
     ports.push(Meeting::new(alloc, &one, &other))?;
     ports.push(Meeting::new(alloc, &other, &one))?;
     assert_eq!(rt; script.config().lanes().len(), ports.len());
-    let told = Told::nothing();
-    let run = run_live_with(&rt, alloc, &script, ports, &told)?;
+    let reports = Reports::nothing();
+    let run = run_live_with(&rt, alloc, &script, ports, &reports)?;
     let [busy, idle] = run.ports.as_slice() else {
         return Err(Fail::new("a port is missing"));
     };
     assert_eq!(rt; (run.ending, busy.gave_up), (Ending::RoundsFull, true));
     // Two rounds opened. One driver rested once, the other one in each of three rounds, and the lane once.
-    assert!(rt; told.times() <= 1 + 2 + 5, "{}", told.times());
+    assert!(rt; reports.times() <= 1 + 2 + 5, "{}", reports.times());
     // No round opened before the busy one was done.
     assert!(rt; !opens_in_flight(run.history.events()));
     // A submit and two ticks woke the idle lane.
@@ -153,35 +153,35 @@ fn opens_in_flight(events: &[Event]) -> bool {
     false
 }
 
-// Sets a flag once it is told of a command in flight.
+// Sets a flag once a command in flight is reported.
 #[derive(Clone, Copy)]
 struct InFlight<'f> {
-    told: &'f AtomicBool,
+    reports: &'f AtomicBool,
 }
 
 impl Progress for InFlight<'_> {
     fn show(&self, look: Look) {
         if look.in_flight > 0 {
-            self.told.store(true, Ordering::SeqCst);
+            self.reports.store(true, Ordering::SeqCst);
         }
     }
 }
 
-// One lane serves until that was told. The other one is done before, and rests.
+// One lane serves until that was reported. The other one is done before, and rests.
 #[test]
-fn a_rest_is_told_while_a_lane_serves(rt: HostRuntime) -> Result<(), Fail> {
+fn a_rest_is_reported_while_a_lane_serves(rt: HostRuntime) -> Result<(), Fail> {
     let alloc = rt.alloc();
     let script = script(
         alloc,
         "sim,1,,,,,,\nsim,1,,,,,,\ndev,0,1,0,1,,,\ndev,1,1,0,1,,,\nlane,0,,,,,,\nlane,1,,,,,,\nsubmit,0,0:1:0,1152,4,none,,\nsubmit,0,1:1:0,1152,4,none,,\n",
     )?;
     let (one, other) = (AtomicBool::new(false), AtomicBool::new(false));
-    let told = AtomicBool::new(false);
+    let reports = AtomicBool::new(false);
     let mut ports = Vec::new(alloc);
-    ports.push(Meeting::new(alloc, &one, &told))?;
+    ports.push(Meeting::new(alloc, &one, &reports))?;
     ports.push(Meeting::new(alloc, &other, &one))?;
     assert_eq!(rt; script.config().lanes().len(), ports.len());
-    let run = run_live_with(&rt, alloc, &script, ports, &InFlight { told: &told })?;
+    let run = run_live_with(&rt, alloc, &script, ports, &InFlight { reports: &reports })?;
     assert_eq!(rt; run.ending, Ending::Drained);
     for port in &run.ports {
         assert!(rt; !port.gave_up);

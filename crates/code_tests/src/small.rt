@@ -1,11 +1,11 @@
 //! Small nets made by chance, each planned and searched through.
 
 use crate::events::attention;
-use crate::made::Dice;
+use crate::generated::Dice;
 use crate::search::least_cost;
 use cam_event::History;
 use cam_types::{Config, Device, Flags, Limits, Outcome};
-use cost_plan::{OpenGate, plan, plan_with};
+use cost_plan::{NoPlanProgress, plan, plan_with};
 use round_net::{Net, cost};
 use std::alloc::Global;
 use std::process::Abort;
@@ -97,7 +97,7 @@ fn alone(alloc: Global, net: &Net) -> Result<Option<u64>, Fail> {
 
 // What a plan costs whose adapters are planned at once.
 fn at_once<R: Threads + Sync>(rt: &R, alloc: Global, net: &Net) -> Result<Option<u64>, Fail> {
-    let best = plan_with(rt, alloc, net, &OpenGate)?;
+    let best = plan_with(rt, alloc, net, &NoPlanProgress)?;
     Ok(cost(net, &best.schedule))
 }
 

@@ -12,7 +12,7 @@ use std::sync::atomic::{AtomicBool, AtomicU32, Ordering};
 use std::sync::ledger::{Blank, Ledger};
 use std::test::Fail;
 use std::thread::{Threads, join, yield_now};
-use xpt_lock::{Bell, Moment, Seat, SeatName, SharedXpt};
+use xpt_lock::{Epoch, Seat, SeatName, SharedXpt, WaitEvent};
 use xpt_state::Reply;
 
 // Submits 100 CCBs and gives the seat back.
@@ -89,7 +89,7 @@ fn two_threads_get_each_number_once(rt: HostRuntime) -> Result<(), Fail> {
     Ok(())
 }
 
-// What rings a bell.
+// What notifies a wait event.
 #[derive(Clone, Copy, Debug)]
 enum Deed {
     Submit,
@@ -99,8 +99,8 @@ enum Deed {
     ReleaseDevice,
     ReleaseAdapter,
     Tick,
-    // A call that names the bell.
-    Ring,
+    // A call that names the wait event.
+    Notify,
 }
 
 // What stands before the deed: a device or an adapter that is frozen, or a command that is in flight or failed.
@@ -115,7 +115,7 @@ fn prepare<L: Ledger, R: Wait>(rt: &R, shared: &SharedXpt<L>, seat: &mut Seat<L>
         Deed::ReleaseAdapter => {
             let _ = shared.freeze_sim(rt, seat, 0, 1);
         }
-        Deed::Submit | Deed::Tick | Deed::Ring => {}
+        Deed::Submit | Deed::Tick | Deed::Notify => {}
     }
 }
 
@@ -131,8 +131,14 @@ fn fails<L: Ledger, R: Wait>(rt: &R, shared: &SharedXpt<L>, seat: &mut Seat<L>, 
     let _ = shared.done(rt, seat, 0, Outcome::of_status(status));
 }
 
-// Rings the bell by the deed.
-fn rings<L: Ledger, R: Wait>(rt: &R, shared: &SharedXpt<L>, seat: Seat<L>, bell: Bell, deed: Deed) {
+// Notifies the wait event by the deed.
+fn notify_by<L: Ledger, R: Wait>(
+    rt: &R,
+    shared: &SharedXpt<L>,
+    seat: Seat<L>,
+    wait_event: WaitEvent,
+    deed: Deed,
+) {
     let mut seat = seat;
     let is_taken = match deed {
         Deed::Submit => shared
@@ -146,10 +152,10 @@ fn rings<L: Ledger, R: Wait>(rt: &R, shared: &SharedXpt<L>, seat: Seat<L>, bell:
         Deed::ReleaseDevice => shared.release_dev(rt, &mut seat, 0, 1).is_ok(),
         Deed::ReleaseAdapter => shared.release_sim(rt, &mut seat, 0).is_ok(),
         Deed::Tick => shared.tick(rt, &mut seat).is_ok(),
-        Deed::Ring => false,
+        Deed::Notify => false,
     };
     if !is_taken {
-        shared.ring(rt, bell);
+        shared.notify(rt, wait_event);
     }
 }
 
@@ -169,25 +175,25 @@ fn let_sleep(about_to: &AtomicU32) {
     }
 }
 
-// Sleeps at the bell of a moment. Answers whether it rang once since then, after the one who rings had come.
+// Sleeps past an epoch. Answers whether there was one notification since then, after the one who notifies had come.
 fn is_woken<L: Ledger, R: Wait>(
     rt: &R,
     shared: &SharedXpt<L>,
-    seen: Moment,
+    seen: Epoch,
     about_to: &AtomicU32,
     comes: &AtomicBool,
 ) -> bool {
     about_to.fetch_add(1, Ordering::SeqCst);
     let woken = shared.wait_past(rt, seen);
-    seen.rings.checked_add(1) == Some(woken.rings) && comes.load(Ordering::SeqCst)
+    seen.notifications.checked_add(1) == Some(woken.notifications) && comes.load(Ordering::SeqCst)
 }
 
-// Two threads sleep at the bell until another one rings it. Answers whether both woke by that.
+// Two threads sleep for the wait event until another one notifies it. Answers whether both woke by that.
 fn sleepers<L: Ledger + Send + Sync, R: Threads + Wait + Abort + Sync>(
     rt: &R,
     alloc: Global,
     blank: Blank,
-    bell: Bell,
+    wait_event: WaitEvent,
     deed: Deed,
 ) -> Result<bool, Fail>
     requires name { blank.name ≡ L.name }
@@ -196,7 +202,7 @@ fn sleepers<L: Ledger + Send + Sync, R: Threads + Wait + Abort + Sync>(
     let shared: SharedXpt<L> = shared(alloc, Limits::most(), blank)?;
     let mut seat = shared.seat(rt, alloc, SeatName::Keeper)?;
     prepare(rt, &shared, &mut seat, deed);
-    let seen = shared.moment(rt, bell);
+    let seen = shared.epoch(rt, wait_event);
     let (board, about_to, comes) = (&shared, &AtomicU32::new(0), &AtomicBool::new(false));
     let ((one, other), _) = join(
         rt,
@@ -210,7 +216,7 @@ fn sleepers<L: Ledger + Send + Sync, R: Threads + Wait + Abort + Sync>(
         move || {
             let_sleep(about_to);
             comes.store(true, Ordering::SeqCst);
-            rings(rt, board, seat, bell, deed);
+            notify_by(rt, board, seat, wait_event, deed);
         },
     );
     Ok(one && other)
@@ -219,31 +225,31 @@ fn sleepers<L: Ledger + Send + Sync, R: Threads + Wait + Abort + Sync>(
 fn are_woken<R: Threads + Wait + Abort + Sync>(
     rt: &R,
     alloc: Global,
-    bell: Bell,
+    wait_event: WaitEvent,
     deed: Deed,
 ) -> Result<bool, Fail> {
-    sleepers::<Brand, R>(rt, alloc, Blank::new(65), bell, deed)
+    sleepers::<Brand, R>(rt, alloc, Blank::new(65), wait_event, deed)
 }
 
 #[test]
-fn each_bell_wakes_all_who_sleep(rt: HostRuntime) -> Result<(), Fail> {
-    for (bell, deed) in [
-        (Bell::Round, Deed::Tick),
-        (Bell::Round, Deed::Ring),
-        (Bell::Work, Deed::Submit),
-        (Bell::Work, Deed::Requeue),
-        (Bell::Work, Deed::Finish),
-        (Bell::Work, Deed::ReleaseDevice),
-        (Bell::Work, Deed::ReleaseAdapter),
-        (Bell::Work, Deed::Tick),
-        (Bell::Work, Deed::Ring),
-        (Bell::Case, Deed::Busy),
-        (Bell::Case, Deed::Ring),
-        (Bell::Rest, Deed::Ring),
+fn each_wait_event_wakes_all_who_sleep(rt: HostRuntime) -> Result<(), Fail> {
+    for (wait_event, deed) in [
+        (WaitEvent::Round, Deed::Tick),
+        (WaitEvent::Round, Deed::Notify),
+        (WaitEvent::Work, Deed::Submit),
+        (WaitEvent::Work, Deed::Requeue),
+        (WaitEvent::Work, Deed::Finish),
+        (WaitEvent::Work, Deed::ReleaseDevice),
+        (WaitEvent::Work, Deed::ReleaseAdapter),
+        (WaitEvent::Work, Deed::Tick),
+        (WaitEvent::Work, Deed::Notify),
+        (WaitEvent::Case, Deed::Busy),
+        (WaitEvent::Case, Deed::Notify),
+        (WaitEvent::Rest, Deed::Notify),
     ] {
         assert!(rt;
-            are_woken(&rt, rt.alloc(), bell, deed)?,
-            "{bell:?} by {deed:?}"
+            are_woken(&rt, rt.alloc(), wait_event, deed)?,
+            "{wait_event:?} by {deed:?}"
         );
     }
     Ok(())

@@ -17,9 +17,9 @@ never : false ≡ true → ⊥
 never e = cc
 
 -- a test that decides tells
-tells : {X : Type 0} (x y : X) (said r : Bool) → said ≡ not r → Decides r (x ≡ y) → Tells said x y
-tells x y said true is d = ((λ t. absurd (never (sym is ∙ t))), (λ f. d.0 refl))
-tells x y said false is d = ((λ t e. never (d.1 e)), (λ f. absurd (never (sym f ∙ is))))
+tells : {X : Type 0} (x y : X) (stated r : Bool) → stated ≡ not r → Decides r (x ≡ y) → Tells stated x y
+tells x y stated true is d = ((λ t. absurd (never (sym is ∙ t))), (λ f. d.0 refl))
+tells x y stated false is d = ((λ t e. never (d.1 e)), (λ f. absurd (never (sym f ∙ is))))
 
 itself : (n : ℕ) → nat_eq n n ≡ true
 itself n = eq-eqb n n refl
@@ -33,8 +33,8 @@ weight_decides a b = (
   (λ e. subst (λ x. weights.ghosts.eq a x ≡ true) e (rw (itself a.last, itself a.weight) refl)),
 )
 
-pub weights_tell : (xs ys : List WeightRow) (said : Bool) → said ≡ not (pointwise weights.ghosts.eq xs ys) → Tells said xs ys
-weights_tell xs ys said is = tells xs ys said (pointwise weights.ghosts.eq xs ys) is (slice_eq-Decides weight_decides xs ys (pointwise weights.ghosts.eq xs ys) refl)
+pub weights_tell : (xs ys : List WeightRow) (stated : Bool) → stated ≡ not (pointwise weights.ghosts.eq xs ys) → Tells stated xs ys
+weights_tell xs ys stated is = tells xs ys stated (pointwise weights.ghosts.eq xs ys) is (slice_eq-Decides weight_decides xs ys (pointwise weights.ghosts.eq xs ys) refl)
 
 same_link : (x y : Option ℕ) → option_eq nat_eq x y ≡ true → x ≡ y
 same_link None None h = refl
@@ -55,8 +55,8 @@ adapter_decides a b = (
   (λ e. subst (λ x. adapters.ghosts.eq a x ≡ true) e (rw (itself a.openings, link_itself a.link) refl)),
 )
 
-pub adapters_tell : (xs ys : List Adapter) (said : Bool) → said ≡ not (pointwise adapters.ghosts.eq xs ys) → Tells said xs ys
-adapters_tell xs ys said is = tells xs ys said (pointwise adapters.ghosts.eq xs ys) is (slice_eq-Decides adapter_decides xs ys (pointwise adapters.ghosts.eq xs ys) refl)
+pub adapters_tell : (xs ys : List Adapter) (stated : Bool) → stated ≡ not (pointwise adapters.ghosts.eq xs ys) → Tells stated xs ys
+adapters_tell xs ys stated is = tells xs ys stated (pointwise adapters.ghosts.eq xs ys) is (slice_eq-Decides adapter_decides xs ys (pointwise adapters.ghosts.eq xs ys) refl)
 
 device_from : (a b : Device) → a.bus ≡ b.bus → a.target ≡ b.target → a.lun ≡ b.lun → a.openings ≡ b.openings → a ≡ b
 device_from a b e f g h =
@@ -75,5 +75,5 @@ device_decides a b = (
   (λ e. subst (λ x. devices.ghosts.eq a x ≡ true) e (rw (itself a.bus, itself a.target, itself a.lun, itself a.openings) refl)),
 )
 
-pub devices_tell : (xs ys : List Device) (said : Bool) → said ≡ not (pointwise devices.ghosts.eq xs ys) → Tells said xs ys
-devices_tell xs ys said is = tells xs ys said (pointwise devices.ghosts.eq xs ys) is (slice_eq-Decides device_decides xs ys (pointwise devices.ghosts.eq xs ys) refl)
+pub devices_tell : (xs ys : List Device) (stated : Bool) → stated ≡ not (pointwise devices.ghosts.eq xs ys) → Tells stated xs ys
+devices_tell xs ys stated is = tells xs ys stated (pointwise devices.ghosts.eq xs ys) is (slice_eq-Decides device_decides xs ys (pointwise devices.ghosts.eq xs ys) refl)

@@ -2,11 +2,11 @@
 
 ghost use Rattle.std.specs.Prelude.{◌≡◌, ◌≤◌, length, slice_get, false, true};
 ghost use Rattle.std.specs.Option.{option_map_or};
-ghost use Rattle.cam_types.specs.declared.maxima.TheConstants.{MOST_DEVICES};
+ghost use Rattle.cam_types.specs.declared.limits.TheConstants.{MAX_DEVICES};
 ghost use Rattle.comparison.specs.Terms.{Tells, TellsDevices, AreDifferences, is_like, has_like, all_like};
 
 use crate::keys::{PairBy, is_pair, name_of, names_for};
-use cam_types::{Adapter, Config, Device, MOST_DEVICES, WeightRow};
+use cam_types::{Adapter, Config, Device, MAX_DEVICES, WeightRow};
 use recording_file::{Name, NameKind, Span};
 use wait_causes::Grouping;
 
@@ -83,8 +83,8 @@ fn differ_in_devices(
     before: &[Device],
     after: &[Device],
 ) -> bool
-    requires few_before { length before.now ≤ MOST_DEVICES }
-    requires few_after { length after.now ≤ MOST_DEVICES }
+    requires few_before { length before.now ≤ MAX_DEVICES }
+    requires few_after { length after.now ≤ MAX_DEVICES }
     ensures { TellsDevices by names_before.now names_after.now before.now after.now result }
 {
     match by {
@@ -104,8 +104,8 @@ fn all_like(
     devices: &[Device],
     others: &[Device],
 ) -> bool
-    requires few { length devices.now ≤ MOST_DEVICES }
-    requires few_others { length others.now ≤ MOST_DEVICES }
+    requires few { length devices.now ≤ MAX_DEVICES }
+    requires few_others { length others.now ≤ MAX_DEVICES }
     ensures { result ≡ all_like kind names.now others_names.now devices.now others.now }
 {
     (0..devices.len() as u32).all(|number| has_like_at(
@@ -127,7 +127,7 @@ fn has_like_at(
     others: &[Device],
     number: u32,
 ) -> bool
-    requires few { length others.now ≤ MOST_DEVICES }
+    requires few { length others.now ≤ MAX_DEVICES }
     ensures { result ≡ option_map_or (has_like kind names.now others_names.now others.now number) (slice_get devices.now number) true }
 {
     match devices.get(number as usize) {
@@ -145,7 +145,7 @@ fn has_like(
     number: u32,
     device: &Device,
 ) -> bool
-    requires few { length others.now ≤ MOST_DEVICES }
+    requires few { length others.now ≤ MAX_DEVICES }
     ensures { result ≡ has_like kind names.now others_names.now others.now number device.now }
 {
     let named = name_of(names, kind, number).is_some();

@@ -58,22 +58,22 @@ MarksWithin-from_residual net f arcs residual = λ k d h stay marked.
     omega (arith, m.within)
 
 -- all arcs together: what a cell and those under it take in and what leaves them
-pub record AreBalanced (net : Instance) (f : ℕ → ℕ) (row round : ℕ) (arcs : List Arc) : Type 0 where
+pub record AreBalanced (net : Instance) (f : ℕ → ℕ) (resource round : ℕ) (arcs : List Arc) : Type 0 where
   pub takes : ℕ
-  pub balance : count_by (λ a. inside net row round a.tail) arcs + sum_by (reached net (stands net row round)) arcs ≤ count_by (λ a. inside net row round a.head) arcs + sum_by (left (stands net row round) f) arcs + takes
-  pub within : takes ≤ count_by (λ a. a.tail == cell net row round) arcs
-  pub room : 0 < takes → load net f row round < net.cap row round
+  pub balance : count_by (λ a. inside net resource round a.tail) arcs + sum_by (reached net (stands net resource round)) arcs ≤ count_by (λ a. inside net resource round a.head) arcs + sum_by (left (stands net resource round) f) arcs + takes
+  pub within : takes ≤ count_by (λ a. a.tail == cell net resource round) arcs
+  pub room : 0 < takes → load net f resource round < net.cap resource round
 
-AreBalanced-from_each : (net : Instance) (f : ℕ → ℕ) (row round : ℕ) (arcs : List Arc) → All (IsBalanced net f row round) arcs → AreBalanced net f row round arcs
-AreBalanced-from_each net f row round [] each = record { takes = 0; balance = omega arith; within = omega arith; room = λ h. absurd (omega arith) }
-AreBalanced-from_each net f row round (arc ∷ arcs) each =
-    let first = All-head (IsBalanced net f row round) arc arcs each in
-    let rest = AreBalanced-from_each net f row round arcs (All-tail (IsBalanced net f row round) arc arcs each) in
-    let tails = sum_by-cons (λ (a : Arc). cond {A = ℕ} (inside net row round a.tail) 1 0) arc arcs in
-    let heads = sum_by-cons (λ (a : Arc). cond {A = ℕ} (inside net row round a.head) 1 0) arc arcs in
-    let ins = sum_by-cons (reached net (stands net row round)) arc arcs in
-    let outs = sum_by-cons (left (stands net row round) f) arc arcs in
-    let starts = sum_by-cons (λ (a : Arc). cond {A = ℕ} (a.tail == cell net row round) 1 0) arc arcs in
+AreBalanced-from_each : (net : Instance) (f : ℕ → ℕ) (resource round : ℕ) (arcs : List Arc) → All (IsBalanced net f resource round) arcs → AreBalanced net f resource round arcs
+AreBalanced-from_each net f resource round [] each = record { takes = 0; balance = omega arith; within = omega arith; room = λ h. absurd (omega arith) }
+AreBalanced-from_each net f resource round (arc ∷ arcs) each =
+    let first = All-head (IsBalanced net f resource round) arc arcs each in
+    let rest = AreBalanced-from_each net f resource round arcs (All-tail (IsBalanced net f resource round) arc arcs each) in
+    let tails = sum_by-cons (λ (a : Arc). cond {A = ℕ} (inside net resource round a.tail) 1 0) arc arcs in
+    let heads = sum_by-cons (λ (a : Arc). cond {A = ℕ} (inside net resource round a.head) 1 0) arc arcs in
+    let ins = sum_by-cons (reached net (stands net resource round)) arc arcs in
+    let outs = sum_by-cons (left (stands net resource round) f) arc arcs in
+    let starts = sum_by-cons (λ (a : Arc). cond {A = ℕ} (a.tail == cell net resource round) 1 0) arc arcs in
     record {
       takes = first.takes + rest.takes;
       balance = omega (arith, first.balance, rest.balance, tails, heads, ins, outs);
@@ -90,14 +90,14 @@ tails-heads test arcs cycle =
 pub tails-once : (arcs : List Arc) → IsGainingCycle arcs → (node : ℕ) → count_by (λ a. a.tail == node) arcs ≤ 1
 tails-once arcs cycle node = omega (arith, tails-heads (λ v. v == node) arcs cycle, cycle.once node)
 
--- no row has more than its cap in a round, where it had no more before
-load-changed : (net : Instance) (live : ℕ → ℕ) (rounds : List ℕ) (arcs : List Arc) (row round : ℕ) → IsSound net live → IsAdmissible net (rounds_of rounds) → net.stays ≤ length rounds → All (IsResidual net (rounds_of rounds)) arcs → IsGainingCycle arcs → row < rows net → load net (rounds_of rounds) row round ≤ net.cap row round → load net (rounds_of (changed_all net rounds arcs)) row round ≤ net.cap row round
-load-changed net live rounds arcs row round sound ok long residual cycle below held =
+-- no resource has more than its cap in a round, where it had no more before
+load-changed : (net : Instance) (live : ℕ → ℕ) (rounds : List ℕ) (arcs : List Arc) (resource round : ℕ) → IsSound net live → IsAdmissible net (rounds_of rounds) → net.stays ≤ length rounds → All (IsResidual net (rounds_of rounds)) arcs → IsGainingCycle arcs → resource < rows net → load net (rounds_of rounds) resource round ≤ net.cap resource round → load net (rounds_of (changed_all net rounds arcs)) resource round ≤ net.cap resource round
+load-changed net live rounds arcs resource round sound ok long residual cycle below held =
     let f : ℕ → ℕ = rounds_of rounds in
-    let b = AreBalanced-from_each net f row round arcs (λ k d h. IsBalanced-from_residual net live f row round (get_or arcs k d) sound ok below (residual k d h)) in
-    let sums = sum-changed_all net net.stays (stands net row round) rounds arcs long (MarksWithin-from_residual net f arcs residual) (MarksApart-from_tails net f arcs residual (tails-once arcs cycle)) in
-    let around = tails-heads (inside net row round) arcs cycle in
-    let starts = tails-once arcs cycle (cell net row round) in
+    let b = AreBalanced-from_each net f resource round arcs (λ k d h. IsBalanced-from_residual net live f resource round (get_or arcs k d) sound ok below (residual k d h)) in
+    let sums = sum-changed_all net net.stays (stands net resource round) rounds arcs long (MarksWithin-from_residual net f arcs residual) (MarksApart-from_tails net f arcs residual (tails-once arcs cycle)) in
+    let around = tails-heads (inside net resource round) arcs cycle in
+    let starts = tails-once arcs cycle (cell net resource round) in
     elim (cases_eq b.takes 0) [
       | inl none ↦ omega (arith, b.balance, sums, around, held)
       | inr some ↦ let room = b.room (omega arith) in omega (arith, b.balance, b.within, sums, around, starts, room)
@@ -192,5 +192,5 @@ IsAdmissible-changed_all net live rounds arcs sound ok long residual cycle =
     record {
       not_early = λ s less. (windows s less).0;
       not_late = λ s less. (windows s less).1;
-      rows_hold = λ row r inside first last. load-changed net live rounds arcs row r sound ok long residual cycle inside (ok.rows_hold row r inside first last);
+      rows_hold = λ resource r inside first last. load-changed net live rounds arcs resource r sound ok long residual cycle inside (ok.rows_hold resource r inside first last);
     }

@@ -131,14 +131,14 @@ IsKindTurned-made net members arrivals lasts own values old new kind long admiss
           (omega (arith, window.0), omega (arith, window.1))
       | inr none ↦ (omega (arith, others s none, admissible.not_early s less), omega (arith, others s none, admissible.not_late s less))
     ] in
-    let loads : (row round : ℕ) → load net (λ s. get_or new s 0) row round ≡ load net (λ s. get_or old s 0) row round = λ row round. sums (λ s r. cond (uses net row s && (r == round)) 1 0) (λ i j r left right. ap (λ (d : ℕ). cond {A = ℕ} (list_any (λ own. own == row) (path_of net d) && (r == round)) 1 0) (kind.alike i j left right).0) in
+    let loads : (resource round : ℕ) → load net (λ s. get_or new s 0) resource round ≡ load net (λ s. get_or old s 0) resource round = λ resource round. sums (λ s r. cond (uses net resource s && (r == round)) 1 0) (λ i j r left right. ap (λ (d : ℕ). cond {A = ℕ} (list_any (λ own. own == resource) (path_of net d) && (r == round)) 1 0) (kind.alike i j left right).0) in
     let weighed = sums (λ s r. net.weight s * r) (λ i j r left right. ap (λ (w : ℕ). w * r) (kind.alike i j left right).1) in
     record {
       long = size;
       admissible = record {
         not_early = λ s less. (in_window s less).0;
         not_late = λ s less. (in_window s less).1;
-        rows_hold = λ row r inside first end. omega (arith, loads row r, admissible.rows_hold row r inside first end);
+        rows_hold = λ resource r inside first end. omega (arith, loads resource r, admissible.rows_hold resource r inside first end);
       };
       same_cost = omega (arith, weighed, cost-sum net (λ s. get_or old s 0) admissible.not_early, cost-sum net (λ s. get_or new s 0) (λ s less. (in_window s less).0));
       others = others;

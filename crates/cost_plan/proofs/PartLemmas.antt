@@ -15,7 +15,7 @@ use Rattle.std.specs.declared.alloc.AllocError.{AllocError}
 use Rattle.cost_plan.specs.Words.{rows, adapter, IsSound}
 use Rattle.cost_plan.specs.Cells.{cell, root}
 use Rattle.cost_plan.specs.declared.part.Part.{Part}
-use Rattle.cost_plan.specs.Parts.{is_on, least_on, part_of, part_of_stay, part_of_row, before, rows_before, label_place, busy_parts, HasStay, IsRowLabelled, IsLabelled, IsPutIn, IsPut, ArePut, AreAllPut}
+use Rattle.cost_plan.specs.Parts.{is_on, least_on, part_of, part_of_stay, part_of_resource, before, resources_before, potential_place, busy_parts, HasStay, ResourceHasPotentials, HasPotentials, IsPutIn, IsPut, ArePut, AreAllPut}
 use Rattle.cost_plan.proofs.BalanceLemmas.{at_most_one}
 use Rattle.cost_plan.proofs.CellLemmas.{cell-apart}
 use Rattle.cost_plan.proofs.NodeLemmas.{cell-in}
@@ -137,96 +137,96 @@ busy-all net live s sound within =
     range-contains (λ a. nat_lt 0 (before net a net.stays)) net.adapters (part_of_stay net s) (part_of-lt net (adapter net s) (sound.on_adapter (net.device s) (sound.on_device s within)))
     (before-some net (part_of_stay net s) net.stays s within refl)
 
--- ---- labels that are put in
+-- ---- potentials that are put in
 
-pub IsRowLabelled-none : (net : Instance) (row : ℕ) (labels old : List ℕ) → IsRowLabelled net row 0 labels old old
-IsRowLabelled-none net row labels old = record { own = λ round low. absurd (omega arith); others = λ node apart. refl }
+pub ResourceHasPotentials-none : (net : Instance) (resource : ℕ) (potentials old : List ℕ) → ResourceHasPotentials net resource 0 potentials old old
+ResourceHasPotentials-none net resource potentials old = record { own = λ round low. absurd (omega arith); others = λ node apart. refl }
 
-pub IsRowLabelled-set : (net : Instance) (row n label place : ℕ) (labels old mid : List ℕ) → n ≤ net.rounds → n < length labels → place ≡ cell net row n → place < length mid → label ≡ get_or labels n 0
-    → IsRowLabelled net row n labels old mid → IsRowLabelled net row (n + 1) labels old (set mid place label)
-IsRowLabelled-set net row n label place labels old mid last some is inside here h = record {
+pub ResourceHasPotentials-set : (net : Instance) (resource n potential place : ℕ) (potentials old mid : List ℕ) → n ≤ net.rounds → n < length potentials → place ≡ cell net resource n → place < length mid → potential ≡ get_or potentials n 0
+    → ResourceHasPotentials net resource n potentials old mid → ResourceHasPotentials net resource (n + 1) potentials old (set mid place potential)
+ResourceHasPotentials-set net resource n potential place potentials old mid last some is inside here h = record {
   own = λ round low known. elim (cases_eq round n) [
     | inl same ↦
-        let at : cell net row round ≡ place = ap (cell net row) same ∙ sym is in
-        ap (λ (k : ℕ). get_or (set mid place label) k 0) at ∙ get_or-set_same mid place label 0 inside ∙ here ∙ ap (λ (k : ℕ). get_or labels k 0) (sym same)
+        let at : cell net resource round ≡ place = ap (cell net resource) same ∙ sym is in
+        ap (λ (k : ℕ). get_or (set mid place potential) k 0) at ∙ get_or-set_same mid place potential 0 inside ∙ here ∙ ap (λ (k : ℕ). get_or potentials k 0) (sym same)
     | inr other ↦
-        get_or-set_other mid place (cell net row round) label 0 (λ e. other ((cell-apart net row round row n (omega arith) last (e ∙ is)).1))
+        get_or-set_other mid place (cell net resource round) potential 0 (λ e. other ((cell-apart net resource round resource n (omega arith) last (e ∙ is)).1))
         ∙ h.own round (omega arith) known
   ];
-  others = λ node apart. get_or-set_other mid place node label 0 (λ e. apart n (omega arith) some (e ∙ is)) ∙ h.others node (λ round low. apart round (omega arith));
+  others = λ node apart. get_or-set_other mid place node potential 0 (λ e. apart n (omega arith) some (e ∙ is)) ∙ h.others node (λ round low. apart round (omega arith));
 }
 
-pub IsRowLabelled-past : (net : Instance) (row n : ℕ) (labels old new : List ℕ) → length labels ≤ n → IsRowLabelled net row n labels old new → IsRowLabelled net row (n + 1) labels old new
-IsRowLabelled-past net row n labels old new past h = record {
+pub ResourceHasPotentials-past : (net : Instance) (resource n : ℕ) (potentials old new : List ℕ) → length potentials ≤ n → ResourceHasPotentials net resource n potentials old new → ResourceHasPotentials net resource (n + 1) potentials old new
+ResourceHasPotentials-past net resource n potentials old new past h = record {
   own = λ round low known. h.own round (omega arith) known;
   others = λ node apart. h.others node (λ round low. apart round (omega arith));
 }
 
-pub IsLabelled-none : (net : Instance) (a : ℕ) (labels old : List ℕ) → IsLabelled net a 0 labels old old
-IsLabelled-none net a labels old = record { own = λ row round low. absurd (omega arith); others = λ row round inside last apart. refl; root = refl }
+pub HasPotentials-none : (net : Instance) (a : ℕ) (potentials old : List ℕ) → HasPotentials net a 0 potentials old old
+HasPotentials-none net a potentials old = record { own = λ resource round low. absurd (omega arith); others = λ resource round inside last apart. refl; root = refl }
 
--- a row of the part gets its labels
-pub IsLabelled-own : (net : Instance) (a n : ℕ) (labels from old mid new : List ℕ) → n < rows net → part_of_row net n ≡ a → from ≡ drop (rows_before net a n * (net.rounds + 1)) labels
-    → IsRowLabelled net n (net.rounds + 1) from mid new → IsLabelled net a n labels old mid → IsLabelled net a (n + 1) labels old new
-IsLabelled-own net a n labels from old mid new inside is rest row h = record {
+-- a resource of the part gets its potentials
+pub HasPotentials-own : (net : Instance) (a n : ℕ) (potentials from old mid new : List ℕ) → n < rows net → part_of_resource net n ≡ a → from ≡ drop (resources_before net a n * (net.rounds + 1)) potentials
+    → ResourceHasPotentials net n (net.rounds + 1) from mid new → HasPotentials net a n potentials old mid → HasPotentials net a (n + 1) potentials old new
+HasPotentials-own net a n potentials from old mid new inside is rest resource h = record {
   own = λ r round low last own some. elim (cases_eq r n) [
     | inl same ↦
         let here : place r round ≡ skipped + round = ap (λ (k : ℕ). place k round) same in
         ap (λ (k : ℕ). get_or new (cell net k round) 0) same
-        ∙ row.own round (omega arith) (omega (arith, size, here, some))
+        ∙ resource.own round (omega arith) (omega (arith, size, here, some))
         ∙ ap (λ (ls : List ℕ). get_or ls round 0) rest
-        ∙ get_or-drop skipped labels round 0
-        ∙ ap (λ (k : ℕ). get_or labels k 0) (sym here)
-    | inr other ↦ row.others (cell net r round) (λ q low' some' e. other ((cell-apart net r round n q last (omega arith) e).0)) ∙ h.own r round (omega arith) last own some
+        ∙ get_or-drop skipped potentials round 0
+        ∙ ap (λ (k : ℕ). get_or potentials k 0) (sym here)
+    | inr other ↦ resource.others (cell net r round) (λ q low' some' e. other ((cell-apart net r round n q last (omega arith) e).0)) ∙ h.own r round (omega arith) last own some
   ];
   others = λ r round inside' last apart. elim (cases_eq r n) [
     | inl same ↦
         let here : place r round ≡ skipped + round = ap (λ (k : ℕ). place k round) same in
-        let past = apart (ap (part_of_row net) same ∙ is) in
-        row.others (cell net r round) (λ q low some' e. let equal = (cell-apart net r round n q last (omega arith) e).1 in absurd (omega (arith, size, here, past, equal, some')))
+        let past = apart (ap (part_of_resource net) same ∙ is) in
+        resource.others (cell net r round) (λ q low some' e. let equal = (cell-apart net r round n q last (omega arith) e).1 in absurd (omega (arith, size, here, past, equal, some')))
         ∙ h.others r round inside' last apart
-    | inr other ↦ row.others (cell net r round) (λ q low' some' e. other ((cell-apart net r round n q last (omega arith) e).0)) ∙ h.others r round inside' last apart
+    | inr other ↦ resource.others (cell net r round) (λ q low' some' e. other ((cell-apart net r round n q last (omega arith) e).0)) ∙ h.others r round inside' last apart
   ];
-  root = row.others (root net) (λ q low some e. let lt = cell-in net n q inside (omega arith) in absurd (omega (arith, lt, e))) ∙ h.root;
+  root = resource.others (root net) (λ q low some e. let lt = cell-in net n q inside (omega arith) in absurd (omega (arith, lt, e))) ∙ h.root;
 }
   where
     place : ℕ → ℕ → ℕ
-    place = label_place net a
+    place = potential_place net a
 
     skipped : ℕ
-    skipped = rows_before net a n * (net.rounds + 1)
+    skipped = resources_before net a n * (net.rounds + 1)
 
-    size : length from ≡ length labels - skipped
-    size = ap (length {A = ℕ}) rest ∙ length-drop skipped labels
+    size : length from ≡ length potentials - skipped
+    size = ap (length {A = ℕ}) rest ∙ length-drop skipped potentials
 
--- a row of another part is left
-pub IsLabelled-other : (net : Instance) (a n : ℕ) (labels old new : List ℕ) → part_of_row net n ≢ a → IsLabelled net a n labels old new → IsLabelled net a (n + 1) labels old new
-IsLabelled-other net a n labels old new apart h = record {
-  own = λ row round low last own some. elim (cases_eq row n) [
-    | inl same ↦ absurd (apart (ap (part_of_row net) (sym same) ∙ own))
-    | inr other ↦ h.own row round (omega arith) last own some
+-- a resource of another part is left
+pub HasPotentials-other : (net : Instance) (a n : ℕ) (potentials old new : List ℕ) → part_of_resource net n ≢ a → HasPotentials net a n potentials old new → HasPotentials net a (n + 1) potentials old new
+HasPotentials-other net a n potentials old new apart h = record {
+  own = λ resource round low last own some. elim (cases_eq resource n) [
+    | inl same ↦ absurd (apart (ap (part_of_resource net) (sym same) ∙ own))
+    | inr other ↦ h.own resource round (omega arith) last own some
   ];
   others = h.others;
   root = h.root;
 }
 
--- how many rows of a part there are so far
-pub rows_before-own : (net : Instance) (a n : ℕ) → part_of_row net n ≡ a → rows_before net a (n + 1) ≡ rows_before net a n + 1
-rows_before-own net a n is =
-    let one : cond {A = ℕ} (part_of_row net n == a) 1 0 ≡ 1 = ap (λ (b : Bool). cond {A = ℕ} b 1 0) (eq-eqb (part_of_row net n) a is) in
-    omega (arith, sum_below-more n (λ row. cond (part_of_row net row == a) 1 0), one)
+-- how many resources of a part there are so far
+pub resources_before-own : (net : Instance) (a n : ℕ) → part_of_resource net n ≡ a → resources_before net a (n + 1) ≡ resources_before net a n + 1
+resources_before-own net a n is =
+    let one : cond {A = ℕ} (part_of_resource net n == a) 1 0 ≡ 1 = ap (λ (b : Bool). cond {A = ℕ} b 1 0) (eq-eqb (part_of_resource net n) a is) in
+    omega (arith, sum_below-more n (λ resource. cond (part_of_resource net resource == a) 1 0), one)
 
-pub rows_before-other : (net : Instance) (a n : ℕ) → part_of_row net n ≢ a → rows_before net a (n + 1) ≡ rows_before net a n
-rows_before-other net a n apart =
-    let none : cond {A = ℕ} (part_of_row net n == a) 1 0 ≡ 0 = ap (λ (b : Bool). cond {A = ℕ} b 1 0) (ne_eqb (part_of_row net n) a apart) in
-    omega (arith, sum_below-more n (λ row. cond (part_of_row net row == a) 1 0), none)
+pub resources_before-other : (net : Instance) (a n : ℕ) → part_of_resource net n ≢ a → resources_before net a (n + 1) ≡ resources_before net a n
+resources_before-other net a n apart =
+    let none : cond {A = ℕ} (part_of_resource net n == a) 1 0 ≡ 0 = ap (λ (b : Bool). cond {A = ℕ} b 1 0) (ne_eqb (part_of_resource net n) a apart) in
+    omega (arith, sum_below-more n (λ resource. cond (part_of_resource net resource == a) 1 0), none)
 
--- the labels of the rows after one
-pub labels_behind : (net : Instance) (a n : ℕ) (labels from : List ℕ) → part_of_row net n ≡ a → from ≡ drop (rows_before net a n * (net.rounds + 1)) labels → drop (net.rounds + 1) from ≡ drop (rows_before net a (n + 1) * (net.rounds + 1)) labels
-labels_behind net a n labels from is rest =
-    let more = rows_before-own net a n is in
-    let place : rows_before net a n * (net.rounds + 1) + (net.rounds + 1) ≡ rows_before net a (n + 1) * (net.rounds + 1) = omega (arith, ap (λ (k : ℕ). k * (net.rounds + 1)) more) in
-    ap (drop (net.rounds + 1)) rest ∙ drop-drop (net.rounds + 1) (rows_before net a n * (net.rounds + 1)) labels ∙ ap (λ (k : ℕ). drop k labels) place
+-- the potentials of the resources after one
+pub potentials_behind : (net : Instance) (a n : ℕ) (potentials from : List ℕ) → part_of_resource net n ≡ a → from ≡ drop (resources_before net a n * (net.rounds + 1)) potentials → drop (net.rounds + 1) from ≡ drop (resources_before net a (n + 1) * (net.rounds + 1)) potentials
+potentials_behind net a n potentials from is rest =
+    let more = resources_before-own net a n is in
+    let place : resources_before net a n * (net.rounds + 1) + (net.rounds + 1) ≡ resources_before net a (n + 1) * (net.rounds + 1) = omega (arith, ap (λ (k : ℕ). k * (net.rounds + 1)) more) in
+    ap (drop (net.rounds + 1)) rest ∙ drop-drop (net.rounds + 1) (resources_before net a n * (net.rounds + 1)) potentials ∙ ap (λ (k : ℕ). drop k potentials) place
 
 -- ---- parts that are put in one after the other
 
@@ -248,8 +248,8 @@ put_after net [] found r l r1 l1 r2 l2 so_far here =
     (r2, l2, subst (λ (xs : List ℕ). IsPut net found xs l r2 l2) so_far.0 (subst (λ (ys : List ℕ). IsPut net found r1 ys r2 l2) so_far.1 here), (refl, refl))
 put_after net (x ∷ xs) found r l r1 l1 r2 l2 so_far here = (so_far.0, so_far.1, so_far.2, put_after net xs found so_far.0 so_far.1 r1 l1 r2 l2 so_far.3 here)
 
-pub all_put_none : (net : Instance) (rounds labels : List ℕ) → AreAllPut net [] rounds labels rounds labels
-all_put_none net rounds labels = record { founds = []; made = refl; put = (refl, refl) }
+pub all_put_none : (net : Instance) (rounds potentials : List ℕ) → AreAllPut net [] rounds potentials rounds potentials
+all_put_none net rounds potentials = record { founds = []; made = refl; put = (refl, refl) }
 
 map-push : {X Y : Type 0} (f : X → Y) (xs : List X) (x : X) → map f xs ++ f x ∷ [] ≡ map f (xs ++ x ∷ [])
 map-push f [] x = refl
@@ -263,12 +263,12 @@ all_put_more net parts part found r l r1 l1 r2 l2 so_far is here = record {
 }
 
 pub put_some : (net : Instance) (found : Option Part) (p : Part) (n m : ℕ) (r l r1 l1 rz lz : List ℕ) → found ≡ Some p → n ≡ length r → length r1 ≡ length r → m ≡ length l → length l1 ≡ length l
-    → IsPutIn net p.adapter net.stays p.guess.rounds.items r r1 → IsLabelled net p.adapter (rows net) p.guess.labels.items l l1 → IsPut net found r l (take n (r1 ++ rz)) (take m (l1 ++ lz))
-put_some net found p n m r l r1 l1 rz lz e rn rs ln ls rounds labels =
+    → IsPutIn net p.adapter net.stays p.guess.rounds.items r r1 → HasPotentials net p.adapter (rows net) p.guess.potentials.items l l1 → IsPut net found r l (take n (r1 ++ rz)) (take m (l1 ++ lz))
+put_some net found p n m r l r1 l1 rz lz e rn rs ln ls rounds potentials =
     subst (λ (f : Option Part). IsPut net f r l (take n (r1 ++ rz)) (take m (l1 ++ lz))) (sym e)
     (subst (λ (xs : List ℕ). IsPut net (Some p) r l xs (take m (l1 ++ lz))) (sym (written_back n r1 r rz rn rs))
     (subst (λ (ys : List ℕ). IsPut net (Some p) r l r1 ys) (sym (written_back m l1 l lz ln ls))
-    (record { own_rounds = rounds; own_labels = labels; same_rounds = tt; same_labels = tt })))
+    (record { own_rounds = rounds; own_potentials = potentials; same_rounds = tt; same_potentials = tt })))
 
 pub put_none : (net : Instance) (found : Option Part) (r l : List ℕ) → found ≡ None → IsPut net found r l r l
-put_none net found r l e = subst (λ (f : Option Part). IsPut net f r l r l) (sym e) (record { own_rounds = tt; own_labels = tt; same_rounds = refl; same_labels = refl })
+put_none net found r l e = subst (λ (f : Option Part). IsPut net f r l r l) (sym e) (record { own_rounds = tt; own_potentials = tt; same_rounds = refl; same_potentials = refl })

@@ -1,8 +1,8 @@
 pub mod Words
 pub mod Cells
 pub mod Residual
-pub mod RowPrices
-pub mod Draft
+pub mod ResourcePrices
+pub mod WorkingSchedule
 pub mod Raising
 pub mod Parts
 pub mod Ties

@@ -4,7 +4,7 @@ use Rattle.std.specs.Prelude.{◌≡◌, ◌≢◌, ℕ, ◌+◌, ◌-◌, ◌*�
 use Rattle.std.specs.List.{find, range_with_len}
 use Rattle.std.specs.Option.{option_map_or, IfSome, IfNone}
 use Rattle.std.specs.declared.alloc.AllocError.{AllocError}
-use Rattle.negative_cycle.specs.Labelling.{begun}
+use Rattle.negative_cycle.specs.PotentialTable.{begun}
 use Rattle.cost_plan.specs.Words.{count_below, Instance, adapter, rows, IsAdmissible}
 use Rattle.cost_plan.specs.Cells.{cell, root, node_count, rounds_of}
 use Rattle.cost_plan.specs.declared.begin.Start.{Start}
@@ -25,24 +25,24 @@ part_of net a = option_map_or (least_on net) (net.link_of a) a
 abbrev pub part_of_stay : Instance → ℕ → ℕ
 part_of_stay net s = part_of net (adapter net s)
 
--- the part of a row: a device's is that of its adapter, an adapter's its own, and a link's that of the adapters on it
-abbrev pub part_of_row : Instance → ℕ → ℕ
-part_of_row net row =
-    if nat_lt row net.devices then part_of net (net.adapter_of row)
-    else (if nat_lt (row - net.devices) net.adapters then part_of net (row - net.devices)
-    else least_on net (row - net.devices - net.adapters))
+-- the part of a resource: a device's is that of its adapter, an adapter's its own, and a link's that of the adapters on it
+abbrev pub part_of_resource : Instance → ℕ → ℕ
+part_of_resource net resource =
+    if nat_lt resource net.devices then part_of net (net.adapter_of resource)
+    else (if nat_lt (resource - net.devices) net.adapters then part_of net (resource - net.devices)
+    else least_on net (resource - net.devices - net.adapters))
 
 -- how many of the first stays are of the part
 abbrev pub before : Instance → ℕ → ℕ → ℕ
 before net a n = count_below n (λ s. part_of_stay net s == a)
 
--- how many of the first rows are of the part
-abbrev pub rows_before : Instance → ℕ → ℕ → ℕ
-rows_before net a n = count_below n (λ row. part_of_row net row == a)
+-- how many of the first resources are of the part
+abbrev pub resources_before : Instance → ℕ → ℕ → ℕ
+resources_before net a n = count_below n (λ resource. part_of_resource net resource == a)
 
--- where the label of a cell of the part stands among the part's own labels, which are those of its rows, in order
-abbrev pub label_place : Instance → ℕ → ℕ → ℕ → ℕ
-label_place net a row round = rows_before net a row * (net.rounds + 1) + round
+-- where the potential of a cell of the part stands among the part's own potentials, which are those of its resources, in order
+abbrev pub potential_place : Instance → ℕ → ℕ → ℕ → ℕ
+potential_place net a resource round = resources_before net a resource * (net.rounds + 1) + round
 
 -- a stay of the net is of the part
 pub record HasStay (net : Instance) (a : ℕ) : Type 0 where
@@ -59,48 +59,48 @@ pub record IsPutIn (net : Instance) (a n : ℕ) (own_rounds old new : List ℕ) 
   pub own : (s : ℕ) → s < n → part_of_stay net s ≡ a → before net a s < length own_rounds → slice_index new s ≡ slice_index own_rounds (before net a s)
   pub others : (s : ℕ) → s < length old → (part_of_stay net s ≡ a → length own_rounds ≤ before net a s) → slice_index new s ≡ slice_index old s
 
--- The row's cells before a round have these labels, in order, as long as there are some, and all other nodes have their old
+-- The resource's cells before a round have these potentials, in order, as long as there are some, and all other nodes have their old
 -- ones.
-pub record IsRowLabelled (net : Instance) (row n : ℕ) (labels old new : List ℕ) : Type 0 where
-  pub own : (round : ℕ) → round < n → round < length labels → slice_index new (cell net row round) ≡ slice_index labels round
-  pub others : (node : ℕ) → ((round : ℕ) → round < n → round < length labels → node ≢ cell net row round) → slice_index new node ≡ slice_index old node
+pub record ResourceHasPotentials (net : Instance) (resource n : ℕ) (potentials old new : List ℕ) : Type 0 where
+  pub own : (round : ℕ) → round < n → round < length potentials → slice_index new (cell net resource round) ≡ slice_index potentials round
+  pub others : (node : ℕ) → ((round : ℕ) → round < n → round < length potentials → node ≢ cell net resource round) → slice_index new node ≡ slice_index old node
 
--- The cells of the part's first rows have its labels, in order, as long as there are some, and all others and the root have
+-- The cells of the part's first resources have its potentials, in order, as long as there are some, and all others and the root have
 -- their old ones.
-pub record IsLabelled (net : Instance) (a n : ℕ) (own_labels old new : List ℕ) : Type 0 where
-  pub own : (row round : ℕ) → row < n → round ≤ net.rounds → part_of_row net row ≡ a → label_place net a row round < length own_labels → slice_index new (cell net row round) ≡ slice_index own_labels (label_place net a row round)
-  pub others : (row round : ℕ) → row < rows net → round ≤ net.rounds → (part_of_row net row ≡ a → length own_labels ≤ label_place net a row round) → slice_index new (cell net row round) ≡ slice_index old (cell net row round)
+pub record HasPotentials (net : Instance) (a n : ℕ) (own_potentials old new : List ℕ) : Type 0 where
+  pub own : (resource round : ℕ) → resource < n → round ≤ net.rounds → part_of_resource net resource ≡ a → potential_place net a resource round < length own_potentials → slice_index new (cell net resource round) ≡ slice_index own_potentials (potential_place net a resource round)
+  pub others : (resource round : ℕ) → resource < rows net → round ≤ net.rounds → (part_of_resource net resource ≡ a → length own_potentials ≤ potential_place net a resource round) → slice_index new (cell net resource round) ≡ slice_index old (cell net resource round)
   pub root : slice_index new (root net) ≡ slice_index old (root net)
 
--- a part was put in, if there is one; the rounds and labels are as they were if there is none
-pub record IsPut (net : Instance) (found : Option Part) (rounds labels new_rounds new_labels : List ℕ) : Type 0 where
+-- a part was put in, if there is one; the rounds and potentials are as they were if there is none
+pub record IsPut (net : Instance) (found : Option Part) (rounds potentials new_rounds new_potentials : List ℕ) : Type 0 where
   pub own_rounds : IfSome found (λ (p : Part). IsPutIn net p.adapter net.stays p.guess.rounds.items rounds new_rounds)
-  pub own_labels : IfSome found (λ (p : Part). IsLabelled net p.adapter (rows net) p.guess.labels.items labels new_labels)
+  pub own_potentials : IfSome found (λ (p : Part). HasPotentials net p.adapter (rows net) p.guess.potentials.items potentials new_potentials)
   pub same_rounds : IfNone found (new_rounds ≡ rounds)
-  pub same_labels : IfNone found (new_labels ≡ labels)
+  pub same_potentials : IfNone found (new_potentials ≡ potentials)
 
 -- these were put in, one after the other
 abbrev pub ArePut : Instance → List (Option Part) → List ℕ → List ℕ → List ℕ → List ℕ → Type 0
-ArePut net [] rounds labels new_rounds new_labels = (new_rounds ≡ rounds) × (new_labels ≡ labels)
-ArePut net (found ∷ rest) rounds labels new_rounds new_labels =
-    (next_rounds : List ℕ) × (next_labels : List ℕ) × IsPut net found rounds labels next_rounds next_labels × ArePut net rest next_rounds next_labels new_rounds new_labels
+ArePut net [] rounds potentials new_rounds new_potentials = (new_rounds ≡ rounds) × (new_potentials ≡ potentials)
+ArePut net (found ∷ rest) rounds potentials new_rounds new_potentials =
+    (next_rounds : List ℕ) × (next_potentials : List ℕ) × IsPut net found rounds potentials next_rounds next_potentials × ArePut net rest next_rounds next_potentials new_rounds new_potentials
 
 -- all of these were made, and were put in, one after the other
-pub record AreAllPut (net : Instance) (parts : List (Result (Option Part) AllocError)) (rounds labels new_rounds new_labels : List ℕ) : Type 0 where
+pub record AreAllPut (net : Instance) (parts : List (Result (Option Part) AllocError)) (rounds potentials new_rounds new_potentials : List ℕ) : Type 0 where
   pub founds : List (Option Part)
   pub made : parts ≡ map Ok founds
-  pub put : ArePut net founds rounds labels new_rounds new_labels
+  pub put : ArePut net founds rounds potentials new_rounds new_potentials
 
--- a start has these rounds and labels; there is none only if the rounds don't keep windows and caps
+-- a start has these rounds and potentials; there is none only if the rounds don't keep windows and caps
 abbrev pub IsStartOf : Instance → List ℕ → List ℕ → Option Start → Type 0
-IsStartOf net rounds labels start =
-    MatchOption start (IsAdmissible net (rounds_of rounds) → ⊥) (λ (s : Start). (s.draft.rounds.items ≡ rounds) × (s.labels.labels ≡ map (begun net.most_price) labels))
+IsStartOf net rounds potentials start =
+    MatchOption start (IsAdmissible net (rounds_of rounds) → ⊥) (λ (s : Start). (s.working.rounds.items ≡ rounds) × (s.potentials.potentials ≡ map (begun net.max_price) potentials))
 
--- what comes of parts that were put in, one after the other, over the live rounds and labels 0
+-- what comes of parts that were put in, one after the other, over the live rounds and potentials 0
 pub record IsTogether (net : Instance) (live : ℕ → ℕ) (parts : List (Result (Option Part) AllocError)) (start : Option Start) : Type 0 where
   pub first : List ℕ
   pub lived : (s : ℕ) → s < net.stays → slice_index first s ≡ live s
   pub rounds : List ℕ
-  pub labels : List ℕ
-  pub put : AreAllPut net parts first (replicate (node_count net) 0) rounds labels
-  pub starts : IsStartOf net rounds labels start
+  pub potentials : List ℕ
+  pub put : AreAllPut net parts first (replicate (node_count net) 0) rounds potentials
+  pub starts : IsStartOf net rounds potentials start

@@ -16,11 +16,11 @@ move_arc net f stay round = record {
 
 -- a cell takes one stay more
 abbrev pub take_arc : Instance → ℕ → ℕ → Arc
-take_arc net row round = record { tail = cell net row round; head = above net row round; up = 0; down = 0; mark = None }
+take_arc net resource round = record { tail = cell net resource round; head = above net resource round; up = 0; down = 0; mark = None }
 
 -- a cell gives one stay up
 abbrev pub give_arc : Instance → ℕ → ℕ → Arc
-give_arc net row round = record { tail = above net row round; head = cell net row round; up = 0; down = 0; mark = None }
+give_arc net resource round = record { tail = above net resource round; head = cell net resource round; up = 0; down = 0; mark = None }
 
 -- a stay may move within its window
 pub record IsMove (net : Instance) (f : ℕ → ℕ) (arc : Arc) : Type 0 where
@@ -33,23 +33,23 @@ pub record IsMove (net : Instance) (f : ℕ → ℕ) (arc : Arc) : Type 0 where
 
 -- a cell may take one more while its cap isn't reached
 pub record IsTake (net : Instance) (f : ℕ → ℕ) (arc : Arc) : Type 0 where
-  pub row : ℕ
+  pub resource : ℕ
   pub round : ℕ
-  pub is : arc ≡ take_arc net row round
-  pub within : row < rows net
+  pub is : arc ≡ take_arc net resource round
+  pub within : resource < rows net
   pub first : 1 ≤ round
   pub last : round ≤ net.rounds
-  pub room : load net f row round < net.cap row round
+  pub room : load net f resource round < net.cap resource round
 
 -- a cell may give one up while it has one
 pub record IsGive (net : Instance) (f : ℕ → ℕ) (arc : Arc) : Type 0 where
-  pub row : ℕ
+  pub resource : ℕ
   pub round : ℕ
-  pub is : arc ≡ give_arc net row round
-  pub within : row < rows net
+  pub is : arc ≡ give_arc net resource round
+  pub within : resource < rows net
   pub first : 1 ≤ round
   pub last : round ≤ net.rounds
-  pub some : 0 < load net f row round
+  pub some : 0 < load net f resource round
 
 -- the arcs of what can be changed
 abbrev pub IsResidual : Instance → (ℕ → ℕ) → Arc → Type 0

@@ -1,12 +1,12 @@
-//! Whether a schedule keeps windows and caps. Proved: it is said of each exactly.
+//! Whether a schedule keeps windows and caps. Proved: the answer is exact, for both.
 
 ghost use Rattle.std.specs.Prelude.{◌≡◌, ◌↔◌, ◌+◌, ◌<◌, length, true};
 ghost use Rattle.cost_plan.specs.Words.{rows, instance_of_rows, live_of_rows, IsSound};
 ghost use Rattle.cost_plan.specs.Cells.{rounds_of};
-ghost use Rattle.cost_plan.specs.Draft.{IsDraftOf, schedule_of, KeepWindows, KeepsRow, KeepRows};
+ghost use Rattle.cost_plan.specs.WorkingSchedule.{IsWorkingScheduleOf, schedule_of, KeepWindows, KeepsResource, KeepResources};
 
 use crate::arcs::load;
-use crate::draft::Draft;
+use crate::working_schedule::WorkingSchedule;
 use round_net::Net;
 
 /// Whether each stay lies in its window.
@@ -25,26 +25,26 @@ pub fn keep_windows(net: &Net, rounds: &[u32]) -> bool
 }
 
 /// Whether no cell has more stays than it takes.
-pub fn keep_caps(net: &Net, draft: &Draft) -> bool
-    requires { IsDraftOf (instance_of_rows net.now) draft.now }
-    ensures { (result ≡ true) ↔ KeepRows (instance_of_rows net.now) (schedule_of draft.now) (rows (instance_of_rows net.now)) }
+pub fn keep_caps(net: &Net, working: &WorkingSchedule) -> bool
+    requires { IsWorkingScheduleOf (instance_of_rows net.now) working.now }
+    ensures { (result ≡ true) ↔ KeepResources (instance_of_rows net.now) (schedule_of working.now) (rows (instance_of_rows net.now)) }
 {
-    for row in 0..net.rows() {
-        if !keeps_row(net, draft, row) {
+    for resource in 0..net.rows() {
+        if !keeps_resource(net, working, resource) {
             return false;
         }
     }
     true
 }
 
-// Whether no cell of a row has more stays than it takes.
-fn keeps_row(net: &Net, draft: &Draft, row: u32) -> bool
-    requires draft { IsDraftOf (instance_of_rows net.now) draft.now }
-    requires row { row < rows (instance_of_rows net.now) }
-    ensures { (result ≡ true) ↔ KeepsRow (instance_of_rows net.now) (schedule_of draft.now) row ((instance_of_rows net.now).rounds + 1) }
+// Whether no cell of a resource has more stays than it takes.
+fn keeps_resource(net: &Net, working: &WorkingSchedule, resource: u32) -> bool
+    requires working { IsWorkingScheduleOf (instance_of_rows net.now) working.now }
+    requires resource { resource < rows (instance_of_rows net.now) }
+    ensures { (result ≡ true) ↔ KeepsResource (instance_of_rows net.now) (schedule_of working.now) resource ((instance_of_rows net.now).rounds + 1) }
 {
     for round in 1..net.rounds() + 1 {
-        if load(net, draft, row, round) > net.cap(row, round) {
+        if load(net, working, resource, round) > net.cap(resource, round) {
             return false;
         }
     }

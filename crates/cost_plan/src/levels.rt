@@ -3,43 +3,43 @@
 ghost use Rattle.std.specs.Prelude.{◌≡◌, ◌<◌, ◌≤◌, length, slice_index, IfOk};
 ghost use Rattle.std.specs.Option.{IfSome};
 ghost use Rattle.cost_plan.specs.Words.{rows, instance_of_rows, ProvesBest, pricing_of_rows, IsPricingFor};
-ghost use Rattle.cost_plan.specs.RowPrices.{IsAtMost};
+ghost use Rattle.cost_plan.specs.ResourcePrices.{IsAtMost};
 
 use crate::best_plan::BestPlan;
-use crate::gate::Gate;
-use cam_types::MOST_WEIGHT;
+use crate::plan_progress::PlanProgress;
+use cam_types::MAX_WEIGHT;
 use price_check::{Verdict, check};
 use round_net::{Net, Prices, Schedule};
 use std::alloc::{AllocError, Global};
 use time_levels::{Arrival, Done, Network, Progress, Row};
 
-// Tells a gate how far a plan is.
+// Passes the progress of levels on.
 #[derive(Clone, Copy)]
-struct Told<'a, G> {
-    gate: &'a G,
+struct LevelProgress<'a, G> {
+    progress: &'a G,
 }
 
-impl<G: Gate> Progress for Told<'_, G> {
+impl<G: PlanProgress> Progress for LevelProgress<'_, G> {
     fn level_planned(&self, done: Done) {
-        self.gate.planned(done);
+        self.progress.planned(done);
     }
 }
 
-/// The plan by levels, if there is one and its prices prove it best. That there is one isn't promised. The gate is told of each
+/// The plan by levels, if there is one and its prices prove it best. That there is one isn't promised. The progress gets each
 /// level.
-pub(crate) fn plan_by_levels<G: Gate>(
+pub(crate) fn plan_by_levels<G: PlanProgress>(
     alloc: Global,
     net: &Net,
-    gate: &G,
+    progress: &G,
 ) -> Result<Option<BestPlan>, AllocError>
     ensures proved { IfOk result (λ found. IfSome found (λ best. ProvesBest (instance_of_rows net.now) (slice_index best.schedule) (pricing_of_rows best.prices))) }
     ensures stays { IfOk result (λ found. IfSome found (λ best. length best.schedule ≡ (instance_of_rows net.now).stays)) }
     ensures cells { IfOk result (λ found. IfSome found (λ best. IsPricingFor (instance_of_rows net.now) best.prices)) }
-    ensures small { IfOk result (λ found. IfSome found (λ best. IsAtMost (instance_of_rows net.now) (pricing_of_rows best.prices) (instance_of_rows net.now).most_price)) }
+    ensures small { IfOk result (λ found. IfSome found (λ best. IsAtMost (instance_of_rows net.now) (pricing_of_rows best.prices) (instance_of_rows net.now).max_price)) }
 {
     let mut network = units_of(alloc, net)?;
     let row_of = add_rows(alloc, net, &mut network)?;
-    match time_levels::plan(alloc, &network, &Told { gate })? {
+    match time_levels::plan(alloc, &network, &LevelProgress { progress })? {
         Some(levels) => {
             let rounds = rounds_of(alloc, net, &row_of, &levels.flows)?;
             checked(alloc, net, &rounds, &levels.prices)
@@ -59,7 +59,7 @@ fn checked(
     ensures proved { IfOk result (λ found. IfSome found (λ best. ProvesBest (instance_of_rows net.now) (slice_index best.schedule) (pricing_of_rows best.prices))) }
     ensures stays { IfOk result (λ found. IfSome found (λ best. length best.schedule ≡ (instance_of_rows net.now).stays)) }
     ensures cells { IfOk result (λ found. IfSome found (λ best. IsPricingFor (instance_of_rows net.now) best.prices)) }
-    ensures small { IfOk result (λ found. IfSome found (λ best. IsAtMost (instance_of_rows net.now) (pricing_of_rows best.prices) (instance_of_rows net.now).most_price)) }
+    ensures small { IfOk result (λ found. IfSome found (λ best. IsAtMost (instance_of_rows net.now) (pricing_of_rows best.prices) (instance_of_rows net.now).max_price)) }
 {
     let schedule = Schedule::new(alloc, rounds)?;
     let prices = prices_of(alloc, net, worth)?;
@@ -70,76 +70,76 @@ fn checked(
     }
 }
 
-// The prices of a list that has all rounds of one row after all rounds of another; none above the net's largest.
+// The prices of a list that has all rounds of one resource after all rounds of another; none above the net's largest.
 fn prices_of(alloc: Global, net: &Net, worth: &[u64]) -> Result<Prices, AllocError>
     ensures { IfOk result (λ prices. IsPricingFor (instance_of_rows net.now) prices) }
 {
     let mut prices = Prices::zero(alloc, net)?;
-    for row in 0..net.rows() {
-        price_row(net, &mut prices, worth, row);
+    for resource in 0..net.rows() {
+        price_resource(net, &mut prices, worth, resource);
     }
     Ok(prices)
 }
 
-fn price_row(net: &Net, prices: &mut Prices, worth: &[u64], row: u32)
+fn price_resource(net: &Net, prices: &mut Prices, worth: &[u64], resource: u32)
     requires size { IsPricingFor (instance_of_rows net.now) prices.old }
-    requires row { row < rows (instance_of_rows net.now) }
+    requires resource { resource < rows (instance_of_rows net.now) }
     ensures { IsPricingFor (instance_of_rows net.now) prices.new }
 {
     for round in 1..net.rounds() + 1 {
-        let price = price_at(net, worth, row, round - 1);
-        prices.set(row, round, price).unwrap();
+        let price = price_at(net, worth, resource, round - 1);
+        prices.set(resource, round, price).unwrap();
     }
 }
 
 // The price that stands in the list, or the net's largest if that is less.
-fn price_at(net: &Net, worth: &[u64], row: u32, round: u32) -> u64
-    ensures { result ≤ (instance_of_rows net.now).most_price }
+fn price_at(net: &Net, worth: &[u64], resource: u32, round: u32) -> u64
+    ensures { result ≤ (instance_of_rows net.now).max_price }
 {
-    let price = worth.get(place(net, row, round)).copied().unwrap_or(0);
-    let most = net.most_price();
+    let price = worth.get(place(net, resource, round)).copied().unwrap_or(0);
+    let most = net.max_price();
     if price > most { most } else { price }
 }
 
-// The place of a row and a round, from 0, in a list that has all rounds of one row after all rounds of another.
-fn place(net: &Net, row: u32, round: u32) -> usize {
-    (row as usize)
+// The place of a row and a round, from 0, in a list that has all rounds of one resource after all rounds of another.
+fn place(net: &Net, resource: u32, round: u32) -> usize {
+    (resource as usize)
         .saturating_mul(net.rounds() as usize)
         .saturating_add(round as usize)
 }
 
-// A unit for each row of the net: the devices, the adapters and the links.
+// A unit for each resource of the net: the devices, the adapters and the links.
 fn units_of(alloc: Global, net: &Net) -> Result<Network, AllocError> {
     let mut network = Network::new(alloc, net.rounds());
-    for row in 0..net.rows() {
-        let caps = caps_of(alloc, net, row)?;
-        network.add_unit(above(net, row), &caps)?;
+    for resource in 0..net.rows() {
+        let caps = caps_of(alloc, net, resource)?;
+        network.add_unit(above(net, resource), &caps)?;
     }
     Ok(network)
 }
 
-// What a row takes in each round.
-fn caps_of(alloc: Global, net: &Net, row: u32) -> Result<Vec<u32>, AllocError>
-    requires { row < rows (instance_of_rows net.now) }
+// What a resource takes in each round.
+fn caps_of(alloc: Global, net: &Net, resource: u32) -> Result<Vec<u32>, AllocError>
+    requires { resource < rows (instance_of_rows net.now) }
 {
     let mut caps = Vec::with_capacity(alloc, net.rounds() as usize)?;
     for round in 1..net.rounds() + 1 {
-        caps.push(net.cap(row, round))?;
+        caps.push(net.cap(resource, round))?;
     }
     Ok(caps)
 }
 
-// The row above a row: that of a device's adapter, or of an adapter's link.
-fn above(net: &Net, row: u32) -> Option<u32>
-    requires { row < rows (instance_of_rows net.now) }
+// The resource above a resource: a device's adapter, or an adapter's link.
+fn above(net: &Net, resource: u32) -> Option<u32>
+    requires { resource < rows (instance_of_rows net.now) }
 {
-    if row < net.devices() {
-        return Some(net.adapter_row(net.adapter_of(row)));
+    if resource < net.devices() {
+        return Some(net.adapter_resource(net.adapter_of(resource)));
     }
-    let adapter = row - net.devices();
+    let adapter = resource - net.devices();
     if adapter < net.adapters() {
         let link = net.link_of(adapter)?;
-        return Some(net.link_row(link));
+        return Some(net.link_resource(link));
     }
     None
 }
@@ -149,7 +149,7 @@ fn above(net: &Net, row: u32) -> Option<u32>
 fn add_rows(alloc: Global, net: &Net, network: &mut Network) -> Result<Vec<u32>, AllocError>
     ensures { IfOk result (λ row_of. length row_of.items ≡ (instance_of_rows net.now).stays) }
 {
-    let weights = MOST_WEIGHT as usize + 1;
+    let weights = MAX_WEIGHT as usize + 1;
     let mut numbers = vec![in alloc; None; net.devices() as usize * weights]?;
     let mut row_of = vec![in alloc; 0; net.stays() as usize]?;
     for stay in 0..net.stays() {
@@ -172,9 +172,9 @@ fn add_rows(alloc: Global, net: &Net, network: &mut Network) -> Result<Vec<u32>,
     Ok(row_of)
 }
 
-// How far a row's stays are given rounds: the round, from 0, and how many of its sends are left.
+// The next send of a row: its round, from 0, and how many sends of that round are left.
 #[derive(Clone, Copy)]
-struct Course {
+struct SendCursor {
     round: u32,
     left: u32,
 }
@@ -191,13 +191,13 @@ fn rounds_of(
     ensures { IfOk result (λ rounds. length rounds.items ≡ (instance_of_rows net.now).stays) }
 {
     let most = row_of.iter().copied().max().unwrap_or(0);
-    let mut courses = Vec::new(alloc);
+    let mut cursors = Vec::new(alloc);
     for row in 0..most.saturating_add(1) {
-        courses.push(next_course(net, flows, row, 0))?;
+        cursors.push(next_cursor(net, flows, row, 0))?;
     }
     let mut rounds = vec![in alloc; 0; net.stays() as usize]?;
     let stays = in_order(alloc, net)?;
-    give_rounds(net, row_of, flows, &stays, &mut courses, &mut rounds);
+    give_rounds(net, row_of, flows, &stays, &mut cursors, &mut rounds);
     Ok(rounds)
 }
 
@@ -207,21 +207,21 @@ fn give_rounds(
     row_of: &[u32],
     flows: &[u32],
     stays: &[(u32, u32)],
-    courses: &mut [Course],
+    cursors: &mut [SendCursor],
     rounds: &mut [u32],
 ) {
     for (_, stay) in stays {
         let row = row_of.get(*stay as usize).copied().unwrap_or(0);
-        if let (Some(round), Some(course)) = (
+        if let (Some(round), Some(cursor)) = (
             rounds.get_mut(*stay as usize),
-            courses.get_mut(row as usize),
+            cursors.get_mut(row as usize),
         ) {
-            *round = take_send(net, flows, row, course);
+            *round = take_send(net, flows, row, cursor);
         }
     }
 }
 
-// The stays with their arrivals, in the order of these, and then of birth.
+// The stays with their arrivals, in the order of these, and then in creation order.
 fn in_order(alloc: Global, net: &Net) -> Result<Vec<(u32, u32)>, AllocError> {
     let mut stays = Vec::with_capacity(alloc, net.stays() as usize)?;
     for stay in 0..net.stays() {
@@ -232,28 +232,28 @@ fn in_order(alloc: Global, net: &Net) -> Result<Vec<(u32, u32)>, AllocError> {
 }
 
 // The first round from one on, from 0, in which the row has a send.
-fn next_course(net: &Net, flows: &[u32], row: u32, from: u32) -> Course {
+fn next_cursor(net: &Net, flows: &[u32], row: u32, from: u32) -> SendCursor {
     for round in from..net.rounds() {
         let left = flows.get(place(net, row, round)).copied().unwrap_or(0);
         if left > 0 {
-            return Course { round, left };
+            return SendCursor { round, left };
         }
     }
-    Course {
+    SendCursor {
         round: net.rounds(),
         left: 0,
     }
 }
 
 // The round, from 1, of the row's next send.
-fn take_send(net: &Net, flows: &[u32], row: u32, course: &mut Course) -> u32 {
-    if course.left == 0 {
+fn take_send(net: &Net, flows: &[u32], row: u32, cursor: &mut SendCursor) -> u32 {
+    if cursor.left == 0 {
         return 0;
     }
-    let round = course.round.saturating_add(1);
-    course.left -= 1;
-    if course.left == 0 {
-        *course = next_course(net, flows, row, round);
+    let round = cursor.round.saturating_add(1);
+    cursor.left -= 1;
+    if cursor.left == 0 {
+        *cursor = next_cursor(net, flows, row, round);
     }
     round
 }

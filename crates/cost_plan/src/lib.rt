@@ -1,16 +1,15 @@
-//! A schedule of least cost for a net, with prices that prove it.
+//! A schedule of least cost for a net, with prices that prove it: a minimum cost flow. A guess by successive shortest paths or by
+//! levels of time is improved by cancelling negative cycles (Klein 1967), and the potentials give the prices (linear duality).
 #![tactic(auto)]
 
 pub use best_plan::{BestPlan, guessed_plan, guessed_plan_with, plan, plan_with};
-pub use gate::{Gate, OpenGate};
+pub use plan_progress::{NoPlanProgress, PlanProgress};
 pub use time_levels::Done;
 
 mod arcs;
 mod begin;
 mod best_plan;
 mod cells;
-mod draft;
-mod gate;
 mod keep_live;
 mod keeping;
 mod levels;
@@ -18,9 +17,11 @@ mod one_kind;
 mod part;
 mod part_name;
 mod parts;
+mod plan_progress;
 mod pricing;
 mod problem;
 mod relax;
 mod search;
 mod take_turns;
 mod turn_order;
+mod working_schedule;

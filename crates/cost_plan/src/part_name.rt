@@ -3,7 +3,7 @@
 
 ghost use Rattle.std.specs.Prelude.{◌≡◌, ◌<◌, nat_lt};
 ghost use Rattle.cost_plan.specs.Words.{rows, instance_of_rows};
-ghost use Rattle.cost_plan.specs.Parts.{is_on, least_on, part_of, part_of_stay, part_of_row, before};
+ghost use Rattle.cost_plan.specs.Parts.{is_on, least_on, part_of, part_of_stay, part_of_resource, before};
 
 use round_net::Net;
 
@@ -26,16 +26,16 @@ pub fn part_of_stay(net: &Net, stay: u32) -> u32
     part_of(net, net.adapter(stay))
 }
 
-/// The part of a row. That of a link on which no adapter is, is no adapter's.
-pub fn part_of_row(net: &Net, row: u32) -> u32
-    requires { row < rows (instance_of_rows net.now) }
-    ensures { result ≡ part_of_row (instance_of_rows net.now) row }
+/// The part of a resource. That of a link on which no adapter is, is no adapter's.
+pub fn part_of_resource(net: &Net, resource: u32) -> u32
+    requires { resource < rows (instance_of_rows net.now) }
+    ensures { result ≡ part_of_resource (instance_of_rows net.now) resource }
 {
     let devices = net.devices();
-    if row < devices {
-        return part_of(net, net.adapter_of(row));
+    if resource < devices {
+        return part_of(net, net.adapter_of(resource));
     }
-    let above = row - devices;
+    let above = resource - devices;
     if above < net.adapters() {
         return part_of(net, above);
     }

@@ -4,7 +4,7 @@
 ghost use Rattle.std.specs.Prelude.{◌≡◌, ℕ, ◌<◌, ◌≤◌, true, false, length, slice_index, IfOk};
 ghost use Rattle.std.specs.Result.{OnOk};
 ghost use Rattle.cost_plan.specs.Words.{instance_of_rows, live_of_rows, IsAdmissible, ProvesBest, pricing_of_rows, IsPricingFor};
-ghost use Rattle.cost_plan.specs.RowPrices.{IsAtMost};
+ghost use Rattle.cost_plan.specs.ResourcePrices.{IsAtMost};
 ghost use Rattle.cost_plan.specs.InTurn.{AreAlike, TakesTurns};
 ghost use Rattle.cost_plan.specs.TurnOrder.{IsTurnOrder, AreTurned};
 
@@ -20,11 +20,11 @@ pub(crate) fn take_turns(alloc: Global, net: &Net, best: BestPlan) -> Result<Bes
     requires proved { ProvesBest (instance_of_rows net.now) (slice_index best.schedule) (pricing_of_rows best.prices) }
     requires stays { length best.schedule ≡ (instance_of_rows net.now).stays }
     requires cells { IsPricingFor (instance_of_rows net.now) best.prices }
-    requires small { IsAtMost (instance_of_rows net.now) (pricing_of_rows best.prices) (instance_of_rows net.now).most_price }
+    requires small { IsAtMost (instance_of_rows net.now) (pricing_of_rows best.prices) (instance_of_rows net.now).max_price }
     ensures proved { IfOk result (λ best. ProvesBest (instance_of_rows net.now) (slice_index best.schedule) (pricing_of_rows best.prices)) }
     ensures stays { IfOk result (λ best. length best.schedule ≡ (instance_of_rows net.now).stays) }
     ensures cells { IfOk result (λ best. IsPricingFor (instance_of_rows net.now) best.prices) }
-    ensures small { IfOk result (λ best. IsAtMost (instance_of_rows net.now) (pricing_of_rows best.prices) (instance_of_rows net.now).most_price) }
+    ensures small { IfOk result (λ best. IsAtMost (instance_of_rows net.now) (pricing_of_rows best.prices) (instance_of_rows net.now).max_price) }
     ensures turns { IfOk result (λ best. TakesTurns (instance_of_rows net.now) (live_of_rows net.now) (slice_index best.schedule)) }
 {
     let BestPlan { schedule, prices } = best;

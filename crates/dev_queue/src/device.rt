@@ -3,7 +3,7 @@
 use crate::enter::{enter_each, enter_one};
 use crate::fault::{FreezeOverflow, QueueFull, ReleaseTooMany};
 use crate::waiting::Waiting;
-use cam_types::{MOST_FREEZES, Priority};
+use cam_types::{MAX_FREEZES, Priority};
 use camq_heap::Camq;
 use std::alloc::{AllocError, Global};
 use std::marker::Model;
@@ -248,7 +248,7 @@ impl DevQueue {
         ensures ok { OnOk result (self.new ≡ record self.old { callers = self.old.callers + count }) }
         ensures overflow { OnErr result (self.new ≡ self.old) }
     {
-        if count > MOST_FREEZES - self.callers {
+        if count > MAX_FREEZES - self.callers {
             return Err(FreezeOverflow);
         }
         self.callers += count;

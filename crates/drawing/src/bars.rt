@@ -1,44 +1,44 @@
-//! The bar of a stay in a stretch.
+//! The bar of a stay in a range.
 
 use crate::device_row::Scene;
-use crate::stretch::Stretch;
+use crate::round_range::RoundRange;
 use recording_file::NameKind;
 use std::alloc::{AllocError, Global};
 use wait_causes::{ExplainedStay, InputKind, Wait};
 use wording::{Page, push_number, push_range, push_round, push_rounds};
 
-// How many of a stay's waits are told one by one.
-const TOLD: usize = 8;
+// How many of a stay's waits are listed one by one.
+const LISTED: usize = 8;
 
-/// Puts the bar of the stay at this place on the page: the rounds of this stretch that it waited, the round of its send, and
+/// Puts the bar of the stay at this place on the page: the rounds of this range that it waited, the round of its send, and
 /// the mark where the best schedule sends it. All that is known of it stands where it is sent, or where not all bars are
 /// drawn.
 pub(crate) fn push_bar(
     alloc: Global,
     page: &mut Page,
     scene: &Scene,
-    stretch: &Stretch,
+    range: &RoundRange,
     place: usize,
 ) -> Result<(), AllocError> {
     let Some(stay) = scene.explanation.stays().get(place) else {
         return Ok(());
     };
-    push_begin(page, stretch, stay);
+    push_begin(page, range, stay);
     push_name(page, scene.explanation.kind(), stay);
-    if stretch.has(stay.live) || !scene.has_all {
+    if range.has(stay.live) || !scene.has_all {
         push_hover(page, scene, stay);
         push_waits(page, &scene.explanation.waits(alloc, place)?);
     }
     page.put("</title>");
-    push_waited(page, scene, stretch, stay);
-    push_marks(page, stretch, stay);
+    push_waited(page, scene, range, stay);
+    push_marks(page, range, stay);
     page.put("</g>");
     Ok(())
 }
 
 // Puts the beginning of a bar on the page; where the stay is sent, with the name by which it is linked to.
-fn push_begin(page: &mut Page, stretch: &Stretch, stay: &ExplainedStay) {
-    if stretch.has(stay.live) {
+fn push_begin(page: &mut Page, range: &RoundRange, stay: &ExplainedStay) {
+    if range.has(stay.live) {
         page.parts(
             &[
                 ("<g id='s", u64::from(stay.ccb)),
@@ -65,7 +65,7 @@ pub(crate) fn push_name(page: &mut Page, kind: InputKind, stay: &ExplainedStay) 
     }
 }
 
-// Puts what is said of a stay where the pointer is over it on the page, up to its waits.
+// Puts the text of a stay on the page that is shown if the pointer is over it, up to its waits.
 fn push_hover(page: &mut Page, scene: &Scene, stay: &ExplainedStay) {
     let unit = scene.names.unit();
     page.put(", ");
@@ -99,28 +99,28 @@ fn push_hover(page: &mut Page, scene: &Scene, stay: &ExplainedStay) {
 // Puts the first waits on the page, each with its rounds and cause.
 fn push_waits(page: &mut Page, waits: &[Wait]) {
     let mut is_first = true;
-    for wait in waits.iter().take(TOLD) {
+    for wait in waits.iter().take(LISTED) {
         page.put(if is_first { "\n" } else { ", " });
         push_range(page, wait.first, wait.last);
         page.words(&[" ", wait.cause.name()]);
         is_first = false;
     }
-    if waits.len() > TOLD {
-        let more = waits.len().saturating_sub(TOLD);
+    if waits.len() > LISTED {
+        let more = waits.len().saturating_sub(LISTED);
         page.parts(&[(" and ", more as u64)], " more");
     }
 }
 
-// Puts the rounds of the stretch that the stay waited on the page, if there are some.
-fn push_waited(page: &mut Page, scene: &Scene, stretch: &Stretch, stay: &ExplainedStay) {
-    let first = stay.arrival.max(stretch.first);
-    let end = stay.live.min(stretch.last.saturating_add(1));
+// Puts the rounds of the range that the stay waited on the page, if there are some.
+fn push_waited(page: &mut Page, scene: &Scene, range: &RoundRange, stay: &ExplainedStay) {
+    let first = stay.arrival.max(range.first);
+    let end = stay.live.min(range.last.saturating_add(1));
     if first < end {
         page.parts(
             &[
                 ("<path class='w v", scene.rank(stay.driver)),
                 (" l", u64::from(stay.level)),
-                ("' d='M", u64::from(stretch.offset(first))),
+                ("' d='M", u64::from(range.offset(first))),
                 (" 0h", u64::from(end.saturating_sub(first))),
             ],
             "'/>",
@@ -129,22 +129,20 @@ fn push_waited(page: &mut Page, scene: &Scene, stretch: &Stretch, stay: &Explain
 }
 
 // Puts the marks of the send and of the best schedule's send on the page, with a line to the one if it comes later.
-fn push_marks(page: &mut Page, stretch: &Stretch, stay: &ExplainedStay) {
-    if stretch.has(stay.live) {
-        let sent = u64::from(stretch.offset(stay.live));
+fn push_marks(page: &mut Page, range: &RoundRange, stay: &ExplainedStay) {
+    if range.has(stay.live) {
+        let sent = u64::from(range.offset(stay.live));
         page.parts(&[("<path class='t' d='M", sent)], " 0h1'/>");
         if stay.live < stay.best {
-            let end = stretch
-                .offset(stay.best.min(stretch.last))
-                .saturating_add(1);
+            let end = range.offset(stay.best.min(range.last)).saturating_add(1);
             page.parts(
                 &[("<path class='z' d='M", sent), (" 0H", u64::from(end))],
                 "'/>",
             );
         }
     }
-    if stretch.has(stay.best) {
-        let best = u64::from(stretch.offset(stay.best));
+    if range.has(stay.best) {
+        let best = u64::from(range.offset(stay.best));
         page.parts(&[("<path class='o' d='M", best)], ".5 0h0'/>");
         page.parts(&[("<path class='i' d='M", best)], ".5 0h0'/>");
     }

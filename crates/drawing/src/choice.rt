@@ -1,34 +1,34 @@
-//! Which stretches are drawn.
+//! Which ranges are drawn.
 
-use crate::moment::{Moment, count_of};
-use crate::order::dearest_first;
-use crate::stretch::{MOST_BARS, Stretch, cost_of, cut};
+use crate::order::costliest_first;
+use crate::round_figures::{RoundFigures, count_of};
+use crate::round_range::{MAX_BARS, RoundRange, cost_of, cut};
 use std::alloc::{AllocError, Global};
 use wait_causes::ExplainedStay;
 
-// The least number of rounds of a stretch, and the number where not all stretches are drawn.
+// The least number of rounds of a range, and the number where not all ranges are drawn.
 const LENGTH: u32 = 64;
 
-// The most stretches where all are drawn, and the most bars that they have together: a stay has one in each of its stretches.
-const MOST_STRETCHES: u32 = 16;
+// The most ranges where all are drawn, and the most bars that they have together: a stay has one in each of its ranges.
+const MAX_RANGES: u32 = 16;
 
-const MOST_PIECES: usize = 8_192;
+const MAX_PIECES: usize = 8_192;
 
-// The most stretches where only the dearest are drawn.
-const MOST_DEAREST: usize = 8;
+// The most ranges where only the costliest are drawn.
+const MAX_COSTLIEST: usize = 8;
 
-/// Which stretches are drawn.
+/// Which ranges are drawn.
 #[derive(Clone, Copy, PartialEq)]
 pub(crate) enum Shown {
     /// All.
     All,
     /// Those in which waiting cost most.
-    Dearest,
+    Costliest,
     /// The one that was asked for.
     Asked,
 }
 
-/// The stretches that are drawn.
+/// The ranges that are drawn.
 #[derive(Drop)]
 pub(crate) struct Choice {
     /// Which they are.
@@ -36,149 +36,146 @@ pub(crate) struct Choice {
     /// How many rounds each has, but for the last one.
     pub(crate) length: u32,
     /// They themselves, in order of time.
-    pub(crate) stretches: Vec<Stretch>,
+    pub(crate) ranges: Vec<RoundRange>,
 }
 
 impl Choice {
-    /// Those to be drawn: the one that is asked for, all if there are few stays, or the dearest.
+    /// Those to be drawn: the one that is asked for, all if there are few stays, or the costliest.
     pub(crate) fn of(
         alloc: Global,
-        moments: &[Moment],
+        figures: &[RoundFigures],
         stays: &[ExplainedStay],
         asked: Option<(u32, u32)>,
     ) -> Result<Choice, AllocError> {
         match asked {
-            Some((first, last)) => Choice::asked(alloc, moments, stays, first, last),
-            None if stays.len() <= MOST_BARS => Choice::all(alloc, moments, stays),
-            None => Choice::dearest(alloc, moments, stays),
+            Some((first, last)) => Choice::asked(alloc, figures, stays, first, last),
+            None if stays.len() <= MAX_BARS => Choice::all(alloc, figures, stays),
+            None => Choice::costliest(alloc, figures, stays),
         }
     }
 
     // These rounds.
     fn asked(
         alloc: Global,
-        moments: &[Moment],
+        figures: &[RoundFigures],
         stays: &[ExplainedStay],
         first: u32,
         last: u32,
     ) -> Result<Choice, AllocError> {
-        let mut stretch = Stretch {
+        let mut range = RoundRange {
             first,
             last,
             cost: 0,
             stays: 0,
         };
         let from = (first as usize).saturating_sub(1);
-        if let Some(part) = moments.get(from..(last as usize).min(moments.len())) {
-            stretch.cost = cost_of(part);
+        if let Some(part) = figures.get(from..(last as usize).min(figures.len())) {
+            range.cost = cost_of(part);
         }
-        stretch.stays = stays
-            .iter()
-            .filter(|stay| stretch.has_part_of(stay))
-            .count();
+        range.stays = stays.iter().filter(|stay| range.has_part_of(stay)).count();
         Ok(Choice {
             shown: Shown::Asked,
-            length: stretch.rounds(),
-            stretches: vec![in alloc; stretch; 1]?,
+            length: range.rounds(),
+            ranges: vec![in alloc; range; 1]?,
         })
     }
 
-    // All stretches, as long as they have to be so that few stays have a part in several.
+    // All ranges, as long as they have to be so that few stays have a part in several.
     fn all(
         alloc: Global,
-        moments: &[Moment],
+        figures: &[RoundFigures],
         stays: &[ExplainedStay],
     ) -> Result<Choice, AllocError> {
-        let mut length = LENGTH.max(count_of(moments) / MOST_STRETCHES + 1);
-        let mut stretches = cut(alloc, moments, stays, length)?;
+        let mut length = LENGTH.max(count_of(figures) / MAX_RANGES + 1);
+        let mut ranges = cut(alloc, figures, stays, length)?;
         for _ in 0..16 {
-            if pieces(&stretches) > MOST_PIECES {
+            if pieces(&ranges) > MAX_PIECES {
                 length = length.saturating_mul(2);
-                stretches = cut(alloc, moments, stays, length)?;
+                ranges = cut(alloc, figures, stays, length)?;
             }
         }
         Ok(Choice {
             shown: Shown::All,
             length,
-            stretches,
+            ranges,
         })
     }
 
-    // The dearest stretches, as many as the page has bars for.
-    fn dearest(
+    // The costliest ranges, as many as the page has bars for.
+    fn costliest(
         alloc: Global,
-        moments: &[Moment],
+        figures: &[RoundFigures],
         stays: &[ExplainedStay],
     ) -> Result<Choice, AllocError> {
-        let stretches = cut(alloc, moments, stays, LENGTH)?;
-        let mut kept = Vec::with_capacity(alloc, MOST_DEAREST)?;
+        let ranges = cut(alloc, figures, stays, LENGTH)?;
+        let mut kept = Vec::with_capacity(alloc, MAX_COSTLIEST)?;
         let mut bars = 0usize;
-        for place in by_cost(alloc, &stretches)?.iter().take(MOST_DEAREST) {
-            if let Some(stretch) = stretches.get(*place) {
-                let more = bars.saturating_add(stretch.stays);
-                if kept.is_empty() || more <= MOST_BARS {
+        for place in by_cost(alloc, &ranges)?.iter().take(MAX_COSTLIEST) {
+            if let Some(range) = ranges.get(*place) {
+                let more = bars.saturating_add(range.stays);
+                if kept.is_empty() || more <= MAX_BARS {
                     bars = more;
-                    kept.push(*stretch)?;
+                    kept.push(*range)?;
                 }
             }
         }
         Ok(Choice {
-            shown: Shown::Dearest,
+            shown: Shown::Costliest,
             length: LENGTH,
-            stretches: in_time(alloc, &kept)?,
+            ranges: in_time(alloc, &kept)?,
         })
     }
 
-    /// What the waiting in these stretches cost.
+    /// What the waiting in these ranges cost.
     pub(crate) fn cost(&self) -> u64 {
         let mut cost = 0u64;
-        for stretch in &self.stretches {
-            cost = cost.saturating_add(stretch.cost);
+        for range in &self.ranges {
+            cost = cost.saturating_add(range.cost);
         }
         cost
     }
 
     /// Whether the stay has its whole bar, with its send.
     pub(crate) fn has_bar(&self, stay: &ExplainedStay) -> bool {
-        for stretch in &self.stretches {
-            if stretch.has(stay.live) {
-                return !stretch.is_crowded();
+        for range in &self.ranges {
+            if range.has(stay.live) {
+                return !range.is_crowded();
             }
         }
         false
     }
 }
 
-/// The places of these stretches, the dearest first.
-pub(crate) fn by_cost(alloc: Global, stretches: &[Stretch]) -> Result<Vec<usize>, AllocError> {
-    let mut costs = Vec::with_capacity(alloc, stretches.len())?;
-    for stretch in stretches {
-        costs.push(stretch.cost)?;
+/// The places of these ranges, the costliest first.
+pub(crate) fn by_cost(alloc: Global, ranges: &[RoundRange]) -> Result<Vec<usize>, AllocError> {
+    let mut costs = Vec::with_capacity(alloc, ranges.len())?;
+    for range in ranges {
+        costs.push(range.cost)?;
     }
-    dearest_first(alloc, &costs)
+    costliest_first(alloc, &costs)
 }
 
-// How many bars the stretches have together.
-fn pieces(stretches: &[Stretch]) -> usize {
+// How many bars the ranges have together.
+fn pieces(ranges: &[RoundRange]) -> usize {
     let mut pieces = 0usize;
-    for stretch in stretches {
-        pieces = pieces.saturating_add(stretch.stays);
+    for range in ranges {
+        pieces = pieces.saturating_add(range.stays);
     }
     pieces
 }
 
-// These stretches in order of time.
-fn in_time(alloc: Global, kept: &[Stretch]) -> Result<Vec<Stretch>, AllocError> {
+// These ranges in order of time.
+fn in_time(alloc: Global, kept: &[RoundRange]) -> Result<Vec<RoundRange>, AllocError> {
     let mut firsts = Vec::with_capacity(alloc, kept.len())?;
-    for (place, stretch) in kept.iter().enumerate() {
-        firsts.push((stretch.first, place))?;
+    for (place, range) in kept.iter().enumerate() {
+        firsts.push((range.first, place))?;
     }
     firsts.sort_unstable();
-    let mut stretches = Vec::with_capacity(alloc, kept.len())?;
+    let mut ranges = Vec::with_capacity(alloc, kept.len())?;
     for (_, place) in &firsts {
-        if let Some(stretch) = kept.get(*place) {
-            stretches.push(*stretch)?;
+        if let Some(range) = kept.get(*place) {
+            ranges.push(*range)?;
         }
     }
-    Ok(stretches)
+    Ok(ranges)
 }

@@ -1,19 +1,19 @@
 //! Columns over rounds, the greatest of each bin.
 
-use crate::moment::Moment;
+use crate::round_figures::RoundFigures;
 use wording::Page;
 
 /// The most bins across the overview.
-const MOST_BINS: usize = 240;
+const MAX_BINS: usize = 240;
 
 /// How many rounds a bin has.
-pub(crate) fn bin_rounds(moments: &[Moment]) -> usize {
-    moments.len().div_ceil(MOST_BINS).max(1)
+pub(crate) fn bin_rounds(figures: &[RoundFigures]) -> usize {
+    figures.len().div_ceil(MAX_BINS).max(1)
 }
 
 /// What a column shows of a round.
 #[derive(Clone, Copy)]
-pub(crate) enum Shown {
+pub(crate) enum ColumnValue {
     /// How many waited.
     Waiting,
     /// How many were sent.
@@ -22,22 +22,22 @@ pub(crate) enum Shown {
     Openings,
 }
 
-impl Shown {
+impl ColumnValue {
     /// This of a round.
-    pub(crate) fn of(self, moment: &Moment) -> u64 {
+    pub(crate) fn of(self, figure: &RoundFigures) -> u64 {
         match self {
-            Shown::Waiting => moment.waiting,
-            Shown::Sent => moment.sent,
-            Shown::Openings => moment.openings,
+            ColumnValue::Waiting => figure.waiting,
+            ColumnValue::Sent => figure.sent,
+            ColumnValue::Openings => figure.openings,
         }
     }
 }
 
 /// The greatest of each number of these rounds.
-pub(crate) fn most_of(moments: &[Moment]) -> Moment {
-    let mut most = Moment::none();
-    for moment in moments {
-        most = most.most(*moment);
+pub(crate) fn most_of(figures: &[RoundFigures]) -> RoundFigures {
+    let mut most = RoundFigures::none();
+    for figure in figures {
+        most = most.most(*figure);
     }
     most
 }
@@ -45,15 +45,15 @@ pub(crate) fn most_of(moments: &[Moment]) -> Moment {
 /// Puts a column for each bin into the path that is open: that many pixels high where this is `most`, standing at `base`.
 pub(crate) fn push_columns(
     page: &mut Page,
-    moments: &[Moment],
-    shown: Shown,
+    figures: &[RoundFigures],
+    shown: ColumnValue,
     most: u64,
     base: u64,
     height: u64,
 ) {
-    let each = bin_rounds(moments);
+    let each = bin_rounds(figures);
     let mut first = 0u64;
-    for bin in moments.chunks(each.max(1)) {
+    for bin in figures.chunks(each.max(1)) {
         let width = bin.len() as u64;
         let tall = tall(shown.of(&most_of(bin)), most, height);
         if tall > 0 {
@@ -75,15 +75,15 @@ pub(crate) fn push_columns(
 /// Puts a line over each bin into the path that is open, at the same height.
 pub(crate) fn push_line(
     page: &mut Page,
-    moments: &[Moment],
-    shown: Shown,
+    figures: &[RoundFigures],
+    shown: ColumnValue,
     most: u64,
     base: u64,
     height: u64,
 ) {
-    let each = bin_rounds(moments);
+    let each = bin_rounds(figures);
     let mut is_first = true;
-    for bin in moments.chunks(each.max(1)) {
+    for bin in figures.chunks(each.max(1)) {
         let tall = tall(shown.of(&most_of(bin)), most, height);
         page.put(if is_first { "M0 " } else { "V" });
         page.parts(

@@ -1,11 +1,11 @@
-//! The rows of devices, adapters and links in a stretch.
+//! The rows of devices, adapters and links in a range.
 
 use crate::bars::push_bar;
 use crate::lanes::{Lane, bars_in, lanes_of};
-use crate::loads::{Loads, Owner, STRIP};
+use crate::loads::{LoadOwner, Loads, STRIP};
 use crate::names::Names;
+use crate::round_range::RoundRange;
 use crate::shades::Shades;
-use crate::stretch::Stretch;
 use recording_file::NameKind;
 use round_net::Net;
 use std::alloc::{AllocError, Global};
@@ -43,10 +43,10 @@ impl Scene<'_> {
     }
 }
 
-// A stretch as it is drawn.
+// A range as it is drawn.
 #[derive(Drop)]
 struct Drawn {
-    stretch: Stretch,
+    range: RoundRange,
     // The places of the stays with a bar.
     places: Vec<usize>,
     loads: Loads,
@@ -57,16 +57,23 @@ pub(crate) fn push_rows(
     alloc: Global,
     page: &mut Page,
     scene: &Scene,
-    stretch: Stretch,
+    range: RoundRange,
 ) -> Result<(), AllocError> {
     let stays = scene.explanation.stays();
     let drawn = Drawn {
-        stretch,
-        places: stretch.places(alloc, stays)?,
-        loads: Loads::of(alloc, scene.net, stays, stretch)?,
+        range,
+        places: range.places(alloc, stays)?,
+        loads: Loads::of(alloc, scene.net, stays, range)?,
     };
     for link in 0..scene.net.links() {
-        push_shared(page, scene, &drawn, NameKind::Link, link, Owner::Link(link));
+        push_shared(
+            page,
+            scene,
+            &drawn,
+            NameKind::Link,
+            link,
+            LoadOwner::Link(link),
+        );
     }
     for adapter in 0..scene.net.adapters() {
         push_shared(
@@ -75,7 +82,7 @@ pub(crate) fn push_rows(
             &drawn,
             NameKind::Adapter,
             adapter,
-            Owner::Adapter(adapter),
+            LoadOwner::Adapter(adapter),
         );
         push_devices(alloc, page, scene, &drawn, adapter)?;
     }
@@ -89,7 +96,7 @@ fn push_shared(
     drawn: &Drawn,
     kind: NameKind,
     number: u32,
-    owner: Owner,
+    owner: LoadOwner,
 ) {
     page.put("<div class='row shared'><p class='label'>");
     scene.names.push(page, kind, number);
@@ -108,7 +115,7 @@ fn push_svg(page: &mut Page, drawn: &Drawn, height: u64) {
         &[
             (
                 "<svg xmlns='http://www.w3.org/2000/svg' role='img' preserveAspectRatio='none' viewBox='0 0 ",
-                u64::from(drawn.stretch.rounds()),
+                u64::from(drawn.range.rounds()),
             ),
             (" ", height),
             ("' height='", height),
@@ -158,7 +165,7 @@ fn push_device(
         &[("<g transform='translate(0 ", height.saturating_add(2))],
         ")'>",
     );
-    drawn.loads.push(page, scene.net, Owner::Device(device));
+    drawn.loads.push(page, scene.net, LoadOwner::Device(device));
     page.put("</g></svg></div>\n");
     Ok(())
 }
@@ -181,15 +188,15 @@ fn push_shades(
     device: u32,
     pitch: u64,
 ) -> Result<(), AllocError> {
-    let stretch = drawn.stretch;
-    let shades = Shades::of(alloc, scene.explanation, &drawn.places, device, stretch)?;
+    let range = drawn.range;
+    let shades = Shades::of(alloc, scene.explanation, &drawn.places, device, range)?;
     page.parts(
         &[
-            ("<pattern id='p", u64::from(stretch.first)),
+            ("<pattern id='p", u64::from(range.first)),
             ("-", u64::from(device)),
             (
                 "' patternUnits='userSpaceOnUse' width='",
-                u64::from(stretch.rounds()),
+                u64::from(range.rounds()),
             ),
             ("' height='", pitch),
             ("' patternTransform='translate(0 -", pitch / 2),
@@ -214,10 +221,7 @@ fn push_lanes(
 ) -> Result<(), AllocError> {
     page.parts(
         &[
-            (
-                "<g class='b' stroke='url(#p",
-                u64::from(drawn.stretch.first),
-            ),
+            ("<g class='b' stroke='url(#p", u64::from(drawn.range.first)),
             ("-", u64::from(device)),
             (")' stroke-width='", pitch.saturating_sub(pitch / 4)),
         ],
@@ -227,7 +231,7 @@ fn push_lanes(
     for lane in lanes {
         page.parts(&[("<g transform='translate(0 ", top)], ")'>");
         for place in &lane.places {
-            push_bar(alloc, page, scene, &drawn.stretch, *place)?;
+            push_bar(alloc, page, scene, &drawn.range, *place)?;
         }
         page.put("</g>\n");
         top = top.saturating_add(pitch);

@@ -1,16 +1,16 @@
 //! The page.
 
 use crate::choice::Choice;
-use crate::dearest::push_dearest;
+use crate::costliest::push_costliest;
 use crate::device_row::Scene;
-use crate::foot::push_words;
+use crate::glossary::push_words;
 use crate::legend::ranks;
-use crate::moment::moments;
 use crate::names::Names;
-use crate::order::dearest_first;
+use crate::order::costliest_first;
 use crate::overview::push_overview;
-use crate::section::push_stretches;
-use crate::stretch::MOST_BARS;
+use crate::round_figures::figures;
+use crate::round_range::MAX_BARS;
+use crate::section::push_ranges;
 use crate::style::{HEAD, STYLE};
 use crate::summary::push_summary;
 use crate::tables::{push_freezes, push_tables};
@@ -22,7 +22,7 @@ use wording::Page;
 /// The page on the explanation of a history or a recording beside its net, which any browser opens: sentences on what the
 /// waiting cost, what cost most, an overview of all rounds, bars of stays with the causes of their waiting, tables, and what
 /// the words mean. All costs are weighted rounds. Any text may be the title. There is a bar for each stay if there are at most
-/// 4,096, or for those in the rounds that are asked for, by the first and the last of them, at most 4,096; otherwise for those in the dearest stretches of rounds. Its text is well-formed
+/// 4,096, or for those in the rounds that are asked for, by the first and the last of them, at most 4,096; otherwise for those in the costliest ranges of rounds. Its text is well-formed
 /// XML; of names, characters that XML doesn't allow are left out.
 pub fn draw(
     alloc: Global,
@@ -36,7 +36,7 @@ pub fn draw(
         explanation,
         names: Names::of(alloc, net.config(), explanation)?,
         ranks: ranks(alloc, explanation)?,
-        has_all: rounds.is_none() && explanation.stays().len() <= MOST_BARS,
+        has_all: rounds.is_none() && explanation.stays().len() <= MAX_BARS,
     };
     let mut page = Page::new(alloc);
     push_head(&mut page, &scene, title);
@@ -50,31 +50,31 @@ fn push_head(page: &mut Page, scene: &Scene, title: &str) {
     page.put(HEAD);
     page.escaped(title);
     page.words(&["</title><style>\n", STYLE]);
-    push_labels(page, scene);
+    push_captions(page, scene);
     page.put("</style></head><body><main><h1>");
     page.escaped(title);
     page.put("</h1>\n");
 }
 
-// Puts the labels that the cells of the tables of causes have on a narrow page into the style sheet.
-fn push_labels(page: &mut Page, scene: &Scene) {
+// Puts the captions that the cells of the tables of causes have on a narrow page into the style sheet.
+fn push_captions(page: &mut Page, scene: &Scene) {
     page.put("@media(max-width:1059px){");
     let mut column = 2u64;
     for cause in &scene.explanation.kind().causes() {
         if cause.can_hold(scene.net.config()) {
-            push_label(page, column, cause.name());
+            push_caption(page, column, cause.name());
             column = column.saturating_add(1);
         }
     }
     for word in &["behind less urgent", "behind equal", "behind more urgent"] {
-        push_label(page, column, word);
+        push_caption(page, column, word);
         column = column.saturating_add(1);
     }
     page.put("}\n");
 }
 
-// Puts the label of a column into the style sheet.
-fn push_label(page: &mut Page, column: u64, word: &str) {
+// Puts the caption of a column into the style sheet.
+fn push_caption(page: &mut Page, column: u64, word: &str) {
     page.parts(&[(".costs td:nth-child(", column)], ")::before{content:'");
     page.words(&[word, "'}"]);
 }
@@ -88,12 +88,12 @@ fn push_body(
 ) -> Result<(), AllocError> {
     let whole = scene.explanation.whole(alloc)?;
     let stays = scene.explanation.stays();
-    let moments = moments(alloc, scene.net, stays)?;
-    let choice = Choice::of(alloc, &moments, stays, rounds)?;
+    let figures = figures(alloc, scene.net, stays)?;
+    let choice = Choice::of(alloc, &figures, stays, rounds)?;
     push_top(page, scene, &whole);
-    push_dearest(alloc, page, scene, &choice, &whole)?;
-    push_overview(alloc, page, scene, &choice, &moments, &whole)?;
-    push_stretches(alloc, page, scene, &choice, &whole)
+    push_costliest(alloc, page, scene, &choice, &whole)?;
+    push_overview(alloc, page, scene, &choice, &figures, &whole)?;
+    push_ranges(alloc, page, scene, &choice, &whole)
 }
 
 // Puts the summary on the page.
@@ -118,11 +118,11 @@ fn push_rest(alloc: Global, page: &mut Page, scene: &Scene) -> Result<(), AllocE
     Ok(())
 }
 
-// The places of the freezes, the dearest first.
+// The places of the freezes, the costliest first.
 fn freeze_order(alloc: Global, freezes: &[Freeze]) -> Result<Vec<usize>, AllocError> {
     let mut costs = Vec::with_capacity(alloc, freezes.len())?;
     for freeze in freezes {
         costs.push(freeze.cost)?;
     }
-    dearest_first(alloc, &costs)
+    costliest_first(alloc, &costs)
 }

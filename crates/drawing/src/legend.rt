@@ -1,7 +1,7 @@
 //! How bars are coloured: by cause, by driver or by class.
 
 use crate::device_row::Scene;
-use crate::order::dearest_first;
+use crate::order::costliest_first;
 use crate::words::class_of;
 use recording_file::NameKind;
 use std::alloc::{AllocError, Global};
@@ -21,7 +21,7 @@ const CHOICES: &str = "<fieldset id='colours'><legend>Colour the bars by</legend
 const SWATCH: &str =
     "<li><svg xmlns='http://www.w3.org/2000/svg' aria-hidden='true' width='32' height='14' viewBox='0 0 2 14' preserveAspectRatio='none'><path d='M0 7h2' class='";
 
-// What is said of the marks.
+// The text on the marks.
 const MARKS: &str = "<ul class='legend'>\
 <li><svg xmlns='http://www.w3.org/2000/svg' aria-hidden='true' width='32' height='14'><path class='t' stroke-width='11' d='M10 7h12'/></svg> the round of the send</li>\
 <li><svg xmlns='http://www.w3.org/2000/svg' aria-hidden='true' width='32' height='14'><path class='o' d='M16 7h0'/><path class='i' d='M16 7h0'/></svg> where the best schedule sends it</li>\
@@ -32,7 +32,7 @@ const MARKS: &str = "<ul class='legend'>\
 pub(crate) fn ranks(alloc: Global, explanation: &Explanation) -> Result<Vec<u64>, AllocError> {
     let mut ranks = vec![in alloc; COLOURS as u64; 256]?;
     let rows = explanation.table(alloc, Grouping::Driver)?;
-    for (rank, place) in dearest_rows(alloc, &rows)?.iter().enumerate() {
+    for (rank, place) in costliest_rows(alloc, &rows)?.iter().enumerate() {
         if rank < COLOURS
             && let Some(row) = rows.get(*place)
             && let Some(kept) = ranks.get_mut(row.number as usize)
@@ -43,13 +43,13 @@ pub(crate) fn ranks(alloc: Global, explanation: &Explanation) -> Result<Vec<u64>
     Ok(ranks)
 }
 
-/// The places of these rows, the dearest first.
-pub(crate) fn dearest_rows(alloc: Global, rows: &[Row]) -> Result<Vec<usize>, AllocError> {
+/// The places of these rows, the costliest first.
+pub(crate) fn costliest_rows(alloc: Global, rows: &[Row]) -> Result<Vec<usize>, AllocError> {
     let mut costs = Vec::with_capacity(alloc, rows.len())?;
     for row in rows {
         costs.push(row.part.live)?;
     }
-    dearest_first(alloc, &costs)
+    costliest_first(alloc, &costs)
 }
 
 /// Puts the choice of colours on the page, and what each colour and mark says.
@@ -89,7 +89,7 @@ fn push_cost(page: &mut Page, cost: u64, whole: &Part) {
     page.put(")</li>\n");
 }
 
-// Puts the dearest drivers on the page, and all others together.
+// Puts the costliest drivers on the page, and all others together.
 fn push_drivers(
     alloc: Global,
     page: &mut Page,
@@ -99,7 +99,11 @@ fn push_drivers(
     let rows = scene.explanation.table(alloc, Grouping::Driver)?;
     let mut others = whole.live;
     page.put("<ul class='legend by-driver'>\n");
-    for (rank, place) in dearest_rows(alloc, &rows)?.iter().take(COLOURS).enumerate() {
+    for (rank, place) in costliest_rows(alloc, &rows)?
+        .iter()
+        .take(COLOURS)
+        .enumerate()
+    {
         if let Some(row) = rows.get(*place) {
             page.words(&[SWATCH, "w v"]);
             page.parts(&[("", rank as u64)], "' stroke-width='12'/></svg> ");

@@ -1,7 +1,7 @@
-//! How many of their openings devices, adapters and links used in each round of a stretch.
+//! How many of their openings devices, adapters and links used in each round of a range.
 
+use crate::round_range::RoundRange;
 use crate::shades::cell_rounds;
-use crate::stretch::Stretch;
 use round_net::Net;
 use std::alloc::{AllocError, Global};
 use wait_causes::ExplainedStay;
@@ -12,7 +12,7 @@ pub(crate) const STRIP: u64 = 8;
 
 /// Whose openings a strip shows.
 #[derive(Clone, Copy)]
-pub(crate) enum Owner {
+pub(crate) enum LoadOwner {
     /// The device of this number.
     Device(u32),
     /// The adapter of this number.
@@ -21,13 +21,13 @@ pub(crate) enum Owner {
     Link(u32),
 }
 
-impl Owner {
+impl LoadOwner {
     // The row of its openings: devices come first, then adapters, then links.
     fn row(self, net: &Net) -> u32 {
         match self {
-            Owner::Device(device) => device,
-            Owner::Adapter(adapter) => net.devices().saturating_add(adapter),
-            Owner::Link(link) => net
+            LoadOwner::Device(device) => device,
+            LoadOwner::Adapter(adapter) => net.devices().saturating_add(adapter),
+            LoadOwner::Link(link) => net
                 .devices()
                 .saturating_add(net.adapters())
                 .saturating_add(link),
@@ -40,18 +40,18 @@ impl Owner {
             return 0;
         }
         match self {
-            Owner::Device(device) if device < net.devices() => net.dev_cap(device, round),
-            Owner::Adapter(adapter) if adapter < net.adapters() => net.sim_cap(adapter, round),
-            Owner::Link(link) if link < net.links() => net.link_cap(link, round),
+            LoadOwner::Device(device) if device < net.devices() => net.dev_cap(device, round),
+            LoadOwner::Adapter(adapter) if adapter < net.adapters() => net.sim_cap(adapter, round),
+            LoadOwner::Link(link) if link < net.links() => net.link_cap(link, round),
             _ => 0,
         }
     }
 }
 
-/// How many stays each device, adapter and link sent in each round of a stretch.
+/// How many stays each device, adapter and link sent in each round of a range.
 #[derive(Drop)]
 pub(crate) struct Loads {
-    stretch: Stretch,
+    range: RoundRange,
     counts: Vec<u32>,
 }
 
@@ -72,15 +72,15 @@ impl Loads {
         alloc: Global,
         net: &Net,
         stays: &[ExplainedStay],
-        stretch: Stretch,
+        range: RoundRange,
     ) -> Result<Loads, AllocError> {
-        let cells = (net.rows() as usize).saturating_mul(stretch.rounds() as usize);
+        let cells = (net.rows() as usize).saturating_mul(range.rounds() as usize);
         let mut loads = Loads {
-            stretch,
+            range,
             counts: vec![in alloc; 0; cells]?,
         };
         for stay in stays {
-            if stretch.has(stay.live) {
+            if range.has(stay.live) {
                 loads.note(net, stay);
             }
         }
@@ -88,33 +88,33 @@ impl Loads {
     }
 
     // Where the count of the round stands.
-    fn place(&self, net: &Net, owner: Owner, round: u32) -> usize {
+    fn place(&self, net: &Net, owner: LoadOwner, round: u32) -> usize {
         (owner.row(net) as usize)
-            .saturating_mul(self.stretch.rounds() as usize)
-            .saturating_add(self.stretch.offset(round) as usize)
+            .saturating_mul(self.range.rounds() as usize)
+            .saturating_add(self.range.offset(round) as usize)
     }
 
     // Counts the stay where it was sent.
     fn note(&mut self, net: &Net, stay: &ExplainedStay) {
-        self.add(net, Owner::Device(stay.device), stay.live);
-        self.add(net, Owner::Adapter(stay.adapter), stay.live);
+        self.add(net, LoadOwner::Device(stay.device), stay.live);
+        self.add(net, LoadOwner::Adapter(stay.adapter), stay.live);
         if stay.adapter < net.adapters()
             && let Some(link) = net.link_of(stay.adapter)
         {
-            self.add(net, Owner::Link(link), stay.live);
+            self.add(net, LoadOwner::Link(link), stay.live);
         }
     }
 
     // Counts one more.
-    fn add(&mut self, net: &Net, owner: Owner, round: u32) {
+    fn add(&mut self, net: &Net, owner: LoadOwner, round: u32) {
         let place = self.place(net, owner, round);
         if let Some(count) = self.counts.get_mut(place) {
             *count = count.saturating_add(1);
         }
     }
 
-    /// Puts the strip on the page, with what is said of it.
-    pub(crate) fn push(&self, page: &mut Page, net: &Net, owner: Owner) {
+    /// Puts the strip on the page, with its text.
+    pub(crate) fn push(&self, page: &mut Page, net: &Net, owner: LoadOwner) {
         let mut sum = Sum {
             used: 0,
             openings: 0,
@@ -123,8 +123,8 @@ impl Loads {
             quarters: 0,
         };
         page.put("<path class='used' d='");
-        for before in 0..self.stretch.rounds() {
-            let round = self.stretch.first.saturating_add(before);
+        for before in 0..self.range.rounds() {
+            let round = self.range.first.saturating_add(before);
             sum = self.next(net, owner, round, sum);
             if self.ends_cell(before) {
                 self.push_cell(page, before, sum.quarters);
@@ -132,7 +132,7 @@ impl Loads {
             }
         }
         page.put("'><title>");
-        push_sum(page, &sum, self.stretch.rounds());
+        push_sum(page, &sum, self.range.rounds());
         page.put("</title></path>");
         if sum.is_shut {
             self.push_shut(page, net, owner);
@@ -140,7 +140,7 @@ impl Loads {
     }
 
     // The sum with one more round.
-    fn next(&self, net: &Net, owner: Owner, round: u32, sum: Sum) -> Sum {
+    fn next(&self, net: &Net, owner: LoadOwner, round: u32, sum: Sum) -> Sum {
         let used = self
             .counts
             .get(self.place(net, owner, round))
@@ -160,12 +160,12 @@ impl Loads {
     // Whether a cell ends with this round, from 0 on.
     fn ends_cell(&self, before: u32) -> bool {
         let count = before.saturating_add(1);
-        count == self.stretch.rounds() || count % cell_rounds(&self.stretch).max(1) == 0
+        count == self.range.rounds() || count % cell_rounds(&self.range).max(1) == 0
     }
 
     // Puts the column of the cell that ends with this round on the page.
     fn push_cell(&self, page: &mut Page, before: u32, quarters: u64) {
-        let each = cell_rounds(&self.stretch).max(1);
+        let each = cell_rounds(&self.range).max(1);
         let first = (before / each).saturating_mul(each);
         let height = quarters.saturating_mul(STRIP / 4);
         if height > 0 {
@@ -185,12 +185,12 @@ impl Loads {
     }
 
     // Puts the cells in whose rounds nothing is taken on the page.
-    fn push_shut(&self, page: &mut Page, net: &Net, owner: Owner) {
+    fn push_shut(&self, page: &mut Page, net: &Net, owner: LoadOwner) {
         page.put("<path class='shut' d='");
         let mut run = 0u32;
         let mut is_shut = true;
-        for before in 0..self.stretch.rounds() {
-            is_shut = is_shut && owner.cap(net, self.stretch.first.saturating_add(before)) == 0;
+        for before in 0..self.range.rounds() {
+            is_shut = is_shut && owner.cap(net, self.range.first.saturating_add(before)) == 0;
             run = run.saturating_add(1);
             if self.ends_cell(before) {
                 if is_shut {

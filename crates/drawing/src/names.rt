@@ -5,12 +5,12 @@ use cam_types::Config;
 use recording_file::{NameKind, Span};
 use std::alloc::{AllocError, Global};
 use wait_causes::{Explanation, Grouping};
-use wording::{Labels, Page, push_number};
+use wording::{Captions, Page, push_number};
 
 /// What there is called what, with the paths of devices.
 #[derive(Drop)]
 pub(crate) struct Names<'a> {
-    labels: Labels<'a>,
+    captions: Captions<'a>,
     unit: Option<Span>,
     paths: Vec<String>,
 }
@@ -29,7 +29,7 @@ impl<'a> Names<'a> {
             device = device.saturating_add(1);
         }
         Ok(Names {
-            labels: Labels::of(config, explanation),
+            captions: Captions::of(config, explanation),
             unit: explanation.unit(),
             paths,
         })
@@ -42,7 +42,7 @@ impl<'a> Names<'a> {
 
     /// Puts what is of this kind and number on the page: its name and after it in brackets its number, or that alone.
     pub(crate) fn push(&self, page: &mut Page, kind: NameKind, number: u32) {
-        match self.labels.name(kind, number) {
+        match self.captions.name(kind, number) {
             None => self.push_number(page, kind, number),
             Some(name) => {
                 page.escaped(name);

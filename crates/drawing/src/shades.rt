@@ -1,31 +1,31 @@
 //! The causes of a device's rounds, as the shades that its bars have: all that wait for a device in a round wait for one cause.
 
-use crate::stretch::Stretch;
+use crate::round_range::RoundRange;
 use crate::words::class_of;
 use std::alloc::{AllocError, Global};
-use wait_causes::{Cause, ExplainedStay, Explanation, InputKind, Wait};
+use wait_causes::{ExplainedStay, Explanation, InputKind, Wait, WaitCause};
 use wording::Page;
 
-// The most rounds of a stretch that have a cell each, and the most cells across a longer one.
-const MOST_ROUNDS: u32 = 512;
+// The most rounds of a range that have a cell each, and the most cells across a longer one.
+const MAX_ROUNDS: u32 = 512;
 
-const MOST_CELLS: u32 = 128;
+const MAX_CELLS: u32 = 128;
 
-/// How many rounds of the stretch a cell stands for.
-pub(crate) fn cell_rounds(stretch: &Stretch) -> u32 {
-    if stretch.rounds() <= MOST_ROUNDS {
+/// How many rounds of the range a cell stands for.
+pub(crate) fn cell_rounds(range: &RoundRange) -> u32 {
+    if range.rounds() <= MAX_ROUNDS {
         1
     } else {
-        stretch.rounds().div_ceil(MOST_CELLS)
+        range.rounds().div_ceil(MAX_CELLS)
     }
 }
 
 /// The causes of a device's rounds: of each cell that of its first round in which a stay that is drawn waited.
 #[derive(Drop)]
 pub(crate) struct Shades {
-    stretch: Stretch,
+    range: RoundRange,
     each: u32,
-    causes: Vec<Option<Cause>>,
+    causes: Vec<Option<WaitCause>>,
 }
 
 impl Shades {
@@ -35,12 +35,12 @@ impl Shades {
         explanation: &Explanation,
         places: &[usize],
         device: u32,
-        stretch: Stretch,
+        range: RoundRange,
     ) -> Result<Shades, AllocError> {
-        let each = cell_rounds(&stretch);
-        let cells = stretch.rounds().div_ceil(each.max(1)) as usize;
+        let each = cell_rounds(&range);
+        let cells = range.rounds().div_ceil(each.max(1)) as usize;
         let mut shades = Shades {
-            stretch,
+            range,
             each,
             causes: vec![in alloc; None; cells]?,
         };
@@ -55,14 +55,14 @@ impl Shades {
         Ok(shades)
     }
 
-    // The cells of these rounds, as far as they are in the stretch.
+    // The cells of these rounds, as far as they are in the range.
     fn cells(&self, first: u32, last: u32) -> (usize, usize) {
         let (first, last) = (
-            first.max(self.stretch.first),
-            last.min(self.stretch.last).saturating_add(1),
+            first.max(self.range.first),
+            last.min(self.range.last).saturating_add(1),
         );
-        let from = self.stretch.offset(first) / self.each.max(1);
-        let to = self.stretch.offset(last).div_ceil(self.each.max(1));
+        let from = self.range.offset(first) / self.each.max(1);
+        let to = self.range.offset(last).div_ceil(self.each.max(1));
         (from as usize, to as usize)
     }
 
@@ -81,7 +81,7 @@ impl Shades {
     // Gives the cells of these waits their causes, unless they have one.
     fn fill(&mut self, waits: &[Wait]) {
         for wait in waits {
-            if wait.first <= self.stretch.last && self.stretch.first <= wait.last {
+            if wait.first <= self.range.last && self.range.first <= wait.last {
                 let (from, to) = self.cells(wait.first, wait.last);
                 shade(&mut self.causes, from, to, wait.cause);
             }
@@ -96,7 +96,7 @@ impl Shades {
     }
 
     // Puts the cells of a cause on the page, if there are some.
-    fn push_cause(&self, page: &mut Page, cause: Cause) {
+    fn push_cause(&self, page: &mut Page, cause: WaitCause) {
         let mut is_open = false;
         let mut run = 0u32;
         let mut at = 0u32;
@@ -120,12 +120,12 @@ impl Shades {
     }
 
     // Puts a run of cells of a cause that ends before this one on the page, in the path that is open, or in a new one.
-    fn push_run(&self, page: &mut Page, cause: Cause, is_open: bool, end: u32, cells: u32) {
+    fn push_run(&self, page: &mut Page, cause: WaitCause, is_open: bool, end: u32, cells: u32) {
         if !is_open {
             page.words(&["<path class='", class_of(cause), "' d='"]);
         }
         let from = end.saturating_sub(cells).saturating_mul(self.each);
-        let to = end.saturating_mul(self.each).min(self.stretch.rounds());
+        let to = end.saturating_mul(self.each).min(self.range.rounds());
         page.parts(
             &[
                 ("M", u64::from(from)),
@@ -137,7 +137,7 @@ impl Shades {
 }
 
 // Gives those of the cells from one place up to another that have no cause this one.
-fn shade(cells: &mut [Option<Cause>], from: usize, to: usize, cause: Cause) {
+fn shade(cells: &mut [Option<WaitCause>], from: usize, to: usize, cause: WaitCause) {
     for cell in cells.iter_mut().take(to).skip(from) {
         if cell.is_none() {
             *cell = Some(cause);

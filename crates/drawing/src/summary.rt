@@ -2,7 +2,7 @@
 
 use crate::names::Names;
 use cam_types::Config;
-use wait_causes::{Cause, InputKind, Part};
+use wait_causes::{InputKind, Part, WaitCause};
 use wording::{Page, push_number, push_numbers, push_rounds, push_share, push_signed};
 
 /// Puts the sentences and totals on the page.
@@ -20,7 +20,7 @@ pub(crate) fn push_summary(
     page.put("</p>\n");
     if whole.live > 0 {
         page.put("<p>");
-        push_dearest_cause(page, kind, whole);
+        push_costliest_cause(page, kind, whole);
         push_behind(page, whole);
         page.put("</p>\n");
     }
@@ -57,17 +57,17 @@ fn push_avoidable(page: &mut Page, whole: &Part) {
 }
 
 // Says which cause cost most.
-fn push_dearest_cause(page: &mut Page, kind: InputKind, whole: &Part) {
-    let mut dearest = (Cause::NotAsked, 0);
+fn push_costliest_cause(page: &mut Page, kind: InputKind, whole: &Part) {
+    let mut costliest = (WaitCause::NotAsked, 0);
     for (cause, cost) in &whole.costs.by_cause(kind) {
-        if *cost > dearest.1 {
-            dearest = (*cause, *cost);
+        if *cost > costliest.1 {
+            costliest = (*cause, *cost);
         }
     }
-    page.words(&["Of the causes <b>", dearest.0.name(), "</b> cost most: "]);
-    push_number(page, dearest.1);
+    page.words(&["Of the causes <b>", costliest.0.name(), "</b> cost most: "]);
+    push_number(page, costliest.1);
     page.put(", ");
-    push_share(page, dearest.1, whole.live);
+    push_share(page, costliest.1, whole.live);
     page.put(". ");
 }
 

@@ -1,7 +1,7 @@
 //! The tables of parts and freezes.
 
 use crate::device_row::Scene;
-use crate::legend::dearest_rows;
+use crate::legend::costliest_rows;
 use crate::words::freeze_words;
 use recording_file::NameKind;
 use std::alloc::{AllocError, Global};
@@ -35,7 +35,7 @@ pub(crate) fn push_tables(alloc: Global, page: &mut Page, scene: &Scene) -> Resu
         (Grouping::Level, "levels", "class (run level)"),
     ] {
         let rows = scene.explanation.table(alloc, *by)?;
-        let order = dearest_rows(alloc, &rows)?;
+        let order = costliest_rows(alloc, &rows)?;
         push_waits(page, scene, *by, &rows, &order, [*id, *name]);
         push_costs(page, scene, *by, &rows, &order, [*id, *name]);
     }
@@ -161,7 +161,7 @@ fn push_cost(page: &mut Page, scene: &Scene, part: &Part) {
 // How many freezes are listed.
 const LISTED: usize = 100;
 
-/// Puts the table of the dearest freezes on the page, if there are some.
+/// Puts the table of the costliest freezes on the page, if there are some.
 pub(crate) fn push_freezes(page: &mut Page, scene: &Scene, freezes: &[Freeze], order: &[usize]) {
     if freezes.is_empty() {
         return;

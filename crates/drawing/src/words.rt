@@ -1,20 +1,20 @@
 //! The words and classes of causes and freezes.
 
-use wait_causes::{Cause, FreezeKind};
+use wait_causes::{FreezeKind, WaitCause};
 
 /// The class by which the style sheet knows a cause.
-pub(crate) fn class_of(cause: Cause) -> &'static str {
+pub(crate) fn class_of(cause: WaitCause) -> &'static str {
     match cause {
-        Cause::Error => "er",
-        Cause::Caller => "ca",
-        Cause::AdapterFrozen => "az",
-        Cause::DeviceStopped => "ds",
-        Cause::AdapterStopped => "as",
-        Cause::LinkStopped => "ls",
-        Cause::DeviceFull => "df",
-        Cause::AdapterFull => "af",
-        Cause::LinkFull => "lf",
-        Cause::NotAsked => "na",
+        WaitCause::Error => "er",
+        WaitCause::Caller => "ca",
+        WaitCause::AdapterFrozen => "az",
+        WaitCause::DeviceStopped => "ds",
+        WaitCause::AdapterStopped => "as",
+        WaitCause::LinkStopped => "ls",
+        WaitCause::DeviceFull => "df",
+        WaitCause::AdapterFull => "af",
+        WaitCause::LinkFull => "lf",
+        WaitCause::NotAsked => "na",
     }
 }
 

@@ -2,8 +2,8 @@
 use Rattle.std.proofs.Common.{◌≡◌, ℕ, ◌+◌, ◌≤◌, Bool, true, false, cond, List, [], ◌∷◌, ◌++◌, refl, ap, ◌∙◌, arith, Option, Some, append-nil, append_assoc, ◌&&◌, ◌||◌, not, count_by, option_and_then}
 use Rattle.std.specs.List.{list_any}
 use Rattle.std.proofs.lemmas.List.Folds.{list_any-append}
-use Rattle.cam_types.specs.Lists.{moments}
-use Rattle.cam_types.proofs.ListLemmas.{moments-push}
+use Rattle.cam_types.specs.Lists.{prefixed}
+use Rattle.cam_types.proofs.ListLemmas.{prefixed-push}
 use Rattle.sense_class.specs.Classes.{is_counted, kind_of}
 use Rattle.event_rules.specs.Event.{is_some_and, is_done_of, is_requeue_of, outcome_of, ends, Event}
 use Rattle.event_rules.specs.Counts.{last, last_result, is_counted_requeue, counted_requeues}
@@ -28,7 +28,7 @@ last_result-push es e c = ap (option_and_then outcome_of) (last-push (is_done_of
 
 pub counted_requeues-push : (es : List Event) (e : Event) (c : ℕ) → counted_requeues (es ++ e ∷ []) c ≡ counted_requeues es c + cond (is_counted_requeue c (es, e)) 1 0
 unfolding counted_requeues
-counted_requeues-push es e c = rw moments-push (count_by-push (is_counted_requeue c) (moments es) (es, e))
+counted_requeues-push es e c = rw prefixed-push (count_by-push (is_counted_requeue c) (prefixed es) (es, e))
 
 pub requeues-push : (es : List Event) (e : Event) (c : ℕ) → count_by (is_requeue_of c) (es ++ e ∷ []) ≡ count_by (is_requeue_of c) es + cond (is_requeue_of c e) 1 0
 requeues-push es e c = count_by-push (is_requeue_of c) es e

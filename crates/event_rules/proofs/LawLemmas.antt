@@ -3,9 +3,9 @@ use Rattle.std.proofs.Common.{◌≡◌, ℕ, ◌<◌, ◌≤◌, Bool, true, fa
 use Rattle.std.specs.List.{list_all}
 use Rattle.std.proofs.lemmas.Bool.{and_parts, and_from, eqb-true, ltb-true, lt-ltb}
 use Rattle.std.proofs.lemmas.List.Folds.{list_all-append}
-use Rattle.cam_types.specs.Lists.{moments}
+use Rattle.cam_types.specs.Lists.{prefixed}
 use Rattle.cam_types.specs.Topology.{Topology}
-use Rattle.cam_types.proofs.ListLemmas.{moments-push}
+use Rattle.cam_types.proofs.ListLemmas.{prefixed-push}
 use Rattle.sense_class.specs.Classes.{kind_of, is_counted, class_of, asks_requeue}
 use Rattle.sense_class.specs.declared.class.Kind.{Kind}
 use Rattle.sense_class.specs.declared.class.Kind.TheVariants.{Good, Free, Counted, Recovered, Other}
@@ -16,7 +16,7 @@ use Rattle.event_rules.specs.Counts.{last_result, is_counted_requeue, counted_re
 use Rattle.cam_types.specs.Questions.{names_device, names_lane}
 use Rattle.event_rules.specs.Legal.{Rules, history_rules, IsWithinHistory, names_ccb, has_ccb, has_stay, is_next, is_allowed, is_legal_event, is_legal}
 use Rattle.cam_types.specs.declared.flags.Flags.{Flags}
-use Rattle.cam_types.specs.declared.maxima.TheConstants.{MOST_PRIORITY, MOST_RETRIES}
+use Rattle.cam_types.specs.declared.limits.TheConstants.{MAX_PRIORITY, MAX_RETRIES}
 use Rattle.event_rules.specs.Laws.{stands_free, last_class, is_counted_class, is_requeue_by_class}
 use Rattle.event_rules.proofs.TestLemmas.{list_all-weaker}
 use Rattle.event_rules.proofs.SendLemmas.{send_from_next}
@@ -24,7 +24,7 @@ use Rattle.event_rules.proofs.SendLemmas.{send_from_next}
 -- one legal event more keeps a list legal
 pub legal-push : (rules : Rules) (c : Topology) (events : List Event) (event : Event) → is_legal rules c events ≡ true → is_legal_event rules c (events, event) ≡ true → is_legal rules c (events ++ event ∷ []) ≡ true
 unfolding is_legal
-legal-push rules c events event legal here = rw (moments-push, list_all-append) (and_from _ _ legal (and_from _ _ here refl))
+legal-push rules c events event legal here = rw (prefixed-push, list_all-append) (and_from _ _ legal (and_from _ _ here refl))
 
 -- the limits that a legal event keeps
 pub allowed-legal_event : (rules : Rules) (c : Topology) (before : List Event) (event : Event) → is_legal_event rules c (before, event) ≡ true → (length before < rules.events) × (is_allowed rules c before event ≡ true)
@@ -45,9 +45,9 @@ free_legal : (rules : Rules) (c : Topology) (m : List Event × Event) → is_leg
 free_legal rules c (before, Send lane ccb) h = free_send rules c before lane ccb h
 free_legal rules c (before, _) h = refl
 
-pub sends_stand_free : (rules : Rules) (c : Topology) (events : List Event) → is_legal rules c events ≡ true → list_all (stands_free c) (moments events) ≡ true
+pub sends_stand_free : (rules : Rules) (c : Topology) (events : List Event) → is_legal rules c events ≡ true → list_all (stands_free c) (prefixed events) ≡ true
 unfolding is_legal
-sends_stand_free rules c events h = list_all-weaker (is_legal_event rules c) (stands_free c) (moments events) (free_legal rules c) h
+sends_stand_free rules c events h = list_all-weaker (is_legal_event rules c) (stands_free c) (prefixed events) (free_legal rules c) h
 
 -- of a class that asks for a requeue, the result counts where the class does
 counted_class : (counted retries : ℕ) (kind : Kind) → asks_requeue (class_of counted retries kind) ≡ true → is_counted kind ≡ is_counted_class (class_of counted retries kind)
@@ -91,9 +91,9 @@ counted_by_class : (rules : Rules) (c : Topology) (ccb : ℕ) (m : List Event ×
 counted_by_class rules c ccb (before, Requeue n) h = requeue_by_class rules c ccb before n h
 counted_by_class rules c ccb (before, _) h = refl
 
-pub requeues_count_by_class : (rules : Rules) (c : Topology) (events : List Event) (ccb : ℕ) → is_legal rules c events ≡ true → filter (is_counted_requeue ccb) (moments events) ≡ filter (is_requeue_by_class ccb) (moments events)
+pub requeues_count_by_class : (rules : Rules) (c : Topology) (events : List Event) (ccb : ℕ) → is_legal rules c events ≡ true → filter (is_counted_requeue ccb) (prefixed events) ≡ filter (is_requeue_by_class ccb) (prefixed events)
 unfolding is_legal
-requeues_count_by_class rules c events ccb h = filter-same (is_legal_event rules c) (is_counted_requeue ccb) (is_requeue_by_class ccb) (moments events) (counted_by_class rules c ccb) h
+requeues_count_by_class rules c events ccb h = filter-same (is_legal_event rules c) (is_counted_requeue ccb) (is_requeue_by_class ccb) (prefixed events) (counted_by_class rules c ccb) h
 
 -- a lesser limit that is kept keeps a larger one
 below_more : (n least most : ℕ) → least ≤ most → nat_lt n least ≡ true → nat_lt n most ≡ true
@@ -102,7 +102,7 @@ below_more n least most le h = let lt = ltb-true n least h in lt-ltb n most (ome
 -- what narrower rules allow, a history's do
 allowed_submit : (rules : Rules) (c : Topology) (before : List Event) (driver device priority retries : ℕ) (flags : Flags) → IsWithinHistory rules → is_allowed rules c before (Submit driver device priority retries flags) ≡ true → is_allowed history_rules c before (Submit driver device priority retries flags) ≡ true
 allowed_submit rules c before driver device priority retries flags w h =
-    let named = names_device c device && nat_le priority MOST_PRIORITY && nat_le retries MOST_RETRIES in
+    let named = names_device c device && nat_le priority MAX_PRIORITY && nat_le retries MAX_RETRIES in
     let one = and_parts (named && has_ccb rules before) (has_stay rules before) h in
     let two = and_parts named (has_ccb rules before) one.0 in
     and_from _ _ (and_from _ _ two.0 refl) (below_more _ _ _ w.stays one.1)
@@ -134,4 +134,4 @@ legal_event-history rules c (before, event) w h =
 
 pub narrower_is_legal : (rules : Rules) (c : Topology) (events : List Event) → IsWithinHistory rules → is_legal rules c events ≡ true → is_legal history_rules c events ≡ true
 unfolding is_legal
-narrower_is_legal rules c events w h = list_all-weaker (is_legal_event rules c) (is_legal_event history_rules c) (moments events) (λ m. legal_event-history rules c m w) h
+narrower_is_legal rules c events w h = list_all-weaker (is_legal_event rules c) (is_legal_event history_rules c) (prefixed events) (λ m. legal_event-history rules c m w) h

@@ -3,7 +3,7 @@ use Rattle.std.proofs.Common.{◌≡◌, ℕ, ◌+◌, ◌<◌, ◌≤◌, true,
 use Rattle.std.specs.List.{list_all}
 use Rattle.std.proofs.lemmas.Bool.{and_parts, and_from, ltb-true}
 use Rattle.std.proofs.lemmas.List.{take-append-drop, drop_more}
-use Rattle.cam_types.specs.Lists.{moments_after}
+use Rattle.cam_types.specs.Lists.{prefixed_after}
 use Rattle.cam_types.specs.Topology.{Topology}
 use Rattle.event_rules.specs.Counts.{round, has_in_flight, is_recovering, wants_requeue}
 use Rattle.event_rules.specs.Stays.{stays_begun, stay_begun, Passage}
@@ -12,14 +12,14 @@ use Rattle.event_rules.proofs.PushLaws.{round-push, stays_begun-push}
 use Rattle.cam_types.specs.Questions.{names_device}
 use Rattle.event_rules.specs.Legal.{Rules, history_rules, names_ccb, has_ccb, has_stay, is_legal_event, is_legal}
 use Rattle.cam_types.specs.declared.flags.Flags.{Flags}
-use Rattle.cam_types.specs.declared.maxima.TheConstants.{MOST_PRIORITY, MOST_RETRIES, MOST_ROUNDS, MOST_STAYS}
+use Rattle.cam_types.specs.declared.limits.TheConstants.{MAX_PRIORITY, MAX_RETRIES, MAX_ROUNDS, MAX_STAYS}
 use Rattle.event_rules.proofs.LawLemmas.{allowed-legal_event}
 
 -- what a legal event leads to, where it holds before it, holds after all of a legal list
-pub legal-induction : (rules : Rules) (c : Topology) (P : List Event → Type 0) → ((before : List Event) (event : Event) → is_legal_event rules c (before, event) ≡ true → P before → P (before ++ event ∷ [])) → (before after : List Event) → list_all (is_legal_event rules c) (moments_after before after) ≡ true → P before → P (before ++ after)
+pub legal-induction : (rules : Rules) (c : Topology) (P : List Event → Type 0) → ((before : List Event) (event : Event) → is_legal_event rules c (before, event) ≡ true → P before → P (before ++ event ∷ [])) → (before after : List Event) → list_all (is_legal_event rules c) (prefixed_after before after) ≡ true → P before → P (before ++ after)
 legal-induction rules c P step before [] legal h = rw (append-nil before) h
 legal-induction rules c P step before (event ∷ after) legal h =
-    let parts = and_parts (is_legal_event rules c (before, event)) (list_all (is_legal_event rules c) (moments_after (before ++ event ∷ []) after)) legal in
+    let parts = and_parts (is_legal_event rules c (before, event)) (list_all (is_legal_event rules c) (prefixed_after (before ++ event ∷ []) after)) legal in
     rw (← append_assoc before (event ∷ []) after) (legal-induction rules c P step (before ++ event ∷ []) after parts.1 (step before event parts.0 h))
 
 -- a tick opens a round that there may be
@@ -42,7 +42,7 @@ one_more ps (Some p) most lt = omega (arith, length-append ps (p ∷ []))
 pub room_submit : (rules : Rules) (c : Topology) (before : List Event) (driver device priority retries : ℕ) (flags : Flags) → is_legal_event rules c (before, Submit driver device priority retries flags) ≡ true → length (stays_begun before) < rules.stays
 room_submit rules c before driver device priority retries flags legal =
     let asked = (allowed-legal_event rules c before (Submit driver device priority retries flags) legal).1 in
-    let named = names_device c device && nat_le priority MOST_PRIORITY && nat_le retries MOST_RETRIES && has_ccb rules before in
+    let named = names_device c device && nat_le priority MAX_PRIORITY && nat_le retries MAX_RETRIES && has_ccb rules before in
     ltb-true _ _ (and_parts named (has_stay rules before) asked).1
 
 pub room_requeue : (rules : Rules) (c : Topology) (before : List Event) (ccb : ℕ) → is_legal_event rules c (before, Requeue ccb) ≡ true → length (stays_begun before) < rules.stays
@@ -64,18 +64,18 @@ unfolding is_legal stays_begun
 stays-legal rules c events legal = legal-induction rules c (λ es. length (stays_begun es) ≤ rules.stays) (stays_step rules c) [] events legal (omega arith)
 
 -- a history's last round, and how many stays it has
-pub round_most : (c : Topology) (events : List Event) → is_legal history_rules c events ≡ true → round events ≤ MOST_ROUNDS
+pub round_most : (c : Topology) (events : List Event) → is_legal history_rules c events ≡ true → round events ≤ MAX_ROUNDS
 round_most c events legal = round-legal history_rules c events (omega arith) legal
 
 pub round_first : (events : List Event) → 1 ≤ round events
 unfolding round
 round_first events = omega arith
 
-pub stays_most : (c : Topology) (events : List Event) → is_legal history_rules c events ≡ true → length (stays_begun events) ≤ MOST_STAYS
+pub stays_most : (c : Topology) (events : List Event) → is_legal history_rules c events ≡ true → length (stays_begun events) ≤ MAX_STAYS
 stays_most c events legal = stays-legal history_rules c events legal
 
 -- the front of a legal list is legal, and so is what follows it
-legal-parts : (rules : Rules) (c : Topology) (before front back : List Event) → list_all (is_legal_event rules c) (moments_after before (front ++ back)) ≡ true → (list_all (is_legal_event rules c) (moments_after before front) ≡ true) × (list_all (is_legal_event rules c) (moments_after (before ++ front) back) ≡ true)
+legal-parts : (rules : Rules) (c : Topology) (before front back : List Event) → list_all (is_legal_event rules c) (prefixed_after before (front ++ back)) ≡ true → (list_all (is_legal_event rules c) (prefixed_after before front) ≡ true) × (list_all (is_legal_event rules c) (prefixed_after (before ++ front) back) ≡ true)
 legal-parts rules c before [] back legal = (refl, rw (append-nil before) legal)
 legal-parts rules c before (event ∷ front) back legal =
     let parts = and_parts (is_legal_event rules c (before, event)) _ legal in

@@ -3,7 +3,7 @@ use Rattle.std.proofs.Common.{◌≡◌, ℕ, ◌+◌, ◌<◌, ◌≤◌, Bool,
 use Rattle.std.specs.List.{filter_map, cons_option, range_with_len}
 use Rattle.std.proofs.lemmas.List.Elements.{filter_map-append, All-nil, All-cons, All-head, All-tail}
 use Rattle.std.proofs.lemmas.List.Sums.{sum_by-append, sum_by-cons}
-use Rattle.cam_types.specs.Lists.{moments_after}
+use Rattle.cam_types.specs.Lists.{prefixed_after}
 
 -- a filter takes one more
 filter_map-one : {Y : Type 0} → (o : Option Y) → cons_option o [] ≡ option_to_list o
@@ -41,20 +41,20 @@ pub filter-both : {X : Type 0} → (p q : X → Bool) (xs : List X) → filter (
 filter-both p q [] = refl
 filter-both p q (x ∷ xs) = both_cases (p x) q x (filter p xs) (filter (λ y. p y && q y) xs) (filter-both p q xs)
 
--- what holds of each answer at a moment holds of all answers
+-- what holds of each answer, given the events before it, holds of all answers
 All-cons_option : {Y : Type 0} → (P : Y → Type 0) (o : Option Y) (ys : List Y) → ((y : Y) → o ≡ Some y → P y) → All P ys → All P (cons_option o ys)
 All-cons_option P None ys h a = a
 All-cons_option P (Some y) ys h a = All-cons P y ys (h y refl) a
 
-pub All-filter_map-moments : {X Y : Type 0} → (P : Y → Type 0) (f : List X × X → Option Y) (n : ℕ) → ((before : List X) (x : X) (y : Y) → length before < n → f (before, x) ≡ Some y → P y) → (before xs : List X) → length before + length xs ≤ n → All P (filter_map f (moments_after before xs))
-All-filter_map-moments P f n h before [] le = All-nil P
-All-filter_map-moments P f n h before (x ∷ xs) le =
-    All-cons_option P (f (before, x)) (filter_map f (moments_after (before ++ x ∷ []) xs)) (λ y e. h before x y (omega arith) e)
-    (All-filter_map-moments P f n h (before ++ x ∷ []) xs (omega (arith, length-append before (x ∷ []))))
+pub All-filter_map-prefixed : {X Y : Type 0} → (P : Y → Type 0) (f : List X × X → Option Y) (n : ℕ) → ((before : List X) (x : X) (y : Y) → length before < n → f (before, x) ≡ Some y → P y) → (before xs : List X) → length before + length xs ≤ n → All P (filter_map f (prefixed_after before xs))
+All-filter_map-prefixed P f n h before [] le = All-nil P
+All-filter_map-prefixed P f n h before (x ∷ xs) le =
+    All-cons_option P (f (before, x)) (filter_map f (prefixed_after (before ++ x ∷ []) xs)) (λ y e. h before x y (omega arith) e)
+    (All-filter_map-prefixed P f n h (before ++ x ∷ []) xs (omega (arith, length-append before (x ∷ []))))
 
-pub length-moments_after : {X : Type 0} → (before xs : List X) → length (moments_after before xs) ≡ length xs
-length-moments_after before [] = refl
-length-moments_after before (x ∷ xs) = omega (arith, length-moments_after (before ++ x ∷ []) xs)
+pub length-prefixed_after : {X : Type 0} → (before xs : List X) → length (prefixed_after before xs) ≡ length xs
+length-prefixed_after before [] = refl
+length-prefixed_after before (x ∷ xs) = omega (arith, length-prefixed_after (before ++ x ∷ []) xs)
 
 -- a filter that all pass keeps all
 pub filter-all : {X : Type 0} → (p : X → Bool) → ((x : X) → p x ≡ true) → (xs : List X) → filter p xs ≡ xs

@@ -76,7 +76,7 @@ pub record IsHead (c : Topology) (events : List Event) (a d : ℕ) : Type 0 wher
 
 turn_stands : (c : Topology) (events : List Event) (a d : ℕ) → link_has_opening c events a ≡ true → turn c events a ≡ Some d → IsHead c events a d
 unfolding turn
-turn_stands c events a d way h =
+turn_stands c events a d clear h =
     let takes = λ (n : ℕ). is_on c a n && is_ready c events n in
     let turns = filter takes (devices c) in
     elim ((adapter_freezes events a == 0) && adapter_has_opening c events a) as (λ b. ((adapter_freezes events a == 0) && adapter_has_opening c events a) ≡ b → cond b (least_by (turn_key events) turns) None ≡ Some d → IsHead c events a d) [
@@ -84,22 +84,22 @@ turn_stands c events a d way h =
           let free = and_parts (adapter_freezes events a == 0) (adapter_has_opening c events a) e in
           let one = in_found _ turns d g in
           let parts = and_parts (is_on c a d) (is_ready c events d) (passes-all d turns takes one.0 (list_all-filter takes (devices c))) in
-          record { on = parts.0; ready = parts.1; adapter_free = free.0; adapter_opening = free.1; link_opening = way; turn_is = h }
+          record { on = parts.0; ready = parts.1; adapter_free = free.0; adapter_opening = free.1; link_opening = clear; turn_is = h }
       | false ↦ λ e g. absurd cc
     ] refl h
 
 pub head_stands : (c : Topology) (events : List Event) (a d : ℕ) → head c events a ≡ Some d → IsHead c events a d
 unfolding head
 head_stands c events a d h = elim (link_has_opening c events a) as (λ b. link_has_opening c events a ≡ b → cond b (turn c events a) None ≡ Some d → IsHead c events a d) [
-  | true ↦ λ way g. turn_stands c events a d way g
-  | false ↦ λ way g. absurd cc
+  | true ↦ λ clear g. turn_stands c events a d clear g
+  | false ↦ λ clear g. absurd cc
 ] refl h
 
 -- an adapter that is free has a head where one of its devices is ready
 pub is_some-head : (c : Topology) (events : List Event) (a d : ℕ) → is_on c a d ≡ true → is_ready c events d ≡ true → (adapter_freezes events a == 0) ≡ true → adapter_has_opening c events a ≡ true
     → link_has_opening c events a ≡ true → is_some (head c events a) ≡ true
 unfolding head turn
-is_some-head c events a d on ready free left way =
+is_some-head c events a d on ready free left clear =
     let takes = λ (n : ℕ). is_on c a n && is_ready c events n in
     let there = elim (slice_get c.devices d) as (λ o. slice_get c.devices d ≡ o → option_map_or (λ (device : Device). device.bus == a) o false ≡ true → d < length c.devices) [
       | None ↦ λ e g. absurd cc
@@ -107,9 +107,9 @@ is_some-head c events a d on ready free left way =
     ] refl on in
     let at : get_or (devices c) d 0 ≡ d = get_or-range_with_len 0 (length c.devices) d 0 there ∙ zero-add d in
     let some = list_any_at takes (devices c) d 0 (omega (arith, there, length-range_with_len 0 (length c.devices))) (ap takes at ∙ and_from _ _ on ready) in
-    rw (way, and_from _ _ free left) (is_some-least_by-filter (turn_key events) takes (devices c) ∙ some)
+    rw (clear, and_from _ _ free left) (is_some-least_by-filter (turn_key events) takes (devices c) ∙ some)
 
--- what is said of an adapter's next stay
+-- what holds of an adapter's next stay
 pub record IsNextStay (c : Topology) (events : List Event) (a : ℕ) (p : Passage) : Type 0 where
   pub of_its_ccb : is_of_its_ccb events p ≡ true
   pub queued : has_queued events p.ccb ≡ true

@@ -5,12 +5,12 @@ use Rattle.std.proofs.lemmas.List.{drop-append-le, drop_all}
 use Rattle.std.proofs.lemmas.List.Elements.{filter-append, All-weaker}
 use Rattle.std.proofs.lemmas.List.Folds.{list_any-append}
 use Rattle.std.proofs.lemmas.List.Sums.{count_by-le-length}
-use Rattle.cam_types.specs.Lists.{moments}
-use Rattle.cam_types.proofs.ListLemmas.{moments-push}
+use Rattle.cam_types.specs.Lists.{prefixed}
+use Rattle.cam_types.proofs.ListLemmas.{prefixed-push}
 use Rattle.event_rules.specs.Event.{is_tick, is_send_of, submission_of, Event, Submit, Requeue}
 use Rattle.event_rules.specs.Counts.{round, submissions, submission, sendings, sending_of, Submission}
 use Rattle.event_rules.specs.Stays.{stays_begun, stay_begun, is_unsent, waiting, Passage}
-use Rattle.event_rules.proofs.ListFacts.{filter_map-push, count_by-push, filter-same, filter-both, All-filter_map-moments, length-filter_map, length-moments_after}
+use Rattle.event_rules.proofs.ListFacts.{filter_map-push, count_by-push, filter-same, filter-both, All-filter_map-prefixed, length-filter_map, length-prefixed_after}
 
 pub submissions-push : (es : List Event) (e : Event) → submissions (es ++ e ∷ []) ≡ submissions es ++ option_to_list (submission_of e)
 unfolding submissions
@@ -18,11 +18,11 @@ submissions-push es e = filter_map-push submission_of es e
 
 pub stays_begun-push : (es : List Event) (e : Event) → stays_begun (es ++ e ∷ []) ≡ stays_begun es ++ option_to_list (stay_begun (es, e))
 unfolding stays_begun
-stays_begun-push es e = rw moments-push (filter_map-push stay_begun (moments es) (es, e))
+stays_begun-push es e = rw prefixed-push (filter_map-push stay_begun (prefixed es) (es, e))
 
 pub sendings-push : (es : List Event) (e : Event) → sendings (es ++ e ∷ []) ≡ sendings es ++ option_to_list (sending_of (es, e))
 unfolding sendings
-sendings-push es e = rw moments-push (filter_map-push sending_of (moments es) (es, e))
+sendings-push es e = rw prefixed-push (filter_map-push sending_of (prefixed es) (es, e))
 
 pub round-push : (es : List Event) (e : Event) → round (es ++ e ∷ []) ≡ round es + cond (is_tick e) 1 0
 unfolding round
@@ -44,7 +44,7 @@ place-stay_begun (before, _) p e = absurd (cc)
 -- each stay begins at a place of the history
 pub places-stays_begun : (es : List Event) → All (λ (p : Passage). p.place < length es) (stays_begun es)
 unfolding stays_begun
-places-stays_begun es = All-filter_map-moments (λ (p : Passage). p.place < length es) stay_begun (length es)
+places-stays_begun es = All-filter_map-prefixed (λ (p : Passage). p.place < length es) stay_begun (length es)
     (λ before x p lt e. let at : p.place ≡ length before = place-stay_begun (before, x) p e in omega arith) [] es (omega arith)
 
 -- a stay that began before is without a send where it was and the event doesn't send it
@@ -87,7 +87,7 @@ few_rounds es = omega (arith, count_by-le-length is_tick es)
 
 pub few_stays : (es : List Event) → length (stays_begun es) ≤ length es
 unfolding stays_begun
-few_stays es = omega (arith, length-filter_map stay_begun (moments es), length-moments_after [] es)
+few_stays es = omega (arith, length-filter_map stay_begun (prefixed es), length-prefixed_after [] es)
 
 pub few_commands : (es : List Event) → length (submissions es) ≤ length es
 unfolding submissions

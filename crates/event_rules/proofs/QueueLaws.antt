@@ -6,7 +6,7 @@ use Rattle.event_rules.specs.Counts.{round, submission, Submission}
 use Rattle.std.specs.List.{list_all, filter_map, cons_option}
 use Rattle.std.proofs.lemmas.Bool.{and_parts, and_from}
 use Rattle.std.proofs.lemmas.Bool.Decides.{nat_tests}
-use Rattle.cam_types.specs.Lists.{moments, moments_after}
+use Rattle.cam_types.specs.Lists.{prefixed, prefixed_after}
 use Rattle.event_rules.specs.Stays.{stays_begun, stay_begun, is_unsent, waiting, is_at, queue, queue_key, first, Passage}
 use Rattle.event_rules.specs.Sorted.{insert_by, sorted_by}
 use Rattle.event_rules.proofs.PushLaws.{round-push, waiting-push, place-stay_begun}
@@ -95,10 +95,10 @@ module _ (test : Passage → Bool) where
 
   pub all_begun : (good : List Event → Type 0) → ((before : List Event) (e : Event) → good before → good (before ++ e ∷ [])) →
       ((before : List Event) (e : Event) (p : Passage) → good before → stay_begun (before, e) ≡ Some p → test p ≡ true) →
-      (before xs : List Event) → good before → list_all test (filter_map stay_begun (moments_after before xs)) ≡ true
+      (before xs : List Event) → good before → list_all test (filter_map stay_begun (prefixed_after before xs)) ≡ true
   all_begun good more holds before [] g = refl
   all_begun good more holds before (x ∷ xs) g =
-      kept_stay (stay_begun (before, x)) (filter_map stay_begun (moments_after (before ++ x ∷ []) xs)) (λ p e. holds before x p g e) (all_begun good more holds (before ++ x ∷ []) xs (more before x g))
+      kept_stay (stay_begun (before, x)) (filter_map stay_begun (prefixed_after (before ++ x ∷ []) xs)) (λ p e. holds before x p g e) (all_begun good more holds (before ++ x ∷ []) xs (more before x g))
 
 -- the stays begin one after another
 pub le_test : (a b : ℕ) → a ≤ b → nat_le a b ≡ true
@@ -107,7 +107,7 @@ le_test a b h = grind (arith, nat_tests)
 pub test_le : (a b : ℕ) → nat_le a b ≡ true → a ≤ b
 test_le a b h = grind (arith, nat_tests)
 
-pub begun_from : (n : ℕ) (before xs : List Event) → n ≤ length before → list_all (λ (p : Passage). nat_le n p.place) (filter_map stay_begun (moments_after before xs)) ≡ true
+pub begun_from : (n : ℕ) (before xs : List Event) → n ≤ length before → list_all (λ (p : Passage). nat_le n p.place) (filter_map stay_begun (prefixed_after before xs)) ≡ true
 begun_from n before xs le =
     all_begun (λ (p : Passage). nat_le n p.place) (λ es. n ≤ length es) (λ es e h. omega (arith, h, length-append es (e ∷ [])))
     (λ es e p h is. let at : p.place ≡ length es = place-stay_begun (es, e) p is in le_test n p.place (omega (arith, h))) before xs le
@@ -132,28 +132,28 @@ apart_cases n None ps at h k = k
 apart_cases n (Some p) ps at h k =
     and_from _ _ (apart_behind p ps (rw (at p refl) h)) k
 
-apart_after : (before xs : List Event) → all_apart queue_key (filter_map stay_begun (moments_after before xs)) ≡ true
+apart_after : (before xs : List Event) → all_apart queue_key (filter_map stay_begun (prefixed_after before xs)) ≡ true
 apart_after before [] = refl
 apart_after before (x ∷ xs) =
-    apart_cases (length before) (stay_begun (before, x)) (filter_map stay_begun (moments_after (before ++ x ∷ []) xs)) (λ p e. place-stay_begun (before, x) p e)
+    apart_cases (length before) (stay_begun (before, x)) (filter_map stay_begun (prefixed_after (before ++ x ∷ []) xs)) (λ p e. place-stay_begun (before, x) p e)
     (begun_from (length before + 1) (before ++ x ∷ []) xs (omega (arith, length-append before (x ∷ [])))) (apart_after (before ++ x ∷ []) xs)
 
 -- the keys of all stays differ
 pub all_apart-waiting : (es : List Event) → all_apart queue_key (waiting es) ≡ true
 unfolding waiting stays_begun
-all_apart-waiting es = apart-filter queue_key (is_unsent es) (filter_map stay_begun (moments es)) (apart_after [] es)
+all_apart-waiting es = apart-filter queue_key (is_unsent es) (filter_map stay_begun (prefixed es)) (apart_after [] es)
 
 -- each stay has arrived, or arrives in the next round
-arrived_by : (es xs : List Event) (n : ℕ) → round (es ++ xs) ≤ n → list_all (λ (p : Passage). nat_le p.arrival (n + 1)) (filter_map stay_begun (moments_after es xs)) ≡ true
+arrived_by : (es xs : List Event) (n : ℕ) → round (es ++ xs) ≤ n → list_all (λ (p : Passage). nat_le p.arrival (n + 1)) (filter_map stay_begun (prefixed_after es xs)) ≡ true
 arrived_by es [] n le = refl
 arrived_by es (x ∷ xs) n le =
-    kept_stay (λ (p : Passage). nat_le p.arrival (n + 1)) (stay_begun (es, x)) (filter_map stay_begun (moments_after (es ++ x ∷ []) xs))
+    kept_stay (λ (p : Passage). nat_le p.arrival (n + 1)) (stay_begun (es, x)) (filter_map stay_begun (prefixed_after (es ++ x ∷ []) xs))
     (λ p e. le_test p.arrival (n + 1) (omega (arith, arrival-stay_begun (es, x) p e, round-more es (x ∷ xs), le)))
     (arrived_by (es ++ x ∷ []) xs n (rw (append_assoc es (x ∷ []) xs) le))
 
 pub arrived-waiting : (es : List Event) → list_all (λ (p : Passage). nat_le p.arrival (round es + 1)) (waiting es) ≡ true
 unfolding waiting stays_begun
-arrived-waiting es = all-filter queue_key (λ (p : Passage). nat_le p.arrival (round es + 1)) (is_unsent es) (filter_map stay_begun (moments es)) (arrived_by [] es (round es) (omega arith))
+arrived-waiting es = all-filter queue_key (λ (p : Passage). nat_le p.arrival (round es + 1)) (is_unsent es) (filter_map stay_begun (prefixed es)) (arrived_by [] es (round es) (omega arith))
 
 -- in the next round those wait that are queued, and those that arrive then
 parted_stay : (a : Bool) (arrival r : ℕ) → arrival ≤ r + 1 →

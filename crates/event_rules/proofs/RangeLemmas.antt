@@ -5,7 +5,7 @@ use Rattle.std.proofs.lemmas.Bool.{and_parts, and_from}
 use Rattle.std.proofs.lemmas.List.Folds.{list_all-append}
 use Rattle.cam_types.specs.Topology.{Topology}
 use Rattle.cam_types.specs.declared.flags.Flags.{Flags}
-use Rattle.cam_types.specs.declared.maxima.TheConstants.{MOST_PRIORITY, MOST_RETRIES}
+use Rattle.cam_types.specs.declared.limits.TheConstants.{MAX_PRIORITY, MAX_RETRIES}
 use Rattle.event_rules.specs.Event.{is_some_and, Event, Submit}
 use Rattle.event_rules.specs.Counts.{submissions, submission, Submission}
 use Rattle.event_rules.specs.Stays.{stays_begun, Passage}
@@ -18,10 +18,10 @@ use Rattle.event_rules.proofs.LawLemmas.{allowed-legal_event}
 use Rattle.event_rules.proofs.LimitLemmas.{legal-induction}
 use Rattle.event_rules.proofs.StayLemmas.{is_of_its_ccb, of_its_ccb-stays_begun}
 
-pub range_submit : (rules : Rules) (c : Topology) (before : List Event) (driver device priority retries : ℕ) (flags : Flags) → is_legal_event rules c (before, Submit driver device priority retries flags) ≡ true → (names_device c device && nat_le priority MOST_PRIORITY && nat_le retries MOST_RETRIES) ≡ true
+pub range_submit : (rules : Rules) (c : Topology) (before : List Event) (driver device priority retries : ℕ) (flags : Flags) → is_legal_event rules c (before, Submit driver device priority retries flags) ≡ true → (names_device c device && nat_le priority MAX_PRIORITY && nat_le retries MAX_RETRIES) ≡ true
 range_submit rules c before driver device priority retries flags legal =
     let asked = (allowed-legal_event rules c before (Submit driver device priority retries flags) legal).1 in
-    let named = names_device c device && nat_le priority MOST_PRIORITY && nat_le retries MOST_RETRIES in
+    let named = names_device c device && nat_le priority MAX_PRIORITY && nat_le retries MAX_RETRIES in
     (and_parts named (has_ccb rules before) (and_parts (named && has_ccb rules before) (has_stay rules before) asked).0).0
 
 -- one more in range keeps all in range

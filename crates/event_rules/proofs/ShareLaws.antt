@@ -1,4 +1,4 @@
--- counts of the CCBs that stand in some way, where one event more changes how one of them stands
+-- counts of the CCBs in a state, if one more event changes the state of one of them
 use Rattle.std.proofs.Common.{◌≡◌, ◌≢◌, ℕ, zero, suc, ◌+◌, ◌-◌, ◌<◌, ◌≤◌, Bool, true, false, cond, List, [], ◌∷◌, ◌++◌, length, refl, sym, ap, ◌∙◌, arith, Some, None, append-nil, add-zero, zero-add, length-append, not, ◌==◌, ◌&&◌, ◌||◌, count_by, option_to_list, slice_get}
 use Rattle.std.specs.List.{range_with_len}
 use Rattle.std.proofs.lemmas.Bool.Decides.{nat_tests}

@@ -98,7 +98,7 @@ unsent-push es e n =
 abbrev pub is_held : List Event → ℕ → Bool
 is_held es n = nat_lt n (commands es) && not (list_any (ends n) es)
 
--- it stands in one way where that is so, and else in none
+-- it is in one state if that is so, and otherwise in none
 pub record IsPlaced (es : List Event) (n : ℕ) : Type 0 where
   pub place : unsent_count es n + bit (is_in_flight es n) + bit (is_recovering es n) ≡ bit (is_held es n)
 

@@ -8,7 +8,7 @@ use Rattle.std.proofs.Math.ListN.{get_or-append}
 use Rattle.std.proofs.Math.Seq.{get_or-append_seam}
 use Rattle.std.proofs.lemmas.Option.{slice_get_within, slice_get-get_or, get_or_from_slice_get}
 use Rattle.std.proofs.lemmas.Bool.{and_from, eq-eqb}
-use Rattle.cam_types.specs.Lists.{moments_after}
+use Rattle.cam_types.specs.Lists.{prefixed_after}
 use Rattle.event_rules.specs.Event.{is_some_and, submission_of, Event, Submit, Requeue}
 use Rattle.event_rules.specs.Counts.{submissions, submission, commands, Submission}
 use Rattle.event_rules.specs.Stays.{stays_begun, stay_begun, Passage}
@@ -71,12 +71,12 @@ of_its_ccb-stay_begun before after (Requeue ccb) p h =
 of_its_ccb-stay_begun before after _ p h = absurd cc
 
 -- the stays that events begin after others
-of_its_ccb-after : (before after : List Event) → list_all (is_of_its_ccb (before ++ after)) (filter_map stay_begun (moments_after before after)) ≡ true
+of_its_ccb-after : (before after : List Event) → list_all (is_of_its_ccb (before ++ after)) (filter_map stay_begun (prefixed_after before after)) ≡ true
 of_its_ccb-after before [] = refl
 of_its_ccb-after before (event ∷ after) =
-    let rest : list_all (is_of_its_ccb (before ++ event ∷ after)) (filter_map stay_begun (moments_after (before ++ event ∷ []) after)) ≡ true =
+    let rest : list_all (is_of_its_ccb (before ++ event ∷ after)) (filter_map stay_begun (prefixed_after (before ++ event ∷ []) after)) ≡ true =
     rw append_assoc at (of_its_ccb-after (before ++ event ∷ []) after) in
-    elim (stay_begun (before, event)) as (λ o. stay_begun (before, event) ≡ o → list_all (is_of_its_ccb (before ++ event ∷ after)) (cons_option o (filter_map stay_begun (moments_after (before ++ event ∷ []) after))) ≡ true) [
+    elim (stay_begun (before, event)) as (λ o. stay_begun (before, event) ≡ o → list_all (is_of_its_ccb (before ++ event ∷ after)) (cons_option o (filter_map stay_begun (prefixed_after (before ++ event ∷ []) after))) ≡ true) [
       | None ↦ λ _. rest
       | Some p ↦ λ e. and_from _ _ (of_its_ccb-stay_begun before after event p e) rest
     ] refl

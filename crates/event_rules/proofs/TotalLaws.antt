@@ -3,7 +3,7 @@ use Rattle.std.proofs.Common.{◌≡◌, ◌≢◌, ℕ, ◌+◌, ◌-◌, ◌<�
 use Rattle.std.specs.List.{range_with_len, filter_map, cons_option}
 use Rattle.std.proofs.lemmas.Bool.Decides.{nat_tests}
 use Rattle.std.proofs.lemmas.List.Sums.{sum_by-cons, length-filter, count_by-le-length}
-use Rattle.cam_types.specs.Lists.{moments_after}
+use Rattle.cam_types.specs.Lists.{prefixed_after}
 use Rattle.event_rules.specs.Event.{is_send_of, is_requeue_of, submission_of, Event, Submit, Send, Requeue}
 use Rattle.event_rules.specs.Counts.{round, commands, ccbs, submission, submissions, is_in_flight, Submission}
 use Rattle.event_rules.specs.Stays.{stays_begun, stay_begun, waiting, is_unsent, Passage}
@@ -104,13 +104,13 @@ length_cases : (x : Passage) (xs : List Passage) (b : Bool) → length (cond b (
 length_cases x xs true = omega arith
 length_cases x xs false = omega arith
 
-one_way : (a b : ℕ) → ◌≡◌ {A = ℕ} (cond (not (a == b)) 1 0 + cond (b == a) 1 0) 1
-one_way a b = grind (arith, nat_tests)
+one_comes_first : (a b : ℕ) → ◌≡◌ {A = ℕ} (cond (not (a == b)) 1 0 + cond (b == a) 1 0) 1
+one_comes_first a b = grind (arith, nat_tests)
 
 sent_parts : (ccb : ℕ) (ps : List Passage) → length (filter (not_of ccb) ps) + count_by (is_of ccb) ps ≡ length ps
 sent_parts ccb [] = refl
 sent_parts ccb (p ∷ ps) =
-    omega (arith, length_cases p (filter (not_of ccb) ps) (not_of ccb p), one_way ccb p.ccb, sent_parts ccb ps, sum_by-cons (λ (x : Passage). cond (is_of ccb x) 1 0) p ps)
+    omega (arith, length_cases p (filter (not_of ccb) ps) (not_of ccb p), one_comes_first ccb p.ccb, sent_parts ccb ps, sum_by-cons (λ (x : Passage). cond (is_of ccb x) 1 0) p ps)
 
 pub waiting-send : (es : List Event) (lane ccb : ℕ) → unsent_count es ccb ≡ 1 → length (waiting (es ++ Send lane ccb ∷ [])) ≡ length (waiting es) - 1
 waiting-send es lane ccb one =
@@ -130,9 +130,9 @@ begins_stay before (Requeue ccb) ss ps le = elim (submission before ccb) as (λ 
 begins_stay before (Send lane ccb) ss ps le = le
 begins_stay before _ ss ps le = le
 
-begin_after : (before xs : List Event) → length (filter_map submission_of xs) ≤ length (filter_map stay_begun (moments_after before xs))
+begin_after : (before xs : List Event) → length (filter_map submission_of xs) ≤ length (filter_map stay_begun (prefixed_after before xs))
 begin_after before [] = omega arith
-begin_after before (x ∷ xs) = begins_stay before x (filter_map submission_of xs) (filter_map stay_begun (moments_after (before ++ x ∷ []) xs)) (begin_after (before ++ x ∷ []) xs)
+begin_after before (x ∷ xs) = begins_stay before x (filter_map submission_of xs) (filter_map stay_begun (prefixed_after (before ++ x ∷ []) xs)) (begin_after (before ++ x ∷ []) xs)
 
 pub commands-stays : (es : List Event) → commands es ≤ length (stays_begun es)
 unfolding submissions stays_begun

@@ -7,7 +7,7 @@ use Rattle.std.proofs.lemmas.List.{reverse-append}
 use Rattle.std.proofs.lemmas.List.Elements.{All-nil, All-cons, All-head, All-tail}
 use Rattle.std.proofs.lemmas.List.Sums.{sum_by-append, sum_by-cons}
 use Rattle.std.proofs.Math.Bool.{and-false, and-true}
-use Rattle.cam_types.specs.Lists.{moments_after}
+use Rattle.cam_types.specs.Lists.{prefixed_after}
 use Rattle.event_rules.specs.Event.{is_some_and, is_tick, Event, Send, Tick}
 use Rattle.event_rules.specs.Counts.{round, submission, sendings, sending_of, goes_to, Submission, Sending}
 use Rattle.event_rules.specs.Head.{last_sent}
@@ -55,10 +55,10 @@ kept_round : (n : ℕ) (o : Option Sending) (ss : List Sending) → ((s : Sendin
 kept_round n None ss h a = a
 kept_round n (Some s) ss h a = All-cons (λ (x : Sending). x.round ≤ n) s ss (h s refl) a
 
-rounds_after : (before xs : List Event) → All (λ (s : Sending). s.round ≤ round (before ++ xs)) (filter_map sending_of (moments_after before xs))
+rounds_after : (before xs : List Event) → All (λ (s : Sending). s.round ≤ round (before ++ xs)) (filter_map sending_of (prefixed_after before xs))
 rounds_after before [] = All-nil _
 rounds_after before (x ∷ xs) =
-    kept_round (round (before ++ x ∷ xs)) (sending_of (before, x)) (filter_map sending_of (moments_after (before ++ x ∷ []) xs))
+    kept_round (round (before ++ x ∷ xs)) (sending_of (before, x)) (filter_map sending_of (prefixed_after (before ++ x ∷ []) xs))
     (λ s is. omega (arith, round-sending_of (before, x) s is, round-more before (x ∷ xs)))
     (rw (← append_assoc before (x ∷ []) xs) (rounds_after (before ++ x ∷ []) xs))
 

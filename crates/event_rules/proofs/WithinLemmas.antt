@@ -5,7 +5,7 @@ use Rattle.std.specs.Option.{option_map_or}
 use Rattle.std.proofs.lemmas.Bool.{and_parts, ltb-true}
 use Rattle.std.proofs.lemmas.List.Sums.{sum_by-cons}
 use Rattle.cam_types.specs.Topology.{Topology}
-use Rattle.cam_types.specs.declared.maxima.TheConstants.{MOST_PRIORITY, MOST_RETRIES}
+use Rattle.cam_types.specs.declared.limits.TheConstants.{MAX_PRIORITY, MAX_RETRIES}
 use Rattle.event_rules.specs.Event.{ends, submission_of, Event, Submit}
 use Rattle.event_rules.specs.Counts.{commands, submissions, ccbs, alive, Submission}
 use Rattle.event_rules.proofs.CcbLaws.{not_ended-push}
@@ -66,7 +66,7 @@ counted_by rules es e (Some s) is h has most counts = omega (arith, alive-submit
 asks_ccb : (rules : Rules) (c : Topology) (es : List Event) (e : Event) (s : Submission) → is_legal_event rules c (es, e) ≡ true → submission_of e ≡ Some s → has_ccb rules es ≡ true
 asks_ccb rules c es (Submit driver device priority retries flags) s legal is =
     let asked = (allowed-legal_event rules c es (Submit driver device priority retries flags) legal).1 in
-    let named = names_device c device && nat_le priority MOST_PRIORITY && nat_le retries MOST_RETRIES in
+    let named = names_device c device && nat_le priority MAX_PRIORITY && nat_le retries MAX_RETRIES in
     (and_parts named (has_ccb rules es) (and_parts (named && has_ccb rules es) (has_stay rules es) asked).0).1
 asks_ccb rules c es _ s legal is = absurd (cc)
 

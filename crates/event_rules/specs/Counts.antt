@@ -2,7 +2,7 @@
 use Rattle.std.specs.Prelude.{ℕ, ◌+◌, ◌-◌, ◌==◌, Bool, not, ◌&&◌, List, length, Option, None, slice_get, count_by, sum_by, find, reverse, option_and_then}
 use Rattle.std.specs.List.{list_any, filter_map, range_with_len}
 use Rattle.std.specs.Option.{option_map, option_map_or}
-use Rattle.cam_types.specs.Lists.{moments}
+use Rattle.cam_types.specs.Lists.{prefixed}
 use Rattle.cam_types.specs.declared.outcome.Outcome.{Outcome}
 use Rattle.sense_class.specs.Classes.{kind_of, is_counted, classify, asks_requeue, asks_finish}
 use Rattle.event_rules.specs.Event.{is_some_and, is_tick, submission_of, is_send_of, is_done_of, is_send_or_done_of, is_requeue_of, concerns, outcome_of, is_erring, ends, freezes, releases, sim_freezes, is_sim_release_of, Event, Send}
@@ -59,7 +59,7 @@ is_counted_requeue ccb (before, event) =
     is_requeue_of ccb event && is_some_and (λ o. is_counted (kind_of o)) (last_result before ccb)
 
 unfoldable pub counted_requeues : List Event → ℕ → ℕ
-counted_requeues events ccb = count_by (is_counted_requeue ccb) (moments events)
+counted_requeues events ccb = count_by (is_counted_requeue ccb) (prefixed events)
 
 abbrev pub retries_of : List Event → ℕ → ℕ
 retries_of events ccb = option_map_or (λ (s : Submission). s.retries) (submission events ccb) 0
@@ -85,7 +85,7 @@ sending_of (before, _) = None
 
 -- all sends, in order
 unfoldable pub sendings : List Event → List Sending
-sendings events = filter_map sending_of (moments events)
+sendings events = filter_map sending_of (prefixed events)
 
 -- a send to the device, and one that freezes it
 abbrev pub goes_to : ℕ → Sending → Bool

@@ -1,7 +1,7 @@
 -- what holds of all legal events
 use Rattle.std.specs.Prelude.{◌≡◌, ℕ, ◌≤◌, ◌==◌, Bool, true, false, ◌&&◌, nat_le, List, ◌∷◌, ◌++◌, length, Option, filter, is_none, IsTrue, IfSome, option_map}
 use Rattle.std.specs.List.{list_all}
-use Rattle.cam_types.specs.Lists.{moments}
+use Rattle.cam_types.specs.Lists.{prefixed}
 use Rattle.cam_types.specs.Topology.{Topology}
 use Rattle.sense_class.specs.Classes.{classify}
 use Rattle.sense_class.specs.declared.class.Class as class
@@ -10,7 +10,7 @@ use Rattle.event_rules.specs.Event.{is_some_and, is_requeue_of, Event, Send}
 use Rattle.event_rules.specs.Stays.{stays_begun, Passage}
 use Rattle.event_rules.specs.Counts.{round, submission, alive, last_result, is_counted_requeue, counted_requeues, retries_of, freeze_count, adapter_freezes, Submission}
 use Rattle.cam_types.specs.Questions.{names_device, names_lane, is_on, lane_adapter}
-use Rattle.cam_types.specs.declared.maxima.TheConstants.{MOST_PRIORITY, MOST_RETRIES}
+use Rattle.cam_types.specs.declared.limits.TheConstants.{MAX_PRIORITY, MAX_RETRIES}
 use Rattle.event_rules.specs.Legal.{Rules, history_rules, IsWithinHistory, names_ccb, is_legal_event, is_legal}
 use Rattle.event_rules.specs.Refusals.{device_of, have_openings, refusal}
 
@@ -35,7 +35,7 @@ stands_free c (before, _) = true
 abbrev pub SendsStandFree : Type 0
 SendsStandFree =
     (rules : Rules) (c : Topology) (events : List Event)
-    → IsTrue (is_legal rules c events) → IsTrue (list_all (stands_free c) (moments events))
+    → IsTrue (is_legal rules c events) → IsTrue (list_all (stands_free c) (prefixed events))
 
 -- the class of the CCB's last result
 abbrev pub last_class : List Event → ℕ → Option class.Class
@@ -56,7 +56,7 @@ abbrev pub RequeuesCountByClass : Type 0
 RequeuesCountByClass =
     (rules : Rules) (c : Topology) (events : List Event) (ccb : ℕ)
     → IsTrue (is_legal rules c events)
-    → filter (is_counted_requeue ccb) (moments events) ≡ filter (is_requeue_by_class ccb) (moments events)
+    → filter (is_counted_requeue ccb) (prefixed events) ≡ filter (is_requeue_by_class ccb) (prefixed events)
 
 -- A list that is legal by rules that go no further than a history's is legal by a history's.
 abbrev pub NarrowerIsLegal : Type 0
@@ -66,7 +66,7 @@ NarrowerIsLegal =
 
 -- it names a device, and its priority and retries are within their ranges
 abbrev pub is_in_range : Topology → Submission → Bool
-is_in_range c s = names_device c s.device && nat_le s.priority MOST_PRIORITY && nat_le s.retries MOST_RETRIES
+is_in_range c s = names_device c s.device && nat_le s.priority MAX_PRIORITY && nat_le s.retries MAX_RETRIES
 
 -- the stay is of a CCB that was submitted with its device and priority
 abbrev pub is_stay_of : Passage → Submission → Bool

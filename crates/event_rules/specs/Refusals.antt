@@ -4,7 +4,7 @@ use Rattle.std.specs.Option.{option_map_or}
 use Rattle.cam_types.specs.Lists.{first_answer}
 use Rattle.cam_types.specs.Topology.{Topology, are_openings}
 use Rattle.cam_types.specs.declared.outcome.Outcome.{Outcome}
-use Rattle.cam_types.specs.declared.maxima.TheConstants.{MOST_PRIORITY, MOST_RETRIES, MOST_FREEZES}
+use Rattle.cam_types.specs.declared.limits.TheConstants.{MAX_PRIORITY, MAX_RETRIES, MAX_FREEZES}
 use Rattle.sense_class.specs.Classes.{status_of}
 use Rattle.event_rules.specs.Event.{is_some_and, Event, Submit, Send, Done, Requeue, Finish, FreezeDev, ReleaseDev, FreezeSim, ReleaseSim, Adjust, Tick}
 use Rattle.event_rules.specs.Counts.{round, submission, alive, is_in_flight, has_in_flight, is_recovering, wants_requeue, wants_finish, caller_count, freeze_count, adapter_freezes, Submission}
@@ -40,8 +40,8 @@ is_other_next c before a ccb = is_some_and (λ (p : Passage). not (p.ccb == ccb)
 abbrev pub submit_causes : Rules → Topology → List Event → ℕ → ℕ → ℕ → List (Bool × Refusal)
 submit_causes rules c before device priority retries =
     (not (names_device c device), NoDevice)
-    ∷ (nat_lt MOST_PRIORITY priority, BadPriority)
-    ∷ (nat_lt MOST_RETRIES retries, BadRetries)
+    ∷ (nat_lt MAX_PRIORITY priority, BadPriority)
+    ∷ (nat_lt MAX_RETRIES retries, BadRetries)
     ∷ (are_ccbs_full rules before, CcbFull)
     ∷ (are_stays_full rules before, StaysFull)
     ∷ []
@@ -89,7 +89,7 @@ abbrev pub freeze_dev_causes : Topology → List Event → ℕ → ℕ → List 
 freeze_dev_causes c before device count =
     (not (names_device c device), NoDevice)
     ∷ (not (is_count count), BadCount)
-    ∷ (nat_lt MOST_FREEZES (caller_count before device + count), FreezeOverflow)
+    ∷ (nat_lt MAX_FREEZES (caller_count before device + count), FreezeOverflow)
     ∷ []
 
 abbrev pub release_dev_causes : Topology → List Event → ℕ → ℕ → List (Bool × Refusal)
@@ -103,7 +103,7 @@ abbrev pub freeze_sim_causes : Topology → List Event → ℕ → ℕ → List 
 freeze_sim_causes c before sim count =
     (not (names_adapter c sim), NoAdapter)
     ∷ (not (is_count count), BadCount)
-    ∷ (nat_lt MOST_FREEZES (adapter_freezes before sim + count), FreezeOverflow)
+    ∷ (nat_lt MAX_FREEZES (adapter_freezes before sim + count), FreezeOverflow)
     ∷ []
 
 abbrev pub release_sim_causes : Topology → List Event → ℕ → List (Bool × Refusal)

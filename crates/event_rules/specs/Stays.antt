@@ -1,7 +1,7 @@
 -- stays and the queues that they stand in, by the events before a place
 use Rattle.std.specs.Prelude.{ℕ, ◌+◌, ◌==◌, Bool, true, false, not, ◌&&◌, if◌then◌else◌, nat_le, List, [], ◌∷◌, length, filter, drop, Option, Some, None, count_by, find, option_map}
 use Rattle.std.specs.List.{list_any, filter_map}
-use Rattle.cam_types.specs.Lists.{moments, least_by}
+use Rattle.cam_types.specs.Lists.{prefixed, least_by}
 use Rattle.event_rules.specs.Event.{is_send_of, is_requeue_of, Event, Submit, Requeue}
 use Rattle.event_rules.specs.Counts.{round, commands, submission, Submission}
 pub use Rattle.event_rules.specs.declared.passage.Passage.{Passage}
@@ -29,15 +29,15 @@ stay_begun (before, Requeue ccb) = option_map (λ (s : Submission). record {
 }) (submission before ccb)
 stay_begun (before, _) = None
 
--- all stays, in order of birth
+-- all stays, in creation order
 unfoldable pub stays_begun : List Event → List Passage
-stays_begun events = filter_map stay_begun (moments events)
+stays_begun events = filter_map stay_begun (prefixed events)
 
 -- no send of its CCB stands after the event that began it
 abbrev pub is_unsent : List Event → Passage → Bool
 is_unsent events p = not (list_any (is_send_of p.ccb) (drop (p.place + 1) events))
 
--- the stays without a send, in order of birth
+-- the stays without a send, in creation order
 unfoldable pub waiting : List Event → List Passage
 waiting events = filter (is_unsent events) (stays_begun events)
 
@@ -57,12 +57,12 @@ is_at d round p = (p.device == d) && nat_le p.arrival round
 unfoldable pub queue : List Event → ℕ → List Passage
 queue events d = filter (is_at d (round events)) (waiting events)
 
--- a device's queue is in order of priority, arrival, kind (a requeue first) and birth
-abbrev pub birth_key : Passage → List ℕ
-birth_key p = (if p.requeued then 0 else 1) ∷ p.place ∷ []
+-- a device's queue is in order of priority, arrival, kind (a requeue first) and creation order
+abbrev pub creation_key : Passage → List ℕ
+creation_key p = (if p.requeued then 0 else 1) ∷ p.place ∷ []
 
 abbrev pub earlier_key : Passage → List ℕ
-earlier_key p = p.arrival ∷ birth_key p
+earlier_key p = p.arrival ∷ creation_key p
 
 abbrev pub queue_key : Passage → List ℕ
 queue_key p = p.priority ∷ earlier_key p
@@ -75,6 +75,6 @@ first events d = least_by queue_key (queue events d)
 abbrev pub name_of : Passage → Stay
 name_of p = record { ccb = p.ccb; attempt = p.attempt }
 
--- the first stay by birth that has no send
+-- the first stay in creation order that has no send
 unfoldable pub unsent : List Event → Option Stay
 unsent events = option_map name_of (find (is_unsent events) (stays_begun events))

@@ -1,6 +1,6 @@
 //! How far the events of a history or of a transport may go.
 
-use cam_types::{Limits, MOST_EVENTS, MOST_ROUNDS, MOST_STAYS};
+use cam_types::{Limits, MAX_EVENTS, MAX_ROUNDS, MAX_STAYS};
 use std::marker::Model;
 
 /// How far events may go: how many CCBs may be alive at once, if they are counted, and how many rounds, stays and events
@@ -27,7 +27,7 @@ impl Model for Rules {
 
 impl Rules {
     ghost use Rattle.std.specs.Prelude.{◌≡◌};
-    ghost use Rattle.event_rules.specs.Legal.{history_rules, rules_of, most_alive, IsWithinHistory};
+    ghost use Rattle.event_rules.specs.Legal.{history_rules, rules_of, max_alive, IsWithinHistory};
 
     /// The rules of a transport with these limits.
     pub fn of(limits: Limits) -> Rules
@@ -47,9 +47,9 @@ impl Rules {
     {
         Rules {
             ccbs: None,
-            rounds: MOST_ROUNDS,
-            stays: MOST_STAYS,
-            events: MOST_EVENTS,
+            rounds: MAX_ROUNDS,
+            stays: MAX_STAYS,
+            events: MAX_EVENTS,
         }
     }
 
@@ -62,8 +62,8 @@ impl Rules {
     }
 
     /// How many CCBs can be alive at once: no more than are counted, and each of them has had a stay.
-    pub fn most_alive(self) -> u32
-        ensures same { result ≡ most_alive self }
+    pub fn max_alive(self) -> u32
+        ensures same { result ≡ max_alive self }
         ensures range { IsWithinHistory self }
     {
         self.ccbs.unwrap_or(self.stays)

@@ -1,4 +1,4 @@
--- The walk back along the arcs by which labels rose.
+-- The walk back along the arcs by which potentials rose.
 use Rattle.std.proofs.Common.{◌≡◌, ◌≢◌, ℕ, zero, suc, ◌+◌, ◌-◌, ◌<◌, ◌≤◌, ◌==◌, cond, List, [], ◌∷◌, ◌++◌, length, get_or, set, drop, Option, Some, None, refl, sym, ap, ◌∙◌, subst, inl, inr, arith, count_by}
 use Rattle.std.proofs.lemmas.Bool.{cases_eq}
 use Rattle.std.proofs.lemmas.Bool.Decides.{nat_tests}
@@ -108,7 +108,7 @@ IsLoop-from_walk preds places start path node known w =
       came = All-drop (λ a. came_by preds a.head ≡ Some a) k path w.came;
     }
 
--- a node whose label has not risen ends it
+-- a node whose potential has not risen ends it
 pub EndsAtRoot-from_walk : (preds : List (Option Arc)) (places : List ℕ) (start : ℕ) (path : List Arc) (node : ℕ) → came_by preds node ≡ None → IsWalked preds places start path node → EndsAtRoot preds start path
 EndsAtRoot-from_walk preds places start path node unrisen w = record {
   root = node;

@@ -1,2 +1,2 @@
 pub mod Walks
-pub mod Labelling
+pub mod PotentialTable

@@ -14,11 +14,11 @@ pub record IsGainingCycle (arcs : List Arc) : Type 0 where
   pub once : (node : ℕ) → count_by (λ arc. arc.head == node) arcs ≤ 1
   pub gains : sum_by (λ arc. arc.down) arcs < sum_by (λ arc. arc.up) arcs
 
--- the arc by which the label of a node last rose
+-- the arc by which the potential of a node last rose
 abbrev pub came_by : List (Option Arc) → ℕ → Option Arc
 came_by preds node = slice_index_or preds node None
 
--- each arc is the one by which the label of its head last rose
+-- each arc is the one by which the potential of its head last rose
 abbrev pub AllCameBy : List (Option Arc) → List Arc → Type 0
 AllCameBy preds arcs = All (λ arc. came_by preds arc.head ≡ Some arc) arcs
 
@@ -30,7 +30,7 @@ pub record IsLoop (preds : List (Option Arc)) (arcs : List Arc) : Type 0 where
   pub once : (node : ℕ) → count_by (λ arc. arc.head == node) arcs ≤ 1
   pub came : AllCameBy preds arcs
 
--- a walk back along such arcs to a node whose label has not risen
+-- a walk back along such arcs to a node whose potential has not risen
 pub record EndsAtRoot (preds : List (Option Arc)) (start : ℕ) (arcs : List Arc) : Type 0 where
   pub root : ℕ
   pub within : root < length preds

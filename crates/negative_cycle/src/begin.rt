@@ -1,8 +1,8 @@
-//! How labels begin.
+//! How potentials begin.
 
 ghost use Rattle.std.specs.Prelude.{◌≡◌, nat_lt, length, map, replicate, None, IfOk};
 ghost use Rattle.std.specs.List.{list_any};
-ghost use Rattle.negative_cycle.specs.Labelling.{begun, highest_root};
+ghost use Rattle.negative_cycle.specs.PotentialTable.{begun, highest_root};
 
 use crate::arc::Arc;
 use std::alloc::{AllocError, Global};
@@ -18,22 +18,26 @@ pub fn unrisen(alloc: Global, nodes: usize) -> Result<Vec<Option<Arc>>, AllocErr
     Ok(preds)
 }
 
-/// Each label, or the most that a label is where the labels begin to rise, if that is less.
-pub fn cut(alloc: Global, labels: &[u64], most: u64) -> Result<Vec<u64>, AllocError>
-    ensures { IfOk result (λ v. v.items ≡ map (begun most) labels.now) }
+/// Each potential, or the most that a potential is where the potentials begin to rise, if that is less.
+pub fn cut(alloc: Global, potentials: &[u64], most: u64) -> Result<Vec<u64>, AllocError>
+    ensures { IfOk result (λ v. v.items ≡ map (begun most) potentials.now) }
 {
-    let mut cut = Vec::with_capacity(alloc, labels.len())?;
-    for label in labels {
-        cut.push(begin(*label, most))?;
+    let mut cut = Vec::with_capacity(alloc, potentials.len())?;
+    for potential in potentials {
+        cut.push(begin(*potential, most))?;
     }
     Ok(cut)
 }
 
-// A label, or the most that a label is where the labels begin to rise, if that is less.
-fn begin(label: u64, most: u64) -> u64
-    ensures { result ≡ begun most label }
+// A potential, or the most that a potential is where the potentials begin to rise, if that is less.
+fn begin(potential: u64, most: u64) -> u64
+    ensures { result ≡ begun most potential }
 {
-    if label <= most / 2 { label } else { most / 2 }
+    if potential <= most / 2 {
+        potential
+    } else {
+        most / 2
+    }
 }
 
 /// Takes the arc of each node away.
@@ -45,19 +49,19 @@ pub fn forget(preds: &mut Vec<Option<Arc>>)
     }
 }
 
-/// Sets each label to 0.
-pub fn lower(labels: &mut Vec<u64>)
-    ensures { labels.new.items ≡ replicate (length labels.old.items) 0 }
+/// Sets each potential to 0.
+pub fn lower(potentials: &mut Vec<u64>)
+    ensures { potentials.new.items ≡ replicate (length potentials.old.items) 0 }
 {
-    for label in labels.iter_mut() {
-        *label = 0;
+    for potential in potentials.iter_mut() {
+        *potential = 0;
     }
 }
 
-/// Whether a label is too high for labels that begin to rise.
-pub fn any_high(labels: &[u64], most: u64) -> bool
-    ensures { result ≡ list_any (λ y. nat_lt (highest_root most) y) labels.now }
+/// Whether a potential is too high for potentials that begin to rise.
+pub fn any_high(potentials: &[u64], most: u64) -> bool
+    ensures { result ≡ list_any (λ y. nat_lt (highest_root most) y) potentials.now }
 {
     let root = most / 2;
-    labels.iter().any(|label| *label > root)
+    potentials.iter().any(|potential| *potential > root)
 }

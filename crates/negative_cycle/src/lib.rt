@@ -1,11 +1,12 @@
-//! Labels on the nodes of a graph, which rise until they settle every arc, or until the arcs by which they rose close a
-//! walk on which more is gained than lost.
+//! Bellman and Ford's search for a negative cycle (Ford 1956; Bellman 1958): potentials on the nodes of a graph are relaxed along
+//! arcs until every arc is settled, or until the predecessors close a cycle that gains more than it loses. The cost of an arc
+//! is what it loses less what it gains, and potentials are negated distances, so they rise.
 #![tactic(auto)]
 
 pub use arc::Arc;
-pub use labels::{Labels, MOST_LABEL};
+pub use potentials::{MAX_POTENTIAL, Potentials};
 
 mod arc;
 mod begin;
-mod labels;
+mod potentials;
 mod walk;

@@ -1,4 +1,4 @@
-//! The walk back along the arcs by which labels rose: it closes, or it ends at a node whose label never rose.
+//! The walk back along the predecessors: it closes a cycle, or it ends at a node whose potential never rose.
 
 ghost use Rattle.std.specs.Prelude.{◌≡◌, ℕ, ◌<◌, length, drop, Some, IfOk};
 ghost use Rattle.std.specs.Option.{IfSome, IfNone};

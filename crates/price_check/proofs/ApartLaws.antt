@@ -8,7 +8,7 @@ use Rattle.std.specs.Str.Parse.{digits_value}
 use Rattle.std.proofs.lemmas.Bool.{and_parts, leb-true, leb-false, ltb-false, eq-eqb, cases_lt, or_parts}
 use Rattle.std.proofs.lemmas.Fmt.{digits_decimal}
 use Rattle.std.proofs.lemmas.Str.Parse.{IsNumeralModel, numerals_by_value}
-use Rattle.price_check.specs.Words.{moments_after, first_answer, Topology, IsConfig, device_fault, address_fault, config_fault, is_same_address, are_openings, Device, MOST_DEVICES, CamPath, Fits, spelled, address_of}
+use Rattle.price_check.specs.Words.{prefixed_after, first_answer, Topology, IsConfig, device_fault, address_fault, config_fault, is_same_address, are_openings, Device, MAX_DEVICES, CamPath, Fits, spelled, address_of}
 use Rattle.cam_types.proofs.ConfigLemmas.{device_items, few_adapters}
 use Rattle.cam_path.proofs.PathLaws.{reading_again}
 
@@ -71,16 +71,16 @@ none_first : {F : Type 0} (o p : Option F) → option_or o p ≡ None → (o ≡
 none_first None p e = (refl, e)
 none_first (Some x) p e = absurd cc
 
-at_moment : {X F : Type 0} (f : List X × X → Option F) (before xs : List X) → first_answer f (moments_after before xs) ≡ None
+at_prefix : {X F : Type 0} (f : List X × X → Option F) (before xs : List X) → first_answer f (prefixed_after before xs) ≡ None
     → (j : ℕ) (x : X) → slice_get xs j ≡ Some x → f (before ++ take j xs, x) ≡ None
-at_moment f before [] e j x is = absurd cc
-at_moment f before (y ∷ ys) e zero x is =
-    let parts = none_first (f (before, y)) (first_answer f (moments_after (before ++ y ∷ []) ys)) e in
+at_prefix f before [] e j x is = absurd cc
+at_prefix f before (y ∷ ys) e zero x is =
+    let parts = none_first (f (before, y)) (first_answer f (prefixed_after (before ++ y ∷ []) ys)) e in
     let same : y ≡ x = cc in
     rw (append-nil before, ← same) parts.0
-at_moment f before (y ∷ ys) e (suc j) x is =
-    let parts = none_first (f (before, y)) (first_answer f (moments_after (before ++ y ∷ []) ys)) e in
-    let rest : f ((before ++ y ∷ []) ++ take j ys, x) ≡ None = at_moment f (before ++ y ∷ []) ys parts.1 j x is in
+at_prefix f before (y ∷ ys) e (suc j) x is =
+    let parts = none_first (f (before, y)) (first_answer f (prefixed_after (before ++ y ∷ []) ys)) e in
+    let rest : f ((before ++ y ∷ []) ++ take j ys, x) ≡ None = at_prefix f (before ++ y ∷ []) ys parts.1 j x is in
     rw append_assoc at rest
 
 not_any : {X : Type 0} (p : X → Bool) (xs : List X) (i j : ℕ) (x : X) → i < j → list_any p (take j xs) ≡ false → slice_get xs i ≡ Some x → p x ≡ false
@@ -96,7 +96,7 @@ cond_none false x rest e = (refl, e)
 pub device_rules : (n : ℕ) (before : List Device) (d : Device) → device_fault n (before, d) ≡ None → (d.bus < n) × (d.lun ≤ 16383) × (list_any (is_same_address d) before ≡ false)
 unfolding device_fault address_fault
 device_rules n before d e =
-    let a = (cond_none (nat_le MOST_DEVICES (length before)) _ _ e).1 in
+    let a = (cond_none (nat_le MAX_DEVICES (length before)) _ _ e).1 in
     let b = (cond_none (not (are_openings d.openings)) _ _ a).1 in
     let c = cond_none (nat_le n d.bus) _ _ b in
     let l = cond_none (nat_lt 16383 d.lun) _ _ c.1 in
@@ -111,7 +111,7 @@ named_devices t kept targets =
     let devices = device_items t is in
     let few = few_adapters t is in
     let rules : (j : ℕ) (d : Device) → slice_get t.devices j ≡ Some d → (d.bus < adapters) × (d.lun ≤ 16383) × (list_any (is_same_address d) (take j t.devices) ≡ false) =
-    λ j d is. device_rules adapters (take j t.devices) d (at_moment (device_fault adapters) [] t.devices devices j d is) in
+    λ j d is. device_rules adapters (take j t.devices) d (at_prefix (device_fault adapters) [] t.devices devices j d is) in
     let before : (i j : ℕ) (one other : Device) → slice_get t.devices i ≡ Some one → slice_get t.devices j ≡ Some other → address_of one ≡ address_of other → i < j → ⊥ =
     λ i j one other is is' same lt.
     let no : is_same_address other one ≡ false = not_any (is_same_address other) t.devices i j one lt (rules j other is').2 is in

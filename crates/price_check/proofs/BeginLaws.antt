@@ -2,9 +2,9 @@
 use Rattle.std.proofs.Common.{◌≡◌, ◌≤◌, ◌<◌, ◌+◌, ◌-◌, ℕ, zero, suc, List, [], ◌++◌, length, take, drop, get_or, replicate, refl, sym, ap, ◌∙◌, subst, arith, append_assoc, append-nil, ◌==◌, Result, Ok, Err, codes, All, count_by}
 use Rattle.std.proofs.lemmas.List.{append_cancel_right, take-append-drop, get_or_append_left, length-replicate, length-append}
 use Rattle.std.proofs.lemmas.List.Elements.{All-append, All-replicate, All-get_or}
-use Rattle.price_check.specs.Words.{NetRows, instance_of_rows, live_of_rows, IsSound, MOST_NET_PRICE}
+use Rattle.price_check.specs.Words.{NetRows, instance_of_rows, live_of_rows, IsSound, MAX_NET_PRICE}
 use Rattle.price_check.specs.Pieces.{line_of}
-use Rattle.price_check.specs.Forms.{most_stated, most_number}
+use Rattle.price_check.specs.Forms.{max_stated, max_number}
 use Rattle.price_check.specs.Reading.{series, ReportFault}
 use Rattle.price_check.specs.Claims.{IsClaim, report_text, fault_line, Claim}
 use Rattle.price_check.proofs.SeriesLemmas.{Reader}
@@ -14,7 +14,7 @@ use Rattle.price_check.proofs.LineLaws.{stay_form}
 use Rattle.price_check.proofs.LinesLemmas.{IsClosed, closed_append}
 use Rattle.price_check.proofs.CutLaws.{AreLines, texts_closed}
 use Rattle.price_check.proofs.StepLaws.{Exact, Steps, series_broken, behind_one}
-use Rattle.price_check.proofs.SectionLaws.{seven_at, seven_form, seven_takes, seven_steps, seven_lines, seven_texts, said_of, parts_of, report_parts}
+use Rattle.price_check.proofs.SectionLaws.{seven_at, seven_form, seven_takes, seven_steps, seven_lines, seven_texts, parsed_of, parts_of, report_parts}
 
 -- a fault's line follows on a front that is also the front of a claim's report
 pub record FailsBehind (net : NetRows) (text : List ℕ) (e : ReportFault) : Type 0 where
@@ -69,7 +69,7 @@ padded_texts form n k vs size le =
 abbrev pub made : NetRows → ℕ → ℕ → List ℕ → List ℕ → Claim
 made net best excess stays prices = record {
   schedule = stays;
-  prices = record { rounds = (instance_of_rows net).rounds; devices = (instance_of_rows net).devices; adapters = (instance_of_rows net).adapters; links = (instance_of_rows net).links; most_price = (instance_of_rows net).most_price; prices = prices };
+  prices = record { rounds = (instance_of_rows net).rounds; devices = (instance_of_rows net).devices; adapters = (instance_of_rows net).adapters; links = (instance_of_rows net).links; max_price = (instance_of_rows net).max_price; prices = prices };
   best = best;
   excess = excess;
 }
@@ -85,12 +85,12 @@ filled n most vs le small = record { size = padded_size n vs le; small = padded_
 pub zeros : (n most : ℕ) → Fitting n most (replicate n 0)
 zeros n most = record { size = length-replicate n 0; small = All-replicate (λ v. v ≤ most) n 0 (let le : 0 ≤ most = omega arith in le) }
 
-pub is_claim : (net : NetRows) (best excess : ℕ) (stays prices : List ℕ) → IsSound (instance_of_rows net) (live_of_rows net) → best ≤ most_stated → excess ≤ most_stated
-    → Fitting (instance_of_rows net).stays (most_number (instance_of_rows net)) stays → Fitting (price_cells net) (instance_of_rows net).most_price prices → IsClaim (instance_of_rows net) (made net best excess stays prices)
+pub is_claim : (net : NetRows) (best excess : ℕ) (stays prices : List ℕ) → IsSound (instance_of_rows net) (live_of_rows net) → best ≤ max_stated → excess ≤ max_stated
+    → Fitting (instance_of_rows net).stays (max_number (instance_of_rows net)) stays → Fitting (price_cells net) (instance_of_rows net).max_price prices → IsClaim (instance_of_rows net) (made net best excess stays prices)
 is_claim net best excess stays prices sound small small' hs hp = record {
   stays = hs.size;
   rounds = hs.small;
-  pricing = record { rounds = refl; devices = refl; adapters = refl; links = refl; most_price = refl };
+  pricing = record { rounds = refl; devices = refl; adapters = refl; links = refl; max_price = refl };
   priced = record {
     cells = hp.size;
     small = hp.small;
@@ -107,13 +107,13 @@ is_claim net best excess stays prices sound small small' hs hp = record {
 -- its report, by sections
 abbrev pub sections : NetRows → ℕ → ℕ → List ℕ → List ℕ → List ℕ
 sections net best excess stays prices =
-    texts_of (seven_form net) 7 (said_of best excess)
+    texts_of (seven_form net) 7 (parsed_of best excess)
     ++ (texts_of (stay_form net) (instance_of_rows net).stays stays
     ++ (texts_of (form_of net.config.devices (instance_of_rows net).adapters (instance_of_rows net).rounds) (price_cells net) prices ++ codes "end\n"))
 
 pub made_report : (net : NetRows) (best excess : ℕ) (stays prices : List ℕ) → report_text net (made net best excess stays prices) ≡ sections net best excess stays prices
 unfolding parts_of
-made_report net best excess stays prices = report_parts net (made net best excess stays prices) (record { rounds = refl; devices = refl; adapters = refl; links = refl; most_price = refl })
+made_report net best excess stays prices = report_parts net (made net best excess stays prices) (record { rounds = refl; devices = refl; adapters = refl; links = refl; max_price = refl })
 
 -- ---- where a section fails
 
@@ -131,17 +131,17 @@ pub record BrokenAt (form : ℕ → ℕ → List ℕ) (most : ℕ) (text : List 
 pub broken_at : (form : ℕ → ℕ → List ℕ) (most : ℕ) (text : List ℕ) (one : Reader) → Takes form most text one → Steps text one → (n at : ℕ) (e : ReportFault) → series one n at ≡ Err e → BrokenAt form most text one n at e
 broken_at form most text one takes steps n at e h =
     let b = series_broken one n at e h in
-    let t = series_takes form most text one takes b.place at b.said b.read in
+    let t = series_takes form most text one takes b.place at b.parsed b.read in
     record {
       place = b.place;
       within = b.within;
-      values = b.said.0;
-      end = b.said.1;
+      values = b.parsed.0;
+      end = b.parsed.1;
       size = t.size;
       small = t.small;
       spelled = t.spelled;
       fails = b.fails;
-      line = by b.said.1 (one b.place b.said.1) (steps b.place b.said.1) b.fails;
+      line = by b.parsed.1 (one b.place b.parsed.1) (steps b.place b.parsed.1) b.fails;
     }
   where
     by : (k : ℕ) (r : Result (ℕ × ℕ) ReportFault) → Exact text k behind_one r → r ≡ Err e → fault_line e ≡ line_of text k
@@ -177,7 +177,7 @@ longer text front more at end f e closed = record {
 regroup : (f t m x : List ℕ) → f ++ ((t ++ m) ++ x) ≡ (f ++ t) ++ (m ++ x)
 regroup f t m x = simp append_assoc
 
--- a section's values so far, with zeros after them, are said after what was read
+-- a section's values so far, with zeros after them, are stated after what was read
 behind_front : (front part whole m x report : List ℕ) → report ≡ front ++ (whole ++ x) → whole ≡ part ++ m → report ≡ (front ++ part) ++ (m ++ x)
 behind_front front part whole m x report e h = e ∙ ap (λ (l : List ℕ). front ++ (l ++ x)) h ∙ regroup front part m x
 
@@ -193,26 +193,26 @@ section_failed net text e form most one n at front rest claim lines f b claims r
 pub at_summary : (net : NetRows) (text : List ℕ) (e : ReportFault) → IsSound (instance_of_rows net) (live_of_rows net) → series (seven_at net text) 7 0 ≡ Err e → FailsBehind net text e
 at_summary net text e sound h =
     let form = seven_form net in
-    let b = broken_at form most_stated text (seven_at net text) (seven_takes net text) (seven_steps net text) 7 0 e h in
+    let b = broken_at form max_stated text (seven_at net text) (seven_takes net text) (seven_steps net text) 7 0 e h in
     let lt = b.within in
     let size = b.size in
-    let full = filled 7 most_stated b.values (omega arith) b.small in
+    let full = filled 7 max_stated b.values (omega arith) b.small in
     let best = get_or (padded 7 b.values) 5 0 in
     let excess = get_or (padded 7 b.values) 6 0 in
-    let small : best ≤ most_stated = All-get_or (λ v. v ≤ most_stated) (padded 7 b.values) 5 0 (omega (arith, full.size)) full.small in
-    let small' : excess ≤ most_stated = All-get_or (λ v. v ≤ most_stated) (padded 7 b.values) 6 0 (omega (arith, full.size)) full.small in
+    let small : best ≤ max_stated = All-get_or (λ v. v ≤ max_stated) (padded 7 b.values) 5 0 (omega (arith, full.size)) full.small in
+    let small' : excess ≤ max_stated = All-get_or (λ v. v ≤ max_stated) (padded 7 b.values) 6 0 (omega (arith, full.size)) full.small in
     let stays = replicate (instance_of_rows net).stays 0 in
     let prices = replicate (price_cells net) 0 in
-    let texts : texts_of form 7 (said_of best excess) ≡ texts_of form 7 (padded 7 b.values) = seven_texts net best excess (said_of best excess) refl refl ∙ sym (seven_texts net best excess (padded 7 b.values) refl refl) in
-    section_failed net text e form most_stated (seven_at net text) 7 0 [] _ (made net best excess stays prices) (seven_lines net) (record { whole = refl; closed = tt }) b
-    (is_claim net best excess stays prices sound small small' (zeros (instance_of_rows net).stays (most_number (instance_of_rows net))) (zeros (price_cells net) (instance_of_rows net).most_price))
+    let texts : texts_of form 7 (parsed_of best excess) ≡ texts_of form 7 (padded 7 b.values) = seven_texts net best excess (parsed_of best excess) refl refl ∙ sym (seven_texts net best excess (padded 7 b.values) refl refl) in
+    section_failed net text e form max_stated (seven_at net text) 7 0 [] _ (made net best excess stays prices) (seven_lines net) (record { whole = refl; closed = tt }) b
+    (is_claim net best excess stays prices sound small small' (zeros (instance_of_rows net).stays (max_number (instance_of_rows net))) (zeros (price_cells net) (instance_of_rows net).max_price))
     (made_report net best excess stays prices
     ∙ ap (λ (l : List ℕ). l ++ (texts_of (stay_form net) (instance_of_rows net).stays stays
     ++ (texts_of (form_of net.config.devices (instance_of_rows net).adapters (instance_of_rows net).rounds) (price_cells net) prices ++ codes "end\n"))) texts)
 
 -- of a claim no price is above the net's largest, and that is no more than any net's
-pub price_fits : (net : NetRows) (claim : Claim) → IsClaim (instance_of_rows net) claim → (instance_of_rows net).most_price ≤ MOST_NET_PRICE
-price_fits net claim h = omega (arith, h.pricing.most_price, h.priced.small_price)
+pub price_fits : (net : NetRows) (claim : Claim) → IsClaim (instance_of_rows net) claim → (instance_of_rows net).max_price ≤ MAX_NET_PRICE
+price_fits net claim h = omega (arith, h.pricing.max_price, h.priced.small_price)
 
-pub prices_small : (net : NetRows) (claim : Claim) → IsClaim (instance_of_rows net) claim → All (λ v. v ≤ (instance_of_rows net).most_price) claim.prices.prices
-prices_small net claim h = subst (λ (most : ℕ). All (λ v. v ≤ most) claim.prices.prices) h.pricing.most_price h.priced.small
+pub prices_small : (net : NetRows) (claim : Claim) → IsClaim (instance_of_rows net) claim → All (λ v. v ≤ (instance_of_rows net).max_price) claim.prices.prices
+prices_small net claim h = subst (λ (most : ℕ). All (λ v. v ≤ most) claim.prices.prices) h.pricing.max_price h.priced.small

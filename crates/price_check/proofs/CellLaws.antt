@@ -6,7 +6,7 @@ use Rattle.std.proofs.lemmas.List.Elements.{All-get_or}
 use Rattle.std.proofs.lemmas.Fmt.{decimal_injective}
 use Rattle.std.proofs.lemmas.Option.{slice_get_cases}
 use Rattle.std.proofs.Math.Nat.{div-add-mod, div-lt_iff_lt-mul, mod-lt}
-use Rattle.price_check.specs.Words.{Device, MOST_NET_ROUNDS, MOST_DEVICES, MOST_ADAPTERS, MOST_LINKS, spelled, address_of, Instance, rows, PriceRows, IsPriced, IsPricingFor, NetRows, instance_of_rows, MOST_NET_PRICE}
+use Rattle.price_check.specs.Words.{Device, MAX_NET_ROUNDS, MAX_DEVICES, MAX_ADAPTERS, MAX_LINKS, spelled, address_of, Instance, rows, PriceRows, IsPriced, IsPricingFor, NetRows, instance_of_rows, MAX_NET_PRICE}
 use Rattle.price_check.specs.Pieces.{skip}
 use Rattle.price_check.specs.Report.{number_text, price_line, shared_text, row_text}
 use Rattle.price_check.specs.Reading.{price_at, cell_price_at}
@@ -65,10 +65,10 @@ pub cell_reads : (most : ℕ) (devices : List Device) (adapters rounds : ℕ) (t
 unfolding cell_price_at
 cell_reads most devices adapters rounds text k at = ap (λ (f : Option ℕ). price_at most f text at) (price_front-skip devices adapters (k / rounds) (k % rounds + 1) text at)
 
-pub cells_take : (most : ℕ) → most ≤ MOST_NET_PRICE → (devices : List Device) (adapters rounds : ℕ) (text : List ℕ) → Takes (form_of devices adapters rounds) most text (cell_price_at most devices adapters rounds text)
-cells_take most fits devices adapters rounds text k at said e = price_takes most fits (row_text devices adapters (k / rounds)) (k % rounds + 1) text at said (sym (cell_reads most devices adapters rounds text k at) ∙ e)
+pub cells_take : (most : ℕ) → most ≤ MAX_NET_PRICE → (devices : List Device) (adapters rounds : ℕ) (text : List ℕ) → Takes (form_of devices adapters rounds) most text (cell_price_at most devices adapters rounds text)
+cells_take most fits devices adapters rounds text k at parsed e = price_takes most fits (row_text devices adapters (k / rounds)) (k % rounds + 1) text at parsed (sym (cell_reads most devices adapters rounds text k at) ∙ e)
 
-pub cells_again : (most : ℕ) → most ≤ MOST_NET_PRICE → (devices : List Device) (adapters rounds : ℕ) (text : List ℕ) (n : ℕ) (vs : List ℕ) → n ≤ length vs → All (λ v. v ≤ most) vs
+pub cells_again : (most : ℕ) → most ≤ MAX_NET_PRICE → (devices : List Device) (adapters rounds : ℕ) (text : List ℕ) (n : ℕ) (vs : List ℕ) → n ≤ length vs → All (λ v. v ≤ most) vs
     → Again (form_of devices adapters rounds) (NoneBefore (front_of devices adapters rounds)) text (cell_price_at most devices adapters rounds text) n vs
 cells_again most fits devices adapters rounds text n vs le small k at rest lt e h = by (get_or vs k 0 == 0) refl
   where
@@ -126,7 +126,7 @@ past_devices devices row none = elim (slice_get_cases devices row).1 [
   | inr past ↦ omega (arith, past.0)
 ]
 
--- after all devices, adapters are told from links, and each from the others of its kind
+-- after all devices: adapters differ from links, and each differs from the others of its kind
 same_shared : (adapters a b r r' : ℕ) (x y : List ℕ) → a < 2 ^ 64 → b < 2 ^ 64 → r < 2 ^ 64 → r' < 2 ^ 64 → front_text (shared_text adapters a) r ++ x ≡ front_text (shared_text adapters b) r' ++ y → (a ≡ b) × (r ≡ r')
 same_shared adapters a b r r' x y fits fits' few few' e = by (nat_lt a adapters) (nat_lt b adapters) refl refl e
   where
@@ -185,10 +185,10 @@ same_cell rounds j k row round =
     let product : rounds * (j / rounds) ≡ rounds * (k / rounds) = ap (λ (q : ℕ). rounds * q) row in
     omega arith
 
-few_round : (rounds k : ℕ) → 1 ≤ rounds → rounds ≤ MOST_NET_ROUNDS → k % rounds + 1 < 2 ^ 64
+few_round : (rounds k : ℕ) → 1 ≤ rounds → rounds ≤ MAX_NET_ROUNDS → k % rounds + 1 < 2 ^ 64
 few_round rounds k some few = let lt : k % rounds < rounds = mod-lt k some in omega arith
 
-pub cells_apart : (devices : List Device) (adapters n rounds : ℕ) → AreNamed devices → n ≤ MOST_DEVICES + MOST_ADAPTERS + MOST_LINKS → 1 ≤ rounds → rounds ≤ MOST_NET_ROUNDS → AreApart (front_of devices adapters rounds) (n * rounds)
+pub cells_apart : (devices : List Device) (adapters n rounds : ℕ) → AreNamed devices → n ≤ MAX_DEVICES + MAX_ADAPTERS + MAX_LINKS → 1 ≤ rounds → rounds ≤ MAX_NET_ROUNDS → AreApart (front_of devices adapters rounds) (n * rounds)
 cells_apart devices adapters n rounds named small some few j k x y jlt klt e =
     let row : j / rounds < n = (div-lt_iff_lt-mul some).1 jlt in
     let row' : k / rounds < n = (div-lt_iff_lt-mul some).1 klt in

@@ -4,7 +4,7 @@ use Rattle.std.specs.List.{list_any}
 use Rattle.std.proofs.lemmas.Bool.{and_parts, or_parts, or_left, or_right, eqb-true, eq-eqb, ltb-true}
 use Rattle.std.proofs.lemmas.Bool.Decides.{nat_tests}
 use Rattle.std.proofs.lemmas.List.Elements.{All-nil, All-cons}
-use Rattle.price_check.specs.Words.{count_below, Instance, adapter, adapter_row, link_rows, path, uses, IsAdmissible, load, IsSound}
+use Rattle.price_check.specs.Words.{count_below, Instance, adapter, adapter_resource, link_rows, path, uses, IsAdmissible, load, IsSound}
 use Rattle.round_net.proofs.PathLemmas.{uses-device, uses-adapter}
 use Rattle.price_check.specs.Faults.{at_row, is_over, is_link_over, fault_at, IsFaultlessBelow, IsFirstFault, Cause, Early, Late, DeviceFull, AdapterFull, LinkFull}
 use Rattle.price_check.proofs.TallyLemmas.{count_below-more}
@@ -40,13 +40,13 @@ none_among test (x ∷ xs) h =
     rw (h x (or_left (x == x) _ (eq-eqb x x refl))) (none_among test xs (λ row e. h row (or_right (x == row) _ e)))
 
 uses-link_rows : (net : Instance) (row s : ℕ) → list_any (λ x. x == row) (link_rows net (adapter net s)) ≡ true → uses net row s ≡ true
-uses-link_rows net row s among = or_right (net.device s == row) _ (or_right (adapter_row net (adapter net s) == row) _ among)
+uses-link_rows net row s among = or_right (net.device s == row) _ (or_right (adapter_resource net (adapter net s) == row) _ among)
 
 pub well_where_no_fault : (net : Instance) (f : ℕ → ℕ) (s : ℕ) → fault_at net f s ≡ None → IsWell net f s
 unfolding fault_at
 well_where_no_fault net f s e =
     let device = net.device s in
-    let row' = adapter_row net (adapter net s) in
+    let row' = adapter_resource net (adapter net s) in
     let links = link_rows net (adapter net s) in
     let Q : ℕ → Type 0 = λ x. at_row net f x s ≤ net.cap x (f s) in
     let one = not_taken (nat_lt (f s) (net.arrival s)) Early _ e in
@@ -64,7 +64,7 @@ pub no_fault_where_well : (net : Instance) (f : ℕ → ℕ) (s : ℕ) → IsWel
 unfolding fault_at
 no_fault_where_well net f s well =
     let device = net.device s in
-    let row = adapter_row net (adapter net s) in
+    let row = adapter_resource net (adapter net s) in
     rw (
       less-not (f s) (net.arrival s) well.not_early,
       less-not (net.last s) (f s) well.not_late,

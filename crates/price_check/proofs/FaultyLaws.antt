@@ -6,7 +6,7 @@ use Rattle.round_net.proofs.CountLemmas.{count_by-append}
 use Rattle.price_check.specs.Lines.{line}
 use Rattle.price_check.specs.Pieces.{line_of}
 use Rattle.price_check.specs.Report.{summary_text}
-use Rattle.price_check.specs.Forms.{most_bytes}
+use Rattle.price_check.specs.Forms.{max_bytes}
 use Rattle.price_check.specs.Reading.{closed, reading, ReportFault}
 use Rattle.price_check.specs.Claims.{IsClaim, report_text, WasFaulty, Explains, fault_line, IsFirstFaulty, IsOfKind, Claim}
 use Rattle.price_check.specs.declared.report_fault.ReportFault.TheVariants as fault
@@ -237,7 +237,7 @@ of_text : {X : Type 0} (r : Result X ReportFault) (e : ReportFault) → FailsByT
 of_text r e h is = rw is at h
 
 was_faulty : (net : NetRows) (before after : Option (List ℕ)) (failed : Bool) (text : List ℕ) (e : ReportFault) → IsConfig net.config
-    → IsSound (instance_of_rows net) (live_of_rows net) → IsWholeWithin (most_bytes (instance_of_rows net)) before after text → Gives net text (Err e) → e ≢ fault.OutOfMemory → Explains net before after failed e
+    → IsSound (instance_of_rows net) (live_of_rows net) → IsWholeWithin (max_bytes (instance_of_rows net)) before after text → Gives net text (Err e) → e ≢ fault.OutOfMemory → Explains net before after failed e
 was_faulty net before after failed text e config sound whole h other =
     let first : reading net.config.devices net (closed text) ≡ Err e = sym (h (λ k. other (cc))) in
     explained net before after failed e (of_text _ e (reading_fails net.config.devices net (closed text)) first) (record {
@@ -248,7 +248,7 @@ was_faulty net before after failed text e config sound whole h other =
     })
 
 pub faults_law : (net : NetRows) (before after : Option (List ℕ)) (failed : Bool) (text : List ℕ) (r : Result Claim ReportFault) → IsConfig net.config
-    → (r ≢ Err fault.OutOfMemory → IsSound (instance_of_rows net) (live_of_rows net)) → IsWholeWithin (most_bytes (instance_of_rows net)) before after text → Gives net text r → IfErr r (Explains net before after failed)
+    → (r ≢ Err fault.OutOfMemory → IsSound (instance_of_rows net) (live_of_rows net)) → IsWholeWithin (max_bytes (instance_of_rows net)) before after text → Gives net text r → IfErr r (Explains net before after failed)
 faults_law net before after failed text (Err (fault.BadLine n)) config sound whole h = was_faulty net before after failed text (fault.BadLine n) config (sound (λ k. cc)) whole h (λ k. cc)
 faults_law net before after failed text (Err (fault.PriceRange n)) config sound whole h = was_faulty net before after failed text (fault.PriceRange n) config (sound (λ k. cc)) whole h (λ k. cc)
 faults_law net before after failed text (Err (fault.WrongStays n)) config sound whole h = was_faulty net before after failed text (fault.WrongStays n) config (sound (λ k. cc)) whole h (λ k. cc)

@@ -1,11 +1,11 @@
 -- the forms of lines by their whole pieces
 use Rattle.std.proofs.Common.{◌≡◌, ◌-◌, ◌^◌, ◌<◌, nat_le, arith, ℕ, Bool, true, false, cond, List, ◌++◌, length, refl, sym, ◌∙◌, append_assoc, nat_lt, Option, Some, None, decimal, codes, slice_get}
 use Rattle.std.specs.Option.{option_map_or}
-use Rattle.price_check.specs.Words.{MOST_PRICE, Instance, Device, address_of, spelled, Stay}
+use Rattle.price_check.specs.Words.{MAX_PRICE, Instance, Device, address_of, spelled, Stay}
 use Rattle.price_check.specs.Pieces.{◌>>=◌, skip, skip_number, found_number}
 use Rattle.price_check.specs.Lines.{line}
 use Rattle.price_check.specs.Report.{number_text, shared_text, row_text}
-use Rattle.price_check.specs.Forms.{known_line, stated_line, most_stated, most_number, named_stay, dev_front, number_front, shared_front, price_front}
+use Rattle.price_check.specs.Forms.{known_line, stated_line, max_stated, max_number, named_stay, dev_front, number_front, shared_front, price_front}
 use Rattle.price_check.proofs.PieceLaws.{skip_append, bind-assoc, framed}
 
 bind-same : {A B : Type 0} (o : Option A) (f g : A → Option B) → ((x : A) → f x ≡ g x) → (o >>= f) ≡ (o >>= g)
@@ -52,9 +52,9 @@ pub known_line-skip : (word : List ℕ) (n : ℕ) (text : List ℕ) (at : ℕ) �
 unfolding known_line skip_number line
 known_line-skip word n text at = known word (codes " ") (decimal n) (codes "\n") text at
 
-pub stated_line-framed : (word text : List ℕ) (at : ℕ) → stated_line word text at ≡ framed (word ++ codes " ") (codes "\n") most_stated text at
+pub stated_line-framed : (word text : List ℕ) (at : ℕ) → stated_line word text at ≡ framed (word ++ codes " ") (codes "\n") max_stated text at
 unfolding stated_line
-stated_line-framed word text at = two (λ begin. found_number most_stated text begin >>= λ number. skip (codes "\n") text number.1 >>= λ next. Some (number.0, next)) text word (codes " ") at
+stated_line-framed word text at = two (λ begin. found_number max_stated text begin >>= λ number. skip (codes "\n") text number.1 >>= λ next. Some (number.0, next)) text word (codes " ") at
 
 -- a stay's line up to the round that is best for it, and after that
 abbrev pub stay_front : Stay → ℕ → ℕ → List ℕ
@@ -73,8 +73,8 @@ named_stay-framed most name arrival live weight text at =
     numbered (λ next. Some (best.0, next)) text (codes " ") (decimal weight) (codes "\n") best.1))
 
 -- what a stay's line may say fits a machine's word
-pub number_fits : (net : Instance) → most_number net < 2 ^ 64
-number_fits net = elim (nat_le net.most_price MOST_PRICE) as (λ b. cond {A = ℕ} b 65535 1048576 < 2 ^ 64) [ true ↦ omega arith | false ↦ omega arith ]
+pub number_fits : (net : Instance) → max_number net < 2 ^ 64
+number_fits net = elim (nat_le net.max_price MAX_PRICE) as (λ b. cond {A = ℕ} b 65535 1048576 < 2 ^ 64) [ true ↦ omega arith | false ↦ omega arith ]
 
 -- a price's line up to the price, of this whose
 abbrev pub front_text : List ℕ → ℕ → List ℕ

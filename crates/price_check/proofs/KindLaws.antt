@@ -12,7 +12,7 @@ use Rattle.price_check.specs.Words.{◌>>=◌, Device, is_decimal, NetRows, inst
 use Rattle.price_check.specs.Lines.{line}
 use Rattle.price_check.specs.Pieces.{skip, line_of}
 use Rattle.price_check.specs.Report.{live_cost_of, number_text, row_text, stay_line}
-use Rattle.price_check.specs.Forms.{most_number, any_stay, own_stay, known_line, stated_line, most_stated}
+use Rattle.price_check.specs.Forms.{max_number, any_stay, own_stay, known_line, stated_line, max_stated}
 use Rattle.price_check.specs.Reading.{due, summary_at, stay_at, cell_price_at, series, stops, ended, reading, ReportFault}
 use Rattle.price_check.specs.TextLines.{lines}
 use Rattle.price_check.specs.Claims.{IsClaim, report_text, fault_line, Claim, IsWrongStay, opening_text, IsTooDear, IsOfKind}
@@ -26,7 +26,7 @@ use Rattle.price_check.proofs.LineLaws.{ok_some, stay_form, stay_takes, stay_aga
 use Rattle.price_check.proofs.LinesLemmas.{IsClosed, IsSome, closed_append, closed_line, lines-append, lines-count, first_lines, same_lines}
 use Rattle.price_check.proofs.CutLaws.{HasNoFeed, plain_append, plain_decimal, plain_number, IsLine, line_closed, texts_closed, GoesOn, cut_texts}
 use Rattle.price_check.proofs.StepLaws.{on_err, stay_steps, cell_steps}
-use Rattle.price_check.proofs.SectionLaws.{seven_at, seven_form, seven_takes, seven_again, seven_steps, seven_lines, stay_lines, cell_lines, plain_of, plain_row, stated, said_of, summary-series, parts_of, report_parts}
+use Rattle.price_check.proofs.SectionLaws.{seven_at, seven_form, seven_takes, seven_again, seven_steps, seven_lines, stay_lines, cell_lines, plain_of, plain_row, stated, parsed_of, summary-series, parts_of, report_parts}
 use Rattle.price_check.proofs.PassLaws.{reading_parts, cells_before, not_zero}
 use Rattle.round_net.proofs.SoundLemmas.{some_price}
 use Rattle.price_check.proofs.BeginLaws.{BrokenAt, broken_at, line_behind, padded, padded_texts, Fitting, filled, made, is_claim, Front, longer, price_fits, prices_small}
@@ -103,7 +103,7 @@ module _ (net : NetRows) (claim : Claim) (text rest more front digits : List ℕ
   vs = claim.prices.prices
 
   abbrev seven : List ℕ
-  seven = texts_of (seven_form net) 7 (said_of claim.best claim.excess)
+  seven = texts_of (seven_form net) 7 (parsed_of claim.best claim.excess)
 
   abbrev stays : List ℕ
   stays = texts_of (stay_form net) (instance_of_rows net).stays claim.schedule
@@ -115,7 +115,7 @@ module _ (net : NetRows) (claim : Claim) (text rest more front digits : List ℕ
   abbrev IsFound : Type 0
   IsFound = (at : ℕ) × (reading net.config.devices net text ≡ Err (fault.PriceRange (line_of text at)))
 
-  found : Known net claim → k < price_cells net → is_decimal digits ≡ true → (instance_of_rows net).most_price < digits_value 10 digits → length (opening_of net k ++ digits) ≤ 100
+  found : Known net claim → k < price_cells net → is_decimal digits ≡ true → (instance_of_rows net).max_price < digits_value 10 digits → length (opening_of net k ++ digits) ≤ 100
       → text ≡ front ++ behind → front ≡ (seven ++ stays) ++ texts_of (form net) k vs → IsFound
   found known lt spelled dear short whole is =
       let h = known.claims in
@@ -124,32 +124,32 @@ module _ (net : NetRows) (claim : Claim) (text rest more front digits : List ℕ
       let apart = alone net claim known in
       let here : drop 0 text ≡ seven ++ (stays ++ (texts_of (form net) k vs ++ behind)) =
       whole ∙ ap (λ (l : List ℕ). l ++ behind) is ∙ regroup seven stays (texts_of (form net) k vs) behind in
-      let a1 = series_again (seven_form net) (λ _ _. ⊤) text (seven_at net text) 7 (said_of claim.best claim.excess) (omega arith)
+      let a1 = series_again (seven_form net) (λ _ _. ⊤) text (seven_at net text) 7 (parsed_of claim.best claim.excess) (omega arith)
       (seven_again net claim.best claim.excess text h.best h.excess) (λ i r lt' t. tt) 0 _ here tt in
       let a2 = series_again (stay_form net) (λ _ _. ⊤) text (stay_at net text) (instance_of_rows net).stays claim.schedule (omega arith)
-      (stay_again net text claim.schedule (λ i lt'. All-get_or (λ r. r ≤ (most_number (instance_of_rows net))) claim.schedule i 0 (omega arith) h.rounds)) (λ i r lt' t. tt) a1.0 _ a1.2 tt in
+      (stay_again net text claim.schedule (λ i lt'. All-get_or (λ r. r ≤ (max_number (instance_of_rows net))) claim.schedule i 0 (omega arith) h.rounds)) (λ i r lt' t. tt) a1.0 _ a1.2 tt in
       let none : NoneBefore (front_of devices adapters rounds) k behind = λ j less tail e.
       let same : j ≡ k = apart j k tail (digits ++ (codes "\n" ++ rest)) (omega arith) lt (sym e) in
       omega arith in
-      let a3 = cells_before (instance_of_rows net).most_price (price_fits net claim h) devices adapters rounds text n vs (omega arith) (prices_small net claim h) apart k a2.0 behind lt none a2.2 in
-      let cell : cell_price_at (instance_of_rows net).most_price devices adapters rounds text k a3.0 ≡ Err (fault.PriceRange (line_of text a3.0)) =
-      cell_reads (instance_of_rows net).most_price devices adapters rounds text k a3.0 ∙ price_dear (instance_of_rows net).most_price (whose_of net k) (k % rounds + 1) digits text rest a3.0 spelled dear short a3.2 in
-      let fails = series-fails (cell_price_at (instance_of_rows net).most_price devices adapters rounds text) k n a2.0 a3.0 (take k vs) (fault.PriceRange (line_of text a3.0)) a3.1 cell lt in
-      let costs : summary_at net text ≡ Ok (claim.best, claim.excess, a1.0) = summary-series net text ∙ ap (λ r. r >>= λ said. Ok (stated said)) a1.1 in
+      let a3 = cells_before (instance_of_rows net).max_price (price_fits net claim h) devices adapters rounds text n vs (omega arith) (prices_small net claim h) apart k a2.0 behind lt none a2.2 in
+      let cell : cell_price_at (instance_of_rows net).max_price devices adapters rounds text k a3.0 ≡ Err (fault.PriceRange (line_of text a3.0)) =
+      cell_reads (instance_of_rows net).max_price devices adapters rounds text k a3.0 ∙ price_dear (instance_of_rows net).max_price (whose_of net k) (k % rounds + 1) digits text rest a3.0 spelled dear short a3.2 in
+      let fails = series-fails (cell_price_at (instance_of_rows net).max_price devices adapters rounds text) k n a2.0 a3.0 (take k vs) (fault.PriceRange (line_of text a3.0)) a3.1 cell lt in
+      let costs : summary_at net text ≡ Ok (claim.best, claim.excess, a1.0) = summary-series net text ∙ ap (λ r. r >>= λ parsed. Ok (stated parsed)) a1.1 in
       (a3.0, rw (reading_parts net.config.devices net text, costs, a2.1, fails) refl)
 
   abbrev one : List ℕ
   one = opening_of net k ++ (decimal price ++ (10 ∷ []))
 
-  pub dear_reads : Known net claim → k < price_cells net → is_decimal digits ≡ true → (instance_of_rows net).most_price < digits_value 10 digits → length (opening_of net k ++ digits) ≤ 100 → IsClosed front
+  pub dear_reads : Known net claim → k < price_cells net → is_decimal digits ≡ true → (instance_of_rows net).max_price < digits_value 10 digits → length (opening_of net k ++ digits) ≤ 100 → IsClosed front
       → text ≡ front ++ behind → report_text net claim ≡ front ++ (opening_of net k ++ (decimal price ++ (10 ∷ more))) → IsFound
   unfolding parts_of
   dear_reads known lt spelled dear short closed whole report =
-      elim (cut_texts (seven_form net) (seven_lines net) 7 (said_of claim.best claim.excess) _ (front ++ one) more closed' some (sym (report_parts net claim known.claims.pricing) ∙ report')) [
+      elim (cut_texts (seven_form net) (seven_lines net) 7 (parsed_of claim.best claim.excess) _ (front ++ one) more closed' some (sym (report_parts net claim known.claims.pricing) ∙ report')) [
         | inl w ↦
-            let v = get_or (said_of claim.best claim.excess) w.place 0 in
-            let before = texts_of (seven_form net) w.place (said_of claim.best claim.excess) in
-            let before_closed : IsClosed before = texts_are_closed (seven_form net) (seven_line net) w.place (said_of claim.best claim.excess) in
+            let v = get_or (parsed_of claim.best claim.excess) w.place 0 in
+            let before = texts_of (seven_form net) w.place (parsed_of claim.best claim.excess) in
+            let before_closed : IsClosed before = texts_are_closed (seven_form net) (seven_line net) w.place (parsed_of claim.best claim.excess) in
             absurd (seven_first net w.place v (first (seven_form net w.place v) (last_line front before one (seven_form net w.place v) closed before_closed line w.line w.is).1))
         | inr g ↦ in_stays g
       ]
@@ -174,7 +174,7 @@ module _ (net : NetRows) (claim : Claim) (text rest more front digits : List ℕ
       first l e = ap (λ (x : List ℕ). get_or x 0 0) (sym e) ∙ opening_first net k (decimal price ++ (10 ∷ []))
 
       seven_ends : IsClosed seven
-      seven_ends = texts_are_closed (seven_form net) (seven_line net) 7 (said_of claim.best claim.excess)
+      seven_ends = texts_are_closed (seven_form net) (seven_line net) 7 (parsed_of claim.best claim.excess)
 
       after_stays : (x : List ℕ) → IsClosed x → IsClosed ((seven ++ stays) ++ x)
       after_stays x h = closed_append (seven ++ stays) x (closed_append seven stays seven_ends (texts_are_closed (stay_form net) (stay_is_line net) (instance_of_rows net).stays claim.schedule)) h
@@ -205,7 +205,7 @@ module _ (net : NetRows) (claim : Claim) (text rest more front digits : List ℕ
             | inr g' ↦ absurd (no_end g'.more g'.closed g'.some g'.then (is ∙ ap (λ (l : List ℕ). (seven ++ stays) ++ l) g'.is))
           ]
 
-      in_stays : GoesOn (seven_form net) 7 (said_of claim.best claim.excess) (stays ++ (texts_of (form net) n vs ++ codes "end\n")) (front ++ one) more → IsFound
+      in_stays : GoesOn (seven_form net) 7 (parsed_of claim.best claim.excess) (stays ++ (texts_of (form net) n vs ++ codes "end\n")) (front ++ one) more → IsFound
       in_stays g =
           elim (cut_texts (stay_form net) (stay_lines net) (instance_of_rows net).stays claim.schedule (texts_of (form net) n vs ++ codes "end\n") g.more more g.closed g.some g.then) [
             | inl w ↦
@@ -233,10 +233,10 @@ behind_front text front at e f line =
 
 -- the parts of a report before the prices have seven lines and one for each stay
 seven_size : (net : NetRows) (costs : ℕ × ℕ × ℕ) → length (lines (seven_part net costs)) ≡ 7
-seven_size net costs = texts_size (seven_form net) (seven_line net) 7 (said_of costs.0 costs.1)
+seven_size net costs = texts_size (seven_form net) (seven_line net) 7 (parsed_of costs.0 costs.1)
 
 seven_closed : (net : NetRows) (costs : ℕ × ℕ × ℕ) → IsClosed (seven_part net costs)
-seven_closed net costs = texts_are_closed (seven_form net) (seven_line net) 7 (said_of costs.0 costs.1)
+seven_closed net costs = texts_are_closed (seven_form net) (seven_line net) 7 (parsed_of costs.0 costs.1)
 
 lines-both : (a b : List ℕ) → IsClosed a → length (lines (a ++ b)) ≡ length (lines a) + length (lines b)
 lines-both a b h = ap (λ (ls : List (List ℕ)). length ls) (lines-append a b h) ∙ length-append (lines a) (lines b)
@@ -264,7 +264,7 @@ seven_bad net text (suc (suc (suc (suc (suc (suc k)))))) at e h = missing (state
 
 kind_summary : (net : NetRows) (text : List ℕ) (e : ReportFault) → series (seven_at net text) 7 0 ≡ Err e → IsOfKind net text e
 kind_summary net text e h =
-    let b = broken_at (seven_form net) most_stated text (seven_at net text) (seven_takes net text) (seven_steps net text) 7 0 e h in
+    let b = broken_at (seven_form net) max_stated text (seven_at net text) (seven_takes net text) (seven_steps net text) 7 0 e h in
     let lt = b.within in
     let front = texts_of (seven_form net) b.place b.values in
     let f : Front text front b.end = record { whole = b.spelled; closed = texts_are_closed (seven_form net) (seven_line net) b.place b.values } in
@@ -274,16 +274,16 @@ kind_summary net text e h =
     kind_early net text e (line_of text b.end) (seven_bad net text b.place b.end e b.fails) (omega arith)
 
 -- a fault in a stay's line
-stay_err : (net : NetRows) (text : List ℕ) (s at : ℕ) (e : ReportFault) → stay_at net text s at ≡ Err e → e ≡ cond (is_some (any_stay (most_number (instance_of_rows net)) text at)) (fault.WrongStays (line_of text at)) (fault.BadLine (line_of text at))
+stay_err : (net : NetRows) (text : List ℕ) (s at : ℕ) (e : ReportFault) → stay_at net text s at ≡ Err e → e ≡ cond (is_some (any_stay (max_number (instance_of_rows net)) text at)) (fault.WrongStays (line_of text at)) (fault.BadLine (line_of text at))
 unfolding stay_at
-stay_err net text s at e h = missing (own_stay net s text at) (cond (is_some (any_stay (most_number (instance_of_rows net)) text at)) (fault.WrongStays (line_of text at)) (fault.BadLine (line_of text at))) e h
+stay_err net text s at e h = missing (own_stay net s text at) (cond (is_some (any_stay (max_number (instance_of_rows net)) text at)) (fault.WrongStays (line_of text at)) (fault.BadLine (line_of text at))) e h
 
 kind_stays : (net : NetRows) (text : List ℕ) (e : ReportFault) (costs : ℕ × ℕ × ℕ) → IsClosed text → Read net text costs
     → series (stay_at net text) (instance_of_rows net).stays costs.2 ≡ Err e → IsOfKind net text e
-kind_stays net text e costs closed r h = by (any_stay (most_number (instance_of_rows net)) text b.end) refl
+kind_stays net text e costs closed r h = by (any_stay (max_number (instance_of_rows net)) text b.end) refl
   where
-    b : BrokenAt (stay_form net) (most_number (instance_of_rows net)) text (stay_at net text) (instance_of_rows net).stays costs.2 e
-    b = broken_at (stay_form net) (most_number (instance_of_rows net)) text (stay_at net text) (stay_takes net text) (stay_steps net text) (instance_of_rows net).stays costs.2 e h
+    b : BrokenAt (stay_form net) (max_number (instance_of_rows net)) text (stay_at net text) (instance_of_rows net).stays costs.2 e
+    b = broken_at (stay_form net) (max_number (instance_of_rows net)) text (stay_at net text) (stay_takes net text) (stay_steps net text) (instance_of_rows net).stays costs.2 e h
 
     front : List ℕ
     front = seven_part net costs ++ texts_of (stay_form net) b.place b.values
@@ -300,23 +300,23 @@ kind_stays net text e costs closed r h = by (any_stay (most_number (instance_of_
     number : m ≡ suc (length (lines front))
     number = let line = b.line in let n = (behind_front text front b.end e f b.line).number in omega arith
 
-    no_stay : any_stay (most_number (instance_of_rows net)) text b.end ≡ None → IsWrongStay net text m → ⊥
+    no_stay : any_stay (max_number (instance_of_rows net)) text b.end ≡ None → IsWrongStay net text m → ⊥
     no_stay is w =
         let a = at_line (m - 1) text w.line closed w.here in
         let same : a.front ≡ front = same_lines a.front front a.closed f.closed
         (a.first ∙ ap (λ (l : List ℕ). take (m - 1) (lines l)) f.whole ∙ first_lines front (drop b.end text) (m - 1) f.closed (let count = lines-count front f.closed in omega (arith, number))) in
         let rest : drop b.end text ≡ w.line ++ (10 ∷ a.back) = append_cancel_left front _ _ (sym f.whole ∙ a.whole ∙ ap (λ (l : List ℕ). l ++ (w.line ++ (10 ∷ a.back))) same) in
-        let some = any_again (most_number (instance_of_rows net)) (number_fits (instance_of_rows net)) text w.line a.back b.end w.stay rest in
+        let some = any_again (max_number (instance_of_rows net)) (number_fits (instance_of_rows net)) text w.line a.back b.end w.stay rest in
         let none : false ≡ true = sym (ap (λ (o : Option ℕ). is_some o) is) ∙ some in
         absurd cc
 
-    by : (o : Option ℕ) → any_stay (most_number (instance_of_rows net)) text b.end ≡ o → IsOfKind net text e
+    by : (o : Option ℕ) → any_stay (max_number (instance_of_rows net)) text b.end ≡ o → IsOfKind net text e
     by (Some x) is =
         let lt = b.within in
-        let s = any_takes (most_number (instance_of_rows net)) (number_fits (instance_of_rows net)) text b.end x is in
+        let s = any_takes (max_number (instance_of_rows net)) (number_fits (instance_of_rows net)) text b.end x is in
         let kind : e ≡ fault.WrongStays m = stay_err net text b.place b.end e b.fails ∙ ap (λ (o : Option ℕ). cond (is_some o) (fault.WrongStays m) (fault.BadLine m)) is in
         let here : slice_get (lines text) (m - 1) ≡ Some s.line =
-        ap (λ (l : List ℕ). slice_get (lines l) (m - 1)) (f.whole ∙ ap (λ (l : List ℕ). front ++ l) s.whole) ∙ line_at front s.line s.rest (m - 1) f.closed (plain_stay (most_number (instance_of_rows net)) (number_fits (instance_of_rows net)) s.line s.stay) (omega (arith, number)) in
+        ap (λ (l : List ℕ). slice_get (lines l) (m - 1)) (f.whole ∙ ap (λ (l : List ℕ). front ++ l) s.whole) ∙ line_at front s.line s.rest (m - 1) f.closed (plain_stay (max_number (instance_of_rows net)) (number_fits (instance_of_rows net)) s.line s.stay) (omega (arith, number)) in
         subst (IsOfKind net text) (sym kind) (record { first = omega (arith, number, size); last = omega (arith, number, size, lt); line = s.line; here = here; stay = s.stay })
     by None is =
         let lt = b.within in
@@ -326,8 +326,8 @@ kind_stays net text e costs closed r h = by (any_stay (most_number (instance_of_
 
 -- a fault in a price's line
 kind_prices : (net : NetRows) (text : List ℕ) (e : ReportFault) (costs : ℕ × ℕ × ℕ) (best : List ℕ × ℕ) → 1 ≤ (instance_of_rows net).rounds → IsSound (instance_of_rows net) (live_of_rows net) → Read net text costs
-    → Front text (front_of_stays net costs best.0) best.1 → Fitting (instance_of_rows net).stays (most_number (instance_of_rows net)) best.0
-    → series (cell_price_at (instance_of_rows net).most_price net.config.devices (instance_of_rows net).adapters (instance_of_rows net).rounds text) (price_cells net) best.1 ≡ Err e → IsOfKind net text e
+    → Front text (front_of_stays net costs best.0) best.1 → Fitting (instance_of_rows net).stays (max_number (instance_of_rows net)) best.0
+    → series (cell_price_at (instance_of_rows net).max_price net.config.devices (instance_of_rows net).adapters (instance_of_rows net).rounds text) (price_cells net) best.1 ≡ Err e → IsOfKind net text e
 kind_prices net text e costs best some sound r f fits h =
     subst (IsOfKind net text) (sym d.is) too_dear
   where
@@ -340,8 +340,8 @@ kind_prices net text e costs best some sound r f fits h =
     rounds : ℕ
     rounds = (instance_of_rows net).rounds
 
-    b : BrokenAt (form net) (instance_of_rows net).most_price text (cell_price_at (instance_of_rows net).most_price devices adapters rounds text) (price_cells net) best.1 e
-    b = broken_at (form net) (instance_of_rows net).most_price text (cell_price_at (instance_of_rows net).most_price devices adapters rounds text) (cells_take (instance_of_rows net).most_price sound.small_price devices adapters rounds text) (cell_steps (instance_of_rows net).most_price devices adapters rounds text) (price_cells net) best.1 e h
+    b : BrokenAt (form net) (instance_of_rows net).max_price text (cell_price_at (instance_of_rows net).max_price devices adapters rounds text) (price_cells net) best.1 e
+    b = broken_at (form net) (instance_of_rows net).max_price text (cell_price_at (instance_of_rows net).max_price devices adapters rounds text) (cells_take (instance_of_rows net).max_price sound.small_price devices adapters rounds text) (cell_steps (instance_of_rows net).max_price devices adapters rounds text) (price_cells net) best.1 e h
 
     k : ℕ
     k = b.place
@@ -358,8 +358,8 @@ kind_prices net text e costs best some sound r f fits h =
     f' : Front text front b.end
     f' = longer text (front_of_stays net costs best.0) texts best.1 b.end f b.spelled (texts_closed (form net) (cell_lines devices adapters rounds) k b.values)
 
-    d : DearAt (instance_of_rows net).most_price (whose_of net k) (k % rounds + 1) text b.end e
-    d = price_err (instance_of_rows net).most_price (whose_of net k) (k % rounds + 1) text b.end e (sym (cell_reads (instance_of_rows net).most_price devices adapters rounds text k b.end) ∙ b.fails)
+    d : DearAt (instance_of_rows net).max_price (whose_of net k) (k % rounds + 1) text b.end e
+    d = price_err (instance_of_rows net).max_price (whose_of net k) (k % rounds + 1) text b.end e (sym (cell_reads (instance_of_rows net).max_price devices adapters rounds text k b.end) ∙ b.fails)
 
     m : ℕ
     m = line_of text b.end
@@ -377,8 +377,8 @@ kind_prices net text e costs best some sound r f fits h =
     size : length values ≡ suc k
     size = let before = b.size in let push = length_push b.values 1 in omega arith
 
-    small : All (λ v. v ≤ (instance_of_rows net).most_price) values
-    small = All-push (λ v. v ≤ (instance_of_rows net).most_price) b.values 1 b.small (some_price (instance_of_rows net) (live_of_rows net) sound some)
+    small : All (λ v. v ≤ (instance_of_rows net).max_price) values
+    small = All-push (λ v. v ≤ (instance_of_rows net).max_price) b.values 1 b.small (some_price (instance_of_rows net) (live_of_rows net) sound some)
 
     prices : List ℕ
     prices = padded (price_cells net) values
@@ -387,7 +387,7 @@ kind_prices net text e costs best some sound r f fits h =
     claim = made net costs.0 costs.1 best.0 prices
 
     claims : IsClaim (instance_of_rows net) claim
-    claims = is_claim net costs.0 costs.1 best.0 prices sound r.best r.excess fits (filled (price_cells net) (instance_of_rows net).most_price values (omega (arith, size, lt)) small)
+    claims = is_claim net costs.0 costs.1 best.0 prices sound r.best r.excess fits (filled (price_cells net) (instance_of_rows net).max_price values (omega (arith, size, lt)) small)
 
     pad : (more : List ℕ) × (texts_of (form net) (price_cells net) prices ≡ texts_of (form net) (suc k) values ++ more)
     pad = padded_texts (form net) (price_cells net) (suc k) values size (omega (arith, lt))
@@ -513,16 +513,16 @@ kind_of_closed net text e some sound closed reports known h =
     let adapters = (instance_of_rows net).adapters in
     let rounds = (instance_of_rows net).rounds in
     on_err (summary_at net text) _ e (sym (reading_parts devices net text) ∙ h)
-    (λ h'. on_err (series (seven_at net text) 7 0) (λ said. Ok (stated said)) e (sym (summary-series net text) ∙ h')
-    (λ h''. kind_summary net text e h'') (λ said is h''. absurd cc))
+    (λ h'. on_err (series (seven_at net text) 7 0) (λ parsed. Ok (stated parsed)) e (sym (summary-series net text) ∙ h')
+    (λ h''. kind_summary net text e h'') (λ parsed is h''. absurd cc))
     (λ costs e0 h0.
     let r = read_summary net text costs e0 in
     on_err (series (stay_at net text) (instance_of_rows net).stays costs.2) _ e h0 (λ h'. kind_stays net text e costs closed r h') (λ best e1 h1.
-    let t1 = series_takes (stay_form net) (most_number (instance_of_rows net)) text (stay_at net text) (stay_takes net text) (instance_of_rows net).stays costs.2 best e1 in
+    let t1 = series_takes (stay_form net) (max_number (instance_of_rows net)) text (stay_at net text) (stay_takes net text) (instance_of_rows net).stays costs.2 best e1 in
     let f1 = longer text (seven_part net costs) (stay_part net best.0) costs.2 best.1 r.front t1.spelled (texts_closed (stay_form net) (stay_lines net) (instance_of_rows net).stays best.0) in
-    let fits1 : Fitting (instance_of_rows net).stays (most_number (instance_of_rows net)) best.0 = record { size = t1.size; small = t1.small } in
-    on_err (series (cell_price_at (instance_of_rows net).most_price devices adapters rounds text) (price_cells net) best.1) _ e h1 (λ h'. kind_prices net text e costs best some sound r f1 fits1 h') (λ prices e2 h2.
-    let t2 = series_takes (form_of devices adapters rounds) (instance_of_rows net).most_price text (cell_price_at (instance_of_rows net).most_price devices adapters rounds text) (cells_take (instance_of_rows net).most_price sound.small_price devices adapters rounds text) (price_cells net) best.1 prices e2 in
+    let fits1 : Fitting (instance_of_rows net).stays (max_number (instance_of_rows net)) best.0 = record { size = t1.size; small = t1.small } in
+    on_err (series (cell_price_at (instance_of_rows net).max_price devices adapters rounds text) (price_cells net) best.1) _ e h1 (λ h'. kind_prices net text e costs best some sound r f1 fits1 h') (λ prices e2 h2.
+    let t2 = series_takes (form_of devices adapters rounds) (instance_of_rows net).max_price text (cell_price_at (instance_of_rows net).max_price devices adapters rounds text) (cells_take (instance_of_rows net).max_price sound.small_price devices adapters rounds text) (price_cells net) best.1 prices e2 in
     let f2 = longer text (front_of_stays net costs best.0) (price_part net prices.0) best.1 prices.1 f1 t2.spelled (texts_closed (form_of devices adapters rounds) (cell_lines devices adapters rounds) (price_cells net) prices.0) in
     on_err (ended text prices.1) _ e h2 (λ h'. kind_end net text e costs best prices closed reports known h f2 f1.closed h') (λ u e3 h3. absurd cc))))
 

@@ -7,7 +7,7 @@ use Rattle.price_check.specs.Words.{Stay, NetRows, instance_of_rows, live_of_row
 use Rattle.price_check.specs.Pieces.{skip, line_of}
 use Rattle.price_check.specs.Lines.{line}
 use Rattle.price_check.specs.Report.{number_text, name_text, stay_line}
-use Rattle.price_check.specs.Forms.{known_line, stated_line, most_stated, most_number, own_stay, any_stay}
+use Rattle.price_check.specs.Forms.{known_line, stated_line, max_stated, max_number, own_stay, any_stay}
 use Rattle.price_check.specs.Reading.{due, stay_at, stops, ended, ReportFault, BadLine, WrongStays}
 use Rattle.price_check.proofs.PieceLaws.{skip_takes, skip_again, framed, framed_takes, framed_again}
 use Rattle.price_check.proofs.FormLaws.{known_line-skip, stated_line-framed, stay_front, stay_back, named_stay-framed, number_fits}
@@ -30,17 +30,17 @@ known_again word n text rest at h =
 grouped : (w s d f rest : List ℕ) → (w ++ s) ++ (d ++ (f ++ rest)) ≡ (((w ++ s) ++ d) ++ f) ++ rest
 grouped w s d f rest = simp append_assoc
 
-pub stated_takes : (word text : List ℕ) (at : ℕ) (r : ℕ × ℕ) → due (stated_line word text at) text at ≡ Ok r → (drop at text ≡ line word r.0 ++ drop r.1 text) × (r.0 ≤ most_stated)
+pub stated_takes : (word text : List ℕ) (at : ℕ) (r : ℕ × ℕ) → due (stated_line word text at) text at ≡ Ok r → (drop at text ≡ line word r.0 ++ drop r.1 text) × (r.0 ≤ max_stated)
 unfolding line
 stated_takes word text at r h =
-    let a = framed_takes (word ++ codes " ") (codes "\n") most_stated text at r (omega arith) (sym (stated_line-framed word text at) ∙ ok_some (stated_line word text at) (BadLine (line_of text at)) r h) in
+    let a = framed_takes (word ++ codes " ") (codes "\n") max_stated text at r (omega arith) (sym (stated_line-framed word text at) ∙ ok_some (stated_line word text at) (BadLine (line_of text at)) r h) in
     (a.0 ∙ grouped word (codes " ") (decimal r.0) (codes "\n") (drop r.1 text), a.1)
 
-pub stated_again : (word : List ℕ) (n : ℕ) (text rest : List ℕ) (at : ℕ) → n ≤ most_stated → drop at text ≡ line word n ++ rest
+pub stated_again : (word : List ℕ) (n : ℕ) (text rest : List ℕ) (at : ℕ) → n ≤ max_stated → drop at text ≡ line word n ++ rest
     → (e : ℕ) × (due (stated_line word text at) text at ≡ Ok (n, e)) × (drop e text ≡ rest)
 unfolding line
 stated_again word n text rest at small h =
-    let a = framed_again (word ++ codes " ") (codes "\n") most_stated text rest at n (omega arith) small refl (h ∙ sym (grouped word (codes " ") (decimal n) (codes "\n") rest)) in
+    let a = framed_again (word ++ codes " ") (codes "\n") max_stated text rest at n (omega arith) small refl (h ∙ sym (grouped word (codes " ") (decimal n) (codes "\n") rest)) in
     (a.0, rw (stated_line-framed word text at, a.1) refl, a.2)
 
 -- ---- lines of stays
@@ -59,26 +59,26 @@ parted net s v name rest is = rw is (regroup (codes "stay") (number_text name.cc
     (codes " ") (decimal v) (number_text ((instance_of_rows net).weight s)) (codes "\n") rest)
 
 pub own_named : (net : NetRows) (s : ℕ) (text : List ℕ) (at : ℕ) (name : Stay) → slice_get (names_of_rows net) s ≡ Some name
-    → own_stay net s text at ≡ framed (stay_front name ((instance_of_rows net).arrival s) (live_of_rows net s)) (stay_back ((instance_of_rows net).weight s)) (most_number (instance_of_rows net)) text at
+    → own_stay net s text at ≡ framed (stay_front name ((instance_of_rows net).arrival s) (live_of_rows net s)) (stay_back ((instance_of_rows net).weight s)) (max_number (instance_of_rows net)) text at
 unfolding own_stay
-own_named net s text at name is = rw is (named_stay-framed (most_number (instance_of_rows net)) name ((instance_of_rows net).arrival s) (live_of_rows net s) ((instance_of_rows net).weight s) text at)
+own_named net s text at name is = rw is (named_stay-framed (max_number (instance_of_rows net)) name ((instance_of_rows net).arrival s) (live_of_rows net s) ((instance_of_rows net).weight s) text at)
 
 pub no_name : (net : NetRows) (s : ℕ) (text : List ℕ) (at : ℕ) → slice_get (names_of_rows net) s ≡ None → own_stay net s text at ≡ None
 unfolding own_stay
 no_name net s text at is = rw is refl
 
-pub stay_takes : (net : NetRows) (text : List ℕ) → Takes (stay_form net) (most_number (instance_of_rows net)) text (stay_at net text)
+pub stay_takes : (net : NetRows) (text : List ℕ) → Takes (stay_form net) (max_number (instance_of_rows net)) text (stay_at net text)
 unfolding stay_at
-stay_takes net text s at said e = by (slice_get (names_of_rows net) s) refl
+stay_takes net text s at parsed e = by (slice_get (names_of_rows net) s) refl
   where
-    read : own_stay net s text at ≡ Some said
-    read = ok_some (own_stay net s text at) (cond (is_some (any_stay (most_number (instance_of_rows net)) text at)) (WrongStays (line_of text at)) (BadLine (line_of text at))) said e
+    read : own_stay net s text at ≡ Some parsed
+    read = ok_some (own_stay net s text at) (cond (is_some (any_stay (max_number (instance_of_rows net)) text at)) (WrongStays (line_of text at)) (BadLine (line_of text at))) parsed e
 
-    by : (o : Option Stay) → slice_get (names_of_rows net) s ≡ o → (drop at text ≡ stay_form net s said.0 ++ drop said.1 text) × (said.0 ≤ (most_number (instance_of_rows net)))
+    by : (o : Option Stay) → slice_get (names_of_rows net) s ≡ o → (drop at text ≡ stay_form net s parsed.0 ++ drop parsed.1 text) × (parsed.0 ≤ (max_number (instance_of_rows net)))
     by (Some name) is =
-        let a = framed_takes (stay_front name ((instance_of_rows net).arrival s) (live_of_rows net s)) (stay_back ((instance_of_rows net).weight s)) (most_number (instance_of_rows net)) text at said (number_fits (instance_of_rows net))
+        let a = framed_takes (stay_front name ((instance_of_rows net).arrival s) (live_of_rows net s)) (stay_back ((instance_of_rows net).weight s)) (max_number (instance_of_rows net)) text at parsed (number_fits (instance_of_rows net))
         (sym (own_named net s text at name is) ∙ read) in
-        (a.0 ∙ parted net s said.0 name (drop said.1 text) is, a.1)
+        (a.0 ∙ parted net s parsed.0 name (drop parsed.1 text) is, a.1)
     by None is = let none = no_name net s text at is in absurd (cc)
 
 pub named : (net : NetRows) (s : ℕ) → s < (instance_of_rows net).stays → (name : Stay) × (slice_get (names_of_rows net) s ≡ Some name)
@@ -90,12 +90,12 @@ named net s lt =
       | inr past ↦ absurd (omega (arith, past.0))
     ]
 
-pub stay_again : (net : NetRows) (text : List ℕ) (vs : List ℕ) → ((k : ℕ) → k < (instance_of_rows net).stays → get_or vs k 0 ≤ (most_number (instance_of_rows net))) → Again (stay_form net) (λ _ _. ⊤) text (stay_at net text) (instance_of_rows net).stays vs
+pub stay_again : (net : NetRows) (text : List ℕ) (vs : List ℕ) → ((k : ℕ) → k < (instance_of_rows net).stays → get_or vs k 0 ≤ (max_number (instance_of_rows net))) → Again (stay_form net) (λ _ _. ⊤) text (stay_at net text) (instance_of_rows net).stays vs
 unfolding stay_at
 stay_again net text vs small s at rest lt e h =
     let name = named net s lt in
     let v = get_or vs s 0 in
-    let a = framed_again (stay_front name.0 ((instance_of_rows net).arrival s) (live_of_rows net s)) (stay_back ((instance_of_rows net).weight s)) (most_number (instance_of_rows net)) text rest at v (number_fits (instance_of_rows net)) (small s lt) refl
+    let a = framed_again (stay_front name.0 ((instance_of_rows net).arrival s) (live_of_rows net s)) (stay_back ((instance_of_rows net).weight s)) (max_number (instance_of_rows net)) text rest at v (number_fits (instance_of_rows net)) (small s lt) refl
     (e ∙ sym (parted net s v name.0 rest name.1)) in
     (a.0, rw (own_named net s text at name.0 name.1, a.1) refl, a.2)
 

@@ -7,7 +7,7 @@ use Rattle.std.proofs.lemmas.List.{append_cancel_right, get_or-append-add}
 use Rattle.price_check.specs.Words.{IsConfig, number_of, Device, ◌>>=◌, digits_at, pricing_of_rows, NetRows, instance_of_rows, live_of_rows, IsSound, IsWholeWithin}
 use Rattle.price_check.specs.Pieces.{skip, line_of}
 use Rattle.price_check.specs.Report.{live_cost_of, texts_below, summary_text, plan_text, stay_line, price_lines}
-use Rattle.price_check.specs.Forms.{known_line, stated_line, most_number, most_bytes, own_stay, any_stay}
+use Rattle.price_check.specs.Forms.{known_line, stated_line, max_number, max_bytes, own_stay, any_stay}
 use Rattle.price_check.specs.Reading.{closed, due, stops, ended, summary_at, stay_at, is_large, valued, price_at, cell_price_at, series, reading, ReportFault}
 use Rattle.price_check.specs.Claims.{IsClaim, IsReport, WasReport, report_text, Claim}
 use Rattle.price_check.specs.declared.report_fault.ReportFault.TheVariants as fault
@@ -87,7 +87,7 @@ summary_fails net text =
 
 stay_fails : (net : NetRows) (text : List ℕ) (s at : ℕ) → FailsByText (stay_at net text s at)
 unfolding stay_at
-stay_fails net text s at = or_fails (own_stay net s text at) _ (by (is_some (any_stay (most_number (instance_of_rows net)) text at)))
+stay_fails net text s at = or_fails (own_stay net s text at) _ (by (is_some (any_stay (max_number (instance_of_rows net)) text at)))
   where
     by : (b : Bool) → IsOfText (cond b (fault.WrongStays (line_of text at)) (fault.BadLine (line_of text at)))
     by true = tt
@@ -141,7 +141,7 @@ reading_fails devices net text =
     let rounds = (instance_of_rows net).rounds in
     bound (summary_at net text) _ (summary_fails net text) (λ costs.
     bound (series (stay_at net text) (instance_of_rows net).stays costs.2) _ (series_fails (stay_at net text) (stay_fails net text) (instance_of_rows net).stays costs.2) (λ best.
-    bound (series (cell_price_at (instance_of_rows net).most_price devices adapters rounds text) (price_cells net) best.1) _ (series_fails (cell_price_at (instance_of_rows net).most_price devices adapters rounds text) (cell_fails (instance_of_rows net).most_price devices adapters rounds text) (price_cells net) best.1) (λ prices.
+    bound (series (cell_price_at (instance_of_rows net).max_price devices adapters rounds text) (price_cells net) best.1) _ (series_fails (cell_price_at (instance_of_rows net).max_price devices adapters rounds text) (cell_fails (instance_of_rows net).max_price devices adapters rounds text) (price_cells net) best.1) (λ prices.
     bound (ended text prices.1) _ (ended_fails text prices.1) (λ u. tt))))
 
 -- ---- the clauses of a reader of reports, from what reading the whole text gives
@@ -150,7 +150,7 @@ abbrev pub Gives : NetRows → List ℕ → Result Claim ReportFault → Type 0
 Gives net text r = r ≢ Err fault.OutOfMemory → r ≡ reading net.config.devices net (closed text)
 
 pub found_law : (net : NetRows) (before after : Option (List ℕ)) (text : List ℕ) (r : Result Claim ReportFault)
-    → (r ≢ Err fault.OutOfMemory → IsSound (instance_of_rows net) (live_of_rows net)) → IsWholeWithin (most_bytes (instance_of_rows net)) before after text → Gives net text r → IfOk r (λ claim. WasReport net before after claim)
+    → (r ≢ Err fault.OutOfMemory → IsSound (instance_of_rows net) (live_of_rows net)) → IsWholeWithin (max_bytes (instance_of_rows net)) before after text → Gives net text r → IfOk r (λ claim. WasReport net before after claim)
 found_law net before after text (Ok claim) sound whole h =
     let taken = reading_takes net (closed text) claim (sound (λ k. cc)) (sym (h (λ k. cc))) in
     record {
@@ -170,7 +170,7 @@ read_again net text r claim sound config targets claims h report memory =
     h memory ∙ reading_again net (closed text) claim (named_devices net.config config.kept targets) (sound memory).some_rounds claims whole
 
 pub only_law : (net : NetRows) (before after : Option (List ℕ)) (text : List ℕ) (r : Result Claim ReportFault) (claim : Claim) → (r ≢ Err fault.OutOfMemory → IsSound (instance_of_rows net) (live_of_rows net)) → IsConfig net.config
-    → IsWholeWithin (most_bytes (instance_of_rows net)) before after text → Gives net text r → IsClaim (instance_of_rows net) claim → AllByRecursion (λ (d : Device). d.target ≤ 65535) net.config.devices
+    → IsWholeWithin (max_bytes (instance_of_rows net)) before after text → Gives net text r → IsClaim (instance_of_rows net) claim → AllByRecursion (λ (d : Device). d.target ≤ 65535) net.config.devices
     → IfSome before (λ all. IsReport net all claim → r ≢ Err fault.OutOfMemory → r ≢ Err fault.ReadFailed → r ≡ Ok claim)
 only_law net None after text r claim sound config whole h claims targets = tt
 only_law net (Some all) None text r claim sound config whole h claims targets = absurd whole.read

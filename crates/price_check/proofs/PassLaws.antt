@@ -2,7 +2,7 @@
 use Rattle.std.proofs.Common.{◌≡◌, ◌≤◌, ◌<◌, ◌+◌, ◌-◌, ◌/◌, ◌%◌, ℕ, suc, List, [], ◌∷◌, ◌++◌, length, take, drop, get_or, Bool, true, false, refl, sym, ap, ◌∙◌, subst, arith, append_assoc}
 use Rattle.std.specs.Prelude.{◌==◌, ⊤, Result, Ok, All}
 use Rattle.std.proofs.lemmas.List.Elements.{All-get_or}
-use Rattle.price_check.specs.Words.{Device, ◌>>=◌, NetRows, instance_of_rows, MOST_NET_PRICE}
+use Rattle.price_check.specs.Words.{Device, ◌>>=◌, NetRows, instance_of_rows, MAX_NET_PRICE}
 use Rattle.price_check.specs.Report.{price_line, row_text}
 use Rattle.price_check.specs.Reading.{summary_at, stay_at, cell_price_at, series, ended, reading, ReportFault}
 use Rattle.price_check.specs.Claims.{Claim}
@@ -19,7 +19,7 @@ use Rattle.price_check.proofs.SectionLaws.{seven_at, stated, summary-series}
 abbrev pub claimed : NetRows → ℕ × ℕ × ℕ → List ℕ × ℕ → List ℕ × ℕ → Claim
 claimed net costs best prices = record {
   schedule = best.0;
-  prices = record { rounds = (instance_of_rows net).rounds; devices = (instance_of_rows net).devices; adapters = (instance_of_rows net).adapters; links = (instance_of_rows net).links; most_price = (instance_of_rows net).most_price; prices = prices.0 };
+  prices = record { rounds = (instance_of_rows net).rounds; devices = (instance_of_rows net).devices; adapters = (instance_of_rows net).adapters; links = (instance_of_rows net).links; max_price = (instance_of_rows net).max_price; prices = prices.0 };
   best = costs.0;
   excess = costs.1;
 }
@@ -28,7 +28,7 @@ abbrev pub from_end : NetRows → List ℕ → ℕ × ℕ × ℕ → List ℕ ×
 from_end net text costs best prices = ended text prices.1 >>= λ _. Ok (claimed net costs best prices)
 
 abbrev pub from_prices : List Device → NetRows → List ℕ → ℕ × ℕ × ℕ → List ℕ × ℕ → Result Claim ReportFault
-from_prices devices net text costs best = series (cell_price_at (instance_of_rows net).most_price devices (instance_of_rows net).adapters (instance_of_rows net).rounds text) (price_cells net) best.1 >>= λ prices. from_end net text costs best prices
+from_prices devices net text costs best = series (cell_price_at (instance_of_rows net).max_price devices (instance_of_rows net).adapters (instance_of_rows net).rounds text) (price_cells net) best.1 >>= λ prices. from_end net text costs best prices
 
 abbrev pub from_stays : List Device → NetRows → List ℕ → ℕ × ℕ × ℕ → Result Claim ReportFault
 from_stays devices net text costs = series (stay_at net text) (instance_of_rows net).stays costs.2 >>= λ best. from_prices devices net text costs best
@@ -44,21 +44,21 @@ Reaches text m r = From text m (λ _. m) r
 pub on_end : (net : NetRows) (text : List ℕ) (costs : ℕ × ℕ × ℕ) (best prices : List ℕ × ℕ) (m : ℕ) → From text m (λ _. m) (ended text prices.1) → Reaches text m (from_end net text costs best prices)
 on_end net text costs best prices m h = bind_from text m (λ _. m) (λ _. m) (ended text prices.1) _ h (λ u le. le)
 
-pub on_prices : (devices : List Device) (net : NetRows) (text : List ℕ) (costs : ℕ × ℕ × ℕ) (best : List ℕ × ℕ) (m : ℕ) → From text m behind_all (series (cell_price_at (instance_of_rows net).most_price devices (instance_of_rows net).adapters (instance_of_rows net).rounds text) (price_cells net) best.1)
+pub on_prices : (devices : List Device) (net : NetRows) (text : List ℕ) (costs : ℕ × ℕ × ℕ) (best : List ℕ × ℕ) (m : ℕ) → From text m behind_all (series (cell_price_at (instance_of_rows net).max_price devices (instance_of_rows net).adapters (instance_of_rows net).rounds text) (price_cells net) best.1)
     → Reaches text m (from_prices devices net text costs best)
 on_prices devices net text costs best m h =
-    bind_from text m behind_all (λ _. m) (series (cell_price_at (instance_of_rows net).most_price devices (instance_of_rows net).adapters (instance_of_rows net).rounds text) (price_cells net) best.1) _ h (λ prices le. on_end net text costs best prices m (ended_from text m prices.1 le))
+    bind_from text m behind_all (λ _. m) (series (cell_price_at (instance_of_rows net).max_price devices (instance_of_rows net).adapters (instance_of_rows net).rounds text) (price_cells net) best.1) _ h (λ prices le. on_end net text costs best prices m (ended_from text m prices.1 le))
 
 pub on_stays : (devices : List Device) (net : NetRows) (text : List ℕ) (costs : ℕ × ℕ × ℕ) (m : ℕ) → From text m behind_all (series (stay_at net text) (instance_of_rows net).stays costs.2) → Reaches text m (from_stays devices net text costs)
 on_stays devices net text costs m h =
     bind_from text m behind_all (λ _. m) (series (stay_at net text) (instance_of_rows net).stays costs.2) _ h (λ best le.
-    on_prices devices net text costs best m (series_from text (cell_price_at (instance_of_rows net).most_price devices (instance_of_rows net).adapters (instance_of_rows net).rounds text) (cell_steps (instance_of_rows net).most_price devices (instance_of_rows net).adapters (instance_of_rows net).rounds text) (price_cells net) best.1 m le))
+    on_prices devices net text costs best m (series_from text (cell_price_at (instance_of_rows net).max_price devices (instance_of_rows net).adapters (instance_of_rows net).rounds text) (cell_steps (instance_of_rows net).max_price devices (instance_of_rows net).adapters (instance_of_rows net).rounds text) (price_cells net) best.1 m le))
 
 pub on_summary : (devices : List Device) (net : NetRows) (text : List ℕ) (m : ℕ) → From text m behind_all (series (seven_at net text) 7 0) → Reaches text m (reading devices net text)
 on_summary devices net text m h =
     rw (reading_parts devices net text, summary-series net text)
-    (bind_from text m (λ (costs : ℕ × ℕ × ℕ). costs.2) (λ _. m) (series (seven_at net text) 7 0 >>= λ said. Ok (stated said)) _
-    (bind_from text m behind_all (λ (costs : ℕ × ℕ × ℕ). costs.2) (series (seven_at net text) 7 0) _ h (λ said le. le))
+    (bind_from text m (λ (costs : ℕ × ℕ × ℕ). costs.2) (λ _. m) (series (seven_at net text) 7 0 >>= λ parsed. Ok (stated parsed)) _
+    (bind_from text m behind_all (λ (costs : ℕ × ℕ × ℕ). costs.2) (series (seven_at net text) 7 0) _ h (λ parsed le. le))
     (λ costs le. on_stays devices net text costs m (series_from text (stay_at net text) (stay_steps net text) (instance_of_rows net).stays costs.2 m le)))
 
 -- what stands after the text read so far, and that a reading gets as far
@@ -100,7 +100,7 @@ not_zero whose r v h = by (v == 0) refl
     by true e = let empty : price_line whose r v ≡ [] = rw e refl in absurd (none h.content (sym empty ∙ h.whole))
 
 -- the cells before one that has a line
-pub cells_before : (most : ℕ) → most ≤ MOST_NET_PRICE → (devices : List Device) (adapters rounds : ℕ) (text : List ℕ) (n : ℕ) (vs : List ℕ) → n ≤ length vs → All (λ v. v ≤ most) vs → AreApart (front_of devices adapters rounds) n
+pub cells_before : (most : ℕ) → most ≤ MAX_NET_PRICE → (devices : List Device) (adapters rounds : ℕ) (text : List ℕ) (n : ℕ) (vs : List ℕ) → n ≤ length vs → All (λ v. v ≤ most) vs → AreApart (front_of devices adapters rounds) n
     → (place at : ℕ) (rest : List ℕ) → place < n → NoneBefore (front_of devices adapters rounds) place rest → drop at text ≡ texts_of (form_of devices adapters rounds) place vs ++ rest
     → (e : ℕ) × (series (cell_price_at most devices adapters rounds text) place at ≡ Ok (take place vs, e)) × (drop e text ≡ rest)
 cells_before most fits devices adapters rounds text n vs le small apart place at rest lt none here =
@@ -108,7 +108,7 @@ cells_before most fits devices adapters rounds text n vs le small apart place at
     (λ k at' r lt'. cells_again most fits devices adapters rounds text n vs le small k at' r (omega arith))
     (λ k r lt'. cells_join devices adapters rounds n vs apart k r (omega arith)) at rest here none
 
-pub cells_within : (most : ℕ) → most ≤ MOST_NET_PRICE → (devices : List Device) (adapters rounds : ℕ) (text : List ℕ) (n : ℕ) (vs : List ℕ) → n ≤ length vs → All (λ v. v ≤ most) vs → AreApart (front_of devices adapters rounds) n
+pub cells_within : (most : ℕ) → most ≤ MAX_NET_PRICE → (devices : List Device) (adapters rounds : ℕ) (text : List ℕ) (n : ℕ) (vs : List ℕ) → n ≤ length vs → All (λ v. v ≤ most) vs → AreApart (front_of devices adapters rounds) n
     → (at : ℕ) (rest front : List ℕ) → EndsWithin (form_of devices adapters rounds) n vs front → drop at text ≡ front ++ rest → PassedIn text rest (series (cell_price_at most devices adapters rounds text) n at)
 cells_within most fits devices adapters rounds text n vs le small apart at rest front w e =
     let one = cell_price_at most devices adapters rounds text in

@@ -2,7 +2,7 @@
 use Rattle.std.proofs.Common.{◌≡◌, ◌≤◌, ◌+◌, ℕ, List, ◌++◌, length, take, drop, Bool, true, false, cond, refl, sym, ap, ◌∙◌, subst, arith, append_assoc, inl, inr, ◌⊎◌, ◌==◌, Option, Some, None, option_map, ok_or, Result, Ok, Err, decimal, codes, nat_le, ◌&&◌}
 use Rattle.std.specs.Option.{option_map_or}
 use Rattle.std.specs.Result.{result_ok}
-use Rattle.price_check.specs.Words.{number_of, number_at, digits_at, MOST_NET_PRICE}
+use Rattle.price_check.specs.Words.{number_of, number_at, digits_at, MAX_NET_PRICE}
 use Rattle.price_check.specs.Pieces.{skip, found_number, line_of}
 use Rattle.price_check.specs.Report.{number_text, price_line}
 use Rattle.price_check.specs.Reading.{price_at, valued, is_large, ReportFault, PriceRange}
@@ -38,7 +38,7 @@ of_found (Some m) at k n e h =
 pub regroup : (w r s d f rest : List ℕ) → (w ++ (r ++ s)) ++ (d ++ (f ++ rest)) ≡ (w ++ (r ++ ((s ++ d) ++ f))) ++ rest
 regroup w r s d f rest = simp append_assoc
 
-module _ (most : ℕ) (fits : most ≤ MOST_NET_PRICE) where
+module _ (most : ℕ) (fits : most ≤ MAX_NET_PRICE) where
   abbrev IsSome : List ℕ → ℕ → ℕ × ℕ → Type 0
   IsSome digits next r = ((r.0 == 0) ≡ false) × (number_of most digits ≡ Some r.0) × (r.1 ≡ next)
 
@@ -57,42 +57,42 @@ module _ (most : ℕ) (fits : most ≤ MOST_NET_PRICE) where
 
   -- the text at hand is the line of this price, or nothing of it where the price is 0
   abbrev IsTaken : List ℕ → ℕ → List ℕ → ℕ → ℕ × ℕ → Type 0
-  IsTaken whose r text at said = (drop at text ≡ price_line whose r said.0 ++ drop said.1 text) × (said.0 ≤ most)
+  IsTaken whose r text at parsed = (drop at text ≡ price_line whose r parsed.0 ++ drop parsed.1 text) × (parsed.0 ≤ most)
 
-  none_taken : (whose : List ℕ) (r : ℕ) (text : List ℕ) (at : ℕ) (said : ℕ × ℕ) → IsNone at said → IsTaken whose r text at said
-  none_taken whose r text at said none = rw (none.0, none.1) (refl, omega arith)
+  none_taken : (whose : List ℕ) (r : ℕ) (text : List ℕ) (at : ℕ) (parsed : ℕ × ℕ) → IsNone at parsed → IsTaken whose r text at parsed
+  none_taken whose r text at parsed none = rw (none.0, none.1) (refl, omega arith)
 
-  some_taken : (whose : List ℕ) (r : ℕ) (text : List ℕ) (at begin next : ℕ) (said : ℕ × ℕ) → skip (front_text whose r) text at ≡ Some begin
-      → skip (codes "\n") text (begin + digits_at text begin) ≡ Some next → IsSome (take (digits_at text begin) (drop begin text)) next said → IsTaken whose r text at said
+  some_taken : (whose : List ℕ) (r : ℕ) (text : List ℕ) (at begin next : ℕ) (parsed : ℕ × ℕ) → skip (front_text whose r) text at ≡ Some begin
+      → skip (codes "\n") text (begin + digits_at text begin) ≡ Some next → IsSome (take (digits_at text begin) (drop begin text)) next parsed → IsTaken whose r text at parsed
   unfolding number_at
-  some_taken whose r text at begin next said front end some =
+  some_taken whose r text at begin next parsed front end some =
       let a = skip_takes (front_text whose r) text at begin front in
       let k = begin + digits_at text begin in
-      let found : found_number most text begin ≡ Some (said.0, k) = found_of (number_of most (take (digits_at text begin) (drop begin text))) begin k said.0 some.1 in
-      let b = number_found most text begin (said.0, k) (omega arith) found in
+      let found : found_number most text begin ≡ Some (parsed.0, k) = found_of (number_of most (take (digits_at text begin) (drop begin text))) begin k parsed.0 some.1 in
+      let b = number_found most text begin (parsed.0, k) (omega arith) found in
       let c = skip_takes (codes "\n") text k next end in
-      let whole : drop at text ≡ front_text whose r ++ (decimal said.0 ++ (codes "\n" ++ drop next text)) =
-      a.0 ∙ ap (λ (l : List ℕ). front_text whose r ++ l) (b.0 ∙ ap (λ (l : List ℕ). decimal said.0 ++ l) c.0) in
-      (rw (some.0, some.2) (whole ∙ regroup whose (number_text r) (codes " ") (decimal said.0) (codes "\n") (drop next text)), b.1)
+      let whole : drop at text ≡ front_text whose r ++ (decimal parsed.0 ++ (codes "\n" ++ drop next text)) =
+      a.0 ∙ ap (λ (l : List ℕ). front_text whose r ++ l) (b.0 ∙ ap (λ (l : List ℕ). decimal parsed.0 ++ l) c.0) in
+      (rw (some.0, some.2) (whole ∙ regroup whose (number_text r) (codes " ") (decimal parsed.0) (codes "\n") (drop next text)), b.1)
 
-  pub price_takes : (whose : List ℕ) (r : ℕ) (text : List ℕ) (at : ℕ) (said : ℕ × ℕ) → price_at most (skip (front_text whose r) text at) text at ≡ Ok said
-      → (drop at text ≡ price_line whose r said.0 ++ drop said.1 text) × (said.0 ≤ most)
+  pub price_takes : (whose : List ℕ) (r : ℕ) (text : List ℕ) (at : ℕ) (parsed : ℕ × ℕ) → price_at most (skip (front_text whose r) text at) text at ≡ Ok parsed
+      → (drop at text ≡ price_line whose r parsed.0 ++ drop parsed.1 text) × (parsed.0 ≤ most)
   unfolding price_at
-  price_takes whose r text at said e = by (skip (front_text whose r) text at) refl e
+  price_takes whose r text at parsed e = by (skip (front_text whose r) text at) refl e
     where
       ended : (begin : ℕ) → skip (front_text whose r) text at ≡ Some begin → (o : Option ℕ) → skip (codes "\n") text (begin + digits_at text begin) ≡ o
-          → ◌≡◌ {A = Read} (option_map_or (λ next. valued most text at next (take (digits_at text begin) (drop begin text))) o (Ok (0, at))) (Ok said) → IsTaken whose r text at said
-      ended begin front (Some next) end h = elim (valued_ok text (take (digits_at text begin) (drop begin text)) at next said h) [
-        | inl none ↦ none_taken whose r text at said none
-        | inr some ↦ some_taken whose r text at begin next said front end some
+          → ◌≡◌ {A = Read} (option_map_or (λ next. valued most text at next (take (digits_at text begin) (drop begin text))) o (Ok (0, at))) (Ok parsed) → IsTaken whose r text at parsed
+      ended begin front (Some next) end h = elim (valued_ok text (take (digits_at text begin) (drop begin text)) at next parsed h) [
+        | inl none ↦ none_taken whose r text at parsed none
+        | inr some ↦ some_taken whose r text at begin next parsed front end some
       ]
-      ended begin front None end h = let same : (0, at) ≡ said = cc in none_taken whose r text at said (subst (λ (q : ℕ × ℕ). IsNone at q) same (refl, refl))
+      ended begin front None end h = let same : (0, at) ≡ parsed = cc in none_taken whose r text at parsed (subst (λ (q : ℕ × ℕ). IsNone at q) same (refl, refl))
 
       by : (o : Option ℕ) → skip (front_text whose r) text at ≡ o
-          → ◌≡◌ {A = Read} (option_map_or (λ begin. option_map_or (λ next. valued most text at next (take (digits_at text begin) (drop begin text))) (skip (codes "\n") text (begin + digits_at text begin)) (Ok (0, at))) o (Ok (0, at))) (Ok said)
-          → IsTaken whose r text at said
+          → ◌≡◌ {A = Read} (option_map_or (λ begin. option_map_or (λ next. valued most text at next (take (digits_at text begin) (drop begin text))) (skip (codes "\n") text (begin + digits_at text begin)) (Ok (0, at))) o (Ok (0, at))) (Ok parsed)
+          → IsTaken whose r text at parsed
       by (Some begin) front h = ended begin front (skip (codes "\n") text (begin + digits_at text begin)) refl h
-      by None front h = let same : (0, at) ≡ said = cc in none_taken whose r text at said (subst (λ (q : ℕ × ℕ). IsNone at q) same (refl, refl))
+      by None front h = let same : (0, at) ≡ parsed = cc in none_taken whose r text at parsed (subst (λ (q : ℕ × ℕ). IsNone at q) same (refl, refl))
 
   -- where the text at hand doesn't begin with the front, there is no price
   pub price_none : (front text : List ℕ) (at : ℕ) → IsApart front (drop at text) → price_at most (skip front text at) text at ≡ Ok (0, at)

@@ -3,7 +3,7 @@ use Rattle.std.proofs.Common.{◌≡◌, ◌≤◌, ◌+◌, ℕ, List, [], ◌�
 use Rattle.std.specs.Prelude.{⊤, Ok, codes}
 use Rattle.std.proofs.lemmas.List.Elements.{All-get_or}
 use Rattle.price_check.specs.Words.{◌>>=◌, NetRows, instance_of_rows}
-use Rattle.price_check.specs.Forms.{most_number}
+use Rattle.price_check.specs.Forms.{max_number}
 use Rattle.price_check.specs.Reading.{summary_at, stay_at, cell_price_at, ended, reading}
 use Rattle.price_check.specs.Claims.{IsClaim, report_text, Claim}
 use Rattle.price_check.proofs.PieceLaws.{skip_again}
@@ -14,7 +14,7 @@ use Rattle.price_check.proofs.LineLaws.{stay_form, stay_again}
 use Rattle.price_check.proofs.LinesLemmas.{IsClosed, IsSome}
 use Rattle.price_check.proofs.CutLaws.{IsLine, cut_line, cut_texts}
 use Rattle.price_check.proofs.StepLaws.{From, stay_steps, stops_from}
-use Rattle.price_check.proofs.SectionLaws.{seven_at, seven_form, seven_again, seven_steps, seven_lines, stay_lines, cell_lines, plain_of, stated, said_of, summary-series, parts_of, report_parts}
+use Rattle.price_check.proofs.SectionLaws.{seven_at, seven_form, seven_again, seven_steps, seven_lines, stay_lines, cell_lines, plain_of, stated, parsed_of, summary-series, parts_of, report_parts}
 use Rattle.price_check.proofs.BeginLaws.{price_fits, prices_small}
 use Rattle.price_check.proofs.PassLaws.{from_end, from_prices, from_stays, reading_parts, on_end, on_prices, on_stays, on_summary, Passed, lines_within, cells_within}
 
@@ -67,14 +67,14 @@ at_prices net claim text rest front back costs best h closed some e here =
     let small = prices_small net claim h.claims in
     elim (cut_texts form (cell_lines devices adapters rounds) n vs (codes "end\n") front back closed some e) [
       | inl w ↦
-          let a = cells_within (instance_of_rows net).most_price fits devices adapters rounds text n vs (omega arith) small (alone net claim h) best.1 rest front w here in
+          let a = cells_within (instance_of_rows net).max_price fits devices adapters rounds text n vs (omega arith) small (alone net claim h) best.1 rest front w here in
           record { at = a.0; behind = a.1; reaches = on_prices devices net text costs best a.0 a.2 }
       | inr g ↦
           let whole = all_of_end g.more back g.closed g.some g.then in
           let here' : drop best.1 text ≡ texts_of form n vs ++ (codes "end\n" ++ rest) =
           here ∙ ap (λ (l : List ℕ). l ++ rest) (g.is ∙ ap (λ (l : List ℕ). texts_of form n vs ++ l) whole) ∙ append_assoc (texts_of form n vs) (codes "end\n") rest in
-          let a = series_again form (NoneBefore (front_of devices adapters rounds)) text (cell_price_at (instance_of_rows net).most_price devices adapters rounds text) n vs (omega arith)
-          (cells_again (instance_of_rows net).most_price fits devices adapters rounds text n vs (omega arith) small) (cells_join devices adapters rounds n vs (alone net claim h)) best.1 (codes "end\n" ++ rest) here' (none_at_end devices adapters rounds n rest) in
+          let a = series_again form (NoneBefore (front_of devices adapters rounds)) text (cell_price_at (instance_of_rows net).max_price devices adapters rounds text) n vs (omega arith)
+          (cells_again (instance_of_rows net).max_price fits devices adapters rounds text n vs (omega arith) small) (cells_join devices adapters rounds n vs (alone net claim h)) best.1 (codes "end\n" ++ rest) here' (none_at_end devices adapters rounds n rest) in
           let b = at_end net text rest costs best (take n vs, a.0) a.2 in
           record { at = b.at; behind = b.behind; reaches = rw a.1 b.reaches }
     ]
@@ -87,7 +87,7 @@ at_stays net claim text rest front back costs h closed some e here =
     let n = (instance_of_rows net).stays in
     let vs = claim.schedule in
     let size = h.claims.stays in
-    let again = stay_again net text vs (λ k lt. All-get_or (λ r. r ≤ (most_number (instance_of_rows net))) vs k 0 (omega arith) h.claims.rounds) in
+    let again = stay_again net text vs (λ k lt. All-get_or (λ r. r ≤ (max_number (instance_of_rows net))) vs k 0 (omega arith) h.claims.rounds) in
     elim (cut_texts (stay_form net) (stay_lines net) n vs _ front back closed some e) [
       | inl w ↦
           let a = lines_within (stay_form net) text (stay_at net text) (stay_steps net text) n vs (omega arith) again costs.2 rest front w here in
@@ -105,7 +105,7 @@ unfolding parts_of
 passes net claim text rest front back h closed some e here =
     let form = seven_form net in
     let one = seven_at net text in
-    let vs = said_of claim.best claim.excess in
+    let vs = parsed_of claim.best claim.excess in
     let again = seven_again net claim.best claim.excess text h.claims.best h.claims.excess in
     elim (cut_texts form (seven_lines net) 7 vs _ front back closed some (sym (report_parts net claim h.claims.pricing) ∙ e)) [
       | inl w ↦
@@ -115,6 +115,6 @@ passes net claim text rest front back h closed some e here =
           let here' : drop 0 text ≡ texts_of form 7 vs ++ (g.more ++ rest) = here ∙ ap (λ (l : List ℕ). l ++ rest) g.is ∙ append_assoc (texts_of form 7 vs) g.more rest in
           let a = series_again form (λ _ _. ⊤) text one 7 vs (omega arith) again (λ k r lt t. tt) 0 (g.more ++ rest) here' tt in
           let b = at_stays net claim text rest g.more back (claim.best, claim.excess, a.0) h g.closed g.some g.then a.2 in
-          let costs : summary_at net text ≡ Ok (claim.best, claim.excess, a.0) = summary-series net text ∙ ap (λ r. r >>= λ said. Ok (stated said)) a.1 in
+          let costs : summary_at net text ≡ Ok (claim.best, claim.excess, a.0) = summary-series net text ∙ ap (λ r. r >>= λ parsed. Ok (stated parsed)) a.1 in
           record { at = b.at; behind = b.behind; reaches = rw (reading_parts net.config.devices net text, costs) b.reaches }
     ]

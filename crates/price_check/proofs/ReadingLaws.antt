@@ -4,7 +4,7 @@ use Rattle.std.specs.Prelude.{⊤, Result, Ok, codes, slice_index}
 use Rattle.std.proofs.lemmas.List.Elements.{All-get_or}
 use Rattle.price_check.specs.Words.{PriceRows, pricing_of_rows, IsPricingFor, NetRows, instance_of_rows, live_of_rows, IsSound}
 use Rattle.price_check.specs.Report.{live_cost_of, summary_text, plan_text}
-use Rattle.price_check.specs.Forms.{most_number}
+use Rattle.price_check.specs.Forms.{max_number}
 use Rattle.price_check.specs.Reading.{summary_at, stay_at, cell_price_at, series, ended, reading, ReportFault}
 use Rattle.price_check.specs.Claims.{IsClaim, report_text, Claim}
 use Rattle.price_check.proofs.SeriesLaws.{on_ok, series_takes, series_again}
@@ -25,15 +25,15 @@ reading_takes net text claim sound e =
     let rounds = (instance_of_rows net).rounds in
     on_ok (summary_at net text) _ claim e (λ costs e1 r1.
     on_ok (series (stay_at net text) (instance_of_rows net).stays costs.2) _ claim r1 (λ best e2 r2.
-    on_ok (series (cell_price_at (instance_of_rows net).most_price devices adapters rounds text) (price_cells net) best.1) _ claim r2 (λ prices e3 r3.
+    on_ok (series (cell_price_at (instance_of_rows net).max_price devices adapters rounds text) (price_cells net) best.1) _ claim r2 (λ prices e3 r3.
     on_ok (ended text prices.1) _ claim r3 (λ u e4 r4.
-    let p : PriceRows = record { rounds = rounds; devices = (instance_of_rows net).devices; adapters = (instance_of_rows net).adapters; links = (instance_of_rows net).links; most_price = (instance_of_rows net).most_price; prices = prices.0 } in
+    let p : PriceRows = record { rounds = rounds; devices = (instance_of_rows net).devices; adapters = (instance_of_rows net).adapters; links = (instance_of_rows net).links; max_price = (instance_of_rows net).max_price; prices = prices.0 } in
     let made : Claim = record { schedule = best.0; prices = p; best = costs.0; excess = costs.1 } in
     let t1 = summary_takes net text costs e1 in
-    let t2 = series_takes (stay_form net) (most_number (instance_of_rows net)) text (stay_at net text) (stay_takes net text) (instance_of_rows net).stays costs.2 best e2 in
-    let t3 = series_takes (form_of devices adapters rounds) (instance_of_rows net).most_price text (cell_price_at (instance_of_rows net).most_price devices adapters rounds text) (cells_take (instance_of_rows net).most_price sound.small_price devices adapters rounds text) (price_cells net) best.1 prices e3 in
+    let t2 = series_takes (stay_form net) (max_number (instance_of_rows net)) text (stay_at net text) (stay_takes net text) (instance_of_rows net).stays costs.2 best e2 in
+    let t3 = series_takes (form_of devices adapters rounds) (instance_of_rows net).max_price text (cell_price_at (instance_of_rows net).max_price devices adapters rounds text) (cells_take (instance_of_rows net).max_price sound.small_price devices adapters rounds text) (price_cells net) best.1 prices e3 in
     let t4 = ended_takes text prices.1 u e4 in
-    let pricing : IsPricingFor (instance_of_rows net) p = record { rounds = refl; devices = refl; adapters = refl; links = refl; most_price = refl } in
+    let pricing : IsPricingFor (instance_of_rows net) p = record { rounds = refl; devices = refl; adapters = refl; links = refl; max_price = refl } in
     let plan : drop costs.2 text ≡ plan_text net (slice_index best.0) (pricing_of_rows p) =
     behind _ _ _ _ t2.spelled (behind _ _ _ _ t3.spelled t4) ∙ sym (plan_parts net best.0 p pricing) in
     let claims : IsClaim (instance_of_rows net) made = record {
@@ -66,10 +66,10 @@ reading_again net text claim named some claims e =
     let parts = e ∙ ap (λ (l : List ℕ). summary_text net (live_cost_of net) claim.best claim.excess ++ l) (plan_parts net claim.schedule p h) in
     let a1 = summary_again net claim.best claim.excess text _ claims.best claims.excess parts in
     let a2 = series_again (stay_form net) (λ _ _. ⊤) text (stay_at net text) (instance_of_rows net).stays claim.schedule (omega arith)
-    (stay_again net text claim.schedule (λ k lt. All-get_or (λ r. r ≤ (most_number (instance_of_rows net))) claim.schedule k 0 (omega arith) claims.rounds)) (λ k rest lt t. tt) a1.0 _ a1.2 tt in
-    let a3 = series_again (form_of devices adapters rounds) (NoneBefore (front_of devices adapters rounds)) text (cell_price_at (instance_of_rows net).most_price devices adapters rounds text) n p.prices (omega arith) (cells_again (instance_of_rows net).most_price (price_fits net claim claims) devices adapters rounds text n p.prices (omega arith) (prices_small net claim claims))
+    (stay_again net text claim.schedule (λ k lt. All-get_or (λ r. r ≤ (max_number (instance_of_rows net))) claim.schedule k 0 (omega arith) claims.rounds)) (λ k rest lt t. tt) a1.0 _ a1.2 tt in
+    let a3 = series_again (form_of devices adapters rounds) (NoneBefore (front_of devices adapters rounds)) text (cell_price_at (instance_of_rows net).max_price devices adapters rounds text) n p.prices (omega arith) (cells_again (instance_of_rows net).max_price (price_fits net claim claims) devices adapters rounds text n p.prices (omega arith) (prices_small net claim claims))
     (cells_join devices adapters rounds n p.prices (net_apart devices (instance_of_rows net) p named some h claims.priced)) a2.0 (codes "end\n") a2.2 (none_at_end devices adapters rounds n []) in
     let a4 = ended_again text a3.0 a3.2 in
     let stays_all : take (instance_of_rows net).stays claim.schedule ≡ claim.schedule = take_all (instance_of_rows net).stays claim.schedule (omega arith) in
     let prices_all : take n p.prices ≡ p.prices = take_all n p.prices (omega arith) in
-    rw (a1.1, a2.1, a3.1, a4, stays_all, prices_all, ← h.rounds, ← h.devices, ← h.adapters, ← h.links, ← h.most_price) refl
+    rw (a1.1, a2.1, a3.1, a4, stays_all, prices_all, ← h.rounds, ← h.devices, ← h.adapters, ← h.links, ← h.max_price) refl

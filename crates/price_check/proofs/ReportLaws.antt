@@ -4,7 +4,7 @@ use Rattle.std.proofs.Math.Nat.{div-add-mod}
 use Rattle.price_check.specs.Words.{Device, PriceRows, pricing_of_rows, IsPricingFor, NetRows, cell, instance_of_rows}
 use Rattle.price_check.specs.Lines.{line}
 use Rattle.price_check.specs.Report.{live_cost_of, texts_below, summary_text, plan_text, price_lines, stay_line, price_line, row_text, row_line}
-use Rattle.price_check.specs.Forms.{known_line, stated_line, most_stated}
+use Rattle.price_check.specs.Forms.{known_line, stated_line, max_stated}
 use Rattle.price_check.specs.Reading.{due, summary_at}
 use Rattle.price_check.proofs.SeriesLaws.{on_ok, texts_of, texts_below-same, texts_by_row}
 use Rattle.price_check.proofs.CellLaws.{form_of, price_cells}
@@ -18,17 +18,17 @@ seven a b c d e f g rest = simp append_assoc
 pub behind : (a b c rest : List ℕ) → a ≡ b ++ c → c ≡ rest → a ≡ b ++ rest
 behind a b c rest e h = e ∙ ap (λ (l : List ℕ). b ++ l) h
 
-pub summary_takes : (net : NetRows) (text : List ℕ) (said : ℕ × ℕ × ℕ) → summary_at net text ≡ Ok said
-    → (text ≡ summary_text net (live_cost_of net) said.0 said.1 ++ drop said.2 text) × (said.0 ≤ most_stated) × (said.1 ≤ most_stated)
+pub summary_takes : (net : NetRows) (text : List ℕ) (parsed : ℕ × ℕ × ℕ) → summary_at net text ≡ Ok parsed
+    → (text ≡ summary_text net (live_cost_of net) parsed.0 parsed.1 ++ drop parsed.2 text) × (parsed.0 ≤ max_stated) × (parsed.1 ≤ max_stated)
 unfolding summary_at summary_text
-summary_takes net text said e =
-    on_ok (due (known_line (codes "camaudit") 1 text 0) text 0) _ said e (λ one e1 r1.
-    on_ok (due (known_line (codes "commands") net.commands text one) text one) _ said r1 (λ two e2 r2.
-    on_ok (due (known_line (codes "stays") (instance_of_rows net).stays text two) text two) _ said r2 (λ three e3 r3.
-    on_ok (due (known_line (codes "rounds") (instance_of_rows net).rounds text three) text three) _ said r3 (λ four e4 r4.
-    on_ok (due (known_line (codes "live") (live_cost_of net) text four) text four) _ said r4 (λ five e5 r5.
-    on_ok (due (stated_line (codes "best") text five) text five) _ said r5 (λ best e6 r6.
-    on_ok (due (stated_line (codes "excess") text best.1) text best.1) _ said r6 (λ excess e7 r7.
+summary_takes net text parsed e =
+    on_ok (due (known_line (codes "camaudit") 1 text 0) text 0) _ parsed e (λ one e1 r1.
+    on_ok (due (known_line (codes "commands") net.commands text one) text one) _ parsed r1 (λ two e2 r2.
+    on_ok (due (known_line (codes "stays") (instance_of_rows net).stays text two) text two) _ parsed r2 (λ three e3 r3.
+    on_ok (due (known_line (codes "rounds") (instance_of_rows net).rounds text three) text three) _ parsed r3 (λ four e4 r4.
+    on_ok (due (known_line (codes "live") (live_cost_of net) text four) text four) _ parsed r4 (λ five e5 r5.
+    on_ok (due (stated_line (codes "best") text five) text five) _ parsed r5 (λ best e6 r6.
+    on_ok (due (stated_line (codes "excess") text best.1) text best.1) _ parsed r6 (λ excess e7 r7.
     let t1 = known_takes (codes "camaudit") 1 text 0 one e1 in
     let t2 = known_takes (codes "commands") net.commands text one two e2 in
     let t3 = known_takes (codes "stays") (instance_of_rows net).stays text two three e3 in
@@ -38,15 +38,15 @@ summary_takes net text said e =
     let t7 = stated_takes (codes "excess") text best.1 excess e7 in
     let whole = behind _ _ _ _ t1 (behind _ _ _ _ t2 (behind _ _ _ _ t3 (behind _ _ _ _ t4 (behind _ _ _ _ t5 (behind _ _ _ _ t6.0 t7.0))))) in
     let made : ℕ × ℕ × ℕ = (best.0, excess.0, excess.1) in
-    let same : made ≡ said = cc in
-    subst (λ (q : ℕ × ℕ × ℕ). (text ≡ summary_text net (live_cost_of net) q.0 q.1 ++ drop q.2 text) × (q.0 ≤ most_stated) × (q.1 ≤ most_stated)) same (
+    let same : made ≡ parsed = cc in
+    subst (λ (q : ℕ × ℕ × ℕ). (text ≡ summary_text net (live_cost_of net) q.0 q.1 ++ drop q.2 text) × (q.0 ≤ max_stated) × (q.1 ≤ max_stated)) same (
       whole ∙ seven (line (codes "camaudit") 1) (line (codes "commands") net.commands) (line (codes "stays") (instance_of_rows net).stays) (line (codes "rounds") (instance_of_rows net).rounds) (line (codes "live") (live_cost_of net))
           (line (codes "best") best.0) (line (codes "excess") excess.0) (drop excess.1 text),
       t6.1,
       t7.1,
     ))))))))
 
-pub summary_again : (net : NetRows) (best excess : ℕ) (text rest : List ℕ) → best ≤ most_stated → excess ≤ most_stated → text ≡ summary_text net (live_cost_of net) best excess ++ rest
+pub summary_again : (net : NetRows) (best excess : ℕ) (text rest : List ℕ) → best ≤ max_stated → excess ≤ max_stated → text ≡ summary_text net (live_cost_of net) best excess ++ rest
     → (e : ℕ) × (summary_at net text ≡ Ok (best, excess, e)) × (drop e text ≡ rest)
 unfolding summary_at summary_text
 summary_again net best excess text rest small small' e =

@@ -1,7 +1,7 @@
 -- texts put after one another
 use Rattle.std.proofs.Common.{◌≡◌, ℕ, suc, ◌+◌, ◌-◌, ◌<◌, ◌≤◌, ◌^◌, List, ◌++◌, length, refl, sym, ap, ◌∙◌, arith, append_assoc, append-nil, length-append, Some, None, codes, decimal, slice_get}
 use Rattle.std.proofs.lemmas.Fmt.{length-decimal-le}
-use Rattle.price_check.specs.Words.{Device, Fits, address_of, spelled, CamPath, Instance, IsSound, MOST_NET_ROUNDS}
+use Rattle.price_check.specs.Words.{Device, Fits, address_of, spelled, CamPath, Instance, IsSound, MAX_NET_ROUNDS}
 use Rattle.price_check.specs.Report.{number_text, texts_below, shared_text, row_text}
 
 pub no_text : (text : ℕ → List ℕ) (before : List ℕ) → before ≡ before ++ texts_below 0 text
@@ -34,7 +34,7 @@ number_behind digits n before text some few fits is =
     omega (arith, ap length is, length-append before (number_text n), length-append (codes " ") (decimal n), length-decimal-le digits n some few fits)
 
 -- a stay arrives and is sent in rounds of the net, of which there are at most that many
-pub early_rounds : (net : Instance) (live : ℕ → ℕ) (s : ℕ) → IsSound net live → s < net.stays → (net.arrival s ≤ MOST_NET_ROUNDS) × (live s ≤ MOST_NET_ROUNDS)
+pub early_rounds : (net : Instance) (live : ℕ → ℕ) (s : ℕ) → IsSound net live → s < net.stays → (net.arrival s ≤ MAX_NET_ROUNDS) × (live s ≤ MAX_NET_ROUNDS)
 early_rounds net live s sound lt =
     let early = sound.live_admissible.not_early s lt in
     let late = sound.live_admissible.not_late s lt in

@@ -4,7 +4,7 @@ use Rattle.std.specs.List.{range_with_len}
 use Rattle.std.proofs.lemmas.Bool.{cases_lt, cases_eq}
 use Rattle.std.proofs.lemmas.Nat.{mul-le}
 use Rattle.std.proofs.lemmas.Bool.Decides.{nat_tests}
-use Rattle.price_check.specs.Words.{MOST_NET_ROUNDS, MOST_WEIGHT, sum_below, least, Instance, cell, Pricing, priced, is_open, allowed}
+use Rattle.price_check.specs.Words.{MAX_NET_ROUNDS, MAX_WEIGHT, sum_below, least, Instance, cell, Pricing, priced, is_open, allowed}
 use Rattle.round_net.proofs.CellLemmas.{cell-injective}
 use Rattle.round_net.proofs.SumLemmas.{sum_below-same, sum_below-add, sum_below-zero}
 use Rattle.price_check.proofs.LeastLemmas.{least-le_at, le-least}
@@ -160,7 +160,7 @@ next_weight-same net above s next so_far dearer = record {
   ];
 }
 
-pub next_weight-this : (net : Instance) (above s next : ℕ) → IsNextWeight net above s next → above < net.weight s → net.weight s ≤ MOST_WEIGHT → (0 < next → net.weight s < next) → IsNextWeight net above (s + 1) (net.weight s)
+pub next_weight-this : (net : Instance) (above s next : ℕ) → IsNextWeight net above s next → above < net.weight s → net.weight s ≤ MAX_WEIGHT → (0 < next → net.weight s < next) → IsNextWeight net above (s + 1) (net.weight s)
 next_weight-this net above s next so_far over most cheaper = record {
   most = most;
   above_it = λ some. over;
@@ -204,5 +204,5 @@ pub rest-at : (net : Instance) (p : Pricing) (s at : ℕ) (rests : List ℕ) →
 rest-at net p s at rests noted within first window to_end is = rw is (noted.each (net.device s) (net.arrival s) within first (omega arith))
 
 -- few rounds at a small weight are no large number
-pub waiting_fits : (w r rounds : ℕ) → w ≤ MOST_WEIGHT → r ≤ rounds → rounds ≤ MOST_NET_ROUNDS → w * r ≤ MOST_WEIGHT * MOST_NET_ROUNDS
-waiting_fits w r rounds small within few = mul-le w r MOST_WEIGHT MOST_NET_ROUNDS small (omega arith)
+pub waiting_fits : (w r rounds : ℕ) → w ≤ MAX_WEIGHT → r ≤ rounds → rounds ≤ MAX_NET_ROUNDS → w * r ≤ MAX_WEIGHT * MAX_NET_ROUNDS
+waiting_fits w r rounds small within few = mul-le w r MAX_WEIGHT MAX_NET_ROUNDS small (omega arith)

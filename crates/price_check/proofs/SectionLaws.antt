@@ -7,7 +7,7 @@ use Rattle.std.proofs.lemmas.Bool.{and_parts, eq-eqb}
 use Rattle.price_check.specs.Words.{Device, ◌>>=◌, spelled, address_of, Stay, pricing_of_rows, IsPricingFor, NetRows, instance_of_rows, live_of_rows, names_of_rows}
 use Rattle.price_check.specs.Lines.{line}
 use Rattle.price_check.specs.Report.{live_cost_of, summary_text, plan_text, number_text, name_text, stay_line, price_line, shared_text, row_text}
-use Rattle.price_check.specs.Forms.{known_line, stated_line, most_stated}
+use Rattle.price_check.specs.Forms.{known_line, stated_line, max_stated}
 use Rattle.price_check.specs.Reading.{due, summary_at, series, ReportFault}
 use Rattle.price_check.specs.Claims.{report_text, Claim}
 use Rattle.price_check.proofs.SeriesLemmas.{Reader}
@@ -22,7 +22,7 @@ pub bind-same : {A B C E : Type 0} (r : Result A E) (f : A → Result B E) (g : 
 bind-same (Ok x) f g = refl
 bind-same (Err e) f g = refl
 
--- ---- the summary, line by line: each reading gives the number that is said of a cost, or 0
+-- ---- the summary, line by line: each reading gives the cost that is stated, or 0
 
 abbrev pub seven_at : NetRows → List ℕ → Reader
 seven_at net text zero at = due (known_line (codes "camaudit") 1 text at) text at >>= λ e. Ok (0, e)
@@ -43,27 +43,27 @@ seven_form net (suc (suc (suc (suc (suc zero))))) v = line (codes "best") v
 seven_form net (suc (suc (suc (suc (suc (suc k)))))) v = line (codes "excess") v
 
 abbrev pub stated : List ℕ × ℕ → ℕ × ℕ × ℕ
-stated said = (get_or said.0 5 0, get_or said.0 6 0, said.1)
+stated parsed = (get_or parsed.0 5 0, get_or parsed.0 6 0, parsed.1)
 
-pub summary-series : (net : NetRows) (text : List ℕ) → summary_at net text ≡ (series (seven_at net text) 7 0 >>= λ said. Ok (stated said))
+pub summary-series : (net : NetRows) (text : List ℕ) → summary_at net text ≡ (series (seven_at net text) 7 0 >>= λ parsed. Ok (stated parsed))
 unfolding summary_at series
 summary-series net text = simp bind-same
 
-known_one : (word : List ℕ) (n : ℕ) (text : List ℕ) (at : ℕ) (said : ℕ × ℕ) → (due (known_line word n text at) text at >>= λ e. Ok (0, e)) ≡ Ok said → (drop at text ≡ line word n ++ drop said.1 text) × (said.0 ≤ most_stated)
-known_one word n text at said h =
-    on_ok (due (known_line word n text at) text at) _ said h (λ e is r.
+known_one : (word : List ℕ) (n : ℕ) (text : List ℕ) (at : ℕ) (parsed : ℕ × ℕ) → (due (known_line word n text at) text at >>= λ e. Ok (0, e)) ≡ Ok parsed → (drop at text ≡ line word n ++ drop parsed.1 text) × (parsed.0 ≤ max_stated)
+known_one word n text at parsed h =
+    on_ok (due (known_line word n text at) text at) _ parsed h (λ e is r.
     let made : ℕ × ℕ = (0, e) in
-    let same : made ≡ said = cc in
-    subst (λ (q : ℕ × ℕ). (drop at text ≡ line word n ++ drop q.1 text) × (q.0 ≤ most_stated)) same (known_takes word n text at e is, omega arith))
+    let same : made ≡ parsed = cc in
+    subst (λ (q : ℕ × ℕ). (drop at text ≡ line word n ++ drop q.1 text) × (q.0 ≤ max_stated)) same (known_takes word n text at e is, omega arith))
 
-pub seven_takes : (net : NetRows) (text : List ℕ) → Takes (seven_form net) most_stated text (seven_at net text)
-seven_takes net text zero at said h = known_one (codes "camaudit") 1 text at said h
-seven_takes net text (suc zero) at said h = known_one (codes "commands") net.commands text at said h
-seven_takes net text (suc (suc zero)) at said h = known_one (codes "stays") (instance_of_rows net).stays text at said h
-seven_takes net text (suc (suc (suc zero))) at said h = known_one (codes "rounds") (instance_of_rows net).rounds text at said h
-seven_takes net text (suc (suc (suc (suc zero)))) at said h = known_one (codes "live") (live_cost_of net) text at said h
-seven_takes net text (suc (suc (suc (suc (suc zero))))) at said h = stated_takes (codes "best") text at said h
-seven_takes net text (suc (suc (suc (suc (suc (suc k)))))) at said h = stated_takes (codes "excess") text at said h
+pub seven_takes : (net : NetRows) (text : List ℕ) → Takes (seven_form net) max_stated text (seven_at net text)
+seven_takes net text zero at parsed h = known_one (codes "camaudit") 1 text at parsed h
+seven_takes net text (suc zero) at parsed h = known_one (codes "commands") net.commands text at parsed h
+seven_takes net text (suc (suc zero)) at parsed h = known_one (codes "stays") (instance_of_rows net).stays text at parsed h
+seven_takes net text (suc (suc (suc zero))) at parsed h = known_one (codes "rounds") (instance_of_rows net).rounds text at parsed h
+seven_takes net text (suc (suc (suc (suc zero)))) at parsed h = known_one (codes "live") (live_cost_of net) text at parsed h
+seven_takes net text (suc (suc (suc (suc (suc zero))))) at parsed h = stated_takes (codes "best") text at parsed h
+seven_takes net text (suc (suc (suc (suc (suc (suc k)))))) at parsed h = stated_takes (codes "excess") text at parsed h
 
 known_step : (word : List ℕ) (n : ℕ) (text : List ℕ) (at : ℕ) → Exact text at behind_one (due (known_line word n text at) text at >>= λ e. Ok (0, e))
 known_step word n text at = by (due (known_line word n text at) text at) (known_exact word n text at)
@@ -82,14 +82,14 @@ seven_steps net text (suc (suc (suc (suc (suc zero))))) at = stated_exact (codes
 seven_steps net text (suc (suc (suc (suc (suc (suc k)))))) at = stated_exact (codes "excess") text at
 
 -- what a summary says of a best and an excess cost, line by line
-abbrev pub said_of : ℕ → ℕ → List ℕ
-said_of best excess = 0 ∷ 0 ∷ 0 ∷ 0 ∷ 0 ∷ best ∷ excess ∷ []
+abbrev pub parsed_of : ℕ → ℕ → List ℕ
+parsed_of best excess = 0 ∷ 0 ∷ 0 ∷ 0 ∷ 0 ∷ best ∷ excess ∷ []
 
 known_more : (word : List ℕ) (n : ℕ) (text rest : List ℕ) (at : ℕ) → drop at text ≡ line word n ++ rest → (e : ℕ) × (◌≡◌ {A = Result (ℕ × ℕ) ReportFault} (due (known_line word n text at) text at >>= λ e. Ok (0, e)) (Ok (0, e))) × (drop e text ≡ rest)
 known_more word n text rest at h = let a = known_again word n text rest at h in (a.0, rw a.1 refl, a.2)
 
-pub seven_again : (net : NetRows) (best excess : ℕ) (text : List ℕ) → best ≤ most_stated → excess ≤ most_stated
-    → Again (seven_form net) (λ _ _. ⊤) text (seven_at net text) 7 (said_of best excess)
+pub seven_again : (net : NetRows) (best excess : ℕ) (text : List ℕ) → best ≤ max_stated → excess ≤ max_stated
+    → Again (seven_form net) (λ _ _. ⊤) text (seven_at net text) 7 (parsed_of best excess)
 seven_again net best excess text small small' zero at rest lt h t = known_more (codes "camaudit") 1 text rest at h
 seven_again net best excess text small small' (suc zero) at rest lt h t = known_more (codes "commands") net.commands text rest at h
 seven_again net best excess text small small' (suc (suc zero)) at rest lt h t = known_more (codes "stays") (instance_of_rows net).stays text rest at h
@@ -192,12 +192,12 @@ seven_texts net best excess vs e e' = rw (← e, ← e') (simp append_assoc)
 
 unfoldable pub parts_of : NetRows → Claim → List ℕ
 parts_of net claim =
-    texts_of (seven_form net) 7 (said_of claim.best claim.excess)
+    texts_of (seven_form net) 7 (parsed_of claim.best claim.excess)
     ++ (texts_of (stay_form net) (instance_of_rows net).stays claim.schedule
     ++ (texts_of (form_of net.config.devices (instance_of_rows net).adapters (instance_of_rows net).rounds) (price_cells net) claim.prices.prices ++ codes "end\n"))
 
 pub report_parts : (net : NetRows) (claim : Claim) → IsPricingFor (instance_of_rows net) claim.prices → report_text net claim ≡ parts_of net claim
 unfolding report_text parts_of
 report_parts net claim h =
-    ap (λ (l : List ℕ). l ++ plan_text net (slice_index claim.schedule) (pricing_of_rows claim.prices)) (sym (seven_texts net claim.best claim.excess (said_of claim.best claim.excess) refl refl))
-    ∙ ap (λ (l : List ℕ). texts_of (seven_form net) 7 (said_of claim.best claim.excess) ++ l) (plan_parts net claim.schedule claim.prices h)
+    ap (λ (l : List ℕ). l ++ plan_text net (slice_index claim.schedule) (pricing_of_rows claim.prices)) (sym (seven_texts net claim.best claim.excess (parsed_of claim.best claim.excess) refl refl))
+    ∙ ap (λ (l : List ℕ). texts_of (seven_form net) 7 (parsed_of claim.best claim.excess) ++ l) (plan_parts net claim.schedule claim.prices h)

@@ -27,14 +27,14 @@ texts_of form n vs = texts_below n (λ k. form k (get_or vs k 0))
 -- ---- what is read stands there
 
 -- what n readings gave: as many values, none above the most, whose texts stand at an offset
-pub record AreTaken (form : ℕ → ℕ → List ℕ) (most : ℕ) (text : List ℕ) (n at : ℕ) (said : List ℕ × ℕ) : Type 0 where
-  pub size : length said.0 ≡ n
-  pub small : All (λ v. v ≤ most) said.0
-  pub spelled : drop at text ≡ texts_of form n said.0 ++ drop said.1 text
+pub record AreTaken (form : ℕ → ℕ → List ℕ) (most : ℕ) (text : List ℕ) (n at : ℕ) (parsed : List ℕ × ℕ) : Type 0 where
+  pub size : length parsed.0 ≡ n
+  pub small : All (λ v. v ≤ most) parsed.0
+  pub spelled : drop at text ≡ texts_of form n parsed.0 ++ drop parsed.1 text
 
 -- one reading gives a value that is at most the most, and whose text stands at the offset
 abbrev pub Takes : (ℕ → ℕ → List ℕ) → ℕ → List ℕ → Reader → Type 0
-Takes form most text one = (k at : ℕ) (said : ℕ × ℕ) → one k at ≡ Ok said → (drop at text ≡ form k said.0 ++ drop said.1 text) × (said.0 ≤ most)
+Takes form most text one = (k at : ℕ) (parsed : ℕ × ℕ) → one k at ≡ Ok parsed → (drop at text ≡ form k parsed.0 ++ drop parsed.1 text) × (parsed.0 ≤ most)
 
 one_taken : (form : ℕ → ℕ → List ℕ) (most : ℕ) (text : List ℕ) (n at : ℕ) (before : List ℕ × ℕ) (last : ℕ × ℕ) → AreTaken form most text n at before
     → (drop before.1 text ≡ form n last.0 ++ drop last.1 text) × (last.0 ≤ most) → AreTaken form most text (suc n) at (before.0 ++ last.0 ∷ [], last.1)
@@ -52,16 +52,16 @@ one_taken form most text n at before last h one =
       spelled = rw (front, here) whole;
     }
 
-pub series_takes : (form : ℕ → ℕ → List ℕ) (most : ℕ) (text : List ℕ) (one : Reader) → Takes form most text one → (n at : ℕ) (said : List ℕ × ℕ) → series one n at ≡ Ok said → AreTaken form most text n at said
+pub series_takes : (form : ℕ → ℕ → List ℕ) (most : ℕ) (text : List ℕ) (one : Reader) → Takes form most text one → (n at : ℕ) (parsed : List ℕ × ℕ) → series one n at ≡ Ok parsed → AreTaken form most text n at parsed
 unfolding series
-series_takes form most text one takes zero at said e =
-    let same : ([], at) ≡ said = cc in
+series_takes form most text one takes zero at parsed e =
+    let same : ([], at) ≡ parsed = cc in
     subst (AreTaken form most text 0 at) same (record { size = refl; small = All-from_get_or (λ v. v ≤ most) [] 0 (λ i lt. absurd (omega arith)); spelled = refl })
-series_takes form most text one takes (suc n) at said e =
-    on_ok (series one n at) _ said e (λ before e1 r1.
-    on_ok (one n before.1) _ said r1 (λ last e2 r2.
+series_takes form most text one takes (suc n) at parsed e =
+    on_ok (series one n at) _ parsed e (λ before e1 r1.
+    on_ok (one n before.1) _ parsed r1 (λ last e2 r2.
     let made : List ℕ × ℕ = (before.0 ++ last.0 ∷ [], last.1) in
-    let same : made ≡ said = cc in
+    let same : made ≡ parsed = cc in
     subst (AreTaken form most text (suc n) at) same (one_taken form most text n at before last (series_takes form most text one takes n at before e1) (takes n before.1 last e2))))
 
 -- ---- what stands there is read

@@ -27,7 +27,7 @@ fails_later one (suc k) n at f e =
     let rest : series one (k + n) at ≡ Err f = fails_later one k n at f e in
     rw same (rw rest refl)
 
--- what fails on the way fails the whole
+-- what fails in between fails the whole
 pub series-fails : (one : Reader) (n m at e : ℕ) (vs : List ℕ) (f : ReportFault) → series one n at ≡ Ok (vs, e) → one n e ≡ Err f → n < m → series one m at ≡ Err f
 series-fails one n m at e vs f before last lt =
     let k = m - suc n in

@@ -5,7 +5,7 @@ use Rattle.std.specs.Option.{option_map_or, option_and_then}
 use Rattle.std.specs.Result.{result_ok}
 use Rattle.price_check.specs.Words.{number_of, Device, ◌>>=◌, number_at, digits_at, Stay, NetRows, instance_of_rows, live_of_rows, names_of_rows}
 use Rattle.price_check.specs.Pieces.{skip, found_number, line_of}
-use Rattle.price_check.specs.Forms.{known_line, stated_line, most_number, own_stay, any_stay, named_stay, most_stated}
+use Rattle.price_check.specs.Forms.{known_line, stated_line, max_number, own_stay, any_stay, named_stay, max_stated}
 use Rattle.price_check.specs.Reading.{due, stay_at, is_large, valued, price_at, cell_price_at, series, stops, ended, ReportFault}
 use Rattle.price_check.specs.declared.report_fault.ReportFault.TheVariants as fault
 use Rattle.price_check.proofs.PieceLaws.{skip_takes, on_some, framed}
@@ -68,19 +68,19 @@ series_later text one h (suc k) n at e vs is =
 pub record Broken (one : Reader) (n at : ℕ) (e : ReportFault) : Type 0 where
   pub place : ℕ
   pub within : place < n
-  pub said : List ℕ × ℕ
-  pub read : series one place at ≡ Ok said
-  pub fails : one place said.1 ≡ Err e
+  pub parsed : List ℕ × ℕ
+  pub read : series one place at ≡ Ok parsed
+  pub fails : one place parsed.1 ≡ Err e
 
 further : (one : Reader) (n at : ℕ) (e : ReportFault) → Broken one n at e → Broken one (suc n) at e
-further one n at e b = let lt = b.within in record { place = b.place; within = omega arith; said = b.said; read = b.read; fails = b.fails }
+further one n at e b = let lt = b.within in record { place = b.place; within = omega arith; parsed = b.parsed; read = b.read; fails = b.fails }
 
 pub series_broken : (one : Reader) (n at : ℕ) (e : ReportFault) → series one n at ≡ Err e → Broken one n at e
 unfolding series
 series_broken one zero at e h = absurd cc
 series_broken one (suc n) at e h =
     on_err (series one n at) _ e h (λ h'. further one n at e (series_broken one n at e h')) (λ before is h'.
-    on_err (one n before.1) _ e h' (λ fails. record { place = n; within = omega arith; said = before; read = is; fails = fails }) (λ last is' h''. absurd cc))
+    on_err (one n before.1) _ e h' (λ fails. record { place = n; within = omega arith; parsed = before; read = is; fails = fails }) (λ last is' h''. absurd cc))
 
 -- ---- pieces
 
@@ -119,16 +119,16 @@ pub known_exact : (word : List ℕ) (n : ℕ) (text : List ℕ) (at : ℕ) → E
 known_exact word n text at = due_exact text at (λ (e : ℕ). e) (known_line word n text at) (λ e is. skip_on _ text at e (sym (known_line-skip word n text at) ∙ is))
 
 pub stated_exact : (word text : List ℕ) (at : ℕ) → Exact text at behind_one (due (stated_line word text at) text at)
-stated_exact word text at = due_exact text at behind_one (stated_line word text at) (λ r is. framed_on (word ++ codes " ") (codes "\n") most_stated text at r (sym (stated_line-framed word text at) ∙ is))
+stated_exact word text at = due_exact text at behind_one (stated_line word text at) (λ r is. framed_on (word ++ codes " ") (codes "\n") max_stated text at r (sym (stated_line-framed word text at) ∙ is))
 
 -- ---- stays
 
 named_on : (net : NetRows) (text : List ℕ) (s at : ℕ) (o : Option Stay) (r : ℕ × ℕ)
-    → option_and_then (λ name. named_stay (most_number (instance_of_rows net)) name ((instance_of_rows net).arrival s) (live_of_rows net s) ((instance_of_rows net).weight s) text at) o ≡ Some r → at ≤ r.1
+    → option_and_then (λ name. named_stay (max_number (instance_of_rows net)) name ((instance_of_rows net).arrival s) (live_of_rows net s) ((instance_of_rows net).weight s) text at) o ≡ Some r → at ≤ r.1
 named_on net text s at None r h = absurd cc
 named_on net text s at (Some name) r h =
-    framed_on (stay_front name ((instance_of_rows net).arrival s) (live_of_rows net s)) (stay_back ((instance_of_rows net).weight s)) (most_number (instance_of_rows net)) text at r
-    (sym (named_stay-framed (most_number (instance_of_rows net)) name ((instance_of_rows net).arrival s) (live_of_rows net s) ((instance_of_rows net).weight s) text at) ∙ h)
+    framed_on (stay_front name ((instance_of_rows net).arrival s) (live_of_rows net s)) (stay_back ((instance_of_rows net).weight s)) (max_number (instance_of_rows net)) text at r
+    (sym (named_stay-framed (max_number (instance_of_rows net)) name ((instance_of_rows net).arrival s) (live_of_rows net s) ((instance_of_rows net).weight s) text at) ∙ h)
 
 own_on : (net : NetRows) (text : List ℕ) (s at : ℕ) (r : ℕ × ℕ) → own_stay net s text at ≡ Some r → at ≤ r.1
 unfolding own_stay
@@ -136,7 +136,7 @@ own_on net text s at r h = named_on net text s at (slice_get (names_of_rows net)
 
 pub stay_steps : (net : NetRows) (text : List ℕ) → Steps text (stay_at net text)
 unfolding stay_at
-stay_steps net text s at = by (own_stay net s text at) (is_some (any_stay (most_number (instance_of_rows net)) text at)) (own_on net text s at)
+stay_steps net text s at = by (own_stay net s text at) (is_some (any_stay (max_number (instance_of_rows net)) text at)) (own_on net text s at)
   where
     by : (o : Option (ℕ × ℕ)) (b : Bool) → ((r : ℕ × ℕ) → o ≡ Some r → at ≤ r.1) → Exact text at behind_one (ok_or o (cond b (fault.WrongStays (line_of text at)) (fault.BadLine (line_of text at))))
     by (Some r) b h = h r refl

@@ -3,7 +3,7 @@ use Rattle.std.proofs.Common.{◌≡◌, ◌≢◌, ℕ, zero, suc, ◌+◌, ◌
 use Rattle.std.specs.List.{list_any}
 use Rattle.std.proofs.lemmas.Bool.{eqb-true, ne_eqb, and_parts}
 use Rattle.std.proofs.lemmas.List.Folds.{list_any-append}
-use Rattle.price_check.specs.Words.{count_below, Instance, rows, adapter, link, adapter_row, link_row, path, uses, cell}
+use Rattle.price_check.specs.Words.{count_below, Instance, rows, adapter, link, adapter_resource, link_resource, path, uses, cell}
 use Rattle.round_net.proofs.CellLemmas.{cell_within, cell-injective}
 use Rattle.round_net.proofs.PathLemmas.{uses-device, uses-adapter}
 use Rattle.price_check.specs.Faults.{at_row, is_over, is_link_over}
@@ -119,7 +119,7 @@ few_here net f counts s row at own counted p new lt is =
     let h = counted_here net f counts s row own counted p new in
     rw is (omega arith)
 
--- with the stay they are those that its fault is told by
+-- with the stay they are those by which its fault is named
 pub here_counted : (net : Instance) (f : ℕ → ℕ) (counts : List ℕ) (s row at one : ℕ) (own : List ℕ) → IsCounted net f counts s own → IsPlace net f s row → IsNew own row → uses net row s ≡ true → at ≡ cell net.rounds row (f s) → one ≡ slice_index counts at + 1 → one ≡ at_row net f row s
 here_counted net f counts s row at one own counted p new used is e =
     let h = counted_here net f counts s row own counted p new in
@@ -137,33 +137,33 @@ pub record IsPlaced (net : Instance) (f : ℕ → ℕ) (s : ℕ) : Type 0 where
 pub device_place : (net : Instance) (f : ℕ → ℕ) (s : ℕ) → IsPlaced net f s → IsPlace net f s (net.device s)
 device_place net f s p = let lt = p.device in record { within = omega arith; first = p.first; last = p.last }
 
-pub adapter_place : (net : Instance) (f : ℕ → ℕ) (s : ℕ) → IsPlaced net f s → IsPlace net f s (adapter_row net (adapter net s))
+pub adapter_place : (net : Instance) (f : ℕ → ℕ) (s : ℕ) → IsPlaced net f s → IsPlace net f s (adapter_resource net (adapter net s))
 adapter_place net f s p = let lt = p.adapter in record { within = omega arith; first = p.first; last = p.last }
 
 -- the device's row isn't the adapter's
-pub adapter_new : (net : Instance) (f : ℕ → ℕ) (s : ℕ) → IsPlaced net f s → IsNew (net.device s ∷ []) (adapter_row net (adapter net s))
-adapter_new net f s p = let lt = p.device in rw (ne_eqb (net.device s) (adapter_row net (adapter net s)) (λ at. omega arith)) refl
+pub adapter_new : (net : Instance) (f : ℕ → ℕ) (s : ℕ) → IsPlaced net f s → IsNew (net.device s ∷ []) (adapter_resource net (adapter net s))
+adapter_new net f s p = let lt = p.device in rw (ne_eqb (net.device s) (adapter_resource net (adapter net s)) (λ at. omega arith)) refl
 
-pub link_place : (net : Instance) (f : ℕ → ℕ) (s l : ℕ) → 1 ≤ f s → f s ≤ net.rounds → l < net.links → IsPlace net f s (link_row net l)
+pub link_place : (net : Instance) (f : ℕ → ℕ) (s l : ℕ) → 1 ≤ f s → f s ≤ net.rounds → l < net.links → IsPlace net f s (link_resource net l)
 link_place net f s l first last lt = record { within = omega arith; first = first; last = last }
 
 -- the link's row isn't the device's, nor the adapter's
-pub link_new : (net : Instance) (s l : ℕ) → net.device s < net.devices → adapter net s < net.adapters → IsNew (net.device s ∷ adapter_row net (adapter net s) ∷ []) (link_row net l)
+pub link_new : (net : Instance) (s l : ℕ) → net.device s < net.devices → adapter net s < net.adapters → IsNew (net.device s ∷ adapter_resource net (adapter net s) ∷ []) (link_resource net l)
 link_new net s l device adapter' =
-    rw (ne_eqb (net.device s) (link_row net l) (λ at. omega arith), ne_eqb (adapter_row net (adapter net s)) (link_row net l) (λ at. omega arith)) refl
+    rw (ne_eqb (net.device s) (link_resource net l) (λ at. omega arith), ne_eqb (adapter_resource net (adapter net s)) (link_resource net l) (λ at. omega arith)) refl
 
 -- the device's row and the adapter's counted
 pub record IsTallied (net : Instance) (f : ℕ → ℕ) (s : ℕ) (one other : ℕ) (counts : List ℕ) : Type 0 where
   pub at_device : one ≡ at_row net f (net.device s) s
-  pub at_adapter : other ≡ at_row net f (adapter_row net (adapter net s)) s
-  pub counted : IsCounted net f counts s (net.device s ∷ adapter_row net (adapter net s) ∷ [])
+  pub at_adapter : other ≡ at_row net f (adapter_resource net (adapter net s)) s
+  pub counted : IsCounted net f counts s (net.device s ∷ adapter_resource net (adapter net s) ∷ [])
 
 pub tallied : (net : Instance) (f : ℕ → ℕ) (counts counts' counts'' : List ℕ) (s at at' one other : ℕ) → IsTally net f counts s → IsPlaced net f s → rows net * net.rounds ≤ length counts →
     at ≡ cell net.rounds (net.device s) (f s) → one ≡ slice_index counts at + 1 → counts' ≡ bumped counts at →
-    at' ≡ cell net.rounds (adapter_row net (adapter net s)) (f s) → other ≡ slice_index counts' at' + 1 → counts'' ≡ bumped counts' at' → IsTallied net f s one other counts''
+    at' ≡ cell net.rounds (adapter_resource net (adapter net s)) (f s) → other ≡ slice_index counts' at' + 1 → counts'' ≡ bumped counts' at' → IsTallied net f s one other counts''
 tallied net f counts counts' counts'' s at at' one other tally p room is e more is' e' more' =
     let device = net.device s in
-    let row = adapter_row net (adapter net s) in
+    let row = adapter_resource net (adapter net s) in
     let none = counted_none net f counts s tally in
     let first : IsCounted net f counts' s (device ∷ []) = rw (more, is) (counted_more net f counts s device [] none (device_place net f s p) refl room) in
     let room' : rows net * net.rounds ≤ length counts' = rw more (omega (arith, length-set counts at (slice_index counts at + 1))) in
@@ -174,22 +174,22 @@ tallied net f counts counts' counts'' s at at' one other tally p room is e more 
     }
 
 -- a stay that is on no link is counted in all its rows then
-pub tallied_without : (net : Instance) (f : ℕ → ℕ) (counts : List ℕ) (s : ℕ) → link net s ≡ None → IsCounted net f counts s (net.device s ∷ adapter_row net (adapter net s) ∷ []) → IsTally net f counts (s + 1)
+pub tallied_without : (net : Instance) (f : ℕ → ℕ) (counts : List ℕ) (s : ℕ) → link net s ≡ None → IsCounted net f counts s (net.device s ∷ adapter_resource net (adapter net s) ∷ []) → IsTally net f counts (s + 1)
 tallied_without net f counts s none counted =
-    let same : path net s ≡ net.device s ∷ adapter_row net (adapter net s) ∷ [] = rw none refl in
+    let same : path net s ≡ net.device s ∷ adapter_resource net (adapter net s) ∷ [] = rw none refl in
     counted_all net f counts s (rw same counted)
 
 -- and one that is on a link where its row is counted too
-pub tallied_with : (net : Instance) (f : ℕ → ℕ) (counts counts' : List ℕ) (s l at : ℕ) → link net s ≡ Some l → IsCounted net f counts s (net.device s ∷ adapter_row net (adapter net s) ∷ []) →
-    IsPlace net f s (link_row net l) → IsNew (net.device s ∷ adapter_row net (adapter net s) ∷ []) (link_row net l) → rows net * net.rounds ≤ length counts → at ≡ cell net.rounds (link_row net l) (f s) → counts' ≡ bumped counts at → IsTally net f counts' (s + 1)
+pub tallied_with : (net : Instance) (f : ℕ → ℕ) (counts counts' : List ℕ) (s l at : ℕ) → link net s ≡ Some l → IsCounted net f counts s (net.device s ∷ adapter_resource net (adapter net s) ∷ []) →
+    IsPlace net f s (link_resource net l) → IsNew (net.device s ∷ adapter_resource net (adapter net s) ∷ []) (link_resource net l) → rows net * net.rounds ≤ length counts → at ≡ cell net.rounds (link_resource net l) (f s) → counts' ≡ bumped counts at → IsTally net f counts' (s + 1)
 tallied_with net f counts counts' s l at is counted p new room at_is more =
-    let same : path net s ≡ net.device s ∷ adapter_row net (adapter net s) ∷ link_row net l ∷ [] = rw is refl in
-    let all : IsCounted net f counts' s (net.device s ∷ adapter_row net (adapter net s) ∷ link_row net l ∷ []) = rw (more, at_is) (counted_more net f counts s (link_row net l) (net.device s ∷ adapter_row net (adapter net s) ∷ []) counted p new room) in
+    let same : path net s ≡ net.device s ∷ adapter_resource net (adapter net s) ∷ link_resource net l ∷ [] = rw is refl in
+    let all : IsCounted net f counts' s (net.device s ∷ adapter_resource net (adapter net s) ∷ link_resource net l ∷ []) = rw (more, at_is) (counted_more net f counts s (link_resource net l) (net.device s ∷ adapter_resource net (adapter net s) ∷ []) counted p new room) in
     counted_all net f counts' s (rw same all)
 
 -- the link's row is over its cap where more are counted in it than it takes
-pub over_link : (net : Instance) (f : ℕ → ℕ) (s l cap one : ℕ) → link net s ≡ Some l → cap ≡ net.cap (link_row net l) (f s) → one ≡ at_row net f (link_row net l) s → nat_lt cap one ≡ is_link_over net f s
-over_link net f s l cap one is e e' = rw (is, e, e') (by (is_over net f (link_row net l) s))
+pub over_link : (net : Instance) (f : ℕ → ℕ) (s l cap one : ℕ) → link net s ≡ Some l → cap ≡ net.cap (link_resource net l) (f s) → one ≡ at_row net f (link_resource net l) s → nat_lt cap one ≡ is_link_over net f s
+over_link net f s l cap one is e e' = rw (is, e, e') (by (is_over net f (link_resource net l) s))
   where
     by : (b : Bool) → b ≡ (b || false)
     by true = refl

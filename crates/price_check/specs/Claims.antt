@@ -3,7 +3,7 @@ use Rattle.std.specs.Prelude.{◌≡◌, ℕ, ◌<◌, ◌≤◌, ◌+◌, ◌-�
 use Rattle.std.specs.List.{AllByRecursion}
 use Rattle.std.specs.Str.Parse.{digits_value}
 use Rattle.price_check.specs.Words.{IsWholeWithin, IsLongerThan, Device, is_decimal, Instance, rows, pricing_of_rows, IsPriced, IsPricingFor, NetRows, instance_of_rows}
-use Rattle.price_check.specs.Forms.{most_stated, most_number, most_bytes}
+use Rattle.price_check.specs.Forms.{max_stated, max_number, max_bytes}
 use Rattle.price_check.specs.Report.{live_cost_of, number_text, row_text, summary_text, plan_text}
 use Rattle.price_check.specs.Reading.{ReportFault}
 use Rattle.price_check.specs.TextLines.{lines}
@@ -14,11 +14,11 @@ use Rattle.price_check.specs.declared.report_fault.ReportFault.TheVariants as fa
 -- digits
 pub record IsClaim (net : Instance) (claim : Claim) : Type 0 where
   pub stays : length claim.schedule ≡ net.stays
-  pub rounds : All (λ r. r ≤ most_number net) claim.schedule
+  pub rounds : All (λ r. r ≤ max_number net) claim.schedule
   pub pricing : IsPricingFor net claim.prices
   pub priced : IsPriced claim.prices
-  pub best : claim.best ≤ most_stated
-  pub excess : claim.excess ≤ most_stated
+  pub best : claim.best ≤ max_stated
+  pub excess : claim.excess ≤ max_stated
 
 -- the report of a claim on a net
 unfoldable pub report_text : NetRows → Claim → List ℕ
@@ -28,13 +28,13 @@ report_text net claim =
 
 -- the text is the report of the claim, or that without its last line feed
 pub record IsReport (net : NetRows) (text : List ℕ) (claim : Claim) : Type 0 where
-  pub bounded : length text ≤ most_bytes (instance_of_rows net)
+  pub bounded : length text ≤ max_bytes (instance_of_rows net)
   pub spelled : (text ≡ report_text net claim) ⊎ (text ++ codes "\n" ≡ report_text net claim)
 
 -- what was read to its end was a report of the claim
 pub record WasReport (net : NetRows) (before after : Option (List ℕ)) (claim : Claim) : Type 0 where
   pub text : List ℕ
-  pub whole : IsWholeWithin (most_bytes (instance_of_rows net)) before after text
+  pub whole : IsWholeWithin (max_bytes (instance_of_rows net)) before after text
   pub report : IsReport net text claim
   pub claims : IsClaim (instance_of_rows net) claim
 
@@ -68,7 +68,7 @@ pub record IsWrongStay (net : NetRows) (text : List ℕ) (n : ℕ) : Type 0 wher
   pub last : n ≤ 7 + (instance_of_rows net).stays
   pub line : List ℕ
   pub here : slice_get (lines text) (n - 1) ≡ Some line
-  pub stay : IsStayLine (most_number (instance_of_rows net)) line
+  pub stay : IsStayLine (max_number (instance_of_rows net)) line
 
 -- the line of an opening's price, up to the price
 abbrev pub opening_text : NetRows → ℕ → ℕ → List ℕ
@@ -90,7 +90,7 @@ pub record IsTooDear (net : NetRows) (text : List ℕ) (n : ℕ) : Type 0 where
   pub digits : List ℕ
   pub here : slice_get (lines text) (n - 1) ≡ Some (opening_text net row round ++ digits)
   pub spelled : is_decimal digits ≡ true
-  pub dear : (instance_of_rows net).most_price < digits_value 10 digits
+  pub dear : (instance_of_rows net).max_price < digits_value 10 digits
   pub short : length (opening_text net row round ++ digits) ≤ 100
 
 -- of which kind the first faulty line is: a stay's that isn't the net's, one with too high a price, or neither
@@ -115,7 +115,7 @@ fault_line fault.OutOfMemory = 0
 -- what was read to its end was no report: the fault names its first faulty line, and is of that line's kind
 pub record WasFaulty (net : NetRows) (before after : Option (List ℕ)) (e : ReportFault) : Type 0 where
   pub text : List ℕ
-  pub whole : IsWholeWithin (most_bytes (instance_of_rows net)) before after text
+  pub whole : IsWholeWithin (max_bytes (instance_of_rows net)) before after text
   pub first : IsFirstFaulty net text (fault_line e)
   pub kind : IsOfKind net text e
 
@@ -124,6 +124,6 @@ abbrev pub Explains : NetRows → Option (List ℕ) → Option (List ℕ) → Bo
 Explains net before after failed (fault.BadLine n) = WasFaulty net before after (fault.BadLine n)
 Explains net before after failed (fault.PriceRange n) = WasFaulty net before after (fault.PriceRange n)
 Explains net before after failed (fault.WrongStays n) = WasFaulty net before after (fault.WrongStays n)
-Explains net before after failed fault.TooLong = IsLongerThan (most_bytes (instance_of_rows net)) before after
+Explains net before after failed fault.TooLong = IsLongerThan (max_bytes (instance_of_rows net)) before after
 Explains net before after failed fault.ReadFailed = failed ≡ true
 Explains net before after failed fault.OutOfMemory = ⊤

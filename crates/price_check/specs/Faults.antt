@@ -1,7 +1,7 @@
 -- the first fault of a schedule
 use Rattle.std.specs.Prelude.{◌≡◌, ℕ, ◌+◌, ◌==◌, ◌<◌, Bool, ◌&&◌, nat_lt, if◌then◌else◌, Option, Some, None}
 use Rattle.std.specs.List.{list_any}
-use Rattle.price_check.specs.Words.{count_below, Instance, adapter, adapter_row, link_rows, uses}
+use Rattle.price_check.specs.Words.{count_below, Instance, adapter, adapter_resource, link_rows, uses}
 pub use Rattle.price_check.specs.declared.verdict.Cause.{Cause}
 pub use Rattle.price_check.specs.declared.verdict.Cause.TheVariants.{Early, Late, DeviceFull, AdapterFull, LinkFull}
 
@@ -24,7 +24,7 @@ fault_at net f s =
     if nat_lt (f s) (net.arrival s) then Some Early
     else if nat_lt (net.last s) (f s) then Some Late
     else if is_over net f (net.device s) s then Some DeviceFull
-    else if is_over net f (adapter_row net (adapter net s)) s then Some AdapterFull
+    else if is_over net f (adapter_resource net (adapter net s)) s then Some AdapterFull
     else if is_link_over net f s then Some LinkFull
     else None
 
@@ -32,7 +32,7 @@ fault_at net f s =
 abbrev pub IsFaultlessBelow : Instance → (ℕ → ℕ) → ℕ → Type 0
 IsFaultlessBelow net f s = (t : ℕ) → t < s → fault_at net f t ≡ None
 
--- the first stay, by birth, with whose place something is wrong
+-- the first stay, in creation order, with whose place something is wrong
 pub record IsFirstFault (net : Instance) (f : ℕ → ℕ) (s : ℕ) (cause : Cause) : Type 0 where
   pub within : s < net.stays
   pub here : fault_at net f s ≡ Some cause

@@ -1,9 +1,9 @@
 -- the forms of a report's lines: where one stands at an offset, what it says and the offset after it
 use Rattle.std.specs.Prelude.{ℕ, ◌-◌, nat_le, nat_lt, if◌then◌else◌, List, length, Option, Some, codes, decimal, option_and_then, slice_get}
 use Rattle.std.specs.Option.{option_map_or}
-use Rattle.price_check.specs.Words.{MOST_BYTES, MOST_PRICE, Device, Stay, Instance, NetRows, instance_of_rows, live_of_rows, names_of_rows}
+use Rattle.price_check.specs.Words.{MAX_BYTES, MAX_PRICE, Device, Stay, Instance, NetRows, instance_of_rows, live_of_rows, names_of_rows}
 use Rattle.price_check.specs.Pieces.{◌>>=◌, skip, skip_number, found_number}
-use Rattle.price_check.specs.declared.forms.TheConstants.{MOST_REPORT_BYTES}
+use Rattle.price_check.specs.declared.forms.TheConstants.{MAX_REPORT_BYTES}
 
 -- the line of this word and this number
 unfoldable pub known_line : List ℕ → ℕ → List ℕ → ℕ → Option ℕ
@@ -12,27 +12,27 @@ known_line word n text at = do
   end ← skip_number n text begin
   skip (codes "\n") text end
 
--- the most that may be said of a cost: 18 digits
-abbrev pub most_stated : ℕ
-most_stated = 999999999999999999
+-- the greatest cost that a report may state: 18 digits
+abbrev pub max_stated : ℕ
+max_stated = 999999999999999999
 
 -- the line of this word and a number
 unfoldable pub stated_line : List ℕ → List ℕ → ℕ → Option (ℕ × ℕ)
 stated_line word text at = do
   space ← skip word text at
   begin ← skip (codes " ") text space
-  number ← found_number most_stated text begin
+  number ← found_number max_stated text begin
   next ← skip (codes "\n") text number.1
   Some (number.0, next)
 
 -- the most that a stay's line may say: 65,535 in the report of a history, and 1,048,576 in that of a recording, where prices
 -- may be larger
-abbrev pub most_number : Instance → ℕ
-most_number net = if nat_le net.most_price MOST_PRICE then 65535 else 1048576
+abbrev pub max_number : Instance → ℕ
+max_number net = if nat_le net.max_price MAX_PRICE then 65535 else 1048576
 
 -- how many bytes a report may have: 16,777,216 that of a history, and 268,435,456 that of a recording
-abbrev pub most_bytes : Instance → ℕ
-most_bytes net = if nat_le net.most_price MOST_PRICE then MOST_BYTES else MOST_REPORT_BYTES
+abbrev pub max_bytes : Instance → ℕ
+max_bytes net = if nat_le net.max_price MAX_PRICE then MAX_BYTES else MAX_REPORT_BYTES
 
 -- the line of a stay of this name, arrival, live round and weight, with a round that is best for it, up to a most
 unfoldable pub named_stay : ℕ → Stay → ℕ → ℕ → ℕ → List ℕ → ℕ → Option (ℕ × ℕ)
@@ -51,7 +51,7 @@ named_stay most name arrival live weight text at = do
 -- the line of the net's stay of this number
 unfoldable pub own_stay : NetRows → ℕ → List ℕ → ℕ → Option (ℕ × ℕ)
 own_stay net s text at =
-    option_and_then (λ name. named_stay (most_number (instance_of_rows net)) name ((instance_of_rows net).arrival s) (live_of_rows net s) ((instance_of_rows net).weight s) text at) (slice_get (names_of_rows net) s)
+    option_and_then (λ name. named_stay (max_number (instance_of_rows net)) name ((instance_of_rows net).arrival s) (live_of_rows net s) ((instance_of_rows net).weight s) text at) (slice_get (names_of_rows net) s)
 
 -- a space and a number up to a most
 unfoldable pub small_number : ℕ → List ℕ → ℕ → Option ℕ

@@ -3,7 +3,7 @@ use Rattle.std.specs.Prelude.{ℕ, zero, suc, ◌+◌, ◌-◌, ◌*◌, ◌/◌
 use Rattle.std.specs.Option.{option_map_or}
 use Rattle.price_check.specs.Words.{has_leading_zero, number_of, Device, ◌>>=◌, digits_at, rows, NetRows, instance_of_rows}
 use Rattle.price_check.specs.Pieces.{skip, line_of}
-use Rattle.price_check.specs.Forms.{known_line, stated_line, most_number, own_stay, any_stay, price_front}
+use Rattle.price_check.specs.Forms.{known_line, stated_line, max_number, own_stay, any_stay, price_front}
 use Rattle.price_check.specs.Report.{live_cost_of}
 use Rattle.price_check.specs.declared.claim.Claim.{Claim}
 pub use Rattle.price_check.specs.declared.report_fault.ReportFault.{ReportFault}
@@ -17,7 +17,7 @@ closed text = if slice_index text (length text - 1) == 10 then text else text ++
 abbrev pub due : {X : Type 0} → Option X → List ℕ → ℕ → Result X ReportFault
 due line text at = ok_or line (BadLine (line_of text at))
 
--- the first seven lines: what is said of the cost and of the excess, and the offset after them
+-- the first seven lines: the cost and the excess that they state, and the offset after them
 unfoldable pub summary_at : NetRows → List ℕ → Result (ℕ × ℕ × ℕ) ReportFault
 summary_at net text = do
   one ← due (known_line (codes "camaudit") 1 text 0) text 0
@@ -32,7 +32,7 @@ summary_at net text = do
 -- the line of a stay: the round that is best for it, and the offset after it
 unfoldable pub stay_at : NetRows → List ℕ → ℕ → ℕ → Result (ℕ × ℕ) ReportFault
 stay_at net text s at =
-    ok_or (own_stay net s text at) (if is_some (any_stay (most_number (instance_of_rows net)) text at) then WrongStays (line_of text at) else BadLine (line_of text at))
+    ok_or (own_stay net s text at) (if is_some (any_stay (max_number (instance_of_rows net)) text at) then WrongStays (line_of text at) else BadLine (line_of text at))
 
 -- digits that spell a number which is no price, for its size alone
 abbrev pub is_large : List ℕ → Bool
@@ -76,11 +76,11 @@ unfoldable pub reading : List Device → NetRows → List ℕ → Result Claim R
 reading devices net text = do
   costs ← summary_at net text
   best ← series (stay_at net text) (instance_of_rows net).stays costs.2
-  prices ← series (cell_price_at (instance_of_rows net).most_price devices (instance_of_rows net).adapters (instance_of_rows net).rounds text) (rows (instance_of_rows net) * (instance_of_rows net).rounds) best.1
+  prices ← series (cell_price_at (instance_of_rows net).max_price devices (instance_of_rows net).adapters (instance_of_rows net).rounds text) (rows (instance_of_rows net) * (instance_of_rows net).rounds) best.1
   _ ← ended text prices.1
   Ok (record {
     schedule = best.0;
-    prices = record { rounds = (instance_of_rows net).rounds; devices = (instance_of_rows net).devices; adapters = (instance_of_rows net).adapters; links = (instance_of_rows net).links; most_price = (instance_of_rows net).most_price; prices = prices.0 };
+    prices = record { rounds = (instance_of_rows net).rounds; devices = (instance_of_rows net).devices; adapters = (instance_of_rows net).adapters; links = (instance_of_rows net).links; max_price = (instance_of_rows net).max_price; prices = prices.0 };
     best = costs.0;
     excess = costs.1;
   })

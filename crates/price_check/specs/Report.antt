@@ -8,7 +8,7 @@ use Rattle.price_check.specs.Lines.{line}
 abbrev pub live_cost_of : NetRows → ℕ
 live_cost_of net = cost (instance_of_rows net) (live_of_rows net)
 
--- the first seven lines: what the net has, what its live schedule cost, and what is said of a best one's cost and of the
+-- the first seven lines: what the net has, what its live schedule cost, and what is stated of a best one's cost and of the
 -- excess
 unfoldable pub summary_text : NetRows → ℕ → ℕ → ℕ → List ℕ
 summary_text net live best excess =
@@ -65,7 +65,7 @@ unfoldable pub price_lines : NetRows → Pricing → List ℕ
 price_lines net p =
     texts_below (rows (instance_of_rows net)) (λ row. texts_below (instance_of_rows net).rounds (λ r. row_line net.config.devices (instance_of_rows net).adapters p row (r + 1)))
 
--- the stays in order of birth, the prices, and the last line
+-- the stays in creation order, the prices, and the last line
 unfoldable pub plan_text : NetRows → (ℕ → ℕ) → Pricing → List ℕ
 plan_text net best p =
     texts_below (instance_of_rows net).stays (stay_line net best)

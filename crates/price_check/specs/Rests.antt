@@ -1,7 +1,7 @@
 -- which round of the rest of all rounds is cheapest for stays of one device and one weight
 use Rattle.std.specs.Prelude.{◌≡◌, ℕ, ◌+◌, ◌*◌, ◌<◌, ◌≤◌, Bool, true, false, nat_lt, List, slice_index, sum_by}
 use Rattle.std.specs.List.{list_all}
-use Rattle.price_check.specs.Words.{MOST_WEIGHT, Instance, path_of, cell, Pricing}
+use Rattle.price_check.specs.Words.{MAX_WEIGHT, Instance, path_of, cell, Pricing}
 
 -- each row of which a command to the device takes an opening takes commands in the round
 abbrev pub takes : Instance → ℕ → ℕ → Bool
@@ -26,7 +26,7 @@ pub record AreCheapest (net : Instance) (p : Pricing) (w devices : ℕ) (rests :
 
 -- the least weight above a number, of the first that many stays; 0 if there is none
 pub record IsNextWeight (net : Instance) (above n next : ℕ) : Type 0 where
-  pub most : next ≤ MOST_WEIGHT
+  pub most : next ≤ MAX_WEIGHT
   pub above_it : 0 < next → above < next
   pub none : next ≡ 0 → (s : ℕ) → s < n → net.weight s ≤ above
   pub least : 0 < next → (s : ℕ) → s < n → above < net.weight s → next ≤ net.weight s

@@ -21,7 +21,7 @@ pub fn check(net: &Net, schedule: &Schedule, prices: &Prices, counts: &mut [u32]
     requires cells { let n = instance_of_rows net.now in rows n * n.rounds ≤ length counts.old }
     ensures means { Means (instance_of_rows net.now) (names_of_rows net.now) (slice_index schedule.now) (pricing_of_rows prices.now) result }
 
-    // Whoever has a proof is told so, and then no admissible schedule costs less.
+    // Prices that prove the schedule best are accepted, and if they are, no admissible schedule costs less.
     ensures proved { ProvesBest (instance_of_rows net.now) (slice_index schedule.now) (pricing_of_rows prices.now) → result ≡ Verdict.Proved }
     ensures best { result ≡ Verdict.Proved → IsBest (instance_of_rows net.now) (slice_index schedule.now) }
 {

@@ -6,13 +6,13 @@ use round_net::{Prices, Schedule};
 /// prove it.
 #[derive(Debug, Drop)]
 pub struct Claim {
-    /// The round that is best for each stay, in order of birth. It may be any round up to 65,535, and in a recording's
+    /// The round that is best for each stay, in creation order. It may be any round up to 65,535, and in a recording's
     /// report up to 1,048,576.
     pub schedule: Schedule,
     /// What an opening of each row is worth in each round.
     pub prices: Prices,
-    /// What the schedule is said to cost, below 10^18 weighted rounds.
+    /// The stated cost of the schedule, below 10^18 weighted rounds.
     pub best: u64,
-    /// How much more the live schedule is said to cost, below 10^18 weighted rounds.
+    /// The stated excess of the live schedule over it, below 10^18 weighted rounds.
     pub excess: u64,
 }

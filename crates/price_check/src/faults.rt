@@ -1,7 +1,7 @@
 //! The first stay that makes a schedule inadmissible.
 
 ghost use Rattle.std.specs.Prelude.{◌≡◌, ℕ, ◌+◌, ◌*◌, ◌^◌, ◌<◌, ◌≤◌, [], ◌∷◌, length, slice_index, slice_set, MatchOption, IfNone};
-ghost use Rattle.price_check.specs.Words.{rows, adapter, adapter_row, instance_of_rows, live_of_rows, IsSound, IsAdmissible};
+ghost use Rattle.price_check.specs.Words.{rows, adapter, adapter_resource, instance_of_rows, live_of_rows, IsSound, IsAdmissible};
 ghost use Rattle.price_check.specs.Faults.{at_row, is_link_over, fault_at, IsFirstFault};
 ghost use Rattle.price_check.specs.Tally.{IsTally, IsCounted};
 
@@ -74,12 +74,12 @@ fn tally(net: &Net, schedule: &Schedule, stay: u32, counts: &mut [u32]) -> (u32,
     requires last { slice_index schedule.now stay ≤ (instance_of_rows net.now).rounds }
     requires tally { IsTally (instance_of_rows net.now) (slice_index schedule.now) counts.old stay }
     ensures at_device { let n = instance_of_rows net.now in result.0 ≡ at_row n (slice_index schedule.now) (n.device stay) stay }
-    ensures at_adapter { let n = instance_of_rows net.now in result.1 ≡ at_row n (slice_index schedule.now) (adapter_row n (adapter n stay)) stay }
-    ensures counted { let n = instance_of_rows net.now in IsCounted n (slice_index schedule.now) counts.new stay (n.device stay ∷ adapter_row n (adapter n stay) ∷ []) }
+    ensures at_adapter { let n = instance_of_rows net.now in result.1 ≡ at_row n (slice_index schedule.now) (adapter_resource n (adapter n stay)) stay }
+    ensures counted { let n = instance_of_rows net.now in IsCounted n (slice_index schedule.now) counts.new stay (n.device stay ∷ adapter_resource n (adapter n stay) ∷ []) }
 {
     let round = schedule.round(stay);
     let device = net.device(stay);
-    let adapter = net.adapter_row(net.adapter(stay));
+    let adapter = net.adapter_resource(net.adapter(stay));
     let at_device = count(counts, cell(net.rounds(), device, round));
     let at_adapter = count(counts, cell(net.rounds(), adapter, round));
     (at_device, at_adapter)
@@ -93,7 +93,7 @@ fn tally_link(net: &Net, schedule: &Schedule, stay: u32, counts: &mut [u32]) -> 
     requires stay { stay < (instance_of_rows net.now).stays }
     requires first { 1 ≤ slice_index schedule.now stay }
     requires last { slice_index schedule.now stay ≤ (instance_of_rows net.now).rounds }
-    requires counted { let n = instance_of_rows net.now in IsCounted n (slice_index schedule.now) counts.old stay (n.device stay ∷ adapter_row n (adapter n stay) ∷ []) }
+    requires counted { let n = instance_of_rows net.now in IsCounted n (slice_index schedule.now) counts.old stay (n.device stay ∷ adapter_resource n (adapter n stay) ∷ []) }
     ensures over { result ≡ is_link_over (instance_of_rows net.now) (slice_index schedule.now) stay }
     ensures tally { IsTally (instance_of_rows net.now) (slice_index schedule.now) counts.new (stay + 1) }
 {
@@ -101,7 +101,7 @@ fn tally_link(net: &Net, schedule: &Schedule, stay: u32, counts: &mut [u32]) -> 
         return false;
     };
     let round = schedule.round(stay);
-    let at = cell(net.rounds(), net.link_row(link), round);
+    let at = cell(net.rounds(), net.link_resource(link), round);
     count(counts, at) > net.link_cap(link, round)
 }
 

@@ -2,46 +2,46 @@
 
 ghost use Rattle.std.specs.Prelude.{◌≡◌, ◌^◌, ◌<◌, ◌≤◌, length, IfSome};
 ghost use Rattle.price_check.specs.Words.{instance_of_rows};
-ghost use Rattle.price_check.specs.Forms.{known_line, stated_line, most_number, most_bytes, named_stay, own_stay, small_number, any_stay, dev_front, number_front, shared_front, price_front};
+ghost use Rattle.price_check.specs.Forms.{known_line, stated_line, max_number, max_bytes, named_stay, own_stay, small_number, any_stay, dev_front, number_front, shared_front, price_front};
 
 use crate::pieces::{number_at, skip, skip_digits, skip_number};
-use cam_types::{Device, MOST_BYTES};
+use cam_types::{Device, MAX_BYTES};
 use event_rules::Stay;
-use round_net::{MOST_PRICE, Net};
+use round_net::{MAX_PRICE, Net};
 
-/// The most that may be said of a cost: 18 digits.
-const MOST_STATED: u64 = 999_999_999_999_999_999;
+/// The greatest cost that a report may state: 18 digits.
+const MAX_STATED: u64 = 999_999_999_999_999_999;
 
 /// The most that a stay's line may say in the report of a history.
-const MOST_HISTORY_NUMBER: u64 = 65_535;
+const MAX_HISTORY_NUMBER: u64 = 65_535;
 
 /// The most that it may say in that of a recording.
-const MOST_RECORDING_NUMBER: u64 = 1_048_576;
+const MAX_RECORDING_NUMBER: u64 = 1_048_576;
 
-/// How many bytes the report of a recording may have. That of a history may have `MOST_BYTES`.
-const MOST_REPORT_BYTES: usize = 268_435_456;
+/// How many bytes the report of a recording may have. That of a history may have `MAX_BYTES`.
+const MAX_REPORT_BYTES: usize = 268_435_456;
 
 /// The most that a stay's line may say. A net whose largest price is above that of a history is a recording's.
-pub(crate) fn most_number(net: &Net) -> u64
-    ensures same { result ≡ most_number (instance_of_rows net.now) }
+pub(crate) fn max_number(net: &Net) -> u64
+    ensures same { result ≡ max_number (instance_of_rows net.now) }
     ensures few { result ≤ 1048576 }
 {
-    if net.most_price() <= MOST_PRICE {
-        MOST_HISTORY_NUMBER
+    if net.max_price() <= MAX_PRICE {
+        MAX_HISTORY_NUMBER
     } else {
-        MOST_RECORDING_NUMBER
+        MAX_RECORDING_NUMBER
     }
 }
 
-/// How many bytes a report on the net may have: the net is a history's or a recording's, as `most_number` tells them apart.
-pub(crate) fn most_bytes(net: &Net) -> usize
-    ensures same { result ≡ most_bytes (instance_of_rows net.now) }
-    ensures few { result ≤ MOST_REPORT_BYTES }
+/// How many bytes a report on the net may have: the net is a history's or a recording's, as `max_number` tells them apart.
+pub(crate) fn max_bytes(net: &Net) -> usize
+    ensures same { result ≡ max_bytes (instance_of_rows net.now) }
+    ensures few { result ≤ MAX_REPORT_BYTES }
 {
-    if net.most_price() <= MOST_PRICE {
-        MOST_BYTES
+    if net.max_price() <= MAX_PRICE {
+        MAX_BYTES
     } else {
-        MOST_REPORT_BYTES
+        MAX_REPORT_BYTES
     }
 }
 
@@ -66,7 +66,7 @@ pub(crate) fn stated_line(text: &[u8], at: usize, word: &[u8]) -> Option<(u64, u
 {
     let space = skip(text, at, word)?;
     let begin = skip(text, space, b" ")?;
-    let (number, end) = number_at(text, begin, MOST_STATED)?;
+    let (number, end) = number_at(text, begin, MAX_STATED)?;
     let next = skip(text, end, b"\n")?;
     Some((number, next))
 }
@@ -82,7 +82,7 @@ pub(crate) fn own_stay(text: &[u8], at: usize, net: &Net, stay: u32) -> Option<(
     named_stay(
         text,
         at,
-        most_number(net),
+        max_number(net),
         net.stay(stay),
         net.arrival(stay),
         net.live(stay),

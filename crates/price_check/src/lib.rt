@@ -1,5 +1,5 @@
-//! Whether prices prove that a schedule of a net is a best one, whoever made them; and reports, which say that they do, read and
-//! written.
+//! The check that prices prove a schedule of a net best, whoever made them, by linear duality; and reports, which state such
+//! prices, read and written.
 #![tactic(auto)]
 
 pub use checker::check;

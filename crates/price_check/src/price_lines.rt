@@ -12,7 +12,7 @@ use round_net::Net;
 use std::alloc::Global;
 
 /// How many bytes a line may have, its line feed included.
-const MOST_LINE: usize = 101;
+const MAX_LINE: usize = 101;
 
 /// The prices of all cells, by row and round, and the offset after their lines.
 pub(crate) fn read_prices(
@@ -24,13 +24,13 @@ pub(crate) fn read_prices(
 ) -> Result<(Vec<u64>, usize), ReportFault>
     requires within { at ≤ length text.now }
     requires short { length text.now < 2 ^ 31 }
-    ensures ok { let n = instance_of_rows net.now in IfOk result (λ r. series (cell_price_at n.most_price devices.now n.adapters n.rounds text.now) (rows n * n.rounds) at ≡ Ok (r.0.items, r.1)) }
-    ensures err { let n = instance_of_rows net.now in IfErr result (λ e. e ≢ ReportFault.OutOfMemory → series (cell_price_at n.most_price devices.now n.adapters n.rounds text.now) (rows n * n.rounds) at ≡ Err e) }
+    ensures ok { let n = instance_of_rows net.now in IfOk result (λ r. series (cell_price_at n.max_price devices.now n.adapters n.rounds text.now) (rows n * n.rounds) at ≡ Ok (r.0.items, r.1)) }
+    ensures err { let n = instance_of_rows net.now in IfErr result (λ e. e ≢ ReportFault.OutOfMemory → series (cell_price_at n.max_price devices.now n.adapters n.rounds text.now) (rows n * n.rounds) at ≡ Err e) }
     ensures within { IfOk result (λ r. r.1 ≤ length text.now) }
 {
     let adapters = net.adapters();
     let rounds = net.rounds();
-    let most = net.most_price();
+    let most = net.max_price();
     let mut prices = Vec::new(alloc);
     let mut next = at;
     for cell in 0..net.rows() * rounds {
@@ -113,7 +113,7 @@ fn valued(
         Some(0) => Ok((0, at)),
         Some(price) => Ok((price, next)),
         None => {
-            if is_large(digits) && next <= at + MOST_LINE {
+            if is_large(digits) && next <= at + MAX_LINE {
                 Err(ReportFault::PriceRange(line_of(text, at)))
             } else {
                 Ok((0, at))

@@ -5,10 +5,10 @@ ghost use Rattle.std.specs.List.{AllByRecursion};
 ghost use Rattle.price_check.specs.Words.{IsConfig, device_of, has_failed, Device, net_of, instance_of_rows, live_of_rows, IsSound};
 ghost use Rattle.price_check.specs.Claims.{IsClaim, IsReport, WasReport, Explains, Claim};
 ghost use Rattle.price_check.specs.Reading.{closed, ended, reading};
-ghost use Rattle.price_check.specs.declared.forms.TheConstants.{MOST_REPORT_BYTES};
+ghost use Rattle.price_check.specs.declared.forms.TheConstants.{MAX_REPORT_BYTES};
 
 use crate::claim::Claim;
-use crate::forms::most_bytes;
+use crate::forms::max_bytes;
 use crate::pieces::{line_of, skip};
 use crate::price_lines::read_prices;
 use crate::report_fault::ReportFault;
@@ -38,7 +38,7 @@ pub fn read_claim<R: Read>(
     ensures faults { IfErr result (Explains net.now (R.remaining (device_of reader.old)) (R.remaining (device_of reader.new)) (has_failed reader.new)) }
     ensures calm { result ≢ Err ReportFault.ReadFailed → has_failed reader.new ≡ false }
 {
-    match read_within(alloc, reader, most_bytes(net)) {
+    match read_within(alloc, reader, max_bytes(net)) {
         Ok(text) => read_text(alloc, text, net),
         Err(WholeFault::TooLong) => Err(ReportFault::TooLong),
         Err(WholeFault::ReadFailed) => Err(ReportFault::ReadFailed),
@@ -67,7 +67,7 @@ pub fn read_report<R: Read>(
 
 // What the text claims as a report on the net, or its fault.
 fn read_text(alloc: Global, mut text: Vec<u8>, net: &Net) -> Result<Claim, ReportFault>
-    requires { length text.items ≤ MOST_REPORT_BYTES }
+    requires { length text.items ≤ MAX_REPORT_BYTES }
     ensures value { result ≢ Err ReportFault.OutOfMemory → result ≡ reading net.now.config.devices net.now (closed text.items) }
     ensures kept { IsConfig net.now.config }
     ensures sound { result ≢ Err ReportFault.OutOfMemory → IsSound (instance_of_rows net.now) (live_of_rows net.now) }

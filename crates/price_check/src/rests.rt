@@ -2,7 +2,7 @@
 
 ghost use Rattle.std.specs.Prelude.{◌≡◌, ℕ, ◌+◌, ◌-◌, ◌*◌, ◌<◌, ◌≤◌, ◌∷◌, nat_lt, sum_by, length, slice_index, slice_set};
 ghost use Rattle.std.specs.List.{list_all};
-ghost use Rattle.price_check.specs.Words.{adapter_row, link_rows, path_of, instance_of_rows, cell, pricing_of_rows, IsPricingFor, MOST_NET_ROUNDS, MOST_WEIGHT, MOST_NET_PRICE};
+ghost use Rattle.price_check.specs.Words.{adapter_resource, link_rows, path_of, instance_of_rows, cell, pricing_of_rows, IsPricingFor, MAX_NET_ROUNDS, MAX_WEIGHT, MAX_NET_PRICE};
 ghost use Rattle.price_check.specs.Rests.{takes, pays, IsCheapest, AreCheapest};
 
 use round_net::{Net, Prices, cell};
@@ -22,7 +22,7 @@ fn passes(net: &Net, adapter: u32, round: u32) -> bool
     requires adapter { adapter < (instance_of_rows net.now).adapters }
     requires first { 1 ≤ round }
     requires last { round ≤ (instance_of_rows net.now).rounds }
-    ensures { let n = instance_of_rows net.now in result ≡ list_all (λ row. nat_lt 0 (n.cap row round)) (adapter_row n adapter ∷ link_rows n adapter) }
+    ensures { let n = instance_of_rows net.now in result ≡ list_all (λ row. nat_lt 0 (n.cap row round)) (adapter_resource n adapter ∷ link_rows n adapter) }
 {
     if net.sim_cap(adapter, round) == 0 {
         return false;
@@ -40,7 +40,7 @@ pub fn openings_price(net: &Net, prices: &Prices, device: u32, round: u32) -> u6
     requires first { 1 ≤ round }
     requires last { round ≤ (instance_of_rows net.now).rounds }
     ensures same { result ≡ sum_by (λ row. pricing_of_rows prices.now row round) (path_of (instance_of_rows net.now) device) }
-    ensures most { result ≤ 3 * MOST_NET_PRICE }
+    ensures most { result ≤ 3 * MAX_NET_PRICE }
 {
     let adapter = net.adapter_of(device);
     let below = prices.dev(device, round) + prices.sim(adapter, round);
@@ -54,8 +54,8 @@ pub fn openings_price(net: &Net, prices: &Prices, device: u32, round: u32) -> u6
 #[tactic(auto, using(crate::proofs::RestLemmas::waiting_fits))]
 fn pays(net: &Net, prices: &Prices, weight: u32, device: u32, round: u32) -> u64
     requires size { IsPricingFor (instance_of_rows net.now) prices.now }
-    requires weight { weight ≤ MOST_WEIGHT }
-    requires few { (instance_of_rows net.now).rounds ≤ MOST_NET_ROUNDS }
+    requires weight { weight ≤ MAX_WEIGHT }
+    requires few { (instance_of_rows net.now).rounds ≤ MAX_NET_ROUNDS }
     requires device { device < (instance_of_rows net.now).devices }
     requires first { 1 ≤ round }
     requires last { round ≤ (instance_of_rows net.now).rounds }
@@ -69,8 +69,8 @@ fn pays(net: &Net, prices: &Prices, weight: u32, device: u32, round: u32) -> u64
 #[tactic(auto, using(crate::proofs::RestLemmas::cheapest_closed, crate::proofs::RestLemmas::cheapest_here, crate::proofs::RestLemmas::cheapest_later))]
 fn cheaper_of(net: &Net, prices: &Prices, weight: u32, device: u32, round: u32, next: u32) -> u32
     requires size { IsPricingFor (instance_of_rows net.now) prices.now }
-    requires weight { weight ≤ MOST_WEIGHT }
-    requires few { (instance_of_rows net.now).rounds ≤ MOST_NET_ROUNDS }
+    requires weight { weight ≤ MAX_WEIGHT }
+    requires few { (instance_of_rows net.now).rounds ≤ MAX_NET_ROUNDS }
     requires device { device < (instance_of_rows net.now).devices }
     requires first { 1 ≤ round }
     requires last { round ≤ (instance_of_rows net.now).rounds }
@@ -93,7 +93,7 @@ fn cheaper_of(net: &Net, prices: &Prices, weight: u32, device: u32, round: u32, 
 #[tactic(auto, using(crate::proofs::RestLemmas::cheapest_none, crate::proofs::RestLemmas::noted_none, crate::proofs::RestLemmas::noted_all, crate::proofs::RestLemmas::noted_step))]
 fn note_device(net: &Net, prices: &Prices, weight: u32, device: u32, rests: &mut [u32])
     requires size { IsPricingFor (instance_of_rows net.now) prices.now }
-    requires weight { weight ≤ MOST_WEIGHT }
+    requires weight { weight ≤ MAX_WEIGHT }
     requires device { device < (instance_of_rows net.now).devices }
     requires cells { (instance_of_rows net.now).devices * (instance_of_rows net.now).rounds ≤ length rests.old }
     requires before { AreCheapest (instance_of_rows net.now) (pricing_of_rows prices.now) weight device rests.old }
@@ -111,7 +111,7 @@ fn note_device(net: &Net, prices: &Prices, weight: u32, device: u32, rests: &mut
 /// Notes for each round of each device which one from there on is cheapest for stays of the weight.
 pub fn note_devices(net: &Net, prices: &Prices, weight: u32, rests: &mut [u32])
     requires size { IsPricingFor (instance_of_rows net.now) prices.now }
-    requires weight { weight ≤ MOST_WEIGHT }
+    requires weight { weight ≤ MAX_WEIGHT }
     requires cells { (instance_of_rows net.now).devices * (instance_of_rows net.now).rounds ≤ length rests.old }
     ensures noted { AreCheapest (instance_of_rows net.now) (pricing_of_rows prices.now) weight (instance_of_rows net.now).devices rests.new }
 {

@@ -4,7 +4,7 @@ ghost use Rattle.std.specs.Prelude.{◌≡◌, ◌≢◌, ◌<◌, ◌≤◌, �
 ghost use Rattle.price_check.specs.Words.{instance_of_rows, live_of_rows, IsSound};
 ghost use Rattle.price_check.specs.Reading.{stay_at, series};
 
-use crate::forms::{any_stay, most_number, own_stay};
+use crate::forms::{any_stay, max_number, own_stay};
 use crate::pieces::line_of;
 use crate::report_fault::ReportFault;
 use round_net::Net;
@@ -43,10 +43,10 @@ fn read_stay(text: &[u8], at: usize, net: &Net, stay: u32) -> Result<(u32, usize
     ensures value { result ≡ stay_at net.now text.now stay at }
     ensures within { IfOk result (λ r. r.1 ≤ length text.now) }
 {
-    if let Some(said) = own_stay(text, at, net, stay) {
-        return Ok(said);
+    if let Some(parsed) = own_stay(text, at, net, stay) {
+        return Ok(parsed);
     }
-    if any_stay(text, at, most_number(net)).is_some() {
+    if any_stay(text, at, max_number(net)).is_some() {
         Err(ReportFault::WrongStays(line_of(text, at)))
     } else {
         Err(ReportFault::BadLine(line_of(text, at)))

@@ -50,7 +50,7 @@ fn read_stated(text: &[u8], at: usize, word: &[u8]) -> Result<(u64, usize), Repo
     ensures within { IfOk result (λ r. r.1 ≤ length text.now) }
 {
     match stated_line(text, at, word) {
-        Some(said) => Ok(said),
+        Some(parsed) => Ok(parsed),
         None => Err(ReportFault::BadLine(line_of(text, at))),
     }
 }

@@ -1,7 +1,7 @@
 //! What all openings are worth.
 
 ghost use Rattle.std.specs.Prelude.{◌≡◌, ◌*◌, ◌^◌, ◌<◌, ◌≤◌};
-ghost use Rattle.price_check.specs.Words.{sum_to, rows, instance_of_rows, pricing_of_rows, IsPricingFor, offered, MOST_CAP, MOST_NET_PRICE};
+ghost use Rattle.price_check.specs.Words.{sum_to, rows, instance_of_rows, pricing_of_rows, IsPricingFor, offered, MAX_CAP, MAX_NET_PRICE};
 
 use round_net::{Net, Prices};
 
@@ -36,8 +36,8 @@ fn by_row(net: &Net, prices: &Prices, row: u32) -> u128
 
 // What that many openings are worth at a price.
 fn worth(cap: u32, price: u64) -> u128
-    requires cap { cap ≤ MOST_CAP }
-    requires price { price ≤ MOST_NET_PRICE }
+    requires cap { cap ≤ MAX_CAP }
+    requires price { price ≤ MAX_NET_PRICE }
     ensures same { result ≡ cap * price }
     ensures short { result ≤ 2 ^ 66 }
 {

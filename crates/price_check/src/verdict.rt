@@ -24,6 +24,6 @@ pub enum Verdict {
     Proved,
     /// The schedule is admissible, but costs so much more than the prices are worth.
     Gap(u128),
-    /// The schedule isn't admissible: the first stay, in order of birth, with whose place something is wrong.
+    /// The schedule isn't admissible: the first stay, in creation order, with whose place something is wrong.
     NotAdmissible(Stay, Cause),
 }

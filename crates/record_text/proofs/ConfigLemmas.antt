@@ -11,10 +11,10 @@ use Rattle.cam_types.specs.declared.config.ConfigError.{ConfigError}
 use Rattle.cam_types.specs.declared.config.ConfigError.TheVariants as error
 use Rattle.cam_types.specs.declared.config_fault.ConfigFault.{ConfigFault}
 use Rattle.cam_types.specs.declared.config_fault.ConfigFault.TheVariants.{NoLink}
-use Rattle.cam_types.specs.declared.maxima.TheConstants.{MOST_ADAPTERS, MOST_LINKS}
+use Rattle.cam_types.specs.declared.limits.TheConstants.{MAX_ADAPTERS, MAX_LINKS}
 use Rattle.cam_types.proofs.ListLemmas.{or_left, or_right}
 use Rattle.record_text.specs.ConfigRows.{clamped, device_of, DeviceRow}
-use Rattle.record_text.specs.Fields.{most_number}
+use Rattle.record_text.specs.Fields.{max_number}
 
 -- an item that was added breaks no rule
 pub none_where_ok : {U : Type 0} (o : Option ConfigFault) (r : Result U ConfigError) (u : U) → MatchOption o (IsOkUnless r error.OutOfMemory) (λ f. r ≡ Err (error.Fault f)) → r ≡ Ok u → o ≡ None
@@ -26,7 +26,7 @@ pub cond_none : {X : Type 0} (b : Bool) (x : X) (rest : Option X) → cond b (So
 cond_none true x rest e = absurd cc
 cond_none false x rest e = (refl, e)
 
-pub few_adapters : (links : ℕ) (adapters : List Adapter) (a : Adapter) → adapter_fault links (adapters, a) ≡ None → length adapters < MOST_ADAPTERS
+pub few_adapters : (links : ℕ) (adapters : List Adapter) (a : Adapter) → adapter_fault links (adapters, a) ≡ None → length adapters < MAX_ADAPTERS
 unfolding adapter_fault
 few_adapters links adapters a none = leb-false _ _ (cond_none _ _ _ (or_left _ _ none)).0
 
@@ -41,7 +41,7 @@ link_small before k e = leb-true _ _ (and_parts _ _ (not-false _ (cond_none _ _ 
 -- an adapter's link is one of that many
 pub adapter_link : (links : ℕ) (before : List Adapter) (a : Adapter) → adapter_fault links (before, a) ≡ None → IfSome a.link (λ l. l < links)
 unfolding adapter_fault
-adapter_link links before a e = by a.link (or_right (openings_fault MOST_ADAPTERS (length before) a.openings) _ e)
+adapter_link links before a e = by a.link (or_right (openings_fault MAX_ADAPTERS (length before) a.openings) _ e)
   where
     passed : (b : Bool) → cond b None (Some NoLink) ≡ None → b ≡ true
     passed true e = refl
@@ -56,7 +56,7 @@ unfolding weight_fault
 weight_numbers before w e = (grind (arith, nat_tests), grind (arith, nat_tests))
 
 -- an adapter's link is a number
-pub link_number : (links : ℕ) (link : Option ℕ) → links ≤ MOST_LINKS → IfSome link (λ l. l < links) → IfSome link (λ l. l ≤ most_number)
+pub link_number : (links : ℕ) (link : Option ℕ) → links ≤ MAX_LINKS → IfSome link (λ l. l < links) → IfSome link (λ l. l ≤ max_number)
 link_number links None few h = tt
 link_number links (Some l) few h = omega arith
 
@@ -68,7 +68,7 @@ clamped_small d h =
     ap (λ (b : ℕ). let x : Device = record { bus = b; target = d.target; lun = d.lun; openings = d.openings } in x) same
 
 -- a bus above 255 names no adapter, whichever it is
-pub clamped_fault : (n : ℕ) (before : List Device) (d : DeviceRow) → n ≤ MOST_ADAPTERS → device_fault n (before, clamped d) ≡ device_fault n (before, device_of d)
+pub clamped_fault : (n : ℕ) (before : List Device) (d : DeviceRow) → n ≤ MAX_ADAPTERS → device_fault n (before, clamped d) ≡ device_fault n (before, device_of d)
 unfolding device_fault address_fault
 clamped_fault n before d few = grind (arith, nat_tests)
 
@@ -83,7 +83,7 @@ device_small n before d e =
     (leb-false _ _ c.0, ltb-false _ _ l.0, leb-true _ _ (and_parts _ _ (not-false _ b.0)).1)
 
 -- a device that breaks no rule is the one that the record spells
-pub clamped_same : (n : ℕ) (before : List Device) (d : DeviceRow) → n ≤ MOST_ADAPTERS → device_fault n (before, clamped d) ≡ None → clamped d ≡ device_of d
+pub clamped_same : (n : ℕ) (before : List Device) (d : DeviceRow) → n ≤ MAX_ADAPTERS → device_fault n (before, clamped d) ≡ None → clamped d ≡ device_of d
 clamped_same n before d few none =
     let small = device_small n before (clamped d) none in
     clamped_small d (omega arith)

@@ -9,7 +9,7 @@ use Rattle.csv.specs.declared.parser.State.TheVariants as st
 use Rattle.csv.specs.declared.parser.Action.{Action}
 use Rattle.csv.specs.declared.parser.Action.TheVariants as act
 use Rattle.record_text.specs.Cuts.{CutsOff, count_after, next}
-use Rattle.record_text.specs.Front.{most_fields}
+use Rattle.record_text.specs.Front.{max_fields}
 use Rattle.record_text.specs.Places.{effect_of}
 use Rattle.record_text.specs.declared.effect.Effect.TheVariants as effect
 
@@ -42,7 +42,7 @@ pub read_more : (text : List ℕ) (i : ℕ) (s t : State) (n m : ℕ) → i < le
 read_more text i s t n m lt before to count = fold_more next (st.StartRecord, 0) text i 0 lt ∙ rw (before, to, count) refl
 
 pub cuts : (text : List ℕ) (i : ℕ) (s : State) (n : ℕ) → i < length text → fold next (st.StartRecord, 0) (take i text) ≡ (s, n)
-    → effect_of (step default_config s (get_or text i 0)).1 ≡ effect.Field → most_fields ≤ n → CutsOff (take (i + 1) text)
+    → effect_of (step default_config s (get_or text i 0)).1 ≡ effect.Field → max_fields ≤ n → CutsOff (take (i + 1) text)
 cuts text i s n lt before ends many = record {
   fields = n + 1;
   ends = read_more text i s st.StartField n (n + 1) lt before (sym (starts s (get_or text i 0) ends)) (count_field (step default_config s (get_or text i 0)).1 n ends);

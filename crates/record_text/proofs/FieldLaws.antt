@@ -7,7 +7,7 @@ use Rattle.cam_types.specs.Number.{number_of}
 use Rattle.cam_types.proofs.NumberLemmas.{number_of-spelled, number_of-decimal, number_of-within}
 use Rattle.cam_types.proofs.LeastLemmas.{find_passes}
 use Rattle.record_text.specs.ConfigRows.{optional_text}
-use Rattle.record_text.specs.Fields.{field_of, formed, most_number, number_at, optional_at, within_at, below_at}
+use Rattle.record_text.specs.Fields.{field_of, formed, max_number, number_at, optional_at, within_at, below_at}
 use Rattle.record_text.specs.Steps.{◌>>=◌}
 use Rattle.record_text.specs.Text.{Row}
 use Rattle.record_text.proofs.StepLemmas.{ok_or_ok}
@@ -31,7 +31,7 @@ formed_takes text of spells row at x e = spells (field_of row at) x (ok_or_ok (o
 some_at : (r : Option ℕ) (n : ℕ) (P : ℕ → Type 0) → r ≡ Some n → IfSome r P → P n
 some_at r n P e h = rw e at h
 
-pub number_takes : (row : Row) (at most n : ℕ) → most ≤ most_number → number_at row at most ≡ Ok n → (field_of row at ≡ decimal n) × (n ≤ most)
+pub number_takes : (row : Row) (at most n : ℕ) → most ≤ max_number → number_at row at most ≡ Ok n → (field_of row at ≡ decimal n) × (n ≤ most)
 unfolding number_at
 number_takes row at most n le e =
     let some = ok_or_ok (number_of most (field_of row at)) (at + 1) n e in (
@@ -39,13 +39,13 @@ number_takes row at most n le e =
       number_of-within most n (field_of row at) some,
     )
 
-pub number_again : (row : Row) (at most n : ℕ) → most ≤ most_number → n ≤ most → field_of row at ≡ decimal n → number_at row at most ≡ Ok n
+pub number_again : (row : Row) (at most n : ℕ) → most ≤ max_number → n ≤ most → field_of row at ≡ decimal n → number_at row at most ≡ Ok n
 unfolding number_at
 number_again row at most n le small e =
     ap (λ (f : List ℕ). ok_or (number_of most f) (at + 1)) e ∙ ap (λ (o : Option ℕ). ok_or o (at + 1)) (number_of-decimal most n (omega arith) small)
 
 -- a number, or none where there is no byte
-pub optional_takes : (row : Row) (at most : ℕ) (x : Option ℕ) → most ≤ most_number → optional_at row at most ≡ Ok x → (field_of row at ≡ optional_text x) × IfSome x (λ n. n ≤ most)
+pub optional_takes : (row : Row) (at most : ℕ) (x : Option ℕ) → most ≤ max_number → optional_at row at most ≡ Ok x → (field_of row at ≡ optional_text x) × IfSome x (λ n. n ≤ most)
 unfolding optional_at
 optional_takes row at most x le e = by (length (field_of row at) == 0) refl e
   where
@@ -61,7 +61,7 @@ optional_takes row at most x le e = by (length (field_of row at) == 0) refl e
         rw (← none) (nil_from_length (field_of row at) (eqb-true _ _ is), tt)
     by false is k = read (number_at row at most) refl k
 
-pub optional_again : (row : Row) (at most : ℕ) (x : Option ℕ) → most ≤ most_number → IfSome x (λ n. n ≤ most) → field_of row at ≡ optional_text x → optional_at row at most ≡ Ok x
+pub optional_again : (row : Row) (at most : ℕ) (x : Option ℕ) → most ≤ max_number → IfSome x (λ n. n ≤ most) → field_of row at ≡ optional_text x → optional_at row at most ≡ Ok x
 unfolding optional_at
 optional_again row at most None le small e = rw e refl
 optional_again row at most (Some n) le small e =
@@ -69,7 +69,7 @@ optional_again row at most (Some n) le small e =
     rw (e, some, number_again row at most n le small e) refl
 
 -- a number between two others, and one below another
-pub within_takes : (row : Row) (at least most n : ℕ) → most ≤ most_number → within_at row at least most ≡ Ok n → (field_of row at ≡ decimal n) × (least ≤ n) × (n ≤ most)
+pub within_takes : (row : Row) (at least most n : ℕ) → most ≤ max_number → within_at row at least most ≡ Ok n → (field_of row at ≡ decimal n) × (least ≤ n) × (n ≤ most)
 unfolding within_at
 within_takes row at least most n le e = read (number_at row at most) refl e
   where
@@ -84,25 +84,25 @@ within_takes row at least most n le e = read (number_at row at most) refl e
     read (Ok m) is k = test m is (nat_le least m) refl k
     read (Err d) is k = absurd cc
 
-pub within_again : (row : Row) (at least most n : ℕ) → most ≤ most_number → least ≤ n → n ≤ most → field_of row at ≡ decimal n → within_at row at least most ≡ Ok n
+pub within_again : (row : Row) (at least most n : ℕ) → most ≤ max_number → least ≤ n → n ≤ most → field_of row at ≡ decimal n → within_at row at least most ≡ Ok n
 unfolding within_at
 within_again row at least most n le low high e = rw (number_again row at most n le high e, le-leb least n low) refl
 
 pub below_takes : (row : Row) (at count n : ℕ) → below_at row at count ≡ Ok n → (field_of row at ≡ decimal n) × (n < count)
 unfolding below_at
-below_takes row at count n e = read (number_at row at most_number) refl e
+below_takes row at count n e = read (number_at row at max_number) refl e
   where
-    test : (m : ℕ) → number_at row at most_number ≡ Ok m → (b : Bool) → nat_lt m count ≡ b → cond b (Ok m) (Err (at + 1)) ≡ Ok n → (field_of row at ≡ decimal n) × (n < count)
+    test : (m : ℕ) → number_at row at max_number ≡ Ok m → (b : Bool) → nat_lt m count ≡ b → cond b (Ok m) (Err (at + 1)) ≡ Ok n → (field_of row at ≡ decimal n) × (n < count)
     test m is true low k =
         let one : m ≡ n = cc in
-        let t = number_takes row at most_number m (omega arith) is in
+        let t = number_takes row at max_number m (omega arith) is in
         rw (← one) (t.0, ltb-true m count low)
     test m is false low k = absurd cc
 
-    read : (r : Result ℕ ℕ) → number_at row at most_number ≡ r → (r >>= λ m. cond (nat_lt m count) (Ok m) (Err (at + 1))) ≡ Ok n → (field_of row at ≡ decimal n) × (n < count)
+    read : (r : Result ℕ ℕ) → number_at row at max_number ≡ r → (r >>= λ m. cond (nat_lt m count) (Ok m) (Err (at + 1))) ≡ Ok n → (field_of row at ≡ decimal n) × (n < count)
     read (Ok m) is k = test m is (nat_lt m count) refl k
     read (Err d) is k = absurd cc
 
-pub below_again : (row : Row) (at count n : ℕ) → n < count → n ≤ most_number → field_of row at ≡ decimal n → below_at row at count ≡ Ok n
+pub below_again : (row : Row) (at count n : ℕ) → n < count → n ≤ max_number → field_of row at ≡ decimal n → below_at row at count ≡ Ok n
 unfolding below_at
-below_again row at count n low high e = rw (number_again row at most_number n (omega arith) high e, lt-ltb n count low) refl
+below_again row at count n low high e = rw (number_again row at max_number n (omega arith) high e, lt-ltb n count low) refl

@@ -11,7 +11,7 @@ use Rattle.csv.specs.declared.parser.Action.{Action}
 use Rattle.csv.specs.declared.parser.Action.TheVariants as act
 use Rattle.record_text.specs.Text.{Row, records_in}
 use Rattle.record_text.specs.Cuts.{CutsOff, count_after, next}
-use Rattle.record_text.specs.Front.{IsCut, IsFront, RefusesLong, most_fields}
+use Rattle.record_text.specs.Front.{IsCut, IsFront, RefusesLong, max_fields}
 use Rattle.record_text.specs.Steps.{taken, ◌>>=◌}
 use Rattle.record_text.proofs.RecordLemmas.{enough}
 
@@ -89,7 +89,7 @@ none_counted act.EndField n e = absurd cc
 record Exceeds (s : State) (n : ℕ) (bytes : List ℕ) : Type 0 where
   fields : ℕ
   ends : fold next (s, n) bytes ≡ (st.StartField, fields)
-  many : most_fields < fields
+  many : max_fields < fields
 
 -- the next record is the same of a front and of the whole, and the front goes on as before, ..
 record IsSame (whole front : Option Read) (post : List ℕ) (size : ℕ) : Type 0 where
@@ -108,8 +108,8 @@ record IsLong (whole front : Option Read) : Type 0 where
   begun : Row
   all : whole ≡ Some one
   part : front ≡ Some (begun, st.StartRecord, [])
-  exceeds : most_fields < length one.0
-  exceeded : most_fields < length begun
+  exceeds : max_fields < length one.0
+  exceeded : max_fields < length begun
 
 abbrev Closes : State × Action → Type 0
 Closes x = is_end x.1 ≡ true → ends_at_end x.0 ≡ false
@@ -206,7 +206,7 @@ unfolding records_from next_record
 none_from zero = refl
 none_from (suc n) = refl
 
-cut_here : (one : Read) (begun : Row) (n : ℕ) → most_fields < length one.0 → most_fields < length begun
+cut_here : (one : Read) (begun : Row) (n : ℕ) → max_fields < length one.0 → max_fields < length begun
     → IsCut (one.0 ∷ records_from default_config n one.1 one.2) (begun ∷ records_from default_config n st.StartRecord [])
 cut_here one begun n a b = record {
   before = [];
@@ -282,7 +282,7 @@ front_unmarked (a ∷ b ∷ []) end le e = absurd (omega (arith, le))
 -- ---- what readers make of a front
 
 taken_parts : {S E : Type 0} (next : ℕ → S → Row → Result S E) → RefusesLong next → (n : ℕ) (first : S) (before rest : List Row) (long begun : Row)
-    → most_fields < length long → most_fields < length begun
+    → max_fields < length long → max_fields < length begun
     → taken next n first (before ++ begun ∷ []) ≡ taken next n first (before ++ long ∷ rest)
 taken_parts {S = S} {E = E} next refuses n first [] rest long begun a b =
     rw (refuses.1 n first long a, refuses.1 n first begun b) refl
@@ -327,5 +327,5 @@ front_at text mark end is size le long cut =
     by (inr some) e few = rw (some, three_and end) (front_marked text end (omega (arith, few, some)) (rw some at e))
 
 -- too many fields aren't eight
-pub not_eight : (row : Row) → most_fields < length row → (length row == 8) ≡ false
+pub not_eight : (row : Row) → max_fields < length row → (length row == 8) ≡ false
 not_eight row many = grind (arith, nat_tests)

@@ -12,9 +12,9 @@ use Rattle.cam_types.specs.Weights.{weight_fault}
 use Rattle.cam_types.specs.declared.adapter.Adapter.{Adapter}
 use Rattle.cam_types.specs.declared.device.Device.{Device}
 use Rattle.cam_types.specs.declared.weight_row.WeightRow.{WeightRow}
-use Rattle.cam_types.specs.declared.maxima.TheConstants.{MOST_ADAPTERS, MOST_LINKS}
+use Rattle.cam_types.specs.declared.limits.TheConstants.{MAX_ADAPTERS, MAX_LINKS}
 use Rattle.record_text.specs.ConfigRows.{adapter_row, device_row, link_row, optional_text, weight_row}
-use Rattle.record_text.specs.Fields.{most_number}
+use Rattle.record_text.specs.Fields.{max_number}
 use Rattle.record_text.specs.Header.{header_row}
 use Rattle.record_text.specs.Text.{Row}
 use Rattle.record_text.specs.Writing.{text_of}
@@ -81,7 +81,7 @@ each_good P row most before (x ∷ xs) f h =
 
 -- ---- the rows of a configuration, and others of one or two numbers
 
-pub optional_in : (o : Option ℕ) → IfSome o (λ n. n ≤ most_number) → FitsIn 10 (optional_text o)
+pub optional_in : (o : Option ℕ) → IfSome o (λ n. n ≤ max_number) → FitsIn 10 (optional_text o)
 optional_in None h = let none = nothing_in in omega arith
 optional_in (Some n) h = ten n h
 
@@ -90,12 +90,12 @@ unfolding header_row escaped
 good_header_of name fits whole =
     (whole, eight name (codes "a") (codes "b") (codes "c") (codes "d") (codes "e") (codes "f") (codes "g") 10 1 1 1 1 1 1 1 fits (omega arith) (omega arith) (omega arith) (omega arith) (omega arith) (omega arith) (omega arith))
 
-pub one_good : (word : List ℕ) (n : ℕ) → FitsIn 8 word → n ≤ most_number → IsShort 44 (word ∷ decimal n ∷ [] ∷ [] ∷ [] ∷ [] ∷ [] ∷ [] ∷ [])
+pub one_good : (word : List ℕ) (n : ℕ) → FitsIn 8 word → n ≤ max_number → IsShort 44 (word ∷ decimal n ∷ [] ∷ [] ∷ [] ∷ [] ∷ [] ∷ [] ∷ [])
 one_good word n w h =
     let z = nothing_in in
     eight word (decimal n) [] [] [] [] [] [] 8 10 0 0 0 0 0 0 w (ten n h) z z z z z z
 
-pub two_good : (word : List ℕ) (n : ℕ) (field : List ℕ) → FitsIn 8 word → n ≤ most_number → FitsIn 10 field → IsShort 54 (word ∷ decimal n ∷ field ∷ [] ∷ [] ∷ [] ∷ [] ∷ [] ∷ [])
+pub two_good : (word : List ℕ) (n : ℕ) (field : List ℕ) → FitsIn 8 word → n ≤ max_number → FitsIn 10 field → IsShort 54 (word ∷ decimal n ∷ field ∷ [] ∷ [] ∷ [] ∷ [] ∷ [] ∷ [])
 two_good word n field w h k =
     let z = nothing_in in
     eight word (decimal n) field [] [] [] [] [] 8 10 10 0 0 0 0 0 w (ten n h) k z z z z z
@@ -108,7 +108,7 @@ pub good_link : (before : List ℕ) (k : ℕ) → link_fault (before, k) ≡ Non
 unfolding escaped
 good_link before k e = let s = link_small before k e in (refl, one_good (codes "link") k (omega arith) (omega arith))
 
-pub good_adapter : (links : ℕ) → links ≤ MOST_LINKS → (before : List Adapter) (a : Adapter) → adapter_fault links (before, a) ≡ None → IsGood 54 (adapter_row a)
+pub good_adapter : (links : ℕ) → links ≤ MAX_LINKS → (before : List Adapter) (a : Adapter) → adapter_fault links (before, a) ≡ None → IsGood 54 (adapter_row a)
 unfolding escaped
 good_adapter links few before a e =
     let s = adapter_small links before a e in
@@ -117,7 +117,7 @@ good_adapter links few before a e =
 abbrev pub GoodDevice : List Adapter → List Device → Device → Type 0
 GoodDevice as' before d = (device_fault (length as') (before, d) ≡ None) × (d.target ≤ 65535)
 
-pub good_device : (adapters : List Adapter) → length adapters ≤ MOST_ADAPTERS → (before : List Device) (d : Device) → GoodDevice adapters before d → IsGood 74 (device_row d)
+pub good_device : (adapters : List Adapter) → length adapters ≤ MAX_ADAPTERS → (before : List Device) (d : Device) → GoodDevice adapters before d → IsGood 74 (device_row d)
 unfolding escaped
 good_device adapters few before d h =
     let s = device_small (length adapters) before d h.0 in

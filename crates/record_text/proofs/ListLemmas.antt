@@ -3,7 +3,7 @@ use Rattle.std.proofs.Common.{◌≡◌, ◌<◌, ◌≤◌, ◌+◌, ℕ, List,
 use Rattle.std.specs.Prelude.{Option, None, ⊤}
 use Rattle.std.specs.List.{AllByRecursion, list_all}
 use Rattle.std.proofs.lemmas.Bool.{and_parts}
-use Rattle.cam_types.specs.Lists.{first_answer, moments_after}
+use Rattle.cam_types.specs.Lists.{first_answer, prefixed_after}
 use Rattle.cam_types.proofs.ListLemmas.{or_left, or_right}
 
 pub all_push : {X : Type 0} (P : X → Type 0) (xs : List X) (x : X) → AllByRecursion P xs → P x → AllByRecursion P (xs ++ x ∷ [])
@@ -24,11 +24,11 @@ pub all_true : {X : Type 0} (p : X → Bool) (xs : List X) → list_all p xs ≡
 all_true p [] e = tt
 all_true p (x ∷ xs) e = let n = and_parts _ _ e in (n.0, all_true p xs n.1)
 
-pub none_along : {X F : Type 0} (f : List X × X → Option F) (before xs : List X) → first_answer f (moments_after before xs) ≡ None → Along (λ b x. f (b, x) ≡ None) before xs
+pub none_along : {X F : Type 0} (f : List X × X → Option F) (before xs : List X) → first_answer f (prefixed_after before xs) ≡ None → Along (λ b x. f (b, x) ≡ None) before xs
 none_along f before [] e = tt
 none_along f before (x ∷ xs) e = (or_left (f (before, x)) _ e, none_along f (before ++ x ∷ []) xs (or_right (f (before, x)) _ e))
 
-pub true_along : {X : Type 0} (p : List X × X → Bool) (before xs : List X) → list_all p (moments_after before xs) ≡ true → Along (λ b x. p (b, x) ≡ true) before xs
+pub true_along : {X : Type 0} (p : List X × X → Bool) (before xs : List X) → list_all p (prefixed_after before xs) ≡ true → Along (λ b x. p (b, x) ≡ true) before xs
 true_along p before [] e = tt
 true_along p before (x ∷ xs) e = let n = and_parts _ _ e in (n.0, true_along p (before ++ x ∷ []) xs n.1)
 

@@ -88,11 +88,11 @@ none_left s xs e = rw (add-one (length xs), e) refl
 
 -- ---- what is left gives the answer
 
--- The records that are left, taken from the stage at hand, give what all of them give from the first stage.
-pub record IsLeft {S E : Type 0} (next : ℕ → S → Row → Result S E) (first : S) (all : List Row) (number : ℕ) (stage : S) (state : State) (rest : List ℕ) (size : ℕ) : Type 0 where
+-- The records that are left, taken from the parser at hand, give what all of them give from the first parser.
+pub record IsLeft {S E : Type 0} (next : ℕ → S → Row → Result S E) (first : S) (all : List Row) (number : ℕ) (parser : S) (state : State) (rest : List ℕ) (size : ℕ) : Type 0 where
   pub idle : ends_at_end state ≡ false
   pub counted : number + length rest ≤ size + 1
-  pub answer : taken next 1 first all ≡ taken next number stage (records_from default_config (length rest + 1) state rest)
+  pub answer : taken next 1 first all ≡ taken next number parser (records_from default_config (length rest + 1) state rest)
 
 length-strip_bom : (text : List ℕ) → length (strip_bom text) ≤ length text
 unfolding strip_bom
@@ -104,27 +104,27 @@ left_first next first text =
     let h = length-strip_bom text in
     record { idle = refl; counted = omega arith; answer = refl }
 
-pub left_more : {S E : Type 0} (next : ℕ → S → Row → Result S E) (first : S) (all : List Row) (number : ℕ) (stage after : S) (state : State) (rest : List ℕ) (size : ℕ) (p : Read)
-    → IsLeft next first all number stage state rest size → next_record default_config state [] [] rest ≡ Some p → next number stage p.0 ≡ Ok after
+pub left_more : {S E : Type 0} (next : ℕ → S → Row → Result S E) (first : S) (all : List Row) (number : ℕ) (parser after : S) (state : State) (rest : List ℕ) (size : ℕ) (p : Read)
+    → IsLeft next first all number parser state rest size → next_record default_config state [] [] rest ≡ Some p → next number parser p.0 ≡ Ok after
     → IsLeft next first all (number + 1) after p.1 p.2 size
-left_more next first all number stage after state rest size p left e is =
+left_more next first all number parser after state rest size p left e is =
     let h = next_shorter state rest p left.idle e in
     record {
       idle = h.0;
       counted = omega (arith, left.counted);
-      answer = left.answer ∙ ap (taken next number stage) (first_left state rest p left.idle e) ∙ rw is refl;
+      answer = left.answer ∙ ap (taken next number parser) (first_left state rest p left.idle e) ∙ rw is refl;
     }
 
-pub left_fault : {S E : Type 0} (next : ℕ → S → Row → Result S E) (first : S) (all : List Row) (number : ℕ) (stage : S) (state : State) (rest : List ℕ) (size : ℕ) (p : Read) (fault : E)
-    → IsLeft next first all number stage state rest size → next_record default_config state [] [] rest ≡ Some p → next number stage p.0 ≡ Err fault
+pub left_fault : {S E : Type 0} (next : ℕ → S → Row → Result S E) (first : S) (all : List Row) (number : ℕ) (parser : S) (state : State) (rest : List ℕ) (size : ℕ) (p : Read) (fault : E)
+    → IsLeft next first all number parser state rest size → next_record default_config state [] [] rest ≡ Some p → next number parser p.0 ≡ Err fault
     → taken next 1 first all ≡ Err fault
-left_fault next first all number stage state rest size p fault left e is =
-    left.answer ∙ ap (taken next number stage) (first_left state rest p left.idle e) ∙ rw is refl
+left_fault next first all number parser state rest size p fault left e is =
+    left.answer ∙ ap (taken next number parser) (first_left state rest p left.idle e) ∙ rw is refl
 
-pub left_end : {S E : Type 0} (next : ℕ → S → Row → Result S E) (first : S) (all : List Row) (number : ℕ) (stage : S) (state : State) (rest : List ℕ) (size : ℕ)
-    → IsLeft next first all number stage state rest size → next_record default_config state [] [] rest ≡ None → taken next 1 first all ≡ Ok stage
-left_end next first all number stage state rest size left e =
-    left.answer ∙ ap (taken next number stage) (none_left state rest e)
+pub left_end : {S E : Type 0} (next : ℕ → S → Row → Result S E) (first : S) (all : List Row) (number : ℕ) (parser : S) (state : State) (rest : List ℕ) (size : ℕ)
+    → IsLeft next first all number parser state rest size → next_record default_config state [] [] rest ≡ None → taken next 1 first all ≡ Ok parser
+left_end next first all number parser state rest size left e =
+    left.answer ∙ ap (taken next number parser) (none_left state rest e)
 
 triple : (q : Read) (fields : List (List ℕ)) (s : State) (z : List ℕ) → fields ≡ q.0 → q.1 ≡ s → q.2 ≡ z → q ≡ (fields, s, z)
 triple q fields s z a b c = rw (a, ← b, ← c) refl
@@ -138,7 +138,7 @@ record_more rem a b fields y ec ex r =
     let m = rows-more rem a b fields default_config a.state y y [] ec ex (refl, refl) r in
     (m.0, m.1, m.2.1 ∙ ap (λ (q : Read). Some q) (triple m.2.0 fields b.state m.0 m.2.2 m.2.3.0 m.2.3.1))
 
--- ---- a stage that took a record, where memory was found
+-- ---- a parser that took a record, where memory was found
 
 pub took_ok : {S E : Type 0} (r x : Result S E) (s : S) (memory : E) → (r ≢ Err memory → r ≡ x) → r ≡ Ok s → x ≡ Ok s
 took_ok r x s memory h e = sym (h (λ w. cc)) ∙ e

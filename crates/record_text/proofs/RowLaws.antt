@@ -9,7 +9,7 @@ use Rattle.cam_types.specs.declared.adapter.Adapter.{Adapter}
 use Rattle.cam_types.specs.declared.weight_row.WeightRow.{WeightRow}
 use Rattle.cam_types.specs.Weights.{row_to}
 use Rattle.record_text.specs.ConfigRows.{adapter_at, adapter_row, device_at, device_of, device_row, one_number, optional_text, padded, two_numbers, weight_at, weight_row, DeviceRow}
-use Rattle.record_text.specs.Fields.{field_of, most_number, number_at, optional_at, unused, unused_from}
+use Rattle.record_text.specs.Fields.{field_of, max_number, number_at, optional_at, unused, unused_from}
 use Rattle.record_text.specs.Header.{has_letters, header_row, is_header}
 use Rattle.record_text.specs.Steps.{◌>>=◌}
 use Rattle.record_text.specs.Text.{Row}
@@ -45,7 +45,7 @@ pub next_field : {X B Q : Type 0} (row : Row) (at : ℕ) (r : Result X ℕ) (f :
 next_field row at r f y spell F eight h takes e k =
     on_ok r f y e (λ x ex s. let t = takes x ex in k x t.1 (λ rest more. peel row at (spell x) rest eight h t.0 more) s)
 
-pub next_number : {B Q : Type 0} (row : Row) (at most : ℕ) (f : ℕ → Result B ℕ) (y : B) → length row ≡ 8 → at < 8 → most ≤ most_number → (number_at row at most >>= f) ≡ Ok y
+pub next_number : {B Q : Type 0} (row : Row) (at most : ℕ) (f : ℕ → Result B ℕ) (y : B) → length row ≡ 8 → at < 8 → most ≤ max_number → (number_at row at most >>= f) ≡ Ok y
     → ((n : ℕ) → n ≤ most → ((rest : Row) → drop (at + 1) row ≡ rest → drop at row ≡ decimal n ∷ rest) → f n ≡ Ok y → Q) → Q
 next_number row at most f y eight h le e k = next_field row at (number_at row at most) f y decimal (λ n. n ≤ most) eight h (λ n. number_takes row at most n le) e k
 
@@ -59,42 +59,42 @@ with_word row word eight e = peel row 0 word (drop 1 row) eight (omega arith) e 
 
 -- ---- rows of numbers
 
-pub one_takes : (row : Row) (word : List ℕ) (n : ℕ) → length row ≡ 8 → one_number row ≡ Ok n → (word ∷ drop 1 row ≡ padded (word ∷ decimal n ∷ [])) × (n ≤ most_number)
+pub one_takes : (row : Row) (word : List ℕ) (n : ℕ) → length row ≡ 8 → one_number row ≡ Ok n → (word ∷ drop 1 row ≡ padded (word ∷ decimal n ∷ [])) × (n ≤ max_number)
 unfolding one_number
 one_takes row word n eight e =
-    next_number row 1 most_number _ n eight (omega arith) (omega arith) e (λ m few t r.
-    no_more row 2 6 m n (λ k. (word ∷ drop 1 row ≡ padded (word ∷ decimal k ∷ [])) × (k ≤ most_number)) eight refl r (λ rest. (ap (λ (l : Row). word ∷ l) (t _ rest), few)))
+    next_number row 1 max_number _ n eight (omega arith) (omega arith) e (λ m few t r.
+    no_more row 2 6 m n (λ k. (word ∷ drop 1 row ≡ padded (word ∷ decimal k ∷ [])) × (k ≤ max_number)) eight refl r (λ rest. (ap (λ (l : Row). word ∷ l) (t _ rest), few)))
 
-pub one_again : (word : List ℕ) (n : ℕ) → n ≤ most_number → one_number (padded (word ∷ decimal n ∷ [])) ≡ Ok n
+pub one_again : (word : List ℕ) (n : ℕ) → n ≤ max_number → one_number (padded (word ∷ decimal n ∷ [])) ≡ Ok n
 unfolding one_number unused_from field_at
-one_again word n h = rw (number_again (padded (word ∷ decimal n ∷ [])) 1 most_number n (omega arith) h refl) refl
+one_again word n h = rw (number_again (padded (word ∷ decimal n ∷ [])) 1 max_number n (omega arith) h refl) refl
 
 pub two_take : (row : Row) (word : List ℕ) (p : ℕ × ℕ) → length row ≡ 8 → two_numbers row ≡ Ok p
-    → (word ∷ drop 1 row ≡ padded (word ∷ decimal p.0 ∷ decimal p.1 ∷ [])) × (p.0 ≤ most_number) × (p.1 ≤ most_number)
+    → (word ∷ drop 1 row ≡ padded (word ∷ decimal p.0 ∷ decimal p.1 ∷ [])) × (p.0 ≤ max_number) × (p.1 ≤ max_number)
 unfolding two_numbers
 two_take row word p eight e =
-    next_number row 1 most_number _ p eight (omega arith) (omega arith) e (λ m a t1 r1.
-    next_number row 2 most_number _ p eight (omega arith) (omega arith) r1 (λ n b t2 r2.
-    no_more row 3 5 (m, n) p (λ q. (word ∷ drop 1 row ≡ padded (word ∷ decimal q.0 ∷ decimal q.1 ∷ [])) × (q.0 ≤ most_number) × (q.1 ≤ most_number)) eight refl r2 (λ rest.
+    next_number row 1 max_number _ p eight (omega arith) (omega arith) e (λ m a t1 r1.
+    next_number row 2 max_number _ p eight (omega arith) (omega arith) r1 (λ n b t2 r2.
+    no_more row 3 5 (m, n) p (λ q. (word ∷ drop 1 row ≡ padded (word ∷ decimal q.0 ∷ decimal q.1 ∷ [])) × (q.0 ≤ max_number) × (q.1 ≤ max_number)) eight refl r2 (λ rest.
     (ap (λ (l : Row). word ∷ l) (t1 _ (t2 _ rest)), a, b))))
 
-pub two_again : (word : List ℕ) (m n : ℕ) → m ≤ most_number → n ≤ most_number → two_numbers (padded (word ∷ decimal m ∷ decimal n ∷ [])) ≡ Ok (m, n)
+pub two_again : (word : List ℕ) (m n : ℕ) → m ≤ max_number → n ≤ max_number → two_numbers (padded (word ∷ decimal m ∷ decimal n ∷ [])) ≡ Ok (m, n)
 unfolding two_numbers unused_from field_at
 two_again word m n h k =
     let row = padded (word ∷ decimal m ∷ decimal n ∷ []) in
-    rw (number_again row 1 most_number m (omega arith) h refl, number_again row 2 most_number n (omega arith) k refl) refl
+    rw (number_again row 1 max_number m (omega arith) h refl, number_again row 2 max_number n (omega arith) k refl) refl
 
 -- ---- rows of a configuration
 
 -- the numbers of these rows fit their fields
 abbrev pub FitsWeight : WeightRow → Type 0
-FitsWeight w = (w.last ≤ most_number) × (w.weight ≤ most_number)
+FitsWeight w = (w.last ≤ max_number) × (w.weight ≤ max_number)
 
 abbrev pub FitsAdapter : Adapter → Type 0
-FitsAdapter a = (a.openings ≤ most_number) × IfSome a.link (λ n. n ≤ most_number)
+FitsAdapter a = (a.openings ≤ max_number) × IfSome a.link (λ n. n ≤ max_number)
 
 abbrev pub FitsDevice : DeviceRow → Type 0
-FitsDevice d = (d.bus ≤ most_number) × (d.target ≤ 65535) × (d.lun ≤ 16383) × (d.openings ≤ most_number)
+FitsDevice d = (d.bus ≤ max_number) × (d.target ≤ 65535) × (d.lun ≤ 16383) × (d.openings ≤ max_number)
 
 pub weight_takes : (row : Row) (w : WeightRow) → length row ≡ 8 → weight_at row ≡ Ok w → (codes "weight" ∷ drop 1 row ≡ weight_row w) × FitsWeight w
 unfolding weight_at
@@ -103,29 +103,29 @@ weight_takes row w eight e =
     let t = two_take row (codes "weight") p eight ep in
     subst (λ (x : WeightRow). (codes "weight" ∷ drop 1 row ≡ weight_row x) × FitsWeight x) (ok_is (row_to p.0 p.1) w s) (t.0, (t.1, t.2)))
 
-pub weight_again : (w : WeightRow) → w.last ≤ most_number → w.weight ≤ most_number → weight_at (weight_row w) ≡ Ok w
+pub weight_again : (w : WeightRow) → w.last ≤ max_number → w.weight ≤ max_number → weight_at (weight_row w) ≡ Ok w
 unfolding weight_at
 weight_again w a b = rw (two_again (codes "weight") w.last w.weight a b) refl
 
 pub adapter_takes : (row : Row) (x : Adapter) → length row ≡ 8 → adapter_at row ≡ Ok x → (codes "sim" ∷ drop 1 row ≡ adapter_row x) × FitsAdapter x
 unfolding adapter_at
 adapter_takes row x eight e =
-    next_number row 1 most_number _ x eight (omega arith) (omega arith) e (λ openings a t1 r1.
-    next_field row 2 (optional_at row 2 most_number) _ x optional_text (λ l. IfSome l (λ n. n ≤ most_number)) eight (omega arith) (λ l el. optional_takes row 2 most_number l (omega arith) el) r1 (λ link b t2 r2.
+    next_number row 1 max_number _ x eight (omega arith) (omega arith) e (λ openings a t1 r1.
+    next_field row 2 (optional_at row 2 max_number) _ x optional_text (λ l. IfSome l (λ n. n ≤ max_number)) eight (omega arith) (λ l el. optional_takes row 2 max_number l (omega arith) el) r1 (λ link b t2 r2.
     no_more row 3 5 _ x (λ v. (codes "sim" ∷ drop 1 row ≡ adapter_row v) × FitsAdapter v) eight refl r2 (λ rest.
     (ap (λ (l : Row). codes "sim" ∷ l) (t1 _ (t2 _ rest)), (a, b)))))
 
-pub adapter_again : (a : Adapter) → a.openings ≤ most_number → IfSome a.link (λ l. l ≤ most_number) → adapter_at (adapter_row a) ≡ Ok a
+pub adapter_again : (a : Adapter) → a.openings ≤ max_number → IfSome a.link (λ l. l ≤ max_number) → adapter_at (adapter_row a) ≡ Ok a
 unfolding adapter_at unused_from field_at
-adapter_again a o l = rw (number_again (adapter_row a) 1 most_number a.openings (omega arith) o refl, optional_again (adapter_row a) 2 most_number a.link (omega arith) l refl) refl
+adapter_again a o l = rw (number_again (adapter_row a) 1 max_number a.openings (omega arith) o refl, optional_again (adapter_row a) 2 max_number a.link (omega arith) l refl) refl
 
 pub device_takes : (row : Row) (d : DeviceRow) → length row ≡ 8 → device_at row ≡ Ok d → (codes "dev" ∷ drop 1 row ≡ device_row (device_of d)) × FitsDevice d
 unfolding device_at
 device_takes row d eight e =
-    next_number row 1 most_number _ d eight (omega arith) (omega arith) e (λ bus a t1 r1.
+    next_number row 1 max_number _ d eight (omega arith) (omega arith) e (λ bus a t1 r1.
     next_number row 2 65535 _ d eight (omega arith) (omega arith) r1 (λ target b t2 r2.
     next_number row 3 16383 _ d eight (omega arith) (omega arith) r2 (λ lun c t3 r3.
-    next_number row 4 most_number _ d eight (omega arith) (omega arith) r3 (λ openings o t4 r4.
+    next_number row 4 max_number _ d eight (omega arith) (omega arith) r3 (λ openings o t4 r4.
     no_more row 5 3 _ d (λ v. (codes "dev" ∷ drop 1 row ≡ device_row (device_of v)) × FitsDevice v) eight refl r4 (λ rest.
     (ap (λ (l : Row). codes "dev" ∷ l) (t1 _ (t2 _ (t3 _ (t4 _ rest)))), (a, b, c, o)))))))
 
@@ -134,10 +134,10 @@ unfolding device_at unused_from field_at
 device_again d h =
     let row = device_row (device_of d) in
     rw (
-      number_again row 1 most_number d.bus (omega arith) h.0 refl,
+      number_again row 1 max_number d.bus (omega arith) h.0 refl,
       number_again row 2 65535 d.target (omega arith) h.1 refl,
       number_again row 3 16383 d.lun (omega arith) h.2 refl,
-      number_again row 4 most_number d.openings (omega arith) h.3 refl,
+      number_again row 4 max_number d.openings (omega arith) h.3 refl,
     ) refl
 
 -- ---- the header

@@ -5,7 +5,7 @@ use Rattle.std.proofs.lemmas.Fmt.{decimal_is_IsNumeral, length-decimal-le}
 use Rattle.std.specs.Str.Parse.{AllDigits}
 use Rattle.std.proofs.lemmas.Str.Parse.{digit_from_value}
 use Rattle.csv.specs.Writing.{default_writer, escaped, field_text, fields_text, is_blank, row_text}
-use Rattle.record_text.specs.Fields.{most_number}
+use Rattle.record_text.specs.Fields.{max_number}
 use Rattle.record_text.specs.Text.{Row}
 
 -- ---- fields
@@ -28,7 +28,7 @@ escaped_digits (d ∷ ds) h =
 abbrev pub FitsIn : ℕ → List ℕ → Type 0
 FitsIn most field = length (escaped default_writer field) ≤ most
 
-pub ten : (n : ℕ) → n ≤ most_number → FitsIn 10 (decimal n)
+pub ten : (n : ℕ) → n ≤ max_number → FitsIn 10 (decimal n)
 ten n h =
     let same = escaped_digits (decimal n) (decimal_is_IsNumeral n (omega arith)).0.1 in
     let few = length-decimal-le 10 n (omega arith) (omega arith) (omega arith) in

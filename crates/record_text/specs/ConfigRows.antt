@@ -6,7 +6,7 @@ use Rattle.cam_types.specs.declared.device.Device.{Device}
 use Rattle.cam_types.specs.declared.weight_row.WeightRow.{WeightRow}
 use Rattle.cam_types.specs.Weights.{row_to}
 pub use Rattle.record_text.specs.declared.device_row.DeviceRow.{DeviceRow}
-use Rattle.record_text.specs.Fields.{most_number, number_at, optional_at, unused_from}
+use Rattle.record_text.specs.Fields.{max_number, number_at, optional_at, unused_from}
 use Rattle.record_text.specs.Steps.{◌>>=◌}
 use Rattle.record_text.specs.Text.{Row}
 
@@ -15,15 +15,15 @@ use Rattle.record_text.specs.Text.{Row}
 -- a number, and no field more
 unfoldable pub one_number : Row → Result ℕ ℕ
 one_number row = do
-  n ← number_at row 1 most_number
+  n ← number_at row 1 max_number
   _ ← unused_from row 2
   Ok n
 
 -- two numbers, and no field more
 unfoldable pub two_numbers : Row → Result (ℕ × ℕ) ℕ
 two_numbers row = do
-  n ← number_at row 1 most_number
-  m ← number_at row 2 most_number
+  n ← number_at row 1 max_number
+  m ← number_at row 2 max_number
   _ ← unused_from row 3
   Ok (n, m)
 
@@ -34,17 +34,17 @@ weight_at row = two_numbers row >>= λ p. Ok (row_to p.0 p.1)
 -- openings, and the number of a link or none
 unfoldable pub adapter_at : Row → Result Adapter ℕ
 adapter_at row = do
-  openings ← number_at row 1 most_number
-  link ← optional_at row 2 most_number
+  openings ← number_at row 1 max_number
+  link ← optional_at row 2 max_number
   _ ← unused_from row 3
   Ok (record { openings = openings; link = link })
 
 unfoldable pub device_at : Row → Result DeviceRow ℕ
 device_at row = do
-  bus ← number_at row 1 most_number
+  bus ← number_at row 1 max_number
   target ← number_at row 2 65535
   lun ← number_at row 3 16383
-  openings ← number_at row 4 most_number
+  openings ← number_at row 4 max_number
   _ ← unused_from row 5
   Ok (record { bus = bus; target = target; lun = lun; openings = openings })
 

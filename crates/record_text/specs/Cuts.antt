@@ -6,7 +6,7 @@ use Rattle.csv.specs.declared.parser.Action.{Action}
 use Rattle.csv.specs.declared.parser.Action.TheVariants as act
 use Rattle.csv.specs.declared.parser.State.{State}
 use Rattle.csv.specs.declared.parser.State.TheVariants as st
-use Rattle.record_text.specs.Front.{most_fields}
+use Rattle.record_text.specs.Front.{max_fields}
 
 -- how many fields of the record at hand have ended after an action, of those before it
 abbrev pub count_after : Action → ℕ → ℕ
@@ -23,4 +23,4 @@ next (s, n) c = ((step default_config s c).0, count_after (step default_config s
 pub record CutsOff (bytes : List ℕ) : Type 0 where
   pub fields : ℕ
   pub ends : fold next (st.StartRecord, 0) bytes ≡ (st.StartField, fields)
-  pub many : most_fields < fields
+  pub many : max_fields < fields

@@ -14,8 +14,8 @@ abbrev pub formed : {X : Type 0} → Option X → ℕ → Result X ℕ
 formed value at = ok_or value (at + 1)
 
 -- the largest number of a record
-abbrev pub most_number : ℕ
-most_number = 4294967295
+abbrev pub max_number : ℕ
+max_number = 4294967295
 
 -- a number of at most `most`
 unfoldable pub number_at : Row → ℕ → ℕ → Result ℕ ℕ
@@ -31,7 +31,7 @@ within_at row at least most = number_at row at most >>= λ n. if nat_le least n 
 
 -- a number below `count`
 unfoldable pub below_at : Row → ℕ → ℕ → Result ℕ ℕ
-below_at row at count = number_at row at most_number >>= λ n. if nat_lt n count then Ok n else Err (at + 1)
+below_at row at count = number_at row at max_number >>= λ n. if nat_lt n count then Ok n else Err (at + 1)
 
 -- fields that aren't used have no byte: the number of the first that has one, where the first field has this number
 abbrev pub unused : ℕ → Row → Result ⊤ ℕ

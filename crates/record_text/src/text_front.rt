@@ -1,4 +1,4 @@
-//! The front of a text that says as much as all of it.
+//! The front of a text that decides what the whole text is read as, where one record has too many fields.
 
 ghost use Rattle.std.specs.Prelude.{◌≡◌, ◌⊎◌, ◌≤◌, ◌<◌, IfSome, fold, length, take, drop};
 ghost use Rattle.csv.specs.Reading.{strip_bom};
@@ -9,7 +9,7 @@ use crate::effect::Effect;
 use crate::place::Place;
 
 // The most fields of a record.
-const MOST_FIELDS: usize = 8;
+const MAX_FIELDS: usize = 8;
 
 // A text of which each part of this many bytes has a line feed, and which has no quote, has no very long record.
 const WINDOW: usize = 65_536;
@@ -58,7 +58,7 @@ fn ninth_field(text: &[u8]) -> Option<usize>
         place = next;
         fields = match effect {
             Effect::Nothing => fields,
-            Effect::Field if fields == MOST_FIELDS => return Some(at + 1),
+            Effect::Field if fields == MAX_FIELDS => return Some(at + 1),
             Effect::Field => fields + 1,
             Effect::Record => 0,
         };

@@ -6,17 +6,17 @@ use Rattle.std.proofs.lemmas.Bool.{and_parts, and_from, lt-ltb, le-leb, ltb-fals
 use Rattle.std.proofs.lemmas.Bool.Decides.{nat_tests}
 use Rattle.std.proofs.lemmas.List.{length-map, map-append}
 use Rattle.std.proofs.lemmas.List.Sums.{list_all-from_AllPass, sum_by-cons}
-use Rattle.cam_types.specs.Lists.{first_answer, moments, moments_after}
-use Rattle.cam_types.specs.Topology.{Topology, IsConfig, IsDraft, are_openings, is_same_address, names_link, openings_fault, link_fault, adapter_fault, address_fault, device_fault, lane_fault, lack, config_fault}
+use Rattle.cam_types.specs.Lists.{first_answer, prefixed, prefixed_after}
+use Rattle.cam_types.specs.Topology.{Topology, IsConfig, IsPartial, are_openings, is_same_address, names_link, openings_fault, link_fault, adapter_fault, address_fault, device_fault, lane_fault, lack, config_fault}
 use Rattle.cam_types.specs.declared.adapter.Adapter.{Adapter}
 use Rattle.cam_types.specs.declared.config_fault.ConfigFault.{ConfigFault}
 use Rattle.cam_types.specs.declared.config_fault.ConfigFault.TheVariants.{TooMany, BadOpenings, NoLink}
 use Rattle.cam_types.specs.declared.device.Device.{Device}
-use Rattle.cam_types.specs.declared.maxima.TheConstants.{MOST_ADAPTERS, MOST_DEVICES, MOST_LINKS, MOST_OPENINGS}
+use Rattle.cam_types.specs.declared.limits.TheConstants.{MAX_ADAPTERS, MAX_DEVICES, MAX_LINKS, MAX_OPENINGS}
 use Rattle.cam_types.proofs.ConfigLemmas.{weight_items, reaches, some_adapter, few_links, few_adapters, few_devices, adapters_on_links, device_items}
-use Rattle.cam_types.proofs.ListLemmas.{or_left, or_right, moments_after-push}
-use Rattle.cam_types.proofs.TopologyLemmas.{config_fault-draft}
-use Rattle.event_rules.proofs.ListFacts.{length-moments_after, range_with_len-push}
+use Rattle.cam_types.proofs.ListLemmas.{or_left, or_right, prefixed_after-push}
+use Rattle.cam_types.proofs.TopologyLemmas.{config_fault-partial}
+use Rattle.event_rules.proofs.ListFacts.{length-prefixed_after, range_with_len-push}
 use Rattle.recording_file.specs.Caps.{cap_in}
 use Rattle.recording_file.specs.Recorded.{Recorded}
 use Rattle.recording_file.specs.declared.part.Part.{Part}
@@ -36,12 +36,12 @@ unfolding greatest
 greatest_some r p = lt-ltb 0 _ (omega (arith, fold_max 1 (map (cap_in r.config r.caps p) (range_with_len 1 r.rounds))))
 
 within_one : (n : ℕ) (named : ℕ → ℕ → ScriptFault) (at : ℕ) → nat_lt 0 n ≡ true → too_many named at n ≡ None → are_openings n ≡ true
-within_one n named at some none = elim (nat_lt MOST_OPENINGS n) as (λ b. nat_lt MOST_OPENINGS n ≡ b → ◌≡◌ {A = Option ScriptFault} (cond b (Some (named at n)) None) None → are_openings n ≡ true) [
+within_one n named at some none = elim (nat_lt MAX_OPENINGS n) as (λ b. nat_lt MAX_OPENINGS n ≡ b → ◌≡◌ {A = Option ScriptFault} (cond b (Some (named at n)) None) None → are_openings n ≡ true) [
   | true ↦ λ is e. absurd (cc)
-  | false ↦ λ is e. and_from _ _ some (le-leb n MOST_OPENINGS (ltb-false MOST_OPENINGS n is))
+  | false ↦ λ is e. and_from _ _ some (le-leb n MAX_OPENINGS (ltb-false MAX_OPENINGS n is))
 ] refl none
 
-within : {X : Type 0} (size : X → ℕ) (named : ℕ → ℕ → ScriptFault) (before xs : List X) → list_all (λ x. nat_lt 0 (size x)) xs ≡ true → first_answer (λ (m : List X × X). too_many named (length m.0) (size m.1)) (moments_after before xs) ≡ None →
+within : {X : Type 0} (size : X → ℕ) (named : ℕ → ℕ → ScriptFault) (before xs : List X) → list_all (λ x. nat_lt 0 (size x)) xs ≡ true → first_answer (λ (m : List X × X). too_many named (length m.0) (size m.1)) (prefixed_after before xs) ≡ None →
     list_all (λ x. are_openings (size x)) xs ≡ true
 within size named before [] some none = refl
 within size named before (x ∷ xs) some none =
@@ -55,42 +55,42 @@ openings_none most before n lt ok =
     let room : nat_le most before ≡ false = grind (arith, nat_tests) in
     rw (room, ok) refl
 
-links_kept : (before xs : List ℕ) → length before + length xs ≤ MOST_LINKS → list_all are_openings xs ≡ true → first_answer link_fault (moments_after before xs) ≡ None
+links_kept : (before xs : List ℕ) → length before + length xs ≤ MAX_LINKS → list_all are_openings xs ≡ true → first_answer link_fault (prefixed_after before xs) ≡ None
 unfolding link_fault
 links_kept before [] few ok = refl
 links_kept before (x ∷ xs) few ok =
     let parts = and_parts (are_openings x) (list_all are_openings xs) ok in
-    rw (openings_none MOST_LINKS (length before) x (omega arith) parts.0) (links_kept (before ++ x ∷ []) xs (omega (arith, length-append before (x ∷ []))) parts.1)
+    rw (openings_none MAX_LINKS (length before) x (omega arith) parts.0) (links_kept (before ++ x ∷ []) xs (omega (arith, length-append before (x ∷ []))) parts.1)
 
-adapters_kept : (n : ℕ) (before xs : List Adapter) → length before + length xs ≤ MOST_ADAPTERS → list_all (λ (x : Adapter). are_openings x.openings) xs ≡ true → list_all (λ (x : Adapter). names_link n x.link) xs ≡ true →
-    first_answer (adapter_fault n) (moments_after before xs) ≡ None
+adapters_kept : (n : ℕ) (before xs : List Adapter) → length before + length xs ≤ MAX_ADAPTERS → list_all (λ (x : Adapter). are_openings x.openings) xs ≡ true → list_all (λ (x : Adapter). names_link n x.link) xs ≡ true →
+    first_answer (adapter_fault n) (prefixed_after before xs) ≡ None
 unfolding adapter_fault
 adapters_kept n before [] few ok on = refl
 adapters_kept n before (x ∷ xs) few ok on =
     let parts = and_parts (are_openings x.openings) (list_all (λ (y : Adapter). are_openings y.openings) xs) ok in
     let links = and_parts (names_link n x.link) (list_all (λ (y : Adapter). names_link n y.link) xs) on in
-    rw (openings_none MOST_ADAPTERS (length before) x.openings (omega arith) parts.0, links.0) (adapters_kept n (before ++ x ∷ []) xs (omega (arith, length-append before (x ∷ []))) parts.1 links.1)
+    rw (openings_none MAX_ADAPTERS (length before) x.openings (omega arith) parts.0, links.0) (adapters_kept n (before ++ x ∷ []) xs (omega (arith, length-append before (x ∷ []))) parts.1 links.1)
 
-same_links : (r : Recorded) (n : ℕ) (before xs : List Adapter) → list_all (λ (x : Adapter). names_link n x.link) xs ≡ true → list_all (λ (x : Adapter). names_link n x.link) (map (adapter_at r) (moments_after before xs)) ≡ true
+same_links : (r : Recorded) (n : ℕ) (before xs : List Adapter) → list_all (λ (x : Adapter). names_link n x.link) xs ≡ true → list_all (λ (x : Adapter). names_link n x.link) (map (adapter_at r) (prefixed_after before xs)) ≡ true
 same_links r n before [] h = refl
 same_links r n before (x ∷ xs) h =
     let parts = and_parts (names_link n x.link) (list_all (λ (y : Adapter). names_link n y.link) xs) h in
     and_from _ _ parts.0 (same_links r n (before ++ x ∷ []) xs parts.1)
 
-same_addresses : (r : Recorded) (d : Device) (before xs : List Device) → list_any (is_same_address d) (map (device_at r) (moments_after before xs)) ≡ list_any (is_same_address d) xs
+same_addresses : (r : Recorded) (d : Device) (before xs : List Device) → list_any (is_same_address d) (map (device_at r) (prefixed_after before xs)) ≡ list_any (is_same_address d) xs
 same_addresses r d before [] = refl
 same_addresses r d before (x ∷ xs) = ap (λ b. is_same_address d x || b) (same_addresses r d (before ++ x ∷ []) xs)
 
 -- a device's address is as good as it was
-address_kept : (r : Recorded) (n : ℕ) (before : List Device) (d : Device) → address_fault n (before, d) ≡ None → address_fault n (map (device_at r) (moments_after [] before), device_at r (before, d)) ≡ None
+address_kept : (r : Recorded) (n : ℕ) (before : List Device) (d : Device) → address_fault n (before, d) ≡ None → address_fault n (map (device_at r) (prefixed_after [] before), device_at r (before, d)) ≡ None
 unfolding address_fault
 address_kept r n before d h = rw (same_addresses r (device_at r (before, d)) [] before) h
 
-device_kept : (r : Recorded) (n : ℕ) (before : List Device) (d : Device) → device_fault n (before, d) ≡ None → are_openings (device_at r (before, d)).openings ≡ true → device_fault n (map (device_at r) (moments_after [] before), device_at r (before, d)) ≡ None
+device_kept : (r : Recorded) (n : ℕ) (before : List Device) (d : Device) → device_fault n (before, d) ≡ None → are_openings (device_at r (before, d)).openings ≡ true → device_fault n (map (device_at r) (prefixed_after [] before), device_at r (before, d)) ≡ None
 unfolding device_fault
 device_kept r n before d h ok =
-    let len : length (map (device_at r) (moments_after [] before)) ≡ length before = length-map (moments_after [] before) (device_at r) ∙ length-moments_after [] before in
-    rw (len, ok) (elim (nat_le MOST_DEVICES (length before)) as (λ b. ◌≡◌ {A = Option ConfigFault} (cond b (Some TooMany) (cond (not (are_openings d.openings)) (Some BadOpenings) (address_fault n (before, d)))) None → ◌≡◌ {A = Option ConfigFault} (cond b (Some TooMany) (address_fault n (map (device_at r) (moments_after [] before), device_at r (before, d)))) None) [
+    let len : length (map (device_at r) (prefixed_after [] before)) ≡ length before = length-map (prefixed_after [] before) (device_at r) ∙ length-prefixed_after [] before in
+    rw (len, ok) (elim (nat_le MAX_DEVICES (length before)) as (λ b. ◌≡◌ {A = Option ConfigFault} (cond b (Some TooMany) (cond (not (are_openings d.openings)) (Some BadOpenings) (address_fault n (before, d)))) None → ◌≡◌ {A = Option ConfigFault} (cond b (Some TooMany) (address_fault n (map (device_at r) (prefixed_after [] before), device_at r (before, d)))) None) [
       | true ↦ λ e. absurd (cc)
       | false ↦ λ e. address_kept r n before d (elim (not (are_openings d.openings)) as (λ b. ◌≡◌ {A = Option ConfigFault} (cond b (Some BadOpenings) (address_fault n (before, d))) None → address_fault n (before, d) ≡ None) [
         | true ↦ λ f. absurd (cc)
@@ -98,13 +98,13 @@ device_kept r n before d h ok =
       ] e)
     ] h)
 
-devices_kept : (r : Recorded) (n : ℕ) (before xs : List Device) → first_answer (device_fault n) (moments_after before xs) ≡ None → list_all (λ (x : Device). are_openings x.openings) (map (device_at r) (moments_after before xs)) ≡ true →
-    first_answer (device_fault n) (moments_after (map (device_at r) (moments_after [] before)) (map (device_at r) (moments_after before xs))) ≡ None
+devices_kept : (r : Recorded) (n : ℕ) (before xs : List Device) → first_answer (device_fault n) (prefixed_after before xs) ≡ None → list_all (λ (x : Device). are_openings x.openings) (map (device_at r) (prefixed_after before xs)) ≡ true →
+    first_answer (device_fault n) (prefixed_after (map (device_at r) (prefixed_after [] before)) (map (device_at r) (prefixed_after before xs))) ≡ None
 devices_kept r n before [] h ok = refl
 devices_kept r n before (x ∷ xs) h ok =
-    let parts = and_parts (are_openings (device_at r (before, x)).openings) (list_all (λ (y : Device). are_openings y.openings) (map (device_at r) (moments_after (before ++ x ∷ []) xs))) ok in
-    let more : map (device_at r) (moments_after [] before) ++ device_at r (before, x) ∷ [] ≡ map (device_at r) (moments_after [] (before ++ x ∷ [])) =
-    sym (ap (map (device_at r)) (moments_after-push [] before x) ∙ map-append (device_at r) (moments_after [] before) ((before, x) ∷ [])) in
+    let parts = and_parts (are_openings (device_at r (before, x)).openings) (list_all (λ (y : Device). are_openings y.openings) (map (device_at r) (prefixed_after (before ++ x ∷ []) xs))) ok in
+    let more : map (device_at r) (prefixed_after [] before) ++ device_at r (before, x) ∷ [] ≡ map (device_at r) (prefixed_after [] (before ++ x ∷ [])) =
+    sym (ap (map (device_at r)) (prefixed_after-push [] before x) ∙ map-append (device_at r) (prefixed_after [] before) ((before, x) ∷ [])) in
     rw (device_kept r n before x (or_left (device_fault n (before, x)) _ h) parts.0, more) (devices_kept r n (before ++ x ∷ []) xs (or_right (device_fault n (before, x)) _ h) parts.1)
 
 -- ---- lanes
@@ -115,7 +115,7 @@ none_before a (suc n) k le =
     let other : (a == k) ≡ false = grind (arith, nat_tests) in
     omega (arith, sum_by-cons (λ x. cond {A = ℕ} (x == k) 1 0) a (range_with_len (a + 1) n), ap (λ b. cond {A = ℕ} b 1 0) other, none_before (a + 1) n k (omega arith))
 
-lanes_kept : (n k m : ℕ) → k + m ≤ n → first_answer (lane_fault n) (moments_after (range_with_len 0 k) (range_with_len k m)) ≡ None
+lanes_kept : (n k m : ℕ) → k + m ≤ n → first_answer (lane_fault n) (prefixed_after (range_with_len 0 k) (range_with_len k m)) ≡ None
 unfolding lane_fault
 lanes_kept n k zero le = refl
 lanes_kept n k (suc m) le =
@@ -126,42 +126,42 @@ lanes_kept n k (suc m) le =
 -- ---- all of it
 
 module _ (r : Recorded) (config : IsConfig r.config) (none : recorded.openings_fault (config_of r) ≡ None) where
-  links_some : (before xs : List ℕ) → list_all (λ x. nat_lt 0 x) (map (link_at r) (moments_after before xs)) ≡ true
+  links_some : (before xs : List ℕ) → list_all (λ x. nat_lt 0 x) (map (link_at r) (prefixed_after before xs)) ≡ true
   links_some before [] = refl
   links_some before (x ∷ xs) = and_from _ _ (greatest_some r _) (links_some (before ++ x ∷ []) xs)
 
-  adapters_some : (before xs : List Adapter) → list_all (λ (x : Adapter). nat_lt 0 x.openings) (map (adapter_at r) (moments_after before xs)) ≡ true
+  adapters_some : (before xs : List Adapter) → list_all (λ (x : Adapter). nat_lt 0 x.openings) (map (adapter_at r) (prefixed_after before xs)) ≡ true
   adapters_some before [] = refl
   adapters_some before (x ∷ xs) = and_from _ _ (greatest_some r _) (adapters_some (before ++ x ∷ []) xs)
 
-  devices_some : (before xs : List Device) → list_all (λ (x : Device). nat_lt 0 x.openings) (map (device_at r) (moments_after before xs)) ≡ true
+  devices_some : (before xs : List Device) → list_all (λ (x : Device). nat_lt 0 x.openings) (map (device_at r) (prefixed_after before xs)) ≡ true
   devices_some before [] = refl
   devices_some before (x ∷ xs) = and_from _ _ (greatest_some r _) (devices_some (before ++ x ∷ []) xs)
 
   links_all : list_all are_openings (config_of r).links ≡ true
   unfolding recorded.openings_fault config_of
-  links_all = within (λ n. n) fault.Link [] (map (link_at r) (moments r.config.links)) (links_some [] r.config.links) (or_right _ _ (or_right _ _ none))
+  links_all = within (λ n. n) fault.Link [] (map (link_at r) (prefixed r.config.links)) (links_some [] r.config.links) (or_right _ _ (or_right _ _ none))
 
   adapters_all : list_all (λ (x : Adapter). are_openings x.openings) (config_of r).adapters ≡ true
   unfolding recorded.openings_fault config_of
-  adapters_all = within (λ (x : Adapter). x.openings) fault.Adapter [] (map (adapter_at r) (moments r.config.adapters)) (adapters_some [] r.config.adapters) (or_left _ (first_answer recorded.link_fault (moments (map (link_at r) (moments r.config.links)))) (or_right _ _ none))
+  adapters_all = within (λ (x : Adapter). x.openings) fault.Adapter [] (map (adapter_at r) (prefixed r.config.adapters)) (adapters_some [] r.config.adapters) (or_left _ (first_answer recorded.link_fault (prefixed (map (link_at r) (prefixed r.config.links)))) (or_right _ _ none))
 
   devices_all : list_all (λ (x : Device). are_openings x.openings) (config_of r).devices ≡ true
   unfolding recorded.openings_fault config_of
-  devices_all = within (λ (x : Device). x.openings) fault.Device [] (map (device_at r) (moments r.config.devices)) (devices_some [] r.config.devices) (or_left _ (option_or (first_answer recorded.adapter_fault (moments (map (adapter_at r) (moments r.config.adapters)))) (first_answer recorded.link_fault (moments (map (link_at r) (moments r.config.links))))) none)
+  devices_all = within (λ (x : Device). x.openings) fault.Device [] (map (device_at r) (prefixed r.config.devices)) (devices_some [] r.config.devices) (or_left _ (option_or (first_answer recorded.adapter_fault (prefixed (map (adapter_at r) (prefixed r.config.adapters)))) (first_answer recorded.link_fault (prefixed (map (link_at r) (prefixed r.config.links))))) none)
 
-  as_many : {X Y : Type 0} (f : List X × X → Y) (xs : List X) → length (map f (moments xs)) ≡ length xs
-  as_many f xs = length-map (moments xs) f ∙ length-moments_after [] xs
+  as_many : {X Y : Type 0} (f : List X × X → Y) (xs : List X) → length (map f (prefixed xs)) ≡ length xs
+  as_many f xs = length-map (prefixed xs) f ∙ length-prefixed_after [] xs
 
-  draft : IsDraft (config_of r)
+  partial : IsPartial (config_of r)
   unfolding config_of
-  draft =
+  partial =
       let links = as_many (link_at r) r.config.links in
       let adapters = as_many (adapter_at r) r.config.adapters in
       record {
         weights = weight_items r.config config;
-        links = links_kept [] (map (link_at r) (moments r.config.links)) (omega (arith, links, few_links r.config config)) links_all;
-        adapters = rw links (adapters_kept (length r.config.links) [] (map (adapter_at r) (moments r.config.adapters)) (omega (arith, adapters, few_adapters r.config config)) adapters_all
+        links = links_kept [] (map (link_at r) (prefixed r.config.links)) (omega (arith, links, few_links r.config config)) links_all;
+        adapters = rw links (adapters_kept (length r.config.links) [] (map (adapter_at r) (prefixed r.config.adapters)) (omega (arith, adapters, few_adapters r.config config)) adapters_all
             (same_links r (length r.config.links) [] r.config.adapters (list_all-from_AllPass (λ (x : Adapter). names_link (length r.config.links) x.link) r.config.adapters (adapters_on_links r.config config))));
         devices = rw adapters (devices_kept r (length r.config.adapters) [] r.config.devices (device_items r.config config) devices_all);
         lanes = rw adapters (lanes_kept (length r.config.adapters) 0 (length r.config.adapters) (omega arith));
@@ -172,4 +172,4 @@ module _ (r : Recorded) (config : IsConfig r.config) (none : recorded.openings_f
   nothing_lacks = rw (reaches r.config config, as_many (adapter_at r) r.config.adapters, some_adapter r.config config) refl
 
   pub config_kept : config_fault (config_of r) ≡ None
-  config_kept = config_fault-draft (config_of r) draft ∙ nothing_lacks
+  config_kept = config_fault-partial (config_of r) partial ∙ nothing_lacks

@@ -3,7 +3,7 @@ use Rattle.std.proofs.Common.{◌≡◌, ℕ, zero, suc, ◌+◌, ◌*◌, ◌�
 use Rattle.std.specs.List.{cons_option, list_all, filter_map, range_with_len}
 use Rattle.std.proofs.lemmas.List.{length-map}
 use Rattle.std.proofs.lemmas.List.Folds.{list_all-map}
-use Rattle.cam_types.specs.Lists.{moments_after}
+use Rattle.cam_types.specs.Lists.{prefixed_after}
 use Rattle.cam_types.specs.Topology.{Topology}
 use Rattle.cam_types.specs.declared.outcome.Outcome.{Outcome}
 use Rattle.event_rules.specs.Counts.{round, submissions}
@@ -12,10 +12,10 @@ use Rattle.event_rules.specs.Laws.{is_in_range}
 use Rattle.event_rules.specs.Legal.{history_rules, is_legal}
 use Rattle.event_rules.specs.declared.event.Event.{Event}
 use Rattle.event_rules.specs.declared.submission.Submission.{Submission}
-use Rattle.event_rules.proofs.ListFacts.{length-filter_map, length-moments_after}
+use Rattle.event_rules.proofs.ListFacts.{length-filter_map, length-prefixed_after}
 use Rattle.event_rules.proofs.RangeLemmas.{submissions_in_range}
 use Rattle.trace_file.specs.Scenarios.{is_answer}
-use Rattle.trace_file.specs.declared.script_stage.TheConstants.{MOST_ROWS}
+use Rattle.trace_file.specs.declared.script_parser.TheConstants.{MAX_ROWS}
 use Rattle.trace_file.proofs.ScriptRules.{all_items, few_items, sum_by-map}
 use Rattle.recorded_script.specs.Answers.{is_other, lane_answers, answers_of, others}
 use Rattle.recorded_script.specs.Arrivals.{Arrival, arrival_of, arrivals, in_round}
@@ -23,20 +23,20 @@ use Rattle.recorded_script.proofs.ServedLemmas.{answers_pass, few_answers, finis
 
 pub arrivals_few : (es : List Event) → length (arrivals es) ≤ length es
 unfolding arrivals
-arrivals_few es = omega (arith, length-filter_map arrival_of (moments_after [] es), length-moments_after [] es)
+arrivals_few es = omega (arith, length-filter_map arrival_of (prefixed_after [] es), length-prefixed_after [] es)
 
 same_one : (r : ℕ) (o : Option Submission) (as' : List Arrival) (ss : List Submission) → map (λ (a : Arrival). a.submission) as' ≡ ss → map (λ (a : Arrival). a.submission) (cons_option (option_map (in_round r) o) as') ≡ cons_option o ss
 same_one r None as' ss h = h
 same_one r (Some s) as' ss h = ap (λ xs. s ∷ xs) h
 
-same_submissions : (before es : List Event) → map (λ (a : Arrival). a.submission) (filter_map arrival_of (moments_after before es)) ≡ filter_map submission_of es
+same_submissions : (before es : List Event) → map (λ (a : Arrival). a.submission) (filter_map arrival_of (prefixed_after before es)) ≡ filter_map submission_of es
 same_submissions before [] = refl
-same_submissions before (e ∷ es) = same_one (round before) (submission_of e) (filter_map arrival_of (moments_after (before ++ e ∷ []) es)) (filter_map submission_of es) (same_submissions (before ++ e ∷ []) es)
+same_submissions before (e ∷ es) = same_one (round before) (submission_of e) (filter_map arrival_of (prefixed_after (before ++ e ∷ []) es)) (filter_map submission_of es) (same_submissions (before ++ e ∷ []) es)
 
 pub arrivals_ranged : (c : Topology) (es : List Event) → is_legal history_rules c es ≡ true → list_all (λ (a : Arrival). is_in_range c a.submission) (arrivals es) ≡ true
 unfolding arrivals submissions
 arrivals_ranged c es legal =
-    sym (list_all-map (is_in_range c) (λ (a : Arrival). a.submission) (filter_map arrival_of (moments_after [] es)))
+    sym (list_all-map (is_in_range c) (λ (a : Arrival). a.submission) (filter_map arrival_of (prefixed_after [] es)))
     ∙ ap (list_all (is_in_range c)) (same_submissions [] es)
     ∙ submissions_in_range history_rules c es legal
 
@@ -57,7 +57,7 @@ pub lanes_answer : (c : Topology) (es : List Event) (n : ℕ) (vs : List (Vec Ou
 unfolding answers_of
 lanes_answer c es n vs legal same = all_items is_answer vs ∙ ap (list_all (list_all is_answer)) same ∙ answers_pass es 0 n (finished_legal history_rules c es legal)
 
-pub lanes_few : (c : Topology) (es : List Event) (n : ℕ) (vs : List (Vec Outcome Global)) → is_legal history_rules c es ≡ true → lists vs ≡ answers_of es n → sum_by (λ v. length v.items) vs ≤ MOST_ROWS
+pub lanes_few : (c : Topology) (es : List Event) (n : ℕ) (vs : List (Vec Outcome Global)) → is_legal history_rules c es ≡ true → lists vs ≡ answers_of es n → sum_by (λ v. length v.items) vs ≤ MAX_ROWS
 unfolding answers_of
 lanes_few c es n vs legal same =
     let sum : sum_by (λ (v : Vec Outcome Global). length v.items) vs ≡ sum_by (λ lane. length (lane_answers es lane)) (range_with_len 0 n) =

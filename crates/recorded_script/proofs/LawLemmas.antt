@@ -6,7 +6,7 @@ use Rattle.std.proofs.lemmas.Grind.{fold-append}
 use Rattle.std.proofs.lemmas.List.Concat.{flat_map-cons}
 use Rattle.std.proofs.lemmas.List.Elements.{filter_map-append}
 use Rattle.std.proofs.lemmas.List.Sums.{sum_by-cons}
-use Rattle.cam_types.specs.Lists.{is_less, moments, moments_after}
+use Rattle.cam_types.specs.Lists.{is_less, prefixed, prefixed_after}
 use Rattle.event_rules.specs.Counts.{round}
 use Rattle.event_rules.specs.Event.{is_tick, submission_of}
 use Rattle.event_rules.specs.Sorted.{insert_by}
@@ -30,20 +30,20 @@ use Rattle.recorded_script.proofs.AnswerLemmas.{same_answers, none_left}
 acts_from : (now : ℕ) (a : Arrival) → filter_map act (steps_from now a) ≡ submit a.submission ∷ []
 acts_from now a = elim (nat_lt now a.round) as (λ b. filter_map act (cond b (Pause a.round ∷ []) [] ++ Act (submit a.submission) ∷ []) ≡ submit a.submission ∷ []) [ true ↦ refl | false ↦ refl ]
 
-acts_at : (before own : List Arrival) → filter_map act (flat_map steps_at (moments_after before own)) ≡ map (λ (a : Arrival). submit a.submission) own
+acts_at : (before own : List Arrival) → filter_map act (flat_map steps_at (prefixed_after before own)) ≡ map (λ (a : Arrival). submit a.submission) own
 acts_at before [] = refl
 acts_at before (a ∷ own) =
-    let rest = flat_map steps_at (moments_after (before ++ a ∷ []) own) in
-    ap (filter_map act) (flat_map-cons steps_at (before, a) (moments_after (before ++ a ∷ []) own))
+    let rest = flat_map steps_at (prefixed_after (before ++ a ∷ []) own) in
+    ap (filter_map act) (flat_map-cons steps_at (before, a) (prefixed_after (before ++ a ∷ []) own))
     ∙ filter_map-append act (steps_from (last_round before) a) rest
     ∙ ap (λ xs. xs ++ filter_map act rest) (acts_from (last_round before) a)
     ∙ ap (λ xs. submit a.submission ∷ xs) (acts_at (before ++ a ∷ []) own)
 
-own_submits : (d : ℕ) (before es : List Event) → map (λ (a : Arrival). submit a.submission) (filter (is_by d) (filter_map arrival_of (moments_after before es))) ≡ filter (is_submit_by d) es
+own_submits : (d : ℕ) (before es : List Event) → map (λ (a : Arrival). submit a.submission) (filter (is_by d) (filter_map arrival_of (prefixed_after before es))) ≡ filter (is_submit_by d) es
 own_submits d before [] = refl
 own_submits d before (Submit driver device priority retries flags ∷ es) =
     let e = Submit driver device priority retries flags in
-    let as' = filter_map arrival_of (moments_after (before ++ e ∷ []) es) in
+    let as' = filter_map arrival_of (prefixed_after (before ++ e ∷ []) es) in
     let a : Arrival = record { round = round before; submission = record { driver = driver; device = device; priority = priority; retries = retries; flags = flags } } in
     elim (driver == d) as (λ b. map (λ (x : Arrival). submit x.submission) (cond b (a ∷ filter (is_by d) as') (filter (is_by d) as')) ≡ cond b (e ∷ filter (is_submit_by d) es) (filter (is_submit_by d) es)) [
       | true ↦ ap (λ xs. e ∷ xs) (own_submits d (before ++ e ∷ []) es)
@@ -53,7 +53,7 @@ own_submits d before (e ∷ es) = own_submits d (before ++ e ∷ []) es
 
 pub in_order : (events : List Event) (d : ℕ) → filter_map act (steps_of (arrivals events) d) ≡ filter (is_submit_by d) events
 unfolding steps_of steps_for arrivals
-in_order events d = acts_at [] (filter (is_by d) (filter_map arrival_of (moments_after [] events))) ∙ own_submits d [] events
+in_order events d = acts_at [] (filter (is_by d) (filter_map arrival_of (prefixed_after [] events))) ∙ own_submits d [] events
 
 -- ---- in their rounds
 
@@ -87,13 +87,13 @@ asked_one now a rest le = elim (nat_lt now a.round) as (λ b. nat_lt now a.round
       ap (λ r. (r, submit a.submission) ∷ asked r rest) same
 ] refl
 
-asked_at : (before own : List Arrival) → Rises (last_round before) own → asked (last_round before) (flat_map steps_at (moments_after before own)) ≡ map timed own
+asked_at : (before own : List Arrival) → Rises (last_round before) own → asked (last_round before) (flat_map steps_at (prefixed_after before own)) ≡ map timed own
 unfolding Rises
 asked_at before [] h = refl
 asked_at before (a ∷ own) h =
-    let rest = flat_map steps_at (moments_after (before ++ a ∷ []) own) in
+    let rest = flat_map steps_at (prefixed_after (before ++ a ∷ []) own) in
     let last : last_round (before ++ a ∷ []) ≡ a.round = fold-append (λ r (x : Arrival). x.round) 1 before (a ∷ []) in
-    ap (asked (last_round before)) (flat_map-cons steps_at (before, a) (moments_after (before ++ a ∷ []) own))
+    ap (asked (last_round before)) (flat_map-cons steps_at (before, a) (prefixed_after (before ++ a ∷ []) own))
     ∙ asked_one (last_round before) a rest h.0
     ∙ ap (λ r. timed a ∷ asked r rest) (sym last)
     ∙ ap (λ xs. timed a ∷ xs) (asked_at (before ++ a ∷ []) own (rw last h.1))
@@ -108,16 +108,16 @@ unfolding Rises
 rises_none r None as' h = h
 rises_none r (Some s) as' h = (omega arith, h)
 
-history_rises : (before es : List Event) → Rises (round before) (filter_map arrival_of (moments_after before es))
+history_rises : (before es : List Event) → Rises (round before) (filter_map arrival_of (prefixed_after before es))
 unfolding Rises
 history_rises before [] = tt
 history_rises before (e ∷ es) =
     let later : round before ≤ round (before ++ e ∷ []) = omega (arith, round-push before e) in
-    rises_none (round before) (submission_of e) (filter_map arrival_of (moments_after (before ++ e ∷ []) es)) (rises_lower (round before) (round (before ++ e ∷ [])) _ later (history_rises (before ++ e ∷ []) es))
+    rises_none (round before) (submission_of e) (filter_map arrival_of (prefixed_after (before ++ e ∷ []) es)) (rises_lower (round before) (round (before ++ e ∷ [])) _ later (history_rises (before ++ e ∷ []) es))
 
 pub history_in_rounds : (events : List Event) (d : ℕ) → asked 1 (steps_of (arrivals events) d) ≡ map timed (filter (is_by d) (arrivals events))
 unfolding arrivals
-history_in_rounds events d = in_rounds (filter_map arrival_of (moments_after [] events)) d (rises_lower 1 (round []) _ (round_first []) (history_rises [] events))
+history_in_rounds events d = in_rounds (filter_map arrival_of (prefixed_after [] events)) d (rises_lower 1 (round []) _ (round_first []) (history_rises [] events))
 
 -- those of a recording
 less_one : (x y : Bool) → (x || (y && false)) ≡ x

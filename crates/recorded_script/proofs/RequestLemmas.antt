@@ -5,17 +5,17 @@ use Rattle.std.proofs.lemmas.Bool.{and_parts, and_from, le-leb, ltb-false}
 use Rattle.std.proofs.lemmas.List.{length-map, length-replicate}
 use Rattle.std.proofs.lemmas.List.Folds.{sum_by-replicate}
 use Rattle.std.proofs.lemmas.List.FromFn.{length-range_with_len}
-use Rattle.cam_types.specs.Lists.{first_answer, is_less, moments, moments_after}
+use Rattle.cam_types.specs.Lists.{first_answer, is_less, prefixed, prefixed_after}
 use Rattle.cam_types.specs.Questions.{names_device}
 use Rattle.cam_types.specs.Topology.{Topology}
-use Rattle.cam_types.specs.declared.maxima.TheConstants.{MOST_PRIORITY, MOST_ROUNDS}
+use Rattle.cam_types.specs.declared.limits.TheConstants.{MAX_PRIORITY, MAX_ROUNDS}
 use Rattle.cam_types.specs.declared.outcome.Outcome.{Outcome}
 use Rattle.cam_types.proofs.ListLemmas.{or_left, or_right}
 use Rattle.event_rules.specs.Laws.{is_in_range}
 use Rattle.event_rules.specs.Sorted.{insert_by, sorted_by}
 use Rattle.recording_file.specs.Recorded.{Recorded, plain_cause, request_cause, window_cause}
-use Rattle.recording_file.specs.declared.cause.Cause.{Cause}
-use Rattle.recording_file.specs.declared.cause.Cause.TheVariants.{NoDevice, BadPriority}
+use Rattle.recording_file.specs.declared.cause.RequestFault.{RequestFault}
+use Rattle.recording_file.specs.declared.cause.RequestFault.TheVariants.{NoDevice, BadPriority}
 use Rattle.recording_file.specs.declared.cap.Cap.{Cap}
 use Rattle.recording_file.specs.declared.request.Request.{Request}
 use Rattle.recorded_script.specs.Arrivals.{Arrival, arrival_by, requested, round_key}
@@ -23,7 +23,7 @@ use Rattle.recorded_script.specs.Faults.{ScriptFault}
 use Rattle.recorded_script.specs.Recorded.{config_of, device_at, size_fault}
 use Rattle.recorded_script.specs.declared.fault.ScriptFault.TheVariants.{Rounds, Requests}
 use Rattle.trace_file.specs.Scenarios.{is_answer}
-use Rattle.trace_file.specs.declared.script_stage.TheConstants.{MOST_ROWS}
+use Rattle.trace_file.specs.declared.script_parser.TheConstants.{MAX_ROWS}
 use Rattle.trace_file.proofs.ScriptRules.{all_items, few_items}
 use Rattle.recorded_script.proofs.GreatestLemmas.{as_many}
 
@@ -62,36 +62,36 @@ one_ranged : (r : Recorded) (q : Request) → plain_cause r.rounds r.config q �
 unfolding plain_cause config_of
 one_ranged r q h =
     let many = as_many r (device_at r) r.config.devices in
-    rw many (elim (names_device r.config q.device) as (λ b. ◌≡◌ {A = Option Cause} (cond (not b) (Some NoDevice) (cond (nat_lt MOST_PRIORITY q.priority) (Some BadPriority) (window_cause r.rounds q))) None → (b && nat_le q.priority MOST_PRIORITY && true) ≡ true) [
+    rw many (elim (names_device r.config q.device) as (λ b. ◌≡◌ {A = Option RequestFault} (cond (not b) (Some NoDevice) (cond (nat_lt MAX_PRIORITY q.priority) (Some BadPriority) (window_cause r.rounds q))) None → (b && nat_le q.priority MAX_PRIORITY && true) ≡ true) [
       | false ↦ λ e. absurd (cc)
-      | true ↦ λ e. elim (nat_lt MOST_PRIORITY q.priority) as (λ b. nat_lt MOST_PRIORITY q.priority ≡ b → ◌≡◌ {A = Option Cause} (cond b (Some BadPriority) (window_cause r.rounds q)) None → (nat_le q.priority MOST_PRIORITY && true) ≡ true) [
+      | true ↦ λ e. elim (nat_lt MAX_PRIORITY q.priority) as (λ b. nat_lt MAX_PRIORITY q.priority ≡ b → ◌≡◌ {A = Option RequestFault} (cond b (Some BadPriority) (window_cause r.rounds q)) None → (nat_le q.priority MAX_PRIORITY && true) ≡ true) [
         | true ↦ λ is f. absurd (cc)
-        | false ↦ λ is f. rw (le-leb q.priority MOST_PRIORITY (ltb-false MOST_PRIORITY q.priority is)) refl
+        | false ↦ λ is f. rw (le-leb q.priority MAX_PRIORITY (ltb-false MAX_PRIORITY q.priority is)) refl
       ] refl e
     ] h)
 
-all_ranged : (r : Recorded) (before qs : List Request) → first_answer (request_cause r.rounds r.config r.caps) (moments_after before qs) ≡ None → list_all (λ (a : Arrival). is_in_range (config_of r) a.submission) (map arrival_by qs) ≡ true
+all_ranged : (r : Recorded) (before qs : List Request) → first_answer (request_cause r.rounds r.config r.caps) (prefixed_after before qs) ≡ None → list_all (λ (a : Arrival). is_in_range (config_of r) a.submission) (map arrival_by qs) ≡ true
 unfolding request_cause
 all_ranged r before [] h = refl
 all_ranged r before (q ∷ qs) h =
-    and_from _ _ (one_ranged r q (or_left (plain_cause r.rounds r.config q) _ (or_left _ (first_answer (request_cause r.rounds r.config r.caps) (moments_after (before ++ q ∷ []) qs)) h)))
-    (all_ranged r (before ++ q ∷ []) qs (or_right _ (first_answer (request_cause r.rounds r.config r.caps) (moments_after (before ++ q ∷ []) qs)) h))
+    and_from _ _ (one_ranged r q (or_left (plain_cause r.rounds r.config q) _ (or_left _ (first_answer (request_cause r.rounds r.config r.caps) (prefixed_after (before ++ q ∷ []) qs)) h)))
+    (all_ranged r (before ++ q ∷ []) qs (or_right _ (first_answer (request_cause r.rounds r.config r.caps) (prefixed_after (before ++ q ∷ []) qs)) h))
 
-pub requested_ranged : (r : Recorded) → first_answer (request_cause r.rounds r.config r.caps) (moments r.requests) ≡ None → list_all (λ (a : Arrival). is_in_range (config_of r) a.submission) (requested r.requests) ≡ true
+pub requested_ranged : (r : Recorded) → first_answer (request_cause r.rounds r.config r.caps) (prefixed r.requests) ≡ None → list_all (λ (a : Arrival). is_in_range (config_of r) a.submission) (requested r.requests) ≡ true
 unfolding requested
 requested_ranged r h = all_folded round_key (λ (a : Arrival). is_in_range (config_of r) a.submission) [] (map arrival_by r.requests) refl (all_ranged r [] r.requests h)
 
 -- ---- sizes
 
-pub size_none : (r : Recorded) → size_fault r ≡ None → (r.rounds ≤ MOST_ROUNDS) × (length r.requests ≤ MOST_ROWS)
+pub size_none : (r : Recorded) → size_fault r ≡ None → (r.rounds ≤ MAX_ROUNDS) × (length r.requests ≤ MAX_ROWS)
 unfolding size_fault
-size_none r h = elim (nat_lt MOST_ROUNDS r.rounds) as (λ b. nat_lt MOST_ROUNDS r.rounds ≡ b → ◌≡◌ {A = Option ScriptFault} (cond b (Some (Rounds r.rounds)) (cond (nat_lt MOST_ROWS (length r.requests)) (Some (Requests (length r.requests))) None)) None → (r.rounds ≤ MOST_ROUNDS) × (length r.requests ≤ MOST_ROWS)) [
+size_none r h = elim (nat_lt MAX_ROUNDS r.rounds) as (λ b. nat_lt MAX_ROUNDS r.rounds ≡ b → ◌≡◌ {A = Option ScriptFault} (cond b (Some (Rounds r.rounds)) (cond (nat_lt MAX_ROWS (length r.requests)) (Some (Requests (length r.requests))) None)) None → (r.rounds ≤ MAX_ROUNDS) × (length r.requests ≤ MAX_ROWS)) [
   | true ↦ λ is e. absurd (cc)
   | false ↦ λ is e. (
-    ltb-false MOST_ROUNDS r.rounds is,
-    elim (nat_lt MOST_ROWS (length r.requests)) as (λ b. nat_lt MOST_ROWS (length r.requests) ≡ b → ◌≡◌ {A = Option ScriptFault} (cond b (Some (Requests (length r.requests))) None) None → length r.requests ≤ MOST_ROWS) [
+    ltb-false MAX_ROUNDS r.rounds is,
+    elim (nat_lt MAX_ROWS (length r.requests)) as (λ b. nat_lt MAX_ROWS (length r.requests) ≡ b → ◌≡◌ {A = Option ScriptFault} (cond b (Some (Requests (length r.requests))) None) None → length r.requests ≤ MAX_ROWS) [
       | true ↦ λ many f. absurd (cc)
-      | false ↦ λ few f. ltb-false MOST_ROWS (length r.requests) few
+      | false ↦ λ few f. ltb-false MAX_ROWS (length r.requests) few
     ] refl e,
   )
 ] refl h
@@ -115,5 +115,5 @@ none_pass (suc n) = none_pass n
 pub none_answer : (n : ℕ) (vs : List (Vec Outcome Global)) → lists vs ≡ replicate n [] → list_all (λ v. list_all is_answer v.items) vs ≡ true
 none_answer n vs same = all_items is_answer vs ∙ ap (list_all (list_all is_answer)) same ∙ none_pass n
 
-pub none_few : (n : ℕ) (vs : List (Vec Outcome Global)) → lists vs ≡ replicate n [] → sum_by (λ v. length v.items) vs ≤ MOST_ROWS
+pub none_few : (n : ℕ) (vs : List (Vec Outcome Global)) → lists vs ≡ replicate n [] → sum_by (λ v. length v.items) vs ≤ MAX_ROWS
 none_few n vs same = omega (arith, few_items vs ∙ ap (sum_by length) same ∙ sum_by-replicate length n [])

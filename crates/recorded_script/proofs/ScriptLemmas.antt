@@ -8,14 +8,14 @@ use Rattle.std.proofs.lemmas.List.Concat.{flat_map-cons}
 use Rattle.std.proofs.lemmas.List.FromFn.{get_or-map-range_with_len}
 use Rattle.std.proofs.lemmas.List.Folds.{list_all-append}
 use Rattle.std.proofs.lemmas.List.Sums.{length-filter, count_by-le-length}
-use Rattle.cam_types.specs.Lists.{moments_after}
+use Rattle.cam_types.specs.Lists.{prefixed_after}
 use Rattle.cam_types.specs.Topology.{Topology}
 use Rattle.event_rules.specs.Laws.{is_in_range}
 use Rattle.event_rules.proofs.TestLemmas.{list_all-filter, list_all-filtered}
 use Rattle.trace_file.specs.Scenarios.{is_ruled}
 use Rattle.trace_file.specs.declared.step.Step.{Step}
 use Rattle.trace_file.specs.declared.step.Step.TheVariants.{Act, Pause}
-use Rattle.trace_file.specs.declared.script_stage.TheConstants.{MOST_ROWS}
+use Rattle.trace_file.specs.declared.script_parser.TheConstants.{MAX_ROWS}
 use Rattle.trace_file.proofs.ScriptRules.{few_items}
 use Rattle.recorded_script.specs.Arrivals.{Arrival}
 use Rattle.recorded_script.specs.Faults.{ScriptFault, IsFault, driver_fault, steps_fault, too_many_steps, arrivals_fault}
@@ -29,12 +29,12 @@ one_ruled c d now a own ranged = elim (nat_lt now a.round) as (λ b. list_all (i
   | false ↦ rw own (and_from _ _ ranged refl)
 ]
 
-all_ruled : (c : Topology) (d : ℕ) (before own : List Arrival) → list_all (is_by d) own ≡ true → list_all (λ (a : Arrival). is_in_range c a.submission) own ≡ true → list_all (is_ruled c d) (flat_map steps_at (moments_after before own)) ≡ true
+all_ruled : (c : Topology) (d : ℕ) (before own : List Arrival) → list_all (is_by d) own ≡ true → list_all (λ (a : Arrival). is_in_range c a.submission) own ≡ true → list_all (is_ruled c d) (flat_map steps_at (prefixed_after before own)) ≡ true
 all_ruled c d before [] mine ranged = refl
 all_ruled c d before (a ∷ own) mine ranged =
     let m = and_parts (is_by d a) (list_all (is_by d) own) mine in
     let r = and_parts (is_in_range c a.submission) (list_all (λ (x : Arrival). is_in_range c x.submission) own) ranged in
-    rw (flat_map-cons steps_at (before, a) (moments_after (before ++ a ∷ []) own), list_all-append) (and_from _ _ (one_ruled c d (last_round before) a m.0 r.0) (all_ruled c d (before ++ a ∷ []) own m.1 r.1))
+    rw (flat_map-cons steps_at (before, a) (prefixed_after (before ++ a ∷ []) own), list_all-append) (and_from _ _ (one_ruled c d (last_round before) a m.0 r.0) (all_ruled c d (before ++ a ∷ []) own m.1 r.1))
 
 pub steps_ruled : (c : Topology) (d : ℕ) (all : List Arrival) → list_all (λ (a : Arrival). is_in_range c a.submission) all ≡ true → list_all (is_ruled c d) (steps_of all d) ≡ true
 unfolding steps_of steps_for
@@ -44,11 +44,11 @@ steps_ruled c d all ranged = all_ruled c d [] (filter (is_by d) all) (list_all-f
 one_few : (now : ℕ) (a : Arrival) → length (steps_from now a) ≤ 2
 one_few now a = elim (nat_lt now a.round) as (λ b. length (cond b (Pause a.round ∷ []) [] ++ Act (submit a.submission) ∷ []) ≤ 2) [ true ↦ omega arith | false ↦ omega arith ]
 
-all_few : (before own : List Arrival) → length (flat_map steps_at (moments_after before own)) ≤ 2 * length own
+all_few : (before own : List Arrival) → length (flat_map steps_at (prefixed_after before own)) ≤ 2 * length own
 all_few before [] = omega arith
 all_few before (a ∷ own) =
-    let rest = flat_map steps_at (moments_after (before ++ a ∷ []) own) in
-    omega (arith, ap length (flat_map-cons steps_at (before, a) (moments_after (before ++ a ∷ []) own)), length-append (steps_from (last_round before) a) rest, one_few (last_round before) a, all_few (before ++ a ∷ []) own)
+    let rest = flat_map steps_at (prefixed_after (before ++ a ∷ []) own) in
+    omega (arith, ap length (flat_map-cons steps_at (before, a) (prefixed_after (before ++ a ∷ []) own)), length-append (steps_from (last_round before) a) rest, one_few (last_round before) a, all_few (before ++ a ∷ []) own)
 
 steps_few : (all : List Arrival) (d : ℕ) → length (steps_of all d) ≤ 2 * length all
 unfolding steps_of steps_for
@@ -89,8 +89,8 @@ too_many_is all fault none some = is_fault (arrivals_fault all) fault (rw none s
 pub none_is : (all : List Arrival) → driver_fault all ≡ None → steps_fault all ≡ None → arrivals_fault all ≡ None
 none_is all none few = rw (none, few) refl
 
-pub not_too_many : (n : ℕ) → too_many_steps n ≡ None → nat_le n MOST_ROWS ≡ true
-not_too_many n h = elim (nat_lt MOST_ROWS n) as (λ b. nat_lt MOST_ROWS n ≡ b → ◌≡◌ {A = Option ScriptFault} (cond b (Some (Steps n)) None) None → nat_le n MOST_ROWS ≡ true) [
+pub not_too_many : (n : ℕ) → too_many_steps n ≡ None → nat_le n MAX_ROWS ≡ true
+not_too_many n h = elim (nat_lt MAX_ROWS n) as (λ b. nat_lt MAX_ROWS n ≡ b → ◌≡◌ {A = Option ScriptFault} (cond b (Some (Steps n)) None) None → nat_le n MAX_ROWS ≡ true) [
   | true ↦ λ is g. absurd (cc)
-  | false ↦ λ is g. le-leb n MOST_ROWS (ltb-false MOST_ROWS n is)
+  | false ↦ λ is g. le-leb n MAX_ROWS (ltb-false MAX_ROWS n is)
 ] refl h

@@ -8,7 +8,7 @@ use Rattle.std.proofs.lemmas.List.Folds.{list_all-append}
 use Rattle.std.proofs.lemmas.List.Sums.{sum_by-cons}
 use Rattle.cam_types.specs.Topology.{Topology}
 use Rattle.cam_types.specs.declared.outcome.Outcome.{Outcome}
-use Rattle.cam_types.specs.declared.maxima.TheConstants.{MOST_STAYS}
+use Rattle.cam_types.specs.declared.limits.TheConstants.{MAX_STAYS}
 use Rattle.event_rules.specs.Counts.{is_in_flight}
 use Rattle.event_rules.specs.Event.{is_done_of, is_send_of, outcome_of}
 use Rattle.event_rules.specs.Legal.{Rules, history_rules, is_legal, is_legal_event, names_ccb}
@@ -183,7 +183,7 @@ counted_legal : (rules : Rules) (c : Topology) (es : List Event) → is_legal ru
 unfolding is_legal waiting stays_begun
 counted_legal rules c es legal = legal-induction rules c AreCounted (counted_step rules c) [] es legal (record { states = states_none; all = refl })
 
-pub few_answers : (c : Topology) (es : List Event) (n : ℕ) → is_legal history_rules c es ≡ true → sum_by (λ lane. length (lane_answers es lane)) (range_with_len 0 n) ≤ MOST_STAYS
+pub few_answers : (c : Topology) (es : List Event) (n : ℕ) → is_legal history_rules c es ≡ true → sum_by (λ lane. length (lane_answers es lane)) (range_with_len 0 n) ≤ MAX_STAYS
 unfolding lane_answers
 few_answers c es n legal =
     let cut = sums_le (λ lane. length (served lane es)) (λ lane. length (lane_answers es lane)) 0 n (λ lane. up_to_within (served lane es)) in

@@ -1,7 +1,7 @@
 -- what was asked for, and in which rounds
 use Rattle.std.specs.Prelude.{ℕ, List, [], ◌∷◌, map, false, Option, option_map}
 use Rattle.std.specs.List.{filter_map}
-use Rattle.cam_types.specs.Lists.{moments}
+use Rattle.cam_types.specs.Lists.{prefixed}
 use Rattle.event_rules.specs.Counts.{round}
 use Rattle.event_rules.specs.declared.event.Event.{Event}
 use Rattle.event_rules.specs.Event.{submission_of}
@@ -19,7 +19,7 @@ arrival_of m = option_map (in_round (round m.0)) (submission_of m.1)
 
 -- the submits of a history, in order
 unfoldable pub arrivals : List Event → List Arrival
-arrivals events = filter_map arrival_of (moments events)
+arrivals events = filter_map arrival_of (prefixed events)
 
 -- a request, without retries and flags
 abbrev pub arrival_by : Request → Arrival

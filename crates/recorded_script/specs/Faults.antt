@@ -2,7 +2,7 @@
 use Rattle.std.specs.Prelude.{◌≡◌, ℕ, if◌then◌else◌, nat_lt, List, length, find, Option, Some, None, option_map, ⊤}
 use Rattle.std.specs.List.{sum_by}
 use Rattle.std.specs.Option.{option_or}
-use Rattle.trace_file.specs.declared.script_stage.TheConstants.{MOST_ROWS}
+use Rattle.trace_file.specs.declared.script_parser.TheConstants.{MAX_ROWS}
 use Rattle.recorded_script.specs.Arrivals.{Arrival}
 use Rattle.recorded_script.specs.Steps.{drivers_of}
 pub use Rattle.recorded_script.specs.declared.fault.ScriptFault.{ScriptFault}
@@ -14,7 +14,7 @@ driver_fault all = option_map (λ (a : Arrival). Driver a.submission.driver) (fi
 
 -- too many steps
 abbrev pub too_many_steps : ℕ → Option ScriptFault
-too_many_steps n = if nat_lt MOST_ROWS n then Some (Steps n) else None
+too_many_steps n = if nat_lt MAX_ROWS n then Some (Steps n) else None
 
 unfoldable pub steps_fault : List Arrival → Option ScriptFault
 steps_fault all = too_many_steps (sum_by length (drivers_of all))

@@ -1,6 +1,6 @@
 -- the script of a history
 use Rattle.std.specs.Prelude.{Bool, true, false, length}
-use Rattle.cam_types.specs.Bounds.{most_bounds}
+use Rattle.cam_types.specs.Bounds.{max_bounds}
 use Rattle.event_rules.specs.declared.event.Event.{Event}
 use Rattle.event_rules.specs.declared.event.Event.TheVariants.{FreezeDev, ReleaseDev, FreezeSim, ReleaseSim, Adjust}
 use Rattle.event_rules.specs.Past.{Past}
@@ -20,4 +20,4 @@ is_setting _ = false
 
 -- its configuration, the largest limits, the steps of drivers that ask for its submits, and the outcomes of what lanes sent
 abbrev pub scripted : Past → Scenario
-scripted past = scenario_by past.config most_bounds (drivers_of (arrivals past.events)) (answers_of past.events (length past.config.lanes))
+scripted past = scenario_by past.config max_bounds (drivers_of (arrivals past.events)) (answers_of past.events (length past.config.lanes))

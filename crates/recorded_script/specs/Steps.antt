@@ -1,7 +1,7 @@
 -- the steps of drivers
 use Rattle.std.specs.Prelude.{ℕ, ◌==◌, Bool, if◌then◌else◌, nat_lt, List, [], ◌∷◌, ◌++◌, map, filter, fold}
 use Rattle.std.specs.List.{flat_map, range_with_len}
-use Rattle.cam_types.specs.Lists.{moments}
+use Rattle.cam_types.specs.Lists.{prefixed}
 use Rattle.event_rules.specs.declared.event.Event.{Event}
 use Rattle.event_rules.specs.declared.event.Event.TheVariants.{Submit}
 use Rattle.event_rules.specs.declared.submission.Submission.{Submission}
@@ -31,7 +31,7 @@ steps_at m = steps_from (last_round m.0) m.1
 
 -- the steps of a driver that asked for these
 unfoldable pub steps_for : List Arrival → List Step
-steps_for own = flat_map steps_at (moments own)
+steps_for own = flat_map steps_at (prefixed own)
 
 -- a driver's steps: its own arrivals in their order, each after a pause if its round is later than that of the one before
 unfoldable pub steps_of : List Arrival → ℕ → List Step

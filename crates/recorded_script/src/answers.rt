@@ -2,9 +2,9 @@
 
 ghost use Rattle.std.specs.Prelude.{◌≡◌, ◌*◌, ◌≤◌, length, map, reverse, position, find, count_by, sum_by, ◌++◌, option_to_list, IfOk, OnOk};
 ghost use Rattle.std.specs.List.{position_or_len};
-ghost use Rattle.cam_types.specs.declared.maxima.TheConstants.{MOST_ADAPTERS, MOST_LANES};
+ghost use Rattle.cam_types.specs.declared.limits.TheConstants.{MAX_ADAPTERS, MAX_LANES};
 ghost use Rattle.event_rules.specs.Event.{is_done_of};
-ghost use Rattle.trace_file.specs.declared.script_stage.TheConstants.{MOST_ROWS};
+ghost use Rattle.trace_file.specs.declared.script_parser.TheConstants.{MAX_ROWS};
 ghost use Rattle.recorded_script.specs.Answers.{answers_of, is_other, is_plain, lane_answers, outcome_in, plain, sent_outcome, served, up_to_other};
 
 use cam_types::Outcome;
@@ -19,7 +19,7 @@ pub(crate) fn answers_of(
     events: &[Event],
     lanes: usize,
 ) -> Result<Vec<Vec<Outcome>>, AllocError>
-    requires { lanes ≤ MOST_ADAPTERS * MOST_LANES }
+    requires { lanes ≤ MAX_ADAPTERS * MAX_LANES }
     ensures { IfOk result (λ answers. map (λ l. l.items) answers.items ≡ answers_of events.now lanes) }
 {
     let mut answers = Vec::with_capacity(alloc, lanes)?;
@@ -129,7 +129,7 @@ fn last_other(outcomes: &[Outcome]) -> Option<usize>
 
 /// How many of the answers aren't plain completions.
 pub(crate) fn others(answers: &[Vec<Outcome>]) -> u32
-    requires { sum_by (λ l. length l.items) answers.now ≤ MOST_ROWS }
+    requires { sum_by (λ l. length l.items) answers.now ≤ MAX_ROWS }
     ensures { result ≡ sum_by (λ l. count_by is_other l.items) answers.now }
 {
     let mut count = 0;
@@ -140,7 +140,7 @@ pub(crate) fn others(answers: &[Vec<Outcome>]) -> u32
 }
 
 fn others_in(outcomes: &[Outcome]) -> u32
-    requires { length outcomes.now ≤ MOST_ROWS }
+    requires { length outcomes.now ≤ MAX_ROWS }
     ensures same { result ≡ count_by is_other outcomes.now }
     ensures within { result ≤ length outcomes.now }
 {

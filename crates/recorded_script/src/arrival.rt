@@ -1,7 +1,7 @@
 //! What was asked for, and in which round.
 
 ghost use Rattle.std.specs.Prelude.{◌≡◌, ◌≤◌, ◌++◌, length, if◌then◌else◌, ◌+◌, option_map, option_to_list, IfOk, OnOk};
-ghost use Rattle.cam_types.specs.declared.maxima.TheConstants.{MOST_EVENTS};
+ghost use Rattle.cam_types.specs.declared.limits.TheConstants.{MAX_EVENTS};
 ghost use Rattle.event_rules.specs.Event.{is_tick, submission_of};
 ghost use Rattle.recorded_script.specs.Arrivals.{arrivals, in_round};
 
@@ -19,7 +19,7 @@ pub(crate) struct Arrival {
 
 /// The submits of a history, in order, each with its round. It fails only if there is no memory.
 pub(crate) fn arrivals_of(alloc: Global, events: &[Event]) -> Result<Vec<Arrival>, AllocError>
-    requires { length events.now ≤ MOST_EVENTS }
+    requires { length events.now ≤ MAX_EVENTS }
     ensures { IfOk result (λ found. found.items ≡ arrivals events.now) }
 {
     let mut found = Vec::new(alloc);
@@ -53,7 +53,7 @@ fn arrival_in(round: u32, event: &Event) -> Option<Arrival>
 
 // The round after an event of this round.
 fn round_after(round: u32, event: &Event) -> u32
-    requires { round ≤ MOST_EVENTS }
+    requires { round ≤ MAX_EVENTS }
     ensures { result ≡ round + (if is_tick event.now then 1 else 0) }
 {
     if event.is_tick() { round + 1 } else { round }

@@ -1,8 +1,8 @@
 //! The greatest caps of a recording.
 
 ghost use Rattle.std.specs.Prelude.{◌≡◌, ◌<◌, ◌≤◌, max, map, IfOk};
-ghost use Rattle.cam_types.specs.Lists.{moments};
-ghost use Rattle.cam_types.specs.declared.maxima.TheConstants.{MOST_ROUNDS};
+ghost use Rattle.cam_types.specs.Lists.{prefixed};
+ghost use Rattle.cam_types.specs.declared.limits.TheConstants.{MAX_ROUNDS};
 ghost use Rattle.recording_file.specs.Caps.{cap_in};
 ghost use Rattle.recording_file.specs.Room.{Holds, rows_by};
 ghost use Rattle.recorded_script.specs.Recorded.{adapter_at, device_at, greatest, link_at};
@@ -13,7 +13,7 @@ use std::alloc::{AllocError, Global};
 
 // The greatest cap of the part in a round, and 1 if it takes nothing in any.
 fn greatest(recording: &Recording, caps: &[u32], kind: PartKind, number: usize) -> u32
-    requires few { recording.now.rounds ≤ MOST_ROUNDS }
+    requires few { recording.now.rounds ≤ MAX_ROUNDS }
     requires part { number < rows_by kind }
     requires caps { Holds recording.now.rounds (cap_in recording.now.config recording.now.caps) caps.now }
     ensures { result ≡ greatest recording.now (record { kind = kind; number = number }) }
@@ -42,9 +42,9 @@ pub(crate) fn links_of(
     recording: &Recording,
     caps: &[u32],
 ) -> Result<Vec<u32>, AllocError>
-    requires few { recording.now.rounds ≤ MOST_ROUNDS }
+    requires few { recording.now.rounds ≤ MAX_ROUNDS }
     requires caps { Holds recording.now.rounds (cap_in recording.now.config recording.now.caps) caps.now }
-    ensures { IfOk result (λ links. links.items ≡ map (link_at recording.now) (moments recording.now.config.links)) }
+    ensures { IfOk result (λ links. links.items ≡ map (link_at recording.now) (prefixed recording.now.config.links)) }
 {
     let mut links = Vec::new(alloc);
     for number in 0..recording.config().links().len() {
@@ -59,9 +59,9 @@ pub(crate) fn adapters_of(
     recording: &Recording,
     caps: &[u32],
 ) -> Result<Vec<Adapter>, AllocError>
-    requires few { recording.now.rounds ≤ MOST_ROUNDS }
+    requires few { recording.now.rounds ≤ MAX_ROUNDS }
     requires caps { Holds recording.now.rounds (cap_in recording.now.config recording.now.caps) caps.now }
-    ensures { IfOk result (λ adapters. adapters.items ≡ map (adapter_at recording.now) (moments recording.now.config.adapters)) }
+    ensures { IfOk result (λ adapters. adapters.items ≡ map (adapter_at recording.now) (prefixed recording.now.config.adapters)) }
 {
     let mut adapters = Vec::new(alloc);
     for (number, adapter) in recording.config().adapters().iter().enumerate() {
@@ -79,9 +79,9 @@ pub(crate) fn devices_of(
     recording: &Recording,
     caps: &[u32],
 ) -> Result<Vec<Device>, AllocError>
-    requires few { recording.now.rounds ≤ MOST_ROUNDS }
+    requires few { recording.now.rounds ≤ MAX_ROUNDS }
     requires caps { Holds recording.now.rounds (cap_in recording.now.config recording.now.caps) caps.now }
-    ensures { IfOk result (λ devices. devices.items ≡ map (device_at recording.now) (moments recording.now.config.devices)) }
+    ensures { IfOk result (λ devices. devices.items ≡ map (device_at recording.now) (prefixed recording.now.config.devices)) }
 {
     let mut devices = Vec::new(alloc);
     for (number, device) in recording.config().devices().iter().enumerate() {

@@ -8,9 +8,9 @@ ghost use Rattle.recorded_script.specs.Scripted.{is_setting, scripted};
 
 use crate::answers::{answers_of, others};
 use crate::arrival::arrivals_of;
+use crate::arrivals_script::script_by;
 use crate::fault::ScriptFault;
-use crate::left_out::{in_flight, settings};
-use crate::made::script_by;
+use crate::omitted::{in_flight, settings};
 use cam_event::History;
 use std::alloc::Global;
 use trace_file::Script;

@@ -12,13 +12,13 @@ pub use recording_script::script_of_recording;
 
 mod answers;
 mod arrival;
+mod arrivals_script;
 mod drivers;
 mod fault;
 mod greatest;
 mod history_script;
 mod laws;
-mod left_out;
-mod made;
+mod omitted;
 mod openings;
 mod recording_script;
 mod requested;

@@ -3,14 +3,14 @@
 ghost use Rattle.std.specs.Prelude.{◌≡◌, ◌≤◌, None, length, IfOk, MatchResult};
 ghost use Rattle.std.specs.List.{range_with_len};
 ghost use Rattle.std.specs.Option.{option_or};
-ghost use Rattle.cam_types.specs.Lists.{moments, first_answer};
-ghost use Rattle.cam_types.specs.declared.maxima.TheConstants.{MOST_ADAPTERS, MOST_DEVICES, MOST_LINKS, MOST_ROUNDS};
+ghost use Rattle.cam_types.specs.Lists.{prefixed, first_answer};
+ghost use Rattle.cam_types.specs.declared.limits.TheConstants.{MAX_ADAPTERS, MAX_DEVICES, MAX_LINKS, MAX_ROUNDS};
 ghost use Rattle.recorded_script.specs.Faults.{IsFault};
 ghost use Rattle.recorded_script.specs.Recorded.{adapter_fault, config_of, device_fault, link_fault, openings_fault};
 
 use crate::fault::ScriptFault;
 use crate::greatest::{adapters_of, devices_of, links_of};
-use cam_types::{Adapter, Config, ConfigError, Device, MOST_OPENINGS, WeightRow};
+use cam_types::{Adapter, Config, ConfigError, Device, MAX_OPENINGS, WeightRow};
 use recording_file::{Recording, cap_table};
 use std::alloc::{AllocError, Global};
 
@@ -20,7 +20,7 @@ use std::alloc::{AllocError, Global};
 ///
 /// `Device`, `Adapter` or `Link` names the first that takes more than 255 in a round. `OutOfMemory` if no memory is left.
 pub(crate) fn config_of(alloc: Global, recording: &Recording) -> Result<Config, ScriptFault>
-    requires { recording.now.rounds ≤ MOST_ROUNDS }
+    requires { recording.now.rounds ≤ MAX_ROUNDS }
     ensures config { IfOk result (λ c. c ≡ config_of recording.now) }
     ensures fault { MatchResult result
         (λ _. openings_fault (config_of recording.now) ≡ None)
@@ -46,7 +46,7 @@ pub(crate) fn config_of(alloc: Global, recording: &Recording) -> Result<Config, 
 
 // The numbers of that many.
 fn numbers(alloc: Global, count: usize) -> Result<Vec<u32>, AllocError>
-    requires { count ≤ MOST_ADAPTERS }
+    requires { count ≤ MAX_ADAPTERS }
     ensures { IfOk result (λ numbers. numbers.items ≡ range_with_len 0 count) }
 {
     let mut numbers = Vec::new(alloc);
@@ -58,10 +58,10 @@ fn numbers(alloc: Global, count: usize) -> Result<Vec<u32>, AllocError>
 
 // The first device, adapter or link with more openings than there may be.
 fn openings_fault(links: &[u32], adapters: &[Adapter], devices: &[Device]) -> Option<ScriptFault>
-    requires links { length links.now ≤ MOST_LINKS }
-    requires adapters { length adapters.now ≤ MOST_ADAPTERS }
-    requires devices { length devices.now ≤ MOST_DEVICES }
-    ensures { result ≡ option_or (first_answer device_fault (moments devices.now)) (option_or (first_answer adapter_fault (moments adapters.now)) (first_answer link_fault (moments links.now))) }
+    requires links { length links.now ≤ MAX_LINKS }
+    requires adapters { length adapters.now ≤ MAX_ADAPTERS }
+    requires devices { length devices.now ≤ MAX_DEVICES }
+    ensures { result ≡ option_or (first_answer device_fault (prefixed devices.now)) (option_or (first_answer adapter_fault (prefixed adapters.now)) (first_answer link_fault (prefixed links.now))) }
 {
     devices_fault(devices)
         .or(adapters_fault(adapters))
@@ -69,11 +69,11 @@ fn openings_fault(links: &[u32], adapters: &[Adapter], devices: &[Device]) -> Op
 }
 
 fn devices_fault(devices: &[Device]) -> Option<ScriptFault>
-    requires { length devices.now ≤ MOST_DEVICES }
-    ensures { result ≡ first_answer device_fault (moments devices.now) }
+    requires { length devices.now ≤ MAX_DEVICES }
+    ensures { result ≡ first_answer device_fault (prefixed devices.now) }
 {
     for (number, device) in devices.iter().enumerate() {
-        if device.openings > MOST_OPENINGS {
+        if device.openings > MAX_OPENINGS {
             return Some(ScriptFault::Device(number as u32, device.openings));
         }
     }
@@ -81,11 +81,11 @@ fn devices_fault(devices: &[Device]) -> Option<ScriptFault>
 }
 
 fn adapters_fault(adapters: &[Adapter]) -> Option<ScriptFault>
-    requires { length adapters.now ≤ MOST_ADAPTERS }
-    ensures { result ≡ first_answer adapter_fault (moments adapters.now) }
+    requires { length adapters.now ≤ MAX_ADAPTERS }
+    ensures { result ≡ first_answer adapter_fault (prefixed adapters.now) }
 {
     for (number, adapter) in adapters.iter().enumerate() {
-        if adapter.openings > MOST_OPENINGS {
+        if adapter.openings > MAX_OPENINGS {
             return Some(ScriptFault::Adapter(number as u32, adapter.openings));
         }
     }
@@ -93,11 +93,11 @@ fn adapters_fault(adapters: &[Adapter]) -> Option<ScriptFault>
 }
 
 fn links_fault(links: &[u32]) -> Option<ScriptFault>
-    requires { length links.now ≤ MOST_LINKS }
-    ensures { result ≡ first_answer link_fault (moments links.now) }
+    requires { length links.now ≤ MAX_LINKS }
+    ensures { result ≡ first_answer link_fault (prefixed links.now) }
 {
     for (number, openings) in links.iter().enumerate() {
-        if *openings > MOST_OPENINGS {
+        if *openings > MAX_OPENINGS {
             return Some(ScriptFault::Link(number as u32, *openings));
         }
     }

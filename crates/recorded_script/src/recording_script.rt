@@ -4,14 +4,14 @@ ghost use Rattle.std.specs.Prelude.{◌≡◌, None, [], map, replicate, IfOk, M
 ghost use Rattle.recorded_script.specs.Faults.{IsFault};
 ghost use Rattle.recorded_script.specs.Recorded.{recording_fault, scripted_recording, size_fault};
 
+use crate::arrivals_script::script_by;
 use crate::fault::ScriptFault;
-use crate::made::script_by;
 use crate::openings::config_of;
 use crate::requested::requested;
-use cam_types::{MOST_ROUNDS, Outcome};
+use cam_types::{MAX_ROUNDS, Outcome};
 use recording_file::Recording;
 use std::alloc::{AllocError, Global};
-use trace_file::{MOST_ROWS, Script};
+use trace_file::{MAX_ROWS, Script};
 
 /// The script that asks for what a recording asked for: each request is a submit of its driver at its device, in the round in
 /// which it arrived, with its priority, without retries and flags. Of a round they stand in the order of the recording.
@@ -48,9 +48,9 @@ fn size_fault(recording: &Recording) -> Option<ScriptFault>
     ensures { result ≡ size_fault recording.now }
 {
     let requests = recording.requests().len();
-    if recording.rounds() > MOST_ROUNDS {
+    if recording.rounds() > MAX_ROUNDS {
         Some(ScriptFault::Rounds(recording.rounds()))
-    } else if requests > MOST_ROWS as usize {
+    } else if requests > MAX_ROWS as usize {
         Some(ScriptFault::Requests(requests))
     } else {
         None

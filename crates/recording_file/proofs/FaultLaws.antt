@@ -3,13 +3,13 @@ use Rattle.std.proofs.Common.{ℕ, List, Bool, sym}
 use Rattle.std.specs.Prelude.{Option, Some, None, Result, Ok, Err, ok_or, ⊤, IfErr}
 use Rattle.cam_types.specs.Weights.{reaches_last}
 use Rattle.cam_types.specs.declared.config_fault.ConfigFault.{ConfigFault}
-use Rattle.recording_file.specs.Recorded.{Recorded, Cause}
-use Rattle.recording_file.specs.Reading.{add_said, cap_said, ended, in_record, lacks_adapters, name_said, placed, recorded_of, row_step, said_by, says, step, unless_fault, unless_illegal, RecordingFault, RecordingStage, Said}
+use Rattle.recording_file.specs.Recorded.{Recorded, RequestFault}
+use Rattle.recording_file.specs.Reading.{apply_parsed, parsed_cap, ended, in_record, lacks_adapters, parsed_name, placed, recorded_of, row_step, parsed_by, says, step, unless_fault, unless_illegal, RecordingFault, RecordingParser, ParsedRow}
 use Rattle.recording_file.specs.declared.recording_fault.RecordingFault.TheVariants as fault
-use Rattle.recording_file.specs.declared.recording_stage.RecordingStage.TheVariants as stage
-use Rattle.recording_file.specs.declared.said.Said.TheVariants as said
-use Rattle.recording_file.specs.Words.{Word, name_text}
-use Rattle.recording_file.specs.declared.word.Word.TheVariants as word
+use Rattle.recording_file.specs.declared.recording_parser.RecordingParser.TheVariants as parser
+use Rattle.recording_file.specs.declared.parsed_row.ParsedRow.TheVariants as parsed
+use Rattle.recording_file.specs.Words.{RecordingWord, name_text}
+use Rattle.recording_file.specs.declared.word.RecordingWord.TheVariants as word
 use Rattle.recording_file.specs.Counts.{counts_of}
 use Rattle.recording_file.specs.Names.{is_next_name}
 use Rattle.recording_file.specs.Caps.{is_next_cap}
@@ -33,11 +33,11 @@ IsOfText _ = ⊤
 abbrev FailsByText : {X : Type 0} → Result X RecordingFault → Type 0
 FailsByText r = FailsBy IsOfText r
 
-pub by_config : (n : ℕ) (o : Option ConfigFault) (s : RecordingStage) → FailsByText (unless_fault n o s)
+pub by_config : (n : ℕ) (o : Option ConfigFault) (s : RecordingParser) → FailsByText (unless_fault n o s)
 by_config n None s = tt
 by_config n (Some f) s = tt
 
-pub by_cause : (n : ℕ) (o : Option Cause) (s : RecordingStage) → FailsByText (unless_illegal n o s)
+pub by_cause : (n : ℕ) (o : Option RequestFault) (s : RecordingParser) → FailsByText (unless_illegal n o s)
 by_cause n None s = tt
 by_cause n (Some r) s = tt
 
@@ -45,68 +45,68 @@ pub by_field : {X : Type 0} (n : ℕ) (r : Result X ℕ) → FailsByText (in_rec
 by_field n (Ok x) = tt
 by_field n (Err k) = tt
 
-says_fails : {X : Type 0} (n : ℕ) (form : Result X ℕ) (say : X → Said) → FailsByText (says n form say)
+says_fails : {X : Type 0} (n : ℕ) (form : Result X ℕ) (say : X → ParsedRow) → FailsByText (says n form say)
 says_fails n (Ok x) say = tt
 says_fails n (Err k) say = tt
 
-said_fails : (n : ℕ) (r : Recorded) (w : Word) (row : Row) → FailsByText (said_by n r w row)
-unfolding said_by name_said cap_said
-said_fails n r word.Unit row = says_fails n (span_at row) said.Unit
-said_fails n r word.Rounds row = says_fails n (rounds_at row) said.Rounds
-said_fails n r word.Weight row = says_fails n (weight_at row) said.Weight
-said_fails n r word.Link row = says_fails n (one_number row) said.Link
-said_fails n r word.Sim row = says_fails n (adapter_at row) said.Sim
-said_fails n r word.Dev row = says_fails n (device_at row) said.Dev
-said_fails n r word.Name row = bound IsOfText (in_record n (named_at (counts_of r.config) row)) _ (by_field n (named_at (counts_of r.config) row)) (λ k. by_test IsOfText (is_next_name r.names k.0 k.1) _ _ (says_fails n (text_at row) _) tt)
-said_fails n r word.Cap row = bound IsOfText (in_record n (capped_at r.rounds (counts_of r.config) row)) _ (by_field n (capped_at r.rounds (counts_of r.config) row)) (λ k. by_test IsOfText (is_next_cap r.caps k.0 k.1) _ _ (says_fails n (most_at r.rounds k.1 row) _) tt)
-said_fails n r word.Request row = says_fails n (request_at row) said.Request
+parsed_fails : (n : ℕ) (r : Recorded) (w : RecordingWord) (row : Row) → FailsByText (parsed_by n r w row)
+unfolding parsed_by parsed_name parsed_cap
+parsed_fails n r word.Unit row = says_fails n (span_at row) parsed.Unit
+parsed_fails n r word.Rounds row = says_fails n (rounds_at row) parsed.Rounds
+parsed_fails n r word.Weight row = says_fails n (weight_at row) parsed.Weight
+parsed_fails n r word.Link row = says_fails n (one_number row) parsed.Link
+parsed_fails n r word.Sim row = says_fails n (adapter_at row) parsed.Sim
+parsed_fails n r word.Dev row = says_fails n (device_at row) parsed.Dev
+parsed_fails n r word.Name row = bound IsOfText (in_record n (named_at (counts_of r.config) row)) _ (by_field n (named_at (counts_of r.config) row)) (λ k. by_test IsOfText (is_next_name r.names k.0 k.1) _ _ (says_fails n (text_at row) _) tt)
+parsed_fails n r word.Cap row = bound IsOfText (in_record n (capped_at r.rounds (counts_of r.config) row)) _ (by_field n (capped_at r.rounds (counts_of r.config) row)) (λ k. by_test IsOfText (is_next_cap r.caps k.0 k.1) _ _ (says_fails n (most_at r.rounds k.1 row) _) tt)
+parsed_fails n r word.Request row = says_fails n (request_at row) parsed.Request
 
-add_fails : (n : ℕ) (s : RecordingStage) (x : Said) → FailsByText (add_said n s x)
-unfolding add_said
-add_fails n stage.First (said.Unit u) = tt
-add_fails n _ (said.Unit u) = tt
-add_fails n stage.First (said.Rounds k) = tt
-add_fails n _ (said.Rounds k) = tt
-add_fails n (stage.Weights start t) (said.Weight w) = by_config n _ _
-add_fails n _ (said.Weight w) = tt
-add_fails n (stage.Weights start t) (said.Link k) = by_test IsOfText (reaches_last t.weights) _ _ (by_config n _ _) tt
-add_fails n (stage.Links start t) (said.Link k) = by_test IsOfText (reaches_last t.weights) _ _ (by_config n _ _) tt
-add_fails n _ (said.Link k) = tt
-add_fails n (stage.Weights start t) (said.Sim a) = by_test IsOfText (reaches_last t.weights) _ _ (by_config n _ _) tt
-add_fails n (stage.Links start t) (said.Sim a) = by_test IsOfText (reaches_last t.weights) _ _ (by_config n _ _) tt
-add_fails n (stage.Adapters start t) (said.Sim a) = by_test IsOfText (reaches_last t.weights) _ _ (by_config n _ _) tt
-add_fails n _ (said.Sim a) = tt
-add_fails n (stage.Adapters start t) (said.Dev d) = by_config n _ _
-add_fails n (stage.Devices start t) (said.Dev d) = by_config n _ _
-add_fails n _ (said.Dev d) = tt
-add_fails n s (said.Name x) = by_test IsOfText (lacks_adapters s) _ _ tt tt
-add_fails n s (said.Cap x) = by_test IsOfText (lacks_adapters s) _ _ tt tt
-add_fails n s (said.Request q) = by_test IsOfText (lacks_adapters s) _ _ tt (by_cause n _ _)
+add_fails : (n : ℕ) (s : RecordingParser) (x : ParsedRow) → FailsByText (apply_parsed n s x)
+unfolding apply_parsed
+add_fails n parser.First (parsed.Unit u) = tt
+add_fails n _ (parsed.Unit u) = tt
+add_fails n parser.First (parsed.Rounds k) = tt
+add_fails n _ (parsed.Rounds k) = tt
+add_fails n (parser.Weights start t) (parsed.Weight w) = by_config n _ _
+add_fails n _ (parsed.Weight w) = tt
+add_fails n (parser.Weights start t) (parsed.Link k) = by_test IsOfText (reaches_last t.weights) _ _ (by_config n _ _) tt
+add_fails n (parser.Links start t) (parsed.Link k) = by_test IsOfText (reaches_last t.weights) _ _ (by_config n _ _) tt
+add_fails n _ (parsed.Link k) = tt
+add_fails n (parser.Weights start t) (parsed.Sim a) = by_test IsOfText (reaches_last t.weights) _ _ (by_config n _ _) tt
+add_fails n (parser.Links start t) (parsed.Sim a) = by_test IsOfText (reaches_last t.weights) _ _ (by_config n _ _) tt
+add_fails n (parser.Adapters start t) (parsed.Sim a) = by_test IsOfText (reaches_last t.weights) _ _ (by_config n _ _) tt
+add_fails n _ (parsed.Sim a) = tt
+add_fails n (parser.Adapters start t) (parsed.Dev d) = by_config n _ _
+add_fails n (parser.Devices start t) (parsed.Dev d) = by_config n _ _
+add_fails n _ (parsed.Dev d) = tt
+add_fails n s (parsed.Name x) = by_test IsOfText (lacks_adapters s) _ _ tt tt
+add_fails n s (parsed.Cap x) = by_test IsOfText (lacks_adapters s) _ _ tt tt
+add_fails n s (parsed.Request q) = by_test IsOfText (lacks_adapters s) _ _ tt (by_cause n _ _)
 
-row_fails : (n : ℕ) (s : RecordingStage) (row : Row) → FailsByText (row_step n s row)
+row_fails : (n : ℕ) (s : RecordingParser) (row : Row) → FailsByText (row_step n s row)
 unfolding row_step
-row_fails n s row = bound IsOfText (ok_or (placed s row) (fault.BadRecord n)) _ (by_word IsOfText (placed s row) (fault.BadRecord n) tt) (λ w. bound IsOfText (said_by n (recorded_of s) w row) _ (said_fails n (recorded_of s) w row) (add_fails n s))
+row_fails n s row = bound IsOfText (ok_or (placed s row) (fault.BadRecord n)) _ (by_word IsOfText (placed s row) (fault.BadRecord n) tt) (λ w. bound IsOfText (parsed_by n (recorded_of s) w row) _ (parsed_fails n (recorded_of s) w row) (add_fails n s))
 
-step_fails : (n : ℕ) (s : RecordingStage) (row : Row) → FailsByText (step n s row)
+step_fails : (n : ℕ) (s : RecordingParser) (row : Row) → FailsByText (step n s row)
 unfolding step
-step_fails n stage.Header row = by_test IsOfText (is_header name_text row) (Ok stage.First) (Err fault.BadHeader) tt tt
+step_fails n parser.Header row = by_test IsOfText (is_header name_text row) (Ok parser.First) (Err fault.BadHeader) tt tt
 step_fails n s row = row_fails n s row
 
-end_fails : (s : RecordingStage) → FailsByText (ended s)
+end_fails : (s : RecordingParser) → FailsByText (ended s)
 unfolding ended
-end_fails stage.Header = tt
+end_fails parser.Header = tt
 end_fails _ = tt
 
-pub reading_fails : (rows : List Row) → FailsByText (taken step 1 stage.Header rows >>= ended)
-reading_fails rows = bound IsOfText (taken step 1 stage.Header rows) ended (taken_fails IsOfText step step_fails 1 stage.Header rows) end_fails
+pub reading_fails : (rows : List Row) → FailsByText (taken step 1 parser.Header rows >>= ended)
+reading_fails rows = bound IsOfText (taken step 1 parser.Header rows) ended (taken_fails IsOfText step step_fails 1 parser.Header rows) end_fails
 
 -- ---- what a reader answers, from what reading the whole text gives
 
-pub faults_law : (before after : Option (List ℕ)) (failed : Bool) (text : List ℕ) (r : Result Recorded RecordingFault) → IsLongWhole before after text → Gives fault.OutOfMemory r (taken step 1 stage.Header (records_in text) >>= ended)
+pub faults_law : (before after : Option (List ℕ)) (failed : Bool) (text : List ℕ) (r : Result Recorded RecordingFault) → IsLongWhole before after text → Gives fault.OutOfMemory r (taken step 1 parser.Header (records_in text) >>= ended)
     → IfErr r (Explains before after failed)
 faults_law before after failed text (Ok v) whole h = tt
 faults_law before after failed text (Err fault.OutOfMemory) whole h = tt
 faults_law before after failed text (Err fault.TooLong) whole h = absurd (by_kind IsOfText _ fault.TooLong (reading_fails (records_in text)) (sym (h (λ k. cc))))
 faults_law before after failed text (Err fault.ReadFailed) whole h = absurd (by_kind IsOfText _ fault.ReadFailed (reading_fails (records_in text)) (sym (h (λ k. cc))))
 faults_law before after failed text (Err e) whole h =
-    record { text = text; whole = whole; fault = first_fault step ended stage.Header (records_in text) e (sym (h (λ k. cc))) }
+    record { text = text; whole = whole; fault = first_fault step ended parser.Header (records_in text) e (sym (h (λ k. cc))) }

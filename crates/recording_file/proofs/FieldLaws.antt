@@ -1,7 +1,7 @@
 -- A field that is read is spelled so, and what is spelled so is read.
 use Rattle.std.proofs.Common.{◌≡◌, ℕ, List, [], ◌∷◌, refl, Some}
-use Rattle.recording_file.specs.Words.{spelled, word_of, all_words, time_text, time_of, named_text, named_of, part_text, part_kind_of, Word, TimeUnit}
-use Rattle.recording_file.specs.declared.word.Word.TheVariants as word
+use Rattle.recording_file.specs.Words.{spelled, word_of, all_words, time_text, time_of, named_text, named_of, part_text, part_kind_of, RecordingWord, TimeUnit}
+use Rattle.recording_file.specs.declared.word.RecordingWord.TheVariants as word
 use Rattle.recording_file.specs.Names.{NameKind}
 use Rattle.recording_file.specs.declared.name.NameKind.TheVariants as named
 use Rattle.recording_file.specs.Caps.{PartKind}
@@ -11,11 +11,11 @@ use Rattle.record_text.proofs.FieldLaws.{found_spelled}
 
 -- ---- words
 
-pub word_spelled : (field : List ℕ) (w : Word) → word_of field ≡ Some w → field ≡ spelled w
+pub word_spelled : (field : List ℕ) (w : RecordingWord) → word_of field ≡ Some w → field ≡ spelled w
 unfolding word_of
 word_spelled field w e = found_spelled spelled field all_words w e
 
-pub word_again : (w : Word) → word_of (spelled w) ≡ Some w
+pub word_again : (w : RecordingWord) → word_of (spelled w) ≡ Some w
 unfolding word_of
 word_again word.Unit = refl
 word_again _ = refl

@@ -2,26 +2,26 @@
 use Rattle.std.proofs.Common.{◌≡◌, ◌≤◌, ℕ, List, [], length, true, refl, arith, Option, Some, None, IfSome, decimal, codes, nat_le, nat_lt}
 use Rattle.std.proofs.lemmas.Bool.{and_parts, leb-true, ltb-true}
 use Rattle.csv.specs.Writing.{escaped}
-use Rattle.recording_file.specs.Names.{Label, is_name, is_name_text, is_next_name, named_count, NameKind}
+use Rattle.recording_file.specs.Names.{NameValue, is_name, is_name_text, is_next_name, named_count, NameKind}
 use Rattle.recording_file.specs.declared.name.NameKind.TheVariants as named
 use Rattle.recording_file.specs.Caps.{Cap, is_cap, is_next_cap, part_count, PartKind}
 use Rattle.recording_file.specs.declared.part.PartKind.TheVariants as part
-use Rattle.recording_file.specs.Words.{named_text, part_text, spelled, time_text, TimeUnit, Word, name_text}
+use Rattle.recording_file.specs.Words.{named_text, part_text, spelled, time_text, TimeUnit, RecordingWord, name_text}
 use Rattle.recording_file.specs.declared.span.TimeUnit.TheVariants as time
-use Rattle.recording_file.specs.declared.word.Word.TheVariants as word
-use Rattle.recording_file.specs.Recorded.{Request, Span, MOST_RECORDED_ROUNDS}
+use Rattle.recording_file.specs.declared.word.RecordingWord.TheVariants as word
+use Rattle.recording_file.specs.Recorded.{Request, Span, MAX_RECORDED_ROUNDS}
 use Rattle.recording_file.specs.Counts.{Counts}
-use Rattle.record_text.specs.Fields.{most_number}
+use Rattle.record_text.specs.Fields.{max_number}
 use Rattle.recording_file.specs.Records.{cap_row, header, name_row, request_row, rounds_row, unit_row, unit_rows, FitsRequest}
 use Rattle.record_text.specs.ConfigRows.{optional_text}
 use Rattle.record_text.proofs.GoodRows.{AreGood, IsGood, and_more, good_header_of, none_good, one_good, optional_in, two_good, weaker}
 use Rattle.record_text.proofs.RowSizes.{FitsIn, eight, escaped-le, five, nothing_in, ten}
-use Rattle.recording_file.proofs.SaidAgain.{IsCounted, named_small}
+use Rattle.recording_file.proofs.ParsedAgain.{IsCounted, named_small}
 use Rattle.record_text.specs.Header.{header_row}
 
 -- ---- the records of a recording
 
-word_in : (w : Word) → FitsIn 7 (spelled w)
+word_in : (w : RecordingWord) → FitsIn 7 (spelled w)
 unfolding escaped
 word_in word.Unit = omega arith
 word_in _ = omega arith
@@ -45,7 +45,7 @@ pub good_header : IsGood 43 header
 unfolding header_row escaped
 good_header = good_header_of name_text (omega arith) refl
 
-pub good_rounds : (n : ℕ) → n ≤ most_number → IsGood 44 (rounds_row n)
+pub good_rounds : (n : ℕ) → n ≤ max_number → IsGood 44 (rounds_row n)
 unfolding escaped
 good_rounds n h = (refl, one_good (codes "rounds") n (omega arith) h)
 
@@ -56,7 +56,7 @@ good_unit (Some u) h =
     let unit = time_in u.unit in
     and_more 54 0 (unit_row u) [] (refl, two_good (codes "unit") u.count (time_text u.unit) (omega arith) h (omega arith)) none_good
 
-pub good_name : (counts : Counts) → IsCounted counts → (before : List Label) (x : Label) → is_name counts (before, x) ≡ true → IsGood 177 (name_row x)
+pub good_name : (counts : Counts) → IsCounted counts → (before : List NameValue) (x : NameValue) → is_name counts (before, x) ≡ true → IsGood 177 (name_row x)
 unfolding is_name is_name_text
 good_name counts small before x e =
     let there = and_parts (nat_lt x.number (named_count counts x.kind)) _ e in
@@ -75,7 +75,7 @@ few_parts c part.Device h = h.devices
 few_parts c part.Adapter h = let few = h.adapters in omega arith
 few_parts c part.Link h = let few = h.links in omega arith
 
-pub good_cap : (rounds : ℕ) (counts : Counts) → IsCounted counts → rounds ≤ MOST_RECORDED_ROUNDS → (before : List Cap) (c : Cap) → is_cap rounds counts (before, c) ≡ true → IsGood 57 (cap_row c)
+pub good_cap : (rounds : ℕ) (counts : Counts) → IsCounted counts → rounds ≤ MAX_RECORDED_ROUNDS → (before : List Cap) (c : Cap) → is_cap rounds counts (before, c) ≡ true → IsGood 57 (cap_row c)
 unfolding is_cap
 good_cap rounds counts small few before c e =
     let there = and_parts (nat_lt c.part.number (part_count counts c.part.kind)) _ e in

@@ -3,7 +3,7 @@ use Rattle.std.proofs.Common.{◌≡◌, ◌<◌, ◌≤◌, ◌+◌, ◌-◌, �
 use Rattle.std.specs.Option.{option_map_or}
 use Rattle.std.proofs.lemmas.Bool.{and_parts, ltb-true}
 use Rattle.std.proofs.lemmas.Bool.Decides.{nat_tests}
-use Rattle.recording_file.specs.Names.{Label, is_name, is_named_before, is_next_name, latest, name_rank, named_count, NameKind}
+use Rattle.recording_file.specs.Names.{NameValue, is_name, is_named_before, is_next_name, latest, name_rank, named_count, NameKind}
 use Rattle.recording_file.specs.declared.name.NameKind.TheVariants as named
 use Rattle.recording_file.specs.Caps.{Cap, is_cap, is_next_cap, is_over, is_part_before, is_same_part, part_count, part_rank, PartKind}
 use Rattle.recording_file.specs.declared.part.PartKind.TheVariants as part
@@ -14,7 +14,7 @@ use Rattle.record_text.proofs.ListLemmas.{Along, along_both, along_to, true_alon
 use Rattle.recording_file.proofs.BookLaws.{counted_so}
 use Rattle.recording_file.proofs.PlacingLemmas.{caps_laid, head_config}
 use Rattle.recording_file.proofs.RoomLemmas.{apart, row_few}
-use Rattle.recording_file.proofs.SaidAgain.{IsCounted}
+use Rattle.recording_file.proofs.ParsedAgain.{IsCounted}
 
 -- ---- items whose places rise
 
@@ -145,13 +145,13 @@ place_by named.Device n = 256 + n
 place_by named.Adapter n = 288 + n
 place_by named.Link n = 296 + n
 
-abbrev name_place : Label → ℕ
+abbrev name_place : NameValue → ℕ
 name_place x = place_by x.kind x.number
 
-abbrev IsNumbered : Label → Type 0
+abbrev IsNumbered : NameValue → Type 0
 IsNumbered x = x.number < named_most x.kind
 
-name_below : (x : Label) → IsNumbered x → name_place x < 300
+name_below : (x : NameValue) → IsNumbered x → name_place x < 300
 name_below x h = by x.kind x.number h
   where
     by : (k : NameKind) (n : ℕ) → n < named_most k → place_by k n < 300
@@ -184,11 +184,11 @@ named_before named.Link named.Driver n m a b e = absurd cc
 named_before named.Link named.Device n m a b e = absurd cc
 named_before named.Link named.Adapter n m a b e = absurd cc
 
-after_name : (o : Option Label) (x : Label) → IsNumbered x → option_map_or (λ (a : Label). is_named_before a x.kind x.number) o true ≡ true → IfSome o (λ (a : Label). IsNumbered a → name_place a < name_place x)
+after_name : (o : Option NameValue) (x : NameValue) → IsNumbered x → option_map_or (λ (a : NameValue). is_named_before a x.kind x.number) o true ≡ true → IfSome o (λ (a : NameValue). IsNumbered a → name_place a < name_place x)
 after_name None x h e = tt
 after_name (Some a) x h e = λ k. named_before a.kind x.kind a.number x.number k h e
 
-name_rises : (counts : Counts) → IsCounted counts → (before : List Label) (x : Label) → is_name counts (before, x) ≡ true → Rises IsNumbered name_place before x
+name_rises : (counts : Counts) → IsCounted counts → (before : List NameValue) (x : NameValue) → is_name counts (before, x) ≡ true → Rises IsNumbered name_place before x
 unfolding is_name
 name_rises counts small before x e =
     let there = and_parts (nat_lt x.number (named_count counts x.kind)) _ e in

@@ -14,11 +14,11 @@ pub mod PushLaws
 pub mod ReadLaws
 pub mod RoomLemmas
 pub mod RunLemmas
-pub mod SaidAgain
-pub mod SaidLaws
-pub mod StageLemmas
-pub mod StageReads
-pub mod StageReady
+pub mod ParsedAgain
+pub mod ParsedLaws
+pub mod ParserLemmas
+pub mod ParserReads
+pub mod ParserReady
 pub mod TakenLemmas
 pub mod TextLaws
 pub mod WholeLaws

@@ -4,18 +4,18 @@ use Rattle.std.specs.Prelude.{◌&&◌, ◌==◌, not, nat_le, nat_lt, Option, S
 use Rattle.std.specs.List.{AllByRecursion, list_all}
 use Rattle.std.proofs.lemmas.Bool.{and_parts, ltb-true, leb-true, not-false, ltb-false, eqb-true, eqb-false}
 use Rattle.std.proofs.lemmas.List.Folds.{list_all-append}
-use Rattle.cam_types.specs.Lists.{moments, moments_after}
+use Rattle.cam_types.specs.Lists.{prefixed, prefixed_after}
 use Rattle.cam_types.specs.Topology.{Topology, IsConfig}
 use Rattle.cam_types.specs.Questions.{names_device}
-use Rattle.cam_types.specs.declared.maxima.TheConstants.{MOST_PRIORITY}
+use Rattle.cam_types.specs.declared.limits.TheConstants.{MAX_PRIORITY}
 use Rattle.cam_types.proofs.ConfigLemmas.{few_devices, few_adapters, few_links}
-use Rattle.cam_types.proofs.ListLemmas.{moments-push, first_answer-push}
-use Rattle.recording_file.specs.Recorded.{Recorded, Request, IsHead, IsKept, last_of, plain_cause, window_cause, crowd_cause, request_cause, MOST_REQUESTS, Cause, NoDevice, BadPriority, BadWindow, Early, Late}
+use Rattle.cam_types.proofs.ListLemmas.{prefixed-push, first_answer-push}
+use Rattle.recording_file.specs.Recorded.{Recorded, Request, IsHead, IsKept, last_of, plain_cause, window_cause, crowd_cause, request_cause, MAX_REQUESTS, RequestFault, NoDevice, BadPriority, BadWindow, Early, Late}
 use Rattle.recording_file.specs.Caps.{Cap, is_cap, part_count, PartKind}
 use Rattle.recording_file.specs.declared.part.PartKind.TheVariants as kind
 use Rattle.recording_file.specs.Requests.{unless_cause, RequestError}
 use Rattle.recording_file.specs.Counts.{counts_of}
-use Rattle.recording_file.specs.Names.{Label, is_name}
+use Rattle.recording_file.specs.Names.{NameValue, is_name}
 use Rattle.recording_file.specs.Room.{IsLaid, IsRecorder, IsRoom, IsSized, IsTable, rows_by}
 
 -- ---- causes
@@ -26,7 +26,7 @@ not_some false x rest e = (refl, e)
 
 pub record IsPlain (rounds : ℕ) (c : Topology) (q : Request) : Type 0 where
   pub there : names_device c q.device ≡ true
-  pub listed : q.priority ≤ MOST_PRIORITY
+  pub listed : q.priority ≤ MAX_PRIORITY
   pub some : 1 ≤ q.sent
   pub last : q.sent ≤ rounds
   pub arrival : 1 ≤ q.arrival
@@ -38,7 +38,7 @@ pub plain_none : (rounds : ℕ) (c : Topology) (q : Request) → plain_cause rou
 unfolding plain_cause window_cause
 plain_none rounds c q e =
     let a = not_some (not (names_device c q.device)) NoDevice _ e in
-    let b = not_some (nat_lt MOST_PRIORITY q.priority) BadPriority _ a.1 in
+    let b = not_some (nat_lt MAX_PRIORITY q.priority) BadPriority _ a.1 in
     let w = not_some (not (nat_le 1 q.arrival && (nat_le q.arrival (last_of rounds q) && nat_le (last_of rounds q) rounds))) BadWindow _ b.1 in
     let s = not_some (nat_lt q.sent q.arrival) Early _ w.1 in
     let l = not_some (nat_lt (last_of rounds q) q.sent) Late _ s.1 in
@@ -50,7 +50,7 @@ plain_none rounds c q e =
     let late = ltb-false _ _ l.0 in
     record { there = not-false _ a.0; listed = ltb-false _ _ b.0; some = omega arith; last = omega arith; arrival = one; arrived = early; within = late; end = end }
 
-pub cause_plain : (rounds : ℕ) (c : Topology) (caps : List Cap) (before : List Request) (q : Request) (cause : Cause) → plain_cause rounds c q ≡ Some cause → request_cause rounds c caps (before, q) ≡ Some cause
+pub cause_plain : (rounds : ℕ) (c : Topology) (caps : List Cap) (before : List Request) (q : Request) (cause : RequestFault) → plain_cause rounds c q ≡ Some cause → request_cause rounds c caps (before, q) ≡ Some cause
 unfolding request_cause
 cause_plain rounds c caps before q cause e = rw e refl
 
@@ -89,7 +89,7 @@ cap_laid rounds c before cap is e =
     let less = ltb-true _ _ a.0 in
     record { part = omega arith; some = leb-true _ _ d.0; order = leb-true _ _ f.0; last = leb-true _ _ g.0 }
 
-laid_along : (rounds : ℕ) (c : Topology) (before caps : List Cap) → IsConfig c → list_all (is_cap rounds (counts_of c)) (moments_after before caps) ≡ true → AllByRecursion (IsLaid rounds) caps
+laid_along : (rounds : ℕ) (c : Topology) (before caps : List Cap) → IsConfig c → list_all (is_cap rounds (counts_of c)) (prefixed_after before caps) ≡ true → AllByRecursion (IsLaid rounds) caps
 laid_along rounds c before [] is e = tt
 laid_along rounds c before (cap ∷ caps) is e =
     let p = and_parts (is_cap rounds (counts_of c) (before, cap)) _ e in
@@ -103,10 +103,10 @@ caps_laid r h = laid_along r.rounds r.config [] r.caps (head_config r h) h.caps
 
 -- ---- one item more
 
-pub all_moments : {X : Type 0} (p : List X × X → Bool) (xs : List X) (x : X) → list_all p (moments xs) ≡ true → p (xs, x) ≡ true → list_all p (moments (xs ++ x ∷ [])) ≡ true
-all_moments p xs x h e = ap (list_all p) (moments-push xs x) ∙ list_all-append p (moments xs) ((xs, x) ∷ []) ∙ rw (h, e) refl
+pub all_prefixed : {X : Type 0} (p : List X × X → Bool) (xs : List X) (x : X) → list_all p (prefixed xs) ≡ true → p (xs, x) ≡ true → list_all p (prefixed (xs ++ x ∷ [])) ≡ true
+all_prefixed p xs x h e = ap (list_all p) (prefixed-push xs x) ∙ list_all-append p (prefixed xs) ((xs, x) ∷ []) ∙ rw (h, e) refl
 
-pub name_kept : (r : Recorded) (cells : List ℕ) (name : Label) (after : List Label) (b : Bool) → IsRecorder r cells → is_name (counts_of r.config) (r.names, name) ≡ true
+pub name_kept : (r : Recorded) (cells : List ℕ) (name : NameValue) (after : List NameValue) (b : Bool) → IsRecorder r cells → is_name (counts_of r.config) (r.names, name) ≡ true
     → after ≡ cond b (r.names ++ name ∷ []) r.names → IsRecorder (record r { names = after }) cells
 name_kept r cells name after b h e is =
     let head = h.kept.head in
@@ -119,15 +119,15 @@ name_kept r cells name after b h e is =
       table = record { none = h.table.none; room = h.table.room };
     }
   where
-    by : (b : Bool) → after ≡ cond b (r.names ++ name ∷ []) r.names → list_all (is_name (counts_of r.config)) (moments after) ≡ true
-    by true is = rw is (all_moments (is_name (counts_of r.config)) r.names name h.kept.head.names e)
+    by : (b : Bool) → after ≡ cond b (r.names ++ name ∷ []) r.names → list_all (is_name (counts_of r.config)) (prefixed after) ≡ true
+    by true is = rw is (all_prefixed (is_name (counts_of r.config)) r.names name h.kept.head.names e)
     by false is = rw is h.kept.head.names
 
 pub cap_kept : (r : Recorded) (cells none : List ℕ) (cap : Cap) (after : List Cap) (b : Bool) → IsRecorder r cells → is_cap r.rounds (counts_of r.config) (r.caps, cap) ≡ true → r.requests ≡ []
     → none ≡ [] → after ≡ cond b (r.caps ++ cap ∷ []) r.caps → IsRecorder (record r { caps = after }) none
 cap_kept r cells none cap after b h e first cleared is =
     let head = h.kept.head in
-    let few : length r.requests ≤ MOST_REQUESTS = h.kept.few in
+    let few : length r.requests ≤ MAX_REQUESTS = h.kept.few in
     record {
       kept = record {
         head = record { unit = head.unit; some = head.some; rounds = head.rounds; config = head.config; lanes = head.lanes; names = head.names; caps = by b is };
@@ -137,15 +137,15 @@ cap_kept r cells none cap after b h e first cleared is =
       table = rw cleared record { none = λ _. first; room = λ some. absurd (omega arith) };
     }
   where
-    by : (b : Bool) → after ≡ cond b (r.caps ++ cap ∷ []) r.caps → list_all (is_cap r.rounds (counts_of r.config)) (moments after) ≡ true
-    by true is = rw is (all_moments (is_cap r.rounds (counts_of r.config)) r.caps cap h.kept.head.caps e)
+    by : (b : Bool) → after ≡ cond b (r.caps ++ cap ∷ []) r.caps → list_all (is_cap r.rounds (counts_of r.config)) (prefixed after) ≡ true
+    by true is = rw is (all_prefixed (is_cap r.rounds (counts_of r.config)) r.caps cap h.kept.head.caps e)
     by false is = rw is h.kept.head.caps
 
-no_cause : (o : Option Cause) (t : ⊤) → unless_cause o ≡ Ok t → o ≡ None
+no_cause : (o : Option RequestFault) (t : ⊤) → unless_cause o ≡ Ok t → o ≡ None
 no_cause None t e = refl
 no_cause (Some cause) t e = absurd cc
 
-pub request_kept : (r : Recorded) (cells : List ℕ) (q : Request) (after : List Request) → IsKept r → length r.requests < MOST_REQUESTS → request_cause r.rounds r.config r.caps (r.requests, q) ≡ None
+pub request_kept : (r : Recorded) (cells : List ℕ) (q : Request) (after : List Request) → IsKept r → length r.requests < MAX_REQUESTS → request_cause r.rounds r.config r.caps (r.requests, q) ≡ None
     → after ≡ r.requests ++ q ∷ [] → IsTable r.rounds r.config r.caps after cells → IsRecorder (record r { requests = after }) cells
 request_kept r cells q after h few none is table =
     let head = h.head in
@@ -159,7 +159,7 @@ request_kept r cells q after h few none is table =
       table = table;
     }
 
-pub placed_kept : (r : Recorded) (cells : List ℕ) (q : Request) (after : List Request) (memory : RequestError) (result : Result ⊤ RequestError) → IsKept r → length r.requests < MOST_REQUESTS
+pub placed_kept : (r : Recorded) (cells : List ℕ) (q : Request) (after : List Request) (memory : RequestError) (result : Result ⊤ RequestError) → IsKept r → length r.requests < MAX_REQUESTS
     → (result ≢ Err memory → result ≡ unless_cause (request_cause r.rounds r.config r.caps (r.requests, q))) → OnOk result (after ≡ r.requests ++ q ∷ []) → OnErr result (after ≡ r.requests)
     → IsTable r.rounds r.config r.caps after cells → IsRecorder (record r { requests = after }) cells
 placed_kept r cells q after memory (Ok t) h few answer ok err table = request_kept r cells q after h few (no_cause _ t (sym (answer (λ e. cc)))) ok table
@@ -167,10 +167,10 @@ placed_kept r cells q after memory (Err e) h few answer ok err table = rw err re
 
 -- ---- the rules are kept with one item more
 
-pub kept_name : (r : Recorded) (name : Label) → IsKept r → is_name (counts_of r.config) (r.names, name) ≡ true → IsKept (record r { names = r.names ++ name ∷ [] })
+pub kept_name : (r : Recorded) (name : NameValue) → IsKept r → is_name (counts_of r.config) (r.names, name) ≡ true → IsKept (record r { names = r.names ++ name ∷ [] })
 kept_name r name h e =
     record {
-      head = record { unit = h.head.unit; some = h.head.some; rounds = h.head.rounds; config = h.head.config; lanes = h.head.lanes; names = all_moments (is_name (counts_of r.config)) r.names name h.head.names e; caps = h.head.caps };
+      head = record { unit = h.head.unit; some = h.head.some; rounds = h.head.rounds; config = h.head.config; lanes = h.head.lanes; names = all_prefixed (is_name (counts_of r.config)) r.names name h.head.names e; caps = h.head.caps };
       requests = h.requests;
       few = h.few;
     }
@@ -178,12 +178,12 @@ kept_name r name h e =
 pub kept_cap : (r : Recorded) (cap : Cap) → IsKept r → is_cap r.rounds (counts_of r.config) (r.caps, cap) ≡ true → r.requests ≡ [] → IsKept (record r { caps = r.caps ++ cap ∷ [] })
 kept_cap r cap h e first =
     record {
-      head = record { unit = h.head.unit; some = h.head.some; rounds = h.head.rounds; config = h.head.config; lanes = h.head.lanes; names = h.head.names; caps = all_moments (is_cap r.rounds (counts_of r.config)) r.caps cap h.head.caps e };
+      head = record { unit = h.head.unit; some = h.head.some; rounds = h.head.rounds; config = h.head.config; lanes = h.head.lanes; names = h.head.names; caps = all_prefixed (is_cap r.rounds (counts_of r.config)) r.caps cap h.head.caps e };
       requests = rw first refl;
       few = h.few;
     }
 
-pub kept_request : (r : Recorded) (q : Request) → IsKept r → length r.requests < MOST_REQUESTS → request_cause r.rounds r.config r.caps (r.requests, q) ≡ None → IsKept (record r { requests = r.requests ++ q ∷ [] })
+pub kept_request : (r : Recorded) (q : Request) → IsKept r → length r.requests < MAX_REQUESTS → request_cause r.rounds r.config r.caps (r.requests, q) ≡ None → IsKept (record r { requests = r.requests ++ q ∷ [] })
 kept_request r q h few none =
     let size = length-append r.requests (q ∷ []) in
     record {
@@ -192,5 +192,5 @@ kept_request r q h few none =
       few = omega arith;
     }
 
-pub no_cause_where_ok : (o : Option Cause) (memory : RequestError) (result : Result ⊤ RequestError) (t : ⊤) → (result ≢ Err memory → result ≡ unless_cause o) → result ≡ Ok t → o ≡ None
+pub no_cause_where_ok : (o : Option RequestFault) (memory : RequestError) (result : Result ⊤ RequestError) (t : ⊤) → (result ≢ Err memory → result ≡ unless_cause o) → result ≡ Ok t → o ≡ None
 no_cause_where_ok o memory result t answer e = no_cause o t (sym (answer (λ w. let wrong = sym e ∙ w in cc)) ∙ e)

@@ -7,7 +7,7 @@ use Rattle.cam_types.specs.declared.device.Device.{Device}
 use Rattle.cam_types.specs.declared.weight_row.WeightRow.{WeightRow}
 use Rattle.recording_file.specs.Reading.{begun, given, Start}
 use Rattle.recording_file.specs.Caps.{Cap}
-use Rattle.recording_file.specs.Names.{Label}
+use Rattle.recording_file.specs.Names.{NameValue}
 use Rattle.record_text.specs.Text.{Row}
 use Rattle.recording_file.specs.Recorded.{Recorded, Request}
 use Rattle.recording_file.specs.Records.{cap_row, header, name_row, records_of, request_row, rounds_row, unit_rows, weight_rows}
@@ -52,7 +52,7 @@ push_device table start t d =
     headed (begun start t) _ _ (device_row d) (more_after (weight_rows table t.weights) _ _ (device_row d) (more_after (map link_row t.links) _ _ (device_row d)
     (more_after (map adapter_row t.adapters) _ _ (device_row d) (last_more device_row t.devices d))))
 
-pub push_name : (table : Bool) (r : Recorded) (x : Label) → r.caps ≡ [] → r.requests ≡ [] → records_of table r ++ name_row x ∷ [] ≡ records_of table (record r { names = r.names ++ x ∷ [] })
+pub push_name : (table : Bool) (r : Recorded) (x : NameValue) → r.caps ≡ [] → r.requests ≡ [] → records_of table r ++ name_row x ∷ [] ≡ records_of table (record r { names = r.names ++ x ∷ [] })
 unfolding records_of
 push_name table r x caps requests =
     rw (caps, requests) (headed r _ _ (name_row x) (more_after (weight_rows table r.config.weights) _ _ (name_row x) (more_after (map link_row r.config.links) _ _ (name_row x)

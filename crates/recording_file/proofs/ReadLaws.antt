@@ -2,20 +2,20 @@
 use Rattle.std.proofs.Common.{◌≡◌, ◌≤◌, ℕ, List, [], ◌∷◌, ◌++◌, length, Bool, true, false, cond, refl, sym, ap, ◌∙◌, subst, Option, Some, None, Result, Ok, Err, ok_or, option_and_then, ◌==◌, not, nat_le, nat_lt}
 use Rattle.std.proofs.lemmas.Bool.{and_parts, eqb-true, ltb-true}
 use Rattle.std.proofs.lemmas.List.{nil_from_length}
-use Rattle.cam_types.proofs.TopologyLemmas.{standard_draft}
-use Rattle.recording_file.specs.Recorded.{Recorded, Request, has_items, MOST_REQUESTS}
-use Rattle.recording_file.specs.Reading.{add_said, add_name, add_cap, add_request, book_rank, ended, lacks_adapters, placed, reading, recorded_of, row_step, said_by, step, stands, RecordingFault, BadHeader, BadRecord, RecordingStage, Said}
-use Rattle.recording_file.specs.declared.recording_stage.RecordingStage.TheVariants as stage
-use Rattle.recording_file.specs.declared.said.Said.TheVariants as said
-use Rattle.recording_file.specs.Words.{spelled, word_of, Word, name_text}
-use Rattle.recording_file.specs.declared.word.Word.TheVariants as word
+use Rattle.cam_types.proofs.TopologyLemmas.{standard_partial}
+use Rattle.recording_file.specs.Recorded.{Recorded, Request, has_items, MAX_REQUESTS}
+use Rattle.recording_file.specs.Reading.{apply_parsed, add_name, add_cap, add_request, book_rank, ended, lacks_adapters, placed, reading, recorded_of, row_step, parsed_by, step, stands, RecordingFault, BadHeader, BadRecord, RecordingParser, ParsedRow}
+use Rattle.recording_file.specs.declared.recording_parser.RecordingParser.TheVariants as parser
+use Rattle.recording_file.specs.declared.parsed_row.ParsedRow.TheVariants as parsed
+use Rattle.recording_file.specs.Words.{spelled, word_of, RecordingWord, name_text}
+use Rattle.recording_file.specs.declared.word.RecordingWord.TheVariants as word
 use Rattle.record_text.specs.Text.{Row, records_in}
 use Rattle.record_text.specs.Fields.{field_of}
 use Rattle.record_text.specs.Header.{is_header}
-use Rattle.recording_file.specs.Names.{Label}
+use Rattle.recording_file.specs.Names.{NameValue}
 use Rattle.recording_file.specs.Caps.{Cap}
 use Rattle.recording_file.specs.Recordings.{WasRecording}
-use Rattle.recording_file.specs.Records.{cap_row, name_row, records_of, request_row, said_row, word_for, FitsSaid}
+use Rattle.recording_file.specs.Records.{cap_row, name_row, records_of, request_row, row_of_parsed, word_for, FitsParsed}
 use Rattle.recording_file.specs.Sound.{IsSound}
 use Rattle.record_text.specs.Steps.{taken}
 use Rattle.recording_file.specs.Whole.{IsLongWhole}
@@ -23,10 +23,10 @@ use Rattle.recording_file.proofs.FieldLaws.{word_spelled}
 use Rattle.record_text.proofs.StepLemmas.{ok_or_ok, ok_is, on_ok, taken_keeps}
 use Rattle.recording_file.proofs.PlacingLemmas.{kept_name, kept_cap, kept_request}
 use Rattle.recording_file.proofs.PushLaws.{push_name, push_cap, push_request}
-use Rattle.recording_file.proofs.SaidLaws.{said_takes}
+use Rattle.recording_file.proofs.ParsedLaws.{parsed_takes}
 use Rattle.record_text.proofs.RowLaws.{named_header}
-use Rattle.recording_file.proofs.StageReady.{rounds_small}
-use Rattle.recording_file.proofs.StageReads.{Reads, next_reads, no_cause, reads_adapter, reads_config, reads_device, reads_link, reads_weight, reads_whole}
+use Rattle.recording_file.proofs.ParserReady.{rounds_small}
+use Rattle.recording_file.proofs.ParserReads.{Reads, next_reads, no_cause, reads_adapter, reads_config, reads_device, reads_link, reads_weight, reads_whole}
 use Rattle.record_text.proofs.ListLemmas.{all_push}
 
 -- ---- names, caps and requests
@@ -58,28 +58,28 @@ book_bare r e = by (has_items r.requests) (has_items r.caps) refl refl e
     by false true is it k = absurd cc
     by false false is it k = (no_items r.caps it, no_items r.requests is)
 
-name_bare : (s : RecordingStage) → lacks_adapters s ≡ false → stands s word.Name ≡ true → ((recorded_of s).caps ≡ []) × ((recorded_of s).requests ≡ [])
+name_bare : (s : RecordingParser) → lacks_adapters s ≡ false → stands s word.Name ≡ true → ((recorded_of s).caps ≡ []) × ((recorded_of s).requests ≡ [])
 unfolding stands
-name_bare (stage.Adapters start t) l e = (refl, refl)
-name_bare (stage.Devices start t) l e = (refl, refl)
-name_bare (stage.Book r) l e = book_bare r (and_parts (nat_le (book_rank r) 6) true e).0
+name_bare (parser.Adapters start t) l e = (refl, refl)
+name_bare (parser.Devices start t) l e = (refl, refl)
+name_bare (parser.Book r) l e = book_bare r (and_parts (nat_le (book_rank r) 6) true e).0
 name_bare _ l e = absurd cc
 
-cap_bare : (s : RecordingStage) → lacks_adapters s ≡ false → stands s word.Cap ≡ true → (recorded_of s).requests ≡ []
+cap_bare : (s : RecordingParser) → lacks_adapters s ≡ false → stands s word.Cap ≡ true → (recorded_of s).requests ≡ []
 unfolding stands
-cap_bare (stage.Adapters start t) l e = refl
-cap_bare (stage.Devices start t) l e = refl
-cap_bare (stage.Book r) l e = book_none r (and_parts (nat_le (book_rank r) 7) true e).0
+cap_bare (parser.Adapters start t) l e = refl
+cap_bare (parser.Devices start t) l e = refl
+cap_bare (parser.Book r) l e = book_none r (and_parts (nat_le (book_rank r) 7) true e).0
 cap_bare _ l e = absurd cc
 
-request_few : (s : RecordingStage) → lacks_adapters s ≡ false → stands s word.Request ≡ true → nat_lt (length (recorded_of s).requests) MOST_REQUESTS ≡ true
+request_few : (s : RecordingParser) → lacks_adapters s ≡ false → stands s word.Request ≡ true → nat_lt (length (recorded_of s).requests) MAX_REQUESTS ≡ true
 unfolding stands
-request_few (stage.Adapters start t) l e = refl
-request_few (stage.Devices start t) l e = refl
-request_few (stage.Book r) l e = (and_parts (nat_le (book_rank r) 8) (nat_lt (length r.requests) MOST_REQUESTS) e).1
+request_few (parser.Adapters start t) l e = refl
+request_few (parser.Devices start t) l e = refl
+request_few (parser.Book r) l e = (and_parts (nat_le (book_rank r) 8) (nat_lt (length r.requests) MAX_REQUESTS) e).1
 request_few _ l e = absurd cc
 
-reads_name : (n : ℕ) (s t : RecordingStage) (x : Label) (rows : List Row) → Reads s rows → stands s word.Name ≡ true → FitsSaid (recorded_of s) (said.Name x) → add_name n s x ≡ Ok t → Reads t (rows ++ name_row x ∷ [])
+reads_name : (n : ℕ) (s t : RecordingParser) (x : NameValue) (rows : List Row) → Reads s rows → stands s word.Name ≡ true → FitsParsed (recorded_of s) (parsed.Name x) → add_name n s x ≡ Ok t → Reads t (rows ++ name_row x ∷ [])
 unfolding IsSound
 reads_name n s t x rows h place fits e =
     let g = guarded (lacks_adapters s) _ _ t e in
@@ -88,7 +88,7 @@ reads_name n s t x rows h place fits e =
     next_reads w.table _ t (name_row x) rows (ok_is _ t g.1) (ap (λ (l : List Row). l ++ name_row x ∷ []) w.spelled ∙ push_name w.table (recorded_of s) x bare.0 bare.1) w.held
     (kept_name (recorded_of s) x w.kept fits) (record { unit = w.ranged.unit; targets = w.ranged.targets; drivers = w.ranged.drivers })
 
-reads_cap : (n : ℕ) (s t : RecordingStage) (x : Cap) (rows : List Row) → Reads s rows → stands s word.Cap ≡ true → FitsSaid (recorded_of s) (said.Cap x) → add_cap n s x ≡ Ok t → Reads t (rows ++ cap_row x ∷ [])
+reads_cap : (n : ℕ) (s t : RecordingParser) (x : Cap) (rows : List Row) → Reads s rows → stands s word.Cap ≡ true → FitsParsed (recorded_of s) (parsed.Cap x) → add_cap n s x ≡ Ok t → Reads t (rows ++ cap_row x ∷ [])
 unfolding IsSound
 reads_cap n s t x rows h place fits e =
     let g = guarded (lacks_adapters s) _ _ t e in
@@ -97,7 +97,7 @@ reads_cap n s t x rows h place fits e =
     next_reads w.table _ t (cap_row x) rows (ok_is _ t g.1) (ap (λ (l : List Row). l ++ cap_row x ∷ []) w.spelled ∙ push_cap w.table (recorded_of s) x bare) w.held
     (kept_cap (recorded_of s) x w.kept fits bare) (record { unit = w.ranged.unit; targets = w.ranged.targets; drivers = w.ranged.drivers })
 
-reads_request : (n : ℕ) (s t : RecordingStage) (q : Request) (rows : List Row) → Reads s rows → stands s word.Request ≡ true → FitsSaid (recorded_of s) (said.Request q) → add_request n s q ≡ Ok t → Reads t (rows ++ request_row q ∷ [])
+reads_request : (n : ℕ) (s t : RecordingParser) (q : Request) (rows : List Row) → Reads s rows → stands s word.Request ≡ true → FitsParsed (recorded_of s) (parsed.Request q) → add_request n s q ≡ Ok t → Reads t (rows ++ request_row q ∷ [])
 unfolding IsSound
 reads_request n s t q rows h place fits e =
     let g = guarded (lacks_adapters s) _ _ t e in
@@ -109,35 +109,35 @@ reads_request n s t q rows h place fits e =
 
 -- ---- any record
 
-reads_said : (n : ℕ) (s t : RecordingStage) (x : Said) (rows : List Row) → Reads s rows → stands s (word_for x) ≡ true → FitsSaid (recorded_of s) x → add_said n s x ≡ Ok t → Reads t (rows ++ said_row x ∷ [])
-unfolding add_said IsSound records_of
-reads_said n stage.First t (said.Unit u) rows h place fits e = next_reads false _ t _ rows (ok_is _ t e) (rw h.spelled refl) tt fits.0 (record { unit = fits.1; targets = tt; drivers = tt })
-reads_said n _ t (said.Unit u) rows h place fits e = absurd cc
-reads_said n stage.First t (said.Rounds k) rows h place fits e =
+reads_parsed : (n : ℕ) (s t : RecordingParser) (x : ParsedRow) (rows : List Row) → Reads s rows → stands s (word_for x) ≡ true → FitsParsed (recorded_of s) x → apply_parsed n s x ≡ Ok t → Reads t (rows ++ row_of_parsed x ∷ [])
+unfolding apply_parsed IsSound records_of
+reads_parsed n parser.First t (parsed.Unit u) rows h place fits e = next_reads false _ t _ rows (ok_is _ t e) (rw h.spelled refl) tt fits.0 (record { unit = fits.1; targets = tt; drivers = tt })
+reads_parsed n _ t (parsed.Unit u) rows h place fits e = absurd cc
+reads_parsed n parser.First t (parsed.Rounds k) rows h place fits e =
     next_reads false _ t _ rows (ok_is _ t e) (rw h.spelled refl) (refl, refl)
-    (record { head = record { unit = tt; some = fits.0; rounds = fits.1 }; draft = standard_draft; adapters = refl; devices = refl; lanes = refl }, refl) (record { unit = tt; targets = tt; drivers = tt })
-reads_said n (stage.Timed u) t (said.Rounds k) rows h place fits e =
+    (record { head = record { unit = tt; some = fits.0; rounds = fits.1 }; partial = standard_partial; adapters = refl; devices = refl; lanes = refl }, refl) (record { unit = tt; targets = tt; drivers = tt })
+reads_parsed n (parser.Timed u) t (parsed.Rounds k) rows h place fits e =
     next_reads false _ t _ rows (ok_is _ t e) (rw h.spelled refl) (refl, refl)
-    (record { head = record { unit = h.sound; some = fits.0; rounds = fits.1 }; draft = standard_draft; adapters = refl; devices = refl; lanes = refl }, refl) (record { unit = h.ranged.unit; targets = tt; drivers = tt })
-reads_said n _ t (said.Rounds k) rows h place fits e = absurd cc
-reads_said n (stage.Weights start t0) t (said.Weight w) rows h place fits e = reads_weight n start t0 t w rows h e
-reads_said n _ t (said.Weight w) rows h place fits e = absurd cc
-reads_said n (stage.Weights start t0) t (said.Link k) rows h place fits e = reads_link n start t0 t k rows (reads_config start t0 rows h.table h.spelled h.held.0 h.held.1 h.ranged) h.sound.0 e
-reads_said n (stage.Links start t0) t (said.Link k) rows h place fits e = reads_link n start t0 t k rows (reads_config start t0 rows h.table h.spelled h.held.0 h.held.1 h.ranged) h.sound.0 e
-reads_said n _ t (said.Link k) rows h place fits e = absurd cc
-reads_said n (stage.Weights start t0) t (said.Sim a) rows h place fits e = let b = h.sound.0 in reads_adapter n start t0 t a rows (reads_config start t0 rows h.table h.spelled h.held.0 h.held.1 h.ranged) b.head b.draft b.devices b.lanes e
-reads_said n (stage.Links start t0) t (said.Sim a) rows h place fits e = let b = h.sound.0 in reads_adapter n start t0 t a rows (reads_config start t0 rows h.table h.spelled h.held.0 h.held.1 h.ranged) b.head b.draft b.devices b.lanes e
-reads_said n (stage.Adapters start t0) t (said.Sim a) rows h place fits e = let b = h.sound.0 in reads_adapter n start t0 t a rows (reads_config start t0 rows h.table h.spelled h.held.0 h.held.1 h.ranged) b.head b.draft h.sound.1 b.lanes e
-reads_said n _ t (said.Sim a) rows h place fits e = absurd cc
-reads_said n (stage.Adapters start t0) t (said.Dev d) rows h place fits e = reads_device n start t0 t d rows (reads_config start t0 rows h.table h.spelled h.held.0 h.held.1 h.ranged) h.sound.0 fits.1 e
-reads_said n (stage.Devices start t0) t (said.Dev d) rows h place fits e = reads_device n start t0 t d rows (reads_config start t0 rows h.table h.spelled h.held.0 h.held.1 h.ranged) h.sound fits.1 e
-reads_said n _ t (said.Dev d) rows h place fits e = absurd cc
-reads_said n s t (said.Name x) rows h place fits e = reads_name n s t x rows h place fits e
-reads_said n s t (said.Cap x) rows h place fits e = reads_cap n s t x rows h place fits e
-reads_said n s t (said.Request q) rows h place fits e = reads_request n s t q rows h place fits e
+    (record { head = record { unit = h.sound; some = fits.0; rounds = fits.1 }; partial = standard_partial; adapters = refl; devices = refl; lanes = refl }, refl) (record { unit = h.ranged.unit; targets = tt; drivers = tt })
+reads_parsed n _ t (parsed.Rounds k) rows h place fits e = absurd cc
+reads_parsed n (parser.Weights start t0) t (parsed.Weight w) rows h place fits e = reads_weight n start t0 t w rows h e
+reads_parsed n _ t (parsed.Weight w) rows h place fits e = absurd cc
+reads_parsed n (parser.Weights start t0) t (parsed.Link k) rows h place fits e = reads_link n start t0 t k rows (reads_config start t0 rows h.table h.spelled h.held.0 h.held.1 h.ranged) h.sound.0 e
+reads_parsed n (parser.Links start t0) t (parsed.Link k) rows h place fits e = reads_link n start t0 t k rows (reads_config start t0 rows h.table h.spelled h.held.0 h.held.1 h.ranged) h.sound.0 e
+reads_parsed n _ t (parsed.Link k) rows h place fits e = absurd cc
+reads_parsed n (parser.Weights start t0) t (parsed.Sim a) rows h place fits e = let b = h.sound.0 in reads_adapter n start t0 t a rows (reads_config start t0 rows h.table h.spelled h.held.0 h.held.1 h.ranged) b.head b.partial b.devices b.lanes e
+reads_parsed n (parser.Links start t0) t (parsed.Sim a) rows h place fits e = let b = h.sound.0 in reads_adapter n start t0 t a rows (reads_config start t0 rows h.table h.spelled h.held.0 h.held.1 h.ranged) b.head b.partial b.devices b.lanes e
+reads_parsed n (parser.Adapters start t0) t (parsed.Sim a) rows h place fits e = let b = h.sound.0 in reads_adapter n start t0 t a rows (reads_config start t0 rows h.table h.spelled h.held.0 h.held.1 h.ranged) b.head b.partial h.sound.1 b.lanes e
+reads_parsed n _ t (parsed.Sim a) rows h place fits e = absurd cc
+reads_parsed n (parser.Adapters start t0) t (parsed.Dev d) rows h place fits e = reads_device n start t0 t d rows (reads_config start t0 rows h.table h.spelled h.held.0 h.held.1 h.ranged) h.sound.0 fits.1 e
+reads_parsed n (parser.Devices start t0) t (parsed.Dev d) rows h place fits e = reads_device n start t0 t d rows (reads_config start t0 rows h.table h.spelled h.held.0 h.held.1 h.ranged) h.sound fits.1 e
+reads_parsed n _ t (parsed.Dev d) rows h place fits e = absurd cc
+reads_parsed n s t (parsed.Name x) rows h place fits e = reads_name n s t x rows h place fits e
+reads_parsed n s t (parsed.Cap x) rows h place fits e = reads_cap n s t x rows h place fits e
+reads_parsed n s t (parsed.Request q) rows h place fits e = reads_request n s t q rows h place fits e
 
 -- what a word that stands in its place says of the record
-record IsPlaced (s : RecordingStage) (row : Row) (w : Word) : Type 0 where
+record IsPlaced (s : RecordingParser) (row : Row) (w : RecordingWord) : Type 0 where
   eight : length row ≡ 8
   word : field_of row 0 ≡ spelled w
   place : stands s w ≡ true
@@ -153,52 +153,52 @@ guard_some false o x e = absurd cc
 same_some : {X : Type 0} (x y : X) → ◌≡◌ {A = Option X} (Some x) (Some y) → x ≡ y
 same_some x y e = cc
 
-placed_some : (s : RecordingStage) (row : Row) (w : Word) → placed s row ≡ Some w → IsPlaced s row w
+placed_some : (s : RecordingParser) (row : Row) (w : RecordingWord) → placed s row ≡ Some w → IsPlaced s row w
 unfolding placed
 placed_some s row w h =
     let g = guard_some (length row == 8) _ w h in
     on_some (word_of (field_of row 0)) _ w g.1 (λ v ev k.
     let m = guard_some (stands s v) (Some v) w k in
     let same = same_some v w m.1 in
-    record { eight = eqb-true _ _ g.0; word = word_spelled _ w (ev ∙ ap (λ (x : Word). Some x) same); place = ap (stands s) (sym same) ∙ m.0 })
+    record { eight = eqb-true _ _ g.0; word = word_spelled _ w (ev ∙ ap (λ (x : RecordingWord). Some x) same); place = ap (stands s) (sym same) ∙ m.0 })
 
-reads_after : (n : ℕ) (s t : RecordingStage) (row : Row) (rows : List Row) → Reads s rows → row_step n s row ≡ Ok t → Reads t (rows ++ row ∷ [])
+reads_after : (n : ℕ) (s t : RecordingParser) (row : Row) (rows : List Row) → Reads s rows → row_step n s row ≡ Ok t → Reads t (rows ++ row ∷ [])
 unfolding row_step
 reads_after n s t row rows h e =
     on_ok (ok_or (placed s row) (BadRecord n)) _ t e (λ w ew r.
     let p = placed_some s row w (ok_or_ok (placed s row) (BadRecord n) w ew) in
-    on_ok (said_by n (recorded_of s) w row) (add_said n s) t r (λ x ex k.
-    let took = said_takes n (recorded_of s) w row x p.eight p.word (rounds_small s h.sound) ex in
-    subst (λ (l : Row). Reads t (rows ++ l ∷ [])) (sym took.1) (reads_said n s t x rows h (ap (stands s) took.0 ∙ p.place) took.2 k)))
+    on_ok (parsed_by n (recorded_of s) w row) (apply_parsed n s) t r (λ x ex k.
+    let took = parsed_takes n (recorded_of s) w row x p.eight p.word (rounds_small s h.sound) ex in
+    subst (λ (l : Row). Reads t (rows ++ l ∷ [])) (sym took.1) (reads_parsed n s t x rows h (ap (stands s) took.0 ∙ p.place) took.2 k)))
 
 -- ---- the header
 
-step_reads : (n : ℕ) (s t : RecordingStage) (row : Row) (rows : List Row) → Reads s rows → step n s row ≡ Ok t → Reads t (rows ++ row ∷ [])
+step_reads : (n : ℕ) (s t : RecordingParser) (row : Row) (rows : List Row) → Reads s rows → step n s row ≡ Ok t → Reads t (rows ++ row ∷ [])
 unfolding step IsSound
-step_reads n stage.Header t row rows h e = by (is_header name_text row) refl e
+step_reads n parser.Header t row rows h e = by (is_header name_text row) refl e
   where
-    by : (b : Bool) → is_header name_text row ≡ b → cond b (Ok stage.First) (Err BadHeader) ≡ Ok t → Reads t (rows ++ row ∷ [])
-    by true named k = next_reads false stage.First t row rows (ok_is _ t k) (rw (h.spelled, named_header name_text row named) refl) tt tt (record { unit = tt; targets = tt; drivers = tt })
+    by : (b : Bool) → is_header name_text row ≡ b → cond b (Ok parser.First) (Err BadHeader) ≡ Ok t → Reads t (rows ++ row ∷ [])
+    by true named k = next_reads false parser.First t row rows (ok_is _ t k) (rw (h.spelled, named_header name_text row named) refl) tt tt (record { unit = tt; targets = tt; drivers = tt })
     by false named k = absurd cc
 step_reads n s t row rows h e = reads_after n s t row rows h e
 
 -- ---- the end
 
-ended_ok : (s : RecordingStage) (r : Recorded) → ended s ≡ Ok r → (lacks_adapters s ≡ false) × (recorded_of s ≡ r)
+ended_ok : (s : RecordingParser) (r : Recorded) → ended s ≡ Ok r → (lacks_adapters s ≡ false) × (recorded_of s ≡ r)
 unfolding ended
-ended_ok stage.Header r e = absurd cc
-ended_ok stage.First r e = absurd cc
-ended_ok (stage.Timed u) r e = absurd cc
-ended_ok (stage.Weights start t) r e = absurd cc
-ended_ok (stage.Links start t) r e = absurd cc
+ended_ok parser.Header r e = absurd cc
+ended_ok parser.First r e = absurd cc
+ended_ok (parser.Timed u) r e = absurd cc
+ended_ok (parser.Weights start t) r e = absurd cc
+ended_ok (parser.Links start t) r e = absurd cc
 ended_ok _ r e = (refl, ok_is _ r e)
 
 pub was_recording : (before after : Option (List ℕ)) (text : List ℕ) → IsLongWhole before after text → (r : Recorded) → reading (records_in text) ≡ Ok r → WasRecording before after r
 unfolding reading IsSound
 was_recording before after text whole r e =
-    on_ok (taken step 1 stage.Header (records_in text)) ended r e (λ t et k.
-    let start : Reads stage.Header [] = record { table = false; spelled = refl; held = tt; sound = tt; ranged = record { unit = tt; targets = tt; drivers = tt } } in
-    let h = taken_keeps step Reads step_reads 1 stage.Header t [] (records_in text) start et in
+    on_ok (taken step 1 parser.Header (records_in text)) ended r e (λ t et k.
+    let start : Reads parser.Header [] = record { table = false; spelled = refl; held = tt; sound = tt; ranged = record { unit = tt; targets = tt; drivers = tt } } in
+    let h = taken_keeps step Reads step_reads 1 parser.Header t [] (records_in text) start et in
     let end = ended_ok t r k in
     let w = reads_whole t (records_in text) end.0 h in
     let made : WasRecording before after (recorded_of t) = record {

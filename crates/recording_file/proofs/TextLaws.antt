@@ -6,14 +6,14 @@ use Rattle.cam_types.specs.Topology.{IsConfig, adapter_fault, device_fault, link
 use Rattle.cam_types.specs.Weights.{weight_fault}
 use Rattle.cam_types.specs.declared.device.Device.{Device}
 use Rattle.cam_types.proofs.ConfigLemmas.{adapter_items, device_items, few_adapters, few_devices, few_links, few_weights, link_items, weight_items}
-use Rattle.recording_file.specs.Recorded.{Recorded, IsRecording, MOST_RECORDING_BYTES}
+use Rattle.recording_file.specs.Recorded.{Recorded, IsRecording, MAX_RECORDING_BYTES}
 use Rattle.recording_file.specs.Caps.{is_cap}
 use Rattle.recording_file.specs.Counts.{counts_of}
 use Rattle.recording_file.specs.Names.{is_name}
 use Rattle.recording_file.specs.Recordings.{IsRecordingText}
 use Rattle.recording_file.specs.Records.{cap_row, header, name_row, records_of, request_row, rounds_row, unit_rows}
 use Rattle.record_text.specs.ConfigRows.{adapter_row, device_row, link_row, weight_row}
-use Rattle.recording_file.specs.Whole.{most_bytes}
+use Rattle.recording_file.specs.Whole.{max_bytes}
 use Rattle.recording_file.specs.Writing.{recording_text}
 use Rattle.record_text.specs.Writing.{text_of}
 use Rattle.record_text.proofs.ListLemmas.{along_both, none_along, true_along}
@@ -28,11 +28,11 @@ use Rattle.record_text.specs.Header.{header_row}
 
 -- so many bytes are together no more than a text may have
 within : (weights links adapters devices names caps requests rounds : ℕ) → weights ≤ 16 → links ≤ 4 → adapters ≤ 8 → devices ≤ 32 → names ≤ 300 → caps ≤ 44 * rounds → rounds ≤ 65535 → requests ≤ 1048576
-    → 43 + (54 + (44 + (weights * 54 + (links * 44 + (adapters * 54 + (devices * 74 + (names * 177 + (caps * 57 + requests * 88)))))))) ≤ MOST_RECORDING_BYTES
+    → 43 + (54 + (44 + (weights * 54 + (links * 44 + (adapters * 54 + (devices * 74 + (names * 177 + (caps * 57 + requests * 88)))))))) ≤ MAX_RECORDING_BYTES
 within weights links adapters devices names caps requests rounds w l a d n c r q = omega arith
 
 -- the records are read again, and together they aren't longer than a text may be
-good_records : (r : Recorded) → IsRecording r → AreGood MOST_RECORDING_BYTES (records_of true r)
+good_records : (r : Recorded) → IsRecording r → AreGood MAX_RECORDING_BYTES (records_of true r)
 unfolding records_of
 good_records r h =
     let t = r.config in
@@ -53,7 +53,7 @@ good_records r h =
     let all = and_more 43 _ header _ good_header (both_good 54 _ (unit_rows r.unit) _ unit (and_more 44 _ (rounds_row r.rounds) _ rounds
     (both_good _ _ (map weight_row t.weights) _ weights (both_good _ _ (map link_row t.links) _ links (both_good _ _ (map adapter_row t.adapters) _ adapters
     (both_good _ _ (map device_row t.devices) _ devices (both_good _ _ (map name_row r.names) _ names (both_good _ _ (map cap_row r.caps) (map request_row r.requests) caps requests)))))))) in
-    weaker _ MOST_RECORDING_BYTES (records_of true r) (within (length t.weights) (length t.links) (length t.adapters) (length t.devices) (length r.names) (length r.caps) (length r.requests) r.rounds (few_weights t is) (few_links t is) (few_adapters t is) (few_devices t is) (few_names r head) (few_caps r head) head.rounds h.kept.few) all
+    weaker _ MAX_RECORDING_BYTES (records_of true r) (within (length t.weights) (length t.links) (length t.adapters) (length t.devices) (length r.names) (length r.caps) (length r.requests) r.rounds (few_weights t is) (few_links t is) (few_adapters t is) (few_devices t is) (few_names r head) (few_caps r head) head.rounds h.kept.few) all
 
 -- the text begins with the header's word, and so with no byte order mark
 no_mark : (r : Recorded) → strip_bom (recording_text r) ≡ recording_text r
@@ -61,8 +61,8 @@ unfolding strip_bom recording_text text_of records_of header_row fields_text esc
 no_mark r = refl
 
 -- and so it may have as many bytes as a recording
-bound : (r : Recorded) → most_bytes (recording_text r) ≡ MOST_RECORDING_BYTES
-unfolding most_bytes recording_text text_of records_of header_row fields_text escaped is_blank
+bound : (r : Recorded) → max_bytes (recording_text r) ≡ MAX_RECORDING_BYTES
+unfolding max_bytes recording_text text_of records_of header_row fields_text escaped is_blank
 bound r = refl
 
 -- the text of a recording's records is a text of it

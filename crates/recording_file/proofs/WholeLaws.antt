@@ -4,8 +4,8 @@ use Rattle.csv.specs.Records.{field_at}
 use Rattle.cam_types.specs.Topology.{IsConfig}
 use Rattle.cam_types.specs.Weights.{are_standard, weight_fault}
 use Rattle.cam_types.proofs.ConfigLemmas.{reaches, weight_items}
-use Rattle.recording_file.specs.Reading.{ended, lacks_adapters, reading, recorded_of, step, RecordingFault, RecordingStage}
-use Rattle.recording_file.specs.declared.recording_stage.RecordingStage.TheVariants as stage
+use Rattle.recording_file.specs.Reading.{ended, lacks_adapters, reading, recorded_of, step, RecordingFault, RecordingParser}
+use Rattle.recording_file.specs.declared.recording_parser.RecordingParser.TheVariants as parser
 use Rattle.record_text.specs.Header.{has_letters, is_header, header_row}
 use Rattle.recording_file.specs.Recorded.{Recorded, IsRecording}
 use Rattle.recording_file.specs.Records.{header, records_of}
@@ -16,11 +16,11 @@ use Rattle.recording_file.proofs.BookLaws.{at_book, book_at, is_base, taken_book
 
 -- ---- the head
 
-header_first : step 1 stage.Header header ≡ Ok stage.First
+header_first : step 1 parser.Header header ≡ Ok parser.First
 unfolding step is_header has_letters header_row field_at
 header_first = refl
 
-taken_all : (table : Bool) (r : Recorded) → IsRecording r → (table || are_standard r.config.weights) ≡ true → taken step 1 stage.Header (records_of table r) ≡ Ok (at_book (base_of table r) r.names r.caps r.requests)
+taken_all : (table : Bool) (r : Recorded) → IsRecording r → (table || are_standard r.config.weights) ≡ true → taken step 1 parser.Header (records_of table r) ≡ Ok (at_book (base_of table r) r.names r.caps r.requests)
 unfolding records_of
 taken_all table r h held =
     let t = r.config in
@@ -32,11 +32,11 @@ taken_all table r h held =
     (taken_weights table r.unit r.rounds t.weights _ final (reaches t is) held weights
     (taken_config table r h _ final (taken_book r (base_of table r) (is_base table r h) h))) 2)
 
-ended_whole : (s : RecordingStage) → lacks_adapters s ≡ false → ended s ≡ Ok (recorded_of s)
+ended_whole : (s : RecordingParser) → lacks_adapters s ≡ false → ended s ≡ Ok (recorded_of s)
 unfolding ended
-ended_whole (stage.Adapters start t) e = refl
-ended_whole (stage.Devices start t) e = refl
-ended_whole (stage.Book r) e = refl
+ended_whole (parser.Adapters start t) e = refl
+ended_whole (parser.Devices start t) e = refl
+ended_whole (parser.Book r) e = refl
 ended_whole _ e = absurd cc
 
 pub reading_again : (table : Bool) (r : Recorded) → IsRecording r → (table || are_standard r.config.weights) ≡ true → reading (records_of table r) ≡ Ok r

@@ -11,7 +11,7 @@ pub mod Requests
 pub mod Room
 pub mod Rows
 pub mod Runs
-pub mod Saying
+pub mod RowParsing
 pub mod Sound
 pub mod Whole
 pub mod Words

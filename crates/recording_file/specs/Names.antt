@@ -9,7 +9,7 @@ use Rattle.recording_file.specs.declared.name.NameKind.TheVariants as kind
 use Rattle.recording_file.specs.Counts.{Counts}
 
 -- what a name is for, its number, and the name itself
-pub record Label : Type 0 where
+pub record NameValue : Type 0 where
   pub kind : NameKind
   pub number : ℕ
   pub text : List ℕ
@@ -40,7 +40,7 @@ named_count c kind.Adapter = c.adapters
 named_count c kind.Link = c.links
 
 -- one name comes before a kind's number
-abbrev pub is_named_before : Label → NameKind → ℕ → Bool
+abbrev pub is_named_before : NameValue → NameKind → ℕ → Bool
 is_named_before a k n = nat_lt (name_rank a.kind) (name_rank k) || ((name_rank a.kind == name_rank k) && nat_lt a.number n)
 
 -- the last of a list, if there is one
@@ -48,9 +48,9 @@ abbrev pub latest : {X : Type 0} → List X → Option X
 latest xs = slice_get xs (length xs - 1)
 
 -- a kind's number comes after the names before it
-abbrev pub is_next_name : List Label → NameKind → ℕ → Bool
+abbrev pub is_next_name : List NameValue → NameKind → ℕ → Bool
 is_next_name before k n = option_map_or (λ a. is_named_before a k n) (latest before) true
 
 -- a name beside those before it: there is such a thing, it comes after them, and its text has its form
-unfoldable pub is_name : Counts → List Label × Label → Bool
+unfoldable pub is_name : Counts → List NameValue × NameValue → Bool
 is_name c m = nat_lt m.1.number (named_count c m.1.kind) && (is_next_name m.0 m.1.kind m.1.number && is_name_text m.1.text)

@@ -3,7 +3,7 @@ use Rattle.std.specs.Prelude.{ℕ, ◌-◌, ◌==◌, ◌<◌, if◌then◌else�
 use Rattle.cam_types.specs.Topology.{Topology}
 use Rattle.cam_types.specs.Questions.{device_adapter, adapter_link}
 use Rattle.recording_file.specs.declared.part.PartKind.TheVariants as kind
-use Rattle.recording_file.specs.Recorded.{Cause, DeviceFull, AdapterFull, LinkFull}
+use Rattle.recording_file.specs.Recorded.{RequestFault, DeviceFull, AdapterFull, LinkFull}
 pub use Rattle.recording_file.specs.declared.places.Places.{Places}
 use Rattle.recording_file.specs.Caps.{part_of}
 use Rattle.recording_file.specs.Room.{cell_of}
@@ -25,11 +25,11 @@ pub record AreWithin (size : ℕ) (p : Places) : Type 0 where
   pub link : IfSome p.link (λ at. at < size)
 
 -- which of them has no room, if one has none
-abbrev pub link_full : List ℕ → Option ℕ → Option Cause
+abbrev pub link_full : List ℕ → Option ℕ → Option RequestFault
 link_full cells None = None
 link_full cells (Some at) = if slice_index cells at == 0 then Some LinkFull else None
 
-abbrev pub full_at : List ℕ → Places → Option Cause
+abbrev pub full_at : List ℕ → Places → Option RequestFault
 full_at cells p =
     if slice_index cells p.device == 0 then Some DeviceFull
     else if slice_index cells p.adapter == 0 then Some AdapterFull

@@ -2,31 +2,31 @@
 use Rattle.std.specs.Prelude.{◌≡◌, ℕ, ◌==◌, ◌≤◌, Bool, true, not, nat_lt, nat_le, ◌&&◌, if◌then◌else◌, List, [], ◌∷◌, length, count_by, find, Option, Some, None, option_map, IfSome}
 use Rattle.std.specs.List.{AllByRecursion, list_all}
 use Rattle.std.specs.Option.{option_or, option_map_or}
-use Rattle.cam_types.specs.Lists.{moments, first_answer}
+use Rattle.cam_types.specs.Lists.{prefixed, first_answer}
 use Rattle.cam_types.specs.Topology.{Topology, config_fault}
 use Rattle.cam_types.specs.Questions.{names_device, device_adapter, adapter_link, is_on, is_under}
 use Rattle.cam_types.specs.declared.device.Device.{Device}
-use Rattle.cam_types.specs.declared.maxima.TheConstants.{MOST_PRIORITY}
-pub use Rattle.recording_file.specs.declared.maxima.TheConstants.{MOST_RECORDED_ROUNDS, MOST_REQUESTS, MOST_RECORDING_BYTES}
+use Rattle.cam_types.specs.declared.limits.TheConstants.{MAX_PRIORITY}
+pub use Rattle.recording_file.specs.declared.limits.TheConstants.{MAX_RECORDED_ROUNDS, MAX_REQUESTS, MAX_RECORDING_BYTES}
 use Rattle.recording_file.specs.Caps.{Part, Cap, part_of, is_cap, cap_in, PartKind}
 use Rattle.recording_file.specs.declared.part.PartKind.TheVariants as kind
-pub use Rattle.recording_file.specs.declared.cause.Cause.{Cause}
-pub use Rattle.recording_file.specs.declared.cause.Cause.TheVariants.{NoDevice, BadPriority, BadWindow, Early, Late, DeviceFull, AdapterFull, LinkFull}
+pub use Rattle.recording_file.specs.declared.cause.RequestFault.{RequestFault}
+pub use Rattle.recording_file.specs.declared.cause.RequestFault.TheVariants.{NoDevice, BadPriority, BadWindow, Early, Late, DeviceFull, AdapterFull, LinkFull}
 pub use Rattle.recording_file.specs.declared.request.Request.{Request}
 pub use Rattle.recording_file.specs.declared.span.Span.{Span}
 use Rattle.recording_file.specs.Counts.{counts_of}
-use Rattle.recording_file.specs.Names.{Label, is_name}
+use Rattle.recording_file.specs.Names.{NameValue, is_name}
 
 -- a list has an item
 abbrev pub has_items : {X : Type 0} → List X → Bool
 has_items xs = not (length xs == 0)
 
--- how long a round is, if that is said, the last round, what there is, names, caps, and the requests in their order
+-- how long a round is, if that is known, the last round, what there is, names, caps, and the requests in their order
 pub record Recorded : Type 0 where
   pub unit : Option Span
   pub rounds : ℕ
   pub config : Topology
-  pub names : List Label
+  pub names : List NameValue
   pub caps : List Cap
   pub requests : List Request
 
@@ -57,7 +57,7 @@ parts_of c device =
 abbrev pub is_full : Topology → List Cap → List Request → ℕ → Part → Bool
 is_full c caps before round p = nat_le (cap_in c caps p round) (load c before p round)
 
-abbrev pub full_cause : PartKind → Cause
+abbrev pub full_cause : PartKind → RequestFault
 full_cause kind.Device = DeviceFull
 full_cause kind.Adapter = AdapterFull
 full_cause kind.Link = LinkFull
@@ -67,7 +67,7 @@ abbrev pub last_of : ℕ → Request → ℕ
 last_of rounds q = option_map_or (λ n. n) q.last rounds
 
 -- why a request can't have been started in its round, whatever else was
-unfoldable pub window_cause : ℕ → Request → Option Cause
+unfoldable pub window_cause : ℕ → Request → Option RequestFault
 window_cause rounds q =
     if not (nat_le 1 q.arrival && (nat_le q.arrival (last_of rounds q) && nat_le (last_of rounds q) rounds)) then Some BadWindow
     else if nat_lt q.sent q.arrival then Some Early
@@ -75,35 +75,35 @@ window_cause rounds q =
     else None
 
 -- why it can't beside the requests before it
-unfoldable pub crowd_cause : Topology → List Cap → List Request → Request → Option Cause
+unfoldable pub crowd_cause : Topology → List Cap → List Request → Request → Option RequestFault
 crowd_cause c caps before q = option_map (λ (p : Part). full_cause p.kind) (find (is_full c caps before q.sent) (parts_of c q.device))
 
 -- why it can't, whatever the other requests are
-unfoldable pub plain_cause : ℕ → Topology → Request → Option Cause
+unfoldable pub plain_cause : ℕ → Topology → Request → Option RequestFault
 plain_cause rounds c q =
     if not (names_device c q.device) then Some NoDevice
-    else if nat_lt MOST_PRIORITY q.priority then Some BadPriority
+    else if nat_lt MAX_PRIORITY q.priority then Some BadPriority
     else window_cause rounds q
 
 -- the first cause that a request, beside those before it, can't be one of a recording
-unfoldable pub request_cause : ℕ → Topology → List Cap → List Request × Request → Option Cause
+unfoldable pub request_cause : ℕ → Topology → List Cap → List Request × Request → Option RequestFault
 request_cause rounds c caps m = option_or (plain_cause rounds c m.1) (crowd_cause c caps m.0 m.1)
 
 -- rules that a recording's head keeps: how long a round is, how many rounds, what there is, names and caps
 pub record IsHead (r : Recorded) : Type 0 where
   pub unit : IfSome r.unit (λ (u : Span). 1 ≤ u.count)
   pub some : 1 ≤ r.rounds
-  pub rounds : r.rounds ≤ MOST_RECORDED_ROUNDS
+  pub rounds : r.rounds ≤ MAX_RECORDED_ROUNDS
   pub config : config_fault r.config ≡ None
   pub lanes : r.config.lanes ≡ []
-  pub names : list_all (is_name (counts_of r.config)) (moments r.names) ≡ true
-  pub caps : list_all (is_cap r.rounds (counts_of r.config)) (moments r.caps) ≡ true
+  pub names : list_all (is_name (counts_of r.config)) (prefixed r.names) ≡ true
+  pub caps : list_all (is_cap r.rounds (counts_of r.config)) (prefixed r.caps) ≡ true
 
 -- the rules that a recording keeps
 pub record IsKept (r : Recorded) : Type 0 where
   pub head : IsHead r
-  pub requests : first_answer (request_cause r.rounds r.config r.caps) (moments r.requests) ≡ None
-  pub few : length r.requests ≤ MOST_REQUESTS
+  pub requests : first_answer (request_cause r.rounds r.config r.caps) (prefixed r.requests) ≡ None
+  pub few : length r.requests ≤ MAX_REQUESTS
 
 -- a recording: the rules are kept, and its numbers fit their fields
 pub record IsRecording (r : Recorded) : Type 0 where

@@ -1,19 +1,19 @@
 -- What the records of a recording say: their words' fields, in order.
 use Rattle.std.specs.Prelude.{ℕ, Result, Ok, Err, List, if◌then◌else◌}
 pub use Rattle.record_text.specs.declared.device_row.DeviceRow.{DeviceRow}
-use Rattle.recording_file.specs.Recorded.{Request, Span, MOST_RECORDED_ROUNDS}
+use Rattle.recording_file.specs.Recorded.{Request, Span, MAX_RECORDED_ROUNDS}
 use Rattle.recording_file.specs.Names.{named_count, is_name_text, NameKind}
 use Rattle.recording_file.specs.Counts.{Counts}
 use Rattle.recording_file.specs.Caps.{Part, part_of, part_count}
 use Rattle.record_text.specs.Steps.{◌>>=◌}
 use Rattle.record_text.specs.Text.{Row}
-use Rattle.record_text.specs.Fields.{field_of, formed, most_number, number_at, optional_at, within_at, below_at, unused_from}
+use Rattle.record_text.specs.Fields.{field_of, formed, max_number, number_at, optional_at, within_at, below_at, unused_from}
 use Rattle.recording_file.specs.Words.{time_of, named_of, part_kind_of}
 
 -- how long a round is
 unfoldable pub span_at : Row → Result Span ℕ
 span_at row = do
-  count ← within_at row 1 1 most_number
+  count ← within_at row 1 1 max_number
   unit ← formed (time_of (field_of row 2)) 2
   _ ← unused_from row 3
   Ok (record { count = count; unit = unit })
@@ -21,7 +21,7 @@ span_at row = do
 -- the last round
 unfoldable pub rounds_at : Row → Result ℕ ℕ
 rounds_at row = do
-  n ← within_at row 1 1 MOST_RECORDED_ROUNDS
+  n ← within_at row 1 1 MAX_RECORDED_ROUNDS
   _ ← unused_from row 2
   Ok n
 
@@ -55,10 +55,10 @@ most_at rounds first row = do
 unfoldable pub request_at : Row → Result Request ℕ
 request_at row = do
   driver ← number_at row 1 255
-  device ← number_at row 2 most_number
-  priority ← number_at row 3 most_number
-  arrival ← number_at row 4 most_number
-  last ← optional_at row 5 most_number
-  sent ← number_at row 6 most_number
+  device ← number_at row 2 max_number
+  priority ← number_at row 3 max_number
+  arrival ← number_at row 4 max_number
+  last ← optional_at row 5 max_number
+  sent ← number_at row 6 max_number
   _ ← unused_from row 7
   Ok (record { driver = driver; device = device; priority = priority; arrival = arrival; last = last; sent = sent })

@@ -1,7 +1,7 @@
 -- The words of a recording's records, and those of its fields.
 use Rattle.std.specs.Prelude.{ℕ, List, [], ◌∷◌, Option, codes, bytes_eq, find}
-pub use Rattle.recording_file.specs.declared.word.Word.{Word}
-use Rattle.recording_file.specs.declared.word.Word.TheVariants as word
+pub use Rattle.recording_file.specs.declared.word.RecordingWord.{RecordingWord}
+use Rattle.recording_file.specs.declared.word.RecordingWord.TheVariants as word
 use Rattle.recording_file.specs.Names.{NameKind}
 use Rattle.recording_file.specs.declared.name.NameKind.TheVariants as named
 use Rattle.recording_file.specs.Caps.{PartKind}
@@ -14,7 +14,7 @@ abbrev pub name_text : List ℕ
 name_text = codes "camrecord1"
 
 -- how a word is spelled
-abbrev pub spelled : Word → List ℕ
+abbrev pub spelled : RecordingWord → List ℕ
 spelled word.Unit = codes "unit"
 spelled word.Rounds = codes "rounds"
 spelled word.Weight = codes "weight"
@@ -25,16 +25,16 @@ spelled word.Name = codes "name"
 spelled word.Cap = codes "cap"
 spelled word.Request = codes "request"
 
-abbrev pub all_words : List Word
+abbrev pub all_words : List RecordingWord
 all_words =
     word.Request ∷ word.Cap ∷ word.Name ∷ word.Unit ∷ word.Rounds ∷ word.Weight ∷ word.Link ∷ word.Sim ∷ word.Dev ∷ []
 
 -- the word that a field spells
-unfoldable pub word_of : List ℕ → Option Word
+unfoldable pub word_of : List ℕ → Option RecordingWord
 word_of field = find (λ w. bytes_eq field (spelled w)) all_words
 
 -- where a record of this word stands: the kinds come in this order
-abbrev pub word_rank : Word → ℕ
+abbrev pub word_rank : RecordingWord → ℕ
 word_rank word.Unit = 0
 word_rank word.Rounds = 1
 word_rank word.Weight = 2

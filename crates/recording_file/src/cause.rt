@@ -4,7 +4,7 @@ use thiserror::Error;
 
 /// Why a request can't be one of a recording, beside the requests before it. The first that holds is named.
 #[derive(Clone, Copy, Debug, PartialEq, Eq, Error)]
-pub enum Cause {
+pub enum RequestFault {
     /// There is no device of its number.
     #[error("NoDevice")]
     NoDevice,

@@ -25,9 +25,9 @@ pub struct Name {
 
 impl Model for Name {
     ghost use Rattle.std.specs.Prelude.{◌≡◌, true, string_bytes};
-    ghost use Rattle.recording_file.specs.Names.{Label, is_name_text};
+    ghost use Rattle.recording_file.specs.Names.{NameValue, is_name_text};
 
-    ghost Value = { Label };
+    ghost Value = { NameValue };
 
     ghost view = { λ n. record { kind = n.kind; number = n.number; text = string_bytes n.text } };
 

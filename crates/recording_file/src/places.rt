@@ -7,9 +7,9 @@ ghost use Rattle.cam_types.specs.Questions.{names_device};
 ghost use Rattle.recording_file.specs.Caps.{part_of};
 ghost use Rattle.recording_file.specs.Room.{cell_of};
 ghost use Rattle.recording_file.specs.Places.{AreWithin, places_of, full_at, taken_at, one_less};
-ghost use Rattle.recording_file.specs.Recorded.{MOST_RECORDED_ROUNDS};
+ghost use Rattle.recording_file.specs.Recorded.{MAX_RECORDED_ROUNDS};
 
-use crate::cause::Cause;
+use crate::cause::RequestFault;
 use crate::part::{Part, PartKind};
 use crate::room::cell_of;
 use cam_types::Config;
@@ -28,7 +28,7 @@ impl Places {
         requires device { names_device config.now device ≡ true }
         requires some { 1 ≤ round }
         requires last { round ≤ rounds }
-        requires most { rounds ≤ MOST_RECORDED_ROUNDS }
+        requires most { rounds ≤ MAX_RECORDED_ROUNDS }
         ensures places { result ≡ places_of rounds config.now device round }
         ensures within { AreWithin (44 * rounds) result }
     {
@@ -42,19 +42,19 @@ impl Places {
     }
 
     /// Which of them is full, if one is.
-    pub(crate) fn full(self, room: &[u32]) -> Option<Cause>
+    pub(crate) fn full(self, room: &[u32]) -> Option<RequestFault>
         requires { AreWithin (length room.now) self }
         ensures { result ≡ full_at room.now self }
     {
         if room[self.device] == 0 {
-            return Some(Cause::DeviceFull);
+            return Some(RequestFault::DeviceFull);
         }
         if room[self.adapter] == 0 {
-            return Some(Cause::AdapterFull);
+            return Some(RequestFault::AdapterFull);
         }
         let link = self.link?;
         if room[link] == 0 {
-            Some(Cause::LinkFull)
+            Some(RequestFault::LinkFull)
         } else {
             None
         }
@@ -90,7 +90,7 @@ fn link_place(rounds: u32, link: Option<u32>, round: u32) -> Option<usize>
     requires link { IfSome link (λ l. l < 4) }
     requires some { 1 ≤ round }
     requires last { round ≤ rounds }
-    requires most { rounds ≤ MOST_RECORDED_ROUNDS }
+    requires most { rounds ≤ MAX_RECORDED_ROUNDS }
     ensures place { result ≡ option_map (λ l. cell_of rounds (part_of PartKind.Link l) round) link }
     ensures within { IfSome result (λ at. at < 44 * rounds) }
 {

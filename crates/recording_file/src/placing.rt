@@ -4,7 +4,7 @@ ghost use Rattle.std.specs.Prelude.{◌≡◌, ◌≢◌, ◌<◌, ◌≤◌, �
 ghost use Rattle.std.specs.List.{AllByRecursion};
 ghost use Rattle.cam_types.specs.Topology.{IsConfig};
 ghost use Rattle.recording_file.specs.Places.{places_of};
-ghost use Rattle.recording_file.specs.Recorded.{Request, request_cause, MOST_RECORDED_ROUNDS};
+ghost use Rattle.recording_file.specs.Recorded.{Request, request_cause, MAX_RECORDED_ROUNDS};
 ghost use Rattle.recording_file.specs.Requests.{unless_cause, placed_unless, OutOfMemory};
 ghost use Rattle.recording_file.specs.Room.{IsLaid, IsSized, IsTable};
 ghost use Rattle.recording_file.specs.Ready.{IsReady};
@@ -28,7 +28,7 @@ fn ready_places(
     request: Request,
 ) -> Result<Places, RequestError>
     requires some { 1 ≤ rounds }
-    requires most { rounds ≤ MOST_RECORDED_ROUNDS }
+    requires most { rounds ≤ MAX_RECORDED_ROUNDS }
     requires config { IsConfig config.now }
     requires caps { AllByRecursion (IsLaid rounds) caps.now }
     requires size { IsSized rounds room.old.items }
@@ -58,7 +58,7 @@ pub(crate) fn place_request(
     request: Request,
 ) -> Result<(), RequestError>
     requires some { 1 ≤ rounds }
-    requires most { rounds ≤ MOST_RECORDED_ROUNDS }
+    requires most { rounds ≤ MAX_RECORDED_ROUNDS }
     requires config { IsConfig config.now }
     requires caps { AllByRecursion (IsLaid rounds) caps.now }
     requires table { IsTable rounds config.now caps.now requests.old.items room.old.items }

@@ -1,7 +1,7 @@
 //! Reads a recording.
 
 ghost use Rattle.std.specs.Prelude.{◌≡◌, ◌≢◌, ◌≤◌, ◌||◌, Bool, false, true, length, Ok, Err, IfOk, IfErr, IfSome};
-ghost use Rattle.recording_file.specs.Recorded.{Recorded, IsRecording, MOST_RECORDING_BYTES};
+ghost use Rattle.recording_file.specs.Recorded.{Recorded, IsRecording, MAX_RECORDING_BYTES};
 ghost use Rattle.cam_types.specs.Watched.{device_of, has_failed};
 ghost use Rattle.recording_file.specs.Reading.{reading};
 ghost use Rattle.recording_file.specs.Records.{records_of};
@@ -11,7 +11,7 @@ ghost use Rattle.recording_file.specs.Recordings.{IsRecordingText, WasRecording,
 
 use crate::recording::Recording;
 use crate::recording_fault::RecordingFault;
-use crate::recording_stage::RecordingStage;
+use crate::recording_parser::RecordingParser;
 use crate::whole::read_long;
 use cam_types::{Watched, WholeFault};
 use record_text::{front, take_records};
@@ -44,10 +44,10 @@ pub fn read_recording<R: Read>(
 /// The same of a text that is at hand: what its records say, or the first fault of the first that fails. `TooLong` and
 /// `ReadFailed` aren't answered.
 pub fn parse_recording(alloc: Global, text: &[u8]) -> Result<Recording, RecordingFault>
-    requires { length text.now ≤ MOST_RECORDING_BYTES }
+    requires { length text.now ≤ MAX_RECORDING_BYTES }
     ensures { result ≢ Err RecordingFault.OutOfMemory → result ≡ reading (records_in text.now) }
 {
-    take_records(alloc, front(text), RecordingStage::Header)?.finish(alloc)
+    take_records(alloc, front(text), RecordingParser::Header)?.finish(alloc)
 }
 
 /// No list of records is that of two recordings. So a text is that of one recording at most.

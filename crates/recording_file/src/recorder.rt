@@ -5,12 +5,12 @@ ghost use Rattle.cam_types.specs.Topology.{IsConfig};
 ghost use Rattle.recording_file.specs.Caps.{is_cap, is_next_cap};
 ghost use Rattle.recording_file.specs.Counts.{counts_of};
 ghost use Rattle.recording_file.specs.Names.{is_name, is_next_name};
-ghost use Rattle.recording_file.specs.Recorded.{Span, IsKept, request_cause, has_items, MOST_RECORDED_ROUNDS, MOST_REQUESTS};
+ghost use Rattle.recording_file.specs.Recorded.{Span, IsKept, request_cause, has_items, MAX_RECORDED_ROUNDS, MAX_REQUESTS};
 ghost use Rattle.recording_file.specs.Requests.{unless_cause, OutOfMemory};
 
 use crate::cap::Cap;
 use crate::counts::Counts;
-use crate::maxima::MOST_REQUESTS;
+use crate::limits::MAX_REQUESTS;
 use crate::name::{Name, NameKind};
 use crate::next_item::{is_cap, is_name, is_next_cap, is_next_name};
 use crate::part::Part;
@@ -52,7 +52,7 @@ impl Recorder {
     pub fn new(alloc: Global, unit: Option<Span>, rounds: u32, config: Config) -> Recorder
         requires unit { IfSome unit (λ (u : Span). 1 ≤ u.count) }
         requires some { 1 ≤ rounds }
-        requires few { rounds ≤ MOST_RECORDED_ROUNDS }
+        requires few { rounds ≤ MAX_RECORDED_ROUNDS }
         requires kept { IsConfig config }
         requires lanes { config.lanes ≡ [] }
         ensures { result ≡ record { unit = unit; rounds = rounds; config = config; names = []; caps = []; requests = [] } }
@@ -105,9 +105,9 @@ impl Recorder {
 
     /// Whether there may be a request more.
     pub fn has_place(&self) -> bool
-        ensures { result ≡ nat_lt (length self.now.requests) MOST_REQUESTS }
+        ensures { result ≡ nat_lt (length self.now.requests) MAX_REQUESTS }
     {
-        self.requests.len() < MOST_REQUESTS
+        self.requests.len() < MAX_REQUESTS
     }
 
     /// Whether a kind's number comes after the names.
@@ -180,7 +180,7 @@ impl Recorder {
     /// `Illegal` with the first cause that it can't be one of the recording, beside the requests before it. `OutOfMemory` if no
     /// memory is left.
     pub fn add_request(&mut self, alloc: Global, request: Request) -> Result<(), RequestError>
-        requires { length self.old.requests < MOST_REQUESTS }
+        requires { length self.old.requests < MAX_REQUESTS }
         ensures answer { result ≢ Err OutOfMemory → result ≡ unless_cause (request_cause self.old.rounds self.old.config self.old.caps (self.old.requests, request)) }
         ensures ok { OnOk result (self.new ≡ record self.old { requests = self.old.requests ++ request ∷ [] }) }
         ensures err { OnErr result (self.new ≡ self.old) }

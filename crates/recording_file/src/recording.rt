@@ -8,7 +8,7 @@ use cam_types::Config;
 use std::marker::Model;
 
 /// What some scheduler did with requests in rounds 1 to a last one: what there was to use, what it took in a round, and when
-/// each request arrived and was started. It keeps the rules of `RecordingFault` and `Cause`. A `Recorder` makes one.
+/// each request arrived and was started. It keeps the rules of `RecordingFault` and `RequestFault`. A `Recorder` makes one.
 #[derive(Debug)]
 pub struct Recording {
     pub(crate) unit: Option<Span>,

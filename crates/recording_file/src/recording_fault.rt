@@ -1,6 +1,6 @@
 //! Why a text isn't a recording.
 
-use crate::cause::Cause;
+use crate::cause::RequestFault;
 use cam_types::ConfigFault;
 use std::fmt;
 use thiserror::Error;
@@ -18,7 +18,7 @@ pub enum RecordingFault {
     /// The record breaks a rule of the configuration.
     BadConfig(u32, ConfigFault),
     /// The record's request can't be one of the recording.
-    Illegal(u32, Cause),
+    Illegal(u32, RequestFault),
     /// More bytes came than a recording may have: 268,435,456 if the first ten are `camrecord1`, else 16,777,216.
     TooLong,
     /// A read failed.

@@ -3,7 +3,7 @@
 ghost use Rattle.std.specs.Prelude.{◌≡◌};
 ghost use Rattle.recording_file.specs.Requests.{OutOfMemory};
 
-use crate::cause::Cause;
+use crate::cause::RequestFault;
 use std::alloc::AllocError;
 use thiserror::Error;
 
@@ -12,7 +12,7 @@ use thiserror::Error;
 pub enum RequestError {
     /// It can't be one of the recording.
     #[error("{0}")]
-    Illegal(Cause),
+    Illegal(RequestFault),
     /// There is no memory left.
     #[error("out of memory")]
     OutOfMemory,

@@ -3,35 +3,35 @@
 ghost use Rattle.std.specs.Prelude.{◌≡◌};
 ghost use Rattle.recording_file.specs.Recorded.{last_of, window_cause, plain_cause};
 
-use crate::cause::Cause;
+use crate::cause::RequestFault;
 use crate::request::Request;
-use cam_types::{Config, MOST_PRIORITY};
+use cam_types::{Config, MAX_PRIORITY};
 
 /// The first cause that a request can't be one of a recording, whatever the other requests are.
 #[tactic(auto, unfolding(crate::specs::Recorded::plain_cause))]
-pub(crate) fn plain_cause(rounds: u32, config: &Config, request: Request) -> Option<Cause>
+pub(crate) fn plain_cause(rounds: u32, config: &Config, request: Request) -> Option<RequestFault>
     ensures { result ≡ plain_cause rounds config.now request }
 {
     if !config.names_device(request.device) {
-        return Some(Cause::NoDevice);
+        return Some(RequestFault::NoDevice);
     }
-    if request.priority > MOST_PRIORITY {
-        return Some(Cause::BadPriority);
+    if request.priority > MAX_PRIORITY {
+        return Some(RequestFault::BadPriority);
     }
     window_cause(rounds, request)
 }
 
 #[tactic(auto, unfolding(crate::specs::Recorded::window_cause))]
-fn window_cause(rounds: u32, request: Request) -> Option<Cause>
+fn window_cause(rounds: u32, request: Request) -> Option<RequestFault>
     ensures { result ≡ window_cause rounds request }
 {
     let last = last_of(rounds, request);
     if !(1 <= request.arrival && request.arrival <= last && last <= rounds) {
-        Some(Cause::BadWindow)
+        Some(RequestFault::BadWindow)
     } else if request.sent < request.arrival {
-        Some(Cause::Early)
+        Some(RequestFault::Early)
     } else if last < request.sent {
-        Some(Cause::Late)
+        Some(RequestFault::Late)
     } else {
         None
     }

@@ -4,11 +4,11 @@ ghost use Rattle.std.specs.Prelude.{◌≡◌, ◌+◌, ◌-◌, ◌*◌, ◌<�
 ghost use Rattle.cam_types.specs.Topology.{IsConfig, Topology};
 ghost use Rattle.recording_file.specs.Caps.{Part, openings, cap_in, covers};
 ghost use Rattle.recording_file.specs.Room.{IsCell, IsRoom, Holds, cell_of, rows_by, row_of, part_in, IsLaid, IsSized, IsTable};
-ghost use Rattle.recording_file.specs.Recorded.{Request, MOST_RECORDED_ROUNDS};
+ghost use Rattle.recording_file.specs.Recorded.{Request, MAX_RECORDED_ROUNDS};
 ghost use Rattle.std.specs.List.{AllByRecursion};
 
 use crate::cap::Cap;
-use crate::maxima::MOST_RECORDED_ROUNDS;
+use crate::limits::MAX_RECORDED_ROUNDS;
 use crate::part::{Part, PartKind};
 use cam_types::Config;
 use std::alloc::{AllocError, Global};
@@ -33,7 +33,7 @@ pub(crate) fn row_of(part: Part) -> usize
 /// The place of a part's round in a table of them all: a list of 44 rows of all rounds, for 32 devices, 8 adapters and 4 links.
 pub fn cell_of(rounds: u32, part: Part, round: u32) -> usize
     requires cell { IsCell rounds part round }
-    requires most { rounds ≤ MOST_RECORDED_ROUNDS }
+    requires most { rounds ≤ MAX_RECORDED_ROUNDS }
     ensures place { result ≡ cell_of rounds part round }
     ensures within { result < 44 * rounds }
 {
@@ -60,7 +60,7 @@ fn openings_in(config: &Config, row: usize) -> u32
 // The table of a configuration's openings.
 fn open_room(alloc: Global, rounds: u32, config: &Config) -> Result<Vec<u32>, AllocError>
     requires some { 1 ≤ rounds }
-    requires most { rounds ≤ MOST_RECORDED_ROUNDS }
+    requires most { rounds ≤ MAX_RECORDED_ROUNDS }
     ensures { IfOk result (λ cells. Holds rounds (λ p round. openings config.now p) cells.items) }
 {
     let width = rounds as usize;
@@ -89,7 +89,7 @@ fn lay_cap(cells: &mut [u32], rounds: u32, cap: Cap)
     requires some { 1 ≤ cap.first }
     requires order { cap.first ≤ cap.last }
     requires last { cap.last ≤ rounds }
-    requires most { rounds ≤ MOST_RECORDED_ROUNDS }
+    requires most { rounds ≤ MAX_RECORDED_ROUNDS }
     ensures { (f : Part → ℕ → ℕ) → Holds rounds f cells.old → Holds rounds (λ p round. if covers p round cap then cap.most else f p round) cells.new }
 {
     let start = cell_of(rounds, cap.part, cap.first);
@@ -103,7 +103,7 @@ fn lay_cap(cells: &mut [u32], rounds: u32, cap: Cap)
 fn lay_caps(cells: &mut [u32], rounds: u32, caps: &[Cap])
     requires size { length cells.old ≡ 44 * rounds }
     requires caps { AllByRecursion (IsLaid rounds) caps.now }
-    requires most { rounds ≤ MOST_RECORDED_ROUNDS }
+    requires most { rounds ≤ MAX_RECORDED_ROUNDS }
     ensures { (c : Topology) → Holds rounds (λ p round. openings c p) cells.old → Holds rounds (cap_in c caps.now) cells.new }
 {
     let mut left = caps.len();
@@ -121,7 +121,7 @@ pub(crate) fn new_room(
     caps: &[Cap],
 ) -> Result<Vec<u32>, AllocError>
     requires some { 1 ≤ rounds }
-    requires most { rounds ≤ MOST_RECORDED_ROUNDS }
+    requires most { rounds ≤ MAX_RECORDED_ROUNDS }
     requires caps { AllByRecursion (IsLaid rounds) caps.now }
     ensures { IfOk result (λ cells. IsRoom rounds config.now caps.now [] cells.items) }
 {
@@ -139,7 +139,7 @@ pub(crate) fn fill_room(
     caps: &[Cap],
 ) -> Result<(), AllocError>
     requires some { 1 ≤ rounds }
-    requires most { rounds ≤ MOST_RECORDED_ROUNDS }
+    requires most { rounds ≤ MAX_RECORDED_ROUNDS }
     requires caps { AllByRecursion (IsLaid rounds) caps.now }
     requires size { IsSized rounds room.old.items }
     ensures size { OnOk result (length room.new.items ≡ 44 * rounds) }

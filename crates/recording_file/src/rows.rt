@@ -5,9 +5,9 @@ ghost use Rattle.csv.specs.Records.{fields_of};
 ghost use Rattle.record_text.specs.Fields.{field_of, formed};
 ghost use Rattle.recording_file.specs.Rows.{span_at, rounds_at, request_at};
 ghost use Rattle.recording_file.specs.Words.{time_of};
-ghost use Rattle.recording_file.specs.Recorded.{MOST_RECORDED_ROUNDS};
+ghost use Rattle.recording_file.specs.Recorded.{MAX_RECORDED_ROUNDS};
 
-use crate::maxima::MOST_RECORDED_ROUNDS;
+use crate::limits::MAX_RECORDED_ROUNDS;
 use crate::request::Request;
 use crate::span::{Span, TimeUnit};
 use csv::ByteRecord;
@@ -55,9 +55,9 @@ fn time_of(field: &[u8]) -> Option<TimeUnit>
 pub(crate) fn rounds_at(row: &ByteRecord) -> Result<u32, u32>
     requires { length (fields_of row.now) ≡ 8 }
     ensures value { result ≡ rounds_at (fields_of row.now) }
-    ensures within { IfOk result (λ n. (1 ≤ n) × (n ≤ MOST_RECORDED_ROUNDS)) }
+    ensures within { IfOk result (λ n. (1 ≤ n) × (n ≤ MAX_RECORDED_ROUNDS)) }
 {
-    let rounds = within_at(row, 1, 1, MOST_RECORDED_ROUNDS)?;
+    let rounds = within_at(row, 1, 1, MAX_RECORDED_ROUNDS)?;
     unused_from(row, 2)?;
     Ok(rounds)
 }

@@ -3,39 +3,39 @@
 ghost use Rattle.std.specs.Prelude.{◌≡◌, ◌≢◌, length, Err, IfOk};
 ghost use Rattle.csv.specs.Records.{fields_of};
 ghost use Rattle.recording_file.specs.Reading.{add_row, row_step};
-ghost use Rattle.recording_file.specs.Saying.{IsAt, ready_for};
+ghost use Rattle.recording_file.specs.RowParsing.{IsAt, ready_for};
 ghost use Rattle.recording_file.specs.Sound.{IsSound};
 
 use crate::recording_fault::RecordingFault;
-use crate::recording_stage::RecordingStage;
-use crate::word::Word;
+use crate::recording_parser::RecordingParser;
+use crate::word::RecordingWord;
 use csv::ByteRecord;
-use record_text::{Stage, is_header};
+use record_text::{Parser, is_header};
 use std::alloc::Global;
 
-impl RecordingStage {
+impl RecordingParser {
     // A record of this word, or its fault.
     fn take_word(
         self,
         alloc: Global,
         number: u32,
-        word: Word,
+        word: RecordingWord,
         row: &ByteRecord,
-    ) -> Result<RecordingStage, RecordingFault>
+    ) -> Result<RecordingParser, RecordingFault>
         requires sound { IsSound self }
         requires at { IsAt self word }
         requires eight { length (fields_of row.now) ≡ 8 }
         ensures value { result ≢ Err RecordingFault.OutOfMemory → result ≡ add_row number self word (fields_of row.now) }
         ensures sound { IfOk result (λ s. IsSound s) }
     {
-        match self.said(alloc, number, word, row) {
-            Ok(said) => self.add_said(alloc, number, said),
+        match self.parsed(alloc, number, word, row) {
+            Ok(parsed) => self.apply_parsed(alloc, number, parsed),
             Err(fault) => Err(fault),
         }
     }
 
-    // The stage at which a record of this word is taken.
-    fn ready_for(self, alloc: Global, word: Word) -> RecordingStage
+    // The parser at which a record of this word is taken.
+    fn ready_for(self, alloc: Global, word: RecordingWord) -> RecordingParser
         requires { IsSound self }
         ensures value { result ≡ ready_for self word }
         ensures sound { IsSound result }
@@ -54,7 +54,7 @@ impl RecordingStage {
         alloc: Global,
         number: u32,
         row: &ByteRecord,
-    ) -> Result<RecordingStage, RecordingFault>
+    ) -> Result<RecordingParser, RecordingFault>
         requires { IsSound self }
         ensures value { result ≢ Err RecordingFault.OutOfMemory → result ≡ row_step number self (fields_of row.now) }
         ensures sound { IfOk result (λ s. IsSound s) }
@@ -68,7 +68,7 @@ impl RecordingStage {
     }
 }
 
-impl Stage for RecordingStage {
+impl Parser for RecordingParser {
     type Fault = RecordingFault;
 
     ghost use Rattle.recording_file.specs.declared.recording_fault.RecordingFault.{RecordingFault};
@@ -85,22 +85,22 @@ impl Stage for RecordingStage {
         RecordingFault::OutOfMemory
     }
 
-    #[tactic(auto, using(crate::proofs::StageLemmas::step_after_header), unfolding(crate::specs::Reading::step, crate::specs::Sound::IsSound))]
+    #[tactic(auto, using(crate::proofs::ParserLemmas::step_after_header), unfolding(crate::specs::Reading::step, crate::specs::Sound::IsSound))]
     fn take(
         self,
         alloc: Global,
         number: u32,
         row: &ByteRecord,
-    ) -> Result<RecordingStage, RecordingFault> {
+    ) -> Result<RecordingParser, RecordingFault> {
         match self {
-            RecordingStage::Header => {
+            RecordingParser::Header => {
                 if is_header(b"camrecord1", row) {
-                    Ok(RecordingStage::First)
+                    Ok(RecordingParser::First)
                 } else {
                     Err(RecordingFault::BadHeader)
                 }
             }
-            stage => stage.take_row(alloc, number, row),
+            parser => parser.take_row(alloc, number, row),
         }
     }
 }

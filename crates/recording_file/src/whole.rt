@@ -2,11 +2,11 @@
 
 ghost use Rattle.std.specs.Prelude.{◌≡◌, ◌≢◌, ◌≤◌, false, true, Err, IfOk};
 ghost use Rattle.cam_types.specs.Watched.{device_of, has_failed};
-ghost use Rattle.recording_file.specs.Whole.{most_bytes, IsLongWhole, IsTooLong};
-ghost use Rattle.recording_file.specs.Recorded.{MOST_RECORDING_BYTES};
+ghost use Rattle.recording_file.specs.Whole.{max_bytes, IsLongWhole, IsTooLong};
+ghost use Rattle.recording_file.specs.Recorded.{MAX_RECORDING_BYTES};
 
-use crate::maxima::MOST_RECORDING_BYTES;
-use cam_types::{MOST_BYTES, Watched, WholeFault};
+use crate::limits::MAX_RECORDING_BYTES;
+use cam_types::{MAX_BYTES, Watched, WholeFault};
 use std::alloc::Global;
 use std::io::Read;
 
@@ -14,15 +14,15 @@ use std::io::Read;
 const PIECE: usize = 4096;
 
 /// How many bytes a text may have: 268,435,456 if the first ten are `camrecord1`, else 16,777,216.
-#[tactic(auto, unfolding(crate::specs::Whole::most_bytes))]
-fn most_bytes(text: &[u8]) -> usize
-    ensures most { result ≡ most_bytes text.now }
-    ensures bound { result ≤ MOST_RECORDING_BYTES }
+#[tactic(auto, unfolding(crate::specs::Whole::max_bytes))]
+fn max_bytes(text: &[u8]) -> usize
+    ensures most { result ≡ max_bytes text.now }
+    ensures bound { result ≤ MAX_RECORDING_BYTES }
 {
     if text.starts_with(b"camrecord1") {
-        MOST_RECORDING_BYTES
+        MAX_RECORDING_BYTES
     } else {
-        MOST_BYTES
+        MAX_BYTES
     }
 }
 
@@ -38,7 +38,7 @@ pub fn read_long<R: Read>(alloc: Global, reader: &mut Watched<R>) -> Result<Vec<
 {
     let mut text = Vec::new(alloc);
     let mut piece = [0u8; PIECE];
-    while text.len() <= most_bytes(&text) {
+    while text.len() <= max_bytes(&text) {
         let Ok(count) = reader.read(&mut piece) else {
             return Err(WholeFault::ReadFailed);
         };

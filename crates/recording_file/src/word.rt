@@ -4,7 +4,7 @@ use record_text::is_text;
 
 /// What the first field of a recording's record names.
 #[derive(Clone, Copy)]
-pub(crate) enum Word {
+pub(crate) enum RecordingWord {
     Unit,
     Rounds,
     Weight,
@@ -16,33 +16,33 @@ pub(crate) enum Word {
     Request,
 }
 
-impl Word {
+impl RecordingWord {
     ghost use Rattle.std.specs.Prelude.{◌≡◌};
     ghost use Rattle.recording_file.specs.Words.{word_of, word_rank};
 
     /// The word that a field spells.
     #[tactic(auto, unfolding(crate::specs::Words::word_of))]
-    pub(crate) fn of(field: &[u8]) -> Option<Word>
+    pub(crate) fn of(field: &[u8]) -> Option<RecordingWord>
         ensures { result ≡ word_of field.now }
     {
         let word = if is_text(field, b"request") {
-            Word::Request
+            RecordingWord::Request
         } else if is_text(field, b"cap") {
-            Word::Cap
+            RecordingWord::Cap
         } else if is_text(field, b"name") {
-            Word::Name
+            RecordingWord::Name
         } else if is_text(field, b"unit") {
-            Word::Unit
+            RecordingWord::Unit
         } else if is_text(field, b"rounds") {
-            Word::Rounds
+            RecordingWord::Rounds
         } else if is_text(field, b"weight") {
-            Word::Weight
+            RecordingWord::Weight
         } else if is_text(field, b"link") {
-            Word::Link
+            RecordingWord::Link
         } else if is_text(field, b"sim") {
-            Word::Sim
+            RecordingWord::Sim
         } else if is_text(field, b"dev") {
-            Word::Dev
+            RecordingWord::Dev
         } else {
             return None;
         };
@@ -54,15 +54,15 @@ impl Word {
         ensures { result ≡ word_rank self }
     {
         match self {
-            Word::Unit => 0,
-            Word::Rounds => 1,
-            Word::Weight => 2,
-            Word::Link => 3,
-            Word::Sim => 4,
-            Word::Dev => 5,
-            Word::Name => 6,
-            Word::Cap => 7,
-            Word::Request => 8,
+            RecordingWord::Unit => 0,
+            RecordingWord::Rounds => 1,
+            RecordingWord::Weight => 2,
+            RecordingWord::Link => 3,
+            RecordingWord::Sim => 4,
+            RecordingWord::Dev => 5,
+            RecordingWord::Name => 6,
+            RecordingWord::Cap => 7,
+            RecordingWord::Request => 8,
         }
     }
 }

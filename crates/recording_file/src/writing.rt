@@ -3,7 +3,7 @@
 ghost use Rattle.std.specs.Prelude.{◌≡◌, ◌≤◌, ◌∷◌, ◌++◌, [], codes, decimal, map, IfSome, OnOk};
 ghost use Rattle.std.specs.List.{AllByRecursion};
 ghost use Rattle.cam_types.specs.declared.device.Device.{Device};
-ghost use Rattle.recording_file.specs.Names.{Label};
+ghost use Rattle.recording_file.specs.Names.{NameValue};
 ghost use Rattle.recording_file.specs.Recorded.{Request, Span};
 ghost use Rattle.recording_file.specs.Records.{unit_rows, unit_row, name_row, cap_row, request_row};
 ghost use Rattle.record_text.specs.ConfigRows.{padded, weight_row, link_row, adapter_row, device_row, optional_text};
@@ -21,7 +21,7 @@ use record_text::write_row;
 use std::alloc::AllocError;
 use std::io::Write;
 
-/// Writes how long a round is, if that is said.
+/// Writes how long a round is, if that is known.
 pub(crate) fn write_unit<W: Write + Drop>(
     writer: &mut Writer<W>,
     unit: Option<Span>,

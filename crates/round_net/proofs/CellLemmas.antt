@@ -1,7 +1,7 @@
 -- where rounds stand in flat lists
 use Rattle.std.proofs.Common.{◌≡◌, ℕ, ◌+◌, ◌-◌, ◌*◌, ◌/◌, ◌^◌, ◌<◌, ◌≤◌, arith, length, List, ap, sym, ◌∙◌}
 use Rattle.std.proofs.lemmas.Nat.{mul-add-lt, mul-le, div-mul-add}
-use Rattle.round_net.specs.declared.maxima.TheConstants.{MOST_NET_ROUNDS}
+use Rattle.round_net.specs.declared.limits.TheConstants.{MAX_NET_ROUNDS}
 use Rattle.round_net.specs.Rows.{NetRows, cell, instance_of_rows}
 use Rattle.round_net.specs.Sound.{IsNet}
 use Rattle.round_net.specs.PriceRows.{PriceRows, IsPriced}
@@ -18,10 +18,10 @@ pub cell_in : (xs : List ℕ) (rounds rows row r : ℕ) → length xs ≡ rows *
 cell_in xs rounds rows row r all within first last = omega (arith, cell_within rounds rows row r within first last)
 
 -- few rounds of a row make no large number
-pub product_fits : (row rounds : ℕ) → row < 2 ^ 32 → rounds ≤ MOST_NET_ROUNDS → row * rounds ≤ 2 ^ 32 * MOST_NET_ROUNDS
+pub product_fits : (row rounds : ℕ) → row < 2 ^ 32 → rounds ≤ MAX_NET_ROUNDS → row * rounds ≤ 2 ^ 32 * MAX_NET_ROUNDS
 product_fits row rounds lt few =
     let le : row ≤ 2 ^ 32 = omega arith in
-    mul-le row rounds (2 ^ 32) MOST_NET_ROUNDS le few
+    mul-le row rounds (2 ^ 32) MAX_NET_ROUNDS le few
 
 -- two rounds that stand at one place are of one row, and equal
 pub cell-injective : (rounds row r other q : ℕ) → 1 ≤ r → r ≤ rounds → 1 ≤ q → q ≤ rounds → cell rounds row r ≡ cell rounds other q → (row ≡ other) × (r ≡ q)

@@ -8,9 +8,9 @@ use Rattle.std.proofs.lemmas.List.Elements.{filter-append}
 use Rattle.std.proofs.lemmas.List.FromFn.{length-map-range_with_len, get_or-map-range_with_len}
 use Rattle.std.proofs.lemmas.Nat.{mul-le}
 use Rattle.std.proofs.lemmas.Option.{slice_get_within}
-use Rattle.round_net.specs.Words.{moments, Topology, IsConfig, device_adapter, Device, is_tick, Event}
+use Rattle.round_net.specs.Words.{prefixed, Topology, IsConfig, device_adapter, Device, is_tick, Event}
 use Rattle.cam_types.proofs.ConfigLemmas.{bus-there}
-use Rattle.cam_types.proofs.ListLemmas.{moments-push}
+use Rattle.cam_types.proofs.ListLemmas.{prefixed-push}
 use Rattle.event_rules.proofs.ListFacts.{range_with_len-push}
 use Rattle.round_net.specs.Ends.{round_ends, at_ends}
 
@@ -47,9 +47,9 @@ ended es e false = refl
 round_ends-push : (es : List Event) (e : Event) → round_ends (es ++ e ∷ []) ≡ round_ends es ++ cond (is_tick e) (es ∷ []) []
 unfolding round_ends
 round_ends-push es e =
-    ap (λ ms. map (λ (m : List Event × Event). m.0) (filter (λ (m : List Event × Event). is_tick m.1) ms)) (moments-push es e)
-    ∙ ap (map (λ (m : List Event × Event). m.0)) (filter-append (λ (m : List Event × Event). is_tick m.1) (moments es) ((es, e) ∷ []))
-    ∙ map-append (λ (m : List Event × Event). m.0) (filter (λ (m : List Event × Event). is_tick m.1) (moments es)) (filter (λ (m : List Event × Event). is_tick m.1) ((es, e) ∷ []))
+    ap (λ ms. map (λ (m : List Event × Event). m.0) (filter (λ (m : List Event × Event). is_tick m.1) ms)) (prefixed-push es e)
+    ∙ ap (map (λ (m : List Event × Event). m.0)) (filter-append (λ (m : List Event × Event). is_tick m.1) (prefixed es) ((es, e) ∷ []))
+    ∙ map-append (λ (m : List Event × Event). m.0) (filter (λ (m : List Event × Event). is_tick m.1) (prefixed es)) (filter (λ (m : List Event × Event). is_tick m.1) ((es, e) ∷ []))
     ∙ ap (λ xs. round_ends es ++ xs) (ended es e (is_tick e))
 
 pub at_ends-none : {X : Type 0} (held : List Event → ℕ → X) (n : ℕ) → at_ends held n [] ≡ []

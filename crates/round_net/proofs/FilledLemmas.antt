@@ -6,19 +6,19 @@ use Rattle.std.proofs.lemmas.Nat.{mul-le}
 use Rattle.std.proofs.lemmas.Option.{slice_get_cases, slice_get_within, get_or_from_slice_get}
 use Rattle.std.proofs.lemmas.List.{length-map, take_all}
 use Rattle.std.proofs.lemmas.List.Sums.{sum_by_more}
-use Rattle.cam_types.specs.declared.maxima.TheConstants.{MOST_DEVICES, MOST_ADAPTERS, MOST_LINKS, MOST_WEIGHT}
-use Rattle.round_net.specs.declared.maxima.TheConstants.{MOST_NET_ROUNDS, MOST_NET_STAYS, MOST_CAP}
-use Rattle.round_net.specs.declared.price_range.TheConstants.{MOST_NET_PRICE}
+use Rattle.cam_types.specs.declared.limits.TheConstants.{MAX_DEVICES, MAX_ADAPTERS, MAX_LINKS, MAX_WEIGHT}
+use Rattle.round_net.specs.declared.limits.TheConstants.{MAX_NET_ROUNDS, MAX_NET_STAYS, MAX_CAP}
+use Rattle.round_net.specs.declared.price_range.TheConstants.{MAX_NET_PRICE}
 use Rattle.round_net.specs.Words.{Topology, IsConfig, names_link, Adapter, Device, is_on, is_under, adapter_link}
 use Rattle.round_net.specs.Sums.{count_below}
-use Rattle.round_net.specs.Instance.{Instance, rows, adapter, link, adapter_row, link_row, uses}
+use Rattle.round_net.specs.Instance.{Instance, rows, adapter, link, adapter_resource, link_resource, uses}
 use Rattle.round_net.specs.Schedules.{IsAdmissible, load}
 use Rattle.round_net.specs.Rows.{NetRows, cell, instance_of_rows, live_of_rows, StayRow}
-use Rattle.round_net.specs.Sound.{IsSound, IsNet, longest_way}
-use Rattle.round_net.specs.Caps.{row_count, carries}
+use Rattle.round_net.specs.Sound.{IsSound, IsNet, longest_path}
+use Rattle.round_net.specs.Caps.{resource_count, carries}
 use Rattle.round_net.specs.Nets.{table, net_with}
 use Rattle.cam_types.proofs.ConfigLemmas.{few_adapters, few_links, adapters_on_links, devices_on_adapters, few_devices}
-use Rattle.round_net.proofs.PathLemmas.{uses-device_row, uses-adapter_row, uses-link_row}
+use Rattle.round_net.proofs.PathLemmas.{uses-device_resource, uses-adapter_resource, uses-link_resource}
 use Rattle.round_net.proofs.RowLemmas.{device-row, arrival-row, last-row, weight-row, live-row}
 use Rattle.round_net.proofs.TableLemmas.{cell-table, All-table, length-cells}
 
@@ -78,33 +78,33 @@ pub record IsFitting (c : Topology) (rounds : ℕ) (s : StayRow) : Type 0 where
   pub within : s.live ≤ s.last
   pub last : s.last ≤ rounds
   pub some_weight : 1 ≤ s.weight
-  pub small_weight : s.weight ≤ MOST_WEIGHT
+  pub small_weight : s.weight ≤ MAX_WEIGHT
 
 -- the stays fit, there are few of them and few rounds, no row was sent more in a round than it takes, and no number is too large
-pub record IsFilled (c : Topology) (rounds : ℕ) (stays : List StayRow) (caps : ℕ → ℕ → ℕ) (most_price : ℕ) : Type 0 where
+pub record IsFilled (c : Topology) (rounds : ℕ) (stays : List StayRow) (caps : ℕ → ℕ → ℕ) (max_price : ℕ) : Type 0 where
   pub some_rounds : 1 ≤ rounds
-  pub few_rounds : rounds ≤ MOST_NET_ROUNDS
-  pub few_stays : length stays ≤ MOST_NET_STAYS
+  pub few_rounds : rounds ≤ MAX_NET_ROUNDS
+  pub few_stays : length stays ≤ MAX_NET_STAYS
   pub each : All (IsFitting c rounds) stays
-  pub small_cap : (row r : ℕ) → row < row_count c → 1 ≤ r → r ≤ rounds → caps row r ≤ MOST_CAP
-  pub small_price : most_price ≤ MOST_NET_PRICE
-  pub price_room : 4 * (MOST_WEIGHT * rounds * ((MOST_DEVICES + MOST_ADAPTERS + MOST_LINKS) * (rounds + 1) + 1)) ≤ most_price
-  pub held : (row r : ℕ) → row < row_count c → 1 ≤ r → r ≤ rounds → count_by (λ (s : StayRow). carries c row s.device && (s.live == r)) stays ≤ caps row r
+  pub small_cap : (row r : ℕ) → row < resource_count c → 1 ≤ r → r ≤ rounds → caps row r ≤ MAX_CAP
+  pub small_price : max_price ≤ MAX_NET_PRICE
+  pub price_room : 4 * (MAX_WEIGHT * rounds * ((MAX_DEVICES + MAX_ADAPTERS + MAX_LINKS) * (rounds + 1) + 1)) ≤ max_price
+  pub held : (row r : ℕ) → row < resource_count c → 1 ≤ r → r ≤ rounds → count_by (λ (s : StayRow). carries c row s.device && (s.live == r)) stays ≤ caps row r
 
 -- there is room for prices where there is for those of more rounds
-pub room_for : (rounds most most_price : ℕ) → rounds ≤ most → 4 * (MOST_WEIGHT * most * ((MOST_DEVICES + MOST_ADAPTERS + MOST_LINKS) * (most + 1) + 1)) ≤ most_price →
-    4 * (MOST_WEIGHT * rounds * ((MOST_DEVICES + MOST_ADAPTERS + MOST_LINKS) * (rounds + 1) + 1)) ≤ most_price
-room_for rounds most most_price few room =
-    let way = mul-le (MOST_WEIGHT * rounds) ((MOST_DEVICES + MOST_ADAPTERS + MOST_LINKS) * (rounds + 1) + 1) (MOST_WEIGHT * most) ((MOST_DEVICES + MOST_ADAPTERS + MOST_LINKS) * (most + 1) + 1) (omega arith) (omega arith) in
-    omega (arith, way, room)
+pub room_for : (rounds most max_price : ℕ) → rounds ≤ most → 4 * (MAX_WEIGHT * most * ((MAX_DEVICES + MAX_ADAPTERS + MAX_LINKS) * (most + 1) + 1)) ≤ max_price →
+    4 * (MAX_WEIGHT * rounds * ((MAX_DEVICES + MAX_ADAPTERS + MAX_LINKS) * (rounds + 1) + 1)) ≤ max_price
+room_for rounds most max_price few room =
+    let path = mul-le (MAX_WEIGHT * rounds) ((MAX_DEVICES + MAX_ADAPTERS + MAX_LINKS) * (rounds + 1) + 1) (MAX_WEIGHT * most) ((MAX_DEVICES + MAX_ADAPTERS + MAX_LINKS) * (most + 1) + 1) (omega arith) (omega arith) in
+    omega (arith, path, room)
 
 -- such a net
 abbrev pub filled : Topology → ℕ → ℕ → List StayRow → (ℕ → ℕ → ℕ) → ℕ → Instance
-filled c commands rounds stays caps most_price = instance_of_rows (net_with c commands rounds stays caps most_price)
+filled c commands rounds stays caps max_price = instance_of_rows (net_with c commands rounds stays caps max_price)
 
-module _ (c : Topology) (commands rounds : ℕ) (stays : List StayRow) (caps : ℕ → ℕ → ℕ) (most_price : ℕ) where
+module _ (c : Topology) (commands rounds : ℕ) (stays : List StayRow) (caps : ℕ → ℕ → ℕ) (max_price : ℕ) where
   abbrev net : Instance
-  net = filled c commands rounds stays caps most_price
+  net = filled c commands rounds stays caps max_price
 
   devices_of : net.devices ≡ length c.devices
   unfolding instance_of_rows
@@ -114,7 +114,7 @@ module _ (c : Topology) (commands rounds : ℕ) (stays : List StayRow) (caps : �
   unfolding instance_of_rows
   adapters_of = length-map c.adapters (λ (adapter : Adapter). adapter.link)
 
-  pub rows_of : rows net ≡ row_count c
+  pub rows_of : rows net ≡ resource_count c
   unfolding instance_of_rows
   rows_of = rw (devices_of, adapters_of) refl
 
@@ -131,9 +131,9 @@ module _ (c : Topology) (commands rounds : ℕ) (stays : List StayRow) (caps : �
   unfolding instance_of_rows
   link_of_adapter a = linked c.adapters a
 
-  cap_of : (row r : ℕ) → row < row_count c → 1 ≤ r → r ≤ rounds → net.cap row r ≡ caps row r
+  cap_of : (row r : ℕ) → row < resource_count c → 1 ≤ r → r ≤ rounds → net.cap row r ≡ caps row r
   unfolding instance_of_rows
-  cap_of row r within first last = cell-table (row_count c) rounds caps row r within first last
+  cap_of row r within first last = cell-table (resource_count c) rounds caps row r within first last
 
   stays_of : net.stays ≡ length stays
   unfolding instance_of_rows
@@ -155,10 +155,10 @@ module _ (c : Topology) (commands rounds : ℕ) (stays : List StayRow) (caps : �
 
   -- a stay uses the rows that carry a command to its device
   device_at : (s : ℕ) (x : StayRow) → slice_get stays s ≡ Some x → net.device s ≡ x.device
-  device_at s x e = device-row (net_with c commands rounds stays caps most_price) s x e
+  device_at s x e = device-row (net_with c commands rounds stays caps max_price) s x e
 
-  live_at : (s : ℕ) (x : StayRow) → slice_get stays s ≡ Some x → live_of_rows (net_with c commands rounds stays caps most_price) s ≡ x.live
-  live_at s x e = live-row (net_with c commands rounds stays caps most_price) s x e
+  live_at : (s : ℕ) (x : StayRow) → slice_get stays s ≡ Some x → live_of_rows (net_with c commands rounds stays caps max_price) s ≡ x.live
+  live_at s x e = live-row (net_with c commands rounds stays caps max_price) s x e
 
   adapter_at : (s : ℕ) (x : StayRow) (device : Device) → slice_get stays s ≡ Some x → slice_get c.devices x.device ≡ Some device → adapter net s ≡ device.bus
   adapter_at s x device e there = ap net.adapter_of (device_at s x e) ∙ bus_of_device x.device device there
@@ -174,7 +174,7 @@ module _ (c : Topology) (commands rounds : ℕ) (stays : List StayRow) (caps : �
       let dev = element c.devices x.device within in
       rw (adapter_at s x dev.0 e dev.1, link_of_adapter dev.0.bus, dev.1) refl
 
-  uses-carries : (row s : ℕ) (x : StayRow) → IsConfig c → x.device < length c.devices → row < row_count c → slice_get stays s ≡ Some x → uses net row s ≡ carries c row x.device
+  uses-carries : (row s : ℕ) (x : StayRow) → IsConfig c → x.device < length c.devices → row < resource_count c → slice_get stays s ≡ Some x → uses net row s ≡ carries c row x.device
   uses-carries row s x config inside within e =
       let n : ℕ = length c.devices in
       let m : ℕ = n + length c.adapters in
@@ -184,46 +184,46 @@ module _ (c : Topology) (commands rounds : ℕ) (stays : List StayRow) (caps : �
       elim (nat_lt row n) as (λ b. nat_lt row n ≡ b → uses net row s ≡ cond b (x.device == row) (cond (nat_lt row m) (is_on c (row - n) x.device) (is_under c (row - m) x.device))) [
         | true ↦ λ is.
             let before : row < net.devices = rw devices (ltb-true row n is) in
-            uses-device_row net row s before ∙ ap (λ d. d == row) (device_at s x e)
+            uses-device_resource net row s before ∙ ap (λ d. d == row) (device_at s x e)
         | false ↦ λ other.
             let past : n ≤ row = ltb-false row n other in
             elim (nat_lt row m) as (λ b. nat_lt row m ≡ b → uses net row s ≡ cond b (is_on c (row - n) x.device) (is_under c (row - m) x.device)) [
               | true ↦ λ is.
                   let lt = ltb-true row m is in
-                  let at : row ≡ adapter_row net (row - n) = omega arith in
+                  let at : row ≡ adapter_resource net (row - n) = omega arith in
                   let there : row - n < net.adapters = omega arith in
-                  ap (λ r. uses net r s) at ∙ uses-adapter_row net (row - n) s device there ∙ on_adapter_test (row - n) s x inside e
+                  ap (λ r. uses net r s) at ∙ uses-adapter_resource net (row - n) s device there ∙ on_adapter_test (row - n) s x inside e
               | false ↦ λ other.
                   let beyond : m ≤ row = ltb-false row m other in
-                  let at : row ≡ link_row net (row - m) = omega arith in
-                  ap (λ r. uses net r s) at ∙ uses-link_row net (row - m) s device (on_adapter (net.device s) config device) ∙ under_link_test (row - m) s x inside e
+                  let at : row ≡ link_resource net (row - m) = omega arith in
+                  ap (λ r. uses net r s) at ∙ uses-link_resource net (row - m) s device (on_adapter (net.device s) config device) ∙ under_link_test (row - m) s x inside e
             ] refl
       ] refl
 
-  module _ (config : IsConfig c) (is : IsFilled c rounds stays caps most_price) where
+  module _ (config : IsConfig c) (is : IsFilled c rounds stays caps max_price) where
     fits : (s : ℕ) (x : StayRow) → slice_get stays s ≡ Some x → IsFitting c rounds x
     fits s x e = at_element (IsFitting c rounds) stays s x is.each e
 
     -- no row has more stays in a round than its cap
-    rows_hold : (row r : ℕ) → row < rows net → 1 ≤ r → r ≤ net.rounds → load net (live_of_rows (net_with c commands rounds stays caps most_price)) row r ≤ net.cap row r
+    rows_hold : (row r : ℕ) → row < rows net → 1 ≤ r → r ≤ net.rounds → load net (live_of_rows (net_with c commands rounds stays caps max_price)) row r ≤ net.cap row r
     rows_hold row r within first last =
-        let live : ℕ → ℕ = live_of_rows (net_with c commands rounds stays caps most_price) in
-        let inside : row < row_count c = rw rows_of at within in
+        let live : ℕ → ℕ = live_of_rows (net_with c commands rounds stays caps max_price) in
+        let inside : row < resource_count c = rw rows_of at within in
         let there : count_below (length stays) (λ s. uses net row s && (live s == r)) ≡ count_by (λ (x : StayRow). carries c row x.device && (x.live == r)) stays =
         count_list (λ (x : StayRow). carries c row x.device && (x.live == r)) (λ s. uses net row s && (live s == r)) stays (λ s x e. ap (λ b. b && (live s == r)) (uses-carries row s x config (fits s x e).device inside e) ∙ ap (λ n. carries c row x.device && (n == r)) (live_at s x e)) in
         let held = is.held row r inside first (rw rounds_of at last) in
         rw (cap_of row r inside first (rw rounds_of at last), stays_of) (omega arith)
 
-    pub filled_admissible : IsAdmissible net (live_of_rows (net_with c commands rounds stays caps most_price))
+    pub filled_admissible : IsAdmissible net (live_of_rows (net_with c commands rounds stays caps max_price))
     filled_admissible = record {
-      not_early = λ s lt. let x = stay_of s lt in rw (arrival-row (net_with c commands rounds stays caps most_price) s x.0 x.1, live_at s x.0 x.1) (fits s x.0 x.1).arrived;
-      not_late = λ s lt. let x = stay_of s lt in rw (last-row (net_with c commands rounds stays caps most_price) s x.0 x.1, live_at s x.0 x.1) (fits s x.0 x.1).within;
+      not_early = λ s lt. let x = stay_of s lt in rw (arrival-row (net_with c commands rounds stays caps max_price) s x.0 x.1, live_at s x.0 x.1) (fits s x.0 x.1).arrived;
+      not_late = λ s lt. let x = stay_of s lt in rw (last-row (net_with c commands rounds stays caps max_price) s x.0 x.1, live_at s x.0 x.1) (fits s x.0 x.1).within;
       rows_hold = rows_hold;
     }
 
-    small_caps : (row r : ℕ) → net.cap row r ≤ MOST_CAP
+    small_caps : (row r : ℕ) → net.cap row r ≤ MAX_CAP
     unfolding instance_of_rows
-    small_caps row r = small_at (table (row_count c) rounds caps) (cell rounds row r) MOST_CAP (All-table (λ n. n ≤ MOST_CAP) (row_count c) rounds caps is.some_rounds is.small_cap)
+    small_caps row r = small_at (table (resource_count c) rounds caps) (cell rounds row r) MAX_CAP (All-table (λ n. n ≤ MAX_CAP) (resource_count c) rounds caps is.some_rounds is.small_cap)
 
     -- an adapter that is on a link is on one of the net
     on_link : (a l : ℕ) → net.link_of a ≡ Some l → l < length c.links
@@ -239,23 +239,23 @@ module _ (c : Topology) (commands rounds : ℕ) (stays : List StayRow) (caps : �
     unfolding instance_of_rows
     links_of = refl
 
-    few_rows : rows net ≤ MOST_DEVICES + MOST_ADAPTERS + MOST_LINKS
+    few_rows : rows net ≤ MAX_DEVICES + MAX_ADAPTERS + MAX_LINKS
     few_rows = omega (arith, rows_of, few_devices c config, few_adapters c config, few_links c config)
 
-    price_of : net.most_price ≡ most_price
+    price_of : net.max_price ≡ max_price
     unfolding instance_of_rows
     price_of = refl
 
-    price_room : 4 * longest_way net ≤ net.most_price
-    unfolding longest_way
+    price_room : 4 * longest_path net ≤ net.max_price
+    unfolding longest_path
     price_room =
-        let cells : rows net * (rounds + 1) ≤ (MOST_DEVICES + MOST_ADAPTERS + MOST_LINKS) * (rounds + 1) = mul-le (rows net) (rounds + 1) (MOST_DEVICES + MOST_ADAPTERS + MOST_LINKS) (rounds + 1) few_rows (omega arith) in
-        let way : MOST_WEIGHT * rounds * (rows net * (rounds + 1) + 1) ≤ MOST_WEIGHT * rounds * ((MOST_DEVICES + MOST_ADAPTERS + MOST_LINKS) * (rounds + 1) + 1) =
-        mul-le (MOST_WEIGHT * rounds) (rows net * (rounds + 1) + 1) (MOST_WEIGHT * rounds) ((MOST_DEVICES + MOST_ADAPTERS + MOST_LINKS) * (rounds + 1) + 1) (omega arith) (omega (arith, cells)) in
+        let cells : rows net * (rounds + 1) ≤ (MAX_DEVICES + MAX_ADAPTERS + MAX_LINKS) * (rounds + 1) = mul-le (rows net) (rounds + 1) (MAX_DEVICES + MAX_ADAPTERS + MAX_LINKS) (rounds + 1) few_rows (omega arith) in
+        let path : MAX_WEIGHT * rounds * (rows net * (rounds + 1) + 1) ≤ MAX_WEIGHT * rounds * ((MAX_DEVICES + MAX_ADAPTERS + MAX_LINKS) * (rounds + 1) + 1) =
+        mul-le (MAX_WEIGHT * rounds) (rows net * (rounds + 1) + 1) (MAX_WEIGHT * rounds) ((MAX_DEVICES + MAX_ADAPTERS + MAX_LINKS) * (rounds + 1) + 1) (omega arith) (omega (arith, cells)) in
         let small = is.price_room in
-        rw (rounds_of, price_of) (omega (arith, way, small))
+        rw (rounds_of, price_of) (omega (arith, path, small))
 
-    pub filled_sound : IsSound net (live_of_rows (net_with c commands rounds stays caps most_price))
+    pub filled_sound : IsSound net (live_of_rows (net_with c commands rounds stays caps max_price))
     filled_sound = record {
       some_rounds = rw rounds_of is.some_rounds;
       few_rounds = rw rounds_of is.few_rounds;
@@ -266,21 +266,21 @@ module _ (c : Topology) (commands rounds : ℕ) (stays : List StayRow) (caps : �
       on_device = λ s lt. let x = stay_of s lt in rw (device_at s x.0 x.1, devices_of) (fits s x.0 x.1).device;
       on_adapter = λ d lt. on_adapter d config lt;
       on_link = λ a l on. rw links_of (on_link a l on);
-      from_first = λ s lt. let x = stay_of s lt in rw (arrival-row (net_with c commands rounds stays caps most_price) s x.0 x.1) (fits s x.0 x.1).first;
-      to_last = λ s lt. let x = stay_of s lt in rw (last-row (net_with c commands rounds stays caps most_price) s x.0 x.1, rounds_of) (fits s x.0 x.1).last;
-      some_weight = λ s lt. let x = stay_of s lt in rw (weight-row (net_with c commands rounds stays caps most_price) s x.0 x.1) (fits s x.0 x.1).some_weight;
-      small_weight = λ s lt. let x = stay_of s lt in rw (weight-row (net_with c commands rounds stays caps most_price) s x.0 x.1) (fits s x.0 x.1).small_weight;
+      from_first = λ s lt. let x = stay_of s lt in rw (arrival-row (net_with c commands rounds stays caps max_price) s x.0 x.1) (fits s x.0 x.1).first;
+      to_last = λ s lt. let x = stay_of s lt in rw (last-row (net_with c commands rounds stays caps max_price) s x.0 x.1, rounds_of) (fits s x.0 x.1).last;
+      some_weight = λ s lt. let x = stay_of s lt in rw (weight-row (net_with c commands rounds stays caps max_price) s x.0 x.1) (fits s x.0 x.1).some_weight;
+      small_weight = λ s lt. let x = stay_of s lt in rw (weight-row (net_with c commands rounds stays caps max_price) s x.0 x.1) (fits s x.0 x.1).small_weight;
       small_cap = small_caps;
       small_price = rw price_of is.small_price;
       price_room = price_room;
       live_admissible = filled_admissible;
     }
 
-    pub filled_net : IsNet (net_with c commands rounds stays caps most_price)
-    filled_net = record { cells = length-cells rounds caps (row_count c * rounds) ∙ ap (λ n. n * rounds) (sym rows_of); sound = filled_sound }
+    pub filled_net : IsNet (net_with c commands rounds stays caps max_price)
+    filled_net = record { cells = length-cells rounds caps (resource_count c * rounds) ∙ ap (λ n. n * rounds) (sym rows_of); sound = filled_sound }
 
 -- lists that have each part of it are the net
-pub net_with-parts : (c' c : Topology) (commands' commands rounds' rounds links : ℕ) (adapter_of : List ℕ) (link_of : List (Option ℕ)) (stays' stays : List StayRow) (caps' : List ℕ) (caps : ℕ → ℕ → ℕ) (most_price : ℕ) → c' ≡ c → commands' ≡ commands → rounds' ≡ rounds → links ≡ length c.links →
-    adapter_of ≡ map (λ (device : Device). device.bus) c.devices → link_of ≡ map (λ (adapter : Adapter). adapter.link) c.adapters → stays' ≡ stays → caps' ≡ table (row_count c) rounds caps →
-    ◌≡◌ {A = NetRows} (record { config = c'; commands = commands'; rounds = rounds'; links = links; adapter_of = adapter_of; link_of = link_of; stays = stays'; caps = caps'; most_price = most_price }) (net_with c commands rounds stays caps most_price)
-net_with-parts c' c commands' commands rounds' rounds links adapter_of link_of stays' stays caps' caps most_price k n r l a o s is = rw (k, n, r, l, a, o, s, is) refl
+pub net_with-parts : (c' c : Topology) (commands' commands rounds' rounds links : ℕ) (adapter_of : List ℕ) (link_of : List (Option ℕ)) (stays' stays : List StayRow) (caps' : List ℕ) (caps : ℕ → ℕ → ℕ) (max_price : ℕ) → c' ≡ c → commands' ≡ commands → rounds' ≡ rounds → links ≡ length c.links →
+    adapter_of ≡ map (λ (device : Device). device.bus) c.devices → link_of ≡ map (λ (adapter : Adapter). adapter.link) c.adapters → stays' ≡ stays → caps' ≡ table (resource_count c) rounds caps →
+    ◌≡◌ {A = NetRows} (record { config = c'; commands = commands'; rounds = rounds'; links = links; adapter_of = adapter_of; link_of = link_of; stays = stays'; caps = caps'; max_price = max_price }) (net_with c commands rounds stays caps max_price)
+net_with-parts c' c commands' commands rounds' rounds links adapter_of link_of stays' stays caps' caps max_price k n r l a o s is = rw (k, n, r, l, a, o, s, is) refl

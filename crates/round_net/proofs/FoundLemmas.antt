@@ -3,10 +3,10 @@ use Rattle.std.proofs.Common.{◌≡◌, ℕ, ◌+◌, ◌-◌, ◌<◌, ◌≤�
 use Rattle.std.specs.Option.{option_map, option_map_or}
 use Rattle.round_net.specs.Words.{commands, Topology, Adapter, Device, is_send_of, round, stays_begun, is_unsent, send_place, live_round, Event, Passage, next_stay, record_of, records}
 use Rattle.round_net.specs.Rows.{NetRows, cell, StayRow}
-use Rattle.round_net.specs.Caps.{row_count, is_free, openings_in, sends_in, cap}
+use Rattle.round_net.specs.Caps.{resource_count, is_free, openings_in, sends_in, cap}
 use Rattle.round_net.specs.Nets.{last_round, stay_row, row_of, table, net_of}
 use Rattle.round_net.specs.Marks.{AreCaps, IsNoted, HasCells}
-use Rattle.round_net.specs.declared.price_range.TheConstants.{MOST_PRICE}
+use Rattle.round_net.specs.declared.price_range.TheConstants.{MAX_PRICE}
 use Rattle.round_net.proofs.FilledLemmas.{net_with-parts}
 use Rattle.round_net.proofs.CellLemmas.{cell_within}
 use Rattle.xpt_core.proofs.SentLemmas.{first_past, unsent_none}
@@ -49,17 +49,17 @@ flipped true x y = refl
 flipped false x y = refl
 
 pub caps_found : (c : Topology) (es : List Event) (rounds : ℕ) (frozen : List Bool) (openings sends caps : List ℕ) → 1 ≤ rounds → IsNoted c es rounds frozen openings sends → HasCells c rounds frozen openings sends → AreCaps frozen sends openings caps →
-    caps ≡ table (row_count c) rounds (cap c es)
+    caps ≡ table (resource_count c) rounds (cap c es)
 unfolding cap
 caps_found c es rounds frozen openings sends caps some noted cells are =
-    table_by_cells (row_count c) rounds (cap c es) caps some (are.0 ∙ cells.marked) (λ row r within first last.
-    let lt : cell rounds row r < length frozen = rw cells.marked (cell_within rounds (row_count c) row r within first last) in
+    table_by_cells (resource_count c) rounds (cap c es) caps some (are.0 ∙ cells.marked) (λ row r within first last.
+    let lt : cell rounds row r < length frozen = rw cells.marked (cell_within rounds (resource_count c) row r within first last) in
     are.1 (cell rounds row r) lt ∙ rw (noted.marked row r within first last, noted.sent row r within first last, noted.opened row r within first last) (flipped (is_free c es row r) (sends_in c es row r) (openings_in c es row r)))
 
 -- all parts of the net
 pub net_found : (c' c : Topology) (es : List Event) (commands' rounds links : ℕ) (adapter_of : List ℕ) (link_of : List (Option ℕ)) (rows : List StayRow) (caps : List ℕ) →
     c' ≡ c → commands' ≡ commands es → rounds ≡ round es → links ≡ length c.links → adapter_of ≡ map (λ (device : Device). device.bus) c.devices → link_of ≡ map (λ (adapter : Adapter). adapter.link) c.adapters → rows ≡ map (row_of c rounds) (records es) →
-    caps ≡ table (row_count c) (round es) (cap c es) → ◌≡◌ {A = NetRows} (record { config = c'; commands = commands'; rounds = rounds; links = links; adapter_of = adapter_of; link_of = link_of; stays = rows; caps = caps; most_price = MOST_PRICE }) (net_of c es)
+    caps ≡ table (resource_count c) (round es) (cap c es) → ◌≡◌ {A = NetRows} (record { config = c'; commands = commands'; rounds = rounds; links = links; adapter_of = adapter_of; link_of = link_of; stays = rows; caps = caps; max_price = MAX_PRICE }) (net_of c es)
 unfolding net_of
 net_found c' c es commands' rounds links adapter_of link_of rows caps k n r l a o s are =
-    net_with-parts c' c commands' (commands es) rounds (round es) links adapter_of link_of rows (map (stay_row c es) (stays_begun es)) caps (cap c es) MOST_PRICE k n r l a o (s ∙ ap (λ n. map (row_of c n) (records es)) r ∙ rows_of_records c es) are
+    net_with-parts c' c commands' (commands es) rounds (round es) links adapter_of link_of rows (map (stay_row c es) (stays_begun es)) caps (cap c es) MAX_PRICE k n r l a o (s ∙ ap (λ n. map (row_of c n) (records es)) r ∙ rows_of_records c es) are

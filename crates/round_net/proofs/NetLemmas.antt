@@ -5,15 +5,15 @@ use Rattle.std.proofs.lemmas.Bool.{and_parts, eqb-true, ltb-true}
 use Rattle.std.proofs.lemmas.List.{length-map}
 use Rattle.std.proofs.lemmas.List.Elements.{All-nil, All-cons, All-map}
 use Rattle.std.proofs.lemmas.List.Sums.{AllPass-from_list_all}
-use Rattle.cam_types.specs.declared.maxima.TheConstants.{MOST_ROUNDS, MOST_STAYS}
-use Rattle.round_net.specs.declared.price_range.TheConstants.{MOST_PRICE}
-use Rattle.round_net.specs.Words.{Topology, IsConfig, commands, MOST_OPENINGS, is_some_and, round, submission, stays_begun, is_unsent, unsent, name_of, names_device, Event, Submission, Passage, history_rules, is_legal, is_in_range, is_stay_of, is_stay_in_range}
+use Rattle.cam_types.specs.declared.limits.TheConstants.{MAX_ROUNDS, MAX_STAYS}
+use Rattle.round_net.specs.declared.price_range.TheConstants.{MAX_PRICE}
+use Rattle.round_net.specs.Words.{Topology, IsConfig, commands, MAX_OPENINGS, is_some_and, round, submission, stays_begun, is_unsent, unsent, name_of, names_device, Event, Submission, Passage, history_rules, is_legal, is_in_range, is_stay_of, is_stay_in_range}
 use Rattle.event_rules.proofs.RangeLemmas.{stays_in_range}
 use Rattle.event_rules.proofs.LimitLemmas.{round_first, round_most, stays_most}
 use Rattle.round_net.specs.Schedules.{IsAdmissible}
 use Rattle.round_net.specs.Rows.{cell, instance_of_rows, StayRow}
 use Rattle.round_net.specs.Sound.{IsNet, IsWithinHistory}
-use Rattle.round_net.specs.Caps.{row_count, carries, sends_in, cap}
+use Rattle.round_net.specs.Caps.{resource_count, carries, sends_in, cap}
 use Rattle.round_net.specs.Nets.{stay_row, table, net_of, instance_of, live_of}
 use Rattle.cam_types.proofs.ConfigLemmas.{weight_small}
 use Rattle.round_net.proofs.FilledLemmas.{at_element, small_at, IsFitting, IsFilled, room_for, filled_admissible, filled_net}
@@ -80,7 +80,7 @@ held c es legal complete row r =
     let capped : sends_in c es row r ≤ cap c es row r = sends_in-cap history_rules c es row r legal in
     omega arith
 
-history_filled : (c : Topology) (es : List Event) → IsConfig c → is_legal history_rules c es ≡ true → unsent es ≡ None → IsFilled c (round es) (map (stay_row c es) (stays_begun es)) (cap c es) MOST_PRICE
+history_filled : (c : Topology) (es : List Event) → IsConfig c → is_legal history_rules c es ≡ true → unsent es ≡ None → IsFilled c (round es) (map (stay_row c es) (stays_begun es)) (cap c es) MAX_PRICE
 history_filled c es config legal complete = record {
   some_rounds = round_first es;
   few_rounds = omega (arith, round_most c es legal);
@@ -88,28 +88,28 @@ history_filled c es config legal complete = record {
   each = All-map (IsFitting c (round es)) (stay_row c es) (stays_begun es) (fits c es config legal complete);
   small_cap = λ row r within first last. omega (arith, small_cap history_rules c es row r config legal);
   small_price = omega arith;
-  price_room = room_for (round es) MOST_ROUNDS MOST_PRICE (round_most c es legal) (omega arith);
+  price_room = room_for (round es) MAX_ROUNDS MAX_PRICE (round_most c es legal) (omega arith);
   held = λ row r within first last. held c es legal complete row r;
 }
 
 -- the live schedule of a complete history is admissible
 pub live_admissible : (c : Topology) (es : List Event) → IsConfig c → is_legal history_rules c es ≡ true → unsent es ≡ None → IsAdmissible (instance_of c es) (live_of c es)
 unfolding net_of
-live_admissible c es config legal complete = filled_admissible c (commands es) (round es) (map (stay_row c es) (stays_begun es)) (cap c es) MOST_PRICE config (history_filled c es config legal complete)
+live_admissible c es config legal complete = filled_admissible c (commands es) (round es) (map (stay_row c es) (stays_begun es)) (cap c es) MAX_PRICE config (history_filled c es config legal complete)
 
 pub net_is_net : (c : Topology) (es : List Event) → IsConfig c → is_legal history_rules c es ≡ true → unsent es ≡ None → IsNet (net_of c es)
 unfolding net_of
-net_is_net c es config legal complete = filled_net c (commands es) (round es) (map (stay_row c es) (stays_begun es)) (cap c es) MOST_PRICE config (history_filled c es config legal complete)
+net_is_net c es config legal complete = filled_net c (commands es) (round es) (map (stay_row c es) (stays_begun es)) (cap c es) MAX_PRICE config (history_filled c es config legal complete)
 
 -- it is within the limits of histories
-pub history_size : (c : Topology) (es : List Event) → is_legal history_rules c es ≡ true → ((instance_of c es).rounds ≤ MOST_ROUNDS) × ((instance_of c es).stays ≤ MOST_STAYS)
+pub history_size : (c : Topology) (es : List Event) → is_legal history_rules c es ≡ true → ((instance_of c es).rounds ≤ MAX_ROUNDS) × ((instance_of c es).stays ≤ MAX_STAYS)
 unfolding instance_of_rows net_of
 history_size c es legal = (round_most c es legal, omega (arith, length-map (stays_begun es) (stay_row c es), stays_most c es legal))
 
-small_caps : (c : Topology) (es : List Event) → IsConfig c → is_legal history_rules c es ≡ true → (row r : ℕ) → (instance_of c es).cap row r ≤ MOST_OPENINGS
+small_caps : (c : Topology) (es : List Event) → IsConfig c → is_legal history_rules c es ≡ true → (row r : ℕ) → (instance_of c es).cap row r ≤ MAX_OPENINGS
 unfolding instance_of_rows net_of
 small_caps c es config legal row r =
-    small_at (table (row_count c) (round es) (cap c es)) (cell (round es) row r) MOST_OPENINGS (All-table (λ n. n ≤ MOST_OPENINGS) (row_count c) (round es) (cap c es) (round_first es) (λ other q within first last. small_cap history_rules c es other q config legal))
+    small_at (table (resource_count c) (round es) (cap c es)) (cell (round es) row r) MAX_OPENINGS (All-table (λ n. n ≤ MAX_OPENINGS) (resource_count c) (round es) (cap c es) (round_first es) (λ other q within first last. small_cap history_rules c es other q config legal))
 
 pub within_history : (c : Topology) (es : List Event) → IsConfig c → is_legal history_rules c es ≡ true → IsWithinHistory (instance_of c es)
 unfolding instance_of_rows net_of

@@ -6,7 +6,7 @@ use Rattle.round_net.specs.Words.{Topology, Device, round, submission, sendings,
 use Rattle.event_rules.proofs.SendLemmas.{IsSend, send_from_next}
 use Rattle.event_rules.proofs.LawLemmas.{allowed-legal_event}
 use Rattle.event_rules.proofs.LimitLemmas.{legal-induction}
-use Rattle.round_net.specs.Caps.{places, row_openings, carries, is_free, openings_in, sends_in, cap}
+use Rattle.round_net.specs.Caps.{places, resource_openings, carries, is_free, openings_in, sends_in, cap}
 use Rattle.round_net.proofs.PlaceLemmas.{places-push, openings_in-now}
 use Rattle.round_net.proofs.LoadLemmas.{goes, goes-send, goes-other, submission-named}
 use Rattle.event_rules.proofs.StandLemmas.{asks-send}
@@ -24,9 +24,9 @@ device_of-submission es ccb s found = ap (λ o. option_map_or (λ (t : Submissio
 openings_in-grows : (c : Topology) (es : List Event) (e : Event) (row r : ℕ) → openings_in c es row r ≤ openings_in c (es ++ e ∷ []) row r
 unfolding openings_in
 openings_in-grows c es e row r =
-    let more : openings_in c (es ++ e ∷ []) row r ≡ option_map_or (λ before. row_openings c before row) (slice_get (places es r ++ cond (round (es ++ e ∷ []) == r) ((es ++ e ∷ []) ∷ []) []) 0) 0 =
-    ap (λ ps. option_map_or (λ before. row_openings c before row) (slice_get ps 0) 0) (places-push es e r) in
-    rw more (first_grows (λ before. row_openings c before row) (places es r) (cond (round (es ++ e ∷ []) == r) ((es ++ e ∷ []) ∷ []) []))
+    let more : openings_in c (es ++ e ∷ []) row r ≡ option_map_or (λ before. resource_openings c before row) (slice_get (places es r ++ cond (round (es ++ e ∷ []) == r) ((es ++ e ∷ []) ∷ []) []) 0) 0 =
+    ap (λ ps. option_map_or (λ before. resource_openings c before row) (slice_get ps 0) 0) (places-push es e r) in
+    rw more (first_grows (λ before. resource_openings c before row) (places es r) (cond (round (es ++ e ∷ []) == r) ((es ++ e ∷ []) ∷ []) []))
   where
     first_grows : (value : List Event → ℕ) (ps qs : List (List Event)) → option_map_or value (slice_get ps 0) 0 ≤ option_map_or value (slice_get (ps ++ qs) 0) 0
     first_grows value [] qs = omega arith
@@ -66,8 +66,8 @@ link_left c es a l is h =
     ltb-true (count_by (goes_now_over_link c es l) (sendings es)) (link_openings c l) left
 
 -- so each row that it uses has one
-opening_left : (c : Topology) (es : List Event) (lane ccb row : ℕ) (s : Submission) → IsSend c es lane ccb → submission es ccb ≡ Some s → carries c row s.device ≡ true → count_by (goes (carries c row) (round es)) (sendings es) < row_openings c es row
-unfolding row_openings
+opening_left : (c : Topology) (es : List Event) (lane ccb row : ℕ) (s : Submission) → IsSend c es lane ccb → submission es ccb ≡ Some s → carries c row s.device ≡ true → count_by (goes (carries c row) (round es)) (sendings es) < resource_openings c es row
+unfolding resource_openings
 opening_left c es lane ccb row s send found uses =
     let of_ccb = device_of-submission es ccb s found in
     let own : is_on c (lane_adapter c lane) s.device ≡ true = rw of_ccb at send.sendable.on in

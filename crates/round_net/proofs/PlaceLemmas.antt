@@ -8,13 +8,13 @@ use Rattle.std.proofs.lemmas.List.Sums.{sum_by-take-le}
 use Rattle.std.proofs.lemmas.List.Elements.{filter-append}
 use Rattle.std.proofs.lemmas.List.Folds.{list_all-append}
 use Rattle.std.proofs.Math.Bool.{and-false}
-use Rattle.round_net.specs.Words.{moments, Topology, is_tick, is_adjust_of, adjusts_to, round, submission, sending_of, sendings, last, device_openings, adapter_openings, link_openings, openings, Event, Send, Submission, Sending}
-use Rattle.cam_types.proofs.ListLemmas.{moments-push}
+use Rattle.round_net.specs.Words.{prefixed, Topology, is_tick, is_adjust_of, adjusts_to, round, submission, sending_of, sendings, last, device_openings, adapter_openings, link_openings, openings, Event, Send, Submission, Sending}
+use Rattle.cam_types.proofs.ListLemmas.{prefixed-push}
 use Rattle.event_rules.proofs.PushLaws.{round-push, sendings-push}
 use Rattle.round_net.proofs.CountLemmas.{count_by-append}
 use Rattle.event_rules.proofs.OpeningLaws.{before_last-push}
 use Rattle.round_net.specs.Rows.{cell}
-use Rattle.round_net.specs.Caps.{fronts, places, row_count, by_row, row_freezes, row_openings, carries, is_free, openings_in, sends_in}
+use Rattle.round_net.specs.Caps.{fronts, places, resource_count, by_row, resource_freezes, resource_openings, carries, is_free, openings_in, sends_in}
 use Rattle.round_net.specs.Marks.{Marks, Sets, IsNoted}
 
 -- what one element more keeps holds of all lists
@@ -26,7 +26,7 @@ pub push-induction : {X : Type 0} (P : List X → Type 0) → P [] → ((xs : Li
 push-induction P none step xs = append-induction P step [] xs none
 
 fronts-push : (es : List Event) (e : Event) → fronts (es ++ e ∷ []) ≡ fronts es ++ (es ++ e ∷ []) ∷ []
-fronts-push es e = rw (moments-push es e) (rw (map-append (λ (m : List Event × Event). m.0) (moments es) ((es, e) ∷ [])) refl)
+fronts-push es e = rw (prefixed-push es e) (rw (map-append (λ (m : List Event × Event). m.0) (prefixed es) ((es, e) ∷ [])) refl)
 
 pub places-push : (es : List Event) (e : Event) (r : ℕ) → places (es ++ e ∷ []) r ≡ places es r ++ cond (round (es ++ e ∷ []) == r) ((es ++ e ∷ []) ∷ []) []
 places-push es e r = ap (filter (λ before. round before == r)) (fronts-push es e) ∙ filter-append (λ before. round before == r) (fronts es) ((es ++ e ∷ []) ∷ [])
@@ -60,21 +60,21 @@ unfolding openings
 openings-push c es e d still = ap (λ xs. option_map_or adjusts_to (last (is_adjust_of d) xs) (device_openings c d)) (before_last-push is_tick es e ∙ ap (λ b. cond b es (before_last is_tick es)) still)
 
 -- so do a row's
-row_openings-push : (c : Topology) (es : List Event) (e : Event) (row : ℕ) → is_tick e ≡ false → row_openings c (es ++ e ∷ []) row ≡ row_openings c es row
-unfolding row_openings
-row_openings-push c es e row still = ap (λ n. by_row c (λ d. n) (adapter_openings c) (link_openings c) row) (openings-push c es e row still)
+resource_openings-push : (c : Topology) (es : List Event) (e : Event) (row : ℕ) → is_tick e ≡ false → resource_openings c (es ++ e ∷ []) row ≡ resource_openings c es row
+unfolding resource_openings
+resource_openings-push c es e row still = ap (λ n. by_row c (λ d. n) (adapter_openings c) (link_openings c) row) (openings-push c es e row still)
 
 abbrev first_openings : Topology → ℕ → List (List Event) → ℕ
-first_openings c row ps = option_map_or (λ before. row_openings c before row) (slice_get ps 0) 0
+first_openings c row ps = option_map_or (λ before. resource_openings c before row) (slice_get ps 0) 0
 
 -- a place that opens a round has the round's openings
-pub openings_in-opened : (c : Topology) (es : List Event) (e : Event) (row r : ℕ) → is_tick e ≡ true → openings_in c (es ++ e ∷ []) row r ≡ (if r == round (es ++ e ∷ []) then row_openings c (es ++ e ∷ []) row else openings_in c es row r)
+pub openings_in-opened : (c : Topology) (es : List Event) (e : Event) (row r : ℕ) → is_tick e ≡ true → openings_in c (es ++ e ∷ []) row r ≡ (if r == round (es ++ e ∷ []) then resource_openings c (es ++ e ∷ []) row else openings_in c es row r)
 unfolding openings_in
 openings_in-opened c es e row r ticks =
     let now : ℕ = round (es ++ e ∷ []) in
     let later : round es < now = omega (arith, round-push es e, ap {B = ℕ} (λ b. cond b 1 0) ticks) in
     ap (first_openings c row) (places-push es e r) ∙
-    elim (r == now) as (λ b. (r == now) ≡ b → first_openings c row (places es r ++ cond (now == r) ((es ++ e ∷ []) ∷ []) []) ≡ (if b then row_openings c (es ++ e ∷ []) row else first_openings c row (places es r))) [
+    elim (r == now) as (λ b. (r == now) ≡ b → first_openings c row (places es r ++ cond (now == r) ((es ++ e ∷ []) ∷ []) []) ≡ (if b then resource_openings c (es ++ e ∷ []) row else first_openings c row (places es r))) [
       | true ↦ λ at.
           let same : r ≡ now = eqb-true r now at in
           rw (eq-eqb now r (sym same), places-later es r (omega arith)) refl
@@ -93,19 +93,19 @@ openings_in-kept c es e row r still =
       | true ↦ λ at.
           let is : round es ≡ r = sym same ∙ eqb-true now r at in
           let some : 0 < length (places es r) = rw (← is) (places-now es) in
-          ap (λ o. option_map_or (λ before. row_openings c before row) o 0) (first-append (places es r) ((es ++ e ∷ []) ∷ []) some)
+          ap (λ o. option_map_or (λ before. resource_openings c before row) o 0) (first-append (places es r) ((es ++ e ∷ []) ∷ []) some)
       | false ↦ λ ne. rw (append-nil (places es r)) refl
     ] refl
 
 -- at each place the round's openings are the place's
-pub openings_in-now : (c : Topology) (row : ℕ) (es : List Event) → openings_in c es row (round es) ≡ row_openings c es row
+pub openings_in-now : (c : Topology) (row : ℕ) (es : List Event) → openings_in c es row (round es) ≡ resource_openings c es row
 unfolding openings_in
-openings_in-now c row es = push-induction (λ xs. openings_in c xs row (round xs) ≡ row_openings c xs row) (rw (eq-eqb (round []) (round []) refl) refl)
-    (λ xs x h. elim (is_tick x) as (λ b. is_tick x ≡ b → openings_in c (xs ++ x ∷ []) row (round (xs ++ x ∷ [])) ≡ row_openings c (xs ++ x ∷ []) row) [
+openings_in-now c row es = push-induction (λ xs. openings_in c xs row (round xs) ≡ resource_openings c xs row) (rw (eq-eqb (round []) (round []) refl) refl)
+    (λ xs x h. elim (is_tick x) as (λ b. is_tick x ≡ b → openings_in c (xs ++ x ∷ []) row (round (xs ++ x ∷ [])) ≡ resource_openings c (xs ++ x ∷ []) row) [
       | true ↦ λ ticks. openings_in-opened c xs x row (round (xs ++ x ∷ [])) ticks ∙ rw (eq-eqb (round (xs ++ x ∷ [])) (round (xs ++ x ∷ [])) refl) refl
       | false ↦ λ still.
           let same : round (xs ++ x ∷ []) ≡ round xs = omega (arith, round-push xs x, ap {B = ℕ} (λ b. cond b 1 0) still) in
-          openings_in-kept c xs x row (round (xs ++ x ∷ [])) still ∙ ap (openings_in c xs row) same ∙ h ∙ sym (row_openings-push c xs x row still)
+          openings_in-kept c xs x row (round (xs ++ x ∷ [])) still ∙ ap (openings_in c xs row) same ∙ h ∙ sym (resource_openings-push c xs x row still)
     ] refl) es
 
 one_more : {X : Type 0} (test : X → Bool) (x : X) (b : Bool) → list_all test (cond b (x ∷ []) []) ≡ (not b || test x)
@@ -115,9 +115,9 @@ one_more test x false = refl
 all_and_one : {X : Type 0} (test : X → Bool) (xs : List X) (x : X) (b : Bool) → list_all test (xs ++ cond b (x ∷ []) []) ≡ (list_all test xs && (not b || test x))
 all_and_one test xs x b = list_all-append test xs (cond b (x ∷ []) []) ∙ ap (λ t. list_all test xs && t) (one_more test x b)
 
-is_free-push : (c : Topology) (es : List Event) (e : Event) (row r : ℕ) → is_free c (es ++ e ∷ []) row r ≡ (is_free c es row r && (not (round (es ++ e ∷ []) == r) || (row_freezes c (es ++ e ∷ []) row == 0)))
+is_free-push : (c : Topology) (es : List Event) (e : Event) (row r : ℕ) → is_free c (es ++ e ∷ []) row r ≡ (is_free c es row r && (not (round (es ++ e ∷ []) == r) || (resource_freezes c (es ++ e ∷ []) row == 0)))
 unfolding is_free
-is_free-push c es e row r = ap (list_all (λ before. row_freezes c before row == 0)) (places-push es e r) ∙ all_and_one (λ before. row_freezes c before row == 0) (places es r) (es ++ e ∷ []) (round (es ++ e ∷ []) == r)
+is_free-push c es e row r = ap (list_all (λ before. resource_freezes c before row == 0)) (places-push es e r) ∙ all_and_one (λ before. resource_freezes c before row == 0) (places es r) (es ++ e ∷ []) (round (es ++ e ∷ []) == r)
 
 -- what is noted of the places so far and of one more
 eqb-sym : (a b : ℕ) → (a == b) ≡ (b == a)
@@ -163,15 +163,15 @@ sent-step test es e r old new was is =
     ] refl
 
 pub noted-step : (c : Topology) (es : List Event) (e : Event) (rounds : ℕ) (frozen frozen' : List Bool) (openings openings' sends sends' : List ℕ) (opens : Bool) → IsNoted c es rounds frozen openings sends → opens ≡ is_tick e →
-    Marks (row_count c) rounds frozen frozen' (round (es ++ e ∷ [])) (λ row. not (row_freezes c (es ++ e ∷ []) row == 0)) →
-    (opens ≡ true → Sets (row_count c) rounds openings openings' (round (es ++ e ∷ [])) (row_openings c (es ++ e ∷ []))) → (opens ≡ false → openings' ≡ openings) →
-    Sets (row_count c) rounds sends sends' (round (es ++ e ∷ [])) (λ row. sends_in c (es ++ e ∷ []) row (round (es ++ e ∷ []))) →
+    Marks (resource_count c) rounds frozen frozen' (round (es ++ e ∷ [])) (λ row. not (resource_freezes c (es ++ e ∷ []) row == 0)) →
+    (opens ≡ true → Sets (resource_count c) rounds openings openings' (round (es ++ e ∷ [])) (resource_openings c (es ++ e ∷ []))) → (opens ≡ false → openings' ≡ openings) →
+    Sets (resource_count c) rounds sends sends' (round (es ++ e ∷ [])) (λ row. sends_in c (es ++ e ∷ []) row (round (es ++ e ∷ []))) →
     IsNoted c (es ++ e ∷ []) rounds frozen' openings' sends'
 unfolding sends_in
 noted-step c es e rounds frozen frozen' openings openings' sends sends' opens is opens_is marked opened kept sent = record {
   marked = λ row r within first last.
       marked row r within first last
-      ∙ rw (is.marked row r within first last, eqb-sym r (round (es ++ e ∷ [])), is_free-push c es e row r) (still_marked (is_free c es row r) (round (es ++ e ∷ []) == r) (row_freezes c (es ++ e ∷ []) row == 0));
+      ∙ rw (is.marked row r within first last, eqb-sym r (round (es ++ e ∷ [])), is_free-push c es e row r) (still_marked (is_free c es row r) (round (es ++ e ∷ []) == r) (resource_freezes c (es ++ e ∷ []) row == 0));
   opened = λ row r within first last.
       elim (is_tick e) as (λ b. is_tick e ≡ b → slice_index openings' (cell rounds row r) ≡ openings_in c (es ++ e ∷ []) row r) [
         | true ↦ λ ticks. opened (opens_is ∙ ticks) row r within first last ∙ rw (is.opened row r within first last) (sym (openings_in-opened c es e row r ticks))
@@ -195,11 +195,11 @@ none_yet test r old new was is = is ∙ elim (r == round []) as (λ b. (if b the
 
 pub noted-first : (c : Topology) (rounds : ℕ) (frozen frozen' : List Bool) (openings openings' sends sends' : List ℕ) →
     ((i : ℕ) → slice_index_or frozen i false ≡ false) → ((i : ℕ) → slice_index openings i ≡ 0) → ((i : ℕ) → slice_index sends i ≡ 0) →
-    Marks (row_count c) rounds frozen frozen' (round []) (λ row. not (row_freezes c [] row == 0)) → Sets (row_count c) rounds openings openings' (round []) (row_openings c []) → Sets (row_count c) rounds sends sends' (round []) (λ row. sends_in c [] row (round [])) →
+    Marks (resource_count c) rounds frozen frozen' (round []) (λ row. not (resource_freezes c [] row == 0)) → Sets (resource_count c) rounds openings openings' (round []) (resource_openings c []) → Sets (resource_count c) rounds sends sends' (round []) (λ row. sends_in c [] row (round [])) →
     IsNoted c [] rounds frozen' openings' sends'
 unfolding is_free openings_in sends_in
 noted-first c rounds frozen frozen' openings openings' sends sends' no_mark no_opening no_send marked opened sent = record {
-  marked = λ row r within first last. marked row r within first last ∙ rw (no_mark (cell rounds row r), eqb-sym r (round [])) (free_first (λ before. row_freezes c before row == 0) (round [] == r));
-  opened = λ row r within first last. opened row r within first last ∙ rw (no_opening (cell rounds row r), eqb-sym r (round [])) (open_first (λ before. row_openings c before row) (round [] == r));
+  marked = λ row r within first last. marked row r within first last ∙ rw (no_mark (cell rounds row r), eqb-sym r (round [])) (free_first (λ before. resource_freezes c before row == 0) (round [] == r));
+  opened = λ row r within first last. opened row r within first last ∙ rw (no_opening (cell rounds row r), eqb-sym r (round [])) (open_first (λ before. resource_openings c before row) (round [] == r));
   sent = λ row r within first last. none_yet (λ (s : Sending). carries c row s.device) r (slice_index sends (cell rounds row r)) (slice_index sends' (cell rounds row r)) (no_send (cell rounds row r)) (sent row r within first last);
 }

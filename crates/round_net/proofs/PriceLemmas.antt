@@ -26,4 +26,4 @@ prices-set p row r price is within first last other q q1 qn =
     ] refl
 
 pub set_rows : (old new : PriceRows) (row r price : ℕ) → IsPriced old → row < old.devices + old.adapters + old.links → 1 ≤ r → r ≤ old.rounds → new ≡ record old { prices = slice_set old.prices (cell old.rounds row r) price } → SetsPrice old new row r price
-set_rows old new row r price is within first last e = rw e (record { size = record { rounds = refl; devices = refl; adapters = refl; links = refl; most_price = refl }; prices = prices-set old row r price is within first last })
+set_rows old new row r price is within first last e = rw e (record { size = record { rounds = refl; devices = refl; adapters = refl; links = refl; max_price = refl }; prices = prices-set old row r price is within first last })

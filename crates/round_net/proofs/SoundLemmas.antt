@@ -1,9 +1,9 @@
 -- what a sound net gives
 use Rattle.std.proofs.Common.{◌≡◌, ℕ, ◌+◌, ◌*◌, ◌<◌, ◌≤◌, refl, arith, Option, Some, None, IfSome}
 use Rattle.std.proofs.lemmas.Nat.{mul-le}
-use Rattle.cam_types.specs.declared.maxima.TheConstants.{MOST_WEIGHT}
+use Rattle.cam_types.specs.declared.limits.TheConstants.{MAX_WEIGHT}
 use Rattle.round_net.specs.Instance.{Instance, rows}
-use Rattle.round_net.specs.Sound.{IsSound, longest_way}
+use Rattle.round_net.specs.Sound.{IsSound, longest_path}
 
 -- no window is empty
 pub window : (net : Instance) (live : ℕ → ℕ) → IsSound net live → (s : ℕ) → s < net.stays → net.arrival s ≤ net.last s
@@ -18,8 +18,8 @@ within_links None links h = tt
 within_links (Some l) links h = h l refl
 
 -- a price may be more than 0
-pub some_price : (net : Instance) (live : ℕ → ℕ) → IsSound net live → 1 ≤ net.rounds → 1 ≤ net.most_price
-unfolding longest_way
+pub some_price : (net : Instance) (live : ℕ → ℕ) → IsSound net live → 1 ≤ net.rounds → 1 ≤ net.max_price
+unfolding longest_path
 some_price net live sound some =
-    let way : 1 * 1 ≤ MOST_WEIGHT * net.rounds * (rows net * (net.rounds + 1) + 1) = mul-le 1 1 (MOST_WEIGHT * net.rounds) (rows net * (net.rounds + 1) + 1) (omega arith) (omega arith) in
-    omega (arith, way, sound.price_room)
+    let path : 1 * 1 ≤ MAX_WEIGHT * net.rounds * (rows net * (net.rounds + 1) + 1) = mul-le 1 1 (MAX_WEIGHT * net.rounds) (rows net * (net.rounds + 1) + 1) (omega arith) (omega arith) in
+    omega (arith, path, sound.price_room)

@@ -2,27 +2,27 @@
 use Rattle.std.specs.Prelude.{◌≡◌, ℕ, ◌+◌, ◌-◌, ◌<◌, ◌==◌, Bool, ◌&&◌, if◌then◌else◌, nat_lt, List, [], ◌∷◌, ◌++◌, length, map, filter, count_by, slice_get}
 use Rattle.std.specs.List.{list_all}
 use Rattle.std.specs.Option.{option_map_or}
-use Rattle.round_net.specs.Words.{moments, Topology, round, sendings, freeze_count, adapter_freezes, is_on, is_under, adapter_openings, link_openings, openings, Event, Sending}
-use Rattle.round_net.specs.declared.row_state.Owner.{Owner}
-use Rattle.round_net.specs.declared.row_state.Owner.TheVariants.{Device, Adapter, Link}
+use Rattle.round_net.specs.Words.{prefixed, Topology, round, sendings, freeze_count, adapter_freezes, is_on, is_under, adapter_openings, link_openings, openings, Event, Sending}
+use Rattle.round_net.specs.declared.resource_state.Resource.{Resource}
+use Rattle.round_net.specs.declared.resource_state.Resource.TheVariants.{Device, Adapter, Link}
 
 -- the places of a history, from the first to the last, each by the events before it
 abbrev pub fronts : List Event → List (List Event)
-fronts events = map (λ (m : List Event × Event). m.0) (moments events) ++ events ∷ []
+fronts events = map (λ (m : List Event × Event). m.0) (prefixed events) ++ events ∷ []
 
 -- the places of a round
 abbrev pub places : List Event → ℕ → List (List Event)
 places events r = filter (λ before. round before == r) (fronts events)
 
 -- how many rows there are: one for each device, after these one for each adapter, and after these one for each link
-abbrev pub row_count : Topology → ℕ
-row_count c = length c.devices + length c.adapters + length c.links
+abbrev pub resource_count : Topology → ℕ
+resource_count c = length c.devices + length c.adapters + length c.links
 
 -- it is the row of this device, of this adapter, or of this link
-abbrev pub IsRowOf : Topology → ℕ → Owner → Type 0
-IsRowOf c row (Device d) = (row ≡ d) × (d < length c.devices)
-IsRowOf c row (Adapter a) = (row ≡ length c.devices + a) × (a < length c.adapters)
-IsRowOf c row (Link l) = (row ≡ length c.devices + length c.adapters + l) × (l < length c.links)
+abbrev pub IsResourceOf : Topology → ℕ → Resource → Type 0
+IsResourceOf c row (Device d) = (row ≡ d) × (d < length c.devices)
+IsResourceOf c row (Adapter a) = (row ≡ length c.devices + a) × (a < length c.adapters)
+IsResourceOf c row (Link l) = (row ≡ length c.devices + length c.adapters + l) × (l < length c.links)
 
 -- what a row's device has, or its adapter, or its link
 abbrev pub by_row : {A : Type 0} → Topology → (ℕ → A) → (ℕ → A) → (ℕ → A) → ℕ → A
@@ -32,11 +32,11 @@ by_row c of_device of_adapter of_link row =
     else of_link (row - (length c.devices + length c.adapters)))
 
 -- its freezes, which a link has none of, and its openings at a place
-unfoldable pub row_freezes : Topology → List Event → ℕ → ℕ
-row_freezes c before row = by_row c (freeze_count before) (adapter_freezes before) (λ l. 0) row
+unfoldable pub resource_freezes : Topology → List Event → ℕ → ℕ
+resource_freezes c before row = by_row c (freeze_count before) (adapter_freezes before) (λ l. 0) row
 
-unfoldable pub row_openings : Topology → List Event → ℕ → ℕ
-row_openings c before row = by_row c (openings c before) (adapter_openings c) (link_openings c) row
+unfoldable pub resource_openings : Topology → List Event → ℕ → ℕ
+resource_openings c before row = by_row c (openings c before) (adapter_openings c) (link_openings c) row
 
 -- whether a command to a device uses an opening of the row: that of the device itself, of its adapter, or of the adapter's
 -- link
@@ -45,11 +45,11 @@ carries c row device = by_row c (λ d. device == d) (λ a. is_on c a device) (λ
 
 -- no freeze of the row stands at any place of the round
 unfoldable pub is_free : Topology → List Event → ℕ → ℕ → Bool
-is_free c events row r = list_all (λ before. row_freezes c before row == 0) (places events r)
+is_free c events row r = list_all (λ before. resource_freezes c before row == 0) (places events r)
 
 -- the row's openings in the round, which are the same at each of its places
 unfoldable pub openings_in : Topology → List Event → ℕ → ℕ → ℕ
-openings_in c events row r = option_map_or (λ before. row_openings c before row) (slice_get (places events r) 0) 0
+openings_in c events row r = option_map_or (λ before. resource_openings c before row) (slice_get (places events r) 0) 0
 
 -- how many sends of the round used an opening of the row
 unfoldable pub sends_in : Topology → List Event → ℕ → ℕ → ℕ

@@ -1,10 +1,10 @@
 -- the words of each cause
 use Rattle.std.specs.Prelude.{ℕ, List, codes}
-use Rattle.round_net.specs.declared.cause.Cause.{Cause}
-use Rattle.round_net.specs.declared.cause.Cause.TheVariants as cause
+use Rattle.round_net.specs.declared.cause.WaitCause.{WaitCause}
+use Rattle.round_net.specs.declared.cause.WaitCause.TheVariants as cause
 
 -- a cause as pages and drawings give it
-abbrev pub cause_words : Cause → List ℕ
+abbrev pub cause_words : WaitCause → List ℕ
 cause_words cause.Error = codes "held by an error"
 cause_words cause.Caller = codes "frozen by a caller"
 cause_words cause.AdapterFrozen = codes "adapter frozen"

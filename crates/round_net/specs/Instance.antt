@@ -19,7 +19,7 @@ pub record Instance : Type 0 where
   pub last : ℕ → ℕ
   pub weight : ℕ → ℕ
   pub cap : ℕ → ℕ → ℕ
-  pub most_price : ℕ
+  pub max_price : ℕ
 
 -- how many rows there are
 abbrev pub rows : Instance → ℕ
@@ -33,19 +33,19 @@ abbrev pub link : Instance → ℕ → Option ℕ
 link net s = net.link_of (adapter net s)
 
 -- the row of an adapter, and of a link
-abbrev pub adapter_row : Instance → ℕ → ℕ
-adapter_row net a = net.devices + a
+abbrev pub adapter_resource : Instance → ℕ → ℕ
+adapter_resource net a = net.devices + a
 
-abbrev pub link_row : Instance → ℕ → ℕ
-link_row net l = net.devices + net.adapters + l
+abbrev pub link_resource : Instance → ℕ → ℕ
+link_resource net l = net.devices + net.adapters + l
 
 -- the row of the link that an adapter is on, if it is on one
 abbrev pub link_rows : Instance → ℕ → List ℕ
-link_rows net a = option_map_or (λ l. link_row net l ∷ []) (net.link_of a) []
+link_rows net a = option_map_or (λ l. link_resource net l ∷ []) (net.link_of a) []
 
 -- the rows of which a command to a device takes an opening: the device's, its adapter's, and that of the adapter's link
 abbrev pub path_of : Instance → ℕ → List ℕ
-path_of net d = d ∷ adapter_row net (net.adapter_of d) ∷ link_rows net (net.adapter_of d)
+path_of net d = d ∷ adapter_resource net (net.adapter_of d) ∷ link_rows net (net.adapter_of d)
 
 -- the rows of which a stay takes an opening
 abbrev pub path : Instance → ℕ → List ℕ

@@ -2,7 +2,7 @@
 use Rattle.std.specs.Prelude.{◌≡◌, ℕ, ◌*◌, ◌<◌, ◌≤◌, Bool, false, not, ◌&&◌, ◌||◌, ◌==◌, if◌then◌else◌, List, length, slice_index, slice_index_or}
 use Rattle.round_net.specs.Words.{Topology, Event}
 use Rattle.round_net.specs.Rows.{cell}
-use Rattle.round_net.specs.Caps.{row_count, is_free, openings_in, sends_in}
+use Rattle.round_net.specs.Caps.{resource_count, is_free, openings_in, sends_in}
 
 -- a round of a row is marked
 abbrev pub is_marked : List Bool → ℕ → ℕ → ℕ → Bool
@@ -25,12 +25,12 @@ Sets rows rounds old new now value =
 
 -- the rounds in which a row was frozen are marked, and its openings and its sends stand there
 pub record IsNoted (c : Topology) (events : List Event) (rounds : ℕ) (frozen : List Bool) (openings sends : List ℕ) : Type 0 where
-  pub marked : (row r : ℕ) → row < row_count c → 1 ≤ r → r ≤ rounds → is_marked frozen rounds row r ≡ not (is_free c events row r)
-  pub opened : (row r : ℕ) → row < row_count c → 1 ≤ r → r ≤ rounds → slice_index openings (cell rounds row r) ≡ openings_in c events row r
-  pub sent : (row r : ℕ) → row < row_count c → 1 ≤ r → r ≤ rounds → slice_index sends (cell rounds row r) ≡ sends_in c events row r
+  pub marked : (row r : ℕ) → row < resource_count c → 1 ≤ r → r ≤ rounds → is_marked frozen rounds row r ≡ not (is_free c events row r)
+  pub opened : (row r : ℕ) → row < resource_count c → 1 ≤ r → r ≤ rounds → slice_index openings (cell rounds row r) ≡ openings_in c events row r
+  pub sent : (row r : ℕ) → row < resource_count c → 1 ≤ r → r ≤ rounds → slice_index sends (cell rounds row r) ≡ sends_in c events row r
 
 -- there is a cell for each round of each row
 pub record HasCells (c : Topology) (rounds : ℕ) (frozen : List Bool) (openings sends : List ℕ) : Type 0 where
-  pub marked : length frozen ≡ row_count c * rounds
-  pub opened : length openings ≡ row_count c * rounds
-  pub sent : length sends ≡ row_count c * rounds
+  pub marked : length frozen ≡ resource_count c * rounds
+  pub opened : length openings ≡ resource_count c * rounds
+  pub sent : length sends ≡ resource_count c * rounds

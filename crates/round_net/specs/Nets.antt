@@ -5,8 +5,8 @@ use Rattle.std.specs.Option.{option_map_or}
 use Rattle.round_net.specs.Words.{Topology, Adapter, Device, weight, commands, round, stays_begun, name_of, live_round, Event, Passage, next_stay, StayRecord}
 use Rattle.round_net.specs.Instance.{Instance}
 use Rattle.round_net.specs.Rows.{NetRows, instance_of_rows, live_of_rows, StayRow}
-use Rattle.round_net.specs.Caps.{row_count, cap}
-use Rattle.round_net.specs.declared.price_range.TheConstants.{MOST_PRICE}
+use Rattle.round_net.specs.Caps.{resource_count, cap}
+use Rattle.round_net.specs.declared.price_range.TheConstants.{MAX_PRICE}
 
 -- the last round of a stay: the one before its CCB's next stay arrives, or else the last round of all
 unfoldable pub last_round : List Event → Passage → ℕ
@@ -44,7 +44,7 @@ table rows rounds value = cells rounds value (rows * rounds)
 
 -- the net of a configuration with that many commands and rounds, these stays, caps by row and round, and a largest price
 abbrev pub net_with : Topology → ℕ → ℕ → List StayRow → (ℕ → ℕ → ℕ) → ℕ → NetRows
-net_with c commands rounds stays caps most_price = record {
+net_with c commands rounds stays caps max_price = record {
   config = c;
   commands = commands;
   rounds = rounds;
@@ -52,13 +52,13 @@ net_with c commands rounds stays caps most_price = record {
   adapter_of = map (λ (device : Device). device.bus) c.devices;
   link_of = map (λ (adapter : Adapter). adapter.link) c.adapters;
   stays = stays;
-  caps = table (row_count c) rounds caps;
-  most_price = most_price;
+  caps = table (resource_count c) rounds caps;
+  max_price = max_price;
 }
 
 -- the net of a history's configuration and events
 unfoldable pub net_of : Topology → List Event → NetRows
-net_of c events = net_with c (commands events) (round events) (map (stay_row c events) (stays_begun events)) (cap c events) MOST_PRICE
+net_of c events = net_with c (commands events) (round events) (map (stay_row c events) (stays_begun events)) (cap c events) MAX_PRICE
 
 -- what there is to plan of a history, and where its stays were sent
 abbrev pub instance_of : Topology → List Event → Instance

@@ -17,7 +17,7 @@ pub record NetRows : Type 0 where
   pub link_of : List (Option ℕ)
   pub stays : List StayRow
   pub caps : List ℕ
-  pub most_price : ℕ
+  pub max_price : ℕ
 
 -- where a round of a row stands in such a list
 abbrev pub cell : ℕ → ℕ → ℕ → ℕ
@@ -42,7 +42,7 @@ instance_of_rows n = record {
   last = of_stay (λ (row : StayRow). row.last) n.stays;
   weight = of_stay (λ (row : StayRow). row.weight) n.stays;
   cap = λ row r. slice_index n.caps (cell n.rounds row r);
-  most_price = n.most_price;
+  max_price = n.max_price;
 }
 
 -- the round in which each stay was sent

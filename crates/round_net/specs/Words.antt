@@ -1,10 +1,10 @@
 -- The words of the crates below that most clauses and proofs cite, passed on from one place. Declares nothing.
-pub use Rattle.cam_types.specs.Lists.{moments}
+pub use Rattle.cam_types.specs.Lists.{prefixed}
 pub use Rattle.cam_types.specs.Questions.{adapter_link, adapter_openings, device_adapter, device_openings, is_on, is_under, lane_adapter, link_openings, names_device, names_lane, weight}
 pub use Rattle.cam_types.specs.Topology.{IsConfig, Topology, are_openings, names_link}
 pub use Rattle.cam_types.specs.declared.adapter.Adapter.{Adapter}
 pub use Rattle.cam_types.specs.declared.device.Device.{Device}
-pub use Rattle.cam_types.specs.declared.maxima.TheConstants.{MOST_LINKS, MOST_OPENINGS, MOST_ROUNDS}
+pub use Rattle.cam_types.specs.declared.limits.TheConstants.{MAX_LINKS, MAX_OPENINGS, MAX_ROUNDS}
 pub use Rattle.event_rules.specs.Counts.{adapter_freezes, caller_count, commands, error_count, freeze_count, last, sending_of, submission, submissions}
 unfoldable pub use Rattle.event_rules.specs.Counts.{round, sendings}
 pub use Rattle.event_rules.specs.Event.{adjusts_to, is_adjust_of, is_send_of, is_some_and, is_tick}

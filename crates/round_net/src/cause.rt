@@ -9,7 +9,7 @@ use xpt_core::Queues;
 /// Why a stay waited in a round. In a history it is, of those that aren't `stopped`, the first that held where the round
 /// ended, just before its tick. In a recording it is the first of the last seven that held in the round.
 #[derive(Clone, Copy, Debug, PartialEq, Eq)]
-pub enum Cause {
+pub enum WaitCause {
     /// A command of its device had failed and waited for a decision, which froze the device.
     Error,
     /// A caller had frozen the device.
@@ -32,11 +32,11 @@ pub enum Cause {
     NotAsked,
 }
 
-impl Cause {
+impl WaitCause {
     ghost use Rattle.round_net.specs.Ends.{can_hold, is_cause};
 
     /// Whether the two are the same.
-    pub fn is(self, other: Cause) -> bool
+    pub fn is(self, other: WaitCause) -> bool
         ensures { result ≡ is_cause self other }
     {
         self == other
@@ -47,7 +47,7 @@ impl Cause {
         ensures { result ≡ can_hold self config.now }
     {
         match self {
-            Cause::LinkStopped | Cause::LinkFull => !config.links().is_empty(),
+            WaitCause::LinkStopped | WaitCause::LinkFull => !config.links().is_empty(),
             _ => true,
         }
     }
@@ -55,7 +55,7 @@ impl Cause {
 
 /// What holds up the stays of the device at this place.
 #[tactic(auto, unfolding(crate::specs::Ends::cause_at))]
-pub(crate) fn cause_at(replay: &Queues, device: u32) -> Cause
+pub(crate) fn cause_at(replay: &Queues, device: u32) -> WaitCause
     requires { device < length replay.now.config.devices }
     ensures { result ≡ cause_at replay.now.config replay.now.events device }
 {
@@ -64,18 +64,18 @@ pub(crate) fn cause_at(replay: &Queues, device: u32) -> Cause
         unreachable!()
     };
     if devices.freeze_count(device) > u64::from(devices.caller_count(device)) {
-        Cause::Error
+        WaitCause::Error
     } else if devices.caller_count(device) > 0 {
-        Cause::Caller
+        WaitCause::Caller
     } else if replay.is_frozen(adapter) {
-        Cause::AdapterFrozen
+        WaitCause::AdapterFrozen
     } else if !devices.has_opening(device) {
-        Cause::DeviceFull
+        WaitCause::DeviceFull
     } else if !replay.has_opening(adapter) {
-        Cause::AdapterFull
+        WaitCause::AdapterFull
     } else if !replay.link_has_opening(adapter) {
-        Cause::LinkFull
+        WaitCause::LinkFull
     } else {
-        Cause::NotAsked
+        WaitCause::NotAsked
     }
 }

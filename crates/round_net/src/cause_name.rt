@@ -1,8 +1,8 @@
 //! The words of each cause.
 
-use crate::cause::Cause;
+use crate::cause::WaitCause;
 
-impl Cause {
+impl WaitCause {
     ghost use Rattle.std.specs.Prelude.{◌≡◌};
     ghost use Rattle.round_net.specs.CauseWords.{cause_words};
 
@@ -11,16 +11,16 @@ impl Cause {
         ensures { result.now ≡ cause_words self }
     {
         match self {
-            Cause::Error => "held by an error",
-            Cause::Caller => "frozen by a caller",
-            Cause::AdapterFrozen => "adapter frozen",
-            Cause::DeviceStopped => "device stopped",
-            Cause::AdapterStopped => "adapter stopped",
-            Cause::LinkStopped => "link stopped",
-            Cause::DeviceFull => "device full",
-            Cause::AdapterFull => "adapter full",
-            Cause::LinkFull => "link full",
-            Cause::NotAsked => "not asked",
+            WaitCause::Error => "held by an error",
+            WaitCause::Caller => "frozen by a caller",
+            WaitCause::AdapterFrozen => "adapter frozen",
+            WaitCause::DeviceStopped => "device stopped",
+            WaitCause::AdapterStopped => "adapter stopped",
+            WaitCause::LinkStopped => "link stopped",
+            WaitCause::DeviceFull => "device full",
+            WaitCause::AdapterFull => "adapter full",
+            WaitCause::LinkFull => "link full",
+            WaitCause::NotAsked => "not asked",
         }
     }
 }

@@ -1,23 +1,23 @@
 //! What is noted at a place of a history, of the place's round.
 
 ghost use Rattle.std.specs.Prelude.{◌≡◌, ◌<◌, ◌≤◌, ◌*◌, ◌||◌, not, ◌==◌, false, length, slice_set, slice_index_or};
-ghost use Rattle.round_net.specs.Words.{MOST_ROUNDS, round};
-ghost use Rattle.round_net.specs.Caps.{row_count, row_freezes, row_openings, sends_in};
+ghost use Rattle.round_net.specs.Words.{MAX_ROUNDS, round};
+ghost use Rattle.round_net.specs.Caps.{resource_count, resource_freezes, resource_openings, sends_in};
 ghost use Rattle.round_net.specs.Marks.{Marks, Sets};
 
 use crate::flat::cell;
-use crate::row_state::{is_frozen, openings, row_count, sent};
+use crate::resource_state::{is_frozen, openings, resource_count, sent};
 use xpt_core::Queues;
 
 /// Marks each row that is frozen at the place.
 pub fn mark_frozen(replay: &Queues, rounds: u32, marks: &mut [bool])
-    requires few { rounds ≤ MOST_ROUNDS }
+    requires few { rounds ≤ MAX_ROUNDS }
     requires within { round replay.now.events ≤ rounds }
-    requires cells { row_count replay.now.config * rounds ≤ length marks.old }
-    ensures { Marks (row_count replay.now.config) rounds marks.old marks.new (round replay.now.events) (λ row. not (row_freezes replay.now.config replay.now.events row == 0)) }
+    requires cells { resource_count replay.now.config * rounds ≤ length marks.old }
+    ensures { Marks (resource_count replay.now.config) rounds marks.old marks.new (round replay.now.events) (λ row. not (resource_freezes replay.now.config replay.now.events row == 0)) }
 {
     let devices = replay.devices();
-    for row in 0..row_count(devices.config()) {
+    for row in 0..resource_count(devices.config()) {
         let at = cell(rounds, row, devices.round());
         mark(marks, at, is_frozen(replay, row));
     }
@@ -32,13 +32,13 @@ fn mark(marks: &mut [bool], at: usize, is_frozen: bool)
 
 /// Notes the openings of each row.
 pub fn note_openings(replay: &Queues, rounds: u32, numbers: &mut [u32])
-    requires few { rounds ≤ MOST_ROUNDS }
+    requires few { rounds ≤ MAX_ROUNDS }
     requires within { round replay.now.events ≤ rounds }
-    requires cells { row_count replay.now.config * rounds ≤ length numbers.old }
-    ensures { Sets (row_count replay.now.config) rounds numbers.old numbers.new (round replay.now.events) (row_openings replay.now.config replay.now.events) }
+    requires cells { resource_count replay.now.config * rounds ≤ length numbers.old }
+    ensures { Sets (resource_count replay.now.config) rounds numbers.old numbers.new (round replay.now.events) (resource_openings replay.now.config replay.now.events) }
 {
     let devices = replay.devices();
-    for row in 0..row_count(devices.config()) {
+    for row in 0..resource_count(devices.config()) {
         let at = cell(rounds, row, devices.round());
         numbers[at] = openings(replay, row);
     }
@@ -46,13 +46,13 @@ pub fn note_openings(replay: &Queues, rounds: u32, numbers: &mut [u32])
 
 /// Notes how many sends used an opening of each row.
 pub fn note_sends(replay: &Queues, rounds: u32, numbers: &mut [u32])
-    requires few { rounds ≤ MOST_ROUNDS }
+    requires few { rounds ≤ MAX_ROUNDS }
     requires within { round replay.now.events ≤ rounds }
-    requires cells { row_count replay.now.config * rounds ≤ length numbers.old }
-    ensures { Sets (row_count replay.now.config) rounds numbers.old numbers.new (round replay.now.events) (λ row. sends_in replay.now.config replay.now.events row (round replay.now.events)) }
+    requires cells { resource_count replay.now.config * rounds ≤ length numbers.old }
+    ensures { Sets (resource_count replay.now.config) rounds numbers.old numbers.new (round replay.now.events) (λ row. sends_in replay.now.config replay.now.events row (round replay.now.events)) }
 {
     let devices = replay.devices();
-    for row in 0..row_count(devices.config()) {
+    for row in 0..resource_count(devices.config()) {
         let at = cell(rounds, row, devices.round());
         numbers[at] = sent(replay, row);
     }

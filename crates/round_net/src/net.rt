@@ -2,8 +2,8 @@
 
 use crate::flat::cell;
 use crate::net_fault::NetFault;
-use crate::price_range::{MOST_NET_PRICE, MOST_PRICE};
-use crate::recorded_rows::{request_rows, row_caps};
+use crate::price_range::{MAX_NET_PRICE, MAX_PRICE};
+use crate::recorded_rows::{request_rows, resource_caps};
 use crate::round_table::RoundTable;
 use crate::stay_row::StayRow;
 use crate::stay_rows::{adapters_of, links_of, stay_rows};
@@ -28,7 +28,7 @@ pub struct Net {
     link_of: Vec<Option<u32>>,
     stays: Vec<StayRow>,
     caps: Vec<u32>,
-    most_price: u64,
+    max_price: u64,
 }
 
 // By hand, so that to its owners a net that ends is one call and not each of its fields.
@@ -43,7 +43,7 @@ impl Drop for Net {
             link_of: _,
             stays: _,
             caps: _,
-            most_price: _,
+            max_price: _,
         } = self;
     }
 }
@@ -54,17 +54,17 @@ impl Model for Net {
 
     ghost Value = { NetRows };
 
-    ghost view = { λ n. record { config = n.config; commands = n.commands; rounds = n.rounds; links = n.links; adapter_of = n.adapter_of.items; link_of = n.link_of.items; stays = n.stays.items; caps = n.caps.items; most_price = n.most_price } };
+    ghost view = { λ n. record { config = n.config; commands = n.commands; rounds = n.rounds; links = n.links; adapter_of = n.adapter_of.items; link_of = n.link_of.items; stays = n.stays.items; caps = n.caps.items; max_price = n.max_price } };
 
-    ghost invariant = { λ n. IsNet (record { config = n.config; commands = n.commands; rounds = n.rounds; links = n.links; adapter_of = n.adapter_of.items; link_of = n.link_of.items; stays = n.stays.items; caps = n.caps.items; most_price = n.most_price }) };
+    ghost invariant = { λ n. IsNet (record { config = n.config; commands = n.commands; rounds = n.rounds; links = n.links; adapter_of = n.adapter_of.items; link_of = n.link_of.items; stays = n.stays.items; caps = n.caps.items; max_price = n.max_price }) };
 }
 
 impl Net {
     ghost use Rattle.std.specs.Prelude.{◌≡◌, ◌+◌, ◌*◌, ◌<◌, ◌≤◌, Some, length, slice_get};
     ghost use Rattle.cam_types.specs.Topology.{IsConfig};
-    ghost use Rattle.cam_types.specs.declared.maxima.TheConstants.{MOST_WEIGHT};
-    ghost use Rattle.round_net.specs.declared.maxima.TheConstants.{MOST_NET_ROUNDS, MOST_CAP};
-    ghost use Rattle.round_net.specs.Instance.{rows, adapter, link, adapter_row, link_row};
+    ghost use Rattle.cam_types.specs.declared.limits.TheConstants.{MAX_WEIGHT};
+    ghost use Rattle.round_net.specs.declared.limits.TheConstants.{MAX_NET_ROUNDS, MAX_CAP};
+    ghost use Rattle.round_net.specs.Instance.{rows, adapter, link, adapter_resource, link_resource};
     ghost use Rattle.round_net.specs.Rows.{instance_of_rows, live_of_rows, names_of_rows};
     ghost use Rattle.round_net.specs.Sound.{IsSound, IsWithinHistory};
     ghost use Rattle.std.specs.Prelude.{IfOk, IfSome, MatchOption, IsOkUnless};
@@ -73,7 +73,7 @@ impl Net {
     ghost use Rattle.round_net.specs.RecordedNets.{net_of_recording, instance_of_recording, live_of_recording};
     ghost use Rattle.round_net.specs.Schedules.{IsAdmissible};
 
-    /// The net of a history in which each stay was sent. Where one wasn't, the first of these by birth is named.
+    /// The net of a history in which each stay was sent. Where one wasn't, the first of these in creation order is named.
     pub fn of(alloc: Global, history: &History) -> Result<Net, NetFault>
         ensures answer { MatchOption (unsent history.now.events)
             (IsOkUnless result NetFault.OutOfMemory)
@@ -116,11 +116,11 @@ impl Net {
             link_of: links_of(alloc, config.adapters())?,
             stays: stay_rows(alloc, config, history.stays(), rounds)?,
             caps: table.caps(alloc)?,
-            most_price: MOST_PRICE,
+            max_price: MAX_PRICE,
         })
     }
 
-    /// The net of a recording. No opening is worth more than `MOST_NET_PRICE`. It fails only if there is no memory.
+    /// The net of a recording. No opening is worth more than `MAX_NET_PRICE`. It fails only if there is no memory.
     pub fn of_recording(alloc: Global, recording: &Recording) -> Result<Net, AllocError>
         ensures net { IfOk result (λ net. net ≡ net_of_recording recording.now) }
 
@@ -137,8 +137,8 @@ impl Net {
             adapter_of: adapters_of(alloc, config.devices())?,
             link_of: links_of(alloc, config.adapters())?,
             stays: request_rows(alloc, recording)?,
-            caps: row_caps(alloc, recording)?,
-            most_price: MOST_NET_PRICE,
+            caps: resource_caps(alloc, recording)?,
+            max_price: MAX_NET_PRICE,
         })
     }
 
@@ -158,7 +158,7 @@ impl Net {
         self.commands
     }
 
-    /// How many rounds there are, at least 1 and at most `MOST_NET_ROUNDS`.
+    /// How many rounds there are, at least 1 and at most `MAX_NET_ROUNDS`.
     #[tactic(auto, unfolding(crate::specs::Rows::instance_of_rows))]
     pub fn rounds(&self) -> u32
         ensures same { result ≡ (instance_of_rows self.now).rounds }
@@ -167,7 +167,7 @@ impl Net {
         self.rounds
     }
 
-    /// How many stays there are, at most `MOST_NET_STAYS`.
+    /// How many stays there are, at most `MAX_NET_STAYS`.
     #[tactic(auto, unfolding(crate::specs::Rows::instance_of_rows))]
     pub fn stays(&self) -> u32
         ensures same { result ≡ (instance_of_rows self.now).stays }
@@ -176,7 +176,7 @@ impl Net {
         self.stays.len() as u32
     }
 
-    /// How many devices there are, at most `MOST_DEVICES`.
+    /// How many devices there are, at most `MAX_DEVICES`.
     #[tactic(auto, unfolding(crate::specs::Rows::instance_of_rows))]
     pub fn devices(&self) -> u32
         ensures same { result ≡ (instance_of_rows self.now).devices }
@@ -185,7 +185,7 @@ impl Net {
         self.adapter_of.len() as u32
     }
 
-    /// How many adapters there are, at most `MOST_ADAPTERS`.
+    /// How many adapters there are, at most `MAX_ADAPTERS`.
     #[tactic(auto, unfolding(crate::specs::Rows::instance_of_rows))]
     pub fn adapters(&self) -> u32
         ensures same { result ≡ (instance_of_rows self.now).adapters }
@@ -194,7 +194,7 @@ impl Net {
         self.link_of.len() as u32
     }
 
-    /// How many links there are, at most `MOST_LINKS`.
+    /// How many links there are, at most `MAX_LINKS`.
     #[tactic(auto, unfolding(crate::specs::Rows::instance_of_rows))]
     pub fn links(&self) -> u32
         ensures same { result ≡ (instance_of_rows self.now).links }
@@ -220,13 +220,13 @@ impl Net {
         self.caps.len()
     }
 
-    /// The most that one opening may be worth: `MOST_PRICE` in a history's net, and at most `MOST_NET_PRICE` in any.
+    /// The most that one opening may be worth: `MAX_PRICE` in a history's net, and at most `MAX_NET_PRICE` in any.
     #[tactic(auto, unfolding(crate::specs::Rows::instance_of_rows))]
-    pub fn most_price(&self) -> u64
-        ensures same { result ≡ (instance_of_rows self.now).most_price }
+    pub fn max_price(&self) -> u64
+        ensures same { result ≡ (instance_of_rows self.now).max_price }
         ensures sound { IsSound (instance_of_rows self.now) (live_of_rows self.now) }
     {
-        self.most_price
+        self.max_price
     }
 
     // The row of the stay of this number.
@@ -238,7 +238,7 @@ impl Net {
         self.stays[stay as usize]
     }
 
-    /// The stay of this number, in order of birth.
+    /// The stay of this number, in creation order.
     #[tactic(auto, unfolding(crate::specs::Rows::instance_of_rows, crate::specs::Rows::names_of_rows))]
     pub fn stay(&self, stay: u32) -> Stay
         requires { stay < (instance_of_rows self.now).stays }
@@ -313,7 +313,7 @@ impl Net {
         requires { stay < (instance_of_rows self.now).stays }
         ensures same { result ≡ (instance_of_rows self.now).last stay }
         ensures within { result ≤ (instance_of_rows self.now).rounds }
-        ensures most { result ≤ MOST_NET_ROUNDS }
+        ensures most { result ≤ MAX_NET_ROUNDS }
     {
         self.stay_row(stay).last
     }
@@ -324,7 +324,7 @@ impl Net {
         requires { stay < (instance_of_rows self.now).stays }
         ensures same { result ≡ (instance_of_rows self.now).weight stay }
         ensures some { 1 ≤ result }
-        ensures most { result ≤ MOST_WEIGHT }
+        ensures most { result ≤ MAX_WEIGHT }
     {
         self.stay_row(stay).weight
     }
@@ -340,9 +340,9 @@ impl Net {
 
     /// The number of the adapter's row.
     #[tactic(auto, unfolding(crate::specs::Rows::instance_of_rows))]
-    pub fn adapter_row(&self, adapter: u32) -> u32
+    pub fn adapter_resource(&self, adapter: u32) -> u32
         requires { adapter < (instance_of_rows self.now).adapters }
-        ensures same { result ≡ adapter_row (instance_of_rows self.now) adapter }
+        ensures same { result ≡ adapter_resource (instance_of_rows self.now) adapter }
         ensures within { result < rows (instance_of_rows self.now) }
     {
         self.devices() + adapter
@@ -350,9 +350,9 @@ impl Net {
 
     /// The number of the link's row.
     #[tactic(auto, unfolding(crate::specs::Rows::instance_of_rows))]
-    pub fn link_row(&self, link: u32) -> u32
+    pub fn link_resource(&self, link: u32) -> u32
         requires { link < (instance_of_rows self.now).links }
-        ensures same { result ≡ link_row (instance_of_rows self.now) link }
+        ensures same { result ≡ link_resource (instance_of_rows self.now) link }
         ensures within { result < rows (instance_of_rows self.now) }
     {
         self.devices() + self.adapters() + link
@@ -365,7 +365,7 @@ impl Net {
         requires first { 1 ≤ round }
         requires last { round ≤ (instance_of_rows self.now).rounds }
         ensures same { result ≡ (instance_of_rows self.now).cap row round }
-        ensures most { result ≤ MOST_CAP }
+        ensures most { result ≤ MAX_CAP }
     {
         self.caps[cell(self.rounds, row, round)]
     }
@@ -376,7 +376,7 @@ impl Net {
         requires first { 1 ≤ round }
         requires last { round ≤ (instance_of_rows self.now).rounds }
         ensures same { result ≡ (instance_of_rows self.now).cap device round }
-        ensures most { result ≤ MOST_CAP }
+        ensures most { result ≤ MAX_CAP }
     {
         self.cap(device, round)
     }
@@ -386,10 +386,10 @@ impl Net {
         requires adapter { adapter < (instance_of_rows self.now).adapters }
         requires first { 1 ≤ round }
         requires last { round ≤ (instance_of_rows self.now).rounds }
-        ensures same { let n = instance_of_rows self.now in result ≡ n.cap (adapter_row n adapter) round }
-        ensures most { result ≤ MOST_CAP }
+        ensures same { let n = instance_of_rows self.now in result ≡ n.cap (adapter_resource n adapter) round }
+        ensures most { result ≤ MAX_CAP }
     {
-        self.cap(self.adapter_row(adapter), round)
+        self.cap(self.adapter_resource(adapter), round)
     }
 
     /// How many commands the link takes in the round.
@@ -397,9 +397,9 @@ impl Net {
         requires link { link < (instance_of_rows self.now).links }
         requires first { 1 ≤ round }
         requires last { round ≤ (instance_of_rows self.now).rounds }
-        ensures same { let n = instance_of_rows self.now in result ≡ n.cap (link_row n link) round }
-        ensures most { result ≤ MOST_CAP }
+        ensures same { let n = instance_of_rows self.now in result ≡ n.cap (link_resource n link) round }
+        ensures most { result ≤ MAX_CAP }
     {
-        self.cap(self.link_row(link), round)
+        self.cap(self.link_resource(link), round)
     }
 }

@@ -10,7 +10,7 @@ use thiserror::Error;
 /// Why no net was made of a history.
 #[derive(Clone, Copy, Debug, PartialEq, Eq, Error)]
 pub enum NetFault {
-    /// The history isn't complete: this is the first of its stays, by birth, that has no send.
+    /// The history isn't complete: this is the first of its stays, in creation order, that has no send.
     #[error("unsent ccb {} try {}", .0.ccb, .0.attempt)]
     Unsent(Stay),
     /// There is no memory left.

@@ -16,7 +16,7 @@ pub struct Prices {
     devices: u32,
     adapters: u32,
     links: u32,
-    most_price: u64,
+    max_price: u64,
     prices: Vec<u64>,
 }
 
@@ -25,15 +25,15 @@ impl Model for Prices {
 
     ghost Value = { PriceRows };
 
-    ghost view = { λ p. record { rounds = p.rounds; devices = p.devices; adapters = p.adapters; links = p.links; most_price = p.most_price; prices = p.prices.items } };
+    ghost view = { λ p. record { rounds = p.rounds; devices = p.devices; adapters = p.adapters; links = p.links; max_price = p.max_price; prices = p.prices.items } };
 
-    ghost invariant = { λ p. IsPriced (record { rounds = p.rounds; devices = p.devices; adapters = p.adapters; links = p.links; most_price = p.most_price; prices = p.prices.items }) };
+    ghost invariant = { λ p. IsPriced (record { rounds = p.rounds; devices = p.devices; adapters = p.adapters; links = p.links; max_price = p.max_price; prices = p.prices.items }) };
 }
 
 impl Prices {
     ghost use Rattle.std.specs.Prelude.{◌≡◌, ℕ, ◌+◌, ◌*◌, ◌<◌, ◌≤◌, ◌↔◌, length, All, IsOk, IfOk, OnOk, OnErr};
     ghost use Rattle.round_net.specs.Instance.{rows};
-    ghost use Rattle.round_net.specs.declared.price_range.TheConstants.{MOST_NET_PRICE};
+    ghost use Rattle.round_net.specs.declared.price_range.TheConstants.{MAX_NET_PRICE};
     ghost use Rattle.round_net.specs.Rows.{instance_of_rows};
     ghost use Rattle.round_net.specs.PriceRows.{pricing_of_rows, IsPriced, IsPricingFor, SetsPrice};
 
@@ -49,7 +49,7 @@ impl Prices {
             devices: net.devices(),
             adapters: net.adapters(),
             links: net.links(),
-            most_price: net.most_price(),
+            max_price: net.max_price(),
             prices: vec![in alloc; 0; cells]?,
         })
     }
@@ -59,15 +59,15 @@ impl Prices {
     #[tactic(auto, unfolding(crate::specs::Rows::instance_of_rows))]
     pub fn listed(net: &Net, prices: Vec<u64>) -> Prices
         requires cells { let n = instance_of_rows net.now in length prices.items ≡ rows n * n.rounds }
-        requires small { All (λ price. price ≤ (instance_of_rows net.now).most_price) prices.items }
-        ensures { let n = instance_of_rows net.now in result ≡ record { rounds = n.rounds; devices = n.devices; adapters = n.adapters; links = n.links; most_price = n.most_price; prices = prices.items } }
+        requires small { All (λ price. price ≤ (instance_of_rows net.now).max_price) prices.items }
+        ensures { let n = instance_of_rows net.now in result ≡ record { rounds = n.rounds; devices = n.devices; adapters = n.adapters; links = n.links; max_price = n.max_price; prices = prices.items } }
     {
         Prices {
             rounds: net.rounds(),
             devices: net.devices(),
             adapters: net.adapters(),
             links: net.links(),
-            most_price: net.most_price(),
+            max_price: net.max_price(),
             prices,
         }
     }
@@ -87,8 +87,8 @@ impl Prices {
         requires first { 1 ≤ round }
         requires last { round ≤ self.now.rounds }
         ensures same { result ≡ pricing_of_rows self.now row round }
-        ensures most { result ≤ self.now.most_price }
-        ensures few { self.now.most_price ≤ MOST_NET_PRICE }
+        ensures most { result ≤ self.now.max_price }
+        ensures few { self.now.max_price ≤ MAX_NET_PRICE }
     {
         self.prices[cell(self.rounds, row, round)]
     }
@@ -99,8 +99,8 @@ impl Prices {
         requires first { 1 ≤ round }
         requires last { round ≤ self.now.rounds }
         ensures same { result ≡ pricing_of_rows self.now device round }
-        ensures most { result ≤ self.now.most_price }
-        ensures few { self.now.most_price ≤ MOST_NET_PRICE }
+        ensures most { result ≤ self.now.max_price }
+        ensures few { self.now.max_price ≤ MAX_NET_PRICE }
     {
         self.price(device, round)
     }
@@ -111,8 +111,8 @@ impl Prices {
         requires first { 1 ≤ round }
         requires last { round ≤ self.now.rounds }
         ensures same { result ≡ pricing_of_rows self.now (self.now.devices + adapter) round }
-        ensures most { result ≤ self.now.most_price }
-        ensures few { self.now.most_price ≤ MOST_NET_PRICE }
+        ensures most { result ≤ self.now.max_price }
+        ensures few { self.now.max_price ≤ MAX_NET_PRICE }
     {
         self.price(self.devices + adapter, round)
     }
@@ -123,8 +123,8 @@ impl Prices {
         requires first { 1 ≤ round }
         requires last { round ≤ self.now.rounds }
         ensures same { result ≡ pricing_of_rows self.now (self.now.devices + self.now.adapters + link) round }
-        ensures most { result ≤ self.now.most_price }
-        ensures few { self.now.most_price ≤ MOST_NET_PRICE }
+        ensures most { result ≤ self.now.max_price }
+        ensures few { self.now.max_price ≤ MAX_NET_PRICE }
     {
         self.price(self.devices + self.adapters + link, round)
     }
@@ -135,11 +135,11 @@ impl Prices {
         requires row { row < self.old.devices + self.old.adapters + self.old.links }
         requires first { 1 ≤ round }
         requires last { round ≤ self.old.rounds }
-        ensures range { IsOk result ↔ (price ≤ self.old.most_price) }
+        ensures range { IsOk result ↔ (price ≤ self.old.max_price) }
         ensures ok { OnOk result (SetsPrice self.old self.new row round price) }
         ensures err { OnErr result (self.new ≡ self.old) }
     {
-        if price > self.most_price {
+        if price > self.max_price {
             return Err(PriceRange);
         }
         let at = cell(self.rounds, row, round);
@@ -152,7 +152,7 @@ impl Prices {
         requires device { device < self.old.devices }
         requires first { 1 ≤ round }
         requires last { round ≤ self.old.rounds }
-        ensures range { IsOk result ↔ (price ≤ self.old.most_price) }
+        ensures range { IsOk result ↔ (price ≤ self.old.max_price) }
         ensures ok { OnOk result (SetsPrice self.old self.new device round price) }
         ensures err { OnErr result (self.new ≡ self.old) }
     {
@@ -164,7 +164,7 @@ impl Prices {
         requires adapter { adapter < self.old.adapters }
         requires first { 1 ≤ round }
         requires last { round ≤ self.old.rounds }
-        ensures range { IsOk result ↔ (price ≤ self.old.most_price) }
+        ensures range { IsOk result ↔ (price ≤ self.old.max_price) }
         ensures ok { OnOk result (SetsPrice self.old self.new (self.old.devices + adapter) round price) }
         ensures err { OnErr result (self.new ≡ self.old) }
     {
@@ -177,7 +177,7 @@ impl Prices {
         requires link { link < self.old.links }
         requires first { 1 ≤ round }
         requires last { round ≤ self.old.rounds }
-        ensures range { IsOk result ↔ (price ≤ self.old.most_price) }
+        ensures range { IsOk result ↔ (price ≤ self.old.max_price) }
         ensures ok { OnOk result (SetsPrice self.old self.new (self.old.devices + self.old.adapters + link) round price) }
         ensures err { OnErr result (self.new ≡ self.old) }
     {

@@ -1,21 +1,21 @@
 //! The requests of a recording as stays, and how many of them its rows take.
 
 ghost use Rattle.std.specs.Prelude.{◌≡◌, ◌*◌, ◌-◌, ◌^◌, ◌<◌, ◌≤◌, List, length, map, IfOk};
-ghost use Rattle.cam_types.specs.Lists.{moments};
+ghost use Rattle.cam_types.specs.Lists.{prefixed};
 ghost use Rattle.cam_types.specs.Topology.{IsConfig};
 ghost use Rattle.cam_types.specs.Questions.{weight};
-ghost use Rattle.cam_types.specs.declared.maxima.TheConstants.{MOST_PRIORITY, MOST_WEIGHT};
-ghost use Rattle.recording_file.specs.declared.maxima.TheConstants.{MOST_RECORDED_ROUNDS};
+ghost use Rattle.cam_types.specs.declared.limits.TheConstants.{MAX_PRIORITY, MAX_WEIGHT};
+ghost use Rattle.recording_file.specs.declared.limits.TheConstants.{MAX_RECORDED_ROUNDS};
 ghost use Rattle.recording_file.specs.declared.request.Request.{Request};
 ghost use Rattle.recording_file.specs.Caps.{cap_in};
 ghost use Rattle.recording_file.specs.declared.cap.Cap.{Cap};
 ghost use Rattle.recording_file.specs.Room.{Holds, rows_by};
-ghost use Rattle.round_net.specs.Caps.{row_count};
+ghost use Rattle.round_net.specs.Caps.{resource_count};
 ghost use Rattle.round_net.specs.Nets.{table};
-ghost use Rattle.round_net.specs.RecordedNets.{request_row, recorded_cap, part_of_row, instance_of_recording, live_of_recording};
+ghost use Rattle.round_net.specs.RecordedNets.{request_row, recorded_cap, part_of_resource, instance_of_recording, live_of_recording};
 ghost use Rattle.round_net.specs.Schedules.{cost};
 
-use crate::row_state::{Owner, owner_of, row_count};
+use crate::resource_state::{Resource, resource_count, resource_of};
 use crate::stay_row::StayRow;
 use cam_types::{Config, Priority};
 use event_rules::Stay;
@@ -24,7 +24,7 @@ use std::alloc::{AllocError, Global};
 
 /// The requests as stays, in the order of the text.
 pub fn request_rows(alloc: Global, recording: &Recording) -> Result<Vec<StayRow>, AllocError>
-    ensures { IfOk result (λ rows. rows.items ≡ map (request_row recording.now.config recording.now.rounds) (moments recording.now.requests)) }
+    ensures { IfOk result (λ rows. rows.items ≡ map (request_row recording.now.config recording.now.rounds) (prefixed recording.now.requests)) }
 {
     let config = recording.config();
     let rounds = recording.rounds();
@@ -41,7 +41,7 @@ pub fn request_rows(alloc: Global, recording: &Recording) -> Result<Vec<StayRow>
 fn request_row(config: &Config, rounds: u32, number: usize, request: Request) -> StayRow
     requires kept { IsConfig config.now }
     requires few { number < 2 ^ 32 }
-    requires priority { request.priority ≤ MOST_PRIORITY }
+    requires priority { request.priority ≤ MAX_PRIORITY }
     ensures { (before : List Request) → length before ≡ number → result ≡ request_row config.now rounds (before, request) }
 {
     StayRow {
@@ -64,9 +64,9 @@ fn request_row(config: &Config, rounds: u32, number: usize, request: Request) ->
 #[tactic(auto, using(cam_types::proofs::ConfigLemmas::weight_small))]
 fn weight_of(config: &Config, priority: u32) -> u32
     requires kept { IsConfig config.now }
-    requires priority { priority ≤ MOST_PRIORITY }
+    requires priority { priority ≤ MAX_PRIORITY }
     ensures same { result ≡ weight config.now priority }
-    ensures small { result ≤ MOST_WEIGHT }
+    ensures small { result ≤ MAX_WEIGHT }
 {
     let Ok(priority) = Priority::new(priority) else {
         unreachable!()
@@ -91,56 +91,56 @@ pub fn recorded_cost(recording: &Recording) -> u64
 // What a request's waiting cost.
 fn waited(config: &Config, request: Request) -> u64
     requires kept { IsConfig config.now }
-    requires priority { request.priority ≤ MOST_PRIORITY }
+    requires priority { request.priority ≤ MAX_PRIORITY }
     ensures same { result ≡ weight config.now request.priority * (request.sent - request.arrival) }
-    ensures short { result ≤ MOST_WEIGHT * 2 ^ 32 }
+    ensures short { result ≤ MAX_WEIGHT * 2 ^ 32 }
 {
     u64::from(weight_of(config, request.priority))
         * u64::from(request.sent.saturating_sub(request.arrival))
 }
 
 /// How many requests each row takes in each round.
-pub fn row_caps(alloc: Global, recording: &Recording) -> Result<Vec<u32>, AllocError>
-    ensures { IfOk result (λ caps. caps.items ≡ table (row_count recording.now.config) recording.now.rounds (recorded_cap recording.now)) }
+pub fn resource_caps(alloc: Global, recording: &Recording) -> Result<Vec<u32>, AllocError>
+    ensures { IfOk result (λ caps. caps.items ≡ table (resource_count recording.now.config) recording.now.rounds (recorded_cap recording.now)) }
 {
     let config = recording.config();
     let rounds = recording.rounds();
     let taken = cap_table(alloc, recording)?;
-    let cells = row_count(config) * rounds;
+    let cells = resource_count(config) * rounds;
     let mut caps = Vec::with_capacity(alloc, cells as usize)?;
     for at in 0..cells {
         let row = at / rounds;
         let round = at % rounds + 1;
-        caps.push(row_cap(config, rounds, &taken, row, round))?;
+        caps.push(resource_cap(config, rounds, &taken, row, round))?;
     }
     Ok(caps)
 }
 
 // How many requests a row takes in a round, by a table of all parts.
-fn row_cap(config: &Config, rounds: u32, taken: &[u32], row: u32, round: u32) -> u32
+fn resource_cap(config: &Config, rounds: u32, taken: &[u32], row: u32, round: u32) -> u32
     requires kept { IsConfig config.now }
-    requires most { rounds ≤ MOST_RECORDED_ROUNDS }
+    requires most { rounds ≤ MAX_RECORDED_ROUNDS }
     requires size { length taken.now ≡ 44 * rounds }
-    requires row { row < row_count config.now }
+    requires row { row < resource_count config.now }
     requires first { 1 ≤ round }
     requires last { round ≤ rounds }
-    ensures { (caps : List Cap) → Holds rounds (cap_in config.now caps) taken.now → result ≡ cap_in config.now caps (part_of_row config.now row) round }
+    ensures { (caps : List Cap) → Holds rounds (cap_in config.now caps) taken.now → result ≡ cap_in config.now caps (part_of_resource config.now row) round }
 {
-    taken[cell_of(rounds, part_of_row(config, row), round)]
+    taken[cell_of(rounds, part_of_resource(config, row), round)]
 }
 
 // The part that has the row.
-#[tactic(auto, using(crate::proofs::OwnerLemmas::by_row_device, crate::proofs::OwnerLemmas::by_row_adapter, crate::proofs::OwnerLemmas::by_row_link, cam_types::proofs::ConfigLemmas::few_devices, cam_types::proofs::ConfigLemmas::few_adapters, cam_types::proofs::ConfigLemmas::few_links))]
-fn part_of_row(config: &Config, row: u32) -> Part
+#[tactic(auto, using(crate::proofs::OwnerLemmas::by_resource_device, crate::proofs::OwnerLemmas::by_resource_adapter, crate::proofs::OwnerLemmas::by_resource_link, cam_types::proofs::ConfigLemmas::few_devices, cam_types::proofs::ConfigLemmas::few_adapters, cam_types::proofs::ConfigLemmas::few_links))]
+fn part_of_resource(config: &Config, row: u32) -> Part
     requires kept { IsConfig config.now }
-    requires row { row < row_count config.now }
-    ensures same { result ≡ part_of_row config.now row }
+    requires row { row < resource_count config.now }
+    ensures same { result ≡ part_of_resource config.now row }
     ensures there { result.number < rows_by result.kind }
 {
-    match owner_of(config, row) {
-        Owner::Device(number) => part(PartKind::Device, number),
-        Owner::Adapter(number) => part(PartKind::Adapter, number),
-        Owner::Link(number) => part(PartKind::Link, number),
+    match resource_of(config, row) {
+        Resource::Device(number) => part(PartKind::Device, number),
+        Resource::Adapter(number) => part(PartKind::Adapter, number),
+        Resource::Link(number) => part(PartKind::Link, number),
     }
 }
 

@@ -5,7 +5,7 @@ ghost use Rattle.std.specs.List.{range_with_len};
 ghost use Rattle.cam_types.specs.Topology.{Topology};
 ghost use Rattle.round_net.specs.Ends.{cause_at, numbers, is_frozen_at, flags_of, AreEnds};
 
-use crate::cause::{Cause, cause_at};
+use crate::cause::{WaitCause, cause_at};
 use crate::freeze_kind::FreezeKind;
 use event_rules::Event;
 use std::alloc::{AllocError, Global};
@@ -15,7 +15,7 @@ use xpt_core::Queues;
 #[derive(Drop)]
 pub struct RoundEnds {
     /// What held up each device.
-    pub causes: Vec<Cause>,
+    pub causes: Vec<WaitCause>,
     /// Which devices errors had frozen.
     pub errors: Vec<bool>,
     /// Which devices callers had frozen.
@@ -37,7 +37,7 @@ impl RoundEnds {
         }
     }
 
-    /// Which devices or adapters were frozen in this way.
+    /// Which devices or adapters had a freeze of this kind.
     pub fn flags(&self, kind: FreezeKind) -> &[bool]
         ensures { result.now ≡ flags_of kind self.now }
     {
@@ -65,7 +65,7 @@ impl RoundEnds {
 }
 
 // Puts what holds up each device at this place after the others.
-fn push_causes(replay: &Queues, causes: &mut Vec<Cause>) -> Result<(), AllocError>
+fn push_causes(replay: &Queues, causes: &mut Vec<WaitCause>) -> Result<(), AllocError>
     ensures { IfOk result (λ _. causes.new.items ≡ causes.old.items ++ map (cause_at replay.now.config replay.now.events) (range_with_len 0 (length replay.now.config.devices))) }
 {
     for device in 0..replay.devices().config().devices().len() as u32 {

@@ -1,10 +1,10 @@
 //! What each round of a history let each row do, and what held where it ended.
 
 use crate::cap_rows::caps;
-use crate::cause::Cause;
+use crate::cause::WaitCause;
 use crate::freeze_kind::FreezeKind;
+use crate::resource_state::resource_count;
 use crate::round_ends::RoundEnds;
-use crate::row_state::row_count;
 use crate::walk::walk;
 use cam_event::History;
 use event_rules::Rules;
@@ -53,7 +53,7 @@ impl RoundTable {
     ghost use Rattle.std.specs.Prelude.{◌≡◌, IfOk};
     ghost use Rattle.event_rules.specs.Counts.{round};
     ghost use Rattle.event_rules.specs.Legal.{history_rules};
-    ghost use Rattle.round_net.specs.Caps.{row_count, cap};
+    ghost use Rattle.round_net.specs.Caps.{resource_count, cap};
     ghost use Rattle.round_net.specs.Ends.{cause_in, flag_in};
     ghost use Rattle.round_net.specs.Nets.{table};
 
@@ -63,7 +63,7 @@ impl RoundTable {
     {
         let config = history.config();
         let rounds = history.round();
-        let cells = row_count(config) as usize * rounds as usize;
+        let cells = resource_count(config) as usize * rounds as usize;
         let mut frozen = vec![in alloc; false; cells]?;
         let mut openings = vec![in alloc; 0; cells]?;
         let mut sends = vec![in alloc; 0; cells]?;
@@ -95,7 +95,7 @@ impl RoundTable {
 
     /// What held up the device where the round ended; `NotAsked` for a round that didn't end.
     #[tactic(auto, using(crate::proofs::EndLemmas::place_fits))]
-    pub fn cause(&self, device: u32, round: u32) -> Cause
+    pub fn cause(&self, device: u32, round: u32) -> WaitCause
         ensures { result ≡ cause_in self.now.config self.now.events device round }
     {
         let devices = self.end.devices().config().devices().len();
@@ -104,10 +104,10 @@ impl RoundTable {
             .causes
             .get(place)
             .copied()
-            .unwrap_or(Cause::NotAsked)
+            .unwrap_or(WaitCause::NotAsked)
     }
 
-    /// Whether the device or the adapter was frozen in this way where the round ended; not in a round that didn't end.
+    /// Whether the device or the adapter had a freeze of this kind when the round ended; not in a round that didn't end.
     #[tactic(auto, using(crate::proofs::EndLemmas::place_fits))]
     pub fn is_frozen(&self, kind: FreezeKind, number: u32, round: u32) -> bool
         ensures { result ≡ flag_in kind self.now.config self.now.events number round }
@@ -119,7 +119,7 @@ impl RoundTable {
 
     // How many commands each row takes in each round.
     pub(crate) fn caps(&self, alloc: Global) -> Result<Vec<u32>, AllocError>
-        ensures { IfOk result (λ caps. caps.items ≡ table (row_count self.now.config) (round self.now.events) (cap self.now.config self.now.events)) }
+        ensures { IfOk result (λ caps. caps.items ≡ table (resource_count self.now.config) (round self.now.events) (cap self.now.config self.now.events)) }
     {
         caps(alloc, &self.frozen, &self.sends, &self.openings)
     }

@@ -5,7 +5,7 @@ ghost use Rattle.std.specs.Prelude.{◌≡◌, ◌<◌, ◌==◌, length, slice_
 use std::alloc::{AllocError, Global};
 use std::marker::Model;
 
-/// A round for each stay, in order of birth. It may be any round, one that a net doesn't have among them.
+/// A round for each stay, in creation order. It may be any round, one that a net doesn't have among them.
 #[derive(Debug, Drop)]
 pub struct Schedule {
     rounds: Vec<u32>,

@@ -1,9 +1,9 @@
 //! One pass over the places of a history.
 
 ghost use Rattle.std.specs.Prelude.{◌≡◌, ℕ, ◌≤◌, not, ◌==◌, true, false, [], slice_index, slice_index_or, IsTrue, IfOk};
-ghost use Rattle.round_net.specs.Words.{MOST_ROUNDS, history_rules, is_legal, round};
+ghost use Rattle.round_net.specs.Words.{MAX_ROUNDS, history_rules, is_legal, round};
 ghost use Rattle.round_net.specs.Ends.{AreEnds};
-ghost use Rattle.round_net.specs.Caps.{row_count, row_freezes, row_openings, sends_in};
+ghost use Rattle.round_net.specs.Caps.{resource_count, resource_freezes, resource_openings, sends_in};
 ghost use Rattle.round_net.specs.Marks.{Marks, Sets, IsNoted, HasCells};
 
 use crate::marks::{mark_frozen, note_openings, note_sends};
@@ -23,7 +23,7 @@ pub fn walk(
     sends: &mut [u32],
     ends: &mut RoundEnds,
 ) -> Result<Queues, AllocError>
-    requires few { rounds ≤ MOST_ROUNDS }
+    requires few { rounds ≤ MAX_ROUNDS }
     requires within { round events.now ≤ rounds }
     requires start { replay.events ≡ [] }
     requires rules { replay.rules ≡ history_rules }
@@ -55,13 +55,13 @@ fn note(
     openings: &mut [u32],
     sends: &mut [u32],
 )
-    requires few { rounds ≤ MOST_ROUNDS }
+    requires few { rounds ≤ MAX_ROUNDS }
     requires within { round replay.now.events ≤ rounds }
     requires cells { HasCells replay.now.config rounds frozen.old openings.old sends.old }
-    ensures marked { Marks (row_count replay.now.config) rounds frozen.old frozen.new (round replay.now.events) (λ row. not (row_freezes replay.now.config replay.now.events row == 0)) }
-    ensures opened { opens ≡ true → Sets (row_count replay.now.config) rounds openings.old openings.new (round replay.now.events) (row_openings replay.now.config replay.now.events) }
+    ensures marked { Marks (resource_count replay.now.config) rounds frozen.old frozen.new (round replay.now.events) (λ row. not (resource_freezes replay.now.config replay.now.events row == 0)) }
+    ensures opened { opens ≡ true → Sets (resource_count replay.now.config) rounds openings.old openings.new (round replay.now.events) (resource_openings replay.now.config replay.now.events) }
     ensures kept { opens ≡ false → openings.new ≡ openings.old }
-    ensures sent { Sets (row_count replay.now.config) rounds sends.old sends.new (round replay.now.events) (λ row. sends_in replay.now.config replay.now.events row (round replay.now.events)) }
+    ensures sent { Sets (resource_count replay.now.config) rounds sends.old sends.new (round replay.now.events) (λ row. sends_in replay.now.config replay.now.events row (round replay.now.events)) }
 {
     if opens {
         note_openings(replay, rounds, openings);

@@ -4,7 +4,7 @@ use crate::stop::Stop;
 use std::alloc::Global;
 
 /// The most that a distance is, which is far above what nets within the limits need.
-const MOST_DISTANCE: u32 = 1_000_000;
+const MAX_DISTANCE: u32 = 1_000_000;
 
 // A node, and the entry after it in its bucket.
 #[derive(Clone, Copy)]
@@ -45,7 +45,7 @@ impl Buckets {
 
     /// Puts a node in.
     pub fn push(&mut self, node: u32, distance: u32) -> Result<(), Stop> {
-        if distance > MOST_DISTANCE {
+        if distance > MAX_DISTANCE {
             return Err(Stop::GivenUp);
         }
         for _ in self.heads.len()..distance as usize + 1 {

@@ -7,25 +7,26 @@ use crate::problem::Problem;
 use crate::stop::Stop;
 use std::alloc::Global;
 
-/// The label of a cell that takes no stay: no way leads through it.
+/// The potential of a cell that takes no stay: no path leads through it.
 const CLOSED: u32 = 1_000_000_000;
 
 impl Problem {
     /// The node of a cell.
-    pub fn cell(&self, row: u32, round: u32) -> u32 {
-        row.saturating_mul(self.rounds.saturating_add(1))
+    pub fn cell(&self, resource: u32, round: u32) -> u32 {
+        resource
+            .saturating_mul(self.rounds.saturating_add(1))
             .saturating_add(round)
     }
 
-    // How many rows there are.
-    fn rows(&self) -> u32 {
+    // How many resources there are.
+    fn resources(&self) -> u32 {
         u32::try_from(self.above.len()).unwrap_or(u32::MAX)
     }
 
-    // The row above a row, if there is one.
-    fn row_above(&self, row: u32) -> Option<u32> {
-        let above = self.above.get(row as usize).copied()?;
-        if above < self.rows() {
+    // The resource above a resource, if there is one.
+    fn resource_above(&self, resource: u32) -> Option<u32> {
+        let above = self.above.get(resource as usize).copied()?;
+        if above < self.resources() {
             Some(above)
         } else {
             None
@@ -33,10 +34,10 @@ impl Problem {
     }
 
     // How many stays a cell takes, and 0 where the cells above it take none.
-    fn cap(&self, row: u32, round: u32) -> u32 {
-        let mut here = row;
-        for _ in 0..self.rows() {
-            let Some(above) = self.row_above(here) else {
+    fn cap(&self, resource: u32, round: u32) -> u32 {
+        let mut here = resource;
+        for _ in 0..self.resources() {
+            let Some(above) = self.resource_above(here) else {
                 break;
             };
             here = above;
@@ -44,12 +45,12 @@ impl Problem {
                 return 0;
             }
         }
-        self.own_cap(row, round)
+        self.own_cap(resource, round)
     }
 
-    fn own_cap(&self, row: u32, round: u32) -> u32 {
+    fn own_cap(&self, resource: u32, round: u32) -> u32 {
         self.caps
-            .get(self.cell(row, round) as usize)
+            .get(self.cell(resource, round) as usize)
             .copied()
             .unwrap_or(0)
     }
@@ -59,10 +60,10 @@ impl Problem {
         ensures { IfOk result (λ root. root ≡ length self.now.above.items * (self.now.rounds + 1)) }
     {
         let each = self.rounds.checked_add(1).ok_or(Stop::GivenUp)?;
-        let Ok(rows) = u32::try_from(self.above.len()) else {
+        let Ok(resources) = u32::try_from(self.above.len()) else {
             return Err(Stop::GivenUp);
         };
-        rows.checked_mul(each).ok_or(Stop::GivenUp)
+        resources.checked_mul(each).ok_or(Stop::GivenUp)
     }
 
     /// The network of the cells, the root and the stays, where no stay stands in a cell.
@@ -74,8 +75,8 @@ impl Problem {
 
     // Adds the cells, the root and the stays.
     fn add_nodes(&self, network: &mut Network, root: u32) -> Result<(), Stop> {
-        for row in 0..self.rows() {
-            self.add_cells(network, row)?;
+        for resource in 0..self.resources() {
+            self.add_cells(network, resource)?;
         }
         network.push(Node::new(root, u32::MAX, 0))?;
         for _stay in self.stays.iter() {
@@ -84,16 +85,16 @@ impl Problem {
         Ok(())
     }
 
-    // Adds the cells of a row.
-    fn add_cells(&self, network: &mut Network, row: u32) -> Result<(), Stop> {
+    // Adds the cells of a resource.
+    fn add_cells(&self, network: &mut Network, resource: u32) -> Result<(), Stop> {
         for round in 0..self.rounds.saturating_add(1) {
-            let above = match self.row_above(row) {
+            let above = match self.resource_above(resource) {
                 Some(above) => self.cell(above, round),
                 None => network.root(),
             };
-            let cap = self.cap(row, round);
-            let label = if cap == 0 { CLOSED } else { 0 };
-            network.push(Node::new(above, cap, label))?;
+            let cap = self.cap(resource, round);
+            let potential = if cap == 0 { CLOSED } else { 0 };
+            network.push(Node::new(above, cap, potential))?;
         }
         Ok(())
     }

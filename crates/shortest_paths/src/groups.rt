@@ -1,12 +1,12 @@
-//! Groups of stays that are alike but for their windows: those of one row of cells with one weight. If a search looked where
+//! Groups of stays that are alike but for their windows: those of one resource with one weight. If a search looked where
 //! one of them could move, it needn't look there again for another one that is no nearer.
 
 use crate::problem::{Problem, Stay};
 use crate::stop::Stop;
 use std::alloc::Global;
 
-// A group: its weight; the last search that looked along its row; from which round on it did, up to the last one of all; and
-// how far that was from there, less what each round costs and each label says.
+// A group: its weight; the last search that looked along its resource; from which round on it did, up to the last one of all; and
+// how far that was from there, less what each round costs and each potential says.
 #[derive(Clone, Copy)]
 struct Group {
     weight: u32,
@@ -62,16 +62,16 @@ impl Groups {
 
     // Gives each stay of a problem its group.
     fn add_stays(&mut self, alloc: Global, problem: &Problem) -> Result<(), Stop> {
-        let mut rows = rows_of_none(alloc, problem.above.len())?;
+        let mut resources = resources_of_none(alloc, problem.above.len())?;
         for stay in problem.stays.iter() {
-            self.add_stay(&mut rows, stay)?;
+            self.add_stay(&mut resources, stay)?;
         }
         Ok(())
     }
 
-    // Gives the next stay its group, which is one of those of its row.
-    fn add_stay(&mut self, rows: &mut [Vec<u32>], stay: &Stay) -> Result<(), Stop> {
-        let Some(known) = rows.get_mut(stay.row as usize) else {
+    // Gives the next stay its group, which is one of those of its resource.
+    fn add_stay(&mut self, resources: &mut [Vec<u32>], stay: &Stay) -> Result<(), Stop> {
+        let Some(known) = resources.get_mut(stay.resource as usize) else {
             return Err(Stop::GivenUp);
         };
         let group = self.group_of(known, stay.weight)?;
@@ -79,7 +79,7 @@ impl Groups {
         Ok(())
     }
 
-    // The group of this weight among those of a row, or a new one.
+    // The group of this weight among those of a resource, or a new one.
     fn group_of(&mut self, known: &mut Vec<u32>, weight: u32) -> Result<u32, Stop> {
         if let Some(group) = self.find(known, weight) {
             return Ok(group);
@@ -120,11 +120,11 @@ impl Groups {
     }
 }
 
-// For each row, that it has no groups yet.
-fn rows_of_none(alloc: Global, count: usize) -> Result<Vec<Vec<u32>>, Stop> {
-    let mut rows = Vec::with_capacity(alloc, count)?;
+// For each resource, that it has no groups yet.
+fn resources_of_none(alloc: Global, count: usize) -> Result<Vec<Vec<u32>>, Stop> {
+    let mut resources = Vec::with_capacity(alloc, count)?;
     for _ in 0..count {
-        rows.push(Vec::new(alloc))?;
+        resources.push(Vec::new(alloc))?;
     }
-    Ok(rows)
+    Ok(resources)
 }

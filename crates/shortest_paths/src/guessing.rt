@@ -1,9 +1,9 @@
-//! The guess. Proved: it has a round for each stay and a label for each cell and the root.
+//! The guess. Proved: it has a round for each stay and a potential for each cell and the root.
 
 ghost use Rattle.std.specs.Prelude.{◌≡◌, ◌+◌, ◌*◌, length, IfOk};
 ghost use Rattle.std.specs.Option.{IfSome};
 
-use crate::answer::{labels, rounds};
+use crate::answer::{potentials, rounds};
 use crate::network::Network;
 use crate::placing::place_all;
 use crate::problem::{Guess, Problem};
@@ -15,7 +15,7 @@ use std::alloc::{AllocError, Global};
 /// that those placed so far are sent as cheaply as they can be.
 pub fn guess(alloc: Global, problem: &Problem) -> Result<Option<Guess>, AllocError>
     ensures rounds { IfOk result (λ found. IfSome found (λ guess. length guess.rounds.items ≡ length problem.now.stays.items)) }
-    ensures labels { IfOk result (λ found. IfSome found (λ guess. length guess.labels.items ≡ length problem.now.above.items * (problem.now.rounds + 1) + 1)) }
+    ensures potentials { IfOk result (λ found. IfSome found (λ guess. length guess.potentials.items ≡ length problem.now.above.items * (problem.now.rounds + 1) + 1)) }
 {
     match search(alloc, problem) {
         Ok(guess) => Ok(Some(guess)),
@@ -27,13 +27,13 @@ pub fn guess(alloc: Global, problem: &Problem) -> Result<Option<Guess>, AllocErr
 // The guess, or why there is none.
 fn search(alloc: Global, problem: &Problem) -> Result<Guess, Stop>
     ensures rounds { IfOk result (λ guess. length guess.rounds.items ≡ length problem.now.stays.items) }
-    ensures labels { IfOk result (λ guess. length guess.labels.items ≡ length problem.now.above.items * (problem.now.rounds + 1) + 1) }
+    ensures potentials { IfOk result (λ guess. length guess.potentials.items ≡ length problem.now.above.items * (problem.now.rounds + 1) + 1) }
 {
     let root = problem.root()?;
     let network = placed(alloc, problem, root)?;
-    let labels = labels(alloc, &network, root)?;
+    let potentials = potentials(alloc, &network, root)?;
     let rounds = rounds(alloc, &network, problem)?;
-    Ok(Guess { rounds, labels })
+    Ok(Guess { rounds, potentials })
 }
 
 // The network in which all stays are placed.

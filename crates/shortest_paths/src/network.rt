@@ -13,18 +13,18 @@ pub struct Node {
     pub cap: u32,
     /// How many do.
     pub count: u32,
-    /// What the cheapest way from here to the root costs one stay more, at least.
-    pub label: u32,
+    /// What the cheapest path from here to the root costs one stay more, at least.
+    pub potential: u32,
 }
 
 impl Node {
     /// A node that leads to another, with room for that many stays.
-    pub fn new(above: u32, cap: u32, label: u32) -> Node {
+    pub fn new(above: u32, cap: u32, potential: u32) -> Node {
         Node {
             above,
             cap,
             count: 0,
-            label,
+            potential,
         }
     }
 
@@ -102,13 +102,13 @@ impl Network {
         }
     }
 
-    /// Raises the label of a node.
+    /// Raises the potential of a node.
     pub fn raise(&mut self, number: u32, by: u32) -> Result<(), Stop> {
         let node = self.node(number)?;
         self.set(
             number,
             Node {
-                label: node.label.checked_add(by).ok_or(Stop::GivenUp)?,
+                potential: node.potential.checked_add(by).ok_or(Stop::GivenUp)?,
                 ..node
             },
         );

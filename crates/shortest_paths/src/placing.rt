@@ -1,4 +1,5 @@
-//! Places stays one after another, each on a way to the root that makes all together cheapest.
+//! Successive shortest paths (Edmonds and Karp 1972; Tomizawa 1971): places stays one after another, each on a shortest path to
+//! the root of the residual network, so that all stays placed so far together cost least.
 
 use crate::network::Network;
 use crate::problem::{Problem, Stay};
@@ -7,7 +8,7 @@ use crate::stop::Stop;
 use std::alloc::Global;
 use std::cmp::Reverse;
 
-/// The most that a way is looked for where no room is left.
+/// The greatest length of a path that is searched where no room is left.
 const FAR: u32 = 500_000_000;
 
 // A stay in the order in which stays are placed.
@@ -58,11 +59,11 @@ fn place(
 ) -> Result<(), Stop> {
     let stay = problem.stay(number)?;
     let direct = first_room(network, problem, &stay)?;
-    if find_way(network, search, problem, number, &stay, direct)? {
+    if find_path(network, search, problem, number, &stay, direct)? {
         return send_along(network, search);
     }
     match direct {
-        Some(round) => send_direct(network, number, problem.cell(stay.row, round)),
+        Some(round) => send_direct(network, number, problem.cell(stay.resource, round)),
         None => Err(Stop::GivenUp),
     }
 }
@@ -73,9 +74,9 @@ fn send_direct(network: &mut Network, number: u32, cell: u32) -> Result<(), Stop
     network.send_up(cell)
 }
 
-// Looks for a way for a stay that is shorter than by its first round with room, raises the labels by what that shows, and says
+// Looks for a path for a stay that is shorter than by its first round with room, raises the potentials by what that shows, and says
 // whether there is one.
-fn find_way(
+fn find_path(
     network: &mut Network,
     search: &mut Search,
     problem: &Problem,
@@ -83,16 +84,16 @@ fn find_way(
     stay: &Stay,
     direct: Option<u32>,
 ) -> Result<bool, Stop> {
-    let label = least_label(network, problem, stay)?;
+    let potential = least_potential(network, problem, stay)?;
     let bound = match direct {
-        Some(round) => waiting(stay, round).saturating_sub(label),
+        Some(round) => waiting(stay, round).saturating_sub(potential),
         None => FAR,
     };
     if bound == 0 {
         return Ok(false);
     }
-    let shorter = search.run(network, problem, number, label, bound)?;
-    search.raise_labels(network)?;
+    let shorter = search.run(network, problem, number, potential, bound)?;
+    search.raise_potentials(network)?;
     Ok(shorter)
 }
 
@@ -102,16 +103,16 @@ fn waiting(stay: &Stay, round: u32) -> u32 {
         .saturating_mul(round.saturating_sub(stay.arrival))
 }
 
-// What the cheapest way to the root costs a stay that isn't placed, at least.
-fn least_label(network: &Network, problem: &Problem, stay: &Stay) -> Result<u32, Stop> {
+// What the cheapest path to the root costs a stay that isn't placed, at least.
+fn least_potential(network: &Network, problem: &Problem, stay: &Stay) -> Result<u32, Stop> {
     let mut least = u32::MAX;
     for round in stay.arrival..stay.last.saturating_add(1) {
         let waits = waiting(stay, round);
         if waits >= least {
             break;
         }
-        let label = network.node(problem.cell(stay.row, round))?.label;
-        least = least.min(waits.saturating_add(label));
+        let potential = network.node(problem.cell(stay.resource, round))?.potential;
+        least = least.min(waits.saturating_add(potential));
     }
     Ok(least)
 }
@@ -119,14 +120,14 @@ fn least_label(network: &Network, problem: &Problem, stay: &Stay) -> Result<u32,
 // The first round of a stay's window with room, if there is one.
 fn first_room(network: &Network, problem: &Problem, stay: &Stay) -> Result<Option<u32>, Stop> {
     for round in stay.arrival..stay.last.saturating_add(1) {
-        if network.has_room(problem.cell(stay.row, round))? {
+        if network.has_room(problem.cell(stay.resource, round))? {
             return Ok(Some(round));
         }
     }
     Ok(None)
 }
 
-// Changes what is sent along the way that a search found.
+// Changes what is sent along the path that a search found.
 fn send_along(network: &mut Network, search: &Search) -> Result<(), Stop> {
     let mut to = network.root();
     for _ in 0..network.len() {

@@ -5,8 +5,8 @@ use crate::stop::Stop;
 /// A stay that needs a round.
 #[derive(Clone, Copy)]
 pub struct Stay {
-    /// The row in whose cells it may stand.
-    pub row: u32,
+    /// The resource in whose cells it may stand.
+    pub resource: u32,
     /// The first round that it may have, from 1.
     pub arrival: u32,
     /// The last one.
@@ -15,15 +15,15 @@ pub struct Stay {
     pub weight: u32,
 }
 
-/// Rows of cells with a cell for each round, and stays. A stay in a cell also stands in the cell of the row above, in that of
-/// the row above it, and so on.
+/// Resources with a cell for each round, and stays. A stay in a cell also stands in the cell of the resource above, in that of
+/// the resource above it, and so on.
 #[derive(Drop)]
 pub struct Problem {
     /// How many rounds there are.
     pub rounds: u32,
-    /// The row above each row. Where a number is past all rows, there is none.
+    /// The resource above each resource. Where a number is past all resources, there is none.
     pub above: Vec<u32>,
-    /// How many stays each cell takes, row by row. Each row begins with a place for a round 0, which takes none.
+    /// How many stays each cell takes, resource by resource. Each resource begins with a place for a round 0, which takes none.
     pub caps: Vec<u32>,
     /// The stays.
     pub stays: Vec<Stay>,
@@ -44,7 +44,7 @@ impl Problem {
 pub struct Guess {
     /// A round for each stay.
     pub rounds: Vec<u32>,
-    /// A label for each cell, row by row, each row with a place for round 0 before, and at the end one for the root above
-    /// all rows. They are meant to show that the rounds are best.
-    pub labels: Vec<u64>,
+    /// A potential for each cell, resource by resource, each resource with a place for round 0 before, and at the end one for the root above
+    /// all resources. They are meant to show that the rounds are best.
+    pub potentials: Vec<u64>,
 }

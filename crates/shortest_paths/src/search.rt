@@ -1,4 +1,5 @@
-//! The search for a cheapest way from a stay to the root, by distances from which the labels are taken off.
+//! Dijkstra's algorithm on reduced costs (Edmonds and Karp 1972; Tomizawa 1971): the cheapest path from a stay to the root.
+//! The reduced cost of an arc is its cost less the potential of its tail plus that of its head.
 
 use crate::buckets::Buckets;
 use crate::groups::Groups;
@@ -47,20 +48,20 @@ impl Search {
         })
     }
 
-    /// Looks for a way for a stay to the root that is shorter than the bound, and says whether there is one. From its label,
-    /// which is given, distances are counted.
+    /// Searches a path from a stay to the root that is shorter than the bound, and answers whether there is one. Distances are
+    /// counted from the stay's potential, which is given.
     pub fn run(
         &mut self,
         network: &Network,
         problem: &Problem,
         number: u32,
-        label: u32,
+        potential: u32,
         bound: u32,
     ) -> Result<bool, Stop> {
         self.forget();
         self.best = bound;
         let stay = problem.stay(number)?;
-        let start = before(-i64::from(label), &stay, stay.arrival);
+        let start = before(-i64::from(potential), &stay, stay.arrival);
         self.look_along(network, problem, number, &stay, start)?;
         self.look_on(network, problem)?;
         Ok(self.best < bound)
@@ -79,13 +80,13 @@ impl Search {
         Err(Stop::GivenUp)
     }
 
-    /// How a node was reached by the way that was found, and none where it wasn't.
+    /// How a node was reached by the path that was found, and none where it wasn't.
     pub fn came_from(&self, number: u32) -> Option<u32> {
         self.marks.get(number as usize)?.from
     }
 
-    /// Raises the label of each cell that is nearer than the root by how much nearer it is.
-    pub fn raise_labels(&self, network: &mut Network) -> Result<(), Stop> {
+    /// Raises the potential of each cell that is nearer than the root by how much nearer it is.
+    pub fn raise_potentials(&self, network: &mut Network) -> Result<(), Stop> {
         for cell in &self.reached {
             let distance = self.mark(*cell)?.distance;
             if distance < self.best {
@@ -109,7 +110,7 @@ impl Search {
             .ok_or(Stop::GivenUp)
     }
 
-    // Reaches a node by a way, if that is the shortest so far.
+    // Reaches a node by a path, if that is the shortest so far.
     fn reach(
         &mut self,
         network: &Network,
@@ -131,7 +132,7 @@ impl Search {
         self.queue.push(number, distance)
     }
 
-    // Marks a node with a way to it, if that is the shortest so far, and says whether it is.
+    // Marks a node with a path to it, if that is the shortest so far, and says whether it is.
     fn shorten(&mut self, number: u32, distance: u32, from: u32) -> Result<bool, Stop> {
         let mark = self.marks.get_mut(number as usize).ok_or(Stop::GivenUp)?;
         let known = mark.distance;
@@ -148,16 +149,21 @@ impl Search {
         Ok(true)
     }
 
-    // Reaches a node by a way whose length but for the node's label is given.
-    fn reach_labelled(
+    // Reaches a node by a path. The key is the length of the path without the node's potential.
+    fn reach_by_key(
         &mut self,
         network: &Network,
         number: u32,
         key: i64,
         from: u32,
     ) -> Result<(), Stop> {
-        let label = network.node(number)?.label;
-        self.reach(network, number, key.saturating_add(i64::from(label)), from)
+        let potential = network.node(number)?.potential;
+        self.reach(
+            network,
+            number,
+            key.saturating_add(i64::from(potential)),
+            from,
+        )
     }
 
     // Reaches the nodes to which a cell leads, if this is its distance: the one above if it has room, the cells below that send
@@ -173,9 +179,9 @@ impl Search {
             return Ok(());
         }
         let node = network.node(cell)?;
-        let key = i64::from(distance) - i64::from(node.label);
+        let key = i64::from(distance) - i64::from(node.potential);
         if node.has_room() {
-            self.reach_labelled(network, node.above, key, cell)?;
+            self.reach_by_key(network, node.above, key, cell)?;
         }
         self.look_below(network, problem, cell, key)
     }
@@ -195,7 +201,7 @@ impl Search {
             };
             match network.stay_of(from) {
                 Some(number) => self.look_at(network, problem, number, cell, key)?,
-                None => self.reach_labelled(network, from, key, cell)?,
+                None => self.reach_by_key(network, from, key, cell)?,
             }
             sender = network.next_sender(from);
         }
@@ -212,11 +218,11 @@ impl Search {
         key: i64,
     ) -> Result<(), Stop> {
         let stay = problem.stay(number)?;
-        let round = cell.saturating_sub(problem.cell(stay.row, 0));
+        let round = cell.saturating_sub(problem.cell(stay.resource, 0));
         self.look_along(network, problem, number, &stay, before(key, &stay, round))
     }
 
-    // Reaches the cells of a stay's window, by how far they would be in a round 0 with labels 0.
+    // Reaches the cells of a stay's window, by how far they would be in a round 0 with potentials 0.
     fn look_along(
         &mut self,
         network: &Network,
@@ -233,8 +239,8 @@ impl Search {
             if ahead >= i64::from(self.best) {
                 break;
             }
-            let cell = problem.cell(stay.row, round);
-            self.reach_labelled(network, cell, ahead, from)?;
+            let cell = problem.cell(stay.resource, round);
+            self.reach_by_key(network, cell, ahead, from)?;
         }
         Ok(())
     }

@@ -4,7 +4,7 @@ use crate::fault::{FreezeOverflow, ReleaseTooMany};
 use crate::ready::{change_ready, requeue_first};
 use crate::row::Row;
 use crate::rows::{new_rows, row_of};
-use cam_types::{MOST_FREEZES, Priority};
+use cam_types::{MAX_FREEZES, Priority};
 use camq_heap::Camq;
 use std::alloc::{AllocError, Global};
 use std::marker::Model;
@@ -155,7 +155,7 @@ impl SimQueue {
         ensures ok { OnOk result (self.new ≡ record self.old { callers = self.old.callers + count }) }
         ensures overflow { OnErr result (self.new ≡ self.old) }
     {
-        if count > MOST_FREEZES - self.callers {
+        if count > MAX_FREEZES - self.callers {
             return Err(FreezeOverflow);
         }
         self.callers += count;

@@ -110,9 +110,9 @@ case_parts es ccb (Some k) case h =
 
 pub case_is : (rules : Rules) (c : Topology) (es : List Event) (case : Case) → is_legal rules c es ≡ true → next_case es ≡ Some case → IsCase es case
 case_is rules c es case legal is = elim (slice_get (cases es) 0) as (λ o. MatchOption o (list_any (is_recovering es) (ccbs es) ≡ false) (λ ccb. is_recovering es ccb ≡ true) → option_and_then (λ ccb. case_of ccb (last_class es ccb)) o ≡ Some case → IsCase es case) [
-  | None ↦ λ first said. absurd (cc)
-  | Some ccb ↦ λ first said.
-      let parts = case_parts es ccb (last_class es ccb) case said in
+  | None ↦ λ first stated. absurd (cc)
+  | Some ccb ↦ λ first stated.
+      let parts = case_parts es ccb (last_class es ccb) case stated in
       let recovers : is_recovering es case.ccb ≡ true = ap (is_recovering es) parts.0 ∙ first in
       let known : last_class es case.ccb ≡ Some case.class = ap (last_class es) parts.0 ∙ parts.1 in
       record {
@@ -129,8 +129,8 @@ some_class es ccb (Some o) bad h = absurd (cc)
 -- where no case is first, no CCB waits for a decision
 pub none_recovers : (rules : Rules) (c : Topology) (es : List Event) → is_legal rules c es ≡ true → next_case es ≡ None → list_any (is_recovering es) (ccbs es) ≡ false
 none_recovers rules c es legal is = elim (slice_get (cases es) 0) as (λ o. slice_get (cases es) 0 ≡ o → MatchOption o (list_any (is_recovering es) (ccbs es) ≡ false) (λ ccb. is_recovering es ccb ≡ true) → option_and_then (λ ccb. case_of ccb (last_class es ccb)) o ≡ None → list_any (is_recovering es) (ccbs es) ≡ false) [
-  | None ↦ λ at first said. first
-  | Some ccb ↦ λ at first said. absurd (some_class es ccb (last_result es ccb) (recovers_bad ccb es first) said)
+  | None ↦ λ at first stated. first
+  | Some ccb ↦ λ at first stated. absurd (some_class es ccb (last_result es ccb) (recovers_bad ccb es first) stated)
 ] refl (first_case_recovers rules c es legal) is
 
 -- a refusal for want of room that isn't the history's is that of stays
@@ -153,7 +153,7 @@ finish_never rules c es ccb why h = finish_no_stays _ _ _ _ (length es) why h
 
 -- a decision that is refused though the history isn't full is held up
 pub decision_held : (t : Transport) (case : Case) (why : Refusal) → is_legal t.rules t.config t.events ≡ true → next_case t.events ≡ Some case → refused t (decision_of case) ≡ Some why → is_full why ≡ false → is_held_up t case ≡ true
-decision_held t case why legal is said full =
+decision_held t case why legal is stated full =
     let known = case_is t.rules t.config t.events case legal is in
     let taken = asked_decisions_are_taken t.rules t.config t.events case.ccb legal known.recovers in
     elim (asks_requeue case.class) as (λ b. asks_requeue case.class ≡ b → (b || asks_finish case.class) ≡ true → refused t (cond b (Requeue case.ccb) (Finish case.ccb)) ≡ Some why → (b && is_for_stays (refused t (Requeue case.ccb))) ≡ true) [
@@ -163,7 +163,7 @@ decision_held t case why legal is said full =
       | false ↦ λ asks either_one refused_so.
           let room = taken.1 (ap (is_some_and asks_finish) known.known ∙ either_one) in
           absurd (false_true (sym (finish_never t.rules t.config t.events case.ccb why refused_so) ∙ stays_only why (sym (ap is_for_room refused_so) ∙ room) full))
-    ] refl known.asks said
+    ] refl known.asks stated
 
 pub free_before : (marked held : Bool) → held ≡ true → (not marked || not held) ≡ true → marked ≡ false
 free_before true true h able = absurd (false_true able)
@@ -202,4 +202,4 @@ lane_full_at false true k why named h = absurd (cc)
 lane_full_at false false k why named h = absurd (false_true named)
 
 pub lane_full : (t : Transport) (lane : ℕ) (why : Refusal) → has_head t.config t.events lane ≡ true → lane_refused t lane ≡ Some why → t.rules.events ≤ length t.events
-lane_full t lane why h said = test_le t.rules.events (length t.events) (lane_full_at (nat_le t.rules.events (length t.events)) (names_lane t.config lane) (length t.events) why (head_named t.config t.events lane h).0 said)
+lane_full t lane why h stated = test_le t.rules.events (length t.events) (lane_full_at (nat_le t.rules.events (length t.events)) (names_lane t.config lane) (length t.events) why (head_named t.config t.events lane h).0 stated)

@@ -1,4 +1,4 @@
--- what is said of a run that isn't called one of its script
+-- the fault of a run that isn't called one of its script
 use Rattle.std.proofs.Common.{◌≡◌, ℕ, ◌-◌, ◌<◌, List, [], ◌∷◌, ◌++◌, length, refl, sym, ap, ◌∙◌, subst, arith, inl, inr, cond, ◌==◌, true, false, eqb-true}
 use Rattle.std.proofs.lemmas.List.Sums.{sum_by-append}
 use Rattle.event_rules.proofs.ListFacts.{count_by-push}
@@ -67,7 +67,7 @@ ungathered_fault s logs (gathers.Mismatch r) h = record { history = h.0; logs = 
 ungathered_fault s logs (gathers.Unnamed place) h = record { history = h.0; logs = logs; served = []; past = h.1.0; why = inl h.1.1 }
 
 pub judged_fault : (s : Scenario) (h : Past) (logs : List Held) (served : List (List Served)) (fault : LiveFault) → IsPast h → AreInterleaved (due_of h) logs → IsNoRun s h logs served fault → IsUnjudged s fault
-judged_fault s h logs served OutOfMemory past together said = tt
-judged_fault s h logs served NoThread past together said = absurd said
-judged_fault s h logs served (Mismatch r) past together said = record { history = h; logs = logs; served = served; past = past; why = inr (together, said) }
-judged_fault s h logs served (Unnamed place) past together said = record { history = h; logs = logs; served = served; past = past; why = inr (together, said) }
+judged_fault s h logs served OutOfMemory past together stated = tt
+judged_fault s h logs served NoThread past together stated = absurd stated
+judged_fault s h logs served (Mismatch r) past together stated = record { history = h; logs = logs; served = served; past = past; why = inr (together, stated) }
+judged_fault s h logs served (Unnamed place) past together stated = record { history = h; logs = logs; served = served; past = past; why = inr (together, stated) }

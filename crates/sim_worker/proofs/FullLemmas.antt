@@ -37,8 +37,8 @@ own_causes rules c es _ = refl
 pub full_at_limit : (rules : Rules) (c : Topology) (es : List Event) (e : Event) → says_full (refusal rules c es e) ≡ true → rules.events ≤ length es
 unfolding refusal
 full_at_limit rules c es e h = elim (nat_le rules.events (length es)) as (λ b. nat_le rules.events (length es) ≡ b → says_full (first_cause ((b, HistoryFull (length es)) ∷ causes rules c es e)) ≡ true → rules.events ≤ length es) [
-  | true ↦ λ at said. test_le rules.events (length es) at
-  | false ↦ λ at said. absurd (false_true (sym (not_full (causes rules c es e) (own_causes rules c es e)) ∙ said))
+  | true ↦ λ at stated. test_le rules.events (length es) at
+  | false ↦ λ at stated. absurd (false_true (sym (not_full (causes rules c es e) (own_causes rules c es e)) ∙ stated))
 ] refl h
 
 -- an event that is refused though it is allowed finds a full history
@@ -60,18 +60,18 @@ some_why false why h = absurd (cc)
 -- a round that may not open though nothing is in flight is the last
 pub last_round : (rules : Rules) (c : Topology) (es : List Event) (why : Refusal) → refusal rules c es Tick ≡ Some why → is_full why ≡ false → has_in_flight es ≡ false → rules.rounds ≤ round es
 unfolding refusal
-last_round rules c es why said other landed = elim (nat_le rules.events (length es)) as (λ b. first_cause ((b, HistoryFull (length es)) ∷ (has_in_flight es, InFlight) ∷ (nat_le rules.rounds (round es), RoundsFull) ∷ []) ≡ Some why → rules.rounds ≤ round es) [
+last_round rules c es why stated other landed = elim (nat_le rules.events (length es)) as (λ b. first_cause ((b, HistoryFull (length es)) ∷ (has_in_flight es, InFlight) ∷ (nat_le rules.rounds (round es), RoundsFull) ∷ []) ≡ Some why → rules.rounds ≤ round es) [
   | true ↦ λ at. absurd (false_true (sym other ∙ sym (full_is why) ∙ ap says_full (sym at)))
   | false ↦ λ at. test_le rules.rounds (round es) (some_why (nat_le rules.rounds (round es)) why (sym (ap (λ b. first_cause ((b, InFlight) ∷ (nat_le rules.rounds (round es), RoundsFull) ∷ [])) landed) ∙ at))
-] said
+] stated
 
 -- what is refused otherwise leaves room for its event
 pub room_left : (rules : Rules) (c : Topology) (es : List Event) (e : Event) (why : Refusal) → refusal rules c es e ≡ Some why → is_full why ≡ false → length es < rules.events
 unfolding refusal
-room_left rules c es e why said other = elim (nat_le rules.events (length es)) as (λ b. nat_le rules.events (length es) ≡ b → first_cause ((b, HistoryFull (length es)) ∷ causes rules c es e) ≡ Some why → length es < rules.events) [
+room_left rules c es e why stated other = elim (nat_le rules.events (length es)) as (λ b. nat_le rules.events (length es) ≡ b → first_cause ((b, HistoryFull (length es)) ∷ causes rules c es e) ≡ Some why → length es < rules.events) [
   | true ↦ λ is at. absurd (false_true (sym other ∙ sym (full_is why) ∙ ap says_full (sym at)))
   | false ↦ λ is at. elim (less_or_not (length es) rules.events) [
     | inl less ↦ less
     | inr most ↦ absurd (false_true (sym is ∙ le_test rules.events (length es) most))
   ]
-] refl said
+] refl stated

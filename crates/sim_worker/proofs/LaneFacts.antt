@@ -1,7 +1,7 @@
 -- what lanes have in hand and what they served, after one event more
 use Rattle.std.proofs.Common.{◌≡◌, ◌≢◌, ℕ, Bool, true, false, cond, List, [], ◌∷◌, ◌++◌, length, set, refl, sym, ap, ◌∙◌, subst, Option, Some, None, inl, inr, append-nil, ◌==◌, ◌||◌, slice_get, option_to_list, option_and_then, IfSome, option_map, filter_map, eq-eqb, ne_eqb, eqb-true}
-use Rattle.cam_types.proofs.ListLemmas.{moments-push}
-use Rattle.sim_worker.specs.Words.{moments, Outcome, is_some_and, is_send_of, is_done_of, is_send_or_done_of, last, is_in_flight, Event, Send, Done, Scenario, is_answer}
+use Rattle.cam_types.proofs.ListLemmas.{prefixed-push}
+use Rattle.sim_worker.specs.Words.{prefixed, Outcome, is_some_and, is_send_of, is_done_of, is_send_or_done_of, last, is_in_flight, Event, Send, Done, Scenario, is_answer}
 use Rattle.event_rules.proofs.ListFacts.{filter_map-push}
 use Rattle.event_rules.proofs.StateLaws.{last-push, is_in_flight-push}
 use Rattle.std.proofs.lemmas.List.{map-append}
@@ -23,7 +23,7 @@ sender-push es e c = ap (option_and_then lane_of) (last-push (is_send_of c) es e
 
 pub outcomes_by-push : (lane : ℕ) (es : List Event) (e : Event) → outcomes_by lane (es ++ e ∷ []) ≡ outcomes_by lane es ++ option_to_list (outcome_by lane (es, e))
 unfolding outcomes_by
-outcomes_by-push lane es e = ap (filter_map (outcome_by lane)) (moments-push es e) ∙ filter_map-push (outcome_by lane) (moments es) (es, e)
+outcomes_by-push lane es e = ap (filter_map (outcome_by lane)) (prefixed-push es e) ∙ filter_map-push (outcome_by lane) (prefixed es) (es, e)
 
 or_none : (a b : Bool) → (a || b) ≡ false → (a ≡ false) × (b ≡ false)
 or_none true b h = absurd (cc)

@@ -4,10 +4,10 @@ use Rattle.std.proofs.lemmas.List.Elements.{All-head, All-tail, All-cons, All-ni
 use Rattle.std.specs.List.{list_all}
 use Rattle.std.proofs.lemmas.Bool.{and_from, and_parts, ltb-true}
 use Rattle.std.proofs.lemmas.List.Folds.{list_all-append}
-use Rattle.cam_types.proofs.ListLemmas.{moments-push}
+use Rattle.cam_types.proofs.ListLemmas.{prefixed-push}
 use Rattle.event_rules.proofs.LegalLemmas.{none-legal}
 use Rattle.event_rules.proofs.LimitLemmas.{legal-front, legal-next}
-use Rattle.sim_worker.specs.Words.{Bounds, Rules, Refusal, is_allowed, is_legal_event, refusal, refused, rules_of, is_legal, due_of, Past, moments, Topology, is_tick, Event, Tick, Scenario, Transport, AreInterleaved, is_rising, Held, Receipt, Driver, IsTaken}
+use Rattle.sim_worker.specs.Words.{Bounds, Rules, Refusal, is_allowed, is_legal_event, refusal, refused, rules_of, is_legal, due_of, Past, prefixed, Topology, is_tick, Event, Tick, Scenario, Transport, AreInterleaved, is_rising, Held, Receipt, Driver, IsTaken}
 use Rattle.xpt_lock.specs.Receipts.{all_receipts}
 use Rattle.xpt_lock.proofs.ReplayLemmas.{length_receipts_of}
 use Rattle.sim_worker.specs.LiveRuns.{IsAllDone, IsLastRound, IsLiveEnding, rows}
@@ -37,7 +37,7 @@ in_time c limits before Tick h = h refl
 in_time c limits before _ h = refl
 
 pub ticks-push : (c : Topology) (limits : Bounds) (es : List Event) (e : Event) → is_in_time c limits (es, e) ≡ true → are_ticks_in_time c limits es ≡ true → are_ticks_in_time c limits (es ++ e ∷ []) ≡ true
-ticks-push c limits es e here h = ap (list_all (is_in_time c limits)) (moments-push es e) ∙ list_all-append (is_in_time c limits) (moments es) ((es, e) ∷ []) ∙ and_from _ _ h (and_from _ _ here refl)
+ticks-push c limits es e here h = ap (list_all (is_in_time c limits)) (prefixed-push es e) ∙ list_all-append (is_in_time c limits) (prefixed es) ((es, e) ∷ []) ∙ and_from _ _ h (and_from _ _ here refl)
 
 pub still_of : (s : Scenario) (t new : Transport) (e : Event) → IsTaken t e new → IsOf s t → IsOf s new
 still_of s t new e made of = subst (IsOf s) (sym made.1) of
@@ -68,7 +68,7 @@ log_more P logs i log lt is one others k h less at = elim (less_or_not k i) [
 
 is_in_time_of : (c : Topology) (limits : Bounds) (before : List Event) (e : Event) → are_ticks_in_time c limits (before ++ e ∷ []) ≡ true → is_in_time c limits (before, e) ≡ true
 is_in_time_of c limits before e h =
-    let parts = and_parts (list_all (is_in_time c limits) (moments before)) (list_all (is_in_time c limits) ((before, e) ∷ [])) (sym (ap (list_all (is_in_time c limits)) (moments-push before e) ∙ list_all-append (is_in_time c limits) (moments before) ((before, e) ∷ [])) ∙ h) in
+    let parts = and_parts (list_all (is_in_time c limits) (prefixed before)) (list_all (is_in_time c limits) ((before, e) ∷ [])) (sym (ap (list_all (is_in_time c limits)) (prefixed-push before e) ∙ list_all-append (is_in_time c limits) (prefixed before) ((before, e) ∷ [])) ∙ h) in
     (and_parts (is_in_time c limits (before, e)) true parts.1).0
 
 room_for : (rules : Rules) (c : Topology) (before : List Event) (e : Event) → is_legal_event rules c (before, e) ≡ true → length before < rules.events
@@ -88,10 +88,10 @@ opened_early s logs t _ tick of busy h = absurd (cc)
 
 -- an event that the transport refuses
 pub refused_event : (s : Scenario) (logs : List Held) (t : Transport) (e : Event) (why : Refusal) → IsOf s t → refused t e ≡ Some why → IsFollowedTo s (t.events ++ e ∷ []) logs → ⊥
-refused_event s logs t e why of said h =
+refused_event s logs t e why of stated h =
     let none = (so_far s t.events e h.legal).1 in
     let same : refused t e ≡ refusal (rules_of s.limits) s.config t.events e = ap (λ (r : Rules). refusal r t.config t.events e) of.1 ∙ ap (λ (c : Topology). refusal (rules_of s.limits) c t.events e) of.0 in
-    never why (sym said ∙ same ∙ none)
+    never why (sym stated ∙ same ∙ none)
   where
     never : (why : Refusal) → Some why ≡ None → ⊥
     never why e = cc
@@ -118,11 +118,11 @@ followed_to s events logs walks t same passed sound = record {
   ticks = passed.3;
 }
 
-pub followed : (s : Scenario) (events : List Event) (logs : List Held) (walks : List Walk) (t : Transport) (said : Ending) → length walks ≡ length logs →
-    IsOf s t × (t.events ≡ events) × AreOn s logs events walks × (are_ticks_in_time s.config s.limits events ≡ true) → is_legal t.rules t.config t.events ≡ true → IsLiveEnding s t.events logs said → IsFollowed s events logs said
-followed s events logs walks t said same passed sound over = record {
+pub followed : (s : Scenario) (events : List Event) (logs : List Held) (walks : List Walk) (t : Transport) (stated : Ending) → length walks ≡ length logs →
+    IsOf s t × (t.events ≡ events) × AreOn s logs events walks × (are_ticks_in_time s.config s.limits events ≡ true) → is_legal t.rules t.config t.events ≡ true → IsLiveEnding s t.events logs stated → IsFollowed s events logs stated
+followed s events logs walks t stated same passed sound over = record {
   whole = followed_to s events logs walks t same passed sound;
-  over = subst (λ es. IsLiveEnding s es logs said) passed.1 over;
+  over = subst (λ es. IsLiveEnding s es logs stated) passed.1 over;
 }
 
 all_held : {X : Type 0} → (P : X → Type 0) (xs : List X) (i : ℕ) (x : X) → All P xs → slice_get xs i ≡ Some x → P x
@@ -155,7 +155,7 @@ logs_placed h logs fit i j log r at there =
     omega (arith, there_is (due_of h) r.at r stands, length_receipts_of h.config h.events)
 
 -- where none of the three endings fits
-pub unended : (s : Scenario) (events : List Event) (logs : List Held) → (IsAllDone s events logs → ⊥) → (length events ≡ s.limits.events → ⊥) → (IsLastRound s events logs → ⊥) → (said : Ending) → IsLiveEnding s events logs said → ⊥
+pub unended : (s : Scenario) (events : List Event) (logs : List Held) → (IsAllDone s events logs → ⊥) → (length events ≡ s.limits.events → ⊥) → (IsLastRound s events logs → ⊥) → (stated : Ending) → IsLiveEnding s events logs stated → ⊥
 unended s events logs busy room rounds Drained over = busy over
 unended s events logs busy room rounds RoundsFull over = rounds over.1
 unended s events logs busy room rounds HistoryFull over = room over.1

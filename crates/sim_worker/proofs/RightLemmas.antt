@@ -3,9 +3,9 @@ use Rattle.std.proofs.Common.{◌≡◌, ℕ, zero, suc, ◌+◌, ◌<◌, ◌�
 use Rattle.std.specs.List.{list_all}
 use Rattle.std.proofs.lemmas.Bool.{and_parts}
 use Rattle.std.proofs.lemmas.List.Folds.{list_all-append}
-use Rattle.cam_types.proofs.ListLemmas.{moments-push}
+use Rattle.cam_types.proofs.ListLemmas.{prefixed-push}
 use Rattle.event_rules.proofs.LimitLemmas.{legal-front}
-use Rattle.sim_worker.specs.Words.{Event, Held, Past, Receipt, Scenario, Step, Tick, is_legal, moments, round, rules_of}
+use Rattle.sim_worker.specs.Words.{Event, Held, Past, Receipt, Scenario, Step, Tick, is_legal, prefixed, round, rules_of}
 use Rattle.sim_worker.specs.Endings.{Ending, Drained, RoundsFull, HistoryFull}
 use Rattle.sim_worker.specs.Faults.{IsFailing, IsNoRun, LiveFault, Mismatch, NoThread, OutOfMemory, Unnamed}
 use Rattle.sim_worker.specs.LiveRuns.{EachLog, IsLiveEnding, IsLiveRun, IsLog, is_full, rows}
@@ -42,11 +42,11 @@ few_taken (y ∷ ys) zero k lt = absurd (omega arith)
 few_taken (y ∷ ys) (suc n) zero lt = (omega arith, omega arith)
 few_taken (y ∷ ys) (suc n) (suc k) lt = let rest = few_taken ys n k (omega arith) in (omega (arith, rest.0), omega (arith, rest.1))
 
-front_in_time : (p : List Event × Event → Bool) (front back : List Event) → list_all p (moments (front ++ back)) ≡ true → list_all p (moments front) ≡ true
-front_in_time p front [] h = ap (λ es. list_all p (moments es)) (sym (append-nil front)) ∙ h
+front_in_time : (p : List Event × Event → Bool) (front back : List Event) → list_all p (prefixed (front ++ back)) ≡ true → list_all p (prefixed front) ≡ true
+front_in_time p front [] h = ap (λ es. list_all p (prefixed es)) (sym (append-nil front)) ∙ h
 front_in_time p front (e ∷ back) h =
-    let more = front_in_time p (front ++ e ∷ []) back (ap (λ es. list_all p (moments es)) (append_assoc front (e ∷ []) back) ∙ h) in
-    (and_parts (list_all p (moments front)) (list_all p ((front, e) ∷ [])) (sym (ap (list_all p) (moments-push front e) ∙ list_all-append p (moments front) ((front, e) ∷ [])) ∙ more)).0
+    let more = front_in_time p (front ++ e ∷ []) back (ap (λ es. list_all p (prefixed es)) (append_assoc front (e ∷ []) back) ∙ h) in
+    (and_parts (list_all p (prefixed front)) (list_all p ((front, e) ∷ [])) (sym (ap (list_all p) (prefixed-push front e) ∙ list_all-append p (prefixed front) ((front, e) ∷ [])) ∙ more)).0
 
 front_log : (s : Scenario) (steps : List Step) (log : List Receipt) (events : List Event) (n : ℕ) → IsDriverLog s steps log events → IsDriverLog s steps log (take n events)
 front_log s steps log events n h = record {
@@ -81,26 +81,26 @@ one_ending s events logs HistoryFull HistoryFull h k = refl
 
 -- ---- a run
 
-whole : (s : Scenario) (h : Past) (logs : List Held) (served : List (List Served)) (said : Ending) → IsLiveRun s h logs served said → IsFollowedTo s h.events logs
-whole s h logs served said run = record {
-  drivers = λ i log at d name. subst (λ n. IsLog s h.events served (is_full said) n log) name (run.each i log at);
+whole : (s : Scenario) (h : Past) (logs : List Held) (served : List (List Served)) (stated : Ending) → IsLiveRun s h logs served stated → IsFollowedTo s h.events logs
+whole s h logs served stated run = record {
+  drivers = λ i log at d name. subst (λ n. IsLog s h.events served (is_full stated) n log) name (run.each i log at);
   legal = run.legal;
   ticks = run.ticks;
 }
 
-not_failing : (s : Scenario) (h : Past) (logs : List Held) (served : List (List Served)) (place : ℕ) (said : Ending) → IsFailing s h logs served place → IsLiveRun s h logs served said → ⊥
-not_failing s h logs served place said fails run = elim fails [
-  | inl (inl unfit) ↦ unfit.not_here (front_followed s h.events logs (place + 1) (whole s h logs served said run))
-  | inl (inr last) ↦ last.1.not_over said run.over
+not_failing : (s : Scenario) (h : Past) (logs : List Held) (served : List (List Served)) (place : ℕ) (stated : Ending) → IsFailing s h logs served place → IsLiveRun s h logs served stated → ⊥
+not_failing s h logs served place stated fails run = elim fails [
+  | inl (inl unfit) ↦ unfit.not_here (front_followed s h.events logs (place + 1) (whole s h logs served stated run))
+  | inl (inr last) ↦ last.1.not_over stated run.over
   | inr (last, inl other) ↦ other (run.config, run.names)
   | inr (last, inr apart) ↦
-      let same : said ≡ apart.said = one_ending s h.events logs said apart.said run.over apart.followed.over in
+      let same : stated ≡ apart.stated = one_ending s h.events logs stated apart.stated run.over apart.followed.over in
       apart.not_served (subst (λ it. EachLog (λ log. IsLog s h.events served (is_full it) log.name log) logs) same run.each)
 ]
 
--- of a run no fault is told but that there is no memory
-pub run_is_right : (s : Scenario) (h : Past) (logs : List Held) (served : List (List Served)) (fault : LiveFault) → IsNoRun s h logs served fault → (said : Ending) → IsLiveRun s h logs served said → fault ≡ OutOfMemory
-run_is_right s h logs served OutOfMemory why said run = refl
-run_is_right s h logs served NoThread why said run = absurd why
-run_is_right s h logs served (Mismatch r) why said run = absurd (not_failing s h logs served r.at said why.1 run)
-run_is_right s h logs served (Unnamed first) why said run = absurd (not_failing s h logs served 0 said why.2 run)
+-- a run has no fault but that there is no memory
+pub run_is_right : (s : Scenario) (h : Past) (logs : List Held) (served : List (List Served)) (fault : LiveFault) → IsNoRun s h logs served fault → (stated : Ending) → IsLiveRun s h logs served stated → fault ≡ OutOfMemory
+run_is_right s h logs served OutOfMemory why stated run = refl
+run_is_right s h logs served NoThread why stated run = absurd why
+run_is_right s h logs served (Mismatch r) why stated run = absurd (not_failing s h logs served r.at stated why.1 run)
+run_is_right s h logs served (Unnamed first) why stated run = absurd (not_failing s h logs served 0 stated why.2 run)

@@ -35,8 +35,8 @@ in_order_of answers n xs (Some hand) h =
     same_front xs (first_answers answers (length xs)) hand.outcome (answer_at answers (length xs)) (sym (length-first answers (length xs)))
     (sym h ∙ ap (first_answers answers) len ∙ first_answers-push answers (length xs))
 
-pub run_is : (w : Work) (h : Past) (said : Ending) → IsWork w → h ≡ record { config = w.transport.config; events = w.transport.events } → IsEnding w.script w.transport.events said → IsSimRun w.script h said
-run_is w h said is made ending = subst (λ (v : Past). IsSimRun w.script v said) (sym made) (record {
+pub run_is : (w : Work) (h : Past) (stated : Ending) → IsWork w → h ≡ record { config = w.transport.config; events = w.transport.events } → IsEnding w.script w.transport.events stated → IsSimRun w.script h stated
+run_is w h stated is made ending = subst (λ (v : Past). IsSimRun w.script v stated) (sym made) (record {
   config = is.config;
   legal = subst (λ (r : Rules). is_legal r w.script.config w.transport.events ≡ true) is.rules (subst (λ (c : Topology). is_legal w.transport.rules c w.transport.events ≡ true) is.config is.legal);
   calls = by_rows w.script w.transport.events w.drivers is.eight is.made;

@@ -39,8 +39,8 @@ refused_for_stays rules c es ccb full none = stays_refuse _ _ (are_stays_full ru
 
 -- there is room, so a refusal isn't that the history is full
 not_full : (rules : Rules) (c : Topology) (es : List Event) (e : Event) (why : Refusal) → length es < rules.events → refusal rules c es e ≡ Some why → is_full why ≡ false
-not_full rules c es e why room said = elim (is_full why) as (λ b. is_full why ≡ b → b ≡ false) [
-  | true ↦ λ full. absurd (let at = full_at_limit rules c es e (ap says_full said ∙ full_is why ∙ full) in omega arith)
+not_full rules c es e why room stated = elim (is_full why) as (λ b. is_full why ≡ b → b ≡ false) [
+  | true ↦ λ full. absurd (let at = full_at_limit rules c es e (ap says_full stated ∙ full_is why ∙ full) in omega arith)
   | false ↦ λ other. refl
 ] refl
 
@@ -54,7 +54,7 @@ not_held_up s t case of is free sofar rest =
     let room : length t.events < t.rules.events = subst (λ (r : Rules). length t.events < r.events) (sym of.1) sofar.room in
     elim (refused t (Requeue case.ccb)) as (λ o. refused t (Requeue case.ccb) ≡ o → ⊥) [
       | None ↦ λ none. refused_for_stays t.rules t.config t.events case.ccb full none
-      | Some why ↦ λ said.
-          let decided : refused t (decision_of case) ≡ Some why = ap (λ b. refused t (cond b (Requeue case.ccb) (Finish case.ccb))) parts.0 ∙ said in
-          false_true (sym free ∙ decision_held t case why legal is decided (not_full t.rules t.config t.events (Requeue case.ccb) why room said))
+      | Some why ↦ λ stated.
+          let decided : refused t (decision_of case) ≡ Some why = ap (λ b. refused t (cond b (Requeue case.ccb) (Finish case.ccb))) parts.0 ∙ stated in
+          false_true (sym free ∙ decision_held t case why legal is decided (not_full t.rules t.config t.events (Requeue case.ccb) why room stated))
     ] refl

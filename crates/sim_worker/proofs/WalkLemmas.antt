@@ -183,14 +183,14 @@ walk_settled s t steps log w row now moves behind stays known of h = record {
     ];
     marked = λ place early. (
       behind,
-      λ e there said.
+      λ e there stated.
           let kept = h.marked place early in
           let same : row ≡ w.row = stays kept.0 in
-          mark_left _ now (both_marks _ _ (eq-eqb row w.row same) (kept.1 e (ap (slice_get steps) (sym same) ∙ there) said)),
+          mark_left _ now (both_marks _ _ (eq-eqb row w.row same) (kept.1 e (ap (slice_get steps) (sym same) ∙ there) stated)),
     );
   };
   behind = behind;
-  now = λ e there said. mark_right (row == w.row && w.refused) now (known e there ∙ refused_now s t e of ∙ said);
+  now = λ e there stated. mark_right (row == w.row && w.refused) now (known e there ∙ refused_now s t e of ∙ stated);
 }
 
 one_longer : (before : List Event) (e : Event) → length (before ++ e ∷ []) ≡ length before + 1
@@ -234,11 +234,11 @@ marked_beside s steps log before e w b same keeps h place early =
     let now : round (before ++ e ∷ []) ≡ round before = round-still before e still in
     let front : take place (before ++ e ∷ []) ≡ take place before = take_front before (e ∷ []) place le in (
       subst (λ n. IsBehindPauses steps n w.row) (sym now) h.behind,
-      λ x there said. keeps (elim (less_or_not place (length before)) [
-        | inl less ↦ (h.walk.marked place (record { less = less; same_round = ap round (sym front) ∙ early.same_round ∙ now; same_calls = early.same_calls ∙ same })).1 x there (ap (λ es. is_of_rules (refusal (rules_of s.limits) s.config es x)) (sym front) ∙ said)
+      λ x there stated. keeps (elim (less_or_not place (length before)) [
+        | inl less ↦ (h.walk.marked place (record { less = less; same_round = ap round (sym front) ∙ early.same_round ∙ now; same_calls = early.same_calls ∙ same })).1 x there (ap (λ es. is_of_rules (refusal (rules_of s.limits) s.config es x)) (sym front) ∙ stated)
         | inr last ↦
             let whole : take place before ≡ before = take_whole before place last in
-            h.now x there (ap (λ es. is_of_rules (refusal (rules_of s.limits) s.config es x)) (sym (front ∙ whole)) ∙ said)
+            h.now x there (ap (λ es. is_of_rules (refusal (rules_of s.limits) s.config es x)) (sym (front ∙ whole)) ∙ stated)
       ]) still,
     )
 

@@ -1,4 +1,4 @@
--- what is said of a run on many threads that isn't called one of its script
+-- the fault of a run on many threads that isn't called one of its script
 use Rattle.std.specs.Prelude.{◌≡◌, ℕ, ◌+◌, ◌-◌, ◌<◌, ◌⊎◌, List, [], length, map, take, Some, slice_get}
 use Rattle.sim_worker.specs.Words.{AreInterleaved, Event, Scenario, Held, IsPast, Past, Receipt, due_of}
 use Rattle.xpt_lock.specs.Gathers.{IsMisfit, IsUnnamed}
@@ -32,7 +32,7 @@ pub record IsFirstUnfit (s : Scenario) (events : List Event) (logs : List Held) 
 -- all went by the script, but no ending fits
 pub record IsUnended (s : Scenario) (events : List Event) (logs : List Held) : Type 0 where
   pub whole : IsFollowedTo s events logs
-  pub not_over : (said : Ending) → ¬ IsLiveEnding s events logs said
+  pub not_over : (stated : Ending) → ¬ IsLiveEnding s events logs stated
 
 -- The place is that of the first event that didn't go by the script. If all did, it is that of the last, and no ending fits.
 abbrev pub IsStop : Scenario → List Event → List Held → ℕ → Type 0
@@ -40,9 +40,9 @@ IsStop s events logs place = IsFirstUnfit s events logs place ⊎ ((place ≡ le
 
 -- All went by the script to an ending that fits, but some log isn't what its actor did.
 pub record IsUnserved (s : Scenario) (events : List Event) (logs : List Held) (served : List (List Served)) : Type 0 where
-  pub said : Ending
-  pub followed : IsFollowed s events logs said
-  pub not_served : ¬ EachLog (λ log. IsLog s events served (is_full said) log.name log) logs
+  pub stated : Ending
+  pub followed : IsFollowed s events logs stated
+  pub not_served : ¬ EachLog (λ log. IsLog s events served (is_full stated) log.name log) logs
 
 -- the history is of the script's configuration, and the logs are its actors'
 abbrev pub AreOfScript : Scenario → Past → List Held → Type 0

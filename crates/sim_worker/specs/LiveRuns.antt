@@ -62,11 +62,11 @@ IsLiveEnding s events logs HistoryFull = (¬ IsAllDone s events logs) × (length
 
 -- The history is of the script's configuration and legal by its limits. The actors' logs are in their order, and interleave to
 -- what one thread would get. Each did what the script, or its port, says. No round opened before it might.
-pub record IsLiveRun (s : Scenario) (h : Past) (logs : List Held) (served : List (List Served)) (said : Ending) : Type 0 where
+pub record IsLiveRun (s : Scenario) (h : Past) (logs : List Held) (served : List (List Served)) (stated : Ending) : Type 0 where
   pub config : h.config ≡ s.config
   pub legal : IsTrue (is_legal (rules_of s.limits) s.config h.events)
   pub names : map (λ (log : Held). log.name) logs ≡ actors s
   pub together : AreInterleaved (due_of h) logs
-  pub each : EachLog (λ log. IsLog s h.events served (is_full said) log.name log) logs
+  pub each : EachLog (λ log. IsLog s h.events served (is_full stated) log.name log) logs
   pub ticks : IsTrue (are_ticks_in_time s.config s.limits h.events)
-  pub over : IsLiveEnding s h.events logs said
+  pub over : IsLiveEnding s h.events logs stated

@@ -2,7 +2,7 @@
 use Rattle.std.specs.Prelude.{◌≡◌, ℕ, ◌==◌, Bool, true, false, not, ◌&&◌, nat_le, List, ◌++◌, length, filter, Option, Some, None, is_some, option_and_then, if◌then◌else◌}
 use Rattle.std.specs.List.{list_any, list_all, filter_map}
 use Rattle.std.specs.Option.{option_map_or}
-use Rattle.sim_worker.specs.Words.{Bounds, moments, Topology, Outcome, asks_requeue, is_some_and, is_send_of, last, head, stays_begun, Event, Submit, Send, Done, Tick, Step, next_case, Case}
+use Rattle.sim_worker.specs.Words.{Bounds, prefixed, Topology, Outcome, asks_requeue, is_some_and, is_send_of, last, head, stays_begun, Event, Submit, Send, Done, Tick, Step, next_case, Case}
 use Rattle.trace_file.specs.declared.step.Step.TheVariants as step
 
 -- ---- drivers
@@ -48,7 +48,7 @@ outcome_by lane (before, Done ccb outcome) = if is_some_and (λ l. l == lane) (s
 outcome_by lane (before, _) = None
 
 unfoldable pub outcomes_by : ℕ → List Event → List Outcome
-outcomes_by lane events = filter_map (outcome_by lane) (moments events)
+outcomes_by lane events = filter_map (outcome_by lane) (prefixed events)
 
 -- ---- the opening of a round
 
@@ -74,4 +74,4 @@ is_in_time c limits (before, Tick) = may_tick c limits before
 is_in_time c limits (before, _) = true
 
 abbrev pub are_ticks_in_time : Topology → Bounds → List Event → Bool
-are_ticks_in_time c limits events = list_all (is_in_time c limits) (moments events)
+are_ticks_in_time c limits events = list_all (is_in_time c limits) (prefixed events)

@@ -25,7 +25,7 @@ pub record AreByRows (s : Scenario) (events : List Event) : Type 0 where
 -- The history is of the script's configuration and legal by its limits. What drivers did is what their rows say, and what a
 -- driver submitted has its number. What a lane's commands came to are the first of its port's answers. No round opened before
 -- it might.
-pub record IsSimRun (s : Scenario) (h : Past) (said : Ending) : Type 0 where
+pub record IsSimRun (s : Scenario) (h : Past) (stated : Ending) : Type 0 where
   pub config : h.config ≡ s.config
   pub legal : IsTrue (is_legal (rules_of s.limits) s.config h.events)
   pub calls : AreByRows s h.events
@@ -33,4 +33,4 @@ pub record IsSimRun (s : Scenario) (h : Past) (said : Ending) : Type 0 where
   pub outcomes : (lane : ℕ) → lane < length s.answers →
       outcomes_by lane h.events ≡ first_answers (get_or s.answers lane []) (length (outcomes_by lane h.events))
   pub ticks : IsTrue (are_ticks_in_time s.config s.limits h.events)
-  pub over : IsEnding s h.events said
+  pub over : IsEnding s h.events stated

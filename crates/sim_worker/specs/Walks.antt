@@ -83,9 +83,9 @@ pub record IsFollowedTo (s : Scenario) (before : List Event) (logs : List Held) 
   pub ticks : are_ticks_in_time s.config s.limits before ≡ true
 
 -- so it went to the end, and this is how the run ended
-pub record IsFollowed (s : Scenario) (events : List Event) (logs : List Held) (said : Ending) : Type 0 where
+pub record IsFollowed (s : Scenario) (events : List Event) (logs : List Held) (stated : Ending) : Type 0 where
   pub whole : IsFollowedTo s events logs
-  pub over : IsLiveEnding s events logs said
+  pub over : IsLiveEnding s events logs stated
 
 -- ---- lanes
 

@@ -1,6 +1,6 @@
 -- The words of the crates below that most clauses and proofs cite, passed on from one place. Declares nothing.
 pub use Rattle.cam_types.specs.Bounds.{Bounds}
-pub use Rattle.cam_types.specs.Lists.{moments}
+pub use Rattle.cam_types.specs.Lists.{prefixed}
 pub use Rattle.cam_types.specs.Questions.{lane_adapter, names_lane}
 pub use Rattle.cam_types.specs.Topology.{Topology}
 pub use Rattle.cam_types.specs.declared.adapter.Adapter.{Adapter}

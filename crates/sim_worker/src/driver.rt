@@ -10,7 +10,7 @@ use event_rules::{Event, Refusal};
 use std::sync::Wait;
 use std::sync::ledger::Ledger;
 use trace_file::Step;
-use xpt_lock::{Bell, Receipt, Seat, SharedFault};
+use xpt_lock::{Receipt, Seat, SharedFault, WaitEvent};
 
 // Where a driver stands: the row that it does next, and the last round in which it rests.
 #[derive(Clone, Copy)]
@@ -34,7 +34,7 @@ pub(crate) fn drive<L: Ledger, R: Wait>(
 {
     let mut stand = Stand { row: 0, until: 0 };
     for _ in rt.forever() {
-        let seen = place.shared.moment(rt, Bell::Round);
+        let seen = place.shared.epoch(rt, WaitEvent::Round);
         if place.is_stopped() {
             return;
         }

@@ -12,7 +12,7 @@ ghost use Rattle.sim_worker.specs.Words.{Event, round};
 
 use crate::ending::Ending;
 use crate::log::SeatLog;
-use crate::pass::{may_tick, rows, walk_at};
+use crate::run_replay::{may_tick, rows, walk_at};
 use crate::walk::Walk;
 use trace_file::{Script, Step};
 use xpt_lock::SeatName;
@@ -25,7 +25,7 @@ pub(crate) fn ending(script: &Script, logs: &[SeatLog], walks: &[Walk], xpt: &Xp
     requires on { AreOn script.now logs.now xpt.now.events walks.now }
     requires placed { ArePlaced logs.now xpt.now.events }
     ensures some { IfSome result (IsLiveEnding script.now xpt.now.events logs.now) }
-    ensures none { IfNone result ((said : Ending) → ¬ IsLiveEnding script.now xpt.now.events logs.now said) }
+    ensures none { IfNone result ((stated : Ending) → ¬ IsLiveEnding script.now xpt.now.events logs.now stated) }
 {
     if is_all_done(script, logs, xpt) {
         return Some(Ending::Drained);

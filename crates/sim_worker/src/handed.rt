@@ -1,4 +1,4 @@
-//! The lanes' ports on their way through the threads: each comes back at the lane at which it was handed in.
+//! The lanes' ports, handed through the threads: each comes back at the lane at which it was handed in.
 
 ghost use Rattle.std.specs.Prelude.{◌≡◌, ◌<◌, ℕ, List, [], IfOk, IfErr, IsTrue, get_or, length, map};
 ghost use Rattle.std.specs.List.{range_with_len};

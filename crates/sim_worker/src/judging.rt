@@ -15,8 +15,8 @@ use crate::fault::LiveFault;
 use crate::lanes::is_lane_log;
 use crate::log::SeatLog;
 use crate::names::{actors, are_named};
-use crate::pass::follow;
 use crate::port::Port;
+use crate::run_replay::follow;
 use crate::served::Served;
 use cam_event::History;
 use cam_types::Config;
@@ -29,7 +29,7 @@ use xpt_lock::{Receipt, SeatName};
 ///
 /// Otherwise the fault has the receipt of the first event that the script doesn't allow there. It has that of the last event if
 /// the script allows them all but no ending fits, or if something else than an event differs: the configuration, the actors,
-/// or what a lane, recovery or the keeper did. Of a run of the script no fault but `OutOfMemory` is told.
+/// or what a lane, recovery or the keeper did. A run of the script has no fault but `OutOfMemory`.
 pub fn judge<P: Port>(
     alloc: Global,
     script: &Script,
@@ -41,27 +41,27 @@ pub fn judge<P: Port>(
     requires together { AreInterleaved (due_of history.now) logs.now }
     ensures run { IfOk result (λ ending. IsLiveRun script.now history.now logs.now (map (λ p. P.list p) ports.now) ending) }
     ensures fault { IfErr result (λ fault. IsNoRun script.now history.now logs.now (map (λ p. P.list p) ports.now) fault) }
-    ensures right { IfErr result (λ fault. (said : Ending) → IsLiveRun script.now history.now logs.now (map (λ p. P.list p) ports.now) said → fault ≡ OutOfMemory) }
+    ensures right { IfErr result (λ fault. (stated : Ending) → IsLiveRun script.now history.now logs.now (map (λ p. P.list p) ports.now) stated → fault ≡ OutOfMemory) }
 {
     let events = history.events();
     let last = events.len().saturating_sub(1);
     if !are_of_script(alloc, script, history, logs)? {
         return Err(mismatch(logs, last));
     }
-    let said = match follow(alloc, script, events, logs)? {
+    let stated = match follow(alloc, script, events, logs)? {
         Ok(ending) => ending,
         Err(place) => return Err(mismatch(logs, place)),
     };
-    if !are_as_served(logs, ports, is_full(said)) {
+    if !are_as_served(logs, ports, is_full(stated)) {
         return Err(mismatch(logs, last));
     }
-    Ok(said)
+    Ok(stated)
 }
 
-fn is_full(said: Ending) -> bool
-    ensures { result ≡ is_full said }
+fn is_full(stated: Ending) -> bool
+    ensures { result ≡ is_full stated }
 {
-    matches!(said, Ending::HistoryFull)
+    matches!(stated, Ending::HistoryFull)
 }
 
 // The fault at this place: the receipt that names it. There is one, unless nothing happened at all.

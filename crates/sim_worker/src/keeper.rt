@@ -4,7 +4,7 @@ use crate::progress::Progress;
 use crate::workplace::{FOR_GOOD, Rests, Workplace};
 use std::sync::Wait;
 use std::sync::ledger::Ledger;
-use xpt_lock::{Bell, Seat};
+use xpt_lock::{Seat, WaitEvent};
 use xpt_state::Look;
 
 /// Opens a round each time nothing is left to do in the last one, until nothing is left at all, a limit is reached, or all
@@ -18,7 +18,7 @@ pub(crate) fn keep<L: Ledger, W: Progress, R: Wait>(
     seat: &mut Seat<L>,
 ) {
     for _ in rt.forever() {
-        let seen = place.shared.moment(rt, Bell::Rest);
+        let seen = place.shared.epoch(rt, WaitEvent::Rest);
         if place.is_stopped() {
             return;
         }

@@ -7,7 +7,7 @@ use crate::port::Port;
 use crate::workplace::Workplace;
 use std::sync::Wait;
 use std::sync::ledger::Ledger;
-use xpt_lock::{Bell, Seat, SharedFault};
+use xpt_lock::{Seat, SharedFault, WaitEvent};
 use xpt_state::{Idle, Sent};
 
 /// Sends what the lane's adapter has to send and serves it by the port, until all are to stop.
@@ -20,8 +20,8 @@ pub(crate) fn run_lane<L: Ledger, P: Port, H: Handed, R: Wait>(
 ) {
     let mut has_served = false;
     for _ in rt.forever() {
-        let work = place.shared.moment(rt, Bell::Work);
-        let round = place.shared.moment(rt, Bell::Round);
+        let work = place.shared.epoch(rt, WaitEvent::Work);
+        let round = place.shared.epoch(rt, WaitEvent::Round);
         if place.is_stopped() {
             return;
         }
@@ -38,7 +38,7 @@ pub(crate) fn run_lane<L: Ledger, P: Port, H: Handed, R: Wait>(
         };
         if has_served {
             has_served = false;
-            place.shared.ring(rt, Bell::Rest);
+            place.shared.notify(rt, WaitEvent::Rest);
         }
         // Openings come back with the next round.
         if idle == Idle::AdapterBusy {

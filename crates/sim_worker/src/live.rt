@@ -1,15 +1,15 @@
 //! The run of a script on many threads.
 //!
 //! Why a run ends, which no contract says: no lock is held while a worker sleeps or serves, and each call of the transport
-//! takes it once. A worker that sleeps took the moment at its bell before it looked for something to do, and what it sleeps
-//! for rings that bell: a later round for a driver, and for recovery whose decision was refused; work for a lane, or a later
+//! takes it once. A worker that sleeps took the epoch of its wait event before it looked for something to do, and what it
+//! sleeps for notifies that event: a later round for a driver, and for recovery whose decision was refused; work for a lane, or a later
 //! round if its adapter's openings are used; a failed completion for recovery without a case. So nobody sleeps who has
 //! something to do.
 //!
 //! Suppose that all but the keeper sleep. Then nothing is in flight, no lane has anything to send, and each driver rests, as
-//! recovery does. Whoever made the last event, or was the last to write on the board that it rests, has rung the keeper's
-//! bell after that. So the keeper has looked since, and saw all of them rest: it opened the next round, which wakes them,
-//! or stopped the run, which rings each bell after the stop word, and each worker reads that word after its moment.
+//! recovery does. Whoever made the last event, or was the last to write on the board that it rests, has notified the keeper
+//! after that. So the keeper has looked since, and saw all of them rest: it opened the next round, which wakes them,
+//! or stopped the run, which notifies each wait event after the stop word, and each worker reads that word after its epoch.
 //!
 //! So someone always acts, and only so often: a call makes one of at most 65,535 events or is refused, a row or a decision is
 //! refused at most once in each of at most 512 rounds, and a lane that sends nothing sleeps until there is work.
@@ -26,7 +26,7 @@ use crate::judging::judge;
 use crate::log::SeatLog;
 use crate::names::actors;
 use crate::port::Port;
-use crate::progress::{Progress, Untold};
+use crate::progress::{NoProgress, Progress};
 use crate::worker::{Role, Worker, work};
 use crate::workplace::Workplace;
 use cam_event::History;
@@ -70,7 +70,7 @@ pub fn run_live<P: Port + Send, R: Threads + Wait + Sync>(
     ensures ports { IfOk result (λ run. map (λ p. P.answers p) run.ports.items ≡ map (λ p. P.answers p) ports.items) }
     ensures fault { IfErr result (IsLiveFault script.now) }
 {
-    run_live_with(rt, alloc, script, ports, &Untold)
+    run_live_with(rt, alloc, script, ports, &NoProgress)
 }
 
 /// The same, and tells the progress meanwhile how far the run is.

@@ -5,7 +5,7 @@ ghost use Rattle.xpt_lock.specs.Seats.{Held};
 ghost use Rattle.sim_worker.specs.LiveRuns.{actors, drivers, is_some_row, lanes, rows};
 
 use crate::log::SeatLog;
-use crate::pass::rows;
+use crate::run_replay::rows;
 use std::alloc::{AllocError, Global};
 use trace_file::Script;
 use xpt_lock::SeatName;

@@ -4,21 +4,21 @@ use crate::workplace::Workplace;
 use event_rules::Refusal;
 use std::sync::Wait;
 use std::sync::ledger::Ledger;
-use xpt_lock::{Bell, Seat, SharedFault};
+use xpt_lock::{Seat, SharedFault, WaitEvent};
 use xpt_state::Case;
 
 /// Makes the decision that each failed CCB asks for, in the order in which they completed, until all are to stop.
 pub(crate) fn recover<L: Ledger, R: Wait>(rt: &R, place: &Workplace<L>, seat: &mut Seat<L>) {
     let mut has_decided = false;
     for _ in rt.forever() {
-        let seen = place.shared.moment(rt, Bell::Case);
+        let seen = place.shared.epoch(rt, WaitEvent::Case);
         if place.is_stopped() {
             return;
         }
         let Some(case) = place.shared.next_case(rt) else {
             if has_decided {
                 has_decided = false;
-                place.shared.ring(rt, Bell::Rest);
+                place.shared.notify(rt, WaitEvent::Rest);
             }
             place.shared.wait_past(rt, seen);
             continue;
@@ -33,15 +33,15 @@ pub(crate) fn recover<L: Ledger, R: Wait>(rt: &R, place: &Workplace<L>, seat: &m
 
 // Makes the decision that the case's class asks for; if it is refused, rests until the next round.
 //
-// No round opens before that: there is a case, and recovery rests in no round of which it hasn't said so.
+// No round opens before that: there is a case, and recovery rests in no round that it hasn't announced.
 fn decide<L: Ledger, R: Wait>(
     rt: &R,
     place: &Workplace<L>,
     case: Case,
     seat: &mut Seat<L>,
 ) -> Result<(), SharedFault> {
-    let seen = place.shared.moment(rt, Bell::Round);
-    // Whoever stops all rings this bell after the word.
+    let seen = place.shared.epoch(rt, WaitEvent::Round);
+    // Whoever stops all notifies this after the word.
     if place.is_stopped() {
         return Ok(());
     }

@@ -5,7 +5,7 @@ use std::sync::Wait;
 use std::sync::atomic::{AtomicBool, AtomicU32, Ordering};
 use std::sync::ledger::Ledger;
 use trace_file::{DRIVERS, Script};
-use xpt_lock::{Bell, SharedFault, SharedXpt};
+use xpt_lock::{SharedFault, SharedXpt, WaitEvent};
 
 /// The round until which a driver rests that has done its rows.
 pub(crate) const FOR_GOOD: u32 = u32::MAX;
@@ -64,8 +64,13 @@ impl<L: Ledger> Workplace<L> {
     /// All are to stop.
     pub(crate) fn stop<R: Wait>(&self, rt: &R) {
         self.stopped.store(true, Ordering::SeqCst);
-        for bell in [Bell::Round, Bell::Work, Bell::Case, Bell::Rest] {
-            self.shared.ring(rt, bell);
+        for wait_event in [
+            WaitEvent::Round,
+            WaitEvent::Work,
+            WaitEvent::Case,
+            WaitEvent::Rest,
+        ] {
+            self.shared.notify(rt, wait_event);
         }
     }
 
@@ -87,12 +92,12 @@ impl<L: Ledger> Workplace<L> {
         self.rest(rt, DRIVERS, until);
     }
 
-    // The bell rings after the change, and the keeper reads the board after the moment that it sleeps by: it misses none.
+    // The notification comes after the change, and the keeper reads the board after the epoch that it sleeps by: it misses none.
     fn rest<R: Wait>(&self, rt: &R, place: usize, until: u32) {
         if let Some(flag) = self.rests.get(place) {
             flag.store(until, Ordering::SeqCst);
         }
-        self.shared.ring(rt, Bell::Rest);
+        self.shared.notify(rt, WaitEvent::Rest);
     }
 
     /// Who rests until when.

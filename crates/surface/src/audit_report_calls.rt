@@ -5,7 +5,7 @@ use crate::texts::{FROZEN, ONE_COMMAND, REPORT, TWO_ADAPTERS};
 use anyhow::Result;
 use audit_report::{AuditFault, run_audit, run_audit_with, run_check, run_migrate, run_prove};
 use cam_types::Watched;
-use cost_plan::OpenGate;
+use cost_plan::NoPlanProgress;
 use std::alloc::Global;
 use std::rt::Runtime;
 use std::thread::Threads;
@@ -57,7 +57,12 @@ fn call_audit_with<R: Runtime + Threads + Sync>(rt: &R, alloc: Global) -> Result
     let mut trace = Watched::new(TWO_ADAPTERS.as_bytes());
     let mut out = Watched::new(&mut text);
     let audited: Result<(), AuditFault> = run_audit_with(
-        rt, alloc, &mut trace, &mut out, true, &OpenGate,
+        rt,
+        alloc,
+        &mut trace,
+        &mut out,
+        true,
+        &NoPlanProgress,
     );
     audited?;
     tell(rt, "of one at once", &[count_lines(&text)])

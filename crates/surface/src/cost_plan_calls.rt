@@ -5,7 +5,7 @@ use crate::texts::{NARROW_LINK, TWO_ADAPTERS};
 use anyhow::Result;
 use audit_report::read_net;
 use cam_types::Watched;
-use cost_plan::{BestPlan, Gate, OpenGate, plan, plan_with};
+use cost_plan::{BestPlan, NoPlanProgress, PlanProgress, plan, plan_with};
 use round_net::{Net, Prices, Schedule, cost};
 use std::alloc::{AllocError, Global};
 use std::rt::Runtime;
@@ -16,7 +16,7 @@ pub fn call_cost_plan<R: Runtime + AllocGlobal + Threads + Sync>(rt: &R) -> Resu
     let alloc: Global = rt.alloc();
     begin(rt, "cost_plan")?;
     call_plan(rt, alloc)?;
-    call_gate(&OpenGate);
+    call_progress(&NoPlanProgress);
     call_plan_with(rt, alloc)?;
     end(rt)
 }
@@ -29,12 +29,12 @@ fn call_plan<R: Runtime>(rt: &R, alloc: Global) -> Result<()> {
 
 fn call_plan_with<R: Runtime + Threads + Sync>(rt: &R, alloc: Global) -> Result<()> {
     let (_, net) = read_net(alloc, &mut Watched::new(TWO_ADAPTERS.as_bytes()))?;
-    let planned: Result<BestPlan, AllocError> = plan_with(rt, alloc, &net, &OpenGate);
+    let planned: Result<BestPlan, AllocError> = plan_with(rt, alloc, &net, &NoPlanProgress);
     call_best(rt, &net, planned?)
 }
 
-fn call_gate<G: Gate>(gate: &G) {
-    gate.begun(0u32);
+fn call_progress<G: PlanProgress>(progress: &G) {
+    progress.begun(0u32);
 }
 
 fn call_best<R: Runtime>(rt: &R, net: &Net, best: BestPlan) -> Result<()> {

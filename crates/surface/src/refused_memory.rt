@@ -10,7 +10,7 @@ use audit_report::{AuditFault, run_audit};
 use cam_event::History;
 use cam_path::CamPath;
 use cam_types::{Command, Config, Device, Flags, Limits, Outcome, Watched};
-use cost_plan::{BestPlan, Gate, plan, plan_with};
+use cost_plan::{BestPlan, PlanProgress, plan, plan_with};
 use recording_file::RecordingFault;
 use round_net::{Net, cost};
 use sim_worker::{Port, ScriptPort};
@@ -161,25 +161,25 @@ fn plan_burst<R: Runtime + AllocGlobal>(rt: &R, net: &Net) -> Result<()> {
 
 // Plans the burst again, its parts at once, and tells of each part when it is begun.
 fn plan_at_once<R: Runtime + AllocGlobal + Threads + Sync>(rt: &R, net: &Net) -> Result<()> {
-    let gate = Telling { rt };
+    let progress = Telling { rt };
     println!(rt; "planning at once")?;
-    let best: BestPlan = match plan_with(rt, rt.alloc(), net, &gate) {
+    let best: BestPlan = match plan_with(rt, rt.alloc(), net, &progress) {
         Ok(best) => best,
         Err(_) => {
             println!(rt; "plan at once: out of memory")?;
-            plan_with(rt, rt.alloc(), net, &gate)?
+            plan_with(rt, rt.alloc(), net, &progress)?
         }
     };
     tell_cost(rt, net, &best)
 }
 
-// A gate that tells of what it is told.
+// Prints the progress that it receives.
 #[derive(Drop)]
 struct Telling<'a, R> {
     rt: &'a R,
 }
 
-impl<R: Print> Gate for Telling<'_, R> {
+impl<R: Print> PlanProgress for Telling<'_, R> {
     fn begun(&self, adapter: u32) {
         let _ = println!(self.rt; "begun {adapter}");
     }

@@ -9,11 +9,11 @@ use Rattle.std.proofs.lemmas.Bool.{and_parts}
 use Rattle.std.proofs.lemmas.Bool.Decides.{nat_tests}
 use Rattle.std.proofs.lemmas.List.{length-map, append_assoc, append-nil, take_more}
 use Rattle.std.proofs.lemmas.List.Folds.{list_all-append}
-use Rattle.cam_types.specs.Lists.{moments_after, first_answer}
+use Rattle.cam_types.specs.Lists.{prefixed_after, first_answer}
 use Rattle.cam_types.specs.Topology.{Topology, are_openings}
 use Rattle.cam_types.proofs.ListLemmas.{or_left, or_right, first_answer-push}
 use Rattle.sweep.specs.Settings.{Place, Change, Choice, settings, with_first}
-use Rattle.sweep.specs.Plans.{MOST_RUNS}
+use Rattle.sweep.specs.Plans.{MAX_RUNS}
 use Rattle.sweep.specs.Choices.{ChoiceFault, NoPlace, Twice, NoOpenings, BadOpenings, names_place, is_same_place, choice_fault, choices_fault, HaveSome, are_open}
 
 -- the numbers of each choice are openings such as there may be
@@ -37,14 +37,14 @@ positive n e = grind (arith, nat_tests)
 both : (a b : Bool) → a ≡ true → b ≡ true → (a && b) ≡ true
 both a b e f = rw (e, f) refl
 
-all_some : (c : Topology) (before xs : List Choice) → first_answer (choice_fault c) (moments_after before xs) ≡ None → HaveSome xs
+all_some : (c : Topology) (before xs : List Choice) → first_answer (choice_fault c) (prefixed_after before xs) ≡ None → HaveSome xs
 all_some c before [] e = tt
 all_some c before (x ∷ xs) e = (
   positive (length x.openings.items) (choice_good c before x (or_left (choice_fault c (before, x)) _ e)).0,
   all_some c (before ++ x ∷ []) xs (or_right (choice_fault c (before, x)) _ e),
 )
 
-all_open : (c : Topology) (before xs : List Choice) → first_answer (choice_fault c) (moments_after before xs) ≡ None → are_choices_open xs ≡ true
+all_open : (c : Topology) (before xs : List Choice) → first_answer (choice_fault c) (prefixed_after before xs) ≡ None → are_choices_open xs ≡ true
 all_open c before [] e = refl
 all_open c before (x ∷ xs) e =
     both (list_all are_openings x.openings.items) (are_choices_open xs)
@@ -101,7 +101,7 @@ count_is x xs choices seeds is =
     ∙ ap (λ n. n * seeds) (sym (length_settings x xs))
     ∙ ap (λ cs. length (settings cs) * seeds) (sym is)
 
-pub count_many : (x : Choice) (xs choices : List Choice) (seeds : ℕ) → choices ≡ x ∷ xs → HaveSome choices → MOST_RUNS < length (settings xs) * seeds → MOST_RUNS < length (settings choices) * seeds
+pub count_many : (x : Choice) (xs choices : List Choice) (seeds : ℕ) → choices ≡ x ∷ xs → HaveSome choices → MAX_RUNS < length (settings xs) * seeds → MAX_RUNS < length (settings choices) * seeds
 count_many x xs choices seeds is some many =
     let one : 1 ≤ length x.openings.items = (subst HaveSome is some).0 in
     omega (arith, many, count_is x xs choices seeds is, mul-le 1 (length (settings xs) * seeds) (length x.openings.items) (length (settings xs) * seeds) one (omega arith))
@@ -113,15 +113,15 @@ if_none (Some x) p = tt
 -- ---- the first choice that is refused
 
 -- where none before it has a fault, that of one is the first
-first_at : {X F : Type 0} (f : List X × X → Option F) (before xs : List X) (i : ℕ) (d : X) (why : F) → i < length xs → first_answer f (moments_after before (take i xs)) ≡ None →
-    f (before ++ take i xs, get_or xs i d) ≡ Some why → first_answer f (moments_after before xs) ≡ Some why
+first_at : {X F : Type 0} (f : List X × X → Option F) (before xs : List X) (i : ℕ) (d : X) (why : F) → i < length xs → first_answer f (prefixed_after before (take i xs)) ≡ None →
+    f (before ++ take i xs, get_or xs i d) ≡ Some why → first_answer f (prefixed_after before xs) ≡ Some why
 first_at f before [] i d why lt none here = absurd (omega (arith, lt))
 first_at f before (x ∷ xs) zero d why lt none here =
     let now : f (before, x) ≡ Some why = ap (λ front. f (front, x)) (sym (append-nil before)) ∙ here in
     rw now refl
 first_at f before (x ∷ xs) (suc i) d why lt none here =
-    let not_now = or_left (f (before, x)) (first_answer f (moments_after (before ++ x ∷ []) (take i xs))) none in
-    let later = or_right (f (before, x)) (first_answer f (moments_after (before ++ x ∷ []) (take i xs))) none in
+    let not_now = or_left (f (before, x)) (first_answer f (prefixed_after (before ++ x ∷ []) (take i xs))) none in
+    let later = or_right (f (before, x)) (first_answer f (prefixed_after (before ++ x ∷ []) (take i xs))) none in
     rw not_now (first_at f (before ++ x ∷ []) xs i d why (omega (arith, lt)) later (ap (λ front. f (front, get_or xs i d)) (append_assoc before (x ∷ []) (take i xs)) ∙ here))
 
 pub refused_at : (c : Topology) (choices : List Choice) (i : ℕ) (d : Choice) (why : ChoiceFault) → i < length choices → choices_fault c (take i choices) ≡ None →

@@ -4,16 +4,16 @@ use Rattle.std.specs.List.{list_any}
 use Rattle.std.specs.Option.{option_or, option_map_or}
 use Rattle.std.proofs.lemmas.Bool.{and_parts}
 use Rattle.std.proofs.lemmas.List.Folds.{list_any-append}
-use Rattle.cam_types.specs.Lists.{moments, moments_after, first_answer}
-use Rattle.cam_types.specs.Topology.{Topology, IsConfig, IsDraft, config_fault, is_same_address, are_openings, names_link, openings_fault, adapter_fault, address_fault, device_fault, lane_fault}
+use Rattle.cam_types.specs.Lists.{prefixed, prefixed_after, first_answer}
+use Rattle.cam_types.specs.Topology.{Topology, IsConfig, IsPartial, config_fault, is_same_address, are_openings, names_link, openings_fault, adapter_fault, address_fault, device_fault, lane_fault}
 use Rattle.cam_types.specs.declared.adapter.Adapter.{Adapter}
 use Rattle.cam_types.specs.declared.device.Device.{Device}
 use Rattle.cam_types.specs.declared.config_fault.ConfigFault.TheVariants.{TooMany, BadOpenings}
-use Rattle.cam_types.specs.declared.maxima.TheConstants.{MOST_ADAPTERS, MOST_DEVICES}
+use Rattle.cam_types.specs.declared.limits.TheConstants.{MAX_ADAPTERS, MAX_DEVICES}
 use Rattle.cam_types.specs.declared.config_fault.ConfigFault.{ConfigFault}
 use Rattle.cam_types.proofs.ListLemmas.{or_left, or_right}
 use Rattle.cam_types.proofs.ConfigLemmas.{weight_items, reaches, link_items, some_adapter, adapter_items, device_items, lane_items}
-use Rattle.cam_types.proofs.TopologyLemmas.{config_fault-draft}
+use Rattle.cam_types.proofs.TopologyLemmas.{config_fault-partial}
 use Rattle.sweep.specs.Settings.{Change}
 use Rattle.sweep.specs.Changes.{changed_adapters, changed_devices, changed_config, is_of_adapter, is_of_device, openings_by}
 use Rattle.sweep.specs.Choices.{are_open}
@@ -49,14 +49,14 @@ adapter_still : (links : ℕ) (before before' : List Adapter) (a : Adapter) (ope
     adapter_fault links (before, a) ≡ None → adapter_fault links (before', record a { openings = openings }) ≡ None
 unfolding adapter_fault
 adapter_still links before before' a openings long is none =
-    let own : openings_fault MOST_ADAPTERS (length before') a.openings ≡ None = rw long at (or_left (openings_fault MOST_ADAPTERS (length before) a.openings) _ none) in
-    let link = or_right (openings_fault MOST_ADAPTERS (length before) a.openings) _ none in
-    let new : openings_fault MOST_ADAPTERS (length before') openings ≡ None = still_none _ (are_openings a.openings) (are_openings openings) None own is in
+    let own : openings_fault MAX_ADAPTERS (length before') a.openings ≡ None = rw long at (or_left (openings_fault MAX_ADAPTERS (length before) a.openings) _ none) in
+    let link = or_right (openings_fault MAX_ADAPTERS (length before) a.openings) _ none in
+    let new : openings_fault MAX_ADAPTERS (length before') openings ≡ None = still_none _ (are_openings a.openings) (are_openings openings) None own is in
     rw new link
 
 adapter_open : (links : ℕ) (before : List Adapter) (a : Adapter) → adapter_fault links (before, a) ≡ None → are_openings a.openings ≡ true
 unfolding adapter_fault
-adapter_open links before a none = open_before _ (are_openings a.openings) None (or_left (openings_fault MOST_ADAPTERS (length before) a.openings) _ none)
+adapter_open links before a none = open_before _ (are_openings a.openings) None (or_left (openings_fault MAX_ADAPTERS (length before) a.openings) _ none)
 
 -- the devices before have the same addresses
 abbrev SameAddresses : List Device → List Device → Type 0
@@ -87,7 +87,7 @@ both_none : {F : Type 0} (o p : Option F) → o ≡ None → p ≡ None → opti
 both_none o p e f = rw e f
 
 adapters_kept : (links : ℕ) (changes : List Change) (n : ℕ) (before before' xs : List Adapter) → are_open changes ≡ true → length before ≡ length before' →
-    first_answer (adapter_fault links) (moments_after before xs) ≡ None → first_answer (adapter_fault links) (moments_after before' (changed_adapters changes n xs)) ≡ None
+    first_answer (adapter_fault links) (prefixed_after before xs) ≡ None → first_answer (adapter_fault links) (prefixed_after before' (changed_adapters changes n xs)) ≡ None
 unfolding changed_adapters
 adapters_kept links changes n before before' [] all long none = refl
 adapters_kept links changes n before before' (x ∷ xs) all long none =
@@ -98,7 +98,7 @@ adapters_kept links changes n before before' (x ∷ xs) all long none =
     (adapters_kept links changes (n + 1) (before ++ x ∷ []) (before' ++ adapter_at changes n x ∷ []) xs all (longer before before' x (adapter_at changes n x) long) (or_right (adapter_fault links (before, x)) _ none))
 
 devices_kept : (adapters : ℕ) (changes : List Change) (n : ℕ) (before before' xs : List Device) → are_open changes ≡ true → length before ≡ length before' → SameAddresses before before' →
-    first_answer (device_fault adapters) (moments_after before xs) ≡ None → first_answer (device_fault adapters) (moments_after before' (changed_devices changes n xs)) ≡ None
+    first_answer (device_fault adapters) (prefixed_after before xs) ≡ None → first_answer (device_fault adapters) (prefixed_after before' (changed_devices changes n xs)) ≡ None
 unfolding changed_devices
 devices_kept adapters changes n before before' [] all long same none = refl
 devices_kept adapters changes n before before' (x ∷ xs) all long same none =
@@ -113,11 +113,11 @@ devices_kept adapters changes n before before' (x ∷ xs) all long same none =
 -- a configuration keeps the rules with openings such as there may be
 pub changed_kept : (c : Topology) (changes : List Change) → IsConfig c → are_open changes ≡ true → config_fault (changed_config c changes) ≡ None
 changed_kept c changes config all =
-    let draft : IsDraft (changed_config c changes) = record {
+    let partial : IsPartial (changed_config c changes) = record {
       weights = weight_items c config;
       links = link_items c config;
       adapters = adapters_kept (length c.links) changes 0 [] [] c.adapters all refl (adapter_items c config);
       devices = rw (length_adapters changes 0 c.adapters) (devices_kept (length c.adapters) changes 0 [] [] c.devices all refl (λ d. refl) (device_items c config));
       lanes = rw (length_adapters changes 0 c.adapters) (lane_items c config);
     } in
-    config_fault-draft (changed_config c changes) draft ∙ rw (reaches c config, length_adapters changes 0 c.adapters, some_adapter c config) refl
+    config_fault-partial (changed_config c changes) partial ∙ rw (reaches c config, length_adapters changes 0 c.adapters, some_adapter c config) refl

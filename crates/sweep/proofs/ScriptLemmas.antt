@@ -3,7 +3,7 @@ use Rattle.std.proofs.Common.{◌≡◌, ℕ, true, ◌&&◌, nat_lt, nat_le, �
 use Rattle.std.specs.List.{AllByRecursion}
 use Rattle.cam_types.specs.Topology.{Topology}
 use Rattle.cam_types.specs.Topology.{are_openings}
-use Rattle.cam_types.specs.declared.maxima.TheConstants.{MOST_PRIORITY, MOST_RETRIES}
+use Rattle.cam_types.specs.declared.limits.TheConstants.{MAX_PRIORITY, MAX_RETRIES}
 use Rattle.event_rules.specs.Legal.{is_count}
 use Rattle.event_rules.specs.declared.event.Event.TheVariants.{Submit, Send, Done, Requeue, Finish, FreezeDev, ReleaseDev, FreezeSim, ReleaseSim, Adjust, Tick}
 use Rattle.trace_file.specs.Scenarios.{Scenario, IsScenario, is_ruled}

@@ -1,7 +1,7 @@
 -- which choices are refused
 use Rattle.std.specs.Prelude.{ℕ, ◌==◌, ◌≤◌, Bool, false, not, if◌then◌else◌, List, length, Option, Some, None}
 use Rattle.std.specs.List.{list_any, list_all, AllByRecursion}
-use Rattle.cam_types.specs.Lists.{moments, first_answer}
+use Rattle.cam_types.specs.Lists.{prefixed, first_answer}
 use Rattle.cam_types.specs.Topology.{Topology, are_openings}
 use Rattle.cam_types.specs.Questions.{names_device, names_adapter}
 use Rattle.sweep.specs.Settings.{Place, Change, Choice}
@@ -31,7 +31,7 @@ choice_fault c m =
 
 -- the first rule that choices break
 abbrev pub choices_fault : Topology → List Choice → Option ChoiceFault
-choices_fault c choices = first_answer (choice_fault c) (moments choices)
+choices_fault c choices = first_answer (choice_fault c) (prefixed choices)
 
 -- each choice has a number to take
 abbrev pub HaveSome : List Choice → Type 0

@@ -3,7 +3,7 @@ use Rattle.std.specs.Prelude.{◌≡◌, ℕ, ◌*◌, ◌≤◌, true, List, le
 use Rattle.std.specs.List.{list_all}
 use Rattle.sweep.specs.Settings.{Change}
 use Rattle.sweep.specs.Choices.{are_open}
-pub use Rattle.sweep.specs.declared.plan.TheConstants.{MOST_RUNS}
+pub use Rattle.sweep.specs.declared.plan.TheConstants.{MAX_RUNS}
 
 -- settings, and how many seeds run each
 pub record Plan : Type 0 where
@@ -14,4 +14,4 @@ pub record Plan : Type 0 where
 pub record IsPlan (p : Plan) : Type 0 where
   pub openings : list_all are_open p.settings ≡ true
   pub some : 1 ≤ p.seeds
-  pub few : length p.settings * p.seeds ≤ MOST_RUNS
+  pub few : length p.settings * p.seeds ≤ MAX_RUNS

@@ -60,8 +60,8 @@ pub record AreNumbersOf (h : Past) (n : Numbers) : Type 0 where
 
 -- a run that drained has the numbers of its history, and another one left commands
 abbrev pub IsTallyOf : Scenario → Past → Ending → Tally → Type 0
-IsTallyOf s h said (tally.Drained n) = (has_drained h.events said ≡ true) × AreNumbersOf h n
-IsTallyOf s h said (tally.Left k) = (has_drained h.events said ≡ false) × (k ≡ commands_left s h.events)
+IsTallyOf s h stated (tally.Drained n) = (has_drained h.events stated ≡ true) × AreNumbersOf h n
+IsTallyOf s h stated (tally.Left k) = (has_drained h.events stated ≡ false) × (k ≡ commands_left s h.events)
 
 -- it is that of a run of the script on one thread by the seed
 pub record IsSimTally (s : Scenario) (seed : ℕ) (t : Tally) : Type 0 where

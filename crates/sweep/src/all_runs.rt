@@ -5,7 +5,7 @@ ghost use Rattle.sweep.specs.Runs.{Tally as TheTally};
 ghost use Rattle.std.specs.List.{list_all};
 ghost use Rattle.sweep.specs.Settings.{changes_of};
 ghost use Rattle.sweep.specs.Choices.{are_open};
-ghost use Rattle.sweep.specs.Plans.{MOST_RUNS};
+ghost use Rattle.sweep.specs.Plans.{MAX_RUNS};
 ghost use Rattle.sweep.specs.Rows.{AreRowsOf, IsRowOf, IsRunAt, AreRunsOf, part, Row as TheRow};
 
 use crate::plan::SweepPlan;
@@ -46,7 +46,7 @@ fn rows_of(
 ) -> Result<Vec<Row>, AllocError>
     requires seeds { 1 ≤ seeds }
     requires all { length tallies.now ≡ settings * seeds }
-    requires few { settings * seeds ≤ MOST_RUNS }
+    requires few { settings * seeds ≤ MAX_RUNS }
     ensures long { IfOk result (λ rows. length rows.items ≡ settings) }
     ensures rows { IfOk result (λ rows. (k : ℕ) (d : TheRow) → k < settings → IsRowOf (part tallies.now seeds k) (slice_index_or rows.items k d)) }
 {
@@ -61,7 +61,7 @@ fn rows_of(
 // The row of the setting of this number.
 fn row_at(alloc: Global, tallies: &[Tally], at: usize, seeds: usize) -> Result<Row, AllocError>
     requires seeds { 1 ≤ seeds }
-    requires few { length tallies.now ≤ MOST_RUNS }
+    requires few { length tallies.now ≤ MAX_RUNS }
     requires within { at * seeds + seeds ≤ length tallies.now }
     ensures { IfOk result (IsRowOf (part tallies.now seeds at)) }
 {
@@ -80,7 +80,7 @@ fn tallies<W: Runner + Sync, R: Threads + Sync>(
 ) -> Result<Vec<Tally>, AllocError>
     requires open { list_all are_open (changes_of settings.now) ≡ true }
     requires seeds { 1 ≤ seeds }
-    requires few { length settings.now * seeds ≤ MOST_RUNS }
+    requires few { length settings.now * seeds ≤ MAX_RUNS }
     ensures { IfOk result (λ all. AreRunsOf (W.comes_to runner.now) script.now seeds (changes_of settings.now) all.items) }
 {
     let mut made = vec![in alloc; None; settings.len() * seeds as usize]?;

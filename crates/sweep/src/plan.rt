@@ -4,7 +4,7 @@ ghost use Rattle.std.specs.Prelude.{◌≡◌, ◌≤◌, ◌<◌, ◌*◌, leng
 ghost use Rattle.std.specs.Option.{IfSome, IfNone};
 ghost use Rattle.sweep.specs.Settings.{changes_of, settings, Choice as TheChoice};
 ghost use Rattle.sweep.specs.Choices.{choices_fault, HaveSome};
-ghost use Rattle.sweep.specs.Plans.{MOST_RUNS};
+ghost use Rattle.sweep.specs.Plans.{MAX_RUNS};
 ghost use Rattle.sweep.specs.declared.plan.PlanFault.TheVariants.{NoSeeds, TooManyRuns, OutOfMemory};
 
 use crate::setting::{Choice, Setting, settings};
@@ -14,7 +14,7 @@ use std::marker::Model;
 use thiserror::Error;
 
 /// The most runs of a sweep, of all settings by all seeds.
-pub const MOST_RUNS: usize = 4096;
+pub const MAX_RUNS: usize = 4096;
 
 /// Why there is nothing to run.
 #[derive(Clone, Copy, Debug, PartialEq, Eq, Error)]
@@ -73,7 +73,7 @@ impl SweepPlan {
         requires { choices_fault config.now choices.now ≡ None }
         ensures made { IfOk result (λ p. p ≡ record { settings = settings choices.now; seeds = seeds }) }
         ensures none { result ≡ Err NoSeeds → seeds ≡ 0 }
-        ensures many { result ≡ Err TooManyRuns → MOST_RUNS < length (settings choices.now) * seeds }
+        ensures many { result ≡ Err TooManyRuns → MAX_RUNS < length (settings choices.now) * seeds }
     {
         if seeds < 1 {
             return Err(PlanFault::NoSeeds);
@@ -106,7 +106,7 @@ impl SweepPlan {
     /// How many runs there are, at most 4,096.
     pub fn runs(&self) -> u32
         ensures same { result ≡ length self.now.settings * self.now.seeds }
-        ensures few { result ≤ MOST_RUNS }
+        ensures few { result ≤ MAX_RUNS }
     {
         self.settings.len() as u32 * self.seeds
     }
@@ -116,8 +116,8 @@ impl SweepPlan {
 fn run_count(choices: &[Choice], seeds: u32) -> Option<usize>
     requires some { HaveSome choices.now }
     requires seeds { 1 ≤ seeds }
-    ensures few { IfSome result (λ n. (n ≡ length (settings choices.now) * seeds) × (n ≤ MOST_RUNS) × (1 ≤ n)) }
-    ensures many { IfNone result (MOST_RUNS < length (settings choices.now) * seeds) }
+    ensures few { IfSome result (λ n. (n ≡ length (settings choices.now) * seeds) × (n ≤ MAX_RUNS) × (1 ≤ n)) }
+    ensures many { IfNone result (MAX_RUNS < length (settings choices.now) * seeds) }
 {
     let Some((first, rest)) = choices.split_first() else {
         return few(1, seeds as usize);
@@ -129,10 +129,10 @@ fn run_count(choices: &[Choice], seeds: u32) -> Option<usize>
 fn few(times: usize, runs: usize) -> Option<usize>
     requires times { 1 ≤ times }
     requires runs { 1 ≤ runs }
-    ensures few { IfSome result (λ n. (n ≡ times * runs) × (n ≤ MOST_RUNS) × (1 ≤ n)) }
-    ensures many { IfNone result (MOST_RUNS < times * runs) }
+    ensures few { IfSome result (λ n. (n ≡ times * runs) × (n ≤ MAX_RUNS) × (1 ≤ n)) }
+    ensures many { IfNone result (MAX_RUNS < times * runs) }
 {
-    if times > MOST_RUNS / runs {
+    if times > MAX_RUNS / runs {
         return None;
     }
     Some(times * runs)

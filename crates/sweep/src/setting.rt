@@ -39,7 +39,7 @@ pub struct Setting {
     pub changes: Vec<Change>,
 }
 
-/// All settings that the choices make: one for each way to take a number of each choice. The number of the last choice varies
+/// All settings that the choices make: one for each combination of a number of each choice. The number of the last choice varies
 /// fastest. Without choices there is one setting, which changes nothing.
 pub fn settings(alloc: Global, choices: &[Choice]) -> Result<Vec<Setting>, AllocError>
     ensures { IfOk result (λ made. changes_of made.items ≡ settings choices.now) }

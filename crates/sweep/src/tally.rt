@@ -5,7 +5,7 @@ ghost use Rattle.sweep.specs.Runs.{AreNumbersOf, IsSimTally, has_drained};
 ghost use Rattle.event_rules.specs.Stays.{unsent};
 ghost use Rattle.round_net.specs.Nets.{net_of};
 
-use crate::left::commands_left;
+use crate::remaining_commands::commands_left;
 use crate::runner::{Numbers, Tally};
 use cam_event::History;
 use cost_plan::plan;

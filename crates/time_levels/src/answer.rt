@@ -103,8 +103,8 @@ impl Line {
     fn take(&mut self, columns: &Columns, level: &Level, round: u32) {
         for number in 0..columns.len() {
             let column = columns.column(number);
-            let label = level.node(level.at(round, number)).label;
-            let more = label.saturating_sub(level.label_above(round, &column));
+            let potential = level.node(level.at(round, number)).potential;
+            let more = potential.saturating_sub(level.potential_above(round, &column));
             let price = u64::try_from(more).unwrap_or(0);
             self.put(number, if column.is_row() { 0 } else { price });
         }

@@ -1,7 +1,7 @@
 //! The nodes that a search has reached, and those from which it has still to look on.
 
-use crate::course::Course;
 use crate::level::{Level, UNREACHED};
+use crate::search_direction::SearchDirection;
 use std::alloc::{AllocError, Global};
 use std::cmp::Reverse;
 use std::collections::BinaryHeap;
@@ -78,7 +78,7 @@ impl Frontier {
         None
     }
 
-    // Takes out a nearest node, which may meanwhile have been reached by a shorter way.
+    // Takes out a nearest node, which may meanwhile have been reached by a shorter path.
     fn take(&mut self, level: &Level) -> Option<Spot> {
         if self.best <= self.distance {
             return None;
@@ -100,7 +100,7 @@ impl Frontier {
         })
     }
 
-    /// Marks a node with the way by which it was reached.
+    /// Marks a node with the path by which it was reached.
     #[inline]
     pub fn mark(
         &mut self,
@@ -135,12 +135,12 @@ impl Frontier {
         }
     }
 
-    /// The same, where the label of each node that is nearer than the goal is changed by how much nearer it is, up or down.
-    pub fn forget_and_change(&self, level: &mut Level, course: Course) {
+    /// The same, where the potential of each node that is nearer than the goal is changed by how much nearer it is, up or down.
+    pub fn forget_and_change(&self, level: &mut Level, direction: SearchDirection) {
         for number in &self.reached {
             let distance = level.node(*number).distance;
             let nearer = i64::from(self.best.saturating_sub(distance));
-            level.clear_distance(*number, course.signed(nearer));
+            level.clear_distance(*number, direction.signed(nearer));
         }
     }
 }

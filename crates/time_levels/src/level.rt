@@ -11,9 +11,9 @@ pub const UNREACHED: u32 = u32::MAX;
 /// waits for the next block.
 #[derive(Clone, Copy)]
 pub struct Node {
-    /// What the cheapest way from here costs one request more.
-    pub label: i64,
-    /// How far a search has come to get here, less what the labels say.
+    /// What the cheapest path from here costs one request more.
+    pub potential: i64,
+    /// How far a search has come to get here, less what the potentials say.
     pub distance: u32,
     /// The node from which it came.
     pub from: u32,
@@ -24,19 +24,19 @@ pub struct Node {
     /// How many may go on from here in this block.
     pub cap: u32,
     /// How many come here beyond those that go on or wait, and below 0 how many fewer.
-    pub excess: i32,
+    pub imbalance: i32,
 }
 
 impl Node {
     /// A node from which nothing goes on.
     pub const EMPTY: Node = Node {
-        label: 0,
+        potential: 0,
         distance: UNREACHED,
         from: 0,
         flow: 0,
         wait: 0,
         cap: 0,
-        excess: 0,
+        imbalance: 0,
     };
 }
 
@@ -116,22 +116,22 @@ impl Level {
         Some(self.at(block, column.above?))
     }
 
-    /// The label of the unit above, and 0 if there is none.
+    /// The potential of the unit above, and 0 if there is none.
     #[inline]
-    pub fn label_above(&self, block: u32, column: &Column) -> i64 {
+    pub fn potential_above(&self, block: u32, column: &Column) -> i64 {
         match self.above(block, column) {
-            Some(above) => self.node(above).label,
+            Some(above) => self.node(above).potential,
             None => 0,
         }
     }
 
-    /// What the cheapest way of those that wait costs one request more, if it can wait.
+    /// What the cheapest path of those that wait costs one request more, if it can wait.
     #[inline]
-    pub fn label_of_waiting(&self, number: u32, column: &Column) -> Option<i64> {
+    pub fn potential_of_waiting(&self, number: u32, column: &Column) -> Option<i64> {
         let next = self.next(number)?;
         Some(
             self.node(next)
-                .label
+                .potential
                 .saturating_add(i64::from(column.weight)),
         )
     }
@@ -145,28 +145,28 @@ impl Level {
         }
     }
 
-    /// Takes back that a search reached a node, and adds to its label.
+    /// Takes back that a search reached a node, and adds to its potential.
     #[inline]
     pub fn clear_distance(&mut self, number: u32, more: i64) {
         if let Some(node) = self.nodes.get_mut(number as usize) {
             node.distance = UNREACHED;
-            node.label = node.label.saturating_add(more);
+            node.potential = node.potential.saturating_add(more);
         }
     }
 
-    /// Sets a node's label.
+    /// Sets a node's potential.
     #[inline]
-    pub fn set_label(&mut self, number: u32, label: i64) {
+    pub fn set_potential(&mut self, number: u32, potential: i64) {
         if let Some(node) = self.nodes.get_mut(number as usize) {
-            node.label = label;
+            node.potential = potential;
         }
     }
 
-    /// Raises a node's label up to this one.
+    /// Raises a node's potential up to this one.
     #[inline]
-    pub fn raise_label(&mut self, number: u32, label: i64) {
+    pub fn raise_potential(&mut self, number: u32, potential: i64) {
         if let Some(node) = self.nodes.get_mut(number as usize) {
-            node.label = node.label.max(label);
+            node.potential = node.potential.max(potential);
         }
     }
 
@@ -186,19 +186,19 @@ impl Level {
         }
     }
 
-    /// Sets a node's excess.
+    /// Sets a node's imbalance.
     #[inline]
-    pub fn set_excess(&mut self, number: u32, excess: i32) {
+    pub fn set_imbalance(&mut self, number: u32, imbalance: i32) {
         if let Some(node) = self.nodes.get_mut(number as usize) {
-            node.excess = excess;
+            node.imbalance = imbalance;
         }
     }
 
-    /// Adds to a node's excess.
+    /// Adds to a node's imbalance.
     #[inline]
-    pub fn add_excess(&mut self, number: u32, more: i32) {
+    pub fn add_imbalance(&mut self, number: u32, more: i32) {
         if let Some(node) = self.nodes.get_mut(number as usize) {
-            node.excess = node.excess.saturating_add(more);
+            node.imbalance = node.imbalance.saturating_add(more);
         }
     }
 
@@ -231,8 +231,8 @@ impl Level {
     }
 }
 
-/// A count as an excess.
+/// A count as an imbalance.
 #[inline]
-pub fn as_excess(count: u32) -> i32 {
+pub fn as_imbalance(count: u32) -> i32 {
     i32::try_from(count).unwrap_or(i32::MAX)
 }

@@ -1,18 +1,18 @@
-//! A search for a best plan of many requests, on coarse time first and then on finer and finer time. What it finds is a guess:
-//! that it is a best plan isn't proved here.
+//! A minimum cost flow by levels of time, for many requests: cost scaling (Goldberg and Tarjan 1990) where each scale also halves
+//! the blocks of rounds. A level is planned on long blocks, refined to blocks half as long, and its imbalances are repaired by
+//! shortest paths. The result is a guess: that it is a best plan isn't proved here.
 #![tactic(auto)]
 
 pub use answer::Levels;
 pub use network::{Arrival, Network, Row};
 pub use planning::plan;
-pub use progress::{Done, Progress, Untold};
+pub use progress::{Done, NoProgress, Progress};
 
 mod answer;
+mod arc;
 mod caps;
 mod columns;
-mod course;
 mod frontier;
-mod hop;
 mod layout;
 mod level;
 mod network;
@@ -25,5 +25,6 @@ mod raising;
 mod refining;
 mod repair;
 mod search;
+mod search_direction;
 mod settling;
 mod stopped;

@@ -11,7 +11,7 @@ use std::alloc::{AllocError, Global};
 const FEW_BLOCKS: u32 = 4;
 
 /// The most halvings that a number of rounds can take.
-const MOST_HALVINGS: u32 = 31;
+const MAX_HALVINGS: u32 = 31;
 
 /// The caps and the arrivals of a level, block by block.
 #[derive(Drop)]
@@ -30,7 +30,7 @@ pub struct Outline {
 pub fn outlines(alloc: Global, network: &Network, part: &Part) -> Result<Vec<Outline>, AllocError> {
     let mut outlines = Vec::new(alloc);
     let mut outline = Outline::of_rounds(alloc, network, part)?;
-    for _ in 0..MOST_HALVINGS {
+    for _ in 0..MAX_HALVINGS {
         if outline.blocks <= FEW_BLOCKS {
             break;
         }

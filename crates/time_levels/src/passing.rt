@@ -1,12 +1,12 @@
-//! One pass over all blocks, which carries excess along rows to where it is needed.
+//! One pass over all blocks, which carries imbalances along rows to where they are needed.
 
 use crate::columns::{Columns, Span};
-use crate::course::Course;
-use crate::level::{Level, as_excess};
+use crate::level::{Level, as_imbalance};
 use crate::search::{Ends, Search};
+use crate::search_direction::SearchDirection;
 use std::alloc::AllocError;
 
-/// How many nodes a search may take on the way.
+/// How many nodes a search may take in a pass.
 const BUDGET: u64 = 32;
 
 /// The direction of a pass.
@@ -47,8 +47,8 @@ fn pass_block(
         first,
         end: first.saturating_add(columns.len()),
     };
-    let pushes = any_starts(level, span, Course::Push);
-    let pulls = any_starts(level, span, Course::Pull);
+    let pushes = any_starts(level, span, SearchDirection::Push);
+    let pulls = any_starts(level, span, SearchDirection::Pull);
     if pushes && pulls {
         meet(level, columns, search, span)?;
     }
@@ -58,17 +58,17 @@ fn pass_block(
     Ok(())
 }
 
-// Whether a search of this course starts at any of these nodes.
-fn any_starts(level: &Level, span: Span, course: Course) -> bool {
+// Whether a search in this direction starts at any of these nodes.
+fn any_starts(level: &Level, span: Span, direction: SearchDirection) -> bool {
     for number in span.first..span.end {
-        if course.starts(&level.node(number)) {
+        if direction.starts(&level.node(number)) {
             return true;
         }
     }
     false
 }
 
-// Moves what excess there is to nodes nearby that need it.
+// Moves imbalances to nodes nearby that need them.
 fn meet(
     level: &mut Level,
     columns: &Columns,
@@ -76,16 +76,23 @@ fn meet(
     span: Span,
 ) -> Result<(), AllocError> {
     for number in span.first..span.end {
-        search.move_all(level, columns, number, Course::Push, Ends::AtNeed, BUDGET)?;
+        search.move_all(
+            level,
+            columns,
+            number,
+            SearchDirection::Push,
+            Ends::AtNeed,
+            BUDGET,
+        )?;
     }
     Ok(())
 }
 
-// Carries the excess of these rows one block on.
+// Carries the imbalance of these rows one block on.
 fn carry_all(level: &mut Level, columns: &Columns, span: Span, direction: Direction) {
     for number in span.first..span.end {
         let column = columns.column(number.saturating_sub(span.first));
-        if level.node(number).excess == 0 || !column.is_row() {
+        if level.node(number).imbalance == 0 || !column.is_row() {
             continue;
         }
         match direction {
@@ -95,45 +102,45 @@ fn carry_all(level: &mut Level, columns: &Columns, span: Span, direction: Direct
     }
 }
 
-// Carries a row's excess to the next block.
+// Carries a row's imbalance to the next block.
 fn carry_on(level: &mut Level, number: u32, weight: i64) {
     let Some(next) = level.next(number) else {
         return;
     };
     let node = level.node(number);
-    if node.excess > 0 {
-        if level.node(next).label.saturating_add(weight) == node.label {
-            let count = node.excess.unsigned_abs();
+    if node.imbalance > 0 {
+        if level.node(next).potential.saturating_add(weight) == node.potential {
+            let count = node.imbalance.unsigned_abs();
             level.set_wait(number, node.wait.saturating_add(count));
-            level.set_excess(number, 0);
-            level.add_excess(next, node.excess);
+            level.set_imbalance(number, 0);
+            level.add_imbalance(next, node.imbalance);
         }
         return;
     }
-    let count = node.excess.unsigned_abs().min(node.wait);
+    let count = node.imbalance.unsigned_abs().min(node.wait);
     level.set_wait(number, node.wait.saturating_sub(count));
-    level.add_excess(number, as_excess(count));
-    level.add_excess(next, as_excess(count).saturating_neg());
+    level.add_imbalance(number, as_imbalance(count));
+    level.add_imbalance(next, as_imbalance(count).saturating_neg());
 }
 
-// Carries a row's excess to the block before.
+// Carries a row's imbalance to the block before.
 fn carry_back(level: &mut Level, number: u32, weight: i64) {
     let Some(previous) = level.previous(number) else {
         return;
     };
     let node = level.node(number);
     let before = level.node(previous);
-    if node.excess < 0 {
-        if node.label.saturating_add(weight) == before.label {
-            let count = node.excess.unsigned_abs();
+    if node.imbalance < 0 {
+        if node.potential.saturating_add(weight) == before.potential {
+            let count = node.imbalance.unsigned_abs();
             level.set_wait(previous, before.wait.saturating_add(count));
-            level.set_excess(number, 0);
-            level.add_excess(previous, node.excess);
+            level.set_imbalance(number, 0);
+            level.add_imbalance(previous, node.imbalance);
         }
         return;
     }
-    let count = node.excess.unsigned_abs().min(before.wait);
+    let count = node.imbalance.unsigned_abs().min(before.wait);
     level.set_wait(previous, before.wait.saturating_sub(count));
-    level.add_excess(number, as_excess(count).saturating_neg());
-    level.add_excess(previous, as_excess(count));
+    level.add_imbalance(number, as_imbalance(count).saturating_neg());
+    level.add_imbalance(previous, as_imbalance(count));
 }

@@ -1,21 +1,21 @@
-//! The plan, part by part: on few long blocks first, and then on blocks half as long, until a block is a round. Proved: it has a
-//! number for each row and round, and a price for each unit and round.
+//! Cost scaling by levels of time (after Goldberg and Tarjan 1990), part by part: a plan on few long blocks is refined to blocks
+//! half as long, until a block is a round. Proved: it has a number for each row and round, and a price for each unit and round.
 
 ghost use Rattle.std.specs.Prelude.{◌≡◌, ◌*◌, length, IfOk};
 ghost use Rattle.std.specs.Option.{IfSome};
 
 use crate::answer::Levels;
-use crate::level::{Level, as_excess};
+use crate::level::{Level, as_imbalance};
 use crate::network::Network;
 use crate::outline::{Outline, outlines};
 use crate::parts::{Part, parts};
 use crate::progress::{Done, Progress};
-use crate::raising::raise_labels;
+use crate::raising::raise_potentials;
 use crate::refining::refined;
 use crate::repair::{Needs, finish, repair};
 use crate::search::Search;
 use crate::settling::settle;
-use crate::stopped::label_stopped;
+use crate::stopped::price_stopped;
 use std::alloc::{AllocError, Global};
 
 /// A guess at a best plan: when the requests of each row are sent so that their waiting costs least in all. There is none if
@@ -67,7 +67,7 @@ fn finest<P: Progress>(
             levels_left: u32::try_from(left).unwrap_or(u32::MAX).saturating_add(1),
             ..done
         });
-        label_stopped(&mut level, &part.columns);
+        price_stopped(&mut level, &part.columns);
         let Some(outline) = outlines.pop() else {
             return Ok(None);
         };
@@ -88,7 +88,7 @@ fn coarsest(
 ) -> Result<Option<Level>, AllocError> {
     let mut level = Level::of(alloc, outline)?;
     for number in 0..level.len() {
-        level.set_excess(number, as_excess(outline.comes(number)));
+        level.set_imbalance(number, as_imbalance(outline.comes(number)));
     }
     let needs = Needs::of(alloc, &level)?;
     if finish(alloc, &mut level, &part.columns, search, needs)? {
@@ -107,7 +107,7 @@ fn finer(
     whole: &Level,
 ) -> Result<Option<Level>, AllocError> {
     let mut level = refined(alloc, &part.columns, outline, whole)?;
-    raise_labels(alloc, &mut level, &part.columns)?;
+    raise_potentials(alloc, &mut level, &part.columns)?;
     settle(&mut level, &part.columns);
     if repair(alloc, &mut level, &part.columns, search)? {
         Ok(Some(level))

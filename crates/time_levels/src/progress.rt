@@ -1,4 +1,4 @@
-//! Who is told how far a plan is.
+//! The progress of a plan.
 
 /// How far a plan is.
 #[derive(Clone, Copy, Debug)]
@@ -11,16 +11,16 @@ pub struct Done {
     pub levels_left: u32,
 }
 
-/// Is told how far a plan is, on the thread that plans.
+/// Receives the progress of a plan, on the thread that plans.
 pub trait Progress {
     /// A level of a part is planned; at last, all levels of all parts.
     fn level_planned(&self, done: Done);
 }
 
-/// Nobody is told.
+/// Ignores the progress.
 #[derive(Clone, Copy, Debug, Drop)]
-pub struct Untold;
+pub struct NoProgress;
 
-impl Progress for Untold {
+impl Progress for NoProgress {
     fn level_planned(&self, _done: Done) {}
 }

@@ -1,22 +1,26 @@
-//! Labels of a refined level, changed so that nothing gets cheaper by going on from a row, and that what waits waits at no loss.
+//! Potentials of a refined level, changed so that nothing gets cheaper by going on from a row, and that what waits waits at no loss.
 
 use crate::columns::{Column, Columns};
 use crate::level::Level;
 use std::alloc::{AllocError, Global};
 
-/// In so many blocks one after another a row's labels are raised where some wait. In the next block they aren't, so that what
+/// In so many blocks one after another a row's potentials are raised where some wait. In the next block they aren't, so that what
 /// was raised wrongly isn't carried on for ever.
 const RUN: u32 = 4;
 
-/// Labels of a block before they were changed, and in how many blocks up to it each row's were raised, by column.
+/// Potentials of a block before they were changed, and in how many blocks up to it each row's were raised, by column.
 #[derive(Drop)]
 struct Raising {
     before: Vec<i64>,
     runs: Vec<u32>,
 }
 
-/// Changes the labels of all blocks, from the last to the first.
-pub fn raise_labels(alloc: Global, level: &mut Level, columns: &Columns) -> Result<(), AllocError> {
+/// Changes the potentials of all blocks, from the last to the first.
+pub fn raise_potentials(
+    alloc: Global,
+    level: &mut Level,
+    columns: &Columns,
+) -> Result<(), AllocError> {
     let width = columns.len() as usize;
     let mut raising = Raising {
         before: vec![in alloc; 0; width]?,
@@ -33,13 +37,13 @@ pub fn raise_labels(alloc: Global, level: &mut Level, columns: &Columns) -> Resu
 }
 
 impl Raising {
-    // Keeps the labels of a block.
+    // Keeps the potentials of a block.
     fn keep(&mut self, level: &Level, columns: &Columns, block: u32) {
         let first = level.at(block, 0);
         for number in 0..columns.len() {
-            let label = level.node(first.saturating_add(number)).label;
+            let potential = level.node(first.saturating_add(number)).potential;
             if let Some(before) = self.before.get_mut(number as usize) {
-                *before = label;
+                *before = potential;
             }
         }
     }
@@ -52,7 +56,7 @@ impl Raising {
         self.runs.get(number as usize).copied().unwrap_or(0)
     }
 
-    // Raises the label of a unit to what those cost that wait in its rows, so that they wait.
+    // Raises the potential of a unit to what those cost that wait in its rows, so that they wait.
     fn raise_by_rows(&self, level: &mut Level, columns: &Columns, block: u32) {
         for number in 0..columns.len() {
             let column = columns.column(number);
@@ -62,7 +66,7 @@ impl Raising {
         }
     }
 
-    // A unit whose label was raised, and was not above that of the unit above it, raises that one too.
+    // A unit whose potential was raised, and was not above that of the unit above it, raises that one too.
     fn raise_up(&self, level: &mut Level, columns: &Columns, block: u32) {
         for number in (0..columns.len()).rev() {
             let column = columns.column(number);
@@ -75,14 +79,14 @@ impl Raising {
     }
 
     fn raise_above(&self, level: &mut Level, block: u32, number: u32, above: u32) {
-        let label = level.node(level.at(block, number)).label;
+        let potential = level.node(level.at(block, number)).potential;
         let before = self.before(number);
-        if label > before && before <= self.before(above) {
-            level.raise_label(level.at(block, above), label);
+        if potential > before && before <= self.before(above) {
+            level.raise_potential(level.at(block, above), potential);
         }
     }
 
-    // A unit whose label was raised raises those right below it that were not below it before.
+    // A unit whose potential was raised raises those right below it that were not below it before.
     fn raise_down(&self, level: &mut Level, columns: &Columns, block: u32) {
         for number in 0..columns.len() {
             let column = columns.column(number);
@@ -95,15 +99,15 @@ impl Raising {
     }
 
     fn raise_below(&self, level: &mut Level, block: u32, number: u32, above: u32) {
-        let label = level.node(level.at(block, above)).label;
+        let potential = level.node(level.at(block, above)).potential;
         let before = self.before(above);
         let below = level.at(block, number);
-        if label > before && level.node(below).label >= before {
-            level.raise_label(below, label);
+        if potential > before && level.node(below).potential >= before {
+            level.raise_potential(below, potential);
         }
     }
 
-    // Gives each row the label of the cheaper of its ways.
+    // Gives each row the potential of the cheaper of its paths.
     fn settle_rows(&mut self, level: &mut Level, columns: &Columns, block: u32) {
         for number in 0..columns.len() {
             let column = columns.column(number);
@@ -116,8 +120,8 @@ impl Raising {
     fn settle_row(&mut self, level: &mut Level, block: u32, number: u32, column: &Column) {
         let row = level.at(block, number);
         let node = level.node(row);
-        let label = cheapest(level, block, row, column).unwrap_or(node.label);
-        let raised = label > node.label && node.wait > 0;
+        let potential = cheapest(level, block, row, column).unwrap_or(node.potential);
+        let raised = potential > node.potential && node.wait > 0;
         let run = if raised {
             self.run(number).saturating_add(1)
         } else {
@@ -125,7 +129,7 @@ impl Raising {
         };
         let too_long = run > RUN;
         if !too_long {
-            level.set_label(row, label);
+            level.set_potential(row, potential);
         }
         if let Some(old) = self.runs.get_mut(number as usize) {
             *old = if too_long { 0 } else { run };
@@ -133,29 +137,29 @@ impl Raising {
     }
 }
 
-// Raises the label of a row's unit to what those cost that wait in it.
+// Raises the potential of a row's unit to what those cost that wait in it.
 fn raise_by_row(level: &mut Level, block: u32, number: u32, column: &Column) {
     let row = level.at(block, number);
     if level.node(row).wait == 0 {
         return;
     }
-    if let Some(label) = level.label_of_waiting(row, column)
+    if let Some(potential) = level.potential_of_waiting(row, column)
         && let Some(unit) = level.above(block, column)
         && level.node(unit).cap > 0
     {
-        level.raise_label(unit, label);
+        level.raise_potential(unit, potential);
     }
 }
 
-// What the cheaper way on from a row costs, if it has one.
+// What the cheaper path on from a row costs, if it has one.
 fn cheapest(level: &Level, block: u32, row: u32, column: &Column) -> Option<i64> {
-    let waiting = level.label_of_waiting(row, column);
+    let waiting = level.potential_of_waiting(row, column);
     let unit = level.node(level.above(block, column)?);
     if unit.cap == 0 {
         return waiting;
     }
     match waiting {
-        Some(label) => Some(label.min(unit.label)),
-        None => Some(unit.label),
+        Some(potential) => Some(potential.min(unit.potential)),
+        None => Some(unit.potential),
     }
 }

@@ -5,7 +5,7 @@ use crate::level::Level;
 use crate::outline::Outline;
 use std::alloc::{AllocError, Global};
 
-/// The level of an outline, with labels, flows and waits of the level before, whose blocks are twice as long, and no excess.
+/// The level of an outline, with potentials, flows and waits of the level before, whose blocks are twice as long, and no imbalance.
 pub fn refined(
     alloc: Global,
     columns: &Columns,
@@ -14,25 +14,25 @@ pub fn refined(
 ) -> Result<Level, AllocError> {
     let mut level = Level::of(alloc, outline)?;
     for block in 0..whole.blocks {
-        split_labels(columns, whole, &mut level, block);
+        split_potentials(columns, whole, &mut level, block);
         split_flows(columns, outline, whole, &mut level, block);
     }
     Ok(level)
 }
 
-// A label is twice the old one in the first half of a block, and half way to the next block in the second half.
-fn split_labels(columns: &Columns, whole: &Level, level: &mut Level, block: u32) {
+// A potential is twice the old one in the first half of a block, and halfway to the next block in the second half.
+fn split_potentials(columns: &Columns, whole: &Level, level: &mut Level, block: u32) {
     for column in 0..columns.len() {
         let number = whole.at(block, column);
-        let label = whole.node(number).label;
+        let potential = whole.node(number).potential;
         let next = match whole.next(number) {
-            Some(next) => whole.node(next).label,
-            None => label,
+            Some(next) => whole.node(next).potential,
+            None => potential,
         };
         let first = level.at(block.saturating_mul(2), column);
-        level.set_label(first, label.saturating_add(label));
+        level.set_potential(first, potential.saturating_add(potential));
         if let Some(second) = level.next(first) {
-            level.set_label(second, label.saturating_add(next));
+            level.set_potential(second, potential.saturating_add(next));
         }
     }
 }

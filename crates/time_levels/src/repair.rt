@@ -1,13 +1,13 @@
-//! Moves the excess of nodes to where it is needed, by cheapest ways.
+//! Repairs the imbalances of a level by shortest paths.
 
 use crate::columns::Columns;
-use crate::course::Course;
 use crate::level::Level;
 use crate::passing::{Direction, pass};
 use crate::search::{Ends, Found, Search, is_queue};
+use crate::search_direction::SearchDirection;
 use std::alloc::{AllocError, Global};
 
-/// In which directions excess is carried, one time after another.
+/// The directions of the passes, in order.
 const PASSES: [Direction; 3] = [Direction::Forward, Direction::Backward, Direction::Forward];
 
 /// How many nodes a search to a queue may take.
@@ -16,10 +16,10 @@ const QUEUE_BUDGET: u64 = 1024;
 /// How many nodes other searches may take, one time after another. At last they have no such budget.
 const BUDGETS: [u64; 2] = [64, 256];
 
-/// How many nodes a search may take without a budget, for each node that there is. With good labels it takes about one.
+/// How many nodes a search may take without a budget, for each node that there is. With good potentials it takes about one.
 const TURNS: u64 = 64;
 
-/// Nodes with an excess above 0, and below.
+/// Nodes with an imbalance above 0, and below.
 #[derive(Drop)]
 pub struct Needs {
     pushes: Vec<u32>,
@@ -34,11 +34,11 @@ impl Needs {
             pulls: Vec::new(alloc),
         };
         for number in 0..level.len() {
-            let excess = level.node(number).excess;
-            if excess > 0 {
+            let imbalance = level.node(number).imbalance;
+            if imbalance > 0 {
                 needs.pushes.push(number)?;
             }
-            if excess < 0 {
+            if imbalance < 0 {
                 needs.pulls.push(number)?;
             }
         }
@@ -48,8 +48,8 @@ impl Needs {
     // Those of them that still have one.
     fn left(&self, alloc: Global, level: &Level) -> Result<Needs, AllocError> {
         Ok(Needs {
-            pushes: left(alloc, level, &self.pushes, Course::Push)?,
-            pulls: left(alloc, level, &self.pulls, Course::Pull)?,
+            pushes: left(alloc, level, &self.pushes, SearchDirection::Push)?,
+            pulls: left(alloc, level, &self.pulls, SearchDirection::Pull)?,
         })
     }
 
@@ -58,7 +58,7 @@ impl Needs {
     }
 }
 
-/// Moves all excess of a refined level, on which there are queues, and says whether it could.
+/// Moves all imbalance of a refined level, on which there are queues, and says whether it could.
 pub fn repair(
     alloc: Global,
     level: &mut Level,
@@ -70,31 +70,38 @@ pub fn repair(
         if needs.len() == 0 {
             break;
         }
-        to_queues(level, columns, search, &needs.pushes, Course::Push)?;
-        to_queues(level, columns, search, &needs.pulls, Course::Pull)?;
+        to_queues(level, columns, search, &needs.pushes, SearchDirection::Push)?;
+        to_queues(level, columns, search, &needs.pulls, SearchDirection::Pull)?;
         pass(level, columns, search, direction)?;
         needs = Needs::of(alloc, level)?;
     }
     finish(alloc, level, columns, search, needs)
 }
 
-// Moves the excess of these nodes to where it is needed, or to queues.
+// Moves the imbalance of these nodes to where it is needed, or to queues.
 fn to_queues(
     level: &mut Level,
     columns: &Columns,
     search: &mut Search,
     needs: &[u32],
-    course: Course,
+    direction: SearchDirection,
 ) -> Result<(), AllocError> {
     for number in needs.iter().rev() {
         if !is_queue(level, *number) {
-            search.move_all(level, columns, *number, course, Ends::AtQueue, QUEUE_BUDGET)?;
+            search.move_all(
+                level,
+                columns,
+                *number,
+                direction,
+                Ends::AtQueue,
+                QUEUE_BUDGET,
+            )?;
         }
     }
     Ok(())
 }
 
-/// Moves all excess of a level, which these nodes have, and says whether it could.
+/// Moves all imbalance of a level, which these nodes have, and says whether it could.
 pub fn finish(
     alloc: Global,
     level: &mut Level,
@@ -115,7 +122,7 @@ pub fn finish(
     Ok(needs.left(alloc, level)?.len() == 0)
 }
 
-// Moves what it can of the excess of these nodes. Says whether there may be a way for all that is left.
+// Moves what it can of the imbalance of these nodes. Says whether there may be a path for all that is left.
 fn move_some(
     level: &mut Level,
     columns: &Columns,
@@ -124,39 +131,52 @@ fn move_some(
     budget: u64,
 ) -> Result<bool, AllocError> {
     Ok(
-        to_needs(level, columns, search, &needs.pushes, Course::Push, budget)?
-            && to_needs(level, columns, search, &needs.pulls, Course::Pull, budget)?,
+        to_needs(
+            level,
+            columns,
+            search,
+            &needs.pushes,
+            SearchDirection::Push,
+            budget,
+        )? && to_needs(
+            level,
+            columns,
+            search,
+            &needs.pulls,
+            SearchDirection::Pull,
+            budget,
+        )?,
     )
 }
 
-// Moves the excess of these nodes to where it is needed. Says whether there may be a way for all that is left.
+// Moves the imbalance of these nodes to where it is needed. Says whether there may be a path for all that is left.
 fn to_needs(
     level: &mut Level,
     columns: &Columns,
     search: &mut Search,
     needs: &[u32],
-    course: Course,
+    direction: SearchDirection,
     budget: u64,
 ) -> Result<bool, AllocError> {
     for number in needs.iter().rev() {
-        let found = search.move_all(level, columns, *number, course, Ends::AtNeed, budget)?;
-        if matches!(&found, Found::NoWay) {
+        let found = search.move_all(level, columns, *number, direction, Ends::AtNeed, budget)?;
+        if matches!(&found, Found::NoPath) {
             return Ok(false);
         }
     }
     Ok(true)
 }
 
-// Those of the nodes from which a search of this course still starts.
+// Those of the nodes from which a search in this direction still starts.
 fn left(
     alloc: Global,
     level: &Level,
     needs: &[u32],
-    course: Course,
+    direction: SearchDirection,
 ) -> Result<Vec<u32>, AllocError> {
     let mut left = Vec::new(alloc);
     for number in needs {
-        if course.starts(&level.node(*number)) {
+        if direction.starts(&level.node(*number)) {
             left.push(*number)?;
         }
     }

@@ -1,13 +1,14 @@
-//! A search for a cheapest way between nodes, by distances from which the labels are taken off, and what is moved along it.
+//! Dijkstra's algorithm on reduced costs (Edmonds and Karp 1972; Tomizawa 1971): the cheapest path from or to a node of a level,
+//! and the requests that are moved along it.
 
+use crate::arc::Arc;
 use crate::columns::{Column, Columns};
-use crate::course::Course;
 use crate::frontier::{Frontier, Spot};
-use crate::hop::Hop;
-use crate::level::{Level, Node, UNREACHED, as_excess};
+use crate::level::{Level, Node, UNREACHED, as_imbalance};
+use crate::search_direction::SearchDirection;
 use std::alloc::{AllocError, Global};
 
-/// At a row of a queue at least so many wait, in its block and in the one before.
+/// A node counts as a queue if at least so many wait there, in its block and in the block before.
 const QUEUE: u32 = 16;
 
 /// Where a search ends.
@@ -15,22 +16,22 @@ const QUEUE: u32 = 16;
 pub enum Ends {
     /// At the root, or at a node that lacks what the start has, or has what it lacks.
     AtNeed,
-    /// There, or at a row of a queue.
+    /// There, or at a queue.
     AtQueue,
 }
 
 /// What came of a search.
 #[derive(Clone, Copy)]
 pub enum Found {
-    /// Requests were moved along a way.
+    /// Requests were moved along a path.
     Moved,
-    /// There is no way.
-    NoWay,
+    /// There is no path.
+    NoPath,
     /// The search was cut short. Nothing has changed.
     CutShort,
 }
 
-// The end of the best way so far.
+// The end of the best path so far.
 #[derive(Clone, Copy)]
 enum Goal {
     Unknown,
@@ -46,7 +47,7 @@ struct Stand {
     // The first node of its block.
     first: u32,
     node: Node,
-    // How far a node with label 0 would be, if this one led to it at no cost.
+    // How far a node with potential 0 would be, if this one led to it at no cost.
     key: i64,
 }
 
@@ -66,7 +67,7 @@ impl Stand {
     }
 }
 
-/// Whether a node is a row of a queue.
+/// Whether a node is a queue.
 #[inline]
 pub fn is_queue(level: &Level, number: u32) -> bool {
     level.node(number).wait >= QUEUE
@@ -80,10 +81,10 @@ pub fn is_queue(level: &Level, number: u32) -> bool {
 #[derive(Drop)]
 pub struct Search {
     frontier: Frontier,
-    hops: Vec<Hop>,
+    arcs: Vec<Arc>,
     goal: Goal,
     start: u32,
-    course: Course,
+    direction: SearchDirection,
     ends: Ends,
 }
 
@@ -92,28 +93,28 @@ impl Search {
     pub fn new(alloc: Global) -> Search {
         Search {
             frontier: Frontier::new(alloc),
-            hops: Vec::new(alloc),
+            arcs: Vec::new(alloc),
             goal: Goal::Unknown,
             start: 0,
-            course: Course::Push,
+            direction: SearchDirection::Push,
             ends: Ends::AtNeed,
         }
     }
 
-    // Looks for a cheapest way from a node, or to it, from at most so many nodes. If there is one, changes the labels so that
-    // it costs nothing, and moves along it what can be moved.
+    // Searches a cheapest path from a node, or to it, that leaves at most so many nodes. If there is one, changes the potentials
+    // so that the reduced cost of each of its arcs is 0, and moves as many requests along it as fit.
     fn run(
         &mut self,
         level: &mut Level,
         columns: &Columns,
         start: u32,
-        course: Course,
+        direction: SearchDirection,
         ends: Ends,
         budget: u64,
     ) -> Result<Found, AllocError> {
         self.goal = Goal::Unknown;
         self.start = start;
-        self.course = course;
+        self.direction = direction;
         self.ends = ends;
         self.frontier.begin(level, start)?;
         if self.look_on(level, columns, budget)? {
@@ -123,22 +124,23 @@ impl Search {
         Ok(Found::CutShort)
     }
 
-    /// Moves all that a node has too much or lacks, by such searches. The answer is that of the last of them, or `Moved`.
+    /// Searches paths from the node, and moves requests along them, until its imbalance is 0 or a search fails. Answers what the
+    /// last search found, or `Moved`.
     pub fn move_all(
         &mut self,
         level: &mut Level,
         columns: &Columns,
         number: u32,
-        course: Course,
+        direction: SearchDirection,
         ends: Ends,
         budget: u64,
     ) -> Result<Found, AllocError> {
-        let most = level.node(number).excess.unsigned_abs();
+        let most = level.node(number).imbalance.unsigned_abs();
         for _ in 0..most {
-            if !course.starts(&level.node(number)) {
+            if !direction.starts(&level.node(number)) {
                 break;
             }
-            let found = self.run(level, columns, number, course, ends, budget)?;
+            let found = self.run(level, columns, number, direction, ends, budget)?;
             if !matches!(&found, Found::Moved) {
                 return Ok(found);
             }
@@ -146,7 +148,8 @@ impl Search {
         Ok(Found::Moved)
     }
 
-    // Looks on from one node after another, the nearest first, until none is nearer than the goal. Says whether it came so far.
+    // Takes one node after another from the frontier, the nearest first, until none is nearer than the goal. Answers whether the
+    // budget sufficed.
     fn look_on(
         &mut self,
         level: &mut Level,
@@ -176,7 +179,7 @@ impl Search {
             spot,
             first: spot.number.saturating_sub(spot.column),
             node,
-            key: distance.saturating_sub(self.course.signed(node.label)),
+            key: distance.saturating_sub(self.direction.signed(node.potential)),
         };
         if column.is_row() {
             self.look_from_row(level, &column, &stand)
@@ -192,21 +195,21 @@ impl Search {
         column: &Column,
         stand: &Stand,
     ) -> Result<(), AllocError> {
-        let weight = self.course.signed(i64::from(column.weight));
+        let weight = self.direction.signed(i64::from(column.weight));
         if let Some(above) = column.above
             && self
-                .course
+                .direction
                 .leads_up(&stand.node, level.node(stand.beside(above).number).cap)
         {
             self.reach(level, stand, stand.beside(above), 0)?;
         }
         if let Some(next) = level.next(stand.spot.number)
-            && self.course.leads_on(&stand.node)
+            && self.direction.leads_on(&stand.node)
         {
             self.reach(level, stand, stand.across(next), weight)?;
         }
         if let Some(previous) = level.previous(stand.spot.number)
-            && self.course.leads_back(&level.node(previous))
+            && self.direction.leads_back(&level.node(previous))
         {
             self.reach(
                 level,
@@ -226,7 +229,7 @@ impl Search {
         column: &Column,
         stand: &Stand,
     ) -> Result<(), AllocError> {
-        if self.course.leads_out(&stand.node) {
+        if self.direction.leads_out(&stand.node) {
             match column.above {
                 Some(above) => self.reach(level, stand, stand.beside(above), 0)?,
                 None => self.reach_root(stand),
@@ -235,7 +238,7 @@ impl Search {
         for below in columns.below(column) {
             let below = stand.beside(*below);
             if self
-                .course
+                .direction
                 .leads_below(&level.node(below.number), stand.node.cap)
             {
                 self.reach(level, stand, below, 0)?;
@@ -244,7 +247,7 @@ impl Search {
         Ok(())
     }
 
-    // Reaches the root by a way.
+    // Reaches the root by a path.
     #[inline]
     fn reach_root(&mut self, stand: &Stand) {
         let distance = as_distance(stand.key);
@@ -254,7 +257,7 @@ impl Search {
         }
     }
 
-    // Reaches a node by a way, if that is the shortest so far.
+    // Reaches a node by a path, if that is the shortest so far.
     #[inline]
     fn reach(
         &mut self,
@@ -266,7 +269,7 @@ impl Search {
         let number = spot.number;
         let node = level.node(number);
         let length = stand.key.saturating_add(cost);
-        let length = length.saturating_add(self.course.signed(node.label));
+        let length = length.saturating_add(self.direction.signed(node.potential));
         let distance = as_distance(length);
         if distance >= node.distance || distance >= self.frontier.best {
             return Ok(());
@@ -284,93 +287,93 @@ impl Search {
     // Whether the search ends at a node.
     #[inline]
     fn is_goal(&self, level: &Level, number: u32, node: &Node) -> bool {
-        self.course.meets(node)
+        self.direction.meets(node)
             || match self.ends {
                 Ends::AtNeed => false,
                 Ends::AtQueue => is_queue(level, number),
             }
     }
 
-    // Changes labels, flows and waits by what the search found.
+    // Changes potentials, flows and waits by what the search found.
     fn change(&mut self, level: &mut Level, columns: &Columns) -> Result<Found, AllocError> {
         if matches!(&self.goal, Goal::Unknown) {
             self.frontier.forget(level);
-            return Ok(Found::NoWay);
+            return Ok(Found::NoPath);
         }
-        self.frontier.forget_and_change(level, self.course);
+        self.frontier.forget_and_change(level, self.direction);
         self.trace(level, columns)?;
         let count = self.room(level);
         if count == 0 {
-            return Ok(Found::NoWay);
+            return Ok(Found::NoPath);
         }
         self.send(level, count);
         Ok(Found::Moved)
     }
 
-    // Lists the steps of the way, from its goal back to the start.
+    // Lists the steps of the path, from its goal back to the start.
     fn trace(&mut self, level: &Level, columns: &Columns) -> Result<(), AllocError> {
-        self.hops.clear();
+        self.arcs.clear();
         let mut here = self.begin_trace()?;
         for _ in self.frontier.reached() {
             if here == self.start {
                 break;
             }
             let from = level.node(here).from;
-            self.hops.push(match self.course {
-                Course::Push => Hop::between(level, columns, from, here),
-                Course::Pull => Hop::between(level, columns, here, from),
+            self.arcs.push(match self.direction {
+                SearchDirection::Push => Arc::between(level, columns, from, here),
+                SearchDirection::Pull => Arc::between(level, columns, here, from),
             })?;
             here = from;
         }
         Ok(())
     }
 
-    // Lists the step between the way's last node and the root, if that is its goal, and answers the node.
+    // Lists the step between the path's last node and the root, if that is its goal, and answers the node.
     fn begin_trace(&mut self) -> Result<u32, AllocError> {
         match self.goal {
             Goal::Unknown => Ok(self.start),
             Goal::Node(number) => Ok(number),
             Goal::Root(from) => {
-                self.hops.push(match self.course {
-                    Course::Push => Hop::Up(from),
-                    Course::Pull => Hop::Down(from),
+                self.arcs.push(match self.direction {
+                    SearchDirection::Push => Arc::Up(from),
+                    SearchDirection::Pull => Arc::Down(from),
                 })?;
                 Ok(from)
             }
         }
     }
 
-    // How many can be moved along the way.
+    // How many can be moved along the path.
     fn room(&self, level: &Level) -> u32 {
-        let mut count = level.node(self.start).excess.unsigned_abs();
+        let mut count = level.node(self.start).imbalance.unsigned_abs();
         if let Goal::Node(goal) = self.goal
-            && self.course.meets(&level.node(goal))
+            && self.direction.meets(&level.node(goal))
         {
-            count = count.min(level.node(goal).excess.unsigned_abs());
+            count = count.min(level.node(goal).imbalance.unsigned_abs());
         }
-        for hop in &self.hops {
-            count = count.min(hop.room(level));
+        for arc in &self.arcs {
+            count = count.min(arc.room(level));
         }
         count
     }
 
-    // Moves so many along the way.
+    // Moves so many along the path.
     fn send(&self, level: &mut Level, count: u32) {
-        for hop in &self.hops {
-            hop.send(level, count);
+        for arc in &self.arcs {
+            arc.send(level, count);
         }
-        let more = match self.course {
-            Course::Push => as_excess(count),
-            Course::Pull => as_excess(count).saturating_neg(),
+        let more = match self.direction {
+            SearchDirection::Push => as_imbalance(count),
+            SearchDirection::Pull => as_imbalance(count).saturating_neg(),
         };
-        level.add_excess(self.start, more.saturating_neg());
+        level.add_imbalance(self.start, more.saturating_neg());
         if let Goal::Node(goal) = self.goal {
-            level.add_excess(goal, more);
+            level.add_imbalance(goal, more);
         }
     }
 }
 
-// The length of a way as a distance. Ways that are too long count as none.
+// The length of a path as a distance. Paths that are too long count as none.
 #[inline]
 fn as_distance(length: i64) -> u32 {
     u32::try_from(length.max(0)).unwrap_or(UNREACHED)

@@ -1,8 +1,7 @@
-//! Flows and waits of a refined level, changed to what its labels ask for. What then comes and doesn't go on, or goes on and
-//! didn't come, is a node's excess.
+//! Flows and waits of a refined level, changed to what its potentials ask for. What then comes and doesn't go on, less what goes on and didn't come, is a node's imbalance.
 
 use crate::columns::{Column, Columns};
-use crate::level::{Level, as_excess};
+use crate::level::{Level, as_imbalance};
 
 /// Changes the flow and the wait of each node.
 pub fn settle(level: &mut Level, columns: &Columns) {
@@ -23,7 +22,7 @@ fn settle_block(level: &mut Level, columns: &Columns, block: u32) {
     }
 }
 
-// Nothing goes on from a row where that isn't its cheapest way.
+// Nothing goes on from a row where that isn't its cheapest path.
 fn settle_flow_of_row(level: &mut Level, block: u32, number: u32, column: &Column) {
     let row = level.at(block, number);
     let node = level.node(row);
@@ -31,26 +30,26 @@ fn settle_flow_of_row(level: &mut Level, block: u32, number: u32, column: &Colum
         return;
     };
     let above = level.node(unit);
-    if node.flow > 0 && (above.label > node.label || above.cap == 0) {
+    if node.flow > 0 && (above.potential > node.potential || above.cap == 0) {
         level.set_flow(row, 0);
-        level.add_excess(row, as_excess(node.flow));
-        level.add_excess(unit, as_excess(node.flow).saturating_neg());
+        level.add_imbalance(row, as_imbalance(node.flow));
+        level.add_imbalance(unit, as_imbalance(node.flow).saturating_neg());
     }
 }
 
-// Nothing waits in a row where that isn't its cheapest way.
+// Nothing waits in a row where that isn't its cheapest path.
 fn settle_wait(level: &mut Level, block: u32, number: u32, column: &Column) {
     let row = level.at(block, number);
     let node = level.node(row);
-    let waits = match level.label_of_waiting(row, column) {
-        Some(label) => label <= node.label,
+    let waits = match level.potential_of_waiting(row, column) {
+        Some(potential) => potential <= node.potential,
         None => false,
     };
     if node.wait > 0 && !waits {
         level.set_wait(row, 0);
-        level.add_excess(row, as_excess(node.wait));
+        level.add_imbalance(row, as_imbalance(node.wait));
         if let Some(next) = level.next(row) {
-            level.add_excess(next, as_excess(node.wait).saturating_neg());
+            level.add_imbalance(next, as_imbalance(node.wait).saturating_neg());
         }
     }
 }
@@ -59,10 +58,10 @@ fn settle_wait(level: &mut Level, block: u32, number: u32, column: &Column) {
 fn settle_unit(level: &mut Level, block: u32, number: u32, column: &Column) {
     let unit = level.at(block, number);
     let node = level.node(unit);
-    let label = level.label_above(block, column);
-    let flow = if node.label > label {
+    let potential = level.potential_above(block, column);
+    let flow = if node.potential > potential {
         node.cap
-    } else if node.label < label {
+    } else if node.potential < potential {
         0
     } else {
         node.flow.min(node.cap)
@@ -70,10 +69,10 @@ fn settle_unit(level: &mut Level, block: u32, number: u32, column: &Column) {
     if flow == node.flow {
         return;
     }
-    let more = as_excess(flow).saturating_sub(as_excess(node.flow));
+    let more = as_imbalance(flow).saturating_sub(as_imbalance(node.flow));
     level.set_flow(unit, flow);
-    level.add_excess(unit, more.saturating_neg());
+    level.add_imbalance(unit, more.saturating_neg());
     if let Some(above) = level.above(block, column) {
-        level.add_excess(above, more);
+        level.add_imbalance(above, more);
     }
 }

@@ -1,13 +1,12 @@
-//! Labels of units that take nothing in a block. No search comes to such a unit, so that its label says nothing there. But those
-//! of the halves of a block are made from it and from that of the next block, and a label of chance would be carried on to the
-//! rows.
+//! Potentials of units that take nothing in a block. No search reaches such a unit, so its potential means nothing there. The
+//! potentials of both halves of the block are interpolated from it and the next block's, so an arbitrary one would spread to rows.
 
 use crate::columns::{Column, Columns};
 use crate::level::Level;
 
-/// Gives each unit that takes nothing in a block the highest of three labels: that of the unit above it, those of the rows right
+/// Gives each unit that takes nothing in a block the highest of three potentials: that of the unit above it, those of the rows right
 /// below it in which some wait, and those of the units right below it, which take nothing either.
-pub fn label_stopped(level: &mut Level, columns: &Columns) {
+pub fn price_stopped(level: &mut Level, columns: &Columns) {
     for block in 0..level.blocks {
         clear(level, columns, block);
         raise_by_those_below(level, columns, block);
@@ -15,12 +14,12 @@ pub fn label_stopped(level: &mut Level, columns: &Columns) {
     }
 }
 
-// Takes the labels of units that take nothing away.
+// Takes the potentials of units that take nothing away.
 fn clear(level: &mut Level, columns: &Columns, block: u32) {
     for number in 0..columns.len() {
         let unit = level.at(block, number);
         if is_stopped(level, unit) {
-            level.set_label(unit, 0);
+            level.set_potential(unit, 0);
         }
     }
 }
@@ -34,12 +33,12 @@ fn raise_by_those_below(level: &mut Level, columns: &Columns, block: u32) {
             && is_stopped(level, above)
             && counts(level, here, &column)
         {
-            level.raise_label(above, level.node(here).label);
+            level.raise_potential(above, level.node(here).potential);
         }
     }
 }
 
-// Whether the label of a node counts for a unit above it that takes nothing.
+// Whether the potential of a node counts for a unit above it that takes nothing.
 fn counts(level: &Level, number: u32, column: &Column) -> bool {
     !column.is_row() || level.node(number).wait > 0
 }
@@ -52,7 +51,7 @@ fn raise_by_those_above(level: &mut Level, columns: &Columns, block: u32) {
         if let Some(above) = level.above(block, &column)
             && is_stopped(level, unit)
         {
-            level.raise_label(unit, level.node(above).label);
+            level.raise_potential(unit, level.node(above).potential);
         }
     }
 }

@@ -2,9 +2,9 @@
 use Rattle.std.proofs.Common.{◌≡◌, ◌+◌, ℕ, List, [], ◌∷◌, Bool, true, false, refl, ap, ◌∙◌, Option, Some, Ok, ok_or, find, bytes_eq}
 use Rattle.cam_types.proofs.LeastLemmas.{find_passes}
 use Rattle.trace_file.specs.Histories.{Flags}
-use Rattle.trace_file.specs.Rows.{Word}
+use Rattle.trace_file.specs.Rows.{TraceWord}
 use Rattle.record_text.specs.Fields.{field_of}
-use Rattle.trace_file.specs.declared.word.Word.TheVariants as word
+use Rattle.trace_file.specs.declared.word.TraceWord.TheVariants as word
 use Rattle.trace_file.specs.Words.{spelled, word_of, all_words}
 use Rattle.trace_file.specs.Fields.{flags_at, flags_of, flags_text, flags_by}
 use Rattle.record_text.specs.Text.{Row}
@@ -13,11 +13,11 @@ use Rattle.record_text.proofs.StepLemmas.{ok_or_ok}
 
 -- ---- words
 
-pub word_spelled : (field : List ℕ) (w : Word) → word_of field ≡ Some w → field ≡ spelled w
+pub word_spelled : (field : List ℕ) (w : TraceWord) → word_of field ≡ Some w → field ≡ spelled w
 unfolding word_of
 word_spelled field w e = same_bytes field (spelled w) (find_passes (λ v. bytes_eq field (spelled v)) all_words w e)
 
-pub word_again : (w : Word) → word_of (spelled w) ≡ Some w
+pub word_again : (w : TraceWord) → word_of (spelled w) ≡ Some w
 unfolding word_of
 word_again word.Sim = refl
 word_again _ = refl

@@ -17,10 +17,10 @@ pub mod ScriptNumbered
 pub mod ScriptOrder
 pub mod ScriptRowLaws
 pub mod ScriptRules
-pub mod ScriptStageLemmas
+pub mod ScriptParserLemmas
 pub mod ScriptTextLaws
-pub mod StageLaws
-pub mod StageLemmas
+pub mod ParserLaws
+pub mod ParserLemmas
 pub mod TextLaws
 pub mod WholeLaws
 pub mod WritingLemmas

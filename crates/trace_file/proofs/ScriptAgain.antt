@@ -11,26 +11,26 @@ use Rattle.cam_types.specs.Bounds.{Bounds, are_within}
 use Rattle.trace_file.specs.ScriptRows.{script_header, script_row, ScriptRow}
 use Rattle.trace_file.specs.ScriptVersions.{trace_version, ScriptVersion}
 use Rattle.trace_file.specs.declared.script_version.ScriptVersion.TheVariants as script
-use Rattle.trace_file.specs.ScriptReading.{config_step, first_row, first_stage, has_room, is_config_word, is_configuring, is_limits, limits_of, limits_step, roomy_word, rows_step, script_ended, script_reading, script_step, ScriptItem, ScriptStage}
-use Rattle.trace_file.specs.declared.script_stage.ScriptStage.TheVariants as stage
-use Rattle.trace_file.specs.Reading.{config_of, lacks_adapters, row_step, step, TraceStage}
+use Rattle.trace_file.specs.ScriptReading.{config_step, first_row, first_parser, has_room, is_config_word, is_configuring, is_limits, limits_of, limits_step, roomy_word, rows_step, script_ended, script_reading, script_step, ScriptItem, ScriptParser}
+use Rattle.trace_file.specs.declared.script_parser.ScriptParser.TheVariants as parser
+use Rattle.trace_file.specs.Reading.{config_of, lacks_adapters, row_step, step, TraceParser}
 use Rattle.record_text.specs.Header.{has_letters, is_header, header_row}
-use Rattle.trace_file.specs.declared.trace_stage.TraceStage.TheVariants as trace
+use Rattle.trace_file.specs.declared.trace_parser.TraceParser.TheVariants as trace
 use Rattle.record_text.specs.Text.{Row}
 use Rattle.record_text.specs.Fields.{field_of}
 use Rattle.trace_file.specs.Histories.{Device, Past, Refusal, Topology, config_fault}
 use Rattle.trace_file.specs.Records.{holds, lane_row, weight_rows}
 use Rattle.record_text.specs.ConfigRows.{adapter_row, device_row, link_row, weight_row}
 use Rattle.trace_file.specs.Versions.{Version, has_table}
-use Rattle.trace_file.specs.Scenarios.{Scenario, empty_scenario, is_answer_row, is_answer_word, item_of, MOST_ROWS}
+use Rattle.trace_file.specs.Scenarios.{Scenario, empty_scenario, is_answer_row, is_answer_word, item_of, MAX_ROWS}
 use Rattle.trace_file.specs.Script.{FitsRow, IsManuscript, Manuscript, answer_rows, config_rows, limits_rows, put_row, scenario_of, script_records, step_rows}
 use Rattle.record_text.specs.Steps.{taken}
 use Rattle.record_text.proofs.StepLemmas.{ok_is, on_ok, taken_on}
 use Rattle.trace_file.proofs.ScriptItems.{item_kind}
 use Rattle.trace_file.proofs.ScriptLaws.{fold_config, item_added, more_answers, more_steps}
 use Rattle.trace_file.proofs.ScriptRowLaws.{limits_again, row_again, row_of, word_of_row}
-use Rattle.trace_file.proofs.ScriptStageLemmas.{configures}
-use Rattle.trace_file.proofs.StageLemmas.{step_behind, is_legal-nil}
+use Rattle.trace_file.proofs.ScriptParserLemmas.{configures}
+use Rattle.trace_file.proofs.ParserLemmas.{step_behind, is_legal-nil}
 use Rattle.trace_file.specs.Trace.{IsHistory}
 use Rattle.record_text.proofs.FieldLaws.{same_bytes}
 use Rattle.trace_file.proofs.WholeLaws.{at_config, at_lanes, by_version, first_at, kept}
@@ -41,12 +41,12 @@ put_ok : (r : Result ScriptItem Refusal) → is_ok r ≡ true → (i : ScriptIte
 put_ok (Ok i) e = (i, refl)
 put_ok (Err cause) e = absurd cc
 
-room_for : (b : Bool) (k a : ℕ) → k + cond (not b) 1 0 ≤ MOST_ROWS → a + cond b 1 0 ≤ MOST_ROWS → has_room b k a ≡ true
+room_for : (b : Bool) (k a : ℕ) → k + cond (not b) 1 0 ≤ MAX_ROWS → a + cond b 1 0 ≤ MAX_ROWS → has_room b k a ≡ true
 room_for b k a p q = grind (arith, nat_tests)
 
 -- a row after others
-row_step_again : (n : ℕ) (s : Scenario) (k a : ℕ) (x : ScriptRow) → FitsRow x → is_ok (item_of s.config x) ≡ true → k + cond (not (is_answer_row x)) 1 0 ≤ MOST_ROWS → a + cond (is_answer_row x) 1 0 ≤ MOST_ROWS
-    → script_step n (stage.Rows s k a) (script_row x) ≡ Ok (stage.Rows (put_row s x) (more_steps (is_answer_row x) k) (more_answers (is_answer_row x) a))
+row_step_again : (n : ℕ) (s : Scenario) (k a : ℕ) (x : ScriptRow) → FitsRow x → is_ok (item_of s.config x) ≡ true → k + cond (not (is_answer_row x)) 1 0 ≤ MAX_ROWS → a + cond (is_answer_row x) 1 0 ≤ MAX_ROWS
+    → script_step n (parser.Rows s k a) (script_row x) ≡ Ok (parser.Rows (put_row s x) (more_steps (is_answer_row x) k) (more_answers (is_answer_row x) a))
 unfolding script_step rows_step roomy_word
 row_step_again n s k a x fits ok p q =
     let is = row_of x in
@@ -56,9 +56,9 @@ row_step_again n s k a x fits ok p q =
     rw (is.word, room, row_again x fits, made.1) (item_added n s k a made.0 ∙ rw kind refl)
 
 -- the first row
-first_row_again : (n : ℕ) (given : Option Bounds) (t : TraceStage) (x : ScriptRow) → FitsRow x → lacks_adapters t ≡ false → is_ok (item_of (config_of t) x) ≡ true
-    → script_step n (stage.Config given t) (script_row x)
-    ≡ Ok (stage.Rows (put_row (empty_scenario (config_of t) (limits_of given)) x) (more_steps (is_answer_row x) 0) (more_answers (is_answer_row x) 0))
+first_row_again : (n : ℕ) (given : Option Bounds) (t : TraceParser) (x : ScriptRow) → FitsRow x → lacks_adapters t ≡ false → is_ok (item_of (config_of t) x) ≡ true
+    → script_step n (parser.Config given t) (script_row x)
+    ≡ Ok (parser.Rows (put_row (empty_scenario (config_of t) (limits_of given)) x) (more_steps (is_answer_row x) 0) (more_answers (is_answer_row x) 0))
 unfolding script_step config_step first_row
 first_row_again n given t x fits some ok =
     let is = row_of x in
@@ -70,16 +70,16 @@ first_row_again n given t x fits some ok =
 put_config : (s : Scenario) (x : ScriptRow) → (put_row s x).config ≡ s.config
 put_config s x = fold_config s (x ∷ [])
 
--- the stage after rows
-pub record Ends (n : ℕ) (from : ScriptStage) (rows : List Row) (s : Scenario) : Type 0 where
-  pub last : ScriptStage
+-- the parser after rows
+pub record Ends (n : ℕ) (from : ScriptParser) (rows : List Row) (s : Scenario) : Type 0 where
+  pub last : ScriptParser
   pub reached : taken script_step n from rows ≡ Ok last
   pub ends : script_ended last ≡ Ok s
 
-rows_again : (n : ℕ) (s : Scenario) (k a : ℕ) (xs : List ScriptRow) → AllByRecursion FitsRow xs → AllByRecursion (λ x. is_ok (item_of s.config x) ≡ true) xs → k + step_rows xs ≤ MOST_ROWS → a + answer_rows xs ≤ MOST_ROWS
-    → Ends n (stage.Rows s k a) (map script_row xs) (fold put_row s xs)
+rows_again : (n : ℕ) (s : Scenario) (k a : ℕ) (xs : List ScriptRow) → AllByRecursion FitsRow xs → AllByRecursion (λ x. is_ok (item_of s.config x) ≡ true) xs → k + step_rows xs ≤ MAX_ROWS → a + answer_rows xs ≤ MAX_ROWS
+    → Ends n (parser.Rows s k a) (map script_row xs) (fold put_row s xs)
 unfolding script_ended
-rows_again n s k a [] fits ok p q = record { last = stage.Rows s k a; reached = refl; ends = refl }
+rows_again n s k a [] fits ok p q = record { last = parser.Rows s k a; reached = refl; ends = refl }
 rows_again n s k a (x ∷ xs) fits ok p q =
     let steps = sum_by-cons (λ y. cond (not (is_answer_row y)) 1 0) x xs in
     let answers = sum_by-cons (λ y. cond (is_answer_row y) 1 0) x xs in
@@ -93,17 +93,17 @@ rows_again n s k a (x ∷ xs) fits ok p q =
 abbrev IsConfigRow : Row → Type 0
 IsConfigRow fields = is_config_word (field_of fields 0) ≡ true
 
-config_one : (n : ℕ) (given : Option Bounds) (t u : TraceStage) (fields : Row) → t ≢ trace.Header → IsConfigRow fields → step n t fields ≡ Ok u
-    → (script_step n (stage.Config given t) fields ≡ Ok (stage.Config given u)) × (u ≢ trace.Header)
+config_one : (n : ℕ) (given : Option Bounds) (t u : TraceParser) (fields : Row) → t ≢ trace.Header → IsConfigRow fields → step n t fields ≡ Ok u
+    → (script_step n (parser.Config given t) fields ≡ Ok (parser.Config given u)) × (u ≢ trace.Header)
 unfolding script_step config_step
 config_one n given t u fields behind word e =
     let is : row_step n t fields ≡ Ok u = sym (step_behind n t fields behind) ∙ e in
     let on = configures n t u fields word is in
     (rw (word, is) refl, (λ h. false≢true (sym (ap is_configuring h) ∙ on)))
 
-config_again : (n : ℕ) (given : Option Bounds) (t u : TraceStage) (rows : List Row) → t ≢ trace.Header → AllByRecursion IsConfigRow rows → taken step n t rows ≡ Ok u
-    → taken script_step n (stage.Config given t) rows ≡ Ok (stage.Config given u)
-config_again n given t u [] behind words e = ap (λ (v : TraceStage). Ok (stage.Config given v)) (ok_is t u e)
+config_again : (n : ℕ) (given : Option Bounds) (t u : TraceParser) (rows : List Row) → t ≢ trace.Header → AllByRecursion IsConfigRow rows → taken step n t rows ≡ Ok u
+    → taken script_step n (parser.Config given t) rows ≡ Ok (parser.Config given u)
+config_again n given t u [] behind words e = ap (λ (v : TraceParser). Ok (parser.Config given v)) (ok_is t u e)
 config_again n given t u (fields ∷ rows) behind words e =
     on_ok (step n t fields) (λ v. taken step (n + 1) v rows) u e (λ v ev r.
     let one = config_one n given t v fields behind words.0 ev in
@@ -153,33 +153,33 @@ no_limits fields word = by (bytes_eq (field_of fields 0) (codes "limits")) refl
 
 -- where no limits are given, the configuration begins at once
 begins : (n : ℕ) (v : ScriptVersion) (rows rest : List Row) → AllByRecursion IsConfigRow rows → (length rows ≡ 0 → ⊥)
-    → taken script_step n (stage.First v) (rows ++ rest) ≡ taken script_step n (stage.Config None (first_stage v)) (rows ++ rest)
+    → taken script_step n (parser.First v) (rows ++ rest) ≡ taken script_step n (parser.Config None (first_parser v)) (rows ++ rest)
 unfolding script_step
 begins n v [] rest words some = absurd (some refl)
 begins n v (fields ∷ rows) rest words some = rw (no_limits fields words.0) refl
 
 from_limits : (n : ℕ) (v : ScriptVersion) (given : Option Bounds) (rows rest : List Row) → IfSome given (λ b. are_within b ≡ true) → AllByRecursion IsConfigRow rows → (length rows ≡ 0 → ⊥)
-    → (m : ℕ) × (taken script_step n (stage.First v) (limits_rows given ++ (rows ++ rest)) ≡ taken script_step m (stage.Config given (first_stage v)) (rows ++ rest))
+    → (m : ℕ) × (taken script_step n (parser.First v) (limits_rows given ++ (rows ++ rest)) ≡ taken script_step m (parser.Config given (first_parser v)) (rows ++ rest))
 unfolding script_step limits_step
 from_limits n v None rows rest within words some = (n, begins n v rows rest words some)
 from_limits n v (Some b) rows rest within words some = let k = limits_again b within in (n + 1, rw (k.0, k.1) refl)
 
 -- ---- a whole script
 
-header_one : (v : ScriptVersion) → script_step 1 stage.Header (script_header v) ≡ Ok (stage.First v)
+header_one : (v : ScriptVersion) → script_step 1 parser.Header (script_header v) ≡ Ok (parser.First v)
 unfolding script_step is_header has_letters header_row field_at
 header_one script.One = refl
 header_one script.Two = refl
 
-first_same : (v : ScriptVersion) → (first_at (trace_version v) ≡ first_stage v) × (first_stage v ≢ trace.Header)
+first_same : (v : ScriptVersion) → (first_at (trace_version v) ≡ first_parser v) × (first_parser v ≢ trace.Header)
 first_same script.One = (refl, λ e. cc)
 first_same script.Two = (refl, λ e. cc)
 
 -- the rows after a configuration
-rows_of : (n : ℕ) (given : Option Bounds) (t : TraceStage) (c : Topology) (xs : List ScriptRow) → lacks_adapters t ≡ false → config_of t ≡ c → AllByRecursion FitsRow xs → AllByRecursion (λ x. is_ok (item_of c x) ≡ true) xs
-    → step_rows xs ≤ MOST_ROWS → answer_rows xs ≤ MOST_ROWS → Ends n (stage.Config given t) (map script_row xs) (fold put_row (empty_scenario c (limits_of given)) xs)
+rows_of : (n : ℕ) (given : Option Bounds) (t : TraceParser) (c : Topology) (xs : List ScriptRow) → lacks_adapters t ≡ false → config_of t ≡ c → AllByRecursion FitsRow xs → AllByRecursion (λ x. is_ok (item_of c x) ≡ true) xs
+    → step_rows xs ≤ MAX_ROWS → answer_rows xs ≤ MAX_ROWS → Ends n (parser.Config given t) (map script_row xs) (fold put_row (empty_scenario c (limits_of given)) xs)
 unfolding script_ended
-rows_of n given t c [] some is fits ok p q = record { last = stage.Config given t; reached = refl; ends = rw (some, is) refl }
+rows_of n given t c [] some is fits ok p q = record { last = parser.Config given t; reached = refl; ends = rw (some, is) refl }
 rows_of n given t c (x ∷ xs) some is fits ok p q =
     let steps = sum_by-cons (λ y. cond (not (is_answer_row y)) 1 0) x xs in
     let answers = sum_by-cons (λ y. cond (is_answer_row y) 1 0) x xs in
@@ -195,7 +195,7 @@ regroup w k a d l = simp append-nil
 
 -- the records of a configuration are taken as those of a trace
 config_taken : (n : ℕ) (v : ScriptVersion) (c : Topology) → config_fault c ≡ None → holds (trace_version v) c ≡ true → AllByRecursion (λ (d : Device). d.target ≤ 65535) c.devices
-    → taken step n (first_stage v) (config_rows v c) ≡ Ok (at_lanes (trace_version v) c.weights c.links c.adapters c.devices c.lanes)
+    → taken step n (first_parser v) (config_rows v c) ≡ Ok (at_lanes (trace_version v) c.weights c.links c.adapters c.devices c.lanes)
 config_taken n v c config held targets =
     let w = trace_version v in
     let past : Past = record { config = c; events = [] } in
@@ -218,8 +218,8 @@ script_again m h =
     let f = from_limits 2 v given (config_rows v c) rows h.limits words (some_row v c some) in
     let t = at_lanes w c.weights c.links c.adapters c.devices c.lanes in
     let at = at_config w c.weights c.links c.adapters c.devices c.lanes in
-    let config_read = config_again f.0 given (first_stage v) t (config_rows v c) (first_same v).1 words (config_taken f.0 v c h.config h.held h.targets) in
-    let behind = taken_on script_step f.0 (stage.Config given (first_stage v)) (stage.Config given t) (config_rows v c) rows config_read in
+    let config_read = config_again f.0 given (first_parser v) t (config_rows v c) (first_same v).1 words (config_taken f.0 v c h.config h.held h.targets) in
+    let behind = taken_on script_step f.0 (parser.Config given (first_parser v)) (parser.Config given t) (config_rows v c) rows config_read in
     let is : config_of t ≡ c = ap (λ (p : Past). p.config) at.2 in
     let last = rows_of (f.0 + length (config_rows v c)) given t c m.rows at.1 is h.fits h.ruled h.steps h.answers in
     let reached = f.1 ∙ behind ∙ last.reached in

@@ -9,7 +9,7 @@ use Rattle.std.proofs.lemmas.List.Sums.{position_or_len_is, sum_by-append}
 use Rattle.cam_types.specs.Bounds.{Bounds, are_within}
 use Rattle.cam_types.specs.Questions.{names_adapter, names_device, names_lane}
 use Rattle.cam_types.specs.Topology.{IsConfig, address_fault, are_openings, is_same_address}
-use Rattle.cam_types.specs.declared.maxima.TheConstants.{MOST_DEVICES, MOST_LUN, MOST_PRIORITY, MOST_RETRIES}
+use Rattle.cam_types.specs.declared.limits.TheConstants.{MAX_DEVICES, MAX_LUN, MAX_PRIORITY, MAX_RETRIES}
 use Rattle.cam_types.proofs.ConfigLemmas.{device_items}
 use Rattle.sense_class.specs.Classes.{status_of}
 use Rattle.event_rules.specs.Legal.{is_count}
@@ -25,13 +25,13 @@ use Rattle.trace_file.specs.ScriptReading.{ScriptItem}
 use Rattle.trace_file.specs.declared.script_row.ScriptItem.TheVariants as item
 use Rattle.trace_file.specs.ScriptVersions.{least_script, trace_version}
 use Rattle.trace_file.specs.Scenarios.{IsScenario, Scenario, device_number, empty_scenario, is_answer, is_answer_row, is_at, is_ruled, item_of, scenario_by, Step}
-use Rattle.trace_file.specs.Script.{FitsRow, IsManuscript, answer_rows, answer_said, answers_of, put_item, put_row, scenario_of, step_rows, step_said, steps_of}
+use Rattle.trace_file.specs.Script.{FitsRow, IsManuscript, answer_rows, parsed_answers, answers_of, put_item, put_row, scenario_of, step_rows, parsed_steps, steps_of}
 use Rattle.trace_file.specs.ScriptWriting.{manuscript_of, numbered, path_of, rows_of, step_row}
 use Rattle.record_text.proofs.ListLemmas.{Along, none_along}
 use Rattle.record_text.proofs.ConfigLemmas.{cond_none}
 use Rattle.trace_file.proofs.ScriptLaws.{scenario_config}
 use Rattle.trace_file.proofs.ScriptLists.{length-pushed}
-use Rattle.trace_file.proofs.ScriptNumbered.{all_both, all_mapped, count_numbered, keep_all, said_all, silent_all}
+use Rattle.trace_file.proofs.ScriptNumbered.{all_both, all_mapped, count_numbered, keep_all, all_parsed, silent_all}
 use Rattle.trace_file.proofs.ScriptOrder.{answers_in_order, steps_in_order}
 
 -- ---- a device's path names it
@@ -51,10 +51,10 @@ not_any p (x ∷ xs) (suc k) (suc i) z lt le e = not_any p xs k i z (omega arith
 apart : (n : ℕ) (before : List Device) (d : Device) → device_fault n (before, d) ≡ None → list_any (is_same_address d) before ≡ false
 unfolding device_fault address_fault
 apart n before d e =
-    let a = cond_none (nat_le MOST_DEVICES (length before)) _ _ e in
+    let a = cond_none (nat_le MAX_DEVICES (length before)) _ _ e in
     let b = cond_none (not (are_openings d.openings)) _ _ a.1 in
     let c = cond_none (nat_le n d.bus) _ _ b.1 in
-    let l = cond_none (nat_lt MOST_LUN d.lun) _ _ c.1 in
+    let l = cond_none (nat_lt MAX_LUN d.lun) _ _ c.1 in
     (cond_none (list_any (is_same_address d) before) _ _ l.1).0
 
 other_address : (d e : Device) → is_same_address d e ≡ false → is_at (address_of d) e ≡ false
@@ -87,7 +87,7 @@ item_again c driver (step.Act (event.Submit by device priority retries flags)) k
     let b = and_parts _ _ a.0 in
     let d = and_parts _ _ b.0 in
     let same : by ≡ driver = eqb-true by driver d.0 in
-    rw (device_again c device kept d.1, within priority MOST_PRIORITY b.1, within retries MOST_RETRIES a.1)
+    rw (device_again c device kept d.1, within priority MAX_PRIORITY b.1, within retries MAX_RETRIES a.1)
     (ap (λ (k : ℕ). Ok (item.Step driver (step.Act (event.Submit k device priority retries flags)))) (sym same))
 item_again c driver (step.Act (event.FreezeDev device count)) kept h = let a = and_parts (names_device c device) (is_count count) h in rw (device_again c device kept a.0, a.1) refl
 item_again c driver (step.Act (event.ReleaseDev device count)) kept h = let a = and_parts (names_device c device) (is_count count) h in rw (device_again c device kept a.0, a.1) refl
@@ -113,7 +113,7 @@ IsRuled c driver one = is_ruled c driver one ≡ true
 abbrev IsAnswer : Outcome → Type 0
 IsAnswer outcome = is_answer outcome ≡ true
 
-steps_say : (c : Topology) (d driver : ℕ) (xs : List Step) → config_fault c ≡ None → AllByRecursion (IsRuled c driver) xs → flat_map (λ said. step_said d (item_of c said)) (map (step_row c driver) xs) ≡ cond (driver == d) xs []
+steps_say : (c : Topology) (d driver : ℕ) (xs : List Step) → config_fault c ≡ None → AllByRecursion (IsRuled c driver) xs → flat_map (λ parsed. parsed_steps d (item_of c parsed)) (map (step_row c driver) xs) ≡ cond (driver == d) xs []
 steps_say c d driver [] kept h = by (driver == d)
   where
     by : (b : Bool) → [] ≡ cond {A = List Step} b [] []
@@ -127,7 +127,7 @@ steps_say c d driver (x ∷ xs) kept h =
     by true = refl
     by false = refl
 
-answers_say : (c : Topology) (l lane : ℕ) (xs : List Outcome) → names_lane c lane ≡ true → AllByRecursion IsAnswer xs → flat_map (λ said. answer_said l (item_of c said)) (map (row.Answer lane) xs) ≡ cond (lane == l) xs []
+answers_say : (c : Topology) (l lane : ℕ) (xs : List Outcome) → names_lane c lane ≡ true → AllByRecursion IsAnswer xs → flat_map (λ parsed. parsed_answers l (item_of c parsed)) (map (row.Answer lane) xs) ≡ cond (lane == l) xs []
 answers_say c l lane [] named h = by (lane == l)
   where
     by : (b : Bool) → [] ≡ cond {A = List Outcome} b [] []
@@ -142,11 +142,11 @@ answers_say c l lane (x ∷ xs) named h =
     by false = refl
 
 -- a driver's rows say nothing to lanes, and answers nothing to drivers
-steps_silent : (c : Topology) (l driver : ℕ) (xs : List Step) → config_fault c ≡ None → AllByRecursion (IsRuled c driver) xs → flat_map (λ said. answer_said l (item_of c said)) (map (step_row c driver) xs) ≡ []
+steps_silent : (c : Topology) (l driver : ℕ) (xs : List Step) → config_fault c ≡ None → AllByRecursion (IsRuled c driver) xs → flat_map (λ parsed. parsed_answers l (item_of c parsed)) (map (step_row c driver) xs) ≡ []
 steps_silent c l driver [] kept h = refl
 steps_silent c l driver (x ∷ xs) kept h = let more = steps_silent c l driver xs kept h.1 in rw (item_again c driver x kept h.0, more) refl
 
-answers_silent : (c : Topology) (d lane : ℕ) (xs : List Outcome) → names_lane c lane ≡ true → AllByRecursion IsAnswer xs → flat_map (λ said. step_said d (item_of c said)) (map (row.Answer lane) xs) ≡ []
+answers_silent : (c : Topology) (d lane : ℕ) (xs : List Outcome) → names_lane c lane ≡ true → AllByRecursion IsAnswer xs → flat_map (λ parsed. parsed_steps d (item_of c parsed)) (map (row.Answer lane) xs) ≡ []
 answers_silent c d lane [] named h = refl
 answers_silent c d lane (x ∷ xs) named h = let more = answers_silent c d lane xs named h.1 in rw (answer_again c lane x named h.0, more) refl
 
@@ -157,19 +157,19 @@ drivers_back : (s : Scenario) (d : ℕ) → IsScenario s → config_fault s.conf
 unfolding steps_of
 drivers_back s d h kept =
     let c = s.config in
-    let said : ScriptRow → List Step = λ x. step_said d (item_of c x) in
-    let own = said_all (step_row c) said d s.drivers (λ i less. steps_say c d i (get_or s.drivers i []) kept (h.ruled i)) in
-    let none = silent_all row.Answer said s.answers (λ i less. answers_silent c d i (get_or s.answers i []) (lane_named s i h less) (h.answered i)) in
-    flat_map-append said (numbered (step_row c) 0 s.drivers) (numbered row.Answer 0 s.answers) ∙ rw (own, none) (append-nil (get_or s.drivers d []))
+    let parsed : ScriptRow → List Step = λ x. parsed_steps d (item_of c x) in
+    let own = all_parsed (step_row c) parsed d s.drivers (λ i less. steps_say c d i (get_or s.drivers i []) kept (h.ruled i)) in
+    let none = silent_all row.Answer parsed s.answers (λ i less. answers_silent c d i (get_or s.answers i []) (lane_named s i h less) (h.answered i)) in
+    flat_map-append parsed (numbered (step_row c) 0 s.drivers) (numbered row.Answer 0 s.answers) ∙ rw (own, none) (append-nil (get_or s.drivers d []))
 
 lanes_back : (s : Scenario) (l : ℕ) → IsScenario s → config_fault s.config ≡ None → answers_of s.config l (rows_of s) ≡ get_or s.answers l []
 unfolding answers_of
 lanes_back s l h kept =
     let c = s.config in
-    let said : ScriptRow → List Outcome = λ x. answer_said l (item_of c x) in
-    let none = silent_all (step_row c) said s.drivers (λ i less. steps_silent c l i (get_or s.drivers i []) kept (h.ruled i)) in
-    let own = said_all row.Answer said l s.answers (λ i less. answers_say c l i (get_or s.answers i []) (lane_named s i h less) (h.answered i)) in
-    flat_map-append said (numbered (step_row c) 0 s.drivers) (numbered row.Answer 0 s.answers) ∙ rw (none, own) refl
+    let parsed : ScriptRow → List Outcome = λ x. parsed_answers l (item_of c x) in
+    let none = silent_all (step_row c) parsed s.drivers (λ i less. steps_silent c l i (get_or s.drivers i []) kept (h.ruled i)) in
+    let own = all_parsed row.Answer parsed l s.answers (λ i less. answers_say c l i (get_or s.answers i []) (lane_named s i h less) (h.answered i)) in
+    flat_map-append parsed (numbered (step_row c) 0 s.drivers) (numbered row.Answer 0 s.answers) ∙ rw (none, own) refl
 
 -- ---- the scenario
 
@@ -252,10 +252,10 @@ rows_counted s =
     let other = sum_by-append (λ x. cond (is_answer_row x) 1 0) steps answers in
     (omega arith, omega arith)
 
-rows_ruled : (s : Scenario) → IsScenario s → config_fault s.config ≡ None → AllByRecursion (λ said. is_ok (item_of s.config said) ≡ true) (rows_of s)
+rows_ruled : (s : Scenario) → IsScenario s → config_fault s.config ≡ None → AllByRecursion (λ parsed. is_ok (item_of s.config parsed) ≡ true) (rows_of s)
 rows_ruled s h kept =
     let c = s.config in
-    let P : ScriptRow → Type 0 = λ said. is_ok (item_of c said) ≡ true in
+    let P : ScriptRow → Type 0 = λ parsed. is_ok (item_of c parsed) ≡ true in
     all_both P (numbered (step_row c) 0 s.drivers) (numbered row.Answer 0 s.answers)
     (keep_all P (step_row c) s.drivers (λ i less. all_mapped P (IsRuled c i) (step_row c i) (get_or s.drivers i []) (λ x ruled. rw (item_again c i x kept ruled) refl) (h.ruled i)))
     (keep_all P row.Answer s.answers (λ i less. all_mapped P IsAnswer (row.Answer i) (get_or s.answers i []) (λ x good. rw (answer_again c i x (lane_named s i h less) good) refl) (h.answered i)))

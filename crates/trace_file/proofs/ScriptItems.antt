@@ -5,7 +5,7 @@ use Rattle.std.proofs.lemmas.Bool.{and_from, eq-eqb, le-leb, lt-ltb, ltb-false, 
 use Rattle.std.proofs.lemmas.List.Quantifiers.{position-Some}
 use Rattle.cam_types.specs.Questions.{names_adapter, names_device, names_lane}
 use Rattle.cam_types.specs.Topology.{are_openings}
-use Rattle.cam_types.specs.declared.maxima.TheConstants.{MOST_PRIORITY, MOST_RETRIES}
+use Rattle.cam_types.specs.declared.limits.TheConstants.{MAX_PRIORITY, MAX_RETRIES}
 use Rattle.sense_class.specs.Classes.{status_of}
 use Rattle.event_rules.specs.Legal.{is_count}
 use Rattle.event_rules.specs.declared.refusal.Refusal.TheVariants.{NoDevice, NoAdapter, NoLane, BadPriority, BadRetries, BadCount, BadOpenings, BadStatus}
@@ -47,10 +47,10 @@ pub item_ruled : (c : Topology) (x : ScriptRow) (i : ScriptItem) → names_drive
 unfolding item_of
 item_ruled c (row.Submit driver at priority retries flags) i h e =
     on_ok (ok_or (device_number c at) NoDevice) _ i e (λ device ed r1.
-    on_ok (refused_if (nat_lt MOST_PRIORITY priority) BadPriority) _ i r1 (λ u eu r2.
-    on_ok (refused_if (nat_lt MOST_RETRIES retries) BadRetries) _ i r2 (λ v ev r3.
+    on_ok (refused_if (nat_lt MAX_PRIORITY priority) BadPriority) _ i r1 (λ u eu r2.
+    on_ok (refused_if (nat_lt MAX_RETRIES retries) BadRetries) _ i r2 (λ v ev r3.
     let named = and_from _ _ (eq-eqb driver driver refl) (device_named c at device ed) in
-    kept c i _ r3 (and_from _ _ h (and_from _ _ (and_from _ _ named (small MOST_PRIORITY priority _ u eu)) (small MOST_RETRIES retries _ v ev))))))
+    kept c i _ r3 (and_from _ _ h (and_from _ _ (and_from _ _ named (small MAX_PRIORITY priority _ u eu)) (small MAX_RETRIES retries _ v ev))))))
 item_ruled c (row.Freeze driver at count) i h e =
     on_ok (ok_or (device_number c at) NoDevice) _ i e (λ device ed r1.
     on_ok (refused_if (not (is_count count)) BadCount) _ i r1 (λ u eu r2.
@@ -78,4 +78,4 @@ item_ruled c (row.Answer lane outcome) i h e =
 
 -- what an item that isn't refused keeps, and its kind
 pub asked : (c : Topology) (x : ScriptRow) (i : ScriptItem) (r : Result ScriptItem Refusal) → names_driver x ≡ true → r ≡ item_of c x → r ≡ Ok i → (is_ruled_item c i ≡ true) × (is_answer_item i ≡ is_answer_row x)
-asked c x i r h said is = let e = sym said ∙ is in (item_ruled c x i h e, item_kind c x i e)
+asked c x i r h parsed is = let e = sym parsed ∙ is in (item_ruled c x i h e, item_kind c x i e)

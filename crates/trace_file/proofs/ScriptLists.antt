@@ -5,7 +5,7 @@ use Rattle.std.proofs.lemmas.Bool.{cases_Bool, eqb-true, ltb-true}
 use Rattle.std.proofs.lemmas.List.{map-set, get_or-map}
 use Rattle.std.proofs.lemmas.Bool.Decides.{nat_tests}
 use Rattle.std.proofs.lemmas.Grind.{common_steps}
-use Rattle.trace_file.specs.Scenarios.{IsScenario, Scenario, is_answer, is_ruled, push_at, Step, MOST_ROWS}
+use Rattle.trace_file.specs.Scenarios.{IsScenario, Scenario, is_answer, is_ruled, push_at, Step, MAX_ROWS}
 use Rattle.cam_types.specs.Questions.{names_lane}
 use Rattle.trace_file.specs.Histories.{Outcome}
 use Rattle.record_text.proofs.ListLemmas.{all_push}
@@ -37,7 +37,7 @@ pub sum_pushed : {X : Type 0} (lists : List (List X)) (i : ℕ) (x : X) → i < 
 sum_pushed lists i x h = grind (arith, common_steps)
 
 -- a driver's step more keeps the rules
-pub ruled_step : (s : Scenario) (driver : ℕ) (one : Step) → IsScenario s → driver ≤ 7 → is_ruled s.config driver one ≡ true → sum_by length s.drivers < MOST_ROWS → IsScenario (record s { drivers = push_at s.drivers driver one })
+pub ruled_step : (s : Scenario) (driver : ℕ) (one : Step) → IsScenario s → driver ≤ 7 → is_ruled s.config driver one ≡ true → sum_by length s.drivers < MAX_ROWS → IsScenario (record s { drivers = push_at s.drivers driver one })
 ruled_step s driver one h there ruled room =
     let eight = h.eight in
     let more = sum_pushed s.drivers driver one (omega arith) in
@@ -51,7 +51,7 @@ ruled_step s driver one h there ruled room =
     }
 
 -- and so does a lane's answer more
-pub ruled_answer : (s : Scenario) (lane : ℕ) (outcome : Outcome) → IsScenario s → names_lane s.config lane ≡ true → is_answer outcome ≡ true → sum_by length s.answers < MOST_ROWS → IsScenario (record s { answers = push_at s.answers lane outcome })
+pub ruled_answer : (s : Scenario) (lane : ℕ) (outcome : Outcome) → IsScenario s → names_lane s.config lane ≡ true → is_answer outcome ≡ true → sum_by length s.answers < MAX_ROWS → IsScenario (record s { answers = push_at s.answers lane outcome })
 ruled_answer s lane outcome h named good room =
     let there : lane < length s.config.lanes = ltb-true _ _ named in
     let lanes = h.lanes in

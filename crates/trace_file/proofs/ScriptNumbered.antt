@@ -42,59 +42,59 @@ all_numbered {X = X} P f n (xs ∷ rest) each =
 
 -- ---- what rows say, where those of each list say nothing
 
-pub none_said : {X Y Z : Type 0} (f : ℕ → X → Y) (said : Y → List Z) (n : ℕ) (lists : List (List X)) → ((i : ℕ) → i < length lists → flat_map said (map (f (n + i)) (get_or lists i [])) ≡ []) → flat_map said (numbered f n lists) ≡ []
-none_said f said n [] each = refl
-none_said f said n (xs ∷ rest) each =
+pub none_parsed : {X Y Z : Type 0} (f : ℕ → X → Y) (parsed : Y → List Z) (n : ℕ) (lists : List (List X)) → ((i : ℕ) → i < length lists → flat_map parsed (map (f (n + i)) (get_or lists i [])) ≡ []) → flat_map parsed (numbered f n lists) ≡ []
+none_parsed f parsed n [] each = refl
+none_parsed f parsed n (xs ∷ rest) each =
     let here : n + 0 ≡ n = omega arith in
-    let first = ap (λ (k : ℕ). flat_map said (map (f k) xs)) (sym here) ∙ each 0 (omega arith) in
-    let more = none_said f said (n + 1) rest (λ i h.
+    let first = ap (λ (k : ℕ). flat_map parsed (map (f k) xs)) (sym here) ∙ each 0 (omega arith) in
+    let more = none_parsed f parsed (n + 1) rest (λ i h.
     let next : n + 1 + i ≡ n + suc i = omega arith in
-    ap (λ (k : ℕ). flat_map said (map (f k) (get_or rest i []))) next ∙ each (suc i) (omega arith)) in
-    flat_map-append said (map (f n) xs) (numbered f (n + 1) rest) ∙ rw (first, more) refl
+    ap (λ (k : ℕ). flat_map parsed (map (f k) (get_or rest i []))) next ∙ each (suc i) (omega arith)) in
+    flat_map-append parsed (map (f n) xs) (numbered f (n + 1) rest) ∙ rw (first, more) refl
 
 -- what rows say to one number, where those of its list say their items to it, and those of others nothing
 abbrev pub Says : {X Y : Type 0} → (ℕ → X → Y) → (Y → List X) → ℕ → ℕ → List (List X) → Type 0
-Says f said d n lists = (i : ℕ) → i < length lists → flat_map said (map (f (n + i)) (get_or lists i [])) ≡ cond ((n + i) == d) (get_or lists i []) []
+Says f parsed d n lists = (i : ℕ) → i < length lists → flat_map parsed (map (f (n + i)) (get_or lists i [])) ≡ cond ((n + i) == d) (get_or lists i []) []
 
-pub says_next : {X Y : Type 0} (f : ℕ → X → Y) (said : Y → List X) (d n : ℕ) (xs : List X) (rest : List (List X)) → Says f said d n (xs ∷ rest) → Says f said d (n + 1) rest
-says_next {X = X} f said d n xs rest each = λ i h.
+pub says_next : {X Y : Type 0} (f : ℕ → X → Y) (parsed : Y → List X) (d n : ℕ) (xs : List X) (rest : List (List X)) → Says f parsed d n (xs ∷ rest) → Says f parsed d (n + 1) rest
+says_next {X = X} f parsed d n xs rest each = λ i h.
     let next : n + suc i ≡ n + 1 + i = omega arith in
-    subst (λ (k : ℕ). flat_map said (map (f k) (get_or rest i [])) ≡ cond (k == d) (get_or rest i []) []) next (each (suc i) (omega arith))
+    subst (λ (k : ℕ). flat_map parsed (map (f k) (get_or rest i [])) ≡ cond (k == d) (get_or rest i []) []) next (each (suc i) (omega arith))
 
-says_first : {X Y : Type 0} (f : ℕ → X → Y) (said : Y → List X) (d n : ℕ) (xs : List X) (rest : List (List X)) → Says f said d n (xs ∷ rest) → flat_map said (map (f n) xs) ≡ cond (n == d) xs []
-says_first f said d n xs rest each =
+says_first : {X Y : Type 0} (f : ℕ → X → Y) (parsed : Y → List X) (d n : ℕ) (xs : List X) (rest : List (List X)) → Says f parsed d n (xs ∷ rest) → flat_map parsed (map (f n) xs) ≡ cond (n == d) xs []
+says_first f parsed d n xs rest each =
     let here : n + 0 ≡ n = omega arith in
-    subst (λ (k : ℕ). flat_map said (map (f k) xs) ≡ cond (k == d) xs []) here (each 0 (omega arith))
+    subst (λ (k : ℕ). flat_map parsed (map (f k) xs) ≡ cond (k == d) xs []) here (each 0 (omega arith))
 
-said_before : {X Y : Type 0} (f : ℕ → X → Y) (said : Y → List X) (d n : ℕ) (lists : List (List X)) → d < n → Says f said d n lists → flat_map said (numbered f n lists) ≡ []
-said_before f said d n lists less each =
-    none_said f said n lists (λ i h. let other : ((n + i) == d) ≡ false = ne_eqb _ _ (λ e. omega arith) in each i h ∙ rw other refl)
+parsed_before : {X Y : Type 0} (f : ℕ → X → Y) (parsed : Y → List X) (d n : ℕ) (lists : List (List X)) → d < n → Says f parsed d n lists → flat_map parsed (numbered f n lists) ≡ []
+parsed_before f parsed d n lists less each =
+    none_parsed f parsed n lists (λ i h. let other : ((n + i) == d) ≡ false = ne_eqb _ _ (λ e. omega arith) in each i h ∙ rw other refl)
 
-pub said_at : {X Y : Type 0} (f : ℕ → X → Y) (said : Y → List X) (d n j : ℕ) (lists : List (List X)) → n + j ≡ d → Says f said d n lists → flat_map said (numbered f n lists) ≡ get_or lists j []
-said_at f said d n j [] is each = refl
-said_at f said d n zero (xs ∷ rest) is each =
+pub parsed_at : {X Y : Type 0} (f : ℕ → X → Y) (parsed : Y → List X) (d n j : ℕ) (lists : List (List X)) → n + j ≡ d → Says f parsed d n lists → flat_map parsed (numbered f n lists) ≡ get_or lists j []
+parsed_at f parsed d n j [] is each = refl
+parsed_at f parsed d n zero (xs ∷ rest) is each =
     let here : (n == d) ≡ true = eq-eqb n d (omega arith) in
-    let first : flat_map said (map (f n) xs) ≡ xs = says_first f said d n xs rest each ∙ ap (λ (b : Bool). cond b xs []) here in
-    let none = said_before f said d (n + 1) rest (omega arith) (says_next f said d n xs rest each) in
-    flat_map-append said (map (f n) xs) (numbered f (n + 1) rest) ∙ rw (first, none) (append-nil xs)
-said_at f said d n (suc j) (xs ∷ rest) is each =
+    let first : flat_map parsed (map (f n) xs) ≡ xs = says_first f parsed d n xs rest each ∙ ap (λ (b : Bool). cond b xs []) here in
+    let none = parsed_before f parsed d (n + 1) rest (omega arith) (says_next f parsed d n xs rest each) in
+    flat_map-append parsed (map (f n) xs) (numbered f (n + 1) rest) ∙ rw (first, none) (append-nil xs)
+parsed_at f parsed d n (suc j) (xs ∷ rest) is each =
     let other : (n == d) ≡ false = ne_eqb _ _ (λ e. omega arith) in
-    let first : flat_map said (map (f n) xs) ≡ [] = says_first f said d n xs rest each ∙ ap (λ (b : Bool). cond b xs []) other in
-    let more = said_at f said d (n + 1) j rest (omega arith) (says_next f said d n xs rest each) in
-    flat_map-append said (map (f n) xs) (numbered f (n + 1) rest) ∙ rw (first, more) refl
+    let first : flat_map parsed (map (f n) xs) ≡ [] = says_first f parsed d n xs rest each ∙ ap (λ (b : Bool). cond b xs []) other in
+    let more = parsed_at f parsed d (n + 1) j rest (omega arith) (says_next f parsed d n xs rest each) in
+    flat_map-append parsed (map (f n) xs) (numbered f (n + 1) rest) ∙ rw (first, more) refl
 
 -- ---- the same where the first list has the number 0
 
 from_none : (i : ℕ) → i ≡ 0 + i
 from_none i = omega arith
 
-pub said_all : {X Y : Type 0} (f : ℕ → X → Y) (said : Y → List X) (d : ℕ) (lists : List (List X)) → ((i : ℕ) → i < length lists → flat_map said (map (f i) (get_or lists i [])) ≡ cond (i == d) (get_or lists i []) [])
-    → flat_map said (numbered f 0 lists) ≡ get_or lists d []
-said_all {X = X} f said d lists each =
-    said_at f said d 0 d lists (sym (from_none d)) (λ i h. subst (λ (k : ℕ). flat_map said (map (f k) (get_or lists i [])) ≡ cond {A = List X} (k == d) (get_or lists i []) []) (from_none i) (each i h))
+pub all_parsed : {X Y : Type 0} (f : ℕ → X → Y) (parsed : Y → List X) (d : ℕ) (lists : List (List X)) → ((i : ℕ) → i < length lists → flat_map parsed (map (f i) (get_or lists i [])) ≡ cond (i == d) (get_or lists i []) [])
+    → flat_map parsed (numbered f 0 lists) ≡ get_or lists d []
+all_parsed {X = X} f parsed d lists each =
+    parsed_at f parsed d 0 d lists (sym (from_none d)) (λ i h. subst (λ (k : ℕ). flat_map parsed (map (f k) (get_or lists i [])) ≡ cond {A = List X} (k == d) (get_or lists i []) []) (from_none i) (each i h))
 
-pub silent_all : {X Y Z : Type 0} (f : ℕ → X → Y) (said : Y → List Z) (lists : List (List X)) → ((i : ℕ) → i < length lists → flat_map said (map (f i) (get_or lists i [])) ≡ []) → flat_map said (numbered f 0 lists) ≡ []
-silent_all f said lists each = none_said f said 0 lists (λ i h. subst (λ (k : ℕ). flat_map said (map (f k) (get_or lists i [])) ≡ []) (from_none i) (each i h))
+pub silent_all : {X Y Z : Type 0} (f : ℕ → X → Y) (parsed : Y → List Z) (lists : List (List X)) → ((i : ℕ) → i < length lists → flat_map parsed (map (f i) (get_or lists i [])) ≡ []) → flat_map parsed (numbered f 0 lists) ≡ []
+silent_all f parsed lists each = none_parsed f parsed 0 lists (λ i h. subst (λ (k : ℕ). flat_map parsed (map (f k) (get_or lists i [])) ≡ []) (from_none i) (each i h))
 
 pub keep_all : {X Y : Type 0} (P : Y → Type 0) (f : ℕ → X → Y) (lists : List (List X)) → ((i : ℕ) → i < length lists → AllByRecursion P (map (f i) (get_or lists i []))) → AllByRecursion P (numbered f 0 lists)
 keep_all P f lists each = all_numbered P f 0 lists (λ i h. subst (λ (k : ℕ). AllByRecursion P (map (f k) (get_or lists i []))) (from_none i) (each i h))

@@ -8,7 +8,7 @@ use Rattle.std.proofs.lemmas.List.Sums.{sum_by-cons}
 use Rattle.cam_types.specs.Bounds.{Bounds}
 use Rattle.record_text.proofs.ListLemmas.{all_true}
 use Rattle.trace_file.specs.Histories.{Outcome, Topology}
-use Rattle.trace_file.specs.Scenarios.{IsScenario, scenario_by, is_ruled, is_answer, MOST_ROWS, Step}
+use Rattle.trace_file.specs.Scenarios.{IsScenario, scenario_by, is_ruled, is_answer, MAX_ROWS, Step}
 
 -- a vector of a list, as contracts see it
 pub items_at : {X : Type 0} (xs : List (Vec X Global)) (i : ℕ) (x : Vec X Global) (here : List X) → i < length xs → x ≡ get_or xs i x → here ≡ x.items → get_or (map (λ l. l.items) xs) i [] ≡ here
@@ -60,7 +60,7 @@ module _ (c : Topology) (limits : Bounds) (drivers : List (List Step)) (answers 
     | false ↦ λ less. all_true (is_ruled c driver) (get_or drivers driver []) (good driver (leb-false 8 driver less))
   ] refl
 
-  pub scenario_kept : length drivers ≡ 8 → length answers ≡ length c.lanes → nat_le (sum_by length drivers) MOST_ROWS ≡ true → nat_le (sum_by length answers) MOST_ROWS ≡ true →
+  pub scenario_kept : length drivers ≡ 8 → length answers ≡ length c.lanes → nat_le (sum_by length drivers) MAX_ROWS ≡ true → nat_le (sum_by length answers) MAX_ROWS ≡ true →
       list_all (list_all is_answer) answers ≡ true → ((driver : ℕ) → driver < 8 → list_all (is_ruled c driver) (get_or drivers driver []) ≡ true) → IsScenario (scenario_by c limits drivers answers)
   scenario_kept eight lanes few_steps few_answers answered good = record {
     eight = eight;
@@ -77,15 +77,15 @@ module _ (c : Topology) (limits : Bounds) (drivers : List (List Step)) (answers 
   pub answered_in : IsScenario (scenario_by c limits drivers answers) → list_all (list_all is_answer) answers ≡ true
   answered_in is = all_pass is_answer answers is.answered
 
-  pub few_in : IsScenario (scenario_by c limits drivers answers) → nat_le (sum_by length answers) MOST_ROWS ≡ true
+  pub few_in : IsScenario (scenario_by c limits drivers answers) → nat_le (sum_by length answers) MAX_ROWS ≡ true
   few_in is = le-leb _ _ is.few_answers
 
-  pub few_steps_in : IsScenario (scenario_by c limits drivers answers) → nat_le (sum_by length drivers) MOST_ROWS ≡ true
+  pub few_steps_in : IsScenario (scenario_by c limits drivers answers) → nat_le (sum_by length drivers) MAX_ROWS ≡ true
   few_steps_in is = le-leb _ _ is.few_steps
 
 -- the same of the vectors
 pub rules_kept : (c : Topology) (limits : Bounds) (drivers : List (Vec Step Global)) (answers : List (Vec Outcome Global)) → length drivers ≡ 8 → length answers ≡ length c.lanes →
-    nat_le (sum_by (λ l. length l.items) drivers) MOST_ROWS ≡ true → nat_le (sum_by (λ l. length l.items) answers) MOST_ROWS ≡ true → list_all (λ l. list_all is_answer l.items) answers ≡ true →
+    nat_le (sum_by (λ l. length l.items) drivers) MAX_ROWS ≡ true → nat_le (sum_by (λ l. length l.items) answers) MAX_ROWS ≡ true → list_all (λ l. list_all is_answer l.items) answers ≡ true →
     ((driver : ℕ) → driver < 8 → list_all (is_ruled c driver) (get_or (map (λ l. l.items) drivers) driver []) ≡ true) → IsScenario (scenario_by c limits (map (λ l. l.items) drivers) (map (λ l. l.items) answers))
 rules_kept c limits drivers answers eight lanes few_steps few_answers answered good =
     scenario_kept c limits (map (λ l. l.items) drivers) (map (λ l. l.items) answers)

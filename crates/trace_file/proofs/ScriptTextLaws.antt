@@ -9,15 +9,15 @@ use Rattle.std.proofs.lemmas.List.Sums.{sum_by-cons}
 use Rattle.csv.specs.Reading.{default_config, records, strip_bom}
 use Rattle.csv.specs.Writing.{escaped, fields_text, is_blank, read_back}
 use Rattle.cam_types.specs.Bounds.{Bounds, are_within, is_limit}
-use Rattle.cam_types.specs.declared.maxima.TheConstants.{MOST_ADAPTERS, MOST_CCBS, MOST_DEVICES, MOST_EVENTS, MOST_LANES, MOST_LINKS, MOST_ROUNDS, MOST_STAYS, MOST_WEIGHT_ROWS}
+use Rattle.cam_types.specs.declared.limits.TheConstants.{MAX_ADAPTERS, MAX_CCBS, MAX_DEVICES, MAX_EVENTS, MAX_LANES, MAX_LINKS, MAX_ROUNDS, MAX_STAYS, MAX_WEIGHT_ROWS}
 use Rattle.cam_path.specs.Paths as path
 use Rattle.cam_path.specs.declared.path.CamPath.{CamPath}
 use Rattle.trace_file.specs.Fields.{flags_text}
 use Rattle.record_text.specs.Text.{Row}
 use Rattle.trace_file.specs.Histories.{Past}
 use Rattle.trace_file.specs.Records.{hex, records_of}
-use Rattle.record_text.specs.Fields.{most_number}
-use Rattle.trace_file.specs.Scenarios.{is_answer_row, MOST_ROWS}
+use Rattle.record_text.specs.Fields.{max_number}
+use Rattle.trace_file.specs.Scenarios.{is_answer_row, MAX_ROWS}
 use Rattle.trace_file.specs.Script.{FitsRow, IsManuscript, IsScript, Manuscript, answer_rows, config_rows, limits_rows, script_records, step_rows}
 use Rattle.trace_file.specs.ScriptRows.{limits_row, script_header, script_row, ScriptRow}
 use Rattle.trace_file.specs.declared.script_row.ScriptRow.TheVariants as row
@@ -28,7 +28,7 @@ use Rattle.record_text.specs.Writing.{text_of}
 use Rattle.trace_file.proofs.HexLaws.{length-hex}
 use Rattle.trace_file.proofs.ScriptLaws.{config_spelled}
 use Rattle.trace_file.proofs.ScriptNumbered.{all_both, all_mapped}
-use Rattle.trace_file.proofs.StageLemmas.{is_legal-nil}
+use Rattle.trace_file.proofs.ParserLemmas.{is_legal-nil}
 use Rattle.trace_file.proofs.TextLaws.{IsGood, IsShort, eight, good_records, short_flags, ten, text-le, two_numbers}
 use Rattle.record_text.proofs.GoodRows.{records_again}
 use Rattle.record_text.specs.Header.{header_row}
@@ -48,10 +48,10 @@ good_limits b h =
     let p = and_parts _ _ h in
     let q = and_parts _ _ p.0 in
     let r = and_parts _ _ q.0 in
-    let ccbs = most b.ccbs MOST_CCBS r.0 in
-    let rounds = most b.rounds MOST_ROUNDS r.1 in
-    let stays = most b.stays MOST_STAYS q.1 in
-    let events = most b.events MOST_EVENTS p.1 in
+    let ccbs = most b.ccbs MAX_CCBS r.0 in
+    let rounds = most b.rounds MAX_ROUNDS r.1 in
+    let stays = most b.stays MAX_STAYS q.1 in
+    let events = most b.events MAX_EVENTS p.1 in
     let x = ten b.ccbs (omega arith) in
     let y = ten b.rounds (omega arith) in
     let z = ten b.stays (omega arith) in
@@ -85,7 +85,7 @@ short_path p h =
     let all = length-append (decimal p.bus) (codes ":" ++ (decimal p.target ++ (codes ":" ++ decimal p.lun))) in
     omega arith
 
-by_path : (w : List ℕ) (driver : ℕ) (p : CamPath) (n : ℕ) → length w ≤ 8 → driver ≤ 7 → path.Fits p → n ≤ most_number → IsShort (w ∷ decimal driver ∷ path.spelled p ∷ decimal n ∷ [] ∷ [] ∷ [] ∷ [] ∷ [])
+by_path : (w : List ℕ) (driver : ℕ) (p : CamPath) (n : ℕ) → length w ≤ 8 → driver ≤ 7 → path.Fits p → n ≤ max_number → IsShort (w ∷ decimal driver ∷ path.spelled p ∷ decimal n ∷ [] ∷ [] ∷ [] ∷ [] ∷ [])
 by_path w driver p n h few fits small =
     let a = digit driver few in
     let b = short_path p fits in
@@ -138,11 +138,11 @@ all_rows (x ∷ xs) =
 
 -- ---- a whole script
 
-abbrev most_records : ℕ
-most_records = MOST_EVENTS + (1 + MOST_WEIGHT_ROWS + MOST_LINKS + MOST_ADAPTERS + MOST_DEVICES + MOST_ADAPTERS * MOST_LANES)
+abbrev max_records : ℕ
+max_records = MAX_EVENTS + (1 + MAX_WEIGHT_ROWS + MAX_LINKS + MAX_ADAPTERS + MAX_DEVICES + MAX_ADAPTERS * MAX_LANES)
 
 -- the records of the configuration are those of a history in which nothing has happened
-good_config : (m : Manuscript) → IsManuscript m → AllByRecursion IsGood (config_rows m.version m.config ++ []) × (length (config_rows m.version m.config ++ []) ≤ most_records)
+good_config : (m : Manuscript) → IsManuscript m → AllByRecursion IsGood (config_rows m.version m.config ++ []) × (length (config_rows m.version m.config ++ []) ≤ max_records)
 unfolding records_of
 good_config m h =
     let v = trace_version m.version in
@@ -153,7 +153,7 @@ good_config m h =
     let few = g.1 in
     rw (← config_spelled m.version m.config) (each.1, omega arith)
 
-good_script : (m : Manuscript) → IsManuscript m → AllByRecursion IsGood (script_records m) × (length (script_records m) ≤ 2 + most_records + 2 * MOST_ROWS)
+good_script : (m : Manuscript) → IsManuscript m → AllByRecursion IsGood (script_records m) × (length (script_records m) ≤ 2 + max_records + 2 * MAX_ROWS)
 unfolding script_records
 good_script m h =
     let limits = good_given m.limits h.limits in

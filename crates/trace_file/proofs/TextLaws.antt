@@ -14,13 +14,13 @@ use Rattle.trace_file.specs.Versions.{has_table, Version}
 use Rattle.trace_file.specs.Records.{weight_rows, event_row, header, hex, holds, lane_row, records_of}
 use Rattle.record_text.specs.ConfigRows.{weight_row, link_row, adapter_row, device_row}
 use Rattle.trace_file.specs.declared.version.Version.TheVariants as version
-use Rattle.record_text.specs.Fields.{most_number}
+use Rattle.record_text.specs.Fields.{max_number}
 use Rattle.trace_file.specs.Trace.{FitsEvent, IsHistory, IsTrace}
 use Rattle.trace_file.specs.Writing.{text_in}
 use Rattle.record_text.specs.Writing.{text_of}
 use Rattle.cam_types.specs.Topology.{IsConfig}
 use Rattle.cam_types.proofs.ConfigLemmas.{adapter_items, device_items, few_adapters, few_devices, few_links, few_weights, lane_items, link_items, weight_items}
-use Rattle.cam_types.specs.declared.maxima.TheConstants.{MOST_LINKS, MOST_ADAPTERS, MOST_DEVICES, MOST_LANES, MOST_EVENTS, MOST_WEIGHT_ROWS}
+use Rattle.cam_types.specs.declared.limits.TheConstants.{MAX_LINKS, MAX_ADAPTERS, MAX_DEVICES, MAX_LANES, MAX_EVENTS, MAX_WEIGHT_ROWS}
 use Rattle.event_rules.proofs.LaneCount.{few_lanes}
 use Rattle.record_text.proofs.ListLemmas.{Along, along_both, none_along}
 use Rattle.trace_file.proofs.HexLaws.{length-hex}
@@ -46,13 +46,13 @@ eight a b c d e f g h few =
     (escaped-le a) (escaped-le b) (escaped-le c) (escaped-le d) (escaped-le e) (escaped-le f) (escaped-le g) (escaped-le h) in
     omega arith
 
-pub ten : (n : ℕ) → n ≤ most_number → length (decimal n) ≤ 10
+pub ten : (n : ℕ) → n ≤ max_number → length (decimal n) ≤ 10
 ten n h = length-decimal-le 10 n (omega arith) (omega arith) (omega arith)
 
-one_number : (w : List ℕ) (n : ℕ) → length w ≤ 8 → n ≤ most_number → IsShort (w ∷ decimal n ∷ [] ∷ [] ∷ [] ∷ [] ∷ [] ∷ [] ∷ [])
+one_number : (w : List ℕ) (n : ℕ) → length w ≤ 8 → n ≤ max_number → IsShort (w ∷ decimal n ∷ [] ∷ [] ∷ [] ∷ [] ∷ [] ∷ [] ∷ [])
 one_number w n h a = let x = ten n a in eight w (decimal n) [] [] [] [] [] [] (omega arith)
 
-pub two_numbers : (w : List ℕ) (m n : ℕ) → length w ≤ 8 → m ≤ most_number → n ≤ most_number → IsShort (w ∷ decimal m ∷ decimal n ∷ [] ∷ [] ∷ [] ∷ [] ∷ [] ∷ [])
+pub two_numbers : (w : List ℕ) (m n : ℕ) → length w ≤ 8 → m ≤ max_number → n ≤ max_number → IsShort (w ∷ decimal m ∷ decimal n ∷ [] ∷ [] ∷ [] ∷ [] ∷ [] ∷ [])
 two_numbers w m n h a b = let x = ten m a in let y = ten n b in eight w (decimal m) (decimal n) [] [] [] [] [] (omega arith)
 
 pub short_flags : (a b : Bool) → length (flags_word a b) ≤ 7
@@ -80,7 +80,7 @@ short_event (event.ReleaseSim sim) h = one_number (codes "srelease") sim (omega 
 short_event (event.Adjust device openings) h = two_numbers (codes "adjust") device openings (omega arith) h.0 h.1
 short_event event.Tick h = eight (codes "tick") [] [] [] [] [] [] [] (omega arith)
 
-short_device : (d : Device) → d.bus ≤ most_number → d.target ≤ most_number → d.lun ≤ most_number → d.openings ≤ most_number → IsShort (device_row d)
+short_device : (d : Device) → d.bus ≤ max_number → d.target ≤ max_number → d.lun ≤ max_number → d.openings ≤ max_number → IsShort (device_row d)
 short_device d a b c o =
     let x = ten d.bus a in
     let y = ten d.target b in
@@ -115,21 +115,21 @@ good_weight : (before : List WeightRow) (w : WeightRow) → weight_fault (before
 good_weight before w e = let s = weight_numbers before w e in (refl, two_numbers (codes "weight") w.last w.weight (omega arith) (omega arith) (omega arith))
 
 -- the records of the weights: each is good, and they aren't many
-good_weights : (v : Version) (weights : List WeightRow) → Along (λ b w. weight_fault (b, w) ≡ None) [] weights → length weights ≤ MOST_WEIGHT_ROWS
-    → All IsGood (weight_rows v weights) × (length (weight_rows v weights) ≤ MOST_WEIGHT_ROWS)
+good_weights : (v : Version) (weights : List WeightRow) → Along (λ b w. weight_fault (b, w) ≡ None) [] weights → length weights ≤ MAX_WEIGHT_ROWS
+    → All IsGood (weight_rows v weights) × (length (weight_rows v weights) ≤ MAX_WEIGHT_ROWS)
 good_weights v weights h few = by (has_table v)
   where
-    by : (b : Bool) → All IsGood (cond b (map weight_row weights) []) × (length (cond b (map weight_row weights) []) ≤ MOST_WEIGHT_ROWS)
+    by : (b : Bool) → All IsGood (cond b (map weight_row weights) []) × (length (cond b (map weight_row weights) []) ≤ MAX_WEIGHT_ROWS)
     by true = let size = length-map weights weight_row in (along_good (λ b w. weight_fault (b, w) ≡ None) weight_row [] weights good_weight h, omega arith)
     by false = (All-nil IsGood, omega arith)
 
-good_adapter : (links : ℕ) → links ≤ MOST_LINKS → (before : List Adapter) (a : Adapter) → adapter_fault links (before, a) ≡ None → IsGood (adapter_row a)
+good_adapter : (links : ℕ) → links ≤ MAX_LINKS → (before : List Adapter) (a : Adapter) → adapter_fault links (before, a) ≡ None → IsGood (adapter_row a)
 good_adapter links few before a e = by a.link (link_number links a.link few (adapter_link links before a e))
   where
     small : a.openings ≤ 255
     small = adapter_small links before a e
 
-    by : (link : Option ℕ) → IfSome link (λ l. l ≤ most_number) → IsGood (adapter_row (record { openings = a.openings; link = link }))
+    by : (link : Option ℕ) → IfSome link (λ l. l ≤ max_number) → IsGood (adapter_row (record { openings = a.openings; link = link }))
     by None h = let s = small in (refl, one_number (codes "sim") a.openings (omega arith) (omega arith))
     by (Some l) h = let s = small in (refl, two_numbers (codes "sim") a.openings l (omega arith) (omega arith) h)
 
@@ -143,8 +143,8 @@ text-le (row ∷ rows) h =
     omega arith
 
 -- a history's records: each is good, and they aren't many
-pub good_records : (v : Version) (past : Past) → IsHistory past → length past.events ≤ MOST_EVENTS
-    → All IsGood (records_of v past) × (length (records_of v past) ≤ MOST_EVENTS + (1 + MOST_WEIGHT_ROWS + MOST_LINKS + MOST_ADAPTERS + MOST_DEVICES + MOST_ADAPTERS * MOST_LANES))
+pub good_records : (v : Version) (past : Past) → IsHistory past → length past.events ≤ MAX_EVENTS
+    → All IsGood (records_of v past) × (length (records_of v past) ≤ MAX_EVENTS + (1 + MAX_WEIGHT_ROWS + MAX_LINKS + MAX_ADAPTERS + MAX_DEVICES + MAX_ADAPTERS * MAX_LANES))
 unfolding records_of
 good_records v past h few =
     let t = past.config in

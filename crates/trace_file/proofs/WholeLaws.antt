@@ -8,19 +8,19 @@ use Rattle.cam_types.specs.Topology.{IsConfig}
 use Rattle.cam_types.proofs.ConfigLemmas.{adapter_items, device_items, few_adapters, few_links, lane_items, link_items, reaches, some_adapter, weight_items}
 use Rattle.cam_types.proofs.WeightLemmas.{standard_is}
 use Rattle.cam_types.specs.Weights.{are_standard}
-use Rattle.cam_types.specs.declared.maxima.TheConstants.{MOST_ADAPTERS, MOST_LINKS}
+use Rattle.cam_types.specs.declared.limits.TheConstants.{MAX_ADAPTERS, MAX_LINKS}
 use Rattle.event_rules.specs.Legal.{history_rules, is_legal as legal_by}
 use Rattle.event_rules.proofs.LegalLemmas.{none-legal}
 use Rattle.trace_file.specs.Histories.{Adapter, Topology, WeightRow, weight_fault, reaches_last, standard_weights, Device, Event, Past, link_fault, adapter_fault, device_fault, lane_fault, refusal, config_fault, is_legal, is_legal_event}
-use Rattle.trace_file.specs.Reading.{add_weight, add_link, add_adapter, add_device, add_event, add_lane, config_of, ended, lacks_adapters, past_of, reading, stands, step, version_of, TraceFault, TraceStage}
+use Rattle.trace_file.specs.Reading.{add_weight, add_link, add_adapter, add_device, add_event, add_lane, config_of, ended, lacks_adapters, past_of, reading, stands, step, version_of, TraceFault, TraceParser}
 use Rattle.record_text.specs.Header.{has_letters, is_header, header_row}
-use Rattle.trace_file.specs.declared.trace_stage.TraceStage.TheVariants as stage
+use Rattle.trace_file.specs.declared.trace_parser.TraceParser.TheVariants as parser
 use Rattle.trace_file.specs.Records.{event_row, has_no_links, header, holds, is_unlinked, lane_row, least_version, records_of, weight_rows}
 use Rattle.record_text.specs.ConfigRows.{weight_row, link_row, adapter_row, device_row}
 use Rattle.trace_file.specs.Versions.{has_table, name_of, Version}
 use Rattle.record_text.specs.Text.{Row}
 use Rattle.trace_file.specs.declared.version.Version.TheVariants as version
-use Rattle.trace_file.specs.declared.word.Word.TheVariants as word
+use Rattle.trace_file.specs.declared.word.TraceWord.TheVariants as word
 use Rattle.record_text.specs.Steps.{taken}
 use Rattle.trace_file.specs.Trace.{FitsEvent, IsHistory}
 use Rattle.trace_file.proofs.AgainLaws.{weight_step, link_step, adapter_step, lane_step, device_step, event_step}
@@ -36,41 +36,41 @@ pub lane_small : (n : ℕ) (before : List ℕ) (a : ℕ) → lane_fault n (befor
 unfolding lane_fault
 lane_small n before a e = leb-false _ _ (cond_none _ _ _ (cond_none _ _ _ e).1).0
 
--- ---- the stages that the records of a configuration and its events lead through
+-- ---- the parsers that the records of a configuration and its events lead through
 
 abbrev pub config : List WeightRow → List ℕ → List Adapter → List Device → List ℕ → Topology
 config ws ks as' ds ls = record { weights = ws; links = ks; adapters = as'; devices = ds; lanes = ls }
 
--- a stage with these weights and links, after which an adapter may come
-pub record IsBase (v : Version) (ws : List WeightRow) (ks : List ℕ) (base : TraceStage) : Type 0 where
-  pub behind : base ≢ stage.Header
+-- a parser with these weights and links, after which an adapter may come
+pub record IsBase (v : Version) (ws : List WeightRow) (ks : List ℕ) (base : TraceParser) : Type 0 where
+  pub behind : base ≢ parser.Header
   pub place : stands base word.Sim ≡ true
   pub version : version_of base ≡ v
   pub reaches : reaches_last ws ≡ true
   pub is : config_of base ≡ config ws ks [] [] []
 
-abbrev pub at_weights : Version → List WeightRow → TraceStage
-at_weights v ws = stage.Weights v (config ws [] [] [] [])
+abbrev pub at_weights : Version → List WeightRow → TraceParser
+at_weights v ws = parser.Weights v (config ws [] [] [] [])
 
-abbrev pub at_links : Version → List WeightRow → List ℕ → TraceStage
+abbrev pub at_links : Version → List WeightRow → List ℕ → TraceParser
 at_links v ws [] = at_weights v ws
-at_links v ws (k ∷ ks) = stage.Links (config ws (k ∷ ks) [] [] [])
+at_links v ws (k ∷ ks) = parser.Links (config ws (k ∷ ks) [] [] [])
 
-abbrev pub at_adapters : Version → List WeightRow → List ℕ → TraceStage → List Adapter → TraceStage
+abbrev pub at_adapters : Version → List WeightRow → List ℕ → TraceParser → List Adapter → TraceParser
 at_adapters v ws ks base [] = base
-at_adapters v ws ks base (a ∷ as') = stage.Adapters v (config ws ks (a ∷ as') [] [])
+at_adapters v ws ks base (a ∷ as') = parser.Adapters v (config ws ks (a ∷ as') [] [])
 
-abbrev pub at_devices : Version → List WeightRow → List ℕ → List Adapter → List Device → TraceStage
-at_devices v ws ks as' [] = stage.Adapters v (config ws ks as' [] [])
-at_devices v ws ks as' (d ∷ ds) = stage.Devices (config ws ks as' (d ∷ ds) [])
+abbrev pub at_devices : Version → List WeightRow → List ℕ → List Adapter → List Device → TraceParser
+at_devices v ws ks as' [] = parser.Adapters v (config ws ks as' [] [])
+at_devices v ws ks as' (d ∷ ds) = parser.Devices (config ws ks as' (d ∷ ds) [])
 
-abbrev pub at_lanes : Version → List WeightRow → List ℕ → List Adapter → List Device → List ℕ → TraceStage
+abbrev pub at_lanes : Version → List WeightRow → List ℕ → List Adapter → List Device → List ℕ → TraceParser
 at_lanes v ws ks as' ds [] = at_devices v ws ks as' ds
-at_lanes v ws ks as' ds (l ∷ ls) = stage.Lanes (config ws ks as' ds (l ∷ ls))
+at_lanes v ws ks as' ds (l ∷ ls) = parser.Lanes (config ws ks as' ds (l ∷ ls))
 
-abbrev pub at_events : Version → List WeightRow → List ℕ → List Adapter → List Device → List ℕ → List Event → TraceStage
+abbrev pub at_events : Version → List WeightRow → List ℕ → List Adapter → List Device → List ℕ → List Event → TraceParser
 at_events v ws ks as' ds ls [] = at_lanes v ws ks as' ds ls
-at_events v ws ks as' ds ls (e ∷ es) = stage.Events (record { config = config ws ks as' ds ls; events = e ∷ es })
+at_events v ws ks as' ds ls (e ∷ es) = parser.Events (record { config = config ws ks as' ds ls; events = e ∷ es })
 
 one_weight : (v : Version) (n : ℕ) (before : List WeightRow) (w : WeightRow) → weight_fault (before, w) ≡ None → step n (at_weights v before) (weight_row w) ≡ Ok (at_weights v (before ++ w ∷ []))
 unfolding add_weight stands
@@ -91,12 +91,12 @@ one_link ws reaches n (b ∷ bs) k e =
 abbrev GoodAdapter : Version → List ℕ → List Adapter → Adapter → Type 0
 GoodAdapter v ks before a = (adapter_fault (length ks) (before, a) ≡ None) × (can_spell v a ≡ true)
 
-first_adapter : (v : Version) (ws : List WeightRow) (ks : List ℕ) (base : TraceStage) (n : ℕ) (a : Adapter) → IsBase v ws ks base → adapter_fault (length ks) ([], a) ≡ None
-    → add_adapter n base a ≡ Ok (stage.Adapters v (config ws ks (a ∷ []) [] []))
+first_adapter : (v : Version) (ws : List WeightRow) (ks : List ℕ) (base : TraceParser) (n : ℕ) (a : Adapter) → IsBase v ws ks base → adapter_fault (length ks) ([], a) ≡ None
+    → add_adapter n base a ≡ Ok (parser.Adapters v (config ws ks (a ∷ []) [] []))
 unfolding add_adapter
 first_adapter v ws ks base n a h e = rw (h.is, h.version, h.reaches, e) refl
 
-one_adapter : (v : Version) (ws : List WeightRow) (ks : List ℕ) (base : TraceStage) → IsBase v ws ks base → length ks ≤ MOST_LINKS → (n : ℕ) (before : List Adapter) (a : Adapter) → GoodAdapter v ks before a
+one_adapter : (v : Version) (ws : List WeightRow) (ks : List ℕ) (base : TraceParser) → IsBase v ws ks base → length ks ≤ MAX_LINKS → (n : ℕ) (before : List Adapter) (a : Adapter) → GoodAdapter v ks before a
     → step n (at_adapters v ws ks base before) (adapter_row a) ≡ Ok (at_adapters v ws ks base (before ++ a ∷ []))
 unfolding add_adapter stands
 one_adapter v ws ks base h few n [] a e =
@@ -106,7 +106,7 @@ one_adapter v ws ks base h few n (b ∷ bs) a e =
     let s = adapter_small (length ks) (b ∷ bs) a e.0 in
     adapter_step n (at_adapters v ws ks base (b ∷ bs)) a (λ k. cc) refl e.1 (omega arith) (link_number (length ks) a.link few (adapter_link (length ks) (b ∷ bs) a e.0)) ∙ rw (h.reaches, e.0) refl
 
-one_device : (v : Version) (ws : List WeightRow) (ks : List ℕ) (as' : List Adapter) → length as' ≤ MOST_ADAPTERS → (n : ℕ) (before : List Device) (d : Device) → GoodDevice as' before d
+one_device : (v : Version) (ws : List WeightRow) (ks : List ℕ) (as' : List Adapter) → length as' ≤ MAX_ADAPTERS → (n : ℕ) (before : List Device) (d : Device) → GoodDevice as' before d
     → step n (at_devices v ws ks as' before) (device_row d) ≡ Ok (at_devices v ws ks as' (before ++ d ∷ []))
 unfolding add_device stands
 one_device v ws ks as' few n [] d h =
@@ -116,7 +116,7 @@ one_device v ws ks as' few n (b ∷ bs) d h =
     let s = device_small (length as') (b ∷ bs) d h.0 in
     device_step n (at_devices v ws ks as' (b ∷ bs)) d (λ k. cc) refl (omega arith) h.1 s.1 (omega arith) ∙ rw h.0 refl
 
-one_lane : (v : Version) (ws : List WeightRow) (ks : List ℕ) (as' : List Adapter) (ds : List Device) → length as' ≤ MOST_ADAPTERS → (n : ℕ) (before : List ℕ) (a : ℕ) → lane_fault (length as') (before, a) ≡ None
+one_lane : (v : Version) (ws : List WeightRow) (ks : List ℕ) (as' : List Adapter) (ds : List Device) → length as' ≤ MAX_ADAPTERS → (n : ℕ) (before : List ℕ) (a : ℕ) → lane_fault (length as') (before, a) ≡ None
     → step n (at_lanes v ws ks as' ds before) (lane_row a) ≡ Ok (at_lanes v ws ks as' ds (before ++ a ∷ []))
 unfolding add_lane stands
 one_lane v ws ks as' [] few n [] a e =
@@ -129,9 +129,9 @@ one_lane v ws ks as' ds few n (b ∷ bs) a e =
     let s = lane_small (length as') (b ∷ bs) a e in
     lane_step n (at_lanes v ws ks as' ds (b ∷ bs)) a (λ k. cc) refl (omega arith) ∙ rw e refl
 
--- a stage with a configuration
+-- a parser with a configuration
 pub at_config : (v : Version) (ws : List WeightRow) (ks : List ℕ) (as' : List Adapter) (ds : List Device) (ls : List ℕ)
-    → (at_lanes v ws ks as' ds ls ≢ stage.Header) × (lacks_adapters (at_lanes v ws ks as' ds ls) ≡ false) × (past_of (at_lanes v ws ks as' ds ls) ≡ record { config = config ws ks as' ds ls; events = [] })
+    → (at_lanes v ws ks as' ds ls ≢ parser.Header) × (lacks_adapters (at_lanes v ws ks as' ds ls) ≡ false) × (past_of (at_lanes v ws ks as' ds ls) ≡ record { config = config ws ks as' ds ls; events = [] })
     × (ended (at_lanes v ws ks as' ds ls) ≡ Ok (record { config = config ws ks as' ds ls; events = [] }))
 unfolding ended
 at_config v ws ks as' [] [] = ((λ k. cc), refl, refl, refl)
@@ -141,8 +141,8 @@ at_config v ws ks as' ds (l ∷ ls) = ((λ k. cc), refl, refl, refl)
 abbrev GoodEvent : Topology → List Event → Event → Type 0
 GoodEvent c before e = (is_legal_event c (before, e) ≡ true) × FitsEvent e
 
-add_first : (n : ℕ) (s : TraceStage) (p : Past) (e : Event) → lacks_adapters s ≡ false → past_of s ≡ p → refusal p.config p.events e ≡ None
-    → add_event n s e ≡ Ok (stage.Events (record p { events = p.events ++ e ∷ [] }))
+add_first : (n : ℕ) (s : TraceParser) (p : Past) (e : Event) → lacks_adapters s ≡ false → past_of s ≡ p → refusal p.config p.events e ≡ None
+    → add_event n s e ≡ Ok (parser.Events (record p { events = p.events ++ e ∷ [] }))
 unfolding add_event
 add_first n s p e some is none = rw (some, is, none) refl
 
@@ -161,15 +161,15 @@ unfolding ended
 at_end v ws ks as' ds ls [] = (at_config v ws ks as' ds ls).3
 at_end v ws ks as' ds ls (e ∷ es) = refl
 
-pub begun : (v : Version) (ws : List WeightRow) (ks : List ℕ) (base : TraceStage) (as' : List Adapter) → (length as' == 0) ≡ false → at_adapters v ws ks base as' ≡ at_devices v ws ks as' []
+pub begun : (v : Version) (ws : List WeightRow) (ks : List ℕ) (base : TraceParser) (as' : List Adapter) → (length as' == 0) ≡ false → at_adapters v ws ks base as' ≡ at_devices v ws ks as' []
 begun v ws ks base [] e = absurd cc
 begun v ws ks base (a ∷ as') e = refl
 
 pub record Kept (v : Version) (ws : List WeightRow) (ks : List ℕ) (as' : List Adapter) (ds : List Device) (ls : List ℕ) : Type 0 where
   pub reaches : reaches_last ws ≡ true
   pub some : (length as' == 0) ≡ false
-  pub few_links : length ks ≤ MOST_LINKS
-  pub few : length as' ≤ MOST_ADAPTERS
+  pub few_links : length ks ≤ MAX_LINKS
+  pub few : length as' ≤ MAX_ADAPTERS
   pub weights : Along (λ b x. weight_fault (b, x) ≡ None) [] ws
   pub links : Along (λ b x. link_fault (b, x) ≡ None) [] ks
   pub adapters : Along (GoodAdapter v ks) [] as'
@@ -215,7 +215,7 @@ unfolding legal_by
 legal_along c es e = true_along (is_legal_event c) [] es e
 
 -- the records of adapters, devices, lanes and events, after those of the weights
-pub taken_all : (v : Version) (ws : List WeightRow) (ks : List ℕ) (base : TraceStage) (as' : List Adapter) (ds : List Device) (ls : List ℕ) (es : List Event) → IsBase v ws ks base → Kept v ws ks as' ds ls → AllByRecursion (λ (d : Device). d.target ≤ 65535) ds
+pub taken_all : (v : Version) (ws : List WeightRow) (ks : List ℕ) (base : TraceParser) (as' : List Adapter) (ds : List Device) (ls : List ℕ) (es : List Event) → IsBase v ws ks base → Kept v ws ks as' ds ls → AllByRecursion (λ (d : Device). d.target ≤ 65535) ds
     → is_legal (config ws ks as' ds ls) es ≡ true → AllByRecursion FitsEvent es
     → (n : ℕ) → taken step n base (map adapter_row as' ++ (map device_row ds ++ (map lane_row ls ++ map event_row es))) ≡ Ok (at_events v ws ks as' ds ls es)
 taken_all v ws ks base as' ds ls es h k targets legal fits n =
@@ -229,7 +229,7 @@ taken_all v ws ks base as' ds ls es h k targets legal fits n =
     run step event_row (at_events v ws ks as' ds ls) (GoodEvent c) (one_event v ws ks as' ds ls) [] es n3 good_events))))
 
 -- after the header of version 1 stand the standard weights
-pub first_base : IsBase version.One standard_weights [] stage.First
+pub first_base : IsBase version.One standard_weights [] parser.First
 unfolding stands
 first_base = record { behind = (λ k. cc); place = refl; version = refl; reaches = refl; is = refl }
 
@@ -242,11 +242,11 @@ unfolding stands
 three_base ws [] h = weights_base version.Three ws h
 three_base ws (k ∷ ks) h = record { behind = (λ k. cc); place = refl; version = refl; reaches = h; is = refl }
 
-header_one : step 1 stage.Header (header version.One) ≡ Ok stage.First
+header_one : step 1 parser.Header (header version.One) ≡ Ok parser.First
 unfolding step is_header has_letters header_row field_at
 header_one = refl
 
-header_table : (v : Version) → has_table v ≡ true → step 1 stage.Header (header v) ≡ Ok (at_weights v [])
+header_table : (v : Version) → has_table v ≡ true → step 1 parser.Header (header v) ≡ Ok (at_weights v [])
 unfolding step is_header has_letters header_row field_at
 header_table version.One e = absurd cc
 header_table version.Two e = refl
@@ -264,39 +264,39 @@ links_base version.One t table held h = absurd cc
 links_base version.Two t table held h = rw (no_links t held) (weights_base version.Two t.weights h)
 links_base version.Three t table held h = three_base t.weights t.links h
 
--- what is spelled so is read: its stages, in version 1 and in those with a table of weights
-abbrev pub at_past : Version → Past → TraceStage
+-- what is spelled so is read: its parsers, in version 1 and in those with a table of weights
+abbrev pub at_past : Version → Past → TraceParser
 at_past v past = let t = past.config in at_events v t.weights t.links t.adapters t.devices t.lanes past.events
 
 abbrev pub behind_links : Past → List Row
 behind_links past = let t = past.config in map adapter_row t.adapters ++ (map device_row t.devices ++ (map lane_row t.lanes ++ map event_row past.events))
 
-taken_past : (v : Version) (past : Past) (base : TraceStage) → IsHistory past → holds v past.config ≡ true → IsBase v past.config.weights past.config.links base → (n : ℕ) → taken step n base (behind_links past) ≡ Ok (at_past v past)
+taken_past : (v : Version) (past : Past) (base : TraceParser) → IsHistory past → holds v past.config ≡ true → IsBase v past.config.weights past.config.links base → (n : ℕ) → taken step n base (behind_links past) ≡ Ok (at_past v past)
 taken_past v past base h held on n =
     let t = past.config in
     taken_all v t.weights t.links base t.adapters t.devices t.lanes past.events on (kept v t h.config held) h.targets h.legal h.events n
 
--- the stage after the header of a version, and the records after the header
-abbrev pub first_at : Version → TraceStage
-first_at version.One = stage.First
+-- the parser after the header of a version, and the records after the header
+abbrev pub first_at : Version → TraceParser
+first_at version.One = parser.First
 first_at v = at_weights v []
 
 abbrev pub behind_header : Version → Past → List Row
 behind_header v past = weight_rows v past.config.weights ++ (map link_row past.config.links ++ behind_links past)
 
-header_first : (v : Version) → step 1 stage.Header (header v) ≡ Ok (first_at v)
+header_first : (v : Version) → step 1 parser.Header (header v) ≡ Ok (first_at v)
 header_first version.One = header_one
 header_first version.Two = header_table version.Two refl
 header_first version.Three = header_table version.Three refl
 
-by_standard : (past : Past) → IsHistory past → holds version.One past.config ≡ true → (n : ℕ) → taken step n stage.First (behind_header version.One past) ≡ Ok (at_past version.One past)
+by_standard : (past : Past) → IsHistory past → holds version.One past.config ≡ true → (n : ℕ) → taken step n parser.First (behind_header version.One past) ≡ Ok (at_past version.One past)
 by_standard past h held n =
     let t = past.config in
     let parts = and_parts (are_standard t.weights) (has_no_links t) held in
     let none = no_links t parts.1 in
-    let base : IsBase version.One t.weights t.links stage.First = rw (standard_is t.weights parts.0, none) first_base in
+    let base : IsBase version.One t.weights t.links parser.First = rw (standard_is t.weights parts.0, none) first_base in
     let gone : map link_row t.links ++ behind_links past ≡ behind_links past = rw none refl in
-    ap (taken step n stage.First) gone ∙ taken_past version.One past stage.First h held base n
+    ap (taken step n parser.First) gone ∙ taken_past version.One past parser.First h held base n
 
 by_table : (v : Version) (past : Past) → has_table v ≡ true → IsHistory past → holds v past.config ≡ true → (n : ℕ) → taken step n (at_weights v []) (behind_header v past) ≡ Ok (at_past v past)
 by_table v past table h held n =

@@ -4,7 +4,7 @@ use Rattle.std.specs.List.{list_all}
 use Rattle.std.specs.Option.{option_map_or}
 use Rattle.std.specs.Char.{digit_char}
 use Rattle.event_rules.specs.declared.event.Event.TheVariants as event
-use Rattle.trace_file.specs.declared.word.Word.TheVariants as word
+use Rattle.trace_file.specs.declared.word.TraceWord.TheVariants as word
 use Rattle.cam_types.specs.Weights.{are_standard}
 use Rattle.trace_file.specs.Histories.{Adapter, Event, Past, Topology, WeightRow}
 use Rattle.trace_file.specs.Versions.{has_table, name_of, Version}

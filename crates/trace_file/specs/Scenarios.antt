@@ -3,7 +3,7 @@ use Rattle.std.specs.Prelude.{◌≡◌, ℕ, ◌≤◌, ◌==◌, ◌&&◌, Boo
 use Rattle.std.specs.List.{AllByRecursion, position, sum_by}
 use Rattle.cam_types.specs.Bounds.{Bounds}
 use Rattle.cam_types.specs.Topology.{are_openings}
-use Rattle.cam_types.specs.declared.maxima.TheConstants.{MOST_PRIORITY, MOST_RETRIES}
+use Rattle.cam_types.specs.declared.limits.TheConstants.{MAX_PRIORITY, MAX_RETRIES}
 use Rattle.sense_class.specs.Classes.{status_of}
 use Rattle.event_rules.specs.declared.event.Event.TheVariants as event
 use Rattle.cam_types.specs.Questions.{names_device, names_adapter, names_lane}
@@ -19,7 +19,7 @@ pub use Rattle.trace_file.specs.declared.step.Step.{Step}
 use Rattle.trace_file.specs.declared.step.Step.TheVariants as step
 use Rattle.trace_file.specs.Histories.{Device, Outcome, Refusal, Topology}
 use Rattle.record_text.specs.Steps.{◌>>=◌}
-pub use Rattle.trace_file.specs.declared.script_stage.TheConstants.{MOST_ROWS}
+pub use Rattle.trace_file.specs.declared.script_parser.TheConstants.{MAX_ROWS}
 
 -- the configuration and the limits, eight lists of steps by the driver's number, and a list of outcomes for each lane
 pub record Scenario : Type 0 where
@@ -68,8 +68,8 @@ refused_if false cause = Ok tt
 unfoldable pub item_of : Topology → ScriptRow → Result ScriptItem Refusal
 item_of c (row.Submit driver at priority retries flags) = do
   device ← ok_or (device_number c at) NoDevice
-  _ ← refused_if (nat_lt MOST_PRIORITY priority) BadPriority
-  _ ← refused_if (nat_lt MOST_RETRIES retries) BadRetries
+  _ ← refused_if (nat_lt MAX_PRIORITY priority) BadPriority
+  _ ← refused_if (nat_lt MAX_RETRIES retries) BadRetries
   Ok (item.Step driver (step.Act (event.Submit driver device priority retries flags)))
 item_of c (row.Freeze driver at count) = do
   device ← ok_or (device_number c at) NoDevice
@@ -119,7 +119,7 @@ add_item s (item.Answer lane outcome) = record s { answers = push_at s.answers l
 -- ranges, and pauses
 abbrev pub is_ruled : Topology → ℕ → Step → Bool
 is_ruled c driver (step.Act (event.Submit by device priority retries flags)) =
-    (by == driver) && names_device c device && nat_le priority MOST_PRIORITY && nat_le retries MOST_RETRIES
+    (by == driver) && names_device c device && nat_le priority MAX_PRIORITY && nat_le retries MAX_RETRIES
 is_ruled c driver (step.Act (event.FreezeDev device count)) = names_device c device && is_count count
 is_ruled c driver (step.Act (event.ReleaseDev device count)) = names_device c device && is_count count
 is_ruled c driver (step.Act (event.FreezeSim sim count)) = names_adapter c sim && is_count count
@@ -143,5 +143,5 @@ pub record IsScenario (s : Scenario) : Type 0 where
   pub lanes : length s.answers ≡ length s.config.lanes
   pub ruled : (driver : ℕ) → AllByRecursion (λ one. is_ruled s.config driver one ≡ true) (get_or s.drivers driver [])
   pub answered : (lane : ℕ) → AllByRecursion (λ outcome. is_answer outcome ≡ true) (get_or s.answers lane [])
-  pub few_steps : sum_by length s.drivers ≤ MOST_ROWS
-  pub few_answers : sum_by length s.answers ≤ MOST_ROWS
+  pub few_steps : sum_by length s.drivers ≤ MAX_ROWS
+  pub few_answers : sum_by length s.answers ≤ MAX_ROWS

@@ -1,7 +1,7 @@
 -- The records of a script after its configuration: how each is spelled, and what it says.
 use Rattle.std.specs.Prelude.{ℕ, ◌+◌, nat_le, if◌then◌else◌, List, [], ◌∷◌, Option, Result, Ok, Err, codes, decimal, find, bytes_eq}
 use Rattle.cam_types.specs.Bounds.{Bounds}
-use Rattle.cam_types.specs.declared.maxima.TheConstants.{MOST_CCBS, MOST_ROUNDS, MOST_STAYS, MOST_EVENTS}
+use Rattle.cam_types.specs.declared.limits.TheConstants.{MAX_CCBS, MAX_ROUNDS, MAX_STAYS, MAX_EVENTS}
 use Rattle.cam_path.specs.Paths as path
 use Rattle.cam_path.specs.declared.path.CamPath.{CamPath}
 pub use Rattle.trace_file.specs.declared.script_row.ScriptRow.{ScriptRow}
@@ -10,7 +10,7 @@ pub use Rattle.trace_file.specs.declared.script_word.ScriptWord.{ScriptWord}
 use Rattle.trace_file.specs.declared.script_word.ScriptWord.TheVariants as word
 use Rattle.trace_file.specs.Fields.{flags_at, flags_text}
 use Rattle.record_text.specs.Text.{Row}
-use Rattle.record_text.specs.Fields.{field_of, number_at, unused_from, most_number}
+use Rattle.record_text.specs.Fields.{field_of, number_at, unused_from, max_number}
 use Rattle.trace_file.specs.Records.{hex}
 use Rattle.record_text.specs.ConfigRows.{padded}
 use Rattle.trace_file.specs.Rows.{outcome_at}
@@ -64,10 +64,10 @@ limit_at row at most = number_at row at most >>= λ n. if nat_le 1 n then Ok n e
 
 unfoldable pub limits_at : Row → Result Bounds ℕ
 limits_at row = do
-  ccbs ← limit_at row 1 MOST_CCBS
-  rounds ← limit_at row 2 MOST_ROUNDS
-  stays ← limit_at row 3 MOST_STAYS
-  events ← limit_at row 4 MOST_EVENTS
+  ccbs ← limit_at row 1 MAX_CCBS
+  rounds ← limit_at row 2 MAX_ROUNDS
+  stays ← limit_at row 3 MAX_STAYS
+  events ← limit_at row 4 MAX_EVENTS
   _ ← unused_from row 5
   Ok (record { ccbs = ccbs; rounds = rounds; stays = stays; events = events })
 
@@ -88,7 +88,7 @@ unfoldable pub by_path_at : Row → Result (ℕ × CamPath × ℕ) ℕ
 by_path_at row = do
   driver ← driver_at row
   at ← path_at row 2
-  n ← number_at row 3 most_number
+  n ← number_at row 3 max_number
   _ ← unused_from row 4
   Ok (driver, at, n)
 
@@ -96,7 +96,7 @@ by_path_at row = do
 unfoldable pub by_number_at : Row → Result (ℕ × ℕ) ℕ
 by_number_at row = do
   driver ← driver_at row
-  n ← number_at row 2 most_number
+  n ← number_at row 2 max_number
   _ ← unused_from row 3
   Ok (driver, n)
 
@@ -104,8 +104,8 @@ unfoldable pub submission_at : Row → Result ScriptRow ℕ
 submission_at fields = do
   driver ← driver_at fields
   at ← path_at fields 2
-  priority ← number_at fields 3 most_number
-  retries ← number_at fields 4 most_number
+  priority ← number_at fields 3 max_number
+  retries ← number_at fields 4 max_number
   flags ← flags_at fields 5
   _ ← unused_from fields 6
   Ok (row.Submit driver at priority retries flags)
@@ -113,8 +113,8 @@ submission_at fields = do
 unfoldable pub adapter_freeze_at : Row → Result ScriptRow ℕ
 adapter_freeze_at fields = do
   driver ← driver_at fields
-  sim ← number_at fields 2 most_number
-  count ← number_at fields 3 most_number
+  sim ← number_at fields 2 max_number
+  count ← number_at fields 3 max_number
   _ ← unused_from fields 4
   Ok (row.FreezeSim driver sim count)
 

@@ -2,21 +2,21 @@
 use Rattle.std.specs.Prelude.{◌≡◌, ℕ, ◌<◌, ◌≤◌, true, ⊤, List, length, Option, None, Result, Bool}
 use Rattle.std.specs.List.{AllByRecursion}
 use Rattle.event_rules.specs.declared.event.Event.TheVariants as event
-use Rattle.cam_types.specs.declared.maxima.TheConstants.{MOST_BYTES}
+use Rattle.cam_types.specs.declared.limits.TheConstants.{MAX_BYTES}
 use Rattle.cam_types.specs.Whole.{IsWhole, IsTooLong}
 use Rattle.trace_file.specs.Histories.{Device, Event, Outcome, Past, config_fault, is_legal}
 use Rattle.trace_file.specs.Reading.{ended, step, TraceFault}
 use Rattle.trace_file.specs.declared.trace_fault.TraceFault.TheVariants as fault
-use Rattle.trace_file.specs.declared.trace_stage.TraceStage.TheVariants as stage
+use Rattle.trace_file.specs.declared.trace_parser.TraceParser.TheVariants as parser
 use Rattle.record_text.specs.Text.{Row, records_in}
 use Rattle.trace_file.specs.Records.{holds, records_of}
 use Rattle.trace_file.specs.Versions.{Version}
-use Rattle.record_text.specs.Fields.{most_number}
+use Rattle.record_text.specs.Fields.{max_number}
 use Rattle.record_text.specs.Faults.{IsFirstFault}
 
 -- the text's records are those of the history, in a version that can hold it
 pub record IsTrace (text : List ℕ) (past : Past) : Type 0 where
-  pub bounded : length text ≤ MOST_BYTES
+  pub bounded : length text ≤ MAX_BYTES
   pub version : Version
   pub held : holds version past.config ≡ true
   pub spelled : records_in text ≡ records_of version past
@@ -24,21 +24,21 @@ pub record IsTrace (text : List ℕ) (past : Past) : Type 0 where
 -- a number and an outcome fit their fields
 abbrev pub FitsOutcome : ℕ → Outcome → Type 0
 FitsOutcome n outcome =
-    (n ≤ most_number) × (outcome.status < 256) × (outcome.scsi < 256) × AllByRecursion (λ b. b < 256) outcome.sense × (length outcome.sense ≤ 18)
+    (n ≤ max_number) × (outcome.status < 256) × (outcome.scsi < 256) × AllByRecursion (λ b. b < 256) outcome.sense × (length outcome.sense ≤ 18)
 
 -- the numbers of an event fit its fields
 abbrev pub FitsEvent : Event → Type 0
 FitsEvent (event.Submit driver device priority retries flags) =
-    (driver ≤ 255) × (device ≤ most_number) × (priority ≤ most_number) × (retries ≤ most_number)
-FitsEvent (event.Send lane ccb) = (lane ≤ most_number) × (ccb ≤ most_number)
+    (driver ≤ 255) × (device ≤ max_number) × (priority ≤ max_number) × (retries ≤ max_number)
+FitsEvent (event.Send lane ccb) = (lane ≤ max_number) × (ccb ≤ max_number)
 FitsEvent (event.Done ccb outcome) = FitsOutcome ccb outcome
-FitsEvent (event.Requeue ccb) = ccb ≤ most_number
-FitsEvent (event.Finish ccb) = ccb ≤ most_number
-FitsEvent (event.FreezeDev device count) = (device ≤ most_number) × (count ≤ most_number)
-FitsEvent (event.ReleaseDev device count) = (device ≤ most_number) × (count ≤ most_number)
-FitsEvent (event.FreezeSim sim count) = (sim ≤ most_number) × (count ≤ most_number)
-FitsEvent (event.ReleaseSim sim) = sim ≤ most_number
-FitsEvent (event.Adjust device openings) = (device ≤ most_number) × (openings ≤ most_number)
+FitsEvent (event.Requeue ccb) = ccb ≤ max_number
+FitsEvent (event.Finish ccb) = ccb ≤ max_number
+FitsEvent (event.FreezeDev device count) = (device ≤ max_number) × (count ≤ max_number)
+FitsEvent (event.ReleaseDev device count) = (device ≤ max_number) × (count ≤ max_number)
+FitsEvent (event.FreezeSim sim count) = (sim ≤ max_number) × (count ≤ max_number)
+FitsEvent (event.ReleaseSim sim) = sim ≤ max_number
+FitsEvent (event.Adjust device openings) = (device ≤ max_number) × (openings ≤ max_number)
 FitsEvent event.Tick = ⊤
 
 -- a configuration within its rules, legal events, and numbers that fit their fields
@@ -55,7 +55,7 @@ pub record WasTrace (before after : Option (List ℕ)) (past : Past) : Type 0 wh
   pub trace : IsTrace text past
   pub history : IsHistory past
 
--- what was read to its end has this fault first, where its records are taken from this stage on
+-- what was read to its end has this fault first, where its records are taken from this parser on
 pub record WasFaulty {S V : Type 0} (next : ℕ → S → Row → Result S TraceFault) (end : S → Result V TraceFault) (first : S) (before after : Option (List ℕ)) (e : TraceFault) : Type 0 where
   pub text : List ℕ
   pub whole : IsWhole before after text
@@ -70,4 +70,4 @@ ExplainsBy next end first before after failed e = WasFaulty next end first befor
 
 -- why no history was read
 abbrev pub Explains : Option (List ℕ) → Option (List ℕ) → Bool → TraceFault → Type 0
-Explains before after failed e = ExplainsBy step ended stage.Header before after failed e
+Explains before after failed e = ExplainsBy step ended parser.Header before after failed e

@@ -2,8 +2,8 @@
 use Rattle.std.specs.Prelude.{ℕ, Bool, true, false, List, codes}
 pub use Rattle.trace_file.specs.declared.version.Version.{Version}
 use Rattle.trace_file.specs.declared.version.Version.TheVariants as version
-use Rattle.trace_file.specs.declared.word.Word.{Word}
-use Rattle.trace_file.specs.declared.word.Word.TheVariants as word
+use Rattle.trace_file.specs.declared.word.TraceWord.{TraceWord}
+use Rattle.trace_file.specs.declared.word.TraceWord.TheVariants as word
 
 -- the word that a trace of a version begins with
 abbrev pub name_of : Version → List ℕ
@@ -24,6 +24,6 @@ has_links version.Two = false
 has_links version.Three = true
 
 -- a version knows a word
-abbrev pub has_word : Version → Word → Bool
+abbrev pub has_word : Version → TraceWord → Bool
 has_word v word.Link = has_links v
 has_word v w = true

@@ -1,7 +1,7 @@
 //! The number of an event's record in a trace.
 
 ghost use Rattle.std.specs.Prelude.{◌≡◌, ◌≤◌, ⊤, length, None, IfSome, IfOk};
-ghost use Rattle.cam_types.specs.declared.maxima.TheConstants.{MOST_BYTES};
+ghost use Rattle.cam_types.specs.declared.limits.TheConstants.{MAX_BYTES};
 ghost use Rattle.trace_file.specs.EventRecord.{IsEventRecord};
 ghost use Rattle.record_text.specs.Text.{records_in};
 ghost use Rattle.trace_file.specs.Trace.{IsTrace};
@@ -9,7 +9,7 @@ ghost use Rattle.trace_file.specs.Trace.{IsTrace};
 use crate::trace_fault::TraceFault;
 use cam_event::History;
 use csv::ByteRecord;
-use record_text::{Stage, take_records};
+use record_text::{Parser, take_records};
 use std::alloc::{AllocError, Global};
 
 /// The number of the record of the event at this place, from 0 on, in a trace of the history, whichever its version. There is
@@ -37,7 +37,7 @@ pub fn event_record(
 }
 
 fn record_count(alloc: Global, text: &[u8]) -> Result<u32, AllocError>
-    requires { length text.now ≤ MOST_BYTES }
+    requires { length text.now ≤ MAX_BYTES }
     ensures { IfOk result (λ n. n ≡ length (records_in text.now)) }
 {
     match take_records(alloc, text, RecordCount { records: 0 }) {
@@ -52,7 +52,7 @@ pub(crate) struct RecordCount {
     pub(crate) records: u32,
 }
 
-impl Stage for RecordCount {
+impl Parser for RecordCount {
     type Fault = TraceFault;
 
     ghost use Rattle.trace_file.specs.declared.trace_fault.TraceFault.{TraceFault};

@@ -1,7 +1,7 @@
 //! Reads a trace.
 
 ghost use Rattle.std.specs.Prelude.{◌≡◌, ◌≢◌, ◌≤◌, false, true, length, Ok, Err, IfOk, IfErr, IfSome};
-ghost use Rattle.cam_types.specs.declared.maxima.TheConstants.{MOST_BYTES};
+ghost use Rattle.cam_types.specs.declared.limits.TheConstants.{MAX_BYTES};
 ghost use Rattle.cam_types.specs.Watched.{device_of, has_failed};
 ghost use Rattle.trace_file.specs.Histories.{Past};
 ghost use Rattle.trace_file.specs.Reading.{reading};
@@ -11,7 +11,7 @@ ghost use Rattle.record_text.specs.Text.{records_in};
 ghost use Rattle.trace_file.specs.Trace.{IsTrace, IsHistory, WasTrace, Explains};
 
 use crate::trace_fault::TraceFault;
-use crate::trace_stage::TraceStage;
+use crate::trace_parser::TraceParser;
 use crate::version::Version;
 use cam_event::History;
 use cam_types::{Watched, WholeFault, read_whole};
@@ -43,10 +43,10 @@ pub fn read_trace<R: Read>(alloc: Global, reader: &mut Watched<R>) -> Result<His
 /// The same of a text that is at hand: what its records say, or the first fault of the first that fails. `TooLong` and
 /// `ReadFailed` aren't answered.
 pub fn parse_trace(alloc: Global, text: &[u8]) -> Result<History, TraceFault>
-    requires { length text.now ≤ MOST_BYTES }
+    requires { length text.now ≤ MAX_BYTES }
     ensures { result ≢ Err TraceFault.OutOfMemory → result ≡ reading (records_in text.now) }
 {
-    take_records(alloc, front(text), TraceStage::Header)?.finish(alloc)
+    take_records(alloc, front(text), TraceParser::Header)?.finish(alloc)
 }
 
 /// No list of records is that of two histories, in whichever versions, and none is of two versions. So a history has exactly

@@ -6,7 +6,7 @@ ghost use Rattle.trace_file.specs.Rows.{adapter_in, submit_at, outcome_at, tick_
 
 use crate::fields::{byte_at, flags_at, sense_at};
 use crate::version::Version;
-use crate::word::Word;
+use crate::word::TraceWord;
 use cam_types::{Adapter, Outcome};
 use csv::ByteRecord;
 use event_rules::Event;
@@ -30,50 +30,51 @@ pub(crate) fn adapter_in(version: Version, row: &ByteRecord) -> Result<Adapter, 
 
 /// The event of a record with this word, or the number of the first field that hasn't its form.
 #[tactic(auto, unfolding(crate::specs::Rows::event_at))]
-pub(crate) fn event_at(word: Word, row: &ByteRecord) -> Result<Event, u32>
+pub(crate) fn event_at(word: TraceWord, row: &ByteRecord) -> Result<Event, u32>
     requires { length (fields_of row.now) ≡ 8 }
     ensures { result ≡ event_at word (fields_of row.now) }
 {
     match word {
-        Word::Submit => submit_at(row),
-        Word::Send => {
+        TraceWord::Submit => submit_at(row),
+        TraceWord::Send => {
             let (lane, ccb) = two_numbers(row)?;
             Ok(Event::Send { lane, ccb })
         }
-        Word::Done => {
+        TraceWord::Done => {
             let (ccb, outcome) = outcome_at(row)?;
             Ok(Event::Done { ccb, outcome })
         }
-        Word::Requeue => {
+        TraceWord::Requeue => {
             let ccb = one_number(row)?;
             Ok(Event::Requeue { ccb })
         }
-        Word::Finish => {
+        TraceWord::Finish => {
             let ccb = one_number(row)?;
             Ok(Event::Finish { ccb })
         }
-        Word::Freeze => {
+        TraceWord::Freeze => {
             let (device, count) = two_numbers(row)?;
             Ok(Event::FreezeDev { device, count })
         }
-        Word::Release => {
+        TraceWord::Release => {
             let (device, count) = two_numbers(row)?;
             Ok(Event::ReleaseDev { device, count })
         }
-        Word::FreezeSim => {
+        TraceWord::FreezeSim => {
             let (sim, count) = two_numbers(row)?;
             Ok(Event::FreezeSim { sim, count })
         }
-        Word::ReleaseSim => {
+        TraceWord::ReleaseSim => {
             let sim = one_number(row)?;
             Ok(Event::ReleaseSim { sim })
         }
-        Word::Adjust => {
+        TraceWord::Adjust => {
             let (device, openings) = two_numbers(row)?;
             Ok(Event::Adjust { device, openings })
         }
-        Word::Tick => tick_at(row),
-        Word::Weight | Word::Link | Word::Sim | Word::Dev | Word::Lane => Err(1),
+        TraceWord::Tick => tick_at(row),
+        TraceWord::Weight | TraceWord::Link | TraceWord::Sim | TraceWord::Dev | TraceWord::Lane =>
+            Err(1),
     }
 }
 

@@ -2,7 +2,7 @@
 
 ghost use Rattle.std.specs.Prelude.{◌≡◌, ◌<◌, ◌≤◌, [], length, map, replicate, IfOk, IsTrue};
 ghost use Rattle.std.specs.List.{sum_by};
-ghost use Rattle.trace_file.specs.Scenarios.{Scenario, add_item, empty_scenario, is_answer, is_ruled, push_at, MOST_ROWS};
+ghost use Rattle.trace_file.specs.Scenarios.{Scenario, add_item, empty_scenario, is_answer, is_ruled, push_at, MAX_ROWS};
 ghost use Rattle.cam_types.specs.Questions.{names_lane};
 ghost use Rattle.trace_file.specs.declared.script_row.ScriptItem.TheVariants as item;
 
@@ -112,7 +112,7 @@ impl Script {
     pub(crate) fn with_step(self, driver: u8, step: Step) -> Result<Script, AllocError>
         requires driver { driver ≤ 7 }
         requires ruled { IsTrue (is_ruled self.config driver step) }
-        requires room { sum_by length self.drivers < MOST_ROWS }
+        requires room { sum_by length self.drivers < MAX_ROWS }
         ensures { IfOk result (λ s. s ≡ add_item self (item.Step driver step)) }
     {
         let Script {
@@ -133,7 +133,7 @@ impl Script {
     pub(crate) fn with_answer(self, lane: u32, outcome: Outcome) -> Result<Script, AllocError>
         requires lane { IsTrue (names_lane self.config lane) }
         requires status { IsTrue (is_answer outcome) }
-        requires room { sum_by length self.answers < MOST_ROWS }
+        requires room { sum_by length self.answers < MAX_ROWS }
         ensures { IfOk result (λ s. s ≡ add_item self (item.Answer lane outcome)) }
     {
         let Script {

@@ -8,7 +8,7 @@ ghost use Rattle.record_text.specs.Steps.{◌>>=◌ as and_then};
 use crate::script_row::{ScriptItem, ScriptRow};
 use crate::step::Step;
 use cam_path::CamPath;
-use cam_types::{Config, Device, Flags, MOST_PRIORITY, MOST_RETRIES, Outcome, are_openings};
+use cam_types::{Config, Device, Flags, MAX_PRIORITY, MAX_RETRIES, Outcome, are_openings};
 use event_rules::{Event, Refusal, is_count};
 
 /// What a row asks for, or the first static cause that refuses it.
@@ -89,10 +89,10 @@ fn submission_of(
     ensures { result ≡ item_of config.now (ScriptRow.Submit driver path priority retries flags) }
 {
     let device = device_at(config, path)?;
-    if priority > MOST_PRIORITY {
+    if priority > MAX_PRIORITY {
         return Err(Refusal::BadPriority);
     }
-    if retries > MOST_RETRIES {
+    if retries > MAX_RETRIES {
         return Err(Refusal::BadRetries);
     }
     let event = Event::Submit {

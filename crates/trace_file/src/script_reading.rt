@@ -1,14 +1,14 @@
 //! Reads a script.
 
 ghost use Rattle.std.specs.Prelude.{◌≡◌, ◌≢◌, ◌<◌, ◌≤◌, ℕ, [], false, get_or, length, Ok, Err, IfOk, IfErr, IfSome};
-ghost use Rattle.cam_types.specs.declared.maxima.TheConstants.{MOST_BYTES};
+ghost use Rattle.cam_types.specs.declared.limits.TheConstants.{MAX_BYTES};
 ghost use Rattle.cam_types.specs.Watched.{device_of, has_failed};
 ghost use Rattle.trace_file.specs.Script.{ExplainsScript, IsManuscript, IsScript, Manuscript, WasScript, answers_of, scenario_of, steps_of};
 ghost use Rattle.trace_file.specs.ScriptReading.{script_reading};
 ghost use Rattle.record_text.specs.Text.{records_in};
 
 use crate::script::Script;
-use crate::script_stage::ScriptStage;
+use crate::script_parser::ScriptParser;
 use crate::trace_fault::TraceFault;
 use cam_types::{Watched, WholeFault, read_whole};
 use record_text::{front, take_records};
@@ -37,10 +37,10 @@ pub fn read_script<R: Read>(alloc: Global, reader: &mut Watched<R>) -> Result<Sc
 }
 
 fn read_script_text(alloc: Global, text: &[u8]) -> Result<Script, TraceFault>
-    requires { length text.now ≤ MOST_BYTES }
+    requires { length text.now ≤ MAX_BYTES }
     ensures { result ≢ Err TraceFault.OutOfMemory → result ≡ script_reading (records_in text.now) }
 {
-    take_records(alloc, front(text), ScriptStage::Header)?.finish(alloc)
+    take_records(alloc, front(text), ScriptParser::Header)?.finish(alloc)
 }
 
 /// A driver's steps are its rows in order, and a lane's answers are its `answer` rows in order.

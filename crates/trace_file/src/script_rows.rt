@@ -10,7 +10,7 @@ use crate::rows::outcome_at;
 use crate::script_row::ScriptRow;
 use crate::script_word::ScriptWord;
 use cam_path::CamPath;
-use cam_types::{Limits, MOST_CCBS, MOST_EVENTS, MOST_ROUNDS, MOST_STAYS};
+use cam_types::{Limits, MAX_CCBS, MAX_EVENTS, MAX_ROUNDS, MAX_STAYS};
 use csv::ByteRecord;
 use record_text::{field, number_at, unused_from};
 
@@ -20,10 +20,10 @@ pub(crate) fn limits_at(row: &ByteRecord) -> Result<Limits, u32>
     requires { length (fields_of row.now) ≡ 8 }
     ensures { result ≡ limits_at (fields_of row.now) }
 {
-    let ccbs = limit_at(row, 1, MOST_CCBS)?;
-    let rounds = limit_at(row, 2, MOST_ROUNDS)?;
-    let stays = limit_at(row, 3, MOST_STAYS)?;
-    let events = limit_at(row, 4, MOST_EVENTS)?;
+    let ccbs = limit_at(row, 1, MAX_CCBS)?;
+    let rounds = limit_at(row, 2, MAX_ROUNDS)?;
+    let stays = limit_at(row, 3, MAX_STAYS)?;
+    let events = limit_at(row, 4, MAX_EVENTS)?;
     unused_from(row, 5)?;
     Ok(Limits::new(ccbs, rounds, stays, events).unwrap())
 }

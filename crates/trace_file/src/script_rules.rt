@@ -3,14 +3,14 @@
 ghost use Rattle.std.specs.Prelude.{◌≡◌, ◌≤◌, ◌<◌, ℕ, true, false, length, map, get_or, [], nat_le};
 ghost use Rattle.std.specs.List.{list_all, sum_by};
 ghost use Rattle.cam_types.specs.Bounds.{Bounds};
-ghost use Rattle.trace_file.specs.Scenarios.{IsScenario, scenario_by, is_ruled, is_answer, MOST_ROWS};
+ghost use Rattle.trace_file.specs.Scenarios.{IsScenario, scenario_by, is_ruled, is_answer, MAX_ROWS};
 ghost use Rattle.trace_file.specs.declared.step.Step.TheVariants as Step;
 
 use crate::script::DRIVERS;
 use crate::script_item::is_in_progress;
-use crate::script_stage::MOST_ROWS;
+use crate::script_parser::MAX_ROWS;
 use crate::step::Step;
-use cam_types::{Config, MOST_PRIORITY, MOST_RETRIES, Outcome, are_openings};
+use cam_types::{Config, MAX_PRIORITY, MAX_RETRIES, Outcome, are_openings};
 use event_rules::{Event, is_count};
 
 /// Whether these steps of drivers and answers of lanes keep the rules of a script of the configuration.
@@ -38,9 +38,9 @@ pub(crate) fn keep_rules(config: &Config, drivers: &[Vec<Step>], answers: &[Vec<
 
 // There are at most 4,096 items in all of these lists.
 fn are_few<T>(lists: &[Vec<T>]) -> bool
-    ensures { result ≡ nat_le (sum_by (λ l. length l.items) lists.now) MOST_ROWS }
+    ensures { result ≡ nat_le (sum_by (λ l. length l.items) lists.now) MAX_ROWS }
 {
-    let mut left = MOST_ROWS as usize;
+    let mut left = MAX_ROWS as usize;
     for list in lists {
         if list.len() > left {
             return false;
@@ -111,8 +111,8 @@ fn is_ruled_event(config: &Config, driver: u8, event: Event) -> bool
         } => {
             by == driver
                 && config.names_device(device)
-                && priority <= MOST_PRIORITY
-                && retries <= MOST_RETRIES
+                && priority <= MAX_PRIORITY
+                && retries <= MAX_RETRIES
         }
         Event::FreezeDev { device, count } | Event::ReleaseDev { device, count } => {
             config.names_device(device) && is_count(count)

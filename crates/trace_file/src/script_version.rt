@@ -1,8 +1,8 @@
 //! The versions of scripts.
 
-use crate::trace_stage::TraceStage;
+use crate::trace_parser::TraceParser;
 use crate::version::Version;
-use cam_types::{Config, ConfigDraft};
+use cam_types::{Config, PartialConfig};
 use std::alloc::Global;
 
 /// Which records of the configuration a script may have.
@@ -16,7 +16,7 @@ pub(crate) enum ScriptVersion {
 
 impl ScriptVersion {
     ghost use Rattle.std.specs.Prelude.{◌≡◌};
-    ghost use Rattle.trace_file.specs.ScriptReading.{first_stage};
+    ghost use Rattle.trace_file.specs.ScriptReading.{first_parser};
     ghost use Rattle.trace_file.specs.ScriptVersions.{least_script, script_name, trace_version};
     ghost use Rattle.trace_file.specs.Sound.{IsSound};
 
@@ -50,15 +50,15 @@ impl ScriptVersion {
         }
     }
 
-    /// A configuration in the making, of which nothing has been said.
+    /// A configuration to which no row was applied.
     #[tactic(auto, unfolding(crate::specs::Sound::IsSound))]
-    pub(crate) fn first_stage(self, alloc: Global) -> TraceStage
-        ensures value { result ≡ first_stage self }
+    pub(crate) fn first_parser(self, alloc: Global) -> TraceParser
+        ensures value { result ≡ first_parser self }
         ensures sound { IsSound result }
     {
         match self {
-            ScriptVersion::One => TraceStage::First,
-            ScriptVersion::Two => TraceStage::Weights(Version::Three, ConfigDraft::new(alloc)),
+            ScriptVersion::One => TraceParser::First,
+            ScriptVersion::Two => TraceParser::Weights(Version::Three, PartialConfig::new(alloc)),
         }
     }
 }

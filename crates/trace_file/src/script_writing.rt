@@ -7,7 +7,7 @@ ghost use Rattle.cam_types.specs.Questions.{names_device};
 ghost use Rattle.cam_path.specs.Paths.{spelled as path_spelled, Fits};
 ghost use Rattle.trace_file.specs.Fields.{flags_text};
 ghost use Rattle.record_text.specs.ConfigRows.{padded};
-ghost use Rattle.record_text.specs.Fields.{most_number};
+ghost use Rattle.record_text.specs.Fields.{max_number};
 ghost use Rattle.trace_file.specs.Scenarios.{is_ruled, names_driver};
 ghost use Rattle.trace_file.specs.Script.{FitsRow};
 ghost use Rattle.trace_file.specs.ScriptRows.{limits_row, script_row};
@@ -98,7 +98,7 @@ pub(crate) fn write_answers<W: Write + Drop>(
     answers: &[Vec<Outcome>],
 ) -> Result<(), AllocError>
     requires between { IsBetween writer.old }
-    requires few { length answers.now ≤ most_number }
+    requires few { length answers.now ≤ max_number }
     ensures rows { OnOk result (Wrote W.contents writer.old writer.new (map script_row (numbered ScriptRow.Answer 0 (map (λ l. l.items) answers.now)))) }
     ensures fits { OnOk result (AllByRecursion FitsRow (numbered ScriptRow.Answer 0 (map (λ l. l.items) answers.now))) }
 {

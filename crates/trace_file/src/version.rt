@@ -5,7 +5,7 @@ ghost use Rattle.std.specs.List.{list_all};
 ghost use Rattle.trace_file.specs.Records.{has_no_links, is_unlinked, least_version};
 ghost use Rattle.trace_file.specs.Versions.{has_links, has_table, has_word, name_of};
 
-use crate::word::Word;
+use crate::word::TraceWord;
 use cam_types::{Adapter, Config};
 
 /// Which records a trace may have.
@@ -65,11 +65,11 @@ impl Version {
     }
 
     /// Whether a record of it may have this word.
-    pub(crate) fn has_word(self, word: Word) -> bool
+    pub(crate) fn has_word(self, word: TraceWord) -> bool
         ensures { result ≡ has_word self word }
     {
         match word {
-            Word::Link => self.has_links(),
+            TraceWord::Link => self.has_links(),
             _ => true,
         }
     }

@@ -4,7 +4,7 @@ use record_text::is_text;
 
 /// What the first field of a trace's record names.
 #[derive(Clone, Copy)]
-pub(crate) enum Word {
+pub(crate) enum TraceWord {
     Sim,
     Dev,
     Lane,
@@ -23,58 +23,58 @@ pub(crate) enum Word {
     Link,
 }
 
-impl Word {
+impl TraceWord {
     ghost use Rattle.std.specs.Prelude.{◌≡◌, ◌∷◌, [], bytes_eq, find};
     ghost use Rattle.trace_file.specs.Words.{spelled, word_of, word_rank};
 
     /// The word that a field spells.
     #[tactic(auto, unfolding(crate::specs::Words::word_of))]
-    pub(crate) fn of(field: &[u8]) -> Option<Word>
+    pub(crate) fn of(field: &[u8]) -> Option<TraceWord>
         ensures { result ≡ word_of field.now }
     {
         let word = if is_text(field, b"sim") {
-            Word::Sim
+            TraceWord::Sim
         } else if is_text(field, b"dev") {
-            Word::Dev
+            TraceWord::Dev
         } else if is_text(field, b"lane") {
-            Word::Lane
+            TraceWord::Lane
         } else if is_text(field, b"submit") {
-            Word::Submit
+            TraceWord::Submit
         } else if is_text(field, b"send") {
-            Word::Send
+            TraceWord::Send
         } else if is_text(field, b"done") {
-            Word::Done
+            TraceWord::Done
         } else if is_text(field, b"requeue") {
-            Word::Requeue
+            TraceWord::Requeue
         } else if is_text(field, b"finish") {
-            Word::Finish
+            TraceWord::Finish
         } else {
-            return Word::of_rest(field);
+            return TraceWord::of_rest(field);
         };
         Some(word)
     }
 
     // The same of the words that come after `finish`.
     #[tactic(auto, unfolding(crate::specs::Words::word_of))]
-    fn of_rest(field: &[u8]) -> Option<Word>
-        ensures { result ≡ find (λ w. bytes_eq field.now (spelled w)) (Word.Freeze ∷ Word.Release ∷ Word.FreezeSim ∷ Word.ReleaseSim ∷ Word.Adjust ∷ Word.Tick ∷ Word.Weight ∷ Word.Link ∷ []) }
+    fn of_rest(field: &[u8]) -> Option<TraceWord>
+        ensures { result ≡ find (λ w. bytes_eq field.now (spelled w)) (TraceWord.Freeze ∷ TraceWord.Release ∷ TraceWord.FreezeSim ∷ TraceWord.ReleaseSim ∷ TraceWord.Adjust ∷ TraceWord.Tick ∷ TraceWord.Weight ∷ TraceWord.Link ∷ []) }
     {
         let word = if is_text(field, b"freeze") {
-            Word::Freeze
+            TraceWord::Freeze
         } else if is_text(field, b"release") {
-            Word::Release
+            TraceWord::Release
         } else if is_text(field, b"sfreeze") {
-            Word::FreezeSim
+            TraceWord::FreezeSim
         } else if is_text(field, b"srelease") {
-            Word::ReleaseSim
+            TraceWord::ReleaseSim
         } else if is_text(field, b"adjust") {
-            Word::Adjust
+            TraceWord::Adjust
         } else if is_text(field, b"tick") {
-            Word::Tick
+            TraceWord::Tick
         } else if is_text(field, b"weight") {
-            Word::Weight
+            TraceWord::Weight
         } else if is_text(field, b"link") {
-            Word::Link
+            TraceWord::Link
         } else {
             return None;
         };
@@ -86,11 +86,11 @@ impl Word {
         ensures { result ≡ word_rank self }
     {
         match self {
-            Word::Weight => 0,
-            Word::Link => 1,
-            Word::Sim => 2,
-            Word::Dev => 3,
-            Word::Lane => 4,
+            TraceWord::Weight => 0,
+            TraceWord::Link => 1,
+            TraceWord::Sim => 2,
+            TraceWord::Dev => 3,
+            TraceWord::Lane => 4,
             _ => 5,
         }
     }

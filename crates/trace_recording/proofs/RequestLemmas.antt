@@ -5,7 +5,7 @@ use Rattle.std.proofs.lemmas.Bool.{and_from, lt-ltb, le-ltb, le-leb, lt-leb, eqb
 use Rattle.std.proofs.lemmas.List.{length-map, get_or-map, map-append, take_more, take_all}
 use Rattle.cam_types.specs.Topology.{Topology, IsConfig}
 use Rattle.cam_types.specs.Questions.{device_adapter, adapter_link}
-use Rattle.cam_types.specs.declared.maxima.TheConstants.{MOST_PRIORITY}
+use Rattle.cam_types.specs.declared.limits.TheConstants.{MAX_PRIORITY}
 use Rattle.event_rules.specs.Counts.{round, submissions}
 use Rattle.event_rules.specs.Legal.{history_rules, is_legal}
 use Rattle.event_rules.specs.Live.{live_round}
@@ -21,16 +21,16 @@ use Rattle.recording_file.specs.declared.part.PartKind.TheVariants as kind
 use Rattle.recording_file.specs.declared.cap.Cap.{Cap}
 use Rattle.recording_file.specs.declared.part.Part.{Part}
 use Rattle.recording_file.specs.declared.request.Request.{Request}
-use Rattle.round_net.specs.Caps.{row_count, carries}
+use Rattle.round_net.specs.Caps.{resource_count, carries}
 use Rattle.round_net.specs.Nets.{last_round}
-use Rattle.round_net.specs.RecordedNets.{part_of_row}
+use Rattle.round_net.specs.RecordedNets.{part_of_resource}
 use Rattle.round_net.proofs.CountLemmas.{count-map, count_by-cons, count_by-same}
 use Rattle.round_net.proofs.FoundLemmas.{live_cases}
 use Rattle.trace_recording.specs.Requests.{unless_end, request_of, request_by}
 use Rattle.trace_recording.specs.Recorded.{without_lanes, caps_of, recorded_with, recorded_of}
 use Rattle.trace_recording.proofs.CapLemmas.{cap_in_row}
-use Rattle.trace_recording.proofs.PartLemmas.{carries_takes, device_row, adapter_row, link_row}
-use Rattle.trace_recording.proofs.StayLemmas.{IsSentInWindow, sent_in_windows, row_holds}
+use Rattle.trace_recording.proofs.PartLemmas.{carries_takes, device_resource, adapter_resource, link_resource}
+use Rattle.trace_recording.proofs.StayLemmas.{IsSentInWindow, sent_in_windows, resource_holds}
 
 -- where the next element counts, those before it count one less than all
 count_front : {X : Type 0} (t : X → Bool) (xs : List X) (n : ℕ) (d : X) → n < length xs → t (get_or xs n d) ≡ true → count_by t (take n xs) + 1 ≤ count_by t xs
@@ -54,7 +54,7 @@ no_plain_cause c es p is =
     let live : ℕ = live_round es p in
     let last : ℕ = last_round es p in
     let there = lt-ltb p.device (length c.devices) is.device in
-    let listed = le-ltb MOST_PRIORITY p.priority is.priority in
+    let listed = le-ltb MAX_PRIORITY p.priority is.priority in
     let end = last_unless_end (round es) last in
     let first = le-leb 1 p.arrival is.first in
     let arrived = is.arrived in
@@ -68,14 +68,14 @@ no_plain_cause c es p is =
 -- ---- the parts of a device
 
 -- a row that takes a request to a device has room for it beside the requests before it
-row_has_room : (c : Topology) (es : List Event) (n : ℕ) (d : Passage) → is_legal history_rules c es ≡ true → unsent es ≡ None → n < length (stays_begun es) → (row : ℕ) → row < row_count c → takes_of c (part_of_row c row) (get_or (stays_begun es) n d).device ≡ true
-    → is_full (without_lanes c) (caps_of c es (row_count c)) (map (request_of es) (take n (stays_begun es))) (live_round es (get_or (stays_begun es) n d)) (part_of_row c row) ≡ false
+resource_has_room : (c : Topology) (es : List Event) (n : ℕ) (d : Passage) → is_legal history_rules c es ≡ true → unsent es ≡ None → n < length (stays_begun es) → (row : ℕ) → row < resource_count c → takes_of c (part_of_resource c row) (get_or (stays_begun es) n d).device ≡ true
+    → is_full (without_lanes c) (caps_of c es (resource_count c)) (map (request_of es) (take n (stays_begun es))) (live_round es (get_or (stays_begun es) n d)) (part_of_resource c row) ≡ false
 unfolding request_of
-row_has_room c es n d legal complete lt row within takes =
+resource_has_room c es n d legal complete lt row within takes =
     let stays : List Passage = stays_begun es in
     let p : Passage = get_or stays n d in
     let r : ℕ = live_round es p in
-    let part : Part = part_of_row c row in
+    let part : Part = part_of_resource c row in
     let is = sent_in_windows c es legal complete n d lt in
     let first = is.first in
     let arrived = is.arrived in
@@ -86,9 +86,9 @@ row_has_room c es n d legal complete lt row within takes =
     let passes : test p ≡ true = and_from _ _ takes (eq-eqb r r refl) in
     let front = count_front test stays n d lt passes in
     let same = count_by-same (λ (q : Passage). carries c row q.device && (live_round es q == r)) test stays (λ k e lt'. ap (λ (b : Bool). b && (live_round es (get_or stays k e) == r)) (carries_takes c row (get_or stays k e).device)) in
-    let held = row_holds c es legal complete row r in
-    let capped = cap_in_row c es row r (row_count c) within (omega arith) (omega arith) in
-    lt-leb (cap_in (without_lanes c) (caps_of c es (row_count c)) part r) (load c (map (request_of es) (take n stays)) part r) (omega arith)
+    let held = resource_holds c es legal complete row r in
+    let capped = cap_in_row c es row r (resource_count c) within (omega arith) (omega arith) in
+    lt-leb (cap_in (without_lanes c) (caps_of c es (resource_count c)) part r) (load c (map (request_of es) (take n stays)) part r) (omega arith)
 
 -- where neither a device, nor its adapter, nor that one's link is full, none is
 none_full : (t : Part → Bool) (device adapter : Part) (link : Option ℕ) → t device ≡ false → t adapter ≡ false → ((l : ℕ) → link ≡ Some l → t (part_of kind.Link l) ≡ false) → find t (device ∷ adapter ∷ link_parts link) ≡ None
@@ -97,27 +97,27 @@ none_full t device adapter (Some k) d a l = let none = l k refl in rw (d, a, non
 
 -- each part of a device has a row, which takes the device's requests
 no_crowd_cause : (c : Topology) (es : List Event) (n : ℕ) (d : Passage) → IsConfig (without_lanes c) → is_legal history_rules c es ≡ true → unsent es ≡ None → n < length (stays_begun es)
-    → crowd_cause (without_lanes c) (caps_of c es (row_count c)) (map (request_of es) (take n (stays_begun es))) (request_of es (get_or (stays_begun es) n d)) ≡ None
+    → crowd_cause (without_lanes c) (caps_of c es (resource_count c)) (map (request_of es) (take n (stays_begun es))) (request_of es (get_or (stays_begun es) n d)) ≡ None
 unfolding crowd_cause request_of
 no_crowd_cause c es n d config legal complete lt =
     let p : Passage = get_or (stays_begun es) n d in
     let is = sent_in_windows c es legal complete n d lt in
-    let test : Part → Bool = is_full (without_lanes c) (caps_of c es (row_count c)) (map (request_of es) (take n (stays_begun es))) (live_round es p) in
-    let room = row_has_room c es n d legal complete lt in
-    let device = device_row c p.device is.device in
-    let adapter = adapter_row c p.device config is.device in
+    let test : Part → Bool = is_full (without_lanes c) (caps_of c es (resource_count c)) (map (request_of es) (take n (stays_begun es))) (live_round es p) in
+    let room = resource_has_room c es n d legal complete lt in
+    let device = device_resource c p.device is.device in
+    let adapter = adapter_resource c p.device config is.device in
     let none = none_full test (part_of kind.Device p.device) (part_of kind.Adapter (device_adapter c p.device)) (adapter_link c (device_adapter c p.device))
     (rw device.is at (room device.row device.within (rw device.is device.takes)))
     (rw adapter.is at (room adapter.row adapter.within (rw adapter.is adapter.takes)))
-    (λ l on. let link = link_row c p.device l config is.device on in rw link.is at (room link.row link.within (rw link.is link.takes))) in
+    (λ l on. let link = link_resource c p.device l config is.device on in rw link.is at (room link.row link.within (rw link.is link.takes))) in
     no_cause (request_of es p) none
   where
-    no_cause : (q : Request) → find (is_full (without_lanes c) (caps_of c es (row_count c)) (map (request_of es) (take n (stays_begun es))) q.sent) (parts_of c q.device) ≡ None → option_map (λ (part : Part). full_cause part.kind) (find (is_full (without_lanes c) (caps_of c es (row_count c)) (map (request_of es) (take n (stays_begun es))) q.sent) (parts_of (without_lanes c) q.device)) ≡ None
+    no_cause : (q : Request) → find (is_full (without_lanes c) (caps_of c es (resource_count c)) (map (request_of es) (take n (stays_begun es))) q.sent) (parts_of c q.device) ≡ None → option_map (λ (part : Part). full_cause part.kind) (find (is_full (without_lanes c) (caps_of c es (resource_count c)) (map (request_of es) (take n (stays_begun es))) q.sent) (parts_of (without_lanes c) q.device)) ≡ None
     no_cause q e = rw e refl
 
 -- nothing speaks against the request of a stay beside those of the stays before it
 pub no_cause : (c : Topology) (es : List Event) (n : ℕ) (d : Passage) → IsConfig (without_lanes c) → is_legal history_rules c es ≡ true → unsent es ≡ None → n < length (stays_begun es)
-    → request_cause (round es) (without_lanes c) (caps_of c es (row_count c)) (map (request_of es) (take n (stays_begun es)), request_of es (get_or (stays_begun es) n d)) ≡ None
+    → request_cause (round es) (without_lanes c) (caps_of c es (resource_count c)) (map (request_of es) (take n (stays_begun es)), request_of es (get_or (stays_begun es) n d)) ≡ None
 unfolding request_cause
 no_cause c es n d config legal complete lt =
     let plain = no_plain_cause c es (get_or (stays_begun es) n d) (sent_in_windows c es legal complete n d lt) in
@@ -157,6 +157,6 @@ requests_more past caps n d old new q lt so_far here more =
     more ∙ rw (so_far, here) (ap (recorded_with past caps) (sym next))
 
 -- those of all stays
-pub requests_all : (past : Past) (n : ℕ) (r : Recorded) → length (stays_begun past.events) ≤ n → r ≡ recorded_with past (caps_of past.config past.events (row_count past.config)) (map (request_of past.events) (take n (stays_begun past.events))) → r ≡ recorded_of past
+pub requests_all : (past : Past) (n : ℕ) (r : Recorded) → length (stays_begun past.events) ≤ n → r ≡ recorded_with past (caps_of past.config past.events (resource_count past.config)) (map (request_of past.events) (take n (stays_begun past.events))) → r ≡ recorded_of past
 unfolding recorded_of
-requests_all past n r le e = e ∙ ap (λ stays. recorded_with past (caps_of past.config past.events (row_count past.config)) (map (request_of past.events) stays)) (take_all n (stays_begun past.events) le)
+requests_all past n r le e = e ∙ ap (λ stays. recorded_with past (caps_of past.config past.events (resource_count past.config)) (map (request_of past.events) stays)) (take_all n (stays_begun past.events) le)

@@ -1,7 +1,7 @@
 -- the net of a history's recording is that of the history
 use Rattle.std.proofs.Common.{◌≡◌, ℕ, zero, suc, ◌*◌, List, [], ◌∷◌, ◌++◌, map, refl, sym, ap, ◌∙◌, slice_index}
 use Rattle.std.proofs.lemmas.List.{length-map}
-use Rattle.cam_types.specs.Lists.{moments_after}
+use Rattle.cam_types.specs.Lists.{prefixed_after}
 use Rattle.cam_types.specs.Topology.{Topology}
 use Rattle.event_rules.specs.Counts.{round}
 use Rattle.event_rules.specs.Past.{Past}
@@ -9,15 +9,15 @@ use Rattle.event_rules.specs.Stays.{stays_begun}
 use Rattle.event_rules.specs.declared.event.Event.{Event}
 use Rattle.event_rules.specs.declared.passage.Passage.{Passage}
 use Rattle.event_rules.proofs.LimitLemmas.{round_first}
-use Rattle.event_rules.proofs.ListFacts.{length-moments_after}
+use Rattle.event_rules.proofs.ListFacts.{length-prefixed_after}
 use Rattle.recording_file.specs.declared.request.Request.{Request}
 use Rattle.round_net.specs.Instance.{Instance}
 use Rattle.round_net.specs.Rows.{cell, of_stay, instance_of_rows, live_of_rows}
-use Rattle.round_net.specs.Caps.{row_count, cap}
+use Rattle.round_net.specs.Caps.{resource_count, cap}
 use Rattle.round_net.specs.Nets.{stay_row, table, net_of, instance_of, live_of, last_round}
 use Rattle.round_net.specs.RecordedNets.{request_row, recorded_cap, net_of_recording, instance_of_recording, live_of_recording}
 use Rattle.round_net.specs.declared.stay_row.StayRow.{StayRow}
-use Rattle.round_net.specs.declared.price_range.TheConstants.{MOST_NET_PRICE}
+use Rattle.round_net.specs.declared.price_range.TheConstants.{MAX_NET_PRICE}
 use Rattle.round_net.proofs.TableLemmas.{cell-table, table_by_cells, length-cells}
 use Rattle.trace_recording.specs.Requests.{request_of}
 use Rattle.trace_recording.specs.Recorded.{without_lanes, recorded_of}
@@ -26,7 +26,7 @@ use Rattle.trace_recording.proofs.RequestLemmas.{last_unless_end}
 
 -- a part in which each request's row agrees with its stay's
 part_agrees : (c : Topology) (es : List Event) (part : StayRow → ℕ) → ((m : List Request) (p : Passage) → part (request_row (without_lanes c) (round es) (m, request_of es p)) ≡ part (stay_row c es p)) → (before : List Request) (ps : List Passage) (s : ℕ)
-    → of_stay part (map (request_row (without_lanes c) (round es)) (moments_after before (map (request_of es) ps))) s ≡ of_stay part (map (stay_row c es) ps) s
+    → of_stay part (map (request_row (without_lanes c) (round es)) (prefixed_after before (map (request_of es) ps))) s ≡ of_stay part (map (stay_row c es) ps) s
 part_agrees c es part same before [] s = refl
 part_agrees c es part same before (p ∷ ps) zero = same before p
 part_agrees c es part same before (p ∷ ps) (suc s) = part_agrees c es part same (before ++ request_of es p ∷ []) ps s
@@ -47,8 +47,8 @@ module _ (past : Past) where
   stays_agree : new.stays ≡ old.stays
   unfolding recorded_of net_of_recording net_of instance_of_rows
   stays_agree =
-      length-map (moments_after [] (map (request_of es) (stays_begun es))) (request_row (without_lanes c) (round es))
-      ∙ length-moments_after [] (map (request_of es) (stays_begun es))
+      length-map (prefixed_after [] (map (request_of es) (stays_begun es))) (request_row (without_lanes c) (round es))
+      ∙ length-prefixed_after [] (map (request_of es) (stays_begun es))
       ∙ length-map (stays_begun es) (request_of es)
       ∙ sym (length-map (stays_begun es) (stay_row c es))
 
@@ -73,18 +73,18 @@ module _ (past : Past) where
   live_agrees s = part_agrees c es (λ (row : StayRow). row.live) (λ m p. refl) [] (stays_begun es) s
 
   -- the caps of both nets are one table
-  caps_agree : table (row_count c) (round es) (recorded_cap (recorded_of past)) ≡ table (row_count c) (round es) (cap c es)
+  caps_agree : table (resource_count c) (round es) (recorded_cap (recorded_of past)) ≡ table (resource_count c) (round es) (cap c es)
   unfolding recorded_of recorded_cap
   caps_agree =
-      table_by_cells (row_count c) (round es) (cap c es) (table (row_count c) (round es) (recorded_cap (recorded_of past))) (round_first es) (length-cells (round es) (recorded_cap (recorded_of past)) (row_count c * round es))
-      (λ row r within first last. cell-table (row_count c) (round es) (recorded_cap (recorded_of past)) row r within first last ∙ cap_in_row c es row r (row_count c) within first last)
+      table_by_cells (resource_count c) (round es) (cap c es) (table (resource_count c) (round es) (recorded_cap (recorded_of past))) (round_first es) (length-cells (round es) (recorded_cap (recorded_of past)) (resource_count c * round es))
+      (λ row r within first last. cell-table (resource_count c) (round es) (recorded_cap (recorded_of past)) row r within first last ∙ cap_in_row c es row r (resource_count c) within first last)
 
   cap_agrees : (row r : ℕ) → new.cap row r ≡ old.cap row r
   unfolding recorded_of net_of_recording net_of instance_of_rows
   cap_agrees row r = ap (λ (caps : List ℕ). slice_index caps (cell (round es) row r)) caps_agree
 
   -- the recording's net is the history's, but for its largest price
-  pub same_net : new ≡ record old { most_price = MOST_NET_PRICE }
+  pub same_net : new ≡ record old { max_price = MAX_NET_PRICE }
   unfolding recorded_of net_of_recording net_of instance_of_rows
   same_net = λ i. record {
     stays = stays_agree i;
@@ -99,7 +99,7 @@ module _ (past : Past) where
     last = λ s. last_agrees s i;
     weight = λ s. weight_agrees s i;
     cap = λ row r. cap_agrees row r i;
-    most_price = MOST_NET_PRICE;
+    max_price = MAX_NET_PRICE;
   }
 
   -- and its stays were sent in the same rounds

@@ -6,7 +6,7 @@ use Rattle.std.proofs.lemmas.List.Elements.{All-nil, All-cons}
 use Rattle.std.proofs.lemmas.List.Sums.{AllPass-from_list_all}
 use Rattle.cam_types.specs.Topology.{Topology}
 use Rattle.cam_types.specs.Questions.{names_device}
-use Rattle.cam_types.specs.declared.maxima.TheConstants.{MOST_PRIORITY}
+use Rattle.cam_types.specs.declared.limits.TheConstants.{MAX_PRIORITY}
 use Rattle.event_rules.specs.Counts.{round, submission}
 use Rattle.event_rules.specs.Event.{is_some_and}
 use Rattle.event_rules.specs.Laws.{is_in_range, is_stay_of, is_stay_in_range}
@@ -37,12 +37,12 @@ unfolding unsent
 all_sent es e = find_none (is_unsent es) (stays_begun es) e
 
 -- a stay's priority is one
-priority_in_range : (c : Topology) (es : List Event) (p : Passage) → is_stay_in_range c es p ≡ true → p.priority ≤ MOST_PRIORITY
-priority_in_range c es p h = elim (submission es p.ccb) as (λ o. is_some_and (λ (s : Submission). is_in_range c s && is_stay_of p s) o ≡ true → p.priority ≤ MOST_PRIORITY) [
+priority_in_range : (c : Topology) (es : List Event) (p : Passage) → is_stay_in_range c es p ≡ true → p.priority ≤ MAX_PRIORITY
+priority_in_range c es p h = elim (submission es p.ccb) as (λ o. is_some_and (λ (s : Submission). is_in_range c s && is_stay_of p s) o ≡ true → p.priority ≤ MAX_PRIORITY) [
   | None ↦ λ g. absurd cc
   | Some s ↦ λ g.
       let parts = and_parts (is_in_range c s) (is_stay_of p s) g in
-      let listed = leb-true s.priority MOST_PRIORITY (and_parts (names_device c s.device) _ (and_parts (names_device c s.device && nat_le s.priority _) _ parts.0).0).1 in
+      let listed = leb-true s.priority MAX_PRIORITY (and_parts (names_device c s.device) _ (and_parts (names_device c s.device && nat_le s.priority _) _ parts.0).0).1 in
       let same : s.priority ≡ p.priority = eqb-true s.priority p.priority (and_parts (s.device == p.device) (s.priority == p.priority) parts.1).1 in
       omega arith
 ] h
@@ -50,7 +50,7 @@ priority_in_range c es p h = elim (submission es p.ccb) as (λ o. is_some_and (�
 -- a stay that was sent in its window, which lies within the rounds, to a device of the configuration
 pub record IsSentInWindow (c : Topology) (es : List Event) (p : Passage) : Type 0 where
   pub device : p.device < length c.devices
-  pub priority : p.priority ≤ MOST_PRIORITY
+  pub priority : p.priority ≤ MAX_PRIORITY
   pub first : 1 ≤ p.arrival
   pub arrived : p.arrival ≤ live_round es p
   pub within : live_round es p ≤ last_round es p
@@ -73,9 +73,9 @@ sent_in_windows c es legal complete = λ k d within.
     }
 
 -- no row was sent more in a round than its cap
-pub row_holds : (c : Topology) (es : List Event) → is_legal history_rules c es ≡ true → unsent es ≡ None → (row r : ℕ) → count_by (λ (p : Passage). carries c row p.device && (live_round es p == r)) (stays_begun es) ≤ cap c es row r
+pub resource_holds : (c : Topology) (es : List Event) → is_legal history_rules c es ≡ true → unsent es ≡ None → (row r : ℕ) → count_by (λ (p : Passage). carries c row p.device && (live_round es p == r)) (stays_begun es) ≤ cap c es row r
 unfolding sends_in
-row_holds c es legal complete row r =
+resource_holds c es legal complete row r =
     let sent = sent-complete (carries c row) es r (all_sent es complete) in
     let covered = (covered-legal (carries c row) history_rules c es legal).covered r in
     let capped : sends_in c es row r ≤ cap c es row r = sends_in-cap history_rules c es row r legal in

@@ -11,8 +11,8 @@ use Rattle.recording_file.specs.Recorded.{Recorded}
 use Rattle.recording_file.specs.Runs.{run_starts, run_last}
 use Rattle.recording_file.specs.declared.cap.Cap.{Cap}
 use Rattle.recording_file.specs.declared.request.Request.{Request}
-use Rattle.round_net.specs.Caps.{row_count, cap}
-use Rattle.round_net.specs.RecordedNets.{part_of_row}
+use Rattle.round_net.specs.Caps.{resource_count, cap}
+use Rattle.round_net.specs.RecordedNets.{part_of_resource}
 use Rattle.trace_recording.specs.Requests.{request_of}
 
 -- a configuration without its lanes
@@ -22,19 +22,19 @@ without_lanes c = record c { lanes = [] }
 -- the cap of a row in the run of rounds that begins in this one
 unfoldable pub run_cap : Topology → List Event → ℕ → ℕ → Cap
 run_cap c events row first = record {
-  part = part_of_row c row;
+  part = part_of_resource c row;
   first = first;
   last = run_last (cap c events row) (round events) first;
   most = cap c events row first;
 }
 
 -- the caps of a row: one for each longest run of rounds in which it takes one number of commands that isn't its openings
-unfoldable pub row_caps : Topology → List Event → ℕ → List Cap
-row_caps c events row = map (run_cap c events row) (run_starts (cap c events row) (openings c (part_of_row c row)) (round events))
+unfoldable pub resource_caps : Topology → List Event → ℕ → List Cap
+resource_caps c events row = map (run_cap c events row) (run_starts (cap c events row) (openings c (part_of_resource c row)) (round events))
 
 -- the caps of that many rows
 unfoldable pub caps_of : Topology → List Event → ℕ → List Cap
-caps_of c events rows = flat_map (row_caps c events) (range_with_len 0 rows)
+caps_of c events rows = flat_map (resource_caps c events) (range_with_len 0 rows)
 
 -- a recording of a history's rounds, with these caps and requests
 abbrev pub recorded_with : Past → List Cap → List Request → Recorded
@@ -47,7 +47,7 @@ recorded_with past caps requests = record {
   requests = requests;
 }
 
--- the recording of a history: the caps of all rows, and a request for each stay, in order of birth
+-- the recording of a history: the caps of all rows, and a request for each stay, in creation order
 unfoldable pub recorded_of : Past → Recorded
 recorded_of past =
-    recorded_with past (caps_of past.config past.events (row_count past.config)) (map (request_of past.events) (stays_begun past.events))
+    recorded_with past (caps_of past.config past.events (resource_count past.config)) (map (request_of past.events) (stays_begun past.events))

@@ -7,7 +7,7 @@ pub use recording::recording_of;
 mod bare_config;
 mod parts;
 mod recording;
-mod row_caps;
+mod resource_caps;
 mod runs;
 mod stay_requests;
 mod submissions;

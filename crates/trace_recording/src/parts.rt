@@ -3,17 +3,17 @@
 ghost use Rattle.std.specs.Prelude.{◌≡◌, ◌<◌};
 ghost use Rattle.cam_types.specs.Questions.{device_openings};
 ghost use Rattle.recording_file.specs.Caps.{openings};
-ghost use Rattle.round_net.specs.Caps.{row_count};
-ghost use Rattle.round_net.specs.RecordedNets.{part_of_row};
+ghost use Rattle.round_net.specs.Caps.{resource_count};
+ghost use Rattle.round_net.specs.RecordedNets.{part_of_resource};
 
 use cam_types::Config;
 use recording_file::{Part, PartKind};
 
 /// The device, adapter or link that has the row.
 #[tactic(auto, using(cam_types::proofs::ConfigLemmas::few_devices, cam_types::proofs::ConfigLemmas::few_adapters, cam_types::proofs::ConfigLemmas::few_links))]
-pub fn part_of_row(config: &Config, row: u32) -> Part
-    requires { row < row_count config.now }
-    ensures { result ≡ part_of_row config.now row }
+pub fn part_of_resource(config: &Config, row: u32) -> Part
+    requires { row < resource_count config.now }
+    ensures { result ≡ part_of_resource config.now row }
 {
     let devices = config.devices().len() as u32;
     let adapters = config.adapters().len() as u32;

@@ -3,9 +3,9 @@
 ghost use Rattle.std.specs.Prelude.{◌≡◌, ◌<◌, ◌≤◌};
 ghost use Rattle.event_rules.specs.Counts.{round};
 ghost use Rattle.recording_file.specs.Runs.{begins_run, run_last};
-ghost use Rattle.round_net.specs.Caps.{row_count, cap};
+ghost use Rattle.round_net.specs.Caps.{resource_count, cap};
 ghost use Rattle.round_net.specs.Nets.{net_of};
-ghost use Rattle.round_net.specs.RecordedNets.{part_of_row};
+ghost use Rattle.round_net.specs.RecordedNets.{part_of_resource};
 ghost use Rattle.trace_recording.specs.Recorded.{run_cap};
 
 use cam_event::History;
@@ -15,7 +15,7 @@ use round_net::Net;
 // How many commands the row takes in the round, by the history's net.
 fn cap(history: &History, net: &Net, row: u32, at: u32) -> u32
     requires net { net.now ≡ net_of history.now.config history.now.events }
-    requires row { row < row_count history.now.config }
+    requires row { row < resource_count history.now.config }
     requires first { 1 ≤ at }
     requires last { at ≤ round history.now.events }
     ensures same { result ≡ cap history.now.config history.now.events row at }
@@ -28,7 +28,7 @@ fn cap(history: &History, net: &Net, row: u32, at: u32) -> u32
 #[tactic(auto, unfolding(recording_file::specs::Runs::begins_run))]
 pub fn begins_run(history: &History, net: &Net, row: u32, usual: u32, at: u32) -> bool
     requires net { net.now ≡ net_of history.now.config history.now.events }
-    requires row { row < row_count history.now.config }
+    requires row { row < resource_count history.now.config }
     requires first { 1 ≤ at }
     requires last { at ≤ round history.now.events }
     ensures { result ≡ begins_run (cap history.now.config history.now.events row) usual at }
@@ -40,7 +40,7 @@ pub fn begins_run(history: &History, net: &Net, row: u32, usual: u32, at: u32) -
 // The last round of the run that begins in this one.
 fn run_last(history: &History, net: &Net, row: u32, first: u32) -> u32
     requires net { net.now ≡ net_of history.now.config history.now.events }
-    requires row { row < row_count history.now.config }
+    requires row { row < resource_count history.now.config }
     requires first { 1 ≤ first }
     requires last { first ≤ round history.now.events }
     ensures { result ≡ run_last (cap history.now.config history.now.events row) (round history.now.events) first }
@@ -59,8 +59,8 @@ fn run_last(history: &History, net: &Net, row: u32, first: u32) -> u32
 #[tactic(auto, unfolding(crate::specs::Recorded::run_cap))]
 pub fn run_cap(history: &History, net: &Net, part: Part, row: u32, first: u32) -> Cap
     requires net { net.now ≡ net_of history.now.config history.now.events }
-    requires part { part ≡ part_of_row history.now.config row }
-    requires row { row < row_count history.now.config }
+    requires part { part ≡ part_of_resource history.now.config row }
+    requires row { row < resource_count history.now.config }
     requires first { 1 ≤ first }
     requires last { first ≤ round history.now.events }
     ensures same { result ≡ run_cap history.now.config history.now.events row first }

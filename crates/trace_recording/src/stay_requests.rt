@@ -3,8 +3,8 @@
 ghost use Rattle.std.specs.Prelude.{◌≡◌, ◌∷◌, ◌++◌, [], ◌<◌, None, OnOk, length};
 ghost use Rattle.event_rules.specs.Stays.{unsent};
 ghost use Rattle.recording_file.specs.Recorded.{request_cause};
-ghost use Rattle.recording_file.specs.declared.maxima.TheConstants.{MOST_REQUESTS};
-ghost use Rattle.round_net.specs.Caps.{row_count};
+ghost use Rattle.recording_file.specs.declared.limits.TheConstants.{MAX_REQUESTS};
+ghost use Rattle.round_net.specs.Caps.{resource_count};
 ghost use Rattle.trace_recording.specs.Recorded.{caps_of, recorded_with, recorded_of};
 ghost use Rattle.trace_recording.specs.Requests.{driver_of, last_by, unless_end, request_by};
 
@@ -15,14 +15,14 @@ use recording_file::{Recorder, Request, RequestError};
 use std::alloc::{AllocError, Global};
 use xpt_core::StayRecord;
 
-/// Adds a request for each stay, in order of birth. It fails only if there is no memory.
+/// Adds a request for each stay, in creation order. It fails only if there is no memory.
 pub fn add_requests(
     alloc: Global,
     recorder: &mut Recorder,
     history: &History,
 ) -> Result<(), AllocError>
     requires complete { unsent history.now.events ≡ None }
-    requires none { recorder.old ≡ recorded_with history.now (caps_of history.now.config history.now.events (row_count history.now.config)) [] }
+    requires none { recorder.old ≡ recorded_with history.now (caps_of history.now.config history.now.events (resource_count history.now.config)) [] }
     ensures { OnOk result (recorder.new ≡ recorded_of history.now) }
 {
     let submitted = submissions(alloc, history.events())?;
@@ -35,7 +35,7 @@ pub fn add_requests(
 
 // Adds a request that no cause speaks against.
 fn add_request(alloc: Global, recorder: &mut Recorder, request: Request) -> Result<(), AllocError>
-    requires few { length recorder.old.requests < MOST_REQUESTS }
+    requires few { length recorder.old.requests < MAX_REQUESTS }
     requires fits { request_cause recorder.old.rounds recorder.old.config recorder.old.caps (recorder.old.requests, request) ≡ None }
     ensures { OnOk result (recorder.new ≡ record recorder.old { requests = recorder.old.requests ++ request ∷ [] }) }
 {

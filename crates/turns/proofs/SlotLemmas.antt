@@ -3,7 +3,7 @@ use Rattle.std.proofs.Common.{◌≡◌, ◌≢◌, ℕ, ◌<◌, ◌≤◌, Lis
 use Rattle.std.proofs.lemmas.Bool.{cases_eq, cases_lt}
 use Rattle.turns.specs.Slots.{IsFree, AreGiven, Skips}
 
--- so far on the way to a free slot
+-- so far in the search for a free slot
 pub record IsSeeking (holders : List ℕ) (turn : ℕ) (next : List ℕ) (from slot : ℕ) : Type 0 where
   pub free : ℕ
   pub before : slot ≤ free

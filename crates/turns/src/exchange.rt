@@ -1,4 +1,4 @@
-//! Stays that change their rounds in pairs until all are in turn.
+//! Pairwise interchange: pairs of stays exchange their rounds until all are in turn.
 
 ghost use Rattle.std.specs.Prelude.{◌≡◌, ℕ, ◌+◌, ◌<◌, ◌≤◌, true, false, length, slice_index};
 ghost use Rattle.std.specs.List.Sorted.{IsPermutation};

@@ -1,4 +1,4 @@
-//! The first slot from one on that is free.
+//! The first free slot from one on, by links over taken slots that are shortened as they are followed (union and find).
 
 ghost use Rattle.std.specs.Prelude.{◌≡◌, ℕ, ◌<◌, ◌≤◌, length};
 ghost use Rattle.turns.specs.Slots.{IsFree, AreGiven, Skips};

@@ -1,4 +1,4 @@
-//! Each stay gets the first round that is left and that it has arrived by, in the order of their turns.
+//! First fit: in the order of their turns each stay gets the first free round that isn't before its arrival.
 
 ghost use Rattle.std.specs.Prelude.{◌≡◌, ℕ, ◌+◌, ◌<◌, ◌≤◌, length, slice_index, IfOk};
 ghost use Rattle.std.specs.List.Sorted.{IsPermutation};

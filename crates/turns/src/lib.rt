@@ -1,4 +1,5 @@
-//! Rounds for stays of one kind, so that none waits while a later one is sent in a round that it could have had.
+//! First come, first served among stays of one device and one weight, whose rounds can be exchanged at no cost (an interchange
+//! argument, as of Smith 1956): no stay waits while a later one is sent in a round that it could have had.
 #![tactic(auto)]
 
 pub use exchange::FEW_STAYS;

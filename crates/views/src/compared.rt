@@ -4,7 +4,7 @@ use comparison::{Differences, PairBy, PairedRow, has_names, has_namesakes, kind_
 use round_net::Net;
 use std::alloc::{AllocError, Global};
 use wait_causes::{Explanation, Grouping};
-use wording::Labels;
+use wording::Captions;
 
 /// An input before a change, or after it: what it is called, its net, and its explanation beside a best schedule.
 #[derive(Clone, Copy)]
@@ -17,8 +17,8 @@ pub struct Compared<'a> {
 
 impl<'a> Compared<'a> {
     /// What its parts are called.
-    pub(crate) fn labels(self) -> Labels<'a> {
-        Labels::of(self.net.config(), self.explanation)
+    pub(crate) fn captions(self) -> Captions<'a> {
+        Captions::of(self.net.config(), self.explanation)
     }
 }
 
@@ -32,7 +32,7 @@ pub(crate) const GROUPINGS: [(Grouping, &str); 4] = [
 
 /// What the parts of a pair are called: by number and name, or by the name alone if their numbers differ; what only one of the
 /// inputs has, as it is called there.
-pub(crate) fn label_of(
+pub(crate) fn caption_of(
     alloc: Global,
     before: Compared<'_>,
     after: Compared<'_>,
@@ -41,10 +41,10 @@ pub(crate) fn label_of(
 ) -> Result<String, AllocError> {
     match (&row.before, &row.after) {
         (Some(was), Some(is)) if was.number != is.number => {
-            before.labels().by_name(alloc, by, was.number)
+            before.captions().by_name(alloc, by, was.number)
         }
-        (Some(was), _) => before.labels().label(alloc, by, was.number),
-        (None, Some(is)) => after.labels().label(alloc, by, is.number),
+        (Some(was), _) => before.captions().caption(alloc, by, was.number),
+        (None, Some(is)) => after.captions().caption(alloc, by, is.number),
         (None, None) => Ok(String::new(alloc)),
     }
 }

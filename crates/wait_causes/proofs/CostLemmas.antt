@@ -6,19 +6,19 @@ use Rattle.std.proofs.lemmas.Bool.Decides.{nat_tests}
 use Rattle.std.proofs.lemmas.List.Sums.{sum_by-cons, sum_by-append}
 use Rattle.round_net.proofs.CountLemmas.{count_by-cons, count_by-append, count_by-filter}
 use Rattle.wait_causes.specs.Freezes.{begins, behind, rounds_between, cause_of, waits_for, stay_cost, cost_in, freeze_from, Freeze}
-use Rattle.wait_causes.specs.Words.{Cause, FreezeKind}
+use Rattle.wait_causes.specs.Words.{WaitCause, FreezeKind}
 use Rattle.wait_causes.specs.Stays.{ExplainedStay}
 use Rattle.wait_causes.proofs.FreezeLemmas.{between-cons, between-none}
 
 -- no rounds cost nothing, and rounds after others cost more
-cost-none : (causes : ℕ → ℕ → Cause) (cause : Cause) (stays : List ExplainedStay) → cost_in causes cause [] stays ≡ 0
+cost-none : (causes : ℕ → ℕ → WaitCause) (cause : WaitCause) (stays : List ExplainedStay) → cost_in causes cause [] stays ≡ 0
 unfolding cost_in
 cost-none causes cause [] = refl
 cost-none causes cause (s ∷ ss) =
     let none : s.weight * 0 ≡ 0 = omega arith in
     omega (arith, sum_by-cons (stay_cost causes cause []) s ss, cost-none causes cause ss, none)
 
-cost-append : (causes : ℕ → ℕ → Cause) (cause : Cause) (xs ys : List ℕ) (stays : List ExplainedStay) → cost_in causes cause (xs ++ ys) stays ≡ cost_in causes cause xs stays + cost_in causes cause ys stays
+cost-append : (causes : ℕ → ℕ → WaitCause) (cause : WaitCause) (xs ys : List ℕ) (stays : List ExplainedStay) → cost_in causes cause (xs ++ ys) stays ≡ cost_in causes cause xs stays + cost_in causes cause ys stays
 unfolding cost_in
 cost-append causes cause xs ys [] = refl
 cost-append causes cause xs ys (s ∷ ss) =
@@ -31,7 +31,7 @@ abbrev pub run : (ℕ → Bool) → ℕ → ℕ → List ℕ
 run frozen last r = rounds_between r (behind frozen last r)
 
 -- the freezes cost what their rounds do
-pub runs_cost : (kind : FreezeKind) (n : ℕ) (frozen : ℕ → Bool) (last : ℕ) (causes : ℕ → ℕ → Cause) (there : List ExplainedStay) (starts : List ℕ) →
+pub runs_cost : (kind : FreezeKind) (n : ℕ) (frozen : ℕ → Bool) (last : ℕ) (causes : ℕ → ℕ → WaitCause) (there : List ExplainedStay) (starts : List ℕ) →
     sum_by (λ (f : Freeze). f.cost) (map (freeze_from kind n frozen last causes there) starts) ≡ cost_in causes (cause_of kind) (flat_map (run frozen last) starts) there
 unfolding freeze_from
 runs_cost kind n frozen last causes there [] = sym (cost-none causes (cause_of kind) there)

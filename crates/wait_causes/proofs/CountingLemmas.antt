@@ -7,7 +7,7 @@ use Rattle.std.proofs.lemmas.List.FromFn.{map-range_with_len_more, get_or-map-ra
 use Rattle.round_net.specs.Rows.{cell}
 use Rattle.round_net.proofs.CellLemmas.{cell-injective, cell_within}
 use Rattle.wait_causes.specs.Behind.{behind_in, behind_by, no_behind, FullBehind}
-use Rattle.wait_causes.specs.Counting.{MOST_WEIGHT, causes_before, behind_before, key_of, list_of, AreBehindTotals, IsFilled}
+use Rattle.wait_causes.specs.Counting.{MAX_WEIGHT, causes_before, behind_before, key_of, list_of, AreBehindTotals, IsFilled}
 use Rattle.wait_causes.specs.Origins.{Origin, instance_in, live_in, cause_of}
 use Rattle.wait_causes.specs.Stays.{rounds_by, no_rounds, ExplainedStay}
 use Rattle.wait_causes.specs.declared.explained_stay.CauseRounds.{CauseRounds}
@@ -28,10 +28,10 @@ list_at f n k lists d are lt =
     sym (items_at lists k d) ∙ ap (λ xs. get_or xs k d.items) are ∙ get_or-map-range_with_len f 0 n k k d.items lt (zero-add k)
 
 -- a key within the keys
-pub key_in : (devices d w : ℕ) → d < devices → w ≤ MOST_WEIGHT → key_of d w < key_of devices 0
+pub key_in : (devices d w : ℕ) → d < devices → w ≤ MAX_WEIGHT → key_of d w < key_of devices 0
 key_in devices d w lt light =
-    let h = cell_within (MOST_WEIGHT + 1) devices d (w + 1) lt (omega arith) (omega arith) in
-    let same : cell (MOST_WEIGHT + 1) d (w + 1) ≡ key_of d w = omega arith in
+    let h = cell_within (MAX_WEIGHT + 1) devices d (w + 1) lt (omega arith) (omega arith) in
+    let same : cell (MAX_WEIGHT + 1) d (w + 1) ≡ key_of d w = omega arith in
     omega (arith, h, same)
 
 -- a list within, whatever stands for one that isn't there
@@ -41,7 +41,7 @@ inside (x ∷ xs) zero d lt = refl
 inside (x ∷ xs) (suc k) d lt = inside xs k d (omega arith)
 
 -- the list that is read at a key
-pub filled_at : (o : Origin) (d w key : ℕ) (totals : List (Vec FullBehind Global)) (v : Vec FullBehind Global) → AreBehindTotals o totals → d < (instance_in o).devices → w ≤ MOST_WEIGHT → key ≡ key_of d w → IsFilled o d w totals → v ≡ get_or totals key v → v.items ≡ behind_before o d w
+pub filled_at : (o : Origin) (d w key : ℕ) (totals : List (Vec FullBehind Global)) (v : Vec FullBehind Global) → AreBehindTotals o totals → d < (instance_in o).devices → w ≤ MAX_WEIGHT → key ≡ key_of d w → IsFilled o d w totals → v ≡ get_or totals key v → v.items ≡ behind_before o d w
 filled_at o d w key totals v are lt light at filled read =
     let within : key_of d w < length totals = omega (arith, are.all, key_in (instance_in o).devices d w lt light) in
     ap (λ (x : Vec FullBehind Global). x.items) (read ∙ ap (λ k. get_or totals k v) at) ∙ sym (inside totals (key_of d w) v within) ∙ filled
@@ -66,11 +66,11 @@ empty_totals o totals n devices size same are = record {
 }
 
 -- two keys are one where device and weight are
-key-injective : (d w e v : ℕ) → w ≤ MOST_WEIGHT → v ≤ MOST_WEIGHT → key_of d w ≡ key_of e v → (d ≡ e) × (w ≡ v)
+key-injective : (d w e v : ℕ) → w ≤ MAX_WEIGHT → v ≤ MAX_WEIGHT → key_of d w ≡ key_of e v → (d ≡ e) × (w ≡ v)
 key-injective d w e v light light' same =
-    let a : cell (MOST_WEIGHT + 1) d (w + 1) ≡ key_of d w = omega arith in
-    let b : cell (MOST_WEIGHT + 1) e (v + 1) ≡ key_of e v = omega arith in
-    let both = cell-injective (MOST_WEIGHT + 1) d (w + 1) e (v + 1) (omega arith) (omega arith) (omega arith) (omega arith) (a ∙ same ∙ sym b) in
+    let a : cell (MAX_WEIGHT + 1) d (w + 1) ≡ key_of d w = omega arith in
+    let b : cell (MAX_WEIGHT + 1) e (v + 1) ≡ key_of e v = omega arith in
+    let both = cell-injective (MAX_WEIGHT + 1) d (w + 1) e (v + 1) (omega arith) (omega arith) (omega arith) (omega arith) (a ∙ same ∙ sym b) in
     (both.0, omega (arith, both.1))
 
 items_set : (xs : List (Vec FullBehind Global)) (k : ℕ) (v : Vec FullBehind Global) → map (λ (v : Vec FullBehind Global). v.items) (set xs k v) ≡ set (map (λ (v : Vec FullBehind Global). v.items) xs) k v.items
@@ -78,14 +78,14 @@ items_set [] k v = refl
 items_set (x ∷ xs) zero v = refl
 items_set (x ∷ xs) (suc k) v = ap (λ ys. x.items ∷ ys) (items_set xs k v)
 
-pub set_here : (o : Origin) (totals : List (Vec FullBehind Global)) (d w : ℕ) (v : Vec FullBehind Global) → AreBehindTotals o totals → d < (instance_in o).devices → w ≤ MOST_WEIGHT → v.items ≡ behind_before o d w →
+pub set_here : (o : Origin) (totals : List (Vec FullBehind Global)) (d w : ℕ) (v : Vec FullBehind Global) → AreBehindTotals o totals → d < (instance_in o).devices → w ≤ MAX_WEIGHT → v.items ≡ behind_before o d w →
     IsFilled o d w (set totals (key_of d w) v)
 set_here o totals d w v are lt light is =
     let within : key_of d w < length (map (λ (v : Vec FullBehind Global). v.items) totals) = omega (arith, length-map totals (λ (v : Vec FullBehind Global). v.items), are.all, key_in (instance_in o).devices d w lt light) in
     ap (λ xs. get_or xs (key_of d w) []) (items_set totals (key_of d w) v)
     ∙ get_or-set_same (map (λ (v : Vec FullBehind Global). v.items) totals) (key_of d w) v.items [] within ∙ is
 
-pub set_kept : (o : Origin) (totals : List (Vec FullBehind Global)) (d w : ℕ) (v : Vec FullBehind Global) → AreBehindTotals o totals → d < (instance_in o).devices → w ≤ MOST_WEIGHT → v.items ≡ behind_before o d w →
+pub set_kept : (o : Origin) (totals : List (Vec FullBehind Global)) (d w : ℕ) (v : Vec FullBehind Global) → AreBehindTotals o totals → d < (instance_in o).devices → w ≤ MAX_WEIGHT → v.items ≡ behind_before o d w →
     AreBehindTotals o (set totals (key_of d w) v)
 set_kept o totals d w v are lt light is = record {
   all = length-set totals (key_of d w) v ∙ are.all;
@@ -128,6 +128,6 @@ pub rows_more : {X Y : Type 0} (f : X → Y) (xs : List X) (i : ℕ) (old new : 
 rows_more f xs i old new y d was is here lt =
     is ∙ rw (was, here) (sym (ap (map f) (take_more xs i d lt) ∙ map-append f (take i xs) (get_or xs i d ∷ [])))
 
--- a stay of which nothing is said
+-- any stay, as a default
 abbrev pub blank : ExplainedStay
 blank = record { ccb = 0; attempt = 0; driver = 0; device = 0; adapter = 0; priority = 0; level = 0; weight = 0; arrival = 0; live = 0; best = 0; rounds = no_rounds; behind = no_behind }

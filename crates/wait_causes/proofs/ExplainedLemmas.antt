@@ -4,8 +4,8 @@ use Rattle.std.proofs.lemmas.List.{length-map}
 use Rattle.std.proofs.lemmas.List.Elements.{All-cons}
 use Rattle.std.proofs.lemmas.List.Sums.{sum_by-cons}
 use Rattle.std.proofs.lemmas.Slice.Zip.{seconds-zip}
-use Rattle.cam_types.specs.Lists.{moments}
-use Rattle.cam_types.specs.declared.maxima.TheConstants.{MOST_WEIGHT}
+use Rattle.cam_types.specs.Lists.{prefixed}
+use Rattle.cam_types.specs.declared.limits.TheConstants.{MAX_WEIGHT}
 use Rattle.event_rules.specs.Past.{Past}
 use Rattle.recording_file.specs.Recorded.{Recorded}
 use Rattle.recording_file.specs.declared.request.Request.{Request}
@@ -21,7 +21,7 @@ use Rattle.round_net.proofs.SumLemmas.{sum_below-shift}
 use Rattle.event_rules.proofs.LimitLemmas.{stays_most}
 use Rattle.wait_causes.specs.Freezes.{freezes_found, freezes_in}
 use Rattle.wait_causes.proofs.FrozenLemmas.{all_found}
-use Rattle.wait_causes.specs.Words.{history_rules, is_legal, MOST_STAYS, Topology, weight, stays_begun, is_unsent, Event, Passage, record_of, records, stay_row, net_of, NetRows, instance_of_rows, live_of_rows, IsSound, MOST_NET_STAYS}
+use Rattle.wait_causes.specs.Words.{history_rules, is_legal, MAX_STAYS, Topology, weight, stays_begun, is_unsent, Event, Passage, record_of, records, stay_row, net_of, NetRows, instance_of_rows, live_of_rows, IsSound, MAX_NET_STAYS}
 use Rattle.wait_causes.specs.Counting.{IsWithin, AreWithin}
 use Rattle.wait_causes.specs.Origins.{Origin, instance_in, live_in}
 use Rattle.wait_causes.specs.Parts.{measure, Live, AreLight}
@@ -33,13 +33,13 @@ use Rattle.wait_causes.specs.Sound.{IsExplained}
 use Rattle.round_net.proofs.RecordedLemmas.{recorded_counts}
 use Rattle.wait_causes.proofs.NetLemmas.{all_stays}
 use Rattle.wait_causes.proofs.PartLemmas.{part_is_live}
-use Rattle.wait_causes.proofs.RequestLemmas.{moments_length}
+use Rattle.wait_causes.proofs.RequestLemmas.{prefixed_length}
 use Rattle.wait_causes.proofs.StayLemmas.{stays_counted, best_kept}
 
 -- a row of a net is within it
-pub record IsRowWithin (net : Instance) (row : StayRow) : Type 0 where
+pub record IsResourceWithin (net : Instance) (row : StayRow) : Type 0 where
   pub device : row.device < net.devices
-  pub weight : row.weight ≤ MOST_WEIGHT
+  pub weight : row.weight ≤ MAX_WEIGHT
   pub first : 1 ≤ row.arrival
   pub last : row.live ≤ net.rounds
 
@@ -52,7 +52,7 @@ stays_count : (n : NetRows) → (instance_of_rows n).stays ≡ length n.stays
 unfolding instance_of_rows
 stays_count n = refl
 
-pub rows_within : (n : NetRows) → IsSound (instance_of_rows n) (live_of_rows n) → All (IsRowWithin (instance_of_rows n)) n.stays
+pub rows_within : (n : NetRows) → IsSound (instance_of_rows n) (live_of_rows n) → All (IsResourceWithin (instance_of_rows n)) n.stays
 rows_within n sound k d lt =
     let at = row_there n.stays k d lt in
     let row : StayRow = get_or n.stays k d in
@@ -68,12 +68,12 @@ rows_within n sound k d lt =
     }
 
 -- the stays of a history, uncounted
-trace_rows : (c : Topology) (es : List Event) (net : Instance) (ps : List Passage) (best : List ℕ) → All (IsRowWithin net) (map (stay_row c es) ps) → All (IsWithin net) (map (row_by c es) (zip (map (record_of es) ps) best))
+trace_rows : (c : Topology) (es : List Event) (net : Instance) (ps : List Passage) (best : List ℕ) → All (IsResourceWithin net) (map (stay_row c es) ps) → All (IsWithin net) (map (row_by c es) (zip (map (record_of es) ps) best))
 unfolding row_by stay_row
 trace_rows c es net [] best all = λ k d lt. absurd (omega arith)
 trace_rows c es net (p ∷ ps) [] all = λ k d lt. absurd (omega arith)
 trace_rows c es net (p ∷ ps) (b ∷ bs) all =
-    let h : IsRowWithin net (stay_row c es p) = all 0 (stay_row c es p) (omega arith) in
+    let h : IsResourceWithin net (stay_row c es p) = all 0 (stay_row c es p) (omega arith) in
     All-cons (IsWithin net) (row_by c es (record_of es p, b)) (map (row_by c es) (zip (map (record_of es) ps) bs))
     (record { device = h.device; weight = h.weight; first = h.first; last = rw (live_cases es p (is_unsent es p) refl) h.last })
     (trace_rows c es net ps bs (λ k d lt. all (suc k) d (omega arith)))
@@ -83,19 +83,19 @@ unfolding records net_of
 trace_within past best sound = trace_rows past.config past.events (instance_in (origin.Trace past)) (stays_begun past.events) best (rows_within (net_of past.config past.events) sound)
 
 -- the requests of a recording, uncounted
-recording_rows : (c : Topology) (rounds : ℕ) (net : Instance) (ms : List (List Request × Request)) (best : List ℕ) → All (IsRowWithin net) (map (request_row c rounds) ms) → All (IsWithin net) (map (request_by c) (zip ms best))
+recording_rows : (c : Topology) (rounds : ℕ) (net : Instance) (ms : List (List Request × Request)) (best : List ℕ) → All (IsResourceWithin net) (map (request_row c rounds) ms) → All (IsWithin net) (map (request_by c) (zip ms best))
 unfolding request_row request_by
 recording_rows c rounds net [] best all = λ k d lt. absurd (omega arith)
 recording_rows c rounds net (m ∷ ms) [] all = λ k d lt. absurd (omega arith)
 recording_rows c rounds net (m ∷ ms) (b ∷ bs) all =
-    let h : IsRowWithin net (request_row c rounds m) = all 0 (request_row c rounds m) (omega arith) in
+    let h : IsResourceWithin net (request_row c rounds m) = all 0 (request_row c rounds m) (omega arith) in
     All-cons (IsWithin net) (request_by c (m, b)) (map (request_by c) (zip ms bs))
     (record { device = h.device; weight = h.weight; first = h.first; last = h.last })
     (recording_rows c rounds net ms bs (λ k d lt. all (suc k) d (omega arith)))
 
-pub recording_within : (r : Recorded) (best : List ℕ) → IsSound (instance_in (origin.Recording r)) (live_in (origin.Recording r)) → AreWithin (instance_in (origin.Recording r)) (map (request_by r.config) (zip (moments r.requests) best))
+pub recording_within : (r : Recorded) (best : List ℕ) → IsSound (instance_in (origin.Recording r)) (live_in (origin.Recording r)) → AreWithin (instance_in (origin.Recording r)) (map (request_by r.config) (zip (prefixed r.requests) best))
 unfolding net_of_recording
-recording_within r best sound = recording_rows r.config r.rounds (instance_in (origin.Recording r)) (moments r.requests) best (rows_within (net_of_recording r) sound)
+recording_within r best sound = recording_rows r.config r.rounds (instance_in (origin.Recording r)) (prefixed r.requests) best (rows_within (net_of_recording r) sound)
 
 -- a request, counted, is the recording's
 requests_counted : (r : Recorded) (ms : List (List Request × Request)) (best : List ℕ) →
@@ -119,7 +119,7 @@ explained_within (origin.Trace past) best sound =
     subst (All (IsWithin (instance_in (origin.Trace past)))) (stays_counted past.config past.events best)
     (all_counted (origin.Trace past) (instance_in (origin.Trace past)) _ (trace_within past best sound))
 explained_within (origin.Recording r) best sound =
-    subst (All (IsWithin (instance_in (origin.Recording r)))) (requests_counted r (moments r.requests) best)
+    subst (All (IsWithin (instance_in (origin.Recording r)))) (requests_counted r (prefixed r.requests) best)
     (all_counted (origin.Recording r) (instance_in (origin.Recording r)) _ (recording_within r best sound))
 
 light_each : (net : Instance) (xs : List ExplainedStay) → All (IsWithin net) xs → AreLight xs
@@ -145,21 +145,21 @@ unfolding explained_request
 request_bests r [] = refl
 request_bests r (m ∷ zs) = ap (λ ns. m.1 ∷ ns) (request_bests r zs)
 
-pub recording_found : (r : Recorded) (best : List ℕ) (listed stays : List ExplainedStay) → listed ≡ map (request_by r.config) (zip (moments r.requests) best) → stays ≡ map (counted (origin.Recording r)) listed → length best ≡ length r.requests →
+pub recording_found : (r : Recorded) (best : List ℕ) (listed stays : List ExplainedStay) → listed ≡ map (request_by r.config) (zip (prefixed r.requests) best) → stays ≡ map (counted (origin.Recording r)) listed → length best ≡ length r.requests →
     IsFoundOf (origin.Recording r) best stays
 unfolding explained_requests
 recording_found r best listed stays is count all =
-    let are : stays ≡ explained_requests r best = count ∙ ap (map (counted (origin.Recording r))) is ∙ requests_counted r (moments r.requests) best in
+    let are : stays ≡ explained_requests r best = count ∙ ap (map (counted (origin.Recording r))) is ∙ requests_counted r (prefixed r.requests) best in
     record {
       are = are;
-      best_is = ap (map (λ (s : ExplainedStay). s.best)) are ∙ request_bests r (zip (moments r.requests) best) ∙ seconds-zip (moments r.requests) best (omega (arith, all, moments_length [] r.requests));
+      best_is = ap (map (λ (s : ExplainedStay). s.best)) are ∙ request_bests r (zip (prefixed r.requests) best) ∙ seconds-zip (prefixed r.requests) best (omega (arith, all, prefixed_length [] r.requests));
     }
 
 -- there are as many as in the net
 pub stays_length : (o : Origin) (stays : List ExplainedStay) → IsExplained o (map (λ (s : ExplainedStay). s.best) stays) stays → length stays ≡ (instance_in o).stays
 stays_length o stays x = sym (length-map stays (λ (s : ExplainedStay). s.best)) ∙ x.all
 
-pub few_explained : (o : Origin) (stays : List ExplainedStay) → IsExplained o (map (λ (s : ExplainedStay). s.best) stays) stays → length stays ≤ MOST_NET_STAYS
+pub few_explained : (o : Origin) (stays : List ExplainedStay) → IsExplained o (map (λ (s : ExplainedStay). s.best) stays) stays → length stays ≤ MAX_NET_STAYS
 few_explained o stays x = let few = x.sound.few_stays in omega (arith, few, stays_length o stays x)
 
 pub light_explained : (o : Origin) (stays : List ExplainedStay) → IsExplained o (map (λ (s : ExplainedStay). s.best) stays) stays → AreLight stays
@@ -186,10 +186,10 @@ requests_cost r (m ∷ ms) (b ∷ bs) same =
 pub recording_cost : (r : Recorded) (best : List ℕ) → length best ≡ length r.requests → sum_by (measure Live) (explained_requests r best) ≡ cost (instance_in (origin.Recording r)) (live_in (origin.Recording r))
 unfolding explained_requests net_of_recording instance_of_rows live_of_rows
 recording_cost r best all =
-    requests_cost r (moments r.requests) best (omega (arith, all, moments_length [] r.requests))
-    ∙ ap (λ n. sum_below n (λ s. of_stay (λ (row : StayRow). row.weight) (map (request_row r.config r.rounds) (moments r.requests)) s
-    * (of_stay (λ (row : StayRow). row.live) (map (request_row r.config r.rounds) (moments r.requests)) s - of_stay (λ (row : StayRow). row.arrival) (map (request_row r.config r.rounds) (moments r.requests)) s)))
-    (sym (length-map (moments r.requests) (request_row r.config r.rounds)))
+    requests_cost r (prefixed r.requests) best (omega (arith, all, prefixed_length [] r.requests))
+    ∙ ap (λ n. sum_below n (λ s. of_stay (λ (row : StayRow). row.weight) (map (request_row r.config r.rounds) (prefixed r.requests)) s
+    * (of_stay (λ (row : StayRow). row.live) (map (request_row r.config r.rounds) (prefixed r.requests)) s - of_stay (λ (row : StayRow). row.arrival) (map (request_row r.config r.rounds) (prefixed r.requests)) s)))
+    (sym (length-map (prefixed r.requests) (request_row r.config r.rounds)))
 
 -- how many stays there are
 pub trace_stays : (past : Past) → (instance_in (origin.Trace past)).stays ≡ length (stays_begun past.events)
@@ -213,14 +213,14 @@ trace_explained past best listed stays legal sound is count all =
     rw found.best_is (record { legal = legal; sound = sound; all = all; rows = found.are })
 
 pub recording_explained : (r : Recorded) (best : List ℕ) (listed stays : List ExplainedStay) → IsSound (instance_in (origin.Recording r)) (live_in (origin.Recording r)) →
-    listed ≡ map (request_by r.config) (zip (moments r.requests) best) → stays ≡ map (counted (origin.Recording r)) listed → length best ≡ (instance_in (origin.Recording r)).stays →
+    listed ≡ map (request_by r.config) (zip (prefixed r.requests) best) → stays ≡ map (counted (origin.Recording r)) listed → length best ≡ (instance_in (origin.Recording r)).stays →
     IsExplained (origin.Recording r) (map (λ (s : ExplainedStay). s.best) stays) stays
 recording_explained r best listed stays sound is count all =
     let found = recording_found r best listed stays is count (all ∙ recording_stays r) in
     rw found.best_is (record { legal = tt; sound = sound; all = all; rows = found.are })
 
 -- there are no more stays than a history may have
-pub few_in_history : (o : Origin) (past : Past) (stays : List ExplainedStay) → o ≡ origin.Trace past → IsExplained o (map (λ (s : ExplainedStay). s.best) stays) stays → length stays ≤ MOST_STAYS
+pub few_in_history : (o : Origin) (past : Past) (stays : List ExplainedStay) → o ≡ origin.Trace past → IsExplained o (map (λ (s : ExplainedStay). s.best) stays) stays → length stays ≤ MAX_STAYS
 few_in_history o past stays is x =
     let y : IsExplained (origin.Trace past) (map (λ (s : ExplainedStay). s.best) stays) stays = subst (λ (q : Origin). IsExplained q (map (λ (s : ExplainedStay). s.best) stays) stays) is x in
     omega (arith, stays_length (origin.Trace past) stays y, trace_stays past, stays_most past.config past.events y.legal)

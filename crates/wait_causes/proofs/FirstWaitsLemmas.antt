@@ -9,7 +9,7 @@ use Rattle.std.proofs.lemmas.List.FromFn.{length-range_with_len}
 use Rattle.round_net.proofs.CountLemmas.{count_by-cons, count_by-append}
 use Rattle.event_rules.proofs.ListFacts.{range_with_len-push, count_by-push}
 use Rattle.std.proofs.Math.ListN.{set}
-use Rattle.wait_causes.specs.Words.{is_cause, Cause}
+use Rattle.wait_causes.specs.Words.{is_cause, WaitCause}
 use Rattle.wait_causes.specs.Origins.{Origin, cause_of}
 use Rattle.wait_causes.specs.Waits.{beside, rounds_of, are_apart, AreWaits, Wait}
 use Rattle.wait_causes.specs.FirstWaits.{has_changed, begins_in, waits_from, one_if, IsLast, AreRuns, DeviceRuns}
@@ -17,7 +17,7 @@ use Rattle.wait_causes.proofs.WaitLemmas.{written-push, some-push, apart-push}
 
 -- ---- runs, from the last round on
 
-pub last_here : (f : ℕ → Cause) (rounds r : ℕ) → r ≤ rounds → (r < rounds → has_changed f (r + 1) ≡ true) → IsLast f rounds r r
+pub last_here : (f : ℕ → WaitCause) (rounds r : ℕ) → r ≤ rounds → (r < rounds → has_changed f (r + 1) ≡ true) → IsLast f rounds r r
 last_here f rounds r within ends = record {
   from = omega arith;
   within = within;
@@ -28,7 +28,7 @@ last_here f rounds r within ends = record {
     equal : (k : ℕ) → r ≤ k → k ≤ r → k ≡ r
     equal k ge le = omega (arith, ge, le)
 
-pub last_more : (f : ℕ → Cause) (rounds r last : ℕ) → f r ≡ f (r + 1) → IsLast f rounds (r + 1) last → IsLast f rounds r last
+pub last_more : (f : ℕ → WaitCause) (rounds r last : ℕ) → f r ≡ f (r + 1) → IsLast f rounds (r + 1) last → IsLast f rounds r last
 last_more f rounds r last one is = record {
   from = omega (arith, is.from);
   within = is.within;
@@ -46,7 +46,7 @@ last_more f rounds r last one is = record {
     later k ge e = grind (arith, nat_tests)
 
 -- what is known of a round by its place in the list
-pub lasts_at : (f : ℕ → Cause) (rounds : ℕ) (runs : DeviceRuns) (r : ℕ) → AreRuns f rounds runs → 1 ≤ r → r ≤ rounds → IsLast f rounds r (get_or runs.lasts.items (r - 1) 0)
+pub lasts_at : (f : ℕ → WaitCause) (rounds : ℕ) (runs : DeviceRuns) (r : ℕ) → AreRuns f rounds runs → 1 ≤ r → r ≤ rounds → IsLast f rounds r (get_or runs.lasts.items (r - 1) 0)
 lasts_at f rounds runs r are some within =
     let at : r - 1 + 1 ≡ r = omega (arith, some) in
     subst (λ k. IsLast f rounds k (get_or runs.lasts.items (r - 1) 0)) at (are.lasts (r - 1) (omega (arith, some, within)))
@@ -65,7 +65,7 @@ range_append a (suc n) m =
 
 -- ---- a whole wait more
 
-same_rounds : (f : ℕ → Cause) (c : Cause) (a n : ℕ) → ((k : ℕ) → a ≤ k → k < a + n → f k ≡ c) → map (beside (λ r. c)) (range_with_len a n) ≡ map (beside f) (range_with_len a n)
+same_rounds : (f : ℕ → WaitCause) (c : WaitCause) (a n : ℕ) → ((k : ℕ) → a ≤ k → k < a + n → f k ≡ c) → map (beside (λ r. c)) (range_with_len a n) ≡ map (beside f) (range_with_len a n)
 same_rounds f c a zero same = refl
 same_rounds f c a (suc n) same =
     let here : f a ≡ c = same a (omega arith) (omega arith) in
@@ -73,13 +73,13 @@ same_rounds f c a (suc n) same =
     ∙ ap (λ xs. (a, f a) ∷ xs) (same_rounds f c (a + 1) n (λ k ge lt. same k (omega (arith, ge)) (omega (arith, lt))))
 
 -- what the waits so far are, if another one may begin in the next round
-pub record AreFirst (f : ℕ → Cause) (arrival live next : ℕ) (waits : List Wait) : Type 0 where
+pub record AreFirst (f : ℕ → WaitCause) (arrival live next : ℕ) (waits : List Wait) : Type 0 where
   pub are : AreWaits f (range_with_len arrival (next - arrival)) waits
   pub from : arrival ≤ next
   pub apart : next < live → are_apart (map (λ (w : Wait). w.cause) waits ++ f next ∷ []) ≡ true
   pub begins : next < live → begins_in f arrival next ≡ true
 
-pub none_first : (f : ℕ → Cause) (arrival live : ℕ) → AreFirst f arrival live arrival []
+pub none_first : (f : ℕ → WaitCause) (arrival live : ℕ) → AreFirst f arrival live arrival []
 none_first f arrival live = record {
   are = record {
     written_out = sym (ap (λ n. map (beside f) (range_with_len arrival n)) none);
@@ -97,12 +97,12 @@ none_first f arrival live = record {
     begins_first : begins_in f arrival arrival ≡ true
     begins_first = or_left (arrival == arrival) (has_changed f arrival) (eq-eqb arrival arrival refl)
 
-changed_then : (f : ℕ → Cause) (a b : ℕ) → a + 1 ≡ b → has_changed f b ≡ true → is_cause (f a) (f b) ≡ false
+changed_then : (f : ℕ → WaitCause) (a b : ℕ) → a + 1 ≡ b → has_changed f b ≡ true → is_cause (f a) (f b) ≡ false
 changed_then f a b next changed =
     let before : b - 1 ≡ a = omega (arith, next) in
     not-true (is_cause (f a) (f b)) (subst (λ k. not (is_cause (f k) (f b)) ≡ true) before changed)
 
-pub one_first : (f : ℕ → Cause) (rounds arrival live next last end : ℕ) (waits : List Wait) → IsLast f rounds next last → next ≤ end → end ≤ last → end < live → live ≤ rounds → (end + 1 < live → end ≡ last)
+pub one_first : (f : ℕ → WaitCause) (rounds arrival live next last end : ℕ) (waits : List Wait) → IsLast f rounds next last → next ≤ end → end ≤ last → end < live → live ≤ rounds → (end + 1 < live → end ≡ last)
     → AreFirst f arrival live next waits → AreFirst f arrival live (end + 1) (waits ++ record { cause = f next; first = next; last = end } ∷ [])
 one_first f rounds arrival live next last end waits is some short within few whole first =
     let wait : Wait = record { cause = f next; first = next; last = end } in
@@ -136,7 +136,7 @@ one_first f rounds arrival live next last end waits is some short within few who
 
 -- ---- how many waits there are
 
-later_only : (f : ℕ → Cause) (first a n : ℕ) → first < a → count_by (begins_in f first) (range_with_len a n) ≡ count_by (has_changed f) (range_with_len a n)
+later_only : (f : ℕ → WaitCause) (first a n : ℕ) → first < a → count_by (begins_in f first) (range_with_len a n) ≡ count_by (has_changed f) (range_with_len a n)
 later_only f first a zero lt = refl
 later_only f first a (suc n) lt =
     let other : (a == first) ≡ false = grind (arith, nat_tests) in
@@ -144,14 +144,14 @@ later_only f first a (suc n) lt =
     let one : cond {A = ℕ} (begins_in f first a) 1 0 ≡ cond (has_changed f a) 1 0 = ap (λ b. cond {A = ℕ} b 1 0) here in
     omega (arith, count_by-cons (begins_in f first) a (range_with_len (a + 1) n), count_by-cons (has_changed f) a (range_with_len (a + 1) n), one, later_only f first (a + 1) n (omega (arith, lt)))
 
-more_waits : (f : ℕ → Cause) (first n : ℕ) → waits_from f first (suc n) ≡ 1 + count_by (has_changed f) (range_with_len (first + 1) n)
+more_waits : (f : ℕ → WaitCause) (first n : ℕ) → waits_from f first (suc n) ≡ 1 + count_by (has_changed f) (range_with_len (first + 1) n)
 more_waits f first n =
     let here : begins_in f first first ≡ true = or_left (first == first) (has_changed f first) (eq-eqb first first refl) in
     let one : cond {A = ℕ} (begins_in f first first) 1 0 ≡ 1 = ap (λ b. cond {A = ℕ} b 1 0) here in
     omega (arith, count_by-cons (begins_in f first) first (range_with_len (first + 1) n), one, later_only f first (first + 1) n (omega arith))
 
 -- the changes up to the last round, less those up to the first one
-pub waits_counted : (f : ℕ → Cause) (first live : ℕ) → 1 ≤ first → first < live →
+pub waits_counted : (f : ℕ → WaitCause) (first live : ℕ) → 1 ≤ first → first < live →
     count_by (has_changed f) (range_with_len 2 (live - 2)) - count_by (has_changed f) (range_with_len 2 (first - 1)) + 1 ≡ waits_from f first (live - first)
 waits_counted f first live some lt =
     let n : ℕ = live - 1 - first in
@@ -166,31 +166,31 @@ waits_counted f first live some lt =
     let sum : waits_from f first (live - first) ≡ 1 + count_by (has_changed f) (range_with_len (first + 1) n) = ap (waits_from f first) all ∙ more_waits f first n in
     omega (arith, parts, sum)
 
-pub none_counted : (f : ℕ → Cause) (first live : ℕ) → live ≤ first → 0 ≡ waits_from f first (live - first)
+pub none_counted : (f : ℕ → WaitCause) (first live : ℕ) → live ≤ first → 0 ≡ waits_from f first (live - first)
 none_counted f first live le =
     let none : live - first ≡ 0 = omega (arith, le) in
     sym (ap (waits_from f first) none)
 
-pub few_changes : (f : ℕ → Cause) (n : ℕ) → count_by (has_changed f) (range_with_len 2 n) ≤ n
+pub few_changes : (f : ℕ → WaitCause) (n : ℕ) → count_by (has_changed f) (range_with_len 2 n) ≤ n
 few_changes f n = omega (arith, count_by-le-length (has_changed f) (range_with_len 2 n), length-range_with_len 2 n)
 
 -- a round more in which the cause may have changed
-pub changes_more : (f : ℕ → Cause) (n : ℕ) → count_by (has_changed f) (range_with_len 2 (n + 1)) ≡ count_by (has_changed f) (range_with_len 2 n) + cond (has_changed f (2 + n)) 1 0
+pub changes_more : (f : ℕ → WaitCause) (n : ℕ) → count_by (has_changed f) (range_with_len 2 (n + 1)) ≡ count_by (has_changed f) (range_with_len 2 n) + cond (has_changed f (2 + n)) 1 0
 changes_more f n = ap (count_by (has_changed f)) (range_with_len-push 2 n) ∙ count_by-push (has_changed f) (range_with_len 2 n) (2 + n)
 
 -- ---- the lists, round by round
 
-pub unchanged : (f : ℕ → Cause) (r : ℕ) → is_cause (f r) (f (r + 1)) ≡ true → has_changed f (r + 1) ≡ false
+pub unchanged : (f : ℕ → WaitCause) (r : ℕ) → is_cause (f r) (f (r + 1)) ≡ true → has_changed f (r + 1) ≡ false
 unchanged f r one =
     let before : r + 1 - 1 ≡ r = omega arith in
     subst (λ k. not (is_cause (f k) (f (r + 1))) ≡ false) (sym before) (not_from_true (is_cause (f r) (f (r + 1))) one)
 
-pub changed : (f : ℕ → Cause) (r : ℕ) → is_cause (f r) (f (r + 1)) ≡ false → has_changed f (r + 1) ≡ true
+pub changed : (f : ℕ → WaitCause) (r : ℕ) → is_cause (f r) (f (r + 1)) ≡ false → has_changed f (r + 1) ≡ true
 changed f r other =
     let before : r + 1 - 1 ≡ r = omega arith in
     subst (λ k. not (is_cause (f k) (f (r + 1))) ≡ true) (sym before) (not_from_false (is_cause (f r) (f (r + 1))) other)
 
-pub lasts_step : (f : ℕ → Cause) (rounds after : ℕ) (lasts : List ℕ) (x : ℕ) → 1 ≤ after → after < rounds → length lasts ≡ rounds
+pub lasts_step : (f : ℕ → WaitCause) (rounds after : ℕ) (lasts : List ℕ) (x : ℕ) → 1 ≤ after → after < rounds → length lasts ≡ rounds
     → ((k : ℕ) → k < rounds → rounds ≤ k + after → IsLast f rounds (k + 1) (get_or lasts k 0)) → IsLast f rounds (rounds - after) x
     → (length (set lasts (rounds - after - 1) x) ≡ rounds) × ((k : ℕ) → k < rounds → rounds ≤ k + (after + 1) → IsLast f rounds (k + 1) (get_or (set lasts (rounds - after - 1) x) k 0))
 lasts_step f rounds after lasts x some lt all each here = (
@@ -212,7 +212,7 @@ lasts_step f rounds after lasts x some lt all each here = (
     further : (k : ℕ) → rounds ≤ k + (after + 1) → (k == (rounds - after - 1)) ≡ false → rounds ≤ k + after
     further k from apart = grind (arith, nat_tests)
 
-pub changes_step : (f : ℕ → Cause) (changes : List ℕ) (round count next : ℕ) → 1 ≤ round → length changes ≡ round → count ≡ count_by (has_changed f) (range_with_len 2 (round - 1))
+pub changes_step : (f : ℕ → WaitCause) (changes : List ℕ) (round count next : ℕ) → 1 ≤ round → length changes ≡ round → count ≡ count_by (has_changed f) (range_with_len 2 (round - 1))
     → ((k : ℕ) → k < round → get_or changes k 0 ≡ count_by (has_changed f) (range_with_len 2 k)) → next ≡ count + one_if (has_changed f (round + 1))
     → (length (changes ++ next ∷ []) ≡ round + 1) × (next ≡ count_by (has_changed f) (range_with_len 2 (round + 1 - 1))) × ((k : ℕ) → k < round + 1 → get_or (changes ++ next ∷ []) k 0 ≡ count_by (has_changed f) (range_with_len 2 k))
 changes_step f changes round count next some all is each more =

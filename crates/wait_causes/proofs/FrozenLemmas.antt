@@ -4,7 +4,7 @@ use Rattle.std.proofs.Common.{◌≡◌, ℕ, zero, suc, ◌+◌, ◌-◌, ◌*�
 use Rattle.std.specs.List.{range_with_len}
 use Rattle.std.proofs.lemmas.List.Sums.{sum_by-cons}
 use Rattle.std.proofs.lemmas.List.Elements.{All-cons, All-filter, All-weaker}
-use Rattle.wait_causes.specs.Words.{Topology, round, history_rules, is_legal, stays_begun, Event, Passage, cause_in, flag_in, numbers, is_cause, Cause, FreezeKind}
+use Rattle.wait_causes.specs.Words.{Topology, round, history_rules, is_legal, stays_begun, Event, Passage, cause_in, flag_in, numbers, is_cause, WaitCause, FreezeKind}
 use Rattle.wait_causes.specs.Causes.{round_cause}
 use Rattle.wait_causes.specs.Freezes.{is_frozen_in, begins, behind, rounds_between, cause_of, grouping_of, stay_cost, cost_in, freeze_from, freezes_at, freezes_by, freezes_of, found_of, freezes_found, freezes}
 use Rattle.wait_causes.specs.Stays.{explained_stay, explained_stays, ExplainedStay}
@@ -15,19 +15,19 @@ use Rattle.wait_causes.proofs.StayLemmas.{devices_in_range}
 use Rattle.round_net.proofs.FoundLemmas.{map-same}
 
 -- the causes of a stay's device are the same
-abbrev Agree : (ℕ → ℕ → Cause) → (ℕ → ℕ → Cause) → ExplainedStay → Type 0
+abbrev Agree : (ℕ → ℕ → WaitCause) → (ℕ → ℕ → WaitCause) → ExplainedStay → Type 0
 Agree f g s = f s.device ≡ g s.device
 
-cost_same : (f g : ℕ → ℕ → Cause) (cause : Cause) (rounds : List ℕ) (stays : List ExplainedStay) → All (Agree f g) stays → cost_in f cause rounds stays ≡ cost_in g cause rounds stays
+cost_same : (f g : ℕ → ℕ → WaitCause) (cause : WaitCause) (rounds : List ℕ) (stays : List ExplainedStay) → All (Agree f g) stays → cost_in f cause rounds stays ≡ cost_in g cause rounds stays
 unfolding cost_in
 cost_same f g cause rounds [] all = refl
 cost_same f g cause rounds (s ∷ ss) all =
     sum_by-cons (stay_cost f cause rounds) s ss
-    ∙ ap (λ n. n + sum_by (stay_cost f cause rounds) ss) (ap (λ (h : ℕ → Cause). s.weight * count_by (λ r. nat_le s.arrival r && (nat_lt r s.live && is_cause cause (h r))) rounds) (all 0 s (omega arith)))
+    ∙ ap (λ n. n + sum_by (stay_cost f cause rounds) ss) (ap (λ (h : ℕ → WaitCause). s.weight * count_by (λ r. nat_le s.arrival r && (nat_lt r s.live && is_cause cause (h r))) rounds) (all 0 s (omega arith)))
     ∙ ap (λ n. stay_cost g cause rounds s + n) (cost_same f g cause rounds ss (λ k d lt. all (suc k) d (omega arith)))
     ∙ sym (sum_by-cons (stay_cost g cause rounds) s ss)
 
-at_same : (kind : FreezeKind) (n : ℕ) (frozen : ℕ → Bool) (last : ℕ) (f g : ℕ → ℕ → Cause) (there : List ExplainedStay) → All (Agree f g) there → freezes_at kind n frozen last f there ≡ freezes_at kind n frozen last g there
+at_same : (kind : FreezeKind) (n : ℕ) (frozen : ℕ → Bool) (last : ℕ) (f g : ℕ → ℕ → WaitCause) (there : List ExplainedStay) → All (Agree f g) there → freezes_at kind n frozen last f there ≡ freezes_at kind n frozen last g there
 unfolding freezes_at freeze_from
 at_same kind n frozen last f g there all =
     map-same (freeze_from kind n frozen last f there) (freeze_from kind n frozen last g there)
@@ -40,7 +40,7 @@ flat_same f g a (suc n) same =
     ap (λ xs. xs ++ flat_map f (range_with_len (a + 1) n)) (same a (omega arith))
     ∙ ap (λ xs. g a ++ xs) (flat_same f g (a + 1) n (λ k lt. same k (omega arith)))
 
-by_same : (kind : FreezeKind) (frozen other : ℕ → ℕ → Bool) (count last : ℕ) (f g : ℕ → ℕ → Cause) (stays : List ExplainedStay) → ((n : ℕ) → n < count → frozen n ≡ other n) → All (Agree f g) stays →
+by_same : (kind : FreezeKind) (frozen other : ℕ → ℕ → Bool) (count last : ℕ) (f g : ℕ → ℕ → WaitCause) (stays : List ExplainedStay) → ((n : ℕ) → n < count → frozen n ≡ other n) → All (Agree f g) stays →
     freezes_by kind frozen count last f stays ≡ freezes_by kind other count last g stays
 unfolding freezes_by
 by_same kind frozen other count last f g stays same all =

@@ -12,7 +12,7 @@ use Rattle.round_net.specs.RecordedNets.{instance_of_recording, live_of_recordin
 use Rattle.round_net.specs.Rows.{cell}
 use Rattle.round_net.proofs.CellLemmas.{cell_within}
 use Rattle.round_net.proofs.RecordedLemmas.{recorded_counts}
-use Rattle.wait_causes.specs.Words.{cause_in, net_of, instance_of_rows, Cause, NotAsked}
+use Rattle.wait_causes.specs.Words.{cause_in, net_of, instance_of_rows, WaitCause, NotAsked}
 use Rattle.wait_causes.specs.Origins.{Origin, instance_in, cause_of}
 use Rattle.wait_causes.specs.RecordedCauses.{recorded_cause}
 use Rattle.wait_causes.specs.RecordedRounds.{causes_by, AreRecordedCauses}
@@ -30,7 +30,7 @@ trace_cause past o d r is lt =
     cause_in-table past.config past.events d r within ∙ sym (ap (λ (x : Origin). cause_of x d r) is)
 
 -- the list by device and round
-causes_at : (devices rounds : ℕ) (cause : ℕ → ℕ → Cause) (d r : ℕ) (x : Cause) → d < devices → 1 ≤ r → r ≤ rounds → get_or (causes_by devices rounds cause) (cell rounds d r) x ≡ cause d r
+causes_at : (devices rounds : ℕ) (cause : ℕ → ℕ → WaitCause) (d r : ℕ) (x : WaitCause) → d < devices → 1 ≤ r → r ≤ rounds → get_or (causes_by devices rounds cause) (cell rounds d r) x ≡ cause d r
 unfolding causes_by
 causes_at devices rounds cause d r x within first last =
     let lt : r - 1 < rounds = omega arith in
@@ -40,15 +40,15 @@ causes_at devices rounds cause d r x within first last =
     get_or-map-range_with_len (λ at. cause (at / rounds) (at % rounds + 1)) 0 (devices * rounds) (cell rounds d r) (cell rounds d r) x (cell_within rounds devices d r within first last) (zero-add (cell rounds d r))
     ∙ rw (row, round, back) refl
 
-pub cause_found : (r : Recorded) (causes : List Cause) (d round at rounds : ℕ) → AreRecordedCauses r causes → d < (instance_of_recording r).devices → 1 ≤ round → round ≤ (instance_of_recording r).rounds → rounds ≡ r.rounds → at ≡ cell rounds d round →
+pub cause_found : (r : Recorded) (causes : List WaitCause) (d round at rounds : ℕ) → AreRecordedCauses r causes → d < (instance_of_recording r).devices → 1 ≤ round → round ≤ (instance_of_recording r).rounds → rounds ≡ r.rounds → at ≡ cell rounds d round →
     unwrap_or (slice_get causes at) NotAsked ≡ recorded_cause (instance_of_recording r) (live_of_recording r) d round
 cause_found r causes d round at rounds are device first last long is =
     let same : at ≡ cell (instance_of_recording r).rounds d round = is ∙ ap (λ n. cell n d round) (long ∙ sym (recorded_counts r).2) in
     unwrap_or-slice_get causes at NotAsked
-    ∙ ap (λ (xs : List Cause). get_or xs at NotAsked) are
+    ∙ ap (λ (xs : List WaitCause). get_or xs at NotAsked) are
     ∙ ap (λ k. get_or (causes_by (instance_of_recording r).devices (instance_of_recording r).rounds (recorded_cause (instance_of_recording r) (live_of_recording r))) k NotAsked) same
     ∙ causes_at (instance_of_recording r).devices (instance_of_recording r).rounds (recorded_cause (instance_of_recording r) (live_of_recording r)) d round NotAsked device first last
 
 -- one place more
-pub place_more : (f : ℕ → Cause) (n : ℕ) (old new : List Cause) (x : Cause) → old ≡ map f (range_with_len 0 n) → new ≡ old ++ x ∷ [] → x ≡ f n → new ≡ map f (range_with_len 0 (n + 1))
+pub place_more : (f : ℕ → WaitCause) (n : ℕ) (old new : List WaitCause) (x : WaitCause) → old ≡ map f (range_with_len 0 n) → new ≡ old ++ x ∷ [] → x ≡ f n → new ≡ map f (range_with_len 0 (n + 1))
 place_more f n old new x was is here = is ∙ rw (was, here) (sym (map-range_with_len_more f 0 n n (zero-add n)))

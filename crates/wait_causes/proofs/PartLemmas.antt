@@ -2,11 +2,11 @@
 use Rattle.std.proofs.Common.{◌≡◌, ℕ, zero, suc, ◌+◌, ◌-◌, ◌*◌, ◌/◌, ◌^◌, ◌<◌, ◌≤◌, Bool, true, false, cond, List, [], ◌∷◌, ◌++◌, map, length, refl, sym, ap, ◌∙◌, arith, Some, zip, filter, find, flat_map, sum_by, count_by, nat_le, unwrap_or, is_some, IfSome, All, mul-add}
 use Rattle.std.specs.List.{range_with_len}
 use Rattle.std.proofs.lemmas.Bool.Decides.{nat_tests}
-use Rattle.cam_types.specs.Lists.{moments}
-use Rattle.cam_types.specs.declared.maxima.TheConstants.{MOST_WEIGHT}
+use Rattle.cam_types.specs.Lists.{prefixed}
+use Rattle.cam_types.specs.declared.limits.TheConstants.{MAX_WEIGHT}
 use Rattle.recording_file.specs.Recorded.{Recorded}
 use Rattle.recording_file.specs.declared.request.Request.{Request}
-use Rattle.wait_causes.specs.Words.{MOST_NET_ROUNDS, Topology, live_round, live_part, live_cost, stays_begun, unsent, Event, Passage, Error, Caller, AdapterFrozen, DeviceStopped, AdapterStopped, LinkStopped, DeviceFull, AdapterFull, LinkFull, NotAsked}
+use Rattle.wait_causes.specs.Words.{MAX_NET_ROUNDS, Topology, live_round, live_part, live_cost, stays_begun, unsent, Event, Passage, Error, Caller, AdapterFrozen, DeviceStopped, AdapterStopped, LinkStopped, DeviceFull, AdapterFull, LinkFull, NotAsked}
 use Rattle.wait_causes.specs.Origins.{Origin, cause_of}
 use Rattle.wait_causes.specs.declared.origin.Origin.TheVariants as origin
 use Rattle.wait_causes.specs.Parts.{waited, measure, is_enough, rank_of, part_of, costs_of, all_costs, Live, Cost}
@@ -23,10 +23,10 @@ use Rattle.wait_causes.specs.Stays.{all_rounds, explained, explained_stay, expla
 use Rattle.wait_causes.proofs.StayLemmas.{rounds_add_up}
 
 -- rounds by weight make no large number
-pub weight_fits : (w n : ℕ) → w ≤ MOST_WEIGHT → n < 2 ^ 32 → w * n ≤ 4294967295000
+pub weight_fits : (w n : ℕ) → w ≤ MAX_WEIGHT → n < 2 ^ 32 → w * n ≤ 4294967295000
 weight_fits w n light ns =
     let few : n ≤ 4294967295 = omega arith in
-    let h = mul-le w n MOST_WEIGHT 4294967295 light few in
+    let h = mul-le w n MAX_WEIGHT 4294967295 light few in
     omega arith
 
 pub no_longer : {X : Type 0} (p : X → Bool) (xs : List X) → length (filter p xs) ≤ length xs
@@ -69,9 +69,9 @@ find_skip test a (suc k) n le short =
 -- the least number that is enough lies between two
 pub record IsSought (thousandths : ℕ) (xs : List ℕ) (low high : ℕ) : Type 0 where
   pub order : low ≤ high
-  pub most : high ≤ MOST_NET_ROUNDS
+  pub most : high ≤ MAX_NET_ROUNDS
   pub short : (r : ℕ) → r < low → is_enough thousandths xs r ≡ false
-  pub enough : high < MOST_NET_ROUNDS → is_enough thousandths xs high ≡ true
+  pub enough : high < MAX_NET_ROUNDS → is_enough thousandths xs high ≡ true
 
 pub middle_lies : (low high : ℕ) → low < high → (low ≤ low + (high - low) / 2) × (low + (high - low) / 2 < high)
 middle_lies low high lt = (omega arith, omega arith)
@@ -88,23 +88,23 @@ sought_above thousandths xs low high middle few from to less is kept =
       enough = kept.enough;
     }
 
-sought_left : (thousandths : ℕ) (xs : List ℕ) (low high : ℕ) → IsSought thousandths xs low high → find (is_enough thousandths xs) (range_with_len 0 MOST_NET_ROUNDS) ≡ find (is_enough thousandths xs) (range_with_len low (MOST_NET_ROUNDS - low))
+sought_left : (thousandths : ℕ) (xs : List ℕ) (low high : ℕ) → IsSought thousandths xs low high → find (is_enough thousandths xs) (range_with_len 0 MAX_NET_ROUNDS) ≡ find (is_enough thousandths xs) (range_with_len low (MAX_NET_ROUNDS - low))
 sought_left thousandths xs low high kept =
     let plain : 0 + low ≡ low = omega arith in
-    find_skip (is_enough thousandths xs) 0 low MOST_NET_ROUNDS (omega (arith, kept.order, kept.most)) (λ r lt. kept.short r (omega (arith, lt)))
-    ∙ ap (λ b. find (is_enough thousandths xs) (range_with_len b (MOST_NET_ROUNDS - b))) plain
+    find_skip (is_enough thousandths xs) 0 low MAX_NET_ROUNDS (omega (arith, kept.order, kept.most)) (λ r lt. kept.short r (omega (arith, lt)))
+    ∙ ap (λ b. find (is_enough thousandths xs) (range_with_len b (MAX_NET_ROUNDS - b))) plain
 
-pub sought_found : (thousandths : ℕ) (xs : List ℕ) (low high : ℕ) → high ≤ low → low < MOST_NET_ROUNDS → IsSought thousandths xs low high → low ≡ rank_of thousandths xs
+pub sought_found : (thousandths : ℕ) (xs : List ℕ) (low high : ℕ) → high ≤ low → low < MAX_NET_ROUNDS → IsSought thousandths xs low high → low ≡ rank_of thousandths xs
 unfolding rank_of
 sought_found thousandths xs low high over lt kept =
     let same : high ≡ low = omega (arith, over, kept.order) in
     let passes : is_enough thousandths xs low ≡ true = ap (is_enough thousandths xs) (sym same) ∙ kept.enough (omega (arith, same, lt)) in
-    ap (λ o. unwrap_or o 0) (sym (sought_left thousandths xs low high kept ∙ find_here (is_enough thousandths xs) low MOST_NET_ROUNDS (MOST_NET_ROUNDS - (low + 1)) (omega (arith, lt)) passes))
+    ap (λ o. unwrap_or o 0) (sym (sought_left thousandths xs low high kept ∙ find_here (is_enough thousandths xs) low MAX_NET_ROUNDS (MAX_NET_ROUNDS - (low + 1)) (omega (arith, lt)) passes))
 
-pub sought_none : (thousandths : ℕ) (xs : List ℕ) (low high : ℕ) → MOST_NET_ROUNDS ≤ low → IsSought thousandths xs low high → 0 ≡ rank_of thousandths xs
+pub sought_none : (thousandths : ℕ) (xs : List ℕ) (low high : ℕ) → MAX_NET_ROUNDS ≤ low → IsSought thousandths xs low high → 0 ≡ rank_of thousandths xs
 unfolding rank_of
 sought_none thousandths xs low high le kept =
-    let over : MOST_NET_ROUNDS - low ≡ 0 = omega (arith, le) in
+    let over : MAX_NET_ROUNDS - low ≡ 0 = omega (arith, le) in
     ap (λ o. unwrap_or o 0) (sym (sought_left thousandths xs low high kept ∙ ap (λ n. find (is_enough thousandths xs) (range_with_len low n)) over))
 
 -- 1 for one that passes
@@ -136,7 +136,7 @@ unfolding rank_of
 rank_moved thousandths xs ys moved =
     let long = length_permutation xs ys moved in
     let alike : (n : ℕ) → is_enough thousandths ys n ≡ is_enough thousandths xs n = λ n. rw (long, sum_by-IsPermutation (λ x. cond (nat_le x n) 1 0) xs ys moved) refl in
-    ap (λ o. unwrap_or o 0) (find_alike (is_enough thousandths ys) (is_enough thousandths xs) (range_with_len 0 MOST_NET_ROUNDS) alike)
+    ap (λ o. unwrap_or o 0) (find_alike (is_enough thousandths ys) (is_enough thousandths xs) (range_with_len 0 MAX_NET_ROUNDS) alike)
 
 -- the rows so far and those of one number more
 pub rows_step : {X : Type 0} (f : ℕ → List X) (old new : List X) (n : ℕ) → old ≡ flat_map f (range_with_len 0 n) → new ≡ old ++ f n → new ≡ flat_map f (range_with_len 0 (n + 1))
@@ -194,7 +194,7 @@ recording_whole r (m ∷ zs) (suc k) d lt = recording_whole r zs k d (omega arit
 all_whole : (o : Origin) (best : List ℕ) → All IsWhole (explained o best)
 unfolding explained_stays explained_requests
 all_whole (origin.Trace past) best = history_whole past.config past.events (zip (stays_begun past.events) best)
-all_whole (origin.Recording r) best = recording_whole r (zip (moments r.requests) best)
+all_whole (origin.Recording r) best = recording_whole r (zip (prefixed r.requests) best)
 
 -- a part of all stays adds up
 pub part_adds_up : (o : Origin) (best : List ℕ) → all_costs (part_of (explained o best)).costs ≡ (part_of (explained o best)).live

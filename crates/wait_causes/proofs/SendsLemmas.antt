@@ -6,7 +6,7 @@ use Rattle.std.proofs.lemmas.Bool.Decides.{nat_tests}
 use Rattle.std.proofs.lemmas.Option.{get_or_from_slice_get}
 use Rattle.std.proofs.lemmas.List.Folds.{list_any-append}
 use Rattle.round_net.specs.Sums.{count_below}
-use Rattle.round_net.specs.Instance.{Instance, rows, adapter, link, adapter_row, link_row, path, uses}
+use Rattle.round_net.specs.Instance.{Instance, rows, adapter, link, adapter_resource, link_resource, path, uses}
 use Rattle.round_net.specs.Rows.{cell}
 use Rattle.round_net.specs.Schedules.{load}
 use Rattle.round_net.specs.Sound.{IsSound}
@@ -215,20 +215,20 @@ pub record IsPlaced (net : Instance) (live : ℕ → ℕ) (s : ℕ) : Type 0 whe
 pub device_place : (net : Instance) (live : ℕ → ℕ) (s : ℕ) → IsPlaced net live s → IsPlace net live s (net.device s)
 device_place net live s p = let lt = p.device in record { within = omega arith; first = p.first; last = p.last }
 
-pub adapter_place : (net : Instance) (live : ℕ → ℕ) (s : ℕ) → IsPlaced net live s → IsPlace net live s (adapter_row net (adapter net s))
+pub adapter_place : (net : Instance) (live : ℕ → ℕ) (s : ℕ) → IsPlaced net live s → IsPlace net live s (adapter_resource net (adapter net s))
 adapter_place net live s p = let lt = p.adapter in record { within = omega arith; first = p.first; last = p.last }
 
-pub link_place : (net : Instance) (live : ℕ → ℕ) (s l : ℕ) → IsPlaced net live s → l < net.links → IsPlace net live s (link_row net l)
+pub link_place : (net : Instance) (live : ℕ → ℕ) (s l : ℕ) → IsPlaced net live s → l < net.links → IsPlace net live s (link_resource net l)
 link_place net live s l p lt = record { within = omega arith; first = p.first; last = p.last }
 
-pub adapter_new : (net : Instance) (live : ℕ → ℕ) (s : ℕ) → IsPlaced net live s → IsNew (net.device s ∷ []) (adapter_row net (adapter net s))
-adapter_new net live s p = let lt = p.device in rw (ne_eqb (net.device s) (adapter_row net (adapter net s)) (λ at. omega arith)) refl
+pub adapter_new : (net : Instance) (live : ℕ → ℕ) (s : ℕ) → IsPlaced net live s → IsNew (net.device s ∷ []) (adapter_resource net (adapter net s))
+adapter_new net live s p = let lt = p.device in rw (ne_eqb (net.device s) (adapter_resource net (adapter net s)) (λ at. omega arith)) refl
 
-pub link_new : (net : Instance) (live : ℕ → ℕ) (s l : ℕ) → IsPlaced net live s → IsNew (net.device s ∷ adapter_row net (adapter net s) ∷ []) (link_row net l)
+pub link_new : (net : Instance) (live : ℕ → ℕ) (s l : ℕ) → IsPlaced net live s → IsNew (net.device s ∷ adapter_resource net (adapter net s) ∷ []) (link_resource net l)
 link_new net live s l p =
     let device = p.device in
     let above = p.adapter in
-    rw (ne_eqb (net.device s) (link_row net l) (λ at. omega arith), ne_eqb (adapter_row net (adapter net s)) (link_row net l) (λ at. omega arith)) refl
+    rw (ne_eqb (net.device s) (link_resource net l) (λ at. omega arith), ne_eqb (adapter_resource net (adapter net s)) (link_resource net l) (λ at. omega arith)) refl
 
 -- where a stay of a sound net was sent
 pub sound_placed : (net : Instance) (live : ℕ → ℕ) (s : ℕ) → IsSound net live → s < net.stays → IsPlaced net live s
@@ -264,8 +264,8 @@ pub sends_inside : (net : Instance) (live : ℕ → ℕ) (sends : List Sends) (r
 sends_inside net live sends row r at are within first last is = omega (arith, is, are.cells, cell_within net.rounds (rows net) row r within first last)
 
 -- a stay on a link, and one on none, use these rows
-pub path_with : (net : Instance) (s l : ℕ) → link net s ≡ Some l → net.device s ∷ adapter_row net (adapter net s) ∷ link_row net l ∷ [] ≡ path net s
+pub path_with : (net : Instance) (s l : ℕ) → link net s ≡ Some l → net.device s ∷ adapter_resource net (adapter net s) ∷ link_resource net l ∷ [] ≡ path net s
 path_with net s l is = rw is refl
 
-pub path_without : (net : Instance) (s : ℕ) → link net s ≡ None → net.device s ∷ adapter_row net (adapter net s) ∷ [] ≡ path net s
+pub path_without : (net : Instance) (s : ℕ) → link net s ≡ None → net.device s ∷ adapter_resource net (adapter net s) ∷ [] ≡ path net s
 path_without net s is = rw is refl

@@ -4,12 +4,12 @@ use Rattle.std.specs.List.{range_with_len}
 use Rattle.std.specs.Option.{option_map_or}
 use Rattle.std.proofs.lemmas.List.Elements.{All-filter}
 use Rattle.std.proofs.lemmas.List.Sums.{sum_by-cons}
-use Rattle.cam_types.specs.Lists.{moments}
+use Rattle.cam_types.specs.Lists.{prefixed}
 use Rattle.recording_file.specs.Recorded.{Recorded}
 use Rattle.recording_file.specs.declared.request.Request.{Request}
 use Rattle.round_net.proofs.CountLemmas.{count_by-cons}
 use Rattle.round_net.specs.Instance.{Instance}
-use Rattle.wait_causes.specs.Words.{Topology, weight, live_round, stays_begun, Event, Passage, is_cause, Cause, Error, Caller, AdapterFrozen, DeviceStopped, AdapterStopped, LinkStopped, DeviceFull, AdapterFull, LinkFull, NotAsked}
+use Rattle.wait_causes.specs.Words.{Topology, weight, live_round, stays_begun, Event, Passage, is_cause, WaitCause, Error, Caller, AdapterFrozen, DeviceStopped, AdapterStopped, LinkStopped, DeviceFull, AdapterFull, LinkFull, NotAsked}
 use Rattle.wait_causes.specs.Behind.{is_full, full_row, behind_row, behind_in, is_behind, behind_by, all_behind, Behind, LessUrgent, Equal, MoreUrgent}
 use Rattle.wait_causes.specs.BehindLaws.{IsSplit, IsSplitPart, BehindAddsUp}
 use Rattle.wait_causes.specs.Origins.{Origin, cause_of, instance_in, live_in}
@@ -22,7 +22,7 @@ use Rattle.wait_causes.specs.Tables.{number, stays_of}
 abbrev pub ones : Option Behind → ℕ
 ones b = cond (is_behind LessUrgent b) 1 0 + cond (is_behind Equal b) 1 0 + cond (is_behind MoreUrgent b) 1 0
 
-abbrev pub fulls : Cause → ℕ
+abbrev pub fulls : WaitCause → ℕ
 fulls c = cond (is_cause DeviceFull c) 1 0 + cond (is_cause AdapterFull c) 1 0 + cond (is_cause LinkFull c) 1 0
 
 one_some : (b : Behind) → ones (Some b) ≡ 1
@@ -30,7 +30,7 @@ one_some LessUrgent = refl
 one_some Equal = refl
 one_some MoreUrgent = refl
 
-one_round : (c : Cause) (b : Behind) → ones (cond (is_full c) (Some b) None) ≡ fulls c
+one_round : (c : WaitCause) (b : Behind) → ones (cond (is_full c) (Some b) None) ≡ fulls c
 one_round Error b = refl
 one_round Caller b = refl
 one_round AdapterFrozen b = refl
@@ -43,14 +43,14 @@ one_round LinkFull b = one_some b
 one_round NotAsked b = refl
 
 -- the rounds of a stay
-rounds_split : (net : Instance) (live : ℕ → ℕ) (causes : ℕ → ℕ → Cause) (d w : ℕ) (rounds : List ℕ) →
+rounds_split : (net : Instance) (live : ℕ → ℕ) (causes : ℕ → ℕ → WaitCause) (d w : ℕ) (rounds : List ℕ) →
     all_behind (behind_by (map (behind_in net live causes d w) rounds)) ≡ full_rounds (rounds_by (map (causes d) rounds))
 rounds_split net live causes d w [] = refl
 rounds_split net live causes d w (r ∷ rs) =
     let b : Option Behind = behind_in net live causes d w r in
     let bs : List (Option Behind) = map (behind_in net live causes d w) rs in
-    let c : Cause = causes d r in
-    let cs : List Cause = map (causes d) rs in
+    let c : WaitCause = causes d r in
+    let cs : List WaitCause = map (causes d) rs in
     let here : ones b ≡ fulls c = one_round c (option_map_or (behind_row net live w r) (full_row net d c) MoreUrgent) in
     omega (
       arith,
@@ -83,7 +83,7 @@ recording_split r (m ∷ zs) (suc k) d lt = recording_split r zs k d (omega arit
 all_split : (o : Origin) (best : List ℕ) → All IsSplit (explained o best)
 unfolding explained_stays explained_requests
 all_split (origin.Trace past) best = history_split past.config past.events (zip (stays_begun past.events) best)
-all_split (origin.Recording r) best = recording_split r (zip (moments r.requests) best)
+all_split (origin.Recording r) best = recording_split r (zip (prefixed r.requests) best)
 
 -- a weight times each of three, all together
 weighed : (w a b c d e f : ℕ) → a + b + c ≡ d + e + f → w * a + w * b + w * c ≡ w * d + w * e + w * f

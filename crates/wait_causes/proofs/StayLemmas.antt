@@ -7,7 +7,7 @@ use Rattle.std.proofs.lemmas.List.{length-map, take_all, map-append, take_more}
 use Rattle.std.proofs.lemmas.Slice.Zip.{get_or-zip, seconds-zip, length-zip}
 use Rattle.std.proofs.lemmas.List.Sums.{AllPass-from_list_all}
 use Rattle.std.proofs.lemmas.List.Elements.{All-weaker}
-use Rattle.wait_causes.specs.Words.{Topology, device_adapter, weight, run_level, Rules, is_legal, is_stay_in_range, submission, stays_begun, is_unsent, Event, Passage, Submission, records, record_of, StayRecord, Cause, Error}
+use Rattle.wait_causes.specs.Words.{Topology, device_adapter, weight, run_level, Rules, is_legal, is_stay_in_range, submission, stays_begun, is_unsent, Event, Passage, Submission, records, record_of, StayRecord, WaitCause, Error}
 use Rattle.event_rules.proofs.RangeLemmas.{stays_in_range}
 use Rattle.event_rules.proofs.ListFacts.{count_by-push, range_with_len-push}
 use Rattle.wait_causes.specs.Behind.{no_behind, FullBehind}
@@ -24,16 +24,16 @@ pub same_rounds : (a b c d e f g h i j a' b' c' d' e' f' g' h' i' j' : ℕ) → 
 same_rounds a b c d e f g h i j a' b' c' d' e' f' g' h' i' j' ea eb ec ed ee ef eg eh ei ej = rw (ea, eb, ec, ed, ee, ef, eg, eh, ei, ej) refl
 
 -- one round more counts for its cause alone
-pub rounds_by-push : (xs : List Cause) (x : Cause) → rounds_by (xs ++ x ∷ []) ≡ with_round (rounds_by xs) x
+pub rounds_by-push : (xs : List WaitCause) (x : WaitCause) → rounds_by (xs ++ x ∷ []) ≡ with_round (rounds_by xs) x
 rounds_by-push xs Error = simp (count_by-push) (same_rounds _ _ _ _ _ _ _ _ _ _ _ _ _ _ _ _ _ _ _ _ (omega arith) (omega arith) (omega arith) (omega arith) (omega arith) (omega arith) (omega arith) (omega arith) (omega arith) (omega arith))
 rounds_by-push xs _ = simp (count_by-push) (same_rounds _ _ _ _ _ _ _ _ _ _ _ _ _ _ _ _ _ _ _ _ (omega arith) (omega arith) (omega arith) (omega arith) (omega arith) (omega arith) (omega arith) (omega arith) (omega arith) (omega arith))
 
-all_rounds-more : (n : CauseRounds) (x : Cause) → all_rounds (with_round n x) ≡ all_rounds n + 1
+all_rounds-more : (n : CauseRounds) (x : WaitCause) → all_rounds (with_round n x) ≡ all_rounds n + 1
 all_rounds-more n Error = omega arith
 all_rounds-more n _ = omega arith
 
 -- each round counts once
-pub rounds_add_up : (f : ℕ → Cause) (a n : ℕ) → all_rounds (rounds_by (map f (range_with_len a n))) ≡ n
+pub rounds_add_up : (f : ℕ → WaitCause) (a n : ℕ) → all_rounds (rounds_by (map f (range_with_len a n))) ≡ n
 rounds_add_up f a zero = refl
 rounds_add_up f a (suc n) =
     let more : suc n ≡ n + 1 = omega arith in
@@ -43,7 +43,7 @@ rounds_add_up f a (suc n) =
     ∙ omega (arith, rounds_add_up f a n)
 
 -- the rounds so far and one more
-pub rounds_step : (f : ℕ → Cause) (a n : ℕ) (old new : CauseRounds) (x : Cause) → old ≡ rounds_by (map f (range_with_len a n)) → new ≡ with_round old x → x ≡ f (a + n) → new ≡ rounds_by (map f (range_with_len a (n + 1)))
+pub rounds_step : (f : ℕ → WaitCause) (a n : ℕ) (old new : CauseRounds) (x : WaitCause) → old ≡ rounds_by (map f (range_with_len a n)) → new ≡ with_round old x → x ≡ f (a + n) → new ≡ rounds_by (map f (range_with_len a (n + 1)))
 rounds_step f a n old new x was is here =
     is ∙ rw (was, here) (sym (rounds_by-push (map f (range_with_len a n)) (f (a + n))))
     ∙ ap rounds_by (sym (ap (map f) (range_with_len-push a n) ∙ map-append f (range_with_len a n) ((a + n) ∷ [])))

@@ -16,14 +16,14 @@ use Rattle.wait_causes.specs.Freezes.{is_frozen_in, begins, rounds_between, caus
 use Rattle.wait_causes.specs.Parts.{rounds_for, measure, Cost}
 use Rattle.wait_causes.specs.Stays.{explained_stay, explained_stays, ExplainedStay}
 use Rattle.wait_causes.specs.Tables.{number, stays_of}
-use Rattle.round_net.specs.declared.cause.Cause as waiting
-use Rattle.round_net.specs.declared.cause.Cause.TheVariants as why
+use Rattle.round_net.specs.declared.cause.WaitCause as waiting
+use Rattle.round_net.specs.declared.cause.WaitCause.TheVariants as why
 use Rattle.round_net.specs.declared.freeze_kind.FreezeKind.TheVariants.{Error, Caller, Adapter}
 use Rattle.wait_causes.proofs.CostLemmas.{runs_cost, written_out, count_passed, count_waits, sum_flat, sum_same, sum_numbers}
 use Rattle.wait_causes.proofs.StayLemmas.{devices_in_range}
 
 -- the first that holds
-first_of : (a b e f g h : Bool) → waiting.Cause
+first_of : (a b e f g h : Bool) → waiting.WaitCause
 first_of a b e f g h =
     if a then why.Error
     else if b then why.Caller
@@ -101,7 +101,7 @@ number_is Error c es p best = refl
 number_is Caller c es p best = refl
 number_is Adapter c es p best = refl
 
-count-map : (p : waiting.Cause → Bool) (f : ℕ → waiting.Cause) (xs : List ℕ) → count_by p (map f xs) ≡ count_by (λ x. p (f x)) xs
+count-map : (p : waiting.WaitCause → Bool) (f : ℕ → waiting.WaitCause) (xs : List ℕ) → count_by p (map f xs) ≡ count_by (λ x. p (f x)) xs
 count-map p f [] = refl
 count-map p f (x ∷ xs) = count_by-cons p (f x) (map f xs) ∙ ap (λ n. cond (p (f x)) 1 0 + n) (count-map p f xs) ∙ sym (count_by-cons (λ x. p (f x)) x xs)
 
@@ -178,7 +178,7 @@ kind_adds_up kind c es best kept legal =
     ∙ sum_numbers (number (grouping_of kind)) (measure (Cost (cause_of kind))) (numbers kind c) (explained_stays c es best) all_there
 
 -- the freezes of a kind among others
-kept_map : (want kind : FreezeKind) (n : ℕ) (frozen : ℕ → Bool) (last : ℕ) (causes : ℕ → ℕ → waiting.Cause) (there : List ExplainedStay) (b : Bool) → is_kind want kind ≡ b → (rs : List ℕ) →
+kept_map : (want kind : FreezeKind) (n : ℕ) (frozen : ℕ → Bool) (last : ℕ) (causes : ℕ → ℕ → waiting.WaitCause) (there : List ExplainedStay) (b : Bool) → is_kind want kind ≡ b → (rs : List ℕ) →
     filter (λ (f : Freeze). is_kind want f.kind) (map (freeze_from kind n frozen last causes there) rs) ≡ cond b (map (freeze_from kind n frozen last causes there) rs) []
 unfolding freeze_from
 kept_map want kind n frozen last causes there true is [] = refl

@@ -6,7 +6,7 @@ use Rattle.std.proofs.lemmas.List.{map-append}
 use Rattle.std.proofs.lemmas.List.FromFn.{map-range_with_len_more, get_or-map-range_with_len, length-map-range_with_len}
 use Rattle.round_net.proofs.CountLemmas.{count_by-append}
 use Rattle.event_rules.proofs.ListFacts.{count_by-push, range_with_len-push}
-use Rattle.wait_causes.specs.Words.{is_cause, Cause, Error, Caller, AdapterFrozen, DeviceStopped, AdapterStopped, LinkStopped, DeviceFull, AdapterFull, LinkFull, NotAsked}
+use Rattle.wait_causes.specs.Words.{is_cause, WaitCause, Error, Caller, AdapterFrozen, DeviceStopped, AdapterStopped, LinkStopped, DeviceFull, AdapterFull, LinkFull, NotAsked}
 use Rattle.wait_causes.specs.Behind.{is_behind, behind_by, behind_since, with_behind, all_behind, Behind, LessUrgent, Equal, MoreUrgent, FullBehind}
 use Rattle.wait_causes.specs.Stays.{rounds_by, rounds_since}
 use Rattle.wait_causes.specs.Totals.{totals_by}
@@ -54,7 +54,7 @@ count_between p f a l some lt =
     let both = ap (count_by p) cut ∙ count_by-append p (map f (range_with_len 1 (a - 1))) (map f (range_with_len a (l - a))) in
     omega (arith, both)
 
-rounds_between : (f : ℕ → Cause) (a l : ℕ) → 1 ≤ a → a < l →
+rounds_between : (f : ℕ → WaitCause) (a l : ℕ) → 1 ≤ a → a < l →
     rounds_since (rounds_by (map f (range_with_len 1 (l - 1)))) (rounds_by (map f (range_with_len 1 (a - 1)))) ≡ rounds_by (map f (range_with_len a (l - a)))
 rounds_between f a l some lt =
     same_rounds _ _ _ _ _ _ _ _ _ _ _ _ _ _ _ _ _ _ _ _
@@ -72,7 +72,7 @@ behind_between f a l some lt =
     same_behind _ _ _ _ _ _ (count_between (is_behind LessUrgent) f a l some lt) (count_between (is_behind Equal) f a l some lt) (count_between (is_behind MoreUrgent) f a l some lt)
 
 -- by two totals
-pub rounds_found : (f : ℕ → Cause) (totals : List CauseRounds) (a l : ℕ) (d e : CauseRounds) → 1 ≤ a → a < l → l ≤ length totals → totals ≡ totals_by rounds_by f (length totals) →
+pub rounds_found : (f : ℕ → WaitCause) (totals : List CauseRounds) (a l : ℕ) (d e : CauseRounds) → 1 ≤ a → a < l → l ≤ length totals → totals ≡ totals_by rounds_by f (length totals) →
     rounds_since (get_or totals (l - 1) d) (get_or totals (a - 1) e) ≡ rounds_by (map f (range_with_len a (l - a)))
 rounds_found f totals a l d e some lt last are =
     let end : get_or totals (l - 1) d ≡ rounds_by (map f (range_with_len 1 (l - 1))) = ap (λ (xs : List CauseRounds). get_or xs (l - 1) d) are ∙ total_at rounds_by f (length totals) (l - 1) d (omega arith) in

@@ -6,10 +6,10 @@ use Rattle.std.proofs.lemmas.Grind.{flat_map-append}
 use Rattle.std.proofs.lemmas.List.{map-append}
 use Rattle.std.proofs.lemmas.List.Folds.{list_all-append}
 use Rattle.event_rules.proofs.ListFacts.{range_with_len-push}
-use Rattle.wait_causes.specs.Words.{is_cause, Cause, Error, Caller, AdapterFrozen, DeviceStopped, AdapterStopped, LinkStopped, DeviceFull, AdapterFull, LinkFull, NotAsked}
+use Rattle.wait_causes.specs.Words.{is_cause, WaitCause, Error, Caller, AdapterFrozen, DeviceStopped, AdapterStopped, LinkStopped, DeviceFull, AdapterFull, LinkFull, NotAsked}
 use Rattle.wait_causes.specs.Waits.{beside, rounds_of, are_apart, AreBegun, Wait}
 
-pub same_cause : (a b : Cause) → is_cause a b ≡ true → a ≡ b
+pub same_cause : (a b : WaitCause) → is_cause a b ≡ true → a ≡ b
 same_cause Error Error e = refl
 same_cause Caller Caller e = refl
 same_cause AdapterFrozen AdapterFrozen e = refl
@@ -23,7 +23,7 @@ same_cause NotAsked NotAsked e = refl
 same_cause _ _ e = absurd (cc)
 
 -- the rounds from the first on with their causes, and one more
-rounds-push : (f : ℕ → Cause) (first n : ℕ) → map (beside f) (range_with_len first (n + 1)) ≡ map (beside f) (range_with_len first n) ++ (first + n, f (first + n)) ∷ []
+rounds-push : (f : ℕ → WaitCause) (first n : ℕ) → map (beside f) (range_with_len first (n + 1)) ≡ map (beside f) (range_with_len first n) ++ (first + n, f (first + n)) ∷ []
 rounds-push f first n = ap (map (beside f)) (range_with_len-push first n) ∙ map-append (beside f) (range_with_len first n) ((first + n) ∷ [])
 
 pub written-push : (ws : List Wait) (w : Wait) → flat_map rounds_of (ws ++ w ∷ []) ≡ flat_map rounds_of ws ++ rounds_of w
@@ -40,7 +40,7 @@ apart-same ws w v e =
     map-append (λ (x : Wait). x.cause) ws (w ∷ []) ∙ ap (λ x. map (λ (x : Wait). x.cause) ws ++ x ∷ []) e
     ∙ sym (map-append (λ (x : Wait). x.cause) ws (v ∷ []))
 
-pub apart-push : (xs : List Cause) (x y : Cause) → are_apart (xs ++ x ∷ []) ≡ true → is_cause x y ≡ false → are_apart ((xs ++ x ∷ []) ++ y ∷ []) ≡ true
+pub apart-push : (xs : List WaitCause) (x y : WaitCause) → are_apart (xs ++ x ∷ []) ≡ true → is_cause x y ≡ false → are_apart ((xs ++ x ∷ []) ++ y ∷ []) ≡ true
 apart-push [] x y apart ne = rw ne refl
 apart-push (a ∷ []) x y apart ne =
     let parts = and_parts (not (is_cause a x)) true apart in
@@ -59,7 +59,7 @@ pub some-push : (ws : List Wait) (w : Wait) → list_all (λ (x : Wait). nat_le 
 some-push ws w all here = list_all-append (λ (x : Wait). nat_le x.first x.last) ws (w ∷ []) ∙ rw (all, here) refl
 
 -- the first round
-pub begun_first : (f : ℕ → Cause) (first : ℕ) (w : Wait) → w ≡ record { cause = f first; first = first; last = first } → AreBegun f first 1 [] w
+pub begun_first : (f : ℕ → WaitCause) (first : ℕ) (w : Wait) → w ≡ record { cause = f first; first = first; last = first } → AreBegun f first 1 [] w
 begun_first f first w e = rw e (record {
   are = record {
     written_out = append-nil (rounds_of (record { cause = f first; first = first; last = first })) ∙ ap (λ n. map (beside (λ r. f first)) (range_with_len first n)) one;
@@ -73,7 +73,7 @@ begun_first f first w e = rw e (record {
     one = omega arith
 
 -- one round more joins the last wait
-pub begun_joined : (f : ℕ → Cause) (first n : ℕ) (ws : List Wait) (w : Wait) (cause : Cause) (round : ℕ) → cause ≡ f round → round ≡ first + n → is_cause w.cause cause ≡ true → AreBegun f first n ws w → AreBegun f first (n + 1) ws (record w { last = round })
+pub begun_joined : (f : ℕ → WaitCause) (first n : ℕ) (ws : List Wait) (w : Wait) (cause : WaitCause) (round : ℕ) → cause ≡ f round → round ≡ first + n → is_cause w.cause cause ≡ true → AreBegun f first n ws w → AreBegun f first (n + 1) ws (record w { last = round })
 begun_joined f first n ws w cause round is at same b =
     let some : w.first ≤ w.last = leb-true w.first w.last (some-parts ws w b.are.each_some).1 in
     let k : ℕ = w.last + 1 - w.first in
@@ -95,7 +95,7 @@ begun_joined f first n ws w cause round is at same b =
     }
 
 -- or begins one
-pub begun_next : (f : ℕ → Cause) (first n : ℕ) (ws : List Wait) (w next : Wait) (cause : Cause) (round : ℕ) → next ≡ record { cause = cause; first = round; last = round } → cause ≡ f round → round ≡ first + n → is_cause w.cause cause ≡ false → AreBegun f first n ws w →
+pub begun_next : (f : ℕ → WaitCause) (first n : ℕ) (ws : List Wait) (w next : Wait) (cause : WaitCause) (round : ℕ) → next ≡ record { cause = cause; first = round; last = round } → cause ≡ f round → round ≡ first + n → is_cause w.cause cause ≡ false → AreBegun f first n ws w →
     AreBegun f first (n + 1) (ws ++ w ∷ []) next
 begun_next f first n ws w next cause round e is at ne b = rw e (record {
   are = record {

@@ -2,24 +2,24 @@
 use Rattle.std.specs.Prelude.{ℕ, ◌+◌, ◌-◌, ◌==◌, Bool, true, false, ◌&&◌, if◌then◌else◌, nat_lt, List, count_by, Option, Some, None, option_map}
 use Rattle.std.specs.Option.{option_map_or}
 use Rattle.round_net.specs.Sums.{count_below}
-use Rattle.round_net.specs.Instance.{Instance, adapter_row, link_row, uses}
-use Rattle.wait_causes.specs.Words.{Cause, DeviceFull, AdapterFull, LinkFull}
+use Rattle.round_net.specs.Instance.{Instance, adapter_resource, link_resource, uses}
+use Rattle.wait_causes.specs.Words.{WaitCause, DeviceFull, AdapterFull, LinkFull}
 pub use Rattle.wait_causes.specs.declared.behind.Behind.{Behind}
 pub use Rattle.wait_causes.specs.declared.behind.Behind.TheVariants.{LessUrgent, Equal, MoreUrgent}
 pub use Rattle.wait_causes.specs.declared.behind.FullBehind.{FullBehind}
 
 -- the causes by which a row was full
-abbrev pub is_full : Cause → Bool
+abbrev pub is_full : WaitCause → Bool
 is_full DeviceFull = true
 is_full AdapterFull = true
 is_full LinkFull = true
 is_full _ = false
 
 -- the row that was full: that of the device, of its adapter, or of the adapter's link
-abbrev pub full_row : Instance → ℕ → Cause → Option ℕ
+abbrev pub full_row : Instance → ℕ → WaitCause → Option ℕ
 full_row net d DeviceFull = Some d
-full_row net d AdapterFull = Some (adapter_row net (net.adapter_of d))
-full_row net d LinkFull = option_map (link_row net) (net.link_of (net.adapter_of d))
+full_row net d AdapterFull = Some (adapter_resource net (net.adapter_of d))
+full_row net d LinkFull = option_map (link_resource net) (net.link_of (net.adapter_of d))
 full_row net d _ = None
 
 -- a row sent a stay in a round whose weight passes a test
@@ -34,7 +34,7 @@ behind_row net live w r row =
     else MoreUrgent
 
 -- what a stay of a weight on a device waits behind in a round, by the round's cause: nothing where no row was full
-abbrev pub behind_in : Instance → (ℕ → ℕ) → (ℕ → ℕ → Cause) → ℕ → ℕ → ℕ → Option Behind
+abbrev pub behind_in : Instance → (ℕ → ℕ) → (ℕ → ℕ → WaitCause) → ℕ → ℕ → ℕ → Option Behind
 behind_in net live causes d w r =
     if is_full (causes d r) then Some (option_map_or (behind_row net live w r) (full_row net d (causes d r)) MoreUrgent) else None
 

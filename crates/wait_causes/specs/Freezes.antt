@@ -7,8 +7,8 @@ use Rattle.wait_causes.specs.Origins.{Origin}
 use Rattle.wait_causes.specs.declared.origin.Origin.TheVariants as origin
 use Rattle.wait_causes.specs.Causes.{round_cause}
 use Rattle.wait_causes.specs.Tables.{stays_of, Grouping}
-use Rattle.round_net.specs.declared.cause.Cause as waiting
-use Rattle.round_net.specs.declared.cause.Cause.TheVariants as why
+use Rattle.round_net.specs.declared.cause.WaitCause as waiting
+use Rattle.round_net.specs.declared.cause.WaitCause.TheVariants as why
 use Rattle.wait_causes.specs.Stays.{ExplainedStay}
 pub use Rattle.wait_causes.specs.declared.freeze.Freeze.{Freeze}
 use Rattle.round_net.specs.declared.freeze_kind.FreezeKind.TheVariants.{Error, Caller, Adapter}
@@ -31,7 +31,7 @@ abbrev pub rounds_between : ℕ → ℕ → List ℕ
 rounds_between first end = range_with_len first (end - first)
 
 -- why stays wait for a freeze
-abbrev pub cause_of : FreezeKind → waiting.Cause
+abbrev pub cause_of : FreezeKind → waiting.WaitCause
 cause_of Error = why.Error
 cause_of Caller = why.Caller
 cause_of Adapter = why.AdapterFrozen
@@ -43,19 +43,19 @@ grouping_of Caller = by.Device
 grouping_of Adapter = by.Adapter
 
 -- whether a stay waited in a round for a cause, by the causes of each device in each round
-abbrev pub waits_for : (ℕ → ℕ → waiting.Cause) → waiting.Cause → ExplainedStay → ℕ → Bool
+abbrev pub waits_for : (ℕ → ℕ → waiting.WaitCause) → waiting.WaitCause → ExplainedStay → ℕ → Bool
 waits_for causes cause s r = nat_le s.arrival r && (nat_lt r s.live && is_cause cause (causes s.device r))
 
 -- what a stay waited in some rounds for a cause, by weight
-abbrev pub stay_cost : (ℕ → ℕ → waiting.Cause) → waiting.Cause → List ℕ → ExplainedStay → ℕ
+abbrev pub stay_cost : (ℕ → ℕ → waiting.WaitCause) → waiting.WaitCause → List ℕ → ExplainedStay → ℕ
 stay_cost causes cause rounds s = s.weight * count_by (waits_for causes cause s) rounds
 
 -- what some stays waited in some rounds for a cause, by weight
-unfoldable pub cost_in : (ℕ → ℕ → waiting.Cause) → waiting.Cause → List ℕ → List ExplainedStay → ℕ
+unfoldable pub cost_in : (ℕ → ℕ → waiting.WaitCause) → waiting.WaitCause → List ℕ → List ExplainedStay → ℕ
 cost_in causes cause rounds stays = sum_by (stay_cost causes cause rounds) stays
 
 -- the freeze of a number that begins in a round, by the stays there
-unfoldable pub freeze_from : FreezeKind → ℕ → (ℕ → Bool) → ℕ → (ℕ → ℕ → waiting.Cause) → List ExplainedStay → ℕ → Freeze
+unfoldable pub freeze_from : FreezeKind → ℕ → (ℕ → Bool) → ℕ → (ℕ → ℕ → waiting.WaitCause) → List ExplainedStay → ℕ → Freeze
 freeze_from kind n frozen last causes there r = record {
   kind = kind;
   number = n;
@@ -65,11 +65,11 @@ freeze_from kind n frozen last causes there r = record {
 }
 
 -- the freezes of a number: one from each round in which one begins, of those before the round that didn't end
-unfoldable pub freezes_at : FreezeKind → ℕ → (ℕ → Bool) → ℕ → (ℕ → ℕ → waiting.Cause) → List ExplainedStay → List Freeze
+unfoldable pub freezes_at : FreezeKind → ℕ → (ℕ → Bool) → ℕ → (ℕ → ℕ → waiting.WaitCause) → List ExplainedStay → List Freeze
 freezes_at kind n frozen last causes there = map (freeze_from kind n frozen last causes there) (filter (begins frozen) (rounds_between 1 last))
 
 -- the freezes of a kind, by that many numbers and their rounds
-unfoldable pub freezes_by : FreezeKind → (ℕ → ℕ → Bool) → ℕ → ℕ → (ℕ → ℕ → waiting.Cause) → List ExplainedStay → List Freeze
+unfoldable pub freezes_by : FreezeKind → (ℕ → ℕ → Bool) → ℕ → ℕ → (ℕ → ℕ → waiting.WaitCause) → List ExplainedStay → List Freeze
 freezes_by kind frozen count last causes stays = flat_map (λ n. freezes_at kind n (frozen n) last causes (stays_of (grouping_of kind) stays n)) (range_with_len 0 count)
 
 -- the freezes of a kind in a history, whose stays these are

@@ -1,10 +1,10 @@
 -- what is explained: a history, by its trace, or a recording
 use Rattle.std.specs.Prelude.{◌≡◌, ℕ, List, [], Option, None, IfSome}
-use Rattle.recording_file.specs.Names.{Label}
+use Rattle.recording_file.specs.Names.{NameValue}
 use Rattle.recording_file.specs.declared.span.Span.{Span}
 use Rattle.round_net.specs.RecordedNets.{net_of_recording}
 use Rattle.round_net.specs.Schedules.{cost}
-use Rattle.wait_causes.specs.Words.{live_cost, Cause, NetRows, Instance, net_of, instance_of_rows, live_of_rows}
+use Rattle.wait_causes.specs.Words.{live_cost, WaitCause, NetRows, Instance, net_of, instance_of_rows, live_of_rows}
 use Rattle.wait_causes.specs.Causes.{round_cause}
 use Rattle.wait_causes.specs.RecordedCauses.{recorded_cause}
 pub use Rattle.wait_causes.specs.declared.origin.Origin.{Origin}
@@ -22,7 +22,7 @@ abbrev pub live_in : Origin → ℕ → ℕ
 live_in o = live_of_rows (net_in o)
 
 -- why the stays of a device waited in a round
-abbrev pub cause_of : Origin → ℕ → ℕ → Cause
+abbrev pub cause_of : Origin → ℕ → ℕ → WaitCause
 cause_of (origin.Trace past) = round_cause past.config past.events
 cause_of (origin.Recording r) = recorded_cause (instance_in (origin.Recording r)) (live_in (origin.Recording r))
 
@@ -32,11 +32,11 @@ IsLiveCost (origin.Trace past) n = IfSome (live_cost past.config past.events) (�
 IsLiveCost (origin.Recording r) n = n ≡ cost (instance_in (origin.Recording r)) (live_in (origin.Recording r))
 
 -- what people call its drivers, devices, adapters and links: a history has no names
-abbrev pub names_in : Origin → List Label
+abbrev pub names_in : Origin → List NameValue
 names_in (origin.Trace _) = []
 names_in (origin.Recording r) = r.names
 
--- how long a round of it is, if that is said
+-- how long a round of it is, if that is known
 abbrev pub unit_in : Origin → Option Span
 unit_in (origin.Trace _) = None
 unit_in (origin.Recording r) = r.unit

@@ -1,8 +1,8 @@
 -- what some stays waited, and what that cost
 use Rattle.std.specs.Prelude.{ℕ, ◌+◌, ◌-◌, ◌*◌, ◌≤◌, Bool, nat_le, List, [], ◌∷◌, length, map, count_by, sum_by, find, unwrap_or, All}
 use Rattle.std.specs.List.{range_with_len}
-use Rattle.cam_types.specs.declared.maxima.TheConstants.{MOST_WEIGHT}
-use Rattle.wait_causes.specs.Words.{MOST_NET_ROUNDS, Cause, Error, Caller, AdapterFrozen, DeviceStopped, AdapterStopped, LinkStopped, DeviceFull, AdapterFull, LinkFull, NotAsked}
+use Rattle.cam_types.specs.declared.limits.TheConstants.{MAX_WEIGHT}
+use Rattle.wait_causes.specs.Words.{MAX_NET_ROUNDS, WaitCause, Error, Caller, AdapterFrozen, DeviceStopped, AdapterStopped, LinkStopped, DeviceFull, AdapterFull, LinkFull, NotAsked}
 use Rattle.wait_causes.specs.declared.explained_stay.CauseRounds.{CauseRounds}
 use Rattle.wait_causes.specs.Behind.{Behind, LessUrgent, Equal, MoreUrgent, FullBehind}
 use Rattle.wait_causes.specs.Stays.{ExplainedStay}
@@ -17,7 +17,7 @@ use Rattle.wait_causes.specs.declared.part.BehindCosts.{BehindCosts}
 pub use Rattle.wait_causes.specs.declared.part.Part.{Part}
 
 -- the rounds of a cause
-abbrev pub rounds_for : Cause → CauseRounds → ℕ
+abbrev pub rounds_for : WaitCause → CauseRounds → ℕ
 rounds_for Error n = n.error
 rounds_for Caller n = n.caller
 rounds_for AdapterFrozen n = n.adapter_frozen
@@ -58,14 +58,14 @@ is_enough thousandths waits n = nat_le (thousandths * length waits) (1000 * coun
 
 -- nearest rank: the least number of rounds that is enough; no input has more rounds than these
 unfoldable pub rank_of : ℕ → List ℕ → ℕ
-rank_of thousandths waits = unwrap_or (find (is_enough thousandths waits) (range_with_len 0 MOST_NET_ROUNDS)) 0
+rank_of thousandths waits = unwrap_or (find (is_enough thousandths waits) (range_with_len 0 MAX_NET_ROUNDS)) 0
 
 abbrev pub nearest_rank : ℕ → List ExplainedStay → ℕ
 nearest_rank thousandths stays = rank_of thousandths (map waited stays)
 
 -- no stay has a larger weight than there may be
 abbrev pub IsLight : ExplainedStay → Type 0
-IsLight s = s.weight ≤ MOST_WEIGHT
+IsLight s = s.weight ≤ MAX_WEIGHT
 
 abbrev pub AreLight : List ExplainedStay → Type 0
 AreLight stays = All IsLight stays
@@ -94,12 +94,12 @@ behind_costs stays = record {
 }
 
 -- the causes of a kind of input in the order in which they are tested
-abbrev pub causes_of : InputKind → List Cause
+abbrev pub causes_of : InputKind → List WaitCause
 causes_of Trace = Error ∷ Caller ∷ AdapterFrozen ∷ DeviceFull ∷ AdapterFull ∷ LinkFull ∷ NotAsked ∷ []
 causes_of Recording = DeviceStopped ∷ AdapterStopped ∷ LinkStopped ∷ DeviceFull ∷ AdapterFull ∷ LinkFull ∷ NotAsked ∷ []
 
 -- each with its cost
-abbrev pub by_cause : InputKind → CauseCosts → List (Cause × ℕ)
+abbrev pub by_cause : InputKind → CauseCosts → List (WaitCause × ℕ)
 by_cause Trace n =
     (Error, n.error)
     ∷ (Caller, n.caller)

@@ -2,10 +2,10 @@
 use Rattle.std.specs.Prelude.{ℕ, ◌+◌, ◌-◌, List, length, map, zip, count_by, unwrap_or}
 use Rattle.std.specs.List.{range_with_len}
 use Rattle.std.specs.Option.{option_map_or}
-use Rattle.cam_types.specs.Lists.{moments}
+use Rattle.cam_types.specs.Lists.{prefixed}
 use Rattle.recording_file.specs.Recorded.{Recorded}
 use Rattle.recording_file.specs.declared.request.Request.{Request}
-use Rattle.wait_causes.specs.Words.{Topology, device_adapter, weight, run_level, round, submission, stays_begun, live_round, Event, Passage, Submission, StayRecord, is_cause, Cause, Error, Caller, AdapterFrozen, DeviceStopped, AdapterStopped, LinkStopped, DeviceFull, AdapterFull, LinkFull, NotAsked}
+use Rattle.wait_causes.specs.Words.{Topology, device_adapter, weight, run_level, round, submission, stays_begun, live_round, Event, Passage, Submission, StayRecord, is_cause, WaitCause, Error, Caller, AdapterFrozen, DeviceStopped, AdapterStopped, LinkStopped, DeviceFull, AdapterFull, LinkFull, NotAsked}
 use Rattle.wait_causes.specs.Behind.{behind_in, behind_by, no_behind, FullBehind}
 use Rattle.wait_causes.specs.Origins.{Origin, cause_of, instance_in, live_in}
 use Rattle.wait_causes.specs.declared.origin.Origin.TheVariants as origin
@@ -13,7 +13,7 @@ use Rattle.wait_causes.specs.declared.explained_stay.CauseRounds.{CauseRounds}
 pub use Rattle.wait_causes.specs.declared.explained_stay.ExplainedStay.{ExplainedStay}
 
 -- how many of some rounds have each cause
-abbrev pub rounds_by : List Cause → CauseRounds
+abbrev pub rounds_by : List WaitCause → CauseRounds
 rounds_by causes = record {
   error = count_by (is_cause Error) causes;
   caller = count_by (is_cause Caller) causes;
@@ -61,7 +61,7 @@ explained_stay c events p best = record {
   behind = behind_waited (origin.Trace (record { config = c; events = events })) p.device (weight c p.priority) p.arrival (live_round events p);
 }
 
--- all stays in order of birth, each beside its round of that schedule
+-- all stays in creation order, each beside its round of that schedule
 unfoldable pub explained_stays : Topology → List Event → List ℕ → List ExplainedStay
 explained_stays c events best =
     map (λ (m : Passage × ℕ). explained_stay c events m.0 m.1) (zip (stays_begun events) best)
@@ -87,7 +87,7 @@ explained_request r m best = record {
 -- all requests in the order of the text
 unfoldable pub explained_requests : Recorded → List ℕ → List ExplainedStay
 explained_requests r best =
-    map (λ (m : (List Request × Request) × ℕ). explained_request r m.0 m.1) (zip (moments r.requests) best)
+    map (λ (m : (List Request × Request) × ℕ). explained_request r m.0 m.1) (zip (prefixed r.requests) best)
 
 -- the stays of either
 abbrev pub explained : Origin → List ℕ → List ExplainedStay
@@ -98,7 +98,7 @@ explained (origin.Recording r) best = explained_requests r best
 abbrev pub no_rounds : CauseRounds
 no_rounds = record { error = 0; caller = 0; adapter_frozen = 0; device_stopped = 0; adapter_stopped = 0; link_stopped = 0; device_full = 0; adapter_full = 0; link_full = 0; not_asked = 0 }
 
-abbrev pub with_round : CauseRounds → Cause → CauseRounds
+abbrev pub with_round : CauseRounds → WaitCause → CauseRounds
 with_round n Error = record n { error = n.error + 1 }
 with_round n Caller = record n { caller = n.caller + 1 }
 with_round n AdapterFrozen = record n { adapter_frozen = n.adapter_frozen + 1 }

@@ -3,7 +3,7 @@ use Rattle.std.specs.Prelude.{◌≡◌, ℕ, List, sum_by}
 use Rattle.wait_causes.specs.Behind.{LessUrgent, Equal, MoreUrgent}
 use Rattle.wait_causes.specs.Parts.{part_of, Measure, Waited, Live, Best, Cost, Full, Part}
 use Rattle.wait_causes.specs.Tables.{table_of, Grouping}
-use Rattle.round_net.specs.declared.cause.Cause.TheVariants.{Error, Caller, AdapterFrozen, DeviceStopped, AdapterStopped, LinkStopped, DeviceFull, AdapterFull, LinkFull, NotAsked}
+use Rattle.round_net.specs.declared.cause.WaitCause.TheVariants.{Error, Caller, AdapterFrozen, DeviceStopped, AdapterStopped, LinkStopped, DeviceFull, AdapterFull, LinkFull, NotAsked}
 use Rattle.wait_causes.specs.Stays.{ExplainedStay}
 use Rattle.wait_causes.specs.declared.table.Row as table
 

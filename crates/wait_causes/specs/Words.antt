@@ -2,7 +2,7 @@
 pub use Rattle.cam_types.specs.Priority.{run_level}
 pub use Rattle.cam_types.specs.Questions.{device_adapter, weight}
 pub use Rattle.cam_types.specs.Topology.{IsConfig, Topology}
-pub use Rattle.cam_types.specs.declared.maxima.TheConstants.{MOST_ROUNDS, MOST_STAYS}
+pub use Rattle.cam_types.specs.declared.limits.TheConstants.{MAX_ROUNDS, MAX_STAYS}
 pub use Rattle.event_rules.specs.Counts.{round, submission}
 pub use Rattle.event_rules.specs.Laws.{is_stay_in_range}
 pub use Rattle.event_rules.specs.Legal.{Rules, history_rules, is_legal}
@@ -19,9 +19,9 @@ pub use Rattle.round_net.specs.Instance.{Instance}
 pub use Rattle.round_net.specs.Rows.{NetRows}
 unfoldable pub use Rattle.round_net.specs.Rows.{instance_of_rows, live_of_rows}
 pub use Rattle.round_net.specs.Sound.{IsSound}
-pub use Rattle.round_net.specs.declared.maxima.TheConstants.{MOST_NET_ROUNDS, MOST_NET_STAYS}
-pub use Rattle.round_net.specs.declared.cause.Cause.{Cause}
-pub use Rattle.round_net.specs.declared.cause.Cause.TheVariants.{AdapterFrozen, AdapterFull, AdapterStopped, Caller, DeviceFull, DeviceStopped, Error, LinkFull, LinkStopped, NotAsked}
+pub use Rattle.round_net.specs.declared.limits.TheConstants.{MAX_NET_ROUNDS, MAX_NET_STAYS}
+pub use Rattle.round_net.specs.declared.cause.WaitCause.{WaitCause}
+pub use Rattle.round_net.specs.declared.cause.WaitCause.TheVariants.{AdapterFrozen, AdapterFull, AdapterStopped, Caller, DeviceFull, DeviceStopped, Error, LinkFull, LinkStopped, NotAsked}
 pub use Rattle.round_net.specs.declared.freeze_kind.FreezeKind.{FreezeKind}
 pub use Rattle.xpt_core.specs.Records.{record_of}
 unfoldable pub use Rattle.xpt_core.specs.Records.{records}

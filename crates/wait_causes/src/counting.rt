@@ -4,7 +4,7 @@ ghost use Rattle.std.specs.Prelude.{◌≡◌, ◌<◌, ◌≤◌, length, map, 
 ghost use Rattle.wait_causes.specs.Origins.{net_in, instance_in};
 ghost use Rattle.wait_causes.specs.Stays.{counted};
 ghost use Rattle.wait_causes.specs.Totals.{AreSendsOf};
-ghost use Rattle.wait_causes.specs.Counting.{AreWithin, causes_before, behind_before, AreCauseTotals, AreBehindTotals, IsFilled, key_of, MOST_WEIGHT};
+ghost use Rattle.wait_causes.specs.Counting.{AreWithin, causes_before, behind_before, AreCauseTotals, AreBehindTotals, IsFilled, key_of, MAX_WEIGHT};
 ghost use Rattle.wait_causes.specs.declared.origin.Origin.{Origin as Origins};
 
 use crate::behind::FullBehind;
@@ -12,7 +12,7 @@ use crate::explained_stay::{CauseRounds, ExplainedStay};
 use crate::origin::Origin;
 use crate::sends::Sends;
 use crate::totals::{behind_between, behind_totals, cause_totals, rounds_between};
-use cam_types::MOST_WEIGHT;
+use cam_types::MAX_WEIGHT;
 use round_net::Net;
 use std::alloc::{AllocError, Global};
 
@@ -73,7 +73,7 @@ fn no_totals(alloc: Global, devices: u32) -> Result<Vec<Vec<FullBehind>>, AllocE
 fn key_of(device: u32, weight: u32) -> usize
     ensures { result ≡ key_of device weight }
 {
-    device as usize * (MOST_WEIGHT as usize + 1) + weight as usize
+    device as usize * (MAX_WEIGHT as usize + 1) + weight as usize
 }
 
 // Fills the list of a weight on a device, unless it is filled.
@@ -89,7 +89,7 @@ fn fill(
     requires net { net.now ≡ net_in origin.now }
     requires sends { AreSendsOf origin.now sends.now }
     requires device { device < (instance_in origin.now).devices }
-    requires weight { weight ≤ MOST_WEIGHT }
+    requires weight { weight ≤ MAX_WEIGHT }
     requires before { AreBehindTotals origin.now behinds.old.items }
     ensures kept { OnOk result (AreBehindTotals origin.now behinds.new.items) }
     ensures filled { OnOk result (IsFilled origin.now device weight behinds.new.items) }

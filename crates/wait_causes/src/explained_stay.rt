@@ -5,7 +5,7 @@ ghost use Rattle.wait_causes.specs.Parts.{rounds_for, waited, measure, Live};
 ghost use Rattle.wait_causes.specs.Stays.{with_round, all_rounds, no_rounds, rounds_since};
 
 use crate::behind::FullBehind;
-use round_net::Cause;
+use round_net::WaitCause;
 
 /// Rounds of waiting by cause.
 #[derive(Clone, Copy, Debug, PartialEq, Eq)]
@@ -34,20 +34,20 @@ pub struct CauseRounds {
 
 impl CauseRounds {
     /// Those of this cause.
-    pub fn for_cause(&self, cause: Cause) -> u32
+    pub fn for_cause(&self, cause: WaitCause) -> u32
         ensures { result ≡ rounds_for cause self.now }
     {
         match cause {
-            Cause::Error => self.error,
-            Cause::Caller => self.caller,
-            Cause::AdapterFrozen => self.adapter_frozen,
-            Cause::DeviceStopped => self.device_stopped,
-            Cause::AdapterStopped => self.adapter_stopped,
-            Cause::LinkStopped => self.link_stopped,
-            Cause::DeviceFull => self.device_full,
-            Cause::AdapterFull => self.adapter_full,
-            Cause::LinkFull => self.link_full,
-            Cause::NotAsked => self.not_asked,
+            WaitCause::Error => self.error,
+            WaitCause::Caller => self.caller,
+            WaitCause::AdapterFrozen => self.adapter_frozen,
+            WaitCause::DeviceStopped => self.device_stopped,
+            WaitCause::AdapterStopped => self.adapter_stopped,
+            WaitCause::LinkStopped => self.link_stopped,
+            WaitCause::DeviceFull => self.device_full,
+            WaitCause::AdapterFull => self.adapter_full,
+            WaitCause::LinkFull => self.link_full,
+            WaitCause::NotAsked => self.not_asked,
         }
     }
 
@@ -70,21 +70,21 @@ impl CauseRounds {
     }
 
     /// One round more of this cause.
-    pub(crate) fn add(&mut self, cause: Cause)
+    pub(crate) fn add(&mut self, cause: WaitCause)
         requires { all_rounds self.old + 1 < 2 ^ 32 }
         ensures { self.new ≡ with_round self.old cause }
     {
         match cause {
-            Cause::Error => self.error += 1,
-            Cause::Caller => self.caller += 1,
-            Cause::AdapterFrozen => self.adapter_frozen += 1,
-            Cause::DeviceStopped => self.device_stopped += 1,
-            Cause::AdapterStopped => self.adapter_stopped += 1,
-            Cause::LinkStopped => self.link_stopped += 1,
-            Cause::DeviceFull => self.device_full += 1,
-            Cause::AdapterFull => self.adapter_full += 1,
-            Cause::LinkFull => self.link_full += 1,
-            Cause::NotAsked => self.not_asked += 1,
+            WaitCause::Error => self.error += 1,
+            WaitCause::Caller => self.caller += 1,
+            WaitCause::AdapterFrozen => self.adapter_frozen += 1,
+            WaitCause::DeviceStopped => self.device_stopped += 1,
+            WaitCause::AdapterStopped => self.adapter_stopped += 1,
+            WaitCause::LinkStopped => self.link_stopped += 1,
+            WaitCause::DeviceFull => self.device_full += 1,
+            WaitCause::AdapterFull => self.adapter_full += 1,
+            WaitCause::LinkFull => self.link_full += 1,
+            WaitCause::NotAsked => self.not_asked += 1,
         }
     }
 

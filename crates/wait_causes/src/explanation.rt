@@ -143,7 +143,7 @@ impl Explanation {
         self.origin.unit()
     }
 
-    /// All stays, in order of birth; of a recording the requests, in the order of its text.
+    /// All stays, in creation order; of a recording the requests, in the order of its text.
     pub fn stays(&self) -> &[ExplainedStay]
         ensures { result.now ≡ explained self.now.origin self.now.best }
     {

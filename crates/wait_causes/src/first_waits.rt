@@ -4,7 +4,7 @@ ghost use Rattle.std.specs.Prelude.{◌≡◌, ◌<◌, ◌≤◌, ◌-◌, ℕ,
 ghost use Rattle.std.specs.List.{range_with_len};
 ghost use Rattle.wait_causes.specs.Origins.{instance_in, cause_of};
 ghost use Rattle.wait_causes.specs.FirstWaits.{AreRuns, AreFirstWaits, has_changed, waits_from};
-ghost use Rattle.round_net.specs.declared.cause.Cause.{Cause as Causes};
+ghost use Rattle.round_net.specs.declared.cause.WaitCause.{WaitCause as Causes};
 
 use crate::cause_runs::{DeviceRuns, number_at};
 use crate::origin::Origin;

@@ -4,7 +4,7 @@ ghost use Rattle.std.specs.Prelude.{◌≡◌};
 ghost use Rattle.wait_causes.specs.Freezes.{cause_of, grouping_of};
 
 use crate::table::Grouping;
-use round_net::{Cause, FreezeKind};
+use round_net::{FreezeKind, WaitCause};
 
 /// Rounds in a row at whose ends a device or an adapter was frozen.
 #[derive(Clone, Copy, Debug, PartialEq, Eq)]
@@ -23,13 +23,13 @@ pub struct Freeze {
 }
 
 // Why stays wait for a freeze of this kind.
-pub(crate) fn cause_of(kind: FreezeKind) -> Cause
+pub(crate) fn cause_of(kind: FreezeKind) -> WaitCause
     ensures { result ≡ cause_of kind }
 {
     match kind {
-        FreezeKind::Error => Cause::Error,
-        FreezeKind::Caller => Cause::Caller,
-        FreezeKind::Adapter => Cause::AdapterFrozen,
+        FreezeKind::Error => WaitCause::Error,
+        FreezeKind::Caller => WaitCause::Caller,
+        FreezeKind::Adapter => WaitCause::AdapterFrozen,
     }
 }
 

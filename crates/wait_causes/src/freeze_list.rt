@@ -1,13 +1,13 @@
 //! The freezes of a history, each with its rounds and what it cost.
 
 ghost use Rattle.std.specs.Prelude.{◌≡◌, ◌≤◌, ◌++◌, length, count_by, IfOk};
-ghost use Rattle.wait_causes.specs.Words.{MOST_STAYS, round, numbers, cause_in, flag_in};
+ghost use Rattle.wait_causes.specs.Words.{MAX_STAYS, round, numbers, cause_in, flag_in};
 ghost use Rattle.wait_causes.specs.Freezes.{begins, behind, rounds_between, waits_for, stay_cost, cost_in, freeze_from, freezes_at, freezes_by, freezes_found};
 
 use crate::explained_stay::ExplainedStay;
 use crate::freeze::{Freeze, cause_of, grouping_of};
 use crate::table::stays_of;
-use round_net::{Cause, FreezeKind, RoundTable};
+use round_net::{FreezeKind, RoundTable, WaitCause};
 use std::alloc::{AllocError, Global};
 
 /// The freezes: those by errors, then those by callers, then those of adapters.
@@ -16,7 +16,7 @@ pub(crate) fn freezes_of(
     table: &RoundTable,
     stays: &[ExplainedStay],
 ) -> Result<Vec<Freeze>, AllocError>
-    requires few { length stays.now ≤ MOST_STAYS }
+    requires few { length stays.now ≤ MAX_STAYS }
     ensures { IfOk result (λ rows. rows.items ≡ freezes_found table.now.config table.now.events stays.now) }
 {
     let mut rows = Vec::new(alloc);
@@ -35,7 +35,7 @@ fn push_freezes(
     table: &RoundTable,
     stays: &[ExplainedStay],
 ) -> Result<(), AllocError>
-    requires few { length stays.now ≤ MOST_STAYS }
+    requires few { length stays.now ≤ MAX_STAYS }
     ensures { IfOk result (λ _. freezes.new.items ≡ freezes.old.items ++ freezes_by kind (flag_in kind table.now.config table.now.events) (numbers kind table.now.config) (round table.now.events) (cause_in table.now.config table.now.events) stays.now) }
 {
     for number in 0..kind.numbers(table.end().devices().config()) {
@@ -54,7 +54,7 @@ fn push_number(
     number: u32,
     there: &[ExplainedStay],
 ) -> Result<(), AllocError>
-    requires few { length there.now ≤ MOST_STAYS }
+    requires few { length there.now ≤ MAX_STAYS }
     ensures { IfOk result (λ _. freezes.new.items ≡ freezes.old.items ++ freezes_at kind number (flag_in kind table.now.config table.now.events number) (round table.now.events) (cause_in table.now.config table.now.events) there.now) }
 {
     for round in 1..table.end().devices().round() {
@@ -82,7 +82,7 @@ fn freeze_from(
     there: &[ExplainedStay],
     first: u32,
 ) -> Freeze
-    requires few { length there.now ≤ MOST_STAYS }
+    requires few { length there.now ≤ MAX_STAYS }
     ensures { result ≡ freeze_from kind number (flag_in kind table.now.config table.now.events number) (round table.now.events) (cause_in table.now.config table.now.events) there.now first }
 {
     let end = behind(kind, table, number, first);
@@ -110,8 +110,14 @@ fn behind(kind: FreezeKind, table: &RoundTable, number: u32, first: u32) -> u32
 
 // What the stays waited for the cause in the rounds from the first to the one before the end, by weight.
 #[tactic(auto, unfolding(crate::specs::Freezes::cost_in))]
-fn cost_in(cause: Cause, first: u32, end: u32, table: &RoundTable, stays: &[ExplainedStay]) -> u64
-    requires few { length stays.now ≤ MOST_STAYS }
+fn cost_in(
+    cause: WaitCause,
+    first: u32,
+    end: u32,
+    table: &RoundTable,
+    stays: &[ExplainedStay],
+) -> u64
+    requires few { length stays.now ≤ MAX_STAYS }
     ensures { result ≡ cost_in (cause_in table.now.config table.now.events) cause (rounds_between first end) stays.now }
 {
     let mut cost = 0;
@@ -123,7 +129,13 @@ fn cost_in(cause: Cause, first: u32, end: u32, table: &RoundTable, stays: &[Expl
 
 // What the stay waited for the cause in these rounds, by weight.
 #[tactic(auto, using(crate::proofs::PartLemmas::weight_fits))]
-fn stay_cost(cause: Cause, first: u32, end: u32, table: &RoundTable, stay: &ExplainedStay) -> u64
+fn stay_cost(
+    cause: WaitCause,
+    first: u32,
+    end: u32,
+    table: &RoundTable,
+    stay: &ExplainedStay,
+) -> u64
     ensures same { result ≡ stay_cost (cause_in table.now.config table.now.events) cause (rounds_between first end) stay.now }
     ensures small { result ≤ 281474976710656 }
 {
@@ -131,7 +143,13 @@ fn stay_cost(cause: Cause, first: u32, end: u32, table: &RoundTable, stay: &Expl
 }
 
 // In how many of these rounds the stay waited for the cause.
-fn rounds_for(cause: Cause, first: u32, end: u32, table: &RoundTable, stay: &ExplainedStay) -> u32
+fn rounds_for(
+    cause: WaitCause,
+    first: u32,
+    end: u32,
+    table: &RoundTable,
+    stay: &ExplainedStay,
+) -> u32
     ensures { result ≡ count_by (waits_for (cause_in table.now.config table.now.events) cause stay.now) (rounds_between first end) }
 {
     let mut rounds = 0;
@@ -144,7 +162,7 @@ fn rounds_for(cause: Cause, first: u32, end: u32, table: &RoundTable, stay: &Exp
 }
 
 // Whether the stay waited for the cause in the round.
-fn waits_for(cause: Cause, table: &RoundTable, stay: &ExplainedStay, round: u32) -> bool
+fn waits_for(cause: WaitCause, table: &RoundTable, stay: &ExplainedStay, round: u32) -> bool
     ensures { result ≡ waits_for (cause_in table.now.config table.now.events) cause stay.now round }
 {
     stay.arrival <= round && round < stay.live && cause.is(table.cause(stay.device, round))

@@ -1,6 +1,6 @@
 //! What kind of input is explained.
 
-use round_net::Cause;
+use round_net::WaitCause;
 
 /// What kind of input is explained.
 #[derive(Clone, Copy, Debug, PartialEq, Eq)]
@@ -16,27 +16,27 @@ impl InputKind {
     ghost use Rattle.wait_causes.specs.Parts.{causes_of};
 
     /// The causes of such an input, in the order in which they are tested.
-    pub fn causes(self) -> [Cause; 7]
+    pub fn causes(self) -> [WaitCause; 7]
         ensures { result ≡ causes_of self }
     {
         match self {
             InputKind::Trace => [
-                Cause::Error,
-                Cause::Caller,
-                Cause::AdapterFrozen,
-                Cause::DeviceFull,
-                Cause::AdapterFull,
-                Cause::LinkFull,
-                Cause::NotAsked,
+                WaitCause::Error,
+                WaitCause::Caller,
+                WaitCause::AdapterFrozen,
+                WaitCause::DeviceFull,
+                WaitCause::AdapterFull,
+                WaitCause::LinkFull,
+                WaitCause::NotAsked,
             ],
             InputKind::Recording => [
-                Cause::DeviceStopped,
-                Cause::AdapterStopped,
-                Cause::LinkStopped,
-                Cause::DeviceFull,
-                Cause::AdapterFull,
-                Cause::LinkFull,
-                Cause::NotAsked,
+                WaitCause::DeviceStopped,
+                WaitCause::AdapterStopped,
+                WaitCause::LinkStopped,
+                WaitCause::DeviceFull,
+                WaitCause::AdapterFull,
+                WaitCause::LinkFull,
+                WaitCause::NotAsked,
             ],
         }
     }

@@ -11,7 +11,7 @@ pub use freeze::Freeze;
 pub use kind::InputKind;
 pub use laws::{behind_adds_up, freezes_add_up, rows_add_up};
 pub use part::{BehindCosts, CauseCosts, Part};
-pub use round_net::{Cause, FreezeKind};
+pub use round_net::{FreezeKind, WaitCause};
 pub use table::{Grouping, Row};
 pub use wait::Wait;
 

@@ -1,7 +1,7 @@
 //! The stays of a history, whose rounds are still to be counted.
 
 ghost use Rattle.std.specs.Prelude.{◌≡◌, ◌≤◌, map, length, zip, IfOk};
-ghost use Rattle.wait_causes.specs.Words.{MOST_STAYS, device_adapter, submission, Submission};
+ghost use Rattle.wait_causes.specs.Words.{MAX_STAYS, device_adapter, submission, Submission};
 ghost use Rattle.std.specs.Option.{option_map_or};
 ghost use Rattle.wait_causes.specs.Stays.{row_by};
 
@@ -20,7 +20,7 @@ pub(crate) fn list_stays(
     best: &Schedule,
 ) -> Result<Vec<ExplainedStay>, AllocError>
     requires same { length best.now ≡ length records.now }
-    requires few { length records.now ≤ MOST_STAYS }
+    requires few { length records.now ≤ MAX_STAYS }
     ensures { IfOk result (λ rows. rows.items ≡ map (row_by table.now.config table.now.events) (zip records.now best.now)) }
 {
     let mut rows = Vec::new(alloc);

@@ -2,7 +2,7 @@
 
 use crate::recorded::RecordedRounds;
 use recording_file::{Name, Span};
-use round_net::{Cause, RoundTable};
+use round_net::{RoundTable, WaitCause};
 
 /// What is explained, with why its stays waited in each round.
 #[derive(Drop)]
@@ -18,7 +18,7 @@ impl Origin {
     ghost use Rattle.wait_causes.specs.Origins.{instance_in, cause_of, names_in, unit_in};
 
     /// Why the stays of the device waited in the round.
-    pub(crate) fn cause(&self, device: u32, round: u32) -> Cause
+    pub(crate) fn cause(&self, device: u32, round: u32) -> WaitCause
         requires device { device < (instance_in self.now).devices }
         requires first { 1 ≤ round }
         requires last { round ≤ (instance_in self.now).rounds }
@@ -39,7 +39,7 @@ impl Origin {
         }
     }
 
-    /// How long a round is, if that is said.
+    /// How long a round is, if that is known.
     pub(crate) fn unit(&self) -> Option<Span>
         ensures { result ≡ unit_in self.now }
     {

@@ -2,13 +2,13 @@
 
 ghost use Rattle.std.specs.Prelude.{◌≡◌, ◌≤◌, ◌*◌, ◌-ℤ◌, ℕ, pos, length, map, sum_by, count_by, nat_le, IfOk};
 ghost use Rattle.std.specs.List.Sorted.{IsNonDecreasing};
-ghost use Rattle.wait_causes.specs.Words.{MOST_NET_STAYS};
+ghost use Rattle.wait_causes.specs.Words.{MAX_NET_STAYS};
 ghost use Rattle.wait_causes.specs.Parts.{behind_for, waited, measure, Waited, Live, Best, rank_of, nearest_rank, costs_of, behind_costs, part_of, AreLight, IsLight};
 
 use crate::behind::{Behind, FullBehind};
 use crate::explained_stay::ExplainedStay;
 use crate::kind::InputKind;
-use round_net::{Cause, MOST_NET_ROUNDS};
+use round_net::{MAX_NET_ROUNDS, WaitCause};
 use std::alloc::{AllocError, Global};
 
 /// Weighted rounds by cause.
@@ -41,7 +41,7 @@ impl CauseCosts {
 
     /// The causes of such an input, in the order in which they are tested, each with its cost. Those of the other kind of
     /// input cost nothing.
-    pub fn by_cause(&self, kind: InputKind) -> [(Cause, u64); 7]
+    pub fn by_cause(&self, kind: InputKind) -> [(WaitCause, u64); 7]
         ensures { result ≡ by_cause kind self.now }
     {
         match kind {
@@ -50,31 +50,31 @@ impl CauseCosts {
         }
     }
 
-    fn of_trace(&self) -> [(Cause, u64); 7]
+    fn of_trace(&self) -> [(WaitCause, u64); 7]
         ensures { result ≡ by_cause InputKind.Trace self.now }
     {
         [
-            (Cause::Error, self.error),
-            (Cause::Caller, self.caller),
-            (Cause::AdapterFrozen, self.adapter_frozen),
-            (Cause::DeviceFull, self.device_full),
-            (Cause::AdapterFull, self.adapter_full),
-            (Cause::LinkFull, self.link_full),
-            (Cause::NotAsked, self.not_asked),
+            (WaitCause::Error, self.error),
+            (WaitCause::Caller, self.caller),
+            (WaitCause::AdapterFrozen, self.adapter_frozen),
+            (WaitCause::DeviceFull, self.device_full),
+            (WaitCause::AdapterFull, self.adapter_full),
+            (WaitCause::LinkFull, self.link_full),
+            (WaitCause::NotAsked, self.not_asked),
         ]
     }
 
-    fn of_recording(&self) -> [(Cause, u64); 7]
+    fn of_recording(&self) -> [(WaitCause, u64); 7]
         ensures { result ≡ by_cause InputKind.Recording self.now }
     {
         [
-            (Cause::DeviceStopped, self.device_stopped),
-            (Cause::AdapterStopped, self.adapter_stopped),
-            (Cause::LinkStopped, self.link_stopped),
-            (Cause::DeviceFull, self.device_full),
-            (Cause::AdapterFull, self.adapter_full),
-            (Cause::LinkFull, self.link_full),
-            (Cause::NotAsked, self.not_asked),
+            (WaitCause::DeviceStopped, self.device_stopped),
+            (WaitCause::AdapterStopped, self.adapter_stopped),
+            (WaitCause::LinkStopped, self.link_stopped),
+            (WaitCause::DeviceFull, self.device_full),
+            (WaitCause::AdapterFull, self.adapter_full),
+            (WaitCause::LinkFull, self.link_full),
+            (WaitCause::NotAsked, self.not_asked),
         ]
     }
 }
@@ -133,7 +133,7 @@ enum Measure {
     Waited,
     Live,
     Best,
-    Cost(Cause),
+    Cost(WaitCause),
     Full(Behind),
 }
 
@@ -169,7 +169,7 @@ fn behind_for(rounds: &FullBehind, behind: Behind) -> u32
 /// What these stays waited, and what that cost.
 #[tactic(auto, unfolding(crate::specs::Parts::part_of))]
 pub(crate) fn part_of(alloc: Global, stays: &[ExplainedStay]) -> Result<Part, AllocError>
-    requires few { length stays.now ≤ MOST_NET_STAYS }
+    requires few { length stays.now ≤ MAX_NET_STAYS }
     requires light { AreLight stays.now }
     ensures { IfOk result (λ part. part ≡ part_of stays.now) }
 {
@@ -228,7 +228,7 @@ impl Sums {
 
 // The sums over these stays, of which each is read once.
 fn sums_of(stays: &[ExplainedStay]) -> Sums
-    requires few { length stays.now ≤ MOST_NET_STAYS }
+    requires few { length stays.now ≤ MAX_NET_STAYS }
     requires light { AreLight stays.now }
     ensures waited { result.waited ≡ sum_by (measure Waited) stays.now }
     ensures live { result.live ≡ sum_by (measure Live) stays.now }
@@ -241,16 +241,16 @@ fn sums_of(stays: &[ExplainedStay]) -> Sums
         sums.waited += Measure::Waited.of(stay);
         sums.live += Measure::Live.of(stay);
         sums.best += Measure::Best.of(stay);
-        sums.costs.error += Measure::Cost(Cause::Error).of(stay);
-        sums.costs.caller += Measure::Cost(Cause::Caller).of(stay);
-        sums.costs.adapter_frozen += Measure::Cost(Cause::AdapterFrozen).of(stay);
-        sums.costs.device_stopped += Measure::Cost(Cause::DeviceStopped).of(stay);
-        sums.costs.adapter_stopped += Measure::Cost(Cause::AdapterStopped).of(stay);
-        sums.costs.link_stopped += Measure::Cost(Cause::LinkStopped).of(stay);
-        sums.costs.device_full += Measure::Cost(Cause::DeviceFull).of(stay);
-        sums.costs.adapter_full += Measure::Cost(Cause::AdapterFull).of(stay);
-        sums.costs.link_full += Measure::Cost(Cause::LinkFull).of(stay);
-        sums.costs.not_asked += Measure::Cost(Cause::NotAsked).of(stay);
+        sums.costs.error += Measure::Cost(WaitCause::Error).of(stay);
+        sums.costs.caller += Measure::Cost(WaitCause::Caller).of(stay);
+        sums.costs.adapter_frozen += Measure::Cost(WaitCause::AdapterFrozen).of(stay);
+        sums.costs.device_stopped += Measure::Cost(WaitCause::DeviceStopped).of(stay);
+        sums.costs.adapter_stopped += Measure::Cost(WaitCause::AdapterStopped).of(stay);
+        sums.costs.link_stopped += Measure::Cost(WaitCause::LinkStopped).of(stay);
+        sums.costs.device_full += Measure::Cost(WaitCause::DeviceFull).of(stay);
+        sums.costs.adapter_full += Measure::Cost(WaitCause::AdapterFull).of(stay);
+        sums.costs.link_full += Measure::Cost(WaitCause::LinkFull).of(stay);
+        sums.costs.not_asked += Measure::Cost(WaitCause::NotAsked).of(stay);
         sums.behind.less_urgent += Measure::Full(Behind::LessUrgent).of(stay);
         sums.behind.equal += Measure::Full(Behind::Equal).of(stay);
         sums.behind.more_urgent += Measure::Full(Behind::MoreUrgent).of(stay);
@@ -279,13 +279,13 @@ fn unsorted_waits(alloc: Global, stays: &[ExplainedStay]) -> Result<Vec<u32>, Al
 // The least of these ascending numbers of rounds that that many in a thousand of them don't pass.
 fn nearest_rank(waits: &[u32], thousandths: usize) -> u32
     requires ascending { IsNonDecreasing waits.now }
-    requires few { length waits.now ≤ MOST_NET_STAYS }
+    requires few { length waits.now ≤ MAX_NET_STAYS }
     requires thousandths { thousandths ≤ 1000 }
     ensures { result ≡ rank_of thousandths waits.now }
 {
     // No number below `low` is enough, and `high` is, unless it is beyond all.
     let mut low = 0;
-    let mut high = MOST_NET_ROUNDS;
+    let mut high = MAX_NET_ROUNDS;
     while low < high {
         let middle = low + (high - low) / 2;
         if thousandths * waits.len() <= 1000 * within(waits, middle) {
@@ -294,7 +294,7 @@ fn nearest_rank(waits: &[u32], thousandths: usize) -> u32
             low = middle + 1;
         }
     }
-    if low < MOST_NET_ROUNDS { low } else { 0 }
+    if low < MAX_NET_ROUNDS { low } else { 0 }
 }
 
 // How many of these ascending numbers are no more than this.

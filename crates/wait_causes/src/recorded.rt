@@ -2,7 +2,7 @@
 
 use crate::sends::{Sends, sends_at};
 use recording_file::{Name, Recording, Span};
-use round_net::{Cause, Net, cell};
+use round_net::{Net, WaitCause, cell};
 use std::alloc::{AllocError, Global};
 use std::marker::Model;
 
@@ -10,7 +10,7 @@ use std::marker::Model;
 #[derive(Drop)]
 pub struct RecordedRounds {
     recording: Recording,
-    causes: Vec<Cause>,
+    causes: Vec<WaitCause>,
 }
 
 impl Model for RecordedRounds {
@@ -47,7 +47,7 @@ impl RecordedRounds {
     }
 
     /// What held up the device in the round.
-    pub(crate) fn cause(&self, device: u32, round: u32) -> Cause
+    pub(crate) fn cause(&self, device: u32, round: u32) -> WaitCause
         requires device { device < (instance_of_recording self.now).devices }
         requires first { 1 ≤ round }
         requires last { round ≤ (instance_of_recording self.now).rounds }
@@ -63,7 +63,7 @@ impl RecordedRounds {
         self.recording.names()
     }
 
-    /// How long the recording's rounds are, if that is said.
+    /// How long the recording's rounds are, if that is known.
     pub(crate) fn unit(&self) -> Option<Span>
         ensures { result ≡ self.now.unit }
     {
@@ -81,15 +81,15 @@ ghost use Rattle.wait_causes.specs.RecordedRounds.{causes_by};
 ghost use Rattle.wait_causes.specs.Sends.{AreSends};
 
 // The cause at a place.
-fn cause_at(causes: &[Cause], at: usize) -> Cause
+fn cause_at(causes: &[WaitCause], at: usize) -> WaitCause
     ensures { result ≡ unwrap_or (slice_get causes.now at) NotAsked }
 {
-    causes.get(at).copied().unwrap_or(Cause::NotAsked)
+    causes.get(at).copied().unwrap_or(WaitCause::NotAsked)
 }
 
 // What held up each device in each round: all rounds of the first device, then those of the second one, and so on.
 #[tactic(auto, unfolding(crate::specs::RecordedRounds::causes_by))]
-fn causes_of(alloc: Global, net: &Net, sends: &[Sends]) -> Result<Vec<Cause>, AllocError>
+fn causes_of(alloc: Global, net: &Net, sends: &[Sends]) -> Result<Vec<WaitCause>, AllocError>
     requires sends { AreSends (instance_of_rows net.now) (live_of_rows net.now) (instance_of_rows net.now).stays sends.now }
     ensures { let n = instance_of_rows net.now in IfOk result (λ causes. causes.items ≡ causes_by n.devices n.rounds (recorded_cause n (live_of_rows net.now))) }
 {
@@ -104,28 +104,28 @@ fn causes_of(alloc: Global, net: &Net, sends: &[Sends]) -> Result<Vec<Cause>, Al
 
 // What held up the device in the round.
 #[tactic(auto, unfolding(crate::specs::RecordedCauses::recorded_cause))]
-fn cause_in(net: &Net, sends: &[Sends], device: u32, round: u32) -> Cause
+fn cause_in(net: &Net, sends: &[Sends], device: u32, round: u32) -> WaitCause
     requires device { device < (instance_of_rows net.now).devices }
     requires first { 1 ≤ round }
     requires last { round ≤ (instance_of_rows net.now).rounds }
     requires sends { AreSends (instance_of_rows net.now) (live_of_rows net.now) (instance_of_rows net.now).stays sends.now }
     ensures { result ≡ recorded_cause (instance_of_rows net.now) (live_of_rows net.now) device round }
 {
-    let adapter = net.adapter_row(net.adapter_of(device));
+    let adapter = net.adapter_resource(net.adapter_of(device));
     if is_stopped(net, device, round) {
-        Cause::DeviceStopped
+        WaitCause::DeviceStopped
     } else if is_stopped(net, adapter, round) {
-        Cause::AdapterStopped
+        WaitCause::AdapterStopped
     } else if is_link_stopped(net, device, round) {
-        Cause::LinkStopped
+        WaitCause::LinkStopped
     } else if is_used_up(net, sends, device, round) {
-        Cause::DeviceFull
+        WaitCause::DeviceFull
     } else if is_used_up(net, sends, adapter, round) {
-        Cause::AdapterFull
+        WaitCause::AdapterFull
     } else if is_link_used_up(net, sends, device, round) {
-        Cause::LinkFull
+        WaitCause::LinkFull
     } else {
-        Cause::NotAsked
+        WaitCause::NotAsked
     }
 }
 
@@ -147,7 +147,7 @@ fn is_link_stopped(net: &Net, device: u32, round: u32) -> bool
     ensures { let n = instance_of_rows net.now in result ≡ list_any (is_stopped n round) (link_rows n (n.adapter_of device)) }
 {
     match net.link_of(net.adapter_of(device)) {
-        Some(link) => is_stopped(net, net.link_row(link), round),
+        Some(link) => is_stopped(net, net.link_resource(link), round),
         None => false,
     }
 }
@@ -173,7 +173,7 @@ fn is_link_used_up(net: &Net, sends: &[Sends], device: u32, round: u32) -> bool
     ensures { let n = instance_of_rows net.now in result ≡ list_any (is_used_up n (live_of_rows net.now) round) (link_rows n (n.adapter_of device)) }
 {
     match net.link_of(net.adapter_of(device)) {
-        Some(link) => is_used_up(net, sends, net.link_row(link), round),
+        Some(link) => is_used_up(net, sends, net.link_resource(link), round),
         None => false,
     }
 }

@@ -1,9 +1,9 @@
 //! The requests of a recording, whose rounds are still to be counted.
 
 ghost use Rattle.std.specs.Prelude.{◌≡◌, ◌<◌, ◌≤◌, ◌^◌, List, map, length, zip, IfOk};
-ghost use Rattle.cam_types.specs.Lists.{moments};
+ghost use Rattle.cam_types.specs.Lists.{prefixed};
 ghost use Rattle.cam_types.specs.Topology.{IsConfig};
-ghost use Rattle.cam_types.specs.declared.maxima.TheConstants.{MOST_PRIORITY};
+ghost use Rattle.cam_types.specs.declared.limits.TheConstants.{MAX_PRIORITY};
 ghost use Rattle.recording_file.specs.declared.request.Request.{Request};
 ghost use Rattle.wait_causes.specs.Stays.{request_by};
 
@@ -22,7 +22,7 @@ pub(crate) fn list_requests(
     best: &Schedule,
 ) -> Result<Vec<ExplainedStay>, AllocError>
     requires same { length best.now ≡ length recording.now.requests }
-    ensures { IfOk result (λ rows. rows.items ≡ map (request_by recording.now.config) (zip (moments recording.now.requests) best.now)) }
+    ensures { IfOk result (λ rows. rows.items ≡ map (request_by recording.now.config) (zip (prefixed recording.now.requests) best.now)) }
 {
     let config = recording.config();
     let requests = recording.requests();
@@ -39,7 +39,7 @@ pub(crate) fn list_requests(
 fn explain(config: &Config, number: usize, request: Request, best: u32) -> ExplainedStay
     requires kept { IsConfig config.now }
     requires few { number < 2 ^ 32 }
-    requires priority { request.priority ≤ MOST_PRIORITY }
+    requires priority { request.priority ≤ MAX_PRIORITY }
     ensures { (before : List Request) → length before ≡ number → result ≡ request_by config.now ((before, request), best) }
 {
     let Ok(priority) = Priority::new(request.priority) else {

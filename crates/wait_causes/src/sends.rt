@@ -80,9 +80,9 @@ fn add(net: &Net, sends: &mut [Sends], stay: u32)
     ensures { AreSends (instance_of_rows net.now) (live_of_rows net.now) (stay + 1) sends.new }
 {
     note(net, sends, net.device(stay), stay);
-    note(net, sends, net.adapter_row(net.adapter(stay)), stay);
+    note(net, sends, net.adapter_resource(net.adapter(stay)), stay);
     match net.link(stay) {
-        Some(link) => note(net, sends, net.link_row(link), stay),
+        Some(link) => note(net, sends, net.link_resource(link), stay),
         None => {}
     }
 }

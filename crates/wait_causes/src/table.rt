@@ -1,7 +1,7 @@
 //! Stays by adapter, device, driver or run level.
 
 ghost use Rattle.std.specs.Prelude.{◌≡◌, ◌+◌, ◌^◌, ◌≤◌, ◌++◌, [], length, IfOk};
-ghost use Rattle.wait_causes.specs.Words.{MOST_NET_STAYS};
+ghost use Rattle.wait_causes.specs.Words.{MAX_NET_STAYS};
 ghost use Rattle.wait_causes.specs.Parts.{AreLight};
 ghost use Rattle.wait_causes.specs.Tables.{number, stays_of, row_for, greatest, table_of, AreGroups};
 ghost use Rattle.wait_causes.specs.declared.table.Grouping.{Grouping as Groupings};
@@ -52,7 +52,7 @@ pub(crate) fn table_of(
     stays: &[ExplainedStay],
     by: Grouping,
 ) -> Result<Vec<Row>, AllocError>
-    requires few { length stays.now ≤ MOST_NET_STAYS }
+    requires few { length stays.now ≤ MAX_NET_STAYS }
     requires light { AreLight stays.now }
     ensures { IfOk result (λ rows. rows.items ≡ table_of by stays.now) }
 {
@@ -110,7 +110,7 @@ fn push_part(
     number: u32,
     part: &[ExplainedStay],
 ) -> Result<(), AllocError>
-    requires few { length part.now ≤ MOST_NET_STAYS }
+    requires few { length part.now ≤ MAX_NET_STAYS }
     requires light { AreLight part.now }
     ensures { IfOk result (λ _. rows.new.items ≡ rows.old.items ++ row_for number part.now) }
 {

@@ -3,9 +3,9 @@
 ghost use Rattle.std.specs.Prelude.{◌≡◌, ◌<◌, ◌≤◌, ◌-◌, length, map, IfOk, IfSome, ℕ, Option};
 ghost use Rattle.std.specs.List.{range_with_len};
 ghost use Rattle.round_net.specs.Rows.{instance_of_rows, live_of_rows};
-ghost use Rattle.round_net.specs.Instance.{rows, link_row};
+ghost use Rattle.round_net.specs.Instance.{rows, link_resource};
 ghost use Rattle.std.specs.Option.{option_map};
-ghost use Rattle.round_net.specs.declared.cause.Cause.{Cause as Causes};
+ghost use Rattle.round_net.specs.declared.cause.WaitCause.{WaitCause as Causes};
 ghost use Rattle.wait_causes.specs.Origins.{net_in, instance_in, live_in, cause_of};
 ghost use Rattle.wait_causes.specs.Behind.{behind_in, behind_row, behind_by, is_full, full_row, Behind as Behinds};
 ghost use Rattle.wait_causes.specs.Sends.{AreSends};
@@ -16,7 +16,7 @@ use crate::behind::{Behind, FullBehind};
 use crate::explained_stay::CauseRounds;
 use crate::origin::Origin;
 use crate::sends::{Sends, sends_at};
-use round_net::{Cause, Net};
+use round_net::{Net, WaitCause};
 use std::alloc::{AllocError, Global};
 
 /// For each round of a device, the rounds before it by cause, the first of them round 1.
@@ -70,7 +70,7 @@ fn behind_in(
     device: u32,
     weight: u32,
     round: u32,
-    cause: Cause,
+    cause: WaitCause,
 ) -> Option<Behind>
     requires device { device < (instance_of_rows net.now).devices }
     requires first { 1 ≤ round }
@@ -88,37 +88,37 @@ fn behind_in(
 }
 
 // Whether a row was full.
-fn is_full(cause: Cause) -> bool
+fn is_full(cause: WaitCause) -> bool
     ensures { result ≡ is_full cause }
 {
     matches!(
         cause,
-        Cause::DeviceFull | Cause::AdapterFull | Cause::LinkFull
+        WaitCause::DeviceFull | WaitCause::AdapterFull | WaitCause::LinkFull
     )
 }
 
 // The row that was full.
-fn full_row(net: &Net, device: u32, cause: Cause) -> Option<u32>
+fn full_row(net: &Net, device: u32, cause: WaitCause) -> Option<u32>
     requires { device < (instance_of_rows net.now).devices }
     ensures same { result ≡ full_row (instance_of_rows net.now) device cause }
     ensures within { IfSome result (λ row. row < rows (instance_of_rows net.now)) }
 {
     match cause {
-        Cause::DeviceFull => Some(device),
-        Cause::AdapterFull => Some(net.adapter_row(net.adapter_of(device))),
-        Cause::LinkFull => link_row(net, net.adapter_of(device)),
+        WaitCause::DeviceFull => Some(device),
+        WaitCause::AdapterFull => Some(net.adapter_resource(net.adapter_of(device))),
+        WaitCause::LinkFull => link_resource(net, net.adapter_of(device)),
         _ => None,
     }
 }
 
 // The row of the link that the adapter is on.
-fn link_row(net: &Net, adapter: u32) -> Option<u32>
+fn link_resource(net: &Net, adapter: u32) -> Option<u32>
     requires { adapter < (instance_of_rows net.now).adapters }
-    ensures same { let n = instance_of_rows net.now in result ≡ option_map (link_row n) (n.link_of adapter) }
+    ensures same { let n = instance_of_rows net.now in result ≡ option_map (link_resource n) (n.link_of adapter) }
     ensures within { IfSome result (λ row. row < rows (instance_of_rows net.now)) }
 {
     let link = net.link_of(adapter)?;
-    Some(net.link_row(link))
+    Some(net.link_resource(link))
 }
 
 // What a stay of that weight waits behind where the row is full in the round.

@@ -4,17 +4,17 @@ ghost use Rattle.std.specs.Prelude.{◌≡◌, ◌<◌, ◌≤◌, ◌+◌, ◌-
 ghost use Rattle.std.specs.List.{range_with_len};
 ghost use Rattle.wait_causes.specs.Origins.{instance_in, cause_of};
 ghost use Rattle.wait_causes.specs.Waits.{AreWaits, AreBegun};
-ghost use Rattle.round_net.specs.declared.cause.Cause.{Cause as Causes};
+ghost use Rattle.round_net.specs.declared.cause.WaitCause.{WaitCause as Causes};
 
 use crate::origin::Origin;
-use round_net::Cause;
+use round_net::WaitCause;
 use std::alloc::{AllocError, Global};
 
 /// Rounds in a row that a stay waited for one cause.
 #[derive(Clone, Copy, Debug, PartialEq, Eq)]
 pub struct Wait {
     /// The cause.
-    pub cause: Cause,
+    pub cause: WaitCause,
     /// The first of the rounds, from 1.
     pub first: u32,
     /// The last of the rounds.
@@ -49,7 +49,7 @@ pub(crate) fn waits_in(
 }
 
 // A wait of one round.
-fn begun(cause: Cause, round: u32) -> Wait
+fn begun(cause: WaitCause, round: u32) -> Wait
     ensures { result ≡ record { cause = cause; first = round; last = round } }
 {
     Wait {
@@ -62,7 +62,12 @@ fn begun(cause: Cause, round: u32) -> Wait
 // The wait that stands after one round more, which joins the last one if it has its cause. Otherwise the last one is put
 // after the others.
 #[tactic(auto, using(crate::proofs::WaitLemmas::begun_joined, crate::proofs::WaitLemmas::begun_next))]
-fn behind(waits: &mut Vec<Wait>, wait: Wait, cause: Cause, round: u32) -> Result<Wait, AllocError>
+fn behind(
+    waits: &mut Vec<Wait>,
+    wait: Wait,
+    cause: WaitCause,
+    round: u32,
+) -> Result<Wait, AllocError>
     ensures { (f : ℕ → Causes) (first n : ℕ) → cause ≡ f round → round ≡ first + n → AreBegun f first n waits.old.items wait → IfOk result (λ next. AreBegun f first (n + 1) waits.new.items next) }
 {
     if wait.cause.is(cause) {

@@ -2,15 +2,15 @@
 //! such pieces.
 #![tactic(auto)]
 
+pub use captions::{Captions, shortened};
 pub use causes::plain_words;
-pub use labels::{Labels, shortened};
 pub use making::Page;
 pub use numbers::{
     nanoseconds, push_number, push_numbers, push_range, push_round, push_rounds, push_share,
     push_signed, push_span, push_time, shift,
 };
 
+mod captions;
 mod causes;
-mod labels;
 mod making;
 mod numbers;

@@ -5,7 +5,7 @@ use Rattle.std.specs.Option.{option_map_or}
 use Rattle.std.proofs.lemmas.Bool.{and_parts, and_from}
 use Rattle.std.proofs.lemmas.List.Folds.{list_all-append}
 use Rattle.std.proofs.lemmas.List.Sums.{sum_by-cons}
-use Rattle.cam_types.specs.Lists.{moments_after}
+use Rattle.cam_types.specs.Lists.{prefixed_after}
 use Rattle.cam_types.specs.Questions.{device_openings, devices}
 use Rattle.cam_types.specs.Topology.{Topology}
 use Rattle.event_rules.specs.Counts.{caller_count, adapter_freezes, sending_of, is_counted_requeue, counted_requeues, sendings}
@@ -129,7 +129,7 @@ begins_none before (Submit driver device priority retries flags) h = absurd (cc)
 begins_none before (Requeue ccb) h = absurd (cc)
 begins_none before _ h = refl
 
-pub no_stays : (before xs : List Event) → list_all is_plain xs ≡ true → filter_map stay_begun (moments_after before xs) ≡ []
+pub no_stays : (before xs : List Event) → list_all is_plain xs ≡ true → filter_map stay_begun (prefixed_after before xs) ≡ []
 no_stays before [] h = refl
 no_stays before (x ∷ xs) h =
     let parts = and_parts (is_plain x) (list_all is_plain xs) h in
@@ -144,7 +144,7 @@ sends_none : (before : List Event) (e : Event) → is_idle e ≡ true → sendin
 sends_none before (Send lane ccb) h = absurd (cc)
 sends_none before _ h = refl
 
-no_sends_after : (before xs : List Event) → list_all is_idle xs ≡ true → filter_map sending_of (moments_after before xs) ≡ []
+no_sends_after : (before xs : List Event) → list_all is_idle xs ≡ true → filter_map sending_of (prefixed_after before xs) ≡ []
 no_sends_after before [] h = refl
 no_sends_after before (x ∷ xs) h =
     let parts = and_parts (is_idle x) (list_all is_idle xs) h in
@@ -154,7 +154,7 @@ pub no_sendings : (xs : List Event) → list_all is_idle xs ≡ true → sending
 unfolding sendings
 no_sendings xs h = no_sends_after [] xs h
 
-no_requeues : (k : ℕ) (before xs : List Event) → list_all is_idle xs ≡ true → count_by (is_counted_requeue k) (moments_after before xs) ≡ 0
+no_requeues : (k : ℕ) (before xs : List Event) → list_all is_idle xs ≡ true → count_by (is_counted_requeue k) (prefixed_after before xs) ≡ 0
 no_requeues k before [] h = refl
 no_requeues k before (x ∷ xs) h =
     let parts = and_parts (is_idle x) (list_all is_idle xs) h in
@@ -162,7 +162,7 @@ no_requeues k before (x ∷ xs) h =
     let here : is_counted_requeue k (before, x) ≡ false = rw off refl in
     omega (
       arith,
-      sum_by-cons (λ m. cond {A = ℕ} (is_counted_requeue k m) 1 0) (before, x) (moments_after (before ++ x ∷ []) xs),
+      sum_by-cons (λ m. cond {A = ℕ} (is_counted_requeue k m) 1 0) (before, x) (prefixed_after (before ++ x ∷ []) xs),
       no_requeues k (before ++ x ∷ []) xs parts.1,
       ap (λ b. cond {A = ℕ} b 1 0) here,
     )

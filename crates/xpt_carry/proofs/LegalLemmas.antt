@@ -5,7 +5,7 @@ use Rattle.std.proofs.lemmas.Bool.{and_parts, and_from, lt-ltb}
 use Rattle.std.proofs.lemmas.List.FromFn.{length-range_with_len}
 use Rattle.std.proofs.lemmas.List.Sums.{count_by-le-length}
 use Rattle.cam_types.specs.Bounds.{Bounds}
-use Rattle.cam_types.specs.Lists.{moments_after, first_answer}
+use Rattle.cam_types.specs.Lists.{prefixed_after, first_answer}
 use Rattle.cam_types.specs.Topology.{Topology}
 use Rattle.event_rules.specs.Counts.{alive, ccbs, commands}
 use Rattle.event_rules.specs.Event.{ends}
@@ -21,11 +21,11 @@ use Rattle.xpt_carry.specs.Carry.{submit, refusal_at, first_refusal}
 use Rattle.xpt_carry.proofs.EventLemmas.{range_more}
 
 -- no event of a legal list is refused
-unrefused_after : (rules : Rules) (c : Topology) (before xs : List Event) → list_all (is_legal_event rules c) (moments_after before xs) ≡ true →
-    first_answer (refusal_at rules c) (moments_after before xs) ≡ None
+unrefused_after : (rules : Rules) (c : Topology) (before xs : List Event) → list_all (is_legal_event rules c) (prefixed_after before xs) ≡ true →
+    first_answer (refusal_at rules c) (prefixed_after before xs) ≡ None
 unrefused_after rules c before [] h = refl
 unrefused_after rules c before (x ∷ xs) h =
-    let parts = and_parts (is_legal_event rules c (before, x)) (list_all (is_legal_event rules c) (moments_after (before ++ x ∷ []) xs)) h in
+    let parts = and_parts (is_legal_event rules c (before, x)) (list_all (is_legal_event rules c) (prefixed_after (before ++ x ∷ []) xs)) h in
     rw (none-legal rules c before x parts.0) (unrefused_after rules c (before ++ x ∷ []) xs parts.1)
 
 pub legal_unrefused : (rules : Rules) (c : Topology) (xs : List Event) → is_legal rules c xs ≡ true → first_refusal rules c xs ≡ None

@@ -2,7 +2,7 @@
 use Rattle.std.proofs.Common.{◌≡◌, ℕ, ◌+◌, ◌<◌, ◌≤◌, true, List, [], ◌∷◌, ◌++◌, length, take, drop, get_or, refl, sym, ap, ◌∙◌, Option, Some, None, slice_index_or}
 use Rattle.std.specs.Option.{option_or}
 use Rattle.std.proofs.lemmas.List.{take_more, take_all, drop_more, drop_all}
-use Rattle.cam_types.specs.Lists.{moments_after, first_answer}
+use Rattle.cam_types.specs.Lists.{prefixed_after, first_answer}
 use Rattle.event_rules.specs.Legal.{is_legal, is_legal_event}
 use Rattle.event_rules.specs.declared.event.Event.{Event}
 use Rattle.event_rules.proofs.LegalLemmas.{none-legal}
@@ -42,7 +42,7 @@ taken_none start none = rw (← none) refl
 
 -- why the first is refused that is, of those that are left after these
 abbrev pub left_refusal : Transport → List Event → List Event → Option Refusal
-left_refusal t before after = first_answer (refusal_at t.rules t.config) (moments_after before after)
+left_refusal t before after = first_answer (refusal_at t.rules t.config) (prefixed_after before after)
 
 left_is : (start : Transport) (items : List Event) (i : ℕ) (e : Event) → i < length items → e ≡ slice_index_or items i e →
     left_refusal start (take i items) (drop i items) ≡ option_or (refused (with_events start (take i items)) e) (left_refusal start (take (i + 1) items) (drop (i + 1) items))

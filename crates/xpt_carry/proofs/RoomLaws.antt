@@ -12,7 +12,7 @@ use Rattle.cam_types.specs.Bounds.{Bounds}
 use Rattle.cam_types.specs.Lists.{is_less}
 use Rattle.cam_types.specs.Questions.{device_openings, devices, names_device, names_adapter}
 use Rattle.cam_types.specs.Topology.{Topology, are_openings}
-use Rattle.cam_types.specs.declared.maxima.TheConstants.{MOST_PRIORITY, MOST_RETRIES, MOST_FREEZES}
+use Rattle.cam_types.specs.declared.limits.TheConstants.{MAX_PRIORITY, MAX_RETRIES, MAX_FREEZES}
 use Rattle.event_rules.specs.Counts.{round, submission, submissions, sendings, has_in_flight, is_in_flight, counted_requeues, caller_count, adapter_freezes, freezes_by_send, last}
 use Rattle.event_rules.specs.Event.{is_some_and, is_tick, is_adjust_of, adjusts_to, freezes}
 use Rattle.event_rules.specs.Event as tests
@@ -62,31 +62,31 @@ module _ (old : Rules) (limits : Bounds) (c : Topology) (es : List Event) (legal
   unfolding device_freeze
   device_allowed before d e named none is = cases (caller_count es d == 0) refl is
     where
-      most : caller_count es d ≤ MOST_FREEZES
+      most : caller_count es d ≤ MAX_FREEZES
       most = callers_most old c es d legal
 
       cases : (b : Bool) → (caller_count es d == 0) ≡ b → cond b None (Some (FreezeDev d (caller_count es d))) ≡ Some e → is_allowed (rules limits c) c before e ≡ true
       cases true test made = absurd (cc)
       cases false test made =
           let same : FreezeDev d (caller_count es d) ≡ e = cc in
-          let count = and_from (nat_lt 0 (caller_count es d)) (nat_le (caller_count es d) MOST_FREEZES) (positive (caller_count es d) test) (le-leb (caller_count es d) MOST_FREEZES most) in
-          let room : caller_count before d + caller_count es d ≤ MOST_FREEZES = omega (arith, none, most) in
-          ap (is_allowed (rules limits c) c before) (sym same) ∙ and_from _ _ (and_from _ _ named count) (le-leb (caller_count before d + caller_count es d) MOST_FREEZES room)
+          let count = and_from (nat_lt 0 (caller_count es d)) (nat_le (caller_count es d) MAX_FREEZES) (positive (caller_count es d) test) (le-leb (caller_count es d) MAX_FREEZES most) in
+          let room : caller_count before d + caller_count es d ≤ MAX_FREEZES = omega (arith, none, most) in
+          ap (is_allowed (rules limits c) c before) (sym same) ∙ and_from _ _ (and_from _ _ named count) (le-leb (caller_count before d + caller_count es d) MAX_FREEZES room)
 
   adapter_allowed : (before : List Event) (a : ℕ) (e : Event) → names_adapter c a ≡ true → adapter_freezes before a ≡ 0 → adapter_freeze es a ≡ Some e → is_allowed (rules limits c) c before e ≡ true
   unfolding adapter_freeze
   adapter_allowed before a e named none is = cases (adapter_freezes es a == 0) refl is
     where
-      most : adapter_freezes es a ≤ MOST_FREEZES
+      most : adapter_freezes es a ≤ MAX_FREEZES
       most = adapters_most old c es a legal
 
       cases : (b : Bool) → (adapter_freezes es a == 0) ≡ b → cond b None (Some (FreezeSim a (adapter_freezes es a))) ≡ Some e → is_allowed (rules limits c) c before e ≡ true
       cases true test made = absurd (cc)
       cases false test made =
           let same : FreezeSim a (adapter_freezes es a) ≡ e = cc in
-          let count = and_from (nat_lt 0 (adapter_freezes es a)) (nat_le (adapter_freezes es a) MOST_FREEZES) (positive (adapter_freezes es a) test) (le-leb (adapter_freezes es a) MOST_FREEZES most) in
-          let room : adapter_freezes before a + adapter_freezes es a ≤ MOST_FREEZES = omega (arith, none, most) in
-          ap (is_allowed (rules limits c) c before) (sym same) ∙ and_from _ _ (and_from _ _ named count) (le-leb (adapter_freezes before a + adapter_freezes es a) MOST_FREEZES room)
+          let count = and_from (nat_lt 0 (adapter_freezes es a)) (nat_le (adapter_freezes es a) MAX_FREEZES) (positive (adapter_freezes es a) test) (le-leb (adapter_freezes es a) MAX_FREEZES most) in
+          let room : adapter_freezes before a + adapter_freezes es a ≤ MAX_FREEZES = omega (arith, none, most) in
+          ap (is_allowed (rules limits c) c before) (sym same) ∙ and_from _ _ (and_from _ _ named count) (le-leb (adapter_freezes before a + adapter_freezes es a) MAX_FREEZES room)
 
 -- nothing is in flight before the tick, and the round is the first
 no_flight : (xs : List Event) → list_all is_plain xs ≡ true → has_in_flight xs ≡ false
@@ -172,9 +172,9 @@ length-lefts es =
 -- what is left is in range
 less_retries : (c : Topology) (s : Submission) (n : ℕ) → is_in_range c s ≡ true → is_in_range c (record s { retries = s.retries - n }) ≡ true
 less_retries c s n h =
-    let parts = and_parts (names_device c s.device && nat_le s.priority MOST_PRIORITY) (nat_le s.retries MOST_RETRIES) h in
-    let most : s.retries ≤ MOST_RETRIES = leb-true s.retries MOST_RETRIES parts.1 in
-    and_from _ _ parts.0 (le-leb (s.retries - n) MOST_RETRIES (omega arith))
+    let parts = and_parts (names_device c s.device && nat_le s.priority MAX_PRIORITY) (nat_le s.retries MAX_RETRIES) h in
+    let most : s.retries ≤ MAX_RETRIES = leb-true s.retries MAX_RETRIES parts.1 in
+    and_from _ _ parts.0 (le-leb (s.retries - n) MAX_RETRIES (omega arith))
 
 left_cases : (c : Topology) (p : Passage) (n : ℕ) (o : Option Submission) → is_some_and (λ (s : Submission). is_in_range c s && is_stay_of p s) o ≡ true →
     option_map_or (is_in_range c) (option_map (λ (s : Submission). record s { retries = s.retries - n }) o) true ≡ true

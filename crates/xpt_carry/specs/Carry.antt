@@ -2,7 +2,7 @@
 use Rattle.std.specs.Prelude.{◌≡◌, ℕ, ◌-◌, ◌==◌, Bool, if◌then◌else◌, List, [], ◌∷◌, ◌++◌, filter_map, Option, Some, None, option_map, ⊤}
 use Rattle.std.specs.List.{list_any}
 use Rattle.std.specs.Option.{option_or}
-use Rattle.cam_types.specs.Lists.{moments, first_answer}
+use Rattle.cam_types.specs.Lists.{prefixed, first_answer}
 use Rattle.cam_types.specs.Questions.{device_openings, devices}
 use Rattle.cam_types.specs.Topology.{Topology}
 use Rattle.event_rules.specs.Counts.{ccbs, submission, has_in_flight, is_recovering, counted_requeues, caller_count, adapter_freezes}
@@ -70,7 +70,7 @@ refusal_at rules c m = refusal rules c m.0 m.1
 
 -- why the first of them is refused that is, each after those before it
 unfoldable pub first_refusal : Rules → Topology → List Event → Option Refusal
-first_refusal rules c events = first_answer (refusal_at rules c) (moments events)
+first_refusal rules c events = first_answer (refusal_at rules c) (prefixed events)
 
 -- why the events aren't carried over to a transport with these rules: the round isn't at its end, or it refuses an event
 abbrev pub carry_fault : Rules → Topology → List Event → Option CarryFault

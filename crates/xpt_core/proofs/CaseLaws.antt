@@ -6,10 +6,10 @@ use Rattle.std.proofs.lemmas.List.{drop-append-le, drop_all, map-append}
 use Rattle.std.proofs.lemmas.List.Elements.{filter-append, filter_agree, All-weaker}
 use Rattle.std.proofs.lemmas.List.Folds.{list_any-append}
 use Rattle.std.proofs.lemmas.List.Sums.{sum_by-append, sum_by-cons}
-use Rattle.xpt_core.specs.Words.{moments, concerns, ccb_of, is_erring, is_recovering, Event, Send, Done, Requeue, Finish, Topology, Outcome, Rules, is_legal_event, is_legal}
-use Rattle.cam_types.proofs.ListLemmas.{moments-push}
+use Rattle.xpt_core.specs.Words.{prefixed, concerns, ccb_of, is_erring, is_recovering, Event, Send, Done, Requeue, Finish, Topology, Outcome, Rules, is_legal_event, is_legal}
+use Rattle.cam_types.proofs.ListLemmas.{prefixed-push}
 use Rattle.event_rules.proofs.PushLaws.{not_both}
-use Rattle.event_rules.proofs.ListFacts.{count_by-kept, count_by-dropped, filter_map-push, filter-same, filter-both, filter-all, All-filter_map-moments}
+use Rattle.event_rules.proofs.ListFacts.{count_by-kept, count_by-dropped, filter_map-push, filter-same, filter-both, filter-all, All-filter_map-prefixed}
 use Rattle.event_rules.proofs.StateLaws.{is_recovering-push}
 use Rattle.event_rules.proofs.CcbLaws.{event-induction}
 use Rattle.event_rules.proofs.TotalLaws.{commands-stays}
@@ -23,7 +23,7 @@ use Rattle.event_rules.proofs.ConcernLaws.{concerns-none}
 
 pub failures-push : (es : List Event) (e : Event) → failures (es ++ e ∷ []) ≡ failures es ++ option_to_list (failure_of (es, e))
 unfolding failures
-failures-push es e = rw moments-push (filter_map-push failure_of (moments es) (es, e))
+failures-push es e = rw prefixed-push (filter_map-push failure_of (prefixed es) (es, e))
 
 -- a failure stands at its place
 placed : (b : Bool) (f g : Failure) (n : ℕ) → f.place ≡ n → cond b (Some f) None ≡ Some g → g.place ≡ n
@@ -36,7 +36,7 @@ place-failure_of (before, _) f e = absurd (cc)
 
 places-failures : (es : List Event) → All (λ (f : Failure). f.place < length es) (failures es)
 unfolding failures
-places-failures es = All-filter_map-moments (λ (f : Failure). f.place < length es) failure_of (length es)
+places-failures es = All-filter_map-prefixed (λ (f : Failure). f.place < length es) failure_of (length es)
     (λ before x f lt e. let at : f.place ≡ length before = place-failure_of (before, x) f e in omega arith) [] es (omega arith)
 
 is_undecided-push : (es : List Event) (e : Event) (f : Failure) → f.place < length es → is_undecided (es ++ e ∷ []) f ≡ (is_undecided es f && not (concerns f.ccb e))

@@ -7,7 +7,7 @@ use Rattle.std.proofs.lemmas.Option.{slice_get-get_or}
 use Rattle.std.proofs.lemmas.List.Elements.{All-from_get_or}
 use Rattle.std.proofs.lemmas.List.FromFn.{length-range_with_len}
 use Rattle.std.proofs.lemmas.List.Sums.{count_by-le-length}
-use Rattle.xpt_core.specs.Words.{Topology, Outcome, MOST_PRIORITY, MOST_RETRIES, MOST_STAYS, classify, asks_requeue, asks_finish, is_some_and, ccb_of, ends, submission_of, submission, submissions, commands, ccbs, alive, is_in_flight, is_recovering, last_result, counted_requeues, retries_of, wants_requeue, wants_finish, stays_begun, Event, Submit, Submission, names_device, Rules, IsWithinHistory, most_alive, has_ccb, has_stay, is_legal_event, is_legal, last_class}
+use Rattle.xpt_core.specs.Words.{Topology, Outcome, MAX_PRIORITY, MAX_RETRIES, MAX_STAYS, classify, asks_requeue, asks_finish, is_some_and, ccb_of, ends, submission_of, submission, submissions, commands, ccbs, alive, is_in_flight, is_recovering, last_result, counted_requeues, retries_of, wants_requeue, wants_finish, stays_begun, Event, Submit, Submission, names_device, Rules, IsWithinHistory, max_alive, has_ccb, has_stay, is_legal_event, is_legal, last_class}
 use Rattle.sense_class.specs.declared.class.Class as class
 use Rattle.event_rules.proofs.ConcernLaws.{concerns-none}
 use Rattle.event_rules.proofs.TotalLaws.{commands-stays}
@@ -131,7 +131,7 @@ record FindsRoom (rules : Rules) (es : List Event) : Type 0 where
 submit_room : (rules : Rules) (c : Topology) (es : List Event) (e : Event) (s : Submission) → submission_of e ≡ Some s → is_legal_event rules c (es, e) ≡ true → FindsRoom rules es
 submit_room rules c es (Submit driver device priority retries flags) s is legal =
     let asked = (allowed-legal_event rules c es (Submit driver device priority retries flags) legal).1 in
-    let named = names_device c device && nat_le priority MOST_PRIORITY && nat_le retries MOST_RETRIES in
+    let named = names_device c device && nat_le priority MAX_PRIORITY && nat_le retries MAX_RETRIES in
     let one = and_parts (named && has_ccb rules es) (has_stay rules es) asked in
     record { ccb = (and_parts named (has_ccb rules es) one.0).1; stay = one.1 }
 submit_room rules c es _ s is legal = absurd (cc)
@@ -192,7 +192,7 @@ ccbs-push t t' b b' e is legal ea er ec room =
       legal = ap (λ (t : Transport). is_legal t.rules t.config t.events) ea ∙ legal-push t.rules t.config es e is.legal legal;
       rows = ap (λ (r : RowTable). r.rows) er ∙ ap (updated e) is.rows ∙ sym (rows_cases es e (submission_of e) refl (settled_of t b is)) ∙ ap (λ (t : Transport). rows t.events) (sym ea);
       cases = ec ∙ ap (decided e) is.cases ∙ sym (cases-decided t.rules t.config es is.legal e legal) ∙ ap (λ (t : Transport). cases t.events) (sym ea);
-      slots = ap (λ (r : RowTable). r.slots) er ∙ is.slots ∙ ap most_alive (sym rules);
+      slots = ap (λ (r : RowTable). r.slots) er ∙ is.slots ∙ ap max_alive (sym rules);
       row_room = rw (rules, ap (λ (r : RowTable). r.room) er) is.row_room;
       case_room = rw (rules, room) is.case_room;
     }
@@ -206,7 +206,7 @@ none-cases : cases [] ≡ []
 unfolding cases failures
 none-cases = refl
 
-pub ccbs-open : (t : Transport) (b : Ccbs) (rules : Rules) (c : Topology) → IsWithinHistory rules → t ≡ record { config = c; rules = rules; events = [] } → b.rows ≡ record { rows = []; slots = most_alive rules; room = rules.stays } →
+pub ccbs-open : (t : Transport) (b : Ccbs) (rules : Rules) (c : Topology) → IsWithinHistory rules → t ≡ record { config = c; rules = rules; events = [] } → b.rows ≡ record { rows = []; slots = max_alive rules; room = rules.stays } →
     b.cases.items ≡ [] → rules.stays < vec_capacity b.cases → IsCcbs t b
 ccbs-open t b rules c within ea er ec room =
     let same-rules : t.rules ≡ rules = ap (λ (x : Transport). x.rules) ea in
@@ -215,7 +215,7 @@ ccbs-open t b rules c within ea er ec room =
       legal = rw ea (none_legal rules c);
       rows = ap (λ (r : RowTable). r.rows) er ∙ sym none-rows ∙ ap (λ (x : Transport). rows x.events) (sym ea);
       cases = ec ∙ sym none-cases ∙ ap (λ (x : Transport). cases x.events) (sym ea);
-      slots = ap (λ (r : RowTable). r.slots) er ∙ ap most_alive (sym same-rules);
+      slots = ap (λ (r : RowTable). r.slots) er ∙ ap max_alive (sym same-rules);
       row_room = omega (arith, ap (λ (r : RowTable). r.room) er, ap (λ (r : Rules). r.stays) same-rules);
       case_room = omega (arith, room, ap (λ (r : Rules). r.stays) same-rules);
     }
@@ -281,7 +281,7 @@ module _ (q : Transport) (b : Ccbs) (is : IsCcbs q b) (t : Transport) (same : q 
       )
 
   -- and there are few of them
-  pub few_cases : vec_len b.cases ≤ MOST_STAYS
+  pub few_cases : vec_len b.cases ≤ MAX_STAYS
   few_cases =
       omega (
         arith,

@@ -105,7 +105,7 @@ best_ready-turn c es a = ap (λ o. cond ((adapter_freezes es a == 0) && adapter_
 -- the head is the device whose turn it is where the adapter's link has an opening, and there is none elsewhere
 pub head-open : (c : Topology) (es : List Event) (a : ℕ) → link_has_opening c es a ≡ true → head c es a ≡ turn c es a
 unfolding head
-head-open c es a way = ap (λ (b : Bool). cond b (turn c es a) None) way
+head-open c es a clear = ap (λ (b : Bool). cond b (turn c es a) None) clear
 
 pub head-closed : (c : Topology) (es : List Event) (a : ℕ) → link_has_opening c es a ≡ false → head c es a ≡ None
 unfolding head

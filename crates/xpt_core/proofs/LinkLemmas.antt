@@ -4,9 +4,9 @@ use Rattle.std.specs.Option.{option_map_or, option_eq}
 use lib.Dec.{eqb}
 use Rattle.std.proofs.lemmas.Bool.{cases_eq, cases_lt, eq-eqb, ne_eqb, lt-ltb, le-ltb}
 use Rattle.std.proofs.lemmas.List.Sums.{sum_by-cons, count_by-le-length}
-use Rattle.xpt_core.specs.Words.{Topology, IsConfig, is_on, is_under, adapter_link, device_adapter, moments, sendings, sending_of, goes_now, goes_now_to_adapter, goes_now_over_link, Event, Sending}
+use Rattle.xpt_core.specs.Words.{Topology, IsConfig, is_on, is_under, adapter_link, device_adapter, prefixed, sendings, sending_of, goes_now, goes_now_to_adapter, goes_now_over_link, Event, Sending}
 use Rattle.cam_types.specs.declared.device.Device.{Device}
-use Rattle.event_rules.proofs.ListFacts.{length-filter_map, length-moments_after}
+use Rattle.event_rules.proofs.ListFacts.{length-filter_map, length-prefixed_after}
 use Rattle.cam_types.proofs.ConfigLemmas.{bus-there}
 use Rattle.std.proofs.lemmas.Option.{slice_get_within}
 
@@ -91,7 +91,7 @@ sent_by-all c es l is = count-same _ _ (sendings es) (λ s. ap (λ (b : Bool). b
 -- there are no more sends than events
 few_sendings : (es : List Event) → length (sendings es) ≤ length es
 unfolding sendings
-few_sendings es = omega (arith, length-filter_map sending_of (moments es), length-moments_after [] es)
+few_sendings es = omega (arith, length-filter_map sending_of (prefixed es), length-prefixed_after [] es)
 
 sent_by-few : (c : Topology) (es : List Event) (l n : ℕ) → sent_by c es l n ≤ length es
 sent_by-few c es l n = omega (arith, few_sendings es, count_by-le-length (goes_now es (λ (s : Sending). under c l n s.device)) (sendings es))

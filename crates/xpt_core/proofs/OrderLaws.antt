@@ -1,7 +1,7 @@
 -- what one event more changes of the stays that wait at a device
 use Rattle.std.proofs.Common.{◌≡◌, ℕ, ◌+◌, ◌<◌, ◌≤◌, Bool, true, false, cond, List, [], ◌∷◌, ◌++◌, length, refl, ap, ◌∙◌, arith, Option, Some, None, append-nil, append_assoc, length-append, map, drop, not, ◌==◌, ◌&&◌, ◌||◌, if◌then◌else◌, nat_lt, nat_le, filter, option_to_list, All, option_map}
 use Rattle.std.specs.List.{list_all, filter_map, cons_option}
-use Rattle.xpt_core.specs.Words.{Flags, moments, moments_after, is_tick, is_send_of, round, submission, stays_begun, waiting, stay_begun, is_unsent, is_at, queue, queue_key, sorted_by, Event, Submit, Requeue, Tick, Submission, Passage, enter, enter_all}
+use Rattle.xpt_core.specs.Words.{Flags, prefixed, prefixed_after, is_tick, is_send_of, round, submission, stays_begun, waiting, stay_begun, is_unsent, is_at, queue, queue_key, sorted_by, Event, Submit, Requeue, Tick, Submission, Passage, enter, enter_all}
 use Rattle.std.proofs.lemmas.Bool.{and_parts, and_from, lt-ltb, ltb-true, eqb-true}
 use Rattle.std.proofs.lemmas.Bool.Decides.{nat_tests}
 use Rattle.std.proofs.lemmas.List.{map-append}
@@ -154,10 +154,10 @@ rising_cases n (Some p) ps at h k =
     and_from _ _ (list_all-weaker (λ (q : Passage). nat_le (n + 1) q.place) (λ (q : Passage). nat_lt p.place q.place) ps
     (λ q le. lt-ltb p.place q.place (omega (arith, at p refl, test_le (n + 1) q.place le))) h) k
 
-rising_after : (before xs : List Event) → are_rising (filter_map stay_begun (moments_after before xs)) ≡ true
+rising_after : (before xs : List Event) → are_rising (filter_map stay_begun (prefixed_after before xs)) ≡ true
 rising_after before [] = refl
 rising_after before (x ∷ xs) =
-    rising_cases (length before) (stay_begun (before, x)) (filter_map stay_begun (moments_after (before ++ x ∷ []) xs)) (λ p e. place-stay_begun (before, x) p e)
+    rising_cases (length before) (stay_begun (before, x)) (filter_map stay_begun (prefixed_after (before ++ x ∷ []) xs)) (λ p e. place-stay_begun (before, x) p e)
     (begun_from (length before + 1) (before ++ x ∷ []) xs (omega (arith, length-append before (x ∷ [])))) (rising_after (before ++ x ∷ []) xs)
 
 rising-filter : (p : Passage → Bool) (xs : List Passage) → are_rising xs ≡ true → are_rising (filter p xs) ≡ true
@@ -172,7 +172,7 @@ rising-filter p (x ∷ xs) h =
 
 rising-later : (es : List Event) (d : ℕ) → are_rising (later es d) ≡ true
 unfolding waiting stays_begun
-rising-later es d = rising-filter (is_later d (round es)) (waiting es) (rising-filter (is_unsent es) (filter_map stay_begun (moments es)) (rising_after [] es))
+rising-later es d = rising-filter (is_later d (round es)) (waiting es) (rising-filter (is_unsent es) (filter_map stay_begun (prefixed es)) (rising_after [] es))
 
 -- a stay that arrives after a round was begun by a requeue
 abbrev is_due : ℕ → Passage → Bool
@@ -192,16 +192,16 @@ due-stay_begun (before, Submit driver device priority retries flags) r p le e = 
 due-stay_begun (before, Requeue ccb) r p le e = requeued_cases (submission before ccb) (requeued_stay before ccb) r (λ x. refl) p e
 due-stay_begun (before, _) r p le e = absurd (cc)
 
-due_after : (es xs : List Event) (r : ℕ) → round (es ++ xs) ≤ r → list_all (is_due r) (filter_map stay_begun (moments_after es xs)) ≡ true
+due_after : (es xs : List Event) (r : ℕ) → round (es ++ xs) ≤ r → list_all (is_due r) (filter_map stay_begun (prefixed_after es xs)) ≡ true
 due_after es [] r le = refl
 due_after es (x ∷ xs) r le =
-    kept_stay (is_due r) (stay_begun (es, x)) (filter_map stay_begun (moments_after (es ++ x ∷ []) xs))
+    kept_stay (is_due r) (stay_begun (es, x)) (filter_map stay_begun (prefixed_after (es ++ x ∷ []) xs))
     (λ p e. due-stay_begun (es, x) r p (omega (arith, round-more es (x ∷ xs), le)) e)
     (due_after (es ++ x ∷ []) xs r (rw (append_assoc es (x ∷ []) xs) le))
 
 due-waiting : (es : List Event) → list_all (is_due (round es)) (waiting es) ≡ true
 unfolding waiting stays_begun
-due-waiting es = list_all-filtered (is_unsent es) (is_due (round es)) (filter_map stay_begun (moments es)) (due_after [] es (round es) (omega arith))
+due-waiting es = list_all-filtered (is_unsent es) (is_due (round es)) (filter_map stay_begun (prefixed es)) (due_after [] es (round es) (omega arith))
 
 -- what is known of those that wait for the next round
 abbrev is_next : ℕ → Passage → Bool

@@ -7,7 +7,7 @@ use Rattle.xpt_core.specs.Ccbs.{ccb_by}
 use Rattle.xpt_core.specs.Change.{fresh}
 use Rattle.xpt_core.proofs.RowLaws.{ccb_by-push, next_ccb-other}
 
--- each CCB stands in one way, and of one that wasn't submitted nothing is known
+-- each CCB is in one state, and of one that wasn't submitted nothing is known
 pub record IsSettled (es : List Event) : Type 0 where
   pub states : AreStates es
   pub row : (n : ℕ) (s : Submission) → commands es ≤ n → ccb_by es n s ≡ fresh s

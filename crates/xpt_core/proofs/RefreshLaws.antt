@@ -2,7 +2,7 @@
 use Rattle.std.proofs.Common.{◌≡◌, ◌≢◌, ℕ, ◌+◌, ◌<◌, Bool, true, false, cond, List, [], ◌∷◌, ◌++◌, length, refl, sym, ap, subst, ◌∙◌, Option, Some, None, map, ◌==◌, ◌&&◌, nat_le, slice_get}
 use Rattle.std.specs.Option.{option_map, option_map_or}
 use Rattle.std.proofs.lemmas.Bool.{and_parts, eqb-true, eqb-false, ltb-true}
-use Rattle.xpt_core.specs.Words.{Topology, MOST_PRIORITY, MOST_RETRIES, MOST_FREEZES, is_tick, commands, submission, caller_count, names_device, device_adapter, adapter_openings, Event, Submit, Send, Done, Requeue, Finish, FreezeDev, ReleaseDev, FreezeSim, ReleaseSim, Adjust, Tick, Submission, Rules, is_count, is_legal_event, is_legal, prioritized, Row, Device, Waiting, first, is_ready, Passage}
+use Rattle.xpt_core.specs.Words.{Topology, MAX_PRIORITY, MAX_RETRIES, MAX_FREEZES, is_tick, commands, submission, caller_count, names_device, device_adapter, adapter_openings, Event, Submit, Send, Done, Requeue, Finish, FreezeDev, ReleaseDev, FreezeSim, ReleaseSim, Adjust, Tick, Submission, Rules, is_count, is_legal_event, is_legal, prioritized, Row, Device, Waiting, first, is_ready, Passage}
 use Rattle.event_rules.proofs.StateLaws.{map-range_same}
 use Rattle.event_rules.proofs.LawLemmas.{allowed-legal_event}
 use Rattle.event_rules.proofs.RangeLemmas.{range_submit}
@@ -34,14 +34,14 @@ there_ccb rules c es ccb legal lt =
 pub affected-there : (rules : Rules) (c : Topology) (es : List Event) (e : Event) → is_legal rules c es ≡ true → is_legal_event rules c (es, e) ≡ true → IsThere c (affected_by es e)
 affected-there rules c es (Submit driver device priority retries flags) legal allowed =
     let range = range_submit rules c es driver device priority retries flags allowed in
-    let one = and_parts (names_device c device && nat_le priority MOST_PRIORITY) (nat_le retries MOST_RETRIES) range in
-    ltb-true _ _ (and_parts (names_device c device) (nat_le priority MOST_PRIORITY) one.0).0
+    let one = and_parts (names_device c device && nat_le priority MAX_PRIORITY) (nat_le retries MAX_RETRIES) range in
+    ltb-true _ _ (and_parts (names_device c device) (nat_le priority MAX_PRIORITY) one.0).0
 affected-there rules c es (Send lane ccb) legal allowed = there_ccb rules c es ccb legal (asks-send rules c es lane ccb allowed).0
 affected-there rules c es (Done ccb o) legal allowed = there_ccb rules c es ccb legal (asks-done rules c es ccb o allowed).0
 affected-there rules c es (Requeue ccb) legal allowed = there_ccb rules c es ccb legal (asks-requeue rules c es ccb allowed).0
 affected-there rules c es (Finish ccb) legal allowed = there_ccb rules c es ccb legal (asks-finish rules c es ccb allowed).0
 affected-there rules c es (FreezeDev device count) legal allowed =
-    let one = and_parts (names_device c device && is_count count) (nat_le (caller_count es device + count) MOST_FREEZES) (allowed-legal_event rules c es (FreezeDev device count) allowed).1 in
+    let one = and_parts (names_device c device && is_count count) (nat_le (caller_count es device + count) MAX_FREEZES) (allowed-legal_event rules c es (FreezeDev device count) allowed).1 in
     ltb-true _ _ (and_parts (names_device c device) (is_count count) one.0).0
 affected-there rules c es (ReleaseDev device count) legal allowed =
     let one = and_parts (names_device c device && is_count count) (nat_le count (caller_count es device)) (allowed-legal_event rules c es (ReleaseDev device count) allowed).1 in

@@ -1,7 +1,7 @@
 -- the parts that hold a transport's stays, before any event and after one more
 use Rattle.std.proofs.Common.{◌≡◌, ℕ, ◌+◌, ◌<◌, ◌≤◌, ◌^◌, true, false, List, [], ◌∷◌, ◌++◌, length, get_or, set, refl, sym, ap, ◌∙◌, arith, Some, None, subst, slice_get, vec_len, vec_capacity, IfSome, nat_le, ◌&&◌, option_map}
 use Rattle.std.proofs.lemmas.Bool.{and_parts, leb-true}
-use Rattle.xpt_core.specs.Words.{names_device, Topology, Flags, MOST_STAYS, MOST_PRIORITY, MOST_RETRIES, submission_of, is_send_of, is_requeue_of, round, commands, ccbs, submissions, stays_begun, stay_begun, Event, Submit, Send, Requeue, Passage, Rules, IsWithinHistory, is_legal_event, is_legal}
+use Rattle.xpt_core.specs.Words.{names_device, Topology, Flags, MAX_STAYS, MAX_PRIORITY, MAX_RETRIES, submission_of, is_send_of, is_requeue_of, round, commands, ccbs, submissions, stays_begun, stay_begun, Event, Submit, Send, Requeue, Passage, Rules, IsWithinHistory, is_legal_event, is_legal}
 use Rattle.event_rules.proofs.RangeLemmas.{range_submit}
 use Rattle.std.proofs.lemmas.List.{length-map}
 use Rattle.std.proofs.lemmas.List.FromFn.{length-range_with_len}
@@ -85,10 +85,10 @@ module _ (t : Transport) (s : Stays) (is : IsStays t s) where
   pub short : length t.events ≤ 65535
   short = omega (arith, short-legal t.rules t.config t.events is.legal, is.within.events)
 
-  pub few-records : vec_len s.records ≤ MOST_STAYS
+  pub few-records : vec_len s.records ≤ MAX_STAYS
   few-records = omega (arith, len-records, stays-legal t.rules t.config t.events is.legal, is.within.stays)
 
-  pub few-latest : vec_len s.latest ≤ MOST_STAYS
+  pub few-latest : vec_len s.latest ≤ MAX_STAYS
   few-latest = omega (arith, len-latest, len-records, few-records, commands-stays t.events)
 
   pub few-rounds : round t.events ≤ 65536
@@ -127,11 +127,11 @@ module _ (t : Transport) (s : Stays) (is : IsStays t s) where
     submitted-few driver device priority retries flags same =
         room_submit t.rules t.config t.events driver device priority retries flags (legal-of (Submit driver device priority retries flags) same)
 
-    pub submitted-urgent : (driver device priority retries : ℕ) (flags : Flags) → e ≡ Submit driver device priority retries flags → priority ≤ MOST_PRIORITY
+    pub submitted-urgent : (driver device priority retries : ℕ) (flags : Flags) → e ≡ Submit driver device priority retries flags → priority ≤ MAX_PRIORITY
     submitted-urgent driver device priority retries flags same =
         let range = range_submit t.rules t.config t.events driver device priority retries flags (legal-of (Submit driver device priority retries flags) same) in
-        let one = and_parts (names_device t.config device && nat_le priority MOST_PRIORITY) (nat_le retries MOST_RETRIES) range in
-        leb-true _ _ (and_parts (names_device t.config device) (nat_le priority MOST_PRIORITY) one.0).1
+        let one = and_parts (names_device t.config device && nat_le priority MAX_PRIORITY) (nat_le retries MAX_RETRIES) range in
+        leb-true _ _ (and_parts (names_device t.config device) (nat_le priority MAX_PRIORITY) one.0).1
 
     pub requeued-few : (ccb : ℕ) → e ≡ Requeue ccb → length (stays_begun t.events) < t.rules.stays
     requeued-few ccb same = room_requeue t.rules t.config t.events ccb (legal-of (Requeue ccb) same)

@@ -84,7 +84,7 @@ module _ (slots slots' : Table Ccb) (handles : List Handle) (room flying : ℕ) 
 pub row_at : (slots : Table Ccb) (handles : List Handle) (n : ℕ) (handle : Handle) → slice_get handles n ≡ Some handle → slice_get (rows_in slots handles) n ≡ Some (find slots handle)
 row_at slots handles n handle at = slice_get-map (find slots) handles n ∙ ap (option_map (find slots)) at
 
--- a row is counted where it is on its way, and there are no more than CCBs
+-- a row is counted if its CCB is in flight, and there are no more of these than CCBs
 counted_at : (p : Option Ccb → Bool) (rs : List (Option Ccb)) (n : ℕ) (r : Option Ccb) → slice_get rs n ≡ Some r → bit (p r) ≤ count_by p rs
 counted_at p rs n r at =
     let lt = slice_get_within rs n r at in

@@ -2,7 +2,7 @@
 use Rattle.std.proofs.Common.{◌≡◌, ℕ, ◌+◌, ◌<◌, ◌≤◌, true, cond, List, [], ◌∷◌, ◌++◌, length, refl, sym, ap, subst, ◌∙◌, arith, Some, map, not, ◌==◌, ◌&&◌, nat_lt, nat_le}
 use Rattle.std.specs.Option.{option_map_or}
 use Rattle.std.proofs.lemmas.Bool.{and_parts, and_from, eq-eqb, ltb-true, leb-true, not-true}
-use Rattle.xpt_core.specs.Words.{Topology, are_openings, MOST_PRIORITY, MOST_RETRIES, MOST_FREEZES, is_some_and, is_erring, round, commands, submission, submissions, is_in_flight, is_recovering, has_in_flight, caller_count, names_device, devices, is_ready, stays_begun, Event, Submit, Send, Done, Requeue, Finish, FreezeDev, ReleaseDev, FreezeSim, ReleaseSim, Adjust, Tick, Submission, Passage, Rules, IsWithinHistory, is_count, is_legal_event, is_legal, is_in_range, device_of}
+use Rattle.xpt_core.specs.Words.{Topology, are_openings, MAX_PRIORITY, MAX_RETRIES, MAX_FREEZES, is_some_and, is_erring, round, commands, submission, submissions, is_in_flight, is_recovering, has_in_flight, caller_count, names_device, devices, is_ready, stays_begun, Event, Submit, Send, Done, Requeue, Finish, FreezeDev, ReleaseDev, FreezeSim, ReleaseSim, Adjust, Tick, Submission, Passage, Rules, IsWithinHistory, is_count, is_legal_event, is_legal, is_in_range, device_of}
 use Rattle.event_rules.proofs.PushLaws.{few_commands}
 use Rattle.event_rules.proofs.LawLemmas.{allowed-legal_event}
 use Rattle.event_rules.proofs.LimitLemmas.{room_submit, room_requeue}
@@ -24,15 +24,15 @@ use Rattle.xpt_core.proofs.RoomLemmas.{held-few, entered-few, none-flying, submi
 pub record IsCcb (c : Topology) (es : List Event) (ccb : ℕ) (s : Submission) : Type 0 where
   pub is : submission es ccb ≡ Some s
   pub device : s.device < length c.devices
-  pub priority : s.priority ≤ MOST_PRIORITY
+  pub priority : s.priority ≤ MAX_PRIORITY
 
 pub ccb_known : (rules : Rules) (c : Topology) (es : List Event) (ccb : ℕ) → is_legal rules c es ≡ true → ccb < commands es → (s : Submission) × IsCcb c es ccb s
 ccb_known rules c es ccb legal lt =
     let one = submitted es ccb lt in
     let s = one.0 in
     let range = passes-slice_get (is_in_range c) (submissions es) ccb s (submissions_in_range rules c es legal) one.1 in
-    let two = and_parts (names_device c s.device && nat_le s.priority MOST_PRIORITY) (nat_le s.retries MOST_RETRIES) range in
-    let three = and_parts (names_device c s.device) (nat_le s.priority MOST_PRIORITY) two.0 in
+    let two = and_parts (names_device c s.device && nat_le s.priority MAX_PRIORITY) (nat_le s.retries MAX_RETRIES) range in
+    let three = and_parts (names_device c s.device) (nat_le s.priority MAX_PRIORITY) two.0 in
     (s, record { is = one.1; device = ltb-true _ _ three.0; priority = leb-true _ _ three.1 })
 
 -- a change of the CCB's device is one of that device
@@ -147,8 +147,8 @@ module _ (b : Rules) (within : IsWithinHistory b) (c : Topology) (es : List Even
   pub can-update : (e : Event) → is_legal_event b c (es, e) ≡ true → CanUpdate (submissions es) e found
   can-update (Submit driver device priority retries flags) allowed =
       let range = range_submit b c es driver device priority retries flags allowed in
-      let one = and_parts (names_device c device && nat_le priority MOST_PRIORITY) (nat_le retries MOST_RETRIES) range in
-      let two = and_parts (names_device c device) (nat_le priority MOST_PRIORITY) one.0 in
+      let one = and_parts (names_device c device && nat_le priority MAX_PRIORITY) (nat_le retries MAX_RETRIES) range in
+      let two = and_parts (names_device c device) (nat_le priority MAX_PRIORITY) one.0 in
       let room = room_submit b c es driver device priority retries flags allowed in (
         at_found HasRoom device (ltb-true _ _ two.0) (has_room device room),
         leb-true _ _ two.1,
@@ -168,7 +168,7 @@ module _ (b : Rules) (within : IsWithinHistory b) (c : Topology) (es : List Even
   can-update (Requeue ccb) allowed =
       let asks = asks-requeue b c es ccb allowed in
       let one = ccb_known b c es ccb legal asks.0 in
-      has_ccb (λ s. HasAt (λ q. HasRoom q × HasError (not s.flags.qfrzdis) q) found s.device × (s.priority ≤ MOST_PRIORITY)) ccb one.0 one.1.is asks.0 (
+      has_ccb (λ s. HasAt (λ q. HasRoom q × HasError (not s.flags.qfrzdis) q) found s.device × (s.priority ≤ MAX_PRIORITY)) ccb one.0 one.1.is asks.0 (
         at_found (λ q. HasRoom q × HasError (not one.0.flags.qfrzdis) q) one.0.device one.1.device
             (has_room one.0.device (room_requeue b c es ccb allowed), has_error ccb one.0 one.1.is asks.0 asks.1),
         one.1.priority,
@@ -180,7 +180,7 @@ module _ (b : Rules) (within : IsWithinHistory b) (c : Topology) (es : List Even
       (at_found (HasError (not one.0.flags.qfrzdis)) one.0.device one.1.device (has_error ccb one.0 one.1.is asks.0 asks.1))
   can-update (FreezeDev device count) allowed =
       let asked = (allowed-legal_event b c es (FreezeDev device count) allowed).1 in
-      let one = and_parts (names_device c device && is_count count) (nat_le (caller_count es device + count) MOST_FREEZES) asked in
+      let one = and_parts (names_device c device && is_count count) (nat_le (caller_count es device + count) MAX_FREEZES) asked in
       let two = and_parts (names_device c device) (is_count count) one.0 in
       at_found (λ q. q.callers + count ≤ 65535) device (ltb-true _ _ two.0) (few_callers device count (leb-true _ _ one.1))
   can-update (ReleaseDev device count) allowed =

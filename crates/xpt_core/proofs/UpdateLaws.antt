@@ -3,7 +3,7 @@ use Rattle.std.proofs.Common.{◌≡◌, ℕ, ◌+◌, ◌-◌, ◌<◌, ◌≤�
 use Rattle.std.specs.Option.{option_map, option_map_or}
 use Rattle.std.proofs.lemmas.Bool.{and_parts, eqb-true, ltb-true, leb-true}
 use Rattle.std.proofs.lemmas.Option.{slice_get_within}
-use Rattle.xpt_core.specs.Words.{Topology, is_some_and, is_tick, round, submission, sendings, sending_of, goes_to, adapter_freezes, first, names_adapter, is_on, device_adapter, lane_adapter, adapter_openings, goes_now_to_adapter, adapter_has_opening, last_sent, head, next, Event, Send, FreezeSim, ReleaseSim, Tick, Passage, Sending, Submission, Rules, is_count, is_next, is_legal_event, is_legal, device_of, MOST_FREEZES, sent_at, with_send, best_ready, Row}
+use Rattle.xpt_core.specs.Words.{Topology, is_some_and, is_tick, round, submission, sendings, sending_of, goes_to, adapter_freezes, first, names_adapter, is_on, device_adapter, lane_adapter, adapter_openings, goes_now_to_adapter, adapter_has_opening, last_sent, head, next, Event, Send, FreezeSim, ReleaseSim, Tick, Passage, Sending, Submission, Rules, is_count, is_next, is_legal_event, is_legal, device_of, MAX_FREEZES, sent_at, with_send, best_ready, Row}
 use Rattle.cam_types.specs.declared.adapter.Adapter as cam
 use Rattle.event_rules.specs.Head as Head
 use Rattle.event_rules.proofs.StateLaws.{map-range_same}
@@ -69,7 +69,7 @@ asks-release rules c es sim allowed =
 
 asks-freeze : (rules : Rules) (c : Topology) (es : List Event) (sim count : ℕ) → is_legal_event rules c (es, FreezeSim sim count) ≡ true → (sim < length c.adapters) × (adapter_freezes es sim + count ≤ 65535)
 asks-freeze rules c es sim count allowed =
-    let one = and_parts (names_adapter c sim && is_count count) (nat_le (adapter_freezes es sim + count) MOST_FREEZES) (allowed-legal_event rules c es (FreezeSim sim count) allowed).1 in
+    let one = and_parts (names_adapter c sim && is_count count) (nat_le (adapter_freezes es sim + count) MAX_FREEZES) (allowed-legal_event rules c es (FreezeSim sim count) allowed).1 in
     (ltb-true _ _ (and_parts (names_adapter c sim) (is_count count) one.0).0, leb-true _ _ one.1)
 
 module _ (rules : Rules) (c : Topology) where

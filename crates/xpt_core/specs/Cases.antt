@@ -1,7 +1,7 @@
 -- the CCBs that wait for a decision, in the order of completion
 use Rattle.std.specs.Prelude.{ℕ, ◌+◌, ◌==◌, Bool, not, List, [], ◌∷◌, ◌++◌, length, map, filter, count_by, drop, Option, Some, None, if◌then◌else◌}
 use Rattle.std.specs.List.{list_any, filter_map}
-use Rattle.xpt_core.specs.Words.{moments, concerns, is_erring, Event, Done, Requeue, Finish}
+use Rattle.xpt_core.specs.Words.{prefixed, concerns, is_erring, Event, Done, Requeue, Finish}
 
 -- a completion that erred: its CCB and its place
 pub record Failure : Type 0 where
@@ -15,7 +15,7 @@ failure_of (before, _) = None
 
 -- all of them, in order
 unfoldable pub failures : List Event → List Failure
-failures events = filter_map failure_of (moments events)
+failures events = filter_map failure_of (prefixed events)
 
 -- no event after it concerns its CCB
 abbrev pub is_undecided : List Event → Failure → Bool

@@ -16,7 +16,7 @@ in_order events d = sorted_by queue_key (queue events d)
 abbrev pub is_later : ℕ → ℕ → Passage → Bool
 is_later d round p = (p.device == d) && nat_lt round p.arrival
 
--- the device's stays that wait for the next round, in order of birth
+-- the device's stays that wait for the next round, in creation order
 abbrev pub later : List Event → ℕ → List Passage
 later events d = filter (is_later d (round events)) (waiting events)
 

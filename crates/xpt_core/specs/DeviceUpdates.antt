@@ -2,7 +2,7 @@
 use Rattle.std.specs.Prelude.{◌≡◌, ℕ, ◌+◌, ◌-◌, ◌^◌, ◌<◌, ◌≤◌, Bool, true, not, ◌&&◌, if◌then◌else◌, List, [], ◌∷◌, ◌++◌, length, map, drop, Some, slice_get, slice_set, All}
 use Rattle.std.specs.Option.{option_map_or}
 use Rattle.xpt_core.specs.Places.{at_place, HasAt}
-use Rattle.xpt_core.specs.Words.{MOST_PRIORITY, Waiting, is_erring, Event, Submit, Send, Done, Requeue, Finish, FreezeDev, ReleaseDev, Adjust, Tick, Submission}
+use Rattle.xpt_core.specs.Words.{MAX_PRIORITY, Waiting, is_erring, Event, Submit, Send, Done, Requeue, Finish, FreezeDev, ReleaseDev, Adjust, Tick, Submission}
 use Rattle.dev_queue.specs.Device.{Device, enter, enter_all, held_count, is_ready}
 
 -- one more stay in the queue
@@ -88,13 +88,13 @@ pub record HasError (frozen : Bool) (q : Device) : Type 0 where
 -- what each kind of event finds in the queues
 abbrev pub CanUpdate : List Submission → Event → List Device → Type 0
 CanUpdate submissions (Submit driver device priority retries flags) queues =
-    HasAt HasRoom queues device × (priority ≤ MOST_PRIORITY) × (length submissions < 2 ^ 32)
+    HasAt HasRoom queues device × (priority ≤ MAX_PRIORITY) × (length submissions < 2 ^ 32)
 CanUpdate submissions (Send lane ccb) queues =
     HasCcb (λ s. HasAt (λ q. is_ready q ≡ true) queues s.device) submissions ccb
 CanUpdate submissions (Done ccb outcome) queues =
     HasCcb (λ s. HasAt (λ q. 0 < q.in_flight) queues s.device) submissions ccb
 CanUpdate submissions (Requeue ccb) queues =
-    HasCcb (λ s. HasAt (λ q. HasRoom q × HasError (not s.flags.qfrzdis) q) queues s.device × (s.priority ≤ MOST_PRIORITY)) submissions ccb
+    HasCcb (λ s. HasAt (λ q. HasRoom q × HasError (not s.flags.qfrzdis) q) queues s.device × (s.priority ≤ MAX_PRIORITY)) submissions ccb
 CanUpdate submissions (Finish ccb) queues =
     HasCcb (λ s. HasAt (HasError (not s.flags.qfrzdis)) queues s.device) submissions ccb
 CanUpdate submissions (FreezeDev device count) queues = HasAt (λ q. q.callers + count ≤ 65535) queues device

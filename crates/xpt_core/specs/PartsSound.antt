@@ -1,6 +1,6 @@
 -- the parts that hold a transport's CCBs and stays, beside its queues
 use Rattle.std.specs.Prelude.{◌≡◌, ◌<◌, ◌≤◌, IsTrue, vec_capacity}
-use Rattle.event_rules.specs.Legal.{IsWithinHistory, most_alive, is_legal}
+use Rattle.event_rules.specs.Legal.{IsWithinHistory, max_alive, is_legal}
 use Rattle.xpt_core.specs.Transport.{Transport}
 use Rattle.xpt_core.specs.Ccbs.{rows}
 use Rattle.xpt_core.specs.Cases.{cases}
@@ -15,7 +15,7 @@ pub record IsCcbs (t : Transport) (b : Ccbs) : Type 0 where
   pub legal : IsTrue (is_legal t.rules t.config t.events)
   pub rows : b.rows.rows ≡ rows t.events
   pub cases : b.cases.items ≡ cases t.events
-  pub slots : b.rows.slots ≡ most_alive t.rules
+  pub slots : b.rows.slots ≡ max_alive t.rules
   pub row_room : t.rules.stays ≤ b.rows.room
   pub case_room : t.rules.stays < vec_capacity b.cases
 

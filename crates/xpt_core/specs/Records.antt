@@ -22,6 +22,6 @@ next_arrival events p = option_map (λ (q : Passage). q.arrival) (next_stay (sta
 abbrev pub record_of : List Event → Passage → StayRecord
 record_of events p = record { stay = p; sent = sent_round events p; next_arrival = next_arrival events p }
 
--- the records of all stays, in order of birth
+-- the records of all stays, in creation order
 unfoldable pub records : List Event → List StayRecord
 records events = map (record_of events) (stays_begun events)

@@ -1,11 +1,11 @@
 -- The words of the crates below that most clauses and proofs cite, passed on from one place. Declares nothing.
 pub use Rattle.cam_ccb.specs.Table.{Table, Updates, find, held_count}
 pub use Rattle.cam_ccb.specs.declared.handle.Handle.{Handle}
-pub use Rattle.cam_types.specs.Lists.{is_less, least_by, moments, moments_after}
+pub use Rattle.cam_types.specs.Lists.{is_less, least_by, prefixed, prefixed_after}
 pub use Rattle.cam_types.specs.Questions.{adapter_link, adapter_openings, device_adapter, device_openings, devices, is_on, is_under, lane_adapter, names_adapter, names_device, names_lane, weight}
 pub use Rattle.cam_types.specs.Topology.{IsConfig, Topology, are_openings}
 pub use Rattle.cam_types.specs.declared.flags.Flags.{Flags}
-pub use Rattle.cam_types.specs.declared.maxima.TheConstants.{MOST_EVENTS, MOST_FREEZES, MOST_PRIORITY, MOST_RETRIES, MOST_STAYS}
+pub use Rattle.cam_types.specs.declared.limits.TheConstants.{MAX_EVENTS, MAX_FREEZES, MAX_PRIORITY, MAX_RETRIES, MAX_STAYS}
 pub use Rattle.cam_types.specs.declared.outcome.Outcome.{Outcome}
 pub use Rattle.dev_queue.specs.Device.{Device, enter, enter_all}
 pub use Rattle.dev_queue.specs.declared.waiting.Waiting.{Waiting}
@@ -15,7 +15,7 @@ pub use Rattle.event_rules.specs.Event.{adjusts_to, ccb_of, concerns, ends, is_a
 pub use Rattle.event_rules.specs.Head.{goes_now, goes_now_over_link, goes_now_to, goes_now_to_adapter, link_has_opening, may_send, turn_key}
 unfoldable pub use Rattle.event_rules.specs.Head.{adapter_has_opening, has_opening, head, is_ready, last_sent, next, openings, turn}
 pub use Rattle.event_rules.specs.Laws.{is_in_range, is_stay_of, last_class}
-pub use Rattle.event_rules.specs.Legal.{IsWithinHistory, Rules, has_ccb, has_stay, is_count, is_legal_event, most_alive, names_ccb}
+pub use Rattle.event_rules.specs.Legal.{IsWithinHistory, Rules, has_ccb, has_stay, is_count, is_legal_event, max_alive, names_ccb}
 unfoldable pub use Rattle.event_rules.specs.Legal.{is_legal, is_next}
 pub use Rattle.event_rules.specs.Live.{live_round}
 unfoldable pub use Rattle.event_rules.specs.Live.{live_cost, live_part, send_place}

@@ -1,7 +1,7 @@
 //! What is known of a transport's CCBs: a row for each that is alive, and the cases that wait for a decision.
 
 ghost use Rattle.std.specs.Prelude.{◌≡◌, ◌<◌, [], IfOk, vec_len, vec_capacity};
-ghost use Rattle.event_rules.specs.Legal.{IsWithinHistory, most_alive};
+ghost use Rattle.event_rules.specs.Legal.{IsWithinHistory, max_alive};
 ghost use Rattle.xpt_core.specs.Cases.{decided};
 ghost use Rattle.xpt_core.specs.Rows.{updated, CanUpdate};
 
@@ -34,13 +34,13 @@ impl Ccbs {
     /// No CCB, with memory for all that the rules let happen.
     pub(crate) fn open(alloc: Global, rules: Rules) -> Result<Ccbs, AllocError>
         ensures range { IfOk result (λ _. IsWithinHistory rules) }
-        ensures rows { IfOk result (λ b. b.rows ≡ record { rows = []; slots = most_alive rules; room = rules.stays }) }
+        ensures rows { IfOk result (λ b. b.rows ≡ record { rows = []; slots = max_alive rules; room = rules.stays }) }
         ensures cases { IfOk result (λ b. b.cases.items ≡ []) }
         ensures room { IfOk result (λ b. rules.stays < vec_capacity b.cases) }
     {
         let stays = rules.stays();
         Ok(Ccbs {
-            rows: Rows::open(alloc, rules.most_alive(), stays)?,
+            rows: Rows::open(alloc, rules.max_alive(), stays)?,
             cases: Vec::with_capacity(alloc, stays as usize + 1)?,
         })
     }

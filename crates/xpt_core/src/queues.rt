@@ -2,7 +2,7 @@
 
 ghost use Rattle.std.specs.Prelude.{◌≡◌, ◌<◌, ◌≤◌, ◌==◌, not, [], ◌∷◌, ◌++◌, length, count_by, IsTrue, IfOk};
 ghost use Rattle.std.specs.Option.{option_map};
-ghost use Rattle.cam_types.specs.declared.maxima.TheConstants.{MOST_FREEZES};
+ghost use Rattle.cam_types.specs.declared.limits.TheConstants.{MAX_FREEZES};
 
 mod affected;
 pub mod next;
@@ -104,7 +104,7 @@ impl Queues {
     pub fn callers(&self, adapter: u32) -> u32
         requires { adapter < length self.now.config.adapters }
         ensures same { result ≡ adapter_freezes self.now.events adapter }
-        ensures most { result ≤ MOST_FREEZES }
+        ensures most { result ≤ MAX_FREEZES }
     {
         self.sim(adapter).callers()
     }

@@ -4,7 +4,7 @@ ghost use Rattle.std.specs.Prelude.{◌≡◌, ◌<◌, true, nat_le, [], ◌∷
 ghost use Rattle.xpt_core.specs.Words.{HistoryFull, is_recovering, wants_requeue, wants_finish, refusal, first_cause, causes, submit_causes, turn_causes, send_causes, done_causes, requeue_causes, finish_causes, freeze_dev_causes, release_dev_causes, freeze_sim_causes, release_sim_causes, adjust_causes, tick_causes, device_of, are_ccbs_full, are_stays_full, have_openings, is_other_next, names_ccb, is_legal};
 
 use crate::state::State;
-use cam_types::{MOST_FREEZES, MOST_PRIORITY, MOST_RETRIES, Outcome, are_openings};
+use cam_types::{MAX_FREEZES, MAX_PRIORITY, MAX_RETRIES, Outcome, are_openings};
 use event_rules::{Event, Refusal, is_count};
 
 /// Why the event is refused after those of the state.
@@ -61,9 +61,9 @@ fn submit_refusal(state: &State, device: u32, priority: u32, retries: u32) -> Op
 {
     if !state.config().names_device(device) {
         Some(Refusal::NoDevice)
-    } else if priority > MOST_PRIORITY {
+    } else if priority > MAX_PRIORITY {
         Some(Refusal::BadPriority)
-    } else if retries > MOST_RETRIES {
+    } else if retries > MAX_RETRIES {
         Some(Refusal::BadRetries)
     } else if are_ccbs_full(state) {
         Some(Refusal::CcbFull)
@@ -164,7 +164,7 @@ fn freeze_dev_refusal(state: &State, device: u32, count: u32) -> Option<Refusal>
     } else if !is_count(count) {
         Some(Refusal::BadCount)
     } else if u64::from(state.devices().caller_count(device)) + u64::from(count)
-        > u64::from(MOST_FREEZES)
+        > u64::from(MAX_FREEZES)
     {
         Some(Refusal::FreezeOverflow)
     } else {
@@ -193,7 +193,7 @@ fn freeze_sim_refusal(state: &State, sim: u32, count: u32) -> Option<Refusal>
         Some(Refusal::NoAdapter)
     } else if !is_count(count) {
         Some(Refusal::BadCount)
-    } else if u64::from(state.queues().callers(sim)) + u64::from(count) > u64::from(MOST_FREEZES) {
+    } else if u64::from(state.queues().callers(sim)) + u64::from(count) > u64::from(MAX_FREEZES) {
         Some(Refusal::FreezeOverflow)
     } else {
         None

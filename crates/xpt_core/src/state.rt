@@ -1,7 +1,7 @@
 //! The working state of a transport: its parts beside each other.
 
 ghost use Rattle.std.specs.Prelude.{◌≡◌, ◌≤◌, nat_le, [], ◌∷◌, ◌++◌, length, None, IsTrue, IfOk, MatchResult};
-ghost use Rattle.xpt_core.specs.Words.{MOST_EVENTS, HistoryFull, first_cause};
+ghost use Rattle.xpt_core.specs.Words.{MAX_EVENTS, HistoryFull, first_cause};
 
 use crate::ccbs::Ccbs;
 use crate::devices::Devices;
@@ -106,7 +106,7 @@ impl State {
     pub fn events(&self) -> &[Event]
         ensures same { result.now ≡ self.now.events }
         ensures legal { IsTrue (is_legal self.now.rules self.now.config self.now.events) }
-        ensures short { length result.now ≤ MOST_EVENTS }
+        ensures short { length result.now ≤ MAX_EVENTS }
     {
         self.devices().events()
     }

@@ -68,7 +68,7 @@ module _ {M : Type 1} {𝓤 : Ura M} {𝓛 : Logic 𝓤} {K : Type 0} {Γ : List
       let by_allocator : words ≡ vstruct (of_list (ptr_val d.at ∷ a ∷ [])) ∷ [] = subst (λ (ws : List Val). words ≡ vstruct (of_list (ptr_val d.at ∷ (ws ++ []))) ∷ []) alone by_pointer in
       then b o a at (subst (λ (p : Ptr). words ≡ vstruct (of_list (ptr_val p ∷ a ∷ [])) ∷ []) at by_allocator) fits)))))
 
-  -- the other way round
+  -- the converse
   pub body_in : K → (b o : ℕ) (a : Val) (alloc : Z.Denot) (x : R.Denot)
       → Step K 𝓛 (‵ (B.own_val (record { at = block_ptr b o; alloc = alloc; kept = Some x }) (two (vptr b o) a ∷ [])) ∷ Γ) G
       (‵ (box_owns (ghosts.dealloc_token alloc) R (block_ptr b o) x) ∷ ‵ (Z.own_val alloc (a ∷ [])) ∷ Γ) G

@@ -56,7 +56,7 @@ module _ (R Z : RattleType) (LZ : Laws Z) (g : Ghosts Z.Denot) where
         let by_allocator : words ≡ vstruct (of_list (ptr_val raw.at ∷ a ∷ [])) ∷ [] = subst (λ (ws : List Val). words ≡ vstruct (of_list (ptr_val raw.at ∷ (ws ++ []))) ∷ []) alone by_pointer in
         then b o a at (subst (λ (p : Ptr). words ≡ vstruct (of_list (ptr_val p ∷ a ∷ [])) ∷ []) at by_allocator) fits)))))
 
-    -- The other way round.
+    -- The converse.
     pub raw_in : K → (b o : ℕ) (a : Val) (alloc : Z.Denot) (x : R.Denot)
         → Step K 𝓛 (‵ (Raw.own_val (record { at = block_ptr b o; alloc = alloc; value = x }) (two (vptr b o) a ∷ [])) ∷ Γ) G
         (‵ (box_owns (g.dealloc_token alloc) R (block_ptr b o) x) ∷ ‵ (Z.own_val alloc (a ∷ [])) ∷ Γ) G

@@ -128,7 +128,7 @@ taken_more due before mine named from r t stands later free =
       behind = sym (next_place-push mine r le);
     }
 
--- the three ways in which a receipt ends it
+-- the three cases in which a receipt ends it
 pub ends_unless_it_stands : (due : List Receipt) (before : List Held) (h : Held) (mine : List Receipt) (r : Receipt) → h.receipts ≡ mine ++ r ∷ [] → slice_get due r.at ≢ Some r → AreConsistent due (before ++ h ∷ []) → ⊥
 ends_unless_it_stands due before h mine r is not fit =
     let stand = rw (all_one, is) at fit.stand in

@@ -1,9 +1,9 @@
 -- a transport by the rules of histories takes each event of a history, and so gets the receipts of one thread
 use Rattle.std.proofs.Common.{◌≡◌, ℕ, ◌+◌, ◌<◌, ◌≤◌, true, List, [], ◌∷◌, ◌++◌, length, take, map, Some, None, Result, Ok, Err, refl, sym, ap, subst, ◌∙◌, arith, length-take, IsOk, slice_index_or}
 use Rattle.std.proofs.lemmas.List.{take_more, map_push, length-map}
-use Rattle.event_rules.proofs.ListFacts.{length-moments_after}
-use Rattle.cam_types.proofs.ListLemmas.{moments-push}
-use Rattle.cam_types.specs.Lists.{moments}
+use Rattle.event_rules.proofs.ListFacts.{length-prefixed_after}
+use Rattle.cam_types.proofs.ListLemmas.{prefixed-push}
+use Rattle.cam_types.specs.Lists.{prefixed}
 use Rattle.cam_types.specs.Topology.{Topology}
 use Rattle.event_rules.specs.declared.event.Event.{Event}
 use Rattle.event_rules.specs.Legal.{history_rules, is_legal, is_legal_event}
@@ -45,12 +45,12 @@ pub next_receipt : (c : Topology) (all : List Event) (i : ℕ) (old : Transport)
 next_receipt c all i old e reply at before after so_far lt item place its kept made =
     let more : take (i + 1) all ≡ take i all ++ e ∷ [] = take_more all i e lt ∙ ap (λ (x : Event). take i all ++ x ∷ []) (sym item) in
     let f : List Event × Event → Receipt = λ m. record { at = length m.0; event = m.1; reply = reply_of c m.0 m.1 } in
-    let parts : receipts_of c (take i all ++ e ∷ []) ≡ receipts_of c (take i all) ++ f (take i all, e) ∷ [] = ap (map f) (moments-push (take i all) e) ∙ map_push f (moments (take i all)) (take i all, e) in
+    let parts : receipts_of c (take i all ++ e ∷ []) ≡ receipts_of c (take i all) ++ f (take i all, e) ∷ [] = ap (map f) (prefixed-push (take i all) e) ∙ map_push f (prefixed (take i all)) (take i all, e) in
     rw (made, kept, more, parts, place, its, so_far) refl
 
 -- there are as many receipts as events
 pub length_receipts_of : (c : Topology) (events : List Event) → length (receipts_of c events) ≡ length events
-length_receipts_of c events = length-map (moments events) (λ (m : List Event × Event). let r : Receipt = record { at = length m.0; event = m.1; reply = reply_of c m.0 m.1 } in r) ∙ length-moments_after [] events
+length_receipts_of c events = length-map (prefixed events) (λ (m : List Event × Event). let r : Receipt = record { at = length m.0; event = m.1; reply = reply_of c m.0 m.1 } in r) ∙ length-prefixed_after [] events
 
 pub few_receipts : (c : Topology) (events taken : List Event) (receipts : List Receipt) (n most : ℕ) → receipts ≡ receipts_of c (take n taken) → taken ≡ events → length taken ≤ most → length receipts ≤ most
 few_receipts c events taken receipts n most is same few =

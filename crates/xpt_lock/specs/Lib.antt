@@ -1,6 +1,6 @@
 pub mod Seats
-pub mod Bells
-pub mod Rings
+pub mod WaitEvents
+pub mod Notifications
 pub mod Calls
 pub mod Receipts
 pub mod Gathers

@@ -1,7 +1,7 @@
 -- the receipts of one history, and how the receipts of seats fit it
 use Rattle.std.specs.Prelude.{◌≡◌, ℕ, ◌<◌, ◌≤◌, ◌==◌, Bool, true, ◌&&◌, nat_lt, List, [], ◌∷◌, length, map, Some, All, count_by, sum_by, slice_get}
 use Rattle.std.specs.List.{list_all, flat_map, range_with_len}
-use Rattle.cam_types.specs.Lists.{moments}
+use Rattle.cam_types.specs.Lists.{prefixed}
 use Rattle.cam_types.specs.Topology.{Topology}
 use Rattle.event_rules.specs.declared.event.Event.{Event}
 use Rattle.xpt_state.specs.Replies.{reply_of}
@@ -10,7 +10,7 @@ pub use Rattle.xpt_lock.specs.declared.receipt.Receipt.{Receipt}
 
 -- what one thread would get that made all the calls: each place with its event, and the transport's reply to it there
 abbrev pub receipts_of : Topology → List Event → List Receipt
-receipts_of c events = map (λ m. record { at = length m.0; event = m.1; reply = reply_of c m.0 m.1 }) (moments events)
+receipts_of c events = map (λ m. record { at = length m.0; event = m.1; reply = reply_of c m.0 m.1 }) (prefixed events)
 
 -- the receipts of the seats, seat by seat
 abbrev pub all_receipts : List Held → List Receipt

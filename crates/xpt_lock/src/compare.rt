@@ -1,7 +1,7 @@
 //! Whether the receipts of seats are those of one history.
 
 ghost use Rattle.std.specs.Prelude.{◌≡◌, ◌≢◌, ◌↔◌, ℕ, ◌+◌, ◌<◌, ◌≤◌, true, false, Some, [], length, take, MatchBool, MatchResult, IfSome, IfNone, slice_get};
-ghost use Rattle.cam_types.specs.declared.maxima.TheConstants.{MOST_EVENTS};
+ghost use Rattle.cam_types.specs.declared.limits.TheConstants.{MAX_EVENTS};
 ghost use Rattle.xpt_lock.specs.Gathers.{IsCompared, IsMisfit};
 ghost use Rattle.xpt_lock.specs.Receipts.{all_receipts, marks, AreConsistent};
 
@@ -16,7 +16,7 @@ pub(crate) fn compare<L: Ledger>(
     named: &mut [bool],
     seats: &[Seat<L>],
 ) -> Result<(), GatherFault>
-    requires few { length due.now ≤ MOST_EVENTS }
+    requires few { length due.now ≤ MAX_EVENTS }
     requires unmarked { named.old ≡ marks (length due.now) [] }
     ensures { IsCompared due.now seats.now result }
 {

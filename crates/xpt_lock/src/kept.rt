@@ -4,33 +4,33 @@ ghost use Rattle.std.specs.Prelude.{◌≡◌, ◌<◌, ◌+◌, [], length, OnO
 ghost use Rattle.std.specs.Option.{option_to_list};
 ghost use Rattle.xpt_state.specs.Looks.{look, next_case};
 ghost use Rattle.xpt_state.specs.Steps.{IsStep, IsLaneStep};
-ghost use Rattle.xpt_lock.specs.Bells.{rings, is_bell};
+ghost use Rattle.xpt_lock.specs.WaitEvents.{is_notified_by, is_wait_event};
 ghost use Rattle.xpt_lock.specs.Calls.{sent_receipt, IsSound};
-ghost use Rattle.xpt_lock.specs.Rings.{no_rings, rings_of, rung_by};
+ghost use Rattle.xpt_lock.specs.Notifications.{no_notifications, notifications_of, notified_by};
 
-use crate::bell::Bell;
+use crate::epoch::Epoch;
 use crate::fault::SeatsFull;
-use crate::moment::Moment;
+use crate::notifications::Notifications;
 use crate::receipt::Receipt;
-use crate::rings::Rings;
 use crate::seat::{Seat, SeatName};
+use crate::wait_event::WaitEvent;
 use event_rules::{Event, Refusal};
 use std::alloc::Global;
 use std::sync::ledger::{Blank, Book, Ledger, Share};
 use xpt_state::{Case, Look, Sent, Xpt};
 
 // How many seats there may be: one part of the ledger less than it has.
-const MOST_SEATS: u32 = 64;
+const MAX_SEATS: u32 = 64;
 
-// A transport, the book that counts its events, the parts of the ledger for the seats that are left, and how often each bell
-// rang.
+// A transport, the book that counts its events, the parts of the ledger for the seats that are left, and how often each wait event
+// was notified.
 #[derive(Drop)]
 pub(crate) struct Kept<L: Ledger> {
     xpt: Xpt,
     book: Book<L>,
     spare: Share<L>,
     left: u32,
-    rings: Rings,
+    notifications: Notifications,
     ghost counted: { book.total ≡ length xpt.events },
     ghost parts: { spare.parts ≡ left + 1 },
     ghost unused: { spare.amount ≡ 0 },
@@ -44,15 +44,15 @@ impl<L: Ledger> Kept<L> {
         requires parts { (blank.parts ≡ L.parts) × (blank.parts ≡ 65) }
         ensures xpt { result.xpt ≡ xpt }
         ensures left { result.left ≡ 64 }
-        ensures rings { result.rings ≡ no_rings }
+        ensures notifications { result.notifications ≡ no_notifications }
     {
         let (book, spare) = blank.open::<L>();
         Kept {
             xpt,
             book,
             spare,
-            left: MOST_SEATS,
-            rings: Rings::none(),
+            left: MAX_SEATS,
+            notifications: Notifications::none(),
         }
     }
 
@@ -60,14 +60,14 @@ impl<L: Ledger> Kept<L> {
     pub(crate) fn seat(&mut self, alloc: Global, name: SeatName) -> Result<Seat<L>, SeatsFull>
         ensures answer { MatchResult result (λ s. (s ≡ record { name = name; receipts = [] }) × (self.new.left + 1 ≡ self.old.left)) (λ _. self.old.left ≡ 0) }
         ensures xpt { self.new.xpt ≡ self.old.xpt }
-        ensures rings { self.new.rings ≡ self.old.rings }
+        ensures notifications { self.new.notifications ≡ self.old.notifications }
     {
         let Kept {
             xpt: _,
             book: _,
             spare,
             left,
-            rings: _,
+            notifications: _,
         } = self;
         if *left == 0 {
             return Err(SeatsFull);
@@ -76,7 +76,7 @@ impl<L: Ledger> Kept<L> {
         Ok(Seat::new(alloc, name, spare.split_off(1, 0)))
     }
 
-    // Takes the event, counts it, in the book and in the share, and rings its bells.
+    // Takes the event, counts it, in the book and in the share, and notifies its wait events.
     pub(crate) fn take(&mut self, event: Event, share: &mut Share<L>) -> Result<Receipt, Refusal>
         requires { share.old.parts ≡ 1 }
         ensures sound { IsSound self.old.xpt }
@@ -85,25 +85,25 @@ impl<L: Ledger> Kept<L> {
         ensures parts { share.new.parts ≡ 1 }
         ensures counted { OnOk result (share.new.amount ≡ share.old.amount + 1) }
         ensures uncounted { OnErr result (share.new.amount ≡ share.old.amount) }
-        ensures rung { IfOk result (λ r. self.new.rings ≡ rung_by (rings event r.reply) self.old.rings) }
-        ensures silent { OnErr result (self.new.rings ≡ self.old.rings) }
+        ensures notified { IfOk result (λ r. self.new.notifications ≡ notified_by (is_notified_by event r.reply) self.old.notifications) }
+        ensures silent { OnErr result (self.new.notifications ≡ self.old.notifications) }
     {
         let Kept {
             xpt,
             book,
             spare: _,
             left: _,
-            rings,
+            notifications,
         } = self;
         let at = xpt.events().len() as u32;
         let asked = &event;
         let reply = xpt.take(*asked)?;
         book.add(share, 1);
-        rings.count(asked, &reply);
+        notifications.count(asked, &reply);
         Ok(Receipt { at, event, reply })
     }
 
-    // Sends the lane's next command, if there is one, and counts the send, in the book and in the share. A send rings no bell.
+    // Sends the lane's next command, if there is one, and counts the send, in the book and in the share. A send notifies nobody.
     pub(crate) fn send_next(
         &mut self,
         lane: u32,
@@ -116,14 +116,14 @@ impl<L: Ledger> Kept<L> {
         ensures parts { share.new.parts ≡ 1 }
         ensures counted { IfOk result (λ r. share.new.amount ≡ share.old.amount + length (option_to_list r.1)) }
         ensures uncounted { OnErr result (share.new.amount ≡ share.old.amount) }
-        ensures silent { self.new.rings ≡ self.old.rings }
+        ensures silent { self.new.notifications ≡ self.old.notifications }
     {
         let Kept {
             xpt,
             book,
             spare: _,
             left: _,
-            rings: _,
+            notifications: _,
         } = self;
         let at = xpt.events().len() as u32;
         let sent = xpt.send_next(lane)?;
@@ -159,22 +159,22 @@ impl<L: Ledger> Kept<L> {
         self.xpt
     }
 
-    // The moment that it is at the bell.
-    pub(crate) fn moment(&self, bell: Bell) -> Moment
-        ensures bell { result.bell ≡ bell }
-        ensures rings { result.rings ≡ rings_of self.now.rings bell }
+    // The epoch of the wait event.
+    pub(crate) fn epoch(&self, wait_event: WaitEvent) -> Epoch
+        ensures wait_event { result.wait_event ≡ wait_event }
+        ensures notifications { result.notifications ≡ notifications_of self.now.notifications wait_event }
     {
-        self.rings.moment(bell)
+        self.notifications.epoch(wait_event)
     }
 
-    // Rings the bell, though nothing happened to the transport. The answer is the moment after that.
-    pub(crate) fn ring(&mut self, bell: Bell) -> Moment
-        ensures rung { self.new.rings ≡ rung_by (is_bell bell) self.old.rings }
+    // Notifies the wait event, though nothing happened to the transport. Answers the epoch after that.
+    pub(crate) fn notify(&mut self, wait_event: WaitEvent) -> Epoch
+        ensures notified { self.new.notifications ≡ notified_by (is_wait_event wait_event) self.old.notifications }
         ensures xpt { self.new.xpt ≡ self.old.xpt }
-        ensures bell { result.bell ≡ bell }
-        ensures rings { result.rings ≡ rings_of self.new.rings bell }
+        ensures wait_event { result.wait_event ≡ wait_event }
+        ensures notifications { result.notifications ≡ notifications_of self.new.notifications wait_event }
     {
-        self.rings.ring(bell);
-        self.rings.moment(bell)
+        self.notifications.notify(wait_event);
+        self.notifications.epoch(wait_event)
     }
 }

@@ -2,25 +2,25 @@
 //! history in which they all did it.
 #![tactic(auto)]
 
-pub use bell::Bell;
+pub use epoch::Epoch;
 pub use fault::{GatherFault, SeatsFull, SharedFault};
-pub use moment::Moment;
 pub use receipt::Receipt;
 pub use seat::{Seat, SeatName};
 pub use shared::SharedXpt;
+pub use wait_event::WaitEvent;
 pub use xpt_state::Reply;
 
-mod bell;
 mod compare;
+mod epoch;
 mod fault;
 mod gather;
 mod kept;
-mod moment;
+mod notifications;
 mod receipt;
 mod replay;
-mod rings;
 mod seat;
 mod shared;
 mod sleepers;
 #[cfg(test)]
 mod tests;
+mod wait_event;

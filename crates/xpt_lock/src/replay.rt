@@ -1,7 +1,7 @@
 //! The history of a transport, and the receipts that one thread would get that made all its calls.
 
 ghost use Rattle.std.specs.Prelude.{◌≡◌, ◌≤◌, length, IfOk};
-ghost use Rattle.cam_types.specs.declared.maxima.TheConstants.{MOST_EVENTS};
+ghost use Rattle.cam_types.specs.declared.limits.TheConstants.{MAX_EVENTS};
 ghost use Rattle.xpt_lock.specs.Gathers.{IsPast, due_of};
 
 use crate::receipt::Receipt;
@@ -15,7 +15,7 @@ pub(crate) fn replay(alloc: Global, xpt: Xpt) -> Result<(History, Vec<Receipt>),
     ensures history { IfOk result (λ both. both.0 ≡ record { config = xpt.config; events = xpt.events }) }
     ensures past { IfOk result (λ both. IsPast both.0) }
     ensures same { IfOk result (λ both. both.1.items ≡ due_of both.0) }
-    ensures few { IfOk result (λ both. length both.1.items ≤ MOST_EVENTS) }
+    ensures few { IfOk result (λ both. length both.1.items ≤ MAX_EVENTS) }
 {
     let (config, events) = xpt.into_parts();
     let mut again = Xpt::by(alloc, config, Rules::of_history())?;

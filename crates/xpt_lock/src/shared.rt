@@ -7,13 +7,13 @@ ghost use Rattle.xpt_lock.specs.Receipts.{Receipt};
 ghost use Rattle.xpt_state.specs.Replies.{nothing};
 ghost use Rattle.xpt_state.specs.declared.reply.Reply.TheVariants as replies;
 
-use crate::bell::Bell;
+use crate::epoch::Epoch;
 use crate::fault::{SeatsFull, SharedFault};
 use crate::kept::Kept;
-use crate::moment::Moment;
 use crate::receipt::Receipt;
 use crate::seat::{Seat, SeatName};
 use crate::sleepers::Sleepers;
+use crate::wait_event::WaitEvent;
 use cam_types::{Flags, Outcome};
 use event_rules::Event;
 use std::alloc::Global;
@@ -289,37 +289,37 @@ impl<L: Ledger> SharedXpt<L> {
         self.lock(rt).look()
     }
 
-    /// The moment that it is at the bell. A worker takes it before it looks for something to do, and finds nothing.
-    pub fn moment<R: Wait>(&self, rt: &R, bell: Bell) -> Moment
-        ensures { result.bell ≡ bell }
+    /// The epoch of the wait event. A worker takes it before it looks for something to do, and finds nothing.
+    pub fn epoch<R: Wait>(&self, rt: &R, wait_event: WaitEvent) -> Epoch
+        ensures { result.wait_event ≡ wait_event }
     {
-        self.lock(rt).moment(bell)
+        self.lock(rt).epoch(wait_event)
     }
 
-    /// Sleeps until it is another moment at the bell than the one that was seen there, which is the answer: until the bell rang
-    /// since then. If it did so already, it returns at once.
-    pub fn wait_past<R: Wait>(&self, rt: &R, seen: Moment) -> Moment
-        ensures bell { result.bell ≡ seen.bell }
-        ensures rung { result.rings ≢ seen.rings }
+    /// Sleeps until the epoch of the wait event is another one than was seen, and answers it: until there was a notification
+    /// since then. If there was one already, it returns at once.
+    pub fn wait_past<R: Wait>(&self, rt: &R, seen: Epoch) -> Epoch
+        ensures wait_event { result.wait_event ≡ seen.wait_event }
+        ensures notified { result.notifications ≢ seen.notifications }
     {
         let mut kept = self.lock(rt);
         for _ in rt.forever() {
-            let now = kept.moment(seen.bell);
-            if now.rings != seen.rings {
+            let now = kept.epoch(seen.wait_event);
+            if now.notifications != seen.notifications {
                 return now;
             }
-            kept = self.sleepers.at(seen.bell).wait(rt, kept);
+            kept = self.sleepers.at(seen.wait_event).wait(rt, kept);
         }
         unreachable!()
     }
 
-    /// Rings the bell, so that whoever sleeps at it looks again, as where a worker rests or all are to stop. The transport
-    /// stays as it is. The answer is the moment that comes with the ring.
-    pub fn ring<R: Wait>(&self, rt: &R, bell: Bell) -> Moment
-        ensures { result.bell ≡ bell }
+    /// Notifies the wait event, so that whoever sleeps for it looks again, as if a worker rests or all are to stop. The transport
+    /// stays as it is. Answers the epoch that the notification begins.
+    pub fn notify<R: Wait>(&self, rt: &R, wait_event: WaitEvent) -> Epoch
+        ensures { result.wait_event ≡ wait_event }
     {
-        let rung = self.lock(rt).ring(bell);
-        self.sleepers.at(bell).notify_all();
-        rung
+        let notified = self.lock(rt).notify(wait_event);
+        self.sleepers.at(wait_event).notify_all();
+        notified
     }
 }

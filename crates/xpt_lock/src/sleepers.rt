@@ -1,11 +1,11 @@
-//! Where the workers sleep, at one bell each.
+//! Where the workers sleep, for one wait event each.
 
-use crate::bell::Bell;
+use crate::wait_event::WaitEvent;
 use event_rules::Event;
 use std::sync::Condvar;
 use xpt_state::Reply;
 
-// Where the workers sleep that wait for a bell.
+// A condition variable for each wait event.
 #[derive(Drop)]
 pub(crate) struct Sleepers {
     round: Condvar,
@@ -24,21 +24,21 @@ impl Sleepers {
         }
     }
 
-    // Where they sleep that wait for this bell.
-    pub(crate) fn at(&self, bell: Bell) -> &Condvar {
-        match bell {
-            Bell::Round => &self.round,
-            Bell::Work => &self.work,
-            Bell::Case => &self.case,
-            Bell::Rest => &self.rest,
+    // That of this wait event.
+    pub(crate) fn at(&self, wait_event: WaitEvent) -> &Condvar {
+        match wait_event {
+            WaitEvent::Round => &self.round,
+            WaitEvent::Work => &self.work,
+            WaitEvent::Case => &self.case,
+            WaitEvent::Rest => &self.rest,
         }
     }
 
-    // Wakes who sleeps at a bell that rings with the event.
+    // Wakes all who sleep for a wait event that the event notifies.
     pub(crate) fn wake(&self, event: &Event, reply: &Reply) {
-        for bell in [Bell::Round, Bell::Work, Bell::Case] {
-            if bell.rings(event, reply) {
-                self.at(bell).notify_all();
+        for wait_event in [WaitEvent::Round, WaitEvent::Work, WaitEvent::Case] {
+            if wait_event.is_notified_by(event, reply) {
+                self.at(wait_event).notify_all();
             }
         }
     }

@@ -1,4 +1,4 @@
-//! Seats whose receipts were changed, and what is said where they are gathered.
+//! Seats whose receipts were changed, and the fault if they are gathered.
 
 ghost use Rattle.std.specs.Prelude.{◌≡◌};
 

@@ -1,12 +1,12 @@
 -- The words of the crates below that most clauses and proofs cite, passed on from one place. Declares nothing.
 pub use Rattle.cam_event.specs.declared.history.PushFault.{PushFault}
 pub use Rattle.cam_event.specs.declared.history.PushFault.TheVariants.{Refused}
-pub use Rattle.cam_types.specs.Lists.{first_answer, least_by, moments_after}
+pub use Rattle.cam_types.specs.Lists.{first_answer, least_by, prefixed_after}
 pub use Rattle.cam_types.specs.Questions.{devices, is_on, lane_adapter, names_lane}
 pub use Rattle.cam_types.specs.Topology.{IsConfig, Topology, lane_fault}
 pub use Rattle.cam_types.specs.declared.command.Command.{Command}
 pub use Rattle.cam_types.specs.declared.config_fault.ConfigFault.TheVariants.{NoAdapter, TooMany}
-pub use Rattle.cam_types.specs.declared.maxima.TheConstants.{MOST_LANES}
+pub use Rattle.cam_types.specs.declared.limits.TheConstants.{MAX_LANES}
 pub use Rattle.cam_types.specs.declared.outcome.Outcome.{Outcome}
 pub use Rattle.event_rules.specs.Counts.{adapter_freezes, ccbs, commands, counted_requeues, freeze_count, is_in_flight, is_recovering, retries_of, round, submission, submissions}
 pub use Rattle.event_rules.specs.Event.{is_erring, is_requeue_of, is_some_and}

@@ -18,7 +18,7 @@ pub struct Look {
     pub length: u32,
     /// The round, from 1.
     pub round: u32,
-    /// The CCBs on their way.
+    /// The CCBs in flight.
     pub in_flight: u32,
     /// The lanes whose adapter has something to send.
     pub heads: usize,

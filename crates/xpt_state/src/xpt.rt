@@ -36,7 +36,7 @@ impl Model for Xpt {
 }
 
 impl Xpt {
-    ghost use Rattle.cam_types.specs.declared.maxima.TheConstants.{MOST_EVENTS};
+    ghost use Rattle.cam_types.specs.declared.limits.TheConstants.{MAX_EVENTS};
     ghost use Rattle.event_rules.specs.Counts.{round};
     ghost use Rattle.event_rules.specs.Legal.{history_rules, rules_of, is_legal};
     ghost use Rattle.xpt_core.specs.Takes.{refused, with_event, IsTaken, IsRefused};
@@ -81,7 +81,7 @@ impl Xpt {
     pub fn events(&self) -> &[Event]
         ensures same { result.now ≡ self.now.events }
         ensures legal { IsTrue (is_legal self.now.rules self.now.config self.now.events) }
-        ensures short { length result.now ≤ MOST_EVENTS }
+        ensures short { length result.now ≤ MAX_EVENTS }
     {
         self.state.events()
     }

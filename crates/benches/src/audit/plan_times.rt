@@ -1,7 +1,7 @@
 //! A best plan alone.
 
 use crate::audit::refused;
-use cost_plan::{OpenGate, guessed_plan, plan, plan_with};
+use cost_plan::{NoPlanProgress, guessed_plan, plan, plan_with};
 use round_net::{Net, cost};
 use std::io;
 use std::process::ExitCode;
@@ -91,7 +91,7 @@ fn time_at_once<R: Threads + Clock + AllocGlobal + Sync>(
     least: &mut Least,
 ) -> io::Result<bool> {
     let begin = Instant::now(rt)?;
-    if plan_with(rt, rt.alloc(), net, &OpenGate).is_err() {
+    if plan_with(rt, rt.alloc(), net, &NoPlanProgress).is_err() {
         return Ok(false);
     }
     least.at_once = least.at_once.min(begin.elapsed(rt)?);

@@ -3,7 +3,7 @@
 ghost use Rattle.std.specs.Prelude.{◌<◌, ◌+◌, length};
 ghost use Rattle.dev_queue.specs.Order.{AllBefore};
 
-use cam_types::{MOST_PRIORITY, Priority};
+use cam_types::{MAX_PRIORITY, Priority};
 use camq_heap::Camq;
 use rand_core::Rng;
 use rand_pcg::Pcg32;
@@ -90,7 +90,7 @@ fn insert_behind(queue: &mut Camq<u32>, priority: Priority, generation: u64)
 }
 
 fn any_priority(random: &mut Pcg32) -> Priority {
-    let Ok(priority) = Priority::new(random.next_u32() % (MOST_PRIORITY + 1)) else {
+    let Ok(priority) = Priority::new(random.next_u32() % (MAX_PRIORITY + 1)) else {
         unreachable!()
     };
     priority

@@ -2,7 +2,7 @@
 
 ghost use Rattle.std.specs.Prelude.{◌≡◌, ◌≤◌, slice_get};
 ghost use Rattle.std.specs.Option.{option_map};
-ghost use Rattle.cam_types.specs.Topology.{IsConfig, Device, MOST_WEIGHT};
+ghost use Rattle.cam_types.specs.Topology.{IsConfig, Device, MAX_WEIGHT};
 ghost use Rattle.cam_types.specs.Weights.{are_standard};
 ghost use Rattle.cam_types.specs.Questions.{names_device, names_adapter, names_lane, adapter_link, adapter_openings, link_openings, is_on, weight};
 
@@ -89,7 +89,7 @@ impl Config {
     pub fn weight(&self, priority: Priority) -> u32
         ensures same { result ≡ weight self.now priority }
         ensures some { 1 ≤ result }
-        ensures most { result ≤ MOST_WEIGHT }
+        ensures most { result ≤ MAX_WEIGHT }
     {
         weight_in(&self.weights, priority.number())
     }

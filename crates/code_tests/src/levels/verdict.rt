@@ -152,7 +152,7 @@ fn load(network: &Network, loads: &mut [u32], unit: u32, round: u32, flow: u32) 
     }
 }
 
-// What a request's way from a device up costs in a round.
+// What a request's path from a device up costs in a round.
 fn price(network: &Network, levels: &Levels, unit: u32, round: u32) -> i64 {
     let mut sum = 0i64;
     let mut here = Some(unit);

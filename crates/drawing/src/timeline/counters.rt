@@ -1,6 +1,6 @@
 //! The counters of a timeline: how many waited at a device, and how many of its openings were used.
 
-use crate::moment::{Moment, moments};
+use crate::round_figures::{RoundFigures, figures};
 use crate::timeline::document::device_process;
 use crate::timeline::writer::EventWriter;
 use round_net::Net;
@@ -17,7 +17,7 @@ pub(crate) fn put_counters(
     for device in 0..net.devices() {
         let stays = stays_at(alloc, explanation.stays(), device)?;
         if !stays.is_empty() {
-            put_device(writer, net, device, &moments(alloc, net, &stays)?)?;
+            put_device(writer, net, device, &figures(alloc, net, &stays)?)?;
         }
     }
     Ok(())
@@ -41,17 +41,17 @@ fn put_device(
     writer: &mut EventWriter,
     net: &Net,
     device: u32,
-    moments: &[Moment],
+    figures: &[RoundFigures],
 ) -> Result<(), AllocError> {
     let mut round = 1u32;
     let mut waiting = u64::MAX;
     let mut openings = (u64::MAX, u64::MAX);
-    for moment in moments {
-        if moment.waiting != waiting {
-            waiting = moment.waiting;
+    for figure in figures {
+        if figure.waiting != waiting {
+            waiting = figure.waiting;
             put_waiting(writer, device, round, waiting)?;
         }
-        let now = used_and_left(net, device, round, moment.sent);
+        let now = used_and_left(net, device, round, figure.sent);
         if now.0 != openings.0 || now.1 != openings.1 {
             openings = now;
             put_openings(writer, device, round, now)?;

@@ -8,7 +8,7 @@ use crate::timeline::writer::EventWriter;
 use round_net::Net;
 use std::alloc::{AllocError, Global};
 use wait_causes::{Explanation, Grouping};
-use wording::Labels;
+use wording::Captions;
 
 /// The timeline as JSON in Chrome's trace-event format, without a line feed at its end, which viewers such as Perfetto and
 /// `chrome://tracing` open. Each device is a process. Its rows are slots: a request stands in one from the beginning of the
@@ -21,14 +21,14 @@ pub fn timeline_json(
     name: &str,
     net: &Net,
     explanation: &Explanation,
-    most_waits: usize,
+    max_waits: usize,
 ) -> Result<String, AllocError> {
-    let labels = Labels::of(net.config(), explanation);
+    let captions = Captions::of(net.config(), explanation);
     let clock = RoundClock::of(explanation.unit());
     let mut writer = EventWriter::new(alloc, name, clock)?;
-    put_processes(alloc, &mut writer, labels, net)?;
+    put_processes(alloc, &mut writer, captions, net)?;
     put_freezes(alloc, &mut writer, net, explanation)?;
-    put_requests(alloc, &mut writer, net, explanation, most_waits)?;
+    put_requests(alloc, &mut writer, net, explanation, max_waits)?;
     put_counters(alloc, &mut writer, net, explanation)?;
     writer.finish()
 }
@@ -37,16 +37,16 @@ pub fn timeline_json(
 fn put_processes(
     alloc: Global,
     writer: &mut EventWriter,
-    labels: Labels<'_>,
+    captions: Captions<'_>,
     net: &Net,
 ) -> Result<(), AllocError> {
     for device in 0..net.devices() {
-        let label = labels.label(alloc, Grouping::Device, device)?;
-        writer.process(device_process(device), &label)?;
+        let caption = captions.caption(alloc, Grouping::Device, device)?;
+        writer.process(device_process(device), &caption)?;
     }
     for adapter in 0..net.adapters() {
-        let label = labels.label(alloc, Grouping::Adapter, adapter)?;
-        writer.process(adapter_process(net, adapter), &label)?;
+        let caption = captions.caption(alloc, Grouping::Adapter, adapter)?;
+        writer.process(adapter_process(net, adapter), &caption)?;
     }
     Ok(())
 }

@@ -39,7 +39,7 @@ struct Scheduled {
 }
 
 /// A line without its line feed: the counts of the net, what its live schedule and this one cost in weighted rounds, and
-/// the difference; and unless a summary is asked for, all stays in order of birth and the prices that aren't 0. Any text may
+/// the difference; and unless a summary is asked for, all stays in creation order and the prices that aren't 0. Any text may
 /// be the name.
 pub fn audit_json(
     alloc: Global,
@@ -92,7 +92,7 @@ fn excess(live: u64, best: Option<u64>) -> Option<i128> {
     Some(i128::from(live) - i128::from(best?))
 }
 
-// The stays of the net, in order of birth.
+// The stays of the net, in creation order.
 fn stay_list(alloc: Global, net: &Net, schedule: &Schedule) -> Result<Vec<Scheduled>, AllocError>
     requires { length schedule.now ≡ (instance_of_rows net.now).stays }
 {

@@ -203,7 +203,7 @@ fn part_of(
     match row {
         Some(row) => {
             let kind = side.explanation.kind();
-            Ok(Some(row_of(alloc, side.labels(), kind, row, by)?))
+            Ok(Some(row_of(alloc, side.captions(), kind, row, by)?))
         }
         None => Ok(None),
     }

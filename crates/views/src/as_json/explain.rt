@@ -13,7 +13,7 @@ use round_net::Net;
 use serde::Serialize;
 use std::alloc::{AllocError, Global};
 use wait_causes::Explanation;
-use wording::{Labels, nanoseconds};
+use wording::{Captions, nanoseconds};
 
 #[derive(Drop, Serialize)]
 struct Explained<'a> {
@@ -31,14 +31,14 @@ struct Explained<'a> {
 
 /// A line without its line feed: the counts of the net, how many nanoseconds a round has where that is known, what its live
 /// schedule and the other one cost in weighted rounds, the difference, and the live cost by cause and by what full rows sent; the
-/// tables by adapter, device, driver and run level; the freezes; and all stays in order of birth, each with its first waits, at
+/// tables by adapter, device, driver and run level; the freezes; and all stays in creation order, each with its first waits, at
 /// most so many, and what the others cost together. Any text may be the name.
 pub fn explain_json(
     alloc: Global,
     trace: &str,
     net: &Net,
     explanation: &Explanation,
-    most_waits: usize,
+    max_waits: usize,
 ) -> Result<String, AllocError>
     ensures { IfOk result (λ s. string_bytes s ≡ print (tokens (string_bytes s))) }
 {
@@ -47,9 +47,9 @@ pub fn explain_json(
         counts: Counts::of(alloc, trace, net)?,
         round_ns: explanation.unit().map(nanoseconds),
         costs: Costs::of(&explanation.whole(alloc)?, kind, config),
-        tables: Tables::of(alloc, Labels::of(config, explanation), explanation)?,
+        tables: Tables::of(alloc, Captions::of(config, explanation), explanation)?,
         freezes: freeze_list(alloc, explanation)?,
-        list: stay_list(alloc, config, explanation, most_waits)?,
+        list: stay_list(alloc, config, explanation, max_waits)?,
     };
     line(alloc, &explained)
 }

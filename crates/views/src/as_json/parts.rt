@@ -5,8 +5,10 @@ use cam_types::Config;
 use recording_file::NameKind;
 use serde::Serialize;
 use std::alloc::{AllocError, Global};
-use wait_causes::{BehindCosts, Cause, CauseCosts, Explanation, Grouping, InputKind, Part, Row};
-use wording::Labels;
+use wait_causes::{
+    BehindCosts, CauseCosts, Explanation, Grouping, InputKind, Part, Row, WaitCause,
+};
+use wording::Captions;
 
 /// Weighted rounds by cause: those of a trace or of a recording, and those of links only where there are links.
 #[derive(Clone, Copy, Drop, Serialize)]
@@ -34,7 +36,7 @@ impl Causes {
     /// Those of these costs of such an input in a configuration.
     pub(crate) fn of(costs: &CauseCosts, kind: InputKind, config: &Config) -> Causes {
         let is_trace = kind == InputKind::Trace;
-        let has_links = Cause::LinkFull.can_hold(config);
+        let has_links = WaitCause::LinkFull.can_hold(config);
         Causes {
             error: is_trace.then_some(costs.error),
             caller: is_trace.then_some(costs.caller),
@@ -163,14 +165,14 @@ impl Tables {
     /// Those of this explanation, each with its rows by number.
     pub(crate) fn of(
         alloc: Global,
-        labels: Labels<'_>,
+        captions: Captions<'_>,
         explanation: &Explanation,
     ) -> Result<Tables, AllocError> {
         Ok(Tables {
-            adapters: rows(alloc, labels, explanation, Grouping::Adapter)?,
-            devices: rows(alloc, labels, explanation, Grouping::Device)?,
-            drivers: rows(alloc, labels, explanation, Grouping::Driver)?,
-            levels: rows(alloc, labels, explanation, Grouping::Level)?,
+            adapters: rows(alloc, captions, explanation, Grouping::Adapter)?,
+            devices: rows(alloc, captions, explanation, Grouping::Device)?,
+            drivers: rows(alloc, captions, explanation, Grouping::Driver)?,
+            levels: rows(alloc, captions, explanation, Grouping::Level)?,
         })
     }
 }
@@ -178,14 +180,14 @@ impl Tables {
 // The rows of a table, by number.
 fn rows(
     alloc: Global,
-    labels: Labels<'_>,
+    captions: Captions<'_>,
     explanation: &Explanation,
     by: Grouping,
 ) -> Result<Vec<TableRow>, AllocError> {
     let table = explanation.table(alloc, by)?;
     let mut rows = Vec::with_capacity(alloc, table.len())?;
     for row in &table {
-        rows.push(row_of(alloc, labels, explanation.kind(), row, by)?)?;
+        rows.push(row_of(alloc, captions, explanation.kind(), row, by)?)?;
     }
     Ok(rows)
 }
@@ -193,17 +195,17 @@ fn rows(
 /// The row of a table by this, with the path of a device, and the name if there is one.
 pub(crate) fn row_of(
     alloc: Global,
-    labels: Labels<'_>,
+    captions: Captions<'_>,
     kind: InputKind,
     row: &Row,
     by: Grouping,
 ) -> Result<TableRow, AllocError> {
-    let config = labels.config();
+    let config = captions.config();
     let path = match by {
         Grouping::Device => Some(path_name(alloc, config, row.number)?),
         _ => None,
     };
-    let name = match named_by(by).and_then(|kind| labels.name(kind, row.number)) {
+    let name = match named_by(by).and_then(|kind| captions.name(kind, row.number)) {
         Some(name) => Some(String::from_str(alloc, name)?),
         None => None,
     };

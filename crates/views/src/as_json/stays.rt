@@ -4,7 +4,7 @@ use crate::as_json::parts::Causes;
 use cam_types::Config;
 use serde::Serialize;
 use std::alloc::{AllocError, Global};
-use wait_causes::{Cause, CauseCosts, ExplainedStay, Explanation, FirstWaits, InputKind, Wait};
+use wait_causes::{CauseCosts, ExplainedStay, Explanation, FirstWaits, InputKind, Wait, WaitCause};
 
 /// A stay, where both schedules send it, and why it waited.
 #[derive(Drop, Serialize)]
@@ -70,7 +70,7 @@ struct ListedWait {
     last: u32,
 }
 
-/// All stays, in order of birth, each with at most so many of its waits.
+/// All stays, in creation order, each with at most so many of its waits.
 pub(crate) fn stay_list(
     alloc: Global,
     config: &Config,
@@ -126,20 +126,20 @@ fn more_waits(
 // What the rounds of a stay cost that aren't in these waits, by cause.
 fn costs_after(stay: &ExplainedStay, waits: &[Wait]) -> CauseCosts {
     CauseCosts {
-        error: cost_after(stay, waits, Cause::Error),
-        caller: cost_after(stay, waits, Cause::Caller),
-        adapter_frozen: cost_after(stay, waits, Cause::AdapterFrozen),
-        device_stopped: cost_after(stay, waits, Cause::DeviceStopped),
-        adapter_stopped: cost_after(stay, waits, Cause::AdapterStopped),
-        link_stopped: cost_after(stay, waits, Cause::LinkStopped),
-        device_full: cost_after(stay, waits, Cause::DeviceFull),
-        adapter_full: cost_after(stay, waits, Cause::AdapterFull),
-        link_full: cost_after(stay, waits, Cause::LinkFull),
-        not_asked: cost_after(stay, waits, Cause::NotAsked),
+        error: cost_after(stay, waits, WaitCause::Error),
+        caller: cost_after(stay, waits, WaitCause::Caller),
+        adapter_frozen: cost_after(stay, waits, WaitCause::AdapterFrozen),
+        device_stopped: cost_after(stay, waits, WaitCause::DeviceStopped),
+        adapter_stopped: cost_after(stay, waits, WaitCause::AdapterStopped),
+        link_stopped: cost_after(stay, waits, WaitCause::LinkStopped),
+        device_full: cost_after(stay, waits, WaitCause::DeviceFull),
+        adapter_full: cost_after(stay, waits, WaitCause::AdapterFull),
+        link_full: cost_after(stay, waits, WaitCause::LinkFull),
+        not_asked: cost_after(stay, waits, WaitCause::NotAsked),
     }
 }
 
-fn cost_after(stay: &ExplainedStay, waits: &[Wait], cause: Cause) -> u64 {
+fn cost_after(stay: &ExplainedStay, waits: &[Wait], cause: WaitCause) -> u64 {
     let mut rounds = stay.rounds.for_cause(cause);
     for wait in waits {
         if wait.cause == cause {
@@ -164,17 +164,17 @@ fn wait_list(alloc: Global, waits: &[Wait]) -> Result<Vec<ListedWait>, AllocErro
 }
 
 // The key of a cause.
-fn key_of(cause: Cause) -> &'static str {
+fn key_of(cause: WaitCause) -> &'static str {
     match cause {
-        Cause::Error => "error",
-        Cause::Caller => "caller",
-        Cause::AdapterFrozen => "adapter_frozen",
-        Cause::DeviceStopped => "device_stopped",
-        Cause::AdapterStopped => "adapter_stopped",
-        Cause::LinkStopped => "link_stopped",
-        Cause::DeviceFull => "device_full",
-        Cause::AdapterFull => "adapter_full",
-        Cause::LinkFull => "link_full",
-        Cause::NotAsked => "not_asked",
+        WaitCause::Error => "error",
+        WaitCause::Caller => "caller",
+        WaitCause::AdapterFrozen => "adapter_frozen",
+        WaitCause::DeviceStopped => "device_stopped",
+        WaitCause::AdapterStopped => "adapter_stopped",
+        WaitCause::LinkStopped => "link_stopped",
+        WaitCause::DeviceFull => "device_full",
+        WaitCause::AdapterFull => "adapter_full",
+        WaitCause::LinkFull => "link_full",
+        WaitCause::NotAsked => "not_asked",
     }
 }

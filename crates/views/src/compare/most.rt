@@ -1,10 +1,10 @@
 //! Sentences on what changed most.
 
 use crate::compare::totals::cost_of;
-use crate::compared::{Compared, GROUPINGS, label_of};
+use crate::compared::{Compared, GROUPINGS, caption_of};
 use comparison::{PairedRow, most_changed};
 use std::alloc::{AllocError, Global};
-use wait_causes::{Cause, Explanation, Part, Row};
+use wait_causes::{Explanation, Part, Row, WaitCause};
 use wording::{Page, push_number, push_share};
 
 /// Puts sentences on the page: how much the cost changed, and which cause changed most.
@@ -33,8 +33,8 @@ pub(crate) fn push_most_rows(
 ) -> Result<(), AllocError> {
     for ((by, words), rows) in GROUPINGS.iter().zip(tables) {
         if let Some(row) = most_changed(rows) {
-            let label = label_of(alloc, before, after, *by, &row)?;
-            page.show(format_args!("Of the {words} {label} changed most"));
+            let caption = caption_of(alloc, before, after, *by, &row)?;
+            page.show(format_args!("Of the {words} {caption} changed most"));
             push_from_to(page, live_of(&row.before), live_of(&row.after));
         }
     }
@@ -83,7 +83,7 @@ fn most_changed_cause(
     after: &Explanation,
     was: &Part,
     is: &Part,
-) -> Option<Cause> {
+) -> Option<WaitCause> {
     let mut most = None;
     let mut by = 0;
     for kind in &[before.kind(), after.kind()] {

@@ -1,7 +1,7 @@
 //! The tables of a comparison: what adapters, devices, drivers and run levels waited before and after.
 
 use crate::compare::most::live_of;
-use crate::compared::{Compared, GROUPINGS, label_of};
+use crate::compared::{Compared, GROUPINGS, caption_of};
 use crate::text::push_columns;
 use comparison::{PairBy, PairedRow, names_for, paired};
 use std::alloc::{AllocError, Global};
@@ -50,7 +50,7 @@ pub(crate) fn push_rows(
     after: Compared<'_>,
     tables: &[Vec<PairedRow>],
 ) -> Result<(), AllocError> {
-    let width = before.labels().width().max(after.labels().width());
+    let width = before.captions().width().max(after.captions().width());
     page.show(format_args!("\n{:<width$} {PAIRS}\n{:<width$} {HEAD}\n", "", ""));
     for ((by, _), rows) in GROUPINGS.iter().zip(tables) {
         push_table(alloc, page, before, after, *by, rows, width)?;
@@ -68,8 +68,8 @@ fn push_table(
     width: usize,
 ) -> Result<(), AllocError> {
     for row in rows {
-        let label = label_of(alloc, before, after, by, row)?;
-        page.show(format_args!("{label:<width$}"));
+        let caption = caption_of(alloc, before, after, by, row)?;
+        page.show(format_args!("{caption:<width$}"));
         push_row(page, row);
     }
     Ok(())

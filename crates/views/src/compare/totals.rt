@@ -1,7 +1,7 @@
 //! What all stays waited before and after, and what that cost.
 
 use crate::compared::Compared;
-use wait_causes::{Cause, CauseCosts, InputKind, Part};
+use wait_causes::{CauseCosts, InputKind, Part, WaitCause};
 use wording::{Page, push_share, shift};
 
 /// Puts on the page how many stays there were, how long they waited and what that cost, before and after.
@@ -77,7 +77,7 @@ fn push_cause(
     page: &mut Page,
     before: Compared<'_>,
     after: Compared<'_>,
-    cause: Cause,
+    cause: WaitCause,
     was: &CauseCosts,
     is: &CauseCosts,
 ) {
@@ -87,7 +87,7 @@ fn push_cause(
 }
 
 /// The cost of a cause.
-pub(crate) fn cost_of(costs: &CauseCosts, cause: Cause) -> u64 {
+pub(crate) fn cost_of(costs: &CauseCosts, cause: WaitCause) -> u64 {
     for kind in &[InputKind::Trace, InputKind::Recording] {
         for (other, cost) in &costs.by_cause(*kind) {
             if *other == cause {

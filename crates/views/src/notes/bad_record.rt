@@ -2,9 +2,9 @@
 
 use crate::notes::place::{record_at, records};
 use csv::ByteRecord;
-use recording_file::MOST_REQUESTS;
+use recording_file::MAX_REQUESTS;
 use std::alloc::{AllocError, Global};
-use trace_file::MOST_ROWS;
+use trace_file::MAX_ROWS;
 
 // How many fields a record has.
 const FIELDS: usize = 8;
@@ -99,11 +99,11 @@ fn push_of_recording(
     record: u32,
 ) -> Result<(), AllocError> {
     if begins_with(row, &OF_REQUESTS)
-        && count(alloc, text, record, &OF_REQUESTS) as usize > MOST_REQUESTS
+        && count(alloc, text, record, &OF_REQUESTS) as usize > MAX_REQUESTS
     {
         writeln!(
             note,
-            "  there are {MOST_REQUESTS} requests before it, the most"
+            "  there are {MAX_REQUESTS} requests before it, the most"
         )
     } else if begins_with(row, &OF_RECORDINGS) {
         note.push_str("  no record of this word can stand here\n")
@@ -121,13 +121,13 @@ fn push_of_script(
     record: u32,
 ) -> Result<(), AllocError> {
     let (of_driver, of_answer) = (begins_with(row, &OF_DRIVERS), begins_with(row, &OF_ANSWERS));
-    if of_driver && count(alloc, text, record, &OF_DRIVERS) > MOST_ROWS {
+    if of_driver && count(alloc, text, record, &OF_DRIVERS) > MAX_ROWS {
         writeln!(
             note,
-            "  there are {MOST_ROWS} records of drivers before it, the most"
+            "  there are {MAX_ROWS} records of drivers before it, the most"
         )
-    } else if of_answer && count(alloc, text, record, &OF_ANSWERS) > MOST_ROWS {
-        writeln!(note, "  there are {MOST_ROWS} answers before it, the most")
+    } else if of_answer && count(alloc, text, record, &OF_ANSWERS) > MAX_ROWS {
+        writeln!(note, "  there are {MAX_ROWS} answers before it, the most")
     } else if of_driver || of_answer || begins_with(row, &OF_SCRIPTS) {
         note.push_str("  no record of this word can stand here\n")
     } else {

@@ -3,7 +3,7 @@
 use std::alloc::{AllocError, Global};
 
 // How many bytes of a line are shown.
-const MOST_SHOWN: usize = 200;
+const MAX_SHOWN: usize = 200;
 
 /// Puts the name of a file, a line's number and the line's text after the note: at most 200 bytes, and a `?` for each that
 /// isn't a printable character of ASCII.
@@ -55,7 +55,7 @@ fn push_shown(shown: &mut String, character: char) -> Result<(), AllocError> {
 
 fn shown(alloc: Global, line: &[u8]) -> Result<String, AllocError> {
     let mut shown = String::new(alloc);
-    for byte in line.iter().take(MOST_SHOWN) {
+    for byte in line.iter().take(MAX_SHOWN) {
         shown.push(character(*byte))?;
     }
     Ok(shown)

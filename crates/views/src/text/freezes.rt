@@ -3,7 +3,7 @@
 use crate::text::columns::push_columns;
 use std::alloc::{AllocError, Global};
 use wait_causes::{Freeze, FreezeKind, Grouping};
-use wording::{Labels, Page};
+use wording::{Captions, Page};
 
 // What stands above the freezes.
 const HEAD: &str = "\nThe freezes that cost most:\n\n\
@@ -13,7 +13,7 @@ const HEAD: &str = "\nThe freezes that cost most:\n\n\
 pub(crate) fn push_freezes(
     alloc: Global,
     page: &mut Page,
-    labels: Labels<'_>,
+    captions: Captions<'_>,
     freezes: &[Freeze],
     places: &[usize],
     top: usize,
@@ -24,7 +24,7 @@ pub(crate) fn push_freezes(
     page.put(HEAD);
     for place in places.iter().take(top) {
         if let Some(freeze) = freezes.get(*place) {
-            push_freeze(page, &frozen_name(alloc, labels, freeze)?, freeze);
+            push_freeze(page, &frozen_name(alloc, captions, freeze)?, freeze);
         }
     }
     Ok(())
@@ -56,12 +56,12 @@ pub(crate) fn frozen_by(kind: FreezeKind) -> &'static str {
 /// The device or the adapter that was frozen.
 pub(crate) fn frozen_name(
     alloc: Global,
-    labels: Labels<'_>,
+    captions: Captions<'_>,
     freeze: &Freeze,
 ) -> Result<String, AllocError> {
     let by = match freeze.kind {
         FreezeKind::Error | FreezeKind::Caller => Grouping::Device,
         FreezeKind::Adapter => Grouping::Adapter,
     };
-    labels.label(alloc, by, freeze.number)
+    captions.caption(alloc, by, freeze.number)
 }

@@ -10,7 +10,7 @@ use cam_types::Config;
 use recording_file::Span;
 use std::alloc::{AllocError, Global};
 use wait_causes::{BehindCosts, ExplainedStay, Explanation, Freeze, InputKind, Part};
-use wording::{Labels, Page, plain_words, push_share, push_span};
+use wording::{Captions, Page, plain_words, push_share, push_span};
 
 // What stands below the costs by cause.
 const NO_SAVING: &str =
@@ -30,8 +30,8 @@ pub fn page(
     let whole = explanation.whole(alloc)?;
     push_totals(&mut page, explanation.unit(), &whole);
     push_weights(&mut page, config);
-    let labels = Labels::of(config, explanation);
-    push_costs(alloc, &mut page, labels, explanation, &whole, top)?;
+    let captions = Captions::of(config, explanation);
+    push_costs(alloc, &mut page, captions, explanation, &whole, top)?;
     page.finish()
 }
 
@@ -81,7 +81,7 @@ fn push_waited(page: &mut Page, unit: Option<Span>, waited: u64) {
 fn push_costs(
     alloc: Global,
     page: &mut Page,
-    labels: Labels<'_>,
+    captions: Captions<'_>,
     explanation: &Explanation,
     whole: &Part,
     top: usize,
@@ -92,16 +92,16 @@ fn push_costs(
     push_worst(
         alloc,
         page,
-        labels,
+        captions,
         explanation,
         first_of(explanation.stays(), &worst_stays),
         first_of(&freezes, &worst_freezes),
     )?;
-    push_causes(page, labels.config(), explanation.kind(), whole);
+    push_causes(page, captions.config(), explanation.kind(), whole);
     push_behind(page, &whole.behind);
-    push_tables(alloc, page, labels, explanation)?;
-    push_freezes(alloc, page, labels, &freezes, &worst_freezes, top)?;
-    push_stays(alloc, page, labels, explanation, &worst_stays, top)
+    push_tables(alloc, page, captions, explanation)?;
+    push_freezes(alloc, page, captions, &freezes, &worst_freezes, top)?;
+    push_stays(alloc, page, captions, explanation, &worst_stays, top)
 }
 
 // Puts the costs by cause on the page.

@@ -4,7 +4,7 @@ use crate::text::columns::push_columns;
 use recording_file::Span;
 use std::alloc::{AllocError, Global};
 use wait_causes::{ExplainedStay, Explanation, InputKind};
-use wording::{Labels, Page, push_time, shortened};
+use wording::{Captions, Page, push_time, shortened};
 
 // What stands above the stays of a trace, and above the requests of a recording.
 const TRACE_HEAD: &str = "\nThe stays whose waiting cost most:\n\n  CCB try";
@@ -21,7 +21,7 @@ const A_LINE: u32 = 3;
 pub(crate) fn push_stays(
     alloc: Global,
     page: &mut Page,
-    labels: Labels<'_>,
+    captions: Captions<'_>,
     explanation: &Explanation,
     places: &[usize],
     top: usize,
@@ -34,11 +34,11 @@ pub(crate) fn push_stays(
         InputKind::Trace => TRACE_HEAD,
         InputKind::Recording => RECORDING_HEAD,
     });
-    let width = labels.width().saturating_sub(2);
+    let width = captions.width().saturating_sub(2);
     page.show(format_args!("  {:<width$} {HEAD}\n", "path"));
     for place in places.iter().take(top) {
         if let Some(stay) = stays.get(*place) {
-            let device = shortened(alloc, &labels.device(alloc, stay.device)?)?;
+            let device = shortened(alloc, &captions.device(alloc, stay.device)?)?;
             push_stay(page, kind, stay);
             push_rest(page, &device, width, stay);
             push_waits(page, kind, stay, width);

@@ -3,8 +3,8 @@
 use crate::text::columns::push_columns;
 use cam_types::Config;
 use std::alloc::{AllocError, Global};
-use wait_causes::{Cause, Explanation, Grouping, InputKind, Part, Row};
-use wording::{Labels, Page};
+use wait_causes::{Explanation, Grouping, InputKind, Part, Row, WaitCause};
+use wording::{Captions, Page};
 
 // What stands above the columns of waits.
 const WAITS: &str = "stays  waited   p50   p90   p99 p99.9   max      live      best    excess";
@@ -22,14 +22,14 @@ const LAST_COSTS: &str = "  unasked      less     equal      more";
 pub(crate) fn push_tables(
     alloc: Global,
     page: &mut Page,
-    labels: Labels<'_>,
+    captions: Captions<'_>,
     explanation: &Explanation,
 ) -> Result<(), AllocError> {
     let tables = Tables::of(alloc, explanation)?;
-    page.show(format_args!("\n{:<width$} {WAITS}\n", "", width = labels.width()));
-    tables.push(alloc, page, labels, Columns::Waits)?;
-    push_cost_head(page, labels, explanation.kind());
-    tables.push(alloc, page, labels, Columns::Costs(explanation.kind()))
+    page.show(format_args!("\n{:<width$} {WAITS}\n", "", width = captions.width()));
+    tables.push(alloc, page, captions, Columns::Waits)?;
+    push_cost_head(page, captions, explanation.kind());
+    tables.push(alloc, page, captions, Columns::Costs(explanation.kind()))
 }
 
 // The rows of each table.
@@ -65,13 +65,13 @@ impl Tables {
         &self,
         alloc: Global,
         page: &mut Page,
-        labels: Labels<'_>,
+        captions: Captions<'_>,
         columns: Columns,
     ) -> Result<(), AllocError> {
         push_table(
             alloc,
             page,
-            labels,
+            captions,
             &self.adapters,
             Grouping::Adapter,
             columns,
@@ -79,7 +79,7 @@ impl Tables {
         push_table(
             alloc,
             page,
-            labels,
+            captions,
             &self.devices,
             Grouping::Device,
             columns,
@@ -87,12 +87,19 @@ impl Tables {
         push_table(
             alloc,
             page,
-            labels,
+            captions,
             &self.drivers,
             Grouping::Driver,
             columns,
         )?;
-        push_table(alloc, page, labels, &self.levels, Grouping::Level, columns)
+        push_table(
+            alloc,
+            page,
+            captions,
+            &self.levels,
+            Grouping::Level,
+            columns,
+        )
     }
 }
 
@@ -100,17 +107,17 @@ impl Tables {
 fn push_table(
     alloc: Global,
     page: &mut Page,
-    labels: Labels<'_>,
+    captions: Captions<'_>,
     rows: &[Row],
     by: Grouping,
     columns: Columns,
 ) -> Result<(), AllocError> {
     for row in rows {
-        let label = labels.label(alloc, by, row.number)?;
-        page.show(format_args!("{label:<width$}", width = labels.width()));
+        let caption = captions.caption(alloc, by, row.number)?;
+        page.show(format_args!("{caption:<width$}", width = captions.width()));
         match columns {
             Columns::Waits => push_waits(page, &row.part),
-            Columns::Costs(kind) => push_costs(page, labels.config(), kind, &row.part),
+            Columns::Costs(kind) => push_costs(page, captions.config(), kind, &row.part),
         }
     }
     Ok(())
@@ -136,15 +143,15 @@ fn push_waits(page: &mut Page, part: &Part) {
 }
 
 // What stands above the columns of costs.
-fn push_cost_head(page: &mut Page, labels: Labels<'_>, kind: InputKind) {
-    let has_links = Cause::LinkFull.can_hold(labels.config());
+fn push_cost_head(page: &mut Page, captions: Captions<'_>, kind: InputKind) {
+    let has_links = WaitCause::LinkFull.can_hold(captions.config());
     let costs = match kind {
         InputKind::Trace => TRACE_COSTS,
         InputKind::Recording if has_links => "d.stopped a.stopped l.stopped    d.full    a.full",
         InputKind::Recording => RECORDING_COSTS,
     };
     let link_full = if has_links { "    l.full" } else { "" };
-    let width = labels.width();
+    let width = captions.width();
     page.show(format_args!("\n{:<width$} {costs}{link_full} {LAST_COSTS}\n", ""));
 }
 

@@ -4,23 +4,23 @@ use crate::text::freezes::{frozen_by, frozen_name};
 use crate::text::stays::push_rounds;
 use std::alloc::{AllocError, Global};
 use wait_causes::{ExplainedStay, Explanation, Freeze, Grouping, InputKind, Row};
-use wording::{Labels, Page, push_time};
+use wording::{Captions, Page, push_time};
 
 /// Puts the sentences on the stay and the freeze that cost most on the page, and on the device if a stay cost anything.
 pub(crate) fn push_worst(
     alloc: Global,
     page: &mut Page,
-    labels: Labels<'_>,
+    captions: Captions<'_>,
     explanation: &Explanation,
     stay: Option<&ExplainedStay>,
     freeze: Option<&Freeze>,
 ) -> Result<(), AllocError> {
     if let Some(stay) = stay {
         push_worst_stay(page, explanation, stay);
-        push_worst_device(alloc, page, labels, explanation)?;
+        push_worst_device(alloc, page, captions, explanation)?;
     }
     if let Some(freeze) = freeze {
-        push_worst_freeze(page, &frozen_name(alloc, labels, freeze)?, freeze);
+        push_worst_freeze(page, &frozen_name(alloc, captions, freeze)?, freeze);
     }
     Ok(())
 }
@@ -60,12 +60,12 @@ fn push_round(page: &mut Page, explanation: &Explanation, round: u32) {
 fn push_worst_device(
     alloc: Global,
     page: &mut Page,
-    labels: Labels<'_>,
+    captions: Captions<'_>,
     explanation: &Explanation,
 ) -> Result<(), AllocError> {
     let rows = explanation.table(alloc, Grouping::Device)?;
     if let Some(row) = worst_row(&rows) {
-        let device = labels.device(alloc, row.number)?;
+        let device = captions.device(alloc, row.number)?;
         page.show(format_args!("Of the devices {device} cost most: {}.\n", row.part.live));
     }
     Ok(())

@@ -29,7 +29,7 @@ fn ends(ccb: u32, event: &Event) -> bool
     (event.is_done_of(ccb) && !event.is_erring()) || event.is_finish_of(ccb)
 }
 
-/// One where the CCB is on its way, and else 0.
+/// One if the CCB is in flight, and otherwise 0.
 pub fn flight(row: &Option<Ccb>) -> u32
     ensures same { result ≡ cond (is_row_in_flight row.now) 1 0 }
     ensures most { result ≤ 1 }

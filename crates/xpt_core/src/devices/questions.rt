@@ -2,7 +2,7 @@
 
 ghost use Rattle.std.specs.Prelude.{◌≡◌, ◌+◌, ◌<◌, ◌≤◌, ◌==◌, not, length, IsTrue, is_some, count_by};
 ghost use Rattle.std.specs.Option.{option_map};
-ghost use Rattle.cam_types.specs.declared.maxima.TheConstants.{MOST_EVENTS, MOST_FREEZES};
+ghost use Rattle.cam_types.specs.declared.limits.TheConstants.{MAX_EVENTS, MAX_FREEZES};
 
 use super::Devices;
 use cam_types::{Config, Priority};
@@ -35,7 +35,7 @@ impl Devices {
     pub fn events(&self) -> &[Event]
         ensures same { result.now ≡ self.now.events }
         ensures legal { IsTrue (is_legal self.now.rules self.now.config self.now.events) }
-        ensures short { length result.now ≤ MOST_EVENTS }
+        ensures short { length result.now ≤ MAX_EVENTS }
     {
         &self.events
     }
@@ -114,7 +114,7 @@ impl Devices {
     pub fn caller_count(&self, device: u32) -> u32
         requires { device < length self.now.config.devices }
         ensures same { result ≡ caller_count self.now.events device }
-        ensures most { result ≤ MOST_FREEZES }
+        ensures most { result ≤ MAX_FREEZES }
     {
         self.queue(device).callers()
     }

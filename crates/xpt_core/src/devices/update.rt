@@ -1,6 +1,6 @@
 //! What an event makes of the devices' queues.
 ghost use Rattle.std.specs.Prelude.{◌≡◌, ◌+◌, ◌<◌, ◌≤◌, ◌&&◌, ◌^◌, true, not, length, All, map};
-ghost use Rattle.xpt_core.specs.Words.{MOST_PRIORITY, is_erring};
+ghost use Rattle.xpt_core.specs.Words.{MAX_PRIORITY, is_erring};
 ghost use Rattle.dev_queue.specs.Device.{is_ready};
 ghost use Rattle.xpt_core.specs.Places.{at_place, HasAt};
 ghost use Rattle.xpt_core.specs.DeviceUpdates.{with_stay, with_send, with_done, with_requeue, with_finish, with_freezes, less_freezes, with_openings, in_next_round, updated, CanUpdate, HasRoom, HasError};
@@ -35,7 +35,7 @@ pub(crate) fn update(queues: &mut Vec<DevQueue>, submissions: &[Submission], eve
 // Puts a CCB into the device's queue.
 fn insert(queues: &mut Vec<DevQueue>, device: u32, ccb: u32, priority: u32)
     requires has { HasAt HasRoom queues.old.items device }
-    requires urgent { priority ≤ MOST_PRIORITY }
+    requires urgent { priority ≤ MAX_PRIORITY }
     ensures { queues.new.items ≡ at_place device (with_stay (record { ccb = ccb; priority = priority })) queues.old.items }
 {
     let queue = &mut queues[device as usize];
@@ -44,7 +44,7 @@ fn insert(queues: &mut Vec<DevQueue>, device: u32, ccb: u32, priority: u32)
 
 fn put_in(queue: &mut DevQueue, ccb: u32, priority: u32)
     requires has { HasRoom queue.old }
-    requires urgent { priority ≤ MOST_PRIORITY }
+    requires urgent { priority ≤ MAX_PRIORITY }
     ensures { queue.new ≡ with_stay (record { ccb = ccb; priority = priority }) queue.old }
 {
     let priority = Priority::new(priority).unwrap();
@@ -80,7 +80,7 @@ fn freezes(errs: bool, submission: Submission) -> bool
 // Keeps the CCB for the next round, without its error's freeze.
 fn requeue(queues: &mut Vec<DevQueue>, ccb: u32, submission: Submission)
     requires has { HasAt (λ q. HasRoom q × HasError (not submission.flags.qfrzdis) q) queues.old.items submission.device }
-    requires urgent { submission.priority ≤ MOST_PRIORITY }
+    requires urgent { submission.priority ≤ MAX_PRIORITY }
     ensures { queues.new.items ≡ at_place submission.device (with_requeue (record { ccb = ccb; priority = submission.priority }) (not submission.flags.qfrzdis)) queues.old.items }
 {
     let queue = &mut queues[submission.device as usize];
@@ -90,7 +90,7 @@ fn requeue(queues: &mut Vec<DevQueue>, ccb: u32, submission: Submission)
 fn put_back(queue: &mut DevQueue, ccb: u32, submission: Submission)
     requires has { HasRoom queue.old }
     requires stands { HasError (not submission.flags.qfrzdis) queue.old }
-    requires urgent { submission.priority ≤ MOST_PRIORITY }
+    requires urgent { submission.priority ≤ MAX_PRIORITY }
     ensures { queue.new ≡ with_requeue (record { ccb = ccb; priority = submission.priority }) (not submission.flags.qfrzdis) queue.old }
 {
     let priority = Priority::new(submission.priority).unwrap();

@@ -3,7 +3,7 @@
 ghost use Rattle.std.specs.Prelude.{◌≡◌, ◌≤◌, length, find, slice_get, sum_by, None, Some, if◌then◌else◌};
 ghost use Rattle.std.specs.Option.{option_map};
 ghost use Rattle.std.specs.List.{list_any};
-ghost use Rattle.cam_types.specs.declared.maxima.TheConstants.{MOST_STAYS};
+ghost use Rattle.cam_types.specs.declared.limits.TheConstants.{MAX_STAYS};
 ghost use Rattle.xpt_core.specs.StayRecord.{is_unsent, waiting_cost};
 
 use crate::state::State;
@@ -17,7 +17,7 @@ impl State {
     ghost use Rattle.xpt_core.specs.Latest.{latest_stay};
     ghost use Rattle.xpt_core.specs.Records.{record_of, records};
 
-    /// All stays with their sends, in order of birth.
+    /// All stays with their sends, in creation order.
     pub fn records(&self) -> &[StayRecord]
         ensures { result.now ≡ records self.now.events }
     {
@@ -42,7 +42,7 @@ impl State {
         }
     }
 
-    /// The first stay by birth that has no send. It takes time that grows with the number of stays.
+    /// The first stay in creation order that has no send. It takes time that grows with the number of stays.
     pub fn unsent(&self) -> Option<Stay>
         ensures { result ≡ unsent self.now.events }
     {
@@ -78,7 +78,7 @@ fn first_unsent(records: &[StayRecord]) -> Option<StayRecord>
 
 // What the waiting of all stays cost, if each of them was sent.
 fn live_sum(config: &Config, records: &[StayRecord]) -> Option<u64>
-    requires { length records.now ≤ MOST_STAYS }
+    requires { length records.now ≤ MAX_STAYS }
     ensures { result ≡ (if list_any is_unsent records.now then None else Some (sum_by (waiting_cost config.now) records.now)) }
 {
     let mut total = 0;

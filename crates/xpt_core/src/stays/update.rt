@@ -1,6 +1,6 @@
 //! What an event makes of the stays' records.
 ghost use Rattle.std.specs.Prelude.{◌≡◌, ◌+◌, ◌<◌, ◌≤◌, ◌^◌, [], ◌∷◌, ◌++◌, length, slice_get, IsTrue, IfSome, vec_len, vec_capacity};
-ghost use Rattle.xpt_core.specs.Words.{is_legal_event, MOST_PRIORITY};
+ghost use Rattle.xpt_core.specs.Words.{is_legal_event, MAX_PRIORITY};
 ghost use Rattle.xpt_core.specs.Places.{at_place, HasAt};
 ghost use Rattle.xpt_core.specs.StayRecord.{submitted_in, sent_in, followed_in, requeued_in};
 ghost use Rattle.xpt_core.specs.PartsSound.{IsStays};
@@ -70,7 +70,7 @@ fn requeue(records: &mut Vec<StayRecord>, stay: u32, round: u32, place: u32) -> 
 
 // The stay that a submit begins, of a CCB of this number, in this round and at this place.
 fn submitted(ccb: u32, device: u32, priority: u32, round: u32, place: u32) -> Passage
-    requires { priority ≤ MOST_PRIORITY }
+    requires { priority ≤ MAX_PRIORITY }
     ensures { result ≡ submitted_in ccb device priority round place }
 {
     Passage {

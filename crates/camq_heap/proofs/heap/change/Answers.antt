@@ -1,7 +1,7 @@
 use Rattle.std.proofs.Common.{sym, subst, arith}
 use Rattle.camq_heap.specs.Heap.{CanSettle}
 use Rattle.camq_heap.specs.Queue.{key}
-use Rattle.camq_heap.proofs.EditLemmas.{CanSettle-set, IsPermutation-written, IsPermutation-changed}
+use Rattle.camq_heap.proofs.ListChangeLemmas.{CanSettle-set, IsPermutation-written, IsPermutation-changed}
 use Rattle.camq_heap.proofs.heap.change.Goals as goal
 
 pub settle-requires-clause-elsewhere : goal.settle-requires-clause-elsewhere

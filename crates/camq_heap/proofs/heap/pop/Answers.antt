@@ -2,7 +2,7 @@ use Rattle.std.proofs.Common.{sym, subst, arith, eqb-true, IsPermutation}
 use Rattle.camq_heap.specs.Heap.{CanSink}
 use Rattle.camq_heap.specs.Queue.{key}
 use Rattle.camq_heap.proofs.SiftLemmas.{few_exchanges}
-use Rattle.camq_heap.proofs.EditLemmas.{IsHeap-short, CanSink-changed, IsPermutation-written, IsPermutation-taken, IsAtMostDigits-moves}
+use Rattle.camq_heap.proofs.ListChangeLemmas.{IsHeap-short, CanSink-changed, IsPermutation-written, IsPermutation-taken, IsAtMostDigits-moves}
 use Rattle.camq_heap.proofs.heap.pop.Goals as goal
 
 pub returns-then-is_empty-clause-heap : goal.returns-then-is_empty-clause-heap

@@ -1,6 +1,6 @@
 use Rattle.std.proofs.Common.{◌∙◌, arith}
 use Rattle.camq_heap.specs.Queue.{key}
-use Rattle.camq_heap.proofs.EditLemmas.{CanRise-push, IsPermutation-written, IsPermutation-pushed, IsAtMostDigits-exchanges}
+use Rattle.camq_heap.proofs.ListChangeLemmas.{CanRise-push, IsPermutation-written, IsPermutation-pushed, IsAtMostDigits-exchanges}
 use Rattle.camq_heap.proofs.heap.push.Goals as goal
 
 pub rise-requires-clause-above : goal.rise-requires-clause-above

@@ -5,7 +5,7 @@ use Rattle.capture.proofs.LengthLemmas.{fit_of, over_of}
 use Rattle.capture.proofs.lengths.usual_round.Goals as goal
 
 pub returns-clause-same : goal.returns-clause-same
-returns-clause-same c = c.round_by.ensures.same ∙ rw (c.max-2.ensures, c.max.ensures, c.from.ensures, c.most_starts.ensures, c.in_ok-time.ensures, c.unwrap_or-half.ensures, c.longest_round.ensures) refl
+returns-clause-same c = c.round_by.ensures.same ∙ rw (c.max-2.ensures, c.max.ensures, c.from.ensures, c.max_starts.ensures, c.in_ok-time.ensures, c.unwrap_or-half.ensures, c.longest_round.ensures) refl
 
 pub returns-clause-fits : goal.returns-clause-fits
 returns-clause-fits c =

@@ -6,10 +6,10 @@ use Rattle.cost_plan.proofs.levels.checked.Goals as goal
 
 pub returns-in-Proved-clause-small : goal.returns-in-Proved-clause-small
 unfolding pricing_of_rows
-returns-in-Proved-clause-small c = λ row round here first last.
+returns-in-Proved-clause-small c = λ resource round here first last.
     let size = c.in_ok-prices.ensures in
     let is = c.cells.ensures.priced in
     let p = c.in_ok-prices.prices in
-    let within = price_in p row round is (omega (arith, here, size.devices, size.adapters, size.links)) first (omega (arith, last, size.rounds)) in
-    let small = is.small (cell p.rounds row round) 0 within in
-    omega (arith, small, size.most_price)
+    let within = price_in p resource round is (omega (arith, here, size.devices, size.adapters, size.links)) first (omega (arith, last, size.rounds)) in
+    let small = is.small (cell p.rounds resource round) 0 within in
+    omega (arith, small, size.max_price)

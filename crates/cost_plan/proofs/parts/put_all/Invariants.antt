@@ -11,8 +11,8 @@ invariant-loop-part l =
     let net = instance_of_rows l.net in
     record {
       rounds : length l.rounds.items ≡ net.stays;
-      labels : length l.labels.items ≡ node_count net;
-      put : AreAllPut net l.yielded l.fn.rounds.items l.fn.labels.items l.rounds.items l.labels.items;
+      potentials : length l.potentials.items ≡ node_count net;
+      put : AreAllPut net l.yielded l.fn.rounds.items l.fn.potentials.items l.rounds.items l.potentials.items;
       left : into_iter_len l.part-iterator ≡ length (into_iter_items l.part-iterator);
       rest : l.yielded ++ into_iter_items l.part-iterator ≡ l.fn.parts.items;
     }

@@ -3,10 +3,10 @@ use Rattle.round_net.specs.Rows.{instance_of_rows}
 use Rattle.cost_plan.proofs.NodeLemmas.{cell-lt-node_count, node_of-lt-node_count}
 use Rattle.cost_plan.proofs.pricing.price_of.Goals as goal
 
-pub label-cell-requires : goal.label-cell-requires
-label-cell-requires c = omega (arith, c.node.ensures.same, cell-lt-node_count (instance_of_rows c.args.net.now) c.args.row c.args.round c.requires.row c.requires.last, c.requires.size)
+pub potential-cell-requires : goal.potential-cell-requires
+potential-cell-requires c = omega (arith, c.node.ensures.same, cell-lt-node_count (instance_of_rows c.args.net.now) c.args.resource c.args.round c.requires.resource c.requires.last, c.requires.size)
 
-pub label-requires : goal.label-requires
-label-requires c =
+pub potential-requires : goal.potential-requires
+potential-requires c =
     let above = node_of-lt-node_count (instance_of_rows c.args.net.now) c.args.up c.args.round c.requires.last in
     omega (arith, c.node_above.ensures.same, above, c.requires.size)

@@ -1,5 +1,5 @@
 use Rattle.std.proofs.Common.{◌≡◌, length}
 use Rattle.cost_plan.proofs.problem.places_of.Given as goal
 
-abbrev pub invariant-loop-row : goal.invariant-loop-row
-invariant-loop-row l = length l.places.items ≡ l.row
+abbrev pub invariant-loop-resource : goal.invariant-loop-resource
+invariant-loop-resource l = length l.places.items ≡ l.resource

@@ -1,5 +1,5 @@
 use Rattle.std.proofs.Common.{◌≡◌, replicate, take}
 use Rattle.negative_cycle.proofs.begin.lower.Given as goal
 
-abbrev pub invariant-loop-label : goal.invariant-loop-label
-invariant-loop-label l = take l.label-index l.label-items ≡ replicate l.label-index 0
+abbrev pub invariant-loop-potential : goal.invariant-loop-potential
+invariant-loop-potential l = take l.potential-index l.potential-items ≡ replicate l.potential-index 0

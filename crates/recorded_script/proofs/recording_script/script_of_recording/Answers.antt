@@ -1,6 +1,6 @@
 use Rattle.std.proofs.Common.{◌≡◌, None, true, ap, sym, subst, ◌∙◌, arith, length}
 use Rattle.std.specs.List.{list_all}
-use Rattle.cam_types.specs.Lists.{first_answer, moments}
+use Rattle.cam_types.specs.Lists.{first_answer, prefixed}
 use Rattle.cam_types.specs.Topology.{Topology}
 use Rattle.event_rules.specs.Laws.{is_in_range}
 use Rattle.recorded_script.specs.Arrivals.{Arrival, requested}

@@ -2,7 +2,7 @@ use Rattle.std.proofs.Common.{◌<◌, ◌∙◌, ap, arith, List, ℕ, length, 
 use Rattle.recording_file.specs.Reading.{reading}
 use Rattle.recording_file.specs.Recorded.{Recorded}
 use Rattle.recording_file.specs.Recordings.{IsRecordingText}
-use Rattle.recording_file.specs.Whole.{most_bytes}
+use Rattle.recording_file.specs.Whole.{max_bytes}
 use Rattle.cam_types.specs.declared.whole.WholeFault.{WholeFault}
 use Rattle.recording_file.proofs.FaultLaws.{faults_law}
 use Rattle.record_text.proofs.FaultLaws.{found_law, only_law}
@@ -25,7 +25,7 @@ returns-in-Ok-clause-only g c = λ r h.
     only_law _ _ (λ text. IsRecordingText text r) _ _ _ _ _ r c.in-Ok.ensures.whole.read c.in-Ok.ensures.whole.ended (rw c.deref.ensures.value at c.parse_recording.ensures) (λ is. ap reading is.spelled ∙ reading_again is.table r h is.held)
 
 -- no recording's text is too long
-none_long : (P : List ℕ → Type 0) (r : Recorded) (before : Option (List ℕ)) → IfSome before (λ all. most_bytes all < length all) → IfSome before (λ all. IsRecordingText all r → P all)
+none_long : (P : List ℕ → Type 0) (r : Recorded) (before : Option (List ℕ)) → IfSome before (λ all. max_bytes all < length all) → IfSome before (λ all. IsRecordingText all r → P all)
 none_long P r None h = tt
 none_long P r (Some all) h = λ is. absurd (let bound = is.bounded in omega arith)
 

@@ -1,8 +1,8 @@
 use Rattle.event_rules.specs.Counts.{round}
-use Rattle.round_net.specs.Caps.{row_count, row_openings}
+use Rattle.round_net.specs.Caps.{resource_count, resource_openings}
 use Rattle.round_net.proofs.MarkLemmas.{SetsBelow}
 use Rattle.round_net.proofs.marks.note_openings.Given as goal
 
 -- the rows so far
 abbrev pub invariant-loop-row : goal.invariant-loop-row
-invariant-loop-row l = SetsBelow (row_count l.replay.config) l.rounds l.fn.numbers l.numbers (round l.replay.events) (row_openings l.replay.config l.replay.events) l.row
+invariant-loop-row l = SetsBelow (resource_count l.replay.config) l.rounds l.fn.numbers l.numbers (round l.replay.events) (resource_openings l.replay.config l.replay.events) l.row

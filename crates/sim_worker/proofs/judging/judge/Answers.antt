@@ -53,7 +53,7 @@ returns-then-not-are_as_served-clause-fault g c =
     let last : c.saturating_sub-last.result ≡ length c.args.history.now.events - 1 = c.saturating_sub-last.ensures ∙ ap (λ es. length es - 1) c.events-events.ensures.same in
     let run : IsFollowed s c.args.history.now.events logs c.in-Ok.ending = subst (λ es. IsFollowed s es logs c.in-Ok.ending) c.events-events.ensures.same (subst (λ r. IfOk r (IsFollowed s c.events-events.result.now logs)) c.in-Ok.is c.in_ok-ending.ensures.followed) in
     let apart : IsUnserved s c.args.history.now.events logs served = record {
-      said = c.in-Ok.ending;
+      stated = c.in-Ok.ending;
       followed = run;
       not_served = λ all. c.if-not-are_as_served.ensures.no refl s c.args.history.now.events (subst (λ b. EachLog (λ h. IsLog s c.args.history.now.events served b h.name h) logs) (sym c.is_full.ensures) all);
     } in
@@ -67,7 +67,7 @@ returns-then-not-are_as_served-clause-right g c =
     let last : c.saturating_sub-last.result ≡ length c.args.history.now.events - 1 = c.saturating_sub-last.ensures ∙ ap (λ es. length es - 1) c.events-events.ensures.same in
     let run : IsFollowed s c.args.history.now.events logs c.in-Ok.ending = subst (λ es. IsFollowed s es logs c.in-Ok.ending) c.events-events.ensures.same (subst (λ r. IfOk r (IsFollowed s c.events-events.result.now logs)) c.in-Ok.is c.in_ok-ending.ensures.followed) in
     let apart : IsUnserved s c.args.history.now.events logs served = record {
-      said = c.in-Ok.ending;
+      stated = c.in-Ok.ending;
       followed = run;
       not_served = λ all. c.if-not-are_as_served.ensures.no refl s c.args.history.now.events (subst (λ b. EachLog (λ h. IsLog s c.args.history.now.events served b h.name h) logs) (sym c.is_full.ensures) all);
     } in

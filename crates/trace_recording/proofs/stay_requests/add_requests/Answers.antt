@@ -6,7 +6,7 @@ use Rattle.event_rules.specs.Stays.{stays_begun}
 use Rattle.event_rules.proofs.LimitLemmas.{stays_most}
 use Rattle.recording_file.specs.Recorded.{Recorded}
 use Rattle.recording_file.proofs.PlacingLemmas.{head_config}
-use Rattle.round_net.specs.Caps.{row_count}
+use Rattle.round_net.specs.Caps.{resource_count}
 use Rattle.trace_recording.specs.Recorded.{without_lanes, caps_of}
 use Rattle.trace_recording.specs.Requests.{request_of}
 use Rattle.trace_recording.proofs.RequestLemmas.{no_cause, stay_request, as_many, requests_more, requests_all}
@@ -45,7 +45,7 @@ loop-stay-preserved c =
     let submitted : c.deref.result.now ≡ submissions h.events = c.deref.ensures.value ∙ c.in_ok-submitted.ensures ∙ ap submissions c.events.ensures.same in
     let rounds : c.rounds-rounds.result ≡ round h.events = c.rounds-rounds.ensures.same ∙ ap (λ (r : Recorded). r.rounds) c.requires.none in
     let here : c.request_of.result ≡ request_of h.events (get_or (stays_begun h.events) n x.stay) = c.request_of.ensures ∙ rw (submitted, rounds) (stay_request h.events c.stays-stay-items.result.now n x kept c.loop-stay-test.true c.stay-item.is) in
-    requests_more h (caps_of h.config h.events (row_count h.config)) n x.stay c.loop-stay.recorder c.add_request.new.recorder c.request_of.result lt c.loop-stay.invariant here c.in_ok-add_request.ensures
+    requests_more h (caps_of h.config h.events (resource_count h.config)) n x.stay c.loop-stay.recorder c.add_request.new.recorder c.request_of.result lt c.loop-stay.invariant here c.in_ok-add_request.ensures
 
 pub returns : goal.returns
 returns c =

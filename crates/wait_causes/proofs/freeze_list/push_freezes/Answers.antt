@@ -1,4 +1,4 @@
-use Rattle.wait_causes.specs.Words.{MOST_STAYS, cause_in, flag_in, round}
+use Rattle.wait_causes.specs.Words.{MAX_STAYS, cause_in, flag_in, round}
 use Rattle.wait_causes.specs.Freezes.{freezes_at, grouping_of}
 use Rattle.wait_causes.specs.Tables.{stays_of}
 use Rattle.wait_causes.proofs.FreezeLemmas.{numbers_step}
@@ -6,7 +6,7 @@ use Rattle.wait_causes.proofs.TableLemmas.{few_of}
 use Rattle.wait_causes.proofs.freeze_list.push_freezes.Goals as goal
 
 pub push_number-requires : goal.push_number-requires
-push_number-requires c = record { few = rw (c.deref.ensures.value, c.in_ok-there.ensures) (few_of c.grouping_of.result c.args.stays.now c.loop-number.number MOST_STAYS c.requires.few) }
+push_number-requires c = record { few = rw (c.deref.ensures.value, c.in_ok-there.ensures) (few_of c.grouping_of.result c.args.stays.now c.loop-number.number MAX_STAYS c.requires.few) }
 
 pub loop-number-preserved : goal.loop-number-preserved
 loop-number-preserved c =

@@ -1,17 +1,17 @@
 use Rattle.std.proofs.Common.{◌≡◌, ◌<◌, ◌≤◌, ◌∙◌, ap, sym, length, length-take, take, get_or, arith, All, List, []}
-use Rattle.cam_types.specs.Lists.{moments}
-use Rattle.cam_types.specs.declared.maxima.TheConstants.{MOST_PRIORITY}
+use Rattle.cam_types.specs.Lists.{prefixed}
+use Rattle.cam_types.specs.declared.limits.TheConstants.{MAX_PRIORITY}
 use Rattle.recording_file.specs.declared.request.Request.{Request}
 use Rattle.round_net.proofs.RecordedLemmas.{listed}
 use Rattle.wait_causes.specs.Stays.{request_by}
-use Rattle.wait_causes.proofs.RequestLemmas.{moments_length, moment_at, no_request}
+use Rattle.wait_causes.proofs.RequestLemmas.{prefixed_length, prefix_at, no_request}
 use Rattle.wait_causes.proofs.StayLemmas.{zip_push, zip_all}
 use Rattle.wait_causes.proofs.requests.list_requests.Goals as goal
 
 pub explain-requires-clause-priority : goal.explain-requires-clause-priority
 explain-requires-clause-priority c =
     let requests = c.requests-requests.result.now in
-    let each : All (λ (q : Request). q.priority ≤ MOST_PRIORITY) requests = rw c.requests-requests.ensures.same (listed c.args.recording.now c.requests-requests.ensures.kept) in
+    let each : All (λ (q : Request). q.priority ≤ MAX_PRIORITY) requests = rw c.requests-requests.ensures.same (listed c.args.recording.now c.requests-requests.ensures.kept) in
     each c.loop-number.number no_request c.loop-number-test.true
 
 pub loop-number-preserved : goal.loop-number-preserved
@@ -22,14 +22,14 @@ loop-number-preserved c =
     let long : length (take n requests) ≡ n = omega (arith, length-take n requests, lt) in
     let here = c.explain.ensures (take n requests) long in
     let same : length requests ≡ length c.args.best.now = ap (λ (qs : List Request). length qs) c.requests-requests.ensures.same ∙ sym c.requires.same in
-    zip_push (request_by c.config-config.result.now) (moments requests) c.args.best.now n c.loop-number.rows.items c.push.new.self.items c.explain.result (take n requests, get_or requests n no_request) c.round-best.result
+    zip_push (request_by c.config-config.result.now) (prefixed requests) c.args.best.now n c.loop-number.rows.items c.push.new.self.items c.explain.result (take n requests, get_or requests n no_request) c.round-best.result
     c.loop-number.invariant c.in_ok-push.ensures.items
-    (here ∙ ap (λ (m : List Request × Request). request_by c.config-config.result.now (m, c.round-best.result)) (sym (moment_at requests n no_request (take n requests, get_or requests n no_request) lt)))
-    c.round-best.ensures (omega (arith, lt, moments_length [] requests)) (omega (arith, lt, same))
+    (here ∙ ap (λ (m : List Request × Request). request_by c.config-config.result.now (m, c.round-best.result)) (sym (prefix_at requests n no_request (take n requests, get_or requests n no_request) lt)))
+    c.round-best.ensures (omega (arith, lt, prefixed_length [] requests)) (omega (arith, lt, same))
 
 pub returns : goal.returns
 returns c =
     let requests = c.requests-requests.result.now in
-    let same : length c.args.best.now ≡ length (moments requests) = omega (arith, c.requires.same, ap (λ (qs : List Request). length qs) c.requests-requests.ensures.same, moments_length [] requests) in
+    let same : length c.args.best.now ≡ length (prefixed requests) = omega (arith, c.requires.same, ap (λ (qs : List Request). length qs) c.requests-requests.ensures.same, prefixed_length [] requests) in
     rw (c.config-config.ensures.same, c.requests-requests.ensures.same) at
-    (c.loop-number.invariant ∙ zip_all (request_by c.config-config.result.now) (moments requests) c.args.best.now c.loop-number.number same (omega (arith, c.loop-number-test.false, moments_length [] requests)))
+    (c.loop-number.invariant ∙ zip_all (request_by c.config-config.result.now) (prefixed requests) c.args.best.now c.loop-number.number same (omega (arith, c.loop-number-test.false, prefixed_length [] requests)))

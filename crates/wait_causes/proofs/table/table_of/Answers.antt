@@ -2,7 +2,7 @@ use Rattle.std.proofs.Common.{◌≡◌, ◌+◌, ◌<◌, ◌++◌, ◌==◌, �
 use Rattle.std.specs.Global.{Global}
 use Rattle.std.proofs.lemmas.List.Elements.{All-filter}
 use Rattle.wait_causes.specs.Parts.{IsLight, AreLight}
-use Rattle.wait_causes.specs.Words.{MOST_NET_STAYS}
+use Rattle.wait_causes.specs.Words.{MAX_NET_STAYS}
 use Rattle.wait_causes.specs.Stays.{ExplainedStay}
 use Rattle.wait_causes.specs.Tables.{number, stays_of, row_of, row_for, greatest}
 use Rattle.wait_causes.proofs.CountingLemmas.{list_at, lists_length}
@@ -19,7 +19,7 @@ push_part-requires-clause-few c =
     let within : c.loop-number.number < greatest c.args.by c.args.stays.now + 1 = omega (arith, c.loop-number-test.true, c.len-number-end.ensures, long) in
     let part : c.deref.result.now ≡ stays_of c.args.by c.args.stays.now c.loop-number.number = c.deref.ensures.value ∙ ap (λ (v : Vec ExplainedStay Global). v.items) c.index.ensures
     ∙ list_at (stays_of c.args.by c.args.stays.now) (greatest c.args.by c.args.stays.now + 1) c.loop-number.number c.in_ok-groups.groups.items c.index.result.now c.in_ok-groups.ensures.groups within in
-    omega (arith, ap (λ (xs : List ExplainedStay). length xs) part, few_of c.args.by c.args.stays.now c.loop-number.number MOST_NET_STAYS c.requires.few)
+    omega (arith, ap (λ (xs : List ExplainedStay). length xs) part, few_of c.args.by c.args.stays.now c.loop-number.number MAX_NET_STAYS c.requires.few)
 
 pub push_part-requires-clause-light : goal.push_part-requires-clause-light
 push_part-requires-clause-light c =

@@ -1,6 +1,6 @@
 use Rattle.std.proofs.Common.{◌≡◌, ◌≤◌, length, sym, ap, ◌∙◌, refl, arith, None}
-use Rattle.round_net.specs.Words.{IsConfig, MOST_LINKS, round, Past, unsent}
-use Rattle.round_net.specs.Caps.{row_count, cap}
+use Rattle.round_net.specs.Words.{IsConfig, MAX_LINKS, round, Past, unsent}
+use Rattle.round_net.specs.Caps.{resource_count, cap}
 use Rattle.round_net.specs.Nets.{table}
 use Rattle.cam_types.proofs.ConfigLemmas.{few_links}
 use Rattle.round_net.proofs.FoundLemmas.{net_found}
@@ -9,7 +9,7 @@ use Rattle.round_net.proofs.net.Net.of_rounds.Goals as goal
 
 pub overflow_cast-result : goal.overflow_cast-result
 overflow_cast-result c =
-    let few : length c.links.result.now ≤ MOST_LINKS = rw c.links.ensures.same (few_links c.config-config.result.now c.links.ensures.kept) in
+    let few : length c.links.result.now ≤ MAX_LINKS = rw c.links.ensures.same (few_links c.config-config.result.now c.links.ensures.kept) in
     omega arith
 
 pub returns-clause-net : goal.returns-clause-net
@@ -20,7 +20,7 @@ returns-clause-net c =
     net_found c.in_ok-copy.field-0 h.config h.events c.commands.result c.round-rounds.result (length c.links.result.now) c.in_ok-adapters_of.field-0.items c.in_ok-links_of.field-0.items c.in_ok-stay_rows.field-0.items c.in_ok-caps.field-0.items
     (c.in_ok-copy.ensures ∙ config) c.commands.ensures rounds (ap length c.links.ensures.same ∙ rw config refl) (c.in_ok-adapters_of.ensures ∙ rw (c.devices.ensures.same, config) refl) (c.in_ok-links_of.ensures ∙ rw (c.adapters.ensures.same, config) refl)
     (c.in_ok-stay_rows.ensures ∙ rw (config, c.stays.ensures) refl)
-    (c.in_ok-caps.ensures ∙ ap (λ (t : Past). table (row_count t.config) (round t.events) (cap t.config t.events)) c.requires)
+    (c.in_ok-caps.ensures ∙ ap (λ (t : Past). table (resource_count t.config) (round t.events) (cap t.config t.events)) c.requires)
 
 pub invariant_of-result : goal.invariant_of-result
 invariant_of-result c =
@@ -31,7 +31,7 @@ invariant_of-result c =
     net_found c.in_ok-copy.field-0 h.config h.events c.commands.result c.round-rounds.result (length c.links.result.now) c.in_ok-adapters_of.field-0.items c.in_ok-links_of.field-0.items c.in_ok-stay_rows.field-0.items c.in_ok-caps.field-0.items
     (c.in_ok-copy.ensures ∙ config) c.commands.ensures rounds (ap length c.links.ensures.same ∙ rw config refl) (c.in_ok-adapters_of.ensures ∙ rw (c.devices.ensures.same, config) refl) (c.in_ok-links_of.ensures ∙ rw (c.adapters.ensures.same, config) refl)
     (c.in_ok-stay_rows.ensures ∙ rw (config, c.stays.ensures) refl)
-    (c.in_ok-caps.ensures ∙ ap (λ (t : Past). table (row_count t.config) (round t.events) (cap t.config t.events)) c.requires) in
+    (c.in_ok-caps.ensures ∙ ap (λ (t : Past). table (resource_count t.config) (round t.events) (cap t.config t.events)) c.requires) in
     let kept : IsConfig h.config = rw config at c.devices.ensures.kept in
     let complete : unsent h.events ≡ None = sym c.unsent.ensures ∙ c.in_default.is in
     rw net (net_is_net h.config h.events kept c.events-events.ensures.legal complete)

@@ -26,4 +26,4 @@ returns-clause-most c =
     let last = rw (← c.self.view_is) at c.requires.last in
     let within = price_in _ c.args.row c.args.round c.self.invariant row c.requires.first last in
     let small = c.self.invariant.small c.cell.result c.index.result.now (rw c.cell.ensures within) in
-    omega (arith, c.index.ensures, small, ap (λ (p : PriceRows). p.most_price) c.self.view_is)
+    omega (arith, c.index.ensures, small, ap (λ (p : PriceRows). p.max_price) c.self.view_is)

@@ -1,6 +1,6 @@
 use Rattle.std.proofs.Common.{◌≡◌, ◌*◌, length, ap, refl, sym, ◌∙◌}
 use Rattle.round_net.specs.Words.{round, history_rules, Transport}
-use Rattle.round_net.specs.Caps.{row_count}
+use Rattle.round_net.specs.Caps.{resource_count}
 use Rattle.round_net.proofs.MarkLemmas.{written_back}
 use Rattle.round_net.proofs.round_table.RoundTable.of.Goals as goal
 
@@ -11,7 +11,7 @@ invariant_of-result c =
     let sends' : length c.walk.new.sends ≡ c.in_ok-sends.sends.len = c.walk.auto.sends ∙ c.deref_mut-3.ensures.len in
     let config : c.in_ok-open.field-0.config ≡ c.config-config.result.now = ap (λ (t : Transport). t.config) c.in_ok-open.ensures ∙ c.in_ok-copy.ensures in
     let rounds : c.round-rounds.result ≡ round c.events.result.now = c.round-rounds.ensures.same ∙ sym (ap round c.events.ensures.same) in
-    let rows : c.row_count.result * c.round-rounds.result ≡ row_count c.in_ok-open.field-0.config * round c.events.result.now = rw (c.row_count.ensures, config, rounds) refl in
+    let rows : c.resource_count.result * c.round-rounds.result ≡ resource_count c.in_ok-open.field-0.config * round c.events.result.now = rw (c.resource_count.ensures, config, rounds) refl in
     let end : c.in_ok-end.end ≡ record { config = c.in_ok-open.field-0.config; rules = history_rules; events = c.events.result.now } = c.in_ok-end.ensures.replayed in
     rw (
       end,

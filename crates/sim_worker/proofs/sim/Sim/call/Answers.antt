@@ -25,18 +25,18 @@ invariant_of-self c =
     let here = get_is c.self.inside.drivers.items c.args.d c.index_mut.result.now lt c.index_mut.ensures.value in
     let seen = get_is c.self.inside.drivers.items c.args.d c.index.result.now lt c.index.ensures in
     let same : c.index.result.now ≡ c.index_mut.result.now = some_is _ _ (sym seen ∙ here) in
-    let said = call_is (slice_get (steps_of c.self.inside.script.now c.args.d) c.index.result.now.done) c.in-Some.event
+    let stated = call_is (slice_get (steps_of c.self.inside.script.now c.args.d) c.index.result.now.done) c.in-Some.event
     (ap (λ (w : Work). call_of (slice_get (steps_of w.script c.args.d) c.index.result.now.done)) c.self.view_is ∙ sym c.next_call.ensures ∙ c.in-Some.is) in
     call_step c.self.inside.script.now c.self.inside.xpt c.take.new.self c.self.inside.drivers.items c.self.inside.lanes.items c.self.inside.refused c.self.inside.refused c.args.d c.index_mut.result.now _ c.in-Some.event
-    here (ap (λ (w : Driver). slice_get (steps_of c.self.inside.script.now c.args.d) w.done) (sym same) ∙ said) refl c.in-Ok.ensures.0 c.self.invariant
+    here (ap (λ (w : Driver). slice_get (steps_of c.self.inside.script.now c.args.d) w.done) (sym same) ∙ stated) refl c.in-Ok.ensures.0 c.self.invariant
 
 pub returns-in-Err-HistoryFull-clause-ending : goal.returns-in-Err-HistoryFull-clause-ending
 returns-in-Err-HistoryFull-clause-ending c =
     let able = able_driver c.self.inside.script.now c.self.inside.drivers.items c.args.d (ap (λ (w : Work). is_able w (actors.Driver c.args.d)) c.self.view_is ∙ c.requires) in
     let seen = get_is c.self.inside.drivers.items c.args.d c.index.result.now (there_is c.self.inside.drivers.items c.args.d able.0 able.1) c.index.ensures in
-    let said = call_is (slice_get (steps_of c.self.inside.script.now c.args.d) c.index.result.now.done) c.in-Some.event
+    let stated = call_is (slice_get (steps_of c.self.inside.script.now c.args.d) c.index.result.now.done) c.in-Some.event
     (ap (λ (w : Work). call_of (slice_get (steps_of w.script c.args.d) c.index.result.now.done)) c.self.view_is ∙ sym c.next_call.ensures ∙ c.in-Some.is) in (
-      (λ drained. left_to_call _ c.args.d c.index.result.now c.in-Some.event c.self.invariant seen said (subst (λ (t : Transport). IsDrained c.self.inside.script.now t.events) c.in-Err-HistoryFull.ensures.1 drained)),
+      (λ drained. left_to_call _ c.args.d c.index.result.now c.in-Some.event c.self.invariant seen stated (subst (λ (t : Transport). IsDrained c.self.inside.script.now t.events) c.in-Err-HistoryFull.ensures.1 drained)),
       ap (λ t. length t.events) c.in-Err-HistoryFull.ensures.1
           ∙ at_limit _ c.self.invariant (full_at_limit c.self.inside.xpt.rules c.self.inside.xpt.config c.self.inside.xpt.events c.in-Some.event
           (ap says_full c.in-Err-HistoryFull.ensures.0 ∙ ap (λ why. says_full (Some why)) c.in-Err-HistoryFull.field-0-is)),

@@ -1,5 +1,5 @@
 use Rattle.std.proofs.Common.{◌≡◌, ◌∙◌, ap, sym, subst, refl, length, map, zip, List}
-use Rattle.cam_types.specs.Lists.{moments}
+use Rattle.cam_types.specs.Lists.{prefixed}
 use Rattle.recording_file.specs.Recorded.{Recorded}
 use Rattle.round_net.specs.RecordedNets.{net_of_recording}
 use Rattle.wait_causes.specs.Words.{instance_of_rows, NetRows, IsSound}
@@ -18,8 +18,8 @@ count_waits-requires-clause-within c =
     let r = c.in_ok-rounds.rounds in
     let net_is : c.args.net.now ≡ net_of_recording r = c.requires.net ∙ ap net_of_recording (sym c.in_ok-rounds.ensures) in
     let sound : IsSound (instance_in (origin.Recording r)) (live_in (origin.Recording r)) = rw net_is at c.rounds-rounds.ensures.sound in
-    let is : c.in_ok-listed.listed.items ≡ map (request_by r.config) (zip (moments r.requests) c.args.best.now) =
-    c.in_ok-listed.ensures ∙ ap (λ (q : Recorded). map (request_by q.config) (zip (moments q.requests) c.args.best.now)) (sym c.in_ok-rounds.ensures) in
+    let is : c.in_ok-listed.listed.items ≡ map (request_by r.config) (zip (prefixed r.requests) c.args.best.now) =
+    c.in_ok-listed.ensures ∙ ap (λ (q : Recorded). map (request_by q.config) (zip (prefixed q.requests) c.args.best.now)) (sym c.in_ok-rounds.ensures) in
     subst (AreWithin (instance_in (origin.Recording r))) (sym (c.deref-3.ensures.value ∙ is)) (recording_within r c.args.best.now sound)
 
 pub invariant_of-result : goal.invariant_of-result
@@ -27,8 +27,8 @@ invariant_of-result c =
     let r = c.in_ok-rounds.rounds in
     let net_is : c.args.net.now ≡ net_of_recording r = c.requires.net ∙ ap net_of_recording (sym c.in_ok-rounds.ensures) in
     let sound : IsSound (instance_in (origin.Recording r)) (live_in (origin.Recording r)) = rw net_is at c.rounds-rounds.ensures.sound in
-    let is : c.in_ok-listed.listed.items ≡ map (request_by r.config) (zip (moments r.requests) c.args.best.now) =
-    c.in_ok-listed.ensures ∙ ap (λ (q : Recorded). map (request_by q.config) (zip (moments q.requests) c.args.best.now)) (sym c.in_ok-rounds.ensures) in
+    let is : c.in_ok-listed.listed.items ≡ map (request_by r.config) (zip (prefixed r.requests) c.args.best.now) =
+    c.in_ok-listed.ensures ∙ ap (λ (q : Recorded). map (request_by q.config) (zip (prefixed q.requests) c.args.best.now)) (sym c.in_ok-rounds.ensures) in
     let count : c.in_ok-stays.stays.items ≡ map (counted (origin.Recording r)) c.in_ok-listed.listed.items = c.in_ok-stays.ensures ∙ ap (λ (xs : List ExplainedStay). map (counted (origin.Recording r)) xs) c.deref-3.ensures.value in
     let all : length c.args.best.now ≡ (instance_in (origin.Recording r)).stays = c.requires.stays ∙ ap (λ (n : NetRows). (instance_of_rows n).stays) net_is in
     (recording_explained r c.args.best.now c.in_ok-listed.listed.items c.in_ok-stays.stays.items sound is count all, c.in_ok-runs.ensures)
@@ -38,8 +38,8 @@ returns c =
     let r = c.in_ok-rounds.rounds in
     let net_is : c.args.net.now ≡ net_of_recording r = c.requires.net ∙ ap net_of_recording (sym c.in_ok-rounds.ensures) in
     let sound : IsSound (instance_in (origin.Recording r)) (live_in (origin.Recording r)) = rw net_is at c.rounds-rounds.ensures.sound in
-    let is : c.in_ok-listed.listed.items ≡ map (request_by r.config) (zip (moments r.requests) c.args.best.now) =
-    c.in_ok-listed.ensures ∙ ap (λ (q : Recorded). map (request_by q.config) (zip (moments q.requests) c.args.best.now)) (sym c.in_ok-rounds.ensures) in
+    let is : c.in_ok-listed.listed.items ≡ map (request_by r.config) (zip (prefixed r.requests) c.args.best.now) =
+    c.in_ok-listed.ensures ∙ ap (λ (q : Recorded). map (request_by q.config) (zip (prefixed q.requests) c.args.best.now)) (sym c.in_ok-rounds.ensures) in
     let count : c.in_ok-stays.stays.items ≡ map (counted (origin.Recording r)) c.in_ok-listed.listed.items = c.in_ok-stays.ensures ∙ ap (λ (xs : List ExplainedStay). map (counted (origin.Recording r)) xs) c.deref-3.ensures.value in
     let all : length c.args.best.now ≡ (instance_in (origin.Recording r)).stays = c.requires.stays ∙ ap (λ (n : NetRows). (instance_of_rows n).stays) net_is in
     let found = recording_found r c.args.best.now c.in_ok-listed.listed.items c.in_ok-stays.stays.items is count (all ∙ recording_stays r) in

@@ -1,7 +1,7 @@
 use lib.Dec.{eqb}
 use Rattle.std.specs.Option.{option_eq}
 use Rattle.std.proofs.Common.{◌+◌, ◌≤◌, length, Some, ap, sym, subst, ◌∙◌, arith, eqb-true}
-use Rattle.xpt_core.specs.Words.{adapter_link, Topology, IsConfig, MOST_EVENTS}
+use Rattle.xpt_core.specs.Words.{adapter_link, Topology, IsConfig, MAX_EVENTS}
 use Rattle.cam_types.proofs.ConfigLemmas.{few_adapters}
 use Rattle.xpt_core.specs.Transport.{Transport}
 use Rattle.xpt_core.proofs.LinkLemmas.{sent_by-none, sent_by-on, sent_by-within, sent_by-off, all_sent, nothing_sent}
@@ -25,8 +25,8 @@ overflow_add-sent c =
     let link = sym (ap (λ o. option_eq eqb o (Some c.args.link)) (c.adapter_link.ensures.same ∙ ap (λ (t : Topology). adapter_link t c.loop-adapter.adapter) here)) in
     let both = sent_by-on c.args.self.now.config c.args.self.now.events c.args.link c.loop-adapter.adapter c.loop-adapter.sent c.sent-sent.result c.loop-adapter.invariant (link ∙ sym c.if-eq.ensures) c.sent-sent.ensures in
     let short = ap length (c.events.ensures.same ∙ ap (λ (t : Transport). t.events) c.self.view_is) in
-    let few : c.loop-adapter.sent + c.sent-sent.result ≤ MOST_EVENTS =
-    sent_by-within c.args.self.now.config c.args.self.now.events c.args.link (c.loop-adapter.adapter + 1) c.loop-adapter.sent c.sent-sent.result MOST_EVENTS both (omega (arith, short, c.events.ensures.short)) in
+    let few : c.loop-adapter.sent + c.sent-sent.result ≤ MAX_EVENTS =
+    sent_by-within c.args.self.now.config c.args.self.now.events c.args.link (c.loop-adapter.adapter + 1) c.loop-adapter.sent c.sent-sent.result MAX_EVENTS both (omega (arith, short, c.events.ensures.short)) in
     omega arith
 
 pub loop-adapter-preserved : goal.loop-adapter-preserved

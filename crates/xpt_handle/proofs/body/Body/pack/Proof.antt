@@ -29,14 +29,14 @@ use Rattle.xpt_handle.proofs.body.Body.pack.Code as code
 
 pub pack_spec : {M : Type 1} → statement M
 pack_spec 𝓤 𝓛 𝓜 𝓡 wired =
-    let H = 𝓛.H in let 𝓣 = tables 𝓤 H 𝓜 𝓡 𝓡.env in let said = clauses 𝓛 𝓜.mem 𝓡.returns in let fn = code.function in
+    let H = 𝓛.H in let 𝓣 = tables 𝓤 H 𝓜 𝓡 𝓡.env in let stated = clauses 𝓛 𝓜.mem 𝓡.returns in let fn = code.function in
     let Given : RattleType = Raw R Z LZ ghosts in
     let stays : Stays ended.signature.params ended.kept = (stay_dropped (plain (λ _. Given)) yes, tt) in
-    proved_at 𝓛 ended stays said 𝓜 𝓡 (Goes-blank 𝓛 0 (plain (λ _. Given)) yes (λ κs x f. tt), tt) #self fn (code.unfolded 𝓤 H 𝓜 𝓡 wired) (λ z are.
+    proved_at 𝓛 ended stays stated 𝓜 𝓡 (Goes-blank 𝓛 0 (plain (λ _. Given)) yes (λ κs x f. tt), tt) #self fn (code.unfolded 𝓤 H 𝓜 𝓡 wired) (λ z are.
     let κs = z.0.0 in let qs = z.0.1 in let taken = z.0.3.0 in
-    let Post : Val → SProp 𝓤 = (walk_of 𝓛 ended stays said).post z in
+    let Post : Val → SProp 𝓤 = (walk_of 𝓛 ended stays stated).post z in
     let Run : List Val → SProp 𝓤 = λ words. WpFn 𝓤 H 𝓣.C 𝓣.Λ fn words Post in
-    let given = (raw (alive 𝓛 ended.signature κs qs) ⊛ ‵ (owns (types_at ended.signature.params κs) z.0.3 z.0.4)) ∷ raw ((said κs z.0.3).requires z.1) ∷ [] in
+    let given = (raw (alive 𝓛 ended.signature κs qs) ⊛ ‵ (owns (types_at ended.signature.params κs) z.0.3 z.0.4)) ∷ raw ((stated κs z.0.3).requires z.1) ∷ [] in
     qed 𝓛 given ∵ split ! $ move ! (1 ∷ []) $ fsplit ! $ raw_out R Z LZ ghosts ! taken z.0.4.0 (λ b o a at words fits.
     let held : Val = two (vptr b o) a in let held_fits = two_fit R Z LZ ghosts b o a fits in
     -- both fields are moved out and into the other struct; the cast leaves the pointer as it is
@@ -49,4 +49,4 @@ pack_spec 𝓤 𝓛 𝓜 𝓡 wired =
     body_in ! b o a taken.alloc taken.value $
     use0 𝓛 (raw (fact 𝓤 (Some taken.value ≡ Some taken.value))) (fact_i 𝓤 (Some taken.value ≡ Some taken.value) (emp 𝓤) refl) $ nothing ! $ nothing ! $ fjoin ! $
     returns ! (look_at ! 0 refl) $ free_all ! refl $ keep ! (4 ∷ 0 ∷ 2 ∷ 1 ∷ []) $
-    by ! (leaves 𝓛 ended stays said z held (record { at = block_ptr b o; alloc = taken.alloc; kept = Some taken.value }) (_, tt) (tt, tt)))))
+    by ! (leaves 𝓛 ended stays stated z held (record { at = block_ptr b o; alloc = taken.alloc; kept = Some taken.value }) (_, tt) (tt, tt)))))

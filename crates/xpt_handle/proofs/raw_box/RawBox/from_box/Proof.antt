@@ -44,16 +44,16 @@ pub from_box_spec : {M : Type 1} → statement M
 from_box_spec 𝓤 𝓛 𝓜 𝓡 wired T A L LA g d dx dd allocator glue glued =
     let H = 𝓛.H in let 𝓣 = tables 𝓤 H 𝓜 𝓡 𝓡.env in
     let R : RattleType = param 0 T in let Z : RattleType = param 1 A in let LZ = param_laws 1 A LA in
-    let end = ended T A g d dx dd in let said = clauses T A g d dx dd 𝓛 𝓜.mem 𝓡.returns in
+    let end = ended T A g d dx dd in let stated = clauses T A g d dx dd 𝓛 𝓜.mem 𝓡.returns in
     let inst = bounded (a_type ∷ a_type ∷ []) (T, (A, tt)) (dcons d (dcons dx (dcons dd dnil))) in let fn = inst_fn inst code.function in
     let F : form.Bx = record { row = T; laws = L; al = record { row = A; laws = LA; g = g; d = d; drops = dd } } in let B : RattleType = form.B F in
     let stays : Stays end.signature.params end.kept = (stay_dropped (plain (λ _. B)) no, tt) in
-    proved_at 𝓛 end stays said 𝓜 𝓡 (Goes-blank 𝓛 2 (plain (λ _. B)) no (λ κs x f. tt), tt) (#self inst) fn (code.unfolded 𝓤 H 𝓜 𝓡 wired (T, (A, tt)) d dx dd) (λ z are.
+    proved_at 𝓛 end stays stated 𝓜 𝓡 (Goes-blank 𝓛 2 (plain (λ _. B)) no (λ κs x f. tt), tt) (#self inst) fn (code.unfolded 𝓤 H 𝓜 𝓡 wired (T, (A, tt)) d dx dd) (λ z are.
     let κs = z.0.0 in let qs = z.0.1 in let taken = z.0.3.0 in
-    let Post : Val → SProp 𝓤 = (walk_of 𝓛 end stays said).post z in
+    let Post : Val → SProp 𝓤 = (walk_of 𝓛 end stays stated).post z in
     let Run : List Val → SProp 𝓤 = λ words. WpFn 𝓤 H 𝓣.C 𝓣.Λ fn words Post in
     let alive = ‵ (flft κs.0 qs.0) ⊛ ‵ (flft κs.1.0 qs.1.0) ⊛ ‵ ftrue in
-    let given = (alive ⊛ ‵ (owns (types_at end.signature.params κs) z.0.3 z.0.4)) ∷ raw ((said κs z.0.3).requires z.1) ∷ [] in
+    let given = (alive ⊛ ‵ (owns (types_at end.signature.params κs) z.0.3 z.0.4)) ∷ raw ((stated κs z.0.3).requires z.1) ∷ [] in
     -- the box goes to the callee as it is
     qed 𝓛 given ∵ split ! $ move ! (1 ∷ []) $ fsplit ! $ box_out F ! taken z.0.4.0 (λ b o a at words fits. box_in F ! taken b o taken.value at refl $
     let held : Val = form.word F a b o in let held_fits = two_fit R Z LZ g b o a fits in
@@ -85,4 +85,4 @@ from_box_spec 𝓤 𝓛 𝓜 𝓡 wired T A L LA g d dx dd allocator glue glued 
     move ! (3 ∷ 0 ∷ []) $ raw_in R Z LZ g ! b' o' a' taken.alloc taken.value $
     use0 𝓛 (raw (fact 𝓤 (taken.value ≡ taken.value))) (fact_i 𝓤 (taken.value ≡ taken.value) (emp 𝓤) refl) $ nothing ! $ nothing ! $ fjoin ! $
     returns ! (look_at ! 0 refl) $ free_all ! refl $ keep ! (4 ∷ 0 ∷ 2 ∷ 1 ∷ []) $
-    by ! (leaves 𝓛 end stays said z made (record { at = block_ptr b' o'; alloc = taken.alloc; value = taken.value }) ((tt, (tt, tt)), tt) (tt, tt))))))))))))))
+    by ! (leaves 𝓛 end stays stated z made (record { at = block_ptr b' o'; alloc = taken.alloc; value = taken.value }) ((tt, (tt, tt)), tt) (tt, tt))))))))))))))

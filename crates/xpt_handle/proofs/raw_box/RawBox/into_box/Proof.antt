@@ -43,16 +43,16 @@ pub into_box_spec : {M : Type 1} → statement M
 into_box_spec 𝓤 𝓛 𝓜 𝓡 wired T A L LA g d dx dd allocator glue glued =
     let H = 𝓛.H in let 𝓣 = tables 𝓤 H 𝓜 𝓡 𝓡.env in
     let R : RattleType = param 0 T in let Z : RattleType = param 1 A in let LZ = param_laws 1 A LA in
-    let end = ended T A g d dx dd in let said = clauses T A g d dx dd 𝓛 𝓜.mem 𝓡.returns in
+    let end = ended T A g d dx dd in let stated = clauses T A g d dx dd 𝓛 𝓜.mem 𝓡.returns in
     let inst = bounded (a_type ∷ a_type ∷ []) (T, (A, tt)) (dcons d (dcons dx (dcons dd dnil))) in let fn = inst_fn inst code.function in
     let F : form.Bx = record { row = T; laws = L; al = record { row = A; laws = LA; g = g; d = d; drops = dd } } in let B : RattleType = form.B F in
     let stays : Stays end.signature.params end.kept = (stay_dropped (plain (λ _. Raw R Z LZ g)) no, tt) in
-    proved_at 𝓛 end stays said 𝓜 𝓡 (Goes-blank 𝓛 2 (plain (λ _. Raw R Z LZ g)) no (λ κs x f. tt), tt) (#self inst) fn (code.unfolded 𝓤 H 𝓜 𝓡 wired (T, (A, tt)) d dx dd) (λ z are.
+    proved_at 𝓛 end stays stated 𝓜 𝓡 (Goes-blank 𝓛 2 (plain (λ _. Raw R Z LZ g)) no (λ κs x f. tt), tt) (#self inst) fn (code.unfolded 𝓤 H 𝓜 𝓡 wired (T, (A, tt)) d dx dd) (λ z are.
     let κs = z.0.0 in let qs = z.0.1 in let taken = z.0.3.0 in
-    let Post : Val → SProp 𝓤 = (walk_of 𝓛 end stays said).post z in
+    let Post : Val → SProp 𝓤 = (walk_of 𝓛 end stays stated).post z in
     let Run : List Val → SProp 𝓤 = λ words. WpFn 𝓤 H 𝓣.C 𝓣.Λ fn words Post in
     let alive = ‵ (flft κs.0 qs.0) ⊛ ‵ (flft κs.1.0 qs.1.0) ⊛ ‵ ftrue in
-    let given = (alive ⊛ ‵ (owns (types_at end.signature.params κs) z.0.3 z.0.4)) ∷ raw ((said κs z.0.3).requires z.1) ∷ [] in
+    let given = (alive ⊛ ‵ (owns (types_at end.signature.params κs) z.0.3 z.0.4)) ∷ raw ((stated κs z.0.3).requires z.1) ∷ [] in
     -- what is owned, and what the callee asks for
     qed 𝓛 given ∵ split ! $ move ! (1 ∷ []) $ fsplit ! $ raw_out R Z LZ g ! taken z.0.4.0 (λ b o a at words fits.
     let held : Val = two (vptr b o) a in let held_fits = two_fit R Z LZ g b o a fits in
@@ -78,4 +78,4 @@ into_box_spec 𝓤 𝓛 𝓜 𝓡 wired T A L LA g d dx dd allocator glue glued 
     let made_fits : Good (layout B) made = subst (Good (layout B)) (sym (ap only words')) (two_fit R Z LZ g b' o' a' fits') in
     lands_last ! refl made_fits $ exec ! 𝓣.C 𝓣.Λ locals (after 3 fn.body) (at_ret locals Post) $
     sets ! (of_opd ! (get ! refl)) refl made_fits $ nothing ! $ nothing ! $ fjoin ! $ returns ! (look_at ! 0 refl) $ free_all ! refl $
-    keep ! (2 ∷ 0 ∷ 1 ∷ 3 ∷ []) $ by ! (leaves 𝓛 end stays said z made r ((tt, (tt, tt)), tt) (tt, tt)))))))))
+    keep ! (2 ∷ 0 ∷ 1 ∷ 3 ∷ []) $ by ! (leaves 𝓛 end stays stated z made r ((tt, (tt, tt)), tt) (tt, tt)))))))))

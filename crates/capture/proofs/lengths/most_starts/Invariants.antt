@@ -1,7 +1,0 @@
-use Rattle.std.proofs.Common.{◌≡◌}
-use Rattle.capture.specs.Lengths.{most_starts}
-use Rattle.capture.proofs.lengths.most_starts.Given as goal
-
--- the most of the devices so far
-abbrev pub invariant-loop-device : goal.invariant-loop-device
-invariant-loop-device l = l.most ≡ most_starts l.requests l.device

@@ -1,0 +1,21 @@
+//! The progress of a plan.
+
+use time_levels::Done;
+
+/// Receives the progress of a plan. A part has the stays of all adapters on one link, or of an adapter on no link.
+pub trait PlanProgress {
+    /// The planning of the part of which this is the least adapter begins. It goes on when this returns. The thread that
+    /// plans the part says so.
+    fn begun(&self, adapter: u32);
+
+    /// That much of a plan by levels of time is made. The caller's thread says so.
+    fn planned(&self, _done: Done) {}
+}
+
+/// Ignores the progress of a plan.
+#[derive(Clone, Copy, Debug)]
+pub struct NoPlanProgress;
+
+impl PlanProgress for NoPlanProgress {
+    fn begun(&self, _adapter: u32) {}
+}

@@ -1,0 +1,288 @@
+//! What one record does to a recording in the making.
+
+ghost use Rattle.std.specs.Prelude.{◌≡◌, ◌≢◌, true, length, ◌∷◌, ◌++◌, [], Err, Ok, IfOk, ℕ, ◌+◌, ◌<◌, ◌≤◌, false, if◌then◌else◌};
+ghost use Rattle.csv.specs.Records.{fields_of};
+ghost use Rattle.recording_file.specs.Names.{is_name};
+ghost use Rattle.recording_file.specs.Caps.{is_cap};
+ghost use Rattle.recording_file.specs.Counts.{counts_of};
+ghost use Rattle.recording_file.specs.Reading.{add_unit, add_rounds, add_weight, add_link, add_adapter, add_device, apply_parsed, add_row, row_step, ended, stands, recorded_of, unless_illegal, lacking, lacks_adapters};
+ghost use Rattle.recording_file.specs.Recorded.{IsKept, Span, request_cause, MAX_RECORDED_ROUNDS, MAX_REQUESTS};
+ghost use Rattle.recording_file.specs.Records.{FitsParsed, word_for};
+ghost use Rattle.recording_file.specs.RowParsing.{IsAt, IsOpen, booked};
+ghost use Rattle.recording_file.specs.Sound.{IsSound};
+ghost use Rattle.std.specs.Option.{option_map_or};
+
+use crate::cap::Cap;
+use crate::name::Name;
+use crate::parsed_row::ParsedRow;
+use crate::parser_items::{
+    begun, lacking, standard, with_adapter, with_device, with_link, with_weight,
+};
+use crate::preamble::Start;
+use crate::recorder::Recorder;
+use crate::recording::Recording;
+use crate::recording_fault::RecordingFault;
+use crate::recording_parser::RecordingParser;
+use crate::request::Request;
+use crate::request_error::RequestError;
+use crate::span::Span;
+use crate::word::RecordingWord;
+use cam_types::{Adapter, WeightRow};
+use record_text::DeviceRow;
+use std::alloc::Global;
+
+impl RecordingParser {
+    #[tactic(auto, unfolding(crate::specs::Sound::IsSound))]
+    fn add_unit(self, number: u32, unit: Span) -> Result<RecordingParser, RecordingFault>
+        requires { 1 ≤ unit.count }
+        ensures value { result ≡ add_unit number self unit }
+        ensures sound { IfOk result (λ s. IsSound s) }
+    {
+        match self {
+            RecordingParser::First => Ok(RecordingParser::Timed(unit)),
+            _ => Err(RecordingFault::BadRecord(number)),
+        }
+    }
+
+    #[tactic(auto, unfolding(crate::specs::Sound::IsSound))]
+    fn add_rounds(
+        self,
+        alloc: Global,
+        number: u32,
+        rounds: u32,
+    ) -> Result<RecordingParser, RecordingFault>
+        requires sound { IsSound self }
+        requires some { 1 ≤ rounds }
+        requires most { rounds ≤ MAX_RECORDED_ROUNDS }
+        ensures value { result ≢ Err RecordingFault.OutOfMemory → result ≡ add_rounds number self rounds }
+        ensures sound { IfOk result (λ s. IsSound s) }
+    {
+        match self {
+            RecordingParser::First => standard(alloc, start_of(None, rounds)),
+            RecordingParser::Timed(unit) => standard(alloc, start_of(Some(unit), rounds)),
+            _ => Err(RecordingFault::BadRecord(number)),
+        }
+    }
+
+    #[tactic(auto, unfolding(crate::specs::Reading::stands, crate::specs::Sound::IsSound))]
+    fn add_weight(
+        self,
+        alloc: Global,
+        number: u32,
+        row: WeightRow,
+    ) -> Result<RecordingParser, RecordingFault>
+        requires sound { IsSound self }
+        requires place { stands self RecordingWord.Weight ≡ true }
+        ensures value { result ≢ Err RecordingFault.OutOfMemory → result ≡ add_weight number self row }
+        ensures sound { IfOk result (λ s. IsSound s) }
+    {
+        match self {
+            RecordingParser::Weights(start, partial) => with_weight(
+                alloc, start, partial, number, row,
+            ),
+            RecordingParser::Links(_, partial) => {
+                Err(RecordingFault::BadConfig(number, lacking(&partial)))
+            }
+            _ => unreachable!(),
+        }
+    }
+
+    #[tactic(auto, unfolding(crate::specs::Sound::IsSound))]
+    fn add_link(self, number: u32, openings: u32) -> Result<RecordingParser, RecordingFault>
+        requires { IsSound self }
+        ensures value { result ≢ Err RecordingFault.OutOfMemory → result ≡ add_link number self openings }
+        ensures sound { IfOk result (λ s. IsSound s) }
+    {
+        match self {
+            RecordingParser::Weights(start, partial) | RecordingParser::Links(start, partial) =>
+                with_link(start, partial, number, openings),
+            _ => Err(RecordingFault::BadRecord(number)),
+        }
+    }
+
+    #[tactic(auto, unfolding(crate::specs::Sound::IsSound))]
+    fn add_adapter(self, number: u32, adapter: Adapter) -> Result<RecordingParser, RecordingFault>
+        requires { IsSound self }
+        ensures value { result ≢ Err RecordingFault.OutOfMemory → result ≡ add_adapter number self adapter }
+        ensures sound { IfOk result (λ s. IsSound s) }
+    {
+        match self {
+            RecordingParser::Weights(start, partial)
+            | RecordingParser::Links(start, partial)
+            | RecordingParser::Adapters(start, partial) => with_adapter(
+                start, partial, number, adapter,
+            ),
+            _ => Err(RecordingFault::BadRecord(number)),
+        }
+    }
+
+    #[tactic(auto, unfolding(crate::specs::Reading::stands, crate::specs::Sound::IsSound))]
+    fn add_device(self, number: u32, device: DeviceRow) -> Result<RecordingParser, RecordingFault>
+        requires sound { IsSound self }
+        requires place { stands self RecordingWord.Dev ≡ true }
+        ensures value { result ≢ Err RecordingFault.OutOfMemory → result ≡ add_device number self device }
+        ensures sound { IfOk result (λ s. IsSound s) }
+    {
+        match self {
+            RecordingParser::Adapters(start, partial) | RecordingParser::Devices(start, partial) =>
+                with_device(start, partial, number, device),
+            RecordingParser::Weights(_, partial) | RecordingParser::Links(_, partial) => {
+                Err(RecordingFault::BadConfig(number, lacking(&partial)))
+            }
+            _ => unreachable!(),
+        }
+    }
+
+    /// The recorder where a configuration is whole, or what is lacking of one.
+    #[tactic(auto, unfolding(crate::specs::Sound::IsSound))]
+    fn recorder(self, number: u32) -> Result<Recorder, RecordingFault>
+        requires sound { IsSound self }
+        requires place { IsOpen self }
+        ensures whole { lacks_adapters self ≡ false → result ≡ Ok (recorded_of self) }
+        ensures lacking { lacks_adapters self ≡ true → result ≡ Err (RecordingFault.BadConfig number (lacking (recorded_of self).config.weights)) }
+        ensures kept { IfOk result IsKept }
+    {
+        match self {
+            RecordingParser::Book(recorder) => Ok(recorder),
+            RecordingParser::Weights(_, partial) | RecordingParser::Links(_, partial) => {
+                Err(RecordingFault::BadConfig(number, lacking(&partial)))
+            }
+            _ => unreachable!(),
+        }
+    }
+
+    /// Applies a parsed row, or answers why it can't be applied.
+    #[tactic(auto, unfolding(crate::specs::Reading::apply_parsed))]
+    pub(crate) fn apply_parsed(
+        self,
+        alloc: Global,
+        number: u32,
+        parsed: ParsedRow,
+    ) -> Result<RecordingParser, RecordingFault>
+        requires sound { IsSound self }
+        requires at { IsAt self (word_for parsed) }
+        requires fits { FitsParsed (recorded_of self) parsed }
+        ensures value { result ≢ Err RecordingFault.OutOfMemory → result ≡ apply_parsed number self parsed }
+        ensures sound { IfOk result (λ s. IsSound s) }
+    {
+        match parsed {
+            ParsedRow::Unit(unit) => self.add_unit(number, unit),
+            ParsedRow::Rounds(rounds) => self.add_rounds(alloc, number, rounds),
+            ParsedRow::Weight(row) => self.add_weight(alloc, number, row),
+            ParsedRow::Link(openings) => self.add_link(number, openings),
+            ParsedRow::Sim(adapter) => self.add_adapter(number, adapter),
+            ParsedRow::Dev(device) => self.add_device(number, device),
+            ParsedRow::Name(name) => with_name(self.recorder(number)?, name),
+            ParsedRow::Cap(cap) => with_cap(self.recorder(number)?, cap),
+            ParsedRow::Request(request) => with_request(
+                alloc,
+                self.recorder(number)?,
+                number,
+                request,
+            ),
+        }
+    }
+
+    /// The same with a whole configuration, where an adapter has come.
+    #[tactic(auto, unfolding(crate::specs::Sound::IsSound))]
+    pub(crate) fn booked(self, alloc: Global) -> RecordingParser
+        requires { IsSound self }
+        ensures value { result ≡ booked self }
+        ensures sound { IsSound result }
+    {
+        match self {
+            RecordingParser::Adapters(start, partial) | RecordingParser::Devices(start, partial) =>
+                { RecordingParser::Book(begun(alloc, start, partial)) }
+            parser => parser,
+        }
+    }
+
+    /// The recording, where the records end here.
+    #[tactic(auto, unfolding(crate::specs::Reading::ended, crate::specs::Sound::IsSound))]
+    pub(crate) fn finish(self, alloc: Global) -> Result<Recording, RecordingFault>
+        requires { IsSound self }
+        ensures value { result ≡ ended self }
+        ensures kept { IfOk result IsKept }
+    {
+        match self {
+            RecordingParser::Header => Err(RecordingFault::BadHeader),
+            RecordingParser::First => Err(RecordingFault::BadRecord(2)),
+            RecordingParser::Timed(_) => Err(RecordingFault::BadRecord(3)),
+            RecordingParser::Weights(start, partial) => {
+                let number = before_links(start, partial.weight_count()) + 1;
+                Err(RecordingFault::BadConfig(number, lacking(&partial)))
+            }
+            RecordingParser::Links(start, partial) => {
+                let number = before_links(start, partial.weight_count()) + partial.link_count() + 1;
+                Err(RecordingFault::BadConfig(number, lacking(&partial)))
+            }
+            RecordingParser::Adapters(start, partial) | RecordingParser::Devices(start, partial) =>
+                { Ok(begun(alloc, start, partial).finish()) }
+            RecordingParser::Book(recorder) => Ok(recorder.finish()),
+        }
+    }
+}
+
+fn start_of(unit: Option<Span>, rounds: u32) -> Start
+    ensures { result ≡ record { unit = unit; rounds = rounds; table = false } }
+{
+    Start {
+        unit,
+        rounds,
+        table: false,
+    }
+}
+
+// How many records come before the links, where there are that many weights.
+fn before_links(start: Start, weights: u32) -> u32
+    requires { weights ≤ 16 }
+    ensures value { result ≡ 2 + option_map_or (λ (u : Span). 1) start.unit 0 + (if start.table then weights else 0) }
+    ensures few { result ≤ 19 }
+{
+    let unit = if start.unit.is_some() { 1 } else { 0 };
+    let table = if start.table { weights } else { 0 };
+    2 + unit + table
+}
+
+fn with_name(mut recorder: Recorder, name: Name) -> Result<RecordingParser, RecordingFault>
+    requires kept { IsKept recorder }
+    requires next { is_name (counts_of recorder.config) (recorder.names, name) ≡ true }
+    ensures value { result ≢ Err RecordingFault.OutOfMemory → result ≡ Ok (RecordingParser.Book (record recorder { names = recorder.names ++ name ∷ [] })) }
+    ensures sound { IfOk result (λ s. IsSound s) }
+{
+    match recorder.add_name(name) {
+        Ok(()) => Ok(RecordingParser::Book(recorder)),
+        Err(_) => Err(RecordingFault::OutOfMemory),
+    }
+}
+
+fn with_cap(mut recorder: Recorder, cap: Cap) -> Result<RecordingParser, RecordingFault>
+    requires kept { IsKept recorder }
+    requires next { is_cap recorder.rounds (counts_of recorder.config) (recorder.caps, cap) ≡ true }
+    requires first { recorder.requests ≡ [] }
+    ensures value { result ≢ Err RecordingFault.OutOfMemory → result ≡ Ok (RecordingParser.Book (record recorder { caps = recorder.caps ++ cap ∷ [] })) }
+    ensures sound { IfOk result (λ s. IsSound s) }
+{
+    match recorder.add_cap(cap) {
+        Ok(()) => Ok(RecordingParser::Book(recorder)),
+        Err(_) => Err(RecordingFault::OutOfMemory),
+    }
+}
+
+fn with_request(
+    alloc: Global,
+    mut recorder: Recorder,
+    number: u32,
+    request: Request,
+) -> Result<RecordingParser, RecordingFault>
+    requires kept { IsKept recorder }
+    requires few { length recorder.requests < MAX_REQUESTS }
+    ensures value { result ≢ Err RecordingFault.OutOfMemory → result ≡ unless_illegal number (request_cause recorder.rounds recorder.config recorder.caps (recorder.requests, request)) (RecordingParser.Book (record recorder { requests = recorder.requests ++ request ∷ [] })) }
+    ensures sound { IfOk result (λ s. IsSound s) }
+{
+    match recorder.add_request(alloc, request) {
+        Ok(()) => Ok(RecordingParser::Book(recorder)),
+        Err(RequestError::Illegal(cause)) => Err(RecordingFault::Illegal(number, cause)),
+        Err(RequestError::OutOfMemory) => Err(RecordingFault::OutOfMemory),
+    }
+}

@@ -1,6 +1,0 @@
-use Rattle.trace_file.proofs.StageLemmas.{sound_event}
-use Rattle.trace_file.proofs.stage_items.with_event.Goals as goal
-
-pub returns-in-Ok-clause-sound : goal.returns-in-Ok-clause-sound
-returns-in-Ok-clause-sound c =
-    sound_event c.args.history c.push.new.self c.args.event c.requires.kept c.in-Ok.ensures.legal c.in-Ok.ensures.ok

@@ -1,5 +1,0 @@
-use Rattle.trace_file.proofs.StageLemmas.{is_legal-nil}
-use Rattle.trace_file.proofs.stage_items.without_events.Goals as goal
-
-pub returns-in-Ok-clause-kept : goal.returns-in-Ok-clause-kept
-returns-in-Ok-clause-kept c = rw c.in-Ok.ensures record { config = c.finished.ensures.kept.kept; legal = is_legal-nil c.finished.result }

@@ -1,0 +1,111 @@
+//! What adapters, devices, drivers, links and run levels are called.
+
+use cam_path::path_name;
+use cam_types::Config;
+use recording_file::{Name, NameKind};
+use std::alloc::{AllocError, Global};
+use wait_causes::{Explanation, Grouping};
+
+// How many characters a caption has at most.
+const MOST: usize = 26;
+
+/// What a configuration's parts are called: by their numbers and paths, and by the names of the recording if it has any.
+#[derive(Clone, Copy)]
+pub struct Captions<'a> {
+    config: &'a Config,
+    names: &'a [Name],
+}
+
+impl<'a> Captions<'a> {
+    /// Those of what is explained.
+    pub fn of(config: &'a Config, explanation: &'a Explanation) -> Captions<'a> {
+        Captions {
+            config,
+            names: explanation.names(),
+        }
+    }
+
+    /// The configuration.
+    pub fn config(self) -> &'a Config {
+        self.config
+    }
+
+    /// How wide a column of captions is.
+    pub fn width(self) -> usize {
+        if self.names.is_empty() { 14 } else { MOST }
+    }
+
+    /// The adapter, device, driver or run level of this number, in words, as `driver 3 database`: at most 26 characters.
+    pub fn caption(self, alloc: Global, by: Grouping, number: u32) -> Result<String, AllocError> {
+        match by {
+            Grouping::Device => {
+                let device = self.device(alloc, number)?;
+                shortened(alloc, &format!(in alloc; "device {device}")?)
+            }
+            Grouping::Adapter => self.numbered(alloc, "adapter", NameKind::Adapter, number),
+            Grouping::Driver => self.numbered(alloc, "driver", NameKind::Driver, number),
+            Grouping::Level => format!(in alloc; "run level {number}"),
+        }
+    }
+
+    /// The adapter, device or driver of this number by its name alone, as `driver database`, or as `caption` does if it has none:
+    /// at most 26 characters.
+    pub fn by_name(self, alloc: Global, by: Grouping, number: u32) -> Result<String, AllocError> {
+        let (word, kind) = match by {
+            Grouping::Device => ("device", NameKind::Device),
+            Grouping::Adapter => ("adapter", NameKind::Adapter),
+            Grouping::Driver => ("driver", NameKind::Driver),
+            Grouping::Level => return self.caption(alloc, by, number),
+        };
+        match self.name(kind, number) {
+            Some(name) => shortened(alloc, &format!(in alloc; "{word} {name}")?),
+            None => self.caption(alloc, by, number),
+        }
+    }
+
+    /// The device's path, and its name if it has one.
+    pub fn device(self, alloc: Global, device: u32) -> Result<String, AllocError> {
+        let path = path_name(alloc, self.config, device)?;
+        match self.name(NameKind::Device, device) {
+            Some(name) => format!(in alloc; "{path} {name}"),
+            None => Ok(path),
+        }
+    }
+
+    // The word, the number, and the name of the kind if there is one.
+    fn numbered(
+        self,
+        alloc: Global,
+        word: &str,
+        kind: NameKind,
+        number: u32,
+    ) -> Result<String, AllocError> {
+        match self.name(kind, number) {
+            Some(name) => shortened(alloc, &format!(in alloc; "{word} {number} {name}")?),
+            None => format!(in alloc; "{word} {number}"),
+        }
+    }
+
+    /// The name of this kind and number, if there is one.
+    pub fn name(self, kind: NameKind, number: u32) -> Option<&'a str> {
+        for name in self.names {
+            if name.kind() == kind && name.number() == number {
+                return Some(name.text());
+            }
+        }
+        None
+    }
+}
+
+/// The text itself, or its beginning and an ellipsis where it has more than 26 characters.
+pub fn shortened(alloc: Global, text: &str) -> Result<String, AllocError> {
+    if text.chars().count() <= MOST {
+        return String::from_str(alloc, text);
+    }
+    let mut short = String::new(alloc);
+    for letter in text.chars().take(MOST - 1) {
+        short.push(letter)?;
+    }
+    short.push('…')?;
+    Ok(short)
+}

@@ -3,7 +3,7 @@ use Rattle.std.proofs.Common.{◌≡◌, ℕ, ◌*◌, ◌-◌, ◌<◌, ◌≤�
 use Rattle.std.proofs.lemmas.List.Elements.{All-from_get_or}
 use Rattle.audit_report.specs.Words.{Topology, MAX_NET_STAYS, MAX_NET_ROUNDS, MAX_WEIGHT, unsent, live_cost, Event, Stay, NetRows, instance_of_rows, live_of_rows, Instance, IsSound, IsAdmissible, cost, ProvesBest, instance_of, live_of, pricing_of_rows, IsPriced, IsPricingFor, IsBest, report_text, summary_text, plan_text, live_cost_of, max_bytes, Claim, history_rules}
 use Rattle.round_net.specs.declared.price_range.TheConstants.{MAX_PRICE}
-use Rattle.price_check.specs.Forms.{max_number}
+use Rattle.report_text.specs.Limits.{max_number}
 use Rattle.cost_plan.specs.InTurn.{TakesTurns}
 use Rattle.cost_plan.specs.Ties.{KeepsLive}
 use Rattle.event_rules.proofs.LiveLemmas.{live_cost_sent}

@@ -3,8 +3,8 @@ use Rattle.std.proofs.Common.{◌≡◌, ◌≢◌, ◌≤◌, ◌∙◌, ℕ, t
 use Rattle.std.specs.List.{AllByRecursion}
 use Rattle.cam_types.specs.declared.device.Device.{Device}
 use Rattle.audit_report.specs.Words.{NetRows, instance_of_rows, net_of, net_of_recording, Claim, IsClaim, ReportFault}
-use Rattle.price_check.specs.Claims.{IsReport}
-use Rattle.price_check.specs.declared.report_fault.ReportFault.TheVariants as report_fault
+use Rattle.report_text.specs.Claims.{IsReport}
+use Rattle.report_text.specs.declared.report_fault.ReportFault.TheVariants as report_fault
 use Rattle.audit_report.specs.Findings.{IsRight, is_proved, Finding}
 use Rattle.audit_report.specs.declared.finding.Finding.TheVariants.{Proved}
 use Rattle.audit_report.specs.declared.input.Input.TheVariants as input

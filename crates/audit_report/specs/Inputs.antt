@@ -8,7 +8,7 @@ use Rattle.recording_file.specs.Reading as recordings
 use Rattle.recording_file.specs.Recordings as recorded
 use Rattle.record_text.specs.Text.{records_in}
 use Rattle.recording_file.specs.declared.recording_fault.RecordingFault.TheVariants as recording_fault
-use Rattle.price_check.specs.declared.report_fault.ReportFault.TheVariants as report_fault
+use Rattle.report_text.specs.declared.report_fault.ReportFault.TheVariants as report_fault
 use Rattle.trace_file.specs.Trace as traced
 use Rattle.trace_file.specs.declared.trace_fault.TraceFault.TheVariants as trace_fault
 pub use Rattle.audit_report.specs.declared.input.Input.{Input}

@@ -3,7 +3,7 @@ use Rattle.std.specs.Prelude.{◌≡◌, ◌⊎◌, ℕ, Bool, true, List, Optio
 use Rattle.std.specs.Io.KnownBytes.{Appends}
 use Rattle.audit_report.specs.Words.{AppendsFront, Claim, ReportFault}
 use Rattle.audit_report.specs.Inputs.{Input, net_of_input, unsent_of, WasRead, WasComplete, WhyNoNet, IsFailure}
-use Rattle.price_check.specs.Claims as claims
+use Rattle.report_text.specs.Claims as claims
 use Rattle.audit_report.specs.Runs.{AuditFault, Report, WriteFailed, OutOfMemory}
 use Rattle.audit_report.specs.Findings.{Says, is_proved, finding_text, Finding}
 

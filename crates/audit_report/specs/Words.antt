@@ -14,14 +14,14 @@ pub use Rattle.event_rules.specs.Stays.{stays_begun, unsent}
 pub use Rattle.event_rules.specs.declared.event.Event.{Event}
 pub use Rattle.event_rules.specs.declared.passage.Passage.{Passage}
 pub use Rattle.event_rules.specs.declared.stay.Stay.{Stay}
-pub use Rattle.price_check.specs.Claims.{IsClaim}
-unfoldable pub use Rattle.price_check.specs.Claims.{report_text}
-pub use Rattle.price_check.specs.Forms.{max_bytes}
-pub use Rattle.price_check.specs.Lines.{line}
-pub use Rattle.price_check.specs.Report.{live_cost_of, number_text, plan_text, summary_text}
+pub use Rattle.report_text.specs.Claims.{IsClaim}
+unfoldable pub use Rattle.report_text.specs.Claims.{report_text}
+pub use Rattle.report_text.specs.Limits.{max_bytes}
+pub use Rattle.report_text.specs.Lines.{line}
+pub use Rattle.report_text.specs.Report.{live_cost_of, number_text, plan_text, summary_text}
 pub use Rattle.price_check.specs.Verdicts.{IsBest, IsGap, IsRefused}
-pub use Rattle.price_check.specs.declared.claim.Claim.{Claim}
-pub use Rattle.price_check.specs.declared.report_fault.ReportFault.{ReportFault}
+pub use Rattle.report_text.specs.declared.claim.Claim.{Claim}
+pub use Rattle.report_text.specs.declared.report_fault.ReportFault.{ReportFault}
 pub use Rattle.price_check.specs.declared.verdict.Cause.{Cause}
 pub use Rattle.price_check.specs.declared.verdict.Cause.TheVariants.{AdapterFull, DeviceFull, Early, Late, LinkFull}
 pub use Rattle.recording_file.specs.Recorded.{IsRecording}

@@ -14,7 +14,7 @@ use crate::input::Input;
 use crate::reading::read_net;
 use cam_types::{Watched, write_whole};
 use cost_plan::{BestPlan, plan};
-use price_check::{push_plan, push_summary};
+use report_text::{push_plan, push_summary};
 use round_net::Net;
 use std::alloc::{AllocError, Global};
 use std::io::{Read, Write};

@@ -4,8 +4,8 @@ ghost use Rattle.std.specs.Prelude.{◌≡◌};
 ghost use Rattle.audit_report.specs.Runs.{OutOfMemory};
 
 use event_rules::Stay;
-use price_check::ReportFault;
 use recording_file::RecordingFault;
+use report_text::ReportFault;
 use std::alloc::AllocError;
 use thiserror::Error;
 use trace_file::TraceFault;

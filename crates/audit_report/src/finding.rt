@@ -7,7 +7,8 @@ ghost use Rattle.audit_report.specs.Findings.{IsProved, IsRight, Says, is_proved
 use crate::costs::Costs;
 use event_rules::Stay;
 use itoa::Buffer;
-use price_check::{Cause, Claim, Verdict, check, push_name};
+use price_check::{Cause, Verdict, check};
+use report_text::{Claim, push_name};
 use round_net::Net;
 use std::alloc::{AllocError, Global};
 

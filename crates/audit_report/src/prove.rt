@@ -11,7 +11,7 @@ use crate::finding::Finding;
 use crate::input::Input;
 use crate::reading::read_net;
 use cam_types::{Watched, write_whole};
-use price_check::{ReportFault, read_claim};
+use report_text::{ReportFault, read_claim};
 use round_net::Net;
 use std::alloc::Global;
 use std::io::{Read, Write};

@@ -3,9 +3,9 @@
 use crate::source::Argument;
 use crate::words::Number;
 use audit_report::AuditFault;
-use price_check::ReportFault;
 use recorded_script::ScriptFault;
 use recording_file::RecordingFault;
+use report_text::ReportFault;
 use sim_worker::LiveFault;
 use std::alloc::AllocError;
 use std::process::ExitCode;

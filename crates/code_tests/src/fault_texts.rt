@@ -2,7 +2,7 @@
 
 use audit_report::AuditFault;
 use event_rules::{Event, Refusal, Stay};
-use price_check::ReportFault;
+use report_text::ReportFault;
 use round_net::{NetFault, PriceRange};
 use sim_worker::LiveFault;
 use std::alloc::Global;

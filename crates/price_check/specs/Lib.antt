@@ -1,13 +1,6 @@
 pub mod Words
-pub mod Claims
 pub mod Faults
-pub mod Forms
 pub mod Least
-pub mod Lines
-pub mod Pieces
-pub mod Reading
-pub mod Report
 pub mod Rests
 pub mod Tally
-pub mod TextLines
 pub mod Verdicts

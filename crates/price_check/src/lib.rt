@@ -1,28 +1,14 @@
-//! The check that prices prove a schedule of a net best, whoever made them, by linear duality; and reports, which state such
-//! prices, read and written.
+//! Whether prices prove that a schedule of a net is a best one, whoever made them. The claims of reports are read by
+//! `report_text`, which is handed on.
 #![tactic(auto)]
 
 pub use checker::check;
-pub use claim::Claim;
-pub use reader::{read_claim, read_report};
-pub use report::{push_plan, push_summary};
-pub use report_fault::ReportFault;
-pub use text::{push_line, push_name};
+pub use report_text::{Claim, ReportFault, read_report};
 pub use verdict::{Cause, Verdict};
 
 mod checker;
-mod claim;
 mod faults;
-mod forms;
 mod payments;
-mod pieces;
-mod price_lines;
-mod reader;
-mod report;
-mod report_fault;
 mod rests;
-mod stay_lines;
-mod summary;
-mod text;
 mod value;
 mod verdict;

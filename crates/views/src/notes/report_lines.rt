@@ -1,7 +1,7 @@
 //! What helps to find the fault of a report.
 
 use crate::notes::shown::push_line;
-use price_check::ReportFault;
+use report_text::ReportFault;
 use std::alloc::{AllocError, Global};
 
 /// The line that the fault names, with its text. The note is empty if the fault is none of a line, or the line isn't there.

@@ -1,0 +1,10 @@
+use Rattle.std.proofs.Common.{length, ◌≡◌, ◌+◌, ◌++◌, ◌*◌, ◌≤◌}
+use Rattle.report_text.specs.Words.{instance_of_rows, pricing_of_rows}
+use Rattle.report_text.specs.Report.{texts_below, row_line}
+use Rattle.report_text.proofs.report.push_prices.Given as goal
+
+abbrev pub invariant-loop-row : goal.invariant-loop-row
+invariant-loop-row l =
+    (l.text.items ≡ l.initial.text.items
+    ++ texts_below l.row (λ row. texts_below (instance_of_rows l.net).rounds (λ r. row_line l.devices (instance_of_rows l.net).adapters (pricing_of_rows l.prices) row (r + 1))))
+    × (length l.text.items ≤ length l.initial.text.items + 64 * (instance_of_rows l.net).rounds * l.row)

@@ -43,4 +43,4 @@ pub use Rattle.round_net.specs.declared.limits.TheConstants.{MAX_NET_ROUNDS, MAX
 pub use Rattle.round_net.specs.declared.stay_row.StayRow.{StayRow}
 pub use Rattle.trace_file.specs.Trace.{Explains, IsHistory, IsTrace, WasTrace}
 pub use Rattle.trace_file.specs.Writing.{migrated_text}
-pub use Rattle.trace_recording.specs.Recorded.{recorded_of}
+pub use Rattle.conversions.specs.Recorded.{recorded_of}

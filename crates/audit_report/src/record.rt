@@ -7,12 +7,12 @@ ghost use Rattle.audit_report.specs.Runs.{EndedBy};
 
 use crate::audit_fault::AuditFault;
 use cam_types::Watched;
+use conversions::recording_of;
 use recording_file::{WriteFault, write_recording};
 use round_net::NetFault;
 use std::alloc::Global;
 use std::io::{Read, Write};
 use trace_file::{TraceFault, read_trace};
-use trace_recording::recording_of;
 
 /// Reads a trace and writes the recording of its net: what the transport did with its stays, as what any scheduler did with
 /// requests. Before anything is written the trace is read to its end, tested and found complete.

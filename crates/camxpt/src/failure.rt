@@ -3,7 +3,7 @@
 use crate::source::Argument;
 use crate::words::Number;
 use audit_report::AuditFault;
-use recorded_script::ScriptFault;
+use conversions::ScriptFault;
 use recording_file::RecordingFault;
 use report_text::ReportFault;
 use sim_worker::LiveFault;

@@ -6,7 +6,7 @@ ghost use Rattle.cam_types.specs.Watched.{has_failed};
 use crate::failure::Failure;
 use audit_report::{Input, read_input};
 use cam_types::Watched;
-use recorded_script::{Scripted, script_of, script_of_recording};
+use conversions::{Scripted, script_of, script_of_recording};
 use std::io::{Read, Write};
 use trace_file::write_script;
 

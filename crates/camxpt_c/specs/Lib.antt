@@ -9,3 +9,4 @@ pub mod Recordings
 pub mod CallTerms
 pub mod Shapes
 pub mod Tracing
+pub mod Held

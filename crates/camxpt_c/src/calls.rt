@@ -5,9 +5,9 @@ ghost use Rattle.event_rules.specs.declared.event.Event.TheVariants.{Requeue, Fi
 ghost use Rattle.camxpt_c.specs.CallTerms.{IsCall};
 
 use crate::codes::{E_CLOSED, OK, code_of};
+use crate::handle::CamXpt;
 use event_rules::Event;
 use std::alloc::Global;
-use xpt_handle::CamXpt;
 
 /// Takes an event of any kind.
 pub(crate) fn push(alloc: Global, handle: &mut CamXpt, event: Event) -> i32

@@ -9,13 +9,13 @@ ghost use Rattle.camxpt_c.specs.Tracing.{IsCopy};
 ghost use Rattle.camxpt_c.specs.declared.codes.TheConstants.{OK, E_SPACE, E_MEMORY};
 
 use crate::codes::{E_CLOSED, E_LIMIT, E_MEMORY, E_OPEN, E_SPACE, OK, UNDECIDED, code_of};
+use crate::handle::CamXpt;
 use crate::opening::limits_in;
 use crate::shapes::CamxptLimits;
 use cam_types::Limits;
 use event_rules::Refusal;
 use std::alloc::Global;
 use xpt_carry::{Carried, CarryFault, carry};
-use xpt_handle::CamXpt;
 use xpt_state::Xpt;
 
 /// Opens the closed handle `to` as a fresh transport of these limits with what waits in `from`, which stays as it is, and gives

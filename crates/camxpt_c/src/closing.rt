@@ -4,8 +4,8 @@ ghost use Rattle.std.specs.Prelude.{◌≡◌, None, MatchOption};
 ghost use Rattle.camxpt_c.specs.declared.codes.TheConstants.{OK, E_CLOSED};
 
 use crate::codes::{E_CLOSED, OK};
+use crate::handle::CamXpt;
 use std::alloc::Global;
-use xpt_handle::CamXpt;
 
 /// Closes the handle and frees all memory of its transport. A closed handle stays closed.
 #[unsafe(no_mangle)]

@@ -10,9 +10,9 @@ ghost use Rattle.camxpt_c.specs.declared.codes.TheConstants.{OK, E_CLOSED, E_KIN
 use crate::calls::push;
 use crate::codes::{E_CLOSED, E_KIND, OK, code_of};
 use crate::event_shapes::{CamxptEvent, event_of, event_shape};
+use crate::handle::CamXpt;
 use event_rules::{Event, Refusal};
 use std::alloc::Global;
-use xpt_handle::CamXpt;
 
 /// Takes an event of any kind, by the rules of the call of that kind. A send is refused unless it is of the next command of its
 /// lane's adapter.

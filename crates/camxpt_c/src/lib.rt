@@ -1,6 +1,7 @@
 //! The transport for C: a function for each call, over a handle that C allocates. `c/camxpt.h` is its header.
 #![tactic(auto)]
 
+mod body;
 mod calls;
 mod carrying;
 mod closing;
@@ -8,8 +9,10 @@ mod codes;
 mod configs;
 mod event_shapes;
 mod events;
+mod handle;
 mod opening;
 mod questions;
+mod raw_box;
 mod record_fault;
 mod record_shapes;
 mod recording;

@@ -7,10 +7,10 @@ ghost use Rattle.camxpt_c.specs.declared.codes.TheConstants.{OK, E_MEMORY};
 
 use crate::codes::{E_LIMIT, E_MEMORY, E_OPEN, OK, fault_code};
 use crate::configs::{adapters_of, devices_of, weights_of};
+use crate::handle::CamXpt;
 use crate::shapes::{CamxptAdapter, CamxptDevice, CamxptLimits, CamxptWeight};
 use cam_types::{Config, ConfigError, Limits};
 use std::alloc::Global;
-use xpt_handle::CamXpt;
 use xpt_state::Xpt;
 
 /// Opens a closed handle: adapters of these openings on no link, these devices, and a lane on each of these adapters, with

@@ -6,9 +6,9 @@ ghost use Rattle.camxpt_c.specs.Shapes.{IsCase, IsLook};
 ghost use Rattle.camxpt_c.specs.declared.codes.TheConstants.{OK, NONE, E_CLOSED};
 
 use crate::codes::{E_CLOSED, NONE, OK};
+use crate::handle::CamXpt;
 use crate::shapes::{CamxptCase, CamxptLook, case_shape};
 use std::alloc::Global;
-use xpt_handle::CamXpt;
 
 /// Whether the lane's adapter has something to send: `OK` or `NONE`. A lane that isn't there has nothing.
 #[unsafe(no_mangle)]

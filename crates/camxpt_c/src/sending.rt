@@ -9,10 +9,10 @@ ghost use Rattle.camxpt_c.specs.Shapes.{IsDone};
 ghost use Rattle.camxpt_c.specs.CallTerms.{IsCall, IsSendNext, Gives};
 
 use crate::codes::{E_CLOSED, OK, code_of, idle_code};
+use crate::handle::CamXpt;
 use crate::shapes::{CamxptCommand, CamxptDone, command_shape, done_shape};
 use cam_types::{Flags, Outcome, SenseBytes};
 use std::alloc::Global;
-use xpt_handle::CamXpt;
 use xpt_state::Sent;
 
 /// Submits a CCB, and gives its number.

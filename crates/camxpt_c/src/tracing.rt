@@ -6,10 +6,10 @@ ghost use Rattle.camxpt_c.specs.Tracing.{IsTraceOf, IsCopy};
 ghost use Rattle.camxpt_c.specs.declared.codes.TheConstants.{OK, E_CLOSED, E_SPACE};
 
 use crate::codes::{E_CLOSED, E_MEMORY, E_SPACE, OK};
+use crate::handle::CamXpt;
 use cam_event::History;
 use std::alloc::{AllocError, Global};
 use trace_file::trace_bytes;
-use xpt_handle::CamXpt;
 use xpt_state::Xpt;
 
 /// Writes the trace of all events so far to the start of the buffer, and gives its length. If the buffer is too small, it is

@@ -17,6 +17,7 @@ pub mod RangeLemmas
 pub mod SendLemmas
 pub mod ShareLaws
 pub mod SortedLemmas
+pub mod StableLemmas
 pub mod StandLemmas
 pub mod StateLaws
 pub mod StayLemmas

@@ -1,9 +1,11 @@
 //! An input of which two are put side by side.
 
-use comparison::{Differences, PairBy, PairedRow, has_names, has_namesakes, kind_of, names_for};
 use round_net::Net;
 use std::alloc::{AllocError, Global};
-use wait_causes::{Explanation, Grouping};
+use wait_causes::{
+    Differences, Explanation, Grouping, PairBy, PairedRow, has_names, has_namesakes, kind_of,
+    names_for,
+};
 use wording::Captions;
 
 /// An input before a change, or after it: what it is called, its net, and its explanation beside a best schedule.

@@ -5,10 +5,10 @@
 pub use as_json::{audit_json, check_json, compare_json, explain_json, prove_json, sweep_json};
 pub use compare::compare_page;
 pub use compared::Compared;
-pub use comparison::PairBy;
 pub use notes::{recording_note, report_note, shown_lines, shown_name, trace_note, unsent_note};
 pub use swept::{Swept, sweep_page};
 pub use text::page;
+pub use wait_causes::PairBy;
 
 mod as_json;
 mod compare;

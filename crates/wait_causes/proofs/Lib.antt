@@ -17,3 +17,9 @@ pub mod CountingLemmas
 pub mod RequestLemmas
 pub mod ExplainedLemmas
 pub mod FirstWaitsLemmas
+pub mod ChangeLemmas
+pub mod KeyLemmas
+pub mod PairLemmas
+pub mod SameLemmas
+pub mod RowSumLemmas
+pub mod RowNumberLemmas

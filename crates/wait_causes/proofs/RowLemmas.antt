@@ -55,16 +55,16 @@ amount_of (Full LessUrgent) stays = refl
 amount_of (Full Equal) stays = refl
 amount_of (Full MoreUrgent) stays = refl
 
-plus-none : (n : ℕ) → n + 0 ≡ n
+pub plus-none : (n : ℕ) → n + 0 ≡ n
 plus-none n = omega arith
 
-row_cons : (n : ℕ) (s : ExplainedStay) (ss : List ExplainedStay) → row_for n (s ∷ ss) ≡ record { number = n; part = part_of (s ∷ ss) } ∷ []
+pub row_cons : (n : ℕ) (s : ExplainedStay) (ss : List ExplainedStay) → row_for n (s ∷ ss) ≡ record { number = n; part = part_of (s ∷ ss) } ∷ []
 unfolding row_for
 row_cons n s ss =
     let some : (length (s ∷ ss) == 0) ≡ false = grind (arith, nat_tests) in
     rw some refl
 
-row_none : (n : ℕ) → row_for n [] ≡ []
+pub row_none : (n : ℕ) → row_for n [] ≡ []
 unfolding row_for
 row_none n = refl
 

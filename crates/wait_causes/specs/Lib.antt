@@ -18,3 +18,8 @@ pub mod Freezes
 pub mod FreezeLaws
 pub mod BehindLaws
 pub mod FirstWaits
+pub mod Keys
+pub mod Pairs
+pub mod Changes
+pub mod PairLaws
+pub mod Terms

@@ -1,7 +1,8 @@
-//! What adds up in an explanation.
+//! What adds up in an explanation, and in two side by side.
 
 ghost use Rattle.wait_causes.specs.BehindLaws.{BehindAddsUp};
 ghost use Rattle.wait_causes.specs.FreezeLaws.{FreezesAddUp};
+ghost use Rattle.wait_causes.specs.PairLaws.{PairsAddUp, RowsPairOnce};
 ghost use Rattle.wait_causes.specs.TableLaws.{RowsAddUp};
 
 /// What the freezes of a kind cost adds up to what all stays waited for its cause.
@@ -19,4 +20,15 @@ pub fn rows_add_up()
 /// or the link was full; and so are the costs of each part.
 pub fn behind_adds_up()
     ensures { BehindAddsUp }
+{}
+
+/// Of rounds, weighted rounds and each cause's cost, the rows of a table before a change have together what the whole before
+/// has, and those after it what the whole after has.
+pub fn pairs_add_up()
+    ensures { PairsAddUp }
+{}
+
+/// Each row of the table before and each of the table after stands in exactly one pair.
+pub fn rows_pair_once()
+    ensures { RowsPairOnce }
 {}

@@ -10,10 +10,9 @@ use crate::as_json::parts::{Costs, TableRow, Waits, row_of};
 use crate::as_json::shifts::Shifts;
 use crate::compare::rows_of;
 use crate::compared::{Compared, Pairing, differences, pairing_of};
-use comparison::{PairBy, PairedRow};
 use serde::Serialize;
 use std::alloc::{AllocError, Global};
-use wait_causes::{Grouping, Part, Row};
+use wait_causes::{Grouping, PairBy, PairedRow, Part, Row};
 use wording::nanoseconds;
 
 // What is compared, in what its inputs differ beside their requests, and each part before and after.

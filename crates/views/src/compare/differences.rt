@@ -1,8 +1,8 @@
 //! Sentences on that in which two inputs differ beside what waited.
 
 use crate::compared::{Compared, GROUPINGS, Pairing, differences, pairing_of};
-use comparison::{Differences, PairBy};
 use recording_file::Span;
+use wait_causes::{Differences, PairBy};
 use wording::{Page, push_span};
 
 /// Puts a sentence on the page for each thing in which the inputs differ, those first by which costs don't compare, and on rows

@@ -2,9 +2,8 @@
 
 use crate::compare::totals::cost_of;
 use crate::compared::{Compared, GROUPINGS, caption_of};
-use comparison::{PairedRow, most_changed};
 use std::alloc::{AllocError, Global};
-use wait_causes::{Explanation, Part, Row, WaitCause};
+use wait_causes::{Explanation, PairedRow, Part, Row, WaitCause, most_changed};
 use wording::{Page, push_number, push_share};
 
 /// Puts sentences on the page: how much the cost changed, and which cause changed most.

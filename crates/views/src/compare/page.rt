@@ -6,8 +6,8 @@ use crate::compare::rows::{push_rows, tables_of};
 use crate::compare::totals::{push_causes, push_totals};
 use crate::compared::Compared;
 use crate::notes::shown_name;
-use comparison::PairBy;
 use std::alloc::{AllocError, Global};
+use wait_causes::PairBy;
 use wording::Page;
 
 /// The page on two explanations: in what the inputs differ beside their requests, how much the stays of each waited and what

@@ -3,9 +3,8 @@
 use crate::compare::most::live_of;
 use crate::compared::{Compared, GROUPINGS, caption_of};
 use crate::text::push_columns;
-use comparison::{PairBy, PairedRow, names_for, paired};
 use std::alloc::{AllocError, Global};
-use wait_causes::{Grouping, Row};
+use wait_causes::{Grouping, PairBy, PairedRow, Row, names_for, paired};
 use wording::{Page, shift};
 
 // What stands above the columns, and above those two by two.

@@ -1,5 +1,0 @@
-use Rattle.comparison.proofs.SameLemmas.{adapters_tell}
-use Rattle.comparison.proofs.differences.differ_in_adapters.Goals as goal
-
-pub returns : goal.returns
-returns c = adapters_tell c.args.before.now c.args.after.now c.ne.result c.ne.ensures

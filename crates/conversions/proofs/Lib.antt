@@ -1,0 +1,15 @@
+pub mod PartLemmas
+pub mod CapLemmas
+pub mod StayLemmas
+pub mod RequestLemmas
+pub mod NetLemmas
+pub mod SameNetLemmas
+pub mod ArrivalLemmas
+pub mod AnswerLemmas
+pub mod ServedLemmas
+pub mod ScriptLemmas
+pub mod ConfigLemmas
+pub mod GreatestLemmas
+pub mod HistoryLemmas
+pub mod RecordingScriptLemmas
+pub mod LawLemmas

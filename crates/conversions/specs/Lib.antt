@@ -1,0 +1,9 @@
+pub mod Requests
+pub mod Recorded
+pub mod Arrivals
+pub mod Steps
+pub mod Answers
+pub mod Faults
+pub mod Scripted
+pub mod RecordingScript
+pub mod Laws

@@ -1,9 +1,0 @@
-pub mod ArrivalLemmas
-pub mod AnswerLemmas
-pub mod ServedLemmas
-pub mod ScriptLemmas
-pub mod ConfigLemmas
-pub mod GreatestLemmas
-pub mod HistoryLemmas
-pub mod RequestLemmas
-pub mod LawLemmas

@@ -1,5 +1,0 @@
-use Rattle.recorded_script.proofs.LawLemmas.{requests_in_rounds}
-use Rattle.recorded_script.proofs.laws.requests_are_in_their_rounds.Goals as goal
-
-pub returns : goal.returns
-returns c = requests_in_rounds

@@ -1,5 +1,0 @@
-use Rattle.recorded_script.proofs.LawLemmas.{in_order}
-use Rattle.recorded_script.proofs.laws.submits_are_in_order.Goals as goal
-
-pub returns : goal.returns
-returns c = in_order

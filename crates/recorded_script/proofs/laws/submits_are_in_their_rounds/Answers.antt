@@ -1,5 +1,0 @@
-use Rattle.recorded_script.proofs.LawLemmas.{history_in_rounds}
-use Rattle.recorded_script.proofs.laws.submits_are_in_their_rounds.Goals as goal
-
-pub returns : goal.returns
-returns c = history_in_rounds

@@ -1,5 +1,0 @@
-use Rattle.recorded_script.proofs.GreatestLemmas.{numbers_more}
-use Rattle.recorded_script.proofs.openings.numbers.Goals as goal
-
-pub loop-number-preserved : goal.loop-number-preserved
-loop-number-preserved c = numbers_more c.loop-number.number c.loop-number.numbers.items c.push.new.self.items c.loop-number.invariant c.in_ok-push.ensures.items

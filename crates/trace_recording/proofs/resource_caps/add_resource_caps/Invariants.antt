@@ -1,9 +1,0 @@
-use Rattle.std.proofs.Common.{◌≡◌, [], ◌++◌}
-use Rattle.trace_recording.specs.Recorded.{caps_of, recorded_with}
-use Rattle.trace_recording.proofs.CapLemmas.{runs_before}
-use Rattle.trace_recording.proofs.resource_caps.add_resource_caps.Given as goal
-
--- the caps of the runs so far, after those of the rows before
-abbrev pub invariant-loop-before : goal.invariant-loop-before
-invariant-loop-before l =
-    l.recorder ≡ recorded_with l.history (caps_of l.history.config l.history.events l.row ++ runs_before l.history.config l.history.events l.row l.before) []

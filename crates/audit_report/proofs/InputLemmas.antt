@@ -8,16 +8,17 @@ use Rattle.audit_report.specs.Reading.{AsRead, as_either, as_trace, parsed, pars
 use Rattle.audit_report.specs.declared.input.Input.TheVariants as input
 use Rattle.audit_report.specs.declared.audit_fault.AuditFault.{AuditFault}
 use Rattle.audit_report.specs.declared.audit_fault.AuditFault.TheVariants as fault
-use Rattle.recording_file.specs.Header.{has_letters, is_header, name_text}
-use Rattle.recording_file.specs.Fields.{Row, field_of}
+use Rattle.recording_file.specs.Words.{name_text}
+use Rattle.record_text.specs.Header.{has_letters, is_header}
+use Rattle.record_text.specs.Fields.{field_of}
+use Rattle.record_text.proofs.FaultLaws.{Gives, first_fault}
 use Rattle.recording_file.specs.Recorded.{Recorded}
 use Rattle.recording_file.specs.declared.limits.TheConstants.{MAX_RECORDING_BYTES}
 use Rattle.recording_file.specs.Reading as recordings
-use Rattle.record_text.specs.Text.{records_in}
+use Rattle.record_text.specs.Text.{Row, records_in}
 use Rattle.recording_file.specs.Whole.{max_bytes, IsTooLong}
 use Rattle.recording_file.specs.declared.recording_fault.RecordingFault.{RecordingFault}
 use Rattle.recording_file.specs.declared.recording_fault.RecordingFault.TheVariants as recording_fault
-use Rattle.recording_file.proofs.FaultLaws as recording_laws
 use Rattle.recording_file.proofs.LongLemmas.{too_long}
 use Rattle.recording_file.proofs.ReadLaws.{was_recording}
 use Rattle.recording_file.proofs.WholeLaws as recording_again
@@ -101,11 +102,11 @@ named_recording row h =
     let named = and_parts ((length row == 8) && bytes_eq (field_of row 0) name_text) (has_letters row) h in
     same_bytes _ _ (and_parts (length row == 8) (bytes_eq (field_of row 0) name_text) named.0).1
 
-other_header : (row : Row) (name : List ℕ) → field_of row 0 ≡ name_text → bytes_eq name_text name ≡ false → traces.is_header name row ≡ false
-unfolding traces.is_header
+other_header : (row : Row) (name : List ℕ) → field_of row 0 ≡ name_text → bytes_eq name_text name ≡ false → is_header name row ≡ false
+unfolding is_header
 other_header row name is other = by (length row == 8)
   where
-    by : (b : Bool) → ((b && bytes_eq (field_of row 0) name) && traces.has_letters row) ≡ false
+    by : (b : Bool) → ((b && bytes_eq (field_of row 0) name) && has_letters row) ≡ false
     by true = rw (is, other) refl
     by false = refl
 
@@ -163,7 +164,7 @@ fault_unheaded text e bare h = by (nat_le (length text) MAX_BYTES) (traces.readi
         })
     by false r short was k =
         let same : fault.Recording recording_fault.BadHeader ≡ e = cc in
-        subst (SaysFault text) same (record { first = recording_laws.first_fault (records_in text) recording_fault.BadHeader bare; none = λ g is. absurd cc })
+        subst (SaysFault text) same (record { first = first_fault recordings.step recordings.ended _ (records_in text) recording_fault.BadHeader bare; none = λ g is. absurd cc })
 
 fault_of : (text : List ℕ) (e : AuditFault) → parsed text ≡ Err e → SaysFault text e
 unfolding parsed recordings.reading
@@ -174,7 +175,7 @@ fault_of text e h = by (recordings.reading (records_in text)) refl h
     by (Err recording_fault.BadHeader) is k = fault_unheaded text e is k
     by (Err f) is k =
         let same : fault.Recording f ≡ e = cc in
-        subst (SaysFault text) same (record { first = recording_laws.first_fault (records_in text) f is; none = λ g was. absurd cc })
+        subst (SaysFault text) same (record { first = first_fault recordings.step recordings.ended _ (records_in text) f is; none = λ g was. absurd cc })
 
 not_read : (before after : Option (List ℕ)) (failed : Bool) (text : List ℕ) → IsLongWhole before after text → (e : AuditFault) → SaysFault text e → WhyNotRead before after failed e
 not_read before after failed text whole (fault.Trace trace_fault.TooLong) h = absurd (h.none trace_fault.TooLong refl)
@@ -248,12 +249,12 @@ short_unheaded : (text : List ℕ) → length text ≤ MAX_BYTES → parsed_unhe
 unfolding parsed_unheaded
 short_unheaded text short = ap (λ b. cond b (as_trace (traces.reading (records_in text))) (Err (fault.Recording recording_fault.BadHeader))) (le-leb (length text) MAX_BYTES short)
 
-pub trace_parsed : (text : List ℕ) (r : Result Past TraceFault) → length text ≤ MAX_BYTES → trace_laws.Gives r (traces.reading (records_in text)) → AsRead (as_trace r) (parsed_unheaded text)
+pub trace_parsed : (text : List ℕ) (r : Result Past TraceFault) → length text ≤ MAX_BYTES → Gives trace_fault.OutOfMemory r (traces.reading (records_in text)) → AsRead (as_trace r) (parsed_unheaded text)
 trace_parsed text (Ok past) short h = ap as_trace (h (λ k. cc)) ∙ sym (short_unheaded text short)
 trace_parsed text (Err trace_fault.OutOfMemory) short h = tt
 trace_parsed text (Err e) short h = ap as_trace (h (λ k. cc)) ∙ sym (short_unheaded text short)
 
-pub recording_parsed : (text : List ℕ) (r : Result Recorded RecordingFault) (read : Recorded) → recording_laws.Gives r (recordings.reading (records_in text)) → r ≡ Ok read → Ok (input.Recording read) ≡ parsed text
+pub recording_parsed : (text : List ℕ) (r : Result Recorded RecordingFault) (read : Recorded) → Gives recording_fault.OutOfMemory r (recordings.reading (records_in text)) → r ≡ Ok read → Ok (input.Recording read) ≡ parsed text
 unfolding parsed
 recording_parsed text r read h is = ap (as_either text) (sym is ∙ h (λ k. let both : Ok read ≡ Err recording_fault.OutOfMemory = sym is ∙ k in cc))
 
@@ -261,7 +262,7 @@ bare_parsed : (text : List ℕ) → recordings.reading (records_in text) ≡ Err
 unfolding parsed
 bare_parsed text is = ap (as_either text) is
 
-pub unheaded_parsed : (text : List ℕ) (r : Result Recorded RecordingFault) (e : RecordingFault) (answer : Result Input AuditFault) → recording_laws.Gives r (recordings.reading (records_in text)) → r ≡ Err e → e ≡ recording_fault.BadHeader
+pub unheaded_parsed : (text : List ℕ) (r : Result Recorded RecordingFault) (e : RecordingFault) (answer : Result Input AuditFault) → Gives recording_fault.OutOfMemory r (recordings.reading (records_in text)) → r ≡ Err e → e ≡ recording_fault.BadHeader
     → AsRead answer (parsed_unheaded text) → AsRead answer (parsed text)
 unheaded_parsed text r e answer h is bare reads =
     let none : r ≡ Err recording_fault.BadHeader = is ∙ ap (λ (x : RecordingFault). Err x) bare in
@@ -273,6 +274,6 @@ unfolding parsed
 faulty_parsed text recording_fault.BadHeader other is = absurd (other refl)
 faulty_parsed text e other is = sym (ap (as_either text) is)
 
-pub fault_parsed : (text : List ℕ) (r : Result Recorded RecordingFault) (e : RecordingFault) → recording_laws.Gives r (recordings.reading (records_in text)) → r ≡ Err e → (e ≡ recording_fault.BadHeader → ⊥) → AsRead (Err (fault.Recording e)) (parsed text)
+pub fault_parsed : (text : List ℕ) (r : Result Recorded RecordingFault) (e : RecordingFault) → Gives recording_fault.OutOfMemory r (recordings.reading (records_in text)) → r ≡ Err e → (e ≡ recording_fault.BadHeader → ⊥) → AsRead (Err (fault.Recording e)) (parsed text)
 fault_parsed text r recording_fault.OutOfMemory h is other = tt
 fault_parsed text r e h is other = faulty_parsed text e other (sym (h (λ k. let both : Err e ≡ Err recording_fault.OutOfMemory = sym is ∙ k in cc)) ∙ is)

@@ -11,7 +11,7 @@ use Rattle.camq_heap.specs.Order.{place, in_order, AllApart}
 use Rattle.camq_heap.specs.Queue.{Queue, key, has_generation, placed_at, change_priority}
 use Rattle.camq_heap.proofs.OrderLemmas.{IsAmong, AllRising, AllRising-in_order, IsAmong-get_or, IsAmong-permutation, place-after, place-before, AllApart-head, AllApart-tail, AllApart-cons, AllApart-permutation, in_order-permutation, length-in_order}
 use Rattle.camq_heap.proofs.RankLemmas.{HasAt, HasAt-from}
-use Rattle.camq_heap.proofs.EditLemmas.{IsPermutation-changed}
+use Rattle.camq_heap.proofs.ListChangeLemmas.{IsPermutation-changed}
 use Rattle.sim_queue.specs.Adapter.{new_row, Row}
 use Rattle.sim_queue.specs.Turns.{is_ready, goes_before, generation, entry_of, ready_entries, AreRows, IsInTurn}
 use Rattle.sim_queue.proofs.HeadLemmas.{first-head, same_row}

@@ -221,24 +221,6 @@ none_long P i (Some all) h = λ is. absurd (let bound = bounded all i is in omeg
 pub only_long : (before after : Option (List ℕ)) (i : Input) (r : Result Input AuditFault) → IsTooLong before after → IfSome before (λ all. IsTextOf all i → IsReadOrFailed i r)
 only_long before after i r long = none_long (IsReadOrFailed i r) i before (too_long before after long)
 
--- ---- its net
-
-pub no_net : (before after : Option (List ℕ)) (failed : Bool) (i : Input) (e : AuditFault) → WasRead before after i → WhyNoNetOf i e → WhyNoNet before after failed e
-no_net before after failed i (fault.Unsent s) was h = record { read = i; was = was; first = h }
-no_net before after failed i fault.OutOfMemory was h = record { read = i; was = was; complete = h }
-no_net before after failed i _ was h = absurd h
-
-pub not_read_no_net : (before after : Option (List ℕ)) (failed : Bool) (e : AuditFault) → WhyNotRead before after failed e → WhyNoNet before after failed e
-not_read_no_net before after failed (fault.Unsent s) h = absurd h.first
-not_read_no_net before after failed fault.OutOfMemory h = absurd h.first
-not_read_no_net before after failed e h = h
-
--- of what was asked for, whose stays each have a send, there is a net, or memory was wanting
-failure_of_net : (i : Input) (e : AuditFault) → unsent_of i ≡ None → WhyNoNetOf i e → IsFailure e
-failure_of_net i (fault.Unsent s) sent h = absurd (let none : None ≡ Some s = sym sent ∙ h in cc)
-failure_of_net i fault.OutOfMemory sent h = tt
-failure_of_net i _ sent h = absurd h
-
 -- ---- a reader's own steps
 
 pub long_unheaded : (text : List ℕ) → MAX_BYTES < length text → Err (fault.Recording recording_fault.BadHeader) ≡ parsed_unheaded text

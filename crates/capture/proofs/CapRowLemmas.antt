@@ -89,10 +89,6 @@ sum_passed c a n f off =
 abbrev pub IsSumRow : Topology → ℕ → (ℕ → ℕ → ℕ) → ℕ → ℕ → List ℕ → Type 0
 IsSumRow c a number n last row = IsRow (λ r. min MAX_IN_ROUND (sum_below c a (λ d. number d r) n)) last row
 
-pub sum_row_none : (c : Topology) (a : ℕ) (number : ℕ → ℕ → ℕ) (last : ℕ) (row : List ℕ) → row ≡ replicate (last + 1) 0 → IsSumRow c a number 0 last row
-sum_row_none c a number last row is = record {
-  size = ap length is ∙ length-replicate (last + 1) 0;
-  each = λ r few. ap (λ xs. slice_index xs r) is ∙ get_or-replicate (last + 1) r 0 0 (omega arith);
 }
 
 least_sum : (m s x : ℕ) → min m (min m s + x) ≡ min m (s + x)
@@ -118,16 +114,3 @@ sum_row_passed c a number n last row off sums = record {
 
 abbrev pub openings_at : List Device → ℕ → ℕ
 openings_at ds a = sum_by (λ (d : Device). d.openings) (filter (λ (d : Device). d.bus == a) ds)
-
-pub openings_taken : (ds : List Device) (a i : ℕ) (d : Device) → i < length ds → ((get_or ds i d).bus == a) ≡ true → openings_at (take (i + 1) ds) a ≡ openings_at (take i ds) a + (get_or ds i d).openings
-openings_taken ds a i d lt on =
-    let t : Device → Bool = λ (d : Device). d.bus == a in
-    let f : Device → ℕ = λ (d : Device). d.openings in
-    let last : filter t (get_or ds i d ∷ []) ≡ get_or ds i d ∷ [] = rw on refl in
-    ap (λ xs. openings_at xs a) (take_more ds i d lt) ∙ ap (sum_by f) (filter-append t (take i ds) (get_or ds i d ∷ []) ∙ ap (λ xs. filter t (take i ds) ++ xs) last) ∙ sum_by_push f (filter t (take i ds)) (get_or ds i d)
-
-pub openings_passed : (ds : List Device) (a i : ℕ) (d : Device) → i < length ds → ((get_or ds i d).bus == a) ≡ false → openings_at (take (i + 1) ds) a ≡ openings_at (take i ds) a
-openings_passed ds a i d lt off =
-    let t : Device → Bool = λ (d : Device). d.bus == a in
-    let last : filter t (get_or ds i d ∷ []) ≡ [] = rw off refl in
-    ap (λ xs. openings_at xs a) (take_more ds i d lt) ∙ ap (sum_by (λ (d : Device). d.openings)) (filter-append t (take i ds) (get_or ds i d ∷ []) ∙ ap (λ xs. filter t (take i ds) ++ xs) last ∙ append-nil (filter t (take i ds)))

@@ -99,19 +99,6 @@ count_covers n time.Microsecond = omega arith
 count_covers n time.Millisecond = omega arith
 count_covers n time.Second = omega arith
 
-pub count_small : (n : ℕ) (u : TimeUnit) → count_from n u ≤ n
-count_small n time.Nanosecond = omega arith
-count_small n time.Microsecond = omega arith
-count_small n time.Millisecond = omega arith
-count_small n time.Second = omega arith
-
--- less than a unit more
-pub count_near : (n : ℕ) (u : TimeUnit) → count_from n u * unit_nanoseconds u < n + unit_nanoseconds u
-count_near n time.Nanosecond = omega arith
-count_near n time.Microsecond = omega arith
-count_near n time.Millisecond = omega arith
-count_near n time.Second = omega arith
-
 -- ---- spans of few digits
 
 no_count_from : (n : ℕ) (u : TimeUnit) → n ≡ 0 → count_from n u * unit_nanoseconds u ≡ 0

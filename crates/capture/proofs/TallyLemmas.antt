@@ -35,8 +35,4 @@ row_of_kept last s f qs rounds row are h = record {
   each = λ r few. h.each r few ∙ ap (count_by (λ k. k == r)) are ∙ count-map (λ k. k == r) f (filter s qs) ∙ count-filter (λ q. f q == r) s qs;
 }
 
-pub row_of_all : {X : Type 0} (last : ℕ) (f : X → ℕ) (qs : List X) (rounds row : List ℕ) → rounds ≡ map f qs → IsRow (λ r. count_by (λ k. k == r) rounds) last row → IsRow (λ r. count_by (λ q. f q == r) qs) last row
-row_of_all last f qs rounds row are h = record {
-  size = h.size;
-  each = λ r few. h.each r few ∙ ap (count_by (λ k. k == r)) are ∙ count-map (λ k. k == r) f qs;
 }

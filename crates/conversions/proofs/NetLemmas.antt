@@ -36,8 +36,3 @@ pub without_lanes_kept : (c : Topology) → IsConfig c → config_fault (without
 without_lanes_kept c config =
     let partial : IsPartial (without_lanes c) = record { weights = weight_items c config; links = link_items c config; adapters = adapter_items c config; devices = device_items c config; lanes = refl } in
     config_fault-partial (without_lanes c) partial ∙ rw (reaches c config, some_adapter c config) refl
-
--- a history that has a net is complete
-pub complete_with_net : {A : Type 0} (o : Option Stay) (r : Result A NetFault) (net : A) → r ≡ Ok net → MatchOption o (IsOkUnless r OutOfMemory) (λ stay. r ≡ Err (Unsent stay)) → o ≡ None
-complete_with_net None r net e h = refl
-complete_with_net (Some stay) r net e h = absurd cc

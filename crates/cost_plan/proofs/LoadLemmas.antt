@@ -117,14 +117,6 @@ IsRemoving-step net stay round old new resource place x within high inside is re
 pub IsRemoving-ended : (net : Instance) (stay round : ℕ) (old new : List ℕ) (resource : ℕ) → rows net ≤ resource → IsRemoving net stay round old new resource → (k r : ℕ) → k < rows net → r ≤ net.rounds → get_or old (cell net k r) 0 ≡ get_or new (cell net k r) 0 + stands net k r stay round
 IsRemoving-ended net stay round old new resource past removed = λ k r known low. omega (arith, removed.counts k r known low, over-past net k r resource round known past)
 
--- loads of no stay, of one stay more, and of a stay that is put elsewhere
-pub AreLoads-none : (net : Instance) (f : ℕ → ℕ) (loads : List ℕ) → length loads ≡ rows net * (net.rounds + 1) → ((k : ℕ) → get_or loads k 0 ≡ 0) → AreLoads net f 0 loads
-AreLoads-none net f loads size zeros = record { size = size; counts = λ resource r inside low. zeros (cell net resource r) }
-
-pub AreLoads-more : (net : Instance) (f : ℕ → ℕ) (n : ℕ) (old new : List ℕ) → length new ≡ length old → ((resource r : ℕ) → resource < rows net → r ≤ net.rounds → get_or new (cell net resource r) 0 ≡ get_or old (cell net resource r) 0 + stands net resource r n (f n)) → AreLoads net f n old → AreLoads net f (n + 1) new
-AreLoads-more net f n old new longer added before = record {
-  size = longer ∙ before.size;
-  counts = λ resource r inside low. omega (arith, added resource r inside low, before.counts resource r inside low, sum_below-more n (λ s. stands net resource r s (f s)));
 }
 
 pub part_load-le : (net : Instance) (f : ℕ → ℕ) (n resource r : ℕ) → part_load net f n resource r ≤ n

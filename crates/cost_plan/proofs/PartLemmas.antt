@@ -46,11 +46,6 @@ before-le net a (suc n) =
     let rest : before net a n ≤ n = before-le net a n in
     omega (arith, rest, at_most_one (part_of_stay net n == a))
 
-pub before-none : (net : Instance) (a n : ℕ) → before net a n ≡ 0 → part_of_stay net n ≢ a → before net a (n + 1) ≡ 0
-before-none net a n none apart =
-    let out : cond {A = ℕ} (part_of_stay net n == a) 1 0 ≡ 0 = ap (λ (b : Bool). cond {A = ℕ} b 1 0) (ne_eqb (part_of_stay net n) a apart) in
-    omega (arith, sum_below-more n (λ s. cond (part_of_stay net s == a) 1 0), none, out)
-
 pub before-some : (net : Instance) (a n s : ℕ) → s < n → part_of_stay net s ≡ a → nat_lt 0 (before net a n) ≡ true
 before-some net a n s within is =
     let one : cond {A = ℕ} (part_of_stay net s == a) 1 0 ≡ 1 = ap (λ (b : Bool). cond {A = ℕ} b 1 0) (eq-eqb (part_of_stay net s) a is) in
@@ -139,9 +134,6 @@ busy-all net live s sound within =
 
 -- ---- potentials that are put in
 
-pub ResourceHasPotentials-none : (net : Instance) (resource : ℕ) (potentials old : List ℕ) → ResourceHasPotentials net resource 0 potentials old old
-ResourceHasPotentials-none net resource potentials old = record { own = λ round low. absurd (omega arith); others = λ node apart. refl }
-
 pub ResourceHasPotentials-set : (net : Instance) (resource n potential place : ℕ) (potentials old mid : List ℕ) → n ≤ net.rounds → n < length potentials → place ≡ cell net resource n → place < length mid → potential ≡ get_or potentials n 0
     → ResourceHasPotentials net resource n potentials old mid → ResourceHasPotentials net resource (n + 1) potentials old (set mid place potential)
 ResourceHasPotentials-set net resource n potential place potentials old mid last some is inside here h = record {
@@ -161,9 +153,6 @@ ResourceHasPotentials-past net resource n potentials old new past h = record {
   own = λ round low known. h.own round (omega arith) known;
   others = λ node apart. h.others node (λ round low. apart round (omega arith));
 }
-
-pub HasPotentials-none : (net : Instance) (a : ℕ) (potentials old : List ℕ) → HasPotentials net a 0 potentials old old
-HasPotentials-none net a potentials old = record { own = λ resource round low. absurd (omega arith); others = λ resource round inside last apart. refl; root = refl }
 
 -- a resource of the part gets its potentials
 pub HasPotentials-own : (net : Instance) (a n : ℕ) (potentials from old mid new : List ℕ) → n < rows net → part_of_resource net n ≡ a → from ≡ drop (resources_before net a n * (net.rounds + 1)) potentials

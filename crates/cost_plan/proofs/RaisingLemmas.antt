@@ -146,10 +146,6 @@ Raises-by net f l new found arc n most is node size same tails heads steep resid
 pub IsSettled-by : (l : PotentialTable) (found : Option ℕ) (arc that : Arc) → found ≡ raised l arc → arc ≡ that → found ≡ None → IsSettled l that
 IsSettled-by l found arc that node same none = subst (IsSettled l) same (IsSettled-from_raised l arc (sym node ∙ none))
 
--- a loop that raises potentials part by part
-pub IsRaising-begun : (net : Instance) (f : ℕ → ℕ) (Settles : PotentialTable → ℕ → Type 0) (low here : ℕ) (l : PotentialTable) → here ≤ low → IsRaising net f Settles low l l None here
-IsRaising-begun net f Settles low here l begun = record { raises = Raises-none net f l; settled = λ none k from to. absurd (omega arith) }
-
 pub IsRaising-more : (net : Instance) (f : ℕ → ℕ) (Settles : PotentialTable → ℕ → Type 0) (low : ℕ) (initial now next : PotentialTable) (found more both : Option ℕ) (here : ℕ) → both ≡ option_or more found → IsRaising net f Settles low initial now found here → Raises net f now next more → (more ≡ None → Settles now here) → IsRaising net f Settles low initial next both (here + 1)
 IsRaising-more net f Settles low initial now next found more both here is before step settles = record {
   raises = subst (λ (o : Option ℕ). Raises net f initial next o) (sym is) (Raises-then net f initial now next found more before.raises step);

@@ -51,11 +51,5 @@ room-falls net f old new found node r is low =
 pub AllResidual-raised : (net : Instance) (f : ℕ → ℕ) (old new : PotentialTable) (found : Option ℕ) → Raises net f old new found → AllResidual net f old → AllResidual net f new
 AllResidual-raised net f old new found r before = λ node arc came. elim (r.came node arc came) [ inl was ↦ before node arc was | inr now ↦ now ]
 
-pub AllResidual-none : (net : Instance) (f : ℕ → ℕ) (l : PotentialTable) (n : ℕ) → l.preds ≡ replicate n None → AllResidual net f l
-AllResidual-none net f l n nones = λ node arc came.
-    let never : came_by l.preds node ≡ None = ap (λ (ps : List (Option Arc)). came_by ps node) nones ∙ came_by-none n node in
-    let clash : Some arc ≡ None = sym came ∙ never in
-    cc
-
 pub residual-from_came : (net : Instance) (f : ℕ → ℕ) (l : PotentialTable) (arcs : List Arc) → AllResidual net f l → AllCameBy l.preds arcs → All (IsResidual net f) arcs
 residual-from_came net f l arcs all came = λ k d h. all (get_or arcs k d).head (get_or arcs k d) (came k d h)

@@ -80,10 +80,6 @@ pub gains-from_found : (most : ℕ) (potentials : List ℕ) (preds : List (Optio
 gains-from_found most potentials preds (Ok (Some k)) path f found = IsGainingCycle-from_loop most potentials preds (drop k path) f found
 gains-from_found most potentials preds _ path f found = found
 
-pub came-from_found : (preds : List (Option Arc)) {E : Type 0} (r : Result (Option ℕ) E) (path : List Arc) → IfOk r (λ found. IfSome found (λ k. IsLoop preds (drop k path))) → IfOk r (λ found. IfSome found (λ k. AllCameBy preds (drop k path)))
-came-from_found preds (Ok (Some k)) path found = found.came
-came-from_found preds _ path found = found
-
 pub ends-from_found : (most : ℕ) (potentials : List ℕ) (preds : List (Option Arc)) (start : ℕ) {E : Type 0} (r : Result (Option ℕ) E) (path : List Arc) → IsForest most potentials preds → IfOk r (λ found. IfNone found (EndsAtRoot preds start path)) → IfOk r (λ found. IfNone found (get_or potentials start 0 ≤ highest_root most + most / 4))
 ends-from_found most potentials preds start (Ok None) path f found = potential-le-limit most potentials preds start path f found
 ends-from_found most potentials preds start _ path f found = found

@@ -28,16 +28,6 @@ pub record IsWalked (preds : List (Option Arc)) (places : List ℕ) (start : ℕ
   pub met : (v : ℕ) → count_by (λ arc. arc.head == v) path ≡ cond (get_or places v 0 == 0) 0 1
   pub placed : (v : ℕ) → get_or places v 0 ≢ 0 → (get_or places v 0 ≤ length path) × ((d : Arc) → (get_or path (get_or places v 0 - 1) d).head ≡ v)
 
--- a walk that has not begun
-pub IsWalked-none : (preds : List (Option Arc)) (places : List ℕ) (start : ℕ) → start < length preds → length places ≡ length preds → ((v : ℕ) → get_or places v 0 ≡ 0) → count_by (λ p. p == 0) places ≡ length places → IsWalked preds places start [] start
-IsWalked-none preds places start within lengths zeros count = record {
-  within = within;
-  lengths = lengths;
-  leads = refl;
-  came = λ k d h. absurd (omega arith);
-  left = omega arith;
-  met = λ v. let z = zeros v in grind (arith, nat_tests);
-  placed = λ v h. absurd (h (zeros v));
 }
 
 -- the count of arcs with a head, after one arc more
@@ -108,15 +98,6 @@ IsLoop-from_walk preds places start path node known w =
       came = All-drop (λ a. came_by preds a.head ≡ Some a) k path w.came;
     }
 
--- a node whose potential has not risen ends it
-pub EndsAtRoot-from_walk : (preds : List (Option Arc)) (places : List ℕ) (start : ℕ) (path : List Arc) (node : ℕ) → came_by preds node ≡ None → IsWalked preds places start path node → EndsAtRoot preds start path
-EndsAtRoot-from_walk preds places start path node unrisen w = record {
-  root = node;
-  within = w.within;
-  leads = w.leads;
-  risen = unrisen;
-  short = omega (arith, w.left);
-  came = w.came;
 }
 
 -- the same, where the walk and its count were pushed and read

@@ -137,41 +137,10 @@ pub none-of_rest : (net : Instance) (p : Pricing) (s : ℕ) → IsCheapest net p
 none-of_rest net p s rest to_end window =
     least-none (priced net p s) (is_open net s) (net.arrival s) (net.last s + 1 - net.arrival s) (λ r le lt. rest.none refl r le (omega arith))
 
--- weights
-pub next_weight-none : (net : Instance) (above : ℕ) → IsNextWeight net above 0 0
-next_weight-none net above = record {
-  most = omega arith;
-  above_it = λ some. absurd (omega arith);
-  none = λ e s lt. absurd (omega arith);
-  least = λ some. absurd (omega arith);
 }
 
-pub next_weight-same : (net : Instance) (above s next : ℕ) → IsNextWeight net above s next → (above < net.weight s → (0 < next) × (next ≤ net.weight s)) → IsNextWeight net above (s + 1) next
-next_weight-same net above s next so_far dearer = record {
-  most = so_far.most;
-  above_it = so_far.above_it;
-  none = λ e t lt. elim (cases_eq t s) [
-    | inl same ↦ rw same (elim (cases_lt above (net.weight s)) [ inl over ↦ let h = (dearer over).0 in absurd (omega arith) | inr under ↦ omega arith ])
-    | inr other ↦ so_far.none e t (omega arith)
-  ];
-  least = λ some t lt over. elim (cases_eq t s) [
-    | inl same ↦ let over' : above < net.weight s = rw (← same) over in rw same ((dearer over').1)
-    | inr other ↦ so_far.least some t (omega arith) over
-  ];
 }
 
-pub next_weight-this : (net : Instance) (above s next : ℕ) → IsNextWeight net above s next → above < net.weight s → net.weight s ≤ MAX_WEIGHT → (0 < next → net.weight s < next) → IsNextWeight net above (s + 1) (net.weight s)
-next_weight-this net above s next so_far over most cheaper = record {
-  most = most;
-  above_it = λ some. over;
-  none = λ e. absurd (omega arith);
-  least = λ some t lt over'. elim (cases_eq t s) [
-    | inl same ↦ rw same (omega arith)
-    | inr other ↦ elim (cases_eq next 0) [
-      | inl nowhere ↦ let h = so_far.none nowhere t (omega arith) in absurd (omega arith)
-      | inr somewhere ↦ let h = so_far.least (omega arith) t (omega arith) over' in let h' = cheaper (omega arith) in omega arith
-    ]
-  ];
 }
 
 -- sums over the stays up to a weight

@@ -173,12 +173,6 @@ tallied net f counts counts' counts'' s at at' one other tally p room is e more 
       counted = rw (more', is') (counted_more net f counts' s row (device ∷ []) first (adapter_place net f s p) (adapter_new net f s p) room');
     }
 
--- a stay that is on no link is counted in all its rows then
-pub tallied_without : (net : Instance) (f : ℕ → ℕ) (counts : List ℕ) (s : ℕ) → link net s ≡ None → IsCounted net f counts s (net.device s ∷ adapter_resource net (adapter net s) ∷ []) → IsTally net f counts (s + 1)
-tallied_without net f counts s none counted =
-    let same : path net s ≡ net.device s ∷ adapter_resource net (adapter net s) ∷ [] = rw none refl in
-    counted_all net f counts s (rw same counted)
-
 -- and one that is on a link where its row is counted too
 pub tallied_with : (net : Instance) (f : ℕ → ℕ) (counts counts' : List ℕ) (s l at : ℕ) → link net s ≡ Some l → IsCounted net f counts s (net.device s ∷ adapter_resource net (adapter net s) ∷ []) →
     IsPlace net f s (link_resource net l) → IsNew (net.device s ∷ adapter_resource net (adapter net s) ∷ []) (link_resource net l) → rows net * net.rounds ≤ length counts → at ≡ cell net.rounds (link_resource net l) (f s) → counts' ≡ bumped counts at → IsTally net f counts' (s + 1)

@@ -19,11 +19,6 @@ use Rattle.recording_file.specs.Sound.{IsSound}
 use Rattle.record_text.specs.Steps.{◌>>=◌}
 use Rattle.recording_file.proofs.ParsedLaws.{parsed_tells}
 
-pub at_naming : (s : RecordingParser) (w : RecordingWord) → IsAt s w → IsNaming s w
-at_naming s word.Name h = h
-at_naming s word.Cap h = h.0
-at_naming s _ h = tt
-
 no_requests : (r : Recorded) → nat_le (book_rank r) 7 ≡ true → r.requests ≡ []
 no_requests r e = by (length r.requests == 0) refl e
   where

@@ -71,9 +71,6 @@ pub record HasRows (width : ℕ) (f : ℕ → ℕ) (rows : ℕ) (cells : List �
   pub size : length cells ≡ rows * width
   pub each : (a x : ℕ) → a < rows → x < width → get_or cells (a * width + x) 0 ≡ f a
 
-pub no_rows : (width : ℕ) (f : ℕ → ℕ) (cells : List ℕ) → cells ≡ [] → HasRows width f 0 cells
-no_rows width f cells e = rw e record { size = omega arith; each = λ a x h k. absurd (omega arith) }
-
 pub row_more : (width : ℕ) (f : ℕ → ℕ) (rows : ℕ) (cells : List ℕ) (n : ℕ) → HasRows width f rows cells → n ≡ f rows → HasRows width f (rows + 1) (cells ++ replicate width n)
 row_more width f rows cells n h e =
     let long = length-append cells (replicate width n) in
@@ -114,25 +111,6 @@ rows_hold rounds c cells h =
 pub record IsLaidTo (start at n : ℕ) (before cells : List ℕ) : Type 0 where
   pub size : length cells ≡ length before
   pub each : (i : ℕ) → get_or cells i 0 ≡ cond (nat_le start i && nat_lt i at) n (get_or before i 0)
-
-pub laid_none : (start n : ℕ) (cells : List ℕ) → IsLaidTo start start n cells cells
-laid_none start n cells = record { size = refl; each = λ i. grind (arith, nat_tests) }
-
-pub laid_more : (start at n : ℕ) (before cells : List ℕ) → start ≤ at → at < length before → IsLaidTo start at n before cells → IsLaidTo start (at + 1) n before (set cells at n)
-laid_more start at n before cells h k laid =
-    let size = laid.size in
-    record { size = length-set cells at n ∙ size; each = λ i. by i (i == at) refl }
-  where
-    by : (i : ℕ) (b : Bool) → (i == at) ≡ b → get_or (set cells at n) i 0 ≡ cond (nat_le start i && nat_lt i (at + 1)) n (get_or before i 0)
-    by i true is =
-        let same : i ≡ at = eqb-true i at is in
-        let size = laid.size in
-        let inside : (nat_le start i && nat_lt i (at + 1)) ≡ true = grind (arith, nat_tests) in
-        rw (inside, same) (get_or-set_same cells at n 0 (omega arith))
-    by i false is =
-        let other : i ≢ at = (λ same. let wrong = sym is ∙ eq-eqb i at same in cc) in
-        let test : (nat_le start i && nat_lt i (at + 1)) ≡ (nat_le start i && nat_lt i at) = grind (arith, nat_tests) in
-        get_or-set_other cells at i n 0 other ∙ laid.each i ∙ ap (λ (b : Bool). cond b n (get_or before i 0)) (sym test)
 
 -- a place lies between a cap's first and last exactly if the cap covers it
 covered : (rounds : ℕ) (p : Part) (round : ℕ) (cap : Cap) → IsCell rounds p round → cap.part.number < rows_by cap.part.kind → 1 ≤ cap.first → cap.first ≤ cap.last → cap.last ≤ rounds
@@ -197,9 +175,6 @@ first_cap c cap rest p round = by (covers p round cap)
 -- the caps from a place on are laid over the openings
 abbrev pub AreLaid : ℕ → List Cap → List ℕ → List ℕ → Type 0
 AreLaid rounds caps before cells = (c : Topology) → Holds rounds (λ p round. openings c p) before → Holds rounds (cap_in c caps) cells
-
-pub caps_start : (rounds : ℕ) (caps : List Cap) (cells : List ℕ) → AreLaid rounds (drop (length caps) caps) cells cells
-caps_start rounds caps cells = rw (drop_all (length caps) caps (omega arith)) (λ c h. h)
 
 pub caps_more : (rounds left : ℕ) (caps : List Cap) (d : Cap) (before cells after : List ℕ) → left < length caps → AreLaid rounds (drop (left + 1) caps) before cells
     → ((f : Part → ℕ → ℕ) → Holds rounds f cells → Holds rounds (λ p round. if covers p round (get_or caps left d) then (get_or caps left d).most else f p round) after)

@@ -129,11 +129,6 @@ has_start number usual (suc (suc r)) some ne =
       }
     ]
 
--- the number of a run isn't the usual one
-pub begins_unusual : (number : ℕ → ℕ) (usual r : ℕ) → begins_run number usual r ≡ true → number r ≡ usual → ⊥
-unfolding begins_run
-begins_unusual number usual r e = eqb-false (number r) usual (not-true _ (and_parts (not (number r == usual)) _ e).0)
-
 -- nor, after the first round, that of the round before
 pub begins_change : (number : ℕ → ℕ) (usual r : ℕ) → 1 < r → begins_run number usual r ≡ true → number (r - 1) ≡ number r → ⊥
 unfolding begins_run

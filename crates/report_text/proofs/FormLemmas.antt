@@ -87,9 +87,6 @@ section net k (v ∷ vs) f h =
 
 -- ---- a report is the lines of its claim's numbers
 
-fed : (l : List ℕ) (more : List ℕ) → l ++ (10 ∷ more) ≡ (l ++ codes "\n") ++ more
-fed l more = sym (append_assoc l (10 ∷ []) more)
-
 stay_fed : (a d w f : List ℕ) → (a ++ codes " ") ++ (d ++ w) ++ f ≡ a ++ ((codes " " ++ d) ++ (w ++ f))
 stay_fed a d w f = simp append_assoc
 

@@ -50,7 +50,3 @@ two_pieces before first second so_far is = sym (append_assoc before first second
 pub row_text-device : (devices : List Device) (adapters row : ℕ) (device : Device) → slice_get devices row ≡ Some device → row_text devices adapters row ≡ codes "price dev " ++ spelled (address_of device)
 unfolding row_text
 row_text-device devices adapters row device is = rw is refl
-
-pub row_text-shared : (devices : List Device) (adapters row : ℕ) → slice_get devices row ≡ None → row_text devices adapters row ≡ shared_text adapters (row - length devices)
-unfolding row_text
-row_text-shared devices adapters row is = rw is refl

@@ -48,19 +48,6 @@ no_run s h logs served place (Unnamed first) fit fails named =
 no_run s h logs served place NoThread fit fails named = absurd named
 no_run s h logs served place OutOfMemory fit fails named = absurd named
 
--- what a run says of each fault
-pub seatless_fault : (s : Scenario) (fault : LiveFault) → IsSeatless fault → IsLiveFault s fault
-seatless_fault s OutOfMemory h = tt
-seatless_fault s NoThread h = absurd h
-seatless_fault s (Mismatch r) h = absurd h
-seatless_fault s (Unnamed place) h = inl h
-
-pub unstarted_fault : (s : Scenario) (fault : LiveFault) → IsUnstarted fault → IsLiveFault s fault
-unstarted_fault s OutOfMemory h = tt
-unstarted_fault s NoThread h = tt
-unstarted_fault s (Mismatch r) h = absurd h
-unstarted_fault s (Unnamed place) h = absurd h
-
 pub ungathered_fault : (s : Scenario) (logs : List Held) (fault : GatherFault) → ((h : Past) × IsWhyNot h logs fault) → IsUnjudged s (as_live fault)
 ungathered_fault s logs gathers.OutOfMemory h = tt
 ungathered_fault s logs (gathers.Mismatch r) h = record { history = h.0; logs = logs; served = []; past = h.1.0; why = inl h.1.1 }

@@ -15,11 +15,6 @@ use Rattle.sim_worker.specs.Runs.{sender, is_submit_by, is_in_time}
 use Rattle.sim_worker.proofs.FullLemmas.{allowed_at_limit}
 use Rattle.sim_worker.proofs.RunListFacts.{some_is}
 
-pub get_or_is : {X : Type 0} → (xs : List X) (i : ℕ) (x d : X) → slice_get xs i ≡ Some x → get_or xs i d ≡ x
-get_or_is [] i x d h = absurd (cc)
-get_or_is (y ∷ ys) zero x d h = cc
-get_or_is (y ∷ ys) (suc i) x d h = get_or_is ys i x d h
-
 -- an event that isn't refused has room
 pub room_for : (t : Transport) (e : Event) → refused t e ≡ None → length t.events < t.rules.events
 room_for t e none = (allowed-legal_event t.rules t.config t.events e (legal-none t.rules t.config t.events e none)).0

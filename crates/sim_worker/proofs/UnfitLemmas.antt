@@ -37,18 +37,7 @@ same_row steps made now a b at_a at_b behind_a behind_b = elim (less_or_not a b)
 
 -- ---- resting
 
--- a settled walk is marked, if its row's event was refused in this round
-was_marked : (s : Scenario) (steps : List Step) (log : List Receipt) (before : List Event) (w : Walk) (e : Event) → IsSettled s steps log before w → slice_get steps w.row ≡ Some (step.Act e) → WasRefused s log before e → w.refused ≡ true
-was_marked s steps log before w e h there was = elim (less_or_not was.place (length before)) [
-  | inl less ↦ (h.walk.marked was.place (record { less = less; same_round = was.same_round; same_calls = was.same_calls })).1 e there was.refused
-  | inr last ↦ h.now e there (ap (λ es. is_of_rules (refusal (rules_of s.limits) s.config es e)) (sym (take_whole before was.place last)) ∙ was.refused)
 ]
-
-pub not_marked : (s : Scenario) (steps : List Step) (log : List Receipt) (before : List Event) (w : Walk) (e : Event) → IsSettled s steps log before w → slice_get steps w.row ≡ Some (step.Act e) → w.refused ≡ false → WasRefused s log before e → ⊥
-not_marked s steps log before w e h there plain was = never (sym plain ∙ was_marked s steps log before w e h there was)
-  where
-    never : false ≡ true → ⊥
-    never e = cc
 
 -- a row that lets its driver rest isn't a pause that is over
 rests_behind : (s : Scenario) (steps : List Step) (log : List Receipt) (before : List Event) (row : ℕ) → LetsRest s log before (slice_get steps row) → IsBehindPauses steps (round before) row

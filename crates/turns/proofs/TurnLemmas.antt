@@ -85,18 +85,6 @@ pub record IsGiving (arrivals rounds answer sorted holders places next : List �
   pub arrived : HaveArrived arrivals answer
   pub in_turn : (i j : ℕ) → i < turn → i < j → j < length arrivals → get_or arrivals i 0 ≤ get_or answer j 0 → get_or answer i 0 ≤ get_or answer j 0
 
--- a turn's own slot is free, and lies no earlier than the first slot of a round by which the stay has arrived
-pub own_free : (arrivals rounds answer sorted holders places next : List ℕ) (turn from arrival : ℕ) → turn < length arrivals → arrival ≡ get_or arrivals turn 0 → ((slot : ℕ) → slot < from → get_or sorted slot 0 < arrival) → IsGiving arrivals rounds answer sorted holders places next turn → (free : ℕ) × (from ≤ free) × IsFree holders turn free
-own_free arrivals rounds answer sorted holders places next turn from arrival inside is before giving =
-    let held = giving.held in
-    let known : turn < length answer = omega (arith, giving.long) in
-    let own = get_or places turn 0 in
-    let late : from ≤ own = elim (cases_lt own from) [
-      | inl early ↦ absurd (omega (arith, before own early, held.has turn known, giving.arrived turn inside))
-      | inr fits ↦ fits
-    ] in
-    (own, late, (omega (arith, held.place turn known, held.long_holders), omega (arith, held.holds turn known)))
-
 IsGiving-step : (arrivals rounds answer sorted holders places next new : List ℕ) (turn from slot arrival other own : ℕ) → turn < length arrivals → arrival ≡ get_or arrivals turn 0 →
     ((s : ℕ) → s < from → get_or sorted s 0 < arrival) → ((s : ℕ) → from ≤ s → s < length sorted → arrival ≤ get_or sorted s 0) →
     Skips holders turn new → IsFree holders turn slot → from ≤ slot → AreGiven holders turn from slot → other ≡ get_or holders slot 0 → own ≡ get_or places turn 0 →
@@ -187,6 +175,3 @@ IsGiving-more arrivals rounds answer sorted holders places next new answer' hold
     let Q : List ℕ → Type 0 = λ xs. IsGiving arrivals rounds answer' sorted xs (swap places turn other) new (turn + 1) in
     let R : List ℕ → Type 0 = λ xs. IsGiving arrivals rounds answer' sorted holders' xs new (turn + 1) in
     subst R (sym placed) (subst Q (sym moved) (subst P (sym swapped) step))
-
-pub AreInTurn-given : (arrivals rounds answer sorted holders places next : List ℕ) (turn : ℕ) → length arrivals ≤ turn → IsGiving arrivals rounds answer sorted holders places next turn → AreInTurn arrivals answer
-AreInTurn-given arrivals rounds answer sorted holders places next turn all giving = λ i j up less has. giving.in_turn i j (omega arith) up less has

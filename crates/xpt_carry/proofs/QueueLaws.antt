@@ -71,10 +71,6 @@ ticked_queue es d =
     ap (sorted_by queue_key) (queue-tick es d) ∙ sym (filter-sorted_by queue_key (is_at d (round es + 1)) (waiting es))
     ∙ all_arrived d (round es + 1) (sorted_by queue_key (waiting es)) (all-sorted (λ (p : Passage). nat_le p.arrival (round es + 1)) (waiting es) (arrived-waiting es))
 
-carried_sorted : (es : List Event) → sorted_by queue_key (carried es) ≡ carried es
-unfolding carried
-carried_sorted es = sorted_by-sorted queue_key (sorted_by queue_key (waiting es)) (is_sorted-sorted_by queue_key (waiting es))
-
 module _ (c : Topology) (es : List Event) where
   abbrev stays_anew : List Passage
   stays_anew = all_anew 0 (round (front c es)) (length (front c es)) (carried es)

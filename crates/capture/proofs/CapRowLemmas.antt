@@ -89,8 +89,6 @@ sum_passed c a n f off =
 abbrev pub IsSumRow : Topology → ℕ → (ℕ → ℕ → ℕ) → ℕ → ℕ → List ℕ → Type 0
 IsSumRow c a number n last row = IsRow (λ r. min MAX_IN_ROUND (sum_below c a (λ d. number d r) n)) last row
 
-}
-
 least_sum : (m s x : ℕ) → min m (min m s + x) ≡ min m (s + x)
 least_sum m s x = omega arith
 

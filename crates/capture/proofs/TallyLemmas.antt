@@ -34,5 +34,3 @@ row_of_kept last s f qs rounds row are h = record {
   size = h.size;
   each = λ r few. h.each r few ∙ ap (count_by (λ k. k == r)) are ∙ count-map (λ k. k == r) f (filter s qs) ∙ count-filter (λ q. f q == r) s qs;
 }
-
-}

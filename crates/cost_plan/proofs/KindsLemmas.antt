@@ -86,8 +86,6 @@ in_turn_named net new a b s t first second =
     let Q : ℕ → Type 0 = λ x. CouldChange net (λ k. get_or new k 0) s x → get_or new s 0 ≤ get_or new x 0 in
     λ h. subst Q second (subst P first h)
 
-}
-
 pub AreTurned-more : (net : Instance) (live : ℕ → ℕ) (order old mid new : List ℕ) (from to : ℕ) → IsTurnOrder net live order → from < to → to ≤ length order → ((k : ℕ) → from ≤ k → k < to → AreAlike net (get_or order from 0) (get_or order k 0)) → (to < length order → ¬ AreAlike net (get_or order from 0) (get_or order to 0)) → AreTurned net order old mid from → IsKindTurned net (part order from to) mid new → AreTurned net order old new to
 AreTurned-more net live order old mid new from to turns later within alike ends so_far turned =
     let size = part_long order from to within in

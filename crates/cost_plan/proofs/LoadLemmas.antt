@@ -117,8 +117,6 @@ IsRemoving-step net stay round old new resource place x within high inside is re
 pub IsRemoving-ended : (net : Instance) (stay round : ℕ) (old new : List ℕ) (resource : ℕ) → rows net ≤ resource → IsRemoving net stay round old new resource → (k r : ℕ) → k < rows net → r ≤ net.rounds → get_or old (cell net k r) 0 ≡ get_or new (cell net k r) 0 + stands net k r stay round
 IsRemoving-ended net stay round old new resource past removed = λ k r known low. omega (arith, removed.counts k r known low, over-past net k r resource round known past)
 
-}
-
 pub part_load-le : (net : Instance) (f : ℕ → ℕ) (n resource r : ℕ) → part_load net f n resource r ≤ n
 part_load-le net f zero resource r = omega arith
 part_load-le net f (suc n) resource r =

@@ -28,8 +28,6 @@ pub record IsWalked (preds : List (Option Arc)) (places : List ℕ) (start : ℕ
   pub met : (v : ℕ) → count_by (λ arc. arc.head == v) path ≡ cond (get_or places v 0 == 0) 0 1
   pub placed : (v : ℕ) → get_or places v 0 ≢ 0 → (get_or places v 0 ≤ length path) × ((d : Arc) → (get_or path (get_or places v 0 - 1) d).head ≡ v)
 
-}
-
 -- the count of arcs with a head, after one arc more
 met-step : (places : List ℕ) (path : List Arc) (node : ℕ) (arc : Arc) → get_or places node 0 ≡ 0 → arc.head ≡ node → node < length places → (v : ℕ) → count_by (λ a. a.head == v) path ≡ cond (get_or places v 0 == 0) 0 1 → count_by (λ a. a.head == v) (path ++ arc ∷ []) ≡ cond (get_or (set places node (length path + 1)) v 0 == 0) 0 1
 met-step places path node arc new heads within v met =
@@ -97,8 +95,6 @@ IsLoop-from_walk preds places start path node known w =
           omega (arith, sum_by-take-drop F path k, w.met v);
       came = All-drop (λ a. came_by preds a.head ≡ Some a) k path w.came;
     }
-
-}
 
 -- the same, where the walk and its count were pushed and read
 pub IsWalked-pushed : (preds : List (Option Arc)) (places : List ℕ) (start : ℕ) (path after : List Arc) (node count : ℕ) (arc : Arc) → get_or places node 0 ≡ 0 → came_by preds node ≡ Some arc → (arc.head ≡ node) × (arc.tail < length preds) → after ≡ path ++ arc ∷ [] → count ≡ length path + 1 → IsWalked preds places start path node → IsWalked preds (set places node count) start after arc.tail

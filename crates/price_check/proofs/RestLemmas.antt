@@ -137,12 +137,6 @@ pub none-of_rest : (net : Instance) (p : Pricing) (s : ℕ) → IsCheapest net p
 none-of_rest net p s rest to_end window =
     least-none (priced net p s) (is_open net s) (net.arrival s) (net.last s + 1 - net.arrival s) (λ r le lt. rest.none refl r le (omega arith))
 
-}
-
-}
-
-}
-
 -- sums over the stays up to a weight
 abbrev pub up_to : Instance → (ℕ → ℕ) → ℕ → ℕ
 up_to net g w = sum_below net.stays (λ s. cond (nat_le (net.weight s) w) (g s) 0)

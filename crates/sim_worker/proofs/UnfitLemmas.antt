@@ -37,8 +37,6 @@ same_row steps made now a b at_a at_b behind_a behind_b = elim (less_or_not a b)
 
 -- ---- resting
 
-]
-
 -- a row that lets its driver rest isn't a pause that is over
 rests_behind : (s : Scenario) (steps : List Step) (log : List Receipt) (before : List Event) (row : ℕ) → LetsRest s log before (slice_get steps row) → IsBehindPauses steps (round before) row
 rests_behind s steps log before row rests n there = subst (LetsRest s log before) there rests

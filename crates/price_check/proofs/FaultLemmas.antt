@@ -8,7 +8,7 @@ use Rattle.price_check.specs.Words.{count_below, Instance, adapter, adapter_reso
 use Rattle.round_net.proofs.PathLemmas.{uses-device, uses-adapter}
 use Rattle.price_check.specs.Faults.{at_row, is_over, is_link_over, fault_at, IsFaultlessBelow, IsFirstFault, Cause, Early, Late, DeviceFull, AdapterFull, LinkFull}
 use Rattle.price_check.proofs.TallyLemmas.{count_below-more}
-use Rattle.price_check.proofs.UsedLemmas.{of_used}
+use Rattle.price_check.proofs.UsedLemmas.{of_used, used_within}
 
 -- what no fault says of a stay
 pub record IsWell (net : Instance) (f : ℕ → ℕ) (s : ℕ) : Type 0 where

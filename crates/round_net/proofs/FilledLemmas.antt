@@ -18,6 +18,7 @@ use Rattle.round_net.specs.Sound.{IsSound, IsNet, longest_path}
 use Rattle.round_net.specs.Caps.{resource_count, carries}
 use Rattle.round_net.specs.Nets.{table, net_with}
 use Rattle.cam_types.proofs.ConfigLemmas.{few_adapters, few_links, adapters_on_links, devices_on_adapters, few_devices}
+use Rattle.round_net.proofs.PathLemmas.{uses-device_resource, uses-adapter_resource, uses-link_resource}
 use Rattle.round_net.proofs.RowLemmas.{device-row, arrival-row, last-row, weight-row, live-row}
 use Rattle.round_net.proofs.TableLemmas.{cell-table, All-table, length-cells}
 

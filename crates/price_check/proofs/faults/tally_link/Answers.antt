@@ -1,5 +1,6 @@
 use Rattle.std.proofs.Common.{◌≡◌, ◌∙◌, [], ◌∷◌, Some, refl, sym, arith, slice_index}
 use Rattle.price_check.specs.Words.{adapter, link, adapter_resource, link_resource, instance_of_rows, cell}
+use Rattle.round_net.proofs.PathLemmas.{uses-link}
 use Rattle.price_check.proofs.TallyLemmas.{IsPlace, few_here, here_counted, link_place, link_new, tallied_with, over_link}
 use Rattle.price_check.proofs.faults.tally_link.Goals as goal
 

@@ -1,5 +1,8 @@
 """What traces and recordings say, read from their texts alone: the model of them by which tests reckon anew what the program
 prints."""
+import csv
+import io
+
 GOOD, STATUS_BITS = 0x01, 0x3F
 # Flags by which a send freezes its device, and by which an error doesn't.
 FREEZING, UNFROZEN = ("qfreeze", "both"), ("qfrzdis", "both")
@@ -8,7 +11,8 @@ NANOSECONDS = {"ns": 1, "us": 10**3, "ms": 10**6, "s": 10**9}
 
 
 def rows_of(text):
-    return [line.split(",") for line in text.splitlines()]
+    """The records of a text, quoted or plain. Blank lines aren't records."""
+    return [row for row in csv.reader(io.StringIO(text, newline="")) if row]
 
 
 class Input:
@@ -18,7 +22,9 @@ class Input:
         self.links, self.adapters, self.devices, self.lanes = [], [], [], []
         # The rows of a table of weights; in version 1 there are none.
         self.weights = []
-        self.names, self.unit, self.round = {}, None, 1
+        # How many nanoseconds a round has, and the fields that say so.
+        self.unit, self.unit_fields = None, []
+        self.names, self.round = {}, 1
         self.commands, self.stays = [], []
         self.header, *rows = rows_of(text)
         for word, *fields in rows:
@@ -50,6 +56,12 @@ class Input:
         return {"driver": int(driver), "device": int(device), "priority": int(priority), "level": level, "weight": weight,
                 "adapter": self.devices[int(device)]["adapter"], "flags": flags}
 
+    def openings(self, kind, number):
+        """The openings of a device, an adapter or a link by the configuration."""
+        if kind == "dev":
+            return self.devices[number]["configured"]
+        return self.adapters[number][0] if kind == "sim" else self.links[number]
+
     def parts(self, stay):
         """The device, the adapter and the link, if there is one, that a stay is sent by."""
         link = self.adapters[stay["adapter"]][1]
@@ -62,9 +74,16 @@ class Trace(Input):
     def __init__(self, text):
         # What holds now: freezes by callers and of adapters, and CCBs that failed and aren't decided yet.
         self.callers, self.frozen_adapters, self.recovering = {}, {}, set()
+        # From which rounds on a device has how many openings, and what was frozen at some place of a round.
+        self.changes, self.frozen_in = {}, set()
         # How many were sent by a device, an adapter or a link in each round.
         self.sent = {}
         super().__init__(text)
+
+    def note(self, _):
+        frozen = self.frozen()
+        self.frozen_in |= {("dev", device, self.round) for device in frozen["errors"] | frozen["callers"]}
+        self.frozen_in |= {("sim", adapter, self.round) for adapter in frozen["adapters"]}
 
     def latest(self, ccb):
         return next(stay for stay in reversed(self.stays) if stay["ccb"] == int(ccb))
@@ -111,6 +130,7 @@ class Trace(Input):
 
     def on_adjust(self, device, openings, *_):
         self.devices[int(device)]["next"] = int(openings)
+        self.changes.setdefault(int(device), {})[self.round + 1] = int(openings)
 
     def on_tick(self, *_):
         for device in self.devices:
@@ -123,6 +143,18 @@ class Trace(Input):
         return {"errors": errors, "callers": {device for device, count in self.callers.items() if count > 0},
                 "adapters": {adapter for adapter, count in self.frozen_adapters.items() if count > 0}}
 
+    def openings_in(self, kind, number, round):
+        """How many openings a device, an adapter or a link has in the round."""
+        if kind != "dev":
+            return self.openings(kind, number)
+        changed = [first for first in self.changes.get(number, {}) if first <= round]
+        return self.changes[number][max(changed)] if changed else self.openings(kind, number)
+
+    def cap(self, kind, number, round):
+        """How many it takes in the round: as many as it has openings, or as many as it sent if it was frozen at some place of it."""
+        part = kind, number, round
+        return self.sent.get(part, 0) if part in self.frozen_in else self.openings_in(*part)
+
 
 class Recording(Input):
     """The requests of a recording, and how many each device, adapter and link takes in each round."""
@@ -133,7 +165,7 @@ class Recording(Input):
         self.commands = self.stays
 
     def on_unit(self, count, unit, *_):
-        self.unit = int(count) * NANOSECONDS[unit]
+        self.unit, self.unit_fields = int(count) * NANOSECONDS[unit], [count, unit]
 
     def on_name(self, kind, number, name, *_):
         self.names[kind, int(number)] = name
@@ -148,11 +180,6 @@ class Recording(Input):
     def on_request(self, driver, device, priority, arrival, last, sent, *_):
         self.stays.append({"ccb": len(self.stays), "try": 0, **self.command(driver, device, priority), "arrival": int(arrival),
                            "last": int(last) if last else None, "live": int(sent)})
-
-    def openings(self, kind, number):
-        if kind == "dev":
-            return self.devices[number]["openings"]
-        return self.adapters[number][0] if kind == "sim" else self.links[number]
 
     def cap(self, kind, number, round):
         return self.caps.get((kind, number, round), self.openings(kind, number))

@@ -28,6 +28,9 @@ class Request:
     driver: str
     priority: int
     started: int | None = None
+    completed: int | None = None
+    # When it was put back; as retried, only if the next attempt is taken.
+    put_back: int | None = None
     retried: int | None = None
     place: int | None = None
     size: int = 0
@@ -83,6 +86,8 @@ class Reader:
     def __init__(self, options: Options) -> None:
         self.options = options
         self.requests: list[Request] = []
+        # All, by arrival, once the capture is finished.
+        self.found: list[Request] = []
         self.devices: list[str] = []
         self.drivers: list[str] = []
         self.counts = dict.fromkeys(COUNTS, 0)
@@ -122,8 +127,10 @@ class Reader:
         """The requests at the times that are taken, by arrival, of the devices as which theirs are listed."""
         found = sorted(self.all(), key=lambda request: request.arrival)
         taken = [request for request in found if self.options.begin <= request.arrival < self.options.end]
-        for request in taken:
+        for request in found:
             request.device = self.options.listed(request.device) or ""
+        self.found = found
+        for request in taken:
             request.retried = request.retried if request.retried is None or request.retried < self.options.end else None
         self.counts["other_times"] = len(found) - len(taken)
         self.counts["never_started"] = sum(request.started is None for request in taken)
@@ -140,6 +147,9 @@ class Blkparse(Reader):
         self.last = 0
         self.waiting: list[Request] = []
         self.running: list[Request] = []
+        # Those that arrived before the capture began, from their starts on: in flight, and all.
+        self.early: list[Request] = []
+        self.early_all: list[Request] = []
         self.starts: set[str] = set()
         self.ended: list[str] = []
 
@@ -209,13 +219,22 @@ class Blkparse(Reader):
         if action in "MF":
             return
         request = pick(self.waiting if action == "D" else self.running, device, place)
-        if request is not None and action == "D":
+        early = pick(self.early, device, place) if request is None and action != "D" else None
+        if early is not None:
+            self.counts["without_arrival"] += 1
+            early.completed, early.put_back = (time, None) if action == "C" else (None, time)
+        elif request is not None and action == "D":
             request.started, request.size = time, end - (place or 0)
             self.running.append(request)
+        elif request is not None and action == "C":
+            request.completed = time
         elif request is not None and action == "R":
-            request.retried = time
+            request.retried = request.put_back = time
             self.waiting.append(self.add(Request(time, device, request.driver, request.priority, place=place), False))
         elif request is None:
+            if action == "D":
+                self.early.append(Request(time, device, process, 0, started=time, place=place))
+                self.early_all.append(self.early[-1])
             ended = pick(self.waiting, device, place) if action == "C" else None
             self.counts["without_arrival"] += ended is None
             if ended is not None:
@@ -330,14 +349,15 @@ class Csv(Reader):
         must(len(row) == len(self.header))
         cells = dict(zip(self.header, row))
         arrival = time_of(cells["arrival"], self.digits)
-        started, _ = (time_of(cells[n], self.digits) if cells.get(n) else None for n in ("start", "end"))
+        started, completed = (time_of(cells[n], self.digits) if cells.get(n) else None for n in ("start", "end"))
         message, driver = number(cells.get("priority") or "896"), cells.get("driver") or "driver"
         must(message <= 1279 and (started is None or started >= arrival))
+        must(completed is None or (started is not None and completed >= started))
         if self.options.listed(cells["device"]) is None:
             self.counts["other_devices"] += 1
         else:
             taken = self.options.begin <= arrival < self.options.end
-            self.add(Request(arrival, cells["device"], driver, self.priority(driver, message, 896), started), taken)
+            self.add(Request(arrival, cells["device"], driver, self.priority(driver, message, 896), started, completed), taken)
 
     def all(self) -> list[Request]:
         if not self.header:

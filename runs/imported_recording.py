@@ -34,6 +34,13 @@ def caps(numbers, usual):
     return runs
 
 
+def spelled(rows):
+    """The text of these rows."""
+    text = io.StringIO()
+    csv.writer(text, lineterminator="\n").writerows([*row, *[""] * (8 - len(row))] for row in rows)
+    return text.getvalue()
+
+
 def exact(time):
     """That many nanoseconds as a number and its unit, the coarsest in which it is whole."""
     return next((time // size, unit) for unit, size in reversed(UNITS.items()) if time % size == 0 and time // size <= MAX_COUNT)
@@ -105,9 +112,7 @@ def recording(reader, taken, span, unit):
         end = max(start, at(request.retried) - 1) if request.retried is not None else last
         rows.append(("request", reader.drivers.index(request.driver), reader.devices.index(request.device), request.priority,
                      at(request.arrival), end if end < last else "", start))
-    text = io.StringIO()
-    csv.writer(text, lineterminator="\n").writerows([*row, *[""] * (8 - len(row))] for row in rows)
-    return text.getvalue(), last
+    return spelled(rows), last
 
 
 def warnings(reader, taken, half, span):

@@ -1,0 +1,286 @@
+#!/usr/bin/env python3
+"""Reckons from the requests of a capture what a disk could have taken: slots, service time, spare starts and caps; and the recording, of
+either version. Times of requests are whole nanoseconds, and all numbers exact integers. `waits_model.py` goes on from the recording.
+
+Run as a script it is `slots_held.py`, which holds both against a slow reckoning and against the figures of real captures."""
+from __future__ import annotations
+
+import collections
+import itertools
+import sys
+from dataclasses import dataclass, field
+
+import imported_model
+import imported_recording
+
+MAX_CAP, MAX_OPENINGS, MAX_ROUND = 65_535, 255, 4_294_967_295
+# With fewer requests that took the last slot, the service time is that of all.
+ENOUGH = 16
+
+
+@dataclass(frozen=True)
+class Request:
+    """One attempt of a request, in ns. Without an arrival: the capture began later. Without a start: it was never started. It ends by
+    a completion, or is put back, or neither is known. A flush holds no slot."""
+    device: str
+    driver: str
+    priority: int
+    arrival: int | None
+    start: int | None
+    completion: int | None = None
+    put_back: int | None = None
+    is_flush: bool = False
+
+
+@dataclass
+class Capture:
+    """All attempts of the devices that are taken, those with an arrival by arrival; and what the options say: the times that are
+    taken, from `begin` up to before `end`; the adapter and its openings of a device; the openings that a device is rated at; and its
+    slots. The names of devices and drivers are in the order of their numbers. `links` (no capture has them) are the openings of each
+    link, and `on_link` says on which one an adapter is."""
+    requests: list[Request]
+    devices: list[str]
+    drivers: list[str]
+    begin: int = 0
+    end: int = 2**64
+    hosts: dict[str, tuple[int, int]] = field(default_factory=dict)
+    rated: dict[str, int] = field(default_factory=dict)
+    depths: dict[str, int] = field(default_factory=dict)
+    links: list[int] = field(default_factory=list)
+    on_link: dict[int, int] = field(default_factory=dict)
+
+    def is_taken(self, request: Request) -> bool:
+        return request.arrival is not None and request.start is not None and self.begin <= request.arrival < self.end
+
+    def taken(self) -> list[Request]:
+        """The requests of the recording, in its order."""
+        return [request for request in self.requests if self.is_taken(request)]
+
+    def of(self, device: str) -> list[Request]:
+        return [request for request in self.requests if request.device == device]
+
+
+class Refused(Exception):
+    """What the options say can't be."""
+
+
+# Slots
+
+
+def mean(times: list[int]) -> int:
+    """Rounded up."""
+    return -(-sum(times) // len(times))
+
+
+def times_of_service(requests: list[Request]) -> list[int]:
+    return [r.completion - r.start for r in requests if r.completion is not None and r.start is not None and not r.is_flush]
+
+
+def in_slots(requests: list[Request]) -> list[tuple[Request, int, int]]:
+    """Who holds a slot, from when and until when. A completion has to be known."""
+    usual = mean(times_of_service(requests))
+    held = []
+    for request in requests:
+        if request.start is not None and not request.is_flush:
+            known = [time for time in (request.completion, request.put_back) if time is not None]
+            held.append((request, request.start, known[0] if known else request.start + usual))
+    return held
+
+
+def counts(spans: list[tuple[int, int]]) -> list[tuple[int, int]]:
+    """How many of the half open spans there are from a time on, where that changes."""
+    changes: collections.Counter[int] = collections.Counter()
+    for first, end in spans:
+        changes[first] += 1
+        changes[end] -= 1
+    times = sorted(changes)
+    return list(zip(times, itertools.accumulate(changes[time] for time in times)))
+
+
+@dataclass
+class Device:
+    """What a device could have taken. `spans` are those in which a level is idle and a request waits: the level, the first ns, and the
+    first one after it. `spare` are the spare starts by round. Where slots can't be seen, there is no service time."""
+    slots: int
+    in_flight: int
+    service: int | None
+    by_last_slot: int = 0
+    spans: list[tuple[int, int, int]] = field(default_factory=list)
+    spare: collections.Counter[int] = field(default_factory=collections.Counter)
+
+    @property
+    def spare_starts(self) -> int:
+        return sum(self.spare.values())
+
+
+def device_of(capture: Capture, name: str, begin: int, span: int) -> Device:
+    """What a device could have taken, in rounds of so many ns from `begin` on."""
+    own = capture.of(name)
+    if not any(times_of_service(own)):
+        return Device(1, 0, None)
+    held = in_slots(own)
+    flying = counts([(first, end) for _, first, end in held if first < end])
+    most = max(number for _, number in flying)
+    if capture.depths.get(name, most) < most:
+        raise Refused(f"{name}: {most} were in flight")
+    device = Device(capture.depths.get(name, most), most, None)
+    # The last slot is taken by who was in flight when it was started, and as many as ever with it.
+    at = dict(flying)
+    took = times_of_service([request for request, first, end in held if first < end and at.get(first) == most])
+    device.by_last_slot = len(took)
+    device.service = mean(took if len(took) >= ENOUGH else times_of_service(own))
+    waiting = counts([(r.arrival, r.start) for r in own if capture.is_taken(r) and r.arrival < r.start])
+    device.spans = idle_spans(device.slots, flying, waiting)
+    for _, first, end in device.spans:
+        spread(device.spare, first, (end - first) // device.service, device.service, begin, span)
+    return device
+
+
+def idle_spans(slots: int, flying: list[tuple[int, int]], waiting: list[tuple[int, int]]) -> list[tuple[int, int, int]]:
+    """The maximal spans in which a level is idle and a request waits."""
+    flies, waits, fly, wait = dict(flying), dict(waiting), 0, 0
+    # While a request waits, the levels from the lowest idle one on have a span, which has begun at some time.
+    lowest, begun, spans = slots + 1, {}, []
+    for time in sorted({*flies, *waits}):
+        fly, wait = flies.get(time, fly), waits.get(time, wait)
+        now = fly + 1 if wait > 0 else slots + 1
+        spans += [(level, begun.pop(level), time) for level in range(lowest, now)]
+        begun |= dict.fromkeys(range(now, lowest), time)
+        lowest = now
+    return spans
+
+
+def spread(spare: collections.Counter[int], first: int, count: int, service: int, begin: int, span: int) -> None:
+    """Puts so many spare starts into their rounds: one at `first`, and the others one service time after the other."""
+    while count > 0:
+        round = 1 + (first - begin) // span
+        within = min(count, -(-(begin + round * span - first) // service))
+        spare[round] += within
+        first, count = first + within * service, count - within
+
+
+# Rounds and caps
+
+
+@dataclass
+class Resources:
+    """The caps of all rounds, from round 1 on, and the usual number, of devices, adapters and links; where a device and an adapter
+    are."""
+    devices: list[list[int]]
+    adapters: list[list[int]]
+    device_openings: list[int]
+    adapter_openings: list[int]
+    adapter_of: list[int]
+
+
+def caps_of_device(sent: list[int], waits: list[bool], spare: list[int], rated: int | None) -> tuple[list[int], int]:
+    """The caps of a device, and what is usual: by what was started in a round, whether a request waits at its end, and how many
+    spare starts fall into it."""
+    if rated is not None:
+        return [max(rated, number) for number in sent], rated
+    pressed = [number for number, is_waiting in zip(sent, waits) if is_waiting]
+    usual = min(MAX_OPENINGS, max(1, imported_recording.lower_median(pressed)))
+    room = [min(MAX_CAP, number + more) for number, more in zip(sent, spare)]
+    return [number if is_waiting else max(number, usual) for number, is_waiting in zip(room, waits)], usual
+
+
+class Rounds:
+    """The requests that are taken, in rounds of so many ns. Round 1 begins when the first one arrives."""
+
+    def __init__(self, capture: Capture, span: int, with_slots: bool = True) -> None:
+        self.capture, self.span, self.taken = capture, span, capture.taken()
+        self.begin = self.taken[0].arrival
+        self.last = max(self.at(request.start) for request in self.taken)
+        self.devices = {name: device_of(capture, name, self.begin, span) for name in capture.devices} if with_slots else {}
+
+    def at(self, time: int) -> int:
+        return 1 + (time - self.begin) // self.span
+
+    def sent_and_waiting(self, name: str) -> tuple[list[int], list[bool]]:
+        """How many of a device's requests were started in each round, and whether one waits at its end."""
+        sent, change = [0] * (self.last + 1), [0] * (self.last + 2)
+        for request in self.taken:
+            if request.device == name:
+                sent[self.at(request.start)] += 1
+                change[self.at(request.arrival)] += 1
+                change[self.at(request.start)] -= 1
+        return sent[1:], [number > 0 for number in itertools.accumulate(change)][1:self.last + 1]
+
+    def resources(self) -> Resources:
+        capture = self.capture
+        caps, usual, loads = [], [], []
+        for name in capture.devices:
+            sent, waits = self.sent_and_waiting(name)
+            spare = self.devices[name].spare if name in self.devices else {}
+            own, openings = caps_of_device(sent, waits, [spare.get(round, 0) for round in range(1, self.last + 1)], capture.rated.get(name))
+            caps, usual, loads = [*caps, own], [*usual, openings], [*loads, sent]
+        given = {name: capture.hosts[name] for name in capture.devices if name in capture.hosts}
+        last = max((adapter for adapter, _ in given.values()), default=-1)
+        adapter_of = [given[name][0] if name in given else last + 1 for name in capture.devices]
+        openings_of = dict(given.values())
+        adapter_caps, adapter_openings = [], []
+        for adapter in range(max([last, *adapter_of]) + 1):
+            own = [device for device, at in enumerate(adapter_of) if at == adapter]
+            together = sum(usual[device] for device in own)
+            openings = openings_of.get(adapter)
+            adapter_openings.append(openings or max(1, min(MAX_OPENINGS, together)))
+            least = loads if openings else caps
+            numbers = [min(MAX_CAP, max(adapter_openings[-1], sum(least[device][at] for device in own))) for at in range(self.last)]
+            adapter_caps.append([MAX_CAP] * self.last if not openings and together > MAX_OPENINGS else numbers)
+        return Resources(caps, adapter_caps, usual, adapter_openings, adapter_of)
+
+    def text(self, unit: tuple[int, str], version: int | None = None) -> str:
+        """The recording: of version 2 where a completion is known, or of the given one."""
+        capture, resources = self.capture, self.resources()
+        version = version or (2 if any(request.completion is not None for request in self.taken) else 1)
+        rows = [(f"camrecord{version}", *"abcdefg"), ("unit", *unit), ("rounds", self.last)]
+        rows += [("weight", *row) for row in imported_recording.WEIGHTS] + [("link", openings) for openings in capture.links]
+        rows += [("sim", openings, capture.on_link.get(adapter, "")) for adapter, openings in enumerate(resources.adapter_openings)]
+        for device, adapter in enumerate(resources.adapter_of):
+            rows.append(("dev", adapter, resources.adapter_of[: device + 1].count(adapter), 0, resources.device_openings[device]))
+        for kind, names in ("driver", capture.drivers), ("dev", capture.devices):
+            rows += [("name", kind, number, name) for number, name in enumerate(names) if imported_recording.is_name(name)]
+        rows += cap_rows("dev", resources.devices, resources.device_openings)
+        rows += cap_rows("sim", resources.adapters, resources.adapter_openings)
+        for request in self.taken:
+            start = self.at(request.start)
+            is_retried = request.put_back is not None and request.put_back < capture.end
+            end = max(start, self.at(request.put_back) - 1) if is_retried else self.last
+            done = None if request.completion is None else self.at(request.completion)
+            done = done if version == 2 and done is not None and done <= MAX_ROUND else ""
+            rows.append(("request", capture.drivers.index(request.driver), capture.devices.index(request.device), request.priority,
+                         self.at(request.arrival), end if end < self.last else "", start, done))
+        return imported_recording.spelled(rows)
+
+
+def cap_rows(kind: str, caps: list[list[int]], openings: list[int]) -> list[tuple]:
+    return [("cap", kind, number, *run) for number, own in enumerate(caps) for run in imported_recording.caps(own, openings[number])]
+
+
+# Reading
+
+
+def capture_of(reader: imported_model.Reader, **more: dict) -> Capture:
+    """The capture that a reader has read."""
+    reader.finish()
+    options, is_blkparse = reader.options, isinstance(reader, imported_model.Blkparse)
+    requests = [(request, request.device, request.arrival) for request in reader.found]
+    requests += [(request, options.listed(request.device), None) for request in (reader.early_all if is_blkparse else [])]
+    attempts = [Request(device, r.driver, r.priority, arrival, r.started, r.completed, r.put_back, is_blkparse and r.place is None)
+                for r, device, arrival in requests]
+    hosts = {name: (adapter, openings) for name, adapter, openings in options.hosts}
+    return Capture(attempts, list(reader.devices), list(reader.drivers), options.begin, options.end, hosts, **more)
+
+
+def read_blkparse(text: str, options: imported_model.Options, **more: dict) -> Capture:
+    reader = imported_model.Blkparse(options)
+    for line in text.splitlines():
+        reader.take(line)
+    reader.end()
+    return capture_of(reader, **more)
+
+
+if __name__ == "__main__":
+    import slots_held
+
+    sys.exit(slots_held.main(sys.argv[1:]))

@@ -15,6 +15,7 @@ use Rattle.record_text.proofs.FaultLaws.{Gives, first_fault}
 use Rattle.recording_file.specs.Recorded.{Recorded}
 use Rattle.recording_file.specs.declared.limits.TheConstants.{MAX_RECORDING_BYTES}
 use Rattle.recording_file.specs.Reading as recordings
+use Rattle.recording_file.specs.Recordings as recorded
 use Rattle.record_text.specs.Text.{Row, records_in}
 use Rattle.recording_file.specs.Whole.{max_bytes, IsTooLong}
 use Rattle.recording_file.specs.declared.recording_fault.RecordingFault.{RecordingFault}
@@ -150,9 +151,14 @@ unfolding traces.reading
 trace_fault_of text e short is =
     trace_laws.faults_law traces.step traces.ended _ (Some text) (Some []) false text (Err e) trace_laws.reading_fails (record { bounded = short; read = sym (append-nil text); ended = refl }) (λ other. sym is)
 
-fault_unheaded : (text : List ℕ) (e : AuditFault) → recordings.reading (records_in text) ≡ Err recording_fault.BadHeader → parsed_unheaded text ≡ Err e → SaysFault text e
-unfolding parsed_unheaded recordings.reading traces.reading
-fault_unheaded text e bare h = by (nat_le (length text) MAX_BYTES) (traces.reading (records_in text)) refl refl h
+recording_fault_of : (text : List ℕ) (e : RecordingFault) → length text ≤ max_bytes text → recordings.reading (records_in text) ≡ Err e → recorded.WasFaulty (Some text) (Some []) e
+unfolding recordings.reading
+recording_fault_of text e bound is =
+    record { text = text; whole = record { bounded = bound; read = sym (append-nil text); ended = refl }; fault = first_fault recordings.step recordings.ended _ (records_in text) e is }
+
+fault_unheaded : (text : List ℕ) (e : AuditFault) → length text ≤ max_bytes text → recordings.reading (records_in text) ≡ Err recording_fault.BadHeader → parsed_unheaded text ≡ Err e → SaysFault text e
+unfolding parsed_unheaded traces.reading
+fault_unheaded text e bound bare h = by (nat_le (length text) MAX_BYTES) (traces.reading (records_in text)) refl refl h
   where
     by : (b : Bool) (r : Result Past TraceFault) → nat_le (length text) MAX_BYTES ≡ b → traces.reading (records_in text) ≡ r → cond b (as_trace r) (Err (fault.Recording recording_fault.BadHeader)) ≡ Err e → SaysFault text e
     by true (Ok past) short was k = absurd cc
@@ -164,18 +170,18 @@ fault_unheaded text e bare h = by (nat_le (length text) MAX_BYTES) (traces.readi
         })
     by false r short was k =
         let same : fault.Recording recording_fault.BadHeader ≡ e = cc in
-        subst (SaysFault text) same (record { first = first_fault recordings.step recordings.ended _ (records_in text) recording_fault.BadHeader bare; none = λ g is. absurd cc })
+        subst (SaysFault text) same (record { first = recording_fault_of text recording_fault.BadHeader bound bare; none = λ g is. absurd cc })
 
-fault_of : (text : List ℕ) (e : AuditFault) → parsed text ≡ Err e → SaysFault text e
-unfolding parsed recordings.reading
-fault_of text e h = by (recordings.reading (records_in text)) refl h
+fault_of : (text : List ℕ) (e : AuditFault) → length text ≤ max_bytes text → parsed text ≡ Err e → SaysFault text e
+unfolding parsed
+fault_of text e bound h = by (recordings.reading (records_in text)) refl h
   where
     by : (r : Result Recorded RecordingFault) → recordings.reading (records_in text) ≡ r → as_either text r ≡ Err e → SaysFault text e
     by (Ok r) is k = absurd cc
-    by (Err recording_fault.BadHeader) is k = fault_unheaded text e is k
+    by (Err recording_fault.BadHeader) is k = fault_unheaded text e bound is k
     by (Err f) is k =
         let same : fault.Recording f ≡ e = cc in
-        subst (SaysFault text) same (record { first = first_fault recordings.step recordings.ended _ (records_in text) f is; none = λ g was. absurd cc })
+        subst (SaysFault text) same (record { first = recording_fault_of text f bound is; none = λ g was. absurd cc })
 
 not_read : (before after : Option (List ℕ)) (failed : Bool) (text : List ℕ) → IsLongWhole before after text → (e : AuditFault) → SaysFault text e → WhyNotRead before after failed e
 not_read before after failed text whole (fault.Trace trace_fault.TooLong) h = absurd (h.none trace_fault.TooLong refl)
@@ -194,7 +200,7 @@ pub faults_read : (before after : Option (List ℕ)) (failed : Bool) (text : Lis
 faults_read before after failed text (Ok i) whole h = tt
 faults_read before after failed text (Err (fault.Trace trace_fault.OutOfMemory)) whole h = tt
 faults_read before after failed text (Err (fault.Recording recording_fault.OutOfMemory)) whole h = tt
-faults_read before after failed text (Err e) whole h = not_read before after failed text whole e (fault_of text e (sym h))
+faults_read before after failed text (Err e) whole h = not_read before after failed text whole e (fault_of text e whole.bounded (sym h))
 
 answered : (i : Input) (r : Result Input AuditFault) → AsRead r (Ok i) → IsReadOrFailed i r
 answered i (Ok read) h = let same : read ≡ i = cc in same

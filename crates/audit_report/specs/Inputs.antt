@@ -5,9 +5,8 @@ use Rattle.audit_report.specs.Words.{prefixed, Stay, NetRows, net_of, instance_o
 use Rattle.audit_report.specs.Words.{net_of_recording, IsRecording, IsRecordingText, IsLongWhole}
 use Rattle.recording_file.specs.Whole.{IsTooLong}
 use Rattle.recording_file.specs.Reading as recordings
-use Rattle.record_text.specs.Faults.{IsFirstFault}
+use Rattle.recording_file.specs.Recordings as recorded
 use Rattle.record_text.specs.Text.{records_in}
-use Rattle.recording_file.specs.declared.recording_parser.RecordingParser.TheVariants as parser
 use Rattle.recording_file.specs.declared.recording_fault.RecordingFault.TheVariants as recording_fault
 use Rattle.report_text.specs.declared.report_fault.ReportFault.TheVariants as report_fault
 use Rattle.trace_file.specs.Trace as traced
@@ -64,7 +63,7 @@ pub record WasRead (before after : Option (List ℕ)) (i : Input) : Type 0 where
 abbrev pub IsFaultOf : List ℕ → AuditFault → Type 0
 IsFaultOf text (fault.Trace e) =
     (recordings.reading (records_in text) ≡ Err recording_fault.BadHeader) × traced.Explains (Some text) (Some []) false e
-IsFaultOf text (fault.Recording e) = IsFirstFault recordings.step recordings.ended parser.Header (records_in text) e
+IsFaultOf text (fault.Recording e) = recorded.WasFaulty (Some text) (Some []) e
 IsFaultOf text _ = ⊥
 
 -- what was read to its end has this fault

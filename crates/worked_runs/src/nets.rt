@@ -69,7 +69,7 @@ fn show_adapters(rt: &HostRuntime, net: &Net) -> io::Result<()> {
 
 fn show_links(rt: &HostRuntime, net: &Net) -> io::Result<()> {
     for link in 0..net.links() {
-        print!(rt; "link {link} row {} takes", net.link_row(link))?;
+        print!(rt; "link {link} row {} takes", net.link_resource(link))?;
         for round in 1..net.rounds() + 1 {
             print!(rt; " {}", net.link_cap(link, round))?;
         }

@@ -11,3 +11,4 @@ pub mod ConfigLemmas
 pub mod WritingLemmas
 pub mod RowSizes
 pub mod GoodRows
+pub mod ConfigLaws

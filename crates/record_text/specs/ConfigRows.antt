@@ -78,3 +78,6 @@ adapter_row a = padded (codes "sim" ∷ decimal a.openings ∷ optional_text a.l
 
 abbrev pub device_row : Device → Row
 device_row d = padded (codes "dev" ∷ decimal d.bus ∷ decimal d.target ∷ decimal d.lun ∷ decimal d.openings ∷ [])
+
+abbrev pub lane_row : ℕ → Row
+lane_row adapter = padded (codes "lane" ∷ decimal adapter ∷ [])

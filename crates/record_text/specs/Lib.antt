@@ -8,3 +8,4 @@ pub mod Header
 pub mod ConfigRows
 pub mod Writing
 pub mod Faults
+pub mod ConfigParsing

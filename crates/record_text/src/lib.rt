@@ -3,6 +3,8 @@
 #![tactic(auto)]
 
 pub use applying::take_records;
+pub use config_parser::ConfigParser;
+pub use config_row::ConfigRow;
 pub use config_rows::{adapter_at, device_at, one_number, two_numbers, weight_at};
 pub use config_writer::{write_adapters, write_devices, write_links, write_weights};
 pub use device_row::DeviceRow;
@@ -14,6 +16,8 @@ pub use text_front::front;
 pub use write_fault::WriteFault;
 
 mod applying;
+mod config_parser;
+mod config_row;
 mod config_rows;
 mod config_writer;
 mod device_row;

@@ -4,8 +4,8 @@ use Rattle.std.proofs.lemmas.List.{length-map}
 use Rattle.trace_file.specs.EventRecord.{IsEventRecord, counted}
 use Rattle.record_text.specs.Text.{Row, records_in}
 use Rattle.trace_file.specs.Histories.{Past}
-use Rattle.trace_file.specs.Records.{event_row, header, lane_row, records_of, weight_rows}
-use Rattle.record_text.specs.ConfigRows.{adapter_row, device_row, link_row}
+use Rattle.trace_file.specs.Records.{event_row, header, records_of, weight_rows}
+use Rattle.record_text.specs.ConfigRows.{adapter_row, device_row, link_row, lane_row}
 use Rattle.record_text.specs.Steps.{taken}
 use Rattle.trace_file.specs.Trace.{IsTrace}
 use Rattle.trace_file.specs.declared.event_number.RecordCount.{RecordCount}

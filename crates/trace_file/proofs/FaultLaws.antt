@@ -2,8 +2,13 @@
 use Rattle.std.proofs.Common.{◌≡◌, ℕ, List, [], Bool, refl, sym}
 use Rattle.std.specs.Prelude.{Option, Some, None, Result, Ok, Err, ok_or, ⊤, IfErr}
 use Rattle.cam_types.specs.Whole.{IsWhole}
-use Rattle.trace_file.specs.Histories.{ConfigFault, BadWeight, Past, Refusal}
-use Rattle.trace_file.specs.Reading.{add_weight, add_link, config_of, lacking, version_of, lacks_weights, add_adapter, add_device, add_event, add_lane, add_row, ended, has_links, in_record, lacks_adapters, placed, reading, row_step, step, unless_fault, unless_refused, TraceFault, TraceParser}
+use Rattle.trace_file.specs.Histories.{ConfigFault, Event, Past, Refusal}
+use Rattle.record_text.specs.ConfigParsing as parsing
+use Rattle.record_text.specs.ConfigParsing.{lacking, lacks_adapters, pushed, row_fault, with_row}
+use Rattle.record_text.specs.declared.config_parser.ConfigParser.{ConfigParser}
+use Rattle.record_text.specs.declared.config_row.ConfigRow.{ConfigRow}
+use Rattle.record_text.specs.declared.config_row.ConfigRow.TheVariants as row
+use Rattle.trace_file.specs.Reading.{add_event, add_row, configured, ended, in_config, in_record, placed, reading, row_step, step, take_word, unless_refused, version_of, TraceFault, TraceParser}
 use Rattle.record_text.specs.Header.{is_header}
 use Rattle.trace_file.specs.declared.trace_fault.TraceFault.TheVariants as fault
 use Rattle.trace_file.specs.declared.trace_parser.TraceParser.TheVariants as parser
@@ -31,9 +36,12 @@ IsOfText _ = ⊤
 abbrev pub FailsByText : {X : Type 0} → Result X TraceFault → Type 0
 FailsByText r = FailsBy IsOfText r
 
-pub by_config : (n : ℕ) (o : Option ConfigFault) (s : TraceParser) → FailsByText (unless_fault n o s)
-by_config n None s = tt
-by_config n (Some f) s = tt
+by_config : (n : ℕ) (o : Option ConfigFault) (c : ConfigParser) → FailsByText (in_config n (parsing.unless_fault o c))
+by_config n None c = tt
+by_config n (Some f) c = tt
+
+pub by_configured : (n : ℕ) (c : ConfigParser) → FailsByText (configured n c)
+by_configured n c = by_test IsOfText (lacks_adapters c) (Err (fault.BadConfig n (lacking c))) (Ok c.partial) tt tt
 
 pub by_refusal : (n : ℕ) (o : Option Refusal) (s : TraceParser) → FailsByText (unless_refused n o s)
 by_refusal n None s = tt
@@ -43,28 +51,39 @@ pub by_field : {X : Type 0} (n : ℕ) (r : Result X ℕ) → FailsByText (in_rec
 by_field n (Ok x) = tt
 by_field n (Err k) = tt
 
-pub row_fails : (n : ℕ) (s : TraceParser) (w : TraceWord) (row : Row) → FailsByText (add_row n s w row)
-unfolding add_row add_weight add_link add_adapter add_device add_lane add_event
-row_fails n s word.Weight row = bound IsOfText (in_record n (weight_at row)) _ (by_field n (weight_at row)) (λ m. by_test IsOfText (has_links s) (Err (fault.BadConfig n (lacking (config_of s).weights))) _ tt (by_config n _ _))
-row_fails n s word.Link row = bound IsOfText (in_record n (one_number row)) _ (by_field n (one_number row)) (λ k. by_test IsOfText (lacks_weights s) (Err (fault.BadConfig n BadWeight)) _ tt (by_config n _ _))
-row_fails n s word.Sim row = bound IsOfText (in_record n (adapter_in (version_of s) row)) _ (by_field n (adapter_in (version_of s) row)) (λ a. by_test IsOfText (lacks_weights s) (Err (fault.BadConfig n BadWeight)) _ tt (by_config n _ _))
-row_fails n s word.Dev row = bound IsOfText (in_record n (device_at row)) _ (by_field n (device_at row)) (λ d. by_test IsOfText (lacks_adapters s) (Err (fault.BadConfig n (lacking (config_of s).weights))) _ tt (by_config n _ _))
-row_fails n s word.Lane row = bound IsOfText (in_record n (one_number row)) _ (by_field n (one_number row)) (λ a. by_test IsOfText (lacks_adapters s) (Err (fault.BadConfig n (lacking (config_of s).weights))) _ tt (by_config n _ _))
-row_fails n s w row = bound IsOfText (in_record n (event_at w row)) _ (by_field n (event_at w row)) (λ e. by_test IsOfText (lacks_adapters s) (Err (fault.BadConfig n (lacking (config_of s).weights))) _ tt (by_refusal n _ _))
+add_fails : (n : ℕ) (s : TraceParser) (r : ConfigRow) → FailsByText (add_row n s r)
+unfolding with_row
+add_fails n (parser.Config v c) r = bound IsOfText (in_config n (with_row c r)) _ (by_config n (row_fault c r) (pushed c r)) (λ d. tt)
+add_fails n _ r = tt
+
+event_fails : (n : ℕ) (s : TraceParser) (e : Event) → FailsByText (add_event n s e)
+event_fails n parser.Header e = tt
+event_fails n (parser.Config v c) e = bound IsOfText (configured n c) _ (by_configured n c) (λ t. by_refusal n _ _)
+event_fails n (parser.Events p) e = by_refusal n _ _
+
+word_fails : (n : ℕ) (s : TraceParser) (w : TraceWord) (fields : Row) → FailsByText (take_word n s w fields)
+unfolding take_word
+word_fails n s word.Weight fields = bound IsOfText (in_record n (weight_at fields)) _ (by_field n (weight_at fields)) (λ x. add_fails n s (row.Weight x))
+word_fails n s word.Link fields = bound IsOfText (in_record n (one_number fields)) _ (by_field n (one_number fields)) (λ x. add_fails n s (row.Link x))
+word_fails n s word.Sim fields = bound IsOfText (in_record n (adapter_in (version_of s) fields)) _ (by_field n (adapter_in (version_of s) fields)) (λ x. add_fails n s (row.Sim x))
+word_fails n s word.Dev fields = bound IsOfText (in_record n (device_at fields)) _ (by_field n (device_at fields)) (λ x. add_fails n s (row.Dev x))
+word_fails n s word.Lane fields = bound IsOfText (in_record n (one_number fields)) _ (by_field n (one_number fields)) (λ x. add_fails n s (row.Lane x))
+word_fails n s w fields = bound IsOfText (in_record n (event_at w fields)) _ (by_field n (event_at w fields)) (λ e. event_fails n s e)
 
 pub behind_fails : (n : ℕ) (s : TraceParser) (row : Row) → FailsByText (row_step n s row)
 unfolding row_step
-behind_fails n s row = bound IsOfText (ok_or (placed s row) (fault.BadRecord n)) _ (by_word IsOfText (placed s row) (fault.BadRecord n) tt) (λ w. row_fails n s w row)
+behind_fails n s row = bound IsOfText (ok_or (placed s row) (fault.BadRecord n)) _ (by_word IsOfText (placed s row) (fault.BadRecord n) tt) (λ w. word_fails n s w row)
 
 step_fails : (n : ℕ) (s : TraceParser) (row : Row) → FailsByText (step n s row)
 unfolding step
-step_fails n parser.Header row = by_test IsOfText (is_header (name_of version.One) row) (Ok parser.First) _ tt (by_test IsOfText (is_header (name_of version.Two) row) (Ok _) _ tt (by_test IsOfText (is_header (name_of version.Three) row) (Ok _) (Err fault.BadHeader) tt tt))
+step_fails n parser.Header row = by_test IsOfText (is_header (name_of version.One) row) (Ok _) _ tt (by_test IsOfText (is_header (name_of version.Two) row) (Ok _) _ tt (by_test IsOfText (is_header (name_of version.Three) row) (Ok _) (Err fault.BadHeader) tt tt))
 step_fails n s row = behind_fails n s row
 
 end_fails : (s : TraceParser) → FailsByText (ended s)
 unfolding ended
 end_fails parser.Header = tt
-end_fails _ = tt
+end_fails (parser.Config v c) = bound IsOfText (configured _ c) _ (by_configured _ c) (λ t. tt)
+end_fails (parser.Events p) = tt
 
 pub reading_fails : (rows : List Row) → FailsByText (taken step 1 parser.Header rows >>= ended)
 reading_fails rows = bound IsOfText (taken step 1 parser.Header rows) ended (taken_fails IsOfText step step_fails 1 parser.Header rows) end_fails

@@ -4,7 +4,6 @@ pub mod FaultLaws
 pub mod FieldLaws
 pub mod FieldLemmas
 pub mod HexLaws
-pub mod PushLaws
 pub mod RowLaws
 pub mod RowsAgain
 pub mod ScriptAgain

@@ -25,12 +25,7 @@ fault n s = BadRecord n
 long_step : (n : ℕ) (s : TraceParser) (row : Row) → max_fields < length row → step n s row ≡ Err (fault n s)
 unfolding step is_header fault
 long_step n trace.Header row many = rw (not_eight row many) refl
-long_step n trace.First row many = long_row n trace.First row many
-long_step n (trace.Weights v t) row many = long_row n (trace.Weights v t) row many
-long_step n (trace.Links t) row many = long_row n (trace.Links t) row many
-long_step n (trace.Adapters v t) row many = long_row n (trace.Adapters v t) row many
-long_step n (trace.Devices t) row many = long_row n (trace.Devices t) row many
-long_step n (trace.Lanes t) row many = long_row n (trace.Lanes t) row many
+long_step n (trace.Config v c) row many = long_row n (trace.Config v c) row many
 long_step n (trace.Events p) row many = long_row n (trace.Events p) row many
 
 -- in traces ..

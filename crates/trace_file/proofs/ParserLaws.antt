@@ -1,40 +1,44 @@
 -- What the parsers of reading have read is spelled so.
-use Rattle.std.proofs.Common.{◌≡◌, ◌≤◌, ℕ, List, [], ◌∷◌, ◌++◌, length, Bool, true, false, cond, refl, sym, ap, ◌∙◌, subst}
-use Rattle.std.specs.Prelude.{Option, Some, None, Result, Ok, Err, ok_or, ◌==◌, ⊤}
+use Rattle.std.proofs.Common.{◌≡◌, ◌≤◌, ℕ, List, [], ◌∷◌, ◌++◌, length, map, Bool, true, false, cond, refl, sym, ap, ◌∙◌, subst, append_assoc}
+use Rattle.std.specs.Prelude.{Option, Some, None, Result, Ok, Err, ok_or, ◌==◌, ⊤, nat_le}
 use Rattle.std.specs.List.{AllByRecursion, list_all}
-use Rattle.std.proofs.lemmas.Bool.{and_parts, eqb-true, not-false}
+use Rattle.std.proofs.lemmas.Bool.{and_parts, eqb-true}
+use Rattle.std.proofs.lemmas.List.{map-append}
 use Rattle.std.proofs.lemmas.List.Folds.{list_all-append}
 use Rattle.std.proofs.lemmas.Option.{cond_some}
-use Rattle.cam_types.specs.Topology.{IsPartial}
+use Rattle.cam_types.specs.Weights.{are_standard, standard_weights}
+use Rattle.cam_types.specs.declared.config.ConfigError.TheVariants as error
 use Rattle.event_rules.specs.Legal.{history_rules}
 use Rattle.event_rules.proofs.LegalLemmas.{legal-none}
-use Rattle.trace_file.specs.Histories.{Adapter, Topology, WeightRow, reaches_last, Device, Event, Past, ConfigFault, Refusal}
-use Rattle.trace_file.specs.Rows.{adapter_in, event_at, TraceWord}
-use Rattle.record_text.specs.ConfigRows.{device_at, device_of, one_number, weight_row, link_row, adapter_row, device_row, weight_at}
-use Rattle.record_text.specs.declared.device_row.DeviceRow.{DeviceRow}
-use Rattle.trace_file.specs.Reading.{add_weight, add_link, add_adapter, add_device, add_event, add_lane, add_row, config_of, empty, ended, has_links, in_record, lacks_adapters, lacks_weights, past_of, placed, row_step, stands, step, unless_fault, unless_refused, version_of, TraceFault, BadHeader, BadRecord, TraceParser}
+use Rattle.record_text.specs.ConfigParsing.{lacks_adapters, next_rank, pushed, row_rank, rows_then, spelled_row, with_row, IsOrdered}
+use Rattle.record_text.specs.declared.config_parser.ConfigParser.{ConfigParser}
+use Rattle.record_text.specs.declared.config_row.ConfigRow.{ConfigRow}
+use Rattle.cam_types.specs.declared.config.ConfigError.{ConfigError}
+use Rattle.record_text.specs.declared.config_row.ConfigRow.TheVariants as row
+use Rattle.record_text.specs.ConfigRows.{device_at, device_of, one_number, weight_at, link_row, adapter_row, device_row, lane_row}
 use Rattle.record_text.specs.Header.{is_header}
+use Rattle.record_text.specs.Fields.{field_of}
+use Rattle.record_text.specs.Steps.{◌>>=◌}
+use Rattle.record_text.specs.Text.{Row}
+use Rattle.record_text.proofs.ConfigLaws.{behind, ordered_empty, ordered_standard, row_ordered, row_spelled, row_taken}
+use Rattle.record_text.proofs.ListLemmas.{all_push}
+use Rattle.record_text.proofs.RowLaws.{weight_takes, one_takes, device_takes, named_header}
+use Rattle.record_text.proofs.StepLemmas.{ok_or_ok, ok_is, on_ok}
+use Rattle.trace_file.specs.Histories.{Adapter, Topology, Device, Event, Past, Refusal, refusal}
+use Rattle.trace_file.specs.Rows.{adapter_in, event_at, TraceWord}
+use Rattle.trace_file.specs.Reading.{add_event, add_row, configured, ended, first_config, in_config, in_record, past_of, placed, row_step, stands, step, take_word, unless_refused, version_of, TraceFault, BadConfig, BadHeader, BadRecord, TraceParser}
 use Rattle.trace_file.specs.declared.trace_parser.TraceParser.TheVariants as parser
 use Rattle.trace_file.specs.declared.word.TraceWord.TheVariants as word
-use Rattle.record_text.specs.Text.{Row}
-use Rattle.record_text.specs.Fields.{field_of}
-use Rattle.trace_file.specs.Records.{event_row, has_no_links, header, holds, is_unlinked, lane_row, records_of}
-use Rattle.trace_file.specs.Versions.{has_table, name_of, Version}
+use Rattle.trace_file.specs.Records.{event_row, has_no_links, header, holds, is_unlinked, records_of, weight_rows}
+use Rattle.trace_file.specs.Versions.{has_links, has_table, has_word, name_of, Version}
 use Rattle.trace_file.specs.declared.version.Version.TheVariants as version
-use Rattle.cam_types.specs.Weights.{are_standard}
-use Rattle.trace_file.specs.Sound.{IsBegun, IsKept, IsSound}
-use Rattle.record_text.specs.Steps.{◌>>=◌}
+use Rattle.trace_file.specs.Sound.{IsKept, IsSound, MayTake}
 use Rattle.trace_file.specs.Trace.{FitsEvent, IsHistory}
-use Rattle.trace_file.specs.Words.{spelled, word_of}
+use Rattle.trace_file.specs.Words.{spelled, word_of, word_rank}
 use Rattle.trace_file.proofs.FieldLaws.{word_spelled}
-use Rattle.record_text.proofs.StepLemmas.{ok_or_ok, ok_is, on_ok}
-use Rattle.trace_file.proofs.PushLaws.{push_weight, push_link, push_adapter, push_device, push_lane, push_event}
-use Rattle.trace_file.proofs.RowLaws.{can_spell, adapter_in_takes, event_takes, row_is}
-use Rattle.record_text.proofs.RowLaws.{weight_takes, one_takes, device_takes, named_header}
-use Rattle.trace_file.proofs.ParserLemmas.{kept_empty, sound_weight, sound_link, sound_adapter, sound_device, sound_event, sound_lane}
-use Rattle.cam_types.proofs.TopologyLemmas.{standard_partial}
 use Rattle.trace_file.proofs.HexLaws.{guard_some, on_some}
-use Rattle.record_text.proofs.ListLemmas.{all_push}
+use Rattle.trace_file.proofs.ParserLemmas.{kept_empty, may_take, sound_event}
+use Rattle.trace_file.proofs.RowLaws.{can_spell, adapter_in_takes, event_takes, row_is}
 
 -- ---- what a parser has read
 
@@ -46,12 +50,7 @@ rows_at v s = records_of v (past_of s)
 -- a parser comes about in this version
 abbrev pub IsIn : TraceParser → Version → Type 0
 IsIn parser.Header v = ⊤
-IsIn parser.First v = v ≡ version.One
-IsIn (parser.Weights w t) v = (v ≡ w) × (has_table w ≡ true)
-IsIn (parser.Links t) v = v ≡ version.Three
-IsIn (parser.Adapters w t) v = (v ≡ w) × (holds w t ≡ true)
-IsIn (parser.Devices t) v = holds v t ≡ true
-IsIn (parser.Lanes t) v = holds v t ≡ true
+IsIn (parser.Config w c) v = (v ≡ w) × (c.table ≡ has_table w) × (holds w c.partial ≡ true)
 IsIn (parser.Events p) v = holds v p.config ≡ true
 
 -- whether a version holds a configuration doesn't go by its devices and lanes
@@ -69,160 +68,145 @@ holds_more version.One c a alone h = let k = and_parts (are_standard c.weights) 
 holds_more version.Two c a alone h = no_links_more c a alone h
 holds_more version.Three c a alone h = refl
 
--- a version with a table of weights holds them alone
-holds_table : (v : Version) (c : Topology) → has_table v ≡ true → c.links ≡ [] → c.adapters ≡ [] → holds v c ≡ true
-holds_table version.One c table links adapters = absurd cc
-holds_table version.Two c table links adapters = rw (links, adapters) refl
-holds_table version.Three c table links adapters = refl
-
 pub record Reads (v : Version) (s : TraceParser) (rows : List Row) : Type 0 where
   pub spelled : rows ≡ rows_at v s
   pub held : IsIn s v
   pub sound : IsSound s
-  pub targets : AllByRecursion (λ (d : Device). d.target ≤ 65535) (config_of s).devices
+  pub targets : AllByRecursion (λ (d : Device). d.target ≤ 65535) (past_of s).config.devices
   pub events : AllByRecursion FitsEvent (past_of s).events
 
--- a parser has read a configuration and no event
-abbrev Ready : Version → TraceParser → Type 0
-Ready v s = (rows_at v s ≡ records_of v (record { config = config_of s; events = [] })) × (holds v (config_of s) ≡ true)
+-- ---- one row of the configuration more
 
-weight_ready : (v : Version) (s : TraceParser) → IsSound s → IsIn s v → stands s word.Weight ≡ true → has_links s ≡ false → Ready v s × (v ≡ version_of s) × (has_table v ≡ true) × IsSound (parser.Weights (version_of s) (config_of s))
-unfolding IsSound stands
-weight_ready v (parser.Weights w t) h i e l = rw i.0 ((refl, holds_table w t i.1 h.1 h.2), refl, i.1, h)
-weight_ready v _ h i e l = absurd cc
+-- a version can say a row
+abbrev pub CanSay : Version → ConfigRow → Type 0
+CanSay v (row.Weight w) = has_table v ≡ true
+CanSay v (row.Link k) = has_links v ≡ true
+CanSay v (row.Sim a) = can_spell v a ≡ true
+CanSay v (row.Dev d) = d.target ≤ 65535
+CanSay v (row.Lane a) = ⊤
 
--- nothing stands after the links
-abbrev NoneBehind : Topology → Type 0
-NoneBehind t = (t.adapters ≡ []) × (t.devices ≡ []) × (t.lanes ≡ [])
+same_table : (v : Version) (c : ConfigParser) (r : ConfigRow) → CanSay v r → c.table ≡ has_table v → (pushed c r).table ≡ has_table v
+same_table v c (row.Weight w) says h = sym says
+same_table v c (row.Link k) says h = h
+same_table v c (row.Sim a) says h = h
+same_table v c (row.Dev d) says h = h
+same_table v c (row.Lane a) says h = h
 
-link_ready : (v : Version) (s : TraceParser) → IsSound s → IsIn s v → stands s word.Link ≡ true → Ready v s × (v ≡ version.Three) × IsPartial (config_of s) × NoneBehind (config_of s)
-unfolding IsSound stands
-link_ready v (parser.Weights version.Three t) h i e = rw i.0 ((refl, refl), refl, h.0, (h.2, h.3, h.4))
-link_ready v (parser.Links t) h i e = rw i ((refl, refl), refl, h.0, (h.2, h.3, h.4))
-link_ready v _ h i e = absurd cc
+holds_row : (v : Version) (c : ConfigParser) (r : ConfigRow) → CanSay v r → holds v c.partial ≡ true → holds v (pushed c r).partial ≡ true
+holds_row version.One c (row.Weight w) says h = absurd cc
+holds_row version.Two c (row.Weight w) says h = h
+holds_row version.Three c (row.Weight w) says h = refl
+holds_row version.One c (row.Link k) says h = absurd cc
+holds_row version.Two c (row.Link k) says h = absurd cc
+holds_row version.Three c (row.Link k) says h = refl
+holds_row v c (row.Sim a) says h = holds_more v c.partial a says h
+holds_row v c (row.Dev d) says h = holds_same v c.partial (c.partial.devices ++ device_of d ∷ []) c.partial.lanes h
+holds_row v c (row.Lane a) says h = holds_same v c.partial c.partial.devices (c.partial.lanes ++ a ∷ []) h
 
-adapter_ready : (v : Version) (s : TraceParser) → IsSound s → IsIn s v → stands s word.Sim ≡ true → Ready v s × (v ≡ version_of s) × IsPartial (config_of s) × ((config_of s).devices ≡ []) × ((config_of s).lanes ≡ [])
-unfolding IsSound stands
-adapter_ready v parser.First h i e = rw i ((refl, refl), refl, standard_partial, refl, refl)
-adapter_ready v (parser.Weights w t) h i e = rw i.0 ((refl, holds_table w t i.1 h.1 h.2), refl, h.0, h.3, h.4)
-adapter_ready v (parser.Links t) h i e = rw i ((refl, refl), refl, h.0, h.3, h.4)
-adapter_ready v (parser.Adapters w t) h i e = rw i.0 ((refl, i.1), refl, h.0.partial, h.1, h.2)
-adapter_ready v _ h i e = absurd cc
+more_targets : (v : Version) (c : ConfigParser) (r : ConfigRow) → CanSay v r → AllByRecursion (λ (d : Device). d.target ≤ 65535) c.partial.devices → AllByRecursion (λ (d : Device). d.target ≤ 65535) (pushed c r).partial.devices
+more_targets v c (row.Dev d) says h = all_push (λ (x : Device). x.target ≤ 65535) c.partial.devices (device_of d) h says
+more_targets v c (row.Weight w) says h = h
+more_targets v c (row.Link k) says h = h
+more_targets v c (row.Sim a) says h = h
+more_targets v c (row.Lane a) says h = h
 
-device_ready : (v : Version) (s : TraceParser) → IsSound s → IsIn s v → stands s word.Dev ≡ true → lacks_adapters s ≡ false → Ready v s × IsBegun (config_of s) × ((config_of s).lanes ≡ [])
-unfolding IsSound stands
-device_ready v (parser.Adapters w t) h i e l = rw i.0 ((refl, i.1), h.0, h.2)
-device_ready v (parser.Devices t) h i e l = ((refl, i), h.0, h.1)
-device_ready v _ h i e l = absurd cc
+config_ok : (n : ℕ) (r : Result ConfigParser ConfigError) (d : ConfigParser) → in_config n r ≡ Ok d → r ≡ Ok d
+config_ok n (Ok c) d e = cc
+config_ok n (Err (error.Fault f)) d e = absurd cc
+config_ok n (Err error.OutOfMemory) d e = absurd cc
 
-lane_ready : (v : Version) (s : TraceParser) → IsSound s → IsIn s v → stands s word.Lane ≡ true → lacks_adapters s ≡ false → Ready v s × IsBegun (config_of s)
-unfolding IsSound stands
-lane_ready v (parser.Adapters w t) h i e l = rw i.0 ((refl, i.1), h.0)
-lane_ready v (parser.Devices t) h i e l = ((refl, i), h.0)
-lane_ready v (parser.Lanes t) h i e l = ((refl, i), h)
-lane_ready v _ h i e l = absurd cc
+-- a parser with one record more
+reads_next : (v : Version) (next t : TraceParser) (rows : List Row) → next ≡ t → Reads v next rows → Reads v t rows
+reads_next v next t rows same h = subst (λ (x : TraceParser). Reads v x rows) same h
 
-pub event_ready : (v : Version) (s : TraceParser) → IsSound s → IsIn s v → lacks_adapters s ≡ false → (rows_at v s ≡ records_of v (past_of s)) × (holds v (config_of s) ≡ true) × IsKept (past_of s)
-unfolding IsSound
-event_ready v (parser.Adapters w t) h i l = rw i.0 (refl, i.1, kept_empty t h.0)
-event_ready v (parser.Devices t) h i l = (refl, i, kept_empty t h.0)
-event_ready v (parser.Lanes t) h i l = (refl, i, kept_empty t h)
-event_ready v (parser.Events p) h i l = (refl, i, h)
-event_ready v _ h i l = absurd cc
+reads_config : (v w : Version) (n : ℕ) (c : ConfigParser) (t : TraceParser) (r : ConfigRow) (rows : List Row) → Reads v (parser.Config w c) rows → next_rank c ≤ row_rank r → CanSay w r → add_row n (parser.Config w c) r ≡ Ok t → Reads v t (rows ++ spelled_row r ∷ [])
+unfolding IsSound records_of
+reads_config v w n c t r rows h place says e =
+    on_ok (in_config n (with_row c r)) (λ d. Ok (parser.Config w d)) t e (λ d ed k.
+    let took = row_taken c d r (config_ok n (with_row c r) d ed) in
+    let same : parser.Config w (pushed c r) ≡ t = ap (λ (x : ConfigParser). parser.Config w x) took.1 ∙ ok_is _ t k in
+    let held = h.held in
+    let table = same_table w c r says held.1 in
+    let more = row_spelled c r h.sound place took.0 in
+    let front : rows ≡ header w ∷ rows_then c.table c.partial [] = h.spelled ∙ rw (held.0, held.1) refl in
+    reads_next v (parser.Config w (pushed c r)) t (rows ++ spelled_row r ∷ []) same (record {
+      spelled = ap (λ (l : List Row). l ++ spelled_row r ∷ []) front ∙ ap (λ (l : List Row). header w ∷ l) more ∙ rw (held.0, table) refl;
+      held = (held.0, table, holds_row w c r says held.2);
+      sound = row_ordered c r h.sound place took.0;
+      targets = more_targets w c r says h.targets;
+      events = tt;
+    }))
 
--- ---- one item more
+-- a row whose word stands in its place
+reads_row : (v : Version) (n : ℕ) (s t : TraceParser) (w : TraceWord) (r : ConfigRow) (rows : List Row) → Reads v s rows → stands s w ≡ true → word_rank w ≡ row_rank r
+    → ((u : Version) → version_of s ≡ u → has_word u w ≡ true → CanSay u r) → add_row n s r ≡ Ok t → Reads v t (rows ++ spelled_row r ∷ [])
+unfolding stands
+reads_row v n parser.Header t w r rows h place rank says e = absurd cc
+reads_row v n (parser.Config u c) t w r rows h place rank says e =
+    reads_config v u n c t r rows h (may_take (parser.Config u c) w r place rank) (says u refl (and_parts (nat_le (next_rank c) (word_rank w)) _ place).1) e
+reads_row v n (parser.Events p) t w r rows h place rank says e = absurd cc
 
-sound_items : (v : Version) (t : Topology) → IsSound (parser.Weights v t) → (t.links ≡ []) × NoneBehind t
-unfolding IsSound
-sound_items v t h = (h.1, (h.2, h.3, h.4))
-
-reached : (s : TraceParser) → lacks_weights s ≡ false → reaches_last (config_of s).weights ≡ true
-reached s e = not-false _ e
-
-pub no_fault : (n : ℕ) (o : Option ConfigFault) (s t : TraceParser) → unless_fault n o s ≡ Ok t → (o ≡ None) × (s ≡ t)
-no_fault n None s t e = (refl, ok_is s t e)
-no_fault n (Some f) s t e = absurd cc
-
-pub no_refusal : (n : ℕ) (o : Option Refusal) (s t : TraceParser) → unless_refused n o s ≡ Ok t → (o ≡ None) × (s ≡ t)
-no_refusal n None s t e = (refl, ok_is s t e)
-no_refusal n (Some r) s t e = absurd cc
+-- ---- one event more
 
 pub guarded : {X : Type 0} (b : Bool) (d : TraceFault) (r : Result X TraceFault) (x : X) → cond b (Err d) r ≡ Ok x → (b ≡ false) × (r ≡ Ok x)
 guarded true d r x e = absurd cc
 guarded false d r x e = (refl, e)
 
+pub no_refusal : (n : ℕ) (o : Option Refusal) (s t : TraceParser) → unless_refused n o s ≡ Ok t → (o ≡ None) × (s ≡ t)
+no_refusal n None s t e = (refl, ok_is s t e)
+no_refusal n (Some r) s t e = absurd cc
+
 pub in_record_ok : {X : Type 0} (n : ℕ) (r : Result X ℕ) (x : X) → in_record n r ≡ Ok x → r ≡ Ok x
 in_record_ok n (Ok y) x e = cc
 in_record_ok n (Err k) x e = absurd cc
 
--- a parser with one record more
-reads_next : (v : Version) (s next t : TraceParser) (row : Row) (rows : List Row) → Reads v s rows → next ≡ t → rows_at v s ++ row ∷ [] ≡ rows_at v next → IsIn next v → IsSound next
-    → AllByRecursion (λ (d : Device). d.target ≤ 65535) (config_of next).devices → AllByRecursion FitsEvent (past_of next).events → Reads v t (rows ++ row ∷ [])
-reads_next v s next t row rows h same spelled held sound targets events =
-    let made : Reads v next (rows ++ row ∷ []) = record { spelled = ap (λ (l : List Row). l ++ row ∷ []) h.spelled ∙ spelled; held = held; sound = sound; targets = targets; events = events } in
-    subst (λ (x : TraceParser). Reads v x (rows ++ row ∷ [])) same made
+-- a configuration that lacks nothing
+pub configured_ok : (n : ℕ) (c : ConfigParser) (t : Topology) → configured n c ≡ Ok t → (lacks_adapters c ≡ false) × (c.partial ≡ t)
+configured_ok n c t e = let g = guarded (lacks_adapters c) _ (Ok c.partial) t e in (g.0, ok_is c.partial t g.1)
 
-reads_weight : (v : Version) (n : ℕ) (s t : TraceParser) (w : WeightRow) (rows : List Row) → Reads v s rows → stands s word.Weight ≡ true → add_weight n s w ≡ Ok t → Reads v t (rows ++ weight_row w ∷ [])
-unfolding add_weight
-reads_weight v n s t w rows h place e =
-    let c = config_of s in
-    let g = guarded (has_links s) _ _ t e in
-    let r = weight_ready v s h.sound h.held place g.0 in
-    let items = sound_items (version_of s) c r.3 in
-    let k = no_fault n _ _ t g.1 in
-    reads_next v s _ t (weight_row w) rows h k.1 (ap (λ (l : List Row). l ++ weight_row w ∷ []) r.0.0 ∙ push_weight v c w r.2 items.0 items.1.0 items.1.1 items.1.2) (r.1, rw r.1 at r.2) (sound_weight (version_of s) c _ w r.3 k.0 refl) h.targets tt
+-- what was read of a whole configuration, and of the events after it
+pub record ReadsWhole (v : Version) (p : Past) (rows : List Row) : Type 0 where
+  pub spelled : rows ≡ records_of v p
+  pub held : holds v p.config ≡ true
+  pub kept : IsKept p
+  pub targets : AllByRecursion (λ (d : Device). d.target ≤ 65535) p.config.devices
+  pub events : AllByRecursion FitsEvent p.events
 
-reads_link : (v : Version) (n : ℕ) (s t : TraceParser) (k : ℕ) (rows : List Row) → Reads v s rows → stands s word.Link ≡ true → add_link n s k ≡ Ok t → Reads v t (rows ++ link_row k ∷ [])
-unfolding add_link
-reads_link v n s t k rows h place e =
-    let c = config_of s in
-    let r = link_ready v s h.sound h.held place in
-    let none = r.3 in
-    let g = guarded (lacks_weights s) _ _ t e in
-    let f = no_fault n _ _ t g.1 in
-    reads_next v s _ t (link_row k) rows h f.1 (ap (λ (l : List Row). l ++ link_row k ∷ []) r.0.0 ∙ push_link v c k none.0 none.1 none.2) r.1 (sound_link c _ k r.2 (reached s g.0) none.0 none.1 none.2 f.0 refl) h.targets tt
+pub reads_whole : (v w : Version) (c : ConfigParser) (rows : List Row) → lacks_adapters c ≡ false → Reads v (parser.Config w c) rows → ReadsWhole v (record { config = c.partial; events = [] }) rows
+unfolding IsSound
+reads_whole v w c rows came h =
+    record { spelled = h.spelled; held = rw h.held.0 h.held.2; kept = kept_empty c h.sound came; targets = h.targets; events = tt }
 
-reads_adapter : (v : Version) (n : ℕ) (s t : TraceParser) (a : Adapter) (rows : List Row) → Reads v s rows → stands s word.Sim ≡ true → can_spell (version_of s) a ≡ true → add_adapter n s a ≡ Ok t → Reads v t (rows ++ adapter_row a ∷ [])
-unfolding add_adapter
-reads_adapter v n s t a rows h place spells e =
-    let c = config_of s in
-    let r = adapter_ready v s h.sound h.held place in
-    let held : holds (version_of s) c ≡ true = rw r.1 at r.0.1 in
-    let g = guarded (lacks_weights s) _ _ t e in
-    let k = no_fault n _ _ t g.1 in
-    reads_next v s _ t (adapter_row a) rows h k.1 (ap (λ (l : List Row). l ++ adapter_row a ∷ []) r.0.0 ∙ push_adapter v c a r.3 r.4) (r.1, holds_more (version_of s) c a spells held)
-    (sound_adapter (version_of s) c _ a r.2 (reached s g.0) r.3 r.4 k.0 refl) h.targets tt
+push_event : (v : Version) (p : Past) (e : Event) → records_of v p ++ event_row e ∷ [] ≡ records_of v (record p { events = p.events ++ e ∷ [] })
+unfolding records_of
+push_event v p e =
+    let t = p.config in
+    ap (λ (rs : List Row). header v ∷ rs)
+    (behind (weight_rows v t.weights) _ _ (event_row e) (behind (map link_row t.links) _ _ (event_row e)
+    (behind (map adapter_row t.adapters) _ _ (event_row e) (behind (map device_row t.devices) _ _ (event_row e)
+    (behind (map lane_row t.lanes) _ _ (event_row e) (sym (map-append event_row p.events (e ∷ []))))))))
 
-reads_device : (v : Version) (n : ℕ) (s t : TraceParser) (d : DeviceRow) (rows : List Row) → Reads v s rows → stands s word.Dev ≡ true → d.target ≤ 65535 → add_device n s d ≡ Ok t
-    → Reads v t (rows ++ device_row (device_of d) ∷ [])
-unfolding add_device
-reads_device v n s t d rows h place fits e =
-    let c = config_of s in
-    let x = device_of d in
-    let g = guarded (lacks_adapters s) _ _ t e in
-    let k = no_fault n _ _ t g.1 in
-    let r = device_ready v s h.sound h.held place g.0 in
-    reads_next v s _ t (device_row x) rows h k.1 (ap (λ (l : List Row). l ++ device_row x ∷ []) r.0.0 ∙ push_device v c x r.2) (holds_same v c _ c.lanes r.0.1) (sound_device c _ x r.1 r.2 k.0 refl)
-    (all_push (λ (y : Device). y.target ≤ 65535) c.devices x h.targets fits) tt
-
-reads_lane : (v : Version) (n : ℕ) (s t : TraceParser) (a : ℕ) (rows : List Row) → Reads v s rows → stands s word.Lane ≡ true → add_lane n s a ≡ Ok t → Reads v t (rows ++ lane_row a ∷ [])
-unfolding add_lane
-reads_lane v n s t a rows h place e =
-    let c = config_of s in
-    let g = guarded (lacks_adapters s) _ _ t e in
-    let k = no_fault n _ _ t g.1 in
-    let r = lane_ready v s h.sound h.held place g.0 in
-    reads_next v s _ t (lane_row a) rows h k.1 (ap (λ (l : List Row). l ++ lane_row a ∷ []) r.0.0 ∙ push_lane v c a) (holds_same v c c.devices _ r.0.1) (sound_lane c _ a r.1 k.0 refl) h.targets tt
+reads_after : (v : Version) (n : ℕ) (p : Past) (t : TraceParser) (x : Event) (rows : List Row) → ReadsWhole v p rows → FitsEvent x → unless_refused n (refusal p.config p.events x) (parser.Events (record p { events = p.events ++ x ∷ [] })) ≡ Ok t
+    → Reads v t (rows ++ event_row x ∷ [])
+reads_after v n p t x rows h fits e =
+    let k = no_refusal n _ _ t e in
+    reads_next v (parser.Events (record p { events = p.events ++ x ∷ [] })) t (rows ++ event_row x ∷ []) k.1 (record {
+      spelled = ap (λ (l : List Row). l ++ event_row x ∷ []) h.spelled ∙ push_event v p x;
+      held = h.held;
+      sound = sound_event p _ x h.kept (legal-none history_rules p.config p.events x k.0) refl;
+      targets = h.targets;
+      events = all_push FitsEvent p.events x h.events fits;
+    })
 
 reads_event : (v : Version) (n : ℕ) (s t : TraceParser) (x : Event) (rows : List Row) → Reads v s rows → FitsEvent x → add_event n s x ≡ Ok t → Reads v t (rows ++ event_row x ∷ [])
-unfolding add_event
-reads_event v n s t x rows h fits e =
-    let p = past_of s in
-    let g = guarded (lacks_adapters s) _ _ t e in
-    let k = no_refusal n _ _ t g.1 in
-    let r = event_ready v s h.sound h.held g.0 in
-    reads_next v s _ t (event_row x) rows h k.1 (ap (λ (l : List Row). l ++ event_row x ∷ []) r.0 ∙ push_event v p x) r.1 (sound_event p _ x r.2 (legal-none history_rules p.config p.events x k.0) refl) h.targets
-    (all_push FitsEvent p.events x h.events fits)
+unfolding IsSound
+reads_event v n parser.Header t x rows h fits e = absurd cc
+reads_event v n (parser.Config w c) t x rows h fits e =
+    on_ok (configured n c) _ t e (λ u eu k.
+    let whole = configured_ok n c u eu in
+    reads_after v n (record { config = c.partial; events = [] }) t x rows (reads_whole v w c rows whole.0 h) fits (rw whole.1 k))
+reads_event v n (parser.Events p) t x rows h fits e =
+    reads_after v n p t x rows (record { spelled = h.spelled; held = h.held; kept = h.sound; targets = h.targets; events = h.events }) fits e
 
 -- ---- a record
 
@@ -240,86 +224,85 @@ placed_some s row w h =
     let m = cond_some (stands s v) v w k in
     record { eight = eqb-true _ _ g.0; word = word_spelled _ w (ev ∙ ap (λ (x : TraceWord). Some x) m.1); place = ap (stands s) (sym m.1) ∙ m.0 })
 
-reads_other : (v : Version) (n : ℕ) (s t : TraceParser) (w : TraceWord) (row : Row) (rows : List Row) → Reads v s rows → IsPlaced s row w → (in_record n (event_at w row) >>= add_event n s) ≡ Ok t → Reads v t (rows ++ row ∷ [])
-reads_other v n s t w row rows h p e =
-    on_ok (in_record n (event_at w row)) (add_event n s) t e (λ x ex r.
-    let k = event_takes row w x p.eight p.word (in_record_ok n (event_at w row) x ex) in
+reads_other : (v : Version) (n : ℕ) (s t : TraceParser) (w : TraceWord) (fields : Row) (rows : List Row) → Reads v s rows → IsPlaced s fields w → (in_record n (event_at w fields) >>= add_event n s) ≡ Ok t → Reads v t (rows ++ fields ∷ [])
+reads_other v n s t w fields rows h p e =
+    on_ok (in_record n (event_at w fields)) (add_event n s) t e (λ x ex r.
+    let k = event_takes fields w x p.eight p.word (in_record_ok n (event_at w fields) x ex) in
     subst (λ (l : Row). Reads v t (rows ++ l ∷ [])) (sym k.0) (reads_event v n s t x rows h k.1 r))
 
-reads_row : (v : Version) (n : ℕ) (s t : TraceParser) (w : TraceWord) (row : Row) (rows : List Row) → Reads v s rows → IsPlaced s row w → add_row n s w row ≡ Ok t → Reads v t (rows ++ row ∷ [])
-unfolding add_row
-reads_row v n s t word.Weight row rows h p e =
-    on_ok (in_record n (weight_at row)) (add_weight n s) t e (λ w ew r.
-    let k = row_is row word.Weight _ p.eight p.word (weight_takes row w p.eight (in_record_ok n (weight_at row) w ew)).0 in
-    subst (λ (l : Row). Reads v t (rows ++ l ∷ [])) (sym k) (reads_weight v n s t w rows h p.place r))
-reads_row v n s t word.Link row rows h p e =
-    on_ok (in_record n (one_number row)) (add_link n s) t e (λ o eo r.
-    let k = row_is row word.Link _ p.eight p.word (one_takes row (spelled word.Link) o p.eight (in_record_ok n (one_number row) o eo)).0 in
-    subst (λ (l : Row). Reads v t (rows ++ l ∷ [])) (sym k) (reads_link v n s t o rows h p.place r))
-reads_row v n s t word.Sim row rows h p e =
-    on_ok (in_record n (adapter_in (version_of s) row)) (add_adapter n s) t e (λ a ea r.
-    let k = adapter_in_takes (version_of s) row a p.eight p.word (in_record_ok n (adapter_in (version_of s) row) a ea) in
-    subst (λ (l : Row). Reads v t (rows ++ l ∷ [])) (sym k.0) (reads_adapter v n s t a rows h p.place k.1 r))
-reads_row v n s t word.Dev row rows h p e =
-    on_ok (in_record n (device_at row)) (add_device n s) t e (λ d ed r.
-    let took = device_takes row d p.eight (in_record_ok n (device_at row) d ed) in
-    let k = row_is row word.Dev _ p.eight p.word took.0 in
-    subst (λ (l : Row). Reads v t (rows ++ l ∷ [])) (sym k) (reads_device v n s t d rows h p.place took.1.1 r))
-reads_row v n s t word.Lane row rows h p e =
-    on_ok (in_record n (one_number row)) (add_lane n s) t e (λ a ea r.
-    let k = row_is row word.Lane _ p.eight p.word (one_takes row (spelled word.Lane) a p.eight (in_record_ok n (one_number row) a ea)).0 in
-    subst (λ (l : Row). Reads v t (rows ++ l ∷ [])) (sym k) (reads_lane v n s t a rows h p.place r))
-reads_row v n s t w row rows h p e = reads_other v n s t w row rows h p e
+reads_word : (v : Version) (n : ℕ) (s t : TraceParser) (w : TraceWord) (fields : Row) (rows : List Row) → Reads v s rows → IsPlaced s fields w → take_word n s w fields ≡ Ok t → Reads v t (rows ++ fields ∷ [])
+unfolding take_word
+reads_word v n s t word.Weight fields rows h p e =
+    on_ok (in_record n (weight_at fields)) _ t e (λ w ew r.
+    let k = row_is fields word.Weight _ p.eight p.word (weight_takes fields w p.eight (in_record_ok n (weight_at fields) w ew)).0 in
+    subst (λ (l : Row). Reads v t (rows ++ l ∷ [])) (sym k) (reads_row v n s t word.Weight (row.Weight w) rows h p.place refl (λ u is knows. knows) r))
+reads_word v n s t word.Link fields rows h p e =
+    on_ok (in_record n (one_number fields)) _ t e (λ o eo r.
+    let k = row_is fields word.Link _ p.eight p.word (one_takes fields (spelled word.Link) o p.eight (in_record_ok n (one_number fields) o eo)).0 in
+    subst (λ (l : Row). Reads v t (rows ++ l ∷ [])) (sym k) (reads_row v n s t word.Link (row.Link o) rows h p.place refl (λ u is knows. knows) r))
+reads_word v n s t word.Sim fields rows h p e =
+    on_ok (in_record n (adapter_in (version_of s) fields)) _ t e (λ a ea r.
+    let k = adapter_in_takes (version_of s) fields a p.eight p.word (in_record_ok n (adapter_in (version_of s) fields) a ea) in
+    subst (λ (l : Row). Reads v t (rows ++ l ∷ [])) (sym k.0) (reads_row v n s t word.Sim (row.Sim a) rows h p.place refl (λ u is knows. subst (λ (x : Version). can_spell x a ≡ true) is k.1) r))
+reads_word v n s t word.Dev fields rows h p e =
+    on_ok (in_record n (device_at fields)) _ t e (λ d ed r.
+    let took = device_takes fields d p.eight (in_record_ok n (device_at fields) d ed) in
+    let k = row_is fields word.Dev _ p.eight p.word took.0 in
+    subst (λ (l : Row). Reads v t (rows ++ l ∷ [])) (sym k) (reads_row v n s t word.Dev (row.Dev d) rows h p.place refl (λ u is knows. took.1.1) r))
+reads_word v n s t word.Lane fields rows h p e =
+    on_ok (in_record n (one_number fields)) _ t e (λ a ea r.
+    let k = row_is fields word.Lane _ p.eight p.word (one_takes fields (spelled word.Lane) a p.eight (in_record_ok n (one_number fields) a ea)).0 in
+    subst (λ (l : Row). Reads v t (rows ++ l ∷ [])) (sym k) (reads_row v n s t word.Lane (row.Lane a) rows h p.place refl (λ u is knows. tt) r))
+reads_word v n s t w fields rows h p e = reads_other v n s t w fields rows h p e
 
-pub reads_behind : (v : Version) (n : ℕ) (s t : TraceParser) (row : Row) (rows : List Row) → Reads v s rows → row_step n s row ≡ Ok t → Reads v t (rows ++ row ∷ [])
+pub reads_behind : (v : Version) (n : ℕ) (s t : TraceParser) (fields : Row) (rows : List Row) → Reads v s rows → row_step n s fields ≡ Ok t → Reads v t (rows ++ fields ∷ [])
 unfolding row_step
-reads_behind v n s t row rows h e =
-    on_ok (ok_or (placed s row) (BadRecord n)) (λ w. add_row n s w row) t e (λ w ew r.
-    reads_row v n s t w row rows h (placed_some s row w (ok_or_ok (placed s row) (BadRecord n) w ew)) r)
+reads_behind v n s t fields rows h e =
+    on_ok (ok_or (placed s fields) (BadRecord n)) (λ w. take_word n s w fields) t e (λ w ew r.
+    reads_word v n s t w fields rows h (placed_some s fields w (ok_or_ok (placed s fields) (BadRecord n) w ew)) r)
 
 -- a parser has read these records, in some version
 pub record ReadsBy (s : TraceParser) (rows : List Row) : Type 0 where
   pub version : Version
   pub reads : Reads version s rows
 
-header_reads : (v : Version) (s t : TraceParser) (row : Row) (rows : List Row) → rows ≡ [] → is_header (name_of v) row ≡ true → rows_at v s ≡ header v ∷ [] → IsIn s v → IsSound s
-    → ((config_of s).devices ≡ []) × ((past_of s).events ≡ []) → s ≡ t → ReadsBy t (rows ++ row ∷ [])
-header_reads v s t row rows none named spelled held sound empty same =
-    let made : Reads v s (rows ++ row ∷ []) = record { spelled = rw (none, named_header (name_of v) row named) (sym spelled); held = held; sound = sound; targets = rw empty.0 tt; events = rw empty.1 tt } in
-    subst (λ (x : TraceParser). ReadsBy x (rows ++ row ∷ [])) same (record { version = v; reads = made })
+-- nothing but the header was read
+pub first_reads : (v : Version) → Reads v (parser.Config v (first_config v)) (header v ∷ [])
+unfolding IsSound records_of
+first_reads version.One = record { spelled = refl; held = (refl, refl, refl); sound = ordered_standard; targets = tt; events = tt }
+first_reads version.Two = record { spelled = refl; held = (refl, refl, refl); sound = ordered_empty; targets = tt; events = tt }
+first_reads version.Three = record { spelled = refl; held = (refl, refl, refl); sound = ordered_empty; targets = tt; events = tt }
+
+header_reads : (v : Version) (t : TraceParser) (fields : Row) (rows : List Row) → rows ≡ [] → is_header (name_of v) fields ≡ true → parser.Config v (first_config v) ≡ t → ReadsBy t (rows ++ fields ∷ [])
+header_reads v t fields rows none named same =
+    let made : Reads v (parser.Config v (first_config v)) (rows ++ fields ∷ []) = rw (none, named_header (name_of v) fields named) (first_reads v) in
+    subst (λ (x : TraceParser). ReadsBy x (rows ++ fields ∷ [])) same (record { version = v; reads = made })
 
 -- a parser that took a record has read it
-pub step_reads : (n : ℕ) (s t : TraceParser) (row : Row) (rows : List Row) → ReadsBy s rows → step n s row ≡ Ok t → ReadsBy t (rows ++ row ∷ [])
-unfolding step IsSound records_of
-step_reads n parser.Header t row rows h e = by (is_header (name_of version.One) row) (is_header (name_of version.Two) row) (is_header (name_of version.Three) row) refl refl refl e
+pub step_reads : (n : ℕ) (s t : TraceParser) (fields : Row) (rows : List Row) → ReadsBy s rows → step n s fields ≡ Ok t → ReadsBy t (rows ++ fields ∷ [])
+unfolding step
+step_reads n parser.Header t fields rows h e = by (is_header (name_of version.One) fields) (is_header (name_of version.Two) fields) (is_header (name_of version.Three) fields) refl refl refl e
   where
-    table : (v : Version) → has_table v ≡ true → is_header (name_of v) row ≡ true → parser.Weights v empty ≡ t → ReadsBy t (rows ++ row ∷ [])
-    table v has named same =
-        let rows_are : rows_at v (parser.Weights v empty) ≡ header v ∷ [] = rw has refl in
-        header_reads v (parser.Weights v empty) t row rows h.reads.spelled named rows_are (refl, has)
-        (record { weights = refl; links = refl; adapters = refl; devices = refl; lanes = refl }, refl, refl, refl, refl) (refl, refl) same
-
-    by : (one two three : Bool) → is_header (name_of version.One) row ≡ one → is_header (name_of version.Two) row ≡ two → is_header (name_of version.Three) row ≡ three
-        → cond one (Ok parser.First) (cond two (Ok (parser.Weights version.Two empty)) (cond three (Ok (parser.Weights version.Three empty)) (Err BadHeader))) ≡ Ok t → ReadsBy t (rows ++ row ∷ [])
-    by true two three is_one is_two is_three k = header_reads version.One parser.First t row rows h.reads.spelled is_one refl refl tt (refl, refl) (ok_is _ t k)
-    by false true three is_one is_two is_three k = table version.Two refl is_two (ok_is _ t k)
-    by false false true is_one is_two is_three k = table version.Three refl is_three (ok_is _ t k)
+    by : (one two three : Bool) → is_header (name_of version.One) fields ≡ one → is_header (name_of version.Two) fields ≡ two → is_header (name_of version.Three) fields ≡ three
+        → cond one (Ok (parser.Config version.One (first_config version.One))) (cond two (Ok (parser.Config version.Two (first_config version.Two))) (cond three (Ok (parser.Config version.Three (first_config version.Three))) (Err BadHeader))) ≡ Ok t
+        → ReadsBy t (rows ++ fields ∷ [])
+    by true two three is_one is_two is_three k = header_reads version.One t fields rows h.reads.spelled is_one (ok_is _ t k)
+    by false true three is_one is_two is_three k = header_reads version.Two t fields rows h.reads.spelled is_two (ok_is _ t k)
+    by false false true is_one is_two is_three k = header_reads version.Three t fields rows h.reads.spelled is_three (ok_is _ t k)
     by false false false is_one is_two is_three k = absurd cc
-step_reads n s t row rows h e = record { version = h.version; reads = reads_behind h.version n s t row rows h.reads e }
-
--- the end of the records after a parser with an adapter
-ended_ok : (s : TraceParser) (past : Past) → ended s ≡ Ok past → (lacks_adapters s ≡ false) × (past_of s ≡ past)
-unfolding ended
-ended_ok parser.Header past e = absurd cc
-ended_ok parser.First past e = absurd cc
-ended_ok (parser.Weights v t) past e = absurd cc
-ended_ok (parser.Links t) past e = absurd cc
-ended_ok _ past e = (refl, ok_is _ past e)
+step_reads n s t fields rows h e = record { version = h.version; reads = reads_behind h.version n s t fields rows h.reads e }
 
 -- what was read to the end of the records is spelled by them
 pub ended_reads : (v : Version) (s : TraceParser) (past : Past) (rows : List Row) → Reads v s rows → ended s ≡ Ok past → (rows ≡ records_of v past) × (holds v past.config ≡ true) × IsHistory past
-ended_reads v s past rows h e =
-    let end = ended_ok s past e in
-    let r = event_ready v s h.sound h.held end.0 in
-    subst (λ (p : Past). (rows ≡ records_of v p) × (holds v p.config ≡ true) × IsHistory p) end.1
-    (h.spelled ∙ r.0, r.1, record { config = r.2.config; legal = r.2.legal; targets = h.targets; events = h.events })
+unfolding ended IsSound
+ended_reads v parser.Header past rows h e = absurd cc
+ended_reads v (parser.Config w c) past rows h e =
+    on_ok (configured _ c) _ past e (λ u eu k.
+    let whole = configured_ok _ c u eu in
+    let r = reads_whole v w c rows whole.0 h in
+    let same : (let p : Past = record { config = c.partial; events = [] } in p) ≡ past = rw whole.1 (ok_is _ past k) in
+    subst (λ (p : Past). (rows ≡ records_of v p) × (holds v p.config ≡ true) × IsHistory p) same
+    (r.spelled, r.held, record { config = r.kept.config; legal = r.kept.legal; targets = r.targets; events = r.events }))
+ended_reads v (parser.Events p) past rows h e =
+    subst (λ (q : Past). (rows ≡ records_of v q) × (holds v q.config ≡ true) × IsHistory q) (ok_is p past e)
+    (h.spelled, h.held, record { config = h.sound.config; legal = h.sound.legal; targets = h.targets; events = h.events })

@@ -11,16 +11,16 @@ use Rattle.cam_types.specs.Bounds.{Bounds, are_within}
 use Rattle.trace_file.specs.ScriptRows.{script_header, script_row, ScriptRow}
 use Rattle.trace_file.specs.ScriptVersions.{trace_version, ScriptVersion}
 use Rattle.trace_file.specs.declared.script_version.ScriptVersion.TheVariants as script
-use Rattle.trace_file.specs.ScriptReading.{config_step, first_row, first_parser, has_room, is_config_word, is_configuring, is_limits, limits_of, limits_step, roomy_word, rows_step, script_ended, script_reading, script_step, ScriptItem, ScriptParser}
+use Rattle.trace_file.specs.ScriptReading.{config_step, configured, first_number, first_row, first_parser, rows_before, has_room, is_config_word, is_configuring, is_limits, limits_of, limits_step, roomy_word, rows_step, script_ended, script_reading, script_step, ScriptItem, ScriptParser}
 use Rattle.trace_file.specs.declared.script_parser.ScriptParser.TheVariants as parser
-use Rattle.trace_file.specs.Reading.{config_of, lacks_adapters, row_step, step, TraceParser}
+use Rattle.trace_file.specs.Reading.{row_step, step, TraceParser}
 use Rattle.record_text.specs.Header.{has_letters, is_header, header_row}
 use Rattle.trace_file.specs.declared.trace_parser.TraceParser.TheVariants as trace
 use Rattle.record_text.specs.Text.{Row}
 use Rattle.record_text.specs.Fields.{field_of}
-use Rattle.trace_file.specs.Histories.{Device, Past, Refusal, Topology, config_fault}
-use Rattle.trace_file.specs.Records.{holds, lane_row, weight_rows}
-use Rattle.record_text.specs.ConfigRows.{adapter_row, device_row, link_row, weight_row}
+use Rattle.trace_file.specs.Histories.{Device, Refusal, Topology, config_fault}
+use Rattle.trace_file.specs.Records.{holds, weight_rows}
+use Rattle.record_text.specs.ConfigRows.{adapter_row, device_row, link_row, weight_row, lane_row}
 use Rattle.trace_file.specs.Versions.{Version, has_table}
 use Rattle.trace_file.specs.Scenarios.{Scenario, empty_scenario, is_answer_row, is_answer_word, item_of, MAX_ROWS}
 use Rattle.trace_file.specs.Script.{FitsRow, IsManuscript, Manuscript, answer_rows, config_rows, limits_rows, put_row, scenario_of, script_records, step_rows}
@@ -30,10 +30,11 @@ use Rattle.trace_file.proofs.ScriptItems.{item_kind}
 use Rattle.trace_file.proofs.ScriptLaws.{fold_config, item_added, more_answers, more_steps}
 use Rattle.trace_file.proofs.ScriptRowLaws.{limits_again, row_again, row_of, word_of_row}
 use Rattle.trace_file.proofs.ScriptParserLemmas.{configures}
-use Rattle.trace_file.proofs.ParserLemmas.{step_behind, is_legal-nil}
-use Rattle.trace_file.specs.Trace.{IsHistory}
+use Rattle.trace_file.proofs.ParserLemmas.{step_behind}
 use Rattle.record_text.proofs.FieldLaws.{same_bytes}
-use Rattle.trace_file.proofs.WholeLaws.{at_config, at_lanes, by_version, first_at, kept}
+use Rattle.trace_file.proofs.WholeLaws.{at_config, taken_config}
+use Rattle.cam_types.proofs.ConfigLemmas.{some_adapter}
+use Rattle.record_text.proofs.ConfigLaws.{config_came}
 
 -- ---- rows
 
@@ -56,16 +57,16 @@ row_step_again n s k a x fits ok p q =
     rw (is.word, room, row_again x fits, made.1) (item_added n s k a made.0 ∙ rw kind refl)
 
 -- the first row
-first_row_again : (n : ℕ) (given : Option Bounds) (t : TraceParser) (x : ScriptRow) → FitsRow x → lacks_adapters t ≡ false → is_ok (item_of (config_of t) x) ≡ true
+first_row_again : (n : ℕ) (given : Option Bounds) (t : TraceParser) (c : Topology) (x : ScriptRow) → FitsRow x → configured n t ≡ Ok c → is_ok (item_of c x) ≡ true
     → script_step n (parser.Config given t) (script_row x)
-    ≡ Ok (parser.Rows (put_row (empty_scenario (config_of t) (limits_of given)) x) (more_steps (is_answer_row x) 0) (more_answers (is_answer_row x) 0))
+    ≡ Ok (parser.Rows (put_row (empty_scenario c (limits_of given)) x) (more_steps (is_answer_row x) 0) (more_answers (is_answer_row x) 0))
 unfolding script_step config_step first_row
-first_row_again n given t x fits some ok =
+first_row_again n given t c x fits whole ok =
     let is = row_of x in
-    let s = empty_scenario (config_of t) (limits_of given) in
-    let made = put_ok (item_of (config_of t) x) ok in
-    let kind = item_kind (config_of t) x made.0 made.1 in
-    rw (is.config, is.word, row_again x fits, some, made.1) (item_added n s 0 0 made.0 ∙ rw kind refl)
+    let s = empty_scenario c (limits_of given) in
+    let made = put_ok (item_of c x) ok in
+    let kind = item_kind c x made.0 made.1 in
+    rw (is.config, is.word, row_again x fits, whole, made.1) (item_added n s 0 0 made.0 ∙ rw kind refl)
 
 put_config : (s : Scenario) (x : ScriptRow) → (put_row s x).config ≡ s.config
 put_config s x = fold_config s (x ∷ [])
@@ -171,20 +172,15 @@ unfolding script_step is_header has_letters header_row field_at
 header_one script.One = refl
 header_one script.Two = refl
 
-first_same : (v : ScriptVersion) → (first_at (trace_version v) ≡ first_parser v) × (first_parser v ≢ trace.Header)
-first_same script.One = (refl, λ e. cc)
-first_same script.Two = (refl, λ e. cc)
-
 -- the rows after a configuration
-rows_of : (n : ℕ) (given : Option Bounds) (t : TraceParser) (c : Topology) (xs : List ScriptRow) → lacks_adapters t ≡ false → config_of t ≡ c → AllByRecursion FitsRow xs → AllByRecursion (λ x. is_ok (item_of c x) ≡ true) xs
+rows_of : (n : ℕ) (given : Option Bounds) (t : TraceParser) (c : Topology) (xs : List ScriptRow) → ((m : ℕ) → configured m t ≡ Ok c) → AllByRecursion FitsRow xs → AllByRecursion (λ x. is_ok (item_of c x) ≡ true) xs
     → step_rows xs ≤ MAX_ROWS → answer_rows xs ≤ MAX_ROWS → Ends n (parser.Config given t) (map script_row xs) (fold put_row (empty_scenario c (limits_of given)) xs)
 unfolding script_ended
-rows_of n given t c [] some is fits ok p q = record { last = parser.Config given t; reached = refl; ends = rw (some, is) refl }
-rows_of n given t c (x ∷ xs) some is fits ok p q =
+rows_of n given t c [] whole fits ok p q = record { last = parser.Config given t; reached = refl; ends = rw (whole (first_number given + rows_before t)) refl }
+rows_of n given t c (x ∷ xs) whole fits ok p q =
     let steps = sum_by-cons (λ y. cond (not (is_answer_row y)) 1 0) x xs in
     let answers = sum_by-cons (λ y. cond (is_answer_row y) 1 0) x xs in
-    let fine = subst (λ (y : Topology). is_ok (item_of y x) ≡ true) (sym is) ok.0 in
-    let one = rw is at (first_row_again n given t x fits.0 some fine) in
+    let one = first_row_again n given t c x fits.0 (whole n) ok.0 in
     let s = put_row (empty_scenario c (limits_of given)) x in
     let rest = subst (λ (y : Topology). AllByRecursion (λ z. is_ok (item_of y z) ≡ true) xs) (sym (put_config (empty_scenario c (limits_of given)) x)) ok.1 in
     let more = rows_again (n + 1) s (more_steps (is_answer_row x) 0) (more_answers (is_answer_row x) 0) xs fits.1 rest (omega arith) (omega arith) in
@@ -195,13 +191,15 @@ regroup w k a d l = simp append-nil
 
 -- the records of a configuration are taken as those of a trace
 config_taken : (n : ℕ) (v : ScriptVersion) (c : Topology) → config_fault c ≡ None → holds (trace_version v) c ≡ true → AllByRecursion (λ (d : Device). d.target ≤ 65535) c.devices
-    → taken step n (first_parser v) (config_rows v c) ≡ Ok (at_lanes (trace_version v) c.weights c.links c.adapters c.devices c.lanes)
+    → taken step n (first_parser v) (config_rows v c) ≡ Ok (at_config (trace_version v) c)
 config_taken n v c config held targets =
     let w = trace_version v in
-    let past : Past = record { config = c; events = [] } in
-    let h : IsHistory past = record { config = config; legal = is_legal-nil c; targets = targets; events = tt } in
     let same = regroup (weight_rows w c.weights) (map link_row c.links) (map adapter_row c.adapters) (map device_row c.devices) (map lane_row c.lanes) in
-    rw (← (first_same v).0, ← same) (by_version w past h held n)
+    rw (← same) (taken_config w c config held targets [] (at_config w c) (λ m. refl) n)
+
+-- and it lacks nothing
+config_whole : (v : Version) (c : Topology) → config_fault c ≡ None → (m : ℕ) → configured m (at_config v c) ≡ Ok c
+config_whole v c config m = rw (config_came (has_table v) c (record { kept = config })) refl
 
 -- what is spelled so is read
 pub script_again : (m : Manuscript) → IsManuscript m → script_reading (script_records m) ≡ Ok (scenario_of m)
@@ -211,16 +209,13 @@ script_again m h =
     let v = m.version in
     let w = trace_version v in
     let given = m.limits in
-    let k = kept w c h.config h.held in
-    let some : length c.adapters ≡ 0 → ⊥ = (λ e. false≢true (sym k.some ∙ eq-eqb (length c.adapters) 0 e)) in
+    let some : length c.adapters ≡ 0 → ⊥ = (λ e. false≢true (sym (some_adapter c (record { kept = h.config })) ∙ eq-eqb (length c.adapters) 0 e)) in
     let rows = map script_row m.rows in
     let words = config_words v c in
     let f = from_limits 2 v given (config_rows v c) rows h.limits words (some_row v c some) in
-    let t = at_lanes w c.weights c.links c.adapters c.devices c.lanes in
-    let at = at_config w c.weights c.links c.adapters c.devices c.lanes in
-    let config_read = config_again f.0 given (first_parser v) t (config_rows v c) (first_same v).1 words (config_taken f.0 v c h.config h.held h.targets) in
+    let t = at_config w c in
+    let config_read = config_again f.0 given (first_parser v) t (config_rows v c) (λ e. cc) words (config_taken f.0 v c h.config h.held h.targets) in
     let behind = taken_on script_step f.0 (parser.Config given (first_parser v)) (parser.Config given t) (config_rows v c) rows config_read in
-    let is : config_of t ≡ c = ap (λ (p : Past). p.config) at.2 in
-    let last = rows_of (f.0 + length (config_rows v c)) given t c m.rows at.1 is h.fits h.ruled h.steps h.answers in
+    let last = rows_of (f.0 + length (config_rows v c)) given t c m.rows (config_whole w c h.config) h.fits h.ruled h.steps h.answers in
     let reached = f.1 ∙ behind ∙ last.reached in
     rw (header_one v, reached) last.ends

@@ -6,7 +6,8 @@ use Rattle.trace_file.specs.ScriptReading.{config_step, configured, configured_l
 use Rattle.trace_file.specs.declared.script_row.ScriptItem.TheVariants as item
 use Rattle.trace_file.specs.declared.script_parser.ScriptParser.TheVariants as parser
 use Rattle.trace_file.specs.declared.trace_fault.TraceFault.TheVariants as fault
-use Rattle.trace_file.specs.Reading.{config_of, in_record, lacking, lacks_adapters, row_step, TraceParser}
+use Rattle.trace_file.specs.Reading.{in_record, row_step, TraceParser}
+use Rattle.trace_file.specs.declared.trace_parser.TraceParser.TheVariants as trace
 use Rattle.record_text.specs.Header.{is_header}
 use Rattle.trace_file.specs.ScriptVersions.{script_name}
 use Rattle.trace_file.specs.declared.script_version.ScriptVersion.TheVariants as script
@@ -15,7 +16,7 @@ use Rattle.record_text.specs.Fields.{field_of}
 use Rattle.trace_file.specs.Scenarios.{Scenario, empty_scenario, item_of}
 use Rattle.trace_file.specs.ScriptRows.{limits_at, script_row_at}
 use Rattle.record_text.specs.Steps.{◌>>=◌, taken}
-use Rattle.trace_file.proofs.FaultLaws.{IsOfText, FailsByText, behind_fails, by_field}
+use Rattle.trace_file.proofs.FaultLaws.{IsOfText, FailsByText, behind_fails, by_configured, by_field}
 use Rattle.record_text.proofs.FaultLaws.{bound, taken_fails, by_test, by_word}
 
 item_fails : (n : ℕ) (s : Scenario) (steps answers : ℕ) (r : Result ScriptItem Refusal) → FailsByText (with_item n s steps answers r)
@@ -23,7 +24,8 @@ item_fails n s steps answers (Ok (item.Step driver one)) = tt
 item_fails n s steps answers _ = tt
 
 configured_fails : (n : ℕ) (t : TraceParser) → FailsByText (configured n t)
-configured_fails n t = by_test IsOfText (lacks_adapters t) (Err (fault.BadConfig n (lacking (config_of t).weights))) (Ok (config_of t)) tt tt
+configured_fails n (trace.Config v c) = by_configured n c
+configured_fails n _ = tt
 
 rows_fail : (n : ℕ) (s : Scenario) (steps answers : ℕ) (row : Row) → FailsByText (rows_step n s steps answers row)
 unfolding rows_step

@@ -13,24 +13,25 @@ use Rattle.trace_file.specs.ScriptRows.{limits_at, script_header, script_row, sc
 use Rattle.trace_file.specs.ScriptReading.{config_step, configured, configured_last, first_row, first_parser, has_room, is_config_word, is_configuring, is_limits, item_word, limits_of, limits_step, roomy_word, rows_step, script_ended, script_reading, script_step, with_item, ScriptItem, ScriptParser}
 use Rattle.trace_file.specs.declared.script_row.ScriptItem.TheVariants as item
 use Rattle.trace_file.specs.declared.script_parser.ScriptParser.TheVariants as parser
-use Rattle.trace_file.specs.Reading.{config_of, in_record, lacking, lacks_adapters, past_of, row_step, BadConfig, BadHeader, BadRecord, TraceParser}
+use Rattle.trace_file.specs.Reading.{in_record, row_step, BadHeader, BadRecord, TraceParser}
+use Rattle.record_text.specs.ConfigParsing.{lacks_adapters}
+use Rattle.record_text.specs.declared.config_parser.ConfigParser.{ConfigParser}
 use Rattle.record_text.specs.Header.{is_header, header_row}
 use Rattle.trace_file.specs.declared.trace_parser.TraceParser.TheVariants as trace
 use Rattle.record_text.specs.Text.{Row, records_in}
 use Rattle.record_text.specs.Fields.{field_of}
-use Rattle.trace_file.specs.Histories.{Past, Refusal, Topology}
+use Rattle.trace_file.specs.Histories.{Refusal, Topology}
 use Rattle.trace_file.specs.Versions.{Version}
-use Rattle.trace_file.specs.Records.{header, lane_row, records_of, weight_rows}
-use Rattle.record_text.specs.ConfigRows.{adapter_row, device_row, link_row}
+use Rattle.trace_file.specs.Records.{header, records_of, weight_rows}
+use Rattle.record_text.specs.ConfigRows.{adapter_row, device_row, link_row, lane_row}
 use Rattle.trace_file.specs.Scenarios.{Scenario, add_item, empty_scenario, is_answer_item, is_answer_row, is_answer_word, item_of, MAX_ROWS}
 use Rattle.trace_file.specs.Script.{FitsRow, IsManuscript, Manuscript, WasScript, answer_rows, config_rows, limits_rows, put_item, put_row, scenario_of, script_records, step_rows}
-use Rattle.trace_file.specs.Sound.{IsSound}
 use Rattle.record_text.specs.Steps.{◌>>=◌, taken}
 use Rattle.record_text.proofs.StepLemmas.{ok_is, on_ok, taken_keeps, ok_or_ok}
 use Rattle.trace_file.proofs.ScriptItems.{item_kind}
 use Rattle.trace_file.proofs.ScriptRowLaws.{limits_take, row_takes}
 use Rattle.trace_file.proofs.ScriptParserLemmas.{configures}
-use Rattle.trace_file.proofs.ParserLaws.{Reads, event_ready, guarded, in_record_ok, reads_behind}
+use Rattle.trace_file.proofs.ParserLaws.{Reads, configured_ok, first_reads, in_record_ok, reads_behind, reads_whole}
 use Rattle.record_text.proofs.RowLaws.{named_header}
 use Rattle.trace_file.proofs.HexLaws.{on_some}
 use Rattle.record_text.proofs.ListLemmas.{all_push}
@@ -104,25 +105,9 @@ ReadsScript (parser.Rows s steps answers) rows = ReadsRows s steps answers rows
 
 -- ---- the configuration
 
-first_reads : (v : ScriptVersion) → Reads (trace_version v) (first_parser v) (header (trace_version v) ∷ [])
-unfolding records_of IsSound
-first_reads script.One = record { spelled = refl; held = refl; sound = tt; targets = tt; events = tt }
-first_reads script.Two =
-    record {
-      spelled = refl;
-      held = (refl, refl);
-      sound = (record { weights = refl; links = refl; adapters = refl; devices = refl; lanes = refl }, refl, refl, refl, refl);
-      targets = tt;
-      events = tt;
-    }
-
-first_configures : (v : ScriptVersion) → is_configuring (first_parser v) ≡ true
-first_configures script.One = refl
-first_configures script.Two = refl
-
 reads_given : (v : ScriptVersion) (given : Option Bounds) (rows : List Row) → IfSome given (λ b. are_within b ≡ true) → rows ≡ script_header v ∷ limits_rows given → ReadsConfig given (first_parser v) rows
 reads_given v given rows within e =
-    record { version = v; within = within; trace = []; reads = first_reads v; configuring = first_configures v; parts = e ∙ ap (λ (l : List Row). script_header v ∷ l) (sym (append-nil (limits_rows given))) }
+    record { version = v; within = within; trace = []; reads = first_reads (trace_version v); configuring = refl; parts = e ∙ ap (λ (l : List Row). script_header v ∷ l) (sym (append-nil (limits_rows given))) }
 
 config_row : (n : ℕ) (given : Option Bounds) (t u : TraceParser) (fields : Row) (rows : List Row) → ReadsConfig given t rows → is_config_word (field_of fields 0) ≡ true → row_step n t fields ≡ Ok u
     → ReadsConfig given u (rows ++ fields ∷ [])
@@ -137,19 +122,12 @@ config_row n given t u fields rows h word e =
       parts = ap (λ (l : List Row). l ++ fields ∷ []) h.parts ∙ ap (λ (l : List Row). script_header h.version ∷ l) (append_assoc (limits_rows given) h.trace (fields ∷ []));
     }
 
-no_events : (t : TraceParser) → is_configuring t ≡ true → (past_of t).events ≡ []
-no_events trace.Header e = absurd cc
-no_events (trace.Events p) e = absurd cc
-no_events _ e = refl
-
 abbrev pub grouped : Version → Topology → List Row
 grouped v c = weight_rows v c.weights ++ (map link_row c.links ++ (map adapter_row c.adapters ++ (map device_row c.devices ++ (map lane_row c.lanes ++ []))))
 
-config_records : (v : Version) (p : Past) (rows : List Row) → header v ∷ rows ≡ records_of v p → p.events ≡ [] → rows ≡ grouped v p.config
+config_records : (v : Version) (c : Topology) (rows : List Row) → header v ∷ rows ≡ records_of v (record { config = c; events = [] }) → rows ≡ grouped v c
 unfolding records_of
-config_records v p rows e none =
-    let is = rw none at e in
-    cc
+config_records v c rows e = cc
 
 regroup : (w k a d l : List Row) → w ++ (k ++ (a ++ (d ++ (l ++ [])))) ≡ (w ++ (k ++ (a ++ (d ++ l)))) ++ []
 regroup w k a d l = simp append_assoc
@@ -158,20 +136,19 @@ pub config_spelled : (v : ScriptVersion) (c : Topology) → grouped (trace_versi
 config_spelled v c = regroup (weight_rows (trace_version v) c.weights) (map link_row c.links) (map adapter_row c.adapters) (map device_row c.devices) (map lane_row c.lanes)
 
 -- a whole configuration, without a row
-whole_config : (given : Option Bounds) (t : TraceParser) (rows : List Row) → ReadsConfig given t rows → lacks_adapters t ≡ false → ReadsRows (empty_scenario (config_of t) (limits_of given)) 0 0 rows
+whole_config : (given : Option Bounds) (w : Version) (c : ConfigParser) (rows : List Row) → ReadsConfig given (trace.Config w c) rows → lacks_adapters c ≡ false → ReadsRows (empty_scenario c.partial (limits_of given)) 0 0 rows
 unfolding script_records scenario_of
-whole_config given t rows h some =
-    let c = config_of t in
+whole_config given w c rows h came =
     let v = trace_version h.version in
-    let ready = event_ready v t h.reads.sound h.reads.held some in
-    let behind = config_records v (past_of t) h.trace (h.reads.spelled ∙ ready.0) (no_events t h.configuring) ∙ config_spelled h.version c in
+    let r = reads_whole v w c (header v ∷ h.trace) came h.reads in
+    let behind = config_records v c.partial h.trace r.spelled ∙ config_spelled h.version c.partial in
     record {
-      made = record { version = h.version; limits = given; config = c; rows = [] };
+      made = record { version = h.version; limits = given; config = c.partial; rows = [] };
       kept = record {
         limits = h.within;
-        config = ready.2.config;
-        held = ready.1;
-        targets = h.reads.targets;
+        config = r.kept.config;
+        held = r.held;
+        targets = r.targets;
         fits = tt;
         ruled = tt;
         steps = omega arith;
@@ -182,6 +159,13 @@ whole_config given t rows h some =
       steps = refl;
       answers = refl;
     }
+
+whole_read : (n : ℕ) (given : Option Bounds) (t : TraceParser) (c : Topology) (rows : List Row) → ReadsConfig given t rows → configured n t ≡ Ok c → ReadsRows (empty_scenario c (limits_of given)) 0 0 rows
+whole_read n given trace.Header c rows h e = absurd cc
+whole_read n given (trace.Config w d) c rows h e =
+    let k = configured_ok n d c e in
+    subst (λ (y : Topology). ReadsRows (empty_scenario y (limits_of given)) 0 0 rows) k.1 (whole_config given w d rows h k.0)
+whole_read n given (trace.Events p) c rows h e = absurd cc
 
 -- ---- rows
 
@@ -250,9 +234,7 @@ first_read n given t u fields rows h e =
     on_ok (in_record n (script_row_at w fields)) _ u r1 (λ x ex r2.
     on_ok (configured n t) _ u r2 (λ c ec r3.
     let limits = limits_of given in
-    let g = guarded (lacks_adapters t) (BadConfig n (lacking (config_of t).weights)) (Ok (config_of t)) c ec in
-    let same : config_of t ≡ c = ok_is (config_of t) c g.1 in
-    let whole = subst (λ (y : Topology). ReadsRows (empty_scenario y limits) 0 0 rows) same (whole_config given t rows h g.0) in
+    let whole = whole_read n given t c rows h ec in
     with_ok n (empty_scenario c limits) 0 0 (item_of c x) u r3 (λ i ei is.
     subst (λ (v : ScriptParser). ReadsScript v (rows ++ fields ∷ [])) is
     (push_row (empty_scenario c limits) 0 0 rows fields w x i whole (ok_or_ok (item_word fields) (BadRecord n) w ew) (none_yet (is_answer_word w)) (in_record_ok n (script_row_at w fields) x ex) ei)))))
@@ -308,10 +290,8 @@ ended_reads (parser.First script.Two) s rows h e = absurd cc
 ended_reads (parser.Config given t) s rows h e =
     let limits = limits_of given in
     on_ok (configured_last given t) (λ c. Ok (empty_scenario c limits)) s e (λ c ec r.
-    let g = guarded (lacks_adapters t) _ (Ok (config_of t)) c ec in
-    let w = whole_config given t rows h g.0 in
-    let same : empty_scenario (config_of t) limits ≡ s = ap (λ (y : Topology). empty_scenario y limits) (ok_is (config_of t) c g.1) ∙ ok_is _ s r in
-    record { made = w.made; kept = w.kept; spelled = w.spelled; value = sym same ∙ w.value })
+    let w = whole_read _ given t c rows h ec in
+    record { made = w.made; kept = w.kept; spelled = w.spelled; value = sym (ok_is _ s r) ∙ w.value })
 ended_reads (parser.Rows one k a) s rows h e =
     record { made = h.made; kept = h.kept; spelled = h.spelled; value = sym (ok_is one s e) ∙ h.value }
 

@@ -11,8 +11,8 @@ use Rattle.trace_file.specs.Fields.{flags_text, flags_word}
 use Rattle.record_text.specs.Text.{Row}
 use Rattle.trace_file.specs.Histories.{Adapter, WeightRow, weight_fault, Device, Event, Past, link_fault, adapter_fault, device_fault, lane_fault}
 use Rattle.trace_file.specs.Versions.{has_table, Version}
-use Rattle.trace_file.specs.Records.{weight_rows, event_row, header, hex, holds, lane_row, records_of}
-use Rattle.record_text.specs.ConfigRows.{weight_row, link_row, adapter_row, device_row}
+use Rattle.trace_file.specs.Records.{weight_rows, event_row, header, hex, holds, records_of}
+use Rattle.record_text.specs.ConfigRows.{weight_row, link_row, adapter_row, device_row, lane_row}
 use Rattle.trace_file.specs.declared.version.Version.TheVariants as version
 use Rattle.record_text.specs.Fields.{max_number}
 use Rattle.trace_file.specs.Trace.{FitsEvent, IsHistory, IsTrace}
@@ -24,8 +24,7 @@ use Rattle.cam_types.specs.declared.limits.TheConstants.{MAX_LINKS, MAX_ADAPTERS
 use Rattle.event_rules.proofs.LaneCount.{few_lanes}
 use Rattle.record_text.proofs.ListLemmas.{Along, along_both, none_along}
 use Rattle.trace_file.proofs.HexLaws.{length-hex}
-use Rattle.record_text.proofs.ConfigLemmas.{device_small, adapter_link, adapter_small, link_number, link_small, weight_numbers}
-use Rattle.trace_file.proofs.WholeLaws.{lane_small}
+use Rattle.record_text.proofs.ConfigLemmas.{device_small, adapter_link, adapter_small, link_number, link_small, weight_numbers, lane_small}
 use Rattle.record_text.proofs.GoodRows.{GoodDevice, records_again}
 use Rattle.record_text.proofs.RowSizes as sizes
 use Rattle.record_text.proofs.RowSizes.{escaped-le}

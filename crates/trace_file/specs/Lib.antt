@@ -12,7 +12,6 @@ pub mod ScriptVersions
 pub mod ScriptWriting
 pub mod Sound
 pub mod Trace
-pub mod TraceRows
 pub mod Versions
 pub mod Words
 pub mod Writing

@@ -12,7 +12,8 @@ use Rattle.trace_file.specs.declared.version.Version.TheVariants as version
 use Rattle.trace_file.specs.Fields.{flags_text}
 use Rattle.record_text.specs.Text.{Row}
 use Rattle.trace_file.specs.Words.{spelled}
-use Rattle.record_text.specs.ConfigRows.{adapter_row, device_row, link_row, padded, weight_row}
+use Rattle.record_text.specs.ConfigRows.{padded, weight_row}
+use Rattle.record_text.specs.ConfigParsing.{rows_then}
 use Rattle.record_text.specs.Header.{header_row}
 
 -- bytes as two lower-case hexadecimal digits each
@@ -26,9 +27,6 @@ header v = header_row (name_of v)
 -- the table of weights, where a version has one
 abbrev pub weight_rows : Version → List WeightRow → List Row
 weight_rows v weights = if has_table v then map weight_row weights else []
-
-abbrev pub lane_row : ℕ → Row
-lane_row adapter = padded (spelled word.Lane ∷ decimal adapter ∷ [])
 
 abbrev pub event_row : Event → Row
 event_row (event.Submit driver device priority retries flags) =
@@ -45,11 +43,9 @@ event_row (event.ReleaseSim sim) = padded (spelled word.ReleaseSim ∷ decimal s
 event_row (event.Adjust device openings) = padded (spelled word.Adjust ∷ decimal device ∷ decimal openings ∷ [])
 event_row event.Tick = padded (spelled word.Tick ∷ [])
 
--- in a version: the header, the records of the weights, one for each link, adapter, device and lane, and one for each event
+-- in a version: the header, the rows of the configuration, and one for each event
 unfoldable pub records_of : Version → Past → List Row
-records_of v past =
-    header v ∷ (weight_rows v past.config.weights ++ (map link_row past.config.links
-    ++ (map adapter_row past.config.adapters ++ (map device_row past.config.devices ++ (map lane_row past.config.lanes ++ map event_row past.events)))))
+records_of v past = header v ∷ rows_then (has_table v) past.config (map event_row past.events)
 
 -- an adapter is on no link
 abbrev pub is_unlinked : Adapter → Bool

@@ -15,8 +15,8 @@ use Rattle.trace_file.specs.declared.script_parser.ScriptParser.TheVariants as p
 use Rattle.trace_file.specs.Reading.{TraceFault}
 use Rattle.record_text.specs.Text.{Row, records_in}
 use Rattle.trace_file.specs.Histories.{Device, Outcome, Refusal, Topology, config_fault}
-use Rattle.trace_file.specs.Records.{holds, lane_row, weight_rows}
-use Rattle.record_text.specs.ConfigRows.{adapter_row, device_row, link_row}
+use Rattle.trace_file.specs.Records.{holds, weight_rows}
+use Rattle.record_text.specs.ConfigRows.{adapter_row, device_row, link_row, lane_row}
 use Rattle.record_text.specs.Fields.{max_number}
 use Rattle.trace_file.specs.Trace.{FitsOutcome, ExplainsBy}
 

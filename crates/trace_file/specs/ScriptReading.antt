@@ -7,38 +7,37 @@ use Rattle.trace_file.specs.declared.script_row.ScriptItem.TheVariants as item
 pub use Rattle.trace_file.specs.declared.script_parser.ScriptParser.{ScriptParser}
 use Rattle.trace_file.specs.declared.script_parser.ScriptParser.TheVariants as parser
 use Rattle.trace_file.specs.ScriptRows.{limits_at, script_row_at, script_word_of, ScriptWord}
-use Rattle.trace_file.specs.Reading.{config_of, empty, in_record, lacking, lacks_adapters, row_step, TraceFault, BadHeader, BadRecord, BadConfig, Illegal, TraceParser}
+use Rattle.trace_file.specs.Reading as reading
+use Rattle.trace_file.specs.Reading.{first_config, in_record, row_step, TraceFault, BadHeader, BadRecord, Illegal, TraceParser}
+use Rattle.record_text.specs.ConfigParsing as parsing
 use Rattle.record_text.specs.Header.{is_header}
 use Rattle.trace_file.specs.declared.trace_parser.TraceParser.TheVariants as trace
 use Rattle.record_text.specs.Text.{Row}
 use Rattle.record_text.specs.Fields.{field_of}
-use Rattle.trace_file.specs.ScriptVersions.{script_name, ScriptVersion}
+use Rattle.trace_file.specs.ScriptVersions.{script_name, trace_version, ScriptVersion}
 use Rattle.trace_file.specs.declared.script_version.ScriptVersion.TheVariants as script
-use Rattle.trace_file.specs.declared.version.Version.TheVariants as version
 use Rattle.trace_file.specs.Scenarios.{Scenario, add_item, empty_scenario, is_answer_word, item_of, MAX_ROWS}
 use Rattle.record_text.specs.Steps.{◌>>=◌, taken}
 pub use Rattle.trace_file.specs.declared.script_parser.ScriptParser.TheVariants.{Header}
 
--- a configuration is in the making, or its first record is due
+-- a configuration is in the making
 abbrev pub is_configuring : TraceParser → Bool
-is_configuring trace.Header = false
-is_configuring (trace.Events p) = false
-is_configuring _ = true
+is_configuring (trace.Config v c) = true
+is_configuring _ = false
 
 -- the configuration of a version after the header
 abbrev pub first_parser : ScriptVersion → TraceParser
-first_parser script.One = trace.First
-first_parser script.Two = trace.Weights version.Three empty
+first_parser v = trace.Config (trace_version v) (first_config (trace_version v))
 
--- the configuration, unless no adapter has come
+-- the configuration, or what it lacks
 abbrev pub configured : ℕ → TraceParser → Result Topology TraceFault
-configured n t = if lacks_adapters t then Err (BadConfig n (lacking (config_of t).weights)) else Ok (config_of t)
+configured n (trace.Config v c) = reading.configured n c
+configured n t = Err (BadRecord n)
 
--- how many rows of weights and links have come, where no adapter has
+-- how many rows of weights and links have come
 abbrev pub rows_before : TraceParser → ℕ
-rows_before (trace.Weights v t) = length t.weights
-rows_before (trace.Links t) = length t.weights + length t.links
-rows_before _ = 0
+rows_before (trace.Config v c) = parsing.rows_before c
+rows_before t = 0
 
 -- the number of the record after the header and the limits, if they are given
 abbrev pub first_number : Option Bounds → ℕ

@@ -25,5 +25,6 @@ has_links version.Three = true
 
 -- a version knows a word
 abbrev pub has_word : Version → TraceWord → Bool
+has_word v word.Weight = has_table v
 has_word v word.Link = has_links v
 has_word v w = true

@@ -32,7 +32,6 @@ mod script_writing;
 mod step;
 mod trace_fault;
 mod trace_parser;
-mod trace_row;
 mod trace_text;
 mod version;
 mod word;

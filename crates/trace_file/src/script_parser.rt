@@ -5,9 +5,10 @@ ghost use Rattle.csv.specs.Records.{fields_of};
 ghost use Rattle.record_text.specs.Fields.{field_of};
 ghost use Rattle.trace_file.specs.Scenarios.{is_answer_row, is_answer_word, item_of, names_driver, MAX_ROWS};
 ghost use Rattle.trace_file.specs.ScriptVersions.{ScriptVersion};
-ghost use Rattle.trace_file.specs.ScriptReading.{config_step, first_row, has_room, first_number, first_parser, is_config_word, is_configuring, is_limits, item_word, limits_of, limits_step, roomy_word, rows_step, script_ended, script_step, with_item};
+ghost use Rattle.trace_file.specs.ScriptReading.{config_step, configured, first_row, rows_before, has_room, first_number, first_parser, is_config_word, is_configuring, is_limits, item_word, limits_of, limits_step, roomy_word, rows_step, script_ended, script_step, with_item};
 ghost use Rattle.trace_file.specs.Sound.{IsSound, IsSoundScript};
 
+use crate::parser_items;
 use crate::script::Script;
 use crate::script_item::item_of;
 use crate::script_row::{ScriptItem, ScriptRow};
@@ -16,7 +17,7 @@ use crate::script_version::ScriptVersion;
 use crate::script_word::ScriptWord;
 use crate::trace_fault::TraceFault;
 use crate::trace_parser::{TraceParser, in_record};
-use cam_types::Limits;
+use cam_types::{Config, Limits};
 use csv::ByteRecord;
 use record_text::{Parser, field, is_header, is_text};
 use std::alloc::Global;
@@ -46,7 +47,9 @@ impl ScriptParser {
     {
         match self {
             ScriptParser::Header => Err(TraceFault::BadHeader),
-            ScriptParser::First(version) => without_rows(alloc, None, version.first_parser(alloc)),
+            ScriptParser::First(version) => {
+                without_rows(alloc, None, version.first_parser(alloc)?)
+            }
             ScriptParser::Config(given, parser) => without_rows(alloc, given, parser),
             ScriptParser::Rows(script, _, _) => Ok(script),
         }
@@ -88,7 +91,7 @@ impl Parser for ScriptParser {
                 }
             }
             ScriptParser::First(version) => {
-                let parser = version.first_parser(alloc);
+                let parser = version.first_parser(alloc)?;
                 if is_limits(row) {
                     take_limits(number, parser, row)
                 } else {
@@ -114,11 +117,35 @@ fn without_rows(
     requires configuring { IsTrue (is_configuring parser) }
     ensures { result ≢ Err TraceFault.OutOfMemory → result ≡ script_ended (ScriptParser.Config given parser) }
 {
-    let number = first_number(&given) + parser.rows_before();
-    let config = parser.configured(number)?;
+    let number = first_number(&given) + rows_before(&parser);
+    let config = configured(number, parser)?;
     match Script::empty(alloc, config, limits_of(given)) {
         Ok(script) => Ok(script),
         Err(_) => Err(TraceFault::OutOfMemory),
+    }
+}
+
+// The configuration, or what it lacks.
+#[tactic(auto, unfolding(crate::specs::Sound::IsSound))]
+fn configured(number: u32, parser: TraceParser) -> Result<Config, TraceFault>
+    requires sound { IsSound parser }
+    requires configuring { IsTrue (is_configuring parser) }
+    ensures { result ≡ configured number parser }
+{
+    match parser {
+        TraceParser::Config(_, parser) => parser_items::configured(number, parser),
+        TraceParser::Header | TraceParser::Events(_) => unreachable!(),
+    }
+}
+
+// How many rows of weights and links came: at most 20.
+fn rows_before(parser: &TraceParser) -> u32
+    ensures value { result ≡ rows_before parser.now }
+    ensures few { result ≤ 20 }
+{
+    match parser {
+        TraceParser::Config(_, parser) => parser.rows_before(),
+        TraceParser::Header | TraceParser::Events(_) => 0,
     }
 }
 
@@ -196,7 +223,7 @@ fn take_first(
         return Err(TraceFault::BadRecord(number));
     };
     let parsed = in_record(number, script_row_at(word, row))?;
-    let config = parser.configured(number)?;
+    let config = configured(number, parser)?;
     match Script::empty(alloc, config, limits_of(given)) {
         Ok(script) => with_row(number, script, 0, 0, parsed),
         Err(_) => Err(TraceFault::OutOfMemory),

@@ -1,8 +1,9 @@
 //! The versions of scripts.
 
-use crate::trace_parser::TraceParser;
+use crate::trace_fault::TraceFault;
+use crate::trace_parser::{TraceParser, first_config};
 use crate::version::Version;
-use cam_types::{Config, PartialConfig};
+use cam_types::Config;
 use std::alloc::Global;
 
 /// Which records of the configuration a script may have.
@@ -15,8 +16,8 @@ pub(crate) enum ScriptVersion {
 }
 
 impl ScriptVersion {
-    ghost use Rattle.std.specs.Prelude.{◌≡◌};
-    ghost use Rattle.trace_file.specs.ScriptReading.{first_parser};
+    ghost use Rattle.std.specs.Prelude.{◌≡◌, ◌≢◌, true, Ok, Err, IfOk};
+    ghost use Rattle.trace_file.specs.ScriptReading.{first_parser, is_configuring};
     ghost use Rattle.trace_file.specs.ScriptVersions.{least_script, script_name, trace_version};
     ghost use Rattle.trace_file.specs.Sound.{IsSound};
 
@@ -52,13 +53,12 @@ impl ScriptVersion {
 
     /// A configuration to which no row was applied.
     #[tactic(auto, unfolding(crate::specs::Sound::IsSound))]
-    pub(crate) fn first_parser(self, alloc: Global) -> TraceParser
-        ensures value { result ≡ first_parser self }
-        ensures sound { IsSound result }
+    pub(crate) fn first_parser(self, alloc: Global) -> Result<TraceParser, TraceFault>
+        ensures value { result ≢ Err TraceFault.OutOfMemory → result ≡ Ok (first_parser self) }
+        ensures sound { IfOk result IsSound }
+        ensures configuring { IfOk result (λ t. is_configuring t ≡ true) }
     {
-        match self {
-            ScriptVersion::One => TraceParser::First,
-            ScriptVersion::Two => TraceParser::Weights(Version::Three, PartialConfig::new(alloc)),
-        }
+        let version = self.traces();
+        Ok(TraceParser::Config(version, first_config(alloc, version)?))
     }
 }

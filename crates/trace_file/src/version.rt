@@ -69,6 +69,7 @@ impl Version {
         ensures { result ≡ has_word self word }
     {
         match word {
+            TraceWord::Weight => self.has_table(),
             TraceWord::Link => self.has_links(),
             _ => true,
         }

@@ -4,8 +4,8 @@ ghost use Rattle.std.specs.Prelude.{◌≡◌, ◌≤◌, ◌∷◌, ◌++◌, [
 ghost use Rattle.std.specs.List.{AllByRecursion};
 ghost use Rattle.cam_types.specs.Topology.{IsConfig};
 ghost use Rattle.trace_file.specs.Histories.{Device};
-ghost use Rattle.trace_file.specs.Records.{weight_rows, lane_row, event_row, hex};
-ghost use Rattle.record_text.specs.ConfigRows.{padded, weight_row, link_row, adapter_row, device_row};
+ghost use Rattle.trace_file.specs.Records.{weight_rows, event_row, hex};
+ghost use Rattle.record_text.specs.ConfigRows.{lane_row, padded, weight_row, link_row, adapter_row, device_row};
 ghost use Rattle.trace_file.specs.Fields.{flags_text};
 ghost use Rattle.trace_file.specs.Trace.{FitsEvent, FitsOutcome};
 ghost use Rattle.record_text.specs.Writing.{IsBetween, Wrote};

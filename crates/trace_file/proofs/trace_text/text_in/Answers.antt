@@ -2,8 +2,8 @@ use Rattle.std.proofs.Common.{◌≡◌, ◌∙◌, ◌++◌, ◌∷◌, List, [
 use Rattle.trace_file.specs.Versions.{Version}
 use Rattle.record_text.specs.Text.{Row}
 use Rattle.trace_file.specs.Histories.{Past}
-use Rattle.trace_file.specs.Records.{event_row, header, lane_row, records_of, weight_rows}
-use Rattle.record_text.specs.ConfigRows.{adapter_row, device_row, link_row}
+use Rattle.trace_file.specs.Records.{event_row, header, records_of, weight_rows}
+use Rattle.record_text.specs.ConfigRows.{adapter_row, device_row, link_row, lane_row}
 use Rattle.trace_file.specs.Trace.{IsHistory}
 use Rattle.trace_file.specs.Writing.{text_in}
 use Rattle.trace_file.proofs.TextLaws.{is_trace}

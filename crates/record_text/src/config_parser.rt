@@ -92,6 +92,7 @@ impl ConfigParser {
         requires place { next_rank self ≤ row_rank row }
         ensures value { result ≢ Err ConfigError.OutOfMemory → result ≡ with_row self row }
         ensures ordered { IfOk result IsOrdered }
+        ensures rank { IfOk result (λ c. c.rank ≡ row_rank row) }
     {
         match row {
             ConfigRow::Weight(weight) => self.with_weight(alloc, weight),
@@ -108,6 +109,7 @@ impl ConfigParser {
         requires place { next_rank self ≤ 0 }
         ensures value { result ≢ Err ConfigError.OutOfMemory → result ≡ with_row self (ConfigRow.Weight row) }
         ensures ordered { IfOk result IsOrdered }
+        ensures rank { IfOk result (λ c. c.rank ≡ 0) }
     {
         if self.rank > 0 {
             return Err(ConfigError::Fault(self.lacking()));
@@ -131,6 +133,7 @@ impl ConfigParser {
         requires place { next_rank self ≤ 1 }
         ensures value { result ≢ Err ConfigError.OutOfMemory → result ≡ with_row self (ConfigRow.Link openings) }
         ensures ordered { IfOk result IsOrdered }
+        ensures rank { IfOk result (λ c. c.rank ≡ 1) }
     {
         if !self.partial.reaches_last() {
             return Err(ConfigError::Fault(ConfigFault::BadWeight));
@@ -150,6 +153,7 @@ impl ConfigParser {
         requires place { next_rank self ≤ 2 }
         ensures value { result ≢ Err ConfigError.OutOfMemory → result ≡ with_row self (ConfigRow.Sim adapter) }
         ensures ordered { IfOk result IsOrdered }
+        ensures rank { IfOk result (λ c. c.rank ≡ 2) }
     {
         if !self.partial.reaches_last() {
             return Err(ConfigError::Fault(ConfigFault::BadWeight));
@@ -169,6 +173,7 @@ impl ConfigParser {
         requires place { next_rank self ≤ 3 }
         ensures value { result ≢ Err ConfigError.OutOfMemory → result ≡ with_row self (ConfigRow.Dev device) }
         ensures ordered { IfOk result IsOrdered }
+        ensures rank { IfOk result (λ c. c.rank ≡ 3) }
     {
         if self.lacks_adapters() {
             return Err(ConfigError::Fault(self.lacking()));
@@ -189,6 +194,7 @@ impl ConfigParser {
         requires { IsOrdered self }
         ensures value { result ≢ Err ConfigError.OutOfMemory → result ≡ with_row self (ConfigRow.Lane adapter) }
         ensures ordered { IfOk result IsOrdered }
+        ensures rank { IfOk result (λ c. c.rank ≡ 4) }
     {
         if self.lacks_adapters() {
             return Err(ConfigError::Fault(self.lacking()));

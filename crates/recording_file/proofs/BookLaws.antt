@@ -1,18 +1,15 @@
 -- The records of names, caps and requests are read as those of the recording.
-use Rattle.std.proofs.Common.{◌≡◌, ◌≢◌, ◌<◌, ◌≤◌, ℕ, List, [], ◌∷◌, ◌++◌, length, map, Bool, true, false, cond, refl, sym, ap, ◌∙◌, arith, Option, Some, None, IfSome, Ok, ◌&&◌, not, nat_lt, nat_le}
+use Rattle.std.proofs.Common.{◌≡◌, ◌≢◌, ◌+◌, ◌<◌, ◌≤◌, ℕ, List, [], ◌∷◌, ◌++◌, length, map, Bool, true, false, cond, refl, sym, ap, ◌∙◌, arith, Option, Some, None, IfSome, Ok, ◌&&◌, not, nat_lt, nat_le}
 use Rattle.std.specs.Option.{option_map_or}
-use Rattle.std.proofs.lemmas.Bool.{and_parts, leb-true, ltb-false, lt-ltb, not-false}
+use Rattle.std.proofs.lemmas.Bool.{and_parts, le-leb, leb-true, ltb-false, lt-ltb, not-false}
 use Rattle.cam_types.specs.Topology.{Topology, IsConfig}
-use Rattle.cam_types.specs.declared.adapter.Adapter.{Adapter}
-use Rattle.cam_types.specs.declared.device.Device.{Device}
-use Rattle.cam_types.specs.declared.weight_row.WeightRow.{WeightRow}
 use Rattle.cam_types.specs.declared.limits.TheConstants.{MAX_PRIORITY}
 use Rattle.cam_types.proofs.ConfigLemmas.{few_adapters, few_devices, few_links}
 use Rattle.cam_types.proofs.ListLemmas.{or_left}
 use Rattle.cam_types.specs.Questions.{names_device}
 use Rattle.recording_file.specs.Recorded.{Recorded, Request, IsRecording, has_items, last_of, request_cause, plain_cause, window_cause, NoDevice, BadPriority, BadWindow, MAX_REQUESTS, MAX_RECORDED_ROUNDS}
 use Rattle.recording_file.proofs.PlaceLemmas.{device_there}
-use Rattle.recording_file.specs.Reading.{apply_parsed, add_name, add_cap, add_request, begun, lacks_adapters, recorded_of, stands, step, RecordingParser, Start}
+use Rattle.recording_file.specs.Reading.{apply_parsed, add_name, add_cap, add_request, ended, recorded_of, stands, step, whole, RecordingParser}
 use Rattle.recording_file.specs.declared.recording_parser.RecordingParser.TheVariants as parser
 use Rattle.recording_file.specs.declared.parsed_row.ParsedRow.TheVariants as parsed
 use Rattle.recording_file.specs.declared.word.RecordingWord.TheVariants as word
@@ -27,7 +24,9 @@ use Rattle.record_text.proofs.ListLemmas.{Along, along_both, along_few, along_to
 use Rattle.record_text.proofs.StepLemmas.{then_taken, run}
 use Rattle.recording_file.proofs.PlacingLemmas.{not_some, plain_none}
 use Rattle.recording_file.proofs.ParsedAgain.{IsCounted}
-use Rattle.recording_file.proofs.HeadLaws.{at_devices, config, start_of, base_of}
+use Rattle.recording_file.proofs.HeadLaws.{base_of}
+use Rattle.record_text.specs.ConfigParsing.{next_rank}
+use Rattle.record_text.proofs.ConfigLaws.{config_came, next_few, parsed_config, rank_few}
 
 -- ---- names, caps and requests
 
@@ -41,18 +40,13 @@ at_book base (x ∷ xs) cs qs = parser.Book (record (recorded_of base) { names =
 -- a parser after the devices
 pub record IsBase (r : Recorded) (base : RecordingParser) : Type 0 where
   pub headed : base ≢ parser.Header
-  pub whole : lacks_adapters base ≡ false
+  pub whole : (n : ℕ) → whole n base ≡ Ok (record r { names = []; caps = []; requests = [] })
+  pub ends : ended base ≡ Ok (record r { names = []; caps = []; requests = [] })
   pub is : recorded_of base ≡ record r { names = []; caps = []; requests = [] }
   pub named : stands base word.Name ≡ true
   pub capped : stands base word.Cap ≡ true
   pub asked : stands base word.Request ≡ true
   pub small : IsCounted (counts_of r.config) × (r.rounds ≤ max_number)
-
-pub devices_base : (r : Recorded) (start : Start) (ws : List WeightRow) (ks : List ℕ) (as' : List Adapter) (ds : List Device) → record r { names = []; caps = []; requests = [] } ≡ begun start (config ws ks as' ds)
-    → IsCounted (counts_of r.config) × (r.rounds ≤ max_number) → IsBase r (at_devices start ws ks as' ds)
-unfolding stands
-devices_base r start ws ks as' [] e h = record { headed = λ z. cc; whole = refl; is = sym e; named = refl; capped = refl; asked = refl; small = h }
-devices_base r start ws ks as' (d ∷ ds) e h = record { headed = λ z. cc; whole = refl; is = sym e; named = refl; capped = refl; asked = refl; small = h }
 
 -- what is recorded with these names, caps and requests
 abbrev pub with_items : Recorded → List NameValue → List Cap → List Request → Recorded
@@ -60,17 +54,24 @@ with_items r ns cs qs = record r { names = ns; caps = cs; requests = qs }
 
 pub record BookAt (r : Recorded) (s : RecordingParser) : Type 0 where
   pub headed : s ≢ parser.Header
-  pub whole : lacks_adapters s ≡ false
+  pub whole : (n : ℕ) → whole n s ≡ Ok r
+  pub ends : ended s ≡ Ok r
   pub is : recorded_of s ≡ r
 
 book_is : (r : Recorded) (base : RecordingParser) → IsBase r base → (ns : List NameValue) (cs : List Cap) (qs : List Request) → recorded_of (parser.Book (record (recorded_of base) { names = ns; caps = cs; requests = qs })) ≡ with_items r ns cs qs
 book_is r base h ns cs qs = ap (λ (q : Recorded). record q { names = ns; caps = cs; requests = qs }) h.is
 
+book : (r : Recorded) (base : RecordingParser) → IsBase r base → (ns : List NameValue) (cs : List Cap) (qs : List Request) → BookAt (with_items r ns cs qs) (parser.Book (record (recorded_of base) { names = ns; caps = cs; requests = qs }))
+unfolding ended
+book r base h ns cs qs =
+    let is = book_is r base h ns cs qs in
+    record { headed = λ z. cc; whole = λ n. ap (λ (q : Recorded). Ok q) is; ends = ap (λ (q : Recorded). Ok q) is; is = is }
+
 pub book_at : (r : Recorded) (base : RecordingParser) → IsBase r base → (ns : List NameValue) (cs : List Cap) (qs : List Request) → BookAt (with_items r ns cs qs) (at_book base ns cs qs)
-book_at r base h [] [] [] = record { headed = h.headed; whole = h.whole; is = h.is }
-book_at r base h [] [] (q ∷ qs) = record { headed = λ z. cc; whole = refl; is = book_is r base h [] [] (q ∷ qs) }
-book_at r base h [] (c ∷ cs) qs = record { headed = λ z. cc; whole = refl; is = book_is r base h [] (c ∷ cs) qs }
-book_at r base h (x ∷ xs) cs qs = record { headed = λ z. cc; whole = refl; is = book_is r base h (x ∷ xs) cs qs }
+book_at r base h [] [] [] = record { headed = h.headed; whole = h.whole; ends = h.ends; is = h.is }
+book_at r base h [] [] (q ∷ qs) = book r base h [] [] (q ∷ qs)
+book_at r base h [] (c ∷ cs) qs = book r base h [] (c ∷ cs) qs
+book_at r base h (x ∷ xs) cs qs = book r base h (x ∷ xs) cs qs
 
 -- with an item it is a book
 book_name : (r : Recorded) (base : RecordingParser) → IsBase r base → (ns : List NameValue) (x : NameValue) → parser.Book (with_items r (ns ++ x ∷ []) [] []) ≡ at_book base (ns ++ x ∷ []) [] []
@@ -119,15 +120,15 @@ request_place r base h (x ∷ ns) cs qs few = rw (few, rank_eight (has_items qs)
 
 -- ---- one name, cap or request more
 
-name_added : (n : ℕ) (s : RecordingParser) (q : Recorded) (x : NameValue) → lacks_adapters s ≡ false → recorded_of s ≡ q → add_name n s x ≡ Ok (parser.Book (record q { names = q.names ++ x ∷ [] }))
-name_added n s q x l e = rw (l, e) refl
+name_added : (n : ℕ) (s : RecordingParser) (q : Recorded) (x : NameValue) → ((m : ℕ) → whole m s ≡ Ok q) → add_name n s x ≡ Ok (parser.Book (record q { names = q.names ++ x ∷ [] }))
+name_added n s q x is = rw (is n) refl
 
-cap_added : (n : ℕ) (s : RecordingParser) (q : Recorded) (x : Cap) → lacks_adapters s ≡ false → recorded_of s ≡ q → add_cap n s x ≡ Ok (parser.Book (record q { caps = q.caps ++ x ∷ [] }))
-cap_added n s q x l e = rw (l, e) refl
+cap_added : (n : ℕ) (s : RecordingParser) (q : Recorded) (x : Cap) → ((m : ℕ) → whole m s ≡ Ok q) → add_cap n s x ≡ Ok (parser.Book (record q { caps = q.caps ++ x ∷ [] }))
+cap_added n s q x is = rw (is n) refl
 
-request_added : (n : ℕ) (s : RecordingParser) (q : Recorded) (x : Request) → lacks_adapters s ≡ false → recorded_of s ≡ q → request_cause q.rounds q.config q.caps (q.requests, x) ≡ None
+request_added : (n : ℕ) (s : RecordingParser) (q : Recorded) (x : Request) → ((m : ℕ) → whole m s ≡ Ok q) → request_cause q.rounds q.config q.caps (q.requests, x) ≡ None
     → add_request n s x ≡ Ok (parser.Book (record q { requests = q.requests ++ x ∷ [] }))
-request_added n s q x l e none = rw (l, e, none) refl
+request_added n s q x is none = rw (is n, none) refl
 
 one_name : (r : Recorded) (base : RecordingParser) → IsBase r base → (n : ℕ) (before : List NameValue) (x : NameValue) → is_name (counts_of r.config) (before, x) ≡ true
     → step n (at_book base before [] []) (name_row x) ≡ Ok (at_book base (before ++ x ∷ []) [] [])
@@ -136,7 +137,7 @@ one_name r base h n before x e =
     let s = at_book base before [] [] in
     let at = book_at r base h before [] [] in
     parsed_step n s (parsed.Name x) at.headed (rw at.is h.small) (name_place r base h before) (rw at.is e)
-    ∙ name_added n s (with_items r before [] []) x at.whole at.is ∙ ap (λ (t : RecordingParser). Ok t) (book_name r base h before x)
+    ∙ name_added n s (with_items r before [] []) x at.whole ∙ ap (λ (t : RecordingParser). Ok t) (book_name r base h before x)
 
 one_cap : (r : Recorded) (base : RecordingParser) → IsBase r base → (ns : List NameValue) (n : ℕ) (before : List Cap) (x : Cap) → is_cap r.rounds (counts_of r.config) (before, x) ≡ true
     → step n (at_book base ns before []) (cap_row x) ≡ Ok (at_book base ns (before ++ x ∷ []) [])
@@ -145,7 +146,7 @@ one_cap r base h ns n before x e =
     let s = at_book base ns before [] in
     let at = book_at r base h ns before [] in
     parsed_step n s (parsed.Cap x) at.headed (rw at.is h.small) (cap_place r base h ns before) (rw at.is e)
-    ∙ cap_added n s (with_items r ns before []) x at.whole at.is ∙ ap (λ (t : RecordingParser). Ok t) (book_cap r base h ns before x)
+    ∙ cap_added n s (with_items r ns before []) x at.whole ∙ ap (λ (t : RecordingParser). Ok t) (book_cap r base h ns before x)
 
 abbrev pub GoodRequest : Recorded → List Request → Request → Type 0
 GoodRequest r before q = ((request_cause r.rounds r.config r.caps (before, q) ≡ None) × FitsRequest q) × (length before < MAX_REQUESTS)
@@ -157,7 +158,7 @@ one_request r base h n before q e =
     let s = at_book base r.names r.caps before in
     let at = book_at r base h r.names r.caps before in
     parsed_step n s (parsed.Request q) at.headed tt (request_place r base h r.names r.caps before (lt-ltb _ _ e.1)) e.0.1
-    ∙ request_added n s (with_items r r.names r.caps before) q at.whole at.is e.0.0 ∙ ap (λ (t : RecordingParser). Ok t) (book_request r base h r.names r.caps before q)
+    ∙ request_added n s (with_items r r.names r.caps before) q at.whole e.0.0 ∙ ap (λ (t : RecordingParser). Ok t) (book_request r base h r.names r.caps before q)
 
 -- a request without a cause against it fits its fields
 request_fits : (rounds : ℕ) (c : Topology) (caps : List Cap) (before : List Request) (q : Request) → IsConfig c → rounds ≤ MAX_RECORDED_ROUNDS → request_cause rounds c caps (before, q) ≡ None → q.driver ≤ 255 → FitsRequest q
@@ -209,14 +210,23 @@ taken_book r base h is n =
 pub counted_so : (c : Topology) → IsConfig c → IsCounted (counts_of c)
 counted_so c h = record { devices = few_devices c h; adapters = few_adapters c h; links = few_links c h }
 
-whole_topology : (t : Topology) → t.lanes ≡ [] → t ≡ config t.weights t.links t.adapters t.devices
-whole_topology t e = ap (λ (l : List ℕ). let x : Topology = record { weights = t.weights; links = t.links; adapters = t.adapters; devices = t.devices; lanes = l } in x) e
-
 pub is_base : (table : Bool) (r : Recorded) → IsRecording r → IsBase r (base_of table r)
-unfolding base_of
+unfolding stands ended
 is_base table r h =
     let t = r.config in
     let head = h.kept.head in
     let is : IsConfig t = record { kept = head.config } in
     let rounds = head.rounds in
-    devices_base r (start_of r.unit r.rounds table) t.weights t.links t.adapters t.devices (ap (λ (x : Topology). begun (start_of r.unit r.rounds table) x) (whole_topology t head.lanes)) (counted_so t is, omega arith)
+    let came = config_came table t is in
+    let c = parsed_config table t in
+    let few : next_rank c ≤ 4 = next_few c 4 (rank_few table t) in
+    record {
+      headed = λ z. cc;
+      whole = λ n. rw came refl;
+      ends = rw came refl;
+      is = refl;
+      named = rw (le-leb (2 + next_rank c) 6 (omega arith)) refl;
+      capped = rw (le-leb (2 + next_rank c) 7 (omega arith)) refl;
+      asked = rw (le-leb (2 + next_rank c) 8 (omega arith)) refl;
+      small = (counted_so t is, omega arith);
+    }

@@ -1,10 +1,13 @@
 -- The first record that fails, and its fault.
 use Rattle.std.proofs.Common.{ℕ, List, Bool, sym}
 use Rattle.std.specs.Prelude.{Option, Some, None, Result, Ok, Err, ok_or, ⊤, IfErr}
-use Rattle.cam_types.specs.Weights.{reaches_last}
+use Rattle.record_text.specs.ConfigParsing.{lacking, lacks_adapters, pushed, row_fault, unless_fault, with_row}
+use Rattle.record_text.specs.declared.config_parser.ConfigParser.{ConfigParser}
+use Rattle.record_text.specs.declared.config_row.ConfigRow.{ConfigRow}
+use Rattle.record_text.specs.declared.config_row.ConfigRow.TheVariants as row
 use Rattle.cam_types.specs.declared.config_fault.ConfigFault.{ConfigFault}
 use Rattle.recording_file.specs.Recorded.{Recorded, RequestFault}
-use Rattle.recording_file.specs.Reading.{apply_parsed, parsed_cap, ended, in_record, lacks_adapters, parsed_name, placed, recorded_of, row_step, parsed_by, says, step, unless_fault, unless_illegal, RecordingFault, RecordingParser, ParsedRow}
+use Rattle.recording_file.specs.Reading.{add_row, apply_parsed, parsed_cap, ended, in_config, in_record, parsed_name, placed, recorded_of, row_step, parsed_by, says, step, unless_illegal, whole, RecordingFault, RecordingParser, ParsedRow}
 use Rattle.recording_file.specs.declared.recording_fault.RecordingFault.TheVariants as fault
 use Rattle.recording_file.specs.declared.recording_parser.RecordingParser.TheVariants as parser
 use Rattle.recording_file.specs.declared.parsed_row.ParsedRow.TheVariants as parsed
@@ -33,9 +36,18 @@ IsOfText _ = ⊤
 abbrev FailsByText : {X : Type 0} → Result X RecordingFault → Type 0
 FailsByText r = FailsBy IsOfText r
 
-pub by_config : (n : ℕ) (o : Option ConfigFault) (s : RecordingParser) → FailsByText (unless_fault n o s)
-by_config n None s = tt
-by_config n (Some f) s = tt
+by_config : (n : ℕ) (o : Option ConfigFault) (c : ConfigParser) → FailsByText (in_config n (unless_fault o c))
+by_config n None c = tt
+by_config n (Some f) c = tt
+
+by_whole : (n : ℕ) (s : RecordingParser) → FailsByText (whole n s)
+by_whole n (parser.Config start c) = by_test IsOfText (lacks_adapters c) (Err (fault.BadConfig n (lacking c))) _ tt tt
+by_whole n _ = tt
+
+row_more : (n : ℕ) (s : RecordingParser) (r : ConfigRow) → FailsByText (add_row n s r)
+unfolding with_row
+row_more n (parser.Config start c) r = bound IsOfText (in_config n (with_row c r)) _ (by_config n (row_fault c r) (pushed c r)) (λ d. tt)
+row_more n _ r = tt
 
 pub by_cause : (n : ℕ) (o : Option RequestFault) (s : RecordingParser) → FailsByText (unless_illegal n o s)
 by_cause n None s = tt
@@ -67,21 +79,13 @@ add_fails n parser.First (parsed.Unit u) = tt
 add_fails n _ (parsed.Unit u) = tt
 add_fails n parser.First (parsed.Rounds k) = tt
 add_fails n _ (parsed.Rounds k) = tt
-add_fails n (parser.Weights start t) (parsed.Weight w) = by_config n _ _
-add_fails n _ (parsed.Weight w) = tt
-add_fails n (parser.Weights start t) (parsed.Link k) = by_test IsOfText (reaches_last t.weights) _ _ (by_config n _ _) tt
-add_fails n (parser.Links start t) (parsed.Link k) = by_test IsOfText (reaches_last t.weights) _ _ (by_config n _ _) tt
-add_fails n _ (parsed.Link k) = tt
-add_fails n (parser.Weights start t) (parsed.Sim a) = by_test IsOfText (reaches_last t.weights) _ _ (by_config n _ _) tt
-add_fails n (parser.Links start t) (parsed.Sim a) = by_test IsOfText (reaches_last t.weights) _ _ (by_config n _ _) tt
-add_fails n (parser.Adapters start t) (parsed.Sim a) = by_test IsOfText (reaches_last t.weights) _ _ (by_config n _ _) tt
-add_fails n _ (parsed.Sim a) = tt
-add_fails n (parser.Adapters start t) (parsed.Dev d) = by_config n _ _
-add_fails n (parser.Devices start t) (parsed.Dev d) = by_config n _ _
-add_fails n _ (parsed.Dev d) = tt
-add_fails n s (parsed.Name x) = by_test IsOfText (lacks_adapters s) _ _ tt tt
-add_fails n s (parsed.Cap x) = by_test IsOfText (lacks_adapters s) _ _ tt tt
-add_fails n s (parsed.Request q) = by_test IsOfText (lacks_adapters s) _ _ tt (by_cause n _ _)
+add_fails n s (parsed.Weight w) = row_more n s (row.Weight w)
+add_fails n s (parsed.Link k) = row_more n s (row.Link k)
+add_fails n s (parsed.Sim a) = row_more n s (row.Sim a)
+add_fails n s (parsed.Dev d) = row_more n s (row.Dev d)
+add_fails n s (parsed.Name x) = bound IsOfText (whole n s) _ (by_whole n s) (λ r. tt)
+add_fails n s (parsed.Cap x) = bound IsOfText (whole n s) _ (by_whole n s) (λ r. tt)
+add_fails n s (parsed.Request q) = bound IsOfText (whole n s) _ (by_whole n s) (λ r. by_cause n _ _)
 
 row_fails : (n : ℕ) (s : RecordingParser) (row : Row) → FailsByText (row_step n s row)
 unfolding row_step
@@ -94,7 +98,7 @@ step_fails n s row = row_fails n s row
 
 end_fails : (s : RecordingParser) → FailsByText (ended s)
 unfolding ended
-end_fails parser.Header = tt
+end_fails (parser.Config start c) = by_whole _ (parser.Config start c)
 end_fails _ = tt
 
 pub reading_fails : (rows : List Row) → FailsByText (taken step 1 parser.Header rows >>= ended)

@@ -20,10 +20,7 @@ unfolding step is_header fault
 long_step n parser.Header row many = rw (not_eight row many) refl
 long_step n parser.First row many = long_row n parser.First row many
 long_step n (parser.Timed u) row many = long_row n (parser.Timed u) row many
-long_step n (parser.Weights a t) row many = long_row n (parser.Weights a t) row many
-long_step n (parser.Links a t) row many = long_row n (parser.Links a t) row many
-long_step n (parser.Adapters a t) row many = long_row n (parser.Adapters a t) row many
-long_step n (parser.Devices a t) row many = long_row n (parser.Devices a t) row many
+long_step n (parser.Config a c) row many = long_row n (parser.Config a c) row many
 long_step n (parser.Book r) row many = long_row n (parser.Book r) row many
 
 pub refuses_long : RefusesLong step

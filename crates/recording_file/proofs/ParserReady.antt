@@ -1,9 +1,9 @@
 -- Where a record is placed, it can be taken.
-use Rattle.std.proofs.Common.{◌≡◌, ◌≤◌, ℕ, [], length, Bool, true, false, cond, refl, sym, ap, ◌∙◌, subst, arith, ◌==◌, ◌&&◌, ◌||◌, not, nat_le, nat_lt, Result, Ok, Err}
+use Rattle.std.proofs.Common.{◌≡◌, ◌≤◌, ℕ, [], ◌∷◌, ◌++◌, length, Bool, true, false, cond, refl, sym, ap, ◌∙◌, subst, arith, ◌==◌, ◌&&◌, ◌||◌, not, nat_le, nat_lt, Result, Ok, Err}
 use Rattle.std.proofs.lemmas.Bool.{and_parts, eqb-true, ltb-true}
 use Rattle.std.proofs.lemmas.List.{nil_from_length}
-use Rattle.recording_file.specs.Recorded.{Recorded, Request, has_items, MAX_REQUESTS}
-use Rattle.recording_file.specs.Reading.{add_row, apply_parsed, add_name, add_cap, add_request, book_rank, in_record, says, parsed_name, parsed_cap, parsed_by, recorded_of, stands, RecordingFault, BadRecord, RecordingParser, ParsedRow}
+use Rattle.recording_file.specs.Recorded.{Recorded, Request, has_items, request_cause, MAX_REQUESTS}
+use Rattle.recording_file.specs.Reading.{apply_parsed, add_name, add_cap, add_request, begun, book_rank, in_record, says, parsed_name, parsed_cap, parsed_by, recorded_of, stands, take_word, unless_illegal, whole, whole_of, RecordingFault, BadRecord, RecordingParser, ParsedRow, Start}
 use Rattle.recording_file.specs.declared.recording_parser.RecordingParser.TheVariants as parser
 use Rattle.recording_file.specs.Words.{word_rank, RecordingWord}
 use Rattle.recording_file.specs.declared.word.RecordingWord.TheVariants as word
@@ -14,7 +14,9 @@ use Rattle.recording_file.specs.Caps.{Cap, is_next_cap}
 use Rattle.recording_file.specs.Names.{NameValue, is_next_name}
 use Rattle.recording_file.specs.Rows.{named_at, text_at, capped_at, most_at, request_at}
 use Rattle.recording_file.specs.Counts.{counts_of}
-use Rattle.recording_file.specs.RowParsing.{IsAt, IsNaming, booked, ready_for}
+use Rattle.recording_file.specs.RowParsing.{IsAt, IsNaming, IsOpen, booked, ready_for}
+use Rattle.record_text.specs.ConfigParsing.{lacks_adapters}
+use Rattle.record_text.specs.declared.config_parser.ConfigParser.{ConfigParser}
 use Rattle.recording_file.specs.Sound.{IsSound}
 use Rattle.record_text.specs.Steps.{◌>>=◌}
 use Rattle.recording_file.proofs.ParsedLaws.{parsed_tells}
@@ -29,36 +31,59 @@ no_requests r e = by (length r.requests == 0) refl e
 few_requests : (a b : Bool) → (a && (false || b)) ≡ true → b ≡ true
 few_requests a b e = (and_parts a b e).1
 
+-- ---- a whole configuration changes nothing
+
+pub booked_recorded : (s : RecordingParser) → recorded_of (booked s) ≡ recorded_of s
+booked_recorded parser.Header = refl
+booked_recorded (parser.Config start c) = by (lacks_adapters c)
+  where
+    by : (b : Bool) → recorded_of (cond b (parser.Config start c) (parser.Book (begun start c.partial))) ≡ begun start c.partial
+    by true = refl
+    by false = refl
+booked_recorded _ = refl
+
+open_booked : (start : Start) (c : ConfigParser) → IsOpen (booked (parser.Config start c))
+open_booked start c = by (lacks_adapters c) refl
+  where
+    by : (b : Bool) → lacks_adapters c ≡ b → IsOpen (cond b (parser.Config start c) (parser.Book (begun start c.partial)))
+    by true e = e
+    by false e = tt
+
+whole_booked : (n : ℕ) (s : RecordingParser) → whole n (booked s) ≡ whole n s
+whole_booked n parser.Header = refl
+whole_booked n (parser.Config start c) = by (lacks_adapters c) refl
+  where
+    by : (b : Bool) → lacks_adapters c ≡ b → whole n (cond b (parser.Config start c) (parser.Book (begun start c.partial))) ≡ whole_of n start c
+    by true e = refl
+    by false e = rw e refl
+whole_booked n _ = refl
+
 -- where a word stands, its record can be taken
 pub stands_at : (s : RecordingParser) (w : RecordingWord) → stands s w ≡ true → IsAt (ready_for s w) w
 unfolding stands
 stands_at s word.Unit e = tt
 stands_at s word.Rounds e = tt
 stands_at s word.Weight e = e
-stands_at s word.Link e = tt
-stands_at s word.Sim e = tt
+stands_at s word.Link e = e
+stands_at s word.Sim e = e
 stands_at s word.Dev e = e
 stands_at parser.Header word.Name e = absurd cc
 stands_at parser.First word.Name e = absurd cc
 stands_at (parser.Timed u) word.Name e = absurd cc
 stands_at (parser.Book r) word.Name e = tt
-stands_at _ word.Name e = tt
+stands_at (parser.Config start c) word.Name e = open_booked start c
 stands_at parser.Header word.Cap e = absurd cc
 stands_at parser.First word.Cap e = absurd cc
 stands_at (parser.Timed u) word.Cap e = absurd cc
 stands_at (parser.Book r) word.Cap e = (tt, no_requests r (and_parts (nat_le (book_rank r) 7) true e).0)
-stands_at _ word.Cap e = (tt, refl)
+stands_at (parser.Config start c) word.Cap e = (open_booked start c, ap (λ (r : Recorded). r.requests) (booked_recorded (parser.Config start c)))
 stands_at parser.Header word.Request e = absurd cc
 stands_at parser.First word.Request e = absurd cc
 stands_at (parser.Timed u) word.Request e = absurd cc
 stands_at (parser.Book r) word.Request e = (tt, ltb-true _ _ (few_requests (nat_le (book_rank r) 8) (nat_lt (length r.requests) MAX_REQUESTS) e))
-stands_at _ word.Request e = (tt, omega arith)
+stands_at (parser.Config start c) word.Request e = (open_booked start c, (let none : (recorded_of (booked (parser.Config start c))).requests ≡ [] = ap (λ (r : Recorded). r.requests) (booked_recorded (parser.Config start c)) in rw none (omega arith)))
 
--- ---- a whole configuration changes nothing
-
-pub booked_recorded : (s : RecordingParser) → recorded_of (booked s) ≡ recorded_of s
-booked_recorded parser.Header = refl
-booked_recorded _ = refl
+-- ---- a record whose word is placed
 
 same_after : {X Y : Type 0} (r : Result X RecordingFault) (f g : X → Result Y RecordingFault) → ((x : X) → f x ≡ g x) → (r >>= f) ≡ (r >>= g)
 same_after (Ok x) f g e = e x
@@ -77,18 +102,15 @@ bind_bind (Ok x) f g = refl
 bind_bind (Err d) f g = refl
 
 booked_name : (n : ℕ) (s : RecordingParser) (x : NameValue) → add_name n (booked s) x ≡ add_name n s x
-booked_name n parser.Header x = refl
-booked_name n _ x = refl
+booked_name n s x = ap (λ w. w >>= λ r. Ok (parser.Book (record r { names = r.names ++ x ∷ [] }))) (whole_booked n s)
 
 booked_cap : (n : ℕ) (s : RecordingParser) (x : Cap) → add_cap n (booked s) x ≡ add_cap n s x
-booked_cap n parser.Header x = refl
-booked_cap n _ x = refl
+booked_cap n s x = ap (λ w. w >>= λ r. Ok (parser.Book (record r { caps = r.caps ++ x ∷ [] }))) (whole_booked n s)
 
 booked_request : (n : ℕ) (s : RecordingParser) (x : Request) → add_request n (booked s) x ≡ add_request n s x
-booked_request n parser.Header x = refl
-booked_request n _ x = refl
+booked_request n s q = ap (λ w. w >>= λ r. unless_illegal n (request_cause r.rounds r.config r.caps (r.requests, q)) (parser.Book (record r { requests = r.requests ++ q ∷ [] }))) (whole_booked n s)
 
-pub booked_row : (n : ℕ) (s : RecordingParser) (w : RecordingWord) (row : Row) → nat_lt (word_rank w) 6 ≡ false → add_row n (booked s) w row ≡ add_row n s w row
+pub booked_row : (n : ℕ) (s : RecordingParser) (w : RecordingWord) (row : Row) → nat_lt (word_rank w) 6 ≡ false → take_word n (booked s) w row ≡ take_word n s w row
 unfolding parsed_by apply_parsed parsed_name parsed_cap
 booked_row n s word.Name row e =
     let r = recorded_of s in
@@ -105,10 +127,10 @@ booked_row n s word.Cap row e =
 booked_row n s word.Request row e = ap (λ (q : Recorded). parsed_by n q word.Request row >>= apply_parsed n (booked s)) (booked_recorded s) ∙ (says_same n (request_at row) _ _ _ (λ q. booked_request n s q))
 booked_row n s _ row e = absurd cc
 
-pub ready_row : (n : ℕ) (s : RecordingParser) (w : RecordingWord) (row : Row) → add_row n (ready_for s w) w row ≡ add_row n s w row
+pub ready_row : (n : ℕ) (s : RecordingParser) (w : RecordingWord) (row : Row) → take_word n (ready_for s w) w row ≡ take_word n s w row
 ready_row n s w row = by (nat_lt (word_rank w) 6) refl
   where
-    by : (b : Bool) → nat_lt (word_rank w) 6 ≡ b → add_row n (cond b s (booked s)) w row ≡ add_row n s w row
+    by : (b : Bool) → nat_lt (word_rank w) 6 ≡ b → take_word n (cond b s (booked s)) w row ≡ take_word n s w row
     by true e = refl
     by false e = booked_row n s w row e
 
@@ -119,9 +141,8 @@ unfolding IsSound
 rounds_small parser.Header h = omega arith
 rounds_small parser.First h = omega arith
 rounds_small (parser.Timed u) h = omega arith
-rounds_small (parser.Devices start t) h = let k = h.head.rounds in omega arith
+rounds_small (parser.Config start c) h = let k = h.0.rounds in omega arith
 rounds_small (parser.Book r) h = let k = h.head.rounds in omega arith
-rounds_small _ h = let k = h.0.head.rounds in omega arith
 
 pub parsed_ready : (n : ℕ) (s : RecordingParser) (w : RecordingWord) (row : Row) (x : ParsedRow) → IsSound s → IsAt s w → length row ≡ 8 → parsed_by n (recorded_of s) w row ≡ Ok x → IsAt s (word_for x) × FitsParsed (recorded_of s) x
 parsed_ready n s w row x sound at eight e =

@@ -1,10 +1,12 @@
 -- What is read is spelled so.
-use Rattle.std.proofs.Common.{◌≡◌, ◌≤◌, ℕ, List, [], ◌∷◌, ◌++◌, length, Bool, true, false, cond, refl, sym, ap, ◌∙◌, subst, Option, Some, None, Result, Ok, Err, ok_or, option_and_then, ◌==◌, not, nat_le, nat_lt}
+use Rattle.std.proofs.Common.{◌≡◌, ◌≤◌, ℕ, List, [], ◌∷◌, ◌++◌, length, Bool, true, false, cond, refl, sym, ap, ◌∙◌, subst, arith, Option, Some, None, Result, Ok, Err, ok_or, option_and_then, ◌==◌, not, nat_le, nat_lt}
 use Rattle.std.proofs.lemmas.Bool.{and_parts, eqb-true, ltb-true}
 use Rattle.std.proofs.lemmas.List.{nil_from_length}
-use Rattle.cam_types.proofs.TopologyLemmas.{standard_partial}
+use Rattle.record_text.proofs.ConfigLaws.{ordered_standard}
+use Rattle.record_text.specs.declared.config_row.ConfigRow.TheVariants as row
+use Rattle.recording_file.proofs.ParserLemmas.{may_take}
 use Rattle.recording_file.specs.Recorded.{Recorded, Request, has_items, MAX_REQUESTS}
-use Rattle.recording_file.specs.Reading.{apply_parsed, add_name, add_cap, add_request, book_rank, ended, lacks_adapters, placed, reading, recorded_of, row_step, parsed_by, step, stands, RecordingFault, BadHeader, BadRecord, RecordingParser, ParsedRow}
+use Rattle.recording_file.specs.Reading.{apply_parsed, add_name, add_cap, add_request, book_rank, ended, placed, reading, recorded_of, row_step, parsed_by, step, stands, whole, RecordingFault, BadHeader, BadRecord, RecordingParser, ParsedRow}
 use Rattle.recording_file.specs.declared.recording_parser.RecordingParser.TheVariants as parser
 use Rattle.recording_file.specs.declared.parsed_row.ParsedRow.TheVariants as parsed
 use Rattle.recording_file.specs.Words.{spelled, word_of, RecordingWord, name_text}
@@ -26,14 +28,10 @@ use Rattle.recording_file.proofs.PushLaws.{push_name, push_cap, push_request}
 use Rattle.recording_file.proofs.ParsedLaws.{parsed_takes}
 use Rattle.record_text.proofs.RowLaws.{named_header}
 use Rattle.recording_file.proofs.ParserReady.{rounds_small}
-use Rattle.recording_file.proofs.ParserReads.{Reads, next_reads, no_cause, reads_adapter, reads_config, reads_device, reads_link, reads_weight, reads_whole}
+use Rattle.recording_file.proofs.ParserReads.{Reads, lacks, next_reads, no_cause, reads_row, reads_whole, whole_ok}
 use Rattle.record_text.proofs.ListLemmas.{all_push}
 
 -- ---- names, caps and requests
-
-guarded : {X : Type 0} (b : Bool) (d : RecordingFault) (r : Result X RecordingFault) (x : X) → cond b (Err d) r ≡ Ok x → (b ≡ false) × (r ≡ Ok x)
-guarded true d r x e = absurd cc
-guarded false d r x e = (refl, e)
 
 -- where a name stands, no cap and no request came; where a cap stands, no request did
 no_items : {X : Type 0} (xs : List X) → has_items xs ≡ false → xs ≡ []
@@ -58,54 +56,57 @@ book_bare r e = by (has_items r.requests) (has_items r.caps) refl refl e
     by false true is it k = absurd cc
     by false false is it k = (no_items r.caps it, no_items r.requests is)
 
-name_bare : (s : RecordingParser) → lacks_adapters s ≡ false → stands s word.Name ≡ true → ((recorded_of s).caps ≡ []) × ((recorded_of s).requests ≡ [])
+name_bare : (s : RecordingParser) → lacks s ≡ false → stands s word.Name ≡ true → ((recorded_of s).caps ≡ []) × ((recorded_of s).requests ≡ [])
 unfolding stands
-name_bare (parser.Adapters start t) l e = (refl, refl)
-name_bare (parser.Devices start t) l e = (refl, refl)
+name_bare (parser.Config start c) l e = (refl, refl)
 name_bare (parser.Book r) l e = book_bare r (and_parts (nat_le (book_rank r) 6) true e).0
 name_bare _ l e = absurd cc
 
-cap_bare : (s : RecordingParser) → lacks_adapters s ≡ false → stands s word.Cap ≡ true → (recorded_of s).requests ≡ []
+cap_bare : (s : RecordingParser) → lacks s ≡ false → stands s word.Cap ≡ true → (recorded_of s).requests ≡ []
 unfolding stands
-cap_bare (parser.Adapters start t) l e = refl
-cap_bare (parser.Devices start t) l e = refl
+cap_bare (parser.Config start c) l e = refl
 cap_bare (parser.Book r) l e = book_none r (and_parts (nat_le (book_rank r) 7) true e).0
 cap_bare _ l e = absurd cc
 
-request_few : (s : RecordingParser) → lacks_adapters s ≡ false → stands s word.Request ≡ true → nat_lt (length (recorded_of s).requests) MAX_REQUESTS ≡ true
+request_few : (s : RecordingParser) → lacks s ≡ false → stands s word.Request ≡ true → nat_lt (length (recorded_of s).requests) MAX_REQUESTS ≡ true
 unfolding stands
-request_few (parser.Adapters start t) l e = refl
-request_few (parser.Devices start t) l e = refl
+request_few (parser.Config start c) l e = refl
 request_few (parser.Book r) l e = (and_parts (nat_le (book_rank r) 8) (nat_lt (length r.requests) MAX_REQUESTS) e).1
 request_few _ l e = absurd cc
 
 reads_name : (n : ℕ) (s t : RecordingParser) (x : NameValue) (rows : List Row) → Reads s rows → stands s word.Name ≡ true → FitsParsed (recorded_of s) (parsed.Name x) → add_name n s x ≡ Ok t → Reads t (rows ++ name_row x ∷ [])
 unfolding IsSound
 reads_name n s t x rows h place fits e =
-    let g = guarded (lacks_adapters s) _ _ t e in
+    on_ok (whole n s) _ t e (λ r er k0.
+    let g = whole_ok n s r er in
+    let k1 = rw (← g.1) at k0 in
     let w = reads_whole s rows g.0 h in
     let bare = name_bare s g.0 place in
-    next_reads w.table _ t (name_row x) rows (ok_is _ t g.1) (ap (λ (l : List Row). l ++ name_row x ∷ []) w.spelled ∙ push_name w.table (recorded_of s) x bare.0 bare.1) w.held
-    (kept_name (recorded_of s) x w.kept fits) (record { unit = w.ranged.unit; targets = w.ranged.targets; drivers = w.ranged.drivers })
+    next_reads w.table _ t (name_row x) rows (ok_is _ t k1) (ap (λ (l : List Row). l ++ name_row x ∷ []) w.spelled ∙ push_name w.table (recorded_of s) x bare.0 bare.1) w.held
+    (kept_name (recorded_of s) x w.kept fits) (record { unit = w.ranged.unit; targets = w.ranged.targets; drivers = w.ranged.drivers }))
 
 reads_cap : (n : ℕ) (s t : RecordingParser) (x : Cap) (rows : List Row) → Reads s rows → stands s word.Cap ≡ true → FitsParsed (recorded_of s) (parsed.Cap x) → add_cap n s x ≡ Ok t → Reads t (rows ++ cap_row x ∷ [])
 unfolding IsSound
 reads_cap n s t x rows h place fits e =
-    let g = guarded (lacks_adapters s) _ _ t e in
+    on_ok (whole n s) _ t e (λ r er k0.
+    let g = whole_ok n s r er in
+    let k1 = rw (← g.1) at k0 in
     let w = reads_whole s rows g.0 h in
     let bare = cap_bare s g.0 place in
-    next_reads w.table _ t (cap_row x) rows (ok_is _ t g.1) (ap (λ (l : List Row). l ++ cap_row x ∷ []) w.spelled ∙ push_cap w.table (recorded_of s) x bare) w.held
-    (kept_cap (recorded_of s) x w.kept fits bare) (record { unit = w.ranged.unit; targets = w.ranged.targets; drivers = w.ranged.drivers })
+    next_reads w.table _ t (cap_row x) rows (ok_is _ t k1) (ap (λ (l : List Row). l ++ cap_row x ∷ []) w.spelled ∙ push_cap w.table (recorded_of s) x bare) w.held
+    (kept_cap (recorded_of s) x w.kept fits bare) (record { unit = w.ranged.unit; targets = w.ranged.targets; drivers = w.ranged.drivers }))
 
 reads_request : (n : ℕ) (s t : RecordingParser) (q : Request) (rows : List Row) → Reads s rows → stands s word.Request ≡ true → FitsParsed (recorded_of s) (parsed.Request q) → add_request n s q ≡ Ok t → Reads t (rows ++ request_row q ∷ [])
 unfolding IsSound
 reads_request n s t q rows h place fits e =
-    let g = guarded (lacks_adapters s) _ _ t e in
+    on_ok (whole n s) _ t e (λ r er k0.
+    let g = whole_ok n s r er in
+    let k1 = rw (← g.1) at k0 in
     let w = reads_whole s rows g.0 h in
     let few = request_few s g.0 place in
-    let f = no_cause n _ _ t g.1 in
+    let f = no_cause n _ _ t k1 in
     next_reads w.table _ t (request_row q) rows f.1 (ap (λ (l : List Row). l ++ request_row q ∷ []) w.spelled ∙ push_request w.table (recorded_of s) q) w.held
-    (kept_request (recorded_of s) q w.kept (ltb-true _ _ few) f.0) (record { unit = w.ranged.unit; targets = w.ranged.targets; drivers = all_push (λ (x : Request). x.driver ≤ 255) (recorded_of s).requests q w.ranged.drivers fits.driver })
+    (kept_request (recorded_of s) q w.kept (ltb-true _ _ few) f.0) (record { unit = w.ranged.unit; targets = w.ranged.targets; drivers = all_push (λ (x : Request). x.driver ≤ 255) (recorded_of s).requests q w.ranged.drivers fits.driver }))
 
 -- ---- any record
 
@@ -115,22 +116,18 @@ reads_parsed n parser.First t (parsed.Unit u) rows h place fits e = next_reads f
 reads_parsed n _ t (parsed.Unit u) rows h place fits e = absurd cc
 reads_parsed n parser.First t (parsed.Rounds k) rows h place fits e =
     next_reads false _ t _ rows (ok_is _ t e) (rw h.spelled refl) (refl, refl)
-    (record { head = record { unit = tt; some = fits.0; rounds = fits.1 }; partial = standard_partial; adapters = refl; devices = refl; lanes = refl }, refl) (record { unit = tt; targets = tt; drivers = tt })
+    (record { unit = tt; some = fits.0; rounds = fits.1 }, ordered_standard, omega arith) (record { unit = tt; targets = tt; drivers = tt })
 reads_parsed n (parser.Timed u) t (parsed.Rounds k) rows h place fits e =
     next_reads false _ t _ rows (ok_is _ t e) (rw h.spelled refl) (refl, refl)
-    (record { head = record { unit = h.sound; some = fits.0; rounds = fits.1 }; partial = standard_partial; adapters = refl; devices = refl; lanes = refl }, refl) (record { unit = h.ranged.unit; targets = tt; drivers = tt })
+    (record { unit = h.sound; some = fits.0; rounds = fits.1 }, ordered_standard, omega arith) (record { unit = h.ranged.unit; targets = tt; drivers = tt })
 reads_parsed n _ t (parsed.Rounds k) rows h place fits e = absurd cc
-reads_parsed n (parser.Weights start t0) t (parsed.Weight w) rows h place fits e = reads_weight n start t0 t w rows h e
+reads_parsed n (parser.Config start c) t (parsed.Weight w) rows h place fits e = reads_row n start c t (row.Weight w) rows h (may_take (parser.Config start c) word.Weight (row.Weight w) place refl (omega arith)) tt e
 reads_parsed n _ t (parsed.Weight w) rows h place fits e = absurd cc
-reads_parsed n (parser.Weights start t0) t (parsed.Link k) rows h place fits e = reads_link n start t0 t k rows (reads_config start t0 rows h.table h.spelled h.held.0 h.held.1 h.ranged) h.sound.0 e
-reads_parsed n (parser.Links start t0) t (parsed.Link k) rows h place fits e = reads_link n start t0 t k rows (reads_config start t0 rows h.table h.spelled h.held.0 h.held.1 h.ranged) h.sound.0 e
+reads_parsed n (parser.Config start c) t (parsed.Link k) rows h place fits e = reads_row n start c t (row.Link k) rows h (may_take (parser.Config start c) word.Link (row.Link k) place refl (omega arith)) tt e
 reads_parsed n _ t (parsed.Link k) rows h place fits e = absurd cc
-reads_parsed n (parser.Weights start t0) t (parsed.Sim a) rows h place fits e = let b = h.sound.0 in reads_adapter n start t0 t a rows (reads_config start t0 rows h.table h.spelled h.held.0 h.held.1 h.ranged) b.head b.partial b.devices b.lanes e
-reads_parsed n (parser.Links start t0) t (parsed.Sim a) rows h place fits e = let b = h.sound.0 in reads_adapter n start t0 t a rows (reads_config start t0 rows h.table h.spelled h.held.0 h.held.1 h.ranged) b.head b.partial b.devices b.lanes e
-reads_parsed n (parser.Adapters start t0) t (parsed.Sim a) rows h place fits e = let b = h.sound.0 in reads_adapter n start t0 t a rows (reads_config start t0 rows h.table h.spelled h.held.0 h.held.1 h.ranged) b.head b.partial h.sound.1 b.lanes e
+reads_parsed n (parser.Config start c) t (parsed.Sim a) rows h place fits e = reads_row n start c t (row.Sim a) rows h (may_take (parser.Config start c) word.Sim (row.Sim a) place refl (omega arith)) tt e
 reads_parsed n _ t (parsed.Sim a) rows h place fits e = absurd cc
-reads_parsed n (parser.Adapters start t0) t (parsed.Dev d) rows h place fits e = reads_device n start t0 t d rows (reads_config start t0 rows h.table h.spelled h.held.0 h.held.1 h.ranged) h.sound.0 fits.1 e
-reads_parsed n (parser.Devices start t0) t (parsed.Dev d) rows h place fits e = reads_device n start t0 t d rows (reads_config start t0 rows h.table h.spelled h.held.0 h.held.1 h.ranged) h.sound fits.1 e
+reads_parsed n (parser.Config start c) t (parsed.Dev d) rows h place fits e = reads_row n start c t (row.Dev d) rows h (may_take (parser.Config start c) word.Dev (row.Dev d) place refl (omega arith)) fits.1 e
 reads_parsed n _ t (parsed.Dev d) rows h place fits e = absurd cc
 reads_parsed n s t (parsed.Name x) rows h place fits e = reads_name n s t x rows h place fits e
 reads_parsed n s t (parsed.Cap x) rows h place fits e = reads_cap n s t x rows h place fits e
@@ -184,14 +181,13 @@ step_reads n s t row rows h e = reads_after n s t row rows h e
 
 -- ---- the end
 
-ended_ok : (s : RecordingParser) (r : Recorded) → ended s ≡ Ok r → (lacks_adapters s ≡ false) × (recorded_of s ≡ r)
+ended_ok : (s : RecordingParser) (r : Recorded) → ended s ≡ Ok r → (lacks s ≡ false) × (recorded_of s ≡ r)
 unfolding ended
 ended_ok parser.Header r e = absurd cc
 ended_ok parser.First r e = absurd cc
 ended_ok (parser.Timed u) r e = absurd cc
-ended_ok (parser.Weights start t) r e = absurd cc
-ended_ok (parser.Links start t) r e = absurd cc
-ended_ok _ r e = (refl, ok_is _ r e)
+ended_ok (parser.Config start c) r e = whole_ok _ (parser.Config start c) r e
+ended_ok (parser.Book q) r e = (refl, ok_is q r e)
 
 pub was_recording : (before after : Option (List ℕ)) (text : List ℕ) → IsLongWhole before after text → (r : Recorded) → reading (records_in text) ≡ Ok r → WasRecording before after r
 unfolding reading IsSound

@@ -1,17 +1,14 @@
 -- The records of a whole recording are read as that recording.
-use Rattle.std.proofs.Common.{◌≡◌, [], Bool, true, false, refl, sym, ap, ◌∙◌, Result, Ok, ◌||◌}
+use Rattle.std.proofs.Common.{◌≡◌, ◌++◌, map, Bool, true, false, refl, sym, ap, ◌∙◌, Result, Ok, ◌||◌}
 use Rattle.csv.specs.Records.{field_at}
-use Rattle.cam_types.specs.Topology.{IsConfig}
-use Rattle.cam_types.specs.Weights.{are_standard, weight_fault}
-use Rattle.cam_types.proofs.ConfigLemmas.{reaches, weight_items}
-use Rattle.recording_file.specs.Reading.{ended, lacks_adapters, reading, recorded_of, step, RecordingFault, RecordingParser}
+use Rattle.cam_types.specs.Weights.{are_standard}
+use Rattle.recording_file.specs.Reading.{ended, reading, step, RecordingFault}
 use Rattle.recording_file.specs.declared.recording_parser.RecordingParser.TheVariants as parser
 use Rattle.record_text.specs.Header.{has_letters, is_header, header_row}
 use Rattle.recording_file.specs.Recorded.{Recorded, IsRecording}
-use Rattle.recording_file.specs.Records.{header, records_of}
+use Rattle.recording_file.specs.Records.{cap_row, header, name_row, records_of, request_row}
 use Rattle.record_text.specs.Steps.{taken}
-use Rattle.record_text.proofs.ListLemmas.{none_along}
-use Rattle.recording_file.proofs.HeadLaws.{base_of, taken_config, taken_start, taken_weights}
+use Rattle.recording_file.proofs.HeadLaws.{base_of, taken_config, taken_start}
 use Rattle.recording_file.proofs.BookLaws.{at_book, book_at, is_base, taken_book}
 
 -- ---- the head
@@ -23,27 +20,16 @@ header_first = refl
 taken_all : (table : Bool) (r : Recorded) → IsRecording r → (table || are_standard r.config.weights) ≡ true → taken step 1 parser.Header (records_of table r) ≡ Ok (at_book (base_of table r) r.names r.caps r.requests)
 unfolding records_of
 taken_all table r h held =
-    let t = r.config in
     let head = h.kept.head in
-    let is : IsConfig t = record { kept = head.config } in
     let final = at_book (base_of table r) r.names r.caps r.requests in
-    let weights = none_along weight_fault [] t.weights (weight_items t is) in
-    rw header_first (taken_start r.unit r.rounds _ final head.unit h.unit head.some head.rounds
-    (taken_weights table r.unit r.rounds t.weights _ final (reaches t is) held weights
-    (taken_config table r h _ final (taken_book r (base_of table r) (is_base table r h) h))) 2)
-
-ended_whole : (s : RecordingParser) → lacks_adapters s ≡ false → ended s ≡ Ok (recorded_of s)
-unfolding ended
-ended_whole (parser.Adapters start t) e = refl
-ended_whole (parser.Devices start t) e = refl
-ended_whole (parser.Book r) e = refl
-ended_whole _ e = absurd cc
+    rw (header_first, head.lanes) (rw head.lanes at (taken_start r.unit r.rounds _ final head.unit h.unit head.some head.rounds
+    (taken_config table r h held (map name_row r.names ++ (map cap_row r.caps ++ map request_row r.requests)) final (taken_book r (base_of table r) (is_base table r h) h)) 2))
 
 pub reading_again : (table : Bool) (r : Recorded) → IsRecording r → (table || are_standard r.config.weights) ≡ true → reading (records_of table r) ≡ Ok r
 unfolding reading
 reading_again table r h held =
     let at = book_at r (base_of table r) (is_base table r h) r.names r.caps r.requests in
-    rw (taken_all table r h held) (ended_whole _ at.whole ∙ ap (λ (q : Recorded). Ok q) at.is)
+    rw (taken_all table r h held) at.ends
 
 -- two recordings have no list of records in common
 pub one_recorded : (v w : Bool) (one other : Recorded) → IsRecording one → IsRecording other → (v || are_standard one.config.weights) ≡ true → (w || are_standard other.config.weights) ≡ true → records_of v one ≡ records_of w other → one ≡ other

@@ -1,18 +1,19 @@
 -- How a list of records is read as a recording: record by record, each by the parser that it finds.
 use Rattle.std.specs.Prelude.{ℕ, ◌+◌, ◌==◌, Bool, true, false, nat_le, nat_lt, ◌&&◌, ◌||◌, if◌then◌else◌, List, [], ◌∷◌, ◌++◌, length, Option, Some, None, option_and_then, ok_or, Result, Ok, Err}
 use Rattle.std.specs.Option.{option_map_or}
-use Rattle.cam_types.specs.Topology.{Topology, link_fault, adapter_fault, device_fault}
-use Rattle.cam_types.specs.Weights.{weight_fault, reaches_last, standard_weights}
-use Rattle.cam_types.specs.declared.adapter.Adapter.{Adapter}
-use Rattle.cam_types.specs.declared.weight_row.WeightRow.{WeightRow}
-use Rattle.cam_types.specs.declared.config_fault.ConfigFault.{ConfigFault}
-use Rattle.cam_types.specs.declared.config_fault.ConfigFault.TheVariants.{NoAdapters, BadWeight}
+use Rattle.cam_types.specs.Topology.{Topology}
+use Rattle.cam_types.specs.Weights.{standard_weights}
+use Rattle.cam_types.specs.declared.config.ConfigError.{ConfigError}
+use Rattle.cam_types.specs.declared.config.ConfigError.TheVariants as error
+use Rattle.record_text.specs.ConfigParsing.{lacking, lacks_adapters, next_rank, rows_before, standard_table, with_row}
+use Rattle.record_text.specs.declared.config_parser.ConfigParser.{ConfigParser}
+use Rattle.record_text.specs.declared.config_row.ConfigRow.{ConfigRow}
+use Rattle.record_text.specs.declared.config_row.ConfigRow.TheVariants as row
 use Rattle.recording_file.specs.Recorded.{Recorded, Request, Span, has_items, request_cause, RequestFault, MAX_REQUESTS}
 use Rattle.recording_file.specs.Rows.{span_at, rounds_at, named_at, text_at, capped_at, most_at, request_at}
-use Rattle.record_text.specs.ConfigRows.{one_number, weight_at, adapter_at, device_at, device_of}
-use Rattle.record_text.specs.declared.device_row.DeviceRow.{DeviceRow}
+use Rattle.record_text.specs.ConfigRows.{one_number, weight_at, adapter_at, device_at}
 pub use Rattle.recording_file.specs.declared.recording_fault.RecordingFault.{RecordingFault}
-pub use Rattle.recording_file.specs.declared.recording_fault.RecordingFault.TheVariants.{BadHeader, BadRecord, BadField, BadConfig, Illegal}
+pub use Rattle.recording_file.specs.declared.recording_fault.RecordingFault.TheVariants.{BadHeader, BadRecord, BadField, BadConfig, Illegal, OutOfMemory}
 pub use Rattle.recording_file.specs.declared.recording_parser.RecordingParser.{RecordingParser}
 use Rattle.recording_file.specs.declared.recording_parser.RecordingParser.TheVariants as parser
 pub use Rattle.recording_file.specs.declared.parsed_row.ParsedRow.{ParsedRow}
@@ -32,10 +33,9 @@ use Rattle.recording_file.specs.Caps.{Cap, is_next_cap}
 abbrev pub book_rank : Recorded → ℕ
 book_rank r = if has_items r.requests then 8 else if has_items r.caps then 7 else 6
 
--- the rank of the words that may come next: where the first adapter is due, of any after the rounds
+-- the rank of the words that may come next, and of those after them
 abbrev pub rank_of : RecordingParser → ℕ
-rank_of (parser.Adapters start t) = 4
-rank_of (parser.Devices start t) = 5
+rank_of (parser.Config start c) = 2 + next_rank c
 rank_of (parser.Book r) = book_rank r
 rank_of _ = 2
 
@@ -44,7 +44,7 @@ abbrev pub has_place : RecordingParser → RecordingWord → Bool
 has_place (parser.Book r) w = nat_lt (word_rank w) 8 || nat_lt (length r.requests) MAX_REQUESTS
 has_place _ w = true
 
--- Records stand in the order of their words. But where the first adapter is due, any word after the rounds has a place.
+-- Records stand in the order of their words. But where an adapter is due, any word after the rounds has a place.
 unfoldable pub stands : RecordingParser → RecordingWord → Bool
 stands parser.Header w = false
 stands parser.First w = nat_le (word_rank w) 1
@@ -65,10 +65,7 @@ nothing = record { unit = None; rounds = 0; config = record { weights = standard
 
 -- what is recorded so far
 abbrev pub recorded_of : RecordingParser → Recorded
-recorded_of (parser.Weights start t) = begun start t
-recorded_of (parser.Links start t) = begun start t
-recorded_of (parser.Adapters start t) = begun start t
-recorded_of (parser.Devices start t) = begun start t
+recorded_of (parser.Config start c) = begun start c.partial
 recorded_of (parser.Book r) = r
 recorded_of (parser.Timed u) = record nothing { unit = Some u }
 recorded_of _ = nothing
@@ -106,130 +103,83 @@ parsed_by n r word.Name row = parsed_name n r row
 parsed_by n r word.Cap row = parsed_cap n r row
 parsed_by n r word.Request row = says n (request_at row) parsed.Request
 
--- what is lacking after these weights, where no adapter has come
-abbrev pub lacking : List WeightRow → ConfigFault
-lacking weights = if reaches_last weights then NoAdapters else BadWeight
-
--- the next parser, unless the record breaks a rule of the configuration
-abbrev pub unless_fault : ℕ → Option ConfigFault → RecordingParser → Result RecordingParser RecordingFault
-unless_fault n None s = Ok s
-unless_fault n (Some fault) s = Err (BadConfig n fault)
+-- a rule of the configuration that is broken is a fault of the record
+abbrev pub in_config : {X : Type 0} → ℕ → Result X ConfigError → Result X RecordingFault
+in_config n (Ok x) = Ok x
+in_config n (Err (error.Fault f)) = Err (BadConfig n f)
+in_config n (Err error.OutOfMemory) = Err OutOfMemory
 
 -- the next parser, unless there is a cause against the request
 abbrev pub unless_illegal : ℕ → Option RequestFault → RecordingParser → Result RecordingParser RecordingFault
 unless_illegal n None s = Ok s
 unless_illegal n (Some cause) s = Err (Illegal n cause)
 
--- the rows of weights that came
-abbrev pub given : Start → Topology → List WeightRow
-given start t = if start.table then t.weights else []
+-- one row of the configuration more
+abbrev pub add_row : ℕ → RecordingParser → ConfigRow → Result RecordingParser RecordingFault
+add_row n (parser.Config start c) r = in_config n (with_row c r) >>= λ d. Ok (parser.Config start d)
+add_row n s r = Err (BadRecord n)
 
-abbrev pub add_weight : ℕ → RecordingParser → WeightRow → Result RecordingParser RecordingFault
-add_weight n (parser.Weights start t) w =
-    unless_fault n (weight_fault (given start t, w)) (parser.Weights (record start { table = true }) (record t { weights = given start t ++ w ∷ [] }))
-add_weight n s w = Err (BadConfig n (lacking (recorded_of s).config.weights))
+-- what is recorded where the configuration lacks nothing
+abbrev pub whole_of : ℕ → Start → ConfigParser → Result Recorded RecordingFault
+whole_of n start c = if lacks_adapters c then Err (BadConfig n (lacking c)) else Ok (begun start c.partial)
 
-abbrev pub link_added : ℕ → Start → Topology → ℕ → Result RecordingParser RecordingFault
-link_added n start t openings =
-    if reaches_last t.weights then unless_fault n (link_fault (t.links, openings)) (parser.Links start (record t { links = t.links ++ openings ∷ [] }))
-    else Err (BadConfig n BadWeight)
-
-abbrev pub add_link : ℕ → RecordingParser → ℕ → Result RecordingParser RecordingFault
-add_link n (parser.Weights start t) openings = link_added n start t openings
-add_link n (parser.Links start t) openings = link_added n start t openings
-add_link n s openings = Err (BadRecord n)
-
-abbrev pub adapter_added : ℕ → Start → Topology → Adapter → Result RecordingParser RecordingFault
-adapter_added n start t a =
-    if reaches_last t.weights then unless_fault n (adapter_fault (length t.links) (t.adapters, a)) (parser.Adapters start (record t { adapters = t.adapters ++ a ∷ [] }))
-    else Err (BadConfig n BadWeight)
-
-abbrev pub add_adapter : ℕ → RecordingParser → Adapter → Result RecordingParser RecordingFault
-add_adapter n (parser.Weights start t) a = adapter_added n start t a
-add_adapter n (parser.Links start t) a = adapter_added n start t a
-add_adapter n (parser.Adapters start t) a = adapter_added n start t a
-add_adapter n s a = Err (BadRecord n)
-
-abbrev pub device_added : ℕ → Start → Topology → DeviceRow → Result RecordingParser RecordingFault
-device_added n start t d = unless_fault n (device_fault (length t.adapters) (t.devices, device_of d)) (parser.Devices start (record t { devices = t.devices ++ device_of d ∷ [] }))
-
-abbrev pub add_device : ℕ → RecordingParser → DeviceRow → Result RecordingParser RecordingFault
-add_device n (parser.Adapters start t) d = device_added n start t d
-add_device n (parser.Devices start t) d = device_added n start t d
-add_device n s d = Err (BadConfig n (lacking (recorded_of s).config.weights))
-
--- no adapter has come
-abbrev pub lacks_adapters : RecordingParser → Bool
-lacks_adapters (parser.Adapters start t) = false
-lacks_adapters (parser.Devices start t) = false
-lacks_adapters (parser.Book r) = false
-lacks_adapters _ = true
-
--- a step that needs a whole configuration
-abbrev pub unless_lacking : ℕ → RecordingParser → Result RecordingParser RecordingFault → Result RecordingParser RecordingFault
-unless_lacking n s next = if lacks_adapters s then Err (BadConfig n (lacking (recorded_of s).config.weights)) else next
+abbrev pub whole : ℕ → RecordingParser → Result Recorded RecordingFault
+whole n (parser.Config start c) = whole_of n start c
+whole n (parser.Book r) = Ok r
+whole n s = Err (BadRecord n)
 
 abbrev pub add_name : ℕ → RecordingParser → NameValue → Result RecordingParser RecordingFault
-add_name n s name = let r = recorded_of s in unless_lacking n s (Ok (parser.Book (record r { names = r.names ++ name ∷ [] })))
+add_name n s name = whole n s >>= λ r. Ok (parser.Book (record r { names = r.names ++ name ∷ [] }))
 
 abbrev pub add_cap : ℕ → RecordingParser → Cap → Result RecordingParser RecordingFault
-add_cap n s cap = let r = recorded_of s in unless_lacking n s (Ok (parser.Book (record r { caps = r.caps ++ cap ∷ [] })))
+add_cap n s cap = whole n s >>= λ r. Ok (parser.Book (record r { caps = r.caps ++ cap ∷ [] }))
 
 abbrev pub add_request : ℕ → RecordingParser → Request → Result RecordingParser RecordingFault
-add_request n s q = let r = recorded_of s in
-    unless_lacking n s (unless_illegal n (request_cause r.rounds r.config r.caps (r.requests, q)) (parser.Book (record r { requests = r.requests ++ q ∷ [] })))
+add_request n s q = whole n s >>= λ r. unless_illegal n (request_cause r.rounds r.config r.caps (r.requests, q)) (parser.Book (record r { requests = r.requests ++ q ∷ [] }))
 
 -- how long a round is
 abbrev pub add_unit : ℕ → RecordingParser → Span → Result RecordingParser RecordingFault
 add_unit n parser.First u = Ok (parser.Timed u)
 add_unit n s u = Err (BadRecord n)
 
-abbrev pub standard : Topology
-standard = record { weights = standard_weights; links = []; adapters = []; devices = []; lanes = [] }
-
 -- the rounds: after them stand the standard weights, unless rows of weights come
 abbrev pub add_rounds : ℕ → RecordingParser → ℕ → Result RecordingParser RecordingFault
-add_rounds n parser.First rounds = Ok (parser.Weights (record { unit = None; rounds = rounds; table = false }) standard)
-add_rounds n (parser.Timed u) rounds = Ok (parser.Weights (record { unit = Some u; rounds = rounds; table = false }) standard)
+add_rounds n parser.First rounds = Ok (parser.Config (record { unit = None; rounds = rounds }) standard_table)
+add_rounds n (parser.Timed u) rounds = Ok (parser.Config (record { unit = Some u; rounds = rounds }) standard_table)
 add_rounds n s rounds = Err (BadRecord n)
 
 -- a parsed row is applied
 unfoldable pub apply_parsed : ℕ → RecordingParser → ParsedRow → Result RecordingParser RecordingFault
 apply_parsed n s (parsed.Unit u) = add_unit n s u
 apply_parsed n s (parsed.Rounds rounds) = add_rounds n s rounds
-apply_parsed n s (parsed.Weight w) = add_weight n s w
-apply_parsed n s (parsed.Link openings) = add_link n s openings
-apply_parsed n s (parsed.Sim a) = add_adapter n s a
-apply_parsed n s (parsed.Dev d) = add_device n s d
+apply_parsed n s (parsed.Weight w) = add_row n s (row.Weight w)
+apply_parsed n s (parsed.Link openings) = add_row n s (row.Link openings)
+apply_parsed n s (parsed.Sim a) = add_row n s (row.Sim a)
+apply_parsed n s (parsed.Dev d) = add_row n s (row.Dev d)
 apply_parsed n s (parsed.Name name) = add_name n s name
 apply_parsed n s (parsed.Cap cap) = add_cap n s cap
 apply_parsed n s (parsed.Request q) = add_request n s q
 
 -- a record of this word
-abbrev pub add_row : ℕ → RecordingParser → RecordingWord → Row → Result RecordingParser RecordingFault
-add_row n s w row = parsed_by n (recorded_of s) w row >>= apply_parsed n s
+abbrev pub take_word : ℕ → RecordingParser → RecordingWord → Row → Result RecordingParser RecordingFault
+take_word n s w fields = parsed_by n (recorded_of s) w fields >>= apply_parsed n s
 
 -- a record after the header
 unfoldable pub row_step : ℕ → RecordingParser → Row → Result RecordingParser RecordingFault
-row_step n s row = ok_or (placed s row) (BadRecord n) >>= λ w. add_row n s w row
+row_step n s row = ok_or (placed s row) (BadRecord n) >>= λ w. take_word n s w row
 
 -- the record of this number
 unfoldable pub step : ℕ → RecordingParser → Row → Result RecordingParser RecordingFault
 step n parser.Header row = if is_header name_text row then Ok parser.First else Err BadHeader
 step n s row = row_step n s row
 
--- how many records came before the links
-abbrev pub before_links : Start → Topology → ℕ
-before_links start t = 2 + option_map_or (λ (u : Span). 1) start.unit 0 + length (given start t)
-
 -- the end of the records: the record that is due is named
 unfoldable pub ended : RecordingParser → Result Recorded RecordingFault
 ended parser.Header = Err BadHeader
 ended parser.First = Err (BadRecord 2)
 ended (parser.Timed u) = Err (BadRecord 3)
-ended (parser.Weights start t) = Err (BadConfig (before_links start t + 1) (lacking t.weights))
-ended (parser.Links start t) = Err (BadConfig (before_links start t + length t.links + 1) (lacking t.weights))
-ended s = Ok (recorded_of s)
+ended (parser.Config start c) = whole_of (3 + option_map_or (λ (u : Span). 1) start.unit 0 + rows_before c) start c
+ended (parser.Book r) = Ok r
 
 -- the recording of these records, or the first fault
 unfoldable pub reading : List Row → Result Recorded RecordingFault

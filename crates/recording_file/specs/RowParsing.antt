@@ -1,5 +1,6 @@
 -- The parsers at which a record is read.
 use Rattle.std.specs.Prelude.{◌≡◌, ◌<◌, true, nat_lt, if◌then◌else◌, length, [], ⊤}
+use Rattle.record_text.specs.ConfigParsing.{lacks_adapters}
 use Rattle.recording_file.specs.Recorded.{MAX_REQUESTS}
 use Rattle.recording_file.specs.Words.{word_rank, RecordingWord}
 use Rattle.recording_file.specs.Reading.{begun, recorded_of, stands, RecordingParser}
@@ -8,8 +9,7 @@ use Rattle.recording_file.specs.declared.word.RecordingWord.TheVariants as word
 
 -- a parser after the rounds, without an adapter or with a whole configuration
 abbrev pub IsOpen : RecordingParser → Type 0
-IsOpen (parser.Weights start t) = ⊤
-IsOpen (parser.Links start t) = ⊤
+IsOpen (parser.Config start c) = lacks_adapters c ≡ true
 IsOpen (parser.Book r) = ⊤
 IsOpen _ = ⊥
 
@@ -21,13 +21,14 @@ IsNaming s w = ⊤
 
 -- the same parser with a whole configuration, where an adapter has come
 abbrev pub booked : RecordingParser → RecordingParser
-booked (parser.Adapters start t) = parser.Book (begun start t)
-booked (parser.Devices start t) = parser.Book (begun start t)
+booked (parser.Config start c) = if lacks_adapters c then parser.Config start c else parser.Book (begun start c.partial)
 booked s = s
 
 -- a record of this word can be taken at a parser as it is
 abbrev pub IsAt : RecordingParser → RecordingWord → Type 0
 IsAt s word.Weight = stands s word.Weight ≡ true
+IsAt s word.Link = stands s word.Link ≡ true
+IsAt s word.Sim = stands s word.Sim ≡ true
 IsAt s word.Dev = stands s word.Dev ≡ true
 IsAt s word.Name = IsOpen s
 IsAt s word.Cap = IsOpen s × ((recorded_of s).requests ≡ [])

@@ -5,19 +5,17 @@ ghost use Rattle.csv.specs.Records.{fields_of};
 ghost use Rattle.recording_file.specs.Names.{is_name};
 ghost use Rattle.recording_file.specs.Caps.{is_cap};
 ghost use Rattle.recording_file.specs.Counts.{counts_of};
-ghost use Rattle.recording_file.specs.Reading.{add_unit, add_rounds, add_weight, add_link, add_adapter, add_device, apply_parsed, add_row, row_step, ended, stands, recorded_of, unless_illegal, lacking, lacks_adapters};
+ghost use Rattle.recording_file.specs.Reading.{add_unit, add_rounds, add_row, apply_parsed, ended, recorded_of, unless_illegal, whole};
 ghost use Rattle.recording_file.specs.Recorded.{IsKept, Span, request_cause, MAX_RECORDED_ROUNDS, MAX_REQUESTS};
 ghost use Rattle.recording_file.specs.Records.{FitsParsed, word_for};
 ghost use Rattle.recording_file.specs.RowParsing.{IsAt, IsOpen, booked};
-ghost use Rattle.recording_file.specs.Sound.{IsSound};
+ghost use Rattle.recording_file.specs.Sound.{IsSound, MayTake};
 ghost use Rattle.std.specs.Option.{option_map_or};
 
 use crate::cap::Cap;
 use crate::name::Name;
 use crate::parsed_row::ParsedRow;
-use crate::parser_items::{
-    begun, lacking, standard, with_adapter, with_device, with_link, with_weight,
-};
+use crate::parser_items::{in_config, standard, whole_of};
 use crate::preamble::Start;
 use crate::recorder::Recorder;
 use crate::recording::Recording;
@@ -26,9 +24,7 @@ use crate::recording_parser::RecordingParser;
 use crate::request::Request;
 use crate::request_error::RequestError;
 use crate::span::Span;
-use crate::word::RecordingWord;
-use cam_types::{Adapter, WeightRow};
-use record_text::DeviceRow;
+use record_text::ConfigRow;
 use std::alloc::Global;
 
 impl RecordingParser {
@@ -64,90 +60,39 @@ impl RecordingParser {
         }
     }
 
-    #[tactic(auto, unfolding(crate::specs::Reading::stands, crate::specs::Sound::IsSound))]
-    fn add_weight(
+    // One row of the configuration more, or the rule that it breaks.
+    #[tactic(auto, unfolding(crate::specs::Sound::IsSound))]
+    fn add_row(
         self,
         alloc: Global,
         number: u32,
-        row: WeightRow,
+        row: ConfigRow,
     ) -> Result<RecordingParser, RecordingFault>
         requires sound { IsSound self }
-        requires place { stands self RecordingWord.Weight ≡ true }
-        ensures value { result ≢ Err RecordingFault.OutOfMemory → result ≡ add_weight number self row }
+        requires place { MayTake self row }
+        ensures value { result ≢ Err RecordingFault.OutOfMemory → result ≡ add_row number self row }
         ensures sound { IfOk result (λ s. IsSound s) }
     {
         match self {
-            RecordingParser::Weights(start, partial) => with_weight(
-                alloc, start, partial, number, row,
-            ),
-            RecordingParser::Links(_, partial) => {
-                Err(RecordingFault::BadConfig(number, lacking(&partial)))
+            RecordingParser::Config(start, parser) => {
+                let parser = in_config(number, parser.with_row(alloc, row))?;
+                Ok(RecordingParser::Config(start, parser))
             }
-            _ => unreachable!(),
-        }
-    }
-
-    #[tactic(auto, unfolding(crate::specs::Sound::IsSound))]
-    fn add_link(self, number: u32, openings: u32) -> Result<RecordingParser, RecordingFault>
-        requires { IsSound self }
-        ensures value { result ≢ Err RecordingFault.OutOfMemory → result ≡ add_link number self openings }
-        ensures sound { IfOk result (λ s. IsSound s) }
-    {
-        match self {
-            RecordingParser::Weights(start, partial) | RecordingParser::Links(start, partial) =>
-                with_link(start, partial, number, openings),
             _ => Err(RecordingFault::BadRecord(number)),
-        }
-    }
-
-    #[tactic(auto, unfolding(crate::specs::Sound::IsSound))]
-    fn add_adapter(self, number: u32, adapter: Adapter) -> Result<RecordingParser, RecordingFault>
-        requires { IsSound self }
-        ensures value { result ≢ Err RecordingFault.OutOfMemory → result ≡ add_adapter number self adapter }
-        ensures sound { IfOk result (λ s. IsSound s) }
-    {
-        match self {
-            RecordingParser::Weights(start, partial)
-            | RecordingParser::Links(start, partial)
-            | RecordingParser::Adapters(start, partial) => with_adapter(
-                start, partial, number, adapter,
-            ),
-            _ => Err(RecordingFault::BadRecord(number)),
-        }
-    }
-
-    #[tactic(auto, unfolding(crate::specs::Reading::stands, crate::specs::Sound::IsSound))]
-    fn add_device(self, number: u32, device: DeviceRow) -> Result<RecordingParser, RecordingFault>
-        requires sound { IsSound self }
-        requires place { stands self RecordingWord.Dev ≡ true }
-        ensures value { result ≢ Err RecordingFault.OutOfMemory → result ≡ add_device number self device }
-        ensures sound { IfOk result (λ s. IsSound s) }
-    {
-        match self {
-            RecordingParser::Adapters(start, partial) | RecordingParser::Devices(start, partial) =>
-                with_device(start, partial, number, device),
-            RecordingParser::Weights(_, partial) | RecordingParser::Links(_, partial) => {
-                Err(RecordingFault::BadConfig(number, lacking(&partial)))
-            }
-            _ => unreachable!(),
         }
     }
 
     /// The recorder where a configuration is whole, or what is lacking of one.
     #[tactic(auto, unfolding(crate::specs::Sound::IsSound))]
-    fn recorder(self, number: u32) -> Result<Recorder, RecordingFault>
+    fn recorder(self, alloc: Global, number: u32) -> Result<Recorder, RecordingFault>
         requires sound { IsSound self }
-        requires place { IsOpen self }
-        ensures whole { lacks_adapters self ≡ false → result ≡ Ok (recorded_of self) }
-        ensures lacking { lacks_adapters self ≡ true → result ≡ Err (RecordingFault.BadConfig number (lacking (recorded_of self).config.weights)) }
+        ensures value { result ≡ whole number self }
         ensures kept { IfOk result IsKept }
     {
         match self {
             RecordingParser::Book(recorder) => Ok(recorder),
-            RecordingParser::Weights(_, partial) | RecordingParser::Links(_, partial) => {
-                Err(RecordingFault::BadConfig(number, lacking(&partial)))
-            }
-            _ => unreachable!(),
+            RecordingParser::Config(start, parser) => whole_of(alloc, number, start, parser),
+            _ => Err(RecordingFault::BadRecord(number)),
         }
     }
 
@@ -168,15 +113,15 @@ impl RecordingParser {
         match parsed {
             ParsedRow::Unit(unit) => self.add_unit(number, unit),
             ParsedRow::Rounds(rounds) => self.add_rounds(alloc, number, rounds),
-            ParsedRow::Weight(row) => self.add_weight(alloc, number, row),
-            ParsedRow::Link(openings) => self.add_link(number, openings),
-            ParsedRow::Sim(adapter) => self.add_adapter(number, adapter),
-            ParsedRow::Dev(device) => self.add_device(number, device),
-            ParsedRow::Name(name) => with_name(self.recorder(number)?, name),
-            ParsedRow::Cap(cap) => with_cap(self.recorder(number)?, cap),
+            ParsedRow::Weight(row) => self.add_row(alloc, number, ConfigRow::Weight(row)),
+            ParsedRow::Link(openings) => self.add_row(alloc, number, ConfigRow::Link(openings)),
+            ParsedRow::Sim(adapter) => self.add_row(alloc, number, ConfigRow::Sim(adapter)),
+            ParsedRow::Dev(device) => self.add_row(alloc, number, ConfigRow::Dev(device)),
+            ParsedRow::Name(name) => with_name(self.recorder(alloc, number)?, name),
+            ParsedRow::Cap(cap) => with_cap(self.recorder(alloc, number)?, cap),
             ParsedRow::Request(request) => with_request(
                 alloc,
-                self.recorder(number)?,
+                self.recorder(alloc, number)?,
                 number,
                 request,
             ),
@@ -191,8 +136,15 @@ impl RecordingParser {
         ensures sound { IsSound result }
     {
         match self {
-            RecordingParser::Adapters(start, partial) | RecordingParser::Devices(start, partial) =>
-                { RecordingParser::Book(begun(alloc, start, partial)) }
+            RecordingParser::Config(start, parser) => {
+                if parser.lacks_adapters() {
+                    return RecordingParser::Config(start, parser);
+                }
+                match whole_of(alloc, 0, start, parser) {
+                    Ok(recorder) => RecordingParser::Book(recorder),
+                    Err(_) => unreachable!(),
+                }
+            }
             parser => parser,
         }
     }
@@ -208,40 +160,23 @@ impl RecordingParser {
             RecordingParser::Header => Err(RecordingFault::BadHeader),
             RecordingParser::First => Err(RecordingFault::BadRecord(2)),
             RecordingParser::Timed(_) => Err(RecordingFault::BadRecord(3)),
-            RecordingParser::Weights(start, partial) => {
-                let number = before_links(start, partial.weight_count()) + 1;
-                Err(RecordingFault::BadConfig(number, lacking(&partial)))
+            RecordingParser::Config(start, parser) => {
+                let unit = if start.unit.is_some() { 1 } else { 0 };
+                let number = 3 + unit + parser.rows_before();
+                match whole_of(alloc, number, start, parser) {
+                    Ok(recorder) => Ok(recorder.finish()),
+                    Err(fault) => Err(fault),
+                }
             }
-            RecordingParser::Links(start, partial) => {
-                let number = before_links(start, partial.weight_count()) + partial.link_count() + 1;
-                Err(RecordingFault::BadConfig(number, lacking(&partial)))
-            }
-            RecordingParser::Adapters(start, partial) | RecordingParser::Devices(start, partial) =>
-                { Ok(begun(alloc, start, partial).finish()) }
             RecordingParser::Book(recorder) => Ok(recorder.finish()),
         }
     }
 }
 
 fn start_of(unit: Option<Span>, rounds: u32) -> Start
-    ensures { result ≡ record { unit = unit; rounds = rounds; table = false } }
+    ensures { result ≡ record { unit = unit; rounds = rounds } }
 {
-    Start {
-        unit,
-        rounds,
-        table: false,
-    }
-}
-
-// How many records come before the links, where there are that many weights.
-fn before_links(start: Start, weights: u32) -> u32
-    requires { weights ≤ 16 }
-    ensures value { result ≡ 2 + option_map_or (λ (u : Span). 1) start.unit 0 + (if start.table then weights else 0) }
-    ensures few { result ≤ 19 }
-{
-    let unit = if start.unit.is_some() { 1 } else { 0 };
-    let table = if start.table { weights } else { 0 };
-    2 + unit + table
+    Start { unit, rounds }
 }
 
 fn with_name(mut recorder: Recorder, name: Name) -> Result<RecordingParser, RecordingFault>

@@ -3,14 +3,14 @@
 ghost use Rattle.std.specs.Prelude.{◌≡◌, length, IfSome, true};
 ghost use Rattle.csv.specs.Records.{fields_of};
 ghost use Rattle.recording_file.specs.Reading.{has_place, placed, rank_of, stands, book_rank};
+ghost use Rattle.recording_file.specs.Sound.{IsSound};
 
 use crate::preamble::Start;
 use crate::recorder::Recorder;
 use crate::span::Span;
 use crate::word::RecordingWord;
-use cam_types::PartialConfig;
 use csv::ByteRecord;
-use record_text::field;
+use record_text::{ConfigParser, field};
 
 /// What was parsed of a recording so far.
 #[derive(Drop)]
@@ -21,22 +21,17 @@ pub(crate) enum RecordingParser {
     First,
     /// How long a round is: rounds are due.
     Timed(Span),
-    /// The rounds, and rows of weights, or else the standard weights.
-    Weights(Start, PartialConfig),
-    /// Links too.
-    Links(Start, PartialConfig),
-    /// Adapters.
-    Adapters(Start, PartialConfig),
-    /// Adapters and devices.
-    Devices(Start, PartialConfig),
+    /// The rounds, and rows of a configuration.
+    Config(Start, ConfigParser),
     /// A whole configuration, and names, caps and requests.
     Book(Recorder),
 }
 
 impl RecordingParser {
     /// Whether a record of this word may come next.
-    #[tactic(auto, unfolding(crate::specs::Reading::stands))]
+    #[tactic(auto, unfolding(crate::specs::Reading::stands, crate::specs::Sound::IsSound))]
     fn stands(&self, word: RecordingWord) -> bool
+        requires { IsSound self.now }
         ensures { result ≡ stands self.now word }
     {
         match self {
@@ -47,15 +42,16 @@ impl RecordingParser {
         }
     }
 
-    // The rank of the words that may come next: where the first adapter is due, of any after the rounds.
+    // The rank of the words that may come next, and of those after them.
+    #[tactic(auto, unfolding(crate::specs::Sound::IsSound))]
     fn rank(&self) -> u32
+        requires { IsSound self.now }
         ensures { result ≡ rank_of self.now }
     {
         match self {
-            RecordingParser::Adapters(_, _) => 4,
-            RecordingParser::Devices(_, _) => 5,
+            RecordingParser::Config(_, parser) => 2 + parser.next_rank(),
             RecordingParser::Book(recorder) => book_rank(recorder),
-            _ => 2,
+            RecordingParser::Header | RecordingParser::First | RecordingParser::Timed(_) => 2,
         }
     }
 
@@ -72,6 +68,7 @@ impl RecordingParser {
     /// The word of a record of eight fields that stands in its place.
     #[tactic(auto, unfolding(crate::specs::Reading::placed))]
     pub(crate) fn placed(&self, row: &ByteRecord) -> Option<RecordingWord>
+        requires { IsSound self.now }
         ensures value { result ≡ placed self.now (fields_of row.now) }
         ensures eight { IfSome result (λ w. length (fields_of row.now) ≡ 8) }
         ensures place { IfSome result (λ w. stands self.now w ≡ true) }

@@ -6,7 +6,7 @@ ghost use Rattle.recording_file.specs.Counts.{counts_of};
 ghost use Rattle.recording_file.specs.Caps.{is_next_cap, is_cap};
 ghost use Rattle.record_text.specs.Fields.{field_of};
 ghost use Rattle.recording_file.specs.Names.{is_name_text, is_next_name, is_name};
-ghost use Rattle.recording_file.specs.Reading.{in_record, recorded_of, parsed_by, parsed_name, parsed_cap, lacks_adapters, says};
+ghost use Rattle.recording_file.specs.Reading.{in_record, recorded_of, parsed_by, parsed_name, parsed_cap, says};
 ghost use Rattle.recording_file.specs.Recorded.{Recorded};
 ghost use Rattle.recording_file.specs.Rows.{text_at, span_at, rounds_at, request_at};
 ghost use Rattle.record_text.specs.ConfigRows.{weight_at, one_number, adapter_at, device_at};
@@ -113,9 +113,7 @@ impl RecordingParser {
         ensures { result ≡ counts_of (recorded_of self.now).config }
     {
         match self {
-            RecordingParser::Weights(_, partial) | RecordingParser::Links(_, partial) => {
-                bare_counts(partial.link_count())
-            }
+            RecordingParser::Config(_, parser) => bare_counts(parser.partial.link_count()),
             RecordingParser::Book(recorder) => recorder.counts(),
             _ => unreachable!(),
         }
@@ -126,7 +124,7 @@ impl RecordingParser {
         ensures { result ≡ (recorded_of self.now).rounds }
     {
         match self {
-            RecordingParser::Weights(start, _) | RecordingParser::Links(start, _) => start.rounds,
+            RecordingParser::Config(start, _) => start.rounds,
             RecordingParser::Book(recorder) => recorder.rounds(),
             _ => unreachable!(),
         }

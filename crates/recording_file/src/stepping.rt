@@ -2,7 +2,7 @@
 
 ghost use Rattle.std.specs.Prelude.{◌≡◌, ◌≢◌, length, Err, IfOk};
 ghost use Rattle.csv.specs.Records.{fields_of};
-ghost use Rattle.recording_file.specs.Reading.{add_row, row_step};
+ghost use Rattle.recording_file.specs.Reading.{row_step, take_word};
 ghost use Rattle.recording_file.specs.RowParsing.{IsAt, ready_for};
 ghost use Rattle.recording_file.specs.Sound.{IsSound};
 
@@ -25,7 +25,7 @@ impl RecordingParser {
         requires sound { IsSound self }
         requires at { IsAt self word }
         requires eight { length (fields_of row.now) ≡ 8 }
-        ensures value { result ≢ Err RecordingFault.OutOfMemory → result ≡ add_row number self word (fields_of row.now) }
+        ensures value { result ≢ Err RecordingFault.OutOfMemory → result ≡ take_word number self word (fields_of row.now) }
         ensures sound { IfOk result (λ s. IsSound s) }
     {
         match self.parsed(alloc, number, word, row) {

@@ -1,8 +1,8 @@
-use Rattle.std.proofs.Common.{refl}
-use Rattle.cam_types.proofs.TopologyLemmas.{standard_partial}
+use Rattle.std.proofs.Common.{arith}
+use Rattle.record_text.proofs.ConfigLaws.{ordered_standard}
 use Rattle.recording_file.specs.Sound.{IsSound}
 use Rattle.recording_file.proofs.parser_items.standard.Goals as goal
 
 pub returns-in-Ok-clause-sound : goal.returns-in-Ok-clause-sound
 unfolding IsSound
-returns-in-Ok-clause-sound c = rw c.in-Ok.ensures (record { head = c.requires; partial = standard_partial; adapters = refl; devices = refl; lanes = refl }, refl)
+returns-in-Ok-clause-sound c = rw c.in-Ok.ensures.value (c.requires, ordered_standard, omega arith)

@@ -1,8 +1,0 @@
-use Rattle.recording_file.proofs.ParserLemmas.{sound_weight}
-use Rattle.record_text.proofs.ConfigLemmas.{none_where_ok}
-use Rattle.recording_file.proofs.parser_items.next_weight.Goals as goal
-
-pub returns-in-Ok-clause-sound : goal.returns-in-Ok-clause-sound
-returns-in-Ok-clause-sound c =
-    let none = none_where_ok _ _ _ c.add_weight.ensures.answer c.in-Ok.is in
-    rw c.with_table.ensures (sound_weight c.args.start c.args.partial c.add_weight.new.self c.args.row c.requires.bare c.requires.links none c.in-Ok.ensures.ok)

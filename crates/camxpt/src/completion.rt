@@ -5,69 +5,71 @@ use crate::subcommands::{SUBCOMMANDS, Subcommand};
 use crate::word::NamedArgument;
 use std::alloc::{AllocError, Global};
 
-// What a script has before the names of the subcommands, after them, and after the lines on each.
-type Frame = [&'static str; 3];
+// A script that has a case for each subcommand.
+struct Cases {
+    // What stands before the names of the subcommands, after them, and after the cases.
+    head: &'static str,
+    middle: &'static str,
+    tail: &'static str,
+    // What stands in a case before the words, after words beside which there may be files, and after others.
+    open: &'static str,
+    with_files: &'static str,
+    alone: &'static str,
+}
 
-const BASH: Frame = [
-    "_camxpt() {\n\
+const BASH: Cases = Cases {
+    head: "_camxpt() {\n\
 \x20   local word=${COMP_WORDS[COMP_CWORD]} words= files=-f\n\
 \x20   if [ \"$COMP_CWORD\" -eq 1 ]; then\n\
 \x20       words=\"",
-    "--help --version\" files=\n\
+    middle: "--help --version\" files=\n\
 \x20   else\n\
 \x20       case ${COMP_WORDS[1]} in\n",
-    "\x20       esac\n\
+    tail: "\x20       esac\n\
 \x20   fi\n\
 \x20   mapfile -t COMPREPLY < <(compgen $files -W \"$words\" -- \"$word\")\n\
 }\n\
 complete -o filenames -F _camxpt camxpt\n",
-];
+    open: "words=\"",
+    with_files: "\" ;;\n",
+    alone: "\" files= ;;\n",
+};
 
-const ZSH: Frame = [
-    "#compdef camxpt\n\
+const ZSH: Cases = Cases {
+    head: "#compdef camxpt\n\
 _camxpt() {\n\
 \x20   if (( CURRENT == 2 )); then\n\
 \x20       compadd -- ",
-    "--help --version\n\
+    middle: "--help --version\n\
 \x20   else\n\
 \x20       case $words[2] in\n",
-    "\x20       esac\n\
+    tail: "\x20       esac\n\
 \x20       _files\n\
 \x20   fi\n\
 }\n\
 compdef _camxpt camxpt\n",
-];
+    open: "compadd -- ",
+    with_files: " ;;\n",
+    alone: "; return ;;\n",
+};
 
-const FISH: Frame = [
-    "complete -c camxpt -n __fish_use_subcommand -f -a \"",
-    "\"\n\
+const FISH_HEAD: &str = "complete -c camxpt -n __fish_use_subcommand -f -a \"";
+
+const FISH_MIDDLE: &str = "\"\n\
 complete -c camxpt -n __fish_use_subcommand -l version\n\
-complete -c camxpt -l help\n",
-    "",
-];
+complete -c camxpt -l help\n";
 
 // What stands before the subcommand's name in a line of fish on an argument.
 const FISH_WORD: &str = "complete -c camxpt -n \"__fish_seen_subcommand_from ";
 
-// The same of `help`, with the names of subcommands.
-const FISH_HELP: &str = "complete -c camxpt -n \"__fish_seen_subcommand_from help\" -f -a \"";
-
 /// The script by which a shell completes the program's words.
 pub(crate) fn script(alloc: Global, shell: Shell) -> Result<String, AllocError> {
-    let [head, middle, tail] = match shell {
-        Shell::Bash => BASH,
-        Shell::Zsh => ZSH,
-        Shell::Fish => FISH,
-    };
     let mut script = String::new(alloc);
-    script.push_str(head)?;
-    push_names(&mut script)?;
-    script.push_str(middle)?;
-    for subcommand in &SUBCOMMANDS {
-        push_lines(alloc, &mut script, shell, subcommand)?;
+    match shell {
+        Shell::Bash => push_cases(alloc, &mut script, &BASH)?,
+        Shell::Zsh => push_cases(alloc, &mut script, &ZSH)?,
+        Shell::Fish => push_fish(alloc, &mut script)?,
     }
-    push_help(&mut script, shell)?;
-    script.push_str(tail)?;
     Ok(script)
 }
 
@@ -79,70 +81,71 @@ fn push_names(script: &mut String) -> Result<(), AllocError> {
     script.push_str("help ")
 }
 
-// Puts the line on `help` after the script, which takes the name of a subcommand.
-fn push_help(script: &mut String, shell: Shell) -> Result<(), AllocError> {
-    let (head, tail) = match shell {
-        Shell::Bash => ("            help) words=\"", "\" files= ;;\n"),
-        Shell::Zsh => ("            help) compadd -- ", "; return ;;\n"),
-        Shell::Fish => (FISH_HELP, "\"\n"),
-    };
-    script.push_str(head)?;
+fn push_cases(alloc: Global, script: &mut String, shell: &Cases) -> Result<(), AllocError> {
+    script.push_str(shell.head)?;
     push_names(script)?;
-    script.push_str(tail)
+    script.push_str(shell.middle)?;
+    for subcommand in &SUBCOMMANDS {
+        push_case(alloc, script, shell, subcommand)?;
+    }
+    write!(script, "            help) {}", shell.open)?;
+    push_names(script)?;
+    write!(script, "{}{}", shell.alone, shell.tail)
 }
 
-// Puts the lines on a subcommand after the script. Files complete the arguments of each that takes no shell's name.
-fn push_lines(
+// Puts the case of a subcommand after the script. Files complete the arguments of each that takes no shell's name.
+fn push_case(
     alloc: Global,
     script: &mut String,
-    shell: Shell,
+    shell: &Cases,
     subcommand: &Subcommand,
 ) -> Result<(), AllocError> {
-    let name = subcommand.name;
-    match shell {
-        Shell::Bash => write!(script, "            {name}) words=\"")?,
-        Shell::Zsh => write!(script, "            {name}) compadd -- ")?,
-        Shell::Fish => {}
-    }
+    write!(script, "            {}) {}", subcommand.name, shell.open)?;
+    let mut end = shell.with_files;
     for word in subcommand.words {
-        push_word(alloc, script, shell, name, *word)?;
+        if matches!(word, NamedArgument::ShellName(_, _)) {
+            write!(script, "{SHELLS} ")?;
+            end = shell.alone;
+        } else if let Some(option) = word.arg(alloc).get_long() {
+            write!(script, "--{option} ")?;
+        }
     }
-    script.push_str(
-        match (shell, subcommand.words.contains(&NamedArgument::Shell)) {
-            (Shell::Bash, false) => "--help\" ;;\n",
-            (Shell::Bash, true) => "--help\" files= ;;\n",
-            (Shell::Zsh, false) => "--help ;;\n",
-            (Shell::Zsh, true) => "--help; return ;;\n",
-            (Shell::Fish, _) => "",
-        },
-    )
+    write!(script, "--help{end}")
 }
 
-// Puts what completes an argument of the subcommand of this name after the script, unless files do.
-fn push_word(
+// Puts the lines of fish after the script: one for each option, and for what takes names of shells or subcommands.
+fn push_fish(alloc: Global, script: &mut String) -> Result<(), AllocError> {
+    script.push_str(FISH_HEAD)?;
+    push_names(script)?;
+    script.push_str(FISH_MIDDLE)?;
+    for subcommand in &SUBCOMMANDS {
+        for word in subcommand.words {
+            push_fish_line(alloc, script, subcommand.name, *word)?;
+        }
+    }
+    write!(script, "{FISH_WORD}help\" -f -a \"")?;
+    push_names(script)?;
+    script.push_str("\"\n")
+}
+
+// Puts the line of fish on an argument of the subcommand of this name after the script, unless files complete it.
+fn push_fish_line(
     alloc: Global,
     script: &mut String,
-    shell: Shell,
     name: &str,
     word: NamedArgument,
 ) -> Result<(), AllocError> {
+    if matches!(word, NamedArgument::ShellName(_, _)) {
+        return writeln!(script, "{FISH_WORD}{name}\" -f -a \"{SHELLS}\"");
+    }
     let arg = word.arg(alloc);
+    let Some(option) = arg.get_long() else {
+        return Ok(());
+    };
     let value = if arg.get_action().takes_values() {
         " -x"
     } else {
         ""
     };
-    match (shell, word, arg.get_long()) {
-        (Shell::Fish, NamedArgument::Shell, _) => writeln!(
-            script,
-            "{FISH_WORD}{name}\" -f -a \"{SHELLS}\""
-        ),
-        (Shell::Fish, _, Some(option)) => writeln!(
-            script,
-            "{FISH_WORD}{name}\" -l {option}{value}"
-        ),
-        (_, NamedArgument::Shell, _) => write!(script, "{SHELLS} "),
-        (_, _, Some(option)) => write!(script, "--{option} "),
-        (_, _, None) => Ok(()),
-    }
+    writeln!(script, "{FISH_WORD}{name}\" -l {option}{value}")
 }

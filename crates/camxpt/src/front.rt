@@ -62,10 +62,7 @@ fn is_event(line: &[u8]) -> bool {
 }
 
 fn is_number(word: Option<&[u8]>) -> bool {
-    match word {
-        Some(word) => word.iter().all(|byte| byte.is_ascii_digit()),
-        None => false,
-    }
+    word.is_some_and(|word| word.iter().all(|byte| byte.is_ascii_digit()))
 }
 
 // Whether a word is two numbers with this byte between them.

@@ -1,8 +1,8 @@
 //! What helps to find why a capture isn't imported.
 
 use crate::import_fault::ImportFault;
-use crate::import_words::word_at;
-use crate::note::{reason_note, title};
+use crate::note::{STANDARD_OUTPUT, reason_note, title};
+use crate::words::word_at;
 use capture_file::ReadFault;
 use clap::ArgMatches;
 use std::alloc::{AllocError, Global};
@@ -22,11 +22,9 @@ pub fn note_on(
     match fault {
         ImportFault::CannotOpen(place, error)
         | ImportFault::File(place, ReadFault::ReadFailed(error)) => {
-            reason_note(alloc, word_at(words, "FILE", *place), *error).ok()
+            reason_note(alloc, word_at(words, "FILE", *place), *error)
         }
-        ImportFault::WriteFailed(Some(error)) => {
-            reason_note(alloc, "standard output", *error).ok()
-        }
+        ImportFault::WriteFailed(Some(error)) => reason_note(alloc, STANDARD_OUTPUT, *error),
         ImportFault::File(place, ReadFault::Line(number, _)) => {
             line_note(alloc, word_at(words, "FILE", *place), *number, line).ok()
         }
@@ -36,11 +34,9 @@ pub fn note_on(
 
 // The name of a file, a line's number, and at most 200 bytes of the line, whose control characters are escaped.
 fn line_note(alloc: Global, name: &str, number: u64, line: &[u8]) -> Result<String, AllocError> {
-    let mut note = String::new(alloc);
     let shown = shown_name(alloc, title(name))?;
     let front = line.get(..MAX_SHOWN).unwrap_or(line);
     let text = String::from_utf8_lossy(alloc, front)?;
     let text = shown_name(alloc, &text)?;
-    writeln!(note, "  {shown}, line {number}: {text}")?;
-    Ok(note)
+    format!(in alloc; "  {shown}, line {number}: {text}\n")
 }

@@ -2,7 +2,7 @@
 
 use crate::import_fault::ImportFault;
 use crate::import_words::{
-    Host, Kind, check_files, drivers_of, hosts_of, kind_of, picks_of, priorities_of, ratings_of,
+    DRIVER, Host, Kind, RATED, check_files, hosts_of, kind_of, numbers_of, picks_of, priorities_of,
     round_of, time_of,
 };
 use capture_file::Options;
@@ -35,31 +35,19 @@ impl ImportOptions {
     /// `NamedArgument` of a word that hasn't its form, or that contradicts an earlier one; `OutOfMemory`.
     pub fn of(alloc: Global, words: &ArgMatches<'_>) -> Result<ImportOptions, ImportFault> {
         check_files(words)?;
-        let kind = kind_of(words)?;
-        let round = round_of(words)?;
-        let taken = taken_of(alloc, words)?;
-        let hosts = hosts_of(alloc, words)?;
         Ok(ImportOptions {
-            kind,
-            round,
-            taken,
-            hosts,
-            ratings: ratings_of(alloc, words)?,
+            kind: kind_of(words)?,
+            round: round_of(words)?,
+            taken: Options {
+                priorities: priorities_of(words)?,
+                drivers: numbers_of(alloc, words, &DRIVER)?,
+                devices: picks_of(alloc, words)?,
+                from_time: time_of(words, "from-time")?,
+                to_time: time_of(words, "to-time")?,
+            },
+            hosts: hosts_of(alloc, words)?,
+            ratings: numbers_of(alloc, words, &RATED)?,
             is_lenient: words.get_flag("lenient"),
         })
     }
-}
-
-// Which requests are taken, and with which priorities.
-fn taken_of(alloc: Global, words: &ArgMatches<'_>) -> Result<Options, ImportFault> {
-    let priorities = priorities_of(words)?;
-    let drivers = drivers_of(alloc, words)?;
-    let devices = picks_of(alloc, words)?;
-    Ok(Options {
-        priorities,
-        drivers,
-        devices,
-        from_time: time_of(words, "from-time")?,
-        to_time: time_of(words, "to-time")?,
-    })
 }

@@ -61,18 +61,22 @@ fn warn<R: Runtime + AllocGlobal>(rt: &R, before: &str, name: &str, after: &str)
 /// Warns of options that name a driver or device that no request has.
 pub fn warn_missing<R: Runtime + AllocGlobal>(rt: &R, options: &ImportOptions, read: &Read) {
     for (name, _) in &options.taken.drivers {
-        if !has_name(&read.drivers, name) {
-            warn(rt, "--driver names", name, ", of which there is no request");
-        }
+        warn_unknown(rt, "--driver names", name, &read.drivers);
     }
     for pick in &options.taken.devices {
-        warn_device(rt, "--device names", pick.name(), read);
+        warn_unknown(rt, "--device names", pick.name(), &read.devices);
     }
     for (name, _) in &options.hosts {
-        warn_device(rt, "--host names", name, read);
+        warn_unknown(rt, "--host names", name, &read.devices);
     }
     for (name, _) in &options.ratings {
-        warn_device(rt, "--rated names", name, read);
+        warn_unknown(rt, "--rated names", name, &read.devices);
+    }
+}
+
+fn warn_unknown<R: Runtime + AllocGlobal>(rt: &R, option: &str, name: &str, known: &[String]) {
+    if !known.iter().any(|other| other.as_str() == name) {
+        warn(rt, option, name, ", of which there is no request");
     }
 }
 
@@ -92,36 +96,14 @@ const MAX_COLUMNS: usize = 8;
 fn column_names(alloc: Global, names: &[String]) -> Result<String, AllocError> {
     let mut list = String::new(alloc);
     for (place, name) in names.iter().take(MAX_COLUMNS).enumerate() {
-        push_name(alloc, &mut list, place > 0, name)?;
+        let comma = if place > 0 { ", " } else { "" };
+        write!(list, "{comma}{}", shown_name(alloc, name)?)?;
     }
     let more = names.len().saturating_sub(MAX_COLUMNS);
     if more > 0 {
         write!(list, ", and {more} more")?;
     }
     Ok(list)
-}
-
-// Puts a name after those that are there, if there are any.
-fn push_name(
-    alloc: Global,
-    list: &mut String,
-    has_others: bool,
-    name: &str,
-) -> Result<(), AllocError> {
-    if has_others {
-        list.push_str(", ")?;
-    }
-    list.push_str(&shown_name(alloc, name)?)
-}
-
-fn warn_device<R: Runtime + AllocGlobal>(rt: &R, option: &str, name: &str, read: &Read) {
-    if !has_name(&read.devices, name) {
-        warn(rt, option, name, ", of which there is no request");
-    }
-}
-
-fn has_name(names: &[String], name: &str) -> bool {
-    names.iter().any(|other| other.as_str() == name)
 }
 
 /// Warns of waits that are too short for a round, and of devices whose requests are all of one weight, or of very different sizes.
@@ -198,13 +180,7 @@ pub fn warn_recorded<R: Runtime + AllocGlobal>(
 // Whether a device takes another number than its openings in some round.
 fn has_cap(recording: &Recording, read: &Read, name: &str) -> bool {
     recording.caps().iter().any(|cap| {
-        cap.part.kind == PartKind::Device && is_named(read, cap.part.number, name)
+        let device = read.devices.get(cap.part.number as usize);
+        cap.part.kind == PartKind::Device && device.is_some_and(|other| other.as_str() == name)
     })
-}
-
-fn is_named(read: &Read, device: u32, name: &str) -> bool {
-    match read.devices.get(device as usize) {
-        Some(other) => other.as_str() == name,
-        None => false,
-    }
 }

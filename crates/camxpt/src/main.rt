@@ -6,7 +6,6 @@ use std::process::ExitCode;
 
 mod compare_run;
 mod completion;
-mod drawing_run;
 mod failure;
 mod front;
 mod import_fault;
@@ -30,6 +29,7 @@ mod subcommands;
 mod sweep_run;
 mod sweep_words;
 mod trace_run;
+mod view;
 mod word;
 mod words;
 

@@ -66,13 +66,8 @@ pub fn print<W: Write>(out: &mut Output<W>, text: &str) -> Result<(), Failure> {
     }
 }
 
-/// The text, unless there was no memory.
-pub fn made(text: Result<String, AllocError>) -> Result<String, Failure> {
-    Ok(text?)
-}
-
 /// The line with its line feed.
-pub fn closed(line: Result<String, AllocError>) -> Result<String, Failure> {
+pub fn closed(line: Result<String, AllocError>) -> Result<String, AllocError> {
     let mut line = line?;
     line.push('\n')?;
     Ok(line)

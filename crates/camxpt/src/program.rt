@@ -2,26 +2,24 @@
 
 use crate::compare_run::compare;
 use crate::completion::script;
-use crate::drawing_run::range_of;
 use crate::failure::Failure;
 use crate::import_run::import;
-use crate::note::{capture_note, note_on, reason_note};
+use crate::note::{STANDARD_OUTPUT, capture_note, note_on, reason_note, tell, tell_note};
 use crate::output::{Output, print, standard_output};
 use crate::progress::ProgressLine;
 use crate::proof_run::prove;
 use crate::script_run::ScriptRun;
 use crate::shell::Shell;
-use crate::source::{Argument, STANDARD_INPUT, Source, asks_more, input, is_verbose, open};
+use crate::source::{Argument, Source, asks_more, input, is_verbose, open, open_both};
 use crate::subcommands::command;
 use crate::sweep_run::sweep_script;
-use crate::trace_run::{TraceRun, max_waits};
+use crate::trace_run::TraceRun;
+use crate::view::{View, range_of};
 use crate::words::{check_numbers, words};
 use audit_report::AuditFault;
 use clap::ArgMatches;
 use clap::error::ErrorKind;
 use sim_worker::Ending;
-use std::alloc::{AllocError, Global};
-use std::fs::File;
 use std::io;
 use std::io::Read;
 use std::process::ExitCode;
@@ -32,6 +30,9 @@ use views::shown_lines;
 
 /// How many stays and freezes are listed where no number is given.
 const TOP: usize = 10;
+
+/// How many waits of a stay are listed where not all are asked for.
+const MAX_WAITS: usize = 64;
 
 /// The exit status of a run that ended before all was done, where that is asked for.
 const NOT_DRAINED: u8 = 7;
@@ -46,36 +47,6 @@ pub fn run<R: Runtime + AllocGlobal + Threads + Wait + Sync>(
         Ok(status) => status,
         Err(failure) => tell(rt, &failure),
     }
-}
-
-// Says why the program failed. Answers the status that says so.
-fn tell<R: Runtime>(rt: &R, failure: &Failure) -> ExitCode {
-    let _ = rt.eprintln(format_args!("camxpt: {failure}"));
-    failure.exit_code()
-}
-
-// Says why the program failed, and after that line what helps to find the fault, if that is asked for: where it stands and what
-// stands there, or why a read or write failed.
-fn tell_on<R: Runtime + AllocGlobal, D, W>(
-    rt: &R,
-    failure: &Failure,
-    input: &Source<'_, D>,
-    out: &Output<W>,
-) -> ExitCode {
-    let status = tell(rt, failure);
-    if let Some(note) = capture_note(rt.alloc(), failure, input) {
-        let _ = rt.eprint(&note);
-    }
-    let note = match out.failed() {
-        Some(error) if failure.is_of_write() && input.kept().is_some() => {
-            reason_note(rt.alloc(), "standard output", error).ok()
-        }
-        _ => note_on(rt.alloc(), failure, input),
-    };
-    if let Some(note) = note {
-        let _ = rt.eprint(&note);
-    }
-    status
 }
 
 fn read_and_obey<R: Runtime + AllocGlobal + Threads + Wait + Sync>(
@@ -93,23 +64,60 @@ fn read_and_obey<R: Runtime + AllocGlobal + Threads + Wait + Sync>(
     }
 }
 
-// Prints help or the version, or why the words are refused: then the status is 2, whether or not this can be printed.
+// Prints help or the version, or why the words are refused: then the status is 2, whether or not this can be printed. It may have
+// a word as it was given, whose control characters are escaped.
 fn show<R: Runtime + AllocGlobal>(rt: &R, error: &clap::Error) -> Result<ExitCode, Failure> {
     if error.use_stderr() {
-        let _ = rt.eprint(&refusal(rt.alloc(), error)?);
+        let text = format!(in rt.alloc(); "{error}")?;
+        let _ = rt.eprint(&shown_lines(rt.alloc(), &text)?);
         return Ok(ExitCode::from(2));
     }
     match error.print(rt) {
         Ok(()) => Ok(ExitCode::SUCCESS),
-        Err(reason) => Ok(tell_unwritten(rt, reason, asks_more(rt))),
+        Err(reason) => {
+            let failure = Failure::CannotWrite(reason);
+            Ok(tell_reason(rt, &failure, STANDARD_OUTPUT, reason, asks_more(rt)))
+        }
     }
 }
 
-// Why words are refused. It may have a word as it was given, whose control characters are escaped.
-fn refusal(alloc: Global, error: &clap::Error) -> Result<String, AllocError> {
-    let mut text = String::new(alloc);
-    write!(text, "{error}")?;
-    shown_lines(alloc, &text)
+// Says why the program failed, and after that line the system's reason with the name of what it is of, if that is asked for.
+fn tell_reason<R: Runtime + AllocGlobal>(
+    rt: &R,
+    failure: &Failure,
+    name: &str,
+    reason: io::Error,
+    says_why: bool,
+) -> ExitCode {
+    let status = tell(rt, failure);
+    if says_why {
+        tell_note(rt, reason_note(rt.alloc(), name, reason));
+    }
+    status
+}
+
+// Says why the program failed, and after that line what helps to find the fault, if that is asked for: where it stands and what
+// stands there, or why a read or write failed.
+fn tell_on<R: Runtime + AllocGlobal, D, W>(
+    rt: &R,
+    failure: &Failure,
+    input: &Source<'_, D>,
+    out: &Output<W>,
+) -> ExitCode {
+    let status = tell(rt, failure);
+    tell_note(rt, capture_note(rt.alloc(), failure, input));
+    let is_of_write = matches!(
+        failure,
+        Failure::CannotWrite(_) | Failure::Audit(AuditFault::WriteFailed)
+    );
+    let note = match out.failed() {
+        Some(error) if is_of_write && input.kept().is_some() => {
+            reason_note(rt.alloc(), STANDARD_OUTPUT, error)
+        }
+        _ => note_on(rt.alloc(), failure, input),
+    };
+    tell_note(rt, note);
+    status
 }
 
 // The exit status of what the command line asks.
@@ -119,42 +127,18 @@ fn obey<R: Runtime + AllocGlobal + Threads + Wait + Sync>(
     on_terminal: bool,
 ) -> Result<ExitCode, Failure> {
     let Some((name, words)) = matches.subcommand() else {
-        return over_input(rt, on_terminal);
+        return Ok(over_input(rt, on_terminal));
     };
-    match obey_words(rt, name, words, on_terminal) {
-        Err(Failure::CannotOpen(argument, error)) => {
-            Ok(tell_unopened(rt, words, argument, error))
-        }
-        Err(Failure::CannotWrite(error)) => { Ok(tell_unwritten(rt, error, is_verbose(rt, words))) }
-        done => done,
-    }
-}
-
-// Says that a file can't be opened, and after that line which, and why, if that is asked for.
-fn tell_unopened<R: Runtime + AllocGlobal>(
-    rt: &R,
-    words: &ArgMatches<'_>,
-    argument: Argument,
-    error: io::Error,
-) -> ExitCode {
-    let status = tell(rt, &Failure::CannotOpen(argument, error));
-    if is_verbose(rt, words) {
-        if let Ok(note) = reason_note(rt.alloc(), argument.file_name(words), error) {
-            let _ = rt.eprint(&note);
-        }
-    }
-    status
-}
-
-// Says that standard output can't be written, and after that line why, if that is asked for.
-fn tell_unwritten<R: Runtime + AllocGlobal>(rt: &R, error: io::Error, says_why: bool) -> ExitCode {
-    let status = tell(rt, &Failure::CannotWrite(error));
-    if says_why {
-        if let Ok(note) = reason_note(rt.alloc(), "standard output", error) {
-            let _ = rt.eprint(&note);
-        }
-    }
-    status
+    let failure = match obey_words(rt, name, words, on_terminal) {
+        Ok(status) => return Ok(status),
+        Err(failure) => failure,
+    };
+    let (file, reason) = match failure {
+        Failure::CannotOpen(argument, error) => (argument.file_name(words), error),
+        Failure::CannotWrite(error) => (STANDARD_OUTPUT, error),
+        _ => return Err(failure),
+    };
+    Ok(tell_reason(rt, &failure, file, reason, is_verbose(rt, words)))
 }
 
 // The exit status of the subcommand of this name with these words.
@@ -165,88 +149,74 @@ fn obey_words<R: Runtime + AllocGlobal + Threads + Wait + Sync>(
     on_terminal: bool,
 ) -> Result<ExitCode, Failure> {
     check_numbers(words)?;
-    if name == "draw" {
-        let rounds = range_of(words)?;
-        return over_trace(rt, words, TraceRun::Draw { rounds }, on_terminal);
-    }
-    if let Some(run) = trace_run(name, words) {
-        return over_trace(rt, words, run, on_terminal);
-    }
-    if let Some(run) = script_run(name, words, on_terminal) {
-        return over_script(rt, words, run);
+    if let Some(run) = trace_run(name, words)? {
+        let trace = open(rt, words, Argument::Trace)?;
+        return Ok(over_trace(rt, trace, run, on_terminal));
     }
     match name {
+        "sim" => {
+            let seed = words.get_one("SEED").unwrap_or(0);
+            over_script(rt, words, ScriptRun::Sim { seed })
+        }
+        "run" => over_script(rt, words, ScriptRun::Live { on_terminal }),
         "prove" => over_report(rt, words),
         "compare" => compare(rt, words, on_terminal),
         "sweep" => sweep_script(rt, words, on_terminal),
         "completions" => complete(rt, words.get_str("SHELL").unwrap_or("")),
         "import" => Ok(import(rt, words)),
-        _ => over_input(rt, on_terminal),
+        _ => Ok(over_input(rt, on_terminal)),
     }
 }
 
 // What the subcommand of this name does with a trace, if it takes one.
-fn trace_run(name: &str, words: &ArgMatches<'_>) -> Option<TraceRun> {
-    match name {
-        "check" => Some(TraceRun::Check),
-        "audit" => Some(TraceRun::Audit {
-            summary: words.get_flag("summary"),
-        }),
-        "explain" => Some(TraceRun::Explain {
+fn trace_run(name: &str, words: &ArgMatches<'_>) -> Result<Option<TraceRun>, Failure> {
+    let as_json = words.get_flag("json");
+    let summary = words.get_flag("summary");
+    let waits = if words.get_flag("all-waits") {
+        usize::MAX
+    } else {
+        MAX_WAITS
+    };
+    Ok(Some(match name {
+        "check" if as_json => TraceRun::CheckAsJson,
+        "check" => TraceRun::Check,
+        "audit" if as_json => TraceRun::AuditAsJson { summary },
+        "audit" => TraceRun::Audit { summary },
+        "explain" if as_json => TraceRun::Explain(View::Json { waits }),
+        "explain" => TraceRun::Explain(View::Page {
             top: words.get_one("top").unwrap_or(TOP),
-            waits: max_waits(words),
         }),
-        "timeline" => Some(TraceRun::Timeline {
-            waits: max_waits(words),
+        "draw" => TraceRun::Explain(View::Drawing {
+            rounds: range_of(words)?,
         }),
-        "migrate" => Some(TraceRun::Migrate),
-        "record" => Some(TraceRun::Record),
-        "script" => Some(TraceRun::Script),
-        _ => None,
-    }
-}
-
-// How the subcommand of this name runs a script, if it takes one.
-fn script_run(name: &str, words: &ArgMatches<'_>, on_terminal: bool) -> Option<ScriptRun> {
-    match name {
-        "sim" => Some(ScriptRun::Sim {
-            seed: words.get_one("SEED").unwrap_or(0),
-        }),
-        "run" => Some(ScriptRun::Live { on_terminal }),
-        _ => None,
-    }
+        "timeline" => TraceRun::Explain(View::Timeline { waits }),
+        "migrate" => TraceRun::Migrate,
+        "record" => TraceRun::Record,
+        "script" => TraceRun::Script,
+        _ => return Ok(None),
+    }))
 }
 
 // Prints the summary of the audit of the trace on standard input.
-fn over_input<R: Runtime + AllocGlobal + Threads + Sync>(
-    rt: &R,
-    on_terminal: bool,
-) -> Result<ExitCode, Failure> {
-    let run = TraceRun::Audit { summary: true };
-    Ok(over_source(rt, input(rt), run, false, on_terminal))
-}
-
-fn over_trace<R: Runtime + AllocGlobal + Threads + Sync>(
-    rt: &R,
-    words: &ArgMatches<'_>,
-    run: TraceRun,
-    on_terminal: bool,
-) -> Result<ExitCode, Failure> {
-    let trace = open(rt, words, Argument::Trace)?;
-    Ok(over_source(rt, trace, run, words.get_flag("json"), on_terminal))
+fn over_input<R: Runtime + AllocGlobal + Threads + Sync>(rt: &R, on_terminal: bool) -> ExitCode {
+    over_trace(
+        rt,
+        input(rt),
+        TraceRun::Audit { summary: true },
+        on_terminal,
+    )
 }
 
 // What a run does with the trace that is open.
-fn over_source<R: Runtime + AllocGlobal + Threads + Sync, D: Read + Drop>(
+fn over_trace<R: Runtime + AllocGlobal + Threads + Sync, D: Read + Drop>(
     rt: &R,
     mut trace: Source<'_, D>,
     run: TraceRun,
-    as_json: bool,
     on_terminal: bool,
 ) -> ExitCode {
     let mut out = standard_output(rt);
     let line = ProgressLine::new(rt, on_terminal);
-    let done = run.over(rt, &line, &mut trace, &mut out, as_json);
+    let done = run.over(rt, &line, &mut trace, &mut out);
     line.clear();
     match done {
         Ok(()) => ExitCode::SUCCESS,
@@ -259,32 +229,19 @@ fn over_report<R: Runtime + AllocGlobal + Threads + Sync>(
     rt: &R,
     words: &ArgMatches<'_>,
 ) -> Result<ExitCode, Failure> {
-    let (trace, report) = (
-        Argument::Trace.file_name(words),
-        Argument::Report.file_name(words),
-    );
-    if trace == STANDARD_INPUT && report == STANDARD_INPUT {
-        return Err(Failure::StandardInputTwice(Argument::Trace, Argument::Report));
-    }
-    // If standard input was closed, the next file would get its descriptor and be read in its place. A folder takes it, which
-    // can't be read.
-    let _folder = File::open(rt, "/");
-    // Both files are opened before one is read.
-    let mut trace = open(rt, words, Argument::Trace)?;
-    let mut report = open(rt, words, Argument::Report)?;
+    let mut files = open_both(rt, words, Argument::Trace, Argument::Report)?;
     let mut out = standard_output(rt);
-    match prove(
-        rt.alloc(),
-        &mut trace,
-        &mut report,
-        &mut out,
-        words.get_flag("json"),
-    ) {
+    let (trace, report) = (&mut files.first, &mut files.second);
+    match prove(rt.alloc(), trace, report, &mut out, words.get_flag("json")) {
         Ok(true) => Ok(ExitCode::SUCCESS),
         Ok(false) => Ok(ExitCode::FAILURE),
         Err(failure) => {
             let is_of_report = matches!(failure, Failure::Audit(AuditFault::Report(_)));
-            let input = if is_of_report { &report } else { &trace };
+            let input = if is_of_report {
+                &files.second
+            } else {
+                &files.first
+            };
             Ok(tell_on(rt, &failure, input, &out))
         }
     }

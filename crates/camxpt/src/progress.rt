@@ -5,6 +5,7 @@ ghost use Rattle.std.specs.Prelude.{◌≡◌};
 use cost_plan::{Done, PlanProgress};
 use sim_worker::Progress;
 use std::alloc::AllocError;
+use std::fmt::Display;
 use std::io;
 use std::io::{Read, Write};
 use std::sync::atomic::{AtomicU64, Ordering};
@@ -73,31 +74,19 @@ impl<'a, R: Clock + Eprint> ProgressLine<'a, R> {
         u64::try_from(elapsed.as_millis()).ok()
     }
 
-    // Shows that so many runs of so many are over.
-    fn show_runs(&self, over: u64, runs: u32) {
+    // Shows how far it is, if a line is due.
+    fn put<T: Display + Drop>(&self, how_far: T) {
         if self.is_due() {
-            let _ = self
-                .rt
-                .eprint(format_args!("\r\u{1b}[Kcamxpt: {over} of {runs} runs"));
-        }
-    }
-
-    // Shows that so many bytes were read.
-    fn show_read(&self, bytes: u64) {
-        if self.is_due() {
-            let _ = self.rt.eprint(format_args!("\r\u{1b}[Kcamxpt: read {} MB", bytes / 1_000_000));
+            let _ = self.rt.eprint(format_args!("\r\u{1b}[Kcamxpt: {how_far}"));
         }
     }
 }
 
 impl<R: Clock + Eprint> Progress for ProgressLine<'_, R> {
     fn show(&self, look: Look) {
-        if !self.is_due() {
-            return;
-        }
         let left = u64::from(look.waiting) + u64::from(look.in_flight) + u64::from(look.cases);
-        let _ = self.rt.eprint(format_args!(
-            "\r\u{1b}[Kcamxpt: round {}, {} events, {left} CCBs left",
+        self.put(format_args!(
+            "round {}, {} events, {left} CCBs left",
             look.round, look.length
         ));
     }
@@ -107,14 +96,11 @@ impl<R: Clock + Eprint> PlanProgress for ProgressLine<'_, R> {
     fn begun(&self, _adapter: u32) {}
 
     fn planned(&self, done: Done) {
-        if !self.is_due() {
-            return;
-        }
-        let _ = if done.planned >= done.parts {
-            self.rt.eprint("\r\u{1b}[Kcamxpt: checking the plan")
+        if done.planned >= done.parts {
+            self.put("checking the plan");
         } else {
-            self.rt.eprint(format_args!("\r\u{1b}[Kcamxpt: planned some {} %", hundredths(done)))
-        };
+            self.put(format_args!("planned some {} %", hundredths(done)));
+        }
     }
 }
 
@@ -148,7 +134,8 @@ impl<S: Read, R: Clock + Eprint> Read for CountedReader<'_, '_, S, R> {
 
     /// Reads as the source does.
     fn read(&mut self, buf: &mut [u8]) -> io::Result<usize> {
-        self.line.show_read(self.bytes);
+        self.line
+            .put(format_args!("read {} MB", self.bytes / 1_000_000));
         let count = self.source.read(buf)?;
         self.bytes = self.bytes.saturating_add(count as u64);
         Ok(count)
@@ -214,7 +201,8 @@ impl<W: Runner, R: Clock + Eprint> Runner for CountedRunner<'_, '_, W, R> {
     fn run(&self, script: &Script, seed: u64) -> Result<Tally, AllocError> {
         let tally = self.runner.run(script, seed);
         let before = self.over.fetch_add(1, Ordering::Relaxed);
-        self.line.show_runs(before.saturating_add(1), self.runs);
+        let over = before.saturating_add(1);
+        self.line.put(format_args!("{over} of {} runs", self.runs));
         tally
     }
 }

@@ -20,18 +20,9 @@ pub fn prove<D: Read, W: Write>(
     out: &mut Output<W>,
     as_json: bool,
 ) -> Result<bool, Failure> {
-    if as_json {
-        return prove_as_json(alloc, trace, report, out);
+    if !as_json {
+        return find(alloc, trace, report, out);
     }
-    find(alloc, trace, report, out)
-}
-
-fn prove_as_json<D: Read, W: Write>(
-    alloc: Global,
-    trace: &mut Source<'_, D>,
-    report: &mut Source<'_, D>,
-    out: &mut Output<W>,
-) -> Result<bool, Failure> {
     let (trace_name, report_name) = (trace.name, report.name);
     let mut finding = Vec::with_capacity(alloc, MAX_FINDING)?;
     let is_proved = find(alloc, trace, report, &mut finding)?;

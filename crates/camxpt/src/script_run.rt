@@ -4,10 +4,10 @@ use crate::failure::Failure;
 use crate::output::Output;
 use crate::progress::ProgressLine;
 use crate::source::Source;
+use audit_report::AuditFault;
 use cam_event::History;
 use cam_types::Watched;
 use sim_worker::{Ending, ScriptPort, run_live_with, sim_run};
-use std::alloc::Global;
 use std::io::{Read, Write};
 use std::rt::Runtime;
 use std::sync::Wait;
@@ -37,48 +37,31 @@ impl ScriptRun {
         script: &mut Source<'_, D>,
         out: &mut Output<W>,
     ) -> Result<Ending, Failure> {
-        let script = read_script(rt.alloc(), &mut Watched::new(script))?;
-        match self {
-            ScriptRun::Sim { seed } => over_seed(rt.alloc(), &script, out, seed),
-            ScriptRun::Live { on_terminal } => over_threads(rt, &script, out, on_terminal),
-        }
+        let alloc = rt.alloc();
+        let script = read_script(alloc, &mut Watched::new(script)).map_err(AuditFault::Trace)?;
+        let (history, ending) = match self {
+            ScriptRun::Sim { seed } => {
+                let run = sim_run(alloc, &script, seed)?;
+                (run.history, run.ending)
+            }
+            ScriptRun::Live { on_terminal } => over_threads(rt, &script, on_terminal)?,
+        };
+        write_trace(alloc, &history, &mut Watched::new(out))?;
+        Ok(ending)
     }
 }
 
-// Runs the script by a seed, writes the trace and answers how the run ended.
-fn over_seed<W: Write>(
-    alloc: Global,
-    script: &Script,
-    out: &mut Output<W>,
-    seed: u64,
-) -> Result<Ending, Failure> {
-    let run = sim_run(alloc, script, seed)?;
-    print_trace(alloc, &run.history, out)?;
-    Ok(run.ending)
-}
-
-// Runs the script with threads, writes the trace and answers how the run ended.
-fn over_threads<R: Runtime + AllocGlobal + Threads + Wait + Sync, W: Write>(
+// What happens if the script is run with threads, and how the run ends.
+fn over_threads<R: Runtime + AllocGlobal + Threads + Wait + Sync>(
     rt: &R,
     script: &Script,
-    out: &mut Output<W>,
     on_terminal: bool,
-) -> Result<Ending, Failure> {
+) -> Result<(History, Ending), Failure> {
     let alloc = rt.alloc();
     let ports = ScriptPort::for_lanes(alloc, script)?;
     let line = ProgressLine::new(rt, on_terminal);
     let run = run_live_with(rt, alloc, script, ports, &line);
     line.clear();
     let run = run?;
-    print_trace(alloc, &run.history, out)?;
-    Ok(run.ending)
-}
-
-// Writes the trace of a history.
-fn print_trace<W: Write>(
-    alloc: Global,
-    history: &History,
-    out: &mut Output<W>,
-) -> Result<(), Failure> {
-    Ok(write_trace(alloc, history, &mut Watched::new(out))?)
+    Ok((run.history, run.ending))
 }

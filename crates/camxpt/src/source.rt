@@ -14,7 +14,7 @@ use std::{env, io};
 pub const STANDARD_INPUT: &str = "-";
 
 /// An argument that names a file.
-#[derive(Clone, Copy)]
+#[derive(Clone, Copy, Debug)]
 pub enum Argument {
     /// That of a trace.
     Trace,
@@ -37,6 +37,15 @@ impl Argument {
             Argument::Script => "SCRIPT",
             Argument::Before => "BEFORE",
             Argument::After => "AFTER",
+        }
+    }
+
+    /// What stands after 'cannot open': which of two files it is.
+    pub fn of_two(self) -> &'static str {
+        match self {
+            Argument::Trace | Argument::Report | Argument::Script => "",
+            Argument::Before => " BEFORE",
+            Argument::After => " AFTER",
         }
     }
 
@@ -104,19 +113,7 @@ pub fn is_verbose<R: Env + AllocGlobal>(rt: &R, words: &ArgMatches<'_>) -> bool 
 
 /// Whether `CAMXPT_VERBOSE=1` stands in the environment.
 pub fn asks_more<R: Env + AllocGlobal>(rt: &R) -> bool {
-    match env::var(rt, "CAMXPT_VERBOSE") {
-        Ok(value) => value.as_str() == "1",
-        Err(_) => false,
-    }
-}
-
-// What is read is kept in here, where it is kept at all.
-fn room<R: AllocGlobal>(rt: &R, is_kept: bool) -> Option<Vec<u8>> {
-    if is_kept {
-        Some(Vec::new(rt.alloc()))
-    } else {
-        None
-    }
+    env::var(rt, "CAMXPT_VERBOSE").is_ok_and(|value| value.as_str() == "1")
 }
 
 /// Opens the file that an argument names; `-` is standard input. What is read of it is kept if a fault gets more than its line.
@@ -137,9 +134,39 @@ pub fn open<'a, R: Files + Input + Env + AllocGlobal>(
     Ok(Source {
         name,
         device,
-        kept: room(rt, is_verbose(rt, words)),
+        kept: is_verbose(rt, words).then_some(Vec::new(rt.alloc())),
         front: Front::new(),
         failed: None,
+    })
+}
+
+/// Two files that are read one after the other.
+#[derive(Drop)]
+pub struct Both<'a, F, S> {
+    /// The one that is read first.
+    pub first: Source<'a, Either<F, S>>,
+    /// The other one.
+    pub second: Source<'a, Either<F, S>>,
+    _folder: io::Result<F>,
+}
+
+/// Opens the files that two arguments name, before one of them is read. At most one can be standard input.
+pub fn open_both<'a, R: Files + Input + Env + AllocGlobal>(
+    rt: &R,
+    words: &ArgMatches<'a>,
+    first: Argument,
+    second: Argument,
+) -> Result<Both<'a, R::File, R::Reader>, Failure> {
+    if first.file_name(words) == STANDARD_INPUT && second.file_name(words) == STANDARD_INPUT {
+        return Err(Failure::StandardInputTwice(first, second));
+    }
+    // If standard input was closed, the next file would get its descriptor and be read in its place. A folder takes it, which
+    // can't be read.
+    let folder = File::open(rt, "/");
+    Ok(Both {
+        first: open(rt, words, first)?,
+        second: open(rt, words, second)?,
+        _folder: folder,
     })
 }
 
@@ -148,7 +175,7 @@ pub fn input<R: Input + Env + AllocGlobal>(rt: &R) -> Source<'static, R::Reader>
     Source {
         name: STANDARD_INPUT,
         device: rt.reader(),
-        kept: room(rt, asks_more(rt)),
+        kept: asks_more(rt).then_some(Vec::new(rt.alloc())),
         front: Front::new(),
         failed: None,
     }

@@ -1,8 +1,50 @@
 //! The subcommands, their arguments and the help.
 
 use crate::word::NamedArgument;
+use crate::word::NamedArgument::{
+    Flag, NeededNumber, NeededText, NeededWord, Number, OneOf, ShellName, SmallNumber, Text, Texts,
+    Word, Words,
+};
 use clap::Command;
 use std::alloc::{AllocError, Global};
+
+/// The word for pairing drivers and devices by numbers.
+pub(crate) const BY_NUMBER: &str = "number";
+
+const PAIRED_BY: &[&str] = &["name", BY_NUMBER];
+
+const JSON: NamedArgument = Flag("json", "Prints one line of JSON");
+
+const VERBOSE: NamedArgument = Flag(
+    "verbose",
+    "Says after a fault where it stands and what stands there, or why a file failed",
+);
+
+const REQUIRE_DRAINED: NamedArgument = Flag(
+    "require-drained",
+    "Ends with status 7 if the run ended before all was done",
+);
+
+const ALL_WAITS: NamedArgument = Flag(
+    "all-waits",
+    "Lists all waits of each stay, and not just the first 64, in JSON and timelines",
+);
+
+const TRACE: NamedArgument = Word(
+    "TRACE",
+    "The recorded trace; standard input if it is left out or -",
+);
+
+// A trace or a recording.
+const EITHER: NamedArgument = Word(
+    "TRACE",
+    "The trace or recording; standard input if it is left out or -",
+);
+
+const SCRIPT: NamedArgument = NeededWord(
+    "SCRIPT",
+    "What the drivers do and the lanes answer; - is standard input",
+);
 
 /// A subcommand.
 pub(crate) struct Subcommand {
@@ -20,21 +62,20 @@ pub(crate) const SUBCOMMANDS: [Subcommand; 15] = [
         name: "check",
         about: "Tests a trace or a recording and prints its counts and what its waiting cost",
         example: "Example: camxpt check examples/frozen-device.csv",
-        words: &[
-            NamedArgument::Json,
-            NamedArgument::Verbose,
-            NamedArgument::Either,
-        ],
+        words: &[JSON, VERBOSE, EITHER],
     },
     Subcommand {
         name: "audit",
         about: "Prints the live schedule of a trace or a recording, a best schedule, the excess, and prices that prove the best one",
         example: "Example: camxpt audit examples/frozen-device.csv",
         words: &[
-            NamedArgument::Summary,
-            NamedArgument::Json,
-            NamedArgument::Verbose,
-            NamedArgument::Either,
+            Flag(
+                "summary",
+                "Prints the first seven lines of the report alone",
+            ),
+            JSON,
+            VERBOSE,
+            EITHER,
         ],
     },
     Subcommand {
@@ -42,11 +83,14 @@ pub(crate) const SUBCOMMANDS: [Subcommand; 15] = [
         about: "Says where the commands of a trace or the requests of a recording waited, and why",
         example: "Example: camxpt explain examples/frozen-device.csv",
         words: &[
-            NamedArgument::Top,
-            NamedArgument::AllWaits,
-            NamedArgument::Json,
-            NamedArgument::Verbose,
-            NamedArgument::Either,
+            Number(
+                "top",
+                "Lists at most so many stays, and as many freezes; 10 if it is left out",
+            ),
+            ALL_WAITS,
+            JSON,
+            VERBOSE,
+            EITHER,
         ],
     },
     Subcommand {
@@ -54,11 +98,22 @@ pub(crate) const SUBCOMMANDS: [Subcommand; 15] = [
         about: "Puts two traces or recordings side by side: what the waiting cost before a change and after it, for whom, and why",
         example: "Example: camxpt compare examples/one-opening.csv examples/four-openings.csv",
         words: &[
-            NamedArgument::PairBy,
-            NamedArgument::Json,
-            NamedArgument::Verbose,
-            NamedArgument::Before,
-            NamedArgument::After,
+            OneOf(
+                "by",
+                "HOW",
+                PAIRED_BY,
+                "Pairs drivers and devices by name, where both inputs have names, or by number; by name if it is left out",
+            ),
+            JSON,
+            VERBOSE,
+            NeededWord(
+                "BEFORE",
+                "The trace or recording before a change; - is standard input",
+            ),
+            NeededWord(
+                "AFTER",
+                "The one after it; - is standard input, unless BEFORE is",
+            ),
         ],
     },
     Subcommand {
@@ -66,30 +121,33 @@ pub(crate) const SUBCOMMANDS: [Subcommand; 15] = [
         about: "Draws where the commands of a trace or the requests of a recording waited, as a page for a browser",
         example: "Example: camxpt draw examples/frozen-device.csv > page.html",
         words: &[
-            NamedArgument::Rounds,
-            NamedArgument::Verbose,
-            NamedArgument::Either,
+            Text(
+                "rounds",
+                "A-B",
+                "Draws the bars of the rounds from A to B alone",
+            ),
+            VERBOSE,
+            EITHER,
         ],
     },
     Subcommand {
         name: "timeline",
         about: "Prints a trace or a recording as a timeline in Chrome's trace-event format, for Perfetto or chrome://tracing",
         example: "Example: camxpt timeline examples/frozen-device.csv > timeline.json",
-        words: &[
-            NamedArgument::AllWaits,
-            NamedArgument::Verbose,
-            NamedArgument::Either,
-        ],
+        words: &[ALL_WAITS, VERBOSE, EITHER],
     },
     Subcommand {
         name: "prove",
         about: "Says whether the prices of a report prove that its schedule is a best one, whoever made it",
         example: "Example: camxpt prove examples/frozen-device.csv examples/frozen-device.report",
         words: &[
-            NamedArgument::Json,
-            NamedArgument::Verbose,
-            NamedArgument::Proved,
-            NamedArgument::Report,
+            JSON,
+            VERBOSE,
+            NeededWord("TRACE", "The trace or recording; - is standard input"),
+            NeededWord(
+                "REPORT",
+                "A report on it, by audit or by anyone else; - is standard input, unless TRACE is",
+            ),
         ],
     },
     Subcommand {
@@ -97,78 +155,123 @@ pub(crate) const SUBCOMMANDS: [Subcommand; 15] = [
         about: "Runs a script on one thread and prints the trace, and on standard error how the run ended",
         example: "Example: camxpt sim examples/script-timeout-requeued.csv 1",
         words: &[
-            NamedArgument::RequireDrained,
-            NamedArgument::Verbose,
-            NamedArgument::Script,
-            NamedArgument::Seed,
+            REQUIRE_DRAINED,
+            VERBOSE,
+            SCRIPT,
+            NeededNumber(
+                "SEED",
+                "Picks whose turn it is: the same seed gives the same trace",
+            ),
         ],
     },
     Subcommand {
         name: "run",
         about: "Runs a script with a thread for each actor and prints the trace, and on standard error how the run ended",
         example: "Example: camxpt run examples/script-timeout-requeued.csv",
-        words: &[
-            NamedArgument::RequireDrained,
-            NamedArgument::Verbose,
-            NamedArgument::Script,
-        ],
+        words: &[REQUIRE_DRAINED, VERBOSE, SCRIPT],
     },
     Subcommand {
         name: "sweep",
         about: "Runs a script with several numbers of openings, in all combinations, and prints what the waiting cost in each",
         example: "Example: camxpt sweep examples/script-sweep.csv --openings 0:1,2,4,8 --seeds 5",
         words: &[
-            NamedArgument::Openings,
-            NamedArgument::AdapterOpenings,
-            NamedArgument::Seeds,
-            NamedArgument::Json,
-            NamedArgument::Verbose,
-            NamedArgument::Script,
+            Texts(
+                "openings",
+                "DEVICE:N,N",
+                "The numbers of openings that are tried of a device, which goes by its number from 0 on",
+            ),
+            Texts("adapter", "ADAPTER:N,N", "The same of an adapter"),
+            SmallNumber(
+                "seeds",
+                "Runs each setting by the seeds from 1 to N; 1 if it is left out",
+            ),
+            JSON,
+            VERBOSE,
+            SCRIPT,
         ],
     },
     Subcommand {
         name: "migrate",
         about: "Prints a trace of any version in version 3, which has a table of weights and links",
         example: "Example: camxpt migrate examples/frozen-device.csv",
-        words: &[NamedArgument::Verbose, NamedArgument::Trace],
+        words: &[VERBOSE, TRACE],
     },
     Subcommand {
         name: "record",
         about: "Prints the recording of a trace: its requests with their windows, and what each device, adapter and link took",
         example: "Example: camxpt record examples/frozen-device.csv",
-        words: &[NamedArgument::Verbose, NamedArgument::Trace],
+        words: &[VERBOSE, TRACE],
     },
     Subcommand {
         name: "script",
         about: "Prints the script of what the drivers of a trace or a recording asked for, to be run again under other settings",
         example: "Example: camxpt script examples/frozen-device.csv",
-        words: &[NamedArgument::Verbose, NamedArgument::Either],
+        words: &[VERBOSE, EITHER],
     },
     Subcommand {
         name: "import",
         about: "Prints the recording of a capture by blktrace or fio, or of a CSV file with named columns",
         example: "Example: camxpt import --from blkparse --round 10ms examples/mixed.blkparse > recording.csv",
         words: &[
-            NamedArgument::From,
-            NamedArgument::Round,
-            NamedArgument::Unit,
-            NamedArgument::Priority,
-            NamedArgument::Driver,
-            NamedArgument::Device,
-            NamedArgument::Host,
-            NamedArgument::Rated,
-            NamedArgument::FromTime,
-            NamedArgument::ToTime,
-            NamedArgument::Lenient,
-            NamedArgument::Verbose,
-            NamedArgument::Files,
+            NeededText("from", "KIND", "What the files are: blkparse, fio or csv"),
+            Text(
+                "round",
+                "TIME",
+                "How long a round is, as 10ms; if it is left out, the mean time between starts of the busiest device, but at most half of the mean wait",
+            ),
+            Text(
+                "unit",
+                "UNIT",
+                "The unit of times in CSV: ns, us, ms or s; s if it is left out",
+            ),
+            Text(
+                "priority",
+                "HOW",
+                "Where priorities come from: by-class, by-direction or flat; by-class if it is left out",
+            ),
+            Texts(
+                "driver",
+                "NAME=PRIORITY",
+                "The priority of all requests of a process or job",
+            ),
+            Texts(
+                "device",
+                "PICK",
+                "A device to take, or PATTERN=NAME for all that match, as one; * stands for any characters; all if it is left out",
+            ),
+            Texts(
+                "host",
+                "NAME=ADAPTER:OPENINGS",
+                "The adapter of a device, from 0 to 7, and how many requests that adapter takes in a round; what its devices take together if it is left out",
+            ),
+            Texts(
+                "rated",
+                "NAME=OPENINGS",
+                "How many requests a device takes in a round, where it isn't measured",
+            ),
+            Text(
+                "from-time",
+                "SECONDS",
+                "Leaves out what arrives before this time of the capture",
+            ),
+            Text(
+                "to-time",
+                "SECONDS",
+                "Leaves out what arrives at this time of the capture or later",
+            ),
+            Flag(
+                "lenient",
+                "Counts lines that are refused and leaves them out",
+            ),
+            VERBOSE,
+            Words("FILE", "The files of the capture; - is standard input"),
         ],
     },
     Subcommand {
         name: "completions",
         about: "Prints the script by which a shell completes these words",
         example: "Example: camxpt completions bash",
-        words: &[NamedArgument::Verbose, NamedArgument::Shell],
+        words: &[VERBOSE, ShellName("SHELL", "bash, zsh or fish")],
     },
 ];
 

@@ -1,11 +1,12 @@
 //! Runs a script under several settings by several seeds.
 
 use crate::failure::Failure;
-use crate::note::{note_on, title};
-use crate::output::{closed, made, print, standard_output};
+use crate::note::{note_on, tell, tell_note, title};
+use crate::output::{closed, print, standard_output};
 use crate::progress::{CountedRunner, ProgressLine};
-use crate::source::{Argument, Source, open};
+use crate::source::{Argument, open};
 use crate::sweep_words::{WordFault, choices_of, refusal};
+use audit_report::AuditFault;
 use cam_types::Watched;
 use clap::ArgMatches;
 use std::process::ExitCode;
@@ -32,7 +33,12 @@ pub fn sweep_script<R: Runtime + AllocGlobal + Threads + Sync>(
     let mut source = open(rt, words, Argument::Script)?;
     match read_script(rt.alloc(), &mut Watched::new(&mut source)) {
         Ok(script) => over_script(rt, words, &script, &choices, on_terminal),
-        Err(fault) => Ok(tell_script(rt, &fault.into(), &source)),
+        Err(fault) => {
+            let failure = Failure::Audit(AuditFault::Trace(fault));
+            let status = tell(rt, &failure);
+            tell_note(rt, note_on(rt.alloc(), &failure, &source));
+            Ok(status)
+        }
     }
 }
 
@@ -42,19 +48,6 @@ fn tell_word<R: Runtime + AllocGlobal>(rt: &R, fault: WordFault<'_>) -> Result<E
     let line = shown_name(rt.alloc(), &line)?;
     let _ = rt.eprintln(format_args!("camxpt: {line}"));
     Ok(ExitCode::from(2))
-}
-
-// Says why the script is refused, and after that line what helps to find the fault, if that is asked for.
-fn tell_script<R: Runtime + AllocGlobal, D>(
-    rt: &R,
-    failure: &Failure,
-    script: &Source<'_, D>,
-) -> ExitCode {
-    let _ = rt.eprintln(format_args!("camxpt: {failure}"));
-    if let Some(note) = note_on(rt.alloc(), failure, script) {
-        let _ = rt.eprint(&note);
-    }
-    failure.exit_code()
 }
 
 // Runs the script under the settings that the choices make, unless one of these is refused, or they are too many.
@@ -80,7 +73,13 @@ fn over_script<R: Runtime + AllocGlobal + Threads + Sync>(
         plan: &plan,
         rows: &rows,
     };
-    print_rows(rt, swept, words.get_flag("json"))
+    let text = if words.get_flag("json") {
+        closed(sweep_json(rt.alloc(), swept))?
+    } else {
+        sweep_page(rt.alloc(), swept)?
+    };
+    print(&mut standard_output(rt), &text)?;
+    Ok(ExitCode::SUCCESS)
 }
 
 // Runs the script under each setting by each seed. The line says how many of the runs are over.
@@ -93,18 +92,4 @@ fn rows_of<R: AllocGlobal + Threads + Clock + Eprint + Sync>(
     let alloc = rt.alloc();
     let runner = CountedRunner::new(SimRunner { alloc }, line, plan.runs());
     Ok(run_sweep(rt, alloc, &runner, script, plan)?)
-}
-
-fn print_rows<R: Runtime + AllocGlobal>(
-    rt: &R,
-    swept: Swept<'_>,
-    as_json: bool,
-) -> Result<ExitCode, Failure> {
-    let text = if as_json {
-        closed(sweep_json(rt.alloc(), swept))?
-    } else {
-        made(sweep_page(rt.alloc(), swept))?
-    };
-    print(&mut standard_output(rt), &text)?;
-    Ok(ExitCode::SUCCESS)
 }

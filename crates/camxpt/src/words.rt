@@ -15,44 +15,31 @@ pub fn words<R: Env + AllocGlobal>(rt: &R) -> Result<Vec<String>, Failure> {
     }
 }
 
-/// An argument that is a number.
-#[derive(Clone, Copy)]
-pub enum Number {
-    /// How many stays and freezes are listed.
-    Top,
-    /// How many seeds run a setting.
-    Seeds,
-    /// The seed of a run.
-    Seed,
-}
-
-impl Number {
-    /// What it is called in the help.
-    pub fn word(self) -> &'static str {
-        match self {
-            Number::Top => "--top",
-            Number::Seeds => "--seeds",
-            Number::Seed => "SEED",
-        }
-    }
-
-    // What it is called among the arguments.
-    fn id(self) -> &'static str {
-        match self {
-            Number::Top => "top",
-            Number::Seeds => "seeds",
-            Number::Seed => "SEED",
-        }
-    }
-}
-
 /// Refuses a number with a plus sign, which the parser of numbers takes.
 pub fn check_numbers(words: &ArgMatches<'_>) -> Result<(), Failure> {
-    for number in [Number::Top, Number::Seeds, Number::Seed] {
-        match words.get_str(number.id()) {
-            Some(word) if word.starts_with('+') => return Err(Failure::NoNumber(number)),
-            _ => {}
+    for (id, shown) in [("top", "--top"), ("seeds", "--seeds"), ("SEED", "SEED")] {
+        if words.get_str(id).is_some_and(|word| word.starts_with('+')) {
+            return Err(Failure::NoNumber(shown));
         }
     }
     Ok(())
+}
+
+/// The words that are given for an argument that may be given several times.
+pub fn given<'m, 'a>(words: &'m ArgMatches<'a>, id: &str) -> &'m [&'a str] {
+    words.get_strs(id).unwrap_or(&[])
+}
+
+/// The word at this place among them.
+pub fn word_at<'a>(words: &ArgMatches<'a>, id: &str, place: usize) -> &'a str {
+    given(words, id).get(place).copied().unwrap_or("")
+}
+
+/// A number of decimal digits alone: no sign stands before it.
+pub fn number_in(word: &str) -> Option<u32> {
+    if word.bytes().all(|byte| byte.is_ascii_digit()) {
+        word.parse::<u32>().ok()
+    } else {
+        None
+    }
 }

@@ -1,20 +1,19 @@
 //! The bar of a stay in a range.
 
-use crate::device_row::Scene;
 use crate::round_range::RoundRange;
+use crate::scene::Scene;
 use recording_file::NameKind;
-use std::alloc::{AllocError, Global};
-use wait_causes::{ExplainedStay, InputKind, Wait};
+use std::alloc::AllocError;
+use wait_causes::{ExplainedStay, FirstWaits, InputKind};
 use wording::{Page, push_number, push_range, push_round, push_rounds};
 
 // How many of a stay's waits are listed one by one.
 const LISTED: usize = 8;
 
 /// Puts the bar of the stay at this place on the page: the rounds of this range that it waited, the round of its send, and
-/// the mark where the best schedule sends it. All that is known of it stands where it is sent, or where not all bars are
-/// drawn.
+/// the mark where the best schedule sends it. All that is known of it stands where it is sent, with the name by which it is
+/// linked to, or where not all bars are drawn.
 pub(crate) fn push_bar(
-    alloc: Global,
     page: &mut Page,
     scene: &Scene,
     range: &RoundRange,
@@ -23,11 +22,17 @@ pub(crate) fn push_bar(
     let Some(stay) = scene.explanation.stays().get(place) else {
         return Ok(());
     };
-    push_begin(page, range, stay);
-    push_name(page, scene.explanation.kind(), stay);
-    if range.has(stay.live) || !scene.has_all {
+    let is_sent = range.has(stay.live);
+    if is_sent {
+        page.show(format_args!("<g id='s{}-{}'><title>", stay.ccb, stay.attempt));
+    } else {
+        page.put("<g><title>");
+    }
+    push_stay_name(page, scene, stay);
+    if is_sent || !scene.has_all {
         push_hover(page, scene, stay);
-        push_waits(page, &scene.explanation.waits(alloc, place)?);
+        let waits = scene.explanation.first_waits(scene.alloc, place, LISTED)?;
+        push_waits(page, &waits);
     }
     page.put("</title>");
     push_waited(page, scene, range, stay);
@@ -36,49 +41,23 @@ pub(crate) fn push_bar(
     Ok(())
 }
 
-// Puts the beginning of a bar on the page; where the stay is sent, with the name by which it is linked to.
-fn push_begin(page: &mut Page, range: &RoundRange, stay: &ExplainedStay) {
-    if range.has(stay.live) {
-        page.parts(
-            &[
-                ("<g id='s", u64::from(stay.ccb)),
-                ("-", u64::from(stay.attempt)),
-            ],
-            "'><title>",
-        );
-    } else {
-        page.put("<g><title>");
-    }
-}
-
 /// Puts the name of a stay on the page.
-pub(crate) fn push_name(page: &mut Page, kind: InputKind, stay: &ExplainedStay) {
-    match kind {
-        InputKind::Trace => page.parts(
-            &[
-                ("CCB ", u64::from(stay.ccb)),
-                (" try ", u64::from(stay.attempt)),
-            ],
-            "",
-        ),
-        InputKind::Recording => page.parts(&[("Request ", u64::from(stay.ccb))], ""),
+pub(crate) fn push_stay_name(page: &mut Page, scene: &Scene, stay: &ExplainedStay) {
+    match scene.explanation.kind() {
+        InputKind::Trace => page.show(format_args!("CCB {} try {}", stay.ccb, stay.attempt)),
+        InputKind::Recording => page.show(format_args!("Request {}", stay.ccb)),
     }
 }
 
 // Puts the text of a stay on the page that is shown if the pointer is over it, up to its waits.
 fn push_hover(page: &mut Page, scene: &Scene, stay: &ExplainedStay) {
-    let unit = scene.names.unit();
+    let unit = scene.explanation.unit();
     page.put(", ");
-    scene
-        .names
-        .push(page, NameKind::Driver, u32::from(stay.driver));
-    page.parts(
-        &[
-            (", priority ", u64::from(stay.priority)),
-            (", class ", u64::from(stay.level)),
-        ],
-        ": came in round ",
-    );
+    scene.push_name(page, NameKind::Driver, u32::from(stay.driver));
+    page.show(format_args!(
+        ", priority {}, class {}: came in round ",
+        stay.priority, stay.level
+    ));
     push_round(page, unit, stay.arrival);
     page.put(", waited ");
     push_rounds(
@@ -86,28 +65,21 @@ fn push_hover(page: &mut Page, scene: &Scene, stay: &ExplainedStay) {
         unit,
         u64::from(stay.live.saturating_sub(stay.arrival)),
     );
-    page.parts(
-        &[
-            (", sent in ", u64::from(stay.live)),
-            (", best in ", u64::from(stay.best)),
-        ],
-        ", cost ",
-    );
+    page.show(format_args!(", sent in {}, best in {}, cost ", stay.live, stay.best));
     push_number(page, stay.cost());
 }
 
 // Puts the first waits on the page, each with its rounds and cause.
-fn push_waits(page: &mut Page, waits: &[Wait]) {
-    let mut is_first = true;
-    for wait in waits.iter().take(LISTED) {
-        page.put(if is_first { "\n" } else { ", " });
+fn push_waits(page: &mut Page, waits: &FirstWaits) {
+    let mut before = "\n";
+    for wait in &waits.listed {
+        page.put(before);
         push_range(page, wait.first, wait.last);
         page.words(&[" ", wait.cause.name()]);
-        is_first = false;
+        before = ", ";
     }
-    if waits.len() > LISTED {
-        let more = waits.len().saturating_sub(LISTED);
-        page.parts(&[(" and ", more as u64)], " more");
+    if waits.more > 0 {
+        page.show(format_args!(" and {} more", waits.more));
     }
 }
 
@@ -116,34 +88,30 @@ fn push_waited(page: &mut Page, scene: &Scene, range: &RoundRange, stay: &Explai
     let first = stay.arrival.max(range.first);
     let end = stay.live.min(range.last.saturating_add(1));
     if first < end {
-        page.parts(
-            &[
-                ("<path class='w v", scene.rank(stay.driver)),
-                (" l", u64::from(stay.level)),
-                ("' d='M", u64::from(range.offset(first))),
-                (" 0h", u64::from(end.saturating_sub(first))),
-            ],
-            "'/>",
-        );
+        page.show(format_args!(
+            "<path class='w v{} l{}' d='M{} 0h{}'/>",
+            scene.rank(stay.driver),
+            stay.level,
+            range.offset(first),
+            end.saturating_sub(first)
+        ));
     }
 }
 
 // Puts the marks of the send and of the best schedule's send on the page, with a line to the one if it comes later.
 fn push_marks(page: &mut Page, range: &RoundRange, stay: &ExplainedStay) {
     if range.has(stay.live) {
-        let sent = u64::from(range.offset(stay.live));
-        page.parts(&[("<path class='t' d='M", sent)], " 0h1'/>");
+        let sent = range.offset(stay.live);
+        page.show(format_args!("<path class='t' d='M{sent} 0h1'/>"));
         if stay.live < stay.best {
             let end = range.offset(stay.best.min(range.last)).saturating_add(1);
-            page.parts(
-                &[("<path class='z' d='M", sent), (" 0H", u64::from(end))],
-                "'/>",
-            );
+            page.show(format_args!("<path class='z' d='M{sent} 0H{end}'/>"));
         }
     }
     if range.has(stay.best) {
-        let best = u64::from(range.offset(stay.best));
-        page.parts(&[("<path class='o' d='M", best)], ".5 0h0'/>");
-        page.parts(&[("<path class='i' d='M", best)], ".5 0h0'/>");
+        let best = range.offset(stay.best);
+        page.show(format_args!(
+            "<path class='o' d='M{best}.5 0h0'/><path class='i' d='M{best}.5 0h0'/>"
+        ));
     }
 }

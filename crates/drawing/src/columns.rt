@@ -31,42 +31,54 @@ impl ColumnValue {
             ColumnValue::Openings => figure.openings,
         }
     }
-}
 
-/// The greatest of each number of these rounds.
-pub(crate) fn most_of(figures: &[RoundFigures]) -> RoundFigures {
-    let mut most = RoundFigures::none();
-    for figure in figures {
-        most = most.most(*figure);
+    /// The greatest of these rounds.
+    pub(crate) fn most(self, figures: &[RoundFigures]) -> u64 {
+        figures
+            .iter()
+            .map(|figure| self.of(figure))
+            .max()
+            .unwrap_or(0)
     }
-    most
 }
 
-/// Puts a column for each bin into the path that is open: that many pixels high where this is `most`, standing at `base`.
+/// How high columns are.
+#[derive(Clone, Copy)]
+pub(crate) struct Scale {
+    /// What the highest one stands for.
+    pub(crate) most: u64,
+    /// How many pixels high that is.
+    pub(crate) height: u64,
+    /// Where they stand.
+    pub(crate) base: u64,
+}
+
+impl Scale {
+    // How many pixels high a column of this number is: at least 1, unless it is 0.
+    fn tall(self, number: u64) -> u64 {
+        if number == 0 {
+            return 0;
+        }
+        number
+            .saturating_mul(self.height)
+            .checked_div(self.most)
+            .unwrap_or(0)
+            .max(1)
+    }
+}
+
+/// Puts a column for each bin into the path that is open.
 pub(crate) fn push_columns(
     page: &mut Page,
     figures: &[RoundFigures],
     shown: ColumnValue,
-    most: u64,
-    base: u64,
-    height: u64,
+    scale: Scale,
 ) {
-    let each = bin_rounds(figures);
-    let mut first = 0u64;
-    for bin in figures.chunks(each.max(1)) {
-        let width = bin.len() as u64;
-        let tall = tall(shown.of(&most_of(bin)), most, height);
+    let mut first = 0usize;
+    for bin in figures.chunks(bin_rounds(figures).max(1)) {
+        let (base, tall, width) = (scale.base, scale.tall(shown.most(bin)), bin.len());
         if tall > 0 {
-            page.parts(
-                &[
-                    ("M", first),
-                    (" ", base),
-                    ("v-", tall),
-                    ("h", width),
-                    ("v", tall),
-                ],
-                "",
-            );
+            page.show(format_args!("M{first} {base}v-{tall}h{width}v{tall}"));
         }
         first = first.saturating_add(width);
     }
@@ -77,31 +89,12 @@ pub(crate) fn push_line(
     page: &mut Page,
     figures: &[RoundFigures],
     shown: ColumnValue,
-    most: u64,
-    base: u64,
-    height: u64,
+    scale: Scale,
 ) {
-    let each = bin_rounds(figures);
-    let mut is_first = true;
-    for bin in figures.chunks(each.max(1)) {
-        let tall = tall(shown.of(&most_of(bin)), most, height);
-        page.put(if is_first { "M0 " } else { "V" });
-        page.parts(
-            &[("", base.saturating_sub(tall)), ("h", bin.len() as u64)],
-            "",
-        );
-        is_first = false;
+    let mut to = "M0 ";
+    for bin in figures.chunks(bin_rounds(figures).max(1)) {
+        let height = scale.base.saturating_sub(scale.tall(shown.most(bin)));
+        page.show(format_args!("{to}{height}h{}", bin.len()));
+        to = "V";
     }
-}
-
-// How many pixels high a column of this number is: at least 1, unless it is 0.
-fn tall(number: u64, most: u64, height: u64) -> u64 {
-    if number == 0 {
-        return 0;
-    }
-    number
-        .saturating_mul(height)
-        .checked_div(most)
-        .unwrap_or(0)
-        .max(1)
 }

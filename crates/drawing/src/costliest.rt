@@ -1,13 +1,12 @@
 //! What cost most: a part of each kind, and stays.
 
-use crate::bars::push_name;
+use crate::bars::push_stay_name;
 use crate::choice::Choice;
-use crate::device_row::Scene;
-use crate::legend::costliest_rows;
-use crate::order::costliest_first;
+use crate::scene::{Scene, parts_by_cost};
 use recording_file::NameKind;
-use std::alloc::{AllocError, Global};
-use wait_causes::{ExplainedStay, Grouping, InputKind, Part, Row};
+use std::alloc::AllocError;
+use std::cmp::Reverse;
+use wait_causes::{ExplainedStay, Grouping};
 use wording::{
     Page, push_number, push_numbers, push_range, push_round, push_rounds, push_share, push_signed,
 };
@@ -28,11 +27,9 @@ const STAYS: &str =
 
 /// Puts the costliest part of each kind on the page, and the costliest stays.
 pub(crate) fn push_costliest(
-    alloc: Global,
     page: &mut Page,
     scene: &Scene,
     choice: &Choice,
-    whole: &Part,
 ) -> Result<(), AllocError> {
     page.put(PARTS);
     for by in &[
@@ -41,113 +38,68 @@ pub(crate) fn push_costliest(
         Grouping::Driver,
         Grouping::Level,
     ] {
-        push_part(alloc, page, scene, *by, whole)?;
+        if let Some(row) = parts_by_cost(scene.alloc, scene.explanation, *by)?.first() {
+            page.put("<tr><th scope='row'>");
+            scene.push_part(page, *by, row.number);
+            push_numbers(page, &[("</th><td>", row.part.live)], "</td><td>");
+            push_share(page, row.part.live, scene.whole.live);
+            push_numbers(page, &[("</td><td>", row.part.best)], "</td><td>");
+            push_signed(page, row.part.excess());
+            page.put("</td></tr>\n");
+        }
     }
-    page.put("</tbody></table>\n");
-    push_stays(alloc, page, scene, choice)?;
-    page.put("</section>\n");
+    page.words(&["</tbody></table>\n", STAYS]);
+    push_stays(page, scene, choice)?;
+    page.put("</tbody></table>\n</section>\n");
     Ok(())
 }
 
-// Puts the costliest part of a kind on the page, if there is one.
-fn push_part(
-    alloc: Global,
-    page: &mut Page,
-    scene: &Scene,
-    by: Grouping,
-    whole: &Part,
-) -> Result<(), AllocError> {
-    let rows = scene.explanation.table(alloc, by)?;
-    if let Some(place) = costliest_rows(alloc, &rows)?.first()
-        && let Some(row) = rows.get(*place)
-    {
-        push_row(page, scene, by, row, whole);
-    }
-    Ok(())
-}
-
-// Puts the row of a part on the page.
-fn push_row(page: &mut Page, scene: &Scene, by: Grouping, row: &Row, whole: &Part) {
-    page.put("<tr><th scope='row'>");
-    scene.names.push_part(page, by, row.number);
-    push_numbers(page, &[("</th><td>", row.part.live)], "</td><td>");
-    push_share(page, row.part.live, whole.live);
-    push_numbers(page, &[("</td><td>", row.part.best)], "</td><td>");
-    push_signed(page, row.part.excess());
-    page.put("</td></tr>\n");
-}
-
-// Puts the costliest stays on the page, if a stay cost anything.
-fn push_stays(
-    alloc: Global,
-    page: &mut Page,
-    scene: &Scene,
-    choice: &Choice,
-) -> Result<(), AllocError> {
-    let stays = scene.explanation.stays();
-    let mut costs = Vec::with_capacity(alloc, stays.len())?;
-    for stay in stays {
-        costs.push(stay.cost())?;
-    }
-    page.put(STAYS);
-    for place in costliest_first(alloc, &costs)?.iter().take(LISTED) {
-        if let Some(stay) = stays.get(*place)
-            && stay.cost() > 0
-        {
+// Puts the rows of the costliest stays on the page, as far as they cost anything.
+fn push_stays(page: &mut Page, scene: &Scene, choice: &Choice) -> Result<(), AllocError> {
+    let mut stays: Vec<&ExplainedStay> = scene.explanation.stays().iter().collect(scene.alloc)?;
+    stays.sort_by_key(|stay| Reverse(stay.cost()))?;
+    for stay in stays.iter().take(LISTED) {
+        if stay.cost() > 0 {
             push_stay(page, scene, choice, stay);
         }
     }
-    page.put("</tbody></table>\n");
     Ok(())
 }
 
-// Puts the row of a stay on the page.
+// Puts the row of a stay on the page, with a link to its bar if that is drawn.
 fn push_stay(page: &mut Page, scene: &Scene, choice: &Choice, stay: &ExplainedStay) {
-    push_stay_name(page, scene, choice, stay);
-    scene.names.push(page, NameKind::Device, stay.device);
+    let unit = scene.explanation.unit();
+    page.put("<tr><th scope='row'>");
+    if choice.has_bar(stay) {
+        page.show(format_args!("<a href='#s{}-{}'>", stay.ccb, stay.attempt));
+        push_stay_name(page, scene, stay);
+        page.put("</a></th><td>");
+    } else {
+        push_stay_name(page, scene, stay);
+        page.put("</th><td>");
+    }
+    scene.push_name(page, NameKind::Device, stay.device);
     page.put("</td><td>");
-    scene
-        .names
-        .push(page, NameKind::Driver, u32::from(stay.driver));
-    page.parts(&[("</td><td>", u64::from(stay.priority))], "");
+    scene.push_name(page, NameKind::Driver, u32::from(stay.driver));
+    page.show(format_args!("</td><td>{}", stay.priority));
     for round in &[stay.arrival, stay.live, stay.best] {
         page.put("</td><td>");
-        push_round(page, scene.names.unit(), *round);
+        push_round(page, unit, *round);
     }
     page.put("</td><td>");
     push_rounds(
         page,
-        scene.names.unit(),
+        unit,
         u64::from(stay.live.saturating_sub(stay.arrival)),
     );
     push_numbers(page, &[("</td><td>", stay.cost())], "</td><td>");
-    push_causes(page, scene.explanation.kind(), stay);
+    push_causes(page, scene, stay);
     page.put("</td></tr>\n");
 }
 
-// Puts the name of a stay on the page, as a link if its bar is drawn.
-fn push_stay_name(page: &mut Page, scene: &Scene, choice: &Choice, stay: &ExplainedStay) {
-    let kind = scene.explanation.kind();
-    page.put("<tr><th scope='row'>");
-    if choice.has_bar(stay) {
-        page.parts(
-            &[
-                ("<a href='#s", u64::from(stay.ccb)),
-                ("-", u64::from(stay.attempt)),
-            ],
-            "'>",
-        );
-        push_name(page, kind, stay);
-        page.put("</a></th><td>");
-    } else {
-        push_name(page, kind, stay);
-        page.put("</th><td>");
-    }
-}
-
 // Says how many rounds a stay waited for each cause, and which rounds these are together.
-fn push_causes(page: &mut Page, kind: InputKind, stay: &ExplainedStay) {
-    for cause in &kind.causes() {
+fn push_causes(page: &mut Page, scene: &Scene, stay: &ExplainedStay) {
+    for cause in &scene.explanation.kind().causes() {
         let rounds = stay.rounds.for_cause(*cause);
         if rounds > 0 {
             push_number(page, u64::from(rounds));

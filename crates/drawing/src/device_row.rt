@@ -1,90 +1,51 @@
 //! The rows of devices, adapters and links in a range.
 
 use crate::bars::push_bar;
-use crate::lanes::{Lane, bars_in, lanes_of};
-use crate::loads::{LoadOwner, Loads, STRIP};
-use crate::names::Names;
+use crate::lanes::lanes_of;
+use crate::loads::{Loads, STRIP};
 use crate::round_range::RoundRange;
+use crate::scene::Scene;
 use crate::shades::Shades;
 use recording_file::NameKind;
-use round_net::Net;
-use std::alloc::{AllocError, Global};
-use wait_causes::Explanation;
-use wording::{Page, push_number};
-
-/// What is drawn.
-#[derive(Drop)]
-pub(crate) struct Scene<'a> {
-    /// The openings.
-    pub(crate) net: &'a Net,
-    /// The stays, and why they waited.
-    pub(crate) explanation: &'a Explanation,
-    /// What there is called what.
-    pub(crate) names: Names<'a>,
-    /// For each driver its place among those that cost most, from 0; 8 of all others.
-    pub(crate) ranks: Vec<u64>,
-    /// Whether all bars are drawn.
-    pub(crate) has_all: bool,
-}
-
-impl Scene<'_> {
-    /// The place of the driver among those that cost most; 8 of all others.
-    pub(crate) fn rank(&self, driver: u8) -> u64 {
-        self.ranks.get(driver as usize).copied().unwrap_or(8)
-    }
-
-    // The height of a lane in pixels.
-    fn pitch(&self, lanes: usize) -> u64 {
-        match lanes {
-            0..=40 => 14,
-            41..=200 => 8,
-            _ => 5,
-        }
-    }
-}
+use std::alloc::AllocError;
+use wording::{Page, push_numbers};
 
 // A range as it is drawn.
 #[derive(Drop)]
-struct Drawn {
+struct Drawn<'a> {
     range: RoundRange,
     // The places of the stays with a bar.
     places: Vec<usize>,
-    loads: Loads,
+    loads: Loads<'a>,
 }
 
 /// Puts the rows of the links and adapters on the page, and below each adapter those of its devices that have bars.
 pub(crate) fn push_rows(
-    alloc: Global,
     page: &mut Page,
     scene: &Scene,
     range: RoundRange,
 ) -> Result<(), AllocError> {
-    let stays = scene.explanation.stays();
+    let (net, stays) = (scene.net, scene.explanation.stays());
     let drawn = Drawn {
         range,
-        places: range.places(alloc, stays)?,
-        loads: Loads::of(alloc, scene.net, stays, range)?,
+        places: range.places(scene.alloc, stays)?,
+        loads: Loads::of(scene.alloc, net, stays, range)?,
     };
-    for link in 0..scene.net.links() {
-        push_shared(
-            page,
-            scene,
-            &drawn,
-            NameKind::Link,
-            link,
-            LoadOwner::Link(link),
-        );
+    for link in 0..net.links() {
+        let row = net
+            .devices()
+            .saturating_add(net.adapters())
+            .saturating_add(link);
+        push_shared(page, scene, &drawn, NameKind::Link, link, row);
     }
-    for adapter in 0..scene.net.adapters() {
-        push_shared(
-            page,
-            scene,
-            &drawn,
-            NameKind::Adapter,
-            adapter,
-            LoadOwner::Adapter(adapter),
-        );
-        push_devices(alloc, page, scene, &drawn, adapter)?;
+    for adapter in 0..net.adapters() {
+        let row = net.devices().saturating_add(adapter);
+        push_shared(page, scene, &drawn, NameKind::Adapter, adapter, row);
+        for device in 0..net.devices() {
+            if net.adapter_of(device) == adapter {
+                push_device(page, scene, &drawn, device)?;
+            }
+        }
     }
     Ok(())
 }
@@ -96,92 +57,76 @@ fn push_shared(
     drawn: &Drawn,
     kind: NameKind,
     number: u32,
-    owner: LoadOwner,
+    row: u32,
 ) {
-    page.put("<div class='row shared'><p class='label'>");
-    scene.names.push(page, kind, number);
-    page.put("</p>");
-    push_svg(page, drawn, STRIP);
-    page.put("<title>");
-    scene.names.push(page, kind, number);
-    page.put("</title>");
-    drawn.loads.push(page, scene.net, owner);
+    push_start(page, scene, drawn, "row shared", kind, number, STRIP);
+    drawn.loads.push(page, row);
     page.put("</svg></div>\n");
 }
 
-// Puts the beginning of a drawing of that height on the page.
-fn push_svg(page: &mut Page, drawn: &Drawn, height: u64) {
-    page.parts(
-        &[
-            (
-                "<svg xmlns='http://www.w3.org/2000/svg' role='img' preserveAspectRatio='none' viewBox='0 0 ",
-                u64::from(drawn.range.rounds()),
-            ),
-            (" ", height),
-            ("' height='", height),
-        ],
-        "'>",
-    );
-}
-
-// Puts the rows of the adapter's devices that have bars on the page.
-fn push_devices(
-    alloc: Global,
+// Puts the start of a row on the page: what it is of, and the start of a drawing of that height.
+fn push_start(
     page: &mut Page,
     scene: &Scene,
     drawn: &Drawn,
-    adapter: u32,
-) -> Result<(), AllocError> {
-    for device in 0..scene.net.devices() {
-        if scene.net.adapter_of(device) == adapter {
-            let lanes = lanes_of(alloc, scene.explanation.stays(), &drawn.places, device)?;
-            if !lanes.is_empty() {
-                push_device(alloc, page, scene, drawn, device, &lanes)?;
-            }
-        }
-    }
-    Ok(())
+    class: &str,
+    kind: NameKind,
+    number: u32,
+    height: u64,
+) {
+    page.words(&["<div class='", class, "'><p class='label'>"]);
+    scene.push_name(page, kind, number);
+    page.show(format_args!(
+        "</p><svg xmlns='http://www.w3.org/2000/svg' role='img' preserveAspectRatio='none' \
+viewBox='0 0 {} {height}' height='{height}'><title>",
+        drawn.range.rounds()
+    ));
+    scene.push_name(page, kind, number);
+    page.put("</title>");
 }
 
-// Puts the row of a device on the page.
+// Puts the row of a device on the page, if it has bars.
 fn push_device(
-    alloc: Global,
     page: &mut Page,
     scene: &Scene,
     drawn: &Drawn,
     device: u32,
-    lanes: &[Lane],
 ) -> Result<(), AllocError> {
-    let pitch = scene.pitch(lanes.len());
+    let lanes = lanes_of(scene, &drawn.places, device)?;
+    if lanes.is_empty() {
+        return Ok(());
+    }
+    let pitch = pitch(lanes.len());
     let height = pitch.saturating_mul(lanes.len() as u64);
-    page.put("<div class='row'><p class='label'>");
-    scene.names.push(page, NameKind::Device, device);
-    page.put("</p>");
-    push_svg(page, drawn, height.saturating_add(STRIP + 2));
-    push_title(page, scene, device, lanes);
-    push_shades(alloc, page, scene, drawn, device, pitch)?;
-    push_lanes(alloc, page, scene, drawn, device, lanes, pitch)?;
-    page.parts(
-        &[("<g transform='translate(0 ", height.saturating_add(2))],
-        ")'>",
+    let whole = height.saturating_add(STRIP + 2);
+    push_start(page, scene, drawn, "row", NameKind::Device, device, whole);
+    let bars = lanes
+        .iter()
+        .fold(0u64, |bars, lane| bars.saturating_add(lane.len() as u64));
+    push_numbers(
+        page,
+        &[("<desc>Requests in its queue in these rounds: ", bars)],
+        ", a bar each</desc>",
     );
-    drawn.loads.push(page, scene.net, LoadOwner::Device(device));
+    push_shades(page, scene, drawn, device, pitch)?;
+    push_lanes(page, scene, drawn, device, &lanes)?;
+    page.show(format_args!("<g transform='translate(0 {})'>", height.saturating_add(2)));
+    drawn.loads.push(page, device);
     page.put("</g></svg></div>\n");
     Ok(())
 }
 
-// Puts what a device's drawing is on the page.
-fn push_title(page: &mut Page, scene: &Scene, device: u32, lanes: &[Lane]) {
-    page.put("<title>");
-    scene.names.push(page, NameKind::Device, device);
-    page.put("</title><desc>Requests in its queue in these rounds: ");
-    push_number(page, bars_in(lanes) as u64);
-    page.put(", a bar each</desc>");
+// The height of each of so many lanes in pixels.
+fn pitch(lanes: usize) -> u64 {
+    match lanes {
+        0..=40 => 14,
+        41..=200 => 8,
+        _ => 5,
+    }
 }
 
 // Puts the shades of a device's bars on the page.
 fn push_shades(
-    alloc: Global,
     page: &mut Page,
     scene: &Scene,
     drawn: &Drawn,
@@ -189,21 +134,15 @@ fn push_shades(
     pitch: u64,
 ) -> Result<(), AllocError> {
     let range = drawn.range;
-    let shades = Shades::of(alloc, scene.explanation, &drawn.places, device, range)?;
-    page.parts(
-        &[
-            ("<pattern id='p", u64::from(range.first)),
-            ("-", u64::from(device)),
-            (
-                "' patternUnits='userSpaceOnUse' width='",
-                u64::from(range.rounds()),
-            ),
-            ("' height='", pitch),
-            ("' patternTransform='translate(0 -", pitch / 2),
-            (")'><g stroke-width='", pitch.saturating_mul(2)),
-        ],
-        "'>",
-    );
+    let shades = Shades::of(scene, &drawn.places, device, range)?;
+    page.show(format_args!(
+        "<pattern id='p{}-{device}' patternUnits='userSpaceOnUse' width='{}' height='{pitch}' \
+patternTransform='translate(0 -{})'><g stroke-width='{}'>",
+        range.first,
+        range.rounds(),
+        pitch / 2,
+        pitch.saturating_mul(2)
+    ));
     shades.push(page, scene.explanation.kind());
     page.put("</g></pattern>\n");
     Ok(())
@@ -211,27 +150,23 @@ fn push_shades(
 
 // Puts the bars of a device on the page, a lane after the other.
 fn push_lanes(
-    alloc: Global,
     page: &mut Page,
     scene: &Scene,
     drawn: &Drawn,
     device: u32,
-    lanes: &[Lane],
-    pitch: u64,
+    lanes: &[Vec<usize>],
 ) -> Result<(), AllocError> {
-    page.parts(
-        &[
-            ("<g class='b' stroke='url(#p", u64::from(drawn.range.first)),
-            ("-", u64::from(device)),
-            (")' stroke-width='", pitch.saturating_sub(pitch / 4)),
-        ],
-        "'>",
-    );
+    let pitch = pitch(lanes.len());
+    page.show(format_args!(
+        "<g class='b' stroke='url(#p{}-{device})' stroke-width='{}'>",
+        drawn.range.first,
+        pitch.saturating_sub(pitch / 4)
+    ));
     let mut top = pitch / 2;
     for lane in lanes {
-        page.parts(&[("<g transform='translate(0 ", top)], ")'>");
-        for place in &lane.places {
-            push_bar(alloc, page, scene, &drawn.range, *place)?;
+        page.show(format_args!("<g transform='translate(0 {top})'>"));
+        for place in lane {
+            push_bar(page, scene, &drawn.range, *place)?;
         }
         page.put("</g>\n");
         top = top.saturating_add(pitch);

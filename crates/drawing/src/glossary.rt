@@ -32,38 +32,40 @@ const END: &str =
 
 /// Puts what the words mean on the page.
 pub(crate) fn push_words(page: &mut Page, kind: InputKind, config: &Config) {
+    let (full, rest) = match kind {
+        InputKind::Trace => (
+            "the device had taken as many requests in the round as it takes",
+            TRACE,
+        ),
+        InputKind::Recording => (
+            "as many of the device's requests were started in the round as the recording says that it took",
+            RECORDING,
+        ),
+    };
     page.put(WORDS);
-    push_full(page, kind);
-    page.put(MORE_WORDS);
-    page.put(match kind {
-        InputKind::Trace => TRACE,
-        InputKind::Recording => RECORDING,
-    });
+    push_full(page, kind, WaitCause::DeviceFull, full);
+    push_full(
+        page,
+        kind,
+        WaitCause::AdapterFull,
+        "the same of the adapter",
+    );
+    page.words(&[MORE_WORDS, rest]);
     if WaitCause::LinkFull.can_hold(config) {
         page.put(LINKS);
     }
     page.put(END);
 }
 
-// Puts the words of full devices and adapters on the page.
-fn push_full(page: &mut Page, kind: InputKind) {
-    let meant = match kind {
-        InputKind::Trace => "the device had taken as many requests in the round as it takes",
-        InputKind::Recording =>
-            "as many of the device's requests were started in the round as the recording says that it took",
-    };
-    for (cause, meant) in &[
-        (WaitCause::DeviceFull, meant),
-        (WaitCause::AdapterFull, "the same of the adapter"),
-    ] {
-        page.words(&[
-            "<dt>",
-            plain_words(kind, *cause),
-            " (",
-            cause.name(),
-            ")</dt><dd>",
-            meant,
-            "</dd>",
-        ]);
-    }
+// Puts the words of full devices or adapters on the page, with what they mean.
+fn push_full(page: &mut Page, kind: InputKind, cause: WaitCause, meant: &str) {
+    page.words(&[
+        "<dt>",
+        plain_words(kind, cause),
+        " (",
+        cause.name(),
+        ")</dt><dd>",
+        meant,
+        "</dd>",
+    ]);
 }

@@ -1,76 +1,43 @@
 //! Lanes of bars: stays that are drawn side by side don't cover one another.
 
-use crate::slots::{Slots, by_arrival};
-use std::alloc::{AllocError, Global};
-use wait_causes::ExplainedStay;
+use crate::scene::Scene;
+use crate::slots::Slots;
+use std::alloc::AllocError;
 
-/// A lane.
-#[derive(Drop)]
-pub(crate) struct Lane {
-    /// The places of its stays.
-    pub(crate) places: Vec<usize>,
-}
-
-/// The lanes of the device's stays at these places: in the order in which they arrived each has the first lane that is free
-/// from its arrival to its last mark.
+/// The lanes of the device's stays at these places, each the places of its stays: in the order in which they arrived each
+/// stay has the first lane that is free from its arrival to its last mark.
 pub(crate) fn lanes_of(
-    alloc: Global,
-    stays: &[ExplainedStay],
+    scene: &Scene,
     places: &[usize],
     device: u32,
-) -> Result<Vec<Lane>, AllocError> {
-    let mut slots = Slots::new(alloc);
-    let mut lanes = Vec::new(alloc);
-    let here = places_at(alloc, stays, places, device)?;
-    for place in &by_arrival(alloc, stays, &here)? {
-        if let Some(stay) = stays.get(*place) {
-            let slot = slots.take(stay.arrival, stay.live.max(stay.best))?;
-            put(alloc, &mut lanes, slot as usize, *place)?;
+) -> Result<Vec<Vec<usize>>, AllocError> {
+    let mut slots = Slots::new(scene.alloc);
+    let mut lanes = Vec::new(scene.alloc);
+    for (arrival, place) in &arrivals(scene, places, device)? {
+        if let Some(stay) = scene.explanation.stays().get(*place) {
+            let slot = slots.take(*arrival, stay.live.max(stay.best))? as usize;
+            if slot >= lanes.len() {
+                lanes.push(Vec::new(scene.alloc))?;
+            }
+            if let Some(lane) = lanes.get_mut(slot) {
+                lane.push(*place)?;
+            }
         }
     }
     Ok(lanes)
 }
 
-// Those of these places at which a stay of the device is.
-fn places_at(
-    alloc: Global,
-    stays: &[ExplainedStay],
-    places: &[usize],
-    device: u32,
-) -> Result<Vec<usize>, AllocError> {
-    let mut here = Vec::new(alloc);
+// Those of these places at which a stay of the device is, each after the stay's arrival, in the order in which they arrived;
+// of those of one round the smaller place first.
+fn arrivals(scene: &Scene, places: &[usize], device: u32) -> Result<Vec<(u32, usize)>, AllocError> {
+    let mut arrivals = Vec::new(scene.alloc);
     for place in places {
-        if let Some(stay) = stays.get(*place)
+        if let Some(stay) = scene.explanation.stays().get(*place)
             && stay.device == device
         {
-            here.push(*place)?;
+            arrivals.push((stay.arrival, *place))?;
         }
     }
-    Ok(here)
-}
-
-// Puts the stay into the lane of this number, or into a new one behind the last.
-fn put(
-    alloc: Global,
-    lanes: &mut Vec<Lane>,
-    number: usize,
-    place: usize,
-) -> Result<(), AllocError> {
-    if let Some(lane) = lanes.get_mut(number) {
-        lane.places.push(place)?;
-        return Ok(());
-    }
-    let mut places = Vec::new(alloc);
-    places.push(place)?;
-    lanes.push(Lane { places })?;
-    Ok(())
-}
-
-/// How many stays the lanes have.
-pub(crate) fn bars_in(lanes: &[Lane]) -> usize {
-    let mut bars = 0usize;
-    for lane in lanes {
-        bars = bars.saturating_add(lane.places.len());
-    }
-    bars
+    arrivals.sort_unstable();
+    Ok(arrivals)
 }

@@ -2,21 +2,18 @@
 
 use crate::choice::Choice;
 use crate::costliest::push_costliest;
-use crate::device_row::Scene;
 use crate::glossary::push_words;
-use crate::legend::ranks;
-use crate::names::Names;
-use crate::order::costliest_first;
 use crate::overview::push_overview;
 use crate::round_figures::figures;
 use crate::round_range::MAX_BARS;
+use crate::scene::Scene;
 use crate::section::push_ranges;
 use crate::style::{HEAD, STYLE};
 use crate::summary::push_summary;
 use crate::tables::{push_freezes, push_tables};
 use round_net::Net;
 use std::alloc::{AllocError, Global};
-use wait_causes::{Explanation, Freeze, Part};
+use wait_causes::Explanation;
 use wording::Page;
 
 /// The page on the explanation of a history or a recording beside its net, which any browser opens: sentences on what the
@@ -31,17 +28,21 @@ pub fn draw(
     net: &Net,
     explanation: &Explanation,
 ) -> Result<String, AllocError> {
-    let scene = Scene {
-        net,
-        explanation,
-        names: Names::of(alloc, net.config(), explanation)?,
-        ranks: ranks(alloc, explanation)?,
-        has_all: rounds.is_none() && explanation.stays().len() <= MAX_BARS,
-    };
+    let stays = explanation.stays();
+    let has_all = rounds.is_none() && stays.len() <= MAX_BARS;
+    let scene = Scene::of(alloc, net, explanation, has_all)?;
+    let figures = figures(alloc, net, stays)?;
+    let choice = Choice::of(&scene, &figures, rounds)?;
     let mut page = Page::new(alloc);
     push_head(&mut page, &scene, title);
-    push_body(alloc, &mut page, &scene, rounds)?;
-    push_rest(alloc, &mut page, &scene)?;
+    push_summary(&mut page, &scene);
+    push_costliest(&mut page, &scene, &choice)?;
+    push_overview(&mut page, &scene, &choice, &figures)?;
+    push_ranges(&mut page, &scene, &choice)?;
+    push_tables(&mut page, &scene)?;
+    push_freezes(&mut page, &scene)?;
+    push_words(&mut page, explanation.kind(), net.config());
+    page.put("</main></body></html>\n");
     page.finish()
 }
 
@@ -59,7 +60,7 @@ fn push_head(page: &mut Page, scene: &Scene, title: &str) {
 // Puts the captions that the cells of the tables of causes have on a narrow page into the style sheet.
 fn push_captions(page: &mut Page, scene: &Scene) {
     page.put("@media(max-width:1059px){");
-    let mut column = 2u64;
+    let mut column = 2u32;
     for cause in &scene.explanation.kind().causes() {
         if cause.can_hold(scene.net.config()) {
             push_caption(page, column, cause.name());
@@ -74,55 +75,6 @@ fn push_captions(page: &mut Page, scene: &Scene) {
 }
 
 // Puts the caption of a column into the style sheet.
-fn push_caption(page: &mut Page, column: u64, word: &str) {
-    page.parts(&[(".costs td:nth-child(", column)], ")::before{content:'");
-    page.words(&[word, "'}"]);
-}
-
-// Puts the summary, the overview and the bars on the page.
-fn push_body(
-    alloc: Global,
-    page: &mut Page,
-    scene: &Scene,
-    rounds: Option<(u32, u32)>,
-) -> Result<(), AllocError> {
-    let whole = scene.explanation.whole(alloc)?;
-    let stays = scene.explanation.stays();
-    let figures = figures(alloc, scene.net, stays)?;
-    let choice = Choice::of(alloc, &figures, stays, rounds)?;
-    push_top(page, scene, &whole);
-    push_costliest(alloc, page, scene, &choice, &whole)?;
-    push_overview(alloc, page, scene, &choice, &figures, &whole)?;
-    push_ranges(alloc, page, scene, &choice, &whole)
-}
-
-// Puts the summary on the page.
-fn push_top(page: &mut Page, scene: &Scene, whole: &Part) {
-    push_summary(
-        page,
-        &scene.names,
-        scene.net.config(),
-        scene.explanation.kind(),
-        whole,
-        scene.net.rounds(),
-    );
-}
-
-// Puts the tables, the words and the end of the page on the page.
-fn push_rest(alloc: Global, page: &mut Page, scene: &Scene) -> Result<(), AllocError> {
-    push_tables(alloc, page, scene)?;
-    let freezes = scene.explanation.freezes(alloc)?;
-    push_freezes(page, scene, &freezes, &freeze_order(alloc, &freezes)?);
-    push_words(page, scene.explanation.kind(), scene.net.config());
-    page.put("</main></body></html>\n");
-    Ok(())
-}
-
-// The places of the freezes, the costliest first.
-fn freeze_order(alloc: Global, freezes: &[Freeze]) -> Result<Vec<usize>, AllocError> {
-    let mut costs = Vec::with_capacity(alloc, freezes.len())?;
-    for freeze in freezes {
-        costs.push(freeze.cost)?;
-    }
-    costliest_first(alloc, &costs)
+fn push_caption(page: &mut Page, column: u32, word: &str) {
+    page.show(format_args!(".costs td:nth-child({column})::before{{content:'{word}'}}"));
 }

@@ -1,15 +1,11 @@
 //! How bars are coloured: by cause, by driver or by class.
 
-use crate::device_row::Scene;
-use crate::order::costliest_first;
+use crate::scene::{COLOURS, Scene};
 use crate::words::class_of;
 use recording_file::NameKind;
-use std::alloc::{AllocError, Global};
-use wait_causes::{Explanation, Grouping, Part, Row};
-use wording::{Page, push_number, push_share};
-
-/// How many drivers have a colour of their own.
-const COLOURS: usize = 8;
+use std::alloc::AllocError;
+use wait_causes::Grouping;
+use wording::{Page, push_numbers, push_share};
 
 // By what bars may be coloured.
 const CHOICES: &str = "<fieldset id='colours'><legend>Colour the bars by</legend>\
@@ -17,9 +13,11 @@ const CHOICES: &str = "<fieldset id='colours'><legend>Colour the bars by</legend
 <label><input type='radio' name='by' id='by-driver'/> driver</label>\
 <label><input type='radio' name='by' id='by-class'/> class</label></fieldset>\n";
 
-// What a swatch begins with.
+// What a swatch begins with, before its class, and what it ends with.
 const SWATCH: &str =
     "<li><svg xmlns='http://www.w3.org/2000/svg' aria-hidden='true' width='32' height='14' viewBox='0 0 2 14' preserveAspectRatio='none'><path d='M0 7h2' class='";
+
+const SWATCH_END: &str = "' stroke-width='12'/></svg> ";
 
 // The text on the marks.
 const MARKS: &str = "<ul class='legend'>\
@@ -28,118 +26,60 @@ const MARKS: &str = "<ul class='legend'>\
 <li><svg xmlns='http://www.w3.org/2000/svg' aria-hidden='true' width='32' height='14'><path class='used' d='M0 13v-2h8v-2h8v-4h8v-4h8v12z'/></svg> below the bars: openings used, by quarters</li>\
 <li><svg xmlns='http://www.w3.org/2000/svg' aria-hidden='true' width='32' height='14'><path class='shut' d='M0 8h32'/></svg> takes nothing</li></ul>\n";
 
-/// The places of the drivers among those that cost most, by number.
-pub(crate) fn ranks(alloc: Global, explanation: &Explanation) -> Result<Vec<u64>, AllocError> {
-    let mut ranks = vec![in alloc; COLOURS as u64; 256]?;
-    let rows = explanation.table(alloc, Grouping::Driver)?;
-    for (rank, place) in costliest_rows(alloc, &rows)?.iter().enumerate() {
-        if rank < COLOURS
-            && let Some(row) = rows.get(*place)
-            && let Some(kept) = ranks.get_mut(row.number as usize)
-        {
-            *kept = rank as u64;
-        }
-    }
-    Ok(ranks)
-}
-
-/// The places of these rows, the costliest first.
-pub(crate) fn costliest_rows(alloc: Global, rows: &[Row]) -> Result<Vec<usize>, AllocError> {
-    let mut costs = Vec::with_capacity(alloc, rows.len())?;
-    for row in rows {
-        costs.push(row.part.live)?;
-    }
-    costliest_first(alloc, &costs)
-}
-
 /// Puts the choice of colours on the page, and what each colour and mark says.
-pub(crate) fn push_legends(
-    alloc: Global,
-    page: &mut Page,
-    scene: &Scene,
-    whole: &Part,
-) -> Result<(), AllocError> {
+pub(crate) fn push_legends(page: &mut Page, scene: &Scene) -> Result<(), AllocError> {
     page.put(CHOICES);
-    push_causes(page, scene, whole);
-    push_drivers(alloc, page, scene, whole)?;
-    push_classes(alloc, page, scene, whole)?;
+    push_causes(page, scene);
+    push_drivers(page, scene);
+    push_classes(page, scene)?;
     page.put(MARKS);
     Ok(())
 }
 
 // Puts the causes on the page, with what each cost.
-fn push_causes(page: &mut Page, scene: &Scene, whole: &Part) {
+fn push_causes(page: &mut Page, scene: &Scene) {
     page.put("<ul class='legend by-cause' id='causes'>\n");
-    for (cause, cost) in &whole.costs.by_cause(scene.explanation.kind()) {
+    for (cause, cost) in &scene.whole.costs.by_cause(scene.explanation.kind()) {
         if cause.can_hold(scene.net.config()) {
-            page.words(&[SWATCH, class_of(*cause), "' stroke-width='12'/></svg> "]);
-            page.words(&[cause.name(), " "]);
-            push_cost(page, *cost, whole);
+            page.words(&[SWATCH, class_of(*cause), SWATCH_END, cause.name()]);
+            push_cost(page, scene, *cost);
         }
     }
     page.put("</ul>\n");
-}
-
-// Puts a cost with its share on the page, and the end of its item.
-fn push_cost(page: &mut Page, cost: u64, whole: &Part) {
-    page.put("<b>");
-    push_number(page, cost);
-    page.put("</b> (");
-    push_share(page, cost, whole.live);
-    page.put(")</li>\n");
 }
 
 // Puts the costliest drivers on the page, and all others together.
-fn push_drivers(
-    alloc: Global,
-    page: &mut Page,
-    scene: &Scene,
-    whole: &Part,
-) -> Result<(), AllocError> {
-    let rows = scene.explanation.table(alloc, Grouping::Driver)?;
-    let mut others = whole.live;
+fn push_drivers(page: &mut Page, scene: &Scene) {
+    let mut others = scene.whole.live;
     page.put("<ul class='legend by-driver'>\n");
-    for (rank, place) in costliest_rows(alloc, &rows)?
-        .iter()
-        .take(COLOURS)
-        .enumerate()
-    {
-        if let Some(row) = rows.get(*place) {
-            page.words(&[SWATCH, "w v"]);
-            page.parts(&[("", rank as u64)], "' stroke-width='12'/></svg> ");
-            scene.names.push(page, NameKind::Driver, row.number);
-            page.put(" ");
-            push_cost(page, row.part.live, whole);
-            others = others.saturating_sub(row.part.live);
-        }
+    for (rank, row) in scene.drivers.iter().take(COLOURS).enumerate() {
+        page.show(format_args!("{SWATCH}w v{rank}{SWATCH_END}"));
+        scene.push_name(page, NameKind::Driver, row.number);
+        push_cost(page, scene, row.part.live);
+        others = others.saturating_sub(row.part.live);
     }
-    if rows.len() > COLOURS {
-        page.words(&[SWATCH, "w v8' stroke-width='12'/></svg> all other drivers "]);
-        push_cost(page, others, whole);
+    if scene.drivers.len() > COLOURS {
+        page.show(format_args!("{SWATCH}w v{COLOURS}{SWATCH_END}all other drivers"));
+        push_cost(page, scene, others);
+    }
+    page.put("</ul>\n");
+}
+
+// Puts the classes on the page.
+fn push_classes(page: &mut Page, scene: &Scene) -> Result<(), AllocError> {
+    page.put("<ul class='legend by-class'>\n");
+    for row in &scene.explanation.table(scene.alloc, Grouping::Level)? {
+        let class = row.number;
+        page.show(format_args!("{SWATCH}w l{class}{SWATCH_END}class {class}"));
+        push_cost(page, scene, row.part.live);
     }
     page.put("</ul>\n");
     Ok(())
 }
 
-// Puts the classes on the page.
-fn push_classes(
-    alloc: Global,
-    page: &mut Page,
-    scene: &Scene,
-    whole: &Part,
-) -> Result<(), AllocError> {
-    page.put("<ul class='legend by-class'>\n");
-    for row in &scene.explanation.table(alloc, Grouping::Level)? {
-        page.words(&[SWATCH, "w l"]);
-        page.parts(
-            &[
-                ("", u64::from(row.number)),
-                ("' stroke-width='12'/></svg> class ", u64::from(row.number)),
-            ],
-            " ",
-        );
-        push_cost(page, row.part.live, whole);
-    }
-    page.put("</ul>\n");
-    Ok(())
+// Puts a cost with its share on the page, and the end of its item.
+fn push_cost(page: &mut Page, scene: &Scene, cost: u64) {
+    push_numbers(page, &[(" <b>", cost)], "</b> (");
+    push_share(page, cost, scene.whole.live);
+    page.put(")</li>\n");
 }

@@ -1,8 +1,8 @@
 //! Ranges of rounds whose bars are drawn together.
 
-use crate::order::costliest_first;
 use crate::round_figures::{RoundFigures, count_of};
 use std::alloc::{AllocError, Global};
+use std::cmp::Reverse;
 use wait_causes::ExplainedStay;
 
 /// The most bars of a page that doesn't have all, and of a range.
@@ -18,10 +18,26 @@ pub(crate) struct RoundRange {
     /// What the waiting in these rounds cost.
     pub(crate) cost: u64,
     /// How many stays waited or were sent in them.
-    pub(crate) stays: usize,
+    pub(crate) stays: u64,
 }
 
 impl RoundRange {
+    /// The rounds that have these figures, from this one on. All stays of the range were sent in it, but those that still
+    /// waited in its last round.
+    pub(crate) fn of(first: u32, figures: &[RoundFigures]) -> RoundRange {
+        let mut range = RoundRange {
+            first,
+            last: first.saturating_add(count_of(figures)).saturating_sub(1),
+            cost: 0,
+            stays: figures.last().map_or(0, |last| last.waiting),
+        };
+        for figure in figures {
+            range.cost = range.cost.saturating_add(figure.cost);
+            range.stays = range.stays.saturating_add(figure.sent);
+        }
+        range
+    }
+
     /// How many rounds these are.
     pub(crate) fn rounds(&self) -> u32 {
         self.last.saturating_sub(self.first).saturating_add(1)
@@ -37,14 +53,9 @@ impl RoundRange {
         round.saturating_sub(self.first)
     }
 
-    /// Whether the stay waited or was sent in these rounds.
-    pub(crate) fn has_part_of(&self, stay: &ExplainedStay) -> bool {
-        stay.arrival <= self.last && self.first <= stay.live
-    }
-
     /// Whether there are more stays than are drawn of a range.
     pub(crate) fn is_crowded(&self) -> bool {
-        self.stays > MAX_BARS
+        self.stays > MAX_BARS as u64
     }
 
     // What the stay's waiting cost in these rounds.
@@ -54,7 +65,8 @@ impl RoundRange {
         u64::from(stay.weight).saturating_mul(u64::from(rounds))
     }
 
-    /// The places of the stays that are drawn: all that waited or were sent in these rounds, or the costliest in them.
+    /// The places of the stays that are drawn, in creation order: all that waited or were sent in these rounds, or the
+    /// costliest in them.
     pub(crate) fn places(
         &self,
         alloc: Global,
@@ -62,35 +74,18 @@ impl RoundRange {
     ) -> Result<Vec<usize>, AllocError> {
         let mut places = Vec::new(alloc);
         for (place, stay) in stays.iter().enumerate() {
-            if self.has_part_of(stay) {
+            if stay.arrival <= self.last && self.first <= stay.live {
                 places.push(place)?;
             }
         }
         if places.len() > MAX_BARS {
-            return self.costliest(alloc, stays, &places);
+            places.sort_by_key(|place| {
+                Reverse(stays.get(*place).map_or(0, |stay| self.cost_of(stay)))
+            })?;
+            places.truncate(MAX_BARS);
+            places.sort_unstable();
         }
         Ok(places)
-    }
-
-    // The places of the costliest of these stays, in creation order.
-    fn costliest(
-        &self,
-        alloc: Global,
-        stays: &[ExplainedStay],
-        places: &[usize],
-    ) -> Result<Vec<usize>, AllocError> {
-        let mut costs = Vec::with_capacity(alloc, places.len())?;
-        for place in places {
-            costs.push(stays.get(*place).map_or(0, |stay| self.cost_of(stay)))?;
-        }
-        let mut kept = Vec::with_capacity(alloc, MAX_BARS)?;
-        for at in costliest_first(alloc, &costs)?.iter().take(MAX_BARS) {
-            if let Some(place) = places.get(*at) {
-                kept.push(*place)?;
-            }
-        }
-        kept.sort_unstable();
-        Ok(kept)
     }
 }
 
@@ -98,60 +93,21 @@ impl RoundRange {
 pub(crate) fn cut(
     alloc: Global,
     figures: &[RoundFigures],
-    stays: &[ExplainedStay],
     length: u32,
 ) -> Result<Vec<RoundRange>, AllocError> {
     let mut ranges = Vec::new(alloc);
     let mut first = 1u32;
     for part in figures.chunks((length as usize).max(1)) {
-        let next = first.saturating_add(count_of(part));
-        ranges.push(RoundRange {
-            first,
-            last: next.saturating_sub(1),
-            cost: cost_of(part),
-            stays: 0,
-        })?;
-        first = next;
+        let range = RoundRange::of(first, part);
+        first = range.last.saturating_add(1);
+        ranges.push(range)?;
     }
-    count_stays(alloc, &mut ranges, stays, length)?;
     Ok(ranges)
 }
 
-/// What the waiting in these rounds cost.
-pub(crate) fn cost_of(figures: &[RoundFigures]) -> u64 {
-    let mut cost = 0u64;
-    for figure in figures {
-        cost = cost.saturating_add(figure.cost);
-    }
-    cost
-}
-
-// Counts the stays that waited or were sent in each of the ranges: those that came so far and weren't sent before.
-fn count_stays(
-    alloc: Global,
-    ranges: &mut [RoundRange],
-    stays: &[ExplainedStay],
-    length: u32,
-) -> Result<(), AllocError> {
-    let mut came = vec![in alloc; 0usize; ranges.len()]?;
-    let mut sent = vec![in alloc; 0usize; ranges.len()]?;
-    for stay in stays {
-        count(&mut came, stay.arrival, length);
-        count(&mut sent, stay.live, length);
-    }
-    let mut here = 0usize;
-    for (place, range) in ranges.iter_mut().enumerate() {
-        here = here.saturating_add(came.get(place).copied().unwrap_or(0));
-        range.stays = here;
-        here = here.saturating_sub(sent.get(place).copied().unwrap_or(0));
-    }
-    Ok(())
-}
-
-// Counts one more in the range of the round.
-fn count(counts: &mut [usize], round: u32, length: u32) {
-    let place = round.saturating_sub(1).checked_div(length).unwrap_or(0);
-    if let Some(count) = counts.get_mut(place as usize) {
-        *count = count.saturating_add(1);
-    }
+/// These ranges, the costliest first; of equal ones the earlier one.
+pub(crate) fn by_cost(alloc: Global, ranges: &[RoundRange]) -> Result<Vec<RoundRange>, AllocError> {
+    let mut sorted = Vec::from_slice(alloc, ranges)?;
+    sorted.sort_by_key(|range| Reverse(range.cost))?;
+    Ok(sorted)
 }

@@ -2,28 +2,26 @@
 
 use crate::axis::push_axis;
 use crate::choice::{Choice, Shown};
-use crate::device_row::{Scene, push_rows};
+use crate::device_row::push_rows;
 use crate::legend::push_legends;
 use crate::round_range::{MAX_BARS, RoundRange};
+use crate::scene::Scene;
 use crate::shades::cell_rounds;
-use std::alloc::{AllocError, Global};
-use wait_causes::Part;
-use wording::{Page, push_number, push_numbers, push_share, push_span};
+use std::alloc::AllocError;
+use wording::{Page, push_numbers, push_share, push_span};
 
 /// Puts the drawings of the ranges on the page, below how they are coloured.
 pub(crate) fn push_ranges(
-    alloc: Global,
     page: &mut Page,
     scene: &Scene,
     choice: &Choice,
-    whole: &Part,
 ) -> Result<(), AllocError> {
     page.put("<section id='bars'><h2>Bars</h2>\n");
-    push_choice(page, choice, whole);
-    push_legends(alloc, page, scene, whole)?;
+    push_choice(page, scene, choice);
+    push_legends(page, scene)?;
     for range in &choice.ranges {
         if range.stays > 0 {
-            push_round_range(alloc, page, scene, *range, whole)?;
+            push_round_range(page, scene, *range)?;
         }
     }
     page.put("</section>\n");
@@ -31,7 +29,7 @@ pub(crate) fn push_ranges(
 }
 
 // Says which ranges are drawn.
-fn push_choice(page: &mut Page, choice: &Choice, whole: &Part) {
+fn push_choice(page: &mut Page, scene: &Scene, choice: &Choice) {
     page.put("<p id='shown'>");
     match choice.shown {
         Shown::All => page.put("A bar for each request"),
@@ -50,7 +48,7 @@ fn push_choice(page: &mut Page, choice: &Choice, whole: &Part) {
     }
     if choice.shown != Shown::All {
         page.put(": ");
-        push_share(page, choice.cost(), whole.live);
+        push_share(page, choice.cost(), scene.whole.live);
         page.put(
             " of what the waiting cost. <code>camxpt draw --rounds A-B</code> draws the rounds from A to B",
         );
@@ -66,24 +64,15 @@ fn push_choice(page: &mut Page, choice: &Choice, whole: &Part) {
 }
 
 // Puts the drawing of a range on the page.
-fn push_round_range(
-    alloc: Global,
-    page: &mut Page,
-    scene: &Scene,
-    range: RoundRange,
-    whole: &Part,
-) -> Result<(), AllocError> {
-    page.parts(
-        &[("<section class='stretch' id='r", u64::from(range.first))],
-        "'><h3>",
-    );
+fn push_round_range(page: &mut Page, scene: &Scene, range: RoundRange) -> Result<(), AllocError> {
+    page.show(format_args!("<section class='stretch' id='r{}'><h3>", range.first));
     push_range_name(page, scene, &range);
     page.put("</h3><p>");
-    push_range_costs(page, &range, whole);
+    push_range_costs(page, scene, &range);
     page.put("</p>\n<div class='row'><p class='label'>round</p>");
-    push_axis(page, &scene.names, range.first, range.last);
+    push_axis(page, scene, range.first, range.last);
     page.put("</div>\n");
-    push_rows(alloc, page, scene, range)?;
+    push_rows(page, scene, range)?;
     page.put("<p class='back'><a href='#overview'>Overview</a></p></section>\n");
     Ok(())
 }
@@ -98,7 +87,7 @@ pub(crate) fn push_range_name(page: &mut Page, scene: &Scene, range: &RoundRange
         ],
         "",
     );
-    if let Some(span) = scene.names.unit() {
+    if let Some(span) = scene.explanation.unit() {
         page.put(" (");
         push_span(page, span, u64::from(range.first.saturating_sub(1)));
         page.put(" to ");
@@ -108,11 +97,10 @@ pub(crate) fn push_range_name(page: &mut Page, scene: &Scene, range: &RoundRange
 }
 
 // Says what the waiting in a range cost, and which bars are drawn.
-fn push_range_costs(page: &mut Page, range: &RoundRange, whole: &Part) {
+fn push_range_costs(page: &mut Page, scene: &Scene, range: &RoundRange) {
     push_numbers(page, &[("Waiting cost ", range.cost)], " here, ");
-    push_share(page, range.cost, whole.live);
-    page.put(" of all. ");
-    push_number(page, range.stays as u64);
+    push_share(page, range.cost, scene.whole.live);
+    push_numbers(page, &[(" of all. ", range.stays)], "");
     page.put(if range.stays == 1 {
         " request waited or was sent."
     } else {

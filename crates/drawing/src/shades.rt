@@ -1,9 +1,10 @@
 //! The causes of a device's rounds, as the shades that its bars have: all that wait for a device in a round wait for one cause.
 
 use crate::round_range::RoundRange;
+use crate::scene::Scene;
 use crate::words::class_of;
-use std::alloc::{AllocError, Global};
-use wait_causes::{ExplainedStay, Explanation, InputKind, Wait, WaitCause};
+use std::alloc::AllocError;
+use wait_causes::{ExplainedStay, InputKind, Wait, WaitCause};
 use wording::Page;
 
 // The most rounds of a range that have a cell each, and the most cells across a longer one.
@@ -31,8 +32,7 @@ pub(crate) struct Shades {
 impl Shades {
     /// Those by the device's stays at these places.
     pub(crate) fn of(
-        alloc: Global,
-        explanation: &Explanation,
+        scene: &Scene,
         places: &[usize],
         device: u32,
         range: RoundRange,
@@ -42,27 +42,24 @@ impl Shades {
         let mut shades = Shades {
             range,
             each,
-            causes: vec![in alloc; None; cells]?,
+            causes: vec![in scene.alloc; None; cells]?,
         };
         for place in places {
-            if let Some(stay) = explanation.stays().get(*place)
+            if let Some(stay) = scene.explanation.stays().get(*place)
                 && stay.device == device
                 && shades.lacks(stay)
             {
-                shades.fill(&explanation.waits(alloc, *place)?);
+                shades.fill(&scene.explanation.waits(scene.alloc, *place)?);
             }
         }
         Ok(shades)
     }
 
-    // The cells of these rounds, as far as they are in the range.
+    // The first of the cells of these rounds, as far as they are in the range, and the one after the last of them.
     fn cells(&self, first: u32, last: u32) -> (usize, usize) {
-        let (first, last) = (
-            first.max(self.range.first),
-            last.min(self.range.last).saturating_add(1),
-        );
+        let end = last.min(self.range.last).saturating_add(1);
         let from = self.range.offset(first) / self.each.max(1);
-        let to = self.range.offset(last).div_ceil(self.each.max(1));
+        let to = self.range.offset(end).div_ceil(self.each.max(1));
         (from as usize, to as usize)
     }
 
@@ -72,10 +69,9 @@ impl Shades {
             return false;
         }
         let (from, to) = self.cells(stay.arrival, stay.live.saturating_sub(1));
-        match self.causes.get(from..to) {
-            Some(cells) => cells.iter().any(|cell| cell.is_none()),
-            None => false,
-        }
+        self.causes
+            .get(from..to)
+            .is_some_and(|cells| cells.contains(&None))
     }
 
     // Gives the cells of these waits their causes, unless they have one.
@@ -83,7 +79,11 @@ impl Shades {
         for wait in waits {
             if wait.first <= self.range.last && self.range.first <= wait.last {
                 let (from, to) = self.cells(wait.first, wait.last);
-                shade(&mut self.causes, from, to, wait.cause);
+                for cell in self.causes.iter_mut().take(to).skip(from) {
+                    if cell.is_none() {
+                        *cell = Some(wait.cause);
+                    }
+                }
             }
         }
     }
@@ -91,56 +91,29 @@ impl Shades {
     /// Puts the shades on the page, those of each cause together.
     pub(crate) fn push(&self, page: &mut Page, kind: InputKind) {
         for cause in &kind.causes() {
-            self.push_cause(page, *cause);
-        }
-    }
-
-    // Puts the cells of a cause on the page, if there are some.
-    fn push_cause(&self, page: &mut Page, cause: WaitCause) {
-        let mut is_open = false;
-        let mut run = 0u32;
-        let mut at = 0u32;
-        for cell in &self.causes {
-            at = at.saturating_add(1);
-            if *cell == Some(cause) {
-                run = run.saturating_add(1);
-            } else if run > 0 {
-                self.push_run(page, cause, is_open, at.saturating_sub(1), run);
-                is_open = true;
-                run = 0;
+            if self.causes.contains(&Some(*cause)) {
+                page.words(&["<path class='", class_of(*cause), "' d='"]);
+                self.push_runs(page, *cause);
+                page.put("'/>");
             }
         }
-        if run > 0 {
-            self.push_run(page, cause, is_open, at, run);
-            is_open = true;
-        }
-        if is_open {
-            page.put("'/>");
-        }
     }
 
-    // Puts a run of cells of a cause that ends before this one on the page, in the path that is open, or in a new one.
-    fn push_run(&self, page: &mut Page, cause: WaitCause, is_open: bool, end: u32, cells: u32) {
-        if !is_open {
-            page.words(&["<path class='", class_of(cause), "' d='"]);
-        }
-        let from = end.saturating_sub(cells).saturating_mul(self.each);
-        let to = end.saturating_mul(self.each).min(self.range.rounds());
-        page.parts(
-            &[
-                ("M", u64::from(from)),
-                (" 0h", u64::from(to.saturating_sub(from))),
-            ],
-            "",
-        );
-    }
-}
-
-// Gives those of the cells from one place up to another that have no cause this one.
-fn shade(cells: &mut [Option<WaitCause>], from: usize, to: usize, cause: WaitCause) {
-    for cell in cells.iter_mut().take(to).skip(from) {
-        if cell.is_none() {
-            *cell = Some(cause);
+    // Puts the runs of a cause's cells into the path that is open.
+    fn push_runs(&self, page: &mut Page, cause: WaitCause) {
+        let each = self.each as usize;
+        let mut begun = None;
+        for at in 0..=self.causes.len() {
+            let is_here = self.causes.get(at) == Some(&Some(cause));
+            match begun {
+                None if is_here => begun = Some(at.saturating_mul(each)),
+                Some(from) if !is_here => {
+                    let to = at.saturating_mul(each).min(self.range.rounds() as usize);
+                    page.show(format_args!("M{from} 0h{}", to.saturating_sub(from)));
+                    begun = None;
+                }
+                _ => {}
+            }
         }
     }
 }

@@ -3,7 +3,6 @@
 use std::alloc::{AllocError, Global};
 use std::cmp::Reverse;
 use std::collections::BinaryHeap;
-use wait_causes::ExplainedStay;
 
 /// The slots of a device.
 #[derive(Drop)]
@@ -36,12 +35,9 @@ impl Slots {
         self.give_back(first)?;
         let slot = match self.free.pop() {
             Some(Reverse(slot)) => slot,
-            None => {
-                let slot = self.count;
-                self.count = slot.saturating_add(1);
-                slot
-            }
+            None => self.count,
         };
+        self.count = self.count.max(slot.saturating_add(1));
         self.taken.push(Reverse((last, slot)))?;
         Ok(slot)
     }
@@ -59,24 +55,4 @@ impl Slots {
         }
         Ok(())
     }
-}
-
-/// These places of stays in the order in which the stays arrived; of those of one round the smaller place first.
-pub(crate) fn by_arrival(
-    alloc: Global,
-    stays: &[ExplainedStay],
-    places: &[usize],
-) -> Result<Vec<usize>, AllocError> {
-    let mut keys = Vec::with_capacity(alloc, places.len())?;
-    for place in places {
-        if let Some(stay) = stays.get(*place) {
-            keys.push((stay.arrival, *place))?;
-        }
-    }
-    keys.sort_unstable();
-    let mut sorted = Vec::with_capacity(alloc, keys.len())?;
-    for (_, place) in &keys {
-        sorted.push(*place)?;
-    }
-    Ok(sorted)
 }

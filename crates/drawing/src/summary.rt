@@ -1,45 +1,42 @@
 //! What the waiting cost, in sentences.
 
-use crate::names::Names;
+use crate::scene::Scene;
 use cam_types::Config;
-use wait_causes::{InputKind, Part, WaitCause};
+use wait_causes::{Part, WaitCause};
 use wording::{Page, push_number, push_numbers, push_rounds, push_share, push_signed};
 
 /// Puts the sentences and totals on the page.
-pub(crate) fn push_summary(
-    page: &mut Page,
-    names: &Names,
-    config: &Config,
-    kind: InputKind,
-    whole: &Part,
-    rounds: u32,
-) {
+pub(crate) fn push_summary(page: &mut Page, scene: &Scene) {
+    let (whole, rounds) = (&scene.whole, u64::from(scene.net.rounds()));
     page.put("<div id='summary'>\n<p>");
-    push_waited(page, names, whole, rounds);
+    push_waited(page, scene, rounds);
     push_avoidable(page, whole);
     page.put("</p>\n");
     if whole.live > 0 {
         page.put("<p>");
-        push_costliest_cause(page, kind, whole);
+        push_costliest_cause(page, scene);
         push_behind(page, whole);
         page.put("</p>\n");
     }
     page.put("</div>\n");
     push_totals(page, whole, rounds);
-    push_weights(page, config);
+    if !scene.net.config().has_standard_weights() {
+        push_weights(page, scene.net.config());
+    }
 }
 
 // Says how many waited how long, and what that cost.
-fn push_waited(page: &mut Page, names: &Names, whole: &Part, rounds: u32) {
+fn push_waited(page: &mut Page, scene: &Scene, rounds: u64) {
+    let (whole, unit) = (&scene.whole, scene.explanation.unit());
     push_number(page, u64::from(whole.stays));
     page.put(if whole.stays == 1 {
         " request waited "
     } else {
         " requests waited "
     });
-    push_rounds(page, names.unit(), whole.waited);
+    push_rounds(page, unit, whole.waited);
     page.put(" in all, in ");
-    push_rounds(page, names.unit(), u64::from(rounds));
+    push_rounds(page, unit, rounds);
     push_numbers(page, &[(". That cost ", whole.live)], " (live cost), ");
 }
 
@@ -57,56 +54,49 @@ fn push_avoidable(page: &mut Page, whole: &Part) {
 }
 
 // Says which cause cost most.
-fn push_costliest_cause(page: &mut Page, kind: InputKind, whole: &Part) {
+fn push_costliest_cause(page: &mut Page, scene: &Scene) {
     let mut costliest = (WaitCause::NotAsked, 0);
-    for (cause, cost) in &whole.costs.by_cause(kind) {
+    for (cause, cost) in &scene.whole.costs.by_cause(scene.explanation.kind()) {
         if *cost > costliest.1 {
             costliest = (*cause, *cost);
         }
     }
-    page.words(&["Of the causes <b>", costliest.0.name(), "</b> cost most: "]);
-    push_number(page, costliest.1);
-    page.put(", ");
-    push_share(page, costliest.1, whole.live);
+    let (cause, cost) = costliest;
+    page.words(&["Of the causes <b>", cause.name(), "</b> cost most"]);
+    push_numbers(page, &[(": ", cost)], ", ");
+    push_share(page, cost, scene.whole.live);
     page.put(". ");
 }
 
 // Says behind whom most was waited for full devices, adapters and links.
 fn push_behind(page: &mut Page, whole: &Part) {
-    let full = whole
-        .behind
-        .less_urgent
-        .saturating_add(whole.behind.equal)
-        .saturating_add(whole.behind.more_urgent);
-    if full == 0 {
-        return;
+    let (behind, mut full) = (&whole.behind, 0u64);
+    let mut most = ("less urgent requests", 0);
+    for (words, cost) in &[
+        ("less urgent requests", behind.less_urgent),
+        ("equal ones", behind.equal),
+        ("more urgent ones", behind.more_urgent),
+    ] {
+        full = full.saturating_add(*cost);
+        if *cost > most.1 {
+            most = (*words, *cost);
+        }
     }
-    push_numbers(
-        page,
-        &[("Full devices, adapters and links cost ", full)],
-        ", most of it behind <b>",
-    );
-    let (words, cost) = most_behind(whole);
-    page.put(words);
-    push_numbers(page, &[("</b>: ", cost)], ", ");
-    push_share(page, cost, full);
-    page.put(".");
-}
-
-// Behind whom most was waited, and what that cost.
-fn most_behind(whole: &Part) -> (&'static str, u64) {
-    let behind = &whole.behind;
-    if behind.less_urgent >= behind.equal && behind.less_urgent >= behind.more_urgent {
-        ("less urgent requests", behind.less_urgent)
-    } else if behind.equal >= behind.more_urgent {
-        ("equal ones", behind.equal)
-    } else {
-        ("more urgent ones", behind.more_urgent)
+    if full > 0 {
+        push_numbers(
+            page,
+            &[("Full devices, adapters and links cost ", full)],
+            ", most of it behind <b>",
+        );
+        page.put(most.0);
+        push_numbers(page, &[("</b>: ", most.1)], ", ");
+        push_share(page, most.1, full);
+        page.put(".");
     }
 }
 
 // Puts the totals on the page.
-fn push_totals(page: &mut Page, whole: &Part, rounds: u32) {
+fn push_totals(page: &mut Page, whole: &Part, rounds: u64) {
     push_numbers(
         page,
         &[
@@ -114,7 +104,7 @@ fn push_totals(page: &mut Page, whole: &Part, rounds: u32) {
                 "<dl id='totals'><div><dt>stays</dt><dd>",
                 u64::from(whole.stays),
             ),
-            ("</dd></div><div><dt>rounds</dt><dd>", u64::from(rounds)),
+            ("</dd></div><div><dt>rounds</dt><dd>", rounds),
             ("</dd></div><div><dt>waited rounds</dt><dd>", whole.waited),
             ("</dd></div><div><dt>live cost</dt><dd>", whole.live),
             ("</dd></div><div><dt>best cost</dt><dd>", whole.best),
@@ -125,22 +115,15 @@ fn push_totals(page: &mut Page, whole: &Part, rounds: u32) {
     page.put("</dd></div></dl>\n");
 }
 
-// Puts what a round of waiting costs by priority on the page, unless the weights are the standard ones.
+// Puts what a round of waiting costs by priority on the page.
 fn push_weights(page: &mut Page, config: &Config) {
-    if config.has_standard_weights() {
-        return;
-    }
     page.put("<p>What a round of waiting costs, by priority:</p><dl id='weights'>");
     let mut first = 0;
     for row in config.weights() {
-        page.parts(
-            &[
-                ("<div><dt>", u64::from(first)),
-                ("-", u64::from(row.last)),
-                ("</dt><dd>", u64::from(row.weight)),
-            ],
-            "</dd></div>",
-        );
+        page.show(format_args!(
+            "<div><dt>{first}-{}</dt><dd>{}</dd></div>",
+            row.last, row.weight
+        ));
         first = row.last.saturating_add(1);
     }
     page.put("</dl>\n");

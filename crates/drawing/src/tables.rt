@@ -1,11 +1,11 @@
 //! The tables of parts and freezes.
 
-use crate::device_row::Scene;
-use crate::legend::costliest_rows;
+use crate::scene::{Scene, parts_by_cost};
 use crate::words::freeze_words;
 use recording_file::NameKind;
-use std::alloc::{AllocError, Global};
-use wait_causes::{Freeze, FreezeKind, Grouping, Part, Row};
+use std::alloc::AllocError;
+use std::cmp::Reverse;
+use wait_causes::{Freeze, FreezeKind, Grouping, Row};
 use wording::{Page, push_number, push_numbers, push_signed};
 
 // The columns of how long stays waited.
@@ -25,8 +25,18 @@ A cause's cost is no saving: without that cause the requests may wait for anothe
 costs in the one best schedule that was found; another best schedule may share it out otherwise. Only the excess of the whole could \
 have been saved.</p>\n";
 
-/// Puts the tables by device, adapter, driver and class on the page.
-pub(crate) fn push_tables(alloc: Global, page: &mut Page, scene: &Scene) -> Result<(), AllocError> {
+// What stands above the freezes.
+const FREEZES: &str = "<section><h2>Freezes</h2>\n\
+<table class='narrow' id='freezes'><caption>The freezes that cost most, at most 100</caption><thead><tr>\
+<th scope='col'>of</th><th scope='col'>kind</th><th scope='col'>first</th><th scope='col'>last</th>\
+<th scope='col'>cost</th></tr></thead><tbody>\n";
+
+// How many freezes are listed.
+const LISTED: usize = 100;
+
+/// Puts the tables by device, adapter, driver and class on the page: how long the stays of each part waited, and what each
+/// part cost, by cause and by what full rows sent.
+pub(crate) fn push_tables(page: &mut Page, scene: &Scene) -> Result<(), AllocError> {
     page.words(&["<section id='tables'><h2>Parts</h2>\n", CAUTION]);
     for (by, id, name) in &[
         (Grouping::Device, "devices", "device"),
@@ -34,37 +44,44 @@ pub(crate) fn push_tables(alloc: Global, page: &mut Page, scene: &Scene) -> Resu
         (Grouping::Driver, "drivers", "driver"),
         (Grouping::Level, "levels", "class (run level)"),
     ] {
-        let rows = scene.explanation.table(alloc, *by)?;
-        let order = costliest_rows(alloc, &rows)?;
-        push_waits(page, scene, *by, &rows, &order, [*id, *name]);
-        push_costs(page, scene, *by, &rows, &order, [*id, *name]);
+        let rows = parts_by_cost(scene.alloc, scene.explanation, *by)?;
+        page.show(format_args!(
+            "<table class='wide waits' id='{id}'><caption>By {name}: how long</caption><thead><tr>\
+<th scope='col'>{name}</th>{WAITS}"
+        ));
+        push_waits(page, scene, *by, &rows);
+        page.show(format_args!(
+            "<table class='wide costs' id='{id}-costs'><caption>By {name}: live cost by cause</caption><thead><tr>\
+<th scope='col'>{name}</th>"
+        ));
+        push_costs(page, scene, *by, &rows);
     }
     page.put("</section>\n");
     Ok(())
 }
 
-// Puts the table of how long the stays of each part waited on the page.
-fn push_waits(
-    page: &mut Page,
-    scene: &Scene,
-    by: Grouping,
-    rows: &[Row],
-    order: &[usize],
-    names: [&str; 2],
-) {
-    let [id, name] = names;
-    page.words(&["<table class='wide waits' id='", id, "'><caption>By ", name]);
-    page.words(&[
-        ": how long</caption><thead><tr><th scope='col'>",
-        name,
-        "</th>",
-        WAITS,
-    ]);
-    for place in order {
-        if let Some(row) = rows.get(*place) {
-            push_head(page, scene, by, row.number);
-            push_waited(page, &row.part);
-        }
+// Puts how long the stays of each part waited on the page, and the end of the table.
+fn push_waits(page: &mut Page, scene: &Scene, by: Grouping, rows: &[Row]) {
+    for row in rows {
+        let part = &row.part;
+        push_head(page, scene, by, row.number);
+        push_cells(
+            page,
+            &[
+                u64::from(part.stays),
+                part.waited,
+                u64::from(part.p50),
+                u64::from(part.p90),
+                u64::from(part.p99),
+                u64::from(part.p999),
+                u64::from(part.max),
+                part.live,
+                part.best,
+            ],
+        );
+        page.put("<td>");
+        push_signed(page, part.excess());
+        page.put("</td></tr>\n");
     }
     page.put("</tbody></table>\n");
 }
@@ -72,29 +89,8 @@ fn push_waits(
 // Puts the head of a row on the page.
 fn push_head(page: &mut Page, scene: &Scene, by: Grouping, number: u32) {
     page.put("<tr><th scope='row'>");
-    scene.names.push_part(page, by, number);
+    scene.push_part(page, by, number);
     page.put("</th>");
-}
-
-// Puts how long the stays of a part waited on the page, and the end of its row.
-fn push_waited(page: &mut Page, part: &Part) {
-    push_cells(
-        page,
-        &[
-            u64::from(part.stays),
-            part.waited,
-            u64::from(part.p50),
-            u64::from(part.p90),
-            u64::from(part.p99),
-            u64::from(part.p999),
-            u64::from(part.max),
-            part.live,
-            part.best,
-        ],
-    );
-    page.put("<td>");
-    push_signed(page, part.excess());
-    page.put("</td></tr>\n");
 }
 
 // Puts each of these numbers on the page, as a cell.
@@ -104,79 +100,45 @@ fn push_cells(page: &mut Page, cells: &[u64]) {
     }
 }
 
-// Puts the table of what each part cost on the page, by cause and by what full rows sent.
-fn push_costs(
-    page: &mut Page,
-    scene: &Scene,
-    by: Grouping,
-    rows: &[Row],
-    order: &[usize],
-    names: [&str; 2],
-) {
-    let [id, name] = names;
-    page.words(&[
-        "<table class='wide costs' id='",
-        id,
-        "-costs'><caption>By ",
-        name,
-    ]);
-    page.words(&[
-        ": live cost by cause</caption><thead><tr><th scope='col'>",
-        name,
-        "</th>",
-    ]);
-    for cause in &scene.explanation.kind().causes() {
-        if cause.can_hold(scene.net.config()) {
+// Puts the other heads of columns on the page, what each part cost, and the end of the table.
+fn push_costs(page: &mut Page, scene: &Scene, by: Grouping, rows: &[Row]) {
+    let (kind, config) = (scene.explanation.kind(), scene.net.config());
+    for cause in &kind.causes() {
+        if cause.can_hold(config) {
             page.words(&["<th scope='col'>", cause.name(), "</th>"]);
         }
     }
     page.put(BEHIND);
-    for place in order {
-        if let Some(row) = rows.get(*place) {
-            push_head(page, scene, by, row.number);
-            push_cost(page, scene, &row.part);
+    for row in rows {
+        push_head(page, scene, by, row.number);
+        for (cause, cost) in &row.part.costs.by_cause(kind) {
+            if cause.can_hold(config) {
+                push_cells(page, &[*cost]);
+            }
         }
+        let behind = &row.part.behind;
+        push_cells(
+            page,
+            &[behind.less_urgent, behind.equal, behind.more_urgent],
+        );
+        page.put("</tr>\n");
     }
     page.put("</tbody></table>\n");
 }
 
-// Puts what a part cost on the page, and the end of its row.
-fn push_cost(page: &mut Page, scene: &Scene, part: &Part) {
-    for (cause, cost) in &part.costs.by_cause(scene.explanation.kind()) {
-        if cause.can_hold(scene.net.config()) {
-            push_cells(page, &[*cost]);
-        }
-    }
-    push_cells(
-        page,
-        &[
-            part.behind.less_urgent,
-            part.behind.equal,
-            part.behind.more_urgent,
-        ],
-    );
-    page.put("</tr>\n");
-}
-
-// How many freezes are listed.
-const LISTED: usize = 100;
-
 /// Puts the table of the costliest freezes on the page, if there are some.
-pub(crate) fn push_freezes(page: &mut Page, scene: &Scene, freezes: &[Freeze], order: &[usize]) {
+pub(crate) fn push_freezes(page: &mut Page, scene: &Scene) -> Result<(), AllocError> {
+    let mut freezes = scene.explanation.freezes(scene.alloc)?;
     if freezes.is_empty() {
-        return;
+        return Ok(());
     }
-    page.put(
-        "<section><h2>Freezes</h2>\n<table class='narrow' id='freezes'><caption>The freezes that cost most, at most 100</caption><thead><tr>\
-<th scope='col'>of</th><th scope='col'>kind</th><th scope='col'>first</th><th scope='col'>last</th>\
-<th scope='col'>cost</th></tr></thead><tbody>\n",
-    );
-    for place in order.iter().take(LISTED) {
-        if let Some(freeze) = freezes.get(*place) {
-            push_freeze(page, scene, freeze);
-        }
+    freezes.sort_by_key(|freeze| Reverse(freeze.cost))?;
+    page.put(FREEZES);
+    for freeze in freezes.iter().take(LISTED) {
+        push_freeze(page, scene, freeze);
     }
     page.put("</tbody></table></section>\n");
+    Ok(())
 }
 
 // Puts the row of a freeze on the page.
@@ -186,15 +148,11 @@ fn push_freeze(page: &mut Page, scene: &Scene, freeze: &Freeze) {
         FreezeKind::Error | FreezeKind::Caller => NameKind::Device,
     };
     page.put("<tr><th scope='row'>");
-    scene.names.push(page, kind, freeze.number);
-    page.words(&["</th><td>", freeze_words(freeze.kind), "</td><td>"]);
-    push_number(page, u64::from(freeze.first));
-    push_numbers(
+    scene.push_name(page, kind, freeze.number);
+    page.words(&["</th><td>", freeze_words(freeze.kind), "</td>"]);
+    push_cells(
         page,
-        &[
-            ("</td><td>", u64::from(freeze.last)),
-            ("</td><td>", freeze.cost),
-        ],
-        "</td></tr>\n",
+        &[u64::from(freeze.first), u64::from(freeze.last), freeze.cost],
     );
+    page.put("</tr>\n");
 }

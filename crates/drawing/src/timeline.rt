@@ -2,7 +2,6 @@
 
 pub use document::timeline_json;
 
-mod clock;
 mod counters;
 mod document;
 mod freezes;

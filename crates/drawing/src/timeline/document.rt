@@ -1,6 +1,5 @@
 //! The document: a process for each device and adapter, with its requests, freezes and counters.
 
-use crate::timeline::clock::RoundClock;
 use crate::timeline::counters::put_counters;
 use crate::timeline::freezes::put_freezes;
 use crate::timeline::requests::put_requests;
@@ -23,29 +22,27 @@ pub fn timeline_json(
     explanation: &Explanation,
     max_waits: usize,
 ) -> Result<String, AllocError> {
-    let captions = Captions::of(net.config(), explanation);
-    let clock = RoundClock::of(explanation.unit());
-    let mut writer = EventWriter::new(alloc, name, clock)?;
-    put_processes(alloc, &mut writer, captions, net)?;
-    put_freezes(alloc, &mut writer, net, explanation)?;
-    put_requests(alloc, &mut writer, net, explanation, max_waits)?;
-    put_counters(alloc, &mut writer, net, explanation)?;
+    let mut writer = EventWriter::new(alloc, name, explanation.unit())?;
+    put_processes(&mut writer, net, explanation)?;
+    put_freezes(&mut writer, net, explanation)?;
+    put_requests(&mut writer, net, explanation, max_waits)?;
+    put_counters(&mut writer, net, explanation)?;
     writer.finish()
 }
 
 // Names the processes: devices come first.
 fn put_processes(
-    alloc: Global,
     writer: &mut EventWriter,
-    captions: Captions<'_>,
     net: &Net,
+    explanation: &Explanation,
 ) -> Result<(), AllocError> {
+    let captions = Captions::of(net.config(), explanation);
     for device in 0..net.devices() {
-        let caption = captions.caption(alloc, Grouping::Device, device)?;
+        let caption = captions.caption(writer.alloc, Grouping::Device, device)?;
         writer.process(device_process(device), &caption)?;
     }
     for adapter in 0..net.adapters() {
-        let caption = captions.caption(alloc, Grouping::Adapter, adapter)?;
+        let caption = captions.caption(writer.alloc, Grouping::Adapter, adapter)?;
         writer.process(adapter_process(net, adapter), &caption)?;
     }
     Ok(())

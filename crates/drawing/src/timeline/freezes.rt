@@ -3,7 +3,7 @@
 use crate::timeline::document::{adapter_process, device_process};
 use crate::timeline::writer::{EventWriter, Track};
 use round_net::Net;
-use std::alloc::{AllocError, Global};
+use std::alloc::AllocError;
 use wait_causes::{Explanation, Freeze, FreezeKind};
 
 /// How many rows there are for freezes before those of requests: one by errors, and one by callers.
@@ -11,24 +11,22 @@ pub(crate) const FREEZE_ROWS: u32 = 2;
 
 /// Puts the freezes of a trace.
 pub(crate) fn put_freezes(
-    alloc: Global,
     writer: &mut EventWriter,
     net: &Net,
     explanation: &Explanation,
 ) -> Result<(), AllocError> {
-    let mut latest: Option<Track> = None;
-    for freeze in &explanation.freezes(alloc)? {
+    let mut latest = None;
+    for freeze in &explanation.freezes(writer.alloc)? {
         let (track, name) = place_of(net, freeze);
         // They come by kind and number, so that those of a row stand together.
-        if !is_on(&latest, track) {
+        if latest != Some(track) {
             writer.row(track, name)?;
         }
         latest = Some(track);
         writer.slice(
             track,
             name,
-            freeze.first,
-            freeze.last,
+            (freeze.first, freeze.last),
             &[("cost", freeze.cost)],
         )?;
     }
@@ -43,11 +41,4 @@ fn place_of(net: &Net, freeze: &Freeze) -> (Track, &'static str) {
         FreezeKind::Adapter => (adapter_process(net, freeze.number), 1, "frozen by a caller"),
     };
     (Track { process, row }, name)
-}
-
-fn is_on(latest: &Option<Track>, track: Track) -> bool {
-    match latest {
-        Some(latest) => latest.process == track.process && latest.row == track.row,
-        None => false,
-    }
 }

@@ -1,6 +1,6 @@
 //! The requests of a timeline: the slots of each device, with what stood in them.
 
-use crate::slots::{Slots, by_arrival};
+use crate::slots::Slots;
 use crate::timeline::document::device_process;
 use crate::timeline::freezes::FREEZE_ROWS;
 use crate::timeline::writer::{EventWriter, Track};
@@ -11,55 +11,53 @@ use wait_causes::{ExplainedStay, Explanation, FirstWaits, InputKind};
 /// Puts the requests: in the order in which they arrived each has the first slot of its device that is free from its arrival to
 /// its send. At most so many waits of a request are listed, and what is left of them is one slice more.
 pub(crate) fn put_requests(
-    alloc: Global,
     writer: &mut EventWriter,
     net: &Net,
     explanation: &Explanation,
     most: usize,
 ) -> Result<(), AllocError> {
     let stays = explanation.stays();
-    let mut slots = no_slots(alloc, net.devices())?;
-    let taken = slots_of(alloc, &mut slots, stays)?;
-    for (place, stay) in stays.iter().enumerate() {
-        let slot = taken.get(place).copied().unwrap_or(0);
-        let track = track_of(stay.device, slot);
-        let waits = explanation.first_waits(alloc, place, most)?;
-        put_request(alloc, writer, explanation.kind(), stay, &waits, track)?;
+    let mut slots = Vec::new(writer.alloc);
+    for _device in 0..net.devices() {
+        slots.push(Slots::new(writer.alloc))?;
     }
-    for (device, slots) in slots.iter().enumerate() {
-        name_slots(
-            alloc,
+    let taken = slots_of(writer.alloc, &mut slots, stays)?;
+    for (place, (stay, slot)) in stays.iter().zip(taken.iter()).enumerate() {
+        let waits = explanation.first_waits(writer.alloc, place, most)?;
+        put_request(
             writer,
-            u32::try_from(device).unwrap_or(u32::MAX),
-            slots.count(),
+            explanation.kind(),
+            stay,
+            &waits,
+            track_of(stay.device, *slot),
         )?;
+    }
+    for (device, slots) in (0..net.devices()).zip(slots.iter()) {
+        name_slots(writer, device, slots.count())?;
     }
     Ok(())
 }
 
-// For each device its slots: it has none so far.
-fn no_slots(alloc: Global, devices: u32) -> Result<Vec<Slots>, AllocError> {
-    let mut slots = Vec::with_capacity(alloc, devices as usize)?;
-    for _device in 0..devices {
-        slots.push(Slots::new(alloc))?;
-    }
-    Ok(slots)
-}
-
-// The slot of each stay.
+// The slot of each stay, taken from those of its device in the order in which the stays arrived; of those of one round the
+// smaller place first.
 fn slots_of(
     alloc: Global,
     slots: &mut [Slots],
     stays: &[ExplainedStay],
 ) -> Result<Vec<u32>, AllocError> {
-    let all: Vec<usize> = (0..stays.len()).collect(alloc)?;
+    let mut arrivals: Vec<(u32, usize)> = stays
+        .iter()
+        .enumerate()
+        .map(|(place, stay)| (stay.arrival, place))
+        .collect(alloc)?;
+    arrivals.sort_unstable();
     let mut taken = vec![in alloc; 0u32; stays.len()]?;
-    for place in &by_arrival(alloc, stays, &all)? {
+    for (arrival, place) in &arrivals {
         if let Some(stay) = stays.get(*place)
             && let Some(there) = slots.get_mut(stay.device as usize)
             && let Some(slot) = taken.get_mut(*place)
         {
-            *slot = there.take(stay.arrival, stay.live)?;
+            *slot = there.take(*arrival, stay.live)?;
         }
     }
     Ok(taken)
@@ -74,14 +72,9 @@ fn track_of(device: u32, slot: u32) -> Track {
 }
 
 // Names the slots of a device.
-fn name_slots(
-    alloc: Global,
-    writer: &mut EventWriter,
-    device: u32,
-    count: u32,
-) -> Result<(), AllocError> {
+fn name_slots(writer: &mut EventWriter, device: u32, count: u32) -> Result<(), AllocError> {
     for slot in 0..count {
-        let name = format!(in alloc; "slot {slot}")?;
+        let name = format!(in writer.alloc; "slot {slot}")?;
         writer.row(track_of(device, slot), &name)?;
     }
     Ok(())
@@ -89,20 +82,21 @@ fn name_slots(
 
 // Puts a request, with these of its waits and its send in it, and a slice for what it waited after them.
 fn put_request(
-    alloc: Global,
     writer: &mut EventWriter,
     kind: InputKind,
     stay: &ExplainedStay,
     waits: &FirstWaits,
     track: Track,
 ) -> Result<(), AllocError> {
-    let name = name_of(alloc, kind, stay)?;
+    let name = match kind {
+        InputKind::Trace => format!(in writer.alloc; "CCB {} (try {})", stay.ccb, stay.attempt)?,
+        InputKind::Recording => format!(in writer.alloc; "request {}", stay.ccb)?,
+    };
     let last = stay.live.max(stay.arrival);
     writer.slice(
         track,
         &name,
-        stay.arrival,
-        last,
+        (stay.arrival, last),
         &[
             ("driver", u64::from(stay.driver)),
             ("priority", u64::from(stay.priority)),
@@ -114,37 +108,28 @@ fn put_request(
         ],
     )?;
     for wait in &waits.listed {
-        writer.slice(track, wait.cause.name(), wait.first, wait.last, &[])?;
+        writer.slice(track, wait.cause.name(), (wait.first, wait.last), &[])?;
     }
     if waits.more > 0 {
-        put_more(alloc, writer, stay, waits, track)?;
+        put_more(writer, stay, waits, track)?;
     }
-    writer.slice(track, "sent", last, last, &[])
+    writer.slice(track, "sent", (last, last), &[])
 }
 
 // Puts what a request waited after these waits as one slice, with how many waits they are and what they cost.
 fn put_more(
-    alloc: Global,
     writer: &mut EventWriter,
     stay: &ExplainedStay,
     waits: &FirstWaits,
     track: Track,
 ) -> Result<(), AllocError> {
-    let name = format!(in alloc; "{} more waits", waits.more)?;
+    let name = format!(in writer.alloc; "{} more waits", waits.more)?;
     let rounds = stay.live.saturating_sub(waits.next);
     let cost = u64::from(stay.weight).saturating_mul(u64::from(rounds));
     writer.slice(
         track,
         &name,
-        waits.next,
-        stay.live.saturating_sub(1),
+        (waits.next, stay.live.saturating_sub(1)),
         &[("waits", waits.more), ("cost", cost)],
     )
-}
-
-fn name_of(alloc: Global, kind: InputKind, stay: &ExplainedStay) -> Result<String, AllocError> {
-    match kind {
-        InputKind::Trace => format!(in alloc; "CCB {} (try {})", stay.ccb, stay.attempt),
-        InputKind::Recording => format!(in alloc; "request {}", stay.ccb),
-    }
 }

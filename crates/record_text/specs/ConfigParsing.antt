@@ -1,6 +1,5 @@
 -- How rows are read as a configuration, one after the other: weights, links, adapters, devices, lanes.
 use Rattle.std.specs.Prelude.{◌≡◌, ℕ, ◌+◌, ◌<◌, ◌≤◌, Bool, true, false, nat_le, nat_lt, if◌then◌else◌, List, [], ◌∷◌, ◌++◌, length, map, Option, Some, None, Result, Ok, Err}
-use Rattle.cam_types.specs.declared.adapter.Adapter.{Adapter}
 use Rattle.cam_types.specs.Topology.{Topology, IsPartial, link_fault, adapter_fault, device_fault, lane_fault}
 use Rattle.cam_types.specs.Weights.{weight_fault, reaches_last, standard_weights}
 use Rattle.cam_types.specs.declared.limits.TheConstants.{MAX_ADAPTERS}
@@ -12,7 +11,7 @@ use Rattle.cam_types.specs.declared.config_fault.ConfigFault.TheVariants.{NoAdap
 pub use Rattle.record_text.specs.declared.config_parser.ConfigParser.{ConfigParser}
 pub use Rattle.record_text.specs.declared.config_row.ConfigRow.{ConfigRow}
 use Rattle.record_text.specs.declared.config_row.ConfigRow.TheVariants as row
-use Rattle.record_text.specs.ConfigRows.{DeviceRow, device_of, weight_row, link_row, adapter_row, device_row, lane_row}
+use Rattle.record_text.specs.ConfigRows.{device_of, weight_row, link_row, adapter_row, device_row, lane_row}
 use Rattle.record_text.specs.Text.{Row}
 
 -- nothing yet: rows of weights are due

@@ -1,5 +1,5 @@
 -- The records before the names are read as the head of the recording.
-use Rattle.std.proofs.Common.{◌≡◌, ◌≤◌, ◌+◌, ℕ, List, [], ◌∷◌, ◌++◌, Bool, true, refl, ◌∙◌, arith, Option, Some, None, IfSome, Ok, ◌||◌, ◌&&◌, nat_le}
+use Rattle.std.proofs.Common.{◌≡◌, ◌≤◌, ◌+◌, ℕ, List, [], ◌∷◌, ◌++◌, Bool, true, refl, ◌∙◌, arith, Option, Some, None, IfSome, Ok, ◌||◌}
 use Rattle.std.specs.List.{AllByRecursion}
 use Rattle.std.proofs.lemmas.Bool.{le-leb}
 use Rattle.cam_types.specs.Topology.{IsConfig}

@@ -1,6 +1,6 @@
 -- What a record does to a parser of a recording.
-use Rattle.std.proofs.Common.{◌≡◌, ◌≢◌, ◌≤◌, ◌+◌, ℕ, true, false, refl, sym, ap, ◌∙◌, subst, arith, Ok, nat_le}
-use Rattle.std.proofs.lemmas.Bool.{and_parts, leb-true, ltb-false}
+use Rattle.std.proofs.Common.{◌≡◌, ◌≢◌, ◌≤◌, ◌+◌, ℕ, true, false, refl, arith, nat_le}
+use Rattle.std.proofs.lemmas.Bool.{and_parts, leb-true}
 use Rattle.record_text.specs.ConfigParsing.{lacks_adapters, next_rank, row_rank, IsOrdered}
 use Rattle.record_text.specs.declared.config_parser.ConfigParser.{ConfigParser}
 use Rattle.record_text.specs.declared.config_row.ConfigRow.{ConfigRow}

@@ -7,7 +7,7 @@ use Rattle.cam_types.specs.Weights.{are_standard}
 use Rattle.cam_types.specs.declared.device.Device.{Device}
 use Rattle.cam_types.specs.declared.config.ConfigError.{ConfigError}
 use Rattle.cam_types.specs.declared.config.ConfigError.TheVariants as error
-use Rattle.record_text.specs.ConfigParsing.{lacking, lacks_adapters, next_rank, pushed, row_rank, spelled_row, with_row}
+use Rattle.record_text.specs.ConfigParsing.{lacking, lacks_adapters, pushed, row_rank, spelled_row, with_row}
 use Rattle.record_text.specs.declared.config_parser.ConfigParser.{ConfigParser}
 use Rattle.record_text.specs.declared.config_row.ConfigRow.{ConfigRow}
 use Rattle.record_text.specs.declared.config_row.ConfigRow.TheVariants as row

@@ -14,7 +14,7 @@ use Rattle.recording_file.specs.Caps.{Cap, is_next_cap}
 use Rattle.recording_file.specs.Names.{NameValue, is_next_name}
 use Rattle.recording_file.specs.Rows.{named_at, text_at, capped_at, most_at, request_at}
 use Rattle.recording_file.specs.Counts.{counts_of}
-use Rattle.recording_file.specs.RowParsing.{IsAt, IsNaming, IsOpen, booked, ready_for}
+use Rattle.recording_file.specs.RowParsing.{IsAt, IsOpen, booked, ready_for}
 use Rattle.record_text.specs.ConfigParsing.{lacks_adapters}
 use Rattle.record_text.specs.declared.config_parser.ConfigParser.{ConfigParser}
 use Rattle.recording_file.specs.Sound.{IsSound}

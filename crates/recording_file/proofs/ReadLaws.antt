@@ -1,12 +1,12 @@
 -- What is read is spelled so.
-use Rattle.std.proofs.Common.{◌≡◌, ◌≤◌, ℕ, List, [], ◌∷◌, ◌++◌, length, Bool, true, false, cond, refl, sym, ap, ◌∙◌, subst, arith, Option, Some, None, Result, Ok, Err, ok_or, option_and_then, ◌==◌, not, nat_le, nat_lt}
+use Rattle.std.proofs.Common.{◌≡◌, ◌≤◌, ℕ, List, [], ◌∷◌, ◌++◌, length, Bool, true, false, cond, refl, sym, ap, ◌∙◌, subst, arith, Option, Some, None, Ok, Err, ok_or, option_and_then, ◌==◌, not, nat_le, nat_lt}
 use Rattle.std.proofs.lemmas.Bool.{and_parts, eqb-true, ltb-true}
 use Rattle.std.proofs.lemmas.List.{nil_from_length}
 use Rattle.record_text.proofs.ConfigLaws.{ordered_standard}
 use Rattle.record_text.specs.declared.config_row.ConfigRow.TheVariants as row
 use Rattle.recording_file.proofs.ParserLemmas.{may_take}
 use Rattle.recording_file.specs.Recorded.{Recorded, Request, has_items, MAX_REQUESTS}
-use Rattle.recording_file.specs.Reading.{apply_parsed, add_name, add_cap, add_request, book_rank, ended, placed, reading, recorded_of, row_step, parsed_by, step, stands, whole, RecordingFault, BadHeader, BadRecord, RecordingParser, ParsedRow}
+use Rattle.recording_file.specs.Reading.{apply_parsed, add_name, add_cap, add_request, book_rank, ended, placed, reading, recorded_of, row_step, parsed_by, step, stands, whole, BadHeader, BadRecord, RecordingParser, ParsedRow}
 use Rattle.recording_file.specs.declared.recording_parser.RecordingParser.TheVariants as parser
 use Rattle.recording_file.specs.declared.parsed_row.ParsedRow.TheVariants as parsed
 use Rattle.recording_file.specs.Words.{spelled, word_of, RecordingWord, name_text}

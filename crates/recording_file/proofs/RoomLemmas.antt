@@ -1,10 +1,10 @@
 -- Places in the table of room.
-use Rattle.std.proofs.Common.{◌≡◌, ◌≢◌, ◌<◌, ◌≤◌, ◌+◌, ◌-◌, ◌*◌, ℕ, List, [], ◌∷◌, ◌++◌, length, get_or, set, drop, drop-cons, add-one, append_assoc, append-nil, take, zero, suc, replicate, Bool, true, false, cond, refl, sym, ap, ◌∙◌, subst, arith, length-append, length-set, Some, find, ◌==◌, ◌&&◌, nat_le, nat_lt, if◌then◌else◌, add-mul}
+use Rattle.std.proofs.Common.{◌≡◌, ◌≢◌, ◌<◌, ◌≤◌, ◌+◌, ◌-◌, ◌*◌, ℕ, List, [], ◌∷◌, ◌++◌, length, get_or, drop, drop-cons, add-one, append_assoc, append-nil, take, zero, suc, replicate, Bool, true, false, cond, refl, sym, ap, ◌∙◌, subst, arith, length-append, Some, find, ◌==◌, ◌&&◌, nat_le, nat_lt, if◌then◌else◌, add-mul}
 use Rattle.std.specs.List.{AllByRecursion}
 use Rattle.std.specs.Option.{option_map_or}
 use Rattle.std.proofs.lemmas.Bool.{and_parts, eq-eqb, eqb-true, leb-true, ltb-true, le-leb, lt-ltb}
 use Rattle.std.proofs.lemmas.Bool.Decides.{nat_tests}
-use Rattle.std.proofs.lemmas.List.{get_or_append_left, get_or-append-add, get_or-replicate, length-replicate, get_or-set_same, get_or-set_other, drop_all, take_all, replicate-append-replicate}
+use Rattle.std.proofs.lemmas.List.{get_or_append_left, get_or-append-add, get_or-replicate, length-replicate, drop_all, take_all, replicate-append-replicate}
 use Rattle.cam_types.specs.Topology.{Topology}
 use Rattle.recording_file.specs.Caps.{Part, Cap, part_of, part_rank, is_same_part, covers, openings, cap_in, PartKind}
 use Rattle.recording_file.specs.declared.part.PartKind.TheVariants as kind

@@ -1,8 +1,8 @@
 -- The records of a whole recording are read as that recording.
-use Rattle.std.proofs.Common.{◌≡◌, ◌++◌, map, Bool, true, false, refl, sym, ap, ◌∙◌, Result, Ok, ◌||◌}
+use Rattle.std.proofs.Common.{◌≡◌, ◌++◌, map, Bool, true, refl, sym, ap, ◌∙◌, Result, Ok, ◌||◌}
 use Rattle.csv.specs.Records.{field_at}
 use Rattle.cam_types.specs.Weights.{are_standard}
-use Rattle.recording_file.specs.Reading.{ended, reading, step, RecordingFault}
+use Rattle.recording_file.specs.Reading.{reading, step, RecordingFault}
 use Rattle.recording_file.specs.declared.recording_parser.RecordingParser.TheVariants as parser
 use Rattle.record_text.specs.Header.{has_letters, is_header, header_row}
 use Rattle.recording_file.specs.Recorded.{Recorded, IsRecording}

@@ -1,11 +1,10 @@
 //! The configuration of a recording: its first row, and its end.
 
-ghost use Rattle.std.specs.Prelude.{◌≡◌, ◌≢◌, Ok, Err, IfOk};
+ghost use Rattle.std.specs.Prelude.{◌≡◌, ◌≢◌, ◌≤◌, Ok, Err, IfOk};
 ghost use Rattle.record_text.specs.ConfigParsing.{IsOrdered, standard_table};
 ghost use Rattle.recording_file.specs.Reading.{in_config, whole_of};
 ghost use Rattle.recording_file.specs.Recorded.{IsKept};
 ghost use Rattle.recording_file.specs.Sound.{IsSound, IsStart};
-ghost use Rattle.std.specs.Prelude.{◌≤◌};
 
 use crate::preamble::Start;
 use crate::recorder::Recorder;
@@ -47,10 +46,7 @@ pub(crate) fn whole_of(
 }
 
 /// A rule of the configuration that is broken is a fault of the record.
-pub(crate) fn in_config<T>(
-    number: u32,
-    made: Result<T, ConfigError>,
-) -> Result<T, RecordingFault>
+pub(crate) fn in_config<T>(number: u32, made: Result<T, ConfigError>) -> Result<T, RecordingFault>
     ensures { result ≡ in_config number made }
 {
     match made {

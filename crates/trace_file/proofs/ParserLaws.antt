@@ -1,16 +1,16 @@
 -- What the parsers of reading have read is spelled so.
-use Rattle.std.proofs.Common.{◌≡◌, ◌≤◌, ℕ, List, [], ◌∷◌, ◌++◌, length, map, Bool, true, false, cond, refl, sym, ap, ◌∙◌, subst, append_assoc}
+use Rattle.std.proofs.Common.{◌≡◌, ◌≤◌, ℕ, List, [], ◌∷◌, ◌++◌, length, map, Bool, true, false, cond, refl, sym, ap, ◌∙◌, subst}
 use Rattle.std.specs.Prelude.{Option, Some, None, Result, Ok, Err, ok_or, ◌==◌, ⊤, nat_le}
 use Rattle.std.specs.List.{AllByRecursion, list_all}
 use Rattle.std.proofs.lemmas.Bool.{and_parts, eqb-true}
 use Rattle.std.proofs.lemmas.List.{map-append}
 use Rattle.std.proofs.lemmas.List.Folds.{list_all-append}
 use Rattle.std.proofs.lemmas.Option.{cond_some}
-use Rattle.cam_types.specs.Weights.{are_standard, standard_weights}
+use Rattle.cam_types.specs.Weights.{are_standard}
 use Rattle.cam_types.specs.declared.config.ConfigError.TheVariants as error
 use Rattle.event_rules.specs.Legal.{history_rules}
 use Rattle.event_rules.proofs.LegalLemmas.{legal-none}
-use Rattle.record_text.specs.ConfigParsing.{lacks_adapters, next_rank, pushed, row_rank, rows_then, spelled_row, with_row, IsOrdered}
+use Rattle.record_text.specs.ConfigParsing.{lacks_adapters, next_rank, pushed, row_rank, rows_then, spelled_row, with_row}
 use Rattle.record_text.specs.declared.config_parser.ConfigParser.{ConfigParser}
 use Rattle.record_text.specs.declared.config_row.ConfigRow.{ConfigRow}
 use Rattle.cam_types.specs.declared.config.ConfigError.{ConfigError}
@@ -26,13 +26,13 @@ use Rattle.record_text.proofs.RowLaws.{weight_takes, one_takes, device_takes, na
 use Rattle.record_text.proofs.StepLemmas.{ok_or_ok, ok_is, on_ok}
 use Rattle.trace_file.specs.Histories.{Adapter, Topology, Device, Event, Past, Refusal, refusal}
 use Rattle.trace_file.specs.Rows.{adapter_in, event_at, TraceWord}
-use Rattle.trace_file.specs.Reading.{add_event, add_row, configured, ended, first_config, in_config, in_record, past_of, placed, row_step, stands, step, take_word, unless_refused, version_of, TraceFault, BadConfig, BadHeader, BadRecord, TraceParser}
+use Rattle.trace_file.specs.Reading.{add_event, add_row, configured, ended, first_config, in_config, in_record, past_of, placed, row_step, stands, step, take_word, unless_refused, version_of, TraceFault, BadHeader, BadRecord, TraceParser}
 use Rattle.trace_file.specs.declared.trace_parser.TraceParser.TheVariants as parser
 use Rattle.trace_file.specs.declared.word.TraceWord.TheVariants as word
 use Rattle.trace_file.specs.Records.{event_row, has_no_links, header, holds, is_unlinked, records_of, weight_rows}
 use Rattle.trace_file.specs.Versions.{has_links, has_table, has_word, name_of, Version}
 use Rattle.trace_file.specs.declared.version.Version.TheVariants as version
-use Rattle.trace_file.specs.Sound.{IsKept, IsSound, MayTake}
+use Rattle.trace_file.specs.Sound.{IsKept, IsSound}
 use Rattle.trace_file.specs.Trace.{FitsEvent, IsHistory}
 use Rattle.trace_file.specs.Words.{spelled, word_of, word_rank}
 use Rattle.trace_file.proofs.FieldLaws.{word_spelled}

@@ -1,5 +1,5 @@
 -- What a record does to a parser of a trace.
-use Rattle.std.proofs.Common.{◌≡◌, ◌≢◌, ◌≤◌, ℕ, [], ◌∷◌, ◌++◌, true, false, refl, sym, ap, ◌∙◌, subst, Ok, nat_le}
+use Rattle.std.proofs.Common.{◌≡◌, ◌≢◌, ◌≤◌, ℕ, [], ◌∷◌, ◌++◌, true, false, refl, subst, nat_le}
 use Rattle.std.proofs.lemmas.Bool.{and_parts, leb-true}
 use Rattle.record_text.specs.ConfigParsing.{lacks_adapters, next_rank, row_rank, IsOrdered}
 use Rattle.record_text.specs.declared.config_parser.ConfigParser.{ConfigParser}

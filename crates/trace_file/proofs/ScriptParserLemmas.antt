@@ -2,7 +2,6 @@
 use Rattle.std.proofs.Common.{◌≡◌, ℕ, true, sym, ap, ◌∙◌, Ok, ok_or}
 use Rattle.std.proofs.lemmas.Bool.{false≢true}
 use Rattle.record_text.specs.ConfigParsing.{with_row}
-use Rattle.record_text.specs.declared.config_parser.ConfigParser.{ConfigParser}
 use Rattle.record_text.specs.declared.config_row.ConfigRow.{ConfigRow}
 use Rattle.record_text.specs.declared.config_row.ConfigRow.TheVariants as row
 use Rattle.record_text.specs.ConfigRows.{device_at, one_number, weight_at}

@@ -1,5 +1,5 @@
 -- The records of a whole history are read as that history.
-use Rattle.std.proofs.Common.{◌≡◌, ◌≢◌, ◌≤◌, ℕ, List, [], ◌∷◌, ◌++◌, length, map, Bool, true, false, cond, refl, sym, ap, ◌∙◌, arith, None, Result, Ok, not, ◌==◌, ◌&&◌, ◌||◌, if◌then◌else◌}
+use Rattle.std.proofs.Common.{◌≡◌, ◌≤◌, ℕ, List, [], ◌∷◌, ◌++◌, length, map, Bool, true, false, cond, refl, sym, ap, ◌∙◌, arith, None, Result, Ok, not, ◌==◌, ◌&&◌, ◌||◌, if◌then◌else◌}
 use Rattle.std.specs.Prelude.{⊤}
 use Rattle.std.specs.List.{AllByRecursion, list_all}
 use Rattle.std.proofs.lemmas.Bool.{and_parts, eqb-true}
@@ -9,17 +9,15 @@ use Rattle.cam_types.specs.Topology.{IsConfig}
 use Rattle.cam_types.specs.Weights.{are_standard}
 use Rattle.event_rules.specs.Legal.{history_rules, is_legal as legal_by}
 use Rattle.event_rules.proofs.LegalLemmas.{none-legal}
-use Rattle.record_text.specs.ConfigParsing.{lacks_adapters, rows_then}
-use Rattle.record_text.specs.declared.config_parser.ConfigParser.{ConfigParser}
-use Rattle.record_text.specs.declared.config_row.ConfigRow.TheVariants as row
+use Rattle.record_text.specs.ConfigParsing.{rows_then}
 use Rattle.record_text.specs.Header.{has_letters, is_header, header_row}
 use Rattle.record_text.specs.Steps.{taken}
 use Rattle.record_text.specs.Text.{Row}
-use Rattle.record_text.proofs.ConfigLaws.{config_came, first_table, next_few, parsed_config, rank_few, row_for, taken_rows, HaveAll}
+use Rattle.record_text.proofs.ConfigLaws.{config_came, first_table, next_few, parsed_config, rank_few, taken_rows, HaveAll}
 use Rattle.record_text.proofs.ListLemmas.{Along, all_true, along_both, true_along}
 use Rattle.record_text.proofs.StepLemmas.{run}
-use Rattle.trace_file.specs.Histories.{Adapter, Topology, WeightRow, Device, Event, Past, refusal, config_fault, is_legal, is_legal_event}
-use Rattle.trace_file.specs.Reading.{add_event, ended, first_config, parser_rank, reading, step, TraceFault, TraceParser}
+use Rattle.trace_file.specs.Histories.{Adapter, Topology, Device, Event, Past, config_fault, is_legal, is_legal_event}
+use Rattle.trace_file.specs.Reading.{ended, first_config, reading, step, TraceFault, TraceParser}
 use Rattle.trace_file.specs.declared.trace_parser.TraceParser.TheVariants as parser
 use Rattle.trace_file.specs.Records.{event_row, has_no_links, header, holds, is_unlinked, least_version, records_of}
 use Rattle.trace_file.specs.Versions.{has_links, has_table, name_of, Version}

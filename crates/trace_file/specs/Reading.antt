@@ -3,13 +3,12 @@ use Rattle.std.specs.Prelude.{ℕ, ◌+◌, ◌==◌, Bool, true, false, nat_le,
 use Rattle.trace_file.specs.Histories.{Topology, Past, Event, standard_weights, Refusal, refusal}
 use Rattle.trace_file.specs.Rows.{adapter_in, event_at, TraceWord}
 use Rattle.record_text.specs.ConfigRows.{one_number, device_at, weight_at}
-use Rattle.record_text.specs.ConfigParsing.{empty_table, finished, lacks_adapters as lacks, lacking, next_rank, rows_before, standard_table, with_row}
+use Rattle.record_text.specs.ConfigParsing.{empty_table, lacks_adapters as lacks, lacking, next_rank, rows_before, standard_table, with_row}
 use Rattle.record_text.specs.declared.config_parser.ConfigParser.{ConfigParser}
 use Rattle.record_text.specs.declared.config_row.ConfigRow.{ConfigRow}
 use Rattle.cam_types.specs.declared.config.ConfigError.{ConfigError}
 use Rattle.record_text.specs.declared.config_row.ConfigRow.TheVariants as row
 use Rattle.cam_types.specs.declared.config.ConfigError.TheVariants as error
-use Rattle.cam_types.specs.declared.config_fault.ConfigFault.TheVariants.{NoAdapters}
 pub use Rattle.trace_file.specs.declared.trace_fault.TraceFault.{TraceFault}
 pub use Rattle.trace_file.specs.declared.trace_fault.TraceFault.TheVariants.{BadHeader, BadRecord, BadField, BadConfig, Illegal, OutOfMemory}
 pub use Rattle.trace_file.specs.declared.trace_parser.TraceParser.{TraceParser}

@@ -1,6 +1,6 @@
 //! The parser of a script, record by record.
 
-ghost use Rattle.std.specs.Prelude.{◌≡◌, ◌≢◌, Err, IfOk, IfSome, IsTrue, length};
+ghost use Rattle.std.specs.Prelude.{◌≡◌, ◌≢◌, ◌≤◌, Err, IfOk, IfSome, IsTrue, length};
 ghost use Rattle.csv.specs.Records.{fields_of};
 ghost use Rattle.record_text.specs.Fields.{field_of};
 ghost use Rattle.trace_file.specs.Scenarios.{is_answer_row, is_answer_word, item_of, names_driver, MAX_ROWS};
@@ -320,5 +320,3 @@ fn roomy_word(row: &ByteRecord, steps: u32, answers: u32) -> Option<ScriptWord>
     };
     if room { Some(word) } else { None }
 }
-
-ghost use Rattle.std.specs.Prelude.{◌≤◌};

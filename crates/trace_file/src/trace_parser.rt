@@ -75,12 +75,7 @@ impl TraceParser {
 
     /// One row of the configuration more, or the rule that it breaks.
     #[tactic(auto, unfolding(crate::specs::Sound::IsSound))]
-    fn add_row(
-        self,
-        alloc: Global,
-        number: u32,
-        row: ConfigRow,
-    ) -> Result<TraceParser, TraceFault>
+    fn add_row(self, alloc: Global, number: u32, row: ConfigRow) -> Result<TraceParser, TraceFault>
         requires sound { IsSound self }
         requires place { MayTake self row }
         ensures value { result ≢ Err TraceFault.OutOfMemory → result ≡ add_row number self row }

@@ -3,20 +3,23 @@
 pub use audit::audit_json;
 pub use check::check_json;
 pub use compare::compare_json;
+pub(crate) use counts::Counts;
 pub use explain::explain_json;
 pub use prove::prove_json;
 pub use sweep_object::sweep_json;
 
 mod audit;
+mod causes;
 mod check;
 mod compare;
 mod counts;
 mod explain;
 mod freezes;
 mod line;
-mod parts;
+mod members;
+mod part;
 mod prices;
 mod prove;
-mod shifts;
+mod row;
 mod stays;
 mod sweep_object;

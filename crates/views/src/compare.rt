@@ -1,7 +1,7 @@
 //! The text that puts two explanations side by side.
 
 pub use page::compare_page;
-pub(crate) use rows::rows_of;
+pub(crate) use totals::cost_of;
 
 mod differences;
 mod most;

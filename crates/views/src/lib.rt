@@ -11,8 +11,12 @@ pub use text::page;
 pub use wait_causes::PairBy;
 
 mod as_json;
+mod behind;
 mod compare;
 mod compared;
 mod notes;
+mod pair;
+mod pairing;
 mod swept;
+mod tables;
 mod text;

@@ -37,28 +37,22 @@ impl<'a> Captions<'a> {
 
     /// The adapter, device, driver or run level of this number, in words, as `driver 3 database`: at most 26 characters.
     pub fn caption(self, alloc: Global, by: Grouping, number: u32) -> Result<String, AllocError> {
-        match by {
-            Grouping::Device => {
-                let device = self.device(alloc, number)?;
-                shortened(alloc, &format!(in alloc; "device {device}")?)
-            }
-            Grouping::Adapter => self.numbered(alloc, "adapter", NameKind::Adapter, number),
-            Grouping::Driver => self.numbered(alloc, "driver", NameKind::Driver, number),
-            Grouping::Level => format!(in alloc; "run level {number}"),
+        let (word, name) = (word_of(by), self.name_by(by, number));
+        let shown = match by {
+            Grouping::Device => path_name(alloc, self.config, number)?,
+            _ => format!(in alloc; "{number}")?,
+        };
+        match name {
+            Some(name) => shortened(alloc, &format!(in alloc; "{word} {shown} {name}")?),
+            None => shortened(alloc, &format!(in alloc; "{word} {shown}")?),
         }
     }
 
     /// The adapter, device or driver of this number by its name alone, as `driver database`, or as `caption` does if it has none:
     /// at most 26 characters.
     pub fn by_name(self, alloc: Global, by: Grouping, number: u32) -> Result<String, AllocError> {
-        let (word, kind) = match by {
-            Grouping::Device => ("device", NameKind::Device),
-            Grouping::Adapter => ("adapter", NameKind::Adapter),
-            Grouping::Driver => ("driver", NameKind::Driver),
-            Grouping::Level => return self.caption(alloc, by, number),
-        };
-        match self.name(kind, number) {
-            Some(name) => shortened(alloc, &format!(in alloc; "{word} {name}")?),
+        match self.name_by(by, number) {
+            Some(name) => shortened(alloc, &format!(in alloc; "{} {name}", word_of(by))?),
             None => self.caption(alloc, by, number),
         }
     }
@@ -72,17 +66,13 @@ impl<'a> Captions<'a> {
         }
     }
 
-    // The word, the number, and the name of the kind if there is one.
-    fn numbered(
-        self,
-        alloc: Global,
-        word: &str,
-        kind: NameKind,
-        number: u32,
-    ) -> Result<String, AllocError> {
-        match self.name(kind, number) {
-            Some(name) => shortened(alloc, &format!(in alloc; "{word} {number} {name}")?),
-            None => format!(in alloc; "{word} {number}"),
+    /// The name of the adapter, device or driver of this number, if it has one; run levels have none.
+    pub fn name_by(self, by: Grouping, number: u32) -> Option<&'a str> {
+        match by {
+            Grouping::Adapter => self.name(NameKind::Adapter, number),
+            Grouping::Device => self.name(NameKind::Device, number),
+            Grouping::Driver => self.name(NameKind::Driver, number),
+            Grouping::Level => None,
         }
     }
 
@@ -94,6 +84,16 @@ impl<'a> Captions<'a> {
             }
         }
         None
+    }
+}
+
+// What a row of a table by this is of.
+fn word_of(by: Grouping) -> &'static str {
+    match by {
+        Grouping::Adapter => "adapter",
+        Grouping::Device => "device",
+        Grouping::Driver => "driver",
+        Grouping::Level => "run level",
     }
 }
 

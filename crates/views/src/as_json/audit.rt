@@ -9,10 +9,10 @@ ghost use Rattle.round_net.specs.PriceRows.{IsPricingFor};
 use crate::as_json::counts::Counts;
 use crate::as_json::line::line;
 use crate::as_json::prices::{Price, price_list};
-use crate::as_json::stays::Rounds;
 use round_net::{Net, Prices, Schedule, cost, live_cost};
 use serde::Serialize;
 use std::alloc::{AllocError, Global};
+use wording::shift;
 
 #[derive(Drop, Serialize)]
 struct Audited<'a> {
@@ -33,8 +33,9 @@ struct Scheduled {
     ccb: u32,
     #[serde(rename = "try")]
     attempt: u32,
-    #[serde(flatten)]
-    rounds: Rounds,
+    arrival: u32,
+    live: u32,
+    best: u32,
     weight: u32,
 }
 
@@ -56,40 +57,22 @@ pub fn audit_json(
     let live = live_cost(net);
     let best = cost(net, schedule);
     let mut audited = Audited {
-        counts: Counts::of(alloc, trace, net)?,
+        counts: Counts {
+            trace,
+            net,
+            unit: None,
+        },
         live,
         best,
-        excess: excess(live, best),
+        excess: best.map(|best| shift(best, live)),
         schedule: None,
         prices: None,
     };
     if !summary {
-        audited.list(alloc, net, schedule, prices)?;
+        audited.schedule = Some(stay_list(alloc, net, schedule)?);
+        audited.prices = Some(price_list(alloc, net, prices)?);
     }
     line(alloc, &audited)
-}
-
-impl Audited<'_> {
-    // Lists the stays and the prices.
-    fn list(
-        &mut self,
-        alloc: Global,
-        net: &Net,
-        schedule: &Schedule,
-        prices: &Prices,
-    ) -> Result<(), AllocError>
-        requires stays { length schedule.now ≡ (instance_of_rows net.now).stays }
-        requires cells { IsPricingFor (instance_of_rows net.now) prices.now }
-    {
-        self.schedule = Some(stay_list(alloc, net, schedule)?);
-        self.prices = Some(price_list(alloc, net, prices)?);
-        Ok(())
-    }
-}
-
-// By how much the live schedule is above the other one.
-fn excess(live: u64, best: Option<u64>) -> Option<i128> {
-    Some(i128::from(live) - i128::from(best?))
 }
 
 // The stays of the net, in creation order.
@@ -102,11 +85,9 @@ fn stay_list(alloc: Global, net: &Net, schedule: &Schedule) -> Result<Vec<Schedu
         list.push(Scheduled {
             ccb: name.ccb,
             attempt: name.attempt,
-            rounds: Rounds {
-                arrival: net.arrival(stay),
-                live: net.live(stay),
-                best: schedule.round(stay),
-            },
+            arrival: net.arrival(stay),
+            live: net.live(stay),
+            best: schedule.round(stay),
             weight: net.weight(stay),
         })?;
     }

@@ -1,52 +1,53 @@
 //! The members with which the objects on a trace or a recording begin.
 
-use cam_types::Config;
+use crate::as_json::members::{put_member, put_members, put_object};
+use cam_types::WeightRow;
+use recording_file::Span;
 use round_net::Net;
-use serde::Serialize;
-use std::alloc::{AllocError, Global};
+use serde::{Described, Serialize, Serializer};
+use wording::nanoseconds;
 
-/// The name of a trace or a recording, its counts, and its table of weights, unless that is the standard one.
-#[derive(Drop, Serialize)]
+/// What a trace or a recording is called, with its net.
+#[derive(Clone, Copy)]
 pub(crate) struct Counts<'a> {
-    trace: &'a str,
-    commands: u32,
-    stays: u32,
-    rounds: u32,
-    #[serde(skip_serializing_if = "Option::is_none")]
-    weights: Option<Vec<ListedWeight>>,
+    pub(crate) trace: &'a str,
+    pub(crate) net: &'a Net,
+    /// How long a round is, if that is known and to be told.
+    pub(crate) unit: Option<Span>,
 }
 
-// What a round of waiting costs after the priorities of the row before, up to the last of these.
-#[derive(Clone, Copy, Drop, Serialize)]
-struct ListedWeight {
-    last: u32,
-    weight: u32,
-}
+impl Described for Counts<'_> {}
 
-impl<'a> Counts<'a> {
-    /// Those of a net.
-    pub(crate) fn of(alloc: Global, trace: &'a str, net: &Net) -> Result<Counts<'a>, AllocError> {
-        Ok(Counts {
-            trace,
-            commands: net.commands(),
-            stays: net.stays(),
-            rounds: net.rounds(),
-            weights: weight_list(alloc, net.config())?,
-        })
+impl Serialize for Counts<'_> {
+    // The name, the counts, the table of weights unless that is the standard one, and how many nanoseconds a round has.
+    fn serialize<S: Serializer>(&self, out: &mut S) -> Result<(), S::Error> {
+        let (net, config) = (self.net, self.net.config());
+        out.begin_map(None)?;
+        put_member(out, "trace", &self.trace)?;
+        put_members(
+            out,
+            &[
+                ("commands", net.commands()),
+                ("stays", net.stays()),
+                ("rounds", net.rounds()),
+            ],
+        )?;
+        if !config.has_standard_weights() {
+            out.key("weights")?;
+            put_weights(out, config.weights())?;
+        }
+        if let Some(unit) = self.unit {
+            put_member(out, "round_ns", &nanoseconds(unit))?;
+        }
+        out.end_map()
     }
 }
 
-// The rows of a table of weights that isn't the standard one.
-fn weight_list(alloc: Global, config: &Config) -> Result<Option<Vec<ListedWeight>>, AllocError> {
-    if config.has_standard_weights() {
-        return Ok(None);
+// Writes what a round of waiting costs: by each row after the priorities of the row before, up to the last of its own.
+fn put_weights<S: Serializer>(out: &mut S, rows: &[WeightRow]) -> Result<(), S::Error> {
+    out.begin_seq(Some(rows.len()))?;
+    for row in rows {
+        put_object(out, &[("last", row.last), ("weight", row.weight)])?;
     }
-    let mut list = Vec::with_capacity(alloc, config.weights().len())?;
-    for row in config.weights() {
-        list.push(ListedWeight {
-            last: row.last,
-            weight: row.weight,
-        })?;
-    }
-    Ok(Some(list))
+    out.end_seq()
 }

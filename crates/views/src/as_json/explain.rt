@@ -4,29 +4,60 @@ ghost use Rattle.std.specs.Prelude.{◌≡◌, string_bytes, IfOk};
 ghost use Rattle.json.specs.Lex.{tokens};
 ghost use Rattle.json.specs.Print.{print};
 
-use crate::as_json::counts::Counts;
-use crate::as_json::freezes::{ListedFreeze, freeze_list};
+use crate::as_json::freezes::Freezes;
 use crate::as_json::line::line;
-use crate::as_json::parts::{Costs, Tables};
-use crate::as_json::stays::{ListedStay, stay_list};
+use crate::as_json::members::put_member;
+use crate::as_json::part::put_costs;
+use crate::as_json::row::put_row;
+use crate::as_json::stays::Stays;
+use crate::compared::Compared;
+use crate::tables::{GROUPINGS, tables_of};
 use round_net::Net;
-use serde::Serialize;
+use serde::{Described, Serialize, Serializer};
 use std::alloc::{AllocError, Global};
-use wait_causes::Explanation;
-use wording::{Captions, nanoseconds};
+use wait_causes::{Explanation, Grouping, Part, Row};
 
-#[derive(Drop, Serialize)]
+// An input with what its stays waited: all, by the tables, and one by one.
+#[derive(Drop)]
 struct Explained<'a> {
-    #[serde(flatten)]
-    counts: Counts<'a>,
-    #[serde(skip_serializing_if = "Option::is_none")]
-    round_ns: Option<u64>,
-    #[serde(flatten)]
-    costs: Costs,
-    #[serde(flatten)]
-    tables: Tables,
-    freezes: Vec<ListedFreeze>,
-    list: Vec<ListedStay>,
+    whole: Part,
+    tables: Vec<Vec<Row>>,
+    freezes: Freezes,
+    stays: Stays<'a>,
+}
+
+impl Described for Explained<'_> {}
+
+impl Serialize for Explained<'_> {
+    fn serialize<S: Serializer>(&self, out: &mut S) -> Result<(), S::Error> {
+        let input = self.stays.input;
+        out.begin_map(None)?;
+        out.flatten_next()?;
+        input.counts().serialize(out)?;
+        put_costs(out, input, &self.whole)?;
+        for ((by, _, key), rows) in GROUPINGS.iter().zip(&self.tables) {
+            out.key(key)?;
+            put_rows(out, self.stays.alloc, input, *by, rows)?;
+        }
+        put_member(out, "freezes", &self.freezes)?;
+        put_member(out, "list", &self.stays)?;
+        out.end_map()
+    }
+}
+
+// Writes the rows of a table by this.
+fn put_rows<S: Serializer>(
+    out: &mut S,
+    alloc: Global,
+    input: Compared<'_>,
+    by: Grouping,
+    rows: &[Row],
+) -> Result<(), S::Error> {
+    out.begin_seq(Some(rows.len()))?;
+    for row in rows {
+        put_row(out, alloc, input, by, row)?;
+    }
+    out.end_seq()
 }
 
 /// A line without its line feed: the counts of the net, how many nanoseconds a round has where that is known, what its live
@@ -42,14 +73,22 @@ pub fn explain_json(
 ) -> Result<String, AllocError>
     ensures { IfOk result (λ s. string_bytes s ≡ print (tokens (string_bytes s))) }
 {
-    let (config, kind) = (net.config(), explanation.kind());
+    let input = Compared {
+        name: trace,
+        net,
+        explanation,
+    };
     let explained = Explained {
-        counts: Counts::of(alloc, trace, net)?,
-        round_ns: explanation.unit().map(nanoseconds),
-        costs: Costs::of(&explanation.whole(alloc)?, kind, config),
-        tables: Tables::of(alloc, Captions::of(config, explanation), explanation)?,
-        freezes: freeze_list(alloc, explanation)?,
-        list: stay_list(alloc, config, explanation, max_waits)?,
+        whole: explanation.whole(alloc)?,
+        tables: tables_of(alloc, explanation)?,
+        freezes: Freezes {
+            list: explanation.freezes(alloc)?,
+        },
+        stays: Stays {
+            alloc,
+            input,
+            most: max_waits,
+        },
     };
     line(alloc, &explained)
 }

@@ -4,7 +4,7 @@ ghost use Rattle.std.specs.Prelude.{◌≡◌, string_bytes, IfOk};
 ghost use Rattle.json.specs.Lex.{tokens};
 ghost use Rattle.json.specs.Print.{print};
 
-use serde::{Serialize, Serializer};
+use serde::Serialize;
 use std::alloc::{AllocError, Global};
 
 /// The object as JSON without spaces, line feeds or other control characters.
@@ -15,14 +15,4 @@ pub(crate) fn line<T: Serialize>(alloc: Global, object: &T) -> Result<String, Al
         Ok(text) => Ok(text),
         Err(_) => Err(AllocError),
     }
-}
-
-/// Writes a member of the object that is open.
-pub(crate) fn put_member<S: Serializer, T: Serialize>(
-    out: &mut S,
-    key: &str,
-    value: &T,
-) -> Result<(), S::Error> {
-    out.key(key)?;
-    value.serialize(out)
 }

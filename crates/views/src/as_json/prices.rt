@@ -5,7 +5,7 @@ ghost use Rattle.round_net.specs.Instance.{rows};
 ghost use Rattle.round_net.specs.Rows.{instance_of_rows};
 ghost use Rattle.round_net.specs.PriceRows.{IsPricingFor};
 
-use crate::as_json::line::put_member;
+use crate::as_json::members::put_object;
 use round_net::{Net, Prices};
 use serde::{Described, Serialize, Serializer};
 use std::alloc::{AllocError, Global};
@@ -24,11 +24,15 @@ impl Described for Price {}
 
 impl Serialize for Price {
     fn serialize<S: Serializer>(&self, out: &mut S) -> Result<(), S::Error> {
-        out.begin_map(Some(3))?;
-        put_member(out, self.owner, &self.number)?;
-        put_member(out, "round", &self.round)?;
-        put_member(out, "price", &self.price)?;
-        out.end_map()
+        let (number, round) = (u64::from(self.number), u64::from(self.round));
+        put_object(
+            out,
+            &[
+                (self.owner, number),
+                ("round", round),
+                ("price", self.price),
+            ],
+        )
     }
 }
 

@@ -5,57 +5,102 @@ ghost use Rattle.json.specs.Lex.{tokens};
 ghost use Rattle.json.specs.Print.{print};
 
 use crate::as_json::line::line;
+use crate::as_json::members::{put_member, put_object, put_path};
 use crate::swept::Swept;
-use cam_path::path_name;
 use cam_types::Config;
-use serde::Serialize;
+use serde::{Described, Serialize, Serializer};
 use std::alloc::{AllocError, Global};
 use sweep::{Change, Place, Row, Setting, Spread};
 
 // What was run, and each setting with its row.
-#[derive(Drop, Serialize)]
+#[derive(Clone, Copy)]
 struct Sweep<'a> {
-    script: &'a str,
-    seeds: u32,
-    settings: Vec<SettingObject>,
+    alloc: Global,
+    swept: Swept<'a>,
 }
 
-// A setting with what its runs came to: the costs if all drained, and else how many didn't and what was left.
-#[derive(Drop, Serialize)]
-struct SettingObject {
-    openings: Vec<ChangeObject>,
-    drained: bool,
-    #[serde(skip_serializing_if = "Option::is_none")]
-    live: Option<SpreadObject>,
-    #[serde(skip_serializing_if = "Option::is_none")]
-    best: Option<SpreadObject>,
-    #[serde(skip_serializing_if = "Option::is_none")]
-    excess: Option<SpreadObject>,
-    #[serde(skip_serializing_if = "Option::is_none")]
-    p99: Option<SpreadObject>,
-    #[serde(skip_serializing_if = "Option::is_none")]
-    undrained: Option<u32>,
-    #[serde(skip_serializing_if = "Option::is_none")]
-    left: Option<SpreadObject>,
+impl Described for Sweep<'_> {}
+
+impl Serialize for Sweep<'_> {
+    fn serialize<S: Serializer>(&self, out: &mut S) -> Result<(), S::Error> {
+        let (swept, settings) = (self.swept, self.swept.plan.settings());
+        out.begin_map(Some(3))?;
+        put_member(out, "script", &swept.name)?;
+        put_member(out, "seeds", &swept.plan.seeds())?;
+        out.key("settings")?;
+        out.begin_seq(Some(settings.len()))?;
+        for (setting, row) in settings.iter().zip(swept.rows) {
+            out.begin_map(None)?;
+            put_openings(out, self.alloc, swept.config, setting)?;
+            put_figures(out, row)?;
+            out.end_map()?;
+        }
+        out.end_seq()?;
+        out.end_map()
+    }
 }
 
-// A device, which has its path too, or an adapter, with its openings.
-#[derive(Drop, Serialize)]
-struct ChangeObject {
-    #[serde(skip_serializing_if = "Option::is_none")]
-    device: Option<u32>,
-    #[serde(skip_serializing_if = "Option::is_none")]
-    path: Option<String>,
-    #[serde(skip_serializing_if = "Option::is_none")]
-    adapter: Option<u32>,
-    openings: u32,
+// Writes the openings of a setting: each with its device, which has its path too, or its adapter.
+fn put_openings<S: Serializer>(
+    out: &mut S,
+    alloc: Global,
+    config: &Config,
+    setting: &Setting,
+) -> Result<(), S::Error> {
+    out.key("openings")?;
+    out.begin_seq(Some(setting.changes.len()))?;
+    for change in &setting.changes {
+        out.begin_map(None)?;
+        put_place(out, alloc, config, change)?;
+        put_member(out, "openings", &change.openings)?;
+        out.end_map()?;
+    }
+    out.end_seq()
 }
 
-#[derive(Clone, Copy, Drop, Serialize)]
-struct SpreadObject {
-    least: u64,
-    median: u64,
-    greatest: u64,
+fn put_place<S: Serializer>(
+    out: &mut S,
+    alloc: Global,
+    config: &Config,
+    change: &Change,
+) -> Result<(), S::Error> {
+    match change.place {
+        Place::Device(device) => {
+            put_member(out, "device", &device)?;
+            put_path(out, alloc, config, device)
+        }
+        Place::Adapter(adapter) => put_member(out, "adapter", &adapter),
+    }
+}
+
+// Writes what the runs of a setting came to: the costs if all drained, and else how many didn't and what was left.
+fn put_figures<S: Serializer>(out: &mut S, row: &Row) -> Result<(), S::Error> {
+    match row {
+        Row::Drained(figures) => {
+            put_member(out, "drained", &true)?;
+            put_spread(out, "live", &figures.live)?;
+            put_spread(out, "best", &figures.best)?;
+            put_spread(out, "excess", &figures.excess)?;
+            put_spread(out, "p99", &figures.p99)
+        }
+        Row::Undrained { runs, left } => {
+            put_member(out, "drained", &false)?;
+            put_member(out, "undrained", runs)?;
+            put_spread(out, "left", left)
+        }
+    }
+}
+
+fn put_spread<S: Serializer>(out: &mut S, key: &str, spread: &Spread) -> Result<(), S::Error> {
+    out.key(key)?;
+    put_object(
+        out,
+        &[
+            ("least", spread.least),
+            ("median", spread.median),
+            ("greatest", spread.greatest),
+        ],
+    )
 }
 
 /// A line without its line feed: the script's name, the number of seeds, and for each setting its openings and the least, the
@@ -63,92 +108,5 @@ struct SpreadObject {
 pub fn sweep_json(alloc: Global, swept: Swept<'_>) -> Result<String, AllocError>
     ensures { IfOk result (λ s. string_bytes s ≡ print (tokens (string_bytes s))) }
 {
-    let settings = objects(alloc, swept)?;
-    line(
-        alloc,
-        &Sweep {
-            script: swept.name,
-            seeds: swept.plan.seeds(),
-            settings,
-        },
-    )
-}
-
-// An object for each setting.
-fn objects(alloc: Global, swept: Swept<'_>) -> Result<Vec<SettingObject>, AllocError> {
-    let settings = swept.plan.settings();
-    let mut objects = Vec::with_capacity(alloc, settings.len())?;
-    for (setting, row) in settings.iter().zip(swept.rows.iter()) {
-        objects.push(object_of(alloc, swept.config, setting, row)?)?;
-    }
-    Ok(objects)
-}
-
-fn object_of(
-    alloc: Global,
-    config: &Config,
-    setting: &Setting,
-    row: &Row,
-) -> Result<SettingObject, AllocError> {
-    let openings = changes_of(alloc, config, &setting.changes)?;
-    Ok(match row {
-        Row::Drained(figures) => SettingObject {
-            openings,
-            drained: true,
-            live: Some(spread_of(figures.live)),
-            best: Some(spread_of(figures.best)),
-            excess: Some(spread_of(figures.excess)),
-            p99: Some(spread_of(figures.p99)),
-            undrained: None,
-            left: None,
-        },
-        Row::Undrained { runs, left } => SettingObject {
-            openings,
-            drained: false,
-            live: None,
-            best: None,
-            excess: None,
-            p99: None,
-            undrained: Some(*runs),
-            left: Some(spread_of(*left)),
-        },
-    })
-}
-
-fn changes_of(
-    alloc: Global,
-    config: &Config,
-    changes: &[Change],
-) -> Result<Vec<ChangeObject>, AllocError> {
-    let mut objects = Vec::with_capacity(alloc, changes.len())?;
-    for change in changes {
-        objects.push(change_of(alloc, config, change)?)?;
-    }
-    Ok(objects)
-}
-
-fn change_of(alloc: Global, config: &Config, change: &Change) -> Result<ChangeObject, AllocError> {
-    let openings = change.openings;
-    match change.place {
-        Place::Device(device) => Ok(ChangeObject {
-            device: Some(device),
-            path: Some(path_name(alloc, config, device)?),
-            adapter: None,
-            openings,
-        }),
-        Place::Adapter(adapter) => Ok(ChangeObject {
-            device: None,
-            path: None,
-            adapter: Some(adapter),
-            openings,
-        }),
-    }
-}
-
-fn spread_of(spread: Spread) -> SpreadObject {
-    SpreadObject {
-        least: spread.least,
-        median: spread.median,
-        greatest: spread.greatest,
-    }
+    line(alloc, &Sweep { alloc, swept })
 }

@@ -1,22 +1,17 @@
 //! Sentences on what changed most.
 
 use crate::compare::totals::cost_of;
-use crate::compared::{Compared, GROUPINGS, caption_of};
+use crate::pair::Pair;
+use crate::tables::GROUPINGS;
 use std::alloc::{AllocError, Global};
-use wait_causes::{Explanation, PairedRow, Part, Row, WaitCause, most_changed};
-use wording::{Page, push_number, push_share};
+use wait_causes::{PairedRow, Part, Row, WaitCause, most_changed};
+use wording::{Page, push_number, push_numbers, push_share};
 
 /// Puts sentences on the page: how much the cost changed, and which cause changed most.
-pub(crate) fn push_most_cause(
-    page: &mut Page,
-    before: &Explanation,
-    after: &Explanation,
-    was: &Part,
-    is: &Part,
-) {
+pub(crate) fn push_most_cause(page: &mut Page, pair: &Pair<'_>, was: &Part, is: &Part) {
     page.put("\n");
     push_change(page, was.live, is.live);
-    if let Some(cause) = most_changed_cause(before, after, was, is) {
+    if let Some(cause) = most_changed_cause(pair, was, is) {
         page.show(format_args!("Of the causes {} changed most", cause.name()));
         push_from_to(page, cost_of(&was.costs, cause), cost_of(&is.costs, cause));
     }
@@ -26,13 +21,12 @@ pub(crate) fn push_most_cause(
 pub(crate) fn push_most_rows(
     alloc: Global,
     page: &mut Page,
-    before: Compared<'_>,
-    after: Compared<'_>,
+    pair: &Pair<'_>,
     tables: &[Vec<PairedRow>],
 ) -> Result<(), AllocError> {
-    for ((by, words), rows) in GROUPINGS.iter().zip(tables) {
+    for ((by, words, _), rows) in GROUPINGS.iter().zip(tables) {
         if let Some(row) = most_changed(rows) {
-            let caption = caption_of(alloc, before, after, *by, &row)?;
+            let caption = pair.caption(alloc, *by, &row)?;
             page.show(format_args!("Of the {words} {caption} changed most"));
             push_from_to(page, live_of(&row.before), live_of(&row.after));
         }
@@ -40,8 +34,8 @@ pub(crate) fn push_most_rows(
     Ok(())
 }
 
-/// The weighted rounds of a row, and 0 of none.
-pub(crate) fn live_of(row: &Option<Row>) -> u64 {
+// The weighted rounds of a row, and 0 of none.
+fn live_of(row: &Option<Row>) -> u64 {
     match row {
         Some(row) => row.part.live,
         None => 0,
@@ -54,11 +48,8 @@ fn push_change(page: &mut Page, before: u64, after: u64) {
         page.put("What the waiting cost didn't change.\n");
         return;
     }
-    page.put(if after < before {
-        "What the waiting cost fell by "
-    } else {
-        "What the waiting cost rose by "
-    });
+    let how = if after < before { "fell" } else { "rose" };
+    page.show(format_args!("What the waiting cost {how} by "));
     push_number(page, before.abs_diff(after));
     if before > 0 {
         page.put(", ");
@@ -69,23 +60,17 @@ fn push_change(page: &mut Page, before: u64, after: u64) {
 
 // Puts what a cost was and what it is on the page, to the end of the sentence.
 fn push_from_to(page: &mut Page, before: u64, after: u64) {
-    page.put(": from ");
-    push_number(page, before);
-    page.put(" to ");
-    push_number(page, after);
-    page.put(".\n");
+    push_numbers(page, &[(": from ", before), (" to ", after)], ".\n");
 }
 
 // The cause whose cost changed most, if one did: of equal ones the first in the order of tests.
-fn most_changed_cause(
-    before: &Explanation,
-    after: &Explanation,
-    was: &Part,
-    is: &Part,
-) -> Option<WaitCause> {
+fn most_changed_cause(pair: &Pair<'_>, was: &Part, is: &Part) -> Option<WaitCause> {
     let mut most = None;
     let mut by = 0;
-    for kind in &[before.kind(), after.kind()] {
+    for kind in &[
+        pair.before.explanation.kind(),
+        pair.after.explanation.kind(),
+    ] {
         for cause in &kind.causes() {
             let change = cost_of(&was.costs, *cause).abs_diff(cost_of(&is.costs, *cause));
             if change > by {

@@ -2,10 +2,11 @@
 
 use crate::compare::differences::push_differences;
 use crate::compare::most::{push_most_cause, push_most_rows};
-use crate::compare::rows::{push_rows, tables_of};
+use crate::compare::rows::push_rows;
 use crate::compare::totals::{push_causes, push_totals};
 use crate::compared::Compared;
 use crate::notes::shown_name;
+use crate::pair::Pair;
 use std::alloc::{AllocError, Global};
 use wait_causes::PairBy;
 use wording::Page;
@@ -19,20 +20,27 @@ pub fn compare_page(
     before: Compared<'_>,
     after: Compared<'_>,
 ) -> Result<String, AllocError> {
+    let pair = Pair {
+        asked,
+        before,
+        after,
+    };
     let mut page = Page::new(alloc);
-    let names = (
+    let (name, name_after) = (
         shown_name(alloc, before.name)?,
         shown_name(alloc, after.name)?,
     );
-    page.show(format_args!("before  {}\nafter   {}\n", names.0, names.1));
-    let was = before.explanation.whole(alloc)?;
-    let is = after.explanation.whole(alloc)?;
-    push_differences(&mut page, asked, before, after);
+    page.show(format_args!("before  {name}\nafter   {name_after}\n"));
+    let (was, is) = (
+        before.explanation.whole(alloc)?,
+        after.explanation.whole(alloc)?,
+    );
+    push_differences(alloc, &mut page, &pair)?;
     push_totals(&mut page, &was, &is);
-    push_causes(&mut page, before, after, &was, &is);
-    push_most_cause(&mut page, before.explanation, after.explanation, &was, &is);
-    let tables = tables_of(alloc, asked, before, after)?;
-    push_most_rows(alloc, &mut page, before, after, &tables)?;
-    push_rows(alloc, &mut page, before, after, &tables)?;
+    push_causes(&mut page, &pair, &was, &is);
+    push_most_cause(&mut page, &pair, &was, &is);
+    let tables = pair.tables(alloc)?;
+    push_most_rows(alloc, &mut page, &pair, &tables)?;
+    push_rows(alloc, &mut page, &pair, &tables)?;
     page.finish()
 }

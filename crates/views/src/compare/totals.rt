@@ -1,87 +1,61 @@
 //! What all stays waited before and after, and what that cost.
 
-use crate::compared::Compared;
+use crate::behind::behind_rows;
+use crate::pair::Pair;
 use wait_causes::{CauseCosts, InputKind, Part, WaitCause};
 use wording::{Page, push_share, shift};
 
 /// Puts on the page how many stays there were, how long they waited and what that cost, before and after.
 pub(crate) fn push_totals(page: &mut Page, before: &Part, after: &Part) {
     push_head(page, "");
-    push_line(
-        page,
-        "stays",
-        u64::from(before.stays),
-        u64::from(after.stays),
-    );
-    push_line(page, "waited rounds", before.waited, after.waited);
-    push_line(page, "live cost", before.live, after.live);
-    push_line(page, "best cost", before.best, after.best);
-    push_line(page, "excess", excess(before), excess(after));
-    push_ranks(page, before, after);
-}
-
-// What could have been avoided.
-fn excess(part: &Part) -> u64 {
-    part.live.saturating_sub(part.best)
-}
-
-// Puts the waits that so many stays didn't pass on the page.
-fn push_ranks(page: &mut Page, before: &Part, after: &Part) {
-    for (name, before, after) in &[
-        ("p50", before.p50, after.p50),
-        ("p90", before.p90, after.p90),
-        ("p99", before.p99, after.p99),
-        ("p99.9", before.p999, after.p999),
-        ("longest wait", before.max, after.max),
-    ] {
-        push_line(page, name, u64::from(*before), u64::from(*after));
+    for ((name, was), (_, is)) in totals_of(before).iter().zip(&totals_of(after)) {
+        push_line(page, name, *was, *is);
     }
+}
+
+// The numbers of a part.
+fn totals_of(part: &Part) -> [(&'static str, u64); 10] {
+    [
+        ("stays", u64::from(part.stays)),
+        ("waited rounds", part.waited),
+        ("live cost", part.live),
+        ("best cost", part.best),
+        ("excess", part.live.saturating_sub(part.best)),
+        ("p50", u64::from(part.p50)),
+        ("p90", u64::from(part.p90)),
+        ("p99", u64::from(part.p99)),
+        ("p99.9", u64::from(part.p999)),
+        ("longest wait", u64::from(part.max)),
+    ]
 }
 
 /// Puts on the page what the waiting cost by cause, and by what full rows sent.
-pub(crate) fn push_causes(
-    page: &mut Page,
-    before: Compared<'_>,
-    after: Compared<'_>,
-    was: &Part,
-    is: &Part,
-) {
+pub(crate) fn push_causes(page: &mut Page, pair: &Pair<'_>, was: &Part, is: &Part) {
     push_head(page, "by cause");
-    let kinds = (before.explanation.kind(), after.explanation.kind());
-    for cause in &kinds.0.causes() {
-        push_cause(page, before, after, *cause, &was.costs, &is.costs);
+    let causes = pair.before.explanation.kind().causes();
+    for cause in &causes {
+        push_cause(page, pair, *cause, &was.costs, &is.costs);
     }
-    for cause in &kinds.1.causes() {
-        if !kinds.0.causes().contains(cause) {
-            push_cause(page, before, after, *cause, &was.costs, &is.costs);
+    for cause in &pair.after.explanation.kind().causes() {
+        if !causes.contains(cause) {
+            push_cause(page, pair, *cause, &was.costs, &is.costs);
         }
     }
     push_head(page, "behind");
-    push_line(
-        page,
-        "a less urgent one",
-        was.behind.less_urgent,
-        is.behind.less_urgent,
-    );
-    push_line(page, "an equal one", was.behind.equal, is.behind.equal);
-    push_line(
-        page,
-        "more urgent ones",
-        was.behind.more_urgent,
-        is.behind.more_urgent,
-    );
+    for ((name, was), (_, is)) in behind_rows(was).iter().zip(&behind_rows(is)) {
+        push_line(page, name, *was, *is);
+    }
 }
 
 // Puts the cost of a cause on the page, if it can hold before or after.
 fn push_cause(
     page: &mut Page,
-    before: Compared<'_>,
-    after: Compared<'_>,
+    pair: &Pair<'_>,
     cause: WaitCause,
     was: &CauseCosts,
     is: &CauseCosts,
 ) {
-    if cause.can_hold(before.net.config()) || cause.can_hold(after.net.config()) {
+    if cause.can_hold(pair.before.net.config()) || cause.can_hold(pair.after.net.config()) {
         push_line(page, cause.name(), cost_of(was, cause), cost_of(is, cause));
     }
 }

@@ -9,48 +9,37 @@ use trace_file::MAX_ROWS;
 // How many fields a record has.
 const FIELDS: usize = 8;
 
-// The words that records begin with.
-const OF_TRACES: [&[u8]; 16] = [
-    b"weight",
-    b"link",
-    b"sim",
-    b"dev",
-    b"lane",
-    b"submit",
-    b"send",
-    b"done",
-    b"requeue",
-    b"finish",
-    b"freeze",
-    b"release",
-    b"sfreeze",
-    b"srelease",
-    b"adjust",
-    b"tick",
-];
-
-const OF_RECORDINGS: [&[u8]; 9] = [
-    b"unit", b"rounds", b"weight", b"link", b"sim", b"dev", b"name", b"cap", b"request",
-];
-
-const OF_REQUESTS: [&[u8]; 1] = [b"request"];
-
 // The words that headers of scripts begin with.
-const SCRIPT_HEADERS: [&[u8]; 2] = [b"camscript1", b"camscript2"];
+const SCRIPT_HEADERS: &[&str] = &["camscript1", "camscript2"];
 
-const OF_SCRIPTS: [&[u8]; 6] = [b"limits", b"weight", b"link", b"sim", b"dev", b"lane"];
-
-const OF_DRIVERS: [&[u8]; 7] = [
-    b"submit",
-    b"freeze",
-    b"release",
-    b"sfreeze",
-    b"srelease",
-    b"adjust",
-    b"pause",
+// The words that records begin with.
+const OF_TRACES: &[&str] = &[
+    "weight", "link", "sim", "dev", "lane", "submit", "send", "done", "requeue", "finish",
+    "freeze", "release", "sfreeze", "srelease", "adjust", "tick",
 ];
 
-const OF_ANSWERS: [&[u8]; 1] = [b"answer"];
+const OF_RECORDINGS: &[&str] = &[
+    "unit", "rounds", "weight", "link", "sim", "dev", "name", "cap", "request",
+];
+
+const OF_SCRIPTS: &[&str] = &[
+    "limits", "weight", "link", "sim", "dev", "lane", "submit", "freeze", "release", "sfreeze",
+    "srelease", "adjust", "pause", "answer",
+];
+
+// Records of which a text of a kind has only so many: the words that they begin with, what they are called, and how many.
+const LIMITS: [(&str, &[&str], &str, usize); 3] = [
+    ("recording", &["request"], "requests", MAX_REQUESTS),
+    (
+        "script",
+        &[
+            "submit", "freeze", "release", "sfreeze", "srelease", "adjust", "pause",
+        ],
+        "records of drivers",
+        MAX_ROWS as usize,
+    ),
+    ("script", &["answer"], "answers", MAX_ROWS as usize),
+];
 
 /// Puts a line after the note that says which rule the record of this number breaks: of its fields, its word, how many records
 /// of its word there may be, or else its place.
@@ -71,73 +60,39 @@ pub(crate) fn push_reason(
     if fields < FIELDS {
         return writeln!(note, "  it has {fields} fields, and not 8");
     }
-    if is_script(alloc, text) {
-        push_of_script(alloc, note, text, &row, record)
+    let (kind, words) = if is_script(alloc, text) {
+        ("script", OF_SCRIPTS)
     } else if is_recording {
-        push_of_recording(alloc, note, text, &row, record)
-    } else if begins_with(&row, &OF_TRACES) {
+        ("recording", OF_RECORDINGS)
+    } else {
+        ("trace", OF_TRACES)
+    };
+    for (of, limited, name, most) in &LIMITS {
+        if *of == kind
+            && begins_with(&row, limited)
+            && count(alloc, text, record, limited) > *most
+        {
+            return writeln!(note, "  there are {most} {name} before it, the most");
+        }
+    }
+    if begins_with(&row, words) {
         note.push_str("  no record of this word can stand here\n")
     } else {
-        note.push_str("  no record of a trace begins with this word\n")
+        writeln!(note, "  no record of a {kind} begins with this word")
     }
 }
 
 // Whether the header is that of a script. A byte-order mark and empty lines before it are no part of it.
 fn is_script(alloc: Global, text: &[u8]) -> bool {
     match record_at(alloc, text, 1) {
-        Some(header) => begins_with(&header, &SCRIPT_HEADERS),
+        Some(header) => begins_with(&header, SCRIPT_HEADERS),
         None => false,
     }
 }
 
-// The same of a record of eight fields in a recording.
-fn push_of_recording(
-    alloc: Global,
-    note: &mut String,
-    text: &[u8],
-    row: &ByteRecord,
-    record: u32,
-) -> Result<(), AllocError> {
-    if begins_with(row, &OF_REQUESTS)
-        && count(alloc, text, record, &OF_REQUESTS) as usize > MAX_REQUESTS
-    {
-        writeln!(
-            note,
-            "  there are {MAX_REQUESTS} requests before it, the most"
-        )
-    } else if begins_with(row, &OF_RECORDINGS) {
-        note.push_str("  no record of this word can stand here\n")
-    } else {
-        note.push_str("  no record of a recording begins with this word\n")
-    }
-}
-
-// The same of a record of eight fields in a script.
-fn push_of_script(
-    alloc: Global,
-    note: &mut String,
-    text: &[u8],
-    row: &ByteRecord,
-    record: u32,
-) -> Result<(), AllocError> {
-    let (of_driver, of_answer) = (begins_with(row, &OF_DRIVERS), begins_with(row, &OF_ANSWERS));
-    if of_driver && count(alloc, text, record, &OF_DRIVERS) > MAX_ROWS {
-        writeln!(
-            note,
-            "  there are {MAX_ROWS} records of drivers before it, the most"
-        )
-    } else if of_answer && count(alloc, text, record, &OF_ANSWERS) > MAX_ROWS {
-        writeln!(note, "  there are {MAX_ROWS} answers before it, the most")
-    } else if of_driver || of_answer || begins_with(row, &OF_SCRIPTS) {
-        note.push_str("  no record of this word can stand here\n")
-    } else {
-        note.push_str("  no record of a script begins with this word\n")
-    }
-}
-
 // How many of the first records, of this number, begin with one of the words.
-fn count(alloc: Global, text: &[u8], number: u32, words: &[&[u8]]) -> u32 {
-    let (mut left, mut count) = (number, 0u32);
+fn count(alloc: Global, text: &[u8], number: u32, words: &[&str]) -> usize {
+    let (mut left, mut count) = (number, 0usize);
     for row in records(alloc, text) {
         let Ok(row) = row else {
             return count;
@@ -154,7 +109,7 @@ fn count(alloc: Global, text: &[u8], number: u32, words: &[&[u8]]) -> u32 {
 }
 
 // Whether the record begins with one of the words.
-fn begins_with(row: &ByteRecord, words: &[&[u8]]) -> bool {
+fn begins_with(row: &ByteRecord, words: &[&str]) -> bool {
     let first = row.get(0).unwrap_or(&[]);
-    words.iter().any(|word| *word == first)
+    words.iter().any(|word| word.as_bytes() == first)
 }

@@ -14,59 +14,51 @@ pub(crate) fn push_line(
     number: u64,
     line: &[u8],
 ) -> Result<(), AllocError> {
-    let (name, shown) = (shown_name(alloc, name)?, shown(alloc, line)?);
+    let (name, shown) = (shown_name(alloc, name)?, printable(alloc, line)?);
     writeln!(note, "  {name}, line {number}: {shown}")
 }
 
 /// The name of a file as it is shown: control characters (U+0000 to U+001F and U+007F to U+009F) are written as Rust escapes
 /// them, as `\n` and `\u{1b}`.
 pub fn shown_name(alloc: Global, name: &str) -> Result<String, AllocError> {
-    let mut shown = String::new(alloc);
-    for character in name.chars() {
-        push_shown(&mut shown, character)?;
-    }
-    Ok(shown)
+    escaped(alloc, name, false)
 }
 
 /// A text of several lines as it is shown: the same, but that line feeds stay. So words of the command line that stand in it
 /// can't change a terminal's state.
 pub fn shown_lines(alloc: Global, text: &str) -> Result<String, AllocError> {
+    escaped(alloc, text, true)
+}
+
+// The text with each control character escaped, unless it is a line feed that stays.
+fn escaped(alloc: Global, text: &str, keeps_lines: bool) -> Result<String, AllocError> {
     let mut shown = String::new(alloc);
     for character in text.chars() {
-        if character == '\n' {
-            shown.push(character)?;
+        if character.is_control() && !(keeps_lines && character == '\n') {
+            push_escape(&mut shown, character)?;
         } else {
-            push_shown(&mut shown, character)?;
+            shown.push(character)?;
         }
     }
     Ok(shown)
 }
 
-// Puts a character after the text, or if it is a control character its escape.
-fn push_shown(shown: &mut String, character: char) -> Result<(), AllocError> {
-    if !character.is_control() {
-        return shown.push(character);
-    }
+// Puts the escape of a character after the text.
+fn push_escape(shown: &mut String, character: char) -> Result<(), AllocError> {
     for escaped in character.escape_default() {
         shown.push(escaped)?;
     }
     Ok(())
 }
 
-fn shown(alloc: Global, line: &[u8]) -> Result<String, AllocError> {
+// The first bytes of a line, with a `?` for each that isn't a printable character of ASCII.
+fn printable(alloc: Global, line: &[u8]) -> Result<String, AllocError> {
     let mut shown = String::new(alloc);
     for byte in line.iter().take(MAX_SHOWN) {
-        shown.push(character(*byte))?;
+        let is_shown = *byte == b' ' || byte.is_ascii_graphic();
+        shown.push(if is_shown { char::from(*byte) } else { '?' })?;
     }
     Ok(shown)
-}
-
-fn character(byte: u8) -> char {
-    if byte == b' ' || byte.is_ascii_graphic() {
-        char::from(byte)
-    } else {
-        '?'
-    }
 }
 
 /// The text up to the first end of a line.

@@ -23,15 +23,13 @@ pub fn trace_note(
     text: &[u8],
     fault: &TraceFault,
 ) -> Result<String, AllocError> {
-    let mut note = String::new(alloc);
-    let Some(record) = record_of(fault) else {
-        return Ok(note);
-    };
     let text = front(text);
-    push_record(alloc, &mut note, name, text, record)?;
+    let mut note = line_of(alloc, name, text, record_of(fault))?;
     match fault {
-        TraceFault::BadRecord(_) => push_reason(alloc, &mut note, text, record, false)?,
-        TraceFault::Illegal(_, Refusal::NotHead) => push_turn(alloc, &mut note, text, record)?,
+        TraceFault::BadRecord(record) => push_reason(alloc, &mut note, text, *record, false)?,
+        TraceFault::Illegal(record, Refusal::NotHead) => {
+            push_turn(alloc, &mut note, text, *record)?;
+        }
         _ => {}
     }
     Ok(note)
@@ -44,14 +42,10 @@ pub fn recording_note(
     text: &[u8],
     fault: &RecordingFault,
 ) -> Result<String, AllocError> {
-    let mut note = String::new(alloc);
-    let Some(record) = record_of_recording(fault) else {
-        return Ok(note);
-    };
     let text = front(text);
-    push_record(alloc, &mut note, name, text, record)?;
-    if let RecordingFault::BadRecord(_) = fault {
-        push_reason(alloc, &mut note, text, record, true)?;
+    let mut note = line_of(alloc, name, text, record_of_recording(fault))?;
+    if let RecordingFault::BadRecord(record) = fault {
+        push_reason(alloc, &mut note, text, *record, true)?;
     }
     Ok(note)
 }
@@ -63,11 +57,7 @@ pub fn unsent_note(
     text: &[u8],
     stay: Stay,
 ) -> Result<String, AllocError> {
-    let mut note = String::new(alloc);
-    if let Some(record) = beginning_of(alloc, text, stay) {
-        push_record(alloc, &mut note, name, text, record)?;
-    }
-    Ok(note)
+    line_of(alloc, name, text, beginning_of(alloc, text, stay))
 }
 
 // The number of the record that the fault names.
@@ -94,19 +84,21 @@ fn record_of_recording(fault: &RecordingFault) -> Option<u32> {
     }
 }
 
-// Puts the line of a record after the note, if the record is there.
-fn push_record(
+// A note of the line of this record: an empty one if there is no such record.
+fn line_of(
     alloc: Global,
-    note: &mut String,
     name: &str,
     text: &[u8],
-    record: u32,
-) -> Result<(), AllocError> {
-    if let Some(place) = place_of(alloc, text, record) {
+    record: Option<u32>,
+) -> Result<String, AllocError> {
+    let mut note = String::new(alloc);
+    if let Some(record) = record
+        && let Some(place) = place_of(alloc, text, record)
+    {
         let line = first_line(text.get(place.byte..).unwrap_or(&[]));
-        push_line(alloc, note, name, place.line, line)?;
+        push_line(alloc, &mut note, name, place.line, line)?;
     }
-    Ok(())
+    Ok(note)
 }
 
 // Puts a line on the CCB whose turn it was after the note, if there was one.

@@ -3,9 +3,8 @@
 use crate::notes::shown_name;
 use crate::swept::Swept;
 use crate::swept::title::{push_blank, push_openings, push_titles, titles};
-use crate::text::push_columns;
 use std::alloc::{AllocError, Global};
-use sweep::{Figures, Row, Setting, Spread};
+use sweep::{Row, Setting, Spread};
 use wording::Page;
 
 // How wide a column of costs is, and one of rounds.
@@ -20,7 +19,11 @@ const ROUNDS: usize = 8;
 pub fn sweep_page(alloc: Global, swept: Swept<'_>) -> Result<String, AllocError> {
     let mut page = Page::new(alloc);
     let (settings, seeds) = (swept.plan.settings(), swept.plan.seeds());
-    push_first(alloc, &mut page, swept.name, seeds)?;
+    page.put(&shown_name(alloc, swept.name)?);
+    match seeds {
+        1 => page.put(", run by seed 1\n\n"),
+        _ => page.show(format_args!(", run by seeds 1 to {seeds}\n\n")),
+    }
     let titles = match settings.first() {
         Some(setting) => titles(alloc, swept.config, &setting.changes)?,
         None => Vec::new(alloc),
@@ -30,17 +33,6 @@ pub fn sweep_page(alloc: Global, swept: Swept<'_>) -> Result<String, AllocError>
         push_row(&mut page, &titles, seeds, setting, row);
     }
     page.finish()
-}
-
-// Puts the line on what was run on the page.
-fn push_first(alloc: Global, page: &mut Page, name: &str, seeds: u32) -> Result<(), AllocError> {
-    page.put(&shown_name(alloc, name)?);
-    if seeds == 1 {
-        page.put(", run by seed 1\n\n");
-    } else {
-        page.show(format_args!(", run by seeds 1 to {seeds}\n\n"));
-    }
-    Ok(())
 }
 
 // Puts what stands above the columns on the page.
@@ -69,24 +61,22 @@ fn push_head(page: &mut Page, titles: &[String], seeds: u32) {
 fn push_row(page: &mut Page, titles: &[String], seeds: u32, setting: &Setting, row: &Row) {
     push_openings(page, titles, &setting.changes);
     match row {
-        Row::Drained(figures) => push_figures(page, seeds, figures),
+        Row::Drained(figures) => {
+            push_spread(page, seeds, COST, &figures.live);
+            push_spread(page, seeds, COST, &figures.best);
+            push_spread(page, seeds, COST, &figures.excess);
+            push_spread(page, seeds, ROUNDS, &figures.p99);
+        }
         Row::Undrained { runs, left } => push_left(page, seeds, *runs, left),
     }
     page.put("\n");
 }
 
-fn push_figures(page: &mut Page, seeds: u32, figures: &Figures) {
-    for spread in &[figures.live, figures.best, figures.excess] {
-        push_spread(page, seeds, COST, spread);
-    }
-    push_spread(page, seeds, ROUNDS, &figures.p99);
-}
-
 // Puts a spread on the page: of one seed just the number.
 fn push_spread(page: &mut Page, seeds: u32, width: usize, spread: &Spread) {
-    push_columns(page, &[(width, spread.least)]);
+    page.show(format_args!(" {:>width$}", spread.least));
     if seeds > 1 {
-        push_columns(page, &[(width, spread.median), (width, spread.greatest)]);
+        page.show(format_args!(" {:>width$} {:>width$}", spread.median, spread.greatest));
     }
 }
 

@@ -37,9 +37,9 @@ fn push_freeze(page: &mut Page, name: &str, freeze: &Freeze) {
     push_columns(
         page,
         &[
-            (6, u64::from(freeze.first)),
-            (5, u64::from(freeze.last)),
-            (9, freeze.cost),
+            (6, i128::from(freeze.first)),
+            (5, i128::from(freeze.last)),
+            (9, i128::from(freeze.cost)),
         ],
     );
     page.put("\n");

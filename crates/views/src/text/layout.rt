@@ -1,5 +1,6 @@
 //! The page: what the waiting cost and why, and the stays that cost most.
 
+use crate::behind::behind_rows;
 use crate::text::freezes::push_freezes;
 use crate::text::order::{first_of, most_first};
 use crate::text::stays::push_stays;
@@ -9,7 +10,7 @@ use crate::text::worst::push_worst;
 use cam_types::Config;
 use recording_file::Span;
 use std::alloc::{AllocError, Global};
-use wait_causes::{BehindCosts, ExplainedStay, Explanation, Freeze, InputKind, Part};
+use wait_causes::{Explanation, InputKind, Part};
 use wording::{Captions, Page, plain_words, push_share, push_span};
 
 // What stands below the costs by cause.
@@ -37,33 +38,21 @@ pub fn page(
 
 // Puts what the waiting cost beside the other schedule on the page, by our words and by those of who looks after storage.
 fn push_totals(page: &mut Page, unit: Option<Span>, whole: &Part) {
-    push_total(
-        page,
-        "stays",
-        u64::from(whole.stays),
-        "  requests in a queue\n",
-    );
-    push_total(page, "waited rounds", whole.waited, "");
-    push_waited(page, unit, whole.waited);
-    push_total(
-        page,
-        "live cost",
-        whole.live,
-        "  the recorded wait, by weight\n",
-    );
-    push_total(page, "best cost", whole.best, "  the least possible\n");
     let excess = whole.live.saturating_sub(whole.best);
-    push_total(page, "excess", excess, "  avoidable");
+    page.show(format_args!("stays         {:>9}  requests in a queue\n", whole.stays));
+    page.show(format_args!("waited rounds {:>9}", whole.waited));
+    push_waited(page, unit, whole.waited);
+    page.show(format_args!(
+        "live cost     {:>9}  the recorded wait, by weight\n",
+        whole.live
+    ));
+    page.show(format_args!("best cost     {:>9}  the least possible\n", whole.best));
+    page.show(format_args!("excess        {excess:>9}  avoidable"));
     if whole.live > 0 {
         page.put(", ");
         push_share(page, excess, whole.live);
     }
     page.put("\n");
-}
-
-// A line on a number of the whole, up to its end or to what else there is to say.
-fn push_total(page: &mut Page, name: &str, number: u64, words: &str) {
-    page.show(format_args!("{name:<13} {number:>9}{words}"));
 }
 
 // What waiting rounds are in time, if it is known how long a round is, to the end of the line.
@@ -86,19 +75,21 @@ fn push_costs(
     whole: &Part,
     top: usize,
 ) -> Result<(), AllocError> {
-    let freezes = explanation.freezes(alloc)?;
-    let worst_freezes = worst_freezes(alloc, &freezes)?;
-    let worst_stays = worst_stays(alloc, explanation.stays())?;
+    let (stays, freezes) = (explanation.stays(), explanation.freezes(alloc)?);
+    let costs: Vec<u64> = stays.iter().map(|stay| stay.cost()).collect(alloc)?;
+    let worst_stays = most_first(alloc, &costs)?;
+    let costs: Vec<u64> = freezes.iter().map(|freeze| freeze.cost).collect(alloc)?;
+    let worst_freezes = most_first(alloc, &costs)?;
     push_worst(
         alloc,
         page,
         captions,
         explanation,
-        first_of(explanation.stays(), &worst_stays),
+        first_of(stays, &worst_stays),
         first_of(&freezes, &worst_freezes),
     )?;
     push_causes(page, captions.config(), explanation.kind(), whole);
-    push_behind(page, &whole.behind);
+    push_behind(page, whole);
     push_tables(alloc, page, captions, explanation)?;
     push_freezes(alloc, page, captions, &freezes, &worst_freezes, top)?;
     push_stays(alloc, page, captions, explanation, &worst_stays, top)
@@ -117,31 +108,11 @@ fn push_causes(page: &mut Page, config: &Config, kind: InputKind, whole: &Part) 
 }
 
 // Puts the costs of full rows on the page, by what they sent.
-fn push_behind(page: &mut Page, behind: &BehindCosts) {
+fn push_behind(page: &mut Page, whole: &Part) {
     page.put(
         "\nWhat it cost to wait for a full device, adapter or link, by what that sent in the round:\n\n",
     );
-    for (name, cost) in &[
-        ("a less urgent one", behind.less_urgent),
-        ("an equal one", behind.equal),
-        ("more urgent ones", behind.more_urgent),
-    ] {
+    for (name, cost) in &behind_rows(whole) {
         page.show(format_args!("  {name:<18} {cost:>9}\n"));
     }
-}
-
-fn worst_stays(alloc: Global, stays: &[ExplainedStay]) -> Result<Vec<usize>, AllocError> {
-    let mut costs = Vec::with_capacity(alloc, stays.len())?;
-    for stay in stays {
-        costs.push(stay.cost())?;
-    }
-    most_first(alloc, &costs)
-}
-
-fn worst_freezes(alloc: Global, freezes: &[Freeze]) -> Result<Vec<usize>, AllocError> {
-    let mut costs = Vec::with_capacity(alloc, freezes.len())?;
-    for freeze in freezes {
-        costs.push(freeze.cost)?;
-    }
-    most_first(alloc, &costs)
 }

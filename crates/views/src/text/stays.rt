@@ -4,7 +4,7 @@ use crate::text::columns::push_columns;
 use recording_file::Span;
 use std::alloc::{AllocError, Global};
 use wait_causes::{ExplainedStay, Explanation, InputKind};
-use wording::{Captions, Page, push_time, shortened};
+use wording::{Captions, Page, push_range, push_time, shortened};
 
 // What stands above the stays of a trace, and above the requests of a recording.
 const TRACE_HEAD: &str = "\nThe stays whose waiting cost most:\n\n  CCB try";
@@ -39,8 +39,7 @@ pub(crate) fn push_stays(
     for place in places.iter().take(top) {
         if let Some(stay) = stays.get(*place) {
             let device = shortened(alloc, &captions.device(alloc, stay.device)?)?;
-            push_stay(page, kind, stay);
-            push_rest(page, &device, width, stay);
+            push_stay(page, kind, &device, width, stay);
             push_waits(page, kind, stay, width);
             push_span(page, explanation.unit(), stay);
         }
@@ -48,25 +47,21 @@ pub(crate) fn push_stays(
     Ok(())
 }
 
-// What stay it is.
-fn push_stay(page: &mut Page, kind: InputKind, stay: &ExplainedStay) {
+// The columns of a stay on a device that is called so, up to its causes.
+fn push_stay(page: &mut Page, kind: InputKind, device: &str, width: usize, stay: &ExplainedStay) {
     match kind {
         InputKind::Trace => page.show(format_args!("{:>5} {:>3}", stay.ccb, stay.attempt)),
         InputKind::Recording => page.show(format_args!("{:>9}", stay.ccb)),
     }
-}
-
-// The columns of a stay on a device that is called so, up to its causes.
-fn push_rest(page: &mut Page, device: &str, width: usize, stay: &ExplainedStay) {
     page.show(format_args!("  {device:<width$}"));
     push_columns(
         page,
         &[
-            (8, u64::from(stay.priority)),
-            (7, u64::from(stay.arrival)),
-            (5, u64::from(stay.live)),
-            (5, u64::from(stay.best)),
-            (9, stay.cost()),
+            (8, i128::from(stay.priority)),
+            (7, i128::from(stay.arrival)),
+            (5, i128::from(stay.live)),
+            (5, i128::from(stay.best)),
+            (9, i128::from(stay.cost())),
         ],
     );
     page.put("  ");
@@ -79,8 +74,7 @@ fn push_waits(page: &mut Page, kind: InputKind, stay: &ExplainedStay, width: usi
         let rounds = stay.rounds.for_cause(*cause);
         if rounds > 0 {
             push_between(page, shown, width);
-            page.show(rounds);
-            page.words(&[" ", cause.name()]);
+            page.show(format_args!("{rounds} {}", cause.name()));
             shown = shown.saturating_add(1);
         }
     }
@@ -89,12 +83,9 @@ fn push_waits(page: &mut Page, kind: InputKind, stay: &ExplainedStay, width: usi
 
 // What stands between a cause and that many before it.
 fn push_between(page: &mut Page, shown: u32, width: usize) {
-    if shown == 0 {
-        return;
-    }
-    if shown % A_LINE == 0 {
+    if shown > 0 && shown % A_LINE == 0 {
         page.show(format_args!(",\n{:<width$}", "", width = width.saturating_add(52)));
-    } else {
+    } else if shown > 0 {
         page.put(", ");
     }
 }
@@ -103,15 +94,7 @@ fn push_between(page: &mut Page, shown: u32, width: usize) {
 fn push_span(page: &mut Page, unit: Option<Span>, stay: &ExplainedStay) {
     let waited = stay.live.saturating_sub(stay.arrival);
     page.put(if waited == 1 { "round " } else { "rounds " });
-    push_rounds(page, stay.arrival, stay.live.saturating_sub(1));
+    push_range(page, stay.arrival, stay.live.saturating_sub(1));
     push_time(page, unit, u64::from(waited));
     page.put("\n");
-}
-
-/// Puts a range of rounds on the page.
-pub(crate) fn push_rounds(page: &mut Page, first: u32, last: u32) {
-    page.show(first);
-    if first != last {
-        page.show(format_args!("-{last}"));
-    }
 }

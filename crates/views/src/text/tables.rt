@@ -1,9 +1,11 @@
 //! The tables of the page: what adapters, devices, drivers and run levels waited.
 
+use crate::behind::behind_rows;
+use crate::tables::{GROUPINGS, tables_of};
 use crate::text::columns::push_columns;
 use cam_types::Config;
 use std::alloc::{AllocError, Global};
-use wait_causes::{Explanation, Grouping, InputKind, Part, Row, WaitCause};
+use wait_causes::{Explanation, InputKind, Part, Row, WaitCause};
 use wording::{Captions, Page};
 
 // What stands above the columns of waits.
@@ -14,32 +16,10 @@ const TRACE_COSTS: &str = "    error    caller  a.frozen    d.full    a.full";
 
 const RECORDING_COSTS: &str = "d.stopped a.stopped    d.full    a.full";
 
+const LINKED_COSTS: &str = "d.stopped a.stopped l.stopped    d.full    a.full";
+
 // What stands above the last columns.
 const LAST_COSTS: &str = "  unasked      less     equal      more";
-
-/// Puts the tables on the page: how long the stays of each adapter, device, driver and run level waited, and then what that
-/// cost by cause and by what full rows sent.
-pub(crate) fn push_tables(
-    alloc: Global,
-    page: &mut Page,
-    captions: Captions<'_>,
-    explanation: &Explanation,
-) -> Result<(), AllocError> {
-    let tables = Tables::of(alloc, explanation)?;
-    page.show(format_args!("\n{:<width$} {WAITS}\n", "", width = captions.width()));
-    tables.push(alloc, page, captions, Columns::Waits)?;
-    push_cost_head(page, captions, explanation.kind());
-    tables.push(alloc, page, captions, Columns::Costs(explanation.kind()))
-}
-
-// The rows of each table.
-#[derive(Drop)]
-struct Tables {
-    adapters: Vec<Row>,
-    devices: Vec<Row>,
-    drivers: Vec<Row>,
-    levels: Vec<Row>,
-}
 
 // The columns of a table.
 #[derive(Clone, Copy)]
@@ -50,74 +30,43 @@ enum Columns {
     Costs(InputKind),
 }
 
-impl Tables {
-    fn of(alloc: Global, explanation: &Explanation) -> Result<Tables, AllocError> {
-        Ok(Tables {
-            adapters: explanation.table(alloc, Grouping::Adapter)?,
-            devices: explanation.table(alloc, Grouping::Device)?,
-            drivers: explanation.table(alloc, Grouping::Driver)?,
-            levels: explanation.table(alloc, Grouping::Level)?,
-        })
-    }
-
-    // Puts these columns of all rows on the page.
-    fn push(
-        &self,
-        alloc: Global,
-        page: &mut Page,
-        captions: Captions<'_>,
-        columns: Columns,
-    ) -> Result<(), AllocError> {
-        push_table(
-            alloc,
-            page,
-            captions,
-            &self.adapters,
-            Grouping::Adapter,
-            columns,
-        )?;
-        push_table(
-            alloc,
-            page,
-            captions,
-            &self.devices,
-            Grouping::Device,
-            columns,
-        )?;
-        push_table(
-            alloc,
-            page,
-            captions,
-            &self.drivers,
-            Grouping::Driver,
-            columns,
-        )?;
-        push_table(
-            alloc,
-            page,
-            captions,
-            &self.levels,
-            Grouping::Level,
-            columns,
-        )
-    }
-}
-
-// The rows of a table.
-fn push_table(
+/// Puts the tables on the page: how long the stays of each adapter, device, driver and run level waited, and then what that
+/// cost by cause and by what full rows sent.
+pub(crate) fn push_tables(
     alloc: Global,
     page: &mut Page,
     captions: Captions<'_>,
-    rows: &[Row],
-    by: Grouping,
+    explanation: &Explanation,
+) -> Result<(), AllocError> {
+    let tables = tables_of(alloc, explanation)?;
+    page.show(format_args!("\n{:<width$} {WAITS}\n", "", width = captions.width()));
+    push_rows(alloc, page, captions, &tables, Columns::Waits)?;
+    push_cost_head(page, captions, explanation.kind());
+    push_rows(
+        alloc,
+        page,
+        captions,
+        &tables,
+        Columns::Costs(explanation.kind()),
+    )
+}
+
+// Puts these columns of all rows on the page.
+fn push_rows(
+    alloc: Global,
+    page: &mut Page,
+    captions: Captions<'_>,
+    tables: &[Vec<Row>],
     columns: Columns,
 ) -> Result<(), AllocError> {
-    for row in rows {
-        let caption = captions.caption(alloc, by, row.number)?;
-        page.show(format_args!("{caption:<width$}", width = captions.width()));
-        match columns {
-            Columns::Waits => push_waits(page, &row.part),
-            Columns::Costs(kind) => push_costs(page, captions.config(), kind, &row.part),
+    for ((by, _, _), rows) in GROUPINGS.iter().zip(tables) {
+        for row in rows {
+            let caption = captions.caption(alloc, *by, row.number)?;
+            page.show(format_args!("{caption:<width$}", width = captions.width()));
+            match columns {
+                Columns::Waits => push_waits(page, &row.part),
+                Columns::Costs(kind) => push_costs(page, captions.config(), kind, &row.part),
+            }
         }
     }
     Ok(())
@@ -128,18 +77,19 @@ fn push_waits(page: &mut Page, part: &Part) {
     push_columns(
         page,
         &[
-            (5, u64::from(part.stays)),
-            (7, part.waited),
-            (5, u64::from(part.p50)),
-            (5, u64::from(part.p90)),
-            (5, u64::from(part.p99)),
-            (5, u64::from(part.p999)),
-            (5, u64::from(part.max)),
-            (9, part.live),
-            (9, part.best),
+            (5, i128::from(part.stays)),
+            (7, i128::from(part.waited)),
+            (5, i128::from(part.p50)),
+            (5, i128::from(part.p90)),
+            (5, i128::from(part.p99)),
+            (5, i128::from(part.p999)),
+            (5, i128::from(part.max)),
+            (9, i128::from(part.live)),
+            (9, i128::from(part.best)),
+            (9, part.excess()),
         ],
     );
-    page.show(format_args!(" {:>9}\n", part.excess()));
+    page.put("\n");
 }
 
 // What stands above the columns of costs.
@@ -147,7 +97,7 @@ fn push_cost_head(page: &mut Page, captions: Captions<'_>, kind: InputKind) {
     let has_links = WaitCause::LinkFull.can_hold(captions.config());
     let costs = match kind {
         InputKind::Trace => TRACE_COSTS,
-        InputKind::Recording if has_links => "d.stopped a.stopped l.stopped    d.full    a.full",
+        InputKind::Recording if has_links => LINKED_COSTS,
         InputKind::Recording => RECORDING_COSTS,
     };
     let link_full = if has_links { "    l.full" } else { "" };
@@ -159,16 +109,11 @@ fn push_cost_head(page: &mut Page, captions: Captions<'_>, kind: InputKind) {
 fn push_costs(page: &mut Page, config: &Config, kind: InputKind, part: &Part) {
     for (cause, cost) in &part.costs.by_cause(kind) {
         if cause.can_hold(config) {
-            push_columns(page, &[(9, *cost)]);
+            push_columns(page, &[(9, i128::from(*cost))]);
         }
     }
-    push_columns(
-        page,
-        &[
-            (9, part.behind.less_urgent),
-            (9, part.behind.equal),
-            (9, part.behind.more_urgent),
-        ],
-    );
+    for (_, cost) in &behind_rows(part) {
+        push_columns(page, &[(9, i128::from(*cost))]);
+    }
     page.put("\n");
 }

@@ -1,10 +1,9 @@
 //! A sentence each on the stay, the device and the freeze that cost most.
 
 use crate::text::freezes::{frozen_by, frozen_name};
-use crate::text::stays::push_rounds;
 use std::alloc::{AllocError, Global};
 use wait_causes::{ExplainedStay, Explanation, Freeze, Grouping, InputKind, Row};
-use wording::{Captions, Page, push_time};
+use wording::{Captions, Page, push_range, push_time};
 
 /// Puts the sentences on the stay and the freeze that cost most on the page, and on the device if a stay cost anything.
 pub(crate) fn push_worst(
@@ -28,26 +27,20 @@ pub(crate) fn push_worst(
 // Puts a sentence on the stay that cost most on the page.
 fn push_worst_stay(page: &mut Page, explanation: &Explanation, stay: &ExplainedStay) {
     match explanation.kind() {
-        InputKind::Trace => {
-            page.show(format_args!("\nCCB {} (try {})", stay.ccb, stay.attempt));
-        }
+        InputKind::Trace => page.show(format_args!("\nCCB {} (try {})", stay.ccb, stay.attempt)),
         InputKind::Recording => page.show(format_args!("\nRequest {}", stay.ccb)),
     }
     page.show(format_args!(" cost most: {}, from ", stay.cost()));
     push_round(page, explanation, stay.arrival);
     page.put(" to its send in ");
     push_round(page, explanation, stay.live);
-    page.put(between(explanation));
-    push_round(page, explanation, stay.best);
-    page.put(".\n");
-}
-
-// What stands between the two sends: rounds with their times make a line of their own each.
-fn between(explanation: &Explanation) -> &'static str {
-    match explanation.unit() {
+    // Rounds with their times make a line of their own for each send.
+    page.put(match explanation.unit() {
         Some(_) => ".\nThe best schedule sends it in ",
         None => "; the best schedule sends it in ",
-    }
+    });
+    push_round(page, explanation, stay.best);
+    page.put(".\n");
 }
 
 // Puts a round on the page, and when it ended if that is known.
@@ -96,6 +89,6 @@ fn push_worst_freeze(page: &mut Page, name: &str, freeze: &Freeze) {
         "Of the freezes that of {name} by {by} cost most: {}, in {rounds} ",
         freeze.cost
     ));
-    push_rounds(page, freeze.first, freeze.last);
+    push_range(page, freeze.first, freeze.last);
     page.put(".\n");
 }

@@ -91,10 +91,9 @@ pub(crate) fn push_line(
     shown: ColumnValue,
     scale: Scale,
 ) {
-    let mut to = "M0 ";
-    for bin in figures.chunks(bin_rounds(figures).max(1)) {
+    for (place, bin) in figures.chunks(bin_rounds(figures).max(1)).enumerate() {
+        let to = if place == 0 { "M0 " } else { "V" };
         let height = scale.base.saturating_sub(scale.tall(shown.most(bin)));
         page.show(format_args!("{to}{height}h{}", bin.len()));
-        to = "V";
     }
 }

@@ -59,13 +59,6 @@ pub(crate) fn push_words(page: &mut Page, kind: InputKind, config: &Config) {
 
 // Puts the words of full devices or adapters on the page, with what they mean.
 fn push_full(page: &mut Page, kind: InputKind, cause: WaitCause, meant: &str) {
-    page.words(&[
-        "<dt>",
-        plain_words(kind, cause),
-        " (",
-        cause.name(),
-        ")</dt><dd>",
-        meant,
-        "</dd>",
-    ]);
+    let (plain, name) = (plain_words(kind, cause), cause.name());
+    page.show(format_args!("<dt>{plain} ({name})</dt><dd>{meant}</dd>"));
 }

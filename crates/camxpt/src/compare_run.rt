@@ -35,12 +35,10 @@ pub fn compare<R: Runtime + AllocGlobal + Threads + Sync>(
     match (&was, &is) {
         (Err(failure), _) => Ok(tell_all(rt, failure, &files.first)),
         (_, Err(failure)) => Ok(tell_all(rt, failure, &files.second)),
-        (Ok(was), Ok(is)) => print_both(
-            rt,
-            words,
-            side(files.first.name, was),
-            side(files.second.name, is),
-        ),
+        (Ok(was), Ok(is)) => {
+            let sides = (side(files.first.name, was), side(files.second.name, is));
+            print_both(rt, words, sides.0, sides.1)
+        }
     }
 }
 

@@ -1,6 +1,7 @@
 //! Why the program failed, and the exit status that says so.
 
 use crate::source::Argument;
+use crate::words::Number;
 use audit_report::AuditFault;
 use conversions::ScriptFault;
 use recording_file::RecordingFault;
@@ -44,8 +45,8 @@ pub enum Failure {
     #[error("write failed")]
     CannotWrite(io::Error),
     /// A number after this option or argument that isn't of digits alone.
-    #[error("{0} takes a number, of digits alone")]
-    NoNumber(&'static str),
+    #[error("{} takes a number, of digits alone", .0.word())]
+    NoNumber(Number),
     /// A text that isn't what it has to be, a read or write that failed, or no memory.
     #[error("{0}")]
     Audit(#[from] AuditFault),

@@ -9,7 +9,7 @@ use crate::import_words::Kind;
 use crate::note::{tell_note, tell_of};
 use crate::output::standard_output;
 use crate::source::{STANDARD_INPUT, is_verbose};
-use crate::words::{given, word_at};
+use crate::words::{count, word_at};
 use cam_types::Watched;
 use capture::{
     Capture, CaptureFault, longest_round, short_from, shortest_round, span_nanoseconds, usual_round,
@@ -52,7 +52,7 @@ fn imported<R: Runtime + AllocGlobal>(
     let options = ImportOptions::of(rt.alloc(), words)?;
     let files = Files {
         rt,
-        names: given(words, "FILE"),
+        words,
         is_lenient: options.is_lenient,
     };
     let read = files.read(&options, line)?;
@@ -73,13 +73,13 @@ fn imported<R: Runtime + AllocGlobal>(
 
 // The files of a capture, by their names. A line that is refused is left out if they are read leniently.
 #[derive(Drop)]
-struct Files<'a, 'b, R> {
-    rt: &'a R,
-    names: &'a [&'b str],
+struct Files<'r, 'w, 'a, R> {
+    rt: &'r R,
+    words: &'w ArgMatches<'a>,
     is_lenient: bool,
 }
 
-impl<R: Runtime + AllocGlobal> Files<'_, '_, R> {
+impl<R: Runtime + AllocGlobal> Files<'_, '_, '_, R> {
     // Reads all of them.
     fn read(&self, options: &ImportOptions, line: &mut Vec<u8>) -> Result<Read, ImportFault> {
         let alloc = self.rt.alloc();
@@ -107,7 +107,8 @@ impl<R: Runtime + AllocGlobal> Files<'_, '_, R> {
         reader: &mut T,
         line: &mut Vec<u8>,
     ) -> Result<(), ImportFault> {
-        for (place, name) in self.names.iter().enumerate() {
+        for place in 0..count(self.words, "FILE") {
+            let name = word_at(self.words, "FILE", place);
             if !self.read_file(place, name, reader, line)? {
                 return Err(ImportFault::File(place, ReadFault::Empty));
             }
@@ -117,7 +118,8 @@ impl<R: Runtime + AllocGlobal> Files<'_, '_, R> {
 
     // Reads fio's logs. A latency log of a job whose requests had no time to end is empty.
     fn read_logs(&self, reader: &mut FioReader<'_>, line: &mut Vec<u8>) -> Result<(), ImportFault> {
-        for (place, name) in self.names.iter().enumerate() {
+        for place in 0..count(self.words, "FILE") {
+            let name = word_at(self.words, "FILE", place);
             reader.begin_file(name)?;
             let may_be_empty = reader.may_be_empty();
             if !self.read_file(place, name, reader, line)? && !may_be_empty {

@@ -3,7 +3,7 @@
 use crate::import_fault::ImportFault;
 use crate::import_fault::ImportFault::NamedArgument;
 use crate::source::STANDARD_INPUT;
-use crate::words::{given, number_in};
+use crate::words::{count, number_in, word_at};
 use cam_types::MAX_PRIORITY;
 use capture_file::{CsvTimeUnit as CsvUnit, DevicePick, Priorities};
 use clap::ArgMatches;
@@ -61,8 +61,13 @@ pub struct Host {
 
 /// Tests that standard input is at most one of the files.
 pub fn check_files(words: &ArgMatches<'_>) -> Result<(), ImportFault> {
-    let files = given(words, "FILE").iter();
-    if files.filter(|name| **name == STANDARD_INPUT).count() > 1 {
+    let mut inputs = 0u32;
+    for place in 0..count(words, "FILE") {
+        if word_at(words, "FILE", place) == STANDARD_INPUT {
+            inputs = inputs.saturating_add(1);
+        }
+    }
+    if inputs > 1 {
         return Err(NamedArgument("only one FILE can be standard input"));
     }
     Ok(())
@@ -124,7 +129,8 @@ pub fn numbers_of(
     option: &Numbering,
 ) -> Result<Vec<(String, u32)>, ImportFault> {
     let mut numbers = Vec::new(alloc);
-    for word in given(words, option.id) {
+    for place in 0..count(words, option.id) {
+        let word = word_at(words, option.id, place);
         let (name, number) = option.read(word).ok_or(NamedArgument(option.form))?;
         if value_of(&numbers, name).is_some() {
             return Err(NamedArgument(option.twice));
@@ -146,7 +152,8 @@ impl Numbering {
 /// The devices that are taken: with an equals sign those that match a pattern, as one device; else one by its name.
 pub fn picks_of(alloc: Global, words: &ArgMatches<'_>) -> Result<Vec<DevicePick>, ImportFault> {
     let mut picks = Vec::new(alloc);
-    for word in given(words, "device") {
+    for place in 0..count(words, "device") {
+        let word = word_at(words, "device", place);
         picks.push(match word.rsplit_once('=') {
             None => DevicePick::Name(String::from_str(alloc, word)?),
             Some((_, "")) => return Err(NamedArgument("--device takes NAME or PATTERN=NAME")),
@@ -162,7 +169,8 @@ pub fn picks_of(alloc: Global, words: &ArgMatches<'_>) -> Result<Vec<DevicePick>
 /// The devices whose adapters are given. A device has one adapter, and an adapter one number of openings.
 pub fn hosts_of(alloc: Global, words: &ArgMatches<'_>) -> Result<Vec<(String, Host)>, ImportFault> {
     let mut hosts = Vec::new(alloc);
-    for word in given(words, "host") {
+    for place in 0..count(words, "host") {
+        let word = word_at(words, "host", place);
         let (name, host) = host_in(word).ok_or(NamedArgument(HOST))?;
         if value_of(&hosts, name).is_some() {
             return Err(NamedArgument("--host names a device twice"));

@@ -10,7 +10,7 @@ use crate::progress::ProgressLine;
 use crate::proof_run::prove;
 use crate::script_run::ScriptRun;
 use crate::shell::Shell;
-use crate::source::{Argument, Source, asks_more, input, is_verbose, open, open_both};
+use crate::source::{Argument, Both, Source, asks_more, input, is_verbose, open, open_both};
 use crate::subcommands::command;
 use crate::sweep_run::sweep_script;
 use crate::trace_run::TraceRun;
@@ -229,19 +229,19 @@ fn over_report<R: Runtime + AllocGlobal + Threads + Sync>(
     rt: &R,
     words: &ArgMatches<'_>,
 ) -> Result<ExitCode, Failure> {
-    let mut files = open_both(rt, words, Argument::Trace, Argument::Report)?;
+    let Both {
+        first: mut trace,
+        second: mut report,
+        folder: _folder,
+    } = open_both(rt, words, Argument::Trace, Argument::Report)?;
     let mut out = standard_output(rt);
-    let (trace, report) = (&mut files.first, &mut files.second);
-    match prove(rt.alloc(), trace, report, &mut out, words.get_flag("json")) {
+    let as_json = words.get_flag("json");
+    match prove(rt.alloc(), &mut trace, &mut report, &mut out, as_json) {
         Ok(true) => Ok(ExitCode::SUCCESS),
         Ok(false) => Ok(ExitCode::FAILURE),
         Err(failure) => {
             let is_of_report = matches!(failure, Failure::Audit(AuditFault::Report(_)));
-            let input = if is_of_report {
-                &files.second
-            } else {
-                &files.first
-            };
+            let input = if is_of_report { &report } else { &trace };
             Ok(tell_on(rt, &failure, input, &out))
         }
     }

@@ -21,11 +21,11 @@ pub fn prove<D: Read, W: Write>(
     as_json: bool,
 ) -> Result<bool, Failure> {
     if !as_json {
-        return find(alloc, trace, report, out);
+        return find(alloc, &mut *trace, &mut *report, &mut *out);
     }
     let (trace_name, report_name) = (trace.name, report.name);
     let mut finding = Vec::with_capacity(alloc, MAX_FINDING)?;
-    let is_proved = find(alloc, trace, report, &mut finding)?;
+    let is_proved = find(alloc, &mut *trace, &mut *report, &mut finding)?;
     let finding = str::from_utf8(&finding).unwrap_or("").trim_end();
     let line = closed(prove_json(alloc, trace_name, report_name, finding))?;
     print(out, &line)?;
@@ -39,7 +39,7 @@ fn find<D: Read, W: Write + Drop>(
     report: &mut Source<'_, D>,
     out: W,
 ) -> Result<bool, Failure> {
-    let mut trace = Watched::new(trace);
-    let mut report = Watched::new(report);
+    let mut trace = Watched::new(&mut *trace);
+    let mut report = Watched::new(&mut *report);
     Ok(run_prove(alloc, &mut trace, &mut report, &mut Watched::new(out))?)
 }

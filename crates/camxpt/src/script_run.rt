@@ -38,7 +38,8 @@ impl ScriptRun {
         out: &mut Output<W>,
     ) -> Result<Ending, Failure> {
         let alloc = rt.alloc();
-        let script = read_script(alloc, &mut Watched::new(script)).map_err(AuditFault::Trace)?;
+        let mut read = Watched::new(&mut *script);
+        let script = read_script(alloc, &mut read).map_err(AuditFault::Trace)?;
         let (history, ending) = match self {
             ScriptRun::Sim { seed } => {
                 let run = sim_run(alloc, &script, seed)?;
@@ -46,7 +47,7 @@ impl ScriptRun {
             }
             ScriptRun::Live { on_terminal } => over_threads(rt, &script, on_terminal)?,
         };
-        write_trace(alloc, &history, &mut Watched::new(out))?;
+        write_trace(alloc, &history, &mut Watched::new(&mut *out))?;
         Ok(ending)
     }
 }

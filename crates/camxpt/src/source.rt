@@ -147,7 +147,8 @@ pub struct Both<'a, F, S> {
     pub first: Source<'a, Either<F, S>>,
     /// The other one.
     pub second: Source<'a, Either<F, S>>,
-    _folder: io::Result<F>,
+    /// What holds the descriptor of a standard input that was closed.
+    pub folder: io::Result<F>,
 }
 
 /// Opens the files that two arguments name, before one of them is read. At most one can be standard input.
@@ -166,7 +167,7 @@ pub fn open_both<'a, R: Files + Input + Env + AllocGlobal>(
     Ok(Both {
         first: open(rt, words, first)?,
         second: open(rt, words, second)?,
-        _folder: folder,
+        folder,
     })
 }
 

@@ -73,7 +73,15 @@ fn over_script<R: Runtime + AllocGlobal + Threads + Sync>(
         plan: &plan,
         rows: &rows,
     };
-    let text = if words.get_flag("json") {
+    print_rows(rt, swept, words.get_flag("json"))
+}
+
+fn print_rows<R: Runtime + AllocGlobal>(
+    rt: &R,
+    swept: Swept<'_>,
+    as_json: bool,
+) -> Result<ExitCode, Failure> {
+    let text = if as_json {
         closed(sweep_json(rt.alloc(), swept))?
     } else {
         sweep_page(rt.alloc(), swept)?

@@ -1,6 +1,6 @@
 //! The words of `sweep`.
 
-use crate::words::{given, number_in, word_at};
+use crate::words::{count, number_in, word_at};
 use clap::ArgMatches;
 use std::alloc::{AllocError, Global};
 use sweep::{Choice, ChoiceFault, Place};
@@ -63,7 +63,8 @@ pub fn choices_of<'a>(
     let mut choices = Vec::new(alloc);
     for kind in [PlaceKind::Device, PlaceKind::Adapter] {
         let option = kind.option();
-        for word in given(words, option) {
+        for place in 0..count(words, option) {
+            let word = word_at(words, option, place);
             let Some(choice) = choice_in(alloc, kind, word)? else {
                 let why = kind.form();
                 return Ok(Err(WordFault { option, word, why }));
@@ -76,7 +77,7 @@ pub fn choices_of<'a>(
 
 /// Why the choice at this place is refused, with its word.
 pub fn refusal<'a>(words: &ArgMatches<'a>, at: usize, why: ChoiceFault) -> WordFault<'a> {
-    let devices = given(words, PlaceKind::Device.option()).len();
+    let devices = count(words, PlaceKind::Device.option());
     let (kind, place) = if at < devices {
         (PlaceKind::Device, at)
     } else {

@@ -15,24 +15,53 @@ pub fn words<R: Env + AllocGlobal>(rt: &R) -> Result<Vec<String>, Failure> {
     }
 }
 
+/// An argument that is a number.
+#[derive(Clone, Copy, Debug)]
+pub enum Number {
+    /// How many stays and freezes are listed.
+    Top,
+    /// How many seeds run a setting.
+    Seeds,
+    /// The seed of a run.
+    Seed,
+}
+
+impl Number {
+    /// What it is called in the help.
+    pub fn word(self) -> &'static str {
+        match self {
+            Number::Top => "--top",
+            Number::Seeds => "--seeds",
+            Number::Seed => "SEED",
+        }
+    }
+}
+
 /// Refuses a number with a plus sign, which the parser of numbers takes.
 pub fn check_numbers(words: &ArgMatches<'_>) -> Result<(), Failure> {
-    for (id, shown) in [("top", "--top"), ("seeds", "--seeds"), ("SEED", "SEED")] {
+    for number in [Number::Top, Number::Seeds, Number::Seed] {
+        let id = number.word().trim_start_matches('-');
         if words.get_str(id).is_some_and(|word| word.starts_with('+')) {
-            return Err(Failure::NoNumber(shown));
+            return Err(Failure::NoNumber(number));
         }
     }
     Ok(())
 }
 
-/// The words that are given for an argument that may be given several times.
-pub fn given<'m, 'a>(words: &'m ArgMatches<'a>, id: &str) -> &'m [&'a str] {
-    words.get_strs(id).unwrap_or(&[])
+/// How many words are given for an argument that may be given several times.
+pub fn count(words: &ArgMatches<'_>, id: &str) -> usize {
+    match words.get_strs(id) {
+        Some(given) => given.len(),
+        None => 0,
+    }
 }
 
 /// The word at this place among them.
 pub fn word_at<'a>(words: &ArgMatches<'a>, id: &str, place: usize) -> &'a str {
-    given(words, id).get(place).copied().unwrap_or("")
+    match words.get_strs(id) {
+        Some(given) => given.get(place).copied().unwrap_or(""),
+        None => "",
+    }
 }
 
 /// A number of decimal digits alone: no sign stands before it.

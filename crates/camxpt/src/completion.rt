@@ -101,15 +101,20 @@ fn push_case(
     subcommand: &Subcommand,
 ) -> Result<(), AllocError> {
     write!(script, "            {}) {}", subcommand.name, shell.open)?;
-    let mut end = shell.with_files;
+    let mut takes_shell = false;
     for word in subcommand.words {
         if matches!(word, NamedArgument::ShellName(_, _)) {
             write!(script, "{SHELLS} ")?;
-            end = shell.alone;
+            takes_shell = true;
         } else if let Some(option) = word.arg(alloc).get_long() {
             write!(script, "--{option} ")?;
         }
     }
+    let end = if takes_shell {
+        shell.alone
+    } else {
+        shell.with_files
+    };
     write!(script, "--help{end}")
 }
 

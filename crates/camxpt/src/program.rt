@@ -149,7 +149,8 @@ fn obey_words<R: Runtime + AllocGlobal + Threads + Wait + Sync>(
     on_terminal: bool,
 ) -> Result<ExitCode, Failure> {
     check_numbers(words)?;
-    if let Some(run) = trace_run(name, words)? {
+    let rounds = range_of(words)?;
+    if let Some(run) = trace_run(name, words, rounds) {
         let trace = open(rt, words, Argument::Trace)?;
         return Ok(over_trace(rt, trace, run, on_terminal));
     }
@@ -168,8 +169,8 @@ fn obey_words<R: Runtime + AllocGlobal + Threads + Wait + Sync>(
     }
 }
 
-// What the subcommand of this name does with a trace, if it takes one.
-fn trace_run(name: &str, words: &ArgMatches<'_>) -> Result<Option<TraceRun>, Failure> {
+// What the subcommand of this name does with a trace, if it takes one. It draws these rounds, if they are asked for.
+fn trace_run(name: &str, words: &ArgMatches<'_>, rounds: Option<(u32, u32)>) -> Option<TraceRun> {
     let as_json = words.get_flag("json");
     let summary = words.get_flag("summary");
     let waits = if words.get_flag("all-waits") {
@@ -177,7 +178,7 @@ fn trace_run(name: &str, words: &ArgMatches<'_>) -> Result<Option<TraceRun>, Fai
     } else {
         MAX_WAITS
     };
-    Ok(Some(match name {
+    Some(match name {
         "check" if as_json => TraceRun::CheckAsJson,
         "check" => TraceRun::Check,
         "audit" if as_json => TraceRun::AuditAsJson { summary },
@@ -186,15 +187,13 @@ fn trace_run(name: &str, words: &ArgMatches<'_>) -> Result<Option<TraceRun>, Fai
         "explain" => TraceRun::Explain(View::Page {
             top: words.get_one("top").unwrap_or(TOP),
         }),
-        "draw" => TraceRun::Explain(View::Drawing {
-            rounds: range_of(words)?,
-        }),
+        "draw" => TraceRun::Explain(View::Drawing { rounds }),
         "timeline" => TraceRun::Explain(View::Timeline { waits }),
         "migrate" => TraceRun::Migrate,
         "record" => TraceRun::Record,
         "script" => TraceRun::Script,
-        _ => return Ok(None),
-    }))
+        _ => return None,
+    })
 }
 
 // Prints the summary of the audit of the trace on standard input.

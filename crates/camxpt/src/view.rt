@@ -67,7 +67,10 @@ impl View {
 pub fn range_of(words: &ArgMatches<'_>) -> Result<Option<(u32, u32)>, Failure> {
     match words.get_str("rounds") {
         None => Ok(None),
-        Some(word) => Ok(Some(two_rounds(word).ok_or(Failure::NoRange)?)),
+        Some(word) => match two_rounds(word) {
+            Some(rounds) => Ok(Some(rounds)),
+            None => Err(Failure::NoRange),
+        },
     }
 }
 
